@@ -1,0 +1,5 @@
+pub mod Index
+pub mod Printed
+pub mod Reading
+pub mod Symbol
+pub mod Text

@@ -1,0 +1,26 @@
+-- The printed forms of octets: which octets each form escapes simply.
+use Rattle.std.specs.Prelude.{ℕ, Bool, ◌==◌, ◌||◌, if◌then◌else◌, List}
+use Rattle.std.specs.List.{flat_map}
+use Rattle.dns_symbol.specs.Symbol.{spell, is_printable}
+use Rattle.dns_symbol.specs.declared.symbol.Symbol.{Symbol}
+use Rattle.dns_symbol.specs.declared.symbol.Symbol.TheVariants.{Char, SimpleEscape, DecimalEscape}
+
+-- the unquoted form escapes the space, the double quote, the backslash, the semicolon and both parentheses
+abbrev pub is_unquoted_escape : ℕ → Bool
+is_unquoted_escape o = o == 32 || o == 34 || o == 92 || o == 59 || o == 40 || o == 41
+
+-- the quoted form escapes the double quote and the backslash
+abbrev pub is_quoted_escape : ℕ → Bool
+is_quoted_escape o = o == 34 || o == 92
+
+-- the plain form escapes the backslash alone
+abbrev pub is_plain_escape : ℕ → Bool
+is_plain_escape o = o == 92
+
+-- the symbol that an octet is printed as, in a form that escapes some octets simply
+abbrev pub symbol_of : (ℕ → Bool) → ℕ → Symbol
+symbol_of is_escape o = if is_printable o then (if is_escape o then SimpleEscape o else Char o) else DecimalEscape o
+
+-- the characters of octets in that form
+abbrev pub text_of : (ℕ → Bool) → List ℕ → List ℕ
+text_of is_escape = flat_map (λ o. spell (symbol_of is_escape o))

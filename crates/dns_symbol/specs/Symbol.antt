@@ -1,0 +1,63 @@
+-- Symbols: how they are spelled, and what they stand for.
+use Rattle.std.specs.Prelude.{◌≡◌, ℕ, ◌+◌, ◌/◌, ◌%◌, Bool, true, false, ◌==◌, ◌&&◌, ◌||◌, not, nat_le, nat_lt, if◌then◌else◌, List, [], ◌∷◌, ◌++◌, Result, Ok, Err, encode_utf8_all, codes}
+use lib.Utf8.{scalar}
+use Rattle.dns_symbol.specs.declared.symbol.Symbol.{Symbol}
+use Rattle.dns_symbol.specs.declared.symbol.Symbol.TheVariants.{Char, SimpleEscape, DecimalEscape}
+use Rattle.dns_symbol.specs.declared.symbol.SymbolCharsError.{SymbolCharsError}
+use Rattle.dns_symbol.specs.declared.symbol.SymbolCharsError.TheVariants.{BadEscape, ShortInput}
+use Rattle.dns_symbol.specs.declared.symbol.BadSymbol.{BadSymbol}
+use Rattle.dns_symbol.specs.declared.symbol.BadSymbol.TheVariants.{NonAscii, NonUtf8}
+
+-- a digit from 0 to 9
+abbrev pub is_digit : ℕ → Bool
+is_digit c = nat_le 48 c && nat_le c 57
+
+-- from the space to the tilde
+abbrev pub is_printable : ℕ → Bool
+is_printable c = nat_le 32 c && nat_le c 126
+
+-- the characters that a symbol is written as
+abbrev pub spell : Symbol → List ℕ
+spell (Char c) = c ∷ []
+spell (SimpleEscape o) = 92 ∷ o ∷ []
+spell (DecimalEscape o) = 92 ∷ (48 + o / 100) ∷ (48 + o / 10 % 10) ∷ (48 + o % 10) ∷ []
+
+-- and their bytes
+abbrev pub bytes : Symbol → List ℕ
+bytes s = encode_utf8_all (spell s)
+
+-- the symbols that can be read back from their spelling
+abbrev pub is_readable : Symbol → Bool
+is_readable (Char c) = scalar c && not (c == 92)
+is_readable (SimpleEscape o) = is_printable o && not (is_digit o)
+is_readable (DecimalEscape o) = nat_lt o 256
+
+-- the octet of a symbol, or why it has none
+abbrev pub octet_of : Symbol → Result ℕ BadSymbol
+octet_of (Char c) = if is_printable c then Ok c else Err NonAscii
+octet_of (SimpleEscape o) = Ok o
+octet_of (DecimalEscape o) = Ok o
+
+-- the character of a symbol, or why it has none
+abbrev pub char_of : Symbol → Result ℕ BadSymbol
+char_of (Char c) = Ok c
+char_of (SimpleEscape o) = if is_printable o then Ok o else Err NonUtf8
+char_of (DecimalEscape o) = Err NonUtf8
+
+abbrev pub chars_error_text : SymbolCharsError → List ℕ
+chars_error_text BadEscape = codes "illegal escape sequence"
+chars_error_text ShortInput = codes "unexpected end of input"
+
+-- the characters that may stand plain in a word: not the space, tab, LF, CR, a parenthesis, the semicolon or the double quote
+abbrev pub is_word_char : ℕ → Bool
+is_word_char c = not (c == 32 || c == 9 || c == 10 || c == 13 || c == 40 || c == 41 || c == 59 || c == 34)
+
+-- a symbol that may stand in a word: an escape always may
+abbrev pub stands_in_word : Symbol → Bool
+stands_in_word (Char c) = is_word_char c
+stands_in_word (SimpleEscape o) = true
+stands_in_word (DecimalEscape o) = true
+
+-- the symbols that words are made of
+abbrev pub is_word_symbol : Symbol → Bool
+is_word_symbol s = stands_in_word s && is_readable s

@@ -1,0 +1,13 @@
+//! The layer below the text of DNS: octets and the builders that make them.
+//!
+//! [`AsOctets`] is the one meaning that octets have here: a list, each of 0 to 255. Every builder
+//! trait stands on it. A builder is such a list, and a refused append changes nothing.
+#![tactic(auto)]
+
+pub mod builder;
+pub mod octets;
+
+pub use builder::{
+    EmptyBuilder, FreezeBuilder, FromBuilder, IntoBuilder, OctetsBuilder, ShortBuf, Truncate,
+};
+pub use octets::{AsOctets, AsOctetsMut, OctetsFrom};
