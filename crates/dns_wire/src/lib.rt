@@ -5,9 +5,17 @@
 #![tactic(auto)]
 
 pub mod builder;
+pub mod compose;
 pub mod octets;
+pub mod parser;
+pub mod str;
+pub mod ttl;
 
 pub use builder::{
     EmptyBuilder, FreezeBuilder, FromBuilder, IntoBuilder, OctetsBuilder, ShortBuf, Truncate,
 };
+pub use compose::{CanonicalOrd, Compose};
 pub use octets::{AsOctets, AsOctetsMut, OctetsFrom};
+pub use parser::{ParseError, Parser};
+pub use str::Str;
+pub use ttl::Ttl;

@@ -6,8 +6,7 @@ use lib.ListN.{length}
 use base.Fml.{ftrue, fat, flft, GName}
 use mir.Syntax.{named, erased, mut, ty_ref, ty_int, w8}
 use mir.Val.{Val}
-use contract.Running.{tables}
-use types.Kit.{‵, raw, ◌⊛◌, some, later, ◌$◌, ◌∵◌, !, qed, done, move, keep, use1, use3, split, split3, join, fsplit3, fjoin, pick, await, rewrite, suffices, frame}
+use types.Kit.{‵, ◌⊛◌, some, later, ◌$◌, ◌∵◌, !, qed, done, move, keep, use1, use3, split, split3, join, fsplit3, fjoin, pick, await, rewrite, suffices, frame}
 use types.Part.{whole, sub, look_in, agg}
 use types.Run.{enter, of_opd, addr, load, stop, fld, hop, no_more, and_then, returns}
 use types.ByLocal.{alloc_all, pass_all, free_all, look_at, get, through, sets}
@@ -25,7 +24,7 @@ use denote.Steps.{nothing, opens, closes, peeks}
 use denote.Triple.Walked.{says, Stays, stay_dropped, walk_of, ends_at, Goes-spent_ref}
 use denote.Through.{renamed}
 use Rattle.std.proofs.raw_atomic.Walks.{proved}
-use Rattle.dns_wire.specs.Octets.{written_over, written_over_whole, written_through}
+use Rattle.dns_wire.specs.Octets.{written_over_whole, written_through}
 use Rattle.dns_wire.proofs.SliceThrough.{lends_slice_through}
 use Rattle.dns_wire.specs.contracts.octets.RefMutSliceU8AsOctetsMut.as_slice_mut as f
 use Rattle.dns_wire.proofs.octets.RefMutSliceU8AsOctetsMut.as_slice_mut.Statement.{statement}

@@ -1,0 +1,44 @@
+//! The wire form of values, and the canonical order of RFC 4034 section 6.
+ghost use Rattle.std.specs.Prelude.{◌≡◌, ◌∷◌, [], ◌++◌, ◌≤◌, ◌-◌, ℕ, List, length, take, OnOk, OnErr, IsOk};
+ghost use Rattle.std.specs.declared.cmp.Ordering.{Ordering};
+
+use crate::builder::{OctetsBuilder, ShortBuf};
+use std::cmp::Ordering;
+
+/// Values that have a wire form.
+pub trait Compose {
+    // The octets of the wire form.
+    ghost wire: { Self → List ℕ };
+
+    /// Appends the wire form. Refused, the target has its old octets, and perhaps a beginning of
+    /// the wire form behind them.
+    fn compose<Target: OctetsBuilder>(&self, target: &mut Target) -> Result<(), ShortBuf>
+        ensures ok { OnOk result (Target.octets target.new ≡ Target.octets target.old ++ wire self.now) }
+        ensures err { OnErr result ((count : ℕ) × (Target.octets target.new ≡ Target.octets target.old ++ take count (wire self.now))) }
+        ensures fits { length (wire self.now) ≤ Target.sure - length (Target.octets target.old) → IsOk result }
+        ensures within { OnOk result (length (Target.octets target.new) ≤ Target.most) };
+}
+
+impl Compose for u8 {
+    ghost wire = { λ octet. octet ∷ [] };
+
+    fn compose<Target: OctetsBuilder>(&self, target: &mut Target) -> Result<(), ShortBuf>
+        ensures ok { OnOk result (Target.octets target.new ≡ Target.octets target.old ++ self.now ∷ []) }
+        ensures err { OnErr result ((count : ℕ) × (Target.octets target.new ≡ Target.octets target.old ++ take count (self.now ∷ []))) }
+        ensures fits { 1 ≤ Target.sure - length (Target.octets target.old) → IsOk result }
+        ensures within { OnOk result (length (Target.octets target.new) ≤ Target.most) }
+        ensures unchanged { OnErr result (Target.octets target.new ≡ Target.octets target.old) }
+    {
+        target.append_slice(&[*self])
+    }
+}
+
+/// The order in which record data is sorted for signing (RFC 4034 section 6.3).
+pub trait CanonicalOrd<Rhs> {
+    // The order of two values.
+    ghost canonical: { Self → Rhs → Ordering };
+
+    /// How the value stands to another in the canonical order.
+    fn canonical_cmp(&self, other: &Rhs) -> Ordering
+        ensures { result ≡ canonical self.now other.now };
+}

@@ -1,0 +1,49 @@
+//! Octets that are UTF-8.
+ghost use Rattle.std.specs.Prelude.{◌≡◌, ℕ, List, IsUtf8, IsOk, IfOk, IfErr, IfOk, MatchResult};
+
+use crate::octets::AsOctets;
+use std::marker::Model;
+
+/// Octets that are UTF-8, always.
+#[derive(Drop)]
+pub struct Str<Octets: AsOctets> {
+    octets: Octets,
+}
+
+impl<Octets: AsOctets> Model for Str<Octets> {
+    ghost Value = { List ℕ };
+
+    ghost view = { λ s. Octets.octets s.octets };
+
+    ghost invariant = { λ s. IsUtf8 (Octets.octets s.octets) };
+}
+
+impl<Octets: AsOctets + Drop> Str<Octets> {
+    /// The octets as a text, or the octets back where they aren't UTF-8.
+    pub fn from_utf8(octets: Octets) -> Result<Self, Octets>
+        ensures cases { MatchResult result (λ s. (s ≡ Octets.octets octets) × IsUtf8 (Octets.octets octets)) (λ o. (o ≡ octets) × (IsUtf8 (Octets.octets octets) → ⊥)) }
+    {
+        match std::str::from_utf8(octets.as_slice()) {
+            Ok(_) => Ok(Str { octets }),
+            Err(_) => Err(octets),
+        }
+    }
+}
+
+impl<Octets: AsOctets> Str<Octets> {
+    /// The text.
+    pub fn as_str(&self) -> &str
+        ensures { result.now ≡ self.now }
+    {
+        // Every `Str` holds UTF-8, as its invariant says.
+        unsafe { std::str::from_utf8_unchecked(self.octets.as_slice()) }
+    }
+
+    /// The octets.
+    pub fn into_octets(self) -> Octets
+        ensures value { Octets.octets result ≡ self }
+        ensures utf8 { IsUtf8 self }
+    {
+        self.octets
+    }
+}
