@@ -149,7 +149,7 @@ impl<const N: usize> EmptyBuilder for ArrayVec<u8, N> {
 impl FreezeBuilder for Vec<u8> {
     type Octets = Vec<u8>;
 
-    fn freeze(self) -> Self {
+    fn freeze(self) -> Vec<u8> {
         self
     }
 }
@@ -157,7 +157,7 @@ impl FreezeBuilder for Vec<u8> {
 impl<const N: usize> FreezeBuilder for ArrayVec<u8, N> {
     type Octets = ArrayVec<u8, N>;
 
-    fn freeze(self) -> Self {
+    fn freeze(self) -> ArrayVec<u8, N> {
         self
     }
 }

@@ -9,6 +9,8 @@ pub mod compose;
 pub mod octets;
 pub mod parser;
 pub mod str;
+#[cfg(test)]
+mod tests;
 pub mod ttl;
 
 pub use builder::{
