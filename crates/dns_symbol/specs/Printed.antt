@@ -1,7 +1,8 @@
 -- The printed forms of octets: which octets each form escapes simply.
-use Rattle.std.specs.Prelude.{ℕ, Bool, ◌==◌, ◌||◌, if◌then◌else◌, List}
+use Rattle.std.specs.Prelude.{◌≡◌, ℕ, Bool, ◌==◌, ◌||◌, if◌then◌else◌, List, map, None, Ok, encode_utf8_all}
 use Rattle.std.specs.List.{flat_map}
-use Rattle.dns_symbol.specs.Symbol.{spell, is_printable}
+use Rattle.dns_symbol.specs.Symbol.{spell, is_printable, octet_of}
+use Rattle.dns_symbol.specs.Text.{SymbolsOf}
 use Rattle.dns_symbol.specs.declared.symbol.Symbol.{Symbol}
 use Rattle.dns_symbol.specs.declared.symbol.Symbol.TheVariants.{Char, SimpleEscape, DecimalEscape}
 
@@ -24,3 +25,8 @@ symbol_of is_escape o = if is_printable o then (if is_escape o then SimpleEscape
 -- the characters of octets in that form
 abbrev pub text_of : (ℕ → Bool) → List ℕ → List ℕ
 text_of is_escape = flat_map (λ o. spell (symbol_of is_escape o))
+
+-- the text of octets in that form has as its symbols just theirs, and these stand for the octets
+pub record IsReadBack (is_escape : ℕ → Bool) (octets : List ℕ) : Type 0 where
+  pub read : SymbolsOf (encode_utf8_all (text_of is_escape octets)) (map (symbol_of is_escape) octets) None
+  pub given : map octet_of (map (symbol_of is_escape) octets) ≡ map Ok octets

@@ -1,12 +1,15 @@
 -- Symbols: how they are spelled, and what they stand for.
-use Rattle.std.specs.Prelude.{◌≡◌, ℕ, ◌+◌, ◌/◌, ◌%◌, Bool, true, false, ◌==◌, ◌&&◌, ◌||◌, not, nat_le, nat_lt, if◌then◌else◌, List, [], ◌∷◌, ◌++◌, Result, Ok, Err, encode_utf8_all, codes}
+use Rattle.std.specs.Prelude.{ℕ, ◌+◌, ◌/◌, ◌%◌, Bool, true, ◌==◌, ◌&&◌, ◌||◌, not, nat_le, nat_lt, if◌then◌else◌, List, [], ◌∷◌, Result, Ok, Err, encode_utf8_all, codes}
+use Rattle.std.specs.Char.{digit_value}
 use lib.Utf8.{scalar}
 use Rattle.dns_symbol.specs.declared.symbol.Symbol.{Symbol}
 use Rattle.dns_symbol.specs.declared.symbol.Symbol.TheVariants.{Char, SimpleEscape, DecimalEscape}
 use Rattle.dns_symbol.specs.declared.symbol.SymbolCharsError.{SymbolCharsError}
 use Rattle.dns_symbol.specs.declared.symbol.SymbolCharsError.TheVariants.{BadEscape, ShortInput}
+use Rattle.dns_symbol.specs.declared.symbol.SymbolOctetsError.{SymbolOctetsError}
+use Rattle.dns_symbol.specs.declared.symbol.SymbolOctetsError.TheVariants.{BadUtf8, BadEscape as Bad, ShortInput as Short}
 use Rattle.dns_symbol.specs.declared.symbol.BadSymbol.{BadSymbol}
-use Rattle.dns_symbol.specs.declared.symbol.BadSymbol.TheVariants.{NonAscii, NonUtf8}
+use Rattle.dns_symbol.specs.declared.symbol.BadSymbol.TheVariants.{NonAscii, NonUtf8, NonDigit, Escape}
 
 -- a digit from 0 to 9
 abbrev pub is_digit : ℕ → Bool
@@ -38,15 +41,39 @@ octet_of (Char c) = if is_printable c then Ok c else Err NonAscii
 octet_of (SimpleEscape o) = Ok o
 octet_of (DecimalEscape o) = Ok o
 
+-- the printable ASCII octet of a symbol, or why it has none
+abbrev pub ascii_of : Symbol → Result ℕ BadSymbol
+ascii_of (Char c) = if is_printable c then Ok c else Err NonAscii
+ascii_of (SimpleEscape o) = if is_printable o then Ok o else Err NonAscii
+ascii_of (DecimalEscape o) = if is_printable o then Ok o else Err NonAscii
+
 -- the character of a symbol, or why it has none
 abbrev pub char_of : Symbol → Result ℕ BadSymbol
 char_of (Char c) = Ok c
 char_of (SimpleEscape o) = if is_printable o then Ok o else Err NonUtf8
 char_of (DecimalEscape o) = Err NonUtf8
 
+-- the value of a symbol as a digit to a base, or why it has none
+abbrev pub digit_of : ℕ → Symbol → Result ℕ BadSymbol
+digit_of base (Char c) = if nat_lt (digit_value c) base then Ok (digit_value c) else Err NonDigit
+digit_of base (SimpleEscape o) = Err Escape
+digit_of base (DecimalEscape o) = Err Escape
+
+-- what each error prints
 abbrev pub chars_error_text : SymbolCharsError → List ℕ
 chars_error_text BadEscape = codes "illegal escape sequence"
 chars_error_text ShortInput = codes "unexpected end of input"
+
+abbrev pub octets_error_text : SymbolOctetsError → List ℕ
+octets_error_text BadUtf8 = codes "illegal UTF-8 sequence"
+octets_error_text Bad = codes "illegal escape sequence"
+octets_error_text Short = codes "unexpected end of data"
+
+abbrev pub bad_symbol_text : BadSymbol → List ℕ
+bad_symbol_text NonAscii = codes "non-ASCII symbol"
+bad_symbol_text NonUtf8 = codes "invalid UTF-8 sequence"
+bad_symbol_text NonDigit = codes "expected digit"
+bad_symbol_text Escape = codes "unexpected escape sequence"
 
 -- the characters that may stand plain in a word: not the space, tab, LF, CR, a parenthesis, the semicolon or the double quote
 abbrev pub is_word_char : ℕ → Bool

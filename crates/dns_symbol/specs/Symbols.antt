@@ -1,0 +1,63 @@
+-- The symbols of a source of characters: what an iterator over them holds is the source, or the error that ended it.
+use Rattle.std.specs.Prelude.{◌≡◌, ℕ, ⊤, List, ◌++◌, Option, Some, None, Result, Ok, Err, IsErrAnd, encode_utf8_all}
+use Rattle.std.specs.Iterator.{Count, at_most, Yields, Drains}
+use Rattle.std.specs.Fn.{FnOnceReturnsAtMut, Once}
+use denote.Ref.{MutBor}
+use Rattle.dns_symbol.specs.Reading.{ReadsSymbol}
+use Rattle.dns_symbol.specs.Text.{SymbolsOf}
+use Rattle.dns_symbol.specs.declared.symbol.Symbol.{Symbol}
+use Rattle.dns_symbol.specs.declared.symbol.SymbolCharsError.{SymbolCharsError}
+use Rattle.dns_symbol.specs.declared.symbol.SymbolCharsError.TheVariants.{BadEscape, ShortInput}
+
+-- the source may be asked; after an error there is none to ask
+abbrev pub CanGive : {S : Type 0} → (S → Type 0) → Result S SymbolCharsError → Type 0
+CanGive can (Ok s) = can s
+CanGive can (Err e) = ⊤
+
+-- as many symbols as characters at most, and none after an error
+abbrev pub count_of : {S : Type 0} → (S → Count) → Result S SymbolCharsError → Count
+count_of left (Ok s) = left s
+count_of left (Err e) = at_most 0
+
+-- the error that ended the symbols, if one did
+abbrev pub error_of : {S : Type 0} → Result S SymbolCharsError → Option SymbolCharsError
+error_of (Ok s) = None
+error_of (Err e) = Some e
+
+abbrev pub answer_of : {S : Type 0} → Result S SymbolCharsError → Result (Unit {0}) SymbolCharsError
+answer_of (Ok s) = Ok tt
+answer_of (Err e) = Err e
+
+-- a call gave what one reading of the source gives; an error ends the symbols, and stays
+abbrev pub GivesSymbol : {S : Type 0} → (S → Option ℕ → S → Type 0) → Result S SymbolCharsError → Option Symbol → Result S SymbolCharsError → Type 0
+GivesSymbol steps (Ok s) r (Ok t) = ReadsSymbol steps s (Ok r) t
+GivesSymbol steps (Ok s) None (Err e) = (t : _) × ReadsSymbol steps s (Err e) t
+GivesSymbol steps (Err e) None (Err f) = f ≡ e
+GivesSymbol steps (Ok s) (Some x) (Err e) = ⊥
+GivesSymbol steps (Err e) r (Ok t) = ⊥
+GivesSymbol steps (Err e) (Some x) (Err f) = ⊥
+
+-- a clone of the source, or the same error
+abbrev pub IsCloneOf : {S : Type 0} → (S → S → Type 0) → Result S SymbolCharsError → Result S SymbolCharsError → Type 0
+IsCloneOf is_clone (Ok s) (Ok t) = is_clone s t
+IsCloneOf is_clone (Err e) (Err f) = f ≡ e
+IsCloneOf is_clone (Ok s) (Err f) = ⊥
+IsCloneOf is_clone (Err e) (Ok t) = ⊥
+
+-- the answer where a closure gave r and left the symbols at u: its error first, then theirs, and else its value
+abbrev pub Answers : {S T E : Type 0} → (SymbolCharsError → E → Type 0) → Result T E → Result S SymbolCharsError → Result T E → Type 0
+Answers from (Err e) u result = result ≡ Err e
+Answers from (Ok v) (Err e) result = IsErrAnd result (from e)
+Answers from (Ok v) (Ok t) result = result ≡ Ok v
+
+-- a closure ran on the symbols of s, and the result is so answered
+abbrev pub AnswersWith : {S F T E : Type 0} → Once F (MutBor (Result S SymbolCharsError) × Unit {0}) (Result T E × (MutBor (Result S SymbolCharsError) × Unit {0}))
+    → (SymbolCharsError → E → Type 0) → F → S → Result T E → Type 0
+AnswersWith {S} {F} {T} {E} g from op s result = (r : Result T E) × (u : Result S SymbolCharsError) × FnOnceReturnsAtMut g op (Ok s) r u × Answers from r u result
+
+module _ {S : Type 0} (steps : S → Option ℕ → S → Type 0) where
+  -- the characters of a source have these symbols and this error: all of its characters, or, at a bad escape, a beginning of them, however they go on
+  abbrev pub HasSymbols : S → List Symbol → Option SymbolCharsError → Type 0
+  HasSymbols s symbols None = (cs : List ℕ) × Drains steps s cs × SymbolsOf (encode_utf8_all cs) symbols None
+  HasSymbols s symbols (Some ShortInput) = (cs : List ℕ) × Drains steps s cs × SymbolsOf (encode_utf8_all cs) symbols (Some ShortInput)
+  HasSymbols s symbols (Some BadEscape) = (cs : List ℕ) × (t : S) × Yields steps s cs t × ((more : List ℕ) → SymbolsOf (encode_utf8_all (cs ++ more)) symbols (Some BadEscape))

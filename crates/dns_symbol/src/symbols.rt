@@ -1,0 +1,97 @@
+//! The symbols of an iterator over characters.
+ghost use Rattle.std.specs.Prelude.{◌≡◌, Result, IfOk, IsOk};
+ghost use Rattle.std.specs.Fn.{FnOnceTakesAtMut};
+ghost use Rattle.dns_symbol.specs.declared.symbol.SymbolCharsError.{SymbolCharsError};
+ghost use Rattle.dns_symbol.specs.Symbols.{CanGive, GivesSymbol, count_of, answer_of, AnswersWith, IsCloneOf};
+
+use crate::symbol::{Symbol, SymbolCharsError};
+use std::alloc::AllocError;
+use std::marker::Model;
+
+/// The symbols of an iterator over characters, one after another.
+///
+/// An error ends it, and it stays ended: [`Symbols::ok`] tells afterwards whether one came.
+#[derive(Debug, Drop)]
+pub struct Symbols<Chars> {
+    // The characters, or the error that ended the symbols.
+    chars: Result<Chars, SymbolCharsError>,
+}
+
+/// In a contract it is the source of characters, or the error that ended it.
+impl<Chars> Model for Symbols<Chars> {
+    ghost Value = { Result Chars SymbolCharsError };
+
+    ghost view = { λ s. s.chars };
+}
+
+impl<Chars: Iterator<Item = char>> Symbols<Chars> {
+    /// The symbols of some characters.
+    pub fn new(chars: Chars) -> Self
+        ensures { result ≡ Ok chars }
+    {
+        Symbols { chars: Ok(chars) }
+    }
+
+    /// The error that ended the symbols, if a call of `next` has met one.
+    pub fn ok(self) -> Result<(), SymbolCharsError>
+        ensures { result ≡ answer_of self }
+    {
+        self.chars.map(|_| ())
+    }
+
+    /// Lets a closure use the symbols of some characters.
+    ///
+    /// An error of the closure is answered first, then the error that ended the symbols where
+    /// the closure came to it, and else the closure's value.
+    pub fn with<F, T, E>(chars: Chars, op: F) -> Result<T, E>
+    where
+        F: FnOnce(&mut Self) -> Result<T, E>,
+        T: Drop,
+        E: From<SymbolCharsError>,
+        requires { FnOnceTakesAtMut F.FnOnce op (Ok chars) }
+        ensures { AnswersWith F.FnOnce E.from_gives op chars result }
+    {
+        let mut symbols = Self::new(chars);
+        let value = op(&mut symbols)?;
+        symbols.ok()?;
+        Ok(value)
+    }
+
+    /// The same symbols from here on, from a clone of the characters.
+    pub fn clone(&self) -> Result<Self, AllocError>
+    where
+        Chars: Clone,
+        ensures value { IfOk result (IsCloneOf Chars.is_clone self.now) }
+        ensures same { ((v w : Chars) → Chars.is_clone v w → w ≡ v) → IfOk result (λ s. s ≡ self.now) }
+        ensures succeeds { ((v : Chars) → Chars.is_infallible v) → IsOk result }
+    {
+        let chars = match &self.chars {
+            Ok(chars) => Ok(chars.clone()?),
+            Err(error) => Err(*error),
+        };
+        Ok(Symbols { chars })
+    }
+}
+
+impl<Chars: Iterator<Item = char>> Iterator for Symbols<Chars> {
+    type Item = Symbol;
+
+    ghost can_next = { CanGive Chars.can_next };
+
+    ghost next_gives = { GivesSymbol Chars.next_gives };
+
+    ghost remaining = { count_of Chars.remaining };
+
+    fn next(&mut self) -> Option<Symbol> {
+        let Ok(chars) = &mut self.chars else {
+            return None;
+        };
+        match Symbol::from_chars(chars) {
+            Ok(symbol) => symbol,
+            Err(error) => {
+                self.chars = Err(error);
+                None
+            }
+        }
+    }
+}
