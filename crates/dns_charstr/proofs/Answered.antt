@@ -1,0 +1,64 @@
+-- A text has one answer.
+use Rattle.std.proofs.Common.{◌≡◌, ◌≢◌, ℕ, suc, ◌+◌, ◌<◌, ◌≤◌, List, [], ◌∷◌, ◌++◌, length, map, refl, sym, ap, ◌∙◌, arith, append_assoc, append-nil, length-append, Option, Some, None, Result, Ok, Err}
+use Rattle.dns_symbol.specs.Symbol.{octet_of}
+use Rattle.dns_symbol.specs.Text.{SymbolsOf}
+use Rattle.dns_symbol.specs.declared.symbol.Symbol.{Symbol}
+use Rattle.dns_symbol.specs.declared.symbol.SymbolCharsError.{SymbolCharsError}
+use Rattle.dns_symbol.specs.declared.symbol.BadSymbol.{BadSymbol}
+use Rattle.dns_symbol.proofs.Unique.{symbols_same}
+use Rattle.dns_charstr.specs.Reading.{HasOctets, BreaksOff, GoesOn, ReadsText}
+use Rattle.dns_charstr.specs.declared.charstr.error.FromStrError.{FromStrError}
+use Rattle.dns_charstr.specs.declared.charstr.error.FromStrError.TheVariants.{Presentation, ShortBuf}
+use Rattle.dns_charstr.specs.declared.charstr.error.PresentationError.TheVariants.{LongString, SymbolChars, BadSymbol as Bad}
+
+-- as many symbols as octets
+pub octets_count : (symbols : List Symbol) (octets : List ℕ) → map octet_of symbols ≡ map Ok octets → length symbols ≡ length octets
+octets_count [] [] h = refl
+octets_count [] (o ∷ os) h = cc
+octets_count (s ∷ ss) [] h = cc
+octets_count (s ∷ ss) (o ∷ os) h = let e : map octet_of ss ≡ map Ok os = cc h in ap suc (octets_count ss os e)
+
+-- each symbol has an octet
+pub octets_each : (front : List Symbol) (x : Symbol) (left : List Symbol) (octets : List ℕ) → map octet_of (front ++ x ∷ left) ≡ map Ok octets
+    → (o : ℕ) × (octet_of x ≡ Ok o)
+octets_each [] x left [] h = cc
+octets_each [] x left (o ∷ os) h = (o, cc h)
+octets_each (s ∷ ss) x left [] h = cc
+octets_each (s ∷ ss) x left (o ∷ os) h = octets_each ss x left os (cc h)
+
+pub same_octets : (xs ys : List ℕ) → map {B = Result ℕ BadSymbol} Ok xs ≡ map Ok ys → xs ≡ ys
+same_octets [] [] h = refl
+same_octets [] (y ∷ ys) h = cc
+same_octets (x ∷ xs) [] h = cc
+same_octets (x ∷ xs) (y ∷ ys) h = let rest = same_octets xs ys (cc h) in let first : x ≡ y = cc h in cc
+
+-- a text has the octets of one list
+pub one_list : (text xs ys : List ℕ) → HasOctets text xs → HasOctets text ys → xs ≡ ys
+one_list text xs ys a b =
+    same_octets xs ys (sym a.octets_are ∙ ap (map octet_of) (symbols_same text a.symbols b.symbols None None a.read b.read).0 ∙ b.octets_are)
+
+-- a text that is all symbols with octets, and some of these
+count_before : (text octets begun : List ℕ) (x : Symbol) → HasOctets text octets → GoesOn text begun x → length begun < length octets
+count_before text octets begun x whole part =
+    let same = (symbols_same text whole.symbols (part.front ++ x ∷ part.others) None part.error whole.read part.read).0 in
+    let n = octets_count whole.symbols octets whole.octets_are in
+    let m = octets_count part.front begun part.octets_are in
+    omega (arith, n, m, ap length same, length-append part.front (x ∷ part.others))
+
+octet_next : (text octets begun : List ℕ) (x : Symbol) → HasOctets text octets → GoesOn text begun x → (o : ℕ) × (octet_of x ≡ Ok o)
+octet_next text octets begun x whole part =
+    let same = (symbols_same text whole.symbols (part.front ++ x ∷ part.others) None part.error whole.read part.read).0 in
+    octets_each part.front x part.others octets (sym (ap (map octet_of) same) ∙ whole.octets_are)
+
+-- a text that can be read in whole is read, where its octets surely fit
+pub whole_is_read : (sure most : ℕ) (text octets : List ℕ) (r : Result (List ℕ) FromStrError) → ReadsText sure most text r → HasOctets text octets
+    → length octets ≤ sure → length octets ≤ 255 → r ≡ Ok octets
+whole_is_read sure most text octets (Ok os) h whole fits short = ap Ok (one_list text os octets h.0 whole)
+whole_is_read sure most text octets (Err (Presentation (SymbolChars e))) h whole fits short =
+    let same : None ≡ Some e = (symbols_same text whole.symbols h.1.symbols None (Some e) whole.read h.1.read).1 in absurd (cc)
+whole_is_read sure most text octets (Err (Presentation LongString)) h whole fits short =
+    absurd (omega (arith, count_before text octets h.0 h.1 whole h.2, h.3, short))
+whole_is_read sure most text octets (Err (Presentation (Bad e))) h whole fits short =
+    let o = octet_next text octets h.0 h.1 whole h.2 in let has = o.1 in let none = h.5 in absurd (cc)
+whole_is_read sure most text octets (Err ShortBuf) h whole fits short =
+    absurd (omega (arith, count_before text octets h.0 h.1 whole h.3, h.7, fits))

@@ -1,0 +1,9 @@
+pub mod Alike
+pub mod Answered
+pub mod OneAnswer
+pub mod Ordered
+pub mod ReadBack
+pub mod Skipped
+pub mod SoFar
+pub mod Taken
+pub mod Texts

@@ -1,0 +1,6 @@
+pub mod Error
+pub mod Lends
+pub mod Order
+pub mod Printed
+pub mod Reading
+pub mod Wire

@@ -1,0 +1,15 @@
+-- The wire form of a character string.
+use Rattle.std.specs.Prelude.{◌≡◌, ℕ, ◌+◌, ◌<◌, ◌≤◌, ◌⊎◌, List, [], ◌∷◌, ◌++◌, length}
+
+-- one octet for the length, then the octets
+abbrev pub wire_of : List ℕ → List ℕ
+wire_of octets = length octets ∷ octets
+
+-- no wire form stands at the front
+abbrev pub BeginsNone : List ℕ → Type 0
+BeginsNone front = (octets more : List ℕ) → front ≡ wire_of octets ++ more → ⊥
+
+-- what a refused append leaves: the octets as they were, where the length octet may not fit, or these and the length octet, where the others may not
+abbrev pub IsLeft : ℕ → ℕ → List ℕ → List ℕ → List ℕ → Type 0
+IsLeft sure most octets old new =
+    ((new ≡ old) × (sure ≤ length old)) ⊎ ((new ≡ old ++ length octets ∷ []) × (length new ≤ most) × (sure < length old + length (wire_of octets)))

@@ -1,0 +1,268 @@
+//! Character strings: at most 255 octets (RFC 1035 section 3.3).
+ghost use Rattle.std.specs.Prelude.{◌≡◌, ◌≤◌, ◌<◌, ◌↔◌, List, [], ℕ, length, All, IsTrue, IfOk, IsOk, Ok};
+
+mod builder;
+mod compare;
+mod display;
+mod error;
+mod iter;
+#[cfg(test)]
+mod tests;
+mod wire;
+
+pub use builder::CharStrBuilder;
+pub use display::{DisplayQuoted, DisplayUnquoted, LowerHexDisplay, UpperHexDisplay};
+pub use error::{CharStrError, FromStrError, PresentationError};
+pub use iter::{IntoIter, Iter};
+
+use dns_symbol::symbol::Symbol;
+use dns_wire::{
+    AsOctets, AsOctetsMut, EmptyBuilder, FreezeBuilder, FromBuilder, IntoBuilder, OctetsBuilder,
+    OctetsFrom, ShortBuf,
+};
+use std::alloc::AllocError;
+use std::marker::Model;
+
+/// A character string: a list of at most 255 octets.
+#[derive(Debug, Drop)]
+pub struct CharStr<Octs: AsOctets> {
+    octets: Octs,
+}
+
+impl<Octs: AsOctets> Model for CharStr<Octs> {
+    ghost Value = { List ℕ };
+
+    ghost view = { λ s. Octs.octets s.octets };
+
+    ghost invariant = { λ s. length (Octs.octets s.octets) ≤ 255 };
+}
+
+impl CharStr<&[u8]> {
+    /// The greatest number of octets of a character string.
+    pub const MAX_LEN: usize = 255;
+
+    /// The character string of no octets.
+    pub fn empty_slice() -> CharStr<&'static [u8]>
+        ensures { result ≡ [] }
+    {
+        CharStr { octets: &[] }
+    }
+
+    /// The character string of these octets, of which there may be at most 255.
+    pub fn from_slice(slice: &[u8]) -> Result<CharStr<&[u8]>, CharStrError>
+        ensures ok { IsOk result ↔ (length slice.now ≤ 255) }
+        ensures value { IfOk result (λ s. s ≡ slice.now) }
+    {
+        CharStr::from_octets(slice)
+    }
+}
+
+impl<Octs: AsOctets> CharStr<Octs> {
+    /// The character string of no octets. It takes no memory.
+    pub fn empty(alloc: <Octs::Builder as EmptyBuilder>::Alloc) -> Self
+    where
+        Octs: FromBuilder,
+        Octs::Builder: EmptyBuilder,
+        ensures { result ≡ [] }
+    {
+        CharStr {
+            octets: Octs::from_builder(<Octs::Builder as EmptyBuilder>::empty(alloc)),
+        }
+    }
+
+    /// The character string of these octets, of which there may be at most 255. Refused, they are
+    /// dropped.
+    pub fn from_octets(octets: Octs) -> Result<Self, CharStrError>
+    where
+        Octs: Drop,
+        ensures ok { IsOk result ↔ (length (Octs.octets octets) ≤ 255) }
+        ensures value { IfOk result (λ s. s ≡ Octs.octets octets) }
+    {
+        if octets.as_slice().len() > 255 {
+            return Err(CharStrError);
+        }
+        Ok(CharStr { octets })
+    }
+
+    /// The octets themselves.
+    pub fn into_octets(self) -> Octs
+        ensures value { Octs.octets result ≡ self }
+        ensures short { length self ≤ 255 }
+    {
+        self.octets
+    }
+
+    /// The octets.
+    pub fn as_slice(&self) -> &[u8]
+        ensures value { result.now ≡ self.now }
+        ensures short { length self.now ≤ 255 }
+        ensures bytes { All (λ b. b < 256) self.now }
+    {
+        self.octets.as_slice()
+    }
+
+    /// How many octets there are: 255 at most.
+    pub fn len(&self) -> usize
+        ensures value { result ≡ length self.now }
+        ensures short { result ≤ 255 }
+    {
+        self.octets.as_slice().len()
+    }
+
+    /// Whether there are no octets.
+    pub fn is_empty(&self) -> bool
+        ensures { IsTrue result ↔ (self.now ≡ []) }
+    {
+        self.octets.as_slice().is_empty()
+    }
+}
+
+impl<Octs: AsOctets> CharStr<Octs> {
+    /// A view of the same octets.
+    pub fn for_slice(&self) -> CharStr<&[u8]>
+        ensures { result ≡ self.now }
+    {
+        CharStr {
+            octets: self.octets.as_slice(),
+        }
+    }
+
+    /// A copy of the character string. It is refused as that of its octets is.
+    ///
+    /// The copies of the octets' type must have the same octets.
+    pub fn clone(&self) -> Result<Self, AllocError>
+    where
+        Octs: Clone,
+        requires { (v w : Octs) → Octs.is_clone v w → Octs.octets w ≡ Octs.octets v }
+        ensures value { IfOk result (λ s. s ≡ self.now) }
+        ensures succeeds { ((v : Octs) → Octs.is_infallible v) → IsOk result }
+    {
+        Ok(CharStr {
+            octets: self.octets.clone()?,
+        })
+    }
+
+    /// A builder of no octets. It takes no memory.
+    pub fn builder(
+        alloc: <<Octs as IntoBuilder>::Builder as EmptyBuilder>::Alloc,
+    ) -> CharStrBuilder<<Octs as IntoBuilder>::Builder>
+    where
+        Octs: IntoBuilder,
+        <Octs as IntoBuilder>::Builder: EmptyBuilder,
+        ensures { result ≡ [] }
+    {
+        CharStrBuilder::new(alloc)
+    }
+
+    /// A builder that goes on from the octets.
+    pub fn into_builder(self) -> CharStrBuilder<<Octs as IntoBuilder>::Builder>
+    where
+        Octs: IntoBuilder,
+        <Octs as IntoBuilder>::Builder: OctetsBuilder,
+        ensures { result ≡ self }
+    {
+        CharStrBuilder {
+            inner: self.octets.into_builder(),
+        }
+    }
+}
+
+impl<Octs: AsOctetsMut> CharStr<Octs> {
+    ghost use Rattle.std.specs.Borrow.{sem};
+    ghost use Rattle.dns_charstr.specs.Lends.{lends_octets};
+
+    /// The octets, to be written over. Their count stays.
+    pub fn as_slice_mut(&mut self) -> &mut [u8]
+        ensures* writes_back { sem 𝓛 (lends_octets Octs.row Octs.AsOctets self.entry result) }
+        ensures value { result.now ≡ self.old }
+        ensures short { length self.old ≤ 255 }
+    {
+        self.octets.as_slice_mut()
+    }
+
+    /// A view of the same octets, to be written over. Their count stays.
+    pub fn for_slice_mut(&mut self) -> CharStr<&mut [u8]>
+        ensures { result ≡ self.old }
+    {
+        CharStr {
+            octets: self.octets.as_slice_mut(),
+        }
+    }
+}
+
+impl<Octs: AsOctets> CharStr<Octs> {
+    ghost use Rattle.dns_charstr.specs.Reading.{ReadsText, HasOctets};
+
+    /// Reads the text of a character string: the octets of its symbols (RFC 1035 section 5.1).
+    ///
+    /// Symbols are handled in order. What is no symbol is refused first, then a symbol after 255
+    /// octets by `LongString`, then one that has no octet, then an octet for which the buffer has
+    /// no room by `ShortBuf`. The first refusal is the answer.
+    pub fn from_str(
+        alloc: <<Octs as FromBuilder>::Builder as EmptyBuilder>::Alloc,
+        text: &str,
+    ) -> Result<Self, FromStrError>
+    where
+        Octs: FromBuilder,
+        <Octs as FromBuilder>::Builder: EmptyBuilder + FreezeBuilder<Octets = Octs> + Drop,
+        ensures reads { ReadsText Octs.Builder.sure Octs.Builder.most text.now result }
+        ensures succeeds { (octets : List ℕ) → HasOctets text.now octets → length octets ≤ Octs.Builder.sure
+            → length octets ≤ 255 → result ≡ Ok octets }
+    {
+        Self::read_symbols(alloc, text)
+    }
+
+    fn read_symbols(
+        alloc: <<Octs as FromBuilder>::Builder as EmptyBuilder>::Alloc,
+        text: &str,
+    ) -> Result<Self, FromStrError>
+    where
+        Octs: FromBuilder,
+        <Octs as FromBuilder>::Builder: EmptyBuilder + FreezeBuilder<Octets = Octs> + Drop,
+        ensures { ReadsText Octs.Builder.sure Octs.Builder.most text.now result }
+    {
+        let mut builder = CharStrBuilder::<<Octs as FromBuilder>::Builder>::new(alloc);
+        let mut chars = text.chars();
+        while let Some(symbol) = Symbol::from_chars(&mut chars)? {
+            if builder.len() == CharStr::MAX_LEN {
+                return Err(PresentationError::LongString.into());
+            }
+            let octet = symbol.into_octet()?;
+            builder.append_slice(&[octet])?;
+        }
+        Ok(builder.finish())
+    }
+}
+
+impl<Octs: AsOctets> AsOctets for CharStr<Octs> {
+    ghost octets = { λ s. s };
+
+    fn as_slice(&self) -> &[u8] {
+        self.octets.as_slice()
+    }
+}
+
+impl<Octs: AsOctetsMut> AsOctetsMut for CharStr<Octs> {
+    ghost use Rattle.std.specs.Prelude.{refl};
+    ghost use Rattle.dns_wire.specs.Octets.{written_over};
+
+    ghost with_octets = { written_over };
+
+    fn as_slice_mut(&mut self) -> &mut [u8] {
+        self.octets.as_slice_mut()
+    }
+
+    ghost octets_with = { λ _ _. refl };
+}
+
+impl<S: AsOctets, Octs: OctetsFrom<S>> OctetsFrom<CharStr<S>> for CharStr<Octs> {
+    type Alloc = <Octs as OctetsFrom<S>>::Alloc;
+
+    ghost takes = { Octs.takes };
+
+    fn try_octets_from(alloc: Self::Alloc, source: CharStr<S>) -> Result<Self, ShortBuf> {
+        Ok(CharStr {
+            octets: Octs::try_octets_from(alloc, source.octets)?,
+        })
+    }
+}

@@ -1,0 +1,189 @@
+//! Character strings that are being built.
+ghost use Rattle.std.specs.Prelude.{◌≡◌, ◌≤◌, ◌<◌, ◌↔◌, List, [], ℕ, length, min, All, IsTrue, IfOk, IsOk, refl};
+ghost use Rattle.dns_wire.specs.Octets.{written_over};
+
+use crate::charstr::{CharStr, CharStrError};
+use dns_wire::{
+    AsOctets, AsOctetsMut, EmptyBuilder, FreezeBuilder, OctetsBuilder, ShortBuf, Truncate,
+};
+use std::alloc::{AllocError, Global};
+use std::marker::Model;
+
+/// A character string that is being built: a list of at most 255 octets.
+#[derive(Drop)]
+pub struct CharStrBuilder<B: OctetsBuilder> {
+    pub(super) inner: B,
+}
+
+impl<B: OctetsBuilder> Model for CharStrBuilder<B> {
+    ghost Value = { List ℕ };
+
+    ghost view = { λ b. B.octets b.inner };
+
+    ghost invariant = { λ b. length (B.octets b.inner) ≤ 255 };
+}
+
+impl<B: OctetsBuilder> CharStrBuilder<B> {
+    /// A builder of no octets. It takes no memory.
+    pub fn new(alloc: B::Alloc) -> Self
+    where
+        B: EmptyBuilder,
+        ensures { result ≡ [] }
+    {
+        CharStrBuilder {
+            inner: B::empty(alloc),
+        }
+    }
+
+    /// A builder of no octets, with room set aside for so many where that can be done.
+    pub fn with_capacity(alloc: B::Alloc, capacity: usize) -> Result<Self, ShortBuf>
+    where
+        B: EmptyBuilder,
+        ensures value { IfOk result (λ b. b ≡ []) }
+        ensures succeeds { IsTrue B.takes_no_memory → IsOk result }
+    {
+        Ok(CharStrBuilder {
+            inner: B::with_capacity(alloc, capacity)?,
+        })
+    }
+
+    /// Goes on from the octets of another builder, of which there may be at most 255. Refused,
+    /// they are dropped.
+    pub fn from_builder(inner: B) -> Result<Self, CharStrError>
+    where
+        B: Drop,
+        ensures ok { IsOk result ↔ (length (B.octets inner) ≤ 255) }
+        ensures value { IfOk result (λ b. b ≡ B.octets inner) }
+    {
+        if inner.as_slice().len() > 255 {
+            return Err(CharStrError);
+        }
+        Ok(CharStrBuilder { inner })
+    }
+
+    /// A copy of the builder. It is refused as that of the builder below is.
+    ///
+    /// The copies of the builder below must have the same octets.
+    pub fn clone(&self) -> Result<Self, AllocError>
+    where
+        B: Clone,
+        requires { (v w : B) → B.is_clone v w → B.octets w ≡ B.octets v }
+        ensures value { IfOk result (λ b. b ≡ self.now) }
+        ensures succeeds { ((v : B) → B.is_infallible v) → IsOk result }
+    {
+        Ok(CharStrBuilder {
+            inner: self.inner.clone()?,
+        })
+    }
+
+    /// The octets so far.
+    pub fn as_slice(&self) -> &[u8]
+        ensures value { result.now ≡ self.now }
+        ensures short { length self.now ≤ 255 }
+        ensures bytes { All (λ b. b < 256) self.now }
+    {
+        self.inner.as_slice()
+    }
+
+    /// How many octets there are so far: 255 at most.
+    pub fn len(&self) -> usize
+        ensures value { result ≡ length self.now }
+        ensures short { result ≤ 255 }
+    {
+        self.inner.as_slice().len()
+    }
+
+    /// Whether there are no octets yet.
+    pub fn is_empty(&self) -> bool
+        ensures { IsTrue result ↔ (self.now ≡ []) }
+    {
+        self.inner.as_slice().is_empty()
+    }
+
+    /// The character string of the octets.
+    pub fn finish(self) -> CharStr<B::Octets>
+    where
+        B: FreezeBuilder,
+        ensures { result ≡ self }
+    {
+        CharStr {
+            octets: self.inner.freeze(),
+        }
+    }
+}
+
+impl CharStrBuilder<Vec<u8>> {
+    /// A builder of no octets over a vector. It takes no memory.
+    pub fn new_vec(alloc: Global) -> Self
+        ensures { result ≡ [] }
+    {
+        CharStrBuilder::new(alloc)
+    }
+
+    /// A builder of no octets over a vector, with room set aside for so many.
+    pub fn vec_with_capacity(alloc: Global, capacity: usize) -> Result<Self, ShortBuf>
+        ensures { IfOk result (λ b. b ≡ []) }
+    {
+        CharStrBuilder::with_capacity(alloc, capacity)
+    }
+}
+
+impl<B: OctetsBuilder + AsOctetsMut> CharStrBuilder<B> {
+    ghost use Rattle.std.specs.Borrow.{sem};
+    ghost use Rattle.dns_charstr.specs.Lends.{lends_built};
+
+    /// The octets so far, to be written over. Their count stays.
+    pub fn as_slice_mut(&mut self) -> &mut [u8]
+        ensures* writes_back { sem 𝓛 (lends_built B.row B.AsOctets B.sure B.most self.entry result) }
+        ensures value { result.now ≡ self.old }
+        ensures short { length self.old ≤ 255 }
+    {
+        self.inner.as_slice_mut()
+    }
+}
+
+impl<B: OctetsBuilder> AsOctets for CharStrBuilder<B> {
+    ghost octets = { λ b. b };
+
+    fn as_slice(&self) -> &[u8] {
+        self.inner.as_slice()
+    }
+}
+
+/// Appends only while there are at most 255 octets.
+impl<B: OctetsBuilder> OctetsBuilder for CharStrBuilder<B> {
+    ghost sure = { min B.sure 255 };
+
+    ghost most = { min B.most 255 };
+
+    fn append_slice(&mut self, slice: &[u8]) -> Result<(), ShortBuf> {
+        if slice.len() > 255 - self.inner.as_slice().len() {
+            return Err(ShortBuf);
+        }
+        self.inner.append_slice(slice)
+    }
+}
+
+impl<B: OctetsBuilder + AsOctetsMut> AsOctetsMut for CharStrBuilder<B> {
+    ghost with_octets = { written_over };
+
+    fn as_slice_mut(&mut self) -> &mut [u8] {
+        self.inner.as_slice_mut()
+    }
+
+    ghost octets_with = { λ _ _. refl };
+}
+
+impl<B: OctetsBuilder + Truncate> Truncate for CharStrBuilder<B> {
+    fn truncate(&mut self, len: usize) {
+        self.inner.truncate(len);
+    }
+}
+
+impl<B: EmptyBuilder<Alloc = ()>> Default for CharStrBuilder<B> {
+    ghost is_default = { λ b. b ≡ [] };
+
+    fn default() -> Self {
+        CharStrBuilder::new(())
+    }
+}

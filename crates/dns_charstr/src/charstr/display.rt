@@ -1,0 +1,169 @@
+//! The printed forms of character strings (RFC 1035 section 5.1).
+ghost use Rattle.std.specs.Prelude.{◌≡◌};
+
+use crate::charstr::CharStr;
+use dns_symbol::symbol::Symbol;
+use dns_wire::AsOctets;
+use std::fmt;
+
+/// Prints the octets with no character special but the backslash.
+impl<Octs: AsOctets> fmt::Display for CharStr<Octs> {
+    ghost use Rattle.std.specs.Prelude.{Some, encode_utf8_all};
+    ghost use Rattle.dns_symbol.specs.Printed.{text_of, is_plain_escape};
+
+    ghost output = { λ s. Some (encode_utf8_all (text_of is_plain_escape s)) };
+
+    fn fmt<W: fmt::Write>(&self, f: &mut fmt::Formatter<W>) -> fmt::Result {
+        for octet in self.as_slice() {
+            let symbol = Symbol::display_from_octet(*octet);
+            write!(f, "{symbol}")?;
+        }
+        Ok(())
+    }
+}
+
+impl<Octs: AsOctets> CharStr<Octs> {
+    ghost use Rattle.dns_charstr.specs.Printed.{quoted_octets, unquoted_octets, lower_hex_octets, upper_hex_octets};
+
+    /// The octets between double quotes.
+    pub fn display_quoted(&self) -> DisplayQuoted<'_>
+        ensures { quoted_octets result ≡ self.now }
+    {
+        DisplayQuoted::from_slice(self.as_slice())
+    }
+
+    /// The octets as a word of a zone file. No octets print nothing, which is no word.
+    pub fn display_unquoted(&self) -> DisplayUnquoted<'_>
+        ensures { unquoted_octets result ≡ self.now }
+    {
+        DisplayUnquoted::from_slice(self.as_slice())
+    }
+
+    /// Two lower case hexadecimal digits an octet.
+    pub fn display_lower_hex(&self) -> LowerHexDisplay<'_>
+        ensures { lower_hex_octets result ≡ self.now }
+    {
+        LowerHexDisplay {
+            octets: self.as_slice(),
+        }
+    }
+
+    /// Two upper case hexadecimal digits an octet.
+    pub fn display_upper_hex(&self) -> UpperHexDisplay<'_>
+        ensures { upper_hex_octets result ≡ self.now }
+    {
+        UpperHexDisplay {
+            octets: self.as_slice(),
+        }
+    }
+}
+
+/// Octets that print between double quotes.
+#[derive(Clone, Copy, Debug)]
+pub struct DisplayQuoted<'a> {
+    octets: &'a [u8],
+}
+
+impl<'a> DisplayQuoted<'a> {
+    ghost use Rattle.dns_charstr.specs.Printed.{quoted_octets};
+
+    /// Prints these octets, of which there may be any number.
+    pub fn from_slice(octets: &'a [u8]) -> Self
+        ensures { quoted_octets result ≡ octets.now }
+    {
+        DisplayQuoted { octets }
+    }
+}
+
+impl fmt::Display for DisplayQuoted<'_> {
+    ghost use Rattle.std.specs.Prelude.{Some, encode_utf8_all};
+    ghost use Rattle.dns_charstr.specs.Printed.{quoted_octets, quoted_text};
+
+    ghost output = { λ d. Some (encode_utf8_all (quoted_text (quoted_octets d))) };
+
+    fn fmt<W: fmt::Write>(&self, f: &mut fmt::Formatter<W>) -> fmt::Result {
+        write!(f, "\"")?;
+        for octet in self.octets {
+            let symbol = Symbol::quoted_from_octet(*octet);
+            write!(f, "{symbol}")?;
+        }
+        write!(f, "\"")
+    }
+}
+
+/// Octets that print as a word of a zone file.
+#[derive(Clone, Copy, Debug)]
+pub struct DisplayUnquoted<'a> {
+    octets: &'a [u8],
+}
+
+impl<'a> DisplayUnquoted<'a> {
+    ghost use Rattle.dns_charstr.specs.Printed.{unquoted_octets};
+
+    /// Prints these octets, of which there may be any number.
+    pub fn from_slice(octets: &'a [u8]) -> Self
+        ensures { unquoted_octets result ≡ octets.now }
+    {
+        DisplayUnquoted { octets }
+    }
+}
+
+impl fmt::Display for DisplayUnquoted<'_> {
+    ghost use Rattle.std.specs.Prelude.{Some, encode_utf8_all};
+    ghost use Rattle.dns_symbol.specs.Printed.{text_of, is_unquoted_escape};
+    ghost use Rattle.dns_charstr.specs.Printed.{unquoted_octets};
+
+    ghost output = { λ d. Some (encode_utf8_all (text_of is_unquoted_escape (unquoted_octets d))) };
+
+    fn fmt<W: fmt::Write>(&self, f: &mut fmt::Formatter<W>) -> fmt::Result {
+        for octet in self.octets {
+            let symbol = Symbol::from_octet(*octet);
+            write!(f, "{symbol}")?;
+        }
+        Ok(())
+    }
+}
+
+/// Octets that print as lower case hexadecimal digits.
+pub struct LowerHexDisplay<'a> {
+    octets: &'a [u8],
+}
+
+impl fmt::Display for LowerHexDisplay<'_> {
+    ghost use Rattle.std.specs.Prelude.{Some, encode_utf8_all};
+    ghost use Rattle.dns_charstr.specs.Printed.{lower_hex_octets, hex_text, lower_digits};
+
+    ghost output = { λ d. Some (encode_utf8_all (hex_text lower_digits (lower_hex_octets d))) };
+
+    fn fmt<W: fmt::Write>(&self, f: &mut fmt::Formatter<W>) -> fmt::Result {
+        let digits = b"0123456789abcdef";
+        for octet in self.octets {
+            let high = char::from(digits[(*octet / 16) as usize]);
+            let low = char::from(digits[(*octet % 16) as usize]);
+            write!(f, "{high}{low}")?;
+        }
+        Ok(())
+    }
+}
+
+/// Octets that print as upper case hexadecimal digits.
+pub struct UpperHexDisplay<'a> {
+    octets: &'a [u8],
+}
+
+impl fmt::Display for UpperHexDisplay<'_> {
+    ghost use Rattle.std.specs.Prelude.{Some, encode_utf8_all};
+    ghost use Rattle.dns_charstr.specs.Printed.{upper_hex_octets, hex_text, upper_digits};
+
+    ghost output = { λ d. Some (encode_utf8_all (hex_text upper_digits (upper_hex_octets d))) };
+
+    fn fmt<W: fmt::Write>(&self, f: &mut fmt::Formatter<W>) -> fmt::Result {
+        let digits = b"0123456789ABCDEF";
+        for octet in self.octets {
+            let high = char::from(digits[(*octet / 16) as usize]);
+            let low = char::from(digits[(*octet % 16) as usize]);
+            write!(f, "{high}{low}")?;
+        }
+        Ok(())
+    }
+}

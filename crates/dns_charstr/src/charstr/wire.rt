@@ -1,0 +1,68 @@
+//! The wire form of character strings: a length octet and the octets (RFC 1035 section 3.3).
+ghost use Rattle.std.specs.Prelude.{◌≡◌, ◌≤◌, ◌-◌, ◌∷◌, [], ◌++◌, ℕ, List, length, min, IfOk, IsOk, OnOk, OnErr};
+ghost use Rattle.dns_wire.specs.Parsing.{rest, gone_on};
+ghost use Rattle.dns_charstr.specs.Wire.{wire_of, BeginsNone, IsLeft};
+
+use crate::charstr::CharStr;
+use dns_wire::{AsOctets, OctetsBuilder, ParseError, Parser, ShortBuf};
+
+impl<'a> CharStr<&'a [u8]> {
+    /// Takes the wire form of a character string from a parser.
+    ///
+    /// Without a length octet the parser is left as it was. With too few octets after it, the
+    /// parser stands past the length octet.
+    pub fn parse(parser: &mut Parser<'a>) -> Result<Self, ParseError>
+        ensures value { IfOk result (λ s. rest parser.old ≡ wire_of s ++ rest parser.new) }
+        ensures goes { IfOk result (λ s. parser.new ≡ gone_on (length (wire_of s)) parser.old) }
+        ensures refused { OnErr result (BeginsNone (rest parser.old)) }
+        ensures left { OnErr result (parser.new ≡ gone_on (min 1 (length (rest parser.old))) parser.old) }
+    {
+        let len = parser.parse_u8()? as usize;
+        let octets = parser.parse_octets(len)?;
+        Ok(CharStr { octets })
+    }
+
+    /// The same as `parse`.
+    pub fn parse_slice(parser: &mut Parser<'a>) -> Result<Self, ParseError>
+        ensures value { IfOk result (λ s. rest parser.old ≡ wire_of s ++ rest parser.new) }
+        ensures goes { IfOk result (λ s. parser.new ≡ gone_on (length (wire_of s)) parser.old) }
+        ensures refused { OnErr result (BeginsNone (rest parser.old)) }
+        ensures left { OnErr result (parser.new ≡ gone_on (min 1 (length (rest parser.old))) parser.old) }
+    {
+        Self::parse(parser)
+    }
+
+    /// Passes over the wire form of a character string. Refused, the parser is left as `parse`
+    /// leaves it.
+    pub fn skip(parser: &mut Parser<'a>) -> Result<(), ParseError>
+        ensures goes { OnOk result ((s : List ℕ) × (rest parser.old ≡ wire_of s ++ rest parser.new)
+            × (parser.new ≡ gone_on (length (wire_of s)) parser.old)) }
+        ensures refused { OnErr result (BeginsNone (rest parser.old)) }
+        ensures left { OnErr result (parser.new ≡ gone_on (min 1 (length (rest parser.old))) parser.old) }
+    {
+        let len = parser.parse_u8()? as usize;
+        parser.advance(len)
+    }
+}
+
+impl<Octs: AsOctets> CharStr<Octs> {
+    /// How many octets the wire form has: one more than the character string.
+    pub fn compose_len(&self) -> u16
+        ensures { result ≡ length (wire_of self.now) }
+    {
+        self.len() as u16 + 1
+    }
+
+    /// Appends the wire form.
+    ///
+    /// Refused, the target is as it was, or has the length octet appended.
+    pub fn compose<Target: OctetsBuilder>(&self, target: &mut Target) -> Result<(), ShortBuf>
+        ensures ok { OnOk result (Target.octets target.new ≡ Target.octets target.old ++ wire_of self.now) }
+        ensures err { OnErr result (IsLeft Target.sure Target.most self.now (Target.octets target.old) (Target.octets target.new)) }
+        ensures fits { length (wire_of self.now) ≤ Target.sure - length (Target.octets target.old) → IsOk result }
+        ensures within { OnOk result (length (Target.octets target.new) ≤ Target.most) }
+    {
+        target.append_slice(&[self.len() as u8])?;
+        target.append_slice(self.as_slice())
+    }
+}

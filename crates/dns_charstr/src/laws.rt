@@ -1,0 +1,84 @@
+//! Laws on character strings: what holds of all octets and texts.
+ghost use Rattle.std.specs.Prelude.{◌≡◌, ◌<◌, ◌≤◌, ◌↔◌, ℕ, List, [], ◌∷◌, ◌++◌, All, length, true, IsTrue, Result, encode_utf8_all};
+ghost use Rattle.std.specs.List.{flat_map, list_all};
+ghost use Rattle.std.specs.Cmp.{IsEquivalence, IsTotalOrder};
+ghost use Rattle.std.specs.declared.cmp.Ordering.TheVariants.{Equal};
+ghost use Rattle.dns_symbol.specs.Symbol.{bytes, is_word_symbol};
+ghost use Rattle.dns_symbol.specs.Printed.{text_of, is_plain_escape, is_unquoted_escape};
+ghost use Rattle.dns_symbol.specs.declared.symbol.Symbol.{Symbol};
+ghost use Rattle.dns_charstr.specs.Printed.{quoted_text};
+ghost use Rattle.dns_charstr.specs.Reading.{HasOctets, ReadsText};
+ghost use Rattle.dns_charstr.specs.Order.{lowered, same_lowered, lowered_order, wire_order, hash_writes};
+ghost use Rattle.dns_charstr.specs.declared.charstr.error.FromStrError.{FromStrError};
+
+/// The plain text of octets is read as these octets.
+pub fn plain_text_reads_back(octets: &[u8])
+    ensures { HasOctets (encode_utf8_all (text_of is_plain_escape octets.now)) octets.now }
+{
+    let _octets = octets;
+}
+
+/// The unquoted text of octets is read as these octets.
+pub fn unquoted_text_reads_back(octets: &[u8])
+    ensures { HasOctets (encode_utf8_all (text_of is_unquoted_escape octets.now)) octets.now }
+{
+    let _octets = octets;
+}
+
+/// The quoted text of octets has a double quote at each end, and what stands between the two is
+/// read as these octets.
+pub fn quoted_text_reads_back(octets: &[u8])
+    ensures quotes { (between : List ℕ) × (encode_utf8_all (quoted_text octets.now) ≡ 34 ∷ between ++ 34 ∷ []) }
+    ensures between { (between : List ℕ) → encode_utf8_all (quoted_text octets.now) ≡ 34 ∷ between ++ 34 ∷ []
+        → HasOctets between octets.now }
+{
+    let _octets = octets;
+}
+
+/// The unquoted text of octets, if there are any, is a word: symbols that can be read and may
+/// stand in one.
+pub fn unquoted_text_is_a_word(octets: &[u8])
+    requires { 0 < length octets.now }
+    ensures { (symbols : List Symbol) × (0 < length symbols) × (list_all is_word_symbol symbols ≡ true)
+        × (encode_utf8_all (text_of is_unquoted_escape octets.now) ≡ flat_map bytes symbols) }
+{
+    let _octets = octets;
+}
+
+/// A text has the octets of one list at most. Where the octets that surely fit are those that
+/// ever do, reading it has one answer.
+pub fn texts_have_one_reading(text: &str)
+    ensures octets { (xs ys : List ℕ) → HasOctets text.now xs → HasOctets text.now ys → xs ≡ ys }
+    ensures answer { (room : ℕ) (q r : Result (List ℕ) FromStrError) → ReadsText room room text.now q → ReadsText room room text.now r → q ≡ r }
+{
+    let _text = text;
+}
+
+/// Two lists of octets are equal exactly if they are the same once lowered, which is where their
+/// order is `Equal`. Equality is an equivalence, and the order is total.
+pub fn order_ties_where_equal(left: &[u8], right: &[u8])
+    ensures equal { IsTrue (same_lowered left.now right.now) ↔ (lowered left.now ≡ lowered right.now) }
+    ensures order { (lowered_order left.now right.now ≡ Equal) ↔ IsTrue (same_lowered left.now right.now) }
+    ensures equivalence { IsEquivalence same_lowered }
+    ensures total { IsTotalOrder lowered_order }
+{
+    let _left = left;
+    let _right = right;
+}
+
+/// Equal octets are hashed alike.
+pub fn equal_octets_hash_alike(left: &[u8], right: &[u8])
+    ensures { IsTrue (same_lowered left.now right.now) → hash_writes left.now ≡ hash_writes right.now }
+{
+    let _left = left;
+    let _right = right;
+}
+
+/// The canonical order is `Equal` exactly for the same octets, and total.
+pub fn canonical_order_ties_where_same(left: &[u8], right: &[u8])
+    ensures same { (wire_order left.now right.now ≡ Equal) ↔ (left.now ≡ right.now) }
+    ensures total { IsTotalOrder wire_order }
+{
+    let _left = left;
+    let _right = right;
+}
