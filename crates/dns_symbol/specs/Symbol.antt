@@ -25,11 +25,11 @@ spell (Char c) = c ∷ []
 spell (SimpleEscape o) = 92 ∷ o ∷ []
 spell (DecimalEscape o) = 92 ∷ (48 + o / 100) ∷ (48 + o / 10 % 10) ∷ (48 + o % 10) ∷ []
 
--- and their bytes
+-- the bytes that a symbol is written as
 abbrev pub bytes : Symbol → List ℕ
 bytes s = encode_utf8_all (spell s)
 
--- the symbols that can be read back from their spelling
+-- the symbols that can be read back from their spelling: no plain backslash, no surrogate, no simple escape of a digit or of what isn't printable
 abbrev pub is_readable : Symbol → Bool
 is_readable (Char c) = scalar c && not (c == 92)
 is_readable (SimpleEscape o) = is_printable o && not (is_digit o)
@@ -53,22 +53,24 @@ char_of (Char c) = Ok c
 char_of (SimpleEscape o) = if is_printable o then Ok o else Err NonUtf8
 char_of (DecimalEscape o) = Err NonUtf8
 
--- the value of a symbol as a digit to a base, or why it has none
+-- the value of a symbol as a digit to a base, letters in either case, or why it has none
 abbrev pub digit_of : ℕ → Symbol → Result ℕ BadSymbol
 digit_of base (Char c) = if nat_lt (digit_value c) base then Ok (digit_value c) else Err NonDigit
 digit_of base (SimpleEscape o) = Err Escape
 digit_of base (DecimalEscape o) = Err Escape
 
--- what each error prints
+-- what an error of characters prints
 abbrev pub chars_error_text : SymbolCharsError → List ℕ
 chars_error_text BadEscape = codes "illegal escape sequence"
 chars_error_text ShortInput = codes "unexpected end of input"
 
+-- what an error of octets prints
 abbrev pub octets_error_text : SymbolOctetsError → List ℕ
 octets_error_text BadUtf8 = codes "illegal UTF-8 sequence"
 octets_error_text Bad = codes "illegal escape sequence"
 octets_error_text Short = codes "unexpected end of data"
 
+-- what a symbol that isn't what was asked for prints
 abbrev pub bad_symbol_text : BadSymbol → List ℕ
 bad_symbol_text NonAscii = codes "non-ASCII symbol"
 bad_symbol_text NonUtf8 = codes "invalid UTF-8 sequence"
@@ -85,6 +87,6 @@ stands_in_word (Char c) = is_word_char c
 stands_in_word (SimpleEscape o) = true
 stands_in_word (DecimalEscape o) = true
 
--- the symbols that words are made of
+-- the symbols that words are made of: readable ones that may stand in a word
 abbrev pub is_word_symbol : Symbol → Bool
 is_word_symbol s = stands_in_word s && is_readable s

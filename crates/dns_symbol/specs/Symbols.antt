@@ -24,6 +24,7 @@ abbrev pub error_of : {S : Type 0} → Result S SymbolCharsError → Option Symb
 error_of (Ok s) = None
 error_of (Err e) = Some e
 
+-- whether the symbols ended well so far: that error, or nothing
 abbrev pub answer_of : {S : Type 0} → Result S SymbolCharsError → Result (Unit {0}) SymbolCharsError
 answer_of (Ok s) = Ok tt
 answer_of (Err e) = Err e
