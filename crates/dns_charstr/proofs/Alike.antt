@@ -1,5 +1,5 @@
 -- Comparisons of lists, and where they tie.
-use Rattle.std.proofs.Common.{◌≡◌, ℕ, true, List, ◌∷◌, refl, sym, ap, ◌∙◌}
+use Rattle.std.proofs.Common.{◌≡◌, ℕ, true, List, refl, sym, ap, ◌∙◌}
 use Rattle.std.specs.Prelude.{nat_eq}
 use Rattle.std.specs.Ordering.{nat_cmp, is_eq}
 use Rattle.std.specs.Cmp.Lexicographic.{pointwise, slice_cmp, same_text, texts_ties}

@@ -1,12 +1,10 @@
 -- A text has one answer.
-use Rattle.std.proofs.Common.{◌≡◌, ◌≢◌, ℕ, suc, ◌+◌, ◌<◌, ◌≤◌, List, [], ◌∷◌, ◌++◌, length, map, refl, sym, ap, ◌∙◌, arith, append_assoc, append-nil, length-append, Option, Some, None, Result, Ok, Err}
+use Rattle.std.proofs.Common.{◌≡◌, ℕ, suc, ◌<◌, ◌≤◌, List, [], ◌∷◌, ◌++◌, length, map, refl, sym, ap, ◌∙◌, arith, length-append, Some, None, Result, Ok, Err, inl, inr, ⊎_elim, ◌⊎◌}
 use Rattle.dns_symbol.specs.Symbol.{octet_of}
-use Rattle.dns_symbol.specs.Text.{SymbolsOf}
 use Rattle.dns_symbol.specs.declared.symbol.Symbol.{Symbol}
-use Rattle.dns_symbol.specs.declared.symbol.SymbolCharsError.{SymbolCharsError}
 use Rattle.dns_symbol.specs.declared.symbol.BadSymbol.{BadSymbol}
 use Rattle.dns_symbol.proofs.Unique.{symbols_same}
-use Rattle.dns_charstr.specs.Reading.{HasOctets, BreaksOff, GoesOn, ReadsText}
+use Rattle.dns_charstr.specs.Reading.{HasOctets, GoesOn, ReadsText}
 use Rattle.dns_charstr.specs.declared.charstr.error.FromStrError.{FromStrError}
 use Rattle.dns_charstr.specs.declared.charstr.error.FromStrError.TheVariants.{Presentation, ShortBuf}
 use Rattle.dns_charstr.specs.declared.charstr.error.PresentationError.TheVariants.{LongString, SymbolChars, BadSymbol as Bad}
@@ -50,15 +48,21 @@ octet_next text octets begun x whole part =
     let same = (symbols_same text whole.symbols (part.front ++ x ∷ part.others) None part.error whole.read part.read).0 in
     octets_each part.front x part.others octets (sym (ap (map octet_of) same) ∙ whole.octets_are)
 
--- a text that can be read in whole is read, where its octets surely fit
+-- a text that is all symbols with octets is read in whole, or there was not surely room for them
+pub read_or_short : (sure most : ℕ) (text octets : List ℕ) (r : Result (List ℕ) FromStrError) → ReadsText sure most text r → HasOctets text octets
+    → length octets ≤ 255 → (r ≡ Ok octets) ⊎ ((r ≡ Err ShortBuf) × (sure < length octets))
+read_or_short sure most text octets (Ok os) h whole short = inl (ap Ok (one_list text os octets h.0 whole))
+read_or_short sure most text octets (Err (Presentation (SymbolChars e))) h whole short =
+    let same : None ≡ Some e = (symbols_same text whole.symbols h.1.symbols None (Some e) whole.read h.1.read).1 in absurd (cc)
+read_or_short sure most text octets (Err (Presentation LongString)) h whole short =
+    absurd (omega (arith, count_before text octets h.0 h.1 whole h.2, h.3, short))
+read_or_short sure most text octets (Err (Presentation (Bad e))) h whole short =
+    let o = octet_next text octets h.0 h.1 whole h.2 in let has = o.1 in let none = h.5 in absurd (cc)
+read_or_short sure most text octets (Err ShortBuf) h whole short =
+    inr (refl, omega (arith, count_before text octets h.0 h.1 whole h.3, h.7))
+
+-- so it is read where its octets surely fit
 pub whole_is_read : (sure most : ℕ) (text octets : List ℕ) (r : Result (List ℕ) FromStrError) → ReadsText sure most text r → HasOctets text octets
     → length octets ≤ sure → length octets ≤ 255 → r ≡ Ok octets
-whole_is_read sure most text octets (Ok os) h whole fits short = ap Ok (one_list text os octets h.0 whole)
-whole_is_read sure most text octets (Err (Presentation (SymbolChars e))) h whole fits short =
-    let same : None ≡ Some e = (symbols_same text whole.symbols h.1.symbols None (Some e) whole.read h.1.read).1 in absurd (cc)
-whole_is_read sure most text octets (Err (Presentation LongString)) h whole fits short =
-    absurd (omega (arith, count_before text octets h.0 h.1 whole h.2, h.3, short))
-whole_is_read sure most text octets (Err (Presentation (Bad e))) h whole fits short =
-    let o = octet_next text octets h.0 h.1 whole h.2 in let has = o.1 in let none = h.5 in absurd (cc)
-whole_is_read sure most text octets (Err ShortBuf) h whole fits short =
-    absurd (omega (arith, count_before text octets h.0 h.1 whole h.3, h.7, fits))
+whole_is_read sure most text octets r h whole fits short =
+    ⊎_elim (λ is. is) (λ none. absurd (omega (arith, none.1, fits))) (read_or_short sure most text octets r h whole short)

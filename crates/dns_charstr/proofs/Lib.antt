@@ -3,6 +3,7 @@ pub mod Answered
 pub mod OneAnswer
 pub mod Ordered
 pub mod ReadBack
+mod RefusedRows
 pub mod Skipped
 pub mod SoFar
 pub mod Taken

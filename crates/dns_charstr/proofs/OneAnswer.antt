@@ -1,6 +1,6 @@
 -- Where it is known how many octets fit, a text has one answer.
-use Rattle.std.proofs.Common.{◌≡◌, ℕ, suc, ◌+◌, ◌<◌, ◌≤◌, Bool, true, false, List, [], ◌∷◌, ◌++◌, length, map, refl, sym, ap, ◌∙◌, arith, append_assoc, append-nil, length-append, Option, Some, None, Result, Ok, Err}
-use Rattle.std.specs.Prelude.{◌==◌, nat_le, if◌then◌else◌}
+use Rattle.std.proofs.Common.{◌≡◌, ℕ, ◌+◌, ◌<◌, ◌≤◌, Bool, true, false, List, [], ◌∷◌, ◌++◌, length, map, refl, sym, ap, ◌∙◌, arith, append_assoc, append-nil, length-append, Option, Some, None, Result, Ok, Err}
+use Rattle.std.specs.Prelude.{◌==◌, nat_le}
 use Rattle.std.proofs.lemmas.Bool.Decides.{nat_tests}
 use Rattle.dns_symbol.specs.Symbol.{octet_of}
 use Rattle.dns_symbol.specs.Text.{SymbolsOf}
@@ -8,7 +8,7 @@ use Rattle.dns_symbol.specs.declared.symbol.Symbol.{Symbol}
 use Rattle.dns_symbol.specs.declared.symbol.SymbolCharsError.{SymbolCharsError}
 use Rattle.dns_symbol.specs.declared.symbol.BadSymbol.{BadSymbol}
 use Rattle.dns_symbol.proofs.Unique.{symbols_same}
-use Rattle.dns_charstr.specs.Reading.{HasOctets, BreaksOff, GoesOn, ReadsText}
+use Rattle.dns_charstr.specs.Reading.{ReadsText}
 use Rattle.dns_charstr.specs.declared.charstr.error.FromStrError.{FromStrError}
 use Rattle.dns_charstr.specs.declared.charstr.error.FromStrError.TheVariants.{Presentation, ShortBuf}
 use Rattle.dns_charstr.specs.declared.charstr.error.PresentationError.TheVariants.{LongString, SymbolChars, BadSymbol as Bad}

@@ -1,5 +1,5 @@
 -- What is printed is read back.
-use Rattle.std.proofs.Common.{◌≡◌, ℕ, ◌<◌, Bool, true, List, [], ◌∷◌, ◌++◌, length, map, All, refl, sym, ap, ◌∙◌, arith, None}
+use Rattle.std.proofs.Common.{◌≡◌, ℕ, ◌<◌, Bool, true, List, [], ◌∷◌, ◌++◌, length, map, All, refl, sym, ◌∙◌, arith}
 use Rattle.std.specs.Prelude.{encode_utf8_all}
 use Rattle.std.specs.List.{flat_map, list_all}
 use Rattle.std.proofs.lemmas.List.{append_cancel_right, length-map}
@@ -29,8 +29,9 @@ between_quotes octets between h e =
 
 pub is_a_word : (octets : List ℕ) → 0 < length octets → All (λ o. o < 256) octets
     → (symbols : List Symbol) × (0 < length symbols) × (list_all is_word_symbol symbols ≡ true) × (encode_utf8_all (text_of is_unquoted_escape octets) ≡ flat_map bytes symbols)
-is_a_word octets some h =
-    ( map (symbol_of is_unquoted_escape) octets
-    , omega (arith, some, length-map octets (symbol_of is_unquoted_escape))
-    , all_unquoted_words octets h
-    , printed_bytes is_unquoted_escape octets)
+is_a_word octets some h = (
+  map (symbol_of is_unquoted_escape) octets,
+  omega (arith, some, length-map octets (symbol_of is_unquoted_escape)),
+  all_unquoted_words octets h,
+  printed_bytes is_unquoted_escape octets,
+)

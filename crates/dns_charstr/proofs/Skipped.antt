@@ -14,8 +14,9 @@ passed old mid new len (Ok u) value one within moved =
     let counted : length (take len (rest mid)) ≡ len = length-take-le len (rest mid) (within refl) in
     let left : drop len (rest mid) ≡ rest new = drop-drop len mid.place mid.octets ∙ ap rest (sym moved) in
     let parts : rest mid ≡ take len (rest mid) ++ rest new = sym (take-append-drop len (rest mid)) ∙ ap (λ t. take len (rest mid) ++ t) left in
-    let place : old.place + 1 + len ≡ old.place + suc len = omega arith in
-    ( take len (rest mid)
-    , value ∙ (λ i. sym counted i ∷ parts i)
-    , moved ∙ ap (gone_on len) one ∙ (λ i. record { octets = old.octets; place = place i }) ∙ ap (λ n. gone_on (suc n) old) (sym counted))
+    let place : old.place + 1 + len ≡ old.place + suc len = omega arith in (
+      take len (rest mid),
+      value ∙ (λ i. sym counted i ∷ parts i),
+      moved ∙ ap (gone_on len) one ∙ (λ i. record { octets = old.octets; place = place i }) ∙ ap (λ n. gone_on (suc n) old) (sym counted),
+    )
 passed old mid new len (Err e) value one within moved = tt

@@ -1,5 +1,5 @@
 -- What a reader of characters has taken from a text.
-use Rattle.std.proofs.Common.{◌≡◌, ℕ, ◌+◌, ◌<◌, ◌≤◌, ◌⊎◌, true, List, [], ◌∷◌, ◌++◌, length, drop, refl, sym, ap, subst, ◌∙◌, arith, Option, Some, None, Result, Ok, Err, ⊎_elim}
+use Rattle.std.proofs.Common.{◌≡◌, ℕ, ◌<◌, true, List, [], ◌∷◌, ◌++◌, length, drop, refl, sym, ap, subst, ◌∙◌, arith, Option, Some, None, Result, Ok, Err, ⊎_elim}
 use Rattle.std.specs.Iterator.{Yields}
 use Rattle.std.specs.Str.{IsUtf8}
 use Rattle.std.specs.Str.Iter.{chars_steps, chars_rest}
@@ -63,7 +63,7 @@ refusal_taken e s t u h =
 
     at_front : (x : Symbol) (after : List ℕ) → BeginsWith rest x after → ReadsAt rest 0 (Ok (Some (x, length (bytes x))))
     at_front x after b =
-      (subst (λ r. BeginsWith rest x r) (sym (ap (λ l. drop (length (bytes x)) l) b.spelled ∙ after_front (bytes x) after)) b, omega arith)
+        (subst (λ r. BeginsWith rest x r) (sym (ap (λ l. drop (length (bytes x)) l) b.spelled ∙ after_front (bytes x) after)) b, omega arith)
 
     cause : 0 < length rest → BeginsNone rest → Err (octets_error rest) ≡ at_place 0 (Err e) → e ≡ chars_error rest
     cause some none is = sym (same_cause (chars_error rest) e (sym (same_error rest u some none) ∙ cc))

@@ -3,4 +3,5 @@ pub mod Lends
 pub mod Order
 pub mod Printed
 pub mod Reading
+pub mod Rows
 pub mod Wire

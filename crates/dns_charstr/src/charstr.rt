@@ -12,14 +12,13 @@ mod wire;
 
 pub use builder::CharStrBuilder;
 pub use display::{DisplayQuoted, DisplayUnquoted, LowerHexDisplay, UpperHexDisplay};
-pub use error::{CharStrError, FromStrError, PresentationError};
-pub use iter::{IntoIter, Iter};
-
 use dns_symbol::symbol::Symbol;
 use dns_wire::{
     AsOctets, AsOctetsMut, EmptyBuilder, FreezeBuilder, FromBuilder, IntoBuilder, OctetsBuilder,
     OctetsFrom, ShortBuf,
 };
+pub use error::{CharStrError, FromStrError, PresentationError};
+pub use iter::{IntoIter, Iter};
 use std::alloc::AllocError;
 use std::marker::Model;
 
@@ -106,14 +105,14 @@ impl<Octs: AsOctets> CharStr<Octs> {
         ensures value { result ≡ length self.now }
         ensures short { result ≤ 255 }
     {
-        self.octets.as_slice().len()
+        self.as_slice().len()
     }
 
     /// Whether there are no octets.
     pub fn is_empty(&self) -> bool
         ensures { IsTrue result ↔ (self.now ≡ []) }
     {
-        self.octets.as_slice().is_empty()
+        self.as_slice().is_empty()
     }
 }
 
@@ -123,7 +122,7 @@ impl<Octs: AsOctets> CharStr<Octs> {
         ensures { result ≡ self.now }
     {
         CharStr {
-            octets: self.octets.as_slice(),
+            octets: self.as_slice(),
         }
     }
 
@@ -185,7 +184,7 @@ impl<Octs: AsOctetsMut> CharStr<Octs> {
         ensures { result ≡ self.old }
     {
         CharStr {
-            octets: self.octets.as_slice_mut(),
+            octets: self.as_slice_mut(),
         }
     }
 }
@@ -238,7 +237,7 @@ impl<Octs: AsOctets> AsOctets for CharStr<Octs> {
     ghost octets = { λ s. s };
 
     fn as_slice(&self) -> &[u8] {
-        self.octets.as_slice()
+        CharStr::as_slice(self)
     }
 }
 
@@ -249,7 +248,7 @@ impl<Octs: AsOctetsMut> AsOctetsMut for CharStr<Octs> {
     ghost with_octets = { written_over };
 
     fn as_slice_mut(&mut self) -> &mut [u8] {
-        self.octets.as_slice_mut()
+        CharStr::as_slice_mut(self)
     }
 
     ghost octets_with = { λ _ _. refl };

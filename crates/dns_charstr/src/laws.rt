@@ -1,5 +1,5 @@
 //! Laws on character strings: what holds of all octets and texts.
-ghost use Rattle.std.specs.Prelude.{◌≡◌, ◌<◌, ◌≤◌, ◌↔◌, ℕ, List, [], ◌∷◌, ◌++◌, All, length, true, IsTrue, Result, encode_utf8_all};
+ghost use Rattle.std.specs.Prelude.{◌≡◌, ◌<◌, ◌≤◌, ◌↔◌, ℕ, List, [], ◌∷◌, ◌++◌, All, length, true, IsTrue, Result, Ok, Err, ◌⊎◌, encode_utf8_all};
 ghost use Rattle.std.specs.List.{flat_map, list_all};
 ghost use Rattle.std.specs.Cmp.{IsEquivalence, IsTotalOrder};
 ghost use Rattle.std.specs.declared.cmp.Ordering.TheVariants.{Equal};
@@ -10,6 +10,7 @@ ghost use Rattle.dns_charstr.specs.Printed.{quoted_text};
 ghost use Rattle.dns_charstr.specs.Reading.{HasOctets, ReadsText};
 ghost use Rattle.dns_charstr.specs.Order.{lowered, same_lowered, lowered_order, wire_order, hash_writes};
 ghost use Rattle.dns_charstr.specs.declared.charstr.error.FromStrError.{FromStrError};
+ghost use Rattle.dns_charstr.specs.declared.charstr.error.FromStrError.TheVariants.{ShortBuf};
 
 /// The plain text of octets is read as these octets.
 pub fn plain_text_reads_back(octets: &[u8])
@@ -45,10 +46,13 @@ pub fn unquoted_text_is_a_word(octets: &[u8])
     let _octets = octets;
 }
 
-/// A text has the octets of one list at most. Where the octets that surely fit are those that
-/// ever do, reading it has one answer.
+/// A text has the octets of one list at most. If there are at most 255 of them, reading the text
+/// gives them, or they didn't surely fit and there was no room. Where the octets that surely fit
+/// are those that ever do, reading any text has one answer.
 pub fn texts_have_one_reading(text: &str)
     ensures octets { (xs ys : List ℕ) → HasOctets text.now xs → HasOctets text.now ys → xs ≡ ys }
+    ensures whole { (sure most : ℕ) (octets : List ℕ) (r : Result (List ℕ) FromStrError) → ReadsText sure most text.now r
+        → HasOctets text.now octets → length octets ≤ 255 → (r ≡ Ok octets) ⊎ ((r ≡ Err ShortBuf) × (sure < length octets)) }
     ensures answer { (room : ℕ) (q r : Result (List ℕ) FromStrError) → ReadsText room room text.now q → ReadsText room room text.now r → q ≡ r }
 {
     let _text = text;

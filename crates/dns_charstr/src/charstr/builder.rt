@@ -90,14 +90,14 @@ impl<B: OctetsBuilder> CharStrBuilder<B> {
         ensures value { result ≡ length self.now }
         ensures short { result ≤ 255 }
     {
-        self.inner.as_slice().len()
+        self.as_slice().len()
     }
 
     /// Whether there are no octets yet.
     pub fn is_empty(&self) -> bool
         ensures { IsTrue result ↔ (self.now ≡ []) }
     {
-        self.inner.as_slice().is_empty()
+        self.as_slice().is_empty()
     }
 
     /// The character string of the octets.
@@ -146,7 +146,7 @@ impl<B: OctetsBuilder> AsOctets for CharStrBuilder<B> {
     ghost octets = { λ b. b };
 
     fn as_slice(&self) -> &[u8] {
-        self.inner.as_slice()
+        CharStrBuilder::as_slice(self)
     }
 }
 
@@ -157,7 +157,7 @@ impl<B: OctetsBuilder> OctetsBuilder for CharStrBuilder<B> {
     ghost most = { min B.most 255 };
 
     fn append_slice(&mut self, slice: &[u8]) -> Result<(), ShortBuf> {
-        if slice.len() > 255 - self.inner.as_slice().len() {
+        if slice.len() > 255 - self.len() {
             return Err(ShortBuf);
         }
         self.inner.append_slice(slice)
@@ -168,7 +168,7 @@ impl<B: OctetsBuilder + AsOctetsMut> AsOctetsMut for CharStrBuilder<B> {
     ghost with_octets = { written_over };
 
     fn as_slice_mut(&mut self) -> &mut [u8] {
-        self.inner.as_slice_mut()
+        CharStrBuilder::as_slice_mut(self)
     }
 
     ghost octets_with = { λ _ _. refl };

@@ -43,18 +43,14 @@ impl<Octs: AsOctets> CharStr<Octs> {
     pub fn display_lower_hex(&self) -> LowerHexDisplay<'_>
         ensures { lower_hex_octets result ≡ self.now }
     {
-        LowerHexDisplay {
-            octets: self.as_slice(),
-        }
+        LowerHexDisplay::from_slice(self.as_slice())
     }
 
     /// Two upper case hexadecimal digits an octet.
     pub fn display_upper_hex(&self) -> UpperHexDisplay<'_>
         ensures { upper_hex_octets result ≡ self.now }
     {
-        UpperHexDisplay {
-            octets: self.as_slice(),
-        }
+        UpperHexDisplay::from_slice(self.as_slice())
     }
 }
 
@@ -125,8 +121,20 @@ impl fmt::Display for DisplayUnquoted<'_> {
 }
 
 /// Octets that print as lower case hexadecimal digits.
+#[derive(Drop)]
 pub struct LowerHexDisplay<'a> {
     octets: &'a [u8],
+}
+
+impl<'a> LowerHexDisplay<'a> {
+    ghost use Rattle.dns_charstr.specs.Printed.{lower_hex_octets};
+
+    /// Prints these octets, of which there may be any number.
+    pub fn from_slice(octets: &'a [u8]) -> Self
+        ensures { lower_hex_octets result ≡ octets.now }
+    {
+        LowerHexDisplay { octets }
+    }
 }
 
 impl fmt::Display for LowerHexDisplay<'_> {
@@ -147,8 +155,20 @@ impl fmt::Display for LowerHexDisplay<'_> {
 }
 
 /// Octets that print as upper case hexadecimal digits.
+#[derive(Drop)]
 pub struct UpperHexDisplay<'a> {
     octets: &'a [u8],
+}
+
+impl<'a> UpperHexDisplay<'a> {
+    ghost use Rattle.dns_charstr.specs.Printed.{upper_hex_octets};
+
+    /// Prints these octets, of which there may be any number.
+    pub fn from_slice(octets: &'a [u8]) -> Self
+        ensures { upper_hex_octets result ≡ octets.now }
+    {
+        UpperHexDisplay { octets }
+    }
 }
 
 impl fmt::Display for UpperHexDisplay<'_> {

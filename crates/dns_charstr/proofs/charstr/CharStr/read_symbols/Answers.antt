@@ -1,8 +1,8 @@
 use Rattle.std.proofs.Common.{arith, sym}
 use Rattle.std.proofs.lemmas.Result.{err_from_is_err_and}
 use Rattle.std.proofs.lemmas.Grind.{common_steps}
-use Rattle.dns_charstr.proofs.SoFar.{read_more, read_all, read_broken, read_next}
-use Rattle.dns_charstr.proofs.Taken.{symbol_taken, none_taken, refusal_taken}
+use Rattle.dns_charstr.proofs.SoFar.{read_more, read_broken, read_next}
+use Rattle.dns_charstr.proofs.Taken.{symbol_taken, refusal_taken}
 use Rattle.dns_charstr.proofs.charstr.CharStr.read_symbols.Goals as goal
 
 pub loop-builder-preserved : goal.loop-builder-preserved

@@ -1,4 +1,4 @@
-use Rattle.std.proofs.Common.{◌≡◌, ◌≤◌, length}
+use Rattle.std.proofs.Common.{◌≤◌, length}
 use Rattle.std.specs.Str.Iter.{chars_rest}
 use Rattle.dns_charstr.proofs.SoFar.{HasRead}
 use Rattle.dns_charstr.proofs.charstr.CharStr.read_symbols.Given as goal

@@ -1,4 +1,4 @@
-use Rattle.std.proofs.Common.{◌≡◌, ◌≤◌, length, drop}
+use Rattle.std.proofs.Common.{◌≡◌, drop}
 use Rattle.dns_charstr.specs.Order.{lowered_order}
 use Rattle.dns_charstr.proofs.charstr.compare.compare_lowered.Given as goal
 

@@ -1,4 +1,4 @@
-use Rattle.std.proofs.Common.{rules, List, [], ◌∷◌, ◌/◌, ◌%◌}
+use Rattle.std.proofs.Common.{rules, [], ◌∷◌, ◌/◌, ◌%◌}
 use Rattle.std.specs.Prelude.{slice_index}
 use Rattle.std.proofs.Output.{has_written_append, has_written_of_eq}
 use Rattle.dns_charstr.specs.Printed.{lower_digits}
