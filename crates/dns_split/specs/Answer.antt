@@ -1,0 +1,27 @@
+-- What `split` answers.
+use Rattle.std.specs.Prelude.{⊤, ℕ, List, ◌++◌, map, codes, Result, Ok, Err, Vec, String, string_bytes}
+use Rattle.std.specs.declared.alloc.Global.{Global}
+use Rattle.dns_split.specs.declared.splitting.SplitError.{SplitError}
+use Rattle.dns_split.specs.declared.splitting.SplitError.TheVariants.{BadText, ShortBuf}
+use Rattle.std.specs.Fmt.{decimal}
+use Rattle.dns_split.specs.Splitting.{Entries, Splits}
+use Rattle.dns_split.specs.Viable.{IsBad}
+
+-- the bytes of each text
+abbrev pub texts : List (String Global) → List (List ℕ)
+texts ts = map string_bytes ts
+
+-- the tokens of each entry
+abbrev pub entries_of : List (Vec (String Global) Global) → Entries
+entries_of es = map (λ e. texts e.items) es
+
+-- the entries that the text splits into, or the bytes of its longest viable beginning; nothing is said where memory ran out
+abbrev pub Answers : Result (Vec (Vec (String Global) Global) Global) SplitError → List ℕ → Type 0
+Answers (Ok v) text = Splits text (entries_of v.items)
+Answers (Err (BadText i)) text = IsBad text i
+Answers (Err ShortBuf) text = ⊤
+
+-- what an error prints
+abbrev pub error_text : SplitError → List ℕ
+error_text (BadText i) = codes "bad text at " ++ decimal i
+error_text ShortBuf = codes "buffer size exceeded"

@@ -1,0 +1,57 @@
+-- The pieces that a zone text is made of (RFC 1035, section 5.1).
+use Rattle.std.specs.Prelude.{ℕ, Bool, true, false, if◌then◌else◌, ◌&&◌, ◌||◌, ◌==◌, not, List, [], ◌∷◌, ◌++◌, encode_utf8_all}
+use Rattle.std.specs.List.{flat_map, list_all}
+use lib.Utf8.{scalar}
+use Rattle.dns_symbol.specs.Symbol.{spell, is_readable, is_word_symbol}
+use Rattle.dns_symbol.specs.declared.symbol.Symbol.{Symbol}
+use Rattle.dns_symbol.specs.declared.symbol.Symbol.TheVariants.{Char, SimpleEscape, DecimalEscape}
+
+-- the characters that may stand plain between double quotes: not the double quote, LF or CR
+abbrev pub is_quote_char : ℕ → Bool
+is_quote_char c = not (c == 34 || c == 10 || c == 13)
+
+-- a symbol that may stand between double quotes: an escape always may
+abbrev pub stands_in_quote : Symbol → Bool
+stands_in_quote (Char c) = is_quote_char c
+stands_in_quote (SimpleEscape o) = true
+stands_in_quote (DecimalEscape o) = true
+
+-- the symbols that quoted texts are made of
+abbrev pub is_quote_symbol : Symbol → Bool
+is_quote_symbol s = stands_in_quote s && is_readable s
+
+-- the characters of a comment: not LF or CR
+abbrev pub is_note_char : ℕ → Bool
+is_note_char c = scalar c && not (c == 10 || c == 13)
+
+-- a blank is a space or a tab, a line ends in LF or CR LF, a note is a comment, a word has one symbol or more
+pub data Lexeme : Type 0 where
+  Blank : (is_tab : Bool) → Lexeme
+  Line : (has_cr : Bool) → Lexeme
+  Open : Lexeme
+  Close : Lexeme
+  Note : List ℕ → Lexeme
+  Word : Symbol → List Symbol → Lexeme
+  Quote : List Symbol → Lexeme
+
+-- the characters that a lexeme is written as
+abbrev pub characters : Lexeme → List ℕ
+characters (Blank is_tab) = (if is_tab then 9 else 32) ∷ []
+characters (Line true) = 13 ∷ 10 ∷ []
+characters (Line false) = 10 ∷ []
+characters Open = 40 ∷ []
+characters Close = 41 ∷ []
+characters (Note cs) = 59 ∷ cs
+characters (Word s ss) = flat_map spell (s ∷ ss)
+characters (Quote ss) = 34 ∷ (flat_map spell ss ++ 34 ∷ [])
+
+-- and their bytes
+abbrev pub bytes : Lexeme → List ℕ
+bytes l = encode_utf8_all (characters l)
+
+-- a lexeme holds only what may stand in it
+abbrev pub is_lexeme : Lexeme → Bool
+is_lexeme (Note cs) = list_all is_note_char cs
+is_lexeme (Word s ss) = list_all is_word_symbol (s ∷ ss)
+is_lexeme (Quote ss) = list_all is_quote_symbol ss
+is_lexeme _ = true

@@ -1,0 +1,9 @@
+pub mod Answer
+pub mod Collected
+pub mod Lexeme
+pub mod Place
+pub mod Reader
+pub mod Rows
+pub mod Splitting
+pub mod Token
+pub mod Viable

@@ -1,0 +1,23 @@
+-- What a token is: a word, or a quoted text with its quotes.
+use Rattle.std.specs.Prelude.{◌≡◌, ◌⊎◌, ℕ, ◌<◌, true, List, [], ◌∷◌, ◌++◌, length}
+use Rattle.std.specs.List.{flat_map, list_all}
+use Rattle.dns_symbol.specs.Symbol.{bytes, is_word_symbol}
+use Rattle.dns_symbol.specs.declared.symbol.Symbol.{Symbol}
+use Rattle.dns_split.specs.Lexeme.{is_quote_symbol}
+
+-- one symbol or more that may stand in a word
+pub record IsWord (text : List ℕ) : Type 0 where
+  pub symbols : List Symbol
+  pub some : 0 < length symbols
+  pub valid : list_all is_word_symbol symbols ≡ true
+  pub spelled : text ≡ flat_map bytes symbols
+
+-- symbols that may stand between double quotes, between double quotes
+pub record IsQuote (text : List ℕ) : Type 0 where
+  pub symbols : List Symbol
+  pub valid : list_all is_quote_symbol symbols ≡ true
+  pub spelled : text ≡ 34 ∷ (flat_map bytes symbols ++ 34 ∷ [])
+
+-- a word, or a quoted text
+abbrev pub IsToken : List ℕ → Type 0
+IsToken text = IsWord text ⊎ IsQuote text

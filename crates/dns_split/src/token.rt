@@ -1,0 +1,61 @@
+//! The token test.
+ghost use Rattle.std.specs.Prelude.{◌≡◌, IsTrue, ◌↔◌};
+ghost use Rattle.dns_split.specs.Place.{next_place, is_at_end};
+ghost use Rattle.dns_split.specs.Token.{IsToken};
+
+use crate::reader::{Act, Mode, step};
+
+/// How far a token has come.
+#[derive(Clone, Copy)]
+enum Place {
+    /// It has no characters yet.
+    Fresh,
+    Inside,
+    /// Its closing double quote was read.
+    Done,
+}
+
+/// The place after a character, or `None` where the text is no token.
+fn next_place(place: Place, act: Act) -> Option<Place>
+    ensures { result ≡ next_place place act }
+{
+    match (place, act) {
+        (Place::Fresh, Act::Add | Act::BeginToken) => Some(Place::Inside),
+        (Place::Inside, Act::Add) => Some(Place::Inside),
+        (Place::Inside, Act::FinishToken) => Some(Place::Done),
+        _ => None,
+    }
+}
+
+/// Whether a token may end here.
+fn is_at_end(place: Place, mode: Mode) -> bool
+    ensures { result ≡ is_at_end place mode }
+{
+    matches!((place, mode), (Place::Inside | Place::Done, Mode::Outside))
+}
+
+/// Whether a text is a token: a word, or a quoted text with its double quotes.
+///
+/// A word is one symbol or more: escapes, and plain characters other than the space, the tab,
+/// LF, CR, both parentheses, the semicolon and the double quote. A quoted text holds escapes and
+/// plain characters other than LF, CR and the double quote. No memory is taken.
+pub fn is_token(text: &str) -> bool
+    ensures { IsTrue result ↔ IsToken text.now }
+{
+    let mut place = Place::Fresh;
+    let mut mode = Mode::Outside;
+    for c in text.chars() {
+        let Some(next) = step(mode, 0, c) else {
+            return false;
+        };
+        if next.depth != 0 {
+            return false;
+        }
+        let Some(after) = next_place(place, next.act) else {
+            return false;
+        };
+        place = after;
+        mode = next.mode;
+    }
+    is_at_end(place, mode)
+}
