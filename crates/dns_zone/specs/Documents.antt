@@ -1,0 +1,72 @@
+-- Documents: the steps of a list of items, and which lists are well-formed.
+use Rattle.std.specs.Prelude.{◌≡◌, ◌<◌, ℕ, zero, suc, true, ◌⊎◌, List, [], ◌∷◌, ◌++◌, length, map, codes, encode_utf8_all, ⊤}
+use Rattle.std.specs.List.{list_all}
+use Rattle.std.specs.Fmt.{decimal}
+use Rattle.std.specs.String.{string_bytes}
+use Rattle.dns_zone.specs.Layout.{Step, token, begin, end, comment, newline, depth}
+use Rattle.dns_split.specs.Lexeme.{is_note_char}
+use Rattle.dns_split.specs.Token.{IsToken}
+use Rattle.dns_zone.specs.declared.document.Item.{Item}
+use Rattle.dns_zone.specs.declared.document.Item.TheVariants.{Token, Begin, End, Comment, Newline}
+use Rattle.dns_zone.specs.declared.document.DocumentError.{DocumentError}
+use Rattle.dns_zone.specs.declared.document.DocumentError.TheVariants.{BadToken, BadComment, EndWithoutBegin, LineInBlock, OpenBlock}
+
+-- the step that an item is
+abbrev pub step_of : Item → Step
+step_of (Token text) = token (string_bytes text)
+step_of Begin = begin
+step_of End = end
+step_of (Comment text) = comment (string_bytes text)
+step_of Newline = newline
+
+-- the steps that items are
+abbrev pub steps_of : List Item → List Step
+steps_of items = map step_of items
+
+-- characters without LF and CR
+pub record IsComment (text : List ℕ) : Type 0 where
+  pub characters : List ℕ
+  pub plain : list_all is_note_char characters ≡ true
+  pub spelled : encode_utf8_all characters ≡ text
+
+-- Where `open_blocks` blocks are open before: each token and comment is one, each end has its begin, line ends stand outside blocks,
+-- and all blocks are closed at the end.
+abbrev pub IsWellFormed : (open_blocks : ℕ) → List Step → Type 0
+IsWellFormed n (begin ∷ xs) = IsWellFormed (suc n) xs
+IsWellFormed zero (end ∷ xs) = ⊥
+IsWellFormed (suc n) (end ∷ xs) = IsWellFormed n xs
+IsWellFormed n (token text ∷ xs) = IsToken text × IsWellFormed n xs
+IsWellFormed n (comment text ∷ xs) = IsComment text × IsWellFormed n xs
+IsWellFormed zero (newline ∷ xs) = IsWellFormed zero xs
+IsWellFormed (suc n) (newline ∷ xs) = ⊥
+IsWellFormed zero [] = ⊤
+IsWellFormed (suc n) [] = ⊥
+
+-- a step that has no fault where `open_blocks` blocks are open before
+abbrev pub IsFine : (open_blocks : ℕ) → Step → Type 0
+IsFine n (token text) = IsToken text
+IsFine n (comment text) = IsComment text
+IsFine n begin = ⊤
+IsFine n end = 0 < n
+IsFine n newline = n ≡ 0
+
+-- what is wrong with a step, behind the steps of `past`; its place is how many they are
+abbrev pub IsFault : List Step → Step → DocumentError → Type 0
+IsFault past (token text) e = (e ≡ BadToken (length past)) × ¬ IsToken text
+IsFault past (comment text) e = (e ≡ BadComment (length past)) × ¬ IsComment text
+IsFault past begin e = ⊥
+IsFault past end e = (e ≡ EndWithoutBegin (length past)) × (depth past ≡ 0)
+IsFault past newline e = (e ≡ LineInBlock (length past)) × (0 < depth past)
+
+-- the first fault behind the steps of `past`: the next step's, or, where it has none, the first one behind it; a block left open comes last
+abbrev pub IsFirstFault : List Step → List Step → DocumentError → Type 0
+IsFirstFault past [] e = (e ≡ OpenBlock) × (0 < depth past)
+IsFirstFault past (x ∷ xs) e = IsFault past x e ⊎ (((f : DocumentError) → ¬ IsFault past x f) × IsFirstFault (x ∷ past) xs e)
+
+-- what an error prints
+abbrev pub fault_text : DocumentError → List ℕ
+fault_text (BadToken i) = codes "bad token at " ++ decimal i
+fault_text (BadComment i) = codes "bad comment at " ++ decimal i
+fault_text (EndWithoutBegin i) = codes "end without begin at " ++ decimal i
+fault_text (LineInBlock i) = codes "line end in block at " ++ decimal i
+fault_text OpenBlock = codes "open block"

@@ -1,0 +1,11 @@
+pub mod Layout
+pub mod Rows
+pub mod Nesting
+pub mod Writers
+pub mod Simple
+pub mod Tabbed
+pub mod Multiline
+pub mod Printed
+pub mod Displayed
+pub mod Documents
+pub mod DocumentSteps

@@ -1,0 +1,15 @@
+-- The text of a document in the layout of each kind.
+use Rattle.std.specs.Prelude.{ℕ, List}
+use Rattle.dns_zone.specs.Layout.{Step, layout, simple_piece, tabbed_piece, multiline_piece}
+use Rattle.dns_zone.specs.declared.zonefile_fmt.DisplayKind.{DisplayKind}
+use Rattle.dns_zone.specs.declared.zonefile_fmt.DisplayKind.TheVariants.{Simple, Tabbed, Multiline}
+
+-- the text of a step in a layout, behind the steps before it
+abbrev pub piece_of : DisplayKind → List Step → Step → List ℕ
+piece_of Simple = simple_piece
+piece_of Tabbed = tabbed_piece
+piece_of Multiline = multiline_piece
+
+-- the text of a document in a layout
+abbrev pub printed : DisplayKind → List Step → List ℕ
+printed kind xs = layout (piece_of kind) xs

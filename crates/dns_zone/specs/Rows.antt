@@ -1,0 +1,87 @@
+-- Worked examples of the three layouts, and of lists that are documents or aren't.
+use Rattle.std.specs.Prelude.{◌≡◌, List, [], ◌∷◌, ◌++◌, replicate, codes, refl}
+use lib.Utf8.{encode}
+use Rattle.std.proofs.Common.{inl, inr, arith}
+use Rattle.dns_symbol.specs.declared.symbol.Symbol.TheVariants.{Char, SimpleEscape}
+use Rattle.dns_zone.specs.Documents.{IsFirstFault, IsWellFormed}
+use Rattle.dns_zone.specs.declared.document.DocumentError.TheVariants.{EndWithoutBegin, LineInBlock, OpenBlock}
+use Rattle.dns_zone.specs.Layout.{Step, token, begin, end, comment, newline, layout, simple_piece, tabbed_piece, multiline_piece}
+
+abbrev pub ds_steps : List Step
+ds_steps =
+    token (codes "example.com.") ∷ token (codes "3600") ∷ token (codes "IN") ∷ token (codes "DS") ∷ begin ∷ token (codes "5414")
+    ∷ comment (codes "key tag") ∷ token (codes "15") ∷ comment (codes "algorithm: ED25519") ∷ token (codes "2")
+    ∷ comment (codes "digest type: SHA-256") ∷ token (codes "DEADBEEF") ∷ end ∷ []
+
+ds_multiline : layout multiline_piece ds_steps ≡
+    codes "example.com. 3600 IN DS ( 5414\t; key tag\n" ++ (replicate 26 32 ++ (codes "15\t; algorithm: ED25519\n" ++ (replicate 26 32
+    ++ (codes "2\t; digest type: SHA-256\n" ++ (replicate 26 32 ++ codes "DEADBEEF )")))))
+ds_multiline = refl
+
+ds_tabbed : layout tabbed_piece ds_steps ≡ codes "example.com.\t3600\tIN\tDS\t5414 15 2 DEADBEEF"
+ds_tabbed = refl
+
+ds_simple : layout simple_piece ds_steps ≡ codes "example.com. 3600 IN DS 5414 15 2 DEADBEEF"
+ds_simple = refl
+
+abbrev pub ds_data : List Step
+ds_data =
+    begin ∷ token (codes "5414") ∷ comment (codes "key tag") ∷ token (codes "15") ∷ comment (codes "algorithm: ED25519") ∷ token (codes "2")
+    ∷ comment (codes "digest type: SHA-256") ∷ token (codes "DEADBEEF") ∷ end ∷ []
+
+ds_data_tabbed : layout tabbed_piece ds_data ≡ codes "5414 15 2 DEADBEEF"
+ds_data_tabbed = refl
+
+abbrev pub ds_bare : List Step
+ds_bare = begin ∷ token (codes "5414") ∷ token (codes "15") ∷ token (codes "2") ∷ token (codes "DEADBEEF") ∷ end ∷ []
+
+ds_bare_multiline : layout multiline_piece ds_bare ≡ codes "( 5414 15 2 DEADBEEF )"
+ds_bare_multiline = refl
+
+two_lines : (layout simple_piece (newline ∷ newline ∷ []) ≡ codes "\n\n") × (layout tabbed_piece (newline ∷ newline ∷ []) ≡ codes "\n\n")
+    × (layout multiline_piece (newline ∷ newline ∷ []) ≡ codes "\n\n")
+two_lines = (refl, refl, refl)
+
+no_steps : (layout simple_piece [] ≡ []) × (layout tabbed_piece [] ≡ []) × (layout multiline_piece [] ≡ [])
+no_steps = (refl, refl, refl)
+
+abbrev pub nested : List Step
+nested =
+    token (codes "a") ∷ begin ∷ token (codes "b") ∷ begin ∷ token (codes "c") ∷ comment (codes "x") ∷ end ∷ comment (codes "y")
+    ∷ token (codes "d") ∷ end ∷ newline ∷ token (codes "e") ∷ []
+
+nested_multiline : layout multiline_piece nested ≡ codes "a ( b ( c\t; x\n" ++ (replicate 8 32 ++ codes ") d )\ne")
+nested_multiline = refl
+
+nested_tabbed : layout tabbed_piece nested ≡ codes "a\tb c d\ne"
+nested_tabbed = refl
+
+nested_simple : layout simple_piece nested ≡ codes "a b c d\ne"
+nested_simple = refl
+
+comment_first : layout multiline_piece (begin ∷ comment (codes "k") ∷ token (codes "a") ∷ end ∷ []) ≡ codes "(\t; k\n  a )"
+comment_first = refl
+
+two_bytes : layout multiline_piece (token (0xC3 ∷ 0xA9 ∷ []) ∷ begin ∷ comment (codes "c") ∷ token (codes "x") ∷ end ∷ [])
+    ≡ 0xC3 ∷ 0xA9 ∷ codes " (\t; c\n     x )"
+two_bytes = refl
+
+line_in_block : IsFirstFault [] (begin ∷ newline ∷ end ∷ []) (LineInBlock 1)
+line_in_block = inr (λ f p. p, inl (refl, omega arith))
+
+end_without_begin : IsFirstFault [] (end ∷ begin ∷ []) (EndWithoutBegin 0)
+end_without_begin = inl (refl, refl)
+
+open_block : IsFirstFault [] (begin ∷ []) OpenBlock
+open_block = inr (λ f p. p, (refl, omega arith))
+
+quoted_token : IsWellFormed 0 (token (codes "\"a b\"") ∷ [])
+unfolding encode
+quoted_token = (inr (record { symbols = Char 97 ∷ Char 32 ∷ Char 98 ∷ []; valid = refl; spelled = refl }), tt)
+
+empty_quoted_token : IsWellFormed 0 (token (codes "\"\"") ∷ [])
+empty_quoted_token = (inr (record { symbols = []; valid = refl; spelled = refl }), tt)
+
+escaped_semicolon : IsWellFormed 0 (token (codes "a\\;b") ∷ [])
+unfolding encode
+escaped_semicolon = (inl (record { symbols = Char 97 ∷ SimpleEscape 59 ∷ Char 98 ∷ []; some = omega arith; valid = refl; spelled = refl }), tt)

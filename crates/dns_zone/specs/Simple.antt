@@ -1,0 +1,22 @@
+-- The simple writer.
+use Rattle.std.specs.Prelude.{◌≡◌, ℕ, List}
+use Rattle.dns_zone.specs.Layout.{Step, depth, is_line_start, simple_piece}
+use Rattle.dns_zone.specs.Writers.{PrintsStep}
+use Rattle.dns_zone.specs.declared.zonefile_fmt.simple.SimpleWriter.{SimpleWriter}
+
+-- the sink of a writer
+abbrev pub simple_sink : {W : Type 0} → SimpleWriter W → W
+simple_sink w = w.writer
+
+-- the number of its open blocks
+abbrev pub simple_blocks : {W : Type 0} → SimpleWriter W → ℕ
+simple_blocks w = w.blocks
+
+-- the writer holds what follows from the steps so far, the last one first
+pub record SimpleStands {W : Type 0} (w : SimpleWriter W) (past : List Step) : Type 0 where
+  pub first : w.first ≡ is_line_start past
+  pub blocks : w.blocks ≡ depth past
+
+-- a step that went well: behind whatever steps the writer stands, the text of this one is appended
+abbrev pub SimpleStep : {W : Type 0} → (W → List ℕ → W → Type 0) → SimpleWriter W → Step → SimpleWriter W → Type 0
+SimpleStep took = PrintsStep SimpleStands simple_sink took simple_piece

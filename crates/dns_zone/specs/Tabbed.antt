@@ -1,0 +1,23 @@
+-- The tabbed writer.
+use Rattle.std.specs.Prelude.{◌≡◌, ℕ, ◌<◌, List}
+use Rattle.dns_zone.specs.Layout.{Step, depth, is_line_start, is_block_start, tabbed_piece}
+use Rattle.dns_zone.specs.Writers.{PrintsStep}
+use Rattle.dns_zone.specs.declared.zonefile_fmt.tabbed.TabbedWriter.{TabbedWriter}
+
+-- the sink of a writer
+abbrev pub tabbed_sink : {W : Type 0} → TabbedWriter W → W
+tabbed_sink w = w.writer
+
+-- the number of its open blocks
+abbrev pub tabbed_blocks : {W : Type 0} → TabbedWriter W → ℕ
+tabbed_blocks w = w.blocks
+
+-- the writer holds what follows from the steps so far, the last one first
+pub record TabbedStands {W : Type 0} (w : TabbedWriter W) (past : List Step) : Type 0 where
+  pub first : w.first ≡ is_line_start past
+  pub blocks : w.blocks ≡ depth past
+  pub first_block : 0 < depth past → w.first_block ≡ is_block_start past
+
+-- a step that went well: behind whatever steps the writer stands, the text of this one is appended
+abbrev pub TabbedStep : {W : Type 0} → (W → List ℕ → W → Type 0) → TabbedWriter W → Step → TabbedWriter W → Type 0
+TabbedStep took = PrintsStep TabbedStands tabbed_sink took tabbed_piece

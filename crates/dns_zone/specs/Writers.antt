@@ -1,0 +1,33 @@
+-- What the contracts of writers and of printed values say.
+use Rattle.std.specs.Prelude.{◌≡◌, ℕ, ◌+◌, ◌-◌, List, ◌∷◌}
+use Rattle.std.specs.List.{FoldsTo}
+use Rattle.std.specs.Fmt.{WritesInCalls}
+use Rattle.dns_zone.specs.Layout.{Step, token, begin, end, comment, newline}
+
+-- the open blocks after a step, from those before it
+abbrev pub opened : Step → ℕ → ℕ
+opened begin n = n + 1
+opened end n = n - 1
+opened (token bs) n = n
+opened (comment bs) n = n
+opened newline n = n
+
+-- a step of a writer that went well
+pub record Steps {F : Type 0} (blocks : F → ℕ) (step_gives : F → Step → F → Type 0) (w : F) (x : Step) (v : F) : Type 0 where
+  pub opens : blocks v ≡ opened x (blocks w)
+  pub gives : step_gives w x v
+
+-- the steps of a list in turn, between two states with equally many open blocks
+pub record Runs {F : Type 0} (blocks : F → ℕ) (step_gives : F → Step → F → Type 0) (w : F) (xs : List Step) (v : F) : Type 0 where
+  pub level : blocks v ≡ blocks w
+  pub steps : FoldsTo step_gives w xs v
+
+-- what a step of a writer over a sink does: after whatever steps `past` it stands, it appends the text of that step,
+-- and stands after that step too
+pub record Prints {F W : Type 0} (stands : F → List Step → Type 0) (sink : F → W) (took : W → List ℕ → W → Type 0) (piece : List Step → Step → List ℕ) (past : List Step) (w : F) (x : Step) (v : F) : Type 0 where
+  pub next : stands v (x ∷ past)
+  pub wrote : WritesInCalls took (sink w) (piece past x) (sink v)
+
+-- the same behind whatever steps the writer stands
+abbrev pub PrintsStep : {F W : Type 0} → (F → List Step → Type 0) → (F → W) → (W → List ℕ → W → Type 0) → (List Step → Step → List ℕ) → F → Step → F → Type 0
+PrintsStep stands sink took piece w x v = (past : List Step) → stands w past → Prints stands sink took piece past w x v

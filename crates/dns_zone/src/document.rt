@@ -1,0 +1,162 @@
+//! Lists of tokens, block marks, comments and line ends, and which of them are documents.
+ghost use Rattle.std.specs.Prelude.{◌≡◌, ℕ, ◌<◌, List, [], ◌∷◌, Some, IsTrue, IfNone, IfSome, IfOk, IfErr, IsOk, OnOk, length, ◌↔◌};
+ghost use Rattle.dns_zone.specs.Layout.{Step, token, begin, end, comment, newline, depth};
+ghost use Rattle.dns_zone.specs.Documents.{step_of, steps_of, IsComment, IsFine, IsFault, IsFirstFault, IsWellFormed, fault_text};
+ghost use Rattle.dns_zone.specs.Writers.{Steps, opened};
+
+use crate::zonefile_fmt::{FormatWriter, Formatter, Result, ZonefileFmt};
+pub use dns_split::splitting::{SplitError, split};
+use dns_split::token::is_token;
+use std::fmt;
+
+/// What a document is made of.
+#[derive(Debug, PartialEq, Eq, Drop)]
+pub enum Item {
+    /// A word, or a text between double quotes with the quotes (RFC 1035, section 5.1).
+    Token(String),
+    /// The begin of a block.
+    Begin,
+    /// The end of a block.
+    End,
+    /// A comment, without the semicolon.
+    Comment(String),
+    /// A line end.
+    Newline,
+}
+
+/// Why a list of items is no document: its first fault, by the item's place, which counts from 0.
+#[derive(Clone, Copy, Debug, PartialEq, Eq)]
+pub enum DocumentError {
+    /// A token is neither a word nor a quoted text.
+    BadToken(usize),
+    /// A comment has an LF or a CR.
+    BadComment(usize),
+    /// No block is open at an end.
+    EndWithoutBegin(usize),
+    /// A block is open at a line end.
+    LineInBlock(usize),
+    /// A block is open behind the last item, and nothing else is wrong.
+    OpenBlock,
+}
+
+impl fmt::Display for DocumentError {
+    ghost output = { λ e. Some (fault_text e) };
+
+    fn fmt<W: fmt::Write>(&self, f: &mut fmt::Formatter<W>) -> fmt::Result {
+        match self {
+            DocumentError::BadToken(i) => write!(f, "bad token at {i}"),
+            DocumentError::BadComment(i) => write!(f, "bad comment at {i}"),
+            DocumentError::EndWithoutBegin(i) => write!(f, "end without begin at {i}"),
+            DocumentError::LineInBlock(i) => write!(f, "line end in block at {i}"),
+            DocumentError::OpenBlock => write!(f, "open block"),
+        }
+    }
+}
+
+impl std::error::Error for DocumentError {}
+
+/// Whether a text can be a comment: it has no LF and no CR.
+fn is_comment(text: &str) -> bool
+    ensures { IsTrue result ↔ IsComment text.now }
+{
+    text.chars().all(|c| !(c == '\n' || c == '\r'))
+}
+
+/// What is wrong with the item at a place, where `blocks` blocks are open before it.
+fn fault(item: &Item, place: usize, blocks: usize) -> Option<DocumentError>
+    ensures fine { IfNone result (IsFine blocks (step_of item.now)) }
+    ensures fault { IfSome result (λ e. (past : List Step) → length past ≡ place → depth past ≡ blocks → IsFault past (step_of item.now) e) }
+{
+    match item {
+        Item::Token(text) if !is_token(text.as_str()) => Some(DocumentError::BadToken(place)),
+        Item::Comment(text) if !is_comment(text.as_str()) => Some(DocumentError::BadComment(place)),
+        Item::End if blocks == 0 => Some(DocumentError::EndWithoutBegin(place)),
+        Item::Newline if blocks != 0 => Some(DocumentError::LineInBlock(place)),
+        _ => None,
+    }
+}
+
+/// Prints an item.
+fn write_item<F: FormatWriter>(p: &mut F, item: &Item) -> Result
+    requires end { step_of item.now ≡ end → 0 < F.blocks p.old }
+    requires newline { step_of item.now ≡ newline → F.blocks p.old ≡ 0 }
+    ensures { OnOk result (Steps F.blocks F.step_gives p.old (step_of item.now) p.new) }
+{
+    match item {
+        Item::Token(text) => p.write_token(text.as_str()),
+        Item::Begin => p.begin_block(),
+        Item::End => p.end_block(),
+        Item::Comment(text) => p.write_comment(text.as_str()),
+        Item::Newline => p.newline(),
+    }
+}
+
+/// The open blocks after an item, from those before it.
+fn blocks_after(item: &Item, blocks: usize) -> usize
+    requires begin { blocks < usize.MAX }
+    requires end { step_of item.now ≡ end → 0 < blocks }
+    ensures { result ≡ opened (step_of item.now) blocks }
+{
+    match item {
+        Item::Begin => blocks + 1,
+        Item::End => blocks - 1,
+        _ => blocks,
+    }
+}
+
+/// What is wrong first with a list of items.
+pub(crate) fn first_fault(items: &[Item]) -> Option<DocumentError>
+    ensures fine { IfNone result (IsWellFormed 0 (steps_of items.now)) }
+    ensures fault { IfSome result (λ e. IsFirstFault [] (steps_of items.now) e) }
+{
+    let mut blocks: usize = 0;
+    for (place, item) in items.iter().enumerate() {
+        if let Some(error) = fault(item, place, blocks) {
+            return Some(error);
+        }
+        blocks = blocks_after(item, blocks);
+    }
+    if blocks == 0 {
+        None
+    } else {
+        Some(DocumentError::OpenBlock)
+    }
+}
+
+/// A well-formed list of items: tokens and comments that are such, blocks that nest and close, and line ends outside them.
+#[derive(Debug, Drop)]
+pub struct Document {
+    pub(crate) items: Vec<Item>,
+    ghost well_formed: { ∥ IsWellFormed 0 (steps_of items.items) ∥₁ },
+}
+
+impl Document {
+    ghost use Rattle.dns_zone.specs.DocumentSteps.{document_steps};
+
+    /// Takes exactly the well-formed lists, and no memory. Another list comes back with its first fault.
+    pub fn from_items(items: Vec<Item>) -> std::result::Result<Document, (DocumentError, Vec<Item>)>
+        ensures ok { IfOk result (λ d. document_steps d ≡ steps_of items.items) }
+        ensures accepts { IsOk result ↔ IsWellFormed 0 (steps_of items.items) }
+        ensures err { IfErr result (λ e. IsFirstFault [] (steps_of items.items) e.0 × (e.1 ≡ items)) }
+    {
+        match first_fault(&items) {
+            Some(error) => Err((error, items)),
+            None => Ok(Document { items }),
+        }
+    }
+}
+
+impl ZonefileFmt for Document {
+    ghost use Rattle.dns_zone.specs.DocumentSteps.{document_steps, document_nests};
+
+    ghost document = { document_steps };
+
+    ghost nested = { document_nests };
+
+    fn fmt<F: FormatWriter>(&self, p: &mut F) -> Result {
+        for item in &self.items {
+            write_item(p, item)?;
+        }
+        Ok(())
+    }
+}

@@ -1,0 +1,43 @@
+//! Laws on documents and their layouts.
+//! Each function's contract is the law; calling one does nothing of use.
+ghost use Rattle.std.specs.Prelude.{◌≡◌, ◌≤◌, ◌↔◌, List, []};
+ghost use Rattle.dns_zone.specs.Layout.{Step, line_width};
+ghost use Rattle.dns_zone.specs.Documents.{steps_of, IsFirstFault, IsWellFormed};
+ghost use Rattle.dns_zone.specs.DocumentSteps.{document_steps};
+ghost use Rattle.dns_zone.specs.Multiline.{MultilineStands};
+
+use crate::document::{Document, DocumentError, Item, first_fault};
+use crate::zonefile_fmt::{FormatWriter, MultiLineWriter};
+
+/// Every document is well-formed.
+pub fn documents_are_well_formed(document: &Document)
+    ensures { IsWellFormed 0 (document_steps document.now) }
+{
+    let _fault = first_fault(&document.items);
+}
+
+/// A list of items is well-formed exactly if it has no first fault.
+pub fn well_formed_without_fault(items: &[Item])
+    ensures { IsWellFormed 0 (steps_of items.now) ↔ ((e : DocumentError) → ¬ IsFirstFault [] (steps_of items.now) e) }
+{
+    let _fault = first_fault(items);
+}
+
+/// A list has one first fault at most.
+pub fn first_faults_are_unique()
+    ensures { (xs : List Step) (e f : DocumentError) → IsFirstFault [] xs e → IsFirstFault [] xs f → e ≡ f }
+{}
+
+/// No writer has more open blocks than it can count.
+pub fn open_blocks_fit<F: FormatWriter>(writer: &F)
+    ensures { F.blocks writer.now ≤ usize.MAX }
+{
+    let _blocks = writer.open_blocks();
+}
+
+/// Whatever a multiline writer has printed, it can count the bytes on its line.
+pub fn lines_fit<W>(writer: &MultiLineWriter<W>)
+    ensures { (past : List Step) → MultilineStands writer.now past → line_width past ≤ usize.MAX }
+{
+    let _width = writer.line_width();
+}

@@ -1,0 +1,162 @@
+//! Printing of values as zone text: traits, writers and displays.
+ghost use Rattle.std.specs.Prelude.{◌≡◌, ◌<◌, ℕ, List, [], ◌∷◌, ◌++◌, IfSome, OnOk};
+ghost use Rattle.dns_zone.specs.Layout.{Step, token, begin, end, comment, newline};
+ghost use Rattle.dns_zone.specs.Displayed.{displayed_value, displayed_kind};
+ghost use Rattle.dns_zone.specs.Nesting.{Fits, IsNested};
+ghost use Rattle.dns_zone.specs.Writers.{Steps, Runs};
+
+mod display;
+mod multiline;
+mod simple;
+mod tabbed;
+
+pub use multiline::MultiLineWriter;
+pub use simple::SimpleWriter;
+use std::fmt;
+use std::fmt::Display;
+pub use tabbed::TabbedWriter;
+
+/// Nothing more can be printed: the sink refused, or a count of the writer would pass the greatest `usize`.
+#[derive(Clone, Copy, Debug)]
+pub struct Error;
+
+pub type Result = std::result::Result<(), Error>;
+
+impl From<fmt::Error> for Error {
+    fn from(_: fmt::Error) -> Error {
+        Error
+    }
+}
+
+/// A layout.
+#[derive(Drop)]
+pub enum DisplayKind {
+    /// Each entry on one line, its tokens apart by a space; no comments.
+    Simple,
+    /// Each entry on one line, its tokens apart by a tab outside blocks and by a space in them; no comments.
+    Tabbed,
+    /// Blocks in parentheses, with a line end behind each comment in them (RFC 1035, section 5.1).
+    Multiline,
+}
+
+/// A value to be printed in a layout, by [`ZonefileFmt::display_zonefile`].
+#[derive(Drop)]
+pub struct ZoneFileDisplay<'a, T> {
+    value: &'a T,
+    kind: DisplayKind,
+}
+
+/// A value that prints as zone text.
+///
+/// It states its document: the list of steps that its `fmt` takes, one for each token, block mark, comment and line end.
+/// Its blocks nest, and line ends stand outside them.
+pub trait ZonefileFmt {
+    /// The steps that the value prints.
+    ghost document: { Self → List Step };
+
+    /// Prints the value's document on a writer. On a writer with an open block the document has no line end.
+    fn fmt<F: FormatWriter>(&self, p: &mut F) -> Result
+        requires { Fits (document self.now) (F.blocks p.old) }
+        ensures { OnOk result (Runs F.blocks F.step_gives p.old (document self.now) p.new) };
+
+    /// The value as a `Display`, whose text is its document in the given layout.
+    fn display_zonefile(&self, kind: DisplayKind) -> ZoneFileDisplay<'_, Self>
+    where
+        Self: Sized,
+        ensures value { displayed_value result ≡ self.now }
+        ensures kind { displayed_kind result ≡ kind }
+    {
+        ZoneFileDisplay { value: self, kind }
+    }
+
+    /// Each end has its begin, each begin its end, and line ends stand outside blocks.
+    ghost nested: { (x : Self) → IsNested (document x) };
+}
+
+impl<T: ZonefileFmt> ZonefileFmt for &T {
+    ghost document = { λ r. T.document r.now };
+
+    ghost nested = { λ r. T.nested r.now };
+
+    fn fmt<F: FormatWriter>(&self, p: &mut F) -> Result {
+        (**self).fmt(p)
+    }
+}
+
+/// What prints the steps of documents, one by one.
+///
+/// A token or a comment is a step where its `Display` states its text. After an [`Error`] nothing is promised of the writer.
+pub trait FormatWriter: Sized {
+    /// The number of open blocks.
+    ghost blocks: { Self → ℕ };
+
+    /// The writer before a step that went well, the step, and the writer after it.
+    ghost step_gives: { Self → Step → Self → Type 0 };
+
+    /// Prints a token: a word, or a text between double quotes.
+    fn fmt_token<T: Display + Drop>(&mut self, text: T) -> Result
+        ensures blocks { OnOk result (blocks self.new ≡ blocks self.old) }
+        ensures gives { OnOk result (IfSome (T.output text) (λ bs. step_gives self.old (token bs) self.new)) };
+
+    /// Opens a block.
+    fn begin_block(&mut self) -> Result
+        ensures { OnOk result (Steps blocks step_gives self.old begin self.new) };
+
+    /// Closes the block that was opened last. A block is open.
+    fn end_block(&mut self) -> Result
+        requires { 0 < blocks self.old }
+        ensures { OnOk result (Steps blocks step_gives self.old end self.new) };
+
+    /// Prints a comment, where the layout shows it.
+    fn fmt_comment<T: Display + Drop>(&mut self, text: T) -> Result
+        ensures blocks { OnOk result (blocks self.new ≡ blocks self.old) }
+        ensures gives { OnOk result (IfSome (T.output text) (λ bs. step_gives self.old (comment bs) self.new)) };
+
+    /// Ends the line. No block is open.
+    fn newline(&mut self) -> Result
+        requires { blocks self.old ≡ 0 }
+        ensures { OnOk result (Steps blocks step_gives self.old newline self.new) };
+
+    /// The number of open blocks.
+    fn open_blocks(&self) -> usize
+        ensures { result ≡ blocks self.now };
+}
+
+/// What values print themselves with; every [`FormatWriter`] is one.
+pub trait Formatter: FormatWriter {
+    /// Prints a value's document in a block of its own. The document has no line end.
+    fn block<T: ZonefileFmt + Drop>(&mut self, item: T) -> Result
+        requires { Fits (T.document item) 1 }
+        ensures { OnOk result (Runs Self.blocks Self.step_gives self.old (begin ∷ (T.document item ++ end ∷ [])) self.new) }
+    {
+        self.begin_block()?;
+        self.write_show(item)?;
+        self.end_block()
+    }
+
+    /// Prints a token.
+    fn write_token<T: Display + Drop>(&mut self, text: T) -> Result
+        ensures blocks { OnOk result (Self.blocks self.new ≡ Self.blocks self.old) }
+        ensures gives { OnOk result (IfSome (T.output text) (λ bs. Self.step_gives self.old (token bs) self.new)) }
+    {
+        self.fmt_token(text)
+    }
+
+    /// Prints a value's document. On a writer with an open block it has no line end.
+    fn write_show<T: ZonefileFmt + Drop>(&mut self, item: T) -> Result
+        requires { Fits (T.document item) (Self.blocks self.old) }
+        ensures { OnOk result (Runs Self.blocks Self.step_gives self.old (T.document item) self.new) }
+    {
+        item.fmt(self)
+    }
+
+    /// Prints a comment.
+    fn write_comment<T: Display + Drop>(&mut self, text: T) -> Result
+        ensures blocks { OnOk result (Self.blocks self.new ≡ Self.blocks self.old) }
+        ensures gives { OnOk result (IfSome (T.output text) (λ bs. Self.step_gives self.old (comment bs) self.new)) }
+    {
+        self.fmt_comment(text)
+    }
+}
+
+impl<W: FormatWriter> Formatter for W {}

@@ -1,0 +1,64 @@
+//! Values as texts in a layout.
+ghost use Rattle.std.specs.Prelude.{◌≡◌, ℕ, List, [], ◌∷◌, OnOk, Some};
+ghost use Rattle.std.specs.Fmt.{WritesInCalls};
+ghost use Rattle.dns_zone.specs.Layout.{layout, simple_piece, tabbed_piece, multiline_piece};
+ghost use Rattle.dns_zone.specs.Displayed.{displayed_value, displayed_kind};
+ghost use Rattle.dns_zone.specs.Printed.{printed};
+
+use crate::zonefile_fmt::{
+    DisplayKind, MultiLineWriter, SimpleWriter, TabbedWriter, ZoneFileDisplay, ZonefileFmt,
+};
+use std::fmt;
+use std::fmt::Display;
+
+/// Prints a value's document in the simple layout.
+fn print_simple<T: ZonefileFmt, W: fmt::Write>(value: &T, sink: &mut W) -> fmt::Result
+    ensures { OnOk result (WritesInCalls W.write_str_gives sink.old (layout simple_piece (T.document value.now)) sink.new) }
+{
+    let mut writer = SimpleWriter::new(sink);
+    let result = value.fmt(&mut writer);
+    // No effect at run time: the proof reads what the sink holds from the reference that comes back.
+    writer.into_inner();
+    match result {
+        Ok(()) => Ok(()),
+        Err(_) => Err(fmt::Error),
+    }
+}
+
+/// Prints a value's document in the tabbed layout.
+fn print_tabbed<T: ZonefileFmt, W: fmt::Write>(value: &T, sink: &mut W) -> fmt::Result
+    ensures { OnOk result (WritesInCalls W.write_str_gives sink.old (layout tabbed_piece (T.document value.now)) sink.new) }
+{
+    let mut writer = TabbedWriter::new(sink);
+    let result = value.fmt(&mut writer);
+    writer.into_inner();
+    match result {
+        Ok(()) => Ok(()),
+        Err(_) => Err(fmt::Error),
+    }
+}
+
+/// Prints a value's document in the multiline layout.
+fn print_multiline<T: ZonefileFmt, W: fmt::Write>(value: &T, sink: &mut W) -> fmt::Result
+    ensures { OnOk result (WritesInCalls W.write_str_gives sink.old (layout multiline_piece (T.document value.now)) sink.new) }
+{
+    let mut writer = MultiLineWriter::new(sink);
+    let result = value.fmt(&mut writer);
+    writer.into_inner();
+    match result {
+        Ok(()) => Ok(()),
+        Err(_) => Err(fmt::Error),
+    }
+}
+
+impl<T: ZonefileFmt> Display for ZoneFileDisplay<'_, T> {
+    ghost output = { λ d. Some (printed (displayed_kind d) (T.document (displayed_value d))) };
+
+    fn fmt<W: fmt::Write>(&self, f: &mut fmt::Formatter<W>) -> fmt::Result {
+        match self.kind {
+            DisplayKind::Simple => print_simple(self.value, f),
+            DisplayKind::Tabbed => print_tabbed(self.value, f),
+            DisplayKind::Multiline => print_multiline(self.value, f),
+        }
+    }
+}

@@ -1,0 +1,114 @@
+//! The simple layout.
+ghost use Rattle.std.specs.Prelude.{◌≡◌, ◌<◌, ◌↔◌, ℕ, List, [], ◌∷◌, IsOk, OnOk, IfSome};
+ghost use Rattle.dns_zone.specs.Layout.{begin, end, comment};
+ghost use Rattle.dns_zone.specs.Writers.{Steps};
+ghost use Rattle.dns_zone.specs.Simple.{SimpleStands, SimpleStep, simple_sink, simple_blocks};
+
+use crate::zonefile_fmt::{Error, FormatWriter, Result};
+use std::fmt;
+use std::fmt::{Display, Write};
+
+/// Prints each entry on one line, its tokens apart by a space. Block marks and comments print nothing.
+#[derive(Drop)]
+pub struct SimpleWriter<W> {
+    /// The line has no token yet.
+    first: bool,
+    /// The open blocks.
+    blocks: usize,
+    writer: W,
+}
+
+impl<W> SimpleWriter<W> {
+    /// A writer that has printed nothing yet, over a sink.
+    pub fn new(writer: W) -> SimpleWriter<W>
+        ensures stands { SimpleStands result [] }
+        ensures sink { simple_sink result ≡ writer }
+    {
+        SimpleWriter {
+            first: true,
+            blocks: 0,
+            writer,
+        }
+    }
+
+    /// The sink.
+    pub(crate) fn into_inner(self) -> W
+        ensures { result ≡ simple_sink self }
+    {
+        self.writer
+    }
+}
+
+impl<W: fmt::Write> FormatWriter for SimpleWriter<W> {
+    ghost blocks = { simple_blocks };
+
+    ghost step_gives = { SimpleStep W.write_str_gives };
+
+    fn fmt_token<T: Display + Drop>(&mut self, text: T) -> Result {
+        if !self.first {
+            self.writer.write_str(" ")?;
+        }
+        self.first = false;
+        self.writer.write(text)?;
+        Ok(())
+    }
+
+    fn begin_block(&mut self) -> Result
+        ensures step { OnOk result (Steps simple_blocks (SimpleStep W.write_str_gives) self.old begin self.new) }
+        ensures counted { IsOk result ↔ (simple_blocks self.old < usize.MAX) }
+    {
+        match self.blocks.checked_add(1) {
+            Some(blocks) => {
+                self.blocks = blocks;
+                Ok(())
+            }
+            None => Err(Error),
+        }
+    }
+
+    fn end_block(&mut self) -> Result
+        requires { 0 < simple_blocks self.old }
+        ensures ok { IsOk result }
+        ensures step { OnOk result (Steps simple_blocks (SimpleStep W.write_str_gives) self.old end self.new) }
+    {
+        self.blocks -= 1;
+        Ok(())
+    }
+
+    fn fmt_comment<T: Display + Drop>(&mut self, _text: T) -> Result
+        ensures ok { IsOk result }
+        ensures blocks { OnOk result (simple_blocks self.new ≡ simple_blocks self.old) }
+        ensures gives { OnOk result (IfSome (T.output _text) (λ bs. SimpleStep W.write_str_gives self.old (comment bs) self.new)) }
+    {
+        // This layout shows no comments.
+        Ok(())
+    }
+
+    fn newline(&mut self) -> Result {
+        self.writer.write_str("\n")?;
+        self.first = true;
+        Ok(())
+    }
+
+    fn open_blocks(&self) -> usize {
+        self.blocks
+    }
+}
+
+#[cfg(test)]
+mod tests {
+    use super::SimpleWriter;
+    use crate::zonefile_fmt::FormatWriter;
+    use std::test::Fail;
+
+    #[test]
+    fn counts_at_their_end(rt: HostRuntime) -> std::result::Result<(), Fail> {
+        let mut writer = SimpleWriter {
+            first: true,
+            blocks: usize::MAX,
+            writer: String::new(rt.alloc()),
+        };
+        assert!(rt; writer.begin_block().is_err());
+        Ok(())
+    }
+}

@@ -1,0 +1,132 @@
+//! The tabbed layout.
+ghost use Rattle.std.specs.Prelude.{◌≡◌, ◌<◌, ◌↔◌, ℕ, List, [], ◌∷◌, if◌then◌else◌, IsOk, OnOk, IfSome};
+ghost use Rattle.dns_zone.specs.Layout.{begin, end, comment};
+ghost use Rattle.dns_zone.specs.Writers.{Steps};
+ghost use Rattle.dns_zone.specs.Tabbed.{TabbedStands, TabbedStep, tabbed_sink, tabbed_blocks};
+
+use crate::zonefile_fmt::{Error, FormatWriter, Result};
+use std::fmt;
+use std::fmt::{Display, Write};
+
+/// Prints each entry on one line. Before each token but a line's first stands a tab outside blocks,
+/// a tab before the first token since the outermost open block opened, and a space otherwise.
+/// Block marks and comments print nothing.
+#[derive(Drop)]
+pub struct TabbedWriter<W> {
+    /// The line has no token yet.
+    first: bool,
+    /// The outermost open block has no token yet.
+    first_block: bool,
+    /// The open blocks.
+    blocks: usize,
+    writer: W,
+}
+
+impl<W> TabbedWriter<W> {
+    /// A writer that has printed nothing yet, over a sink.
+    pub fn new(writer: W) -> TabbedWriter<W>
+        ensures stands { TabbedStands result [] }
+        ensures sink { tabbed_sink result ≡ writer }
+    {
+        TabbedWriter {
+            first: true,
+            first_block: true,
+            blocks: 0,
+            writer,
+        }
+    }
+
+    /// The sink.
+    pub(crate) fn into_inner(self) -> W
+        ensures { result ≡ tabbed_sink self }
+    {
+        self.writer
+    }
+}
+
+/// What stands between two tokens.
+fn gap(is_wide: bool) -> &'static str
+    ensures { result.now ≡ (if is_wide then 9 ∷ [] else 32 ∷ []) }
+{
+    if is_wide { "\t" } else { " " }
+}
+
+impl<W: fmt::Write> FormatWriter for TabbedWriter<W> {
+    ghost blocks = { tabbed_blocks };
+
+    ghost step_gives = { TabbedStep W.write_str_gives };
+
+    fn fmt_token<T: Display + Drop>(&mut self, text: T) -> Result {
+        if !self.first {
+            self.writer
+                .write_str(gap((self.blocks == 0) | self.first_block))?;
+        }
+        self.first = false;
+        self.first_block = false;
+        self.writer.write(text)?;
+        Ok(())
+    }
+
+    fn begin_block(&mut self) -> Result
+        ensures step { OnOk result (Steps tabbed_blocks (TabbedStep W.write_str_gives) self.old begin self.new) }
+        ensures counted { IsOk result ↔ (tabbed_blocks self.old < usize.MAX) }
+    {
+        match self.blocks.checked_add(1) {
+            Some(blocks) => {
+                if self.blocks == 0 {
+                    self.first_block = true;
+                }
+                self.blocks = blocks;
+                Ok(())
+            }
+            None => Err(Error),
+        }
+    }
+
+    fn end_block(&mut self) -> Result
+        requires { 0 < tabbed_blocks self.old }
+        ensures ok { IsOk result }
+        ensures step { OnOk result (Steps tabbed_blocks (TabbedStep W.write_str_gives) self.old end self.new) }
+    {
+        self.blocks -= 1;
+        Ok(())
+    }
+
+    fn fmt_comment<T: Display + Drop>(&mut self, _text: T) -> Result
+        ensures ok { IsOk result }
+        ensures blocks { OnOk result (tabbed_blocks self.new ≡ tabbed_blocks self.old) }
+        ensures gives { OnOk result (IfSome (T.output _text) (λ bs. TabbedStep W.write_str_gives self.old (comment bs) self.new)) }
+    {
+        // This layout shows no comments.
+        Ok(())
+    }
+
+    fn newline(&mut self) -> Result {
+        self.writer.write_str("\n")?;
+        self.first = true;
+        Ok(())
+    }
+
+    fn open_blocks(&self) -> usize {
+        self.blocks
+    }
+}
+
+#[cfg(test)]
+mod tests {
+    use super::TabbedWriter;
+    use crate::zonefile_fmt::FormatWriter;
+    use std::test::Fail;
+
+    #[test]
+    fn counts_at_their_end(rt: HostRuntime) -> std::result::Result<(), Fail> {
+        let mut writer = TabbedWriter {
+            first: true,
+            first_block: true,
+            blocks: usize::MAX,
+            writer: String::new(rt.alloc()),
+        };
+        assert!(rt; writer.begin_block().is_err());
+        Ok(())
+    }
+}
