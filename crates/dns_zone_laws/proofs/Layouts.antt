@@ -1,0 +1,282 @@
+-- Each layout of a well-formed document splits into its entries.
+use Rattle.std.proofs.Common.{◌&&◌, ◌≡◌, ℕ, zero, suc, ◌<◌, Bool, true, false, List, [], ◌∷◌, ◌++◌, replicate, refl, sym, ap, ◌∙◌, subst, arith, append_assoc}
+use Rattle.std.specs.Prelude.{if◌then◌else◌, ◌||◌, ◌==◌}
+use Rattle.std.specs.List.{flat_map}
+use Rattle.std.proofs.lemmas.Bool.{and_from}
+use lib.Utf8.{encode}
+use Rattle.dns_split.proofs.Tight.{tight_all}
+use Rattle.dns_split.specs.Splitting.{BeginsNoBlank, is_tight, is_outside, Splits, may_precede, are_lexemes, nests, with_token, entries, Entries}
+use Rattle.dns_split.specs.Lexeme.{Lexeme, Blank, Line, Open, Close, Note, Word, Quote, bytes}
+use Rattle.dns_zone.specs.Layout.{Step, token, begin, end, comment, newline, layout, pieces, depth, is_line_start, is_block_start, simple_piece, tabbed_piece, multiline_piece, is_shown, is_row_start, indent}
+use Rattle.dns_zone.specs.Documents.{IsComment, IsWellFormed}
+use Rattle.dns_zone_laws.specs.Entries.{document_entries}
+use Rattle.dns_split.proofs.Tokens.{is_token_lexeme, token_one}
+use Rattle.dns_split.specs.Token.{IsToken}
+use Rattle.dns_split.specs.Viable.{IsBad}
+use Rattle.dns_split.specs.Answer.{Answers}
+use Rattle.dns_split.specs.declared.splitting.SplitError.{SplitError}
+use Rattle.dns_split.specs.declared.splitting.SplitError.TheVariants.{BadText, ShortBuf}
+use Rattle.dns_zone_laws.specs.Refusal.{IsRefusal}
+use Rattle.dns_zone_laws.specs.declared.laws.Refusal.TheVariants.{Split}
+use Rattle.std.specs.Prelude.{Err}
+use Rattle.dns_split.proofs.Complete.{no_word, one_way}
+use Rattle.dns_zone.specs.Printed.{printed}
+use Rattle.dns_zone.specs.declared.zonefile_fmt.DisplayKind.{DisplayKind}
+use Rattle.dns_zone.specs.declared.zonefile_fmt.DisplayKind.TheVariants.{Simple, Tabbed, Multiline}
+
+-- a lexeme list of a text, at a depth, with these entries
+pub record Laid (d : ℕ) (text : List ℕ) (e : Entries) : Type 0 where
+  pub ls : List Lexeme
+  pub spelled : flat_map bytes ls ≡ text
+  pub valid : are_lexemes ls ≡ true
+  pub nested : nests d ls ≡ true
+  pub cut : entries d ls ≡ e
+
+-- no word first, where a word stands before
+pub record LaidApart (close : Bool) (d : ℕ) (text : List ℕ) (e : Entries) : Type 0 where
+  pub laid : Laid d text e
+  pub apart : close ≡ true → no_word laid.ls ≡ true
+
+token_follows : (l : Lexeme) (ls : List Lexeme) → is_token_lexeme l ≡ true → no_word ls ≡ true → may_precede l ls ≡ true
+token_follows (Word s ss) [] o n = refl
+token_follows (Word s ss) (Word _ _ ∷ ls) o n = cc
+token_follows (Word s ss) (Blank _ ∷ ls) o n = refl
+token_follows (Word s ss) (Line _ ∷ ls) o n = refl
+token_follows (Word s ss) (Open ∷ ls) o n = refl
+token_follows (Word s ss) (Close ∷ ls) o n = refl
+token_follows (Word s ss) (Note _ ∷ ls) o n = refl
+token_follows (Word s ss) (Quote _ ∷ ls) o n = refl
+token_follows (Quote ss) ls o n = refl
+token_follows (Blank _) ls o n = cc
+token_follows (Line _) ls o n = cc
+token_follows Open ls o n = cc
+token_follows Close ls o n = cc
+token_follows (Note _) ls o n = cc
+
+token_nests : (d : ℕ) (l : Lexeme) (ls : List Lexeme) → is_token_lexeme l ≡ true → nests d (l ∷ ls) ≡ nests d ls
+token_nests d (Word s ss) ls o = refl
+token_nests d (Quote ss) ls o = refl
+token_nests d (Blank _) ls o = cc
+token_nests d (Line _) ls o = cc
+token_nests d Open ls o = cc
+token_nests d Close ls o = cc
+token_nests d (Note _) ls o = cc
+
+token_entries : (d : ℕ) (l : Lexeme) (ls : List Lexeme) → is_token_lexeme l ≡ true → entries d (l ∷ ls) ≡ with_token (bytes l) (entries d ls)
+token_entries d (Word s ss) ls o = refl
+token_entries d (Quote ss) ls o = refl
+token_entries d (Blank _) ls o = cc
+token_entries d (Line _) ls o = cc
+token_entries d Open ls o = cc
+token_entries d Close ls o = cc
+token_entries d (Note _) ls o = cc
+
+-- a token before
+with_one : (d : ℕ) (t text : List ℕ) (e : Entries) → IsToken t → (l : Laid d text e) → no_word l.ls ≡ true → Laid d (t ++ text) (with_token t e)
+with_one d t text e token_is l n = let i = token_one token_is in record {
+  ls = i.lexeme ∷ l.ls;
+  spelled = ap (λ x. x ++ flat_map bytes l.ls) i.spelled ∙ ap (λ x. t ++ x) l.spelled;
+  valid = and_from _ _ (and_from _ _ i.valid (token_follows i.lexeme l.ls i.is_one n)) l.valid;
+  nested = token_nests d i.lexeme l.ls i.is_one ∙ l.nested;
+  cut = token_entries d i.lexeme l.ls i.is_one ∙ ap (λ x. with_token x (entries d l.ls)) i.spelled ∙ ap (with_token t) l.cut;
+}
+
+-- a blank before
+with_blank : (d : ℕ) (tab : Bool) (text : List ℕ) (e : Entries) → Laid d text e → Laid d ((if tab then 9 else 32) ∷ text) e
+unfolding encode
+with_blank d true text e l = record { ls = Blank true ∷ l.ls; spelled = ap (λ x. 9 ∷ x) l.spelled; valid = l.valid; nested = l.nested; cut = l.cut }
+with_blank d false text e l = record { ls = Blank false ∷ l.ls; spelled = ap (λ x. 32 ∷ x) l.spelled; valid = l.valid; nested = l.nested; cut = l.cut }
+
+-- a line's end before, outside parentheses and in them
+with_line : (text : List ℕ) (e : Entries) → Laid zero text e → Laid zero (10 ∷ text) ([] ∷ e)
+unfolding encode
+with_line text e l = record { ls = Line false ∷ l.ls; spelled = ap (λ x. 10 ∷ x) l.spelled; valid = l.valid; nested = l.nested; cut = ap (λ x. [] ∷ x) l.cut }
+
+with_inner_line : (d : ℕ) (text : List ℕ) (e : Entries) → Laid (suc d) text e → Laid (suc d) (10 ∷ text) e
+unfolding encode
+with_inner_line d text e l = record { ls = Line false ∷ l.ls; spelled = ap (λ x. 10 ∷ x) l.spelled; valid = l.valid; nested = l.nested; cut = l.cut }
+
+with_opening : (d : ℕ) (text : List ℕ) (e : Entries) → Laid (suc d) text e → Laid d (40 ∷ text) e
+unfolding encode
+with_opening d text e l = record { ls = Open ∷ l.ls; spelled = ap (λ x. 40 ∷ x) l.spelled; valid = l.valid; nested = l.nested; cut = l.cut }
+
+with_closing : (d : ℕ) (text : List ℕ) (e : Entries) → Laid d text e → Laid (suc d) (41 ∷ text) e
+unfolding encode
+with_closing d text e l = record { ls = Close ∷ l.ls; spelled = ap (λ x. 41 ∷ x) l.spelled; valid = l.valid; nested = l.nested; cut = l.cut }
+
+pub laid_splits : (text : List ℕ) (e : Entries) → Laid 0 text e → Splits text e
+laid_splits text e l = record { lexemes = l.ls; spelled = l.spelled; valid = l.valid; nested = l.nested; cut = l.cut }
+
+-- the layouts without parentheses, where sep says whether a tab stands before a token
+abbrev pub flat : (List Step → Bool) → List Step → Step → List ℕ
+flat sep past (token t) = (if is_line_start past then [] else (if sep past then 9 ∷ [] else 32 ∷ [])) ++ t
+flat sep past newline = 10 ∷ []
+flat sep past _ = []
+
+-- laid, no word comes first unless a line begins here, and no blank where one begins outside parentheses
+abbrev LaidFrom : Bool → ℕ → List ℕ → Entries → Type 0
+LaidFrom start d text e = (l : Laid d text e) × (start ≡ false → no_word l.ls ≡ true) × (is_tight (start && is_outside d) d l.ls ≡ true)
+
+token_tight : (b : Bool) (d : ℕ) (l : Lexeme) (ls : List Lexeme) → is_token_lexeme l ≡ true → is_tight b d (l ∷ ls) ≡ is_tight false d ls
+token_tight b d (Word s ss) ls o = refl
+token_tight b d (Quote ss) ls o = refl
+token_tight b d (Blank _) ls o = cc
+token_tight b d (Line _) ls o = cc
+token_tight b d Open ls o = cc
+token_tight b d Close ls o = cc
+token_tight b d (Note _) ls o = cc
+
+flat_token : (fresh tab : Bool) (d : ℕ) (t text : List ℕ) (e : Entries) → IsToken t → LaidFrom false d text e → LaidFrom fresh d ((if fresh then [] else (if tab then 9 ∷ [] else 32 ∷ [])) ++ t ++ text) (with_token t e)
+unfolding with_blank with_one
+flat_token true tab d t text e i r = (with_one d t text e i r.0 (r.1 refl), λ no_start. cc, token_tight (is_outside d) d (token_one i).lexeme r.0.ls (token_one i).is_one ∙ r.2)
+flat_token false true d t text e i r = (with_blank d true (t ++ text) (with_token t e) (with_one d t text e i r.0 (r.1 refl)), λ _. refl, token_tight false d (token_one i).lexeme r.0.ls (token_one i).is_one ∙ r.2)
+flat_token false false d t text e i r = (with_blank d false (t ++ text) (with_token t e) (with_one d t text e i r.0 (r.1 refl)), λ _. refl, token_tight false d (token_one i).lexeme r.0.ls (token_one i).is_one ∙ r.2)
+
+flat_laid : (sep : List Step → Bool) (steps past : List Step) (d : ℕ) → IsWellFormed d steps → LaidFrom (is_line_start past) 0 (pieces (flat sep) past steps) (document_entries steps)
+unfolding with_line
+flat_laid sep [] past zero w = (record { ls = []; spelled = refl; valid = refl; nested = refl; cut = refl }, λ _. refl, refl)
+flat_laid sep [] past (suc d) w = absurd w
+flat_laid sep (token t ∷ steps) past d w = flat_token (is_line_start past) (sep past) 0 t (pieces (flat sep) (token t ∷ past) steps) (document_entries steps) w.0 (flat_laid sep steps (token t ∷ past) d w.1)
+flat_laid sep (newline ∷ steps) past zero w = let r = flat_laid sep steps (newline ∷ past) zero w in (with_line _ _ r.0, λ _. refl, r.2)
+flat_laid sep (newline ∷ steps) past (suc d) w = absurd w
+flat_laid sep (begin ∷ steps) past d w = flat_laid sep steps (begin ∷ past) (suc d) w
+flat_laid sep (end ∷ steps) past zero w = absurd w
+flat_laid sep (end ∷ steps) past (suc d) w = flat_laid sep steps (end ∷ past) d w
+flat_laid sep (comment t ∷ steps) past d w = flat_laid sep steps (comment t ∷ past) d w.1
+
+layout_same : (p q : List Step → Step → List ℕ) → ((past : List Step) (step : Step) → p past step ≡ q past step) → (steps past : List Step) → pieces p past steps ≡ pieces q past steps
+layout_same p q h [] past = refl
+layout_same p q h (step ∷ steps) past = ap (λ x. x ++ pieces p (step ∷ past) steps) (h past step) ∙ ap (λ x. q past step ++ x) (layout_same p q h steps (step ∷ past))
+
+simple_flat : (past : List Step) (step : Step) → flat (λ _. false) past step ≡ simple_piece past step
+simple_flat past (token t) = refl
+simple_flat past newline = refl
+simple_flat past begin = refl
+simple_flat past end = refl
+simple_flat past (comment t) = refl
+
+-- a tab stands before this token
+abbrev is_tab : List Step → Bool
+is_tab past = depth past == 0 || is_block_start past
+
+tabbed_flat : (past : List Step) (step : Step) → flat is_tab past step ≡ tabbed_piece past step
+tabbed_flat past (token t) = refl
+tabbed_flat past newline = refl
+tabbed_flat past begin = refl
+tabbed_flat past end = refl
+tabbed_flat past (comment t) = refl
+
+pub laid_tight : (text : List ℕ) (e : Entries) → LaidFrom true 0 text e → BeginsNoBlank text
+laid_tight text e r = tight_all text r.0.ls r.0.spelled r.0.valid r.0.nested r.2
+
+simple_laid : (steps : List Step) → IsWellFormed 0 steps → LaidFrom true 0 (layout simple_piece steps) (document_entries steps)
+simple_laid steps w = subst (λ x. LaidFrom true 0 x (document_entries steps)) (layout_same (flat (λ _. false)) simple_piece simple_flat steps []) (flat_laid (λ _. false) steps [] 0 w)
+
+tabbed_laid : (steps : List Step) → IsWellFormed 0 steps → LaidFrom true 0 (layout tabbed_piece steps) (document_entries steps)
+tabbed_laid steps w = subst (λ x. LaidFrom true 0 x (document_entries steps)) (layout_same (flat is_tab) tabbed_piece tabbed_flat steps []) (flat_laid is_tab steps [] 0 w)
+
+pub simple_splits : (steps : List Step) → IsWellFormed 0 steps → Splits (layout simple_piece steps) (document_entries steps)
+simple_splits steps w = laid_splits _ _ (simple_laid steps w).0
+
+pub tabbed_splits : (steps : List Step) → IsWellFormed 0 steps → Splits (layout tabbed_piece steps) (document_entries steps)
+tabbed_splits steps w = laid_splits _ _ (tabbed_laid steps w).0
+
+pub simple_tight : (steps : List Step) → IsWellFormed 0 steps → BeginsNoBlank (layout simple_piece steps)
+simple_tight steps w = laid_tight _ _ (simple_laid steps w)
+
+pub tabbed_tight : (steps : List Step) → IsWellFormed 0 steps → BeginsNoBlank (layout tabbed_piece steps)
+tabbed_tight steps w = laid_tight _ _ (tabbed_laid steps w)
+
+with_blanks : (d n : ℕ) (text : List ℕ) (e : Entries) → Laid d text e → Laid d (replicate n 32 ++ text) e
+with_blanks d zero text e l = l
+with_blanks d (suc n) text e l = with_blank d false (replicate n 32 ++ text) e (with_blanks d n text e l)
+
+blanks_tight : (d n : ℕ) (text : List ℕ) (e : Entries) (l : Laid d text e) → is_tight false d (with_blanks d n text e l).ls ≡ is_tight false d l.ls
+unfolding with_blanks with_blank
+blanks_tight d zero text e l = refl
+blanks_tight d (suc n) text e l = blanks_tight d n text e l
+
+-- a shown comment before, in parentheses
+with_note : (d : ℕ) (t text all : List ℕ) (e : Entries) → IsComment t → t ++ 10 ∷ text ≡ all → Laid (suc d) text e → Laid (suc d) (9 ∷ 59 ∷ 32 ∷ all) e
+unfolding encode
+with_note d t text all e i same l = record {
+  ls = Blank true ∷ Note (32 ∷ i.characters) ∷ Line false ∷ l.ls;
+  spelled = ap (λ x. 9 ∷ 59 ∷ 32 ∷ (x ++ 10 ∷ flat_map bytes l.ls)) i.spelled ∙ ap (λ x. 9 ∷ 59 ∷ 32 ∷ (t ++ 10 ∷ x)) l.spelled ∙ ap (λ x. 9 ∷ 59 ∷ 32 ∷ x) same;
+  valid = and_from _ _ (and_from _ _ i.plain refl) l.valid;
+  nested = l.nested;
+  cut = l.cut;
+}
+
+-- a word of the multiline layout
+spaced_word : (start : Bool) (d : ℕ) (t text : List ℕ) (e : Entries) → IsToken t → LaidFrom false d text e → LaidFrom start d ((if start then [] else 32 ∷ []) ++ t ++ text) (with_token t e)
+spaced_word start d t text e i r = flat_token start false d t text e i r
+
+-- a mark of the multiline layout
+spaced_mark : (start : Bool) (d c : ℕ) (text : List ℕ) (e : Entries) → (l : Laid d (c ∷ text) e) → no_word l.ls ≡ true → ((b : Bool) → is_tight b d l.ls ≡ true) → LaidFrom start d ((if start then [] else 32 ∷ []) ++ c ∷ [] ++ text) e
+unfolding with_blank
+spaced_mark true d c text e l n b = (l, λ _. n, b (is_outside d))
+spaced_mark false d c text e l n b = (with_blank d false (c ∷ text) e l, λ _. refl, b false)
+
+inner : (start : Bool) (d : ℕ) (cs : List ℕ) (ls : List Lexeme) → is_tight false (suc d) ls ≡ true → is_tight (start && is_outside (suc d)) (suc d) (Blank true ∷ Note (32 ∷ cs) ∷ Line false ∷ ls) ≡ true
+inner true d cs ls h = h
+inner false d cs ls h = h
+
+maybe_note : (shown start : Bool) (n d : ℕ) (t text : List ℕ) (e : Entries) → IsComment t → (shown ≡ true → 0 < d) → LaidFrom (shown || start) d text e
+    → LaidFrom start d ((if shown then 9 ∷ 59 ∷ 32 ∷ (t ++ 10 ∷ replicate n 32) else []) ++ text) e
+unfolding with_note
+maybe_note false start n d t text e i inside r = r
+maybe_note true start n zero t text e i inside r = absurd (omega (arith, inside refl))
+maybe_note true start n (suc d) t text e i inside r =
+    (with_note d t (replicate n 32 ++ text) _ e i (sym (append_assoc t (10 ∷ replicate n 32) text)) (with_blanks (suc d) n text e r.0), λ _. refl, inner start d i.characters ((with_blanks (suc d) n text e r.0).ls) (blanks_tight (suc d) n text e r.0 ∙ r.2))
+
+multiline_laid : (steps past : List Step) (d : ℕ) → IsWellFormed d steps → (is_shown past ≡ true → 0 < d) → LaidFrom (is_row_start past) d (pieces multiline_piece past steps) (document_entries steps)
+unfolding with_line with_opening with_closing
+multiline_laid [] past zero w s = (record { ls = []; spelled = refl; valid = refl; nested = refl; cut = refl }, λ _. refl, refl)
+multiline_laid [] past (suc d) w s = absurd w
+multiline_laid (token t ∷ steps) past d w s = spaced_word (is_row_start past) d t (pieces multiline_piece (token t ∷ past) steps) (document_entries steps) w.0 (multiline_laid steps (token t ∷ past) d w.1 s)
+multiline_laid (newline ∷ steps) past zero w s = let r = multiline_laid steps (newline ∷ past) zero w s in (with_line _ _ r.0, λ _. refl, r.2)
+multiline_laid (newline ∷ steps) past (suc d) w s = absurd w
+multiline_laid (begin ∷ steps) past d w s =
+    let r = multiline_laid steps (begin ∷ past) (suc d) w (λ _. omega arith) in
+    spaced_mark (is_row_start past) d 40 (pieces multiline_piece (begin ∷ past) steps) (document_entries steps) (with_opening d _ _ r.0) refl (λ _. r.2)
+multiline_laid (end ∷ steps) past zero w s = absurd w
+multiline_laid (end ∷ steps) past (suc d) w s =
+    let r = multiline_laid steps (end ∷ past) d w (λ h. cc) in
+    spaced_mark (is_row_start past) (suc d) 41 (pieces multiline_piece (end ∷ past) steps) (document_entries steps) (with_closing d _ _ r.0) refl (λ _. r.2)
+multiline_laid (comment t ∷ steps) past d w s = maybe_note (is_shown past) (is_row_start past) (indent past) d t (pieces multiline_piece (comment t ∷ past) steps) (document_entries steps) w.0 s (multiline_laid steps (comment t ∷ past) d w.1 s)
+
+pub multiline_splits : (steps : List Step) → IsWellFormed 0 steps → Splits (layout multiline_piece steps) (document_entries steps)
+multiline_splits steps w = laid_splits _ _ (multiline_laid steps [] 0 w (λ h. cc)).0
+
+pub multiline_tight : (steps : List Step) → IsWellFormed 0 steps → BeginsNoBlank (layout multiline_piece steps)
+multiline_tight steps w = laid_tight _ _ (multiline_laid steps [] 0 w (λ h. cc))
+
+-- each layout, by its kind
+pub printed_splits : (kind : DisplayKind) (steps : List Step) → IsWellFormed 0 steps → Splits (printed kind steps) (document_entries steps)
+printed_splits Simple steps w = simple_splits steps w
+printed_splits Tabbed steps w = tabbed_splits steps w
+printed_splits Multiline steps w = multiline_splits steps w
+
+pub printed_tight : (kind : DisplayKind) (steps : List Step) → IsWellFormed 0 steps → BeginsNoBlank (printed kind steps)
+printed_tight Simple steps w = simple_tight steps w
+printed_tight Tabbed steps w = tabbed_tight steps w
+printed_tight Multiline steps w = multiline_tight steps w
+
+-- it splits into the document's entries and nothing else
+pub printed_only : (kind : DisplayKind) (steps : List Step) (e : Entries) → IsWellFormed 0 steps
+    → (Splits (printed kind steps) e → e ≡ document_entries steps) × (e ≡ document_entries steps → Splits (printed kind steps) e)
+printed_only kind steps e w = (λ s. one_way _ _ _ s (printed_splits kind steps w), λ is. subst (Splits (printed kind steps)) (sym is) (printed_splits kind steps w))
+
+-- so does a text that is the layout
+pub text_only : (kind : DisplayKind) (steps : List Step) (text : List ℕ) → text ≡ printed kind steps → (e : Entries) → IsWellFormed 0 steps
+    → (Splits text e → e ≡ document_entries steps) × (e ≡ document_entries steps → Splits text e)
+text_only kind steps text is e w = subst (λ t. (Splits t e → e ≡ document_entries steps) × (e ≡ document_entries steps → Splits t e)) (sym is) (printed_only kind steps e w)
+
+-- a text that is the layout is never bad
+pub never_bad : (kind : DisplayKind) (steps : List Step) (text : List ℕ) (i : ℕ) → text ≡ printed kind steps → IsWellFormed 0 steps → IsBad text i → ⊥
+never_bad kind steps text i is w bad = bad.splits_not (document_entries steps) ((text_only kind steps text is (document_entries steps) w).1 refl)
+
+-- what splitting it can refuse
+pub refusal : (kind : DisplayKind) (steps : List Step) (text : List ℕ) → text ≡ printed kind steps → IsWellFormed 0 steps → (e : SplitError) → Answers (Err e) text → IsRefusal steps (Split e)
+refusal kind steps text is w ShortBuf h = tt
+refusal kind steps text is w (BadText i) h = absurd (never_bad kind steps text i is w h)

@@ -1,0 +1,28 @@
+-- The entries of a document, and the document of entries.
+use Rattle.std.specs.Prelude.{ℕ, List, [], ◌∷◌, ◌++◌}
+use Rattle.dns_split.specs.Splitting.{Entries, with_token}
+use Rattle.dns_zone.specs.Layout.{Step, token, begin, end, comment, newline, layout, simple_piece}
+
+-- the tokens, cut at line ends: one entry more than there are line ends, empty ones too
+abbrev pub document_entries : List Step → Entries
+document_entries [] = [] ∷ []
+document_entries (token t ∷ steps) = with_token t (document_entries steps)
+document_entries (newline ∷ steps) = [] ∷ document_entries steps
+document_entries (begin ∷ steps) = document_entries steps
+document_entries (end ∷ steps) = document_entries steps
+document_entries (comment t ∷ steps) = document_entries steps
+
+-- a step for each token
+abbrev pub tokens : List (List ℕ) → List Step
+tokens [] = []
+tokens (t ∷ ts) = token t ∷ tokens ts
+
+-- the tokens of each entry, with a line end between entries
+abbrev pub document_of : Entries → List Step
+document_of [] = []
+document_of (ts ∷ []) = tokens ts
+document_of (ts ∷ us ∷ es) = tokens ts ++ newline ∷ document_of (us ∷ es)
+
+-- the simple layout of that document
+abbrev pub normal_text : Entries → List ℕ
+normal_text e = layout simple_piece (document_of e)
