@@ -39,8 +39,7 @@ pub fn quoted_text_reads_back(octets: &[u8])
 /// The unquoted text of octets, if there are any, is a word: symbols that can be read and may
 /// stand in one.
 pub fn unquoted_text_is_a_word(octets: &[u8])
-    requires { 0 < length octets.now }
-    ensures { (symbols : List Symbol) × (0 < length symbols) × (list_all is_word_symbol symbols ≡ true)
+    ensures { 0 < length octets.now → (symbols : List Symbol) × (0 < length symbols) × (list_all is_word_symbol symbols ≡ true)
         × (encode_utf8_all (text_of is_unquoted_escape octets.now) ≡ flat_map bytes symbols) }
 {
     let _octets = octets;

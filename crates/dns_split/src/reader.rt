@@ -71,6 +71,7 @@ pub(crate) struct Move {
     pub(crate) act: Act,
 }
 
+#[inline(always)]
 fn kind_of(c: char) -> Kind
     ensures { result ≡ kind c }
 {
