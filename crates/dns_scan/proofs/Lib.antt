@@ -1,0 +1,6 @@
+pub mod Answered
+pub mod Decimal
+pub mod Numbers
+pub mod Once
+pub mod Reading
+pub mod Whole

@@ -1,0 +1,61 @@
+-- From what a call does to a scanner to what it reads of the tokens before it.
+use Rattle.std.proofs.Common.{ℕ, suc, ◌≡◌, List, [], ◌∷◌, refl, sym, ap, subst, inl, inr, Option, Some, None, Result, Ok, Err, min}
+use Rattle.std.specs.Prelude.{MatchOption, MatchResult}
+use Rattle.dns_symbol.specs.declared.symbol.Symbol.{Symbol}
+use Rattle.dns_symbol.specs.declared.symbol.SymbolCharsError.{SymbolCharsError}
+use Rattle.dns_scan.specs.Answers.{AnswersGiven}
+use Rattle.dns_scan.specs.Asks.{Builds}
+use Rattle.dns_scan.specs.Cause.{Cause, end_of_entry, IsCause}
+use Rattle.dns_scan.specs.Numbers.{ScannedNumber, by_cause}
+use Rattle.dns_scan.specs.Reads.{ReadsEach, ReadsFirst, NumberReads, OctetsRead}
+use Rattle.dns_scan.specs.Stands.{StandsBefore, stands_takes, first_of, others_of}
+use Rattle.dns_scan.specs.Steps.{GivesStep, octet_given}
+use Rattle.dns_scan.specs.Tokens.{Token, ScansToken}
+use Rattle.dns_scan.proofs.Answered.{builds_read}
+
+module _ {S V E : Type 0} (next : S → Option Token → S → Type 0) (cause : E → Cause) (answers : Token → Result V E → Type 0) (reads : Token → Result V Cause → Type 0)
+    (shows : (t : Token) (r : Result V E) → answers t r → reads t (by_cause cause r)) where
+  pub reads_first : (old : S) (r : Result V E) (new : S) → ScansToken next cause answers old r new → (tokens : List Token) → StandsBefore next old tokens
+      → (rest : List Token) × ReadsFirst reads tokens (by_cause cause r) rest × StandsBefore next new rest
+  reads_first old r new scans tokens stands =
+      let took = stands_takes next old tokens scans.token new stands scans.taken in
+      (others_of tokens, (subst (λ o. MatchOption o (by_cause cause r ≡ Err end_of_entry) (λ t. reads t (by_cause cause r))) took.0 (by scans.token r scans.answer), refl), took.1)
+    where
+      by : (o : Option Token) (r : Result V E) → MatchOption o (IsCause cause r end_of_entry) (λ t. answers t r) → MatchOption o (by_cause cause r ≡ Err end_of_entry) (λ t. reads t (by_cause cause r))
+      by None (Ok v) h = absurd h
+      by None (Err e) h = ap (λ w. Err w) h
+      by (Some t) r h = shows t r h
+
+module _ {S E : Type 0} (next : S → Option Token → S → Type 0) (cause : E → Cause) where
+  number_shows : (limit : ℕ) (t : Token) (r : Result ℕ E) → ScannedNumber cause limit t r → NumberReads limit t (by_cause cause r)
+  number_shows limit t (Ok v) h = record { symbols = h.symbols; error = h.error; read = h.read; reads = h.reads }
+  number_shows limit t (Err e) h = record { symbols = h.symbols; error = h.error; read = h.read; reads = h.reads }
+
+  pub number_first : (limit : ℕ) (old : S) (r : Result ℕ E) (new : S) → ScansToken next cause (ScannedNumber cause limit) old r new → (tokens : List Token) → StandsBefore next old tokens
+      → (rest : List Token) × ReadsFirst (NumberReads limit) tokens (by_cause cause r) rest × StandsBefore next new rest
+  number_first limit = reads_first next cause (ScannedNumber cause limit) (NumberReads limit) (number_shows limit)
+
+  octets_show : (sure most : ℕ) (t : Token) (r : Result (List ℕ) E) → Builds cause (GivesStep cause sure most octet_given) (λ s. s) t r → OctetsRead sure most t (by_cause cause r)
+  octets_show sure most t r h = let read = builds_read cause octet_given sure most (λ s. s) t r h in (read.0, read.1, read.2, by r read.0 read.1 read.3)
+    where
+      by : (r : Result (List ℕ) E) (symbols : List Symbol) (error : Option SymbolCharsError) → AnswersGiven octet_given sure most cause (λ s. s) symbols error r
+          → AnswersGiven octet_given sure most (λ why. why) (λ s. s) symbols error (by_cause cause r)
+      by (Ok v) symbols error k = k
+      by (Err e) symbols error k = k
+
+  pub octets_first : (sure most : ℕ) (old : S) (r : Result (List ℕ) E) (new : S) → ScansToken next cause (Builds cause (GivesStep cause sure most octet_given) (λ s. s)) old r new
+      → (tokens : List Token) → StandsBefore next old tokens → (rest : List Token) × ReadsFirst (OctetsRead sure most) tokens (by_cause cause r) rest × StandsBefore next new rest
+  octets_first sure most = reads_first next cause (Builds cause (GivesStep cause sure most octet_given) (λ s. s)) (OctetsRead sure most) (octets_show sure most)
+
+-- readings in turn, from the first one on
+module _ {V : Type 0} (reads : List Token → Result V Cause → List Token → Type 0) where
+  pub each_more : (k n : ℕ) → k ≡ suc n → (tokens middle rest : List Token) (v : V) (more : List V) (refusal : Option Cause) → reads tokens (Ok v) middle
+      → ReadsEach reads n middle more refusal rest → ReadsEach reads k tokens (v ∷ more) refusal rest
+  each_more k n is tokens middle rest v more refusal first others =
+      subst (λ m. ReadsEach reads m tokens (v ∷ more) refusal rest) (sym is) (inl (v, more, middle, first, refl, others))
+
+  pub each_stop : (k n : ℕ) → k ≡ suc n → (tokens rest : List Token) (why : Cause) → reads tokens (Err why) rest → ReadsEach reads k tokens [] (Some why) rest
+  each_stop k n is tokens rest why stop = subst (λ m. ReadsEach reads m tokens [] (Some why) rest) (sym is) (inr (why, stop, refl, refl))
+
+  pub each_end : (k : ℕ) → k ≡ 0 → (tokens : List Token) → ReadsEach reads k tokens [] None tokens
+  each_end k is tokens = subst (λ m. ReadsEach reads m tokens [] None tokens) (sym is) (refl, refl, refl)

@@ -1,0 +1,42 @@
+-- What a call over the symbols of a token does.
+use Rattle.std.specs.Prelude.{ℕ, List, [], ◌∷◌, ◌≡◌, Option, Some, None, Result, Ok, Err, IsErr, IsOkAnd, MatchOption, MatchResult, ◌⊎◌}
+use Rattle.dns_symbol.specs.declared.symbol.Symbol.{Symbol}
+use Rattle.dns_symbol.specs.declared.symbol.SymbolCharsError.{SymbolCharsError}
+use Rattle.dns_symbol.specs.Symbol.{chars_error_text}
+use Rattle.dns_symbol.specs.Text.{SymbolsOf}
+use Rattle.dns_scan.specs.Cause.{Cause, custom_text, end_of_entry, IsCause}
+use Rattle.dns_scan.specs.Tokens.{Token}
+
+module _ {F X E : Type 0} (step : F → X → Result (Unit {0}) E → F → Type 0) where
+  -- f was asked for each of xs in turn, until it refused; r is that refusal, or ends as Last says
+  abbrev pub CallsEach : List X → (Result (Unit {0}) E → Type 0) → F → Result (Unit {0}) E → F → Type 0
+  CallsEach [] Last f r g = (g ≡ f) × Last r
+  CallsEach (x ∷ xs) Last f r g = ((m : F) × step f x (Ok tt) m × CallsEach xs Last m r g) ⊎ (IsErr r × step f x r g)
+
+-- how a text ends once all its symbols were taken: well, or refused by its error
+abbrev pub Ends : {E : Type 0} → (E → Cause) → Option SymbolCharsError → Result (Unit {0}) E → Type 0
+Ends cause None r = r ≡ Ok tt
+Ends cause (Some e) r = IsCause cause r (custom_text (chars_error_text e))
+
+-- f was asked for the symbols of a token in turn: its first refusal, else the text's error, else Ok
+pub record AsksSymbols {F E : Type 0} (cause : E → Cause) (step : F → Symbol → Result (Unit {0}) E → F → Type 0)
+    (token : Token) (f : F) (r : Result (Unit {0}) E) (g : F) : Type 0 where
+  pub symbols : List Symbol
+  pub error : Option SymbolCharsError
+  pub read : SymbolsOf token symbols error
+  pub asked : CallsEach step symbols (Ends cause error) f r g
+
+-- a call that handed over the symbols of one token: the token that was taken, and the calls; or the refusal where none was left, and no call
+pub record ScansSymbols {S F E : Type 0} (next : S → Option Token → S → Type 0) (cause : E → Cause) (step : F → Symbol → Result (Unit {0}) E → F → Type 0)
+    (old : S) (f : F) (r : Result (Unit {0}) E) (new : S) (g : F) : Type 0 where
+  pub token : Option Token
+  pub taken : next old token new
+  pub answer : MatchOption token (IsCause cause r end_of_entry × (g ≡ f)) (λ t. AsksSymbols cause step t f r g)
+
+-- the octets that were put together of a token's symbols, where all were taken; else the refusal
+pub record Builds {O E : Type 0} (cause : E → Cause) (step : List ℕ → Symbol → Result (Unit {0}) E → List ℕ → Type 0) (octets : O → List ℕ)
+    (token : Token) (r : Result O E) : Type 0 where
+  pub answer : Result (Unit {0}) E
+  pub built : List ℕ
+  pub asks : AsksSymbols cause step token [] answer built
+  pub gives : MatchResult answer (λ _. IsOkAnd r (λ x. octets x ≡ built)) (λ e. r ≡ Err e)

@@ -1,0 +1,87 @@
+-- What the calls of a scanner do that convert tokens or take all that are left.
+use Rattle.std.specs.Prelude.{ℕ, List, [], ◌∷◌, ◌++◌, ◌+◌, ◌<◌, ◌≤◌, length, min, ◌≡◌, Option, Some, None, Result, Ok, Err, IsErr, IsOkAnd, MatchResult, ◌⊎◌, codes}
+use Rattle.std.specs.Str.{IsAscii, IsNotAscii}
+use Rattle.dns_symbol.specs.declared.symbol.Symbol.{Symbol}
+use Rattle.dns_symbol.specs.declared.symbol.EntrySymbol.{EntrySymbol}
+use Rattle.dns_symbol.specs.declared.symbol.EntrySymbol.TheVariants.{EndOfToken, Symbol as Of}
+use Rattle.dns_charstr.specs.Wire.{wire_of}
+use Rattle.dns_scan.specs.Cause.{Cause, custom_text, short_buf, IsCause}
+use Rattle.dns_scan.specs.Tokens.{Token}
+use Rattle.dns_scan.specs.Asks.{AsksSymbols}
+use Rattle.dns_scan.specs.Steps.{Adds, GivesStep, octet_given, text_given}
+
+-- all tokens in turn, each by a call, until a call refuses; then none is left, or the refused token was the last taken
+module _ {S F E : Type 0} (next : S → Option Token → S → Type 0) (call : F → Token → Result (Unit {0}) E → F → Type 0) where
+  abbrev pub TakesEach : List Token → S → F → Result (Unit {0}) E → S → F → Type 0
+  TakesEach [] s f r u g = next s None u × (g ≡ f) × (r ≡ Ok tt)
+  TakesEach (t ∷ ts) s f r u g = (m : S) × next s (Some t) m × (((h : F) × call f t (Ok tt) h × TakesEach ts m h r u g) ⊎ (IsErr r × call f t r g × (u ≡ m)))
+
+-- a call that takes all tokens, up to the first that is refused
+pub record ScansEntry {S F E : Type 0} (next : S → Option Token → S → Type 0) (call : F → Token → Result (Unit {0}) E → F → Type 0)
+    (old : S) (f : F) (r : Result (Unit {0}) E) (new : S) (g : F) : Type 0 where
+  pub tokens : List Token
+  pub taken : TakesEach next call tokens old f r new g
+
+-- the symbols of a token and then its end, until one is refused
+abbrev pub AsksToken : {F E : Type 0} → (E → Cause) → (F → EntrySymbol → Result (Unit {0}) E → F → Type 0) → F → Token → Result (Unit {0}) E → F → Type 0
+AsksToken {F} {E} cause step f t r g =
+    ((h : F) × AsksSymbols cause (λ p x q s. step p (Of x) q s) t f (Ok tt) h × step h EndOfToken r g)
+    ⊎ (IsErr r × AsksSymbols cause (λ p x q s. step p (Of x) q s) t f r g)
+
+-- a converter and the octets built so far, in a builder of a type in which `sure` octets surely fit and that holds `most` at most
+module _ {E : Type 0} (cause : E → Cause) (sure most : ℕ) where
+  -- one symbol
+  abbrev pub ConvertStep : {C X : Type 0} → (C → X → Result (List ℕ) E → C → Type 0) → C × List ℕ → X → Result (Unit {0}) E → C × List ℕ → Type 0
+  ConvertStep takes p x r q = (made : Result (List ℕ) E) × takes p.0 x made q.0 × Adds cause sure most made p.1 r q.1
+
+  -- the tail
+  abbrev pub ConvertTail : {C : Type 0} → (C → Result (List ℕ) E → C → Type 0) → C × List ℕ → Result (Unit {0}) E → C × List ℕ → Type 0
+  ConvertTail tail p r q = (made : Result (List ℕ) E) × tail p.0 made q.0 × Adds cause sure most made p.1 r q.1
+
+  -- the symbols of a token
+  abbrev pub ConvertToken : {C : Type 0} → (C → Symbol → Result (List ℕ) E → C → Type 0) → C × List ℕ → Token → Result (Unit {0}) E → C × List ℕ → Type 0
+  ConvertToken takes p t r q = AsksSymbols cause (ConvertStep takes) t p r q
+
+  -- the symbols of a token of an entry; its end is not handed over
+  abbrev pub ConvertInEntry : {C : Type 0} → (C → EntrySymbol → Result (List ℕ) E → C → Type 0) → C × List ℕ → Token → Result (Unit {0}) E → C × List ℕ → Type 0
+  ConvertInEntry takes p t r q = AsksSymbols cause (λ p x a s. ConvertStep takes p (Of x) a s) t p r q
+
+  -- a run from a converter and no octets, then the tail where none refused, and the octets in all; or the first refusal
+  pub record Converts {C O : Type 0} (tail : C → Result (List ℕ) E → C → Type 0) (octets : O → List ℕ) (run : C × List ℕ → Result (Unit {0}) E → C × List ℕ → Type 0) (convert : C) (r : Result O E) : Type 0 where
+    pub answer : Result (Unit {0}) E
+    pub state : C × List ℕ
+    pub ran : run (convert, []) answer state
+    pub gives : MatchResult answer
+        (λ _. (last : Result (Unit {0}) E) × (q : C × List ℕ) × ConvertTail tail state last q × MatchResult last (λ _. IsOkAnd r (λ x. octets x ≡ q.1)) (λ e. r ≡ Err e))
+        (λ e. r ≡ Err e)
+
+  -- a token's octets, at most 255, after their count; or the first refusal
+  pub record StringStep (b : List ℕ) (t : Token) (r : Result (Unit {0}) E) (c : List ℕ) : Type 0 where
+    pub answer : Result (Unit {0}) E
+    pub built : List ℕ
+    pub asks : AsksSymbols cause (GivesStep cause (min sure 255) (min most 255) octet_given) t [] answer built
+    pub gives : MatchResult answer
+        (λ _. ((r ≡ Ok tt) × (c ≡ b ++ wire_of built) × (length c ≤ most)) ⊎ (IsCause cause r short_buf × (sure < length b + length (wire_of built))))
+        (λ e. (r ≡ Err e) × (c ≡ b))
+
+  -- a token's text goes to a function where it is ASCII, and its answer is the answer; or the refusal
+  pub record AsciiText {V : Type 0} (returns : List ℕ → Result V E → Type 0) (t : Token) (r : Result V E) : Type 0 where
+    pub answer : Result (Unit {0}) E
+    pub built : List ℕ
+    pub asks : AsksSymbols cause (GivesStep cause sure most text_given) t [] answer built
+    pub gives : MatchResult answer
+        (λ _. (IsAscii built × returns built r) ⊎ (IsNotAscii built × IsCause cause r (custom_text (codes "non-ASCII characters"))))
+        (λ e. r ≡ Err e)
+
+-- what was put together of all tokens; or the first refusal
+pub record BuildsEntry {S O E : Type 0} (next : S → Option Token → S → Type 0) (step : List ℕ → Token → Result (Unit {0}) E → List ℕ → Type 0) (octets : O → List ℕ)
+    (old : S) (r : Result O E) (new : S) : Type 0 where
+  pub answer : Result (Unit {0}) E
+  pub built : List ℕ
+  pub taken : ScansEntry next step old [] answer new built
+  pub gives : MatchResult answer (λ _. IsOkAnd r (λ x. octets x ≡ built)) (λ e. r ≡ Err e)
+
+-- a converter's run over all tokens
+pub record ConvertsEntry {S C O E : Type 0} (next : S → Option Token → S → Type 0) (cause : E → Cause) (sure most : ℕ) (takes : C → EntrySymbol → Result (List ℕ) E → C → Type 0)
+    (tail : C → Result (List ℕ) E → C → Type 0) (octets : O → List ℕ) (old : S) (convert : C) (r : Result O E) (new : S) : Type 0 where
+  pub converts : Converts cause sure most tail octets (λ p a q. ScansEntry next (ConvertInEntry cause sure most takes) old p a new q) convert r

@@ -1,0 +1,11 @@
+pub mod Answers
+pub mod Asks
+pub mod Cause
+pub mod Convert
+pub mod Entries
+pub mod Numbers
+pub mod Octets
+pub mod Reads
+pub mod Stands
+pub mod Steps
+pub mod Tokens

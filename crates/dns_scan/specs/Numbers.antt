@@ -1,0 +1,76 @@
+-- Decimal numbers in tokens.
+use Rattle.std.specs.Prelude.{ℕ, List, [], ◌∷◌, ◌++◌, ◌≡◌, ◌≤◌, ◌<◌, Option, Some, None, Result, Ok, Err, MatchResult, ◌⊎◌, if◌then◌else◌, nat_lt, is_some, ◌*◌, ◌+◌, ◌-◌, ◌^◌, length, map, codes}
+use Rattle.dns_symbol.specs.declared.symbol.Symbol.{Symbol}
+use Rattle.dns_symbol.specs.declared.symbol.Symbol.TheVariants.{Char, SimpleEscape, DecimalEscape}
+use Rattle.dns_symbol.specs.declared.symbol.SymbolCharsError.{SymbolCharsError}
+use Rattle.dns_symbol.specs.Symbol.{is_digit, chars_error_text}
+use Rattle.dns_symbol.specs.Text.{SymbolsOf}
+use Rattle.dns_scan.specs.Cause.{Cause, custom_text}
+use Rattle.dns_scan.specs.Tokens.{Token}
+
+-- the greatest number of each type
+abbrev pub greatest : ℕ → ℕ
+greatest bits = 2 ^ bits - 1
+
+-- the value of a plain digit; an escape is none
+abbrev pub digit_of : Symbol → Option ℕ
+digit_of (Char c) = if is_digit c then Some (c - 48) else None
+digit_of (SimpleEscape o) = None
+digit_of (DecimalEscape o) = None
+
+-- the sum of each digit times its power of ten
+abbrev pub value_of : List ℕ → ℕ
+value_of [] = 0
+value_of (d ∷ ds) = d * 10 ^ length ds + value_of ds
+
+-- the symbols are plain digits of that value, which is at most the limit
+pub record IsNumber (limit : ℕ) (symbols : List Symbol) (v : ℕ) : Type 0 where
+  pub digits : List ℕ
+  pub plain : map digit_of symbols ≡ map Some digits
+  pub value : v ≡ value_of digits
+  pub small : v ≤ limit
+
+abbrev pub overflow : Cause
+overflow = custom_text (codes "decimal number overflow")
+
+abbrev pub no_digit : Cause
+no_digit = custom_text (codes "expected decimal number")
+
+-- why a symbol after a number of that value makes it none: tens of it are too many, or the symbol is no digit, or their sum is too great
+abbrev pub refusal_at : ℕ → ℕ → Symbol → Cause
+refusal_at limit v x = if nat_lt limit (v * 10) then overflow else (if is_some (digit_of x) then overflow else no_digit)
+
+-- the symbols are no number: the longest beginning that is one, and the refusal at the symbol after it
+pub record NoNumber (limit : ℕ) (symbols : List Symbol) (why : Cause) : Type 0 where
+  pub front : List Symbol
+  pub next : Symbol
+  pub rest : List Symbol
+  pub value : ℕ
+  pub whole : symbols ≡ front ++ next ∷ rest
+  pub number : IsNumber limit front value
+  pub longest : (longer others : List Symbol) (v : ℕ) → symbols ≡ longer ++ others → IsNumber limit longer v → length longer ≤ length front
+  pub refusal : why ≡ refusal_at limit value next
+
+-- what a token's symbols and the error after them are read as: a number, or the refusal of a symbol, or else that error
+abbrev pub ReadsNumber : ℕ → List Symbol → Option SymbolCharsError → Result ℕ Cause → Type 0
+ReadsNumber limit symbols error (Ok v) = IsNumber limit symbols v × (error ≡ None)
+ReadsNumber limit symbols error (Err why) =
+    NoNumber limit symbols why ⊎ ((v : ℕ) × (e : SymbolCharsError) × IsNumber limit symbols v × (error ≡ Some e) × (why ≡ custom_text (chars_error_text e)))
+
+-- an answer, by the call that made its error
+abbrev pub by_cause : {V E : Type 0} → (E → Cause) → Result V E → Result V Cause
+by_cause cause (Ok v) = Ok v
+by_cause cause (Err e) = Err (cause e)
+
+-- what a token is read as
+pub record ScannedNumber {E : Type 0} (cause : E → Cause) (limit : ℕ) (token : Token) (r : Result ℕ E) : Type 0 where
+  pub symbols : List Symbol
+  pub error : Option SymbolCharsError
+  pub read : SymbolsOf token symbols error
+  pub reads : ReadsNumber limit symbols error (by_cause cause r)
+
+-- a digit more: ten times the value and the digit, or the refusal, and the value as it was
+abbrev pub AddsDigit : {E : Type 0} → (E → Cause) → ℕ → ℕ → Symbol → Result (Unit {0}) E → ℕ → Type 0
+AddsDigit cause limit v x r w =
+    MatchResult r (λ _. (d : ℕ) × (digit_of x ≡ Some d) × (w ≡ v * 10 + d) × (w ≤ limit))
+    (λ e. (w ≡ v) × (cause e ≡ refusal_at limit v x) × ((d : ℕ) → digit_of x ≡ Some d → limit < v * 10 + d))

@@ -1,0 +1,39 @@
+-- One symbol's octets, appended to those before.
+use Rattle.std.specs.Prelude.{ℕ, List, [], ◌∷◌, ◌++◌, ◌-◌, ◌<◌, ◌≤◌, ◌≡◌, length, Result, Ok, Err, ◌⊎◌, codes, encode_utf8}
+use Rattle.dns_symbol.specs.declared.symbol.Symbol.{Symbol}
+use Rattle.dns_symbol.specs.declared.symbol.BadSymbol.{BadSymbol}
+use Rattle.dns_symbol.specs.Symbol.{octet_of, char_of}
+use Rattle.dns_scan.specs.Cause.{Cause, custom_text, short_buf, IsCause}
+
+-- the octets that a symbol gives, or the text of the refusal
+abbrev pub bad_or : {A : Type 0} → (A → List ℕ) → Result A BadSymbol → Result (List ℕ) (List ℕ)
+bad_or octets (Ok x) = Ok (octets x)
+bad_or octets (Err e) = Err (codes "bad symbol")
+
+-- a symbol's octet
+abbrev pub octet_given : Symbol → Result (List ℕ) (List ℕ)
+octet_given x = bad_or (λ o. o ∷ []) (octet_of x)
+
+-- a symbol's character, in UTF-8
+abbrev pub text_given : Symbol → Result (List ℕ) (List ℕ)
+text_given x = bad_or encode_utf8 (char_of x)
+
+-- a builder of a type in which `sure` octets surely fit, and which never holds more than `most`
+module _ {E : Type 0} (cause : E → Cause) (sure most : ℕ) where
+  -- these octets were appended to b and all are at most `most`; or there were more than surely still fit, and none was appended
+  abbrev pub Grows : List ℕ → List ℕ → Result (Unit {0}) E → List ℕ → Type 0
+  Grows o b r c = ((r ≡ Ok tt) × (c ≡ b ++ o) × (0 < length o → length c ≤ most)) ⊎ (IsCause cause r short_buf × (c ≡ b) × (sure - length b < length o))
+
+  -- the octets of one symbol were appended, or there was the refusal with that text
+  abbrev pub Appends : Result (List ℕ) (List ℕ) → List ℕ → Result (Unit {0}) E → List ℕ → Type 0
+  Appends (Ok o) b r c = Grows o b r c
+  Appends (Err text) b r c = IsCause cause r (custom_text text) × (c ≡ b)
+
+  -- what a converter made was appended, or there was its own refusal
+  abbrev pub Adds : Result (List ℕ) E → List ℕ → Result (Unit {0}) E → List ℕ → Type 0
+  Adds (Ok o) b r c = Grows o b r c
+  Adds (Err e) b r c = (r ≡ Err e) × (c ≡ b)
+
+  -- the octets that a symbol gives
+  abbrev pub GivesStep : (Symbol → Result (List ℕ) (List ℕ)) → List ℕ → Symbol → Result (Unit {0}) E → List ℕ → Type 0
+  GivesStep given b x r c = Appends (given x) b r c

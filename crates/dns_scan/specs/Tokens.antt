@@ -1,0 +1,34 @@
+-- What a call of a scanner does to the tokens before it.
+use Rattle.std.specs.Prelude.{ℕ, List, ◌≡◌, ◌≢◌, Option, Some, None, Result, Ok, Err, Bool, true, false, MatchOption, ⊤, codes}
+use Rattle.dns_scan.specs.Cause.{Cause, end_of_entry, IsCause}
+
+-- a token: its text's bytes
+abbrev pub Token : Type 0
+Token = List ℕ
+
+-- a call that took no token: whatever comes after it could have come before it
+abbrev pub TakesNothing : {S : Type 0} → (S → Option Token → S → Type 0) → S → S → Type 0
+TakesNothing {S} next old new = (o : Option Token) (u : S) → next new o u → next old o u
+
+-- a call that looked ahead and took nothing: o is what comes next, or none where no token is left
+pub record Peeks {S : Type 0} (next : S → Option Token → S → Type 0) (old new : S) (o : Option Token) : Type 0 where
+  pub same : TakesNothing next old new
+  pub shown : (u : S) × next new o u
+  pub only : (p : Option Token) (u : S) → next new p u → p ≡ o
+
+-- a call that asked for one token: the token that was taken and what holds of it and the answer, or the refusal where none was left
+pub record ScansToken {S V E : Type 0} (next : S → Option Token → S → Type 0) (cause : E → Cause) (answers : Token → Result V E → Type 0)
+    (old : S) (r : Result V E) (new : S) : Type 0 where
+  pub token : Option Token
+  pub taken : next old token new
+  pub answer : MatchOption token (IsCause cause r end_of_entry) (λ t. answers t r)
+
+-- the token that says that data of an unknown type follow
+abbrev pub marker : Token
+marker = codes "\\#"
+
+-- a marker was taken and r is true, or nothing was taken, something else or nothing comes next, and r is false
+abbrev pub MarkerCall : {S E : Type 0} → (S → Option Token → S → Type 0) → S → Result Bool E → S → Type 0
+MarkerCall next old (Ok true) new = next old (Some marker) new
+MarkerCall next old (Ok false) new = (o : Option Token) × Peeks next old new o × (o ≢ Some marker)
+MarkerCall next old (Err e) new = ⊥

@@ -1,0 +1,54 @@
+//! Decimal numbers.
+ghost use Rattle.std.specs.Prelude.{◌≡◌, ◌≤◌, ◌<◌, IfSome, IfOk};
+ghost use Rattle.dns_scan.specs.Numbers.{digit_of, AddsDigit, ScannedNumber};
+ghost use Rattle.dns_scan.specs.Tokens.{ScansToken};
+
+use crate::error::ScannerError;
+use crate::scanner::Scanner;
+use dns_symbol::symbol::Symbol;
+
+// The value of a plain digit.
+fn plain_digit(symbol: Symbol) -> Option<u8>
+    ensures value { result ≡ digit_of symbol }
+    ensures small { IfSome result (λ d. d < 10) }
+{
+    match symbol {
+        Symbol::Char(c @ '0'..='9') => Some(c as u8 - b'0'),
+        _ => None,
+    }
+}
+
+// A symbol more of a number of at most `limit`.
+fn add_digit<E: ScannerError>(limit: u128, value: &mut u128, symbol: Symbol) -> Result<(), E>
+    ensures { AddsDigit E.cause limit value.old symbol result value.new }
+{
+    if *value > limit / 10 {
+        return Err(E::custom("decimal number overflow"));
+    }
+    let tens = *value * 10;
+    match plain_digit(symbol) {
+        None => Err(E::custom("expected decimal number")),
+        Some(digit) => {
+            if digit as u128 > limit - tens {
+                return Err(E::custom("decimal number overflow"));
+            }
+            *value = tens + digit as u128;
+            Ok(())
+        }
+    }
+}
+
+/// Takes a token as a decimal number of at most `limit`. The empty token is 0.
+pub fn scan_number<S: Scanner>(scanner: &mut S, limit: u128) -> Result<u128, S::Error>
+    requires { S.can_scan scanner.old }
+    ensures ready { S.can_scan scanner.new }
+    ensures small { IfOk result (λ v. v ≤ limit) }
+    ensures scans { ScansToken S.next_token S.Error.cause (ScannedNumber S.Error.cause limit) scanner.old result scanner.new }
+{
+    let mut value = 0u128;
+    let mut op = |symbol: Symbol| -> Result<(), S::Error> { add_digit(limit, &mut value, symbol) };
+    match scanner.scan_symbols(&mut op) {
+        Ok(()) => Ok(value),
+        Err(error) => Err(error),
+    }
+}
