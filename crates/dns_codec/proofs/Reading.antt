@@ -1,0 +1,40 @@
+-- Characters of a text, one after another.
+use Rattle.std.proofs.Common.{◌≡◌, ℕ, suc, ◌+◌, ◌<◌, ◌≤◌, List, [], ◌∷◌, ◌++◌, length, take, drop, map, get_or, refl, sym, ap, ◌∙◌, arith, Option, Some, None, add-one, drop-cons, Result, Ok, Err, IsOk, IfOk, IfErr, MatchResult}
+use Rattle.std.proofs.lemmas.List.{take-append-drop}
+use Rattle.dns_codec.specs.Base.{Base}
+use Rattle.dns_codec.specs.Grammar.{Decodes}
+use Rattle.dns_codec.specs.Room.{IsRoom}
+use Rattle.dns_codec.specs.Outcome.{IsRefusedBy, Decoded}
+use Rattle.dns_codec.specs.declared.base64.DecodeError.{DecodeError}
+
+pub map-same : (xs : List ℕ) → map (λ c. c) xs ≡ xs
+map-same [] = refl
+map-same (x ∷ xs) = ap (λ ys. x ∷ ys) (map-same xs)
+
+-- the text is what was yielded, this character, and a rest
+pub text_here : (all before : List ℕ) (c : ℕ) → map (λ c. c) before ≡ take (length before) all → (length before < length all) × (c ≡ get_or all (length before) c)
+    → all ≡ before ++ c ∷ drop (suc (length before)) all
+text_here all before c so_far at =
+    let n : ℕ = length before in
+    let inside : n < length all = at.0 in
+    let front : before ≡ take n all = sym (map-same before) ∙ so_far in
+    let back : drop n all ≡ c ∷ drop (suc n) all = drop-cons all n c inside ∙ ap (λ x. x ∷ drop (suc n) all) (sym at.1) in
+    sym (take-append-drop n all) ∙ (ap (λ xs. xs ++ drop n all) (sym front) ∙ ap (λ xs. before ++ xs) back)
+
+-- a text that is read wherever there is room isn't refused
+pub never_refused : (refusal : ℕ → List ℕ → Option DecodeError) (sure most : ℕ) (text octets : List ℕ) (e : DecodeError)
+    → ((room : ℕ) → length octets ≤ room → refusal room text ≡ None) → length octets ≤ sure → IsRefusedBy refusal sure most text e → ⊥
+never_refused refusal sure most text octets e reads le by =
+    let low = by.is_room.surely in
+    let none = reads by.room (omega arith) in
+    let bad : None ≡ Some e = sym none ∙ by.refused in
+    cc bad
+
+-- the clauses of `decode`, from what its result is
+pub clauses : (b : Base) (refusal : ℕ → List ℕ → Option DecodeError) (sure most : ℕ) (text : List ℕ) {T : Type 0} (shown : T → List ℕ) (r : Result T DecodeError)
+    → ((octets : List ℕ) (room : ℕ) → Decodes b text octets → length octets ≤ room → refusal room text ≡ None)
+    → MatchResult r (λ o. Decoded b refusal sure most text (Ok (shown o))) (λ e. Decoded b refusal sure most text (Err e))
+    → IfOk r (λ o. Decodes b text (shown o)) × ((octets : List ℕ) → Decodes b text octets → length octets ≤ sure → IsOk r) × IfErr r (λ e. IsRefusedBy refusal sure most text e)
+clauses b refusal sure most text shown (Ok o) reads is = (is, λ octets d le. refl, tt)
+clauses b refusal sure most text shown (Err e) reads is =
+    (tt, λ octets d le. absurd (never_refused refusal sure most text octets e (λ room. reads octets room d) le is), is)

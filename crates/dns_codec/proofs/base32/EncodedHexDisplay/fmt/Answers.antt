@@ -1,0 +1,6 @@
+use Rattle.std.proofs.Common.{IsOk}
+use Rattle.dns_codec.proofs.Texts.{at_ok, formatter_writes}
+use Rattle.dns_codec.proofs.base32.EncodedHexDisplay.fmt.Goals as goal
+
+pub returns-clause-writes : goal.returns-clause-writes
+returns-clause-writes g c = λ plain ok. formatter_writes g.W.Write.write_str_gives c.args.f.now _ c.display_hex.new.f (at_ok c.display_hex.result _ ok c.display_hex.ensures) plain

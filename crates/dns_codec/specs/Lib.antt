@@ -1,0 +1,13 @@
+pub mod Bits
+pub mod Base
+pub mod Grammar
+pub mod Errors
+pub mod Room
+pub mod Plain
+pub mod Padded
+pub mod Runs
+pub mod Outcome
+pub mod Shown
+pub mod Converter
+pub mod Conversion
+pub mod Rows

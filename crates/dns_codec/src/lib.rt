@@ -1,0 +1,21 @@
+//! Base 16, base 32 and base 64 (RFC 4648), as the presentation format of DNS data writes octets.
+//!
+//! [`base16`], [`base32`] (with the extended hex alphabet) and [`base64`] are alike: `display`,
+//! `encode_string` and `encode_display` print octets, `decode` reads a whole text, and a
+//! `Decoder` is pushed one character after another.
+//! [`base64::DecodeError`] says why a text isn't decoded, in all three.
+//! [`laws`] has what holds of printing and reading together.
+#![tactic(auto)]
+
+pub mod base16;
+pub mod base32;
+pub mod base64;
+pub mod laws;
+
+mod append;
+mod convert;
+mod encode;
+mod group;
+mod register;
+#[cfg(test)]
+mod tests;
