@@ -1,0 +1,11 @@
+pub mod Building
+pub mod FromOctets
+pub mod Label
+pub mod LabelOrder
+pub mod Labelled
+pub mod Opened
+pub mod Order
+pub mod Printed
+pub mod Shown
+pub mod Split
+pub mod Wire

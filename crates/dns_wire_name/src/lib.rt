@@ -1,0 +1,36 @@
+//! Labels and domain names in wire form (RFC 1035 sections 2.3.4 and 3.1).
+//!
+//! A [`Label`] has 0 to 63 octets; the label of none is the root. A name is a list of labels, and
+//! its octets are each label's length octet and octets, one after another. A [`Name`] ends in the
+//! root and has at most 255 octets, a [`RelativeName`] has no root and at most 254. Both are made
+//! from octets, or by a [`NameBuilder`] octet by octet.
+//!
+//! [`ToLabelIter`] is what all kinds of names have in common: a count of labels, the label at a
+//! place, and the octets. [`ToName`] adds that the last label is the root, [`ToRelativeName`] that
+//! none is. [`FlattenInto`] copies the labels into a name over octets of another type.
+//!
+//! Names are equal, and hash equally, where their labels are the same but for the case of ASCII
+//! letters (RFC 4343).
+#![tactic(auto)]
+
+mod compare;
+pub mod display;
+pub mod error;
+pub mod flatten;
+pub mod label;
+pub mod name;
+pub mod name_builder;
+pub mod name_iter;
+pub mod relative;
+pub mod split;
+pub mod to_label_iter;
+
+pub use display::{DisplayWithDot, DisplayWithoutDot};
+pub use error::{LabelTypeError, LongLabelError, NameError, PushError, SplitLabelError};
+pub use flatten::FlattenInto;
+pub use label::Label;
+pub use name::Name;
+pub use name_builder::NameBuilder;
+pub use name_iter::NameIter;
+pub use relative::RelativeName;
+pub use to_label_iter::{ToLabelIter, ToName, ToRelativeName};

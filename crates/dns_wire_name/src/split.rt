@@ -1,0 +1,38 @@
+//! Octets without the labels that begin them.
+
+ghost use Rattle.dns_wire_name.specs.FromOctets.{HasRest};
+
+use crate::error::SplitLabelError;
+use crate::label::Label;
+
+/// What follows the labels that begin octets.
+#[derive(Clone, Copy)]
+pub enum Rest {
+    End,
+    Root,
+    RootAndMore,
+    Refused(SplitLabelError),
+}
+
+/// What follows the labels other than the root.
+pub fn rest_of(octets: &[u8]) -> Rest
+    ensures { HasRest octets.now result }
+{
+    let mut rest = octets;
+    while !rest.is_empty() {
+        match Label::split_from(rest) {
+            Ok((label, after)) => {
+                if label.is_root() {
+                    return if after.is_empty() {
+                        Rest::Root
+                    } else {
+                        Rest::RootAndMore
+                    };
+                }
+                rest = after;
+            }
+            Err(e) => return Rest::Refused(e),
+        }
+    }
+    Rest::End
+}
