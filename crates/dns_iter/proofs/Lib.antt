@@ -1,0 +1,9 @@
+pub mod Asking
+pub mod Converting
+pub mod ItemWords
+pub mod Printing
+pub mod Roads
+pub mod Sources
+pub mod Taken
+pub mod Taking
+pub mod Utf8Text

@@ -1,0 +1,7 @@
+pub mod Ahead
+pub mod Codecs
+pub mod Print
+pub mod Program
+pub mod Run
+pub mod StrError
+pub mod TokenNext

@@ -1,0 +1,14 @@
+//! Scanning over an iterator of tokens, and the program.
+#![tactic(auto)]
+
+pub mod error;
+mod print;
+pub mod program;
+pub mod scanner;
+mod take;
+#[cfg(test)]
+mod tests;
+mod token;
+
+pub use error::StrError;
+pub use scanner::IterScanner;

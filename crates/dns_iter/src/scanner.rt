@@ -1,0 +1,287 @@
+//! A scanner over an iterator of tokens.
+ghost use Rattle.std.specs.Prelude.{◌≡◌, ℕ, List, [], Option, Some, None, Bool, true, false, ⊤, OnSome, ◌<◌, ◌≤◌, ◌↔◌, IsTrue, option_map, is_none};
+ghost use Rattle.std.specs.Iterator.{IsFinite, AlwaysYields};
+ghost use Rattle.dns_scan.specs.Entries.{ScansEntry};
+ghost use Rattle.dns_scan.specs.Stands.{StandsBefore};
+ghost use Rattle.dns_scan.specs.Tokens.{Token, Peeks};
+ghost use Rattle.dns_iter.specs.TokenNext.{token_next};
+ghost use Rattle.dns_iter.specs.Ahead.{IsReady, Fills, TakesAhead, tokens_left};
+
+use crate::error::StrError;
+use crate::take::{Converting, IntoStrings, TakeToken};
+use crate::token::{
+    each_symbol, token_ascii, token_charstr, token_converted, token_octets, token_text,
+};
+use dns_charstr::charstr::CharStr;
+use dns_scan::{ConvertSymbols, Scanner, ScannerError};
+use dns_symbol::symbol::{EntrySymbol, Symbol};
+use dns_wire::{AsOctets, AsOctetsMut, EmptyBuilder, FreezeBuilder, FromBuilder, Str, Truncate};
+use std::marker::PhantomData;
+
+/// What is known of the next token.
+#[derive(Drop)]
+enum Ahead<X> {
+    Unknown,
+    Token(X),
+    End,
+}
+
+/// A scanner over an iterator of tokens, which must end.
+///
+/// Once the iterator has ended it is asked no more.
+#[derive(Drop)]
+pub struct IterScanner<Iter: Iterator, Octets: FromBuilder, E = StrError>
+where
+    Octets::Builder: EmptyBuilder,
+{
+    iter: Iter,
+    ahead: Ahead<Iter::Item>,
+    alloc: <Octets::Builder as EmptyBuilder>::Alloc,
+    error: PhantomData<E>,
+}
+
+impl<'a, Iter: Iterator<Item = &'a str>, Octets: FromBuilder + Drop, E: ScannerError> IterScanner<
+    Iter,
+    Octets,
+    E,
+>
+where
+    Octets::Builder: EmptyBuilder
+        + AsOctetsMut
+        + Truncate
+        + FreezeBuilder<Octets = Octets>
+        + Drop,
+{
+    /// A scanner of the iterator's tokens. Octets are allocated from `alloc`.
+    pub fn new(alloc: <Octets::Builder as EmptyBuilder>::Alloc, iter: Iter) -> Self
+        requires can { Iter.can_next iter }
+        requires ends { IsFinite (Iter.remaining iter) }
+        ensures ready { ⟦<Self as Scanner>⟧.can_scan result }
+        ensures stands { (ts : List Token) → AlwaysYields Iter.next_gives (λ t. t.now) iter ts → StandsBefore (⟦<Self as Scanner>⟧.next_token) result ts }
+    {
+        IterScanner {
+            iter,
+            ahead: Ahead::Unknown,
+            alloc,
+            error: PhantomData,
+        }
+    }
+
+    /// Whether no token is left. It takes none.
+    pub fn is_exhausted(&mut self) -> bool
+        requires { ⟦<Self as Scanner>⟧.can_scan self.old }
+        ensures ready { ⟦<Self as Scanner>⟧.can_scan self.new }
+        ensures peeks { (o : Option Token) × Peeks (⟦<Self as Scanner>⟧.next_token) self.old self.new o × (result ≡ is_none o) }
+    {
+        self.peek().is_none()
+    }
+
+    // The next token, which is not taken.
+    fn peek(&mut self) -> Option<&'a str>
+        requires { IsReady Iter.can_next Iter.remaining self.old.iter self.old.ahead }
+        ensures ready { IsReady Iter.can_next Iter.remaining self.new.iter self.new.ahead }
+        ensures peeks { Peeks (⟦<Self as Scanner>⟧.next_token) self.old self.new (option_map (λ t. t.now) result) }
+    {
+        self.fill();
+        match self.ahead {
+            Ahead::Token(token) => Some(token),
+            Ahead::End => None,
+            Ahead::Unknown => None,
+        }
+    }
+}
+
+impl<'a, Iter: Iterator<Item = &'a str>, Octets: FromBuilder, E> IterScanner<Iter, Octets, E>
+where
+    Octets::Builder: EmptyBuilder,
+{
+    // Looks one token ahead.
+    fn fill(&mut self)
+        requires { IsReady Iter.can_next Iter.remaining self.old.iter self.old.ahead }
+        ensures ready { IsReady Iter.can_next Iter.remaining self.new.iter self.new.ahead }
+        ensures left { tokens_left Iter.remaining self.new.iter self.new.ahead ≤ tokens_left Iter.remaining self.old.iter self.old.ahead }
+        ensures fills { Fills Iter.next_gives self.old.iter self.old.ahead self.new.iter self.new.ahead }
+    {
+        if let Ahead::Unknown = self.ahead {
+            match self.iter.next() {
+                Some(token) => self.ahead = Ahead::Token(token),
+                None => self.ahead = Ahead::End,
+            }
+        }
+    }
+
+    // Takes the next token.
+    fn take(&mut self) -> Option<&'a str>
+        requires { IsReady Iter.can_next Iter.remaining self.old.iter self.old.ahead }
+        ensures ready { IsReady Iter.can_next Iter.remaining self.new.iter self.new.ahead }
+        ensures fewer { OnSome result (tokens_left Iter.remaining self.new.iter self.new.ahead < tokens_left Iter.remaining self.old.iter self.old.ahead) }
+        ensures takes { TakesAhead Iter.next_gives self.old.iter self.old.ahead result self.new.iter self.new.ahead }
+    {
+        self.fill();
+        match self.ahead {
+            Ahead::Token(token) => {
+                self.ahead = Ahead::Unknown;
+                Some(token)
+            }
+            _ => None,
+        }
+    }
+}
+
+impl<'a, Iter: Iterator<Item = &'a str>, Octets: FromBuilder, E: ScannerError> IterScanner<
+    Iter,
+    Octets,
+    E,
+>
+where
+    Octets::Builder: EmptyBuilder,
+{
+    // Hands over each token that is left.
+    fn each_token<T: TakeToken<E>>(&mut self, take: &mut T) -> Result<(), E>
+        requires ready { IsReady Iter.can_next Iter.remaining self.old.iter self.old.ahead }
+        requires can { T.can_take take.old }
+        ensures ready { IsReady Iter.can_next Iter.remaining self.new.iter self.new.ahead }
+        ensures can { T.can_take take.new }
+        ensures takes { ScansEntry (token_next Iter.next_gives) T.step self.old take.old result self.new take.new }
+    {
+        while let Some(token) = self.take() {
+            match take.take_token(token) {
+                Ok(()) => {}
+                Err(error) => return Err(error),
+            }
+        }
+        Ok(())
+    }
+}
+
+impl<'a, Iter: Iterator<Item = &'a str>, Octets: FromBuilder + Drop, E: ScannerError> Scanner
+    for IterScanner<Iter, Octets, E>
+where
+    Octets::Builder: EmptyBuilder
+        + AsOctetsMut
+        + Truncate
+        + FreezeBuilder<Octets = Octets>
+        + Drop,
+{
+    type Octets = Octets;
+
+    type OctetsBuilder = Octets::Builder;
+
+    type Error = E;
+
+    ghost can_scan = { λ s. IsReady Iter.can_next Iter.remaining s.iter s.ahead };
+
+    ghost next_token = { token_next Iter.next_gives };
+
+    ghost is_spaced = { λ _. false };
+
+    fn has_space(&self) -> bool {
+        false
+    }
+
+    fn continues(&mut self) -> bool {
+        self.peek().is_some()
+    }
+
+    fn scan_symbols<F>(&mut self, op: &mut F) -> Result<(), E>
+    where
+        F: FnMut(Symbol) -> Result<(), E>,
+    {
+        match self.take() {
+            Some(token) => each_symbol::<Symbol, F, E>(token, op),
+            None => Err(E::end_of_entry()),
+        }
+    }
+
+    fn scan_entry_symbols<F>(&mut self, op: &mut F) -> Result<(), E>
+    where
+        F: FnMut(EntrySymbol) -> Result<(), E>,
+    {
+        self.each_token(op)
+    }
+
+    fn convert_token<C: ConvertSymbols<Symbol, E>>(&mut self, convert: C) -> Result<Octets, E> {
+        match self.take() {
+            Some(token) => token_converted::<C, Octets::Builder, E>(token, convert, self.alloc),
+            None => Err(E::end_of_entry()),
+        }
+    }
+
+    fn convert_entry<C: ConvertSymbols<EntrySymbol, E>>(
+        &mut self,
+        convert: C,
+    ) -> Result<Octets, E> {
+        let mut into = Converting {
+            convert,
+            builder: <Octets::Builder as EmptyBuilder>::empty(self.alloc),
+            error: PhantomData,
+        };
+        match self.each_token(&mut into) {
+            Ok(()) => match into.take_tail::<EntrySymbol>() {
+                Ok(()) => Ok(into.builder.freeze()),
+                Err(error) => Err(error),
+            },
+            Err(error) => Err(error),
+        }
+    }
+
+    fn scan_octets(&mut self) -> Result<Octets, E> {
+        match self.take() {
+            Some(token) => token_octets::<Octets::Builder, E>(token, self.alloc),
+            None => Err(E::end_of_entry()),
+        }
+    }
+
+    fn scan_ascii_str<F, T>(&mut self, op: F) -> Result<T, E>
+    where
+        F: FnOnce(&str) -> Result<T, E>,
+    {
+        match self.take() {
+            Some(token) => token_ascii::<Octets::Builder, E, T, F>(token, self.alloc, op),
+            None => Err(E::end_of_entry()),
+        }
+    }
+
+    fn scan_charstr(&mut self) -> Result<CharStr<Octets>, E> {
+        match self.take() {
+            Some(token) => token_charstr::<Octets::Builder, E>(token, self.alloc),
+            None => Err(E::end_of_entry()),
+        }
+    }
+
+    fn scan_string(&mut self) -> Result<Str<Octets>, E> {
+        match self.take() {
+            Some(token) => token_text::<Octets::Builder, E>(token, self.alloc),
+            None => Err(E::end_of_entry()),
+        }
+    }
+
+    fn scan_charstr_entry(&mut self) -> Result<Octets, E> {
+        let mut into = IntoStrings {
+            builder: <Octets::Builder as EmptyBuilder>::empty(self.alloc),
+            alloc: self.alloc,
+            error: PhantomData,
+        };
+        match self.each_token(&mut into) {
+            Ok(()) => Ok(into.builder.freeze()),
+            Err(error) => Err(error),
+        }
+    }
+
+    fn scan_opt_unknown_marker(&mut self) -> Result<bool, E> {
+        match self.peek() {
+            Some(token) => {
+                if token == "\\#" {
+                    let _taken = self.take();
+                    return Ok(true);
+                }
+                Ok(false)
+            }
+            None => Ok(false),
+        }
+    }
+
+    fn octets_builder(&mut self) -> Result<Octets::Builder, E> {
+        Ok(<Octets::Builder as EmptyBuilder>::empty(self.alloc))
+    }
+}

@@ -1,0 +1,25 @@
+//! Tokens and their values, from outside tables.
+use crate::error::StrError;
+use crate::program;
+use crate::scanner::IterScanner;
+use arrayvec::ArrayVec;
+use dns_codec::{base16, base32, base64};
+use dns_scan::{ConvertSymbols, Scan, Scanner, ScannerError};
+use dns_symbol::symbol::{EntrySymbol, Symbol};
+use dns_wire::{AsOctets, ShortBuf, Ttl};
+use std::alloc::{AllocError, Global};
+use std::fmt;
+
+mod numbers;
+mod octets;
+mod programs;
+mod strings;
+mod symbols;
+
+// Whether these octets were scanned, or the refusal has that text.
+fn is_answer<O: AsOctets + Drop>(answer: Result<O, StrError>, want: Result<&[u8], &str>) -> bool {
+    match answer {
+        Ok(octets) => want == Ok(octets.as_slice()),
+        Err(error) => want == Err(error.as_str()),
+    }
+}

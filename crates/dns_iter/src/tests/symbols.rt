@@ -1,0 +1,75 @@
+//! Symbols handed to closures, and the texts of errors.
+use super::*;
+
+// How often a closure is called that refuses its call of that number, and the answer.
+fn calls(alloc: Global, tokens: &[&str], refused: usize, want: Result<(), &str>, count: usize, left: bool) -> bool {
+    let mut scanner: IterScanner<_, Vec<u8>> = IterScanner::new(alloc, tokens.iter().copied());
+    let mut called = 0;
+    let mut op = |_symbol: Symbol| -> Result<(), StrError> {
+        called = usize::saturating_add(called, 1);
+        if called == refused {
+            return Err(StrError::custom("enough"));
+        }
+        Ok(())
+    };
+    let same = match scanner.scan_symbols(&mut op) {
+        Ok(()) => want == Ok(()),
+        Err(error) => want == Err(error.as_str()),
+    };
+    same && called == count && scanner.continues() == left
+}
+
+#[test]
+fn symbols_are_handed_over(rt: HostRuntime) {
+    let alloc = rt.alloc();
+    assert!(rt; calls(alloc, &["ab\\2", "c"], 2, Err("enough"), 2, true));
+    assert!(rt; calls(alloc, &["ab\\2", "c"], 9, Err("unexpected end of input"), 2, true));
+    assert!(rt; calls(alloc, &["ab"], 9, Ok(()), 2, false));
+    assert!(rt; calls(alloc, &[], 9, Err("unexpected end of entry"), 0, false));
+}
+
+// The same of an entry, with the ends of tokens.
+fn entry_calls(alloc: Global, tokens: &[&str], refuses_ends: bool, want: Result<(), &str>, symbols: usize, ends: usize, left: bool) -> bool {
+    let mut scanner: IterScanner<_, Vec<u8>> = IterScanner::new(alloc, tokens.iter().copied());
+    let mut seen = 0;
+    let mut ended = 0;
+    let mut op = |symbol: EntrySymbol| -> Result<(), StrError> {
+        if symbol == EntrySymbol::EndOfToken {
+            ended = usize::saturating_add(ended, 1);
+            if refuses_ends {
+                return Err(StrError::custom("no more"));
+            }
+        } else {
+            seen = usize::saturating_add(seen, 1);
+        }
+        Ok(())
+    };
+    let same = match scanner.scan_entry_symbols(&mut op) {
+        Ok(()) => want == Ok(()),
+        Err(error) => want == Err(error.as_str()),
+    };
+    same && seen == symbols && ended == ends && scanner.continues() == left
+}
+
+#[test]
+fn entries_are_handed_over(rt: HostRuntime) {
+    let alloc = rt.alloc();
+    assert!(rt; entry_calls(alloc, &["ab", ""], false, Ok(()), 2, 2, false));
+    assert!(rt; entry_calls(alloc, &[], false, Ok(()), 0, 0, false));
+    assert!(rt; entry_calls(alloc, &["a", "b"], true, Err("no more"), 1, 1, true));
+    assert!(rt; entry_calls(alloc, &["a\\2", "b"], false, Err("unexpected end of input"), 1, 0, true));
+}
+
+#[test]
+fn errors_have_texts(rt: HostRuntime) {
+    let cases: [(StrError, &str); 5] = [
+        (StrError::custom("any text"), "any text"),
+        (StrError::end_of_entry(), "unexpected end of entry"),
+        (StrError::short_buf(), "short buffer"),
+        (StrError::trailing_tokens(), "trailing data"),
+        (StrError::from(ShortBuf), "short buffer"),
+    ];
+    for (error, text) in cases {
+        assert_eq!(rt; error.as_str(), text);
+    }
+}

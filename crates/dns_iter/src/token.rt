@@ -1,0 +1,157 @@
+//! The symbols of a token.
+ghost use Rattle.std.specs.Prelude.{◌≡◌, ℕ, List, [], min};
+ghost use Rattle.dns_symbol.specs.declared.symbol.SymbolCharsError.{SymbolCharsError};
+ghost use Rattle.dns_symbol.specs.Symbol.{chars_error_text};
+ghost use Rattle.dns_symbol.specs.Text.{as_octets_error};
+ghost use Rattle.std.specs.Fn.{FnOnceReturnsAt};
+ghost use Rattle.dns_scan.specs.Asks.{AsksSymbols, Builds};
+ghost use Rattle.dns_scan.specs.Entries.{AsciiText, Converts, ConvertToken};
+ghost use Rattle.dns_scan.specs.Steps.{GivesStep, octet_given, text_given};
+
+use crate::take::{Converting, IntoOctets, IntoText, OfSymbol, TakeSymbol};
+use dns_charstr::charstr::{CharStr, CharStrBuilder};
+use dns_scan::{ConvertSymbols, ScannerError};
+use dns_symbol::symbol::{Symbol, SymbolOctetsError};
+use dns_wire::{EmptyBuilder, FreezeBuilder, Str};
+use std::marker::PhantomData;
+
+// The text of an error within a token.
+fn escape_text(error: SymbolOctetsError) -> &'static str
+    ensures { (e : SymbolCharsError) → error ≡ as_octets_error e → result.now ≡ chars_error_text e }
+{
+    match error {
+        SymbolOctetsError::ShortInput => "unexpected end of input",
+        _ => "illegal escape sequence",
+    }
+}
+
+/// Hands over each symbol of a token.
+pub(crate) fn each_symbol<Sym: OfSymbol, T: TakeSymbol<Sym, E>, E: ScannerError>(
+    token: &str,
+    take: &mut T,
+) -> Result<(), E>
+    requires { T.can_take take.old }
+    ensures ready { T.can_take take.new }
+    ensures asks { AsksSymbols E.cause (λ f x r g. T.step f (Sym.of x) r g) token.now take.old result take.new }
+{
+    let text = token.as_bytes();
+    let mut pos = 0;
+    loop {
+        match Symbol::from_slice_index(text, pos) {
+            Ok(Some((symbol, next))) => match take.take_symbol(Sym::of_symbol(symbol)) {
+                Ok(()) => pos = next,
+                Err(error) => return Err(error),
+            },
+            Ok(None) => return Ok(()),
+            Err(error) => return Err(E::custom(escape_text(error))),
+        }
+    }
+}
+
+/// The octets of a token's symbols.
+pub(crate) fn token_octets<B: EmptyBuilder + FreezeBuilder + Drop, E: ScannerError>(
+    token: &str,
+    alloc: B::Alloc,
+) -> Result<B::Octets, E>
+    ensures builds { Builds E.cause (GivesStep E.cause B.sure B.most octet_given) B.Octets.octets token.now result }
+{
+    let mut into = IntoOctets {
+        builder: B::empty(alloc),
+        error: PhantomData,
+    };
+    match each_symbol::<Symbol, _, E>(token, &mut into) {
+        Ok(()) => Ok(into.builder.freeze()),
+        Err(error) => Err(error),
+    }
+}
+
+/// The octets of a token's symbols, at most 255.
+pub(crate) fn token_charstr<B: EmptyBuilder + FreezeBuilder + Drop, E: ScannerError>(
+    token: &str,
+    alloc: B::Alloc,
+) -> Result<CharStr<B::Octets>, E>
+    ensures builds { Builds E.cause (GivesStep E.cause (min B.sure 255) (min B.most 255) octet_given) (λ s. s) token.now result }
+{
+    let mut into = IntoOctets {
+        builder: CharStrBuilder::<B>::new(alloc),
+        error: PhantomData,
+    };
+    match each_symbol::<Symbol, _, E>(token, &mut into) {
+        Ok(()) => Ok(into.builder.finish()),
+        Err(error) => Err(error),
+    }
+}
+
+/// The UTF-8 of a token's characters.
+pub(crate) fn token_text<B: EmptyBuilder + FreezeBuilder + Drop, E: ScannerError>(
+    token: &str,
+    alloc: B::Alloc,
+) -> Result<Str<B::Octets>, E>
+where
+    B::Octets: Drop,
+    ensures builds { Builds E.cause (GivesStep E.cause B.sure B.most text_given) (λ s. s) token.now result }
+{
+    let mut into = IntoText {
+        builder: B::empty(alloc),
+        error: PhantomData,
+    };
+    match each_symbol::<Symbol, _, E>(token, &mut into) {
+        Ok(()) => match Str::from_utf8(into.builder.freeze()) {
+            Ok(text) => Ok(text),
+            // Characters in UTF-8 are UTF-8, so this never is.
+            Err(_) => Err(E::custom("bad symbol")),
+        },
+        Err(error) => Err(error),
+    }
+}
+
+/// What `op` answers of a token's text, if that is ASCII.
+pub(crate) fn token_ascii<
+    B: EmptyBuilder + Drop,
+    E: ScannerError,
+    T,
+    F: FnOnce(&str) -> Result<T, E>,
+>(token: &str, alloc: B::Alloc, op: F) -> Result<T, E>
+    requires { F.IsAlwaysCallable op }
+    ensures answers { AsciiText E.cause B.sure B.most (λ s r. FnOnceReturnsAt F.FnOnce op s r) token.now result }
+{
+    let mut into = IntoText {
+        builder: B::empty(alloc),
+        error: PhantomData,
+    };
+    match each_symbol::<Symbol, _, E>(token, &mut into) {
+        Ok(()) => match std::str::from_utf8(into.builder.as_slice()) {
+            Ok(text) => {
+                if !text.is_ascii() {
+                    return Err(E::custom("non-ASCII characters"));
+                }
+                op(text)
+            }
+            // Characters in UTF-8 are UTF-8, so this never is.
+            Err(_) => Err(E::custom("non-ASCII characters")),
+        },
+        Err(error) => Err(error),
+    }
+}
+
+/// A token's symbols through a converter, and its tail.
+pub(crate) fn token_converted<
+    C: ConvertSymbols<Symbol, E>,
+    B: EmptyBuilder + FreezeBuilder + Drop,
+    E: ScannerError,
+>(token: &str, convert: C, alloc: B::Alloc) -> Result<B::Octets, E>
+    ensures converts { Converts E.cause B.sure B.most C.tail B.Octets.octets (λ p a q. ConvertToken E.cause B.sure B.most C.takes p token.now a q) convert result }
+{
+    let mut into = Converting {
+        convert,
+        builder: B::empty(alloc),
+        error: PhantomData,
+    };
+    match each_symbol::<Symbol, _, E>(token, &mut into) {
+        Ok(()) => match into.take_tail::<Symbol>() {
+            Ok(()) => Ok(into.builder.freeze()),
+            Err(error) => Err(error),
+        },
+        Err(error) => Err(error),
+    }
+}
