@@ -1,8 +1,7 @@
 -- Symbols within an entry, and the ends of its tokens.
-use Rattle.std.proofs.Common.{◌≡◌, ℕ, Bool, false, List, [], ◌∷◌, ◌++◌, refl, ap, ◌∙◌, Result, Ok, Err}
+use Rattle.std.proofs.Common.{◌≡◌, ℕ, Bool, List, [], ◌∷◌, ◌++◌, refl, ap, ◌∙◌, Result, Ok, Err}
 use Rattle.std.specs.List.{flat_map}
 use Rattle.dns_symbol.specs.declared.symbol.Symbol.{Symbol as TheSymbol}
-use Rattle.dns_symbol.specs.declared.symbol.EntrySymbol.TheVariants.{Symbol, EndOfToken}
 use Rattle.dns_codec.specs.Base.{Base}
 use Rattle.dns_codec.specs.Converter.{Step, PaddedStep, symbol_step, entry_step, symbol_step64, entry_step64}
 use Rattle.dns_codec.specs.Conversion.{conversion, conversion64, then_answer, in_entry, entry_symbols}

@@ -1,5 +1,5 @@
 -- A stored error stays.
-use Rattle.std.proofs.Common.{◌≡◌, ℕ, ◌+◌, ◌==◌, List, [], ◌∷◌, ◌++◌, length, refl, sym, ap, ◌∙◌, Option, Some, None, IsSome, IsErr, Result, Ok, Err, ◌⊎◌, inl, inr, subst}
+use Rattle.std.proofs.Common.{◌≡◌, ℕ, ◌+◌, ◌==◌, List, [], length, refl, sym, ◌∙◌, Option, Some, None, IsSome, IsErr, Result, Ok, Err, ◌⊎◌, inl, inr}
 use Rattle.std.proofs.lemmas.Bool.{cases_Bool}
 use Rattle.dns_codec.specs.Base.{Base, value}
 use Rattle.dns_codec.specs.Room.{Appends}

@@ -1,25 +1,21 @@
 -- The converter of base 64, beside decoding.
-use Rattle.std.proofs.Common.{◌≡◌, ℕ, suc, ◌+◌, ◌-◌, ◌*◌, ◌/◌, ◌%◌, ◌==◌, ◌<◌, ◌≤◌, max, Bool, true, false, List, [], ◌∷◌, ◌++◌, length, map, refl, sym, ap, ◌∙◌, arith, subst, Option, Some, None, IsSome, Result, Ok, Err, ◌⊎◌, inl, inr, append_assoc, append-nil, length-append}
-use Rattle.std.specs.Prelude.{codes, if◌then◌else◌}
-use Rattle.std.proofs.lemmas.Bool.{cases_Bool, eqb-true, eqb-false}
-use Rattle.dns_symbol.specs.declared.symbol.Symbol.{Symbol as TheSymbol}
+use Rattle.std.proofs.Common.{is_none, ◌≡◌, ℕ, ◌+◌, ◌==◌, ◌<◌, ◌≤◌, true, false, List, [], ◌∷◌, ◌++◌, length, map, refl, sym, arith, Option, Some, None, Ok, Err, ◌⊎◌, inl, inr, append_assoc, append-nil, length-append}
+use Rattle.std.proofs.lemmas.Bool.{cases_Bool}
 use Rattle.dns_symbol.specs.declared.symbol.Symbol.TheVariants.{Char}
 use Rattle.dns_codec.specs.Bits.{whole}
-use Rattle.dns_codec.specs.Base.{Base, base64, value}
-use Rattle.dns_codec.specs.Errors.{or_else}
-use Rattle.dns_codec.specs.Room.{IsRoom, Appends}
-use Rattle.dns_codec.specs.Padded.{PaddedHeld, PaddedMove, MovesParts, padded_move, move_in_group, move_after_half, Ends64, end_error64}
-use Rattle.dns_codec.specs.Outcome.{cause64, first_cause, refusal_of64, Outcome}
-use Rattle.dns_codec.specs.Converter.{PaddedStep, step_of_move, char_step64, symbol_step64, tail64, is_open}
-use Rattle.dns_codec.specs.Conversion.{conversion64, then_answer, Agrees}
+use Rattle.dns_codec.specs.Base.{base64, value}
+use Rattle.dns_codec.specs.Padded.{PaddedHeld, PaddedMove, MovesParts, padded_move, move_in_group, move_after_half, end_error64}
+use Rattle.dns_codec.specs.Outcome.{cause64, first_cause, refusal_of64}
+use Rattle.dns_codec.specs.Converter.{step_of_move, symbol_step64, tail64, is_open}
+use Rattle.dns_codec.specs.Conversion.{conversion64, takes_all64, Agrees}
 use Rattle.dns_codec.specs.declared.base64.DecodeError.{DecodeError}
 use Rattle.dns_codec.specs.declared.base64.DecodeError.TheVariants.{IllegalChar, TrailingInput, ShortInput, ShortBuf}
 use Rattle.dns_codec.specs.declared.base64.Padding.{Padding}
 use Rattle.dns_codec.specs.declared.base64.Padding.TheVariants.{Absent, Half, Done}
 use Rattle.dns_codec.proofs.Appending.{appends_all_of, one_room}
 use Rattle.dns_codec.proofs.Wholes.{length-whole, whole-nil}
-use Rattle.dns_codec.proofs.Causes.{cases_error, cases_value, first_here}
-use Rattle.dns_codec.proofs.PaddedRuns.{Clean64, StateOf, Counts, counts, Refuses64, Next, step}
+use Rattle.dns_codec.proofs.Causes.{first_here}
+use Rattle.dns_codec.proofs.PaddedRuns.{Clean64, counts, Next, step}
 use Rattle.dns_codec.proofs.PaddedEnds.{clean64_no_cause, HeldClean, ends64}
 use Rattle.dns_codec.proofs.PlainConversions.{AgreesAfter, agrees_then, agrees_start}
 
@@ -144,3 +140,53 @@ agrees64 text room le =
       held = omega arith;
     } in
     agrees_start base64 text (refusal_of64 room text) _ (agrees64_from room [] text [] [] Absent start le)
+
+stops64_from : (room : ℕ) (text cs os g : List ℕ) (p : Padding) → Clean64 room room text os g p → length (text ++ cs) + 3 ≤ room
+    → takes_all64 symbol_step64 g p false (map Char cs) ≡ is_none (first_cause (cause64 room) [] (text ++ cs))
+unfolding Next
+stops64_from room text [] os g p at le =
+    let n = counts room room text os g p at in
+    let held = at.held in
+    let none = clean64_no_cause room room room text os g p at (omega arith) in
+    rw (append-nil, none) refl
+stops64_from room text (c ∷ cs) os g p at le =
+    let m : PaddedMove = padded_move g p c in
+    let n = counts room room text os g p at in
+    let held = n.held in
+    let long = n.long in
+    let few = move_few room room text os g p c at in
+    let both = length-append os m.octets in
+    let all = length-append text (c ∷ cs) in
+    let fits : length (os ++ m.octets) ≤ room = omega arith in
+    let moves : MovesParts room room os m (os ++ m.octets) m.group m.padding m.error = record {
+      appends = appends_all_of room room m.octets os m.error fits;
+      group = refl;
+      padding = refl;
+    } in
+    elim (step room room text os g (os ++ m.octets) m.group p m.padding m.error c at moves) [
+      | inl next ↦
+          let later = stops64_from room (text ++ c ∷ []) cs (os ++ m.octets) m.group m.padding next.1 (rw append_assoc le) in
+          rw next.0 (rw append_assoc at later)
+      | inr r ↦
+          let same = one_room room r.room r.is_room in
+          let none = clean64_no_cause room room room text os g p at (omega arith) in
+          let here : cause64 room text c ≡ Some r.error = rw same at r.cause_is in
+          let first = first_here (cause64 room) text cs c r.error none here in
+          let refused = refused_step g p m r.error in
+          rw (r.stored_is, refused.1, first) refl
+    ]
+
+pub stops64 : (text : List ℕ) (room : ℕ) → length text + 3 ≤ room
+    → takes_all64 symbol_step64 [] Absent false (map Char text) ≡ is_none (first_cause (cause64 room) [] text)
+stops64 text room le =
+    let start : Clean64 room room [] [] [] Absent = record {
+      chars = [];
+      front = [];
+      count = 0;
+      spelled = refl;
+      named = tt;
+      octets = sym (whole-nil 6);
+      state = (refl, omega arith, refl);
+      held = omega arith;
+    } in
+    stops64_from room [] text [] [] Absent start le

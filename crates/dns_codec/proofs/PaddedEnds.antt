@@ -1,17 +1,15 @@
 -- Texts of base 64, to their ends.
-use Rattle.std.proofs.Common.{◌≡◌, ℕ, zero, suc, ◌+◌, ◌-◌, ◌*◌, ◌/◌, ◌%◌, ◌==◌, ◌<◌, ◌≤◌, max, Bool, true, false, List, [], ◌∷◌, ◌++◌, length, replicate, refl, sym, ap, ◌∙◌, arith, subst, Option, Some, None, Result, Ok, Err, MatchResult, ◌⊎◌, inl, inr, append_assoc, append-nil, length-append}
-use Rattle.std.specs.Prelude.{if◌then◌else◌}
+use Rattle.std.proofs.Common.{◌≡◌, ℕ, ◌+◌, ◌-◌, ◌*◌, ◌/◌, ◌%◌, ◌==◌, ◌≤◌, max, true, false, List, [], ◌∷◌, ◌++◌, length, replicate, refl, sym, ap, ◌∙◌, arith, Option, Some, None, Result, Ok, Err, MatchResult, ◌⊎◌, inl, inr, append_assoc, append-nil, length-append}
 use Rattle.std.specs.List.{list_any}
-use Rattle.std.proofs.lemmas.Bool.{cases_Bool, cases_lt, eqb-true, eqb-false, eq-eqb, ne_eqb}
+use Rattle.std.proofs.lemmas.Bool.{cases_Bool, eqb-true, eqb-false, eq-eqb, ne_eqb}
 use Rattle.std.proofs.lemmas.List.{nil_from_length}
-use Rattle.dns_codec.specs.Bits.{whole}
-use Rattle.dns_codec.specs.Base.{base64, value}
-use Rattle.dns_codec.specs.Grammar.{Name, Decodes, may_end}
-use Rattle.dns_codec.specs.Errors.{or_else, answer}
+use Rattle.dns_codec.specs.Base.{base64}
+use Rattle.dns_codec.specs.Grammar.{Name, Decodes}
+use Rattle.dns_codec.specs.Errors.{answer}
 use Rattle.dns_codec.specs.Room.{IsRoom}
 use Rattle.dns_codec.specs.Padded.{PaddedHeld, IsNewPadded, PushesFrom, Pushes64, MovesParts, padded_move, Ends64, end_error64}
 use Rattle.dns_codec.specs.Runs.{Runs64}
-use Rattle.dns_codec.specs.Outcome.{want_of, marks, due, cause_marked, cause64, first_cause, stored64, refusal_of64, Outcome, IsPushed, IsRefusedBy, Decoded}
+use Rattle.dns_codec.specs.Outcome.{marks, due, cause64, first_cause, stored64, refusal_of64, IsPushed, IsRefusedBy, Decoded}
 use Rattle.dns_codec.specs.declared.base64.DecodeError.{DecodeError}
 use Rattle.dns_codec.specs.declared.base64.DecodeError.TheVariants.{ShortInput}
 use Rattle.dns_codec.specs.declared.base64.Padding.{Padding}
@@ -19,8 +17,8 @@ use Rattle.dns_codec.specs.declared.base64.Padding.TheVariants.{Absent, Half, Do
 use Rattle.dns_codec.proofs.Wholes.{length-whole, whole-nil, Name-length}
 use Rattle.dns_codec.proofs.Unique.{no_mark64}
 use Rattle.dns_codec.proofs.RoundTrip.{last64}
-use Rattle.dns_codec.proofs.Causes.{cases_error, want_enough, none_more, first_here, first_cause-append}
-use Rattle.dns_codec.proofs.PaddedRuns.{Clean64, StateOf, Counts, counts, Refuses64, Next, step, any_room, chars_no_cause, marks-chars, marks-mark, mark_two, mark_three, mark_marked}
+use Rattle.dns_codec.proofs.Causes.{want_enough, none_more, first_here}
+use Rattle.dns_codec.proofs.PaddedRuns.{Clean64, counts, Next, step, any_room, chars_no_cause, marks-chars, marks-mark, mark_two, mark_three, mark_marked}
 
 -- ---- texts without a cause
 
@@ -137,17 +135,19 @@ HeldClean sure most text h = (h.error ≡ None) × Clean64 sure most text h.octe
 pub clean64_new : (sure most : ℕ) (h : PaddedHeld) → IsNewPadded h → HeldClean sure most [] h
 unfolding HeldClean
 clean64_new sure most h new =
-    let none : length h.octets ≡ 0 = ap length new.0 in
-    (new.3, rw (new.1, new.2) (record {
-      chars = [];
-      front = [];
-      count = 0;
-      spelled = refl;
-      named = tt;
-      octets = new.0 ∙ sym (whole-nil 6);
-      state = (refl, omega arith, refl);
-      held = omega arith;
-    }))
+    let none : length h.octets ≡ 0 = ap length new.0 in (
+      new.3,
+      rw (new.1, new.2) (record {
+        chars = [];
+        front = [];
+        count = 0;
+        spelled = refl;
+        named = tt;
+        octets = new.0 ∙ sym (whole-nil 6);
+        state = (refl, omega arith, refl);
+        held = omega arith;
+      }),
+    )
 
 pub Fails : ℕ → ℕ → List ℕ → PaddedHeld → Type 0
 Fails sure most text k = (e : DecodeError) × (room : ℕ) × (k.error ≡ Some e) × IsRoom sure most room × (first_cause (cause64 room) [] text ≡ Some e)
@@ -205,15 +205,17 @@ end_decodes sure most text os g Absent at good = elim (cases_Bool (length g == 0
       let len = Name-length base64 at.chars at.front named in
       let no_marks : at.count ≡ 0 = at.state.0 in
       let four = at.state.2 in
-      let zero_last : length at.chars % 4 ≡ 0 = omega arith in
-      (omega arith, record {
-        chars = at.chars;
-        pieces = at.front;
-        named = named;
-        count = rw zero_last refl;
-        spelled = rw zero_last (at.spelled ∙ ap (λ m. at.chars ++ replicate m 61) no_marks);
-        value_is = at.octets;
-      })
+      let zero_last : length at.chars % 4 ≡ 0 = omega arith in (
+        omega arith,
+        record {
+          chars = at.chars;
+          pieces = at.front;
+          named = named;
+          count = rw zero_last refl;
+          spelled = rw zero_last (at.spelled ∙ ap (λ m. at.chars ++ replicate m 61) no_marks);
+          value_is = at.octets;
+        },
+      )
   | inr some ↦ let bad = rw some at good in cc bad
 ]
 end_decodes sure most text os g Done at good =
@@ -226,15 +228,17 @@ end_decodes sure most text os g Done at good =
     let some = at.state.1 in
     let most_two = at.state.2 in
     let all = at.state.3 in
-    let fills : (4 - length at.chars % 4) % 4 ≡ at.count = omega arith in
-    (omega arith, record {
-      chars = at.chars;
-      pieces = at.front;
-      named = named;
-      count = last64 (length at.chars % 4) (omega arith) (omega arith);
-      spelled = rw fills at.spelled;
-      value_is = at.octets;
-    })
+    let fills : (4 - length at.chars % 4) % 4 ≡ at.count = omega arith in (
+      omega arith,
+      record {
+        chars = at.chars;
+        pieces = at.front;
+        named = named;
+        count = last64 (length at.chars % 4) (omega arith) (omega arith);
+        spelled = rw fills at.spelled;
+        value_is = at.octets;
+      },
+    )
 
 -- an end that isn't good is within a group
 end_fails : (sure most : ℕ) (text os g : List ℕ) (p : Padding) (e : DecodeError) → Clean64 sure most text os g p → end_error64 None p g ≡ Some e → (Some ShortInput ≡ Some e) × ((length text % 4 == 0) ≡ false)

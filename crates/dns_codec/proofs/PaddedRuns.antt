@@ -1,26 +1,23 @@
 -- Characters pushed to a decoder of base 64.
-use Rattle.std.proofs.Common.{◌≡◌, ℕ, zero, suc, ◌+◌, ◌-◌, ◌*◌, ◌/◌, ◌%◌, ◌^◌, ◌==◌, ◌&&◌, ◌<◌, ◌≤◌, max, nat_lt, nat_le, Bool, true, false, List, [], ◌∷◌, ◌++◌, length, replicate, refl, sym, ap, ◌∙◌, arith, subst, Option, Some, None, is_some, Result, Ok, Err, ◌⊎◌, inl, inr, append_assoc, append-nil, length-append}
-use Rattle.std.specs.List.{AllByRecursion, count_by}
-use Rattle.std.proofs.lemmas.Bool.{cases_Bool, cases_lt, eqb-true, eqb-false, eq-eqb, ne_eqb, lt-leb, le-leb}
-use Rattle.std.proofs.lemmas.List.{nil_from_length, length-replicate}
-use Rattle.std.proofs.Math.Nat.{le-max_left, le-max_right}
+use Rattle.std.proofs.Common.{◌≡◌, ℕ, zero, suc, ◌+◌, ◌-◌, ◌*◌, ◌/◌, ◌%◌, ◌==◌, ◌<◌, ◌≤◌, max, nat_le, false, List, [], ◌∷◌, ◌++◌, length, replicate, refl, sym, ap, ◌∙◌, arith, Option, Some, None, ◌⊎◌, inl, inr, append_assoc, append-nil, length-append}
+use Rattle.std.proofs.lemmas.Bool.{cases_Bool, eqb-true, eqb-false, eq-eqb, ne_eqb, lt-leb}
+use Rattle.std.proofs.lemmas.List.{length-replicate}
+use Rattle.std.proofs.Math.Nat.{le-max_left}
 use Rattle.dns_codec.specs.Bits.{whole}
 use Rattle.dns_codec.specs.Base.{base64, value}
-use Rattle.dns_codec.specs.Grammar.{Name, Decodes, may_end}
+use Rattle.dns_codec.specs.Grammar.{Name}
 use Rattle.dns_codec.specs.Errors.{or_else}
 use Rattle.dns_codec.specs.Room.{IsRoom, Appends}
-use Rattle.dns_codec.specs.Padded.{PaddedHeld, IsNewPadded, MovesParts, padded_move, move_in_group, move_after_half, PushesFrom, Pushes64, Ends64, end_error64}
-use Rattle.dns_codec.specs.Runs.{Runs64}
-use Rattle.dns_codec.specs.Outcome.{want_of, marks, due, cause_plain, cause_marked, cause64, first_cause, refusal_of64, Outcome}
+use Rattle.dns_codec.specs.Padded.{MovesParts, padded_move, move_in_group, move_after_half}
+use Rattle.dns_codec.specs.Outcome.{want_of, marks, due, cause_plain, cause_marked, cause64, first_cause}
 use Rattle.dns_codec.specs.declared.base64.DecodeError.{DecodeError}
-use Rattle.dns_codec.specs.declared.base64.DecodeError.TheVariants.{IllegalChar, TrailingInput, ShortInput, ShortBuf}
+use Rattle.dns_codec.specs.declared.base64.DecodeError.TheVariants.{IllegalChar, TrailingInput, ShortBuf}
 use Rattle.dns_codec.specs.declared.base64.Padding.{Padding}
 use Rattle.dns_codec.specs.declared.base64.Padding.TheVariants.{Absent, Half, Done}
 use Rattle.dns_codec.proofs.Appending.{appends_cases, appends_nothing}
-use Rattle.dns_codec.proofs.Wholes.{length-whole, whole-nil, whole-append, below64, Name-below, Name-push, Name-length, below_front}
+use Rattle.dns_codec.proofs.Wholes.{length-whole, whole-append, below64, Name-below, Name-push, Name-length, below_front}
 use Rattle.dns_codec.proofs.Unique.{no_mark64}
-use Rattle.dns_codec.proofs.RoundTrip.{last64}
-use Rattle.dns_codec.proofs.Causes.{cases_error, cases_value, want_enough, want_short, first_cause-append, none_more, first_here, count_by-append}
+use Rattle.dns_codec.proofs.Causes.{cases_value, want_enough, want_short, count_by-append}
 
 -- ---- how many `=`
 
@@ -162,7 +159,7 @@ refused_short sure most text os new_os ws c n new short le is =
       room = length new_os;
       is_room = short.3;
       holds = short.1;
-      cause_is = elim is [ | inl both ↦ both ∙ rw want refl | inr alone ↦ alone ∙ want ];
+      cause_is = elim is [ inl both ↦ both ∙ rw want refl | inr alone ↦ alone ∙ want ];
     }
 
 -- a group that is closed: its octets follow those of the front
@@ -194,7 +191,9 @@ step_piece sure most text os g new_os new_g new_p new c v is at moves =
           let group : new_g ≡ [] = m.group in
           let padding : new_p ≡ Absent = m.padding in
           elim (appends_cases sure most (whole 6 (g ++ v ∷ [])) os new_os None new m.appends at.held) [
-            | inl all ↦ inl (all.0, rw (group, padding) (record {
+            | inl all ↦ inl (
+              all.0,
+              rw (group, padding) (record {
                 chars = text ++ c ∷ [];
                 front = at.front ++ (g ++ v ∷ []);
                 count = 0;
@@ -203,7 +202,8 @@ step_piece sure most text os g new_os new_g new_p new c v is at moves =
                 octets = all.1 ∙ closed_octets os at.front (g ++ v ∷ []) (text ++ c ∷ []) at.octets four named;
                 state = (refl, omega arith, omega (arith, length-append at.front (g ++ v ∷ [])));
                 held = all.2;
-              }))
+              }),
+            )
             | inr short ↦
                 let place : length text % 4 ≡ 3 = omega arith in
                 let still : marks (text ++ c ∷ []) ≡ 0 = marks-more text c v is ∙ marked in
@@ -220,16 +220,19 @@ step_piece sure most text os g new_os new_g new_p new c v is at moves =
           let group : new_g ≡ g ++ v ∷ [] = m.group in
           let padding : new_p ≡ Absent = m.padding in
           let nothing = appends_nothing sure most os new_os None new m.appends in
-          inl (nothing.0, rw (group, padding) (record {
-            chars = text ++ c ∷ [];
-            front = at.front;
-            count = 0;
-            spelled = sym (append-nil (text ++ c ∷ []));
-            named = named;
-            octets = nothing.1 ∙ at.octets;
-            state = (refl, omega arith, four);
-            held = rw nothing.1 at.held;
-          }))
+          inl (
+            nothing.0,
+            rw (group, padding) (record {
+              chars = text ++ c ∷ [];
+              front = at.front;
+              count = 0;
+              spelled = sym (append-nil (text ++ c ∷ []));
+              named = named;
+              octets = nothing.1 ∙ at.octets;
+              state = (refl, omega arith, four);
+              held = rw nothing.1 at.held;
+            }),
+          )
     ]
 
 -- a character outside the alphabet, in a group without `=`
@@ -257,16 +260,19 @@ step_other sure most text os g new_os new_g new_p new c is at moves =
                 let group : new_g ≡ g = o.group in
                 let padding : new_p ≡ Half = o.padding in
                 let nothing = appends_nothing sure most os new_os None new o.appends in
-                inl (nothing.0, rw (group, padding) (record {
-                  chars = at.chars;
-                  front = at.front;
-                  count = 1;
-                  spelled = one;
-                  named = at.named;
-                  octets = nothing.1 ∙ at.octets;
-                  state = (refl, pair, four);
-                  held = rw nothing.1 at.held;
-                }))
+                inl (
+                  nothing.0,
+                  rw (group, padding) (record {
+                    chars = at.chars;
+                    front = at.front;
+                    count = 1;
+                    spelled = one;
+                    named = at.named;
+                    octets = nothing.1 ∙ at.octets;
+                    state = (refl, pair, four);
+                    held = rw nothing.1 at.held;
+                  }),
+                )
             | inr not_two ↦ elim (cases_Bool (length g == 3)) [
               | inl last ↦
                   let o = rw (not_two, last) at m in
@@ -274,7 +280,9 @@ step_other sure most text os g new_os new_g new_p new c is at moves =
                   let group : new_g ≡ [] = o.group in
                   let padding : new_p ≡ Done = o.padding in
                   elim (appends_cases sure most (whole 6 g) os new_os None new o.appends at.held) [
-                    | inl all ↦ inl (all.0, rw (group, padding) (record {
+                    | inl all ↦ inl (
+                      all.0,
+                      rw (group, padding) (record {
                         chars = at.chars;
                         front = at.front ++ g;
                         count = 1;
@@ -283,7 +291,8 @@ step_other sure most text os g new_os new_g new_p new c is at moves =
                         octets = all.1 ∙ closed_octets os at.front g at.chars at.octets four at.named;
                         state = (refl, omega arith, omega arith, omega (arith, length-append at.front g));
                         held = all.2;
-                      }))
+                      }),
+                    )
                     | inr short ↦
                         let place : length text % 4 ≡ 3 = omega arith in
                         let due_is : due text ≡ length text * 6 / 8 = rw marked (omega arith) in
@@ -351,7 +360,9 @@ step_half sure most text os g new_os new_g new_p new c None is at moves =
           let spelled : text ≡ at.chars ++ 61 ∷ [] = rw one at at.spelled in
           let two : text ++ c ∷ [] ≡ at.chars ++ replicate 2 61 = rw (spelled, equals, append_assoc) refl in
           elim (appends_cases sure most (whole 6 g) os new_os None new m.appends at.held) [
-            | inl all ↦ inl (all.0, rw (group, padding) (record {
+            | inl all ↦ inl (
+              all.0,
+              rw (group, padding) (record {
                 chars = at.chars;
                 front = at.front ++ g;
                 count = 2;
@@ -360,7 +371,8 @@ step_half sure most text os g new_os new_g new_p new c None is at moves =
                 octets = all.1 ∙ closed_octets os at.front g at.chars at.octets four at.named;
                 state = (refl, omega arith, omega arith, omega (arith, length-append at.front g));
                 held = all.2;
-              }))
+              }),
+            )
             | inr short ↦
                 let due_is : due text ≡ (length text - 1) * 6 / 8 = rw marked refl in
                 let held = n.held in

@@ -1,23 +1,22 @@
 -- The end of a text, in base 16 and base32hex.
-use Rattle.std.proofs.Common.{◌≡◌, ℕ, suc, ◌+◌, ◌-◌, ◌*◌, ◌/◌, ◌%◌, ◌==◌, ◌<◌, ◌≤◌, max, Bool, true, false, List, [], ◌∷◌, ◌++◌, length, refl, sym, ap, ◌∙◌, arith, subst, Option, Some, None, Result, Ok, Err, MatchResult, ◌⊎◌, inl, inr, append-nil, length-append}
+use Rattle.std.proofs.Common.{◌≡◌, ℕ, ◌-◌, ◌*◌, ◌/◌, ◌%◌, ◌==◌, ◌<◌, ◌≤◌, max, true, false, List, [], ◌++◌, length, refl, sym, ap, ◌∙◌, arith, subst, Option, Some, None, Result, Ok, Err, MatchResult, inl, inr, append-nil, length-append}
 use Rattle.std.specs.Prelude.{if◌then◌else◌}
 use Rattle.std.specs.List.{list_any}
 use Rattle.std.proofs.lemmas.Bool.{cases_Bool, eqb-true, eqb-false}
 use Rattle.std.proofs.lemmas.List.{nil_from_length}
 use Rattle.dns_codec.specs.Bits.{whole}
-use Rattle.dns_codec.specs.Base.{Base, base16, base32hex}
+use Rattle.dns_codec.specs.Base.{base16, base32hex}
 use Rattle.dns_codec.specs.Grammar.{Decodes, may_end}
-use Rattle.dns_codec.specs.Errors.{or_else}
-use Rattle.dns_codec.specs.Room.{IsRoom, Appends}
-use Rattle.dns_codec.specs.Plain.{Held, IsNew, Ends16, Ends32, end_error32}
+use Rattle.dns_codec.specs.Room.{IsRoom}
+use Rattle.dns_codec.specs.Plain.{Held, IsNew, Ends16, Ends32}
 use Rattle.dns_codec.specs.Runs.{Runs}
-use Rattle.dns_codec.specs.Outcome.{want_of, grouped, cause, legal_count, stored, first_cause, end_cause, refusal_of, pushed_refusal16, pushed_refusal32, Outcome, IsPushed, IsRefusedBy, Decoded}
+use Rattle.dns_codec.specs.Outcome.{want_of, cause, legal_count, stored, first_cause, end_cause, refusal_of, pushed_refusal16, pushed_refusal32, Outcome, IsPushed, Decoded}
 use Rattle.dns_codec.specs.declared.base64.DecodeError.{DecodeError}
-use Rattle.dns_codec.specs.declared.base64.DecodeError.TheVariants.{ShortInput, ShortBuf}
+use Rattle.dns_codec.specs.declared.base64.DecodeError.TheVariants.{ShortInput}
 use Rattle.dns_codec.proofs.Appending.{appends_cases}
 use Rattle.dns_codec.proofs.Wholes.{length-whole, whole-nil, Name-length}
 use Rattle.dns_codec.proofs.Causes.{cases_error, want_enough, want_short}
-use Rattle.dns_codec.proofs.PlainRuns.{IsPlain, plain16, plain32, Clean, Reached, Refuses, clean_octets, clean_no_cause, clean_stored, clean_decodes, any_room, runs_new, decodes_no_cause}
+use Rattle.dns_codec.proofs.PlainRuns.{plain16, plain32, Clean, Reached, clean_octets, clean_no_cause, clean_stored, clean_decodes, any_room, runs_new, decodes_no_cause}
 
 -- ---- base 16
 
@@ -107,8 +106,7 @@ clean_end32 sure most text k (Ok octets) at end =
             let group_size = length-whole 5 k.group in
             let size = ap length all.1 ∙ length-append k.octets (whole 5 k.group) in
             let held = all.2 in
-            let enough : want_of room (length text * 5 / 8) ≡ None = want_enough room (length text * 5 / 8) (omega arith) in
-            (
+            let enough : want_of room (length text * 5 / 8) ≡ None = want_enough room (length text * 5 / 8) (omega arith) in (
               room,
               any_room base32hex plain32 sure most,
               clean_stored base32hex plain32 sure most room text k at at.held,
@@ -129,8 +127,7 @@ clean_end32 sure most text k (Err e) at (inl end) =
       | inl ends ↦ let bad : None ≡ Some e = rw ends at reached in cc bad
       | inr open_last ↦
           let short : Some ShortInput ≡ Some e = rw open_last at reached in
-          let open_end : may_end base32hex (length text) ≡ false = sym same ∙ open_last in
-          (
+          let open_end : may_end base32hex (length text) ≡ false = sym same ∙ open_last in (
             room,
             any_room base32hex plain32 sure most,
             clean_stored base32hex plain32 sure most room text k at at.held,
@@ -155,8 +152,7 @@ clean_end32 sure most text k (Err e) at (inr end) =
             let front_size : length k.octets ≡ length at.front * 5 / 8 = ap length at.octets ∙ length-whole 5 at.front in
             let group_size = length-whole 5 k.group in
             let low = short.1 in
-            let high = short.2 in
-            (
+            let high = short.2 in (
               room,
               short.3,
               clean_stored base32hex plain32 sure most room text k at low,

@@ -1,23 +1,22 @@
 -- Characters pushed to a decoder without padding.
-use Rattle.std.proofs.Common.{◌≡◌, ℕ, suc, ◌+◌, ◌-◌, ◌*◌, ◌/◌, ◌%◌, ◌^◌, ◌==◌, ◌<◌, ◌≤◌, max, nat_lt, Bool, true, false, List, [], ◌∷◌, ◌++◌, length, reverse, replicate, refl, sym, ap, ◌∙◌, arith, Option, Some, None, is_none, is_some, Result, Ok, Err, ◌⊎◌, inl, inr, append_assoc, append-nil, length-append, eq-eqb, subst}
-use Rattle.std.specs.List.{AllByRecursion, find, count_by}
-use Rattle.std.proofs.lemmas.Bool.{cases_Bool, eqb-true, eqb-false, ne_eqb}
-use Rattle.std.proofs.lemmas.List.{nil_from_length, reverse-append}
-use Rattle.std.proofs.lemmas.Nat.{mod_below}
+use Rattle.std.proofs.Common.{◌≡◌, ℕ, suc, ◌+◌, ◌-◌, ◌*◌, ◌/◌, ◌%◌, ◌^◌, ◌==◌, ◌<◌, ◌≤◌, max, true, false, List, [], ◌∷◌, ◌++◌, length, reverse, refl, sym, ap, ◌∙◌, arith, Option, Some, None, is_none, is_some, Result, Ok, Err, ◌⊎◌, inl, inr, append_assoc, append-nil, length-append, subst}
+use Rattle.std.specs.List.{find}
+use Rattle.std.proofs.lemmas.Bool.{cases_Bool, eqb-true, eqb-false}
+use Rattle.std.proofs.lemmas.List.{reverse-append}
 use Rattle.std.proofs.Math.Nat.{le-max_left, le-max_right}
 use Rattle.dns_codec.specs.Bits.{whole}
 use Rattle.dns_codec.specs.Base.{Base, base16, base32hex, value}
 use Rattle.dns_codec.specs.Grammar.{Name, Decodes, may_end}
-use Rattle.dns_codec.specs.Errors.{or_else, answer}
+use Rattle.dns_codec.specs.Errors.{answer}
 use Rattle.dns_codec.specs.Room.{IsRoom, Appends}
-use Rattle.dns_codec.specs.Plain.{Held, IsNew, Moves, move_by, Pushes, Ends16, Ends32, end_error32}
+use Rattle.dns_codec.specs.Plain.{Held, IsNew, Moves, move_by, Pushes}
 use Rattle.dns_codec.specs.Runs.{Runs}
 use Rattle.dns_codec.specs.Outcome.{want_of, grouped, cause, last_illegal, legal_count, stored_by, stored, first_cause, end_cause, refusal_of, IsRefusedBy}
 use Rattle.dns_codec.specs.declared.base64.DecodeError.{DecodeError}
-use Rattle.dns_codec.specs.declared.base64.DecodeError.TheVariants.{IllegalChar, ShortInput, ShortBuf}
+use Rattle.dns_codec.specs.declared.base64.DecodeError.TheVariants.{IllegalChar, ShortBuf}
 use Rattle.dns_codec.proofs.Appending.{appends_cases, appends_nothing}
 use Rattle.dns_codec.proofs.Wholes.{length-whole, whole-nil, whole-append, below16, below32, Name-below, Name-push, Name-length, below_front}
-use Rattle.dns_codec.proofs.Causes.{cases_error, cases_value, want_enough, want_short, want_more, first_cause-append, none_more, first_here, find_last, find_before, find_none_append, count_by-append}
+use Rattle.dns_codec.proofs.Causes.{cases_error, want_enough, want_short, want_more, first_here, find_last, find_before, find_none_append, count_by-append}
 
 -- what the counts of an encoding without padding have in common
 pub record IsPlain (b : Base) : Type 0 where
@@ -307,12 +306,12 @@ module _ (b : Base) (plain : IsPlain b) where
         | inl none ↦ elim (clean_push sure most text h c j (at.clean none) push) [
           | inl next ↦ clean_reached sure most (text ++ c ∷ []) j count next
           | inr r ↦ record {
-              count = count;
-              room = r.room;
-              is_room = r.is_room;
-              stored_is = r.stored_is ∙ sym (refuses_stored sure most text h c j (value b c) refl (at.clean none) r);
-              clean = λ none. let bad : Some r.error ≡ None = sym r.stored_is ∙ none in cc bad;
-            }
+            count = count;
+            room = r.room;
+            is_room = r.is_room;
+            stored_is = r.stored_is ∙ sym (refuses_stored sure most text h c j (value b c) refl (at.clean none) r);
+            clean = λ none. let bad : Some r.error ≡ None = sym r.stored_is ∙ none in cc bad;
+          }
         ]
         | inr some ↦
             let kept = stays sure most at.room text h c (value b c) j some.0 refl (sym at.stored_is ∙ some.1)
@@ -363,8 +362,7 @@ module _ (b : Base) (plain : IsPlain b) where
       let size : length octets ≡ length text * b.width / 8 = ap length d.value_is ∙ (length-whole b.width d.pieces ∙ ap (λ n. n * b.width / 8) (sym len)) in
       let fits : grouped b (length text) ≤ room = let low = plain.grouped_below (length text) in omega arith in
       let z : 0 + length text ≡ length text = omega arith in
-      let ends : may_end b (length text) ≡ true = rw (← spelled) at d.count in
-      (
+      let ends : may_end b (length text) ≡ true = rw (← spelled) at d.count in (
         legal_no_cause room [] text d.pieces named (rw z fits),
         legal_stored room text d.pieces named fits,
         rw ends (want_enough room (length text * b.width / 8) (omega arith)),

@@ -1,5 +1,5 @@
 -- Characters put into a text, one after another.
-use Rattle.std.proofs.Common.{◌≡◌, ℕ, zero, suc, ◌+◌, ◌-◌, ◌*◌, ◌/◌, ◌%◌, ◌^◌, ◌<◌, ◌≤◌, min, inl, inr, List, [], ◌∷◌, ◌++◌, length, take, map, get_or, refl, sym, ap, ◌∙◌, arith, append_assoc, append-nil, length-append, add-one, bit_and, bit_or, slice_index, slice_index_or, slice_set}
+use Rattle.std.proofs.Common.{◌≡◌, ℕ, zero, suc, ◌+◌, ◌-◌, ◌*◌, ◌/◌, ◌%◌, ◌^◌, ◌<◌, ◌≤◌, min, inl, inr, List, [], ◌∷◌, ◌++◌, length, take, map, get_or, refl, sym, ap, ◌∙◌, arith, append_assoc, append-nil, length-append, add-one, bit_and, slice_index, slice_set}
 use Rattle.std.specs.Str.{IsAscii}
 use Rattle.std.specs.Int.{div_ceil}
 use Rattle.std.proofs.lemmas.Nat.{and_mask, shr-shr, shl_whole, mod_below}
@@ -8,8 +8,6 @@ use Rattle.std.proofs.Math.ListN.{get_or-append, get_or-eq_default}
 use Rattle.std.proofs.lemmas.Bool.{cases_lt}
 use Rattle.std.proofs.lemmas.List.{take_more_set, map-append, nil_from_length}
 use Rattle.dns_codec.specs.Bits.{digits, pieces}
-use Rattle.dns_codec.proofs.BitLemmas.{length-digits}
-use Rattle.dns_codec.proofs.Registers.{register-digits, register-fits}
 use Rattle.dns_codec.proofs.Encoding.{pieces-of-octets, pieces-append, pieces-nil, mod_front}
 
 pub put_step : (w count place number at mask : ℕ) (names first text : List ℕ) → place < count → mask ≡ 2 ^ w - 1 → at + place < length text

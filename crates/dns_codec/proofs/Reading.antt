@@ -1,9 +1,8 @@
 -- Characters of a text, one after another.
-use Rattle.std.proofs.Common.{◌≡◌, ℕ, suc, ◌+◌, ◌<◌, ◌≤◌, List, [], ◌∷◌, ◌++◌, length, take, drop, map, get_or, refl, sym, ap, ◌∙◌, arith, Option, Some, None, add-one, drop-cons, Result, Ok, Err, IsOk, IfOk, IfErr, MatchResult}
+use Rattle.std.proofs.Common.{◌≡◌, ℕ, suc, ◌<◌, ◌≤◌, List, [], ◌∷◌, ◌++◌, length, take, drop, map, get_or, refl, sym, ap, ◌∙◌, arith, Option, Some, None, drop-cons, Result, Ok, Err, IsOk, IfOk, IfErr, MatchResult}
 use Rattle.std.proofs.lemmas.List.{take-append-drop}
 use Rattle.dns_codec.specs.Base.{Base}
 use Rattle.dns_codec.specs.Grammar.{Decodes}
-use Rattle.dns_codec.specs.Room.{IsRoom}
 use Rattle.dns_codec.specs.Outcome.{IsRefusedBy, Decoded}
 use Rattle.dns_codec.specs.declared.base64.DecodeError.{DecodeError}
 

@@ -1,5 +1,5 @@
 -- Encoded texts: how they begin, end, and are written.
-use Rattle.std.proofs.Common.{◌≡◌, ℕ, zero, suc, ◌+◌, ◌-◌, ◌*◌, ◌/◌, ◌%◌, ◌<◌, ◌≤◌, nat_lt, Bool, true, inl, inr, List, [], ◌∷◌, ◌++◌, length, map, replicate, refl, sym, ap, ◌∙◌, arith, subst, append-nil, slice_index, get_or, Result, Ok, Err, IsOk, OnOk, String}
+use Rattle.std.proofs.Common.{◌≡◌, ℕ, ◌-◌, ◌%◌, ◌≤◌, nat_lt, true, inl, inr, List, [], ◌∷◌, ◌++◌, length, map, replicate, refl, ◌∙◌, arith, subst, append-nil, slice_index, get_or, Result, Ok, Err, IsOk, OnOk, String}
 use Rattle.std.specs.List.{FoldsTo, concat}
 use Rattle.std.specs.Str.{IsAscii}
 use Rattle.std.specs.String.{string_bytes}
@@ -10,7 +10,7 @@ use Rattle.std.proofs.Output.{writes_in_calls_nil, writes_in_calls_single, write
 use Rattle.std.proofs.Math.ListN.{get_or-eq_default}
 use Rattle.std.proofs.lemmas.Bool.{cases_lt, ltb-true}
 use Rattle.std.proofs.lemmas.List.{length-map}
-use Rattle.dns_codec.specs.Bits.{joined, cut, filled, pieces}
+use Rattle.dns_codec.specs.Bits.{pieces}
 use Rattle.dns_codec.specs.Base.{Base, base16, base32hex, base64, name, padded, encoded}
 use Rattle.dns_codec.proofs.Alphabets.{all_below, all_below_at}
 use Rattle.dns_codec.proofs.Wholes.{length-pieces}

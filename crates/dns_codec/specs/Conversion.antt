@@ -1,5 +1,5 @@
 -- What a converter makes of a list of symbols.
-use Rattle.std.specs.Prelude.{◌≡◌, ℕ, Bool, List, [], ◌∷◌, ◌++◌, Option, None, IsSome, Result, Ok, Err, map}
+use Rattle.std.specs.Prelude.{◌≡◌, ℕ, Bool, true, ◌&&◌, is_ok, List, [], ◌∷◌, ◌++◌, Option, None, IsSome, Result, Ok, Err}
 use Rattle.dns_symbol.specs.declared.symbol.Symbol.{Symbol as TheSymbol}
 use Rattle.dns_symbol.specs.declared.symbol.EntrySymbol.{EntrySymbol}
 use Rattle.dns_symbol.specs.declared.symbol.EntrySymbol.TheVariants.{Symbol, EndOfToken}
@@ -25,6 +25,17 @@ abbrev pub conversion64 : {S : Type 0} → (List ℕ → Padding → Bool → S 
 conversion64 step g p spoiled [] = (tail64 g p spoiled).answer
 conversion64 step g p spoiled (s ∷ ss) =
     then_answer (step g p spoiled s).answer (conversion64 step (step g p spoiled s).group (step g p spoiled s).padding (step g p spoiled s).spoiled ss)
+
+-- no symbol of the list is refused
+abbrev pub takes_all : {S : Type 0} → (List ℕ → S → Step) → List ℕ → List S → Bool
+takes_all step g [] = true
+takes_all step g (s ∷ ss) = is_ok (step g s).answer && takes_all step (step g s).group ss
+
+-- the same in base 64
+abbrev pub takes_all64 : {S : Type 0} → (List ℕ → Padding → Bool → S → PaddedStep) → List ℕ → Padding → Bool → List S → Bool
+takes_all64 step g p spoiled [] = true
+takes_all64 step g p spoiled (s ∷ ss) =
+    is_ok (step g p spoiled s).answer && takes_all64 step (step g p spoiled s).group (step g p spoiled s).padding (step g p spoiled s).spoiled ss
 
 -- a token's symbols in an entry, with the end of the token
 abbrev pub in_entry : List TheSymbol → List EntrySymbol

@@ -7,11 +7,11 @@ use Rattle.dns_symbol.specs.declared.symbol.EntrySymbol.TheVariants.{Symbol, End
 use Rattle.dns_scan.specs.Cause.{Cause}
 use Rattle.dns_scan.specs.Convert.{IsAnswer}
 use Rattle.dns_codec.specs.Bits.{whole}
-use Rattle.dns_codec.specs.Base.{Base, base16, base32hex, base64, value}
+use Rattle.dns_codec.specs.Base.{Base, base32hex, value}
 use Rattle.dns_codec.specs.Grammar.{may_end}
 use Rattle.dns_codec.specs.Padded.{PaddedMove, padded_move}
 use Rattle.dns_codec.specs.declared.base64.DecodeError.{DecodeError}
-use Rattle.dns_codec.specs.declared.base64.DecodeError.TheVariants.{IllegalChar, TrailingInput, ShortInput, ShortBuf}
+use Rattle.dns_codec.specs.declared.base64.DecodeError.TheVariants.{TrailingInput}
 use Rattle.dns_codec.specs.declared.base64.Padding.{Padding}
 use Rattle.dns_codec.specs.declared.base64.Padding.TheVariants.{Absent, Half, Done}
 

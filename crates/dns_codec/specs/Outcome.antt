@@ -1,6 +1,6 @@
 -- What becomes of a text, as a function of the text and of the octets that there is room for. It looks at the text
 -- alone: nothing here speaks of groups that are open, of padding that was seen or of errors that are stored.
-use Rattle.std.specs.Prelude.{◌≡◌, ℕ, ◌+◌, ◌-◌, ◌*◌, ◌/◌, ◌%◌, ◌==◌, ◌&&◌, Bool, true, false, nat_lt, nat_le, if◌then◌else◌, is_some, is_none, not, List, [], ◌∷◌, ◌++◌, length, reverse, find, count_by, Option, Some, None, Result, Ok, Err}
+use Rattle.std.specs.Prelude.{◌≡◌, ℕ, ◌+◌, ◌-◌, ◌*◌, ◌/◌, ◌%◌, ◌==◌, ◌&&◌, nat_lt, nat_le, if◌then◌else◌, is_some, is_none, List, [], ◌∷◌, ◌++◌, length, reverse, find, count_by, Option, Some, None, Result, Ok, Err}
 use Rattle.dns_codec.specs.Base.{Base, base16, base32hex, base64, value}
 use Rattle.dns_codec.specs.Grammar.{Decodes, may_end}
 use Rattle.dns_codec.specs.Errors.{or_else}

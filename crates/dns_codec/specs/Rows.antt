@@ -1,5 +1,5 @@
 -- Worked examples of the definitions, computed.
-use Rattle.std.specs.Prelude.{◌≡◌, ℕ, List, [], ◌∷◌, codes, Option, Some, None, refl}
+use Rattle.std.specs.Prelude.{◌≡◌, [], ◌∷◌, codes, Some, None, refl}
 use Rattle.dns_codec.specs.Bits.{bits, joined, cut, filled, pieces, whole}
 use Rattle.dns_codec.specs.Base.{base16, base32hex, base64, name, value, padded, encoded}
 use Rattle.dns_codec.specs.Outcome.{refusal_of, refusal_of64, pushed_refusal16, pushed_refusal32}

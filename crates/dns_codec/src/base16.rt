@@ -124,14 +124,14 @@ pub struct Decoder<B: OctetsBuilder + Drop> {
 impl<B: OctetsBuilder + Drop> Model for Decoder<B> {
     ghost use Rattle.std.specs.Prelude.{◌<◌, length};
     ghost use Rattle.dns_wire.specs.Octets.{greatest_length};
-ghost use Rattle.dns_codec.specs.Plain.{Held};
+    ghost use Rattle.dns_codec.specs.Plain.{Held};
 
     ghost Value = { Held };
 
     ghost view = { λ s. record {
-        octets = B.octets s.builder;
-        group = s.group;
-        error = s.error;
+      octets = B.octets s.builder;
+      group = s.group;
+      error = s.error;
     } };
 
     ghost invariant = { λ s. length s.group < 2 };
@@ -169,7 +169,13 @@ impl<B: OctetsBuilder + Drop> Decoder<B> {
         ensures pushes { Pushes base16 B.sure B.most self.old c self.new }
         ensures answers { result ≡ answer self.new.error }
     {
-        self.error = take::<B, 4, 2>(&mut self.builder, &mut self.group, self.error, c, value_of(c));
+        self.error = take::<B, 4, 2>(
+            &mut self.builder,
+            &mut self.group,
+            self.error,
+            c,
+            value_of(c),
+        );
         match self.error {
             Some(error) => Err(error),
             None => Ok(()),
@@ -236,7 +242,8 @@ impl SymbolConverter {
     fn take<E: ScannerError>(&mut self, symbol: Symbol) -> Result<(), E>
         ensures { Makes E.cause (symbol_step base16 (codes "expected hex digits") self.old.group symbol) (handed result self.new.lends) self.new }
     {
-        self.pieces.take::<E, 2>(piece_of(symbol), "expected hex digits")
+        self.pieces
+            .take::<E, 2>(piece_of(symbol), "expected hex digits")
     }
 
     // Takes the end of the symbols.

@@ -81,7 +81,8 @@ pub fn display_hex<W: fmt::Write>(bytes: &[u8], f: &mut W) -> fmt::Result
 pub fn encode_string_hex(alloc: Global, bytes: &[u8]) -> Result<String, ShortBuf>
     ensures { IfOk result (λ text. string_bytes text ≡ encoded base32hex bytes.now) }
 {
-    let Ok(mut text) = String::with_capacity(alloc, bytes.len().div_ceil(5).saturating_mul(8)) else {
+    let Ok(mut text) = String::with_capacity(alloc, bytes.len().div_ceil(5).saturating_mul(8))
+    else {
         return Err(ShortBuf);
     };
     match display_hex(bytes, &mut text) {
@@ -129,9 +130,9 @@ impl<B: OctetsBuilder + Drop> Model for Decoder<B> {
     ghost Value = { Held };
 
     ghost view = { λ s. record {
-        octets = B.octets s.builder;
-        group = s.group;
-        error = s.error;
+      octets = B.octets s.builder;
+      group = s.group;
+      error = s.error;
     } };
 
     ghost invariant = { λ s. length s.group < 8 };
@@ -160,7 +161,13 @@ impl<B: OctetsBuilder + Drop> Decoder<B> {
         ensures pushes { Pushes base32hex B.sure B.most self.old c self.new }
         ensures answers { result ≡ answer self.new.error }
     {
-        self.error = take::<B, 5, 8>(&mut self.builder, &mut self.group, self.error, c, value_of(c));
+        self.error = take::<B, 5, 8>(
+            &mut self.builder,
+            &mut self.group,
+            self.error,
+            c,
+            value_of(c),
+        );
         match self.error {
             Some(error) => Err(error),
             None => Ok(()),
@@ -233,7 +240,8 @@ impl SymbolConverter {
     fn take<E: ScannerError>(&mut self, symbol: Symbol) -> Result<(), E>
         ensures { Makes E.cause (symbol_step base32hex (codes "illegal Base 32 data") self.old.group symbol) (handed result self.new.lends) self.new }
     {
-        self.pieces.take::<E, 8>(piece_of(symbol), "illegal Base 32 data")
+        self.pieces
+            .take::<E, 8>(piece_of(symbol), "illegal Base 32 data")
     }
 
     // Takes the end of the symbols.

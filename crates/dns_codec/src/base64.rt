@@ -138,7 +138,8 @@ fn padding_of(bytes: &[u8]) -> &'static str
 pub fn encode_string(alloc: Global, bytes: &[u8]) -> Result<String, ShortBuf>
     ensures { IfOk result (λ text. string_bytes text ≡ encoded base64 bytes.now) }
 {
-    let Ok(mut text) = String::with_capacity(alloc, bytes.len().div_ceil(3).saturating_mul(4)) else {
+    let Ok(mut text) = String::with_capacity(alloc, bytes.len().div_ceil(3).saturating_mul(4))
+    else {
         return Err(ShortBuf);
     };
     match display(bytes, &mut text) {
@@ -188,10 +189,10 @@ impl<B: OctetsBuilder + Drop> Model for Decoder<B> {
     ghost Value = { PaddedHeld };
 
     ghost view = { λ s. record {
-        octets = B.octets s.builder;
-        group = s.group;
-        padding = s.padding;
-        error = s.error;
+      octets = B.octets s.builder;
+      group = s.group;
+      padding = s.padding;
+      error = s.error;
     } };
 
     ghost invariant = { λ s. (length s.group < 4) × (s.padding ≡ Half → length s.group ≡ 2) };
@@ -387,10 +388,10 @@ impl Model for SymbolConverter {
     ghost Value = { PaddedHolding };
 
     ghost view = { λ s. record {
-        group = s.pieces.group;
-        padding = s.padding;
-        spoiled = s.spoiled;
-        lends = s.pieces.lends;
+      group = s.pieces.group;
+      padding = s.padding;
+      spoiled = s.spoiled;
+      lends = s.pieces.lends;
     } };
 
     ghost invariant = { λ s. (length s.pieces.group < 4) × (s.padding ≡ Half → length s.pieces.group ≡ 2) };

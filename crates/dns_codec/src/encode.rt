@@ -4,8 +4,7 @@ ghost use Rattle.std.specs.Fmt.{WritesInCalls};
 ghost use Rattle.std.specs.Str.{IsAscii, IsUtf8};
 ghost use Rattle.dns_codec.specs.Bits.{digits, pieces};
 
-use std::fmt;
-use std::str;
+use std::{fmt, str};
 
 // How many octets are turned into text at a time: whole characters in each encoding.
 const BLOCK: usize = 240;
@@ -108,13 +107,7 @@ fn number_of(octets: &[u8]) -> u64
 
 // Puts the characters of the lowest `count` pieces of a number into the text at a place.
 #[inline(always)]
-fn put_pieces<const WIDTH: u32>(
-    names: &[u8],
-    number: u64,
-    count: u32,
-    text: &mut [u8],
-    at: usize,
-)
+fn put_pieces<const WIDTH: u32>(names: &[u8], number: u64, count: u32, text: &mut [u8], at: usize)
     requires names { length names.now ≡ 2 ^ WIDTH }
     requires wide { WIDTH ≤ 6 }
     requires count { count ≤ 10 }

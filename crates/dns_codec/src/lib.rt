@@ -7,15 +7,14 @@
 //! [`laws`] has what holds of printing and reading together.
 #![tactic(auto)]
 
+mod append;
 pub mod base16;
 pub mod base32;
 pub mod base64;
-pub mod laws;
-
-mod append;
 mod convert;
 mod encode;
 mod group;
+pub mod laws;
 mod register;
 #[cfg(test)]
 mod tests;

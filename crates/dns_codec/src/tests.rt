@@ -27,7 +27,10 @@ fn vectors_are_printed(rt: HostRuntime) -> Result<(), Fail> {
     let alloc = rt.alloc();
     for (octets, hex, base32hex, base64_text) in VECTORS {
         assert_eq!(rt; base16::encode_string(alloc, octets)?.as_str(), hex);
-        assert_eq!(rt; base32::encode_string_hex(alloc, octets)?.as_str(), base32hex);
+        assert_eq!(rt;
+            base32::encode_string_hex(alloc, octets)?.as_str(),
+            base32hex
+        );
         assert_eq!(rt; base64::encode_string(alloc, octets)?.as_str(), base64_text);
         let shown = format!(in alloc; "{}", base16::encode_display(octets))?;
         assert_eq!(rt; shown.as_str(), hex);
@@ -44,11 +47,23 @@ fn vectors_are_read(rt: HostRuntime) -> Result<(), Fail> {
     let alloc = rt.alloc();
     for (octets, hex, base32hex, base64_text) in VECTORS {
         assert_eq!(rt; base16::decode_vec(alloc, hex)?.as_slice(), octets);
-        assert_eq!(rt; base32::decode_hex::<Vec<u8>>(alloc, base32hex)?.as_slice(), octets);
+        assert_eq!(rt;
+            base32::decode_hex::<Vec<u8>>(alloc, base32hex)?.as_slice(),
+            octets
+        );
         let lower = base32hex.to_ascii_lowercase(alloc)?;
-        assert_eq!(rt; base32::decode_hex::<Vec<u8>>(alloc, lower.as_str())?.as_slice(), octets);
-        assert_eq!(rt; base64::decode::<Vec<u8>>(alloc, base64_text)?.as_slice(), octets);
-        assert_eq!(rt; base16::decode::<ArrayVec<u8, 6>>((), hex)?.as_slice(), octets);
+        assert_eq!(rt;
+            base32::decode_hex::<Vec<u8>>(alloc, lower.as_str())?.as_slice(),
+            octets
+        );
+        assert_eq!(rt;
+            base64::decode::<Vec<u8>>(alloc, base64_text)?.as_slice(),
+            octets
+        );
+        assert_eq!(rt;
+            base16::decode::<ArrayVec<u8, 6>>((), hex)?.as_slice(),
+            octets
+        );
     }
     Ok(())
 }
@@ -127,9 +142,21 @@ fn errors_are_kept(rt: HostRuntime) {
     let trailing = Some(DecodeError::TrailingInput);
 
     let hex: [(&str, Answers); 3] = [
-        ("xF", ([illegal('x'), illegal('x'), None], Err(DecodeError::ShortInput))),
+        (
+            "xF",
+            (
+                [illegal('x'), illegal('x'), None],
+                Err(DecodeError::ShortInput),
+            ),
+        ),
         ("F0A", ([None, short, short], Err(DecodeError::ShortInput))),
-        ("F0x", ([None, short, illegal('x')], Err(DecodeError::IllegalChar('x')))),
+        (
+            "F0x",
+            (
+                [None, short, illegal('x')],
+                Err(DecodeError::IllegalChar('x')),
+            ),
+        ),
     ];
     for (text, (answers, end)) in hex {
         let mut decoder: base16::Decoder<ArrayVec<u8, 0>> = base16::Decoder::default();
@@ -188,7 +215,10 @@ fn errors_have_texts(rt: HostRuntime) -> Result<(), Fail> {
         (DecodeError::IllegalChar('é'), "illegal character 'é'"),
         (DecodeError::TrailingInput, "trailing input"),
         (DecodeError::ShortInput, "incomplete input"),
-        (DecodeError::from(dns_wire::ShortBuf), "buffer size exceeded"),
+        (
+            DecodeError::from(dns_wire::ShortBuf),
+            "buffer size exceeded",
+        ),
     ];
     for (error, text) in rows {
         assert_eq!(rt; format!(in rt.alloc(); "{error}")?.as_str(), text);
@@ -268,7 +298,10 @@ fn converters_make_octets(rt: HostRuntime) -> Result<(), Fail> {
                 32 => converted(base32::SymbolConverter::default(), symbols.as_slice()),
                 _ => converted(base64::SymbolConverter::new(), symbols.as_slice()),
             };
-            assert!(rt; matches!(&made, Ok(made) if made.as_slice() == octets), "{text}");
+            assert!(rt;
+                matches!(&made, Ok(made) if made.as_slice() == octets),
+                "{text}"
+            );
         }
     }
     Ok(())
@@ -284,7 +317,10 @@ fn converters_refuse(rt: HostRuntime) {
         (&[plain('F'), end, plain('0'), end], Ok(b"\xf0")),
         (&[simple(b'F'), plain('0')], Ok(b"\xf0")),
         (&[plain('F'), end], Err("uneven number of hex digits")),
-        (&[EntrySymbol::Symbol(Symbol::DecimalEscape(70)), plain('0')], Err("expected hex digits")),
+        (
+            &[EntrySymbol::Symbol(Symbol::DecimalEscape(70)), plain('0')],
+            Err("expected hex digits"),
+        ),
     ];
     for (symbols, wanted) in rows {
         let made = converted(base16::SymbolConverter::new(), symbols);
@@ -302,12 +338,27 @@ fn converters_refuse(rt: HostRuntime) {
     }
 
     let rows: [(&[EntrySymbol], Result<&[u8], &'static str>); 6] = [
-        (&[plain('Z'), plain('g'), end, plain('='), plain('='), end], Ok(b"f")),
-        (&[plain('Z'), plain('h'), plain('='), plain('='), end], Ok(b"f")),
-        (&[plain('Z'), plain('g'), end], Err("incomplete Base 64 data")),
+        (
+            &[plain('Z'), plain('g'), end, plain('='), plain('='), end],
+            Ok(b"f"),
+        ),
+        (
+            &[plain('Z'), plain('h'), plain('='), plain('='), end],
+            Ok(b"f"),
+        ),
+        (
+            &[plain('Z'), plain('g'), end],
+            Err("incomplete Base 64 data"),
+        ),
         (&[plain('Z'), plain('='), end], Err("illegal Base 64 data")),
-        (&[plain('Z'), plain('g'), plain('='), plain('a')], Err("illegal Base 64 data")),
-        (&[plain('Z'), plain('g'), plain('='), plain('='), plain('!')], Err("trailing Base 64 data")),
+        (
+            &[plain('Z'), plain('g'), plain('='), plain('a')],
+            Err("illegal Base 64 data"),
+        ),
+        (
+            &[plain('Z'), plain('g'), plain('='), plain('='), plain('!')],
+            Err("trailing Base 64 data"),
+        ),
     ];
     for (symbols, wanted) in rows {
         let made = converted(base64::SymbolConverter::default(), symbols);
@@ -348,7 +399,9 @@ fn converters_go_on(rt: HostRuntime) {
         assert!(rt; spoiled.process_symbol(plain(c)) == Ok::<_, Refusal>(None));
     }
     for c in "a=Zg".chars() {
-        assert!(rt; spoiled.process_symbol(plain(c)) == Err(Refusal::Custom("illegal Base 64 data")));
+        assert!(rt;
+            spoiled.process_symbol(plain(c)) == Err(Refusal::Custom("illegal Base 64 data"))
+        );
     }
     assert!(rt; spoiled.process_symbol(EntrySymbol::EndOfToken) == Ok::<_, Refusal>(None));
     let tail = ConvertSymbols::<EntrySymbol, Refusal>::process_tail(&mut spoiled);

@@ -3,7 +3,6 @@ use Rattle.std.proofs.Common.{ℕ, ◌≡◌, List, [], ◌∷◌, ◌++◌, ref
 use Rattle.std.specs.Prelude.{IsErr, IsOkAnd, MatchResult}
 use Rattle.dns_symbol.specs.declared.symbol.Symbol.{Symbol}
 use Rattle.dns_symbol.specs.declared.symbol.SymbolCharsError.{SymbolCharsError}
-use Rattle.dns_symbol.specs.Symbol.{chars_error_text}
 use Rattle.std.proofs.Common.{codes, false}
 use Rattle.dns_codec.specs.Base.{base16, base32hex}
 use Rattle.dns_codec.specs.Converter.{Holding, PaddedHolding, Makes, Makes64, symbol_step, symbol_step64, tail16, tail32, tail64}

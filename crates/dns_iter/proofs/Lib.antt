@@ -1,5 +1,6 @@
 pub mod Asking
 pub mod Converting
+pub mod Encodings
 pub mod ItemWords
 pub mod Printing
 pub mod Roads

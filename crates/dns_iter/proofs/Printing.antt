@@ -1,32 +1,30 @@
 -- What the program prints of tokens.
-use Rattle.std.proofs.Common.{ℕ, zero, suc, ◌+◌, ◌≡◌, ◌<◌, ◌≤◌, ◌∙◌, List, [], ◌∷◌, ◌++◌, length, drop, add-one, min, arith, refl, sym, subst, ap, ◌⊎◌, inl, inr, ⊎_elim, Option, Some, None, Result, Ok, Err}
+use Rattle.std.proofs.Common.{ℕ, zero, suc, ◌+◌, ◌≡◌, ◌<◌, ◌≤◌, ◌∙◌, List, [], ◌∷◌, ◌++◌, length, drop, add-one, min, arith, refl, sym, subst, ap, inl, inr, ⊎_elim, None, Result, Ok, Err}
 use Rattle.std.specs.Fmt.{WritesInCalls, decimal}
 use Rattle.std.proofs.Output.{writes_in_calls_append, writes_in_calls_nil}
-use Rattle.std.specs.Prelude.{IsOkAnd}
-use Rattle.dns_symbol.specs.declared.symbol.SymbolCharsError.{SymbolCharsError}
-use Rattle.dns_symbol.specs.declared.symbol.Symbol.{Symbol}
 use Rattle.dns_symbol.specs.Text.{SymbolsOf}
-use Rattle.dns_scan.specs.Answers.{AllGiven, FirstFault, AnswersGiven}
+use Rattle.dns_scan.specs.Answers.{AllGiven}
 use Rattle.dns_scan.specs.Asks.{Builds}
-use Rattle.dns_scan.specs.Cause.{Cause, short_buf}
+use Rattle.dns_scan.specs.Cause.{Cause}
 use Rattle.dns_scan.specs.Numbers.{ScannedNumber}
 use Rattle.dns_scan.specs.Octets.{unquoted_token}
 use Rattle.dns_scan.specs.Steps.{GivesStep, octet_given}
 use Rattle.dns_scan.specs.Tokens.{Token}
 use Rattle.dns_scan.proofs.Answered.{builds_read, all_given_in, first_fault_in}
 use Rattle.dns_iter.specs.declared.program.ScanKind.{ScanKind}
-use Rattle.dns_iter.specs.declared.program.ScanKind.TheVariants.{Charstr}
 use Rattle.dns_iter.specs.declared.program.Stop.{Stop}
 use Rattle.dns_iter.specs.declared.program.Stop.TheVariants.{Refused, WriteFailed}
-use Rattle.dns_iter.specs.Program.{PrintsAs, IsRefused, Stops, StringPrints, StringRefused, NumberPrints, NumberRefused, ScanRun, LineWritten, LinesWritten}
+use Rattle.dns_iter.specs.Program.{Stops, StringPrints, StringRefused, NumberPrints, NumberRefused, LineWritten, LinesWritten}
 
 module _ {E : Type 0} (cause : E → Cause) where
   -- a character string that was scanned prints as the token's value
   pub charstr_prints : (sure most : ℕ) (t : Token) (s : List ℕ) → Builds cause (GivesStep cause (min sure 255) (min most 255) octet_given) (λ s. s) t (Ok s) → StringPrints t (unquoted_token s)
   charstr_prints sure most t s h =
-      let read = builds_read cause octet_given (min sure 255) (min most 255) (λ s. s) t (Ok s) h in
-      (read.0, subst (λ e. SymbolsOf t read.0 e) read.3.ends read.2,
-      (s, all_given_in octet_given (min sure 255) (min most 255) 255 (omega arith) read.0 None s (subst (λ e. AllGiven octet_given (min sure 255) (min most 255) read.0 e s) read.3.ends read.3), refl))
+      let read = builds_read cause octet_given (min sure 255) (min most 255) (λ s. s) t (Ok s) h in (
+        read.0,
+        subst (λ e. SymbolsOf t read.0 e) read.3.ends read.2,
+        (s, all_given_in octet_given (min sure 255) (min most 255) 255 (omega arith) read.0 None s (subst (λ e. AllGiven octet_given (min sure 255) (min most 255) read.0 e s) read.3.ends read.3), refl),
+      )
 
   pub charstr_stops : (sure most : ℕ) (t : Token) (e : E) → Builds cause (GivesStep cause (min sure 255) (min most 255) octet_given) (λ s. s) t (Err e) → Stops StringRefused t (cause e)
   charstr_stops sure most t e h =

@@ -1,5 +1,6 @@
 pub mod Ahead
 pub mod Codecs
+pub mod Name
 pub mod Print
 pub mod Program
 pub mod Run

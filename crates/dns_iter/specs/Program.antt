@@ -1,5 +1,5 @@
 -- What the program writes and answers.
-use Rattle.std.specs.Prelude.{ℕ, List, [], ◌∷◌, ◌++◌, ◌≡◌, ◌⊎◌, Option, Some, None, Result, Ok, Err, MatchOption, codes, map}
+use Rattle.std.specs.Prelude.{ℕ, List, [], ◌∷◌, ◌++◌, ◌≡◌, ◌⊎◌, Option, Some, None, Result, Ok, Err, codes, map}
 use Rattle.std.specs.Borrow.{Bor}
 use Rattle.std.specs.Fmt.{WritesInCalls, decimal}
 use Rattle.dns_symbol.specs.declared.symbol.Symbol.{Symbol}

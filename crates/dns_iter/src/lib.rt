@@ -2,6 +2,8 @@
 #![tactic(auto)]
 
 pub mod error;
+pub mod laws;
+mod name;
 mod print;
 pub mod program;
 pub mod scanner;

@@ -5,9 +5,11 @@ ghost use Rattle.dns_scan.specs.Entries.{ScansEntry};
 ghost use Rattle.dns_scan.specs.Stands.{StandsBefore};
 ghost use Rattle.dns_scan.specs.Tokens.{Token, Peeks};
 ghost use Rattle.dns_iter.specs.TokenNext.{token_next};
+ghost use Rattle.dns_iter.specs.Name.{ReadsToken};
 ghost use Rattle.dns_iter.specs.Ahead.{IsReady, Fills, TakesAhead, tokens_left};
 
 use crate::error::StrError;
+use crate::name::token_name;
 use crate::take::{Converting, IntoStrings, TakeToken};
 use crate::token::{
     each_symbol, token_ascii, token_charstr, token_converted, token_octets, token_text,
@@ -16,6 +18,7 @@ use dns_charstr::charstr::CharStr;
 use dns_scan::{ConvertSymbols, Scanner, ScannerError};
 use dns_symbol::symbol::{EntrySymbol, Symbol};
 use dns_wire::{AsOctets, AsOctetsMut, EmptyBuilder, FreezeBuilder, FromBuilder, Str, Truncate};
+use dns_wire_name::Name;
 use std::marker::PhantomData;
 
 /// What is known of the next token.
@@ -46,11 +49,7 @@ impl<'a, Iter: Iterator<Item = &'a str>, Octets: FromBuilder + Drop, E: ScannerE
     E,
 >
 where
-    Octets::Builder: EmptyBuilder
-        + AsOctetsMut
-        + Truncate
-        + FreezeBuilder<Octets = Octets>
-        + Drop,
+    Octets::Builder: EmptyBuilder + AsOctetsMut + Truncate + FreezeBuilder<Octets = Octets> + Drop,
 {
     /// A scanner of the iterator's tokens. Octets are allocated from `alloc`.
     pub fn new(alloc: <Octets::Builder as EmptyBuilder>::Alloc, iter: Iter) -> Self
@@ -157,21 +156,21 @@ where
 impl<'a, Iter: Iterator<Item = &'a str>, Octets: FromBuilder + Drop, E: ScannerError> Scanner
     for IterScanner<Iter, Octets, E>
 where
-    Octets::Builder: EmptyBuilder
-        + AsOctetsMut
-        + Truncate
-        + FreezeBuilder<Octets = Octets>
-        + Drop,
+    Octets::Builder: EmptyBuilder + AsOctetsMut + Truncate + FreezeBuilder<Octets = Octets> + Drop,
 {
     type Octets = Octets;
 
     type OctetsBuilder = Octets::Builder;
+
+    type Name = Name<Octets>;
 
     type Error = E;
 
     ghost can_scan = { λ s. IsReady Iter.can_next Iter.remaining s.iter s.ahead };
 
     ghost next_token = { token_next Iter.next_gives };
+
+    ghost reads_name = { λ t r. ReadsToken Octets E.cause Octets.Builder.sure Octets.Builder.most t r };
 
     ghost is_spaced = { λ _. false };
 
@@ -238,6 +237,13 @@ where
     {
         match self.take() {
             Some(token) => token_ascii::<Octets::Builder, E, T, F>(token, self.alloc, op),
+            None => Err(E::end_of_entry()),
+        }
+    }
+
+    fn scan_name(&mut self) -> Result<Name<Octets>, E> {
+        match self.take() {
+            Some(token) => token_name::<Octets, E>(token, self.alloc),
             None => Err(E::end_of_entry()),
         }
     }

@@ -1,15 +1,14 @@
 -- From the calls at the symbols of a token to the answer.
-use Rattle.std.proofs.Common.{ℕ, ◌≡◌, ◌<◌, ◌≤◌, ◌+◌, ◌-◌, List, [], ◌∷◌, ◌++◌, length, map, refl, sym, ap, subst, ◌∙◌, arith, append_assoc, append-nil, zero-add, length-append, ◌⊎◌, inl, inr, ⊎_elim, Option, Some, None, Result, Ok, Err}
+use Rattle.std.proofs.Common.{ℕ, ◌≡◌, ◌<◌, ◌≤◌, ◌+◌, List, [], ◌∷◌, ◌++◌, length, map, refl, sym, ap, subst, ◌∙◌, arith, append_assoc, append-nil, zero-add, length-append, ◌⊎◌, inl, inr, ⊎_elim, Option, Some, None, Result, Ok, Err}
 use Rattle.std.specs.Prelude.{IsOkAnd, IsErr, MatchResult}
 use Rattle.std.specs.List.{concat}
 use Rattle.dns_symbol.specs.declared.symbol.Symbol.{Symbol}
 use Rattle.dns_symbol.specs.declared.symbol.SymbolCharsError.{SymbolCharsError}
-use Rattle.dns_symbol.specs.Symbol.{chars_error_text}
 use Rattle.dns_symbol.specs.Text.{SymbolsOf}
 use Rattle.dns_symbol.proofs.Unique.{symbols_same}
-use Rattle.dns_scan.specs.Cause.{Cause, custom_text, short_buf, IsCause}
+use Rattle.dns_scan.specs.Cause.{Cause, custom_text, short_buf}
 use Rattle.dns_scan.specs.Tokens.{Token}
-use Rattle.dns_scan.specs.Asks.{AsksSymbols, Builds, CallsEach, Ends}
+use Rattle.dns_scan.specs.Asks.{Builds, CallsEach, Ends}
 use Rattle.dns_scan.specs.Steps.{GivesStep, Appends}
 use Rattle.dns_scan.specs.Answers.{IsFault, FirstFault, AllGiven, AnswersGiven}
 

@@ -1,17 +1,15 @@
 -- From the calls at the symbols of a token to the number that they are.
-use Rattle.std.proofs.Common.{ℕ, zero, suc, ◌≡◌, ◌<◌, ◌≤◌, ◌+◌, ◌*◌, ◌^◌, List, [], ◌∷◌, ◌++◌, length, length-append, map, refl, sym, ap, subst, ◌∙◌, arith, append_assoc, append-nil, inl, inr, ◌⊎◌, ⊎_elim, Option, Some, None, Result, Ok, Err}
+use Rattle.std.proofs.Common.{ℕ, zero, suc, ◌≡◌, ◌<◌, ◌≤◌, ◌+◌, ◌*◌, ◌^◌, List, [], ◌∷◌, ◌++◌, length, length-append, map, refl, sym, ap, subst, ◌∙◌, arith, append_assoc, append-nil, inl, inr, ⊎_elim, Option, Some, None, Result, Ok, Err}
 use Rattle.std.proofs.lemmas.Nat.{pow-add}
 use Rattle.std.proofs.lemmas.Bool.{cases_lt}
-use Rattle.std.proofs.Math.Nat.{mul-add, add-mul, mul_assoc}
-use Rattle.std.specs.Prelude.{IsErr, MatchResult, MatchOption, IfOk}
+use Rattle.std.proofs.Math.Nat.{add-mul, mul_assoc}
+use Rattle.std.specs.Prelude.{IsErr, MatchOption, IfOk}
 use Rattle.dns_symbol.specs.declared.symbol.Symbol.{Symbol}
 use Rattle.dns_symbol.specs.declared.symbol.SymbolCharsError.{SymbolCharsError}
-use Rattle.dns_symbol.specs.Symbol.{chars_error_text}
-use Rattle.dns_symbol.specs.Text.{SymbolsOf}
-use Rattle.dns_scan.specs.Cause.{Cause, custom_text, end_of_entry, IsCause}
+use Rattle.dns_scan.specs.Cause.{Cause, end_of_entry, IsCause}
 use Rattle.dns_scan.specs.Asks.{AsksSymbols, CallsEach, Ends, ScansSymbols}
 use Rattle.dns_scan.specs.Tokens.{Token, ScansToken}
-use Rattle.dns_scan.specs.Numbers.{digit_of, value_of, IsNumber, NoNumber, refusal_at, ReadsNumber, ScannedNumber, AddsDigit, by_cause}
+use Rattle.dns_scan.specs.Numbers.{digit_of, value_of, IsNumber, ReadsNumber, ScannedNumber, AddsDigit, by_cause}
 
 -- digits before others count by the others' power of ten
 pub value_of-append : (cs bs : List ℕ) → value_of (cs ++ bs) ≡ value_of cs * 10 ^ length bs + value_of bs

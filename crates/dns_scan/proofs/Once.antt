@@ -1,12 +1,12 @@
 -- A token is read as a number in one way.
-use Rattle.std.proofs.Common.{ℕ, ◌≡◌, ◌<◌, ◌≤◌, ◌+◌, List, [], ◌∷◌, ◌++◌, length, length-append, refl, sym, ap, subst, ◌∙◌, arith, append-nil, ◌⊎◌, inl, inr, ⊎_elim, Option, Some, None, Result, Ok, Err}
+use Rattle.std.proofs.Common.{ℕ, ◌≡◌, List, [], ◌∷◌, ◌++◌, length, length-append, refl, sym, ap, subst, ◌∙◌, arith, append-nil, ⊎_elim, Option, Some, Result, Ok, Err}
 use Rattle.dns_symbol.specs.declared.symbol.Symbol.{Symbol}
 use Rattle.dns_symbol.specs.declared.symbol.SymbolCharsError.{SymbolCharsError}
 use Rattle.dns_symbol.specs.Symbol.{chars_error_text}
 use Rattle.dns_symbol.specs.Text.{SymbolsOf}
 use Rattle.dns_symbol.proofs.Unique.{symbols_same}
 use Rattle.dns_scan.specs.Cause.{Cause, custom_text}
-use Rattle.dns_scan.specs.Numbers.{IsNumber, NoNumber, ReadsNumber, ScannedNumber, refusal_at, by_cause}
+use Rattle.dns_scan.specs.Numbers.{IsNumber, NoNumber, ReadsNumber, refusal_at, by_cause}
 use Rattle.dns_scan.specs.Reads.{NumberReads}
 use Rattle.dns_scan.specs.Tokens.{Token}
 use Rattle.dns_scan.proofs.Numbers.{one_value}

@@ -1,6 +1,6 @@
 -- From what a call does to a scanner to what it reads of the tokens before it.
-use Rattle.std.proofs.Common.{ℕ, suc, ◌≡◌, List, [], ◌∷◌, refl, sym, ap, subst, inl, inr, Option, Some, None, Result, Ok, Err, min}
-use Rattle.std.specs.Prelude.{MatchOption, MatchResult}
+use Rattle.std.proofs.Common.{ℕ, suc, ◌≡◌, List, [], ◌∷◌, refl, sym, ap, subst, inl, inr, Option, Some, None, Result, Ok, Err}
+use Rattle.std.specs.Prelude.{MatchOption}
 use Rattle.dns_symbol.specs.declared.symbol.Symbol.{Symbol}
 use Rattle.dns_symbol.specs.declared.symbol.SymbolCharsError.{SymbolCharsError}
 use Rattle.dns_scan.specs.Answers.{AnswersGiven}
@@ -8,7 +8,7 @@ use Rattle.dns_scan.specs.Asks.{Builds}
 use Rattle.dns_scan.specs.Cause.{Cause, end_of_entry, IsCause}
 use Rattle.dns_scan.specs.Numbers.{ScannedNumber, by_cause}
 use Rattle.dns_scan.specs.Reads.{ReadsEach, ReadsFirst, NumberReads, OctetsRead}
-use Rattle.dns_scan.specs.Stands.{StandsBefore, stands_takes, first_of, others_of}
+use Rattle.dns_scan.specs.Stands.{StandsBefore, stands_takes, others_of}
 use Rattle.dns_scan.specs.Steps.{GivesStep, octet_given}
 use Rattle.dns_scan.specs.Tokens.{Token, ScansToken}
 use Rattle.dns_scan.proofs.Answered.{builds_read}

@@ -11,11 +11,11 @@ use Rattle.dns_symbol.proofs.Unique.{symbols_same}
 use Rattle.dns_symbol.proofs.PrintedForms.{IsForm, printed_symbols, printed_octets}
 use Rattle.dns_scan.specs.Cause.{Cause, short_buf, end_of_entry, IsCause}
 use Rattle.dns_scan.specs.Tokens.{Token, ScansToken}
-use Rattle.dns_scan.specs.Asks.{AsksSymbols, Builds, CallsEach, Ends}
-use Rattle.dns_scan.specs.Steps.{GivesStep, Appends, Grows, octet_given, bad_or}
+use Rattle.dns_scan.specs.Asks.{Builds, CallsEach, Ends}
+use Rattle.dns_scan.specs.Steps.{GivesStep, Appends, octet_given, bad_or}
 use Rattle.dns_charstr.specs.Reading.{HasOctets}
 use Rattle.dns_scan.specs.Octets.{GivesWhere}
-use Rattle.dns_scan.specs.Stands.{StandsBefore, stands_takes, first_of}
+use Rattle.dns_scan.specs.Stands.{StandsBefore, stands_takes}
 
 not_err : {E : Type 0} (u : Result (Unit {0}) E) → u ≡ Ok tt → IsErr u → ⊥
 not_err (Ok v) e h = cc

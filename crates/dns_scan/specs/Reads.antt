@@ -1,5 +1,5 @@
 -- What is read of a list of tokens.
-use Rattle.std.specs.Prelude.{ℕ, zero, suc, List, [], ◌∷◌, ◌≡◌, Option, Some, None, Result, Ok, Err, MatchOption, MatchResult, ◌⊎◌}
+use Rattle.std.specs.Prelude.{ℕ, zero, suc, List, [], ◌∷◌, ◌≡◌, Option, Some, None, Result, Ok, Err, MatchOption, ◌⊎◌}
 use Rattle.dns_symbol.specs.declared.symbol.Symbol.{Symbol}
 use Rattle.dns_symbol.specs.declared.symbol.SymbolCharsError.{SymbolCharsError}
 use Rattle.dns_symbol.specs.Text.{SymbolsOf}

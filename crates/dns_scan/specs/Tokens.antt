@@ -1,5 +1,5 @@
 -- What a call of a scanner does to the tokens before it.
-use Rattle.std.specs.Prelude.{ℕ, List, ◌≡◌, ◌≢◌, Option, Some, None, Result, Ok, Err, Bool, true, false, MatchOption, ⊤, codes}
+use Rattle.std.specs.Prelude.{ℕ, List, ◌≡◌, ◌≢◌, Option, Some, Result, Ok, Err, Bool, true, false, MatchOption, codes}
 use Rattle.dns_scan.specs.Cause.{Cause, end_of_entry, IsCause}
 
 -- a token: its text's bytes

@@ -13,6 +13,7 @@ use dns_charstr::charstr::CharStr;
 use dns_symbol::symbol::{EntrySymbol, Symbol};
 use dns_wire::str::Str;
 use dns_wire::{AsOctets, AsOctetsMut, FreezeBuilder, OctetsBuilder, Truncate};
+use dns_wire_name::ToName;
 
 /// Gives the tokens of an entry one by one, read as values.
 ///
@@ -30,6 +31,9 @@ pub trait Scanner {
         + Truncate
         + FreezeBuilder<Octets = Self::Octets>;
 
+    /// A name that is scanned.
+    type Name: ToName;
+
     /// Why a scan refuses.
     type Error: ScannerError;
 
@@ -38,6 +42,9 @@ pub trait Scanner {
 
     // The state before, the token that is taken if one is left, and the state after.
     ghost next_token: { Self → Option Token → Self → Type 0 };
+
+    // What reading a token as a name answers.
+    ghost reads_name: { Token → Result Self.Name Self.Error → Type 0 };
 
     // Whether white space stands before the next token.
     ghost is_spaced: { Self → Bool };
@@ -108,9 +115,7 @@ pub trait Scanner {
         ensures same { TakesNothing next_token self.old self.new }
         ensures answer { IsCause Self.Error.cause result (custom_text (codes "Scanning SVCB octets is only implemented by some Scanners")) }
     {
-        Err(Self::Error::custom(
-            "Scanning SVCB octets is only implemented by some Scanners",
-        ))
+        Err(Self::Error::custom("Scanning SVCB octets is only implemented by some Scanners"))
     }
 
     /// Takes a token of ASCII characters and hands the text to `op`. Any other text is refused as
@@ -123,6 +128,12 @@ pub trait Scanner {
         ensures ready { can_scan self.new }
         ensures scans { ScansToken next_token Self.Error.cause
             (AsciiText Self.Error.cause Self.OctetsBuilder.sure Self.OctetsBuilder.most (λ s r. FnOnceReturnsAt F.FnOnce op s r)) self.old result self.new };
+
+    /// Takes a token as an absolute name.
+    fn scan_name(&mut self) -> Result<Self::Name, Self::Error>
+        requires { can_scan self.old }
+        ensures ready { can_scan self.new }
+        ensures scans { ScansToken next_token Self.Error.cause reads_name self.old result self.new };
 
     /// Takes a token as a character string. A symbol without octet is a "bad symbol", and more than
     /// 255 octets find no room.

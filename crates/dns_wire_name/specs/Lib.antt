@@ -6,6 +6,7 @@ pub mod Labelled
 pub mod Opened
 pub mod Order
 pub mod Printed
+pub mod Rows
 pub mod Shown
 pub mod Split
 pub mod Wire

@@ -1,9 +1,9 @@
-//! Labels: at most 63 octets.
+//! Labels (RFC 1035 section 2.3.1).
 ghost use Rattle.std.specs.Prelude.{length, ◌≤◌};
 
 use crate::error::{LabelTypeError, LongLabelError, SplitLabelError};
 
-/// At most 63 octets. The label of none is the root.
+/// A label: at most 63 octets. The label of none is the root.
 #[derive(Clone, Copy)]
 pub struct Label<'a> {
     octets: &'a [u8],
@@ -16,6 +16,7 @@ impl<'a> Label<'a> {
     ghost use Rattle.dns_wire_name.specs.Label.{label_octets};
     ghost use Rattle.dns_wire_name.specs.Split.{RefusesLabel};
 
+    /// The label of these octets, or [`LongLabelError`] above 63.
     pub fn from_slice(octets: &'a [u8]) -> Result<Self, LongLabelError>
         ensures ok { IsOk result ↔ (length octets.now ≤ 63) }
         ensures value { IfOk result (λ l. label_octets l ≡ octets.now) }
@@ -26,7 +27,11 @@ impl<'a> Label<'a> {
         Ok(Label { octets })
     }
 
-    /// The label that begins the octets, and the octets after it.
+    /// The label that begins the octets in wire form, and the octets after it.
+    ///
+    /// A lead octet of 0 to 0x3F is the label's length. One of 0x40 to 0xBF is
+    /// [`SplitLabelError::BadType`], a greater one a [`SplitLabelError::Pointer`] by its low six bits
+    /// and the next octet. Too few octets are [`SplitLabelError::ShortInput`].
     pub fn split_from(octets: &'a [u8]) -> Result<(Label<'a>, &'a [u8]), SplitLabelError>
         ensures { MatchResult result (λ p. octets.now ≡ wire_label (label_octets p.0) ++ p.1.now) (λ e. RefusesLabel e octets.now) }
     {
@@ -51,6 +56,7 @@ impl<'a> Label<'a> {
         }
     }
 
+    /// The octets of the label, without its length octet.
     pub fn as_slice(&self) -> &'a [u8]
         ensures value { result.now ≡ label_octets self.now }
         ensures short { length result.now ≤ 63 }
@@ -58,6 +64,7 @@ impl<'a> Label<'a> {
         self.octets
     }
 
+    /// How many octets the label has.
     pub fn len(&self) -> usize
         ensures value { result ≡ length (label_octets self.now) }
         ensures short { result ≤ 63 }
@@ -65,12 +72,14 @@ impl<'a> Label<'a> {
         self.octets.len()
     }
 
+    /// Whether this is the root, the label of no octets.
     pub fn is_root(&self) -> bool
         ensures { IsTrue result ↔ (label_octets self.now ≡ []) }
     {
         self.octets.is_empty()
     }
 
+    /// How many octets the wire form has: the length octet and the label's.
     pub fn compose_len(&self) -> u16
         ensures { result ≡ length (label_octets self.now) + 1 }
     {

@@ -8,13 +8,17 @@ use crate::label::Label;
 /// What follows the labels that begin octets.
 #[derive(Clone, Copy)]
 pub enum Rest {
+    /// Nothing.
     End,
+    /// The root, and nothing after it.
     Root,
+    /// The root, and octets after it.
     RootAndMore,
+    /// Octets that begin with no whole label.
     Refused(SplitLabelError),
 }
 
-/// What follows the labels other than the root.
+/// What follows the labels other than the root that begin the octets.
 pub fn rest_of(octets: &[u8]) -> Rest
     ensures { HasRest octets.now result }
 {

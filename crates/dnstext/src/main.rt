@@ -2,9 +2,8 @@
 #![tactic(auto)]
 
 use dns_iter::program;
-use std::env;
-use std::io;
 use std::process::ExitCode;
+use std::{env, io};
 
 fn main(rt: HostRuntime) -> io::Result<ExitCode> {
     let alloc = rt.alloc();

@@ -40,8 +40,7 @@ fn numbers_are_read_or_refused(rt: HostRuntime) {
 #[test]
 fn a_refused_number_is_taken(rt: HostRuntime) {
     let tokens = ["1", "x", "2"];
-    let mut scanner: IterScanner<_, Vec<u8>> =
-        IterScanner::new(rt.alloc(), tokens.iter().copied());
+    let mut scanner: IterScanner<_, Vec<u8>> = IterScanner::new(rt.alloc(), tokens.iter().copied());
     let wants = [
         Ok(1),
         Err("expected decimal number"),
@@ -79,8 +78,7 @@ fn wide_numbers_are_read(rt: HostRuntime) {
         "4294967295",
         "12",
     ];
-    let mut scanner: IterScanner<_, Vec<u8>> =
-        IterScanner::new(rt.alloc(), tokens.iter().copied());
+    let mut scanner: IterScanner<_, Vec<u8>> = IterScanner::new(rt.alloc(), tokens.iter().copied());
     assert!(rt; is_next(&mut scanner, u16::MAX));
     assert!(rt; is_next(&mut scanner, u32::MAX));
     assert!(rt; is_next(&mut scanner, u64::MAX));

@@ -37,8 +37,7 @@ fn texts_are_read_or_refused(rt: HostRuntime) {
 #[test]
 fn a_marker_is_taken(rt: HostRuntime) {
     let tokens = ["\\#", "4"];
-    let mut scanner: IterScanner<_, Vec<u8>> =
-        IterScanner::new(rt.alloc(), tokens.iter().copied());
+    let mut scanner: IterScanner<_, Vec<u8>> = IterScanner::new(rt.alloc(), tokens.iter().copied());
     assert!(rt; scanner.scan_opt_unknown_marker().is_ok_and(|found| found));
     assert!(rt; scanner.scan_opt_unknown_marker().is_ok_and(|found| !found));
     assert!(rt; scanner.continues());
@@ -52,23 +51,36 @@ fn a_marker_is_taken(rt: HostRuntime) {
 #[test]
 fn service_parameters_are_left(rt: HostRuntime) {
     let tokens = ["a"];
-    let mut scanner: IterScanner<_, Vec<u8>> =
-        IterScanner::new(rt.alloc(), tokens.iter().copied());
+    let mut scanner: IterScanner<_, Vec<u8>> = IterScanner::new(rt.alloc(), tokens.iter().copied());
     let refused = Err("Scanning SVCB octets is only implemented by some Scanners");
     assert!(rt; is_answer(scanner.scan_svcb_octets(), refused));
-    assert!(rt; scanner.octets_builder().is_ok_and(|builder| builder.is_empty()));
+    assert!(rt;
+        scanner
+            .octets_builder()
+            .is_ok_and(|builder| builder.is_empty())
+    );
     assert!(rt; is_answer(scanner.scan_octets(), Ok(b"a".as_slice())));
 }
 
 // The first token through a converter.
-fn token_by<C: ConvertSymbols<Symbol, StrError>>(alloc: Global, token: &str, convert: C, want: Result<&[u8], &str>) -> bool {
+fn token_by<C: ConvertSymbols<Symbol, StrError>>(
+    alloc: Global,
+    token: &str,
+    convert: C,
+    want: Result<&[u8], &str>,
+) -> bool {
     let tokens = [token, "x"];
     let mut scanner: IterScanner<_, Vec<u8>> = IterScanner::new(alloc, tokens.iter().copied());
     is_answer(scanner.convert_token(convert), want) && scanner.continues()
 }
 
 // All tokens through a converter.
-fn entry_by<C: ConvertSymbols<EntrySymbol, StrError>>(alloc: Global, tokens: &[&str], convert: C, want: Result<&[u8], &str>) -> bool {
+fn entry_by<C: ConvertSymbols<EntrySymbol, StrError>>(
+    alloc: Global,
+    tokens: &[&str],
+    convert: C,
+    want: Result<&[u8], &str>,
+) -> bool {
     let mut scanner: IterScanner<_, Vec<u8>> = IterScanner::new(alloc, tokens.iter().copied());
     is_answer(scanner.convert_entry(convert), want) && !scanner.continues()
 }
@@ -86,7 +98,10 @@ fn tokens_are_converted(rt: HostRuntime) {
         ("F\\2", Err("unexpected end of input")),
     ];
     for (token, want) in hex {
-        assert!(rt; token_by(alloc, token, base16::SymbolConverter::new(), want), "at {token}");
+        assert!(rt;
+            token_by(alloc, token, base16::SymbolConverter::new(), want),
+            "at {token}"
+        );
     }
     let base32hex: [(&str, Result<&[u8], &str>); 4] = [
         ("cpnmuoj1e8", Ok(b"foobar")),
@@ -95,7 +110,10 @@ fn tokens_are_converted(rt: HostRuntime) {
         ("\u{17f}0", Err("illegal Base 32 data")),
     ];
     for (token, want) in base32hex {
-        assert!(rt; token_by(alloc, token, base32::SymbolConverter::new(), want), "at {token}");
+        assert!(rt;
+            token_by(alloc, token, base32::SymbolConverter::new(), want),
+            "at {token}"
+        );
     }
     let base_64: [(&str, Result<&[u8], &str>); 12] = [
         ("", Ok(b"")),
@@ -112,16 +130,54 @@ fn tokens_are_converted(rt: HostRuntime) {
         ("\u{212a}g==", Err("illegal Base 64 data")),
     ];
     for (token, want) in base_64 {
-        assert!(rt; token_by(alloc, token, base64::SymbolConverter::new(), want), "at {token}");
+        assert!(rt;
+            token_by(alloc, token, base64::SymbolConverter::new(), want),
+            "at {token}"
+        );
     }
 }
 
 #[test]
 fn entries_are_converted(rt: HostRuntime) {
     let alloc = rt.alloc();
-    assert!(rt; entry_by(alloc, &["F", "0"], base16::SymbolConverter::new(), Ok(b"\xf0".as_slice())));
-    assert!(rt; entry_by(alloc, &["CP", "NG"], base32::SymbolConverter::new(), Ok(b"fo".as_slice())));
-    assert!(rt; entry_by(alloc, &["Zg", "=="], base64::SymbolConverter::new(), Ok(b"f".as_slice())));
-    assert!(rt; entry_by(alloc, &[], base64::SymbolConverter::new(), Ok(b"".as_slice())));
-    assert!(rt; token_by(alloc, "Zg", base64::SymbolConverter::new(), Err("incomplete Base 64 data")));
+    assert!(rt;
+        entry_by(
+            alloc,
+            &["F", "0"],
+            base16::SymbolConverter::new(),
+            Ok(b"\xf0".as_slice())
+        )
+    );
+    assert!(rt;
+        entry_by(
+            alloc,
+            &["CP", "NG"],
+            base32::SymbolConverter::new(),
+            Ok(b"fo".as_slice())
+        )
+    );
+    assert!(rt;
+        entry_by(
+            alloc,
+            &["Zg", "=="],
+            base64::SymbolConverter::new(),
+            Ok(b"f".as_slice())
+        )
+    );
+    assert!(rt;
+        entry_by(
+            alloc,
+            &[],
+            base64::SymbolConverter::new(),
+            Ok(b"".as_slice())
+        )
+    );
+    assert!(rt;
+        token_by(
+            alloc,
+            "Zg",
+            base64::SymbolConverter::new(),
+            Err("incomplete Base 64 data")
+        )
+    );
 }

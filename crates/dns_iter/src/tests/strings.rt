@@ -70,7 +70,12 @@ fn entries_of_strings_are_read(rt: HostRuntime) {
     assert!(rt; is_answer(scanner.scan_charstr_entry(), Ok(b"".as_slice())));
     let tokens = ["ab", "", "\\001"];
     let mut scanner: IterScanner<_, ArrayVec<u8, 8>> = IterScanner::new((), tokens.iter().copied());
-    assert!(rt; is_answer(scanner.scan_charstr_entry(), Ok(b"\x02ab\x00\x01\x01".as_slice())));
+    assert!(rt;
+        is_answer(
+            scanner.scan_charstr_entry(),
+            Ok(b"\x02ab\x00\x01\x01".as_slice())
+        )
+    );
 }
 
 #[test]
@@ -83,6 +88,11 @@ fn the_refused_token_is_the_last_taken(rt: HostRuntime) {
     assert!(rt; is_answer(scanner.scan_charstr_entry(), Err("short buffer")));
     assert!(rt; scanner.is_exhausted());
     let mut scanner: IterScanner<_, ArrayVec<u8, 7>> = IterScanner::new((), tokens.iter().copied());
-    assert!(rt; is_answer(scanner.scan_charstr_entry(), Ok(b"\x02ab\x01c\x01d".as_slice())));
+    assert!(rt;
+        is_answer(
+            scanner.scan_charstr_entry(),
+            Ok(b"\x02ab\x01c\x01d".as_slice())
+        )
+    );
     assert!(rt; scanner.is_exhausted());
 }

@@ -2,7 +2,14 @@
 use super::*;
 
 // How often a closure is called that refuses its call of that number, and the answer.
-fn calls(alloc: Global, tokens: &[&str], refused: usize, want: Result<(), &str>, count: usize, left: bool) -> bool {
+fn calls(
+    alloc: Global,
+    tokens: &[&str],
+    refused: usize,
+    want: Result<(), &str>,
+    count: usize,
+    left: bool,
+) -> bool {
     let mut scanner: IterScanner<_, Vec<u8>> = IterScanner::new(alloc, tokens.iter().copied());
     let mut called = 0;
     let mut op = |_symbol: Symbol| -> Result<(), StrError> {
@@ -23,13 +30,30 @@ fn calls(alloc: Global, tokens: &[&str], refused: usize, want: Result<(), &str>,
 fn symbols_are_handed_over(rt: HostRuntime) {
     let alloc = rt.alloc();
     assert!(rt; calls(alloc, &["ab\\2", "c"], 2, Err("enough"), 2, true));
-    assert!(rt; calls(alloc, &["ab\\2", "c"], 9, Err("unexpected end of input"), 2, true));
+    assert!(rt;
+        calls(
+            alloc,
+            &["ab\\2", "c"],
+            9,
+            Err("unexpected end of input"),
+            2,
+            true
+        )
+    );
     assert!(rt; calls(alloc, &["ab"], 9, Ok(()), 2, false));
     assert!(rt; calls(alloc, &[], 9, Err("unexpected end of entry"), 0, false));
 }
 
 // The same of an entry, with the ends of tokens.
-fn entry_calls(alloc: Global, tokens: &[&str], refuses_ends: bool, want: Result<(), &str>, symbols: usize, ends: usize, left: bool) -> bool {
+fn entry_calls(
+    alloc: Global,
+    tokens: &[&str],
+    refuses_ends: bool,
+    want: Result<(), &str>,
+    symbols: usize,
+    ends: usize,
+    left: bool,
+) -> bool {
     let mut scanner: IterScanner<_, Vec<u8>> = IterScanner::new(alloc, tokens.iter().copied());
     let mut seen = 0;
     let mut ended = 0;
@@ -57,7 +81,17 @@ fn entries_are_handed_over(rt: HostRuntime) {
     assert!(rt; entry_calls(alloc, &["ab", ""], false, Ok(()), 2, 2, false));
     assert!(rt; entry_calls(alloc, &[], false, Ok(()), 0, 0, false));
     assert!(rt; entry_calls(alloc, &["a", "b"], true, Err("no more"), 1, 1, true));
-    assert!(rt; entry_calls(alloc, &["a\\2", "b"], false, Err("unexpected end of input"), 1, 0, true));
+    assert!(rt;
+        entry_calls(
+            alloc,
+            &["a\\2", "b"],
+            false,
+            Err("unexpected end of input"),
+            1,
+            0,
+            true
+        )
+    );
 }
 
 #[test]

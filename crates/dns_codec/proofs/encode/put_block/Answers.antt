@@ -1,6 +1,5 @@
-use Rattle.std.proofs.Common.{◌≡◌, ◌<◌, ◌≤◌, ◌+◌, ◌*◌, ◌%◌, ◌++◌, [], ap, sym, ◌∙◌, refl, arith, length, length-append, append-nil, map}
-use Rattle.dns_codec.specs.Bits.{pieces}
-use Rattle.dns_codec.proofs.Encoding.{pieces-nil, mod_front}
+use Rattle.std.proofs.Common.{◌<◌, ◌++◌, [], sym, ◌∙◌, refl, arith, length-append, append-nil}
+use Rattle.dns_codec.proofs.Encoding.{pieces-nil}
 use Rattle.dns_codec.proofs.Putting.{block_step, whole_step}
 use Rattle.dns_codec.proofs.encode.put_block.Goals as goal
 

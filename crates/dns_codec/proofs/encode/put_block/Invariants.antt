@@ -1,4 +1,4 @@
-use Rattle.std.proofs.Common.{◌≡◌, ◌≤◌, ℕ, List, ◌+◌, ◌*◌, ◌%◌, ◌++◌, length, take, map, slice_index}
+use Rattle.std.proofs.Common.{◌≡◌, ◌≤◌, ℕ, List, ◌*◌, ◌%◌, ◌++◌, length, take, map, slice_index}
 use Rattle.dns_codec.specs.Bits.{pieces}
 use Rattle.dns_codec.proofs.encode.put_block.Given as goal
 

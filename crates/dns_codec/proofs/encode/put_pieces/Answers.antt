@@ -1,6 +1,5 @@
-use Rattle.std.proofs.Common.{◌≡◌, ◌<◌, ◌+◌, ◌-◌, ◌*◌, ◌%◌, ◌^◌, arith, length, sym, append-nil, rules}
+use Rattle.std.proofs.Common.{◌<◌, ◌+◌, arith, length}
 use Rattle.std.proofs.lemmas.Grind.{common_steps}
-use Rattle.dns_codec.specs.Bits.{digits}
 use Rattle.dns_codec.proofs.Putting.{put_step, put_none, mask_is}
 use Rattle.dns_codec.proofs.encode.put_pieces.Goals as goal
 

@@ -1,4 +1,4 @@
-use Rattle.std.proofs.Common.{◌≡◌, ◌+◌, length, arith, List, ℕ, rules}
+use Rattle.std.proofs.Common.{◌≡◌, ◌+◌, length, arith}
 use Rattle.std.proofs.lemmas.Grind.{common_steps}
 use Rattle.dns_codec.proofs.Appending.{moves_stored}
 use Rattle.dns_codec.proofs.group.take.Goals as goal

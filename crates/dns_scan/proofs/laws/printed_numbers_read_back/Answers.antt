@@ -1,4 +1,4 @@
-use Rattle.std.proofs.Common.{ℕ, ◌≡◌, ◌<◌, ◌≤◌, arith, Option, None, Result, Ok, Err, List, lit<}
+use Rattle.std.proofs.Common.{ℕ, ◌≡◌, arith, Option, None, Result, Ok, Err, List}
 use Rattle.std.specs.Prelude.{IfOk}
 use Rattle.dns_symbol.specs.declared.symbol.Symbol.{Symbol}
 use Rattle.dns_symbol.specs.declared.symbol.SymbolCharsError.{SymbolCharsError}

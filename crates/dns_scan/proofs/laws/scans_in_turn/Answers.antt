@@ -1,4 +1,4 @@
-use Rattle.std.proofs.Common.{ℕ, suc, ◌≡◌, ◌-◌, ◌+◌, [], ◌∷◌, refl, arith, of_calls, Some, None}
+use Rattle.std.proofs.Common.{suc, ◌≡◌, ◌-◌, ◌+◌, [], ◌∷◌, refl, arith, of_calls, Some, None}
 use Rattle.dns_scan.proofs.Reading.{each_more, each_stop, each_end}
 use Rattle.dns_scan.proofs.laws.scans_in_turn.Goals as goal
 
@@ -8,7 +8,7 @@ returns-in-Err-clause-reads g c = λ tokens stands.
     let took = c.in-Err.ensures.reads at.0 at.1 in
     let left : c.args.count - c.loop-turn._turn ≡ suc (c.args.count - (c.loop-turn._turn + 1)) = omega arith in
     let all = at.2 [] (Some (g.S.Error.ScannerError.cause c.in-Err.error)) took.0 c.loop-turn.give
-        (each_stop g.T.Scan.scan_reads _ _ left at.0 took.0 _ took.1) refl in
+    (each_stop g.T.Scan.scan_reads _ _ left at.0 took.0 _ took.1) refl in
     (all.0, Some (g.S.Error.ScannerError.cause c.in-Err.error), took.0, all.1, all.2, took.2, refl)
 
 pub loop-turn-preserved : goal.loop-turn-preserved

@@ -1,6 +1,4 @@
 use Rattle.std.proofs.Common.{rules, ◌≡◌, refl, Ok}
-use Rattle.dns_scan.specs.Numbers.{ScannedNumber}
-use Rattle.dns_scan.specs.Tokens.{ScansToken}
 use Rattle.dns_scan.proofs.Numbers.{number_after_ok, number_after_err, scanned_small}
 use Rattle.dns_scan.proofs.number.scan_number.Goals as goal
 

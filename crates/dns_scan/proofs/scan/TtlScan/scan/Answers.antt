@@ -1,4 +1,4 @@
-use Rattle.std.proofs.Common.{ℕ, Ok, Err, subst, sym}
+use Rattle.std.proofs.Common.{Ok, Err, subst, sym}
 use Rattle.dns_scan.specs.Numbers.{ScannedNumber, greatest}
 use Rattle.dns_scan.specs.Tokens.{ScansToken}
 use Rattle.dns_scan.proofs.Reading.{number_first}

@@ -1,0 +1,9 @@
+pub mod FromOctets
+pub mod Naming
+pub mod Taking
+pub mod Runs
+pub mod OneName
+pub mod WholeName
+pub mod Printing
+pub mod TextRead
+pub mod Equal

@@ -1,0 +1,205 @@
+-- The printed text of a name is that name's.
+use Rattle.std.proofs.Common.{◌≡◌, ℕ, ◌<◌, ◌≤◌, Bool, true, false, List, [], ◌∷◌, ◌++◌, length, map, refl, sym, ap, subst, ◌∙◌, arith, append_assoc, append-nil, length-append, inl, inr}
+use Rattle.std.specs.Prelude.{All, not, encode_utf8_all, if◌then◌else◌}
+use Rattle.std.specs.List.{flat_map, list_all, AllZip}
+use Rattle.std.proofs.lemmas.Str.{encodes-append}
+use Rattle.std.proofs.lemmas.Grind.{flat_map-append}
+use Rattle.std.proofs.lemmas.List.Elements.{All-head, All-tail, All-cons}
+use Rattle.std.proofs.lemmas.List.Folds.{list_all-append}
+use Rattle.std.proofs.lemmas.Bool.Decides.{nat_tests}
+use Rattle.dns_symbol.specs.Symbol.{bytes, is_readable, is_printable}
+use Rattle.dns_symbol.specs.Printed.{symbol_of}
+use Rattle.dns_symbol.specs.declared.symbol.Symbol.{Symbol}
+use Rattle.dns_symbol.specs.declared.symbol.Symbol.TheVariants.{Char, SimpleEscape, DecimalEscape}
+use Rattle.dns_symbol.proofs.PrintedForms.{IsForm, printed_octets, printed_bytes, all_printed_readable}
+use Rattle.dns_wire_name.specs.Wire.{wire, wire_length, IsName, HasNoRoot}
+use Rattle.dns_wire_name.specs.Building.{closed}
+use Rattle.dns_wire_name.specs.Printed.{is_label_escape, label_text, joined_text, dotted_text}
+use Rattle.dns_wire_name.proofs.Wires.{wire_length_append}
+use Rattle.dns_wire_name.proofs.Texts.{dotted_joined}
+use Rattle.dns_name.specs.Uncertain.{labels_of, IsUncertain}
+use Rattle.dns_name.specs.Reading.{is_dot, bracket, IsPiece, dotted, HasNamed, ReadsAs}
+use Rattle.dns_name.specs.declared.name.UncertainName.{UncertainName}
+use Rattle.dns_name.specs.declared.name.UncertainName.TheVariants.{Absolute, Relative}
+use Rattle.dns_name.proofs.Naming.{dot_bytes, named_none}
+
+label_form : IsForm is_label_escape
+label_form = record { backslash = refl; no_digits = λ o e. Prim.grind (arith, nat_tests) }
+
+abbrev piece_of : List ℕ → List Symbol
+piece_of = map (symbol_of is_label_escape)
+
+-- a printed octet is no plain dot, and no escaped bracket
+printed_dot : (o : ℕ) → is_dot (symbol_of is_label_escape o) ≡ false
+printed_dot o = by (is_printable o) (is_label_escape o) refl
+  where
+    by : (p e : Bool) → is_label_escape o ≡ e → is_dot (if p then (if e then SimpleEscape o else Char o) else DecimalEscape o) ≡ false
+    by true true h = refl
+    by true false h = Prim.grind (arith, nat_tests)
+    by false e h = refl
+
+printed_bracket : (o : ℕ) → symbol_of is_label_escape o ≡ bracket → ⊥
+printed_bracket o h = by (is_printable o) (is_label_escape o) refl h
+  where
+    by : (p e : Bool) → is_label_escape o ≡ e → (if p then (if e then SimpleEscape o else Char o) else DecimalEscape o) ≡ bracket → ⊥
+    by true true shown is = let f : o ≡ 91 = cc is in Prim.grind (arith, nat_tests)
+    by true false shown is = cc
+    by false e shown is = cc
+
+piece_dots : (label : List ℕ) → list_all (λ x. not (is_dot x)) (piece_of label) ≡ true
+piece_dots [] = refl
+piece_dots (o ∷ os) = rw (printed_dot o, piece_dots os) refl
+
+piece_bracket : (label : List ℕ) (more : List Symbol) → piece_of label ≡ bracket ∷ more → ⊥
+piece_bracket [] more h = cc
+piece_bracket (o ∷ os) more h = printed_bracket o (cc h)
+
+printed_piece : (label : List ℕ) → length label ≤ 63 → IsPiece (piece_of label) label
+printed_piece label h = record {
+  octets_are = printed_octets is_label_escape label;
+  no_dot = piece_dots label;
+  no_binary = piece_bracket label;
+  short = h;
+}
+
+abbrev Bytes : List ℕ → Type 0
+Bytes label = All (λ b. b < 256) label
+
+printed_zip : (labels : List (List ℕ)) → All (λ label. length label ≤ 63) labels → AllZip IsPiece (map piece_of labels) labels
+printed_zip [] h = tt
+printed_zip (l ∷ ls) h =
+    (printed_piece l (All-head (λ label. length label ≤ 63) l ls h), printed_zip ls (All-tail (λ label. length label ≤ 63) l ls h))
+
+-- labels before a last one
+abbrev symbols_of : List (List ℕ) → List ℕ → List Symbol
+symbols_of front last = dotted (map piece_of front) ++ piece_of last
+
+readable_of : (front : List (List ℕ)) (last : List ℕ) → All Bytes front → Bytes last → list_all is_readable (symbols_of front last) ≡ true
+readable_of [] last h k = all_printed_readable is_label_escape label_form last k
+readable_of (l ∷ ls) last h k =
+    let a = all_printed_readable is_label_escape label_form l (All-head Bytes l ls h) in
+    let b = readable_of ls last (All-tail Bytes l ls h) k in
+    ap (list_all is_readable) (append_assoc (piece_of l ++ Char 46 ∷ []) (dotted (map piece_of ls)) (piece_of last)
+    ∙ append_assoc (piece_of l) (Char 46 ∷ []) (symbols_of ls last))
+    ∙ list_all-append is_readable (piece_of l) (Char 46 ∷ symbols_of ls last) ∙ rw (a, b) refl
+
+joined_cons : (label : List ℕ) (labels : List (List ℕ)) (last : List ℕ) → joined_text (label ∷ (labels ++ last ∷ [])) ≡ label_text label ++ 46 ∷ joined_text (labels ++ last ∷ [])
+joined_cons label [] last = refl
+joined_cons label (l ∷ ls) last = refl
+
+spelled_of : (front : List (List ℕ)) (last : List ℕ) → encode_utf8_all (joined_text (front ++ last ∷ [])) ≡ flat_map bytes (symbols_of front last)
+spelled_of [] last = printed_bytes is_label_escape last
+spelled_of (l ∷ ls) last =
+    ap encode_utf8_all (joined_cons l ls last) ∙ encodes-append (label_text l) (46 ∷ joined_text (ls ++ last ∷ []))
+    ∙ (λ i. printed_bytes is_label_escape l i ++ encodes-append (46 ∷ []) (joined_text (ls ++ last ∷ [])) i)
+    ∙ ap (λ t. flat_map bytes (piece_of l) ++ (bytes (Char 46) ++ t)) (spelled_of ls last)
+    ∙ sym (flat_map-append bytes (piece_of l) (Char 46 ∷ symbols_of ls last))
+    ∙ ap (flat_map bytes) (sym (append_assoc (piece_of l ++ Char 46 ∷ []) (dotted (map piece_of ls)) (piece_of last)
+    ∙ append_assoc (piece_of l) (Char 46 ∷ []) (symbols_of ls last)))
+
+printed_named : (front : List (List ℕ)) (last : List ℕ) → All (λ label. 0 < length label) front → All (λ label. length label ≤ 63) front → length last ≤ 63
+    → All Bytes front → Bytes last → wire_length (front ++ closed last) ≤ 254 → HasNamed (encode_utf8_all (joined_text (front ++ last ∷ []))) front last []
+printed_named front last some short few h k fits = record {
+  symbols = symbols_of front last;
+  readable = readable_of front last h k;
+  spelled = spelled_of front last ∙ sym (append-nil (flat_map bytes (symbols_of front last)));
+  names = record {
+    pieces = map piece_of front;
+    last = piece_of last;
+    joined = refl;
+    finished = printed_zip front short;
+    opened = printed_piece last few;
+    some = some;
+    fits = fits;
+  };
+}
+
+-- the octets of labels are octets
+labels_bytes : (labels : List (List ℕ)) → Bytes (wire labels) → All Bytes labels
+labels_bytes [] h = λ k d lt. absurd (omega arith)
+labels_bytes (l ∷ ls) h =
+    let after = All-tail (λ b. b < 256) (length l) (l ++ wire ls) h in
+    All-cons Bytes l ls (front_bytes l (wire ls) after) (labels_bytes ls (back_bytes l (wire ls) after))
+  where
+    front_bytes : (a b : List ℕ) → Bytes (a ++ b) → Bytes a
+    front_bytes [] b h = λ k d lt. absurd (omega arith)
+    front_bytes (x ∷ a) b h =
+        All-cons (λ b. b < 256) x a (All-head (λ b. b < 256) x (a ++ b) h) (front_bytes a b (All-tail (λ b. b < 256) x (a ++ b) h))
+
+    back_bytes : (a b : List ℕ) → Bytes (a ++ b) → Bytes b
+    back_bytes [] b h = h
+    back_bytes (x ∷ a) b h = back_bytes a b (All-tail (λ b. b < 256) x (a ++ b) h)
+
+All-before : (P : List ℕ → Type 0) (a b : List (List ℕ)) → All P (a ++ b) → All P a
+All-before P [] b h = λ k d lt. absurd (omega arith)
+All-before P (x ∷ a) b h = All-cons P x a (All-head P x (a ++ b) h) (All-before P a b (All-tail P x (a ++ b) h))
+
+All-end : (P : List ℕ → Type 0) (a : List (List ℕ)) (x : List ℕ) → All P (a ++ x ∷ []) → P x
+All-end P [] x h = All-head P x [] h
+All-end P (y ∷ a) x h = All-end P a x (All-tail P y (a ++ x ∷ []) h)
+
+-- the root stands only last, so no label before it is one
+before_root : (front : List (List ℕ)) → ((a b : List (List ℕ)) → front ++ [] ∷ [] ≡ a ++ [] ∷ b → b ≡ []) → All (λ label. 0 < length label) front
+before_root [] h = λ k d lt. absurd (omega arith)
+before_root ([] ∷ xs) h = absurd (some xs (h [] (xs ++ [] ∷ []) refl))
+  where
+    some : (xs : List (List ℕ)) → xs ++ [] ∷ [] ≡ [] → ⊥
+    some [] e = cc
+    some (x ∷ xs) e = cc
+before_root ((o ∷ os) ∷ xs) h =
+    All-cons (λ label. 0 < length label) (o ∷ os) xs (omega arith)
+    (before_root xs (λ a b e. h ((o ∷ os) ∷ a) b (ap (λ l. (o ∷ os) ∷ l) e)))
+
+-- the last of some labels
+last_label : (x : List ℕ) (xs : List (List ℕ)) → (front : List (List ℕ)) × (last : List ℕ) × (x ∷ xs ≡ front ++ last ∷ [])
+last_label x [] = ([], x, refl)
+last_label x (y ∷ xs) = let f = last_label y xs in (x ∷ f.0, f.1, ap (λ l. x ∷ l) f.2)
+
+closed_one : (last : List ℕ) → 0 < length last → closed last ≡ last ∷ []
+closed_one [] h = absurd (omega arith)
+closed_one (x ∷ xs) h = refl
+
+relative : (O : Type 0) (x : List ℕ) (xs : List (List ℕ)) → IsName (x ∷ xs) × HasNoRoot (x ∷ xs) × (wire_length (x ∷ xs) ≤ 254) → Bytes (wire (x ∷ xs))
+    → ReadsAs {O = O} (encode_utf8_all (dotted_text (x ∷ xs))) (Relative (x ∷ xs))
+relative O x xs h are =
+    let f = last_label x xs in
+    let front = f.0 in
+    let last = f.1 in
+    let all = subst (λ l. All Bytes l) f.2 (labels_bytes (x ∷ xs) are) in
+    let short = subst (λ l. All (λ label. length label ≤ 63) l) f.2 h.0.short in
+    let some = subst (λ l. All (λ label. 0 < length label) l) f.2 h.1 in
+    let one : 0 < length last = All-end (λ label. 0 < length label) front last some in
+    let c = closed_one last one in
+    let fits = subst (λ l. wire_length l ≤ 254) (f.2 ∙ ap (λ l. front ++ l) (sym c)) h.2 in
+    let named = printed_named front last (All-before (λ label. 0 < length label) front (last ∷ []) some) (All-before (λ label. length label ≤ 63) front (last ∷ []) short)
+    (All-end (λ label. length label ≤ 63) front last short) (All-before Bytes front (last ∷ []) all) (All-end Bytes front last all) fits in
+    let no_root : x ∷ xs ≡ [] ∷ [] → ⊥ = (λ e. let n = All-head (λ label. 0 < length label) x xs h.1 in let m : x ≡ [] = cc e in omega (arith, n, ap length m)) in
+    let text = dotted_joined (x ∷ xs) no_root ∙ ap joined_text f.2 in (
+      front,
+      last,
+      subst (λ t. HasNamed (encode_utf8_all t) front last []) (sym text) named,
+      f.2 ∙ ap (λ l. front ++ l) (sym c),
+      λ none. absurd (omega (arith, one, ap length none)),
+    )
+
+absolute : (O : Type 0) (name front : List (List ℕ)) → IsName name → name ≡ front ++ [] ∷ [] → Bytes (wire name)
+    → ReadsAs {O = O} (encode_utf8_all (dotted_text name)) (Absolute name)
+absolute O name [] h e are = inl (ap (λ l. encode_utf8_all (dotted_text l)) e ∙ dot_bytes, e)
+absolute O name (x ∷ xs) h e are =
+    let front = x ∷ xs in
+    let all = subst (λ l. All Bytes l) e (labels_bytes name are) in
+    let short = subst (λ l. All (λ label. length label ≤ 63) l) e h.short in
+    let some = before_root front (λ a b f. h.root_last a b (e ∙ f)) in
+    let fits : wire_length (front ++ []) ≤ 254 =
+    omega (arith, h.fits, ap wire_length e, wire_length_append front ([] ∷ []), ap wire_length (append-nil front)) in
+    let named = printed_named front [] some (All-before (λ label. length label ≤ 63) front ([] ∷ []) short) (omega arith)
+    (All-before Bytes front ([] ∷ []) all) (λ k d lt. absurd (omega arith)) fits in
+    let no_root : name ≡ [] ∷ [] → ⊥ = (λ f. let n = sym e ∙ f in omega (arith, ap length n, length-append xs ([] ∷ []))) in
+    let text = dotted_joined name no_root ∙ ap joined_text e in
+    inr (front, subst (λ t. HasNamed (encode_utf8_all t) front [] []) (sym text) named, (λ f. let z : ⊥ = cc f in z), e)
+
+module _ {O : Type 0} where
+  pub printed_reads : (n : UncertainName O) → IsUncertain n → Bytes (wire (labels_of n)) → ReadsAs (encode_utf8_all (dotted_text (labels_of n))) n
+  printed_reads (Relative []) h are = ([], [], named_none, refl, λ e. refl)
+  printed_reads (Relative (x ∷ xs)) h are = relative O x xs h are
+  printed_reads (Absolute name) h are = absolute O name h.1.0 h.0 h.1.1 are

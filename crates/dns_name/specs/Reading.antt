@@ -1,0 +1,110 @@
+-- Reading a name from its text (RFC 1035 section 5.1).
+use Rattle.std.specs.Prelude.{◌≡◌, ◌≢◌, ◌⊎◌, ℕ, ◌+◌, ◌<◌, ◌≤◌, Bool, true, false, ◌==◌, not, List, [], ◌∷◌, ◌++◌, length, map, All, Option, Some, Result, Ok, Err, encode_utf8_all}
+use Rattle.std.specs.List.{flat_map, list_all, AllZip}
+use Rattle.std.specs.Iterator.{Yields, Drains}
+use Rattle.dns_symbol.specs.Symbol.{bytes, is_readable, octet_of}
+use Rattle.dns_symbol.specs.Text.{EndsAs}
+use Rattle.dns_symbol.specs.declared.symbol.Symbol.{Symbol}
+use Rattle.dns_symbol.specs.declared.symbol.Symbol.TheVariants.{Char, SimpleEscape, DecimalEscape}
+use Rattle.dns_symbol.specs.declared.symbol.BadSymbol.{BadSymbol}
+use Rattle.dns_wire_name.specs.Wire.{wire_length}
+use Rattle.dns_wire_name.specs.Building.{closed}
+use Rattle.dns_name.specs.Uncertain.{labels_of}
+use Rattle.dns_name.specs.declared.name.UncertainName.{UncertainName}
+use Rattle.dns_name.specs.declared.name.UncertainName.TheVariants.{Absolute, Relative}
+use Rattle.dns_name.specs.declared.name.error.FromStrError.{FromStrError}
+use Rattle.dns_name.specs.declared.name.error.FromStrError.TheVariants.{Symbol as NoSymbol, BadOctet, BinaryLabel, EmptyLabel, LongLabel, LongName, ShortBuf}
+
+-- a plain dot
+abbrev pub is_dot : Symbol → Bool
+is_dot (Char c) = c == 46
+is_dot (SimpleEscape o) = false
+is_dot (DecimalEscape o) = false
+
+-- an escaped opening bracket, which makes a label binary where it comes first (RFC 2673)
+abbrev pub bracket : Symbol
+bracket = SimpleEscape 91
+
+-- the symbols of a label: none is a plain dot, the first is no bracket, and their octets are at most 63
+pub record IsPiece (piece : List Symbol) (label : List ℕ) : Type 0 where
+  pub octets_are : map octet_of piece ≡ map Ok label
+  pub no_dot : list_all (λ x. not (is_dot x)) piece ≡ true
+  pub no_binary : (more : List Symbol) → piece ≡ bracket ∷ more → ⊥
+  pub short : length label ≤ 63
+
+-- pieces, with a plain dot after each
+abbrev pub dotted : List (List Symbol) → List Symbol
+dotted = flat_map (λ piece. piece ++ Char 46 ∷ [])
+
+-- the symbols are the pieces of finished labels, a plain dot after each, and the piece of the open label; no finished label is empty, and
+-- all have at most 254 octets
+pub record Names (symbols : List Symbol) (labels : List (List ℕ)) (current : List ℕ) : Type 0 where
+  pub pieces : List (List Symbol)
+  pub last : List Symbol
+  pub joined : symbols ≡ dotted pieces ++ last
+  pub finished : AllZip IsPiece pieces labels
+  pub opened : IsPiece last current
+  pub some : All (λ label. 0 < length label) labels
+  pub fits : wire_length (labels ++ closed current) ≤ 254
+
+-- the text begins with symbols that name these labels and the open one, and leaves the rest
+pub record HasNamed (text : List ℕ) (labels : List (List ℕ)) (current rest : List ℕ) : Type 0 where
+  pub symbols : List Symbol
+  pub readable : list_all is_readable symbols ≡ true
+  pub spelled : text ≡ flat_map bytes symbols ++ rest
+  pub names : Names symbols labels current
+
+-- the same, and the next symbol, which is no plain dot, is x
+pub record HasNamedBefore (text : List ℕ) (labels : List (List ℕ)) (current : List ℕ) (x : Symbol) : Type 0 where
+  pub rest : List ℕ
+  pub named : HasNamed text labels current (bytes x ++ rest)
+  pub readable : is_readable x ≡ true
+  pub no_dot : is_dot x ≡ false
+
+-- the same, and the symbol's octet is one more of the open label's
+abbrev pub HasNamedNext : List ℕ → List (List ℕ) → List ℕ → ℕ → Type 0
+HasNamedNext text labels current octet =
+    (x : Symbol) × HasNamedBefore text labels current x × (current ≡ [] → x ≢ bracket) × (octet_of x ≡ Ok octet)
+
+module _ {O : Type 0} where
+  -- the text is that of the name: no text is the empty relative name, a dot is the root, and another name is absolute exactly if a dot ends it
+  abbrev pub ReadsAs : List ℕ → UncertainName O → Type 0
+  ReadsAs text (Relative name) =
+      (labels : List (List ℕ)) × (current : List ℕ) × HasNamed text labels current [] × (name ≡ labels ++ closed current) × (current ≡ [] → text ≡ [])
+  ReadsAs text (Absolute name) =
+      ((text ≡ 46 ∷ []) × (name ≡ [] ∷ []))
+      ⊎ ((labels : List (List ℕ)) × HasNamed text labels [] [] × (labels ≢ []) × (name ≡ labels ++ [] ∷ []))
+
+  -- what reading a text answers, where `sure` octets surely fit and `most` ever do: its name, or the refusal of the earliest symbol, with the
+  -- labels before it
+  abbrev pub ReadsName : ℕ → ℕ → List ℕ → Result (UncertainName O) FromStrError → Type 0
+  ReadsName sure most text (Ok name) = ReadsAs text name × (wire_length (labels_of name) ≤ most)
+  ReadsName sure most text (Err (NoSymbol e)) =
+      (labels : List (List ℕ)) × (current : List ℕ) × (rest : List ℕ) × HasNamed text labels current rest × EndsAs rest (Some e)
+      × (wire_length (labels ++ closed current) ≤ most)
+  ReadsName sure most text (Err EmptyLabel) =
+      (labels : List (List ℕ)) × (rest : List ℕ) × HasNamed text labels [] (46 ∷ rest) × (labels ≡ [] → rest ≢ []) × (wire_length labels ≤ most)
+  ReadsName sure most text (Err BinaryLabel) =
+      (labels : List (List ℕ)) × HasNamedBefore text labels [] bracket × (wire_length labels ≤ most)
+  ReadsName sure most text (Err BadOctet) =
+      (labels : List (List ℕ)) × (current : List ℕ) × (x : Symbol) × (e : BadSymbol) × HasNamedBefore text labels current x × (octet_of x ≡ Err e)
+      × (wire_length (labels ++ closed current) ≤ most)
+  ReadsName sure most text (Err LongName) =
+      (labels : List (List ℕ)) × (current : List ℕ) × (octet : ℕ) × HasNamedNext text labels current octet
+      × (254 < wire_length (labels ++ closed (current ++ octet ∷ []))) × (wire_length (labels ++ closed current) ≤ most)
+  ReadsName sure most text (Err LongLabel) =
+      (labels : List (List ℕ)) × (current : List ℕ) × (octet : ℕ) × HasNamedNext text labels current octet
+      × (wire_length (labels ++ closed (current ++ octet ∷ [])) ≤ 254) × (length current ≡ 63) × (wire_length (labels ++ closed current) ≤ most)
+  ReadsName sure most text (Err ShortBuf) =
+      ((labels : List (List ℕ)) × (current : List ℕ) × (octet : ℕ) × HasNamedNext text labels current octet
+      × (wire_length (labels ++ closed (current ++ octet ∷ [])) ≤ 254) × (length current < 63) × (wire_length (labels ++ closed current) ≤ most)
+      × (sure < wire_length (labels ++ closed (current ++ octet ∷ []))))
+      ⊎ (((text ≡ 46 ∷ []) × (sure < 1))
+      ⊎ ((labels : List (List ℕ)) × HasNamed text labels [] [] × (labels ≢ []) × (wire_length labels ≤ most) × (sure < wire_length labels + 1)))
+
+  -- what reading a source of characters answers: the characters that it gave up to its end are a text that reads so, or those that were
+  -- taken are, however they go on
+  abbrev pub ReadsChars : {S : Type 0} → (S → Option ℕ → S → Type 0) → S → ℕ → ℕ → Result (UncertainName O) FromStrError → Type 0
+  ReadsChars {S} steps s sure most result = (taken : List ℕ) ×
+      ((Drains steps s taken × ReadsName sure most (encode_utf8_all taken) result)
+      ⊎ ((t : S) × Yields steps s taken t × ((more : List ℕ) → ReadsName sure most (encode_utf8_all (taken ++ more)) result)))

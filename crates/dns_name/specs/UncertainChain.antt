@@ -1,0 +1,12 @@
+-- The two names of an uncertain chain.
+use Rattle.dns_wire.specs.declared.octets.AsOctets.{Ghosts as OctetsGhosts}
+use Rattle.dns_wire_name.specs.declared.to_label_iter.ToLabelIter.{Ghosts}
+use Rattle.dns_name.specs.declared.name.UncertainName.{UncertainName}
+use Rattle.dns_name.specs.declared.chain.uncertain.UncertainChain.{UncertainChain}
+
+module _ {O R : Type 0} {o : OctetsGhosts O} {r : Ghosts R} where
+  abbrev pub first_of : UncertainChain O R o r → UncertainName O
+  first_of c = c.left
+
+  abbrev pub second_of : UncertainChain O R o r → R
+  second_of c = c.right

@@ -1,0 +1,212 @@
+//! Names one after another.
+ghost use Rattle.std.specs.Prelude.{◌≤◌, ◌++◌, Some, codes};
+ghost use Rattle.dns_wire_name.specs.Wire.{wire_length};
+
+use dns_scan::Scanner;
+use dns_wire::{EmptyBuilder, FromBuilder, OctetsBuilder, ShortBuf};
+use dns_wire_name::{
+    DisplayWithoutDot, FlattenInto, Label, Name, ToLabelIter, ToName, ToRelativeName,
+};
+use std::alloc::AllocError;
+use std::error::Error;
+use std::fmt;
+
+mod iter;
+mod uncertain;
+
+pub use dns_wire_name::DisplayWithDot;
+pub use iter::{ChainIter, UncertainChainIter};
+pub use uncertain::UncertainChain;
+
+/// Both names together have more than 255 octets.
+#[derive(Clone, Copy, Debug, PartialEq, Eq)]
+pub struct LongChainError;
+
+impl fmt::Display for LongChainError {
+    ghost output = { λ _. Some (codes "long domain name") };
+
+    fn fmt<W: fmt::Write>(&self, f: &mut fmt::Formatter<W>) -> fmt::Result {
+        write!(f, "long domain name")
+    }
+}
+
+impl Error for LongChainError {}
+
+/// A relative name and another name after it, of at most 255 octets together.
+#[derive(Drop)]
+pub struct Chain<L: ToRelativeName, R: ToLabelIter> {
+    left: L,
+    right: R,
+    ghost fits: { wire_length (L.labels left ++ R.labels right) ≤ 255 },
+}
+
+impl<L: ToRelativeName, R: ToLabelIter> Chain<L, R> {
+    ghost use Rattle.std.specs.Prelude.{◌≡◌, ◌≤◌, ◌+◌, ◌↔◌, ◌++◌, IsOk, IfOk};
+    ghost use Rattle.dns_wire_name.specs.Wire.{wire_length};
+    ghost use Rattle.dns_wire_name.specs.Shown.{dotted_name};
+    ghost use Rattle.dns_name.specs.Chain.{left_of, right_of};
+
+    /// The left name with the right one after it, or [`LongChainError`] where both together have
+    /// more than 255 octets.
+    #[tactic(auto, using(dns_wire_name::proofs::Wires::wire_length_append))]
+    pub fn new(left: L, right: R) -> Result<Self, LongChainError>
+    where
+        L: Drop,
+        R: Drop,
+        ensures ok { IsOk result ↔ (wire_length (L.labels left) + wire_length (R.labels right) ≤ 255) }
+        ensures value { IfOk result (λ c. (left_of c ≡ left) × (right_of c ≡ right)) }
+    {
+        if left.compose_len() > 255 - right.compose_len() {
+            return Err(LongChainError);
+        }
+        Ok(Chain { left, right })
+    }
+
+    /// This chain with another name after it, or [`LongChainError`] where all together have more
+    /// than 255 octets.
+    pub fn chain<T: ToLabelIter + Drop>(self, other: T) -> Result<Chain<Self, T>, LongChainError>
+    where
+        L: Drop,
+        R: ToRelativeName + Drop,
+        ensures ok { IsOk result ↔ (wire_length (L.labels (left_of self) ++ R.labels (right_of self)) + wire_length (T.labels other) ≤ 255) }
+        ensures value { IfOk result (λ c. (left_of c ≡ self) × (right_of c ≡ other)) }
+    {
+        Chain::new(self, other)
+    }
+
+    /// The left name and the right one.
+    pub fn unwrap(self) -> (L, R)
+        ensures { (result.0 ≡ left_of self) × (result.1 ≡ right_of self) }
+    {
+        (self.left, self.right)
+    }
+
+    /// The labels of the left name and then those of the right one.
+    pub fn iter_labels(&self) -> ChainIter<'_, L, R>
+        ensures { result ≡ L.labels (left_of self.now) ++ R.labels (right_of self.now) }
+    {
+        ChainIter::new(self)
+    }
+
+    /// Shows the labels with a dot at the end where the right name is absolute.
+    pub fn fmt_with_dot(&self) -> DisplayWithDot<'_, Self>
+        ensures { dotted_name result ≡ self.now }
+    {
+        DisplayWithDot::new(self)
+    }
+
+    /// The chain of clones of both names, refused only as one of these is.
+    pub fn clone(&self) -> Result<Self, AllocError>
+    where
+        L: Clone,
+        R: Clone,
+        requires left { (v w : L) → L.is_clone v w → w ≡ v }
+        requires right { (v w : R) → R.is_clone v w → w ≡ v }
+        ensures value { IfOk result (λ c. (left_of c ≡ left_of self.now) × (right_of c ≡ right_of self.now)) }
+        ensures succeeds { ((v : L) → L.is_infallible v) → ((v : R) → R.is_infallible v) → IsOk result }
+    {
+        Ok(Chain {
+            left: self.left.clone()?,
+            right: self.right.clone()?,
+        })
+    }
+}
+
+impl<L: ToRelativeName, R: ToName> Chain<L, R> {
+    ghost use Rattle.dns_scan.specs.Tokens.{ScansToken};
+
+    /// Scans a chain with a scanner whose names are such chains.
+    pub fn scan<S: Scanner<Name = Self>>(scanner: &mut S) -> Result<Self, S::Error>
+        requires { S.can_scan scanner.old }
+        ensures ready { S.can_scan scanner.new }
+        ensures scans { ScansToken S.next_token S.Error.cause S.reads_name scanner.old result scanner.new }
+    {
+        scanner.scan_name()
+    }
+}
+
+impl<L: ToRelativeName, R: ToLabelIter> ToLabelIter for Chain<L, R> {
+    ghost use Rattle.std.specs.Prelude.{◌++◌};
+    ghost use Rattle.dns_wire_name.proofs.Chains.{chain_name};
+    ghost use Rattle.dns_name.specs.Chain.{left_of, right_of};
+
+    ghost labels = { λ c. L.labels (left_of c) ++ R.labels (right_of c) };
+
+    ghost holds = { λ c. L.holds (left_of c) × R.holds (right_of c) };
+
+    #[tactic(auto, using(dns_wire_name::proofs::Chains::both_few))]
+    fn label_count(&self) -> usize {
+        self.left.label_count() + self.right.label_count()
+    }
+
+    fn label_at(&self, place: usize) -> Label<'_> {
+        let count = self.left.label_count();
+        if place < count {
+            self.left.label_at(place)
+        } else {
+            self.right.label_at(place - count)
+        }
+    }
+
+    fn compose_len(&self) -> u16 {
+        self.left.compose_len() + self.right.compose_len()
+    }
+
+    fn compose<B: OctetsBuilder>(&self, target: &mut B) -> Result<(), ShortBuf> {
+        self.left.compose(target)?;
+        self.right.compose(target)
+    }
+
+    ghost is_name = { λ c h. chain_name (L.labels (left_of c)) (R.labels (right_of c)) (L.is_name (left_of c) h.0) (L.has_no_root (left_of c) h.0) (R.is_name (right_of c) h.1) c.fits };
+}
+
+impl<L: ToRelativeName, R: ToName> ToName for Chain<L, R> {
+    ghost use Rattle.dns_wire_name.proofs.Chains.{chain_ends};
+    ghost use Rattle.dns_name.specs.Chain.{left_of, right_of};
+
+    ghost ends_in_root = { λ c h. chain_ends (L.labels (left_of c)) (R.labels (right_of c)) (R.ends_in_root (right_of c) h.1) };
+}
+
+impl<L: ToRelativeName, R: ToRelativeName> ToRelativeName for Chain<L, R> {
+    ghost use Rattle.dns_wire_name.proofs.Chains.{chain_relative};
+    ghost use Rattle.dns_name.specs.Chain.{left_of, right_of};
+
+    ghost has_no_root = { λ c h. chain_relative (L.labels (left_of c)) (R.labels (right_of c)) (L.has_no_root (left_of c) h.0) (R.has_no_root (right_of c) h.1) };
+}
+
+impl<L: ToRelativeName + Drop, R: ToName + FlattenInto<Name<T>> + Drop, T: FromBuilder> FlattenInto<
+    Name<T>,
+> for Chain<L, R>
+where
+    T::Builder: EmptyBuilder + Drop,
+{
+    type Alloc = <T::Builder as EmptyBuilder>::Alloc;
+
+    ghost takes = { T.Builder.sure };
+
+    ghost takes_at_most = { T.Builder.most };
+
+    fn try_flatten_into(self, alloc: Self::Alloc) -> Result<Name<T>, ShortBuf> {
+        Name::from_labels(alloc, &self)
+    }
+}
+
+/// The labels joined by dots, without a dot at the end; a lone root is one dot.
+impl<L: ToRelativeName, R: ToLabelIter> fmt::Display for Chain<L, R> {
+    ghost use Rattle.std.specs.Prelude.{Some, encode_utf8_all, ◌++◌};
+    ghost use Rattle.dns_wire_name.specs.Printed.{undotted_text};
+    ghost use Rattle.dns_name.specs.Chain.{left_of, right_of};
+
+    ghost output = { λ c. Some (encode_utf8_all (undotted_text (L.labels (left_of c) ++ R.labels (right_of c)))) };
+
+    fn fmt<W: fmt::Write>(&self, f: &mut fmt::Formatter<W>) -> fmt::Result {
+        let shown = DisplayWithoutDot::new(self);
+        write!(f, "{shown}")
+    }
+}
+
+impl<L: ToRelativeName, R: ToLabelIter> fmt::Debug for Chain<L, R> {
+    fn fmt<W: fmt::Write>(&self, f: &mut fmt::Formatter<W>) -> fmt::Result {
+        write!(f, "Chain({self})")
+    }
+}

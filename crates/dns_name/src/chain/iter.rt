@@ -1,0 +1,96 @@
+//! The labels of chains, from both ends.
+use crate::chain::{Chain, UncertainChain};
+use dns_wire_name::{Label, ToLabelIter};
+use std::alloc::AllocError;
+use std::marker::Model;
+
+/// The labels of a name that are left, from both ends.
+#[derive(Debug, Drop)]
+pub struct LabelIter<'a, N: ToLabelIter> {
+    name: &'a N,
+    front: usize,
+    back: usize,
+}
+
+/// The labels of a chain that are left, from both ends.
+pub type ChainIter<'a, L, R> = LabelIter<'a, Chain<L, R>>;
+
+/// The labels of an uncertain chain that are left, from both ends.
+pub type UncertainChainIter<'a, Octets, R> = LabelIter<'a, UncertainChain<Octets, R>>;
+
+impl<'a, N: ToLabelIter> Model for LabelIter<'a, N> {
+    ghost use Rattle.std.specs.Prelude.{◌≤◌, List, ℕ, length, slice_range};
+
+    ghost Value = { List (List ℕ) };
+
+    ghost view = { λ s. slice_range (N.labels s.name.now) s.front s.back };
+
+    ghost invariant = { λ s. (s.front ≤ s.back) × (s.back ≤ length (N.labels s.name.now)) };
+}
+
+impl<'a, N: ToLabelIter> LabelIter<'a, N> {
+    ghost use Rattle.std.specs.Prelude.{◌≡◌};
+
+    /// All labels of a name.
+    pub fn new(name: &'a N) -> Self
+        ensures { result ≡ N.labels name.now }
+    {
+        LabelIter {
+            name,
+            front: 0,
+            back: name.label_count(),
+        }
+    }
+}
+
+impl<'a, N: ToLabelIter> Clone for LabelIter<'a, N> {
+    ghost use Rattle.std.specs.Prelude.{◌≡◌};
+
+    ghost is_clone = { λ s copy. copy ≡ s };
+
+    ghost is_infallible = { λ _. Unit {0} };
+
+    fn clone(&self) -> Result<LabelIter<'a, N>, AllocError> {
+        Ok(LabelIter {
+            name: self.name,
+            front: self.front,
+            back: self.back,
+        })
+    }
+}
+
+impl<'a, N: ToLabelIter> Iterator for LabelIter<'a, N> {
+    ghost use Rattle.std.specs.Iterator.{YieldsFirstBy, item_count};
+    ghost use Rattle.dns_wire_name.specs.Label.{label_octets};
+
+    type Item = Label<'a>;
+
+    ghost next_gives = { YieldsFirstBy label_octets (λ s. s) };
+
+    ghost remaining = { item_count (λ s. s) };
+
+    fn next(&mut self) -> Option<Label<'a>> {
+        let place = self.front;
+        if place == self.back {
+            return None;
+        }
+        self.front = place + 1;
+        Some(self.name.label_at(place))
+    }
+}
+
+impl<'a, N: ToLabelIter> DoubleEndedIterator for LabelIter<'a, N> {
+    ghost use Rattle.std.specs.Iterator.{YieldsLastBy};
+    ghost use Rattle.dns_wire_name.specs.Label.{label_octets};
+
+    ghost next_back_gives = { YieldsLastBy label_octets (λ s. s) };
+
+    fn next_back(&mut self) -> Option<Label<'a>> {
+        if self.front == self.back {
+            return None;
+        }
+        let place = self.back - 1;
+        self.back = place;
+        Some(self.name.label_at(place))
+    }
+}

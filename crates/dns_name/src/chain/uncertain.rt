@@ -1,0 +1,168 @@
+//! Chains on uncertain names.
+ghost use Rattle.std.specs.Prelude.{◌≤◌};
+ghost use Rattle.dns_wire_name.specs.Wire.{wire_length};
+ghost use Rattle.dns_name.specs.Uncertain.{labels_after};
+
+use crate::chain::{Chain, DisplayWithDot, LongChainError, UncertainChainIter};
+use crate::name::UncertainName;
+use dns_scan::Scanner;
+use dns_wire::{AsOctets, OctetsBuilder, ShortBuf};
+use dns_wire_name::{DisplayWithoutDot, Label, ToLabelIter, ToName};
+use std::alloc::AllocError;
+use std::fmt;
+
+/// An uncertain name, and another name after it where it is relative.
+#[derive(Drop)]
+pub struct UncertainChain<Octets: AsOctets, R: ToLabelIter> {
+    left: UncertainName<Octets>,
+    right: R,
+    ghost fits: { wire_length (labels_after left (R.labels right)) ≤ 255 },
+}
+
+impl<Octets: AsOctets, R: ToLabelIter> UncertainChain<Octets, R> {
+    ghost use Rattle.std.specs.Prelude.{◌≡◌, ◌≤◌, ◌↔◌, IsOk, IfOk};
+    ghost use Rattle.dns_name.specs.UncertainChain.{first_of, second_of};
+
+    /// The left name with the right one after it. On a relative name it is [`LongChainError`] where
+    /// both together have more than 255 octets. On an absolute one no length is checked.
+    #[tactic(auto, using(dns_wire_name::proofs::Wires::wire_length_append))]
+    pub fn new(left: UncertainName<Octets>, right: R) -> Result<Self, LongChainError>
+    where
+        Octets: Drop,
+        R: Drop,
+        ensures ok { IsOk result ↔ (wire_length (labels_after left (R.labels right)) ≤ 255) }
+        ensures value { IfOk result (λ c. (first_of c ≡ left) × (second_of c ≡ right)) }
+    {
+        let room = 255 - left.compose_len();
+        if left.is_relative() && right.compose_len() > room {
+            return Err(LongChainError);
+        }
+        Ok(UncertainChain { left, right })
+    }
+
+    /// The left name and the right one.
+    pub fn unwrap(self) -> (UncertainName<Octets>, R)
+        ensures { (result.0 ≡ first_of self) × (result.1 ≡ second_of self) }
+    {
+        (self.left, self.right)
+    }
+
+    /// The chain of clones of both names, refused only as one of these is.
+    pub fn clone(&self) -> Result<Self, AllocError>
+    where
+        Octets: Clone,
+        R: Clone,
+        requires left { (v w : Octets) → Octets.is_clone v w → Octets.octets w ≡ Octets.octets v }
+        requires right { (v w : R) → R.is_clone v w → w ≡ v }
+        ensures value { IfOk result (λ c. (first_of c ≡ first_of self.now) × (second_of c ≡ second_of self.now)) }
+        ensures succeeds { ((v : Octets) → Octets.is_infallible v) → ((v : R) → R.is_infallible v) → IsOk result }
+    {
+        Ok(UncertainChain {
+            left: self.left.clone()?,
+            right: self.right.clone()?,
+        })
+    }
+}
+
+impl<Octets: AsOctets, R: ToName> UncertainChain<Octets, R> {
+    ghost use Rattle.std.specs.Prelude.{◌≡◌};
+    ghost use Rattle.dns_scan.specs.Tokens.{ScansToken};
+    ghost use Rattle.dns_name.specs.UncertainChain.{first_of, second_of};
+    ghost use Rattle.dns_wire_name.specs.Shown.{dotted_name};
+
+    /// Scans a chain with a scanner whose names are such chains.
+    pub fn scan<S: Scanner<Name = Self>>(scanner: &mut S) -> Result<Self, S::Error>
+        requires { S.can_scan scanner.old }
+        ensures ready { S.can_scan scanner.new }
+        ensures scans { ScansToken S.next_token S.Error.cause S.reads_name scanner.old result scanner.new }
+    {
+        scanner.scan_name()
+    }
+
+    /// The labels of the left name and then, where that is relative, those of the right one.
+    pub fn iter_labels(&self) -> UncertainChainIter<'_, Octets, R>
+        ensures { result ≡ labels_after (first_of self.now) (R.labels (second_of self.now)) }
+    {
+        UncertainChainIter::new(self)
+    }
+
+    /// Shows the labels with the dot of the root at the end.
+    pub fn fmt_with_dot(&self) -> DisplayWithDot<'_, Self>
+        ensures { dotted_name result ≡ self.now }
+    {
+        DisplayWithDot::new(self)
+    }
+}
+
+impl<Octets: AsOctets, R: ToName> ToLabelIter for UncertainChain<Octets, R> {
+    ghost use Rattle.dns_name.specs.UncertainChain.{first_of, second_of};
+    ghost use Rattle.dns_name.specs.Uncertain.{IsUncertain, after_name};
+
+    ghost labels = { λ c. labels_after (first_of c) (R.labels (second_of c)) };
+
+    ghost holds = { λ c. IsUncertain (first_of c) × R.holds (second_of c) };
+
+    fn label_count(&self) -> usize {
+        let right = self.right.label_count();
+        match &self.left {
+            UncertainName::Absolute(name) => name.label_count(),
+            UncertainName::Relative(name) => name.label_count() + right,
+        }
+    }
+
+    fn label_at(&self, place: usize) -> Label<'_> {
+        let count = self.left.label_count();
+        if place < count {
+            self.left.label_at(place)
+        } else {
+            self.right.label_at(place - count)
+        }
+    }
+
+    fn compose_len(&self) -> u16 {
+        let right = self.right.compose_len();
+        match &self.left {
+            UncertainName::Absolute(name) => name.compose_len(),
+            UncertainName::Relative(name) => name.compose_len() + right,
+        }
+    }
+
+    fn compose<B: OctetsBuilder>(&self, target: &mut B) -> Result<(), ShortBuf> {
+        match &self.left {
+            UncertainName::Absolute(name) => name.compose(target),
+            UncertainName::Relative(name) => {
+                name.compose(target)?;
+                self.right.compose(target)
+            }
+        }
+    }
+
+    ghost is_name = { λ c h. after_name (first_of c) (R.labels (second_of c)) h.0 (R.is_name (second_of c) h.1) c.fits };
+}
+
+impl<Octets: AsOctets, R: ToName> ToName for UncertainChain<Octets, R> {
+    ghost use Rattle.dns_name.specs.UncertainChain.{first_of, second_of};
+    ghost use Rattle.dns_name.specs.Uncertain.{after_ends};
+
+    ghost ends_in_root = { λ c h. after_ends (first_of c) (R.labels (second_of c)) h.0 (R.ends_in_root (second_of c) h.1) };
+}
+
+/// The labels joined by dots, without a dot at the end; a lone root is one dot.
+impl<Octets: AsOctets, R: ToName> fmt::Display for UncertainChain<Octets, R> {
+    ghost use Rattle.std.specs.Prelude.{Some, encode_utf8_all};
+    ghost use Rattle.dns_wire_name.specs.Printed.{undotted_text};
+    ghost use Rattle.dns_name.specs.UncertainChain.{first_of, second_of};
+
+    ghost output = { λ c. Some (encode_utf8_all (undotted_text (labels_after (first_of c) (R.labels (second_of c))))) };
+
+    fn fmt<W: fmt::Write>(&self, f: &mut fmt::Formatter<W>) -> fmt::Result {
+        let shown = DisplayWithoutDot::new(self);
+        write!(f, "{shown}")
+    }
+}
+
+impl<Octets: AsOctets, R: ToName> fmt::Debug for UncertainChain<Octets, R> {
+    fn fmt<W: fmt::Write>(&self, f: &mut fmt::Formatter<W>) -> fmt::Result {
+        write!(f, "UncertainChain({self})")
+    }
+}

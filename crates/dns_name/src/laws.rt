@@ -1,0 +1,42 @@
+//! Laws of names and their text.
+ghost use Rattle.std.specs.Prelude.{◌≡◌, encode_utf8_all};
+ghost use Rattle.dns_wire_name.specs.Printed.{dotted_text};
+ghost use Rattle.dns_name.specs.declared.name.UncertainName.{UncertainName};
+ghost use Rattle.dns_name.specs.Uncertain.{labels_of};
+ghost use Rattle.dns_name.specs.Reading.{ReadsAs};
+ghost use Rattle.std.specs.Prelude.{◌↔◌, true, map};
+ghost use Rattle.std.specs.List.{flat_map};
+ghost use Rattle.std.specs.Hash as fed;
+ghost use Rattle.dns_wire_name.specs.Order.{lowered, lowered_wire};
+ghost use Rattle.dns_name.specs.Uncertain.{is_absolute, same_uncertain};
+
+use crate::name::UncertainName;
+use dns_wire::AsOctets;
+
+/// The printed text of a name reads as it: the same labels, and absolute exactly if it is.
+pub fn printed_name_reads_back<Octets: AsOctets>(name: &UncertainName<Octets>)
+    ensures { ReadsAs (encode_utf8_all (dotted_text (labels_of name.now))) name.now }
+{
+    let _slice = name.as_slice();
+    let _octets = AsOctets::as_slice(name);
+}
+
+/// A text reads as one name alone.
+pub fn texts_have_one_name<Octets: AsOctets>(text: &str, name: &UncertainName<Octets>)
+    ensures { (other : UncertainName Octets) → ReadsAs text.now name.now → ReadsAs text.now other → other ≡ name.now }
+{
+    let _text = text;
+    let _name = name;
+}
+
+/// Names are equal exactly if they are of one kind and their labels agree in lower case, and equal
+/// names hash equally.
+pub fn equal_names<Octets: AsOctets>(left: &UncertainName<Octets>, right: &UncertainName<Octets>)
+    ensures equal { (same_uncertain left.now right.now ≡ true)
+        ↔ ((is_absolute left.now ≡ is_absolute right.now) × (map lowered (labels_of left.now) ≡ map lowered (labels_of right.now))) }
+    ensures hash { same_uncertain left.now right.now ≡ true
+        → flat_map fed.u8 (lowered_wire (labels_of left.now)) ≡ flat_map fed.u8 (lowered_wire (labels_of right.now)) }
+{
+    let _left = left;
+    let _right = right;
+}

@@ -1,0 +1,277 @@
+//! Names that are absolute or relative.
+use crate::chain::{LongChainError, UncertainChain};
+use dns_wire::{
+    AsOctets, EmptyBuilder, FreezeBuilder, FromBuilder, IntoBuilder, OctetsBuilder, ShortBuf,
+};
+use dns_wire_name::split::{Rest, rest_of};
+use dns_wire_name::{Name, NameIter, PushError, RelativeName, SplitLabelError, ToLabelIter};
+use std::alloc::{AllocError, Global};
+
+mod display;
+pub mod error;
+mod from_str;
+mod labels;
+mod scan;
+
+pub use error::{FromStrError, UncertainDnameError};
+
+/// A name that is absolute or relative.
+#[derive(Debug, Drop)]
+pub enum UncertainName<Octets: AsOctets> {
+    /// A name that ends in the root.
+    Absolute(Name<Octets>),
+    /// A name without the root.
+    Relative(RelativeName<Octets>),
+}
+
+impl UncertainName<&[u8]> {
+    ghost use Rattle.std.specs.Prelude.{◌≡◌, [], ◌∷◌};
+    ghost use Rattle.dns_name.specs.declared.name.UncertainName.TheVariants.{Absolute, Relative};
+
+    /// The root over fixed octets. It takes no memory.
+    pub fn root_ref() -> UncertainName<&'static [u8]>
+        ensures { result ≡ Absolute ([] ∷ []) }
+    {
+        UncertainName::Absolute(Name::root_ref())
+    }
+
+    /// The relative name of no labels, over fixed octets.
+    pub fn empty_ref() -> UncertainName<&'static [u8]>
+        ensures { result ≡ Relative [] }
+    {
+        UncertainName::Relative(RelativeName::empty_ref())
+    }
+}
+
+impl UncertainName<Vec<u8>> {
+    ghost use Rattle.std.specs.Prelude.{◌≡◌, [], ◌∷◌, IfOk};
+    ghost use Rattle.dns_name.specs.declared.name.UncertainName.TheVariants.{Absolute, Relative};
+
+    /// The root over a vector, or want of memory for its one octet.
+    pub fn root_vec(alloc: Global) -> Result<Self, ShortBuf>
+        ensures { IfOk result (λ n. n ≡ Absolute ([] ∷ [])) }
+    {
+        UncertainName::root(alloc)
+    }
+
+    /// The relative name of no labels over a vector. It takes no memory.
+    pub fn empty_vec(alloc: Global) -> Self
+        ensures { result ≡ Relative [] }
+    {
+        UncertainName::empty(alloc)
+    }
+}
+
+impl<Octets: AsOctets> UncertainName<Octets> {
+    ghost use Rattle.std.specs.Prelude.{◌≡◌, ◌≢◌, ◌≤◌, ◌+◌, ◌↔◌, true, false, [], ◌∷◌, IsTrue, IfOk, IsOk, IfSome, IsSome, MatchResult};
+    ghost use Rattle.dns_wire_name.specs.Wire.{wire, wire_length};
+    ghost use Rattle.dns_name.specs.Uncertain.{labels_of, labels_after, is_absolute, IsUncertain, MakesUncertain};
+    ghost use Rattle.dns_name.specs.UncertainChain.{first_of, second_of};
+    ghost use Rattle.dns_name.specs.Conversions.{AnswersAbsolute};
+    ghost use Rattle.dns_name.specs.declared.name.UncertainName.TheVariants.{Absolute, Relative};
+
+    /// This absolute name.
+    pub fn absolute(name: Name<Octets>) -> Self
+        ensures { result ≡ Absolute name }
+    {
+        UncertainName::Absolute(name)
+    }
+
+    /// This relative name.
+    pub fn relative(name: RelativeName<Octets>) -> Self
+        ensures { result ≡ Relative name }
+    {
+        UncertainName::Relative(name)
+    }
+
+    /// The root, or want of room for its one octet.
+    pub fn root(alloc: <Octets::Builder as EmptyBuilder>::Alloc) -> Result<Self, ShortBuf>
+    where
+        Octets: FromBuilder,
+        Octets::Builder: EmptyBuilder + Drop,
+        ensures value { IfOk result (λ n. n ≡ Absolute ([] ∷ [])) }
+        ensures succeeds { 1 ≤ Octets.Builder.sure → IsOk result }
+        ensures within { IsOk result → 1 ≤ Octets.Builder.most }
+    {
+        Ok(UncertainName::Absolute(Name::root(alloc)?))
+    }
+
+    /// The relative name of no labels. It takes no memory.
+    pub fn empty(alloc: <Octets::Builder as EmptyBuilder>::Alloc) -> Self
+    where
+        Octets: FromBuilder,
+        Octets::Builder: EmptyBuilder,
+        ensures { result ≡ Relative [] }
+    {
+        UncertainName::Relative(RelativeName::empty(alloc))
+    }
+
+    /// The name of these octets.
+    ///
+    /// More than 255 octets are [`UncertainDnameError::LongName`]. Then labels are split off from
+    /// the front, as [`Label::split_from`] does. Octets that end in the root are an absolute name,
+    /// and those that end before it are a relative one, of at most 254 octets. No octets at all are
+    /// [`UncertainDnameError::ShortInput`], and octets after the root
+    /// [`UncertainDnameError::TrailingData`].
+    pub fn from_octets(octets: Octets) -> Result<Self, UncertainDnameError>
+    where
+        Octets: Drop,
+        ensures { MakesUncertain (Octets.octets octets) result }
+    {
+        let slice = octets.as_slice();
+        if slice.len() > 255 {
+            return Err(UncertainDnameError::LongName);
+        }
+        match rest_of(slice) {
+            Rest::Root => match Name::from_octets(octets) {
+                Ok(name) => Ok(UncertainName::Absolute(name)),
+                Err(_) => Err(UncertainDnameError::LongName),
+            },
+            Rest::RootAndMore => Err(UncertainDnameError::TrailingData),
+            Rest::End => {
+                if slice.is_empty() {
+                    return Err(UncertainDnameError::ShortInput);
+                }
+                match RelativeName::from_octets(octets) {
+                    Ok(name) => Ok(UncertainName::Relative(name)),
+                    Err(_) => Err(UncertainDnameError::LongName),
+                }
+            }
+            Rest::Refused(SplitLabelError::ShortInput) => Err(UncertainDnameError::ShortInput),
+            Rest::Refused(SplitLabelError::BadType(e)) => Err(UncertainDnameError::BadLabel(e)),
+            Rest::Refused(SplitLabelError::Pointer(_)) => Err(UncertainDnameError::CompressedName),
+        }
+    }
+
+    /// Whether the name ends in the root.
+    pub fn is_absolute(&self) -> bool
+        ensures { result ≡ is_absolute self.now }
+    {
+        matches!(self, UncertainName::Absolute(_))
+    }
+
+    /// Whether the name is without the root.
+    pub fn is_relative(&self) -> bool
+        ensures { IsTrue result ↔ (is_absolute self.now ≡ false) }
+    {
+        matches!(self, UncertainName::Relative(_))
+    }
+
+    /// The absolute name, if it is one.
+    pub fn as_absolute(&self) -> Option<&Name<Octets>>
+        ensures some { IsSome result ↔ (is_absolute self.now ≡ true) }
+        ensures value { IfSome result (λ n. self.now ≡ Absolute n.now) }
+    {
+        match self {
+            UncertainName::Absolute(name) => Some(name),
+            UncertainName::Relative(_) => None,
+        }
+    }
+
+    /// The relative name, if it is one.
+    pub fn as_relative(&self) -> Option<&RelativeName<Octets>>
+        ensures some { IsSome result ↔ (is_absolute self.now ≡ false) }
+        ensures value { IfSome result (λ n. self.now ≡ Relative n.now) }
+    {
+        match self {
+            UncertainName::Absolute(_) => None,
+            UncertainName::Relative(name) => Some(name),
+        }
+    }
+
+    /// The absolute name, or a relative one back.
+    pub fn try_into_absolute(self) -> Result<Name<Octets>, Self>
+        ensures ok { IsOk result ↔ (is_absolute self ≡ true) }
+        ensures value { MatchResult result (λ n. self ≡ Absolute n) (λ n. n ≡ self) }
+    {
+        match self {
+            UncertainName::Absolute(name) => Ok(name),
+            UncertainName::Relative(name) => Err(UncertainName::Relative(name)),
+        }
+    }
+
+    /// The relative name, or an absolute one back.
+    pub fn try_into_relative(self) -> Result<RelativeName<Octets>, Self>
+        ensures ok { IsOk result ↔ (is_absolute self ≡ false) }
+        ensures value { MatchResult result (λ n. self ≡ Relative n) (λ n. n ≡ self) }
+    {
+        match self {
+            UncertainName::Absolute(name) => Err(UncertainName::Absolute(name)),
+            UncertainName::Relative(name) => Ok(name),
+        }
+    }
+
+    /// The absolute name, or the relative one with the root after its labels. It is refused only by
+    /// [`PushError::ShortBuf`], where there is no room for the root.
+    pub fn into_absolute(self) -> Result<Name<Octets>, PushError>
+    where
+        Octets: IntoBuilder,
+        Octets::Builder: OctetsBuilder + FreezeBuilder<Octets = Octets> + Drop,
+        ensures { AnswersAbsolute self Octets.Builder.sure Octets.Builder.most result }
+    {
+        match self {
+            UncertainName::Absolute(name) => Ok(name),
+            UncertainName::Relative(name) => name.into_absolute(),
+        }
+    }
+
+    /// The octets, in the type that holds them.
+    pub fn as_octets(&self) -> &Octets
+        ensures { Octets.octets result.now ≡ wire (labels_of self.now) }
+    {
+        match self {
+            UncertainName::Absolute(name) => name.as_octets(),
+            UncertainName::Relative(name) => name.as_octets(),
+        }
+    }
+
+    /// The wire octets.
+    pub fn as_slice(&self) -> &[u8]
+        ensures value { result.now ≡ wire (labels_of self.now) }
+        ensures holds { IsUncertain self.now }
+    {
+        match self {
+            UncertainName::Absolute(name) => name.as_slice(),
+            UncertainName::Relative(name) => name.as_slice(),
+        }
+    }
+
+    /// The labels in order.
+    pub fn iter_labels(&self) -> NameIter<'_>
+        ensures value { result ≡ labels_of self.now }
+        ensures holds { IsUncertain self.now }
+    {
+        match self {
+            UncertainName::Absolute(name) => name.iter_labels(),
+            UncertainName::Relative(name) => name.iter_labels(),
+        }
+    }
+
+    /// The same name over a clone of the octets, refused only as that clone is.
+    pub fn clone(&self) -> Result<Self, AllocError>
+    where
+        Octets: Clone,
+        requires { (v w : Octets) → Octets.is_clone v w → Octets.octets w ≡ Octets.octets v }
+        ensures value { IfOk result (λ n. n ≡ self.now) }
+        ensures succeeds { ((v : Octets) → Octets.is_infallible v) → IsOk result }
+    {
+        match self {
+            UncertainName::Absolute(name) => Ok(UncertainName::Absolute(name.clone()?)),
+            UncertainName::Relative(name) => Ok(UncertainName::Relative(name.clone()?)),
+        }
+    }
+
+    /// This name with another one after it. On a relative name it is [`LongChainError`] where both
+    /// together have more than 255 octets; after an absolute one nothing follows.
+    pub fn chain<S: ToLabelIter + Drop>(
+        self,
+        suffix: S,
+    ) -> Result<UncertainChain<Octets, S>, LongChainError>
+    where
+        Octets: Drop,
+        ensures ok { IsOk result ↔ (wire_length (labels_after self (S.labels suffix)) ≤ 255) }
+        ensures value { IfOk result (λ c. (first_of c ≡ self) × (second_of c ≡ suffix)) }
+    {
+        UncertainChain::new(self, suffix)
+    }
+}

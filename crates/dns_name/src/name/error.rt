@@ -1,0 +1,143 @@
+//! Why there is no name.
+use dns_symbol::symbol::SymbolCharsError;
+use dns_wire::ShortBuf;
+use dns_wire_name::{LabelTypeError, PushError, SplitLabelError};
+use std::error::Error;
+use std::fmt;
+
+/// Why octets are no name.
+#[derive(Clone, Copy, Debug, PartialEq, Eq)]
+pub enum UncertainDnameError {
+    /// A label has a lead octet of no known type.
+    BadLabel(LabelTypeError),
+    /// A pointer to another name stands in place of a label.
+    CompressedName,
+    /// There are more than 255 octets, or 255 and no root.
+    LongName,
+    /// Octets stand after the root.
+    TrailingData,
+    /// There are no octets, or they end within a label.
+    ShortInput,
+}
+
+impl fmt::Display for UncertainDnameError {
+    ghost use Rattle.std.specs.Prelude.{Some};
+    ghost use Rattle.dns_name.specs.Error.{octets_error_text};
+
+    ghost output = { λ e. Some (octets_error_text e) };
+
+    fn fmt<W: fmt::Write>(&self, f: &mut fmt::Formatter<W>) -> fmt::Result {
+        match *self {
+            UncertainDnameError::BadLabel(_) => write!(f, "bad label type"),
+            UncertainDnameError::CompressedName => write!(f, "compressed domain name"),
+            UncertainDnameError::LongName => write!(f, "long domain name"),
+            UncertainDnameError::TrailingData => write!(f, "trailing data"),
+            UncertainDnameError::ShortInput => write!(f, "unexpected end of input"),
+        }
+    }
+}
+
+impl Error for UncertainDnameError {}
+
+impl From<LabelTypeError> for UncertainDnameError {
+    ghost use Rattle.std.specs.Prelude.{◌≡◌};
+    ghost use Rattle.dns_name.specs.declared.name.error.UncertainDnameError.TheVariants.{BadLabel};
+
+    ghost from_gives = { λ e f. f ≡ BadLabel e };
+
+    fn from(error: LabelTypeError) -> Self {
+        UncertainDnameError::BadLabel(error)
+    }
+}
+
+impl From<SplitLabelError> for UncertainDnameError {
+    ghost use Rattle.std.specs.Prelude.{◌≡◌};
+    ghost use Rattle.dns_name.specs.Error.{of_split_error};
+
+    ghost from_gives = { λ e f. f ≡ of_split_error e };
+
+    fn from(error: SplitLabelError) -> Self {
+        match error {
+            SplitLabelError::Pointer(_) => UncertainDnameError::CompressedName,
+            SplitLabelError::BadType(error) => UncertainDnameError::BadLabel(error),
+            SplitLabelError::ShortInput => UncertainDnameError::ShortInput,
+        }
+    }
+}
+
+/// Why no name was read from a text.
+#[derive(Clone, Copy, Debug, PartialEq, Eq)]
+pub enum FromStrError {
+    /// What stands in the text is no symbol.
+    Symbol(SymbolCharsError),
+    /// A symbol has no octet.
+    BadOctet,
+    /// A label begins with an escaped opening bracket (RFC 2673).
+    BinaryLabel,
+    /// A label has no octets.
+    EmptyLabel,
+    /// A label has more than 63 octets.
+    LongLabel,
+    /// The labels without the root have more than 254 octets.
+    LongName,
+    /// There was no room for the octets, or no memory.
+    ShortBuf,
+}
+
+impl fmt::Display for FromStrError {
+    ghost use Rattle.std.specs.Prelude.{Some};
+    ghost use Rattle.dns_name.specs.Error.{from_str_text};
+
+    ghost output = { λ e. Some (from_str_text e) };
+
+    fn fmt<W: fmt::Write>(&self, f: &mut fmt::Formatter<W>) -> fmt::Result {
+        match *self {
+            FromStrError::Symbol(error) => write!(f, "{error}"),
+            FromStrError::BadOctet => write!(f, "illegal character in domain name"),
+            FromStrError::BinaryLabel => write!(f, "binary label"),
+            FromStrError::EmptyLabel => write!(f, "empty label"),
+            FromStrError::LongLabel => write!(f, "long label"),
+            FromStrError::LongName => write!(f, "long domain name"),
+            FromStrError::ShortBuf => write!(f, "buffer size exceeded"),
+        }
+    }
+}
+
+impl Error for FromStrError {}
+
+impl From<SymbolCharsError> for FromStrError {
+    ghost use Rattle.std.specs.Prelude.{◌≡◌};
+    ghost use Rattle.dns_name.specs.declared.name.error.FromStrError.TheVariants.{Symbol};
+
+    ghost from_gives = { λ e f. f ≡ Symbol e };
+
+    fn from(error: SymbolCharsError) -> Self {
+        FromStrError::Symbol(error)
+    }
+}
+
+impl From<PushError> for FromStrError {
+    ghost use Rattle.std.specs.Prelude.{◌≡◌};
+    ghost use Rattle.dns_name.specs.Error.{of_push_error};
+
+    ghost from_gives = { λ e f. f ≡ of_push_error e };
+
+    fn from(error: PushError) -> Self {
+        match error {
+            PushError::LongLabel => FromStrError::LongLabel,
+            PushError::LongName => FromStrError::LongName,
+            PushError::ShortBuf => FromStrError::ShortBuf,
+        }
+    }
+}
+
+impl From<ShortBuf> for FromStrError {
+    ghost use Rattle.std.specs.Prelude.{◌≡◌};
+    ghost use Rattle.dns_name.specs.declared.name.error.FromStrError.TheVariants.{ShortBuf as Short};
+
+    ghost from_gives = { λ _ f. f ≡ Short };
+
+    fn from(_: ShortBuf) -> Self {
+        FromStrError::ShortBuf
+    }
+}

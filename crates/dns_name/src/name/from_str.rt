@@ -1,0 +1,139 @@
+//! Reading names from text.
+ghost use Rattle.std.specs.Prelude.{◌≡◌};
+ghost use Rattle.dns_name.specs.Reading.{is_dot};
+ghost use Rattle.dns_name.specs.ReadingSteps.{TakesSymbol, MakesAbsolute, Finishes};
+
+use crate::name::{FromStrError, UncertainName};
+use dns_symbol::symbol::Symbol;
+use dns_wire::{AsOctets, AsOctetsMut, EmptyBuilder, FreezeBuilder, FromBuilder, OctetsBuilder};
+use dns_wire_name::NameBuilder;
+
+fn is_dot(symbol: Symbol) -> bool
+    ensures { result ≡ is_dot symbol }
+{
+    matches!(symbol, Symbol::Char('.'))
+}
+
+// Takes a symbol other than a plain dot.
+fn push_symbol<B: OctetsBuilder + AsOctetsMut>(
+    builder: &mut NameBuilder<B>,
+    symbol: Symbol,
+) -> Result<(), FromStrError>
+    ensures { TakesSymbol B.sure B.most builder.old symbol result builder.new }
+{
+    if symbol == Symbol::SimpleEscape(b'[') && !builder.in_label() {
+        return Err(FromStrError::BinaryLabel);
+    }
+    let Ok(octet) = symbol.into_octet() else {
+        return Err(FromStrError::BadOctet);
+    };
+    match builder.push(octet) {
+        Ok(()) => Ok(()),
+        Err(error) => Err(error.into()),
+    }
+}
+
+// The name with the root after its labels.
+fn absolute<B: OctetsBuilder + FreezeBuilder + Drop>(
+    builder: NameBuilder<B>,
+) -> Result<UncertainName<B::Octets>, FromStrError>
+    ensures { MakesAbsolute B.sure B.most builder result }
+{
+    match builder.into_name() {
+        Ok(name) => Ok(UncertainName::Absolute(name)),
+        Err(error) => Err(error.into()),
+    }
+}
+
+// The name at the end of the text.
+fn finish<B: OctetsBuilder + FreezeBuilder + Drop>(
+    builder: NameBuilder<B>,
+) -> Result<UncertainName<B::Octets>, FromStrError>
+    ensures { Finishes B.sure B.most builder result }
+{
+    if builder.in_label() || builder.is_empty() {
+        return Ok(UncertainName::Relative(builder.finish()));
+    }
+    absolute(builder)
+}
+
+impl<Octets: AsOctets> UncertainName<Octets> {
+    ghost use Rattle.std.specs.Prelude.{◌≡◌, ◌≤◌, Ok};
+    ghost use Rattle.std.specs.Iterator.{IsFinite};
+    ghost use Rattle.dns_wire_name.specs.Wire.{wire_length};
+    ghost use Rattle.dns_name.specs.Uncertain.{labels_of};
+    ghost use Rattle.dns_name.specs.declared.name.UncertainName.{UncertainName};
+    ghost use Rattle.dns_name.specs.Reading.{ReadsAs, ReadsName, ReadsChars};
+
+    /// Reads a name from the characters of its text, which must end.
+    ///
+    /// The labels are the symbols between plain dots (RFC 1035 section 5.1). No text is the empty
+    /// relative name and one dot the root. Another name is absolute where its text ends in a plain
+    /// dot.
+    ///
+    /// Symbols are read in order, and the first refusal is the answer. What is no symbol is
+    /// [`FromStrError::Symbol`]. A plain dot after no octet of a label is
+    /// [`FromStrError::EmptyLabel`], also as the first of several characters. An escaped opening
+    /// bracket that begins a label is [`FromStrError::BinaryLabel`]. A symbol without an octet is
+    /// [`FromStrError::BadOctet`]. More than 254 octets before the root are
+    /// [`FromStrError::LongName`], more than 63 in a label [`FromStrError::LongLabel`]. Want of room
+    /// comes last.
+    pub fn from_chars<C: Iterator<Item = char> + Drop>(
+        alloc: <Octets::Builder as EmptyBuilder>::Alloc,
+        chars: C,
+    ) -> Result<Self, FromStrError>
+    where
+        Octets: FromBuilder,
+        Octets::Builder: EmptyBuilder + AsOctetsMut + FreezeBuilder<Octets = Octets> + Drop,
+        requires can_next { C.can_next chars }
+        requires ends { IsFinite (C.remaining chars) }
+        ensures { ReadsChars C.next_gives chars Octets.Builder.sure Octets.Builder.most result }
+    {
+        let mut chars = chars;
+        let mut builder = NameBuilder::<Octets::Builder>::new(alloc);
+        while let Some(symbol) = Symbol::from_chars(&mut chars)? {
+            if !is_dot(symbol) {
+                push_symbol(&mut builder, symbol)?;
+                continue;
+            }
+            if builder.in_label() {
+                builder.end_label();
+                continue;
+            }
+            if !builder.is_empty() {
+                return Err(FromStrError::EmptyLabel);
+            }
+            if chars.next().is_some() {
+                return Err(FromStrError::EmptyLabel);
+            }
+            return absolute(builder);
+        }
+        finish(builder)
+    }
+
+    /// Reads a name from its text, as [`from_chars`](Self::from_chars) does.
+    pub fn from_str(
+        alloc: <Octets::Builder as EmptyBuilder>::Alloc,
+        text: &str,
+    ) -> Result<Self, FromStrError>
+    where
+        Octets: FromBuilder,
+        Octets::Builder: EmptyBuilder + AsOctetsMut + FreezeBuilder<Octets = Octets> + Drop,
+        ensures reads { ReadsName Octets.Builder.sure Octets.Builder.most text.now result }
+        ensures succeeds { (name : UncertainName Octets) → ReadsAs text.now name → wire_length (labels_of name) ≤ Octets.Builder.sure → result ≡ Ok name }
+    {
+        Self::read_text(alloc, text)
+    }
+
+    fn read_text(
+        alloc: <Octets::Builder as EmptyBuilder>::Alloc,
+        text: &str,
+    ) -> Result<Self, FromStrError>
+    where
+        Octets: FromBuilder,
+        Octets::Builder: EmptyBuilder + AsOctetsMut + FreezeBuilder<Octets = Octets> + Drop,
+        ensures { ReadsName Octets.Builder.sure Octets.Builder.most text.now result }
+    {
+        Self::from_chars(alloc, text.chars())
+    }
+}

@@ -1,0 +1,22 @@
+//! Scanning names.
+use crate::name::UncertainName;
+use dns_scan::Scanner;
+use dns_wire::AsOctets;
+use dns_wire_name::Name;
+
+impl<Octets: AsOctets> UncertainName<Octets> {
+    ghost use Rattle.dns_scan.specs.Tokens.{ScansToken};
+    ghost use Rattle.dns_name.specs.Scanned.{ReadsUncertain};
+
+    /// Scans an absolute name: what the scanner's `scan_name` gives.
+    pub fn scan<S: Scanner<Name = Name<Octets>>>(scanner: &mut S) -> Result<Self, S::Error>
+        requires { S.can_scan scanner.old }
+        ensures ready { S.can_scan scanner.new }
+        ensures scans { ScansToken S.next_token S.Error.cause (λ t r. ReadsUncertain (S.reads_name t) r) scanner.old result scanner.new }
+    {
+        match scanner.scan_name() {
+            Ok(name) => Ok(UncertainName::Absolute(name)),
+            Err(error) => Err(error),
+        }
+    }
+}

@@ -1,0 +1,158 @@
+//! The encodings and splitting, for C and other languages, as a static library.
+//!
+//! `bench/dns_text.h` declares the functions. Those of the encodings read one slice and write the
+//! other, and answer how many bytes they wrote: the greatest `size_t` where the text is refused,
+//! the output is too short or there is no memory.
+#![tactic(auto)]
+
+ghost use Rattle.std.specs.Prelude.{◌≡◌, ◌≢◌, ◌<◌, ◌≤◌, ◌-◌, ◌^◌, length, take};
+ghost use Rattle.std.specs.Str.{chars};
+ghost use Rattle.dns_codec.specs.Base.{base16, base32hex, base64, encoded};
+ghost use Rattle.dns_codec.specs.Grammar.{Decodes};
+ghost use Rattle.dns_split.specs.Splitting.{Entries, Splits};
+
+use dns_codec::{base16, base32, base64};
+use dns_split::splitting::split;
+use std::alloc::Global;
+use std::str;
+
+/// The answer of a call that wrote nothing.
+pub const REFUSED: usize = usize::MAX;
+
+/// Writes the base 16 text of octets.
+#[unsafe(no_mangle)]
+pub extern "C" fn dns_base16_encode(alloc: Global, octets: &[u8], text: &mut [u8]) -> usize
+    ensures { result ≢ REFUSED → take result text.new ≡ encoded base16 octets.now }
+{
+    match base16::encode_string(alloc, octets) {
+        Ok(encoded) => copied(encoded.as_bytes(), text),
+        Err(_) => REFUSED,
+    }
+}
+
+/// Writes the base32hex text of octets.
+#[unsafe(no_mangle)]
+pub extern "C" fn dns_base32hex_encode(alloc: Global, octets: &[u8], text: &mut [u8]) -> usize
+    ensures { result ≢ REFUSED → take result text.new ≡ encoded base32hex octets.now }
+{
+    match base32::encode_string_hex(alloc, octets) {
+        Ok(encoded) => copied(encoded.as_bytes(), text),
+        Err(_) => REFUSED,
+    }
+}
+
+/// Writes the base 64 text of octets.
+#[unsafe(no_mangle)]
+pub extern "C" fn dns_base64_encode(alloc: Global, octets: &[u8], text: &mut [u8]) -> usize
+    ensures { result ≢ REFUSED → take result text.new ≡ encoded base64 octets.now }
+{
+    match base64::encode_string(alloc, octets) {
+        Ok(encoded) => copied(encoded.as_bytes(), text),
+        Err(_) => REFUSED,
+    }
+}
+
+/// Writes the octets of a base 16 text.
+#[unsafe(no_mangle)]
+pub extern "C" fn dns_base16_decode(alloc: Global, text: &[u8], octets: &mut [u8]) -> usize
+    ensures { result ≢ REFUSED → Decodes base16 (chars text.now) (take result octets.new) }
+{
+    let Ok(text) = str::from_utf8(text) else {
+        return REFUSED;
+    };
+    match base16::decode::<Vec<u8>>(alloc, text) {
+        Ok(decoded) => copied(decoded.as_slice(), octets),
+        Err(_) => REFUSED,
+    }
+}
+
+/// Writes the octets of a base32hex text.
+#[unsafe(no_mangle)]
+pub extern "C" fn dns_base32hex_decode(alloc: Global, text: &[u8], octets: &mut [u8]) -> usize
+    ensures { result ≢ REFUSED → Decodes base32hex (chars text.now) (take result octets.new) }
+{
+    let Ok(text) = str::from_utf8(text) else {
+        return REFUSED;
+    };
+    match base32::decode_hex::<Vec<u8>>(alloc, text) {
+        Ok(decoded) => copied(decoded.as_slice(), octets),
+        Err(_) => REFUSED,
+    }
+}
+
+/// Writes the octets of a base 64 text.
+#[unsafe(no_mangle)]
+pub extern "C" fn dns_base64_decode(alloc: Global, text: &[u8], octets: &mut [u8]) -> usize
+    ensures { result ≢ REFUSED → Decodes base64 (chars text.now) (take result octets.new) }
+{
+    let Ok(text) = str::from_utf8(text) else {
+        return REFUSED;
+    };
+    match base64::decode::<Vec<u8>>(alloc, text) {
+        Ok(decoded) => copied(decoded.as_slice(), octets),
+        Err(_) => REFUSED,
+    }
+}
+
+/// How many entries the octets of a zone text split into.
+///
+/// It is 0 where the octets are no UTF-8 or don't split, or where memory was refused; a text that
+/// splits has an entry at least.
+#[unsafe(no_mangle)]
+pub extern "C" fn dns_text_split(alloc: Global, text: &[u8]) -> usize
+    ensures { 0 < result → (e : Entries) → Splits text.now e → length e ≡ result }
+{
+    let Ok(text) = str::from_utf8(text) else {
+        return 0;
+    };
+    match split(alloc, text) {
+        Ok(entries) => entries.len(),
+        Err(_) => 0,
+    }
+}
+
+// Copies bytes to the start of a slice, and answers how many, or that they don't fit.
+fn copied(from: &[u8], to: &mut [u8]) -> usize
+    ensures { result ≢ REFUSED → take result to.new ≡ from.now }
+{
+    if from.len() > to.len() {
+        return REFUSED;
+    }
+    to[..from.len()].copy_from_slice(from);
+    from.len()
+}
+
+#[cfg(test)]
+mod tests {
+    use super::*;
+
+    #[test]
+    fn counts_entries(rt: HostRuntime) {
+        let alloc = rt.alloc();
+        assert_eq!(rt; dns_text_split(alloc, b"a ( b\n)\n\"c\""), 2);
+        assert_eq!(rt; dns_text_split(alloc, b""), 1);
+        assert_eq!(rt; dns_text_split(alloc, b"a)"), 0);
+        assert_eq!(rt; dns_text_split(alloc, b"\xff"), 0);
+    }
+
+    #[test]
+    fn writes_and_reads(rt: HostRuntime) {
+        let alloc = rt.alloc();
+        let mut text = [0; 10];
+        assert_eq!(rt; dns_base16_encode(alloc, b"fo", &mut text), 4);
+        assert_eq!(rt; &text[..4], b"666F".as_slice());
+        assert_eq!(rt; dns_base32hex_encode(alloc, b"foobar", &mut text), 10);
+        assert_eq!(rt; text, *b"CPNMUOJ1E8");
+        assert_eq!(rt; dns_base64_encode(alloc, b"foob", &mut text), 8);
+        assert_eq!(rt; &text[..8], b"Zm9vYg==".as_slice());
+        let mut octets = [0; 6];
+        assert_eq!(rt; dns_base16_decode(alloc, b"666f", &mut octets), 2);
+        assert_eq!(rt; &octets[..2], b"fo".as_slice());
+        assert_eq!(rt; dns_base32hex_decode(alloc, b"cpnmuoj1e8", &mut octets), 6);
+        assert_eq!(rt; octets, *b"foobar");
+        assert_eq!(rt; dns_base64_decode(alloc, b"Zm9vYg==", &mut octets), 4);
+        assert_eq!(rt; &octets[..4], b"foob".as_slice());
+        assert_eq!(rt; dns_base64_decode(alloc, b"Zm9vYg=", &mut octets), REFUSED);
+        assert_eq!(rt; dns_base64_encode(alloc, b"foobarfoo", &mut text), REFUSED);
+    }
+}
