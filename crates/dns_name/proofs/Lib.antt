@@ -7,3 +7,5 @@ pub mod WholeName
 pub mod Printing
 pub mod TextRead
 pub mod Equal
+pub mod CutToken
+pub mod NameRows

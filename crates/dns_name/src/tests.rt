@@ -3,7 +3,7 @@ use crate::chain::{Chain, LongChainError, UncertainChain};
 use crate::name::{FromStrError, UncertainDnameError, UncertainName};
 use arrayvec::ArrayVec;
 use dns_symbol::symbol::SymbolCharsError;
-use dns_wire::{OctetsBuilder, ShortBuf};
+use dns_wire::{AsOctets, OctetsBuilder, ShortBuf};
 use dns_wire_name::{
     FlattenInto, Label, LabelTypeError, LongLabelError, Name, NameBuilder, NameError, PushError,
     RelativeName, SplitLabelError, ToLabelIter,
@@ -11,6 +11,8 @@ use dns_wire_name::{
 use std::alloc::Global;
 use std::hash::{DefaultHasher, Hash, Hasher};
 use std::test::Fail;
+
+mod scanning;
 
 type Vector = UncertainName<Vec<u8>>;
 
@@ -423,6 +425,7 @@ fn builds_names(rt: HostRuntime) -> Result<(), Fail> {
         builder.push(*octet)?;
     }
     assert!(rt; builder.in_label());
+    assert_eq!(rt; AsOctets::as_slice(&builder), slice(b"\x03www"));
     builder.append_label(b"example")?;
     builder.push(b'c')?;
     builder.end_label();

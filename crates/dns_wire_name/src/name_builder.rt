@@ -8,7 +8,7 @@ use crate::error::PushError;
 use crate::name::Name;
 use crate::relative::RelativeName;
 use arrayvec::ArrayVec;
-use dns_wire::{AsOctetsMut, EmptyBuilder, FreezeBuilder, OctetsBuilder, ShortBuf};
+use dns_wire::{AsOctets, AsOctetsMut, EmptyBuilder, FreezeBuilder, OctetsBuilder, ShortBuf};
 use std::marker::Model;
 
 // Adds an octet to the label of `count` octets that ends the octets.
@@ -212,5 +212,17 @@ impl<B: OctetsBuilder> NameBuilder<B> {
             }),
             Err(_) => Err(PushError::ShortBuf),
         }
+    }
+}
+
+/// The wire octets of the labels so far, as if the open one were closed.
+impl<B: OctetsBuilder> AsOctets for NameBuilder<B> {
+    ghost use Rattle.dns_wire_name.specs.Wire.{wire};
+    ghost use Rattle.dns_wire_name.specs.Building.{all_labels};
+
+    ghost octets = { λ b. wire (all_labels b) };
+
+    fn as_slice(&self) -> &[u8] {
+        AsOctets::as_slice(&self.inner)
     }
 }
