@@ -14,9 +14,10 @@
 #include <stdint.h>
 
 /* The encodings of RFC 4648 sections 8, 7 and 4. Each function reads `octets` or `text`, writes the
- * other, and answers how many bytes it wrote: SIZE_MAX where the text is not one of the encoding,
- * where the output is too short, or where memory was refused; what then stands in the output is
- * not said. The two must not overlap. A text has no end mark.
+ * other from its start on, and answers how many bytes it wrote. SIZE_MAX says that the text is not
+ * one of the encoding, or that the output is too short: an encoder then leaves it as it was, and
+ * what a decoder leaves there is not said. The two must not overlap. A text is its characters, one
+ * byte each, with no end mark. None of the six asks for memory.
  *
  * The text of n octets has 2 n characters in base 16, (8 n + 4) / 5 in base32hex and
  * (n + 2) / 3 * 4 in base 64. */

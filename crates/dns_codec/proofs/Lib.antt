@@ -14,8 +14,14 @@ pub mod PaddedRuns
 pub mod PaddedEnds
 pub mod Keeping
 pub mod Reading
+pub mod Fitting
 pub mod Putting
 pub mod Texts
 pub mod PlainConversions
 pub mod PaddedConversions
 pub mod EntryConversions
+pub mod Unrefused
+pub mod Groups
+pub mod Values
+pub mod SliceTexts
+pub mod Fronts

@@ -91,7 +91,7 @@ clean64_no_cause sure most room text os g Done at le =
 
 -- ---- texts of the grammar
 
-cases_last : (r : ℕ) → list_any (λ n. n == r) (0 ∷ 2 ∷ 3 ∷ []) ≡ true → (r ≡ 0) ⊎ ((r ≡ 2) ⊎ (r ≡ 3))
+pub cases_last : (r : ℕ) → list_any (λ n. n == r) (0 ∷ 2 ∷ 3 ∷ []) ≡ true → (r ≡ 0) ⊎ ((r ≡ 2) ⊎ (r ≡ 3))
 cases_last r any = elim (cases_Bool (0 == r)) [
   | inl is_zero ↦ inl (sym (eqb-true 0 r is_zero))
   | inr not_zero ↦ elim (cases_Bool (2 == r)) [

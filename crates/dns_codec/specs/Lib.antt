@@ -3,11 +3,13 @@ pub mod Base
 pub mod Grammar
 pub mod Errors
 pub mod Room
+pub mod Front
 pub mod Plain
 pub mod Padded
 pub mod Runs
 pub mod Outcome
 pub mod Shown
+pub mod Written
 pub mod Converter
 pub mod Conversion
 pub mod Rows

@@ -1,7 +1,7 @@
 //! Base 16, also called hex (RFC 4648, section 8).
 //!
 //! Two characters spell an octet. Texts are printed with capitals and read without case.
-ghost use Rattle.std.specs.Prelude.{◌≡◌, ℕ, ◌<◌, List, [], ⊤, codes, length, ◌≤◌, IfSome, OnOk, Some, IfOk, IfErr, IsOk, Ok, Err, MatchResult};
+ghost use Rattle.std.specs.Prelude.{◌≡◌, ℕ, ◌<◌, List, [], ⊤, codes, length, ◌≤◌, take, IfSome, IfNone, OnOk, Some, IfOk, IfErr, IsOk, Ok, Err, MatchResult};
 ghost use Rattle.std.specs.Str.{chars};
 ghost use Rattle.std.specs.Fmt.{WritesInCalls};
 ghost use Rattle.std.specs.String.{string_bytes};
@@ -14,11 +14,14 @@ ghost use Rattle.dns_codec.specs.Grammar.{Decodes};
 ghost use Rattle.dns_codec.specs.Outcome.{refusal_of, IsRefusedBy};
 ghost use Rattle.dns_codec.specs.Shown.{shown16};
 ghost use Rattle.dns_codec.specs.Plain.{IsNew, Pushes, Ends16};
+ghost use Rattle.dns_codec.specs.Written.{IsWritten};
 
 pub use crate::base64::DecodeError;
+use crate::blocks::append_groups;
 use crate::convert::Pieces;
-use crate::encode::write_names;
+use crate::encode::{put_names, write_names};
 use crate::group::take;
+use crate::read::{VALUES16, read_text};
 use crate::register::Register;
 use dns_scan::{ConvertSymbols, ScannerError};
 use dns_symbol::symbol::{EntrySymbol, Symbol};
@@ -53,10 +56,25 @@ pub fn decode<B: OctetsBuilder + EmptyBuilder + FreezeBuilder + Drop>(
     ensures refused { IfErr result (λ e. IsRefusedBy (refusal_of base16) B.sure B.most (chars s.now) e) }
 {
     let mut decoder: Decoder<B> = Decoder::new(alloc);
-    for c in s.chars() {
+    let rest = append_groups::<B, 4, 2, 1>(&VALUES16, &mut decoder.builder, s);
+    for c in rest.chars() {
         decoder.push(c)?;
     }
     decoder.finalize()
+}
+
+/// Reads a text of base 16 into the start of a slice, and answers how many octets; none where the
+/// text isn't in the grammar or its octets don't fit, of which [`decode`] says why.
+///
+/// What then stands in the slice isn't said.
+pub fn decode_slice(text: &[u8], octets: &mut [u8]) -> Option<usize>
+    ensures read { IfSome result (λ n. Decodes base16 text.now (take n octets.new) × (n ≤ length octets.new)) }
+    ensures refused { IfNone result ((v : List ℕ) → Decodes base16 text.now v → length octets.old < length v) }
+{
+    if text.len() % 2 != 0 {
+        return None;
+    }
+    read_text::<4, 2, 1>(&VALUES16, text, octets)
 }
 
 /// Reads a text of base 16 into a vector, as [`decode`] does.
@@ -74,6 +92,15 @@ pub fn display<W: fmt::Write>(bytes: &[u8], f: &mut W) -> fmt::Result
     ensures { OnOk result (WritesInCalls W.write_str_gives f.old (encoded base16 bytes.now) f.new) }
 {
     write_names::<W, 4, 1>(ALPHABET, bytes, f)
+}
+
+/// Writes the text of octets at the start of a slice, and answers how many characters it has.
+///
+/// The only error is that they don't fit; nothing is written then.
+pub fn encode_slice(bytes: &[u8], text: &mut [u8]) -> Result<usize, ShortBuf>
+    ensures { IsWritten (encoded base16 bytes.now) text.old result text.new }
+{
+    put_names::<4, 1>(ALPHABET, bytes, text)
 }
 
 /// The text of octets in base 16. The only error is want of memory.

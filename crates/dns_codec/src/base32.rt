@@ -2,7 +2,7 @@
 //!
 //! Eight characters spell five octets. Texts have no padding, are printed with capitals and read
 //! without case.
-ghost use Rattle.std.specs.Prelude.{◌≡◌, ℕ, ◌<◌, List, [], ⊤, codes, length, ◌≤◌, IfSome, OnOk, Some, IfOk, IfErr, IsOk, Ok, Err, MatchResult};
+ghost use Rattle.std.specs.Prelude.{◌≡◌, ℕ, ◌<◌, List, [], ⊤, codes, length, ◌≤◌, take, IfSome, IfNone, OnOk, Some, IfOk, IfErr, IsOk, Ok, Err, MatchResult};
 ghost use Rattle.std.specs.Str.{chars};
 ghost use Rattle.std.specs.Fmt.{WritesInCalls};
 ghost use Rattle.std.specs.String.{string_bytes};
@@ -14,12 +14,15 @@ ghost use Rattle.dns_codec.specs.Grammar.{Decodes, may_end};
 ghost use Rattle.dns_codec.specs.Outcome.{refusal_of, IsRefusedBy};
 ghost use Rattle.dns_codec.specs.Shown.{shown32};
 ghost use Rattle.dns_codec.specs.Plain.{IsNew, Pushes, Ends32};
+ghost use Rattle.dns_codec.specs.Written.{IsWritten};
 
 use crate::append::append_or;
 pub use crate::base64::DecodeError;
+use crate::blocks::append_groups;
 use crate::convert::Pieces;
-use crate::encode::write_names;
+use crate::encode::{put_names, write_names};
 use crate::group::take;
+use crate::read::{VALUES32HEX, read_text};
 use crate::register::Register;
 use dns_scan::{ConvertSymbols, ScannerError};
 use dns_symbol::symbol::{EntrySymbol, Symbol};
@@ -62,10 +65,25 @@ pub fn decode_hex<B: OctetsBuilder + EmptyBuilder + FreezeBuilder + Drop>(
     ensures refused { IfErr result (λ e. IsRefusedBy (refusal_of base32hex) B.sure B.most (chars s.now) e) }
 {
     let mut decoder: Decoder<B> = Decoder::new_hex(alloc);
-    for c in s.chars() {
+    let rest = append_groups::<B, 5, 8, 5>(&VALUES32HEX, &mut decoder.builder, s);
+    for c in rest.chars() {
         decoder.push(c)?;
     }
     decoder.finalize()
+}
+
+/// Reads a text of base32hex into the start of a slice, and answers how many octets; none where the
+/// text isn't in the grammar or its octets don't fit, of which [`decode_hex`] says why.
+///
+/// What then stands in the slice isn't said.
+pub fn decode_slice_hex(text: &[u8], octets: &mut [u8]) -> Option<usize>
+    ensures read { IfSome result (λ n. Decodes base32hex text.now (take n octets.new) × (n ≤ length octets.new)) }
+    ensures refused { IfNone result ((v : List ℕ) → Decodes base32hex text.now v → length octets.old < length v) }
+{
+    if !may_end_after((text.len() % 8) as u32) {
+        return None;
+    }
+    read_text::<5, 8, 5>(&VALUES32HEX, text, octets)
 }
 
 const ALPHABET: &[u8; 32] = b"0123456789ABCDEFGHIJKLMNOPQRSTUV";
@@ -75,6 +93,15 @@ pub fn display_hex<W: fmt::Write>(bytes: &[u8], f: &mut W) -> fmt::Result
     ensures { OnOk result (WritesInCalls W.write_str_gives f.old (encoded base32hex bytes.now) f.new) }
 {
     write_names::<W, 5, 5>(ALPHABET, bytes, f)
+}
+
+/// Writes the text of octets at the start of a slice, and answers how many characters it has.
+///
+/// The only error is that they don't fit; nothing is written then.
+pub fn encode_slice_hex(bytes: &[u8], text: &mut [u8]) -> Result<usize, ShortBuf>
+    ensures { IsWritten (encoded base32hex bytes.now) text.old result text.new }
+{
+    put_names::<5, 5>(ALPHABET, bytes, text)
 }
 
 /// The text of octets in base32hex. The only error is want of memory.

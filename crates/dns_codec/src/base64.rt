@@ -1,7 +1,7 @@
 //! Base 64 (RFC 4648, section 4).
 //!
 //! Four characters spell three octets, and a last group is padded with `=` to four characters.
-ghost use Rattle.std.specs.Prelude.{◌≡◌, ℕ, ◌<◌, List, [], ⊤, false, length, ◌≤◌, IfSome, OnOk, map, slice_index, ◌++◌, IfOk, IfErr, IsOk, Some, None, Ok, Err, MatchResult};
+ghost use Rattle.std.specs.Prelude.{◌≡◌, ◌≢◌, ℕ, ◌+◌, ◌-◌, ◌<◌, List, [], ⊤, false, length, ◌≤◌, take, IfSome, IfNone, OnOk, map, slice_index, ◌++◌, IfOk, IfErr, IsOk, Some, None, Ok, Err, MatchResult};
 ghost use Rattle.std.specs.Str.{chars};
 ghost use Rattle.std.specs.Fmt.{WritesInCalls};
 ghost use Rattle.std.specs.String.{string_bytes};
@@ -14,11 +14,14 @@ ghost use Rattle.dns_codec.specs.Outcome.{refusal_of64, IsRefusedBy};
 ghost use Rattle.dns_codec.specs.Bits.{pieces};
 ghost use Rattle.dns_codec.specs.Shown.{shown64};
 ghost use Rattle.dns_codec.specs.Padded.{move_in_group, move_after_half, padded_move, MovesParts, Pushes64, IsNewPadded, Ends64};
+ghost use Rattle.dns_codec.specs.Written.{IsWritten};
 ghost use Rattle.dns_codec.specs.declared.base64.Padding.TheVariants.{Absent, Half};
 
 use crate::append::append_or;
+use crate::blocks::append_groups;
 use crate::convert::Pieces;
-use crate::encode::write_names;
+use crate::encode::{put_block, put_octets, write_names};
+use crate::read::{VALUES64, read_text};
 use crate::register::Register;
 use dns_scan::{ConvertSymbols, ScannerError};
 use dns_symbol::symbol::{EntrySymbol, Symbol};
@@ -107,10 +110,40 @@ pub fn decode<B: OctetsBuilder + EmptyBuilder + FreezeBuilder + Drop>(
     ensures refused { IfErr result (λ e. IsRefusedBy refusal_of64 B.sure B.most (chars s.now) e) }
 {
     let mut decoder: Decoder<B> = Decoder::new(alloc);
-    for c in s.chars() {
+    let rest = append_groups::<B, 6, 4, 3>(&VALUES64, &mut decoder.builder, s);
+    for c in rest.chars() {
         decoder.push(c)?;
     }
     decoder.finalize()
+}
+
+/// Reads a text of base 64 into the start of a slice, and answers how many octets; none where the
+/// text isn't in the grammar or its octets don't fit, of which [`decode`] says why.
+///
+/// What then stands in the slice isn't said.
+pub fn decode_slice(text: &[u8], octets: &mut [u8]) -> Option<usize>
+    ensures read { IfSome result (λ n. Decodes base64 text.now (take n octets.new) × (n ≤ length octets.new)) }
+    ensures refused { IfNone result ((v : List ℕ) → Decodes base64 text.now v → length octets.old < length v) }
+{
+    if text.len() % 4 != 0 {
+        return None;
+    }
+    let chars = &text[..text.len() - marks_of(text)];
+    read_text::<6, 4, 3>(&VALUES64, chars, octets)
+}
+
+// How many `=` stand at the end of a text, up to two.
+fn marks_of(text: &[u8]) -> usize
+    ensures few { result ≤ 2 }
+    ensures within { result ≤ length text.now }
+    ensures marks { (k : ℕ) → length text.now ≤ k + result → k < length text.now → slice_index text.now k ≡ 61 }
+    ensures most { result < 2 → result < length text.now → slice_index text.now (length text.now - 1 - result) ≢ 61 }
+{
+    match text {
+        [.., b'=', b'='] => 2,
+        [.., b'='] => 1,
+        _ => 0,
+    }
 }
 
 const ALPHABET: &[u8; 64] = b"ABCDEFGHIJKLMNOPQRSTUVWXYZabcdefghijklmnopqrstuvwxyz0123456789+/";
@@ -121,6 +154,19 @@ pub fn display<W: fmt::Write>(bytes: &[u8], f: &mut W) -> fmt::Result
 {
     write_names::<W, 6, 3>(ALPHABET, bytes, f)?;
     f.write_str(padding_of(bytes))
+}
+
+/// Writes the text of octets at the start of a slice, and answers how many characters it has.
+///
+/// The only error is that they don't fit; nothing is written then.
+pub fn encode_slice(bytes: &[u8], text: &mut [u8]) -> Result<usize, ShortBuf>
+    ensures { IsWritten (encoded base64 bytes.now) text.old result text.new }
+{
+    if bytes.len().div_ceil(3) > text.len() / 4 {
+        return Err(ShortBuf);
+    }
+    let end = put_block::<6, 3>(ALPHABET, bytes, text);
+    Ok(put_octets(padding_of(bytes).as_bytes(), text, end))
 }
 
 // The `=` after the characters of octets.

@@ -68,6 +68,14 @@ pub fn grammar_is_read()
         → refusal_of64 room text ≡ None }
 {}
 
+/// And only such a text isn't refused: what `decode` doesn't refuse is a text of the grammar, and
+/// there is room for its octets.
+pub fn only_grammar_is_read()
+    ensures base16 { (text : List ℕ) (room : ℕ) → refusal_of base16 room text ≡ None → (octets : List ℕ) × Decodes base16 text octets × (length octets ≤ room) }
+    ensures base32hex { (text : List ℕ) (room : ℕ) → refusal_of base32hex room text ≡ None → (octets : List ℕ) × Decodes base32hex text octets × (length octets ≤ room) }
+    ensures base64 { (text : List ℕ) (room : ℕ) → refusal_of64 room text ≡ None → (octets : List ℕ) × Decodes base64 text octets × (length octets ≤ room) }
+{}
+
 /// A decoder that failed once keeps failing. In base 64 nothing changes any more; in base 16 and
 /// base32hex a later illegal character takes the place of the stored error, and the octets stay.
 pub fn failure_is_kept()

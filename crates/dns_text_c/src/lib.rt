@@ -1,12 +1,11 @@
 //! The encodings and splitting, for C and other languages, as a static library.
 //!
 //! `bench/dns_text.h` declares the functions. Those of the encodings read one slice and write the
-//! other, and answer how many bytes they wrote: the greatest `size_t` where the text is refused,
-//! the output is too short or there is no memory.
+//! other, and answer how many bytes they wrote: the greatest `size_t` where the text is refused or
+//! the output is too short. A text is its characters, one octet each. None of them asks for memory.
 #![tactic(auto)]
 
-ghost use Rattle.std.specs.Prelude.{◌≡◌, ◌≢◌, ◌<◌, ◌≤◌, ◌-◌, ◌^◌, length, take};
-ghost use Rattle.std.specs.Str.{chars};
+ghost use Rattle.std.specs.Prelude.{◌≡◌, ◌≢◌, ℕ, List, ◌<◌, ◌≤◌, ◌-◌, ◌^◌, length, take};
 ghost use Rattle.dns_codec.specs.Base.{base16, base32hex, base64, encoded};
 ghost use Rattle.dns_codec.specs.Grammar.{Decodes};
 ghost use Rattle.dns_split.specs.Splitting.{Entries, Splits};
@@ -21,77 +20,65 @@ pub const REFUSED: usize = usize::MAX;
 
 /// Writes the base 16 text of octets.
 #[unsafe(no_mangle)]
-pub extern "C" fn dns_base16_encode(alloc: Global, octets: &[u8], text: &mut [u8]) -> usize
-    ensures { result ≢ REFUSED → take result text.new ≡ encoded base16 octets.now }
+pub extern "C" fn dns_base16_encode(octets: &[u8], text: &mut [u8]) -> usize
+    ensures written { result ≢ REFUSED → take result text.new ≡ encoded base16 octets.now }
+    ensures refused { result ≡ REFUSED → (length text.old < length (encoded base16 octets.now)) × (text.new ≡ text.old) }
 {
-    match base16::encode_string(alloc, octets) {
-        Ok(encoded) => copied(encoded.as_bytes(), text),
+    match base16::encode_slice(octets, text) {
+        Ok(len) => len,
         Err(_) => REFUSED,
     }
 }
 
 /// Writes the base32hex text of octets.
 #[unsafe(no_mangle)]
-pub extern "C" fn dns_base32hex_encode(alloc: Global, octets: &[u8], text: &mut [u8]) -> usize
-    ensures { result ≢ REFUSED → take result text.new ≡ encoded base32hex octets.now }
+pub extern "C" fn dns_base32hex_encode(octets: &[u8], text: &mut [u8]) -> usize
+    ensures written { result ≢ REFUSED → take result text.new ≡ encoded base32hex octets.now }
+    ensures refused { result ≡ REFUSED → (length text.old < length (encoded base32hex octets.now)) × (text.new ≡ text.old) }
 {
-    match base32::encode_string_hex(alloc, octets) {
-        Ok(encoded) => copied(encoded.as_bytes(), text),
+    match base32::encode_slice_hex(octets, text) {
+        Ok(len) => len,
         Err(_) => REFUSED,
     }
 }
 
 /// Writes the base 64 text of octets.
 #[unsafe(no_mangle)]
-pub extern "C" fn dns_base64_encode(alloc: Global, octets: &[u8], text: &mut [u8]) -> usize
-    ensures { result ≢ REFUSED → take result text.new ≡ encoded base64 octets.now }
+pub extern "C" fn dns_base64_encode(octets: &[u8], text: &mut [u8]) -> usize
+    ensures written { result ≢ REFUSED → take result text.new ≡ encoded base64 octets.now }
+    ensures refused { result ≡ REFUSED → (length text.old < length (encoded base64 octets.now)) × (text.new ≡ text.old) }
 {
-    match base64::encode_string(alloc, octets) {
-        Ok(encoded) => copied(encoded.as_bytes(), text),
+    match base64::encode_slice(octets, text) {
+        Ok(len) => len,
         Err(_) => REFUSED,
     }
 }
 
 /// Writes the octets of a base 16 text.
 #[unsafe(no_mangle)]
-pub extern "C" fn dns_base16_decode(alloc: Global, text: &[u8], octets: &mut [u8]) -> usize
-    ensures { result ≢ REFUSED → Decodes base16 (chars text.now) (take result octets.new) }
+pub extern "C" fn dns_base16_decode(text: &[u8], octets: &mut [u8]) -> usize
+    ensures read { result ≢ REFUSED → Decodes base16 text.now (take result octets.new) }
+    ensures refused { result ≡ REFUSED → (v : List ℕ) → Decodes base16 text.now v → length octets.old < length v }
 {
-    let Ok(text) = str::from_utf8(text) else {
-        return REFUSED;
-    };
-    match base16::decode::<Vec<u8>>(alloc, text) {
-        Ok(decoded) => copied(decoded.as_slice(), octets),
-        Err(_) => REFUSED,
-    }
+    base16::decode_slice(text, octets).unwrap_or(REFUSED)
 }
 
 /// Writes the octets of a base32hex text.
 #[unsafe(no_mangle)]
-pub extern "C" fn dns_base32hex_decode(alloc: Global, text: &[u8], octets: &mut [u8]) -> usize
-    ensures { result ≢ REFUSED → Decodes base32hex (chars text.now) (take result octets.new) }
+pub extern "C" fn dns_base32hex_decode(text: &[u8], octets: &mut [u8]) -> usize
+    ensures read { result ≢ REFUSED → Decodes base32hex text.now (take result octets.new) }
+    ensures refused { result ≡ REFUSED → (v : List ℕ) → Decodes base32hex text.now v → length octets.old < length v }
 {
-    let Ok(text) = str::from_utf8(text) else {
-        return REFUSED;
-    };
-    match base32::decode_hex::<Vec<u8>>(alloc, text) {
-        Ok(decoded) => copied(decoded.as_slice(), octets),
-        Err(_) => REFUSED,
-    }
+    base32::decode_slice_hex(text, octets).unwrap_or(REFUSED)
 }
 
 /// Writes the octets of a base 64 text.
 #[unsafe(no_mangle)]
-pub extern "C" fn dns_base64_decode(alloc: Global, text: &[u8], octets: &mut [u8]) -> usize
-    ensures { result ≢ REFUSED → Decodes base64 (chars text.now) (take result octets.new) }
+pub extern "C" fn dns_base64_decode(text: &[u8], octets: &mut [u8]) -> usize
+    ensures read { result ≢ REFUSED → Decodes base64 text.now (take result octets.new) }
+    ensures refused { result ≡ REFUSED → (v : List ℕ) → Decodes base64 text.now v → length octets.old < length v }
 {
-    let Ok(text) = str::from_utf8(text) else {
-        return REFUSED;
-    };
-    match base64::decode::<Vec<u8>>(alloc, text) {
-        Ok(decoded) => copied(decoded.as_slice(), octets),
-        Err(_) => REFUSED,
-    }
+    base64::decode_slice(text, octets).unwrap_or(REFUSED)
 }
 
 /// How many entries the octets of a zone text split into.
@@ -111,17 +98,6 @@ pub extern "C" fn dns_text_split(alloc: Global, text: &[u8]) -> usize
     }
 }
 
-// Copies bytes to the start of a slice, and answers how many, or that they don't fit.
-fn copied(from: &[u8], to: &mut [u8]) -> usize
-    ensures { result ≢ REFUSED → take result to.new ≡ from.now }
-{
-    if from.len() > to.len() {
-        return REFUSED;
-    }
-    to[..from.len()].copy_from_slice(from);
-    from.len()
-}
-
 #[cfg(test)]
 mod tests {
     use super::*;
@@ -137,22 +113,21 @@ mod tests {
 
     #[test]
     fn writes_and_reads(rt: HostRuntime) {
-        let alloc = rt.alloc();
         let mut text = [0; 10];
-        assert_eq!(rt; dns_base16_encode(alloc, b"fo", &mut text), 4);
+        assert_eq!(rt; dns_base16_encode(b"fo", &mut text), 4);
         assert_eq!(rt; &text[..4], b"666F".as_slice());
-        assert_eq!(rt; dns_base32hex_encode(alloc, b"foobar", &mut text), 10);
+        assert_eq!(rt; dns_base32hex_encode(b"foobar", &mut text), 10);
         assert_eq!(rt; text, *b"CPNMUOJ1E8");
-        assert_eq!(rt; dns_base64_encode(alloc, b"foob", &mut text), 8);
+        assert_eq!(rt; dns_base64_encode(b"foob", &mut text), 8);
         assert_eq!(rt; &text[..8], b"Zm9vYg==".as_slice());
         let mut octets = [0; 6];
-        assert_eq!(rt; dns_base16_decode(alloc, b"666f", &mut octets), 2);
+        assert_eq!(rt; dns_base16_decode(b"666f", &mut octets), 2);
         assert_eq!(rt; &octets[..2], b"fo".as_slice());
-        assert_eq!(rt; dns_base32hex_decode(alloc, b"cpnmuoj1e8", &mut octets), 6);
+        assert_eq!(rt; dns_base32hex_decode(b"cpnmuoj1e8", &mut octets), 6);
         assert_eq!(rt; octets, *b"foobar");
-        assert_eq!(rt; dns_base64_decode(alloc, b"Zm9vYg==", &mut octets), 4);
+        assert_eq!(rt; dns_base64_decode(b"Zm9vYg==", &mut octets), 4);
         assert_eq!(rt; &octets[..4], b"foob".as_slice());
-        assert_eq!(rt; dns_base64_decode(alloc, b"Zm9vYg=", &mut octets), REFUSED);
-        assert_eq!(rt; dns_base64_encode(alloc, b"foobarfoo", &mut text), REFUSED);
+        assert_eq!(rt; dns_base64_decode(b"Zm9vYg=", &mut octets), REFUSED);
+        assert_eq!(rt; dns_base64_encode(b"foobarfoo", &mut text), REFUSED);
     }
 }

@@ -1,38 +1,66 @@
-use Rattle.std.proofs.Common.{◌∙◌, sym}
+use Rattle.std.proofs.Common.{◌≡◌, ◌∙◌, ◌++◌, sym, ap, append_assoc}
 use Rattle.std.specs.Str.{chars}
 use Rattle.std.proofs.lemmas.Iterator.{YieldsList-from_chars}
 use Rattle.std.proofs.lemmas.Iterator.Consumers.{YieldsList-turn, YieldsList-end, YieldsList-so_far}
 use Rattle.std.proofs.lemmas.Result.{err_from_is_err_and}
 use Rattle.dns_codec.specs.Base.{base16}
+use Rattle.dns_codec.specs.Plain.{Held}
 use Rattle.dns_codec.specs.Outcome.{refusal_of}
-use Rattle.dns_codec.proofs.PlainRuns.{plain16, clean_new, push_refused, push_taken}
+use Rattle.dns_codec.specs.declared.read.TheConstants.{VALUES16}
+use Rattle.dns_codec.proofs.PlainRuns.{plain16, push_refused, push_taken}
 use Rattle.dns_codec.proofs.PlainEnds.{finalized16, succeeds16}
 use Rattle.dns_codec.proofs.Reading.{map-same, text_here, clauses}
+use Rattle.dns_codec.proofs.Values.{table16}
+use Rattle.dns_codec.proofs.Fronts.{ascii16, front_chars, after_front, after_all, read_plain}
 use Rattle.dns_codec.proofs.base16.decode.Goals as goal
 
+pub append_groups-rest-requires-clause-ascii : goal.append_groups-rest-requires-clause-ascii
+append_groups-rest-requires-clause-ascii g c = ascii16
+
 pub loop-c-init : goal.loop-c-init
-loop-c-init g c = clean_new base16 plain16 g.B.OctetsBuilder.sure g.B.OctetsBuilder.most c.new-decoder.result c.new-decoder.ensures
+loop-c-init g c =
+    let same : c.into_iter-c-iterator.result.rest.now ≡ c.append_groups-rest.result.now = cc in
+    let new = c.new-decoder.ensures in
+    let view = c.decoder.view_is in
+    let os = g.B.AsOctets.octets c.decoder.inside.builder in
+    let rest = c.append_groups-rest.result.now in
+    let taken = g.B.AsOctets.octets c.append_groups-rest.new.builder in
+    let at = c.append_groups-rest.ensures in (
+      at.front,
+      rw same (front_chars base16 VALUES16 table16 2 g.B.OctetsBuilder.most c.args.s.now os rest taken at),
+      read_plain base16 plain16 VALUES16 table16 g.B.OctetsBuilder.sure g.B.OctetsBuilder.most c.args.s.now os rest taken c.decoder.inside.group c.decoder.inside.error
+          (ap (λ (x : Held). x.octets) view ∙ new.0) (ap (λ (x : Held). x.group) view ∙ new.1) (ap (λ (x : Held). x.error) view ∙ new.2) at,
+    )
 
 pub loop-c-preserved : goal.loop-c-preserved
-loop-c-preserved g c =
-    push_taken base16 plain16 g.B.OctetsBuilder.sure g.B.OctetsBuilder.most c.loop-c.yielded c.loop-c.decoder c.in-Some.c c.push.new.self c.push.result c.in_ok-push.field-0 c.loop-c.invariant c.push.ensures.pushes c.push.ensures.answers c.in_ok-push.was
+loop-c-preserved g c = (
+  c.loop-c.invariant.0,
+  c.loop-c.invariant.1,
+  rw (← append_assoc) (push_taken base16 plain16 g.B.OctetsBuilder.sure g.B.OctetsBuilder.most (c.loop-c.invariant.0 ++ c.loop-c.yielded) c.loop-c.decoder c.in-Some.c c.push.new.self c.push.result c.in_ok-push.field-0 c.loop-c.invariant.2 c.push.ensures.pushes c.push.ensures.answers c.in_ok-push.was),
+)
 
 pub returns-in_err-push : goal.returns-in_err-push
 returns-in_err-push g c =
-    let text = YieldsList-from_chars c.args.s.now c.utf8.s cc in
+    let rest = c.append_groups-rest.result.now in
+    let same : c.into_iter-c-iterator.result.rest.now ≡ rest = cc in
+    let split = rw same at c.loop-c.invariant.1 in
+    let text = YieldsList-from_chars rest c.append_groups-rest.utf8 same in
     let so_far = YieldsList-so_far text c.loop-c.yielded _ c.loop-c.yielded_by in
     let turn = YieldsList-turn text c.loop-c.yielded _ c.loop-c.yielded_by _ _ c.in-Some.c c.in-Some.is c.next.ensures.steps in
-    let here = text_here (chars c.args.s.now) c.loop-c.yielded c.in-Some.c so_far turn in
+    let here = after_front (chars c.args.s.now) c.loop-c.invariant.0 (chars rest) c.loop-c.yielded _ c.in-Some.c split (text_here (chars rest) c.loop-c.yielded c.in-Some.c so_far turn) in
     let p = err_from_is_err_and c.from_residual.result c.from_residual.ensures.1 in
     let k = clauses base16 (refusal_of base16) g.B.OctetsBuilder.sure g.B.OctetsBuilder.most (chars c.args.s.now) g.B.Octets.AsOctets.octets c.from_residual.result (λ octets room d le. (succeeds16 (chars c.args.s.now) octets room d le).0)
-    (rw (p.1, p.2) (rw here (push_refused base16 plain16 g.B.OctetsBuilder.sure g.B.OctetsBuilder.most c.loop-c.yielded _ c.loop-c.decoder c.in-Some.c c.push.new.self c.push.result _ c.loop-c.invariant c.push.ensures.pushes c.push.ensures.answers c.in_err-push.was))) in
+    (rw (p.1, p.2) (rw here (push_refused base16 plain16 g.B.OctetsBuilder.sure g.B.OctetsBuilder.most (c.loop-c.invariant.0 ++ c.loop-c.yielded) _ c.loop-c.decoder c.in-Some.c c.push.new.self c.push.result _ c.loop-c.invariant.2 c.push.ensures.pushes c.push.ensures.answers c.in_err-push.was))) in
     record { value = k.0; succeeds = k.1; refused = k.2 }
 
 pub returns : goal.returns
 returns g c =
-    let text = YieldsList-from_chars c.args.s.now c.utf8.s cc in
+    let rest = c.append_groups-rest.result.now in
+    let same : c.into_iter-c-iterator.result.rest.now ≡ rest = cc in
+    let split = rw same at c.loop-c.invariant.1 in
+    let text = YieldsList-from_chars rest c.append_groups-rest.utf8 same in
     let done = YieldsList-end text c.loop-c.yielded _ c.loop-c.yielded_by _ _ c.in-None.is c.next.ensures.steps in
-    let all = sym (map-same c.loop-c.yielded) ∙ done.0 in
+    let all = after_all (chars c.args.s.now) c.loop-c.invariant.0 (chars rest) c.loop-c.yielded split (sym (map-same c.loop-c.yielded) ∙ done.0) in
     let k = clauses base16 (refusal_of base16) g.B.OctetsBuilder.sure g.B.OctetsBuilder.most (chars c.args.s.now) g.B.Octets.AsOctets.octets c.finalize.result (λ octets room d le. (succeeds16 (chars c.args.s.now) octets room d le).0)
-    (finalized16 g.B.OctetsBuilder.sure g.B.OctetsBuilder.most (chars c.args.s.now) c.loop-c.decoder g.B.Octets.AsOctets.octets c.finalize.result (rw all at c.loop-c.invariant) c.finalize.ensures) in
+    (finalized16 g.B.OctetsBuilder.sure g.B.OctetsBuilder.most (chars c.args.s.now) c.loop-c.decoder g.B.Octets.AsOctets.octets c.finalize.result (rw all at c.loop-c.invariant.2) c.finalize.ensures) in
     record { value = k.0; succeeds = k.1; refused = k.2 }
