@@ -4,6 +4,7 @@ ghost use Rattle.std.specs.Fmt.{WritesInCalls};
 ghost use Rattle.dns_scan.specs.Entries.{Converts, ConvertToken};
 ghost use Rattle.dns_scan.specs.Stands.{StandsBefore};
 ghost use Rattle.dns_scan.specs.Tokens.{Token};
+ghost use Rattle.dns_iter.specs.Name.{ReadsNames};
 ghost use Rattle.dns_iter.specs.Program.{kind_name, LineBy, LineWritten, LinesWritten, OctetsLine, NumberPrints, NumberRefused, ScanPrinted, ScanRefused, refusal_line, usage_line, texts};
 ghost use Rattle.dns_iter.specs.Run.{AsksNothing, RunPrinted, RunRefused};
 
@@ -11,10 +12,12 @@ use crate::error::StrError;
 use crate::print::{layout_kind, run_print};
 use crate::scanner::IterScanner;
 use dns_codec::{base16, base32, base64};
+use dns_name::name::UncertainName;
 use dns_scan::number::scan_number;
 use dns_scan::{ConvertSymbols, Scanner};
 use dns_symbol::symbol::Symbol;
 use dns_wire::AsOctets;
+use dns_wire_name::Name;
 use std::alloc::Global;
 use std::fmt;
 use std::fmt::{Display, Write};
@@ -54,6 +57,9 @@ pub enum ScanKind {
 
     /// Octets in base 64, printed in hex.
     Base64,
+
+    /// Names, printed as absolute names with a dot at their end.
+    Name,
 }
 
 /// Why no more is printed.
@@ -78,6 +84,7 @@ fn scan_kind(word: &str) -> Option<ScanKind>
         "hex" => Some(ScanKind::Hex),
         "base32hex" => Some(ScanKind::Base32hex),
         "base64" => Some(ScanKind::Base64),
+        "name" => Some(ScanKind::Name),
         _ => None,
     }
 }
@@ -153,15 +160,38 @@ where
     }
 }
 
+// Prints the next token as a name.
+fn print_name<S: Scanner<Name = Name<Vec<u8>>>, O: fmt::Write>(
+    scanner: &mut S,
+    out: &mut O,
+) -> Result<(), Stop<S::Error>>
+    requires ready { S.can_scan scanner.old }
+    requires names { ReadsNames S.Error.cause S.reads_name }
+    ensures ready { S.can_scan scanner.new }
+    ensures line { (token : Token) (others : List Token) → StandsBefore S.next_token scanner.old (token ∷ others)
+        → LineWritten S.Error.cause O.write_str_gives ScanKind.Name token out.old result out.new }
+    ensures rest { (token : Token) (others : List Token) → StandsBefore S.next_token scanner.old (token ∷ others) → StandsBefore S.next_token scanner.new others }
+{
+    let name = match UncertainName::scan(scanner) {
+        Ok(name) => name,
+        Err(error) => return Err(Stop::Refused(error)),
+    };
+    match write!(out, "{name}\n") {
+        Ok(()) => Ok(()),
+        Err(_) => Err(Stop::WriteFailed),
+    }
+}
+
 // Prints the next token as a value of the kind.
-fn print_value<S: Scanner, O: fmt::Write>(
+fn print_value<S: Scanner<Name = Name<Vec<u8>>>, O: fmt::Write>(
     scanner: &mut S,
     kind: ScanKind,
     out: &mut O,
 ) -> Result<(), Stop<S::Error>>
 where
     S::Octets: Drop,
-    requires { S.can_scan scanner.old }
+    requires ready { S.can_scan scanner.old }
+    requires names { ReadsNames S.Error.cause S.reads_name }
     ensures ready { S.can_scan scanner.new }
     ensures line { (token : Token) (others : List Token) → StandsBefore S.next_token scanner.old (token ∷ others)
         → LineWritten S.Error.cause O.write_str_gives kind token out.old result out.new }
@@ -177,11 +207,12 @@ where
         ScanKind::Hex => print_octets(scanner, base16::SymbolConverter::new(), out),
         ScanKind::Base32hex => print_octets(scanner, base32::SymbolConverter::new(), out),
         ScanKind::Base64 => print_octets(scanner, base64::SymbolConverter::new(), out),
+        ScanKind::Name => print_name(scanner, out),
     }
 }
 
 // Prints as many tokens as there are words.
-fn print_values<S: Scanner, O: fmt::Write>(
+fn print_values<S: Scanner<Name = Name<Vec<u8>>>, O: fmt::Write>(
     scanner: &mut S,
     kind: ScanKind,
     tokens: &[&str],
@@ -190,6 +221,7 @@ fn print_values<S: Scanner, O: fmt::Write>(
 where
     S::Octets: Drop,
     requires ready { S.can_scan scanner.old }
+    requires names { ReadsNames S.Error.cause S.reads_name }
     requires stands { StandsBefore S.next_token scanner.old (texts tokens.now) }
     ensures { LinesWritten S.Error.cause O.write_str_gives kind (texts tokens.now) out.old result out.new }
 {

@@ -11,7 +11,7 @@ ghost use Rattle.dns_scan.specs.Answers.{AnswersGiven};
 ghost use Rattle.dns_scan.specs.Cause.{Cause};
 ghost use Rattle.dns_scan.specs.Numbers.{IsNumber};
 ghost use Rattle.dns_scan.specs.Octets.{GivesWhere, unquoted_token, quoted_token};
-ghost use Rattle.dns_scan.specs.Reads.{NumberReads, ReadsEach, ReadsFirst};
+ghost use Rattle.dns_scan.specs.Reads.{NumberReads, OctetsRead, ReadsEach, ReadsFirst};
 ghost use Rattle.dns_scan.specs.Steps.{octet_given};
 ghost use Rattle.dns_scan.specs.Stands.{StandsBefore};
 ghost use Rattle.dns_scan.specs.Tokens.{Token};
@@ -45,6 +45,14 @@ pub fn character_strings_are_scanned_back<S: Scanner>(
 {
     scanner.scan_charstr()
 }
+
+/// Over a builder whose room is known, as an array's, symbols are answered in one way, whatever each
+/// gives, and so is a token that is read as octets.
+pub fn octets_are_answered_in_one_way()
+    ensures symbols { (given : PlainSymbol → Result (List ℕ) (List ℕ)) (room : ℕ) (symbols : List PlainSymbol) (error : Option SymbolCharsError) (q r : Result (List ℕ) Cause)
+        → AnswersGiven given room room (λ why. why) (λ s. s) symbols error q → AnswersGiven given room room (λ why. why) (λ s. s) symbols error r → q ≡ r }
+    ensures token { (room : ℕ) (token : Token) (q r : Result (List ℕ) Cause) → OctetsRead room room token q → OctetsRead room room token r → q ≡ r }
+{}
 
 /// A token is read as a number in one way, and the decimal text of a number as that number. A
 /// token that is read as a number is plain digits of that value.

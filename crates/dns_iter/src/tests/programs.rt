@@ -14,7 +14,7 @@ const USAGE: &str = "usage: dnstext scan|print KIND WORD..\n";
 #[test]
 fn values_are_printed(rt: HostRuntime) {
     let alloc = rt.alloc();
-    let cases: [(&[&str], &str, &str, u8); 18] = [
+    let cases: [(&[&str], &str, &str, u8); 22] = [
         (
             &["scan", "charstr", "foo\\112", "f\\\"oo"],
             "foop\nf\\\"oo\n",
@@ -77,6 +77,25 @@ fn values_are_printed(rt: HostRuntime) {
         ),
         (&["scan", "base32hex", "co"], "66\n", "", 0),
         (&["scan", "base64", "Zh=="], "66\n", "", 0),
+        (
+            &["scan", "name", "www.example.com", ".", r"w\119w.", r"a\.b"],
+            "www.example.com.\n.\nwww.\na\\.b.\n",
+            "",
+            0,
+        ),
+        (&["scan", "name"], "", "", 0),
+        (
+            &["scan", "name", ""],
+            "",
+            "refused: invalid domain name\n",
+            1,
+        ),
+        (
+            &["scan", "name", "com.", r"w\01", "org"],
+            "com.\n",
+            "refused: unexpected end of input\n",
+            1,
+        ),
         (
             &["print", "multiline", "t:a", "(", "c:k", "t:b", ")", "n"],
             "a (\t; k\n    b )\n\n",
