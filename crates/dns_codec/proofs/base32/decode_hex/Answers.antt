@@ -25,7 +25,7 @@ loop-c-init g c =
     let os = g.B.AsOctets.octets c.decoder.inside.builder in
     let rest = c.append_groups-rest.result.now in
     let taken = g.B.AsOctets.octets c.append_groups-rest.new.builder in
-    let at = c.append_groups-rest.ensures in (
+    let at = c.append_groups-rest.ensures.front in (
       at.front,
       rw same (front_chars base32hex VALUES32HEX table32 8 g.B.OctetsBuilder.most c.args.s.now os rest taken at),
       read_plain base32hex plain32 VALUES32HEX table32 g.B.OctetsBuilder.sure g.B.OctetsBuilder.most c.args.s.now os rest taken c.decoder.inside.group c.decoder.inside.error
