@@ -5,7 +5,7 @@ ghost use Rattle.arrayvec.specs.ArrayVec.{array_vec_len};
 
 use crate::octets::AsOctets;
 use arrayvec::ArrayVec;
-use std::alloc::Global;
+use std::alloc::Allocator;
 use thiserror::Error;
 
 /// There was no room for the octets, or no memory.
@@ -88,7 +88,7 @@ pub trait Truncate: AsOctets {
         ensures { Self.octets self.new ≡ take len (Self.octets self.old) };
 }
 
-impl OctetsBuilder for Vec<u8> {
+impl<A: Allocator> OctetsBuilder for Vec<u8, A> {
     ghost sure = { 0 };
 
     ghost most = { greatest_length };
@@ -118,16 +118,16 @@ impl<const N: usize> OctetsBuilder for ArrayVec<u8, N> {
     }
 }
 
-impl EmptyBuilder for Vec<u8> {
-    type Alloc = Global;
+impl<A: Allocator + Copy> EmptyBuilder for Vec<u8, A> {
+    type Alloc = A;
 
     ghost takes_no_memory = { false };
 
-    fn empty(alloc: Global) -> Self {
+    fn empty(alloc: A) -> Self {
         Vec::new(alloc)
     }
 
-    fn with_capacity(alloc: Global, capacity: usize) -> Result<Self, ShortBuf> {
+    fn with_capacity(alloc: A, capacity: usize) -> Result<Self, ShortBuf> {
         Vec::with_capacity(alloc, capacity).map_err(|_| ShortBuf)
     }
 }
@@ -146,10 +146,10 @@ impl<const N: usize> EmptyBuilder for ArrayVec<u8, N> {
     }
 }
 
-impl FreezeBuilder for Vec<u8> {
-    type Octets = Vec<u8>;
+impl<A: Allocator> FreezeBuilder for Vec<u8, A> {
+    type Octets = Vec<u8, A>;
 
-    fn freeze(self) -> Vec<u8> {
+    fn freeze(self) -> Vec<u8, A> {
         self
     }
 }
@@ -162,10 +162,10 @@ impl<const N: usize> FreezeBuilder for ArrayVec<u8, N> {
     }
 }
 
-impl FromBuilder for Vec<u8> {
-    type Builder = Vec<u8>;
+impl<A: Allocator> FromBuilder for Vec<u8, A> {
+    type Builder = Vec<u8, A>;
 
-    fn from_builder(builder: Vec<u8>) -> Self {
+    fn from_builder(builder: Vec<u8, A>) -> Self {
         builder
     }
 }
@@ -178,10 +178,10 @@ impl<const N: usize> FromBuilder for ArrayVec<u8, N> {
     }
 }
 
-impl IntoBuilder for Vec<u8> {
-    type Builder = Vec<u8>;
+impl<A: Allocator> IntoBuilder for Vec<u8, A> {
+    type Builder = Vec<u8, A>;
 
-    fn into_builder(self) -> Vec<u8> {
+    fn into_builder(self) -> Vec<u8, A> {
         self
     }
 }
@@ -194,7 +194,7 @@ impl<const N: usize> IntoBuilder for ArrayVec<u8, N> {
     }
 }
 
-impl Truncate for Vec<u8> {
+impl<A: Allocator> Truncate for Vec<u8, A> {
     fn truncate(&mut self, len: usize) {
         Vec::truncate(self, len);
     }

@@ -11,7 +11,7 @@ pub trait Compose {
     ghost wire: { Self → List ℕ };
 
     /// Appends the wire form. Refused, the target has its old octets, and perhaps a beginning of
-    /// the wire form behind them.
+    /// the wire form after them.
     fn compose<Target: OctetsBuilder>(&self, target: &mut Target) -> Result<(), ShortBuf>
         ensures ok { OnOk result (Target.octets target.new ≡ Target.octets target.old ++ wire self.now) }
         ensures err { OnErr result ((count : ℕ) × (Target.octets target.new ≡ Target.octets target.old ++ take count (wire self.now))) }

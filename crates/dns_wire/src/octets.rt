@@ -2,12 +2,12 @@
 ghost use Rattle.std.specs.Prelude.{◌≡◌, ℕ, ◌<◌, ◌≤◌, ◌↔◌, List, length, All, IfOk, IsOk, refl};
 ghost use Rattle.std.specs.Borrow.{sem, Lends, Array, u8 as byte};
 ghost use Rattle.std.specs.Vec.{with_items};
-ghost use Rattle.dns_wire.specs.Octets.{written_over, written_through, refill_named};
+ghost use Rattle.dns_wire.specs.Octets.{greatest_length, written_over, written_through, refill_named};
 ghost use Rattle.arrayvec.specs.ArrayVec.{with_items as array_with_items};
 
 use crate::builder::{OctetsBuilder, ShortBuf};
 use arrayvec::ArrayVec;
-use std::alloc::Global;
+use std::alloc::Allocator;
 
 /// Octets that can be read as a slice.
 pub trait AsOctets {
@@ -38,13 +38,17 @@ pub trait OctetsFrom<S: AsOctets>: AsOctets + Sized {
     /// What is allocated from, or `()` where nothing is.
     type Alloc;
 
-    // How many octets it takes for certain.
+    // How many octets surely fit.
     ghost takes: { ℕ };
 
-    /// The same octets.
+    // How many octets it ever takes.
+    ghost takes_at_most: { ℕ };
+
+    /// The same octets, or lack of room for them.
     fn try_octets_from(alloc: Self::Alloc, source: S) -> Result<Self, ShortBuf>
         ensures value { IfOk result (λ t. Self.octets t ≡ S.octets source) }
-        ensures succeeds { length (S.octets source) ≤ takes → IsOk result };
+        ensures succeeds { length (S.octets source) ≤ takes → IsOk result }
+        ensures within { IsOk result → length (S.octets source) ≤ takes_at_most };
 }
 
 // The slice as it is, and that it has bytes.
@@ -71,7 +75,7 @@ impl AsOctets for &mut [u8] {
     }
 }
 
-impl AsOctets for Vec<u8> {
+impl<A: Allocator> AsOctets for Vec<u8, A> {
     ghost octets = { λ v. v.items };
 
     fn as_slice(&self) -> &[u8] {
@@ -99,11 +103,11 @@ impl AsOctetsMut for &mut [u8] {
     ghost octets_with = { λ _ _. refl };
 }
 
-impl AsOctetsMut for Vec<u8> {
+impl<A: Allocator> AsOctetsMut for Vec<u8, A> {
     ghost with_octets = { with_items };
 
     fn as_slice_mut(&mut self) -> &mut [u8] {
-        self.as_mut_slice()
+        Vec::as_mut_slice(self)
     }
 
     ghost octets_with = { λ v new. refill_named v.len v.items new v.ok.0 };
@@ -113,18 +117,20 @@ impl<const N: usize> AsOctetsMut for ArrayVec<u8, N> {
     ghost with_octets = { array_with_items };
 
     fn as_slice_mut(&mut self) -> &mut [u8] {
-        self.as_mut_slice()
+        ArrayVec::as_mut_slice(self)
     }
 
     ghost octets_with = { λ _ _. refl };
 }
 
-impl OctetsFrom<&[u8]> for Vec<u8> {
-    type Alloc = Global;
+impl<A: Allocator> OctetsFrom<&[u8]> for Vec<u8, A> {
+    type Alloc = A;
 
     ghost takes = { 0 };
 
-    fn try_octets_from(alloc: Global, source: &[u8]) -> Result<Self, ShortBuf> {
+    ghost takes_at_most = { greatest_length };
+
+    fn try_octets_from(alloc: A, source: &[u8]) -> Result<Self, ShortBuf> {
         let mut octets = Vec::new(alloc);
         octets.append_slice(source)?;
         Ok(octets)
@@ -136,9 +142,12 @@ impl<const N: usize> OctetsFrom<&[u8]> for ArrayVec<u8, N> {
 
     ghost takes = { N };
 
+    ghost takes_at_most = { N };
+
     fn try_octets_from(_alloc: (), source: &[u8]) -> Result<Self, ShortBuf>
         ensures value { IfOk result (λ t. t.items ≡ source.now) }
         ensures succeeds { length source.now ≤ N → IsOk result }
+        ensures within { IsOk result → length source.now ≤ N }
         ensures exact { IsOk result ↔ (length source.now ≤ N) }
     {
         let mut octets = ArrayVec::new();

@@ -47,8 +47,9 @@ fn vectors_are_builders(rt: HostRuntime) -> Result<(), Fail> {
     assert_eq!(rt; AsOctets::as_slice(&octets), b"foob".as_slice());
     write_first(&mut octets, b'b');
     assert_eq!(rt; AsOctets::as_slice(&octets), b"boob".as_slice());
-    let copy: Vec<u8> = OctetsFrom::try_octets_from(rt.alloc(), b"ab".as_slice())?;
-    assert_eq!(rt; AsOctets::as_slice(&copy), b"ab".as_slice());
+    let long = [7; 200].as_slice();
+    let copy: Vec<u8> = OctetsFrom::try_octets_from(rt.alloc(), long)?;
+    assert_eq!(rt; AsOctets::as_slice(&copy), long);
     Ok(())
 }
 
@@ -61,8 +62,11 @@ fn arrays_are_builders(rt: HostRuntime) -> Result<(), Fail> {
     write_first(&mut octets, b'b');
     assert_eq!(rt; AsOctets::as_slice(&octets), b"boobar".as_slice());
     assert!(rt; built::<ArrayVec<u8, 5>>((), &[b"foo", b"bar"]).is_err());
-    let copy: Result<ArrayVec<u8, 1>, ShortBuf> = OctetsFrom::try_octets_from((), b"ab".as_slice());
-    assert!(rt; copy.is_err());
+    let long = [7; 200].as_slice();
+    let copy = <ArrayVec<u8, 255> as OctetsFrom<&[u8]>>::try_octets_from((), long)?;
+    assert_eq!(rt; AsOctets::as_slice(&copy), long);
+    let copy = <ArrayVec<u8, 199> as OctetsFrom<&[u8]>>::try_octets_from((), long);
+    assert_eq!(rt; copy.err(), Some(ShortBuf));
     Ok(())
 }
 
@@ -120,15 +124,15 @@ fn a_time_to_live_is_its_seconds(rt: HostRuntime) {
     assert!(rt; Ttl::from_secs(1) != Ttl::from_secs(2));
 }
 
+// A width or an alignment changes nothing.
 #[test]
 fn errors_have_their_texts(rt: HostRuntime) -> Result<(), Fail> {
-    assert_eq!(rt;
-        ShortBuf.to_string(rt.alloc())?.as_str(),
-        "buffer size exceeded"
-    );
-    assert_eq!(rt;
-        ParseError::ShortInput.to_string(rt.alloc())?.as_str(),
-        "unexpected end of input"
-    );
+    let alloc = rt.alloc();
+    let text = "buffer size exceeded";
+    assert_eq!(rt; ShortBuf.to_string(alloc)?.as_str(), text);
+    assert_eq!(rt; format!(in alloc; "{ShortBuf:30}")?.as_str(), text);
+    let (error, text) = (ParseError::ShortInput, "unexpected end of input");
+    assert_eq!(rt; error.to_string(alloc)?.as_str(), text);
+    assert_eq!(rt; format!(in alloc; "{error:>30}")?.as_str(), text);
     Ok(())
 }
