@@ -67,7 +67,7 @@ some_bytes : (taken : List ℕ) → 0 < length taken → 0 < length (encode_utf8
 some_bytes [] some = absurd (omega arith)
 some_bytes (x ∷ xs) some = omega (arith, length-append (encode_utf8 x) (encode_utf8_all xs), length-encode x, (len_utf8_bounds x).0)
 
--- a cut escape begins with no symbol, for want of input
+-- a cut escape begins with no symbol, since the input ends too soon
 pub cut_ends : (text : List ℕ) → is_cut_escape text ≡ true → EndsAs text (Some ShortInput)
 cut_ends text cut =
     let f = cut_lead text cut in
@@ -75,7 +75,7 @@ cut_ends text cut =
     let e = escape_short text f.0 f.1 f.2 d.0 d.1 in
     (f.1, e.0, sym (cond-true _ _ _ cut))
 
--- nor do characters that are refused, however they go on
+-- refused characters begin with no symbol either, however they go on
 pub refused_ends : (taken more : List ℕ) → IsRefusedAt taken → EndsAs (encode_utf8_all (taken ++ more)) (Some BadEscape)
 refused_ends taken more refused =
     let text = encode_utf8_all (taken ++ more) in

@@ -74,7 +74,7 @@ module _ (is_escape : ℕ → Bool) where
   pub printed_back : IsForm is_escape → (octets : List ℕ) → All (λ o. o < 256) octets → IsReadBack is_escape octets
   printed_back form octets h = record { read = printed_symbols form octets h; given = printed_octets octets }
 
-  -- and whatever follows it, the text begins with them
+  -- whatever follows the text, it begins with their bytes
   pub printed_front : (octets : List ℕ) (rest : List ℕ) → encode_utf8_all (text_of is_escape octets) ++ rest ≡ flat_map bytes (map (symbol_of is_escape) octets) ++ rest
   printed_front octets rest = ap (λ t. t ++ rest) (printed_bytes octets)
 

@@ -19,11 +19,11 @@ cut_two a b p q = rw (p, q) refl
 no_plain : (x : ℕ) → is_readable (Char x) ≡ true → x ≡ 92 → ⊥
 no_plain x h e = grind (arith, nat_tests)
 
--- a simple escape is of no digit
+-- a simple escape never names a digit
 no_digit : (o a : ℕ) → is_readable (SimpleEscape o) ≡ true → is_digit a ≡ true → o ≡ a → ⊥
 no_digit o a h p e = grind (arith, nat_tests)
 
--- a character after the backslash that is not printable
+-- after a backslash, a character that is not printable
 none_second : (c : ℕ) → is_printable c ≡ false → CharsBeginNone (92 ∷ c ∷ [])
 none_second c out more rest (Char x) h e = let f : x ≡ 92 = cc e in no_plain x h f
 none_second c out more rest (SimpleEscape o) h e = let f : o ≡ c = cc e in grind (arith, nat_tests)
@@ -38,7 +38,7 @@ refused_second c out =
     let no : is_digit c ≡ false = grind (arith, nat_tests) in
     (92 ∷ [], c, refl, refl, rw no refl, none_second c out)
 
--- a character after one digit that is none
+-- after a backslash and one digit, a character that is no digit
 none_third : (a c : ℕ) → is_digit a ≡ true → is_digit c ≡ false → CharsBeginNone (92 ∷ a ∷ c ∷ [])
 none_third a c p out more rest (Char x) h e = let f : x ≡ 92 = cc e in no_plain x h f
 none_third a c p out more rest (SimpleEscape o) h e = let f : o ≡ a = cc e in no_digit o a h p f
@@ -50,7 +50,7 @@ none_third a c p out more rest (DecimalEscape o) h e =
 pub refused_third : (a c : ℕ) → is_digit a ≡ true → is_digit c ≡ false → IsRefusedAt (92 ∷ a ∷ c ∷ [])
 refused_third a c p out = (92 ∷ a ∷ [], c, cut_one a p, refl, rw (p, out) refl, none_third a c p out)
 
--- a character after two digits that is none
+-- after a backslash and two digits, a character that is no digit
 none_fourth : (a b c : ℕ) → is_digit a ≡ true → is_digit c ≡ false → CharsBeginNone (92 ∷ a ∷ b ∷ c ∷ [])
 none_fourth a b c p out more rest (Char x) h e = let f : x ≡ 92 = cc e in no_plain x h f
 none_fourth a b c p out more rest (SimpleEscape o) h e = let f : o ≡ a = cc e in no_digit o a h p f
@@ -87,7 +87,7 @@ refused_value a b c p q r over = (
     digit : (d : ℕ) → d < 10 → is_digit (48 + d) ≡ true
     digit d h = grind (arith, nat_tests)
 
--- the digits of a value that has them
+-- the three digits of a value made of them
 pub hundreds_of : (a b c : ℕ) → b < 10 → c < 10 → (a * 100 + b * 10 + c) / 100 ≡ a
 hundreds_of a b c q r = omega arith
 
