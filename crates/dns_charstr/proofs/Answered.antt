@@ -9,7 +9,7 @@ use Rattle.dns_charstr.specs.declared.charstr.error.FromStrError.{FromStrError}
 use Rattle.dns_charstr.specs.declared.charstr.error.FromStrError.TheVariants.{Presentation, ShortBuf}
 use Rattle.dns_charstr.specs.declared.charstr.error.PresentationError.TheVariants.{LongString, SymbolChars, BadSymbol as Bad}
 
--- as many symbols as octets
+-- there are as many symbols as octets
 pub octets_count : (symbols : List Symbol) (octets : List ℕ) → map octet_of symbols ≡ map Ok octets → length symbols ≡ length octets
 octets_count [] [] h = refl
 octets_count [] (o ∷ os) h = cc
@@ -48,7 +48,7 @@ octet_next text octets begun x whole part =
     let same = (symbols_same text whole.symbols (part.front ++ x ∷ part.others) None part.error whole.read part.read).0 in
     octets_each part.front x part.others octets (sym (ap (map octet_of) same) ∙ whole.octets_are)
 
--- a text that is all symbols with octets is read in whole, or there was not surely room for them
+-- a text whose symbols all have octets is read as these, or more octets than surely fit were needed
 pub read_or_short : (sure most : ℕ) (text octets : List ℕ) (r : Result (List ℕ) FromStrError) → ReadsText sure most text r → HasOctets text octets
     → length octets ≤ 255 → (r ≡ Ok octets) ⊎ ((r ≡ Err ShortBuf) × (sure < length octets))
 read_or_short sure most text octets (Ok os) h whole short = inl (ap Ok (one_list text os octets h.0 whole))

@@ -16,7 +16,7 @@ use Rattle.dns_charstr.specs.declared.charstr.error.PresentationError.TheVariant
 abbrev Answer : Type 0
 Answer = Result (List ℕ) FromStrError
 
--- what comes of a symbol, where an octet goes on to more
+-- what a symbol leads to: a refusal, or what its octet leads to
 abbrev took : (full short : Bool) → Result ℕ BadSymbol → (ℕ → Answer) → Answer
 took true short octet more = Err (Presentation LongString)
 took false short (Err e) more = Err (Presentation (Bad e))

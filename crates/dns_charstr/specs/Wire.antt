@@ -9,7 +9,7 @@ wire_of octets = length octets ∷ octets
 abbrev pub BeginsNone : List ℕ → Type 0
 BeginsNone front = (octets more : List ℕ) → front ≡ wire_of octets ++ more → ⊥
 
--- what a refused append leaves: the octets as they were, where the length octet may not fit, or these and the length octet, where the others may not
+-- what a refused append leaves: the octets as they were, if the length octet didn't surely fit; or these and the length octet, if the whole wire form didn't
 abbrev pub IsLeft : ℕ → ℕ → List ℕ → List ℕ → List ℕ → Type 0
 IsLeft sure most octets old new =
     ((new ≡ old) × (sure ≤ length old)) ⊎ ((new ≡ old ++ length octets ∷ []) × (length new ≤ most) × (sure < length old + length (wire_of octets)))

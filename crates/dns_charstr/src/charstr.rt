@@ -259,6 +259,8 @@ impl<S: AsOctets, Octs: OctetsFrom<S>> OctetsFrom<CharStr<S>> for CharStr<Octs> 
 
     ghost takes = { Octs.takes };
 
+    ghost takes_at_most = { Octs.takes_at_most };
+
     fn try_octets_from(alloc: Self::Alloc, source: CharStr<S>) -> Result<Self, ShortBuf> {
         Ok(CharStr {
             octets: Octs::try_octets_from(alloc, source.octets)?,

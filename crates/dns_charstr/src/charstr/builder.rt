@@ -6,7 +6,7 @@ use crate::charstr::{CharStr, CharStrError};
 use dns_wire::{
     AsOctets, AsOctetsMut, EmptyBuilder, FreezeBuilder, OctetsBuilder, ShortBuf, Truncate,
 };
-use std::alloc::{AllocError, Global};
+use std::alloc::{AllocError, Allocator};
 use std::marker::Model;
 
 /// A character string that is being built: a list of at most 255 octets.
@@ -112,16 +112,16 @@ impl<B: OctetsBuilder> CharStrBuilder<B> {
     }
 }
 
-impl CharStrBuilder<Vec<u8>> {
+impl<A: Allocator + Copy> CharStrBuilder<Vec<u8, A>> {
     /// A builder of no octets over a vector. It takes no memory.
-    pub fn new_vec(alloc: Global) -> Self
+    pub fn new_vec(alloc: A) -> Self
         ensures { result ≡ [] }
     {
         CharStrBuilder::new(alloc)
     }
 
     /// A builder of no octets over a vector, with room set aside for so many.
-    pub fn vec_with_capacity(alloc: Global, capacity: usize) -> Result<Self, ShortBuf>
+    pub fn vec_with_capacity(alloc: A, capacity: usize) -> Result<Self, ShortBuf>
         ensures { IfOk result (λ b. b ≡ []) }
     {
         CharStrBuilder::with_capacity(alloc, capacity)

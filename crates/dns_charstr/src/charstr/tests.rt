@@ -8,13 +8,15 @@ use dns_symbol::symbol::{BadSymbol, SymbolCharsError};
 use dns_wire::{
     AsOctetsMut, CanonicalOrd, OctetsBuilder, OctetsFrom, ParseError, Parser, ShortBuf, Truncate,
 };
+use refusing_heap::Refusing;
+use std::alloc::Global;
 use std::cmp::Ordering;
 use std::hash::{DefaultHasher, Hash, Hasher};
 use std::test::Fail;
 
 type Array = ArrayVec<u8, 255>;
 
-// Octets, and their plain, quoted and unquoted text.
+// Octets, and their plain, quoted and unquoted text, also under a width.
 #[test]
 fn prints_in_three_forms(rt: HostRuntime) -> Result<(), Fail> {
     let alloc = rt.alloc();
@@ -30,11 +32,13 @@ fn prints_in_three_forms(rt: HostRuntime) -> Result<(), Fail> {
     for (octets, plain, quoted, unquoted) in rows {
         let string = CharStr::from_slice(octets)?;
         assert_eq!(rt; format!(in alloc; "{string}")?.as_str(), plain);
-        assert_eq!(rt; string.display_quoted().to_string(alloc)?.as_str(), quoted);
-        assert_eq!(rt;
-            string.display_unquoted().to_string(alloc)?.as_str(),
-            unquoted
-        );
+        assert_eq!(rt; format!(in alloc; "{string:9}")?.as_str(), plain);
+        let shown = string.display_quoted();
+        assert_eq!(rt; shown.to_string(alloc)?.as_str(), quoted);
+        assert_eq!(rt; format!(in alloc; "{shown:>9}")?.as_str(), quoted);
+        let shown = string.display_unquoted();
+        assert_eq!(rt; shown.to_string(alloc)?.as_str(), unquoted);
+        assert_eq!(rt; format!(in alloc; "{shown:^9}")?.as_str(), unquoted);
         assert_eq!(rt;
             DisplayQuoted::from_slice(octets).to_string(alloc)?.as_str(),
             quoted
@@ -53,14 +57,12 @@ fn prints_in_three_forms(rt: HostRuntime) -> Result<(), Fail> {
 fn prints_hexadecimal_digits(rt: HostRuntime) -> Result<(), Fail> {
     let alloc = rt.alloc();
     let string = CharStr::from_slice(&[0x0A, 0xFF])?;
-    assert_eq!(rt;
-        string.display_lower_hex().to_string(alloc)?.as_str(),
-        "0aff"
-    );
-    assert_eq!(rt;
-        string.display_upper_hex().to_string(alloc)?.as_str(),
-        "0AFF"
-    );
+    let lower = string.display_lower_hex();
+    assert_eq!(rt; lower.to_string(alloc)?.as_str(), "0aff");
+    assert_eq!(rt; format!(in alloc; "{lower:9}")?.as_str(), "0aff");
+    let upper = string.display_upper_hex();
+    assert_eq!(rt; upper.to_string(alloc)?.as_str(), "0AFF");
+    assert_eq!(rt; format!(in alloc; "{upper:9}")?.as_str(), "0AFF");
     Ok(())
 }
 
@@ -73,7 +75,7 @@ fn compares(rt: HostRuntime) -> Result<(), Fail> {
         (b"abc", b"abcd", Ordering::Less, false, Ordering::Less),
         (b"abc", b"def", Ordering::Less, false, Ordering::Less),
         (b"", b"A", Ordering::Less, false, Ordering::Less),
-        (b"abc", b"a", Ordering::Greater, false, Ordering::Greater),
+        (b"abc", b"A", Ordering::Greater, false, Ordering::Greater),
         (b"a", b"BC", Ordering::Less, false, Ordering::Less),
         (b"a", b"B", Ordering::Less, false, Ordering::Greater),
     ];
@@ -205,14 +207,15 @@ fn errors_have_texts(rt: HostRuntime) -> Result<(), Fail> {
     ];
     for (error, text) in rows {
         assert_eq!(rt; error.to_string(alloc)?.as_str(), text);
+        assert_eq!(rt; format!(in alloc; "{error:60}")?.as_str(), text);
         if let FromStrError::Presentation(inner) = error {
             assert_eq!(rt; inner.to_string(alloc)?.as_str(), text);
+            assert_eq!(rt; format!(in alloc; "{inner:60}")?.as_str(), text);
         }
     }
-    assert_eq!(rt;
-        CharStrError.to_string(alloc)?.as_str(),
-        "long character string"
-    );
+    let text = "long character string";
+    assert_eq!(rt; CharStrError.to_string(alloc)?.as_str(), text);
+    assert_eq!(rt; format!(in alloc; "{CharStrError:30}")?.as_str(), text);
     Ok(())
 }
 
@@ -233,10 +236,9 @@ fn has_at_most_255_octets(rt: HostRuntime) -> Result<(), Fail> {
             "of {count}"
         );
     }
-    assert_eq!(rt;
-        CharStr::from_slice(b"01234")?.as_slice(),
-        b"01234".as_slice()
-    );
+    let digits = b"01234".as_slice();
+    assert_eq!(rt; CharStr::from_slice(digits)?.as_slice(), digits);
+    assert_eq!(rt; CharStr::from_octets(digits)?.as_slice(), digits);
     assert_eq!(rt; CharStr::from_slice(&[0; 256]).err(), Some(CharStrError));
     assert_eq!(rt; CharStr::<&[u8]>::MAX_LEN, 255);
     assert!(rt; CharStr::<&[u8]>::empty_slice().is_empty());
@@ -328,6 +330,9 @@ fn gives_its_octets_in_order(rt: HostRuntime) -> Result<(), Fail> {
         seen.push(octet)?;
     }
     assert_eq!(rt; seen.as_slice(), b"abc".as_slice());
+    let mut octets = string.for_slice().into_iter();
+    assert_eq!(rt; octets.next(), Some(b'a'));
+    drop(octets);
     let mut octets = string.into_iter();
     assert_eq!(rt; octets.next(), Some(b'a'));
     assert_eq!(rt; octets.next(), Some(b'b'));
@@ -395,5 +400,73 @@ fn composes_the_wire_form(rt: HostRuntime) -> Result<(), Fail> {
     let mut four = ArrayVec::<u8, 4>::new();
     string.compose(&mut four)?;
     assert_eq!(rt; four.as_slice(), b"\x03foo".as_slice());
+    Ok(())
+}
+
+/// Octets over an allocator that refuses one call.
+type Hostile<'a> = Vec<u8, &'a Refusing<Global>>;
+
+// What is read with ample memory, or lack of memory, whichever growth is refused.
+#[test]
+fn reads_where_a_growth_is_refused(rt: HostRuntime) -> Result<(), Fail> {
+    let alloc = rt.alloc();
+    let long = "a".repeat(alloc, 200)?;
+    let bad = format!(in alloc; "{long}ö")?;
+    let rows: [(&str, Result<&[u8], FromStrError>); 3] = [
+        (long.as_str(), Ok(long.as_bytes())),
+        (bad.as_str(), Err(BadSymbol::NonAscii.into())),
+        ("0\\2", Err(SymbolCharsError::ShortInput.into())),
+    ];
+    for (text, ample) in rows {
+        let mut refusals = 0;
+        for nth in 1..100 {
+            let heap = Refusing::new(alloc, nth);
+            let answer = CharStr::<Hostile>::from_str(&heap, text);
+            let same = match &answer {
+                Ok(string) => ample == Ok(string.as_slice()),
+                Err(error) => ample == Err(*error),
+            };
+            if !heap.has_refused() {
+                assert!(rt; same, "with ample memory, of {text}");
+                break;
+            }
+            assert!(rt;
+                same || answer.err() == Some(ShortBuf.into()),
+                "{nth} of {text}"
+            );
+            refusals = nth;
+        }
+        assert!(rt; 0 < refusals && refusals < 99);
+    }
+    Ok(())
+}
+
+// The same of calls that take their memory at once, of which the first or the second is refused.
+#[test]
+fn copies_where_a_growth_is_refused(rt: HostRuntime) -> Result<(), Fail> {
+    let alloc = rt.alloc();
+    let octets = [b'a'; 200].as_slice();
+    let string = CharStr::from_slice(octets)?;
+    for nth in 1..4 {
+        let heap = Refusing::new(alloc, nth);
+        match CharStr::<Hostile>::try_octets_from(&heap, string.for_slice()) {
+            Ok(copy) => {
+                assert_eq!(rt; copy.as_slice(), octets);
+                match copy.clone() {
+                    Ok(again) => assert!(rt; nth == 3 && again.as_slice() == octets),
+                    Err(_) => assert_eq!(rt; nth, 2),
+                }
+            }
+            Err(error) => assert_eq!(rt; (nth, error), (1, ShortBuf)),
+        }
+        assert_eq!(rt; heap.has_refused(), nth < 3);
+
+        let heap = Refusing::new(alloc, nth);
+        let first = CharStrBuilder::vec_with_capacity(&heap, 16);
+        let second = CharStrBuilder::<Hostile>::with_capacity(&heap, 16);
+        assert_eq!(rt; first.err(), (nth == 1).then_some(ShortBuf));
+        assert_eq!(rt; second.err(), (nth == 2).then_some(ShortBuf));
+        assert_eq!(rt; heap.has_refused(), nth < 3);
+    }
     Ok(())
 }
