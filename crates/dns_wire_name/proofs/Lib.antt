@@ -1,7 +1,9 @@
+pub mod BothEnds
 pub mod Builders
 pub mod Chains
 pub mod Comparing
 pub mod Iterating
+pub mod OneAnswer
 pub mod Ordered
 pub mod Splitting
 pub mod Texts

@@ -34,8 +34,8 @@ with_octet b octet = record { labels = b.labels; current = b.current ++ octet �
 abbrev pub with_label : Naming → List ℕ → Naming
 with_label b label = record { labels = all_labels b ++ label ∷ []; current = [] }
 
--- what adding octets to a name without its root answers: by the octets of the labels after it, those of the label that grows, the
--- octets that surely fit and those that ever fit
+-- what adding to a name without its root answers, where it would then have `all` octets and the label that grows `label`; `sure` octets
+-- surely fit, and `most` ever do
 abbrev pub AnswersGrowth : ℕ → ℕ → ℕ → ℕ → Result (Unit {0}) PushError → Type 0
 AnswersGrowth all label sure most (Ok _) = (all ≤ 254) × (label ≤ 63) × (all ≤ most)
 AnswersGrowth all label sure most (Err LongName) = 254 < all
@@ -54,7 +54,7 @@ abbrev pub needed : ℕ → ℕ
 needed zero = 2
 needed (suc n) = 1
 
--- octets that end in a label of some octets, with one more in it; where it has none, with a label of that one
+-- the octets once the label of so many octets that ends them has one more; of none, once a label of one octet follows them
 abbrev pub grown : List ℕ → ℕ → ℕ → List ℕ
 grown octets zero octet = octets ++ 1 ∷ octet ∷ []
 grown octets (suc n) octet = slice_set (octets ++ octet ∷ []) (length octets - suc n - 1) (suc n + 1)

@@ -29,7 +29,7 @@ IsRest rest Root = rest ≡ 0 ∷ []
 IsRest rest RootAndMore = IsRootAndMore rest
 IsRest rest (Refused e) = RefusesLabel e rest × (rest ≢ [])
 
--- what making an absolute name answers where the octets are few enough, by the labels and the rest
+-- what making an absolute name answers where the octets are not too many, by their labels and the rest
 abbrev pub AnswersName : List (List ℕ) → List ℕ → Result (List (List ℕ)) NameError → Type 0
 AnswersName labels rest (Ok name) = (rest ≡ 0 ∷ []) × (name ≡ labels ++ [] ∷ [])
 AnswersName labels rest (Err LongName) = ⊥
@@ -51,7 +51,7 @@ AnswersRelative labels rest (Err CompressedName) = (place : ℕ) × RefusesLabel
 AnswersRelative labels rest (Err TrailingData) = ⊥
 AnswersRelative labels rest (Err Relative) = ⊥
 
--- too many octets are too long; else the octets in their one way decide
+-- too many octets are a long name; otherwise the labels and the rest, in which octets split in one way, decide
 abbrev pub MakesName : List ℕ → Result (List (List ℕ)) NameError → Type 0
 MakesName octets result =
     ((255 < length octets) × (result ≡ Err LongName))
@@ -62,6 +62,6 @@ MakesRelative octets result =
     ((254 < length octets) × (result ≡ Err LongName))
     ⊎ ((length octets ≤ 254) × ((labels : List (List ℕ)) × (rest : List ℕ) × Splits octets labels rest × AnswersRelative labels rest result))
 
--- the octets in their one way, with a rest of that kind
+-- the octets split into labels and a rest of this kind
 abbrev pub HasRest : List ℕ → Rest → Type 0
 HasRest octets kind = (labels : List (List ℕ)) × (rest : List ℕ) × Splits octets labels rest × IsRest rest kind

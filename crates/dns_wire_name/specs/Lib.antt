@@ -9,4 +9,5 @@ pub mod Printed
 pub mod Rows
 pub mod Shown
 pub mod Split
+pub mod Takes
 pub mod Wire

@@ -18,6 +18,7 @@ pub mod display;
 pub mod error;
 pub mod flatten;
 pub mod label;
+pub mod laws;
 pub mod name;
 pub mod name_builder;
 pub mod name_iter;

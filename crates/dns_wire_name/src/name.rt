@@ -149,7 +149,7 @@ impl<Octets: AsOctets> Name<Octets> {
         }
     }
 
-    /// The same name over a clone of the octets, refused only as that clone is.
+    /// A clone of the name, refused only where cloning its octets is.
     pub fn clone(&self) -> Result<Self, AllocError>
     where
         Octets: Clone,

@@ -7,7 +7,8 @@ use crate::label::Label;
 use std::alloc::AllocError;
 use std::marker::Model;
 
-/// The labels of a name that are left, from both ends.
+/// The labels of a name that are left, from both ends: calls from either end give each label once
+/// ([`labels_from_both_ends`](crate::laws::labels_from_both_ends)).
 #[derive(Drop)]
 pub struct NameIter<'a> {
     pub(crate) octets: &'a [u8],
@@ -51,12 +52,12 @@ impl<'a> Clone for NameIter<'a> {
 }
 
 impl<'a> Iterator for NameIter<'a> {
-    ghost use Rattle.std.specs.Iterator.{YieldsFirstBy, item_count};
-    ghost use Rattle.dns_wire_name.specs.Label.{label_octets};
+    ghost use Rattle.std.specs.Iterator.{item_count};
+    ghost use Rattle.dns_wire_name.specs.Takes.{TakesFirst};
 
     type Item = Label<'a>;
 
-    ghost next_gives = { YieldsFirstBy label_octets (λ s. s) };
+    ghost next_gives = { TakesFirst };
 
     ghost remaining = { item_count (λ s. s) };
 
@@ -72,10 +73,9 @@ impl<'a> Iterator for NameIter<'a> {
 }
 
 impl<'a> DoubleEndedIterator for NameIter<'a> {
-    ghost use Rattle.std.specs.Iterator.{YieldsLastBy};
-    ghost use Rattle.dns_wire_name.specs.Label.{label_octets};
+    ghost use Rattle.dns_wire_name.specs.Takes.{TakesLast};
 
-    ghost next_back_gives = { YieldsLastBy label_octets (λ s. s) };
+    ghost next_back_gives = { TakesLast };
 
     fn next_back(&mut self) -> Option<Label<'a>> {
         let octets = self.octets;

@@ -1,4 +1,4 @@
-//! Octets without the labels that begin them.
+//! What follows the labels that begin octets.
 
 ghost use Rattle.dns_wire_name.specs.FromOctets.{HasRest};
 

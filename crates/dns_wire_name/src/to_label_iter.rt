@@ -12,7 +12,7 @@ pub trait ToLabelIter {
     // The labels.
     ghost labels: { Self → List (List ℕ) };
 
-    // What holds of each value that there is.
+    // What is known of every value.
     ghost holds: { Self → Type 0 };
 
     /// How many labels there are.
