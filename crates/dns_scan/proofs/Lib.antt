@@ -1,7 +1,13 @@
 pub mod Answered
 pub mod Decimal
+pub mod HandedOver
+pub mod InTurn
+pub mod Joined
 pub mod Numbers
 pub mod Once
 pub mod OneAnswer
+pub mod OneEntry
+pub mod OneReading
 pub mod Reading
+pub mod StringRuns
 pub mod Whole

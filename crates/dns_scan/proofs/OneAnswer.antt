@@ -59,7 +59,7 @@ module _ (given : Symbol → Result (List ℕ) (List ℕ)) (room : ℕ) where
   none_refused symbols error octets h =
       ap (λ l. fault_of 0 l error) (sym (append-nil symbols)) ∙ passed symbols [] error h.parts 0 h.gives (omega (arith, h.fits, ap length h.joined)) ∙ ap (λ e. fault_of (0 + length (concat h.parts)) [] e) h.ends
 
-  same_parts : (symbols : List Symbol) (a b : List (List ℕ)) → map given symbols ≡ map Ok a → map given symbols ≡ map Ok b → a ≡ b
+  pub same_parts : (symbols : List Symbol) (a b : List (List ℕ)) → map given symbols ≡ map Ok a → map given symbols ≡ map Ok b → a ≡ b
   same_parts [] [] [] h k = refl
   same_parts [] [] (y ∷ b) h k = cc
   same_parts [] (x ∷ a) b h k = cc

@@ -1,5 +1,5 @@
 -- From what a call does to a scanner to what it reads of the tokens before it.
-use Rattle.std.proofs.Common.{ℕ, suc, ◌≡◌, List, [], ◌∷◌, refl, sym, ap, subst, inl, inr, Option, Some, None, Result, Ok, Err}
+use Rattle.std.proofs.Common.{ℕ, suc, ◌≡◌, ◌<◌, ◌+◌, List, [], ◌∷◌, length, drop, get_or, drop-cons, arith, ◌∙◌, refl, sym, ap, subst, inl, inr, Option, Some, None, Result, Ok, Err}
 use Rattle.std.specs.Prelude.{MatchOption}
 use Rattle.dns_symbol.specs.declared.symbol.Symbol.{Symbol}
 use Rattle.dns_symbol.specs.declared.symbol.SymbolCharsError.{SymbolCharsError}
@@ -7,7 +7,7 @@ use Rattle.dns_scan.specs.Answers.{AnswersGiven}
 use Rattle.dns_scan.specs.Asks.{Builds}
 use Rattle.dns_scan.specs.Cause.{Cause, end_of_entry, IsCause}
 use Rattle.dns_scan.specs.Numbers.{ScannedNumber, by_cause}
-use Rattle.dns_scan.specs.Reads.{ReadsEach, ReadsFirst, NumberReads, OctetsRead}
+use Rattle.dns_scan.specs.Reads.{ReadsEach, ReadsInTurn, ReadsFirst, NumberReads, OctetsRead}
 use Rattle.dns_scan.specs.Stands.{StandsBefore, stands_takes, others_of}
 use Rattle.dns_scan.specs.Steps.{GivesStep, octet_given}
 use Rattle.dns_scan.specs.Tokens.{Token, ScansToken}
@@ -26,6 +26,15 @@ module _ {S V E : Type 0} (next : S → Option Token → S → Type 0) (cause : 
       by None (Err e) h = ap (λ w. Err w) h
       by (Some t) r h = shows t r h
 
+module _ {E : Type 0} (cause : E → Cause) where
+  pub octets_show : (sure most : ℕ) (t : Token) (r : Result (List ℕ) E) → Builds cause (GivesStep cause sure most octet_given) (λ s. s) t r → OctetsRead sure most t (by_cause cause r)
+  octets_show sure most t r h = let read = builds_read cause octet_given sure most (λ s. s) t r h in (read.0, read.1, read.2, by r read.0 read.1 read.3)
+    where
+      by : (r : Result (List ℕ) E) (symbols : List Symbol) (error : Option SymbolCharsError) → AnswersGiven octet_given sure most cause (λ s. s) symbols error r
+          → AnswersGiven octet_given sure most (λ why. why) (λ s. s) symbols error (by_cause cause r)
+      by (Ok v) symbols error k = k
+      by (Err e) symbols error k = k
+
 module _ {S E : Type 0} (next : S → Option Token → S → Type 0) (cause : E → Cause) where
   number_shows : (limit : ℕ) (t : Token) (r : Result ℕ E) → ScannedNumber cause limit t r → NumberReads limit t (by_cause cause r)
   number_shows limit t (Ok v) h = record { symbols = h.symbols; error = h.error; read = h.read; reads = h.reads }
@@ -35,17 +44,9 @@ module _ {S E : Type 0} (next : S → Option Token → S → Type 0) (cause : E 
       → (rest : List Token) × ReadsFirst (NumberReads limit) tokens (by_cause cause r) rest × StandsBefore next new rest
   number_first limit = reads_first next cause (ScannedNumber cause limit) (NumberReads limit) (number_shows limit)
 
-  octets_show : (sure most : ℕ) (t : Token) (r : Result (List ℕ) E) → Builds cause (GivesStep cause sure most octet_given) (λ s. s) t r → OctetsRead sure most t (by_cause cause r)
-  octets_show sure most t r h = let read = builds_read cause octet_given sure most (λ s. s) t r h in (read.0, read.1, read.2, by r read.0 read.1 read.3)
-    where
-      by : (r : Result (List ℕ) E) (symbols : List Symbol) (error : Option SymbolCharsError) → AnswersGiven octet_given sure most cause (λ s. s) symbols error r
-          → AnswersGiven octet_given sure most (λ why. why) (λ s. s) symbols error (by_cause cause r)
-      by (Ok v) symbols error k = k
-      by (Err e) symbols error k = k
-
   pub octets_first : (sure most : ℕ) (old : S) (r : Result (List ℕ) E) (new : S) → ScansToken next cause (Builds cause (GivesStep cause sure most octet_given) (λ s. s)) old r new
       → (tokens : List Token) → StandsBefore next old tokens → (rest : List Token) × ReadsFirst (OctetsRead sure most) tokens (by_cause cause r) rest × StandsBefore next new rest
-  octets_first sure most = reads_first next cause (Builds cause (GivesStep cause sure most octet_given) (λ s. s)) (OctetsRead sure most) (octets_show sure most)
+  octets_first sure most = reads_first next cause (Builds cause (GivesStep cause sure most octet_given) (λ s. s)) (OctetsRead sure most) (octets_show cause sure most)
 
 -- readings in turn, from the first one on
 module _ {V : Type 0} (reads : List Token → Result V Cause → List Token → Type 0) where
@@ -59,3 +60,19 @@ module _ {V : Type 0} (reads : List Token → Result V Cause → List Token → 
 
   pub each_end : (k : ℕ) → k ≡ 0 → (tokens : List Token) → ReadsEach reads k tokens [] None tokens
   each_end k is tokens = subst (λ m. ReadsEach reads m tokens [] None tokens) (sym is) (refl, refl, refl)
+
+-- readings of a list in turn, from the first one on
+module _ {K V : Type 0} (reads : K → List Token → Result V Cause → List Token → Type 0) where
+  pub turn_more : (all later : List K) (k : K) → all ≡ k ∷ later → (tokens middle rest : List Token) (v : V) (more : List V) (refusal : Option Cause) → reads k tokens (Ok v) middle
+      → ReadsInTurn reads later middle more refusal rest → ReadsInTurn reads all tokens (v ∷ more) refusal rest
+  turn_more all later k is tokens middle rest v more refusal first others = subst (λ ks. ReadsInTurn reads ks tokens (v ∷ more) refusal rest) (sym is) (inl (v, more, middle, first, refl, others))
+
+  pub turn_stop : (all later : List K) (k : K) → all ≡ k ∷ later → (tokens rest : List Token) (why : Cause) → reads k tokens (Err why) rest → ReadsInTurn reads all tokens [] (Some why) rest
+  turn_stop all later k is tokens rest why stop = subst (λ ks. ReadsInTurn reads ks tokens [] (Some why) rest) (sym is) (inr (why, stop, refl, refl))
+
+  pub turn_end : (all : List K) → all ≡ [] → (tokens : List Token) → ReadsInTurn reads all tokens [] None tokens
+  turn_end all is tokens = subst (λ ks. ReadsInTurn reads ks tokens [] None tokens) (sym is) (refl, refl, refl)
+
+-- the next of a list from a place on
+pub next_at : {K : Type 0} (l : List K) (j : ℕ) (d : K) → j < length l → drop j l ≡ get_or l j d ∷ drop (j + 1) l
+next_at l j d less = let same : suc j ≡ j + 1 = omega arith in drop-cons l j d less ∙ ap (λ n. get_or l j d ∷ drop n l) same

@@ -17,7 +17,7 @@ use Rattle.dns_charstr.specs.Reading.{HasOctets}
 use Rattle.dns_scan.specs.Octets.{GivesWhere}
 use Rattle.dns_scan.specs.Stands.{StandsBefore, stands_takes}
 
-not_err : {E : Type 0} (u : Result (Unit {0}) E) → u ≡ Ok tt → IsErr u → ⊥
+pub not_err : {E : Type 0} (u : Result (Unit {0}) E) → u ≡ Ok tt → IsErr u → ⊥
 not_err (Ok v) e h = cc
 not_err (Err x) e h = cc
 

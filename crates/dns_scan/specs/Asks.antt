@@ -8,7 +8,7 @@ use Rattle.dns_scan.specs.Cause.{Cause, custom_text, end_of_entry, IsCause}
 use Rattle.dns_scan.specs.Tokens.{Token}
 
 module _ {F X E : Type 0} (step : F → X → Result (Unit {0}) E → F → Type 0) where
-  -- f was asked for each of xs in turn, until it refused; r is that refusal, or ends as Last says
+  -- f was asked for each of xs in turn, until it refused, and r is that refusal; without one r ends as Last says
   abbrev pub CallsEach : List X → (Result (Unit {0}) E → Type 0) → F → Result (Unit {0}) E → F → Type 0
   CallsEach [] Last f r g = (g ≡ f) × Last r
   CallsEach (x ∷ xs) Last f r g = ((m : F) × step f x (Ok tt) m × CallsEach xs Last m r g) ⊎ (IsErr r × step f x r g)

@@ -10,7 +10,7 @@ use Rattle.dns_scan.specs.Tokens.{Token}
 use Rattle.dns_scan.specs.Asks.{AsksSymbols}
 use Rattle.dns_scan.specs.Steps.{Adds, GivesStep, octet_given, text_given}
 
--- all tokens in turn, each by a call, until a call refuses; then none is left, or the refused token was the last taken
+-- each token in turn is taken and handed to a call, until one is refused: that one is the last taken, and without a refusal none is left
 module _ {S F E : Type 0} (next : S → Option Token → S → Type 0) (call : F → Token → Result (Unit {0}) E → F → Type 0) where
   abbrev pub TakesEach : List Token → S → F → Result (Unit {0}) E → S → F → Type 0
   TakesEach [] s f r u g = next s None u × (g ≡ f) × (r ≡ Ok tt)
@@ -64,7 +64,7 @@ module _ {E : Type 0} (cause : E → Cause) (sure most : ℕ) where
         (λ _. ((r ≡ Ok tt) × (c ≡ b ++ wire_of built) × (length c ≤ most)) ⊎ (IsCause cause r short_buf × (sure < length b + length (wire_of built))))
         (λ e. (r ≡ Err e) × (c ≡ b))
 
-  -- a token's text goes to a function where it is ASCII, and its answer is the answer; or the refusal
+  -- a token's text, where it is ASCII, goes to a function, whose answer is the answer; else the refusal
   pub record AsciiText {V : Type 0} (returns : List ℕ → Result V E → Type 0) (t : Token) (r : Result V E) : Type 0 where
     pub answer : Result (Unit {0}) E
     pub built : List ℕ

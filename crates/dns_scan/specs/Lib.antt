@@ -3,9 +3,12 @@ pub mod Asks
 pub mod Cause
 pub mod Convert
 pub mod Entries
+pub mod Join
+pub mod Kinds
 pub mod Numbers
 pub mod Octets
 pub mod Reads
 pub mod Stands
 pub mod Steps
+pub mod Strings
 pub mod Tokens

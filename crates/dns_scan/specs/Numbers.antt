@@ -69,7 +69,7 @@ pub record ScannedNumber {E : Type 0} (cause : E → Cause) (limit : ℕ) (token
   pub read : SymbolsOf token symbols error
   pub reads : ReadsNumber limit symbols error (by_cause cause r)
 
--- a digit more: ten times the value and the digit, or the refusal, and the value as it was
+-- a digit more, as the private `add_digit` adds it, which alone cites this: ten times the value and the digit; or the refusal, and the value as it was
 abbrev pub AddsDigit : {E : Type 0} → (E → Cause) → ℕ → ℕ → Symbol → Result (Unit {0}) E → ℕ → Type 0
 AddsDigit cause limit v x r w =
     MatchResult r (λ _. (d : ℕ) × (digit_of x ≡ Some d) × (w ≡ v * 10 + d) × (w ≤ limit))

@@ -12,6 +12,10 @@ unquoted_token octets = encode_utf8_all (text_of is_unquoted_escape octets)
 abbrev pub quoted_token : List ℕ → Token
 quoted_token octets = encode_utf8_all (text_of is_quoted_escape octets)
 
+-- the token is the printed text of a character string, in one of these forms
+abbrev pub IsPrinted : Token → List ℕ → Type 0
+IsPrinted token octets = (token ≡ unquoted_token octets) ⊎ (token ≡ quoted_token octets)
+
 -- the answer is these octets, or "short buffer" where they are more than surely fit
 abbrev pub GivesWhere : {O E : Type 0} → (E → Cause) → (O → List ℕ) → ℕ → List ℕ → Result O E → Type 0
 GivesWhere cause value sure octets r = IsOkAnd r (λ x. value x ≡ octets) ⊎ (IsCause cause r short_buf × (sure < length octets))

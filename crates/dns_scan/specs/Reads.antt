@@ -1,5 +1,6 @@
 -- What is read of a list of tokens.
-use Rattle.std.specs.Prelude.{ℕ, zero, suc, List, [], ◌∷◌, ◌≡◌, Option, Some, None, Result, Ok, Err, MatchOption, ◌⊎◌}
+use Rattle.std.specs.Prelude.{ℕ, List, [], ◌∷◌, ◌≡◌, Option, Some, None, Result, Ok, Err, MatchOption, ◌⊎◌}
+use Rattle.std.proofs.Common.{replicate}
 use Rattle.dns_symbol.specs.declared.symbol.Symbol.{Symbol}
 use Rattle.dns_symbol.specs.declared.symbol.SymbolCharsError.{SymbolCharsError}
 use Rattle.dns_symbol.specs.Text.{SymbolsOf}
@@ -28,9 +29,23 @@ abbrev pub ReadsBoth : {A B : Type 0} → (List Token → Result A Cause → Lis
 ReadsBoth {A} first second tokens (Ok p) rest = (middle : List Token) × first tokens (Ok p.0) middle × second middle (Ok p.1) rest
 ReadsBoth {A} first second tokens (Err why) rest = first tokens (Err why) rest ⊎ ((a : A) × (middle : List Token) × first tokens (Ok a) middle × second middle (Err why) rest)
 
--- so many readings, their values, and the refusal that ended them
+-- a reading for each of a list in turn, their values, and the refusal that ended them
+abbrev pub ReadsInTurn : {K V : Type 0} → (K → List Token → Result V Cause → List Token → Type 0) → List K → List Token → List V → Option Cause → List Token → Type 0
+ReadsInTurn reads [] tokens values refusal rest = (values ≡ []) × (refusal ≡ None) × (rest ≡ tokens)
+ReadsInTurn {K} {V} reads (k ∷ ks) tokens values refusal rest =
+    ((v : V) × (more : List V) × (middle : List Token) × reads k tokens (Ok v) middle × (values ≡ v ∷ more) × ReadsInTurn reads ks middle more refusal rest)
+    ⊎ ((why : Cause) × reads k tokens (Err why) rest × (values ≡ []) × (refusal ≡ Some why))
+
+-- so many readings of one type
 abbrev pub ReadsEach : {V : Type 0} → (List Token → Result V Cause → List Token → Type 0) → ℕ → List Token → List V → Option Cause → List Token → Type 0
-ReadsEach reads zero tokens values refusal rest = (values ≡ []) × (refusal ≡ None) × (rest ≡ tokens)
-ReadsEach {V} reads (suc n) tokens values refusal rest =
-    ((v : V) × (more : List V) × (middle : List Token) × reads tokens (Ok v) middle × (values ≡ v ∷ more) × ReadsEach reads n middle more refusal rest)
-    ⊎ ((why : Cause) × reads tokens (Err why) rest × (values ≡ []) × (refusal ≡ Some why))
+ReadsEach reads n = ReadsInTurn (λ (u : Unit {0}). reads) (replicate n tt)
+
+-- a reading has one answer of given tokens, and leaves the same
+abbrev pub ReadsInOneWay : {V : Type 0} → (List Token → Result V Cause → List Token → Type 0) → Type 0
+ReadsInOneWay {V} reads = (tokens : List Token) (q r : Result V Cause) (rest others : List Token) → reads tokens q rest → reads tokens r others → (q ≡ r) × (rest ≡ others)
+
+-- and so do readings in turn
+abbrev pub ReadInOneWay : {V : Type 0} → (List Token → List V → Option Cause → List Token → Type 0) → Type 0
+ReadInOneWay {V} reads =
+    (tokens : List Token) (values more : List V) (refusal other : Option Cause) (rest others : List Token) → reads tokens values refusal rest → reads tokens more other others
+    → (values ≡ more) × (refusal ≡ other) × (rest ≡ others)

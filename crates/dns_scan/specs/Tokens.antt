@@ -6,7 +6,7 @@ use Rattle.dns_scan.specs.Cause.{Cause, end_of_entry, IsCause}
 abbrev pub Token : Type 0
 Token = List ℕ
 
--- a call that took no token: whatever comes after it could have come before it
+-- a call that took no token: what may be taken next after it might have been taken next before it
 abbrev pub TakesNothing : {S : Type 0} → (S → Option Token → S → Type 0) → S → S → Type 0
 TakesNothing {S} next old new = (o : Option Token) (u : S) → next new o u → next old o u
 
@@ -27,7 +27,7 @@ pub record ScansToken {S V E : Type 0} (next : S → Option Token → S → Type
 abbrev pub marker : Token
 marker = codes "\\#"
 
--- a marker was taken and r is true, or nothing was taken, something else or nothing comes next, and r is false
+-- r is true and a marker was taken; or r is false, nothing was taken, and no marker comes next
 abbrev pub MarkerCall : {S E : Type 0} → (S → Option Token → S → Type 0) → S → Result Bool E → S → Type 0
 MarkerCall next old (Ok true) new = next old (Some marker) new
 MarkerCall next old (Ok false) new = (o : Option Token) × Peeks next old new o × (o ≢ Some marker)

@@ -6,7 +6,7 @@ ghost use Rattle.dns_scan.specs.Convert.{handed, lent_octets};
 ///
 /// A converter's author writes `take_symbol`, `take_tail` and `lent`. The octets that a step makes
 /// stand in the converter, and `lent` hands them out until the next step. `process_symbol` and
-/// `process_tail` are these calls in one.
+/// `process_tail` take a step and hand out its octets in one call.
 pub trait ConvertSymbols<Sym, Error>: Drop {
     // The octets that the last step made.
     ghost lends: { Self → List ℕ };

@@ -1,24 +1,33 @@
 //! Laws on what any scanner gives.
-ghost use Rattle.std.specs.Prelude.{◌≡◌, ℕ, ◌<◌, ◌≤◌, ◌^◌, List, ◌∷◌, Some, None, Ok, Option, Result, IfOk, MatchResult, map, length, min, All};
+ghost use Rattle.std.specs.Prelude.{◌≡◌, ℕ, ◌<◌, ◌≤◌, ◌^◌, List, ◌∷◌, Some, None, Ok, Option, Result, IfOk, MatchResult, map, length, min, All, IsUtf8};
 ghost use Rattle.std.specs.Fmt.{decimal};
-ghost use Rattle.std.specs.List.{FoldsTo};
+ghost use Rattle.std.specs.List.{AllByRecursion, AllZip, FoldsTo, concat, flat_map};
 ghost use Rattle.dns_symbol.specs.declared.symbol.Symbol.{Symbol as PlainSymbol};
 ghost use Rattle.dns_symbol.specs.declared.symbol.SymbolCharsError.{SymbolCharsError};
 ghost use Rattle.dns_symbol.specs.Symbol.{octet_of};
 ghost use Rattle.dns_symbol.specs.Text.{SymbolsOf};
 ghost use Rattle.dns_charstr.specs.Reading.{HasOctets};
+ghost use Rattle.dns_charstr.specs.Wire.{wire_of};
 ghost use Rattle.dns_scan.specs.Answers.{AnswersGiven};
+ghost use Rattle.dns_scan.specs.Asks.{CallsEach};
 ghost use Rattle.dns_scan.specs.Cause.{Cause};
+ghost use Rattle.dns_scan.specs.Entries.{AsksToken, Converts, ConvertInEntry};
+ghost use Rattle.dns_scan.specs.Join.{CallsTokens, IsJoin, IsSymbols, LeavesOf, handed_over};
+ghost use Rattle.dns_scan.specs.Kinds.{KindReads};
 ghost use Rattle.dns_scan.specs.Numbers.{IsNumber};
-ghost use Rattle.dns_scan.specs.Octets.{GivesWhere, unquoted_token, quoted_token};
-ghost use Rattle.dns_scan.specs.Reads.{NumberReads, OctetsRead, ReadsEach, ReadsFirst};
+ghost use Rattle.dns_scan.specs.Octets.{GivesWhere, IsPrinted, unquoted_token, quoted_token};
+ghost use Rattle.dns_scan.specs.Reads.{NumberReads, OctetsRead, ReadInOneWay, ReadsBoth, ReadsEach, ReadsFirst, ReadsInOneWay, ReadsInTurn};
 ghost use Rattle.dns_scan.specs.Steps.{octet_given};
 ghost use Rattle.dns_scan.specs.Stands.{StandsBefore};
+ghost use Rattle.dns_scan.specs.Strings.{AnswersStrings};
 ghost use Rattle.dns_scan.specs.Tokens.{Token};
 
+use crate::convert::ConvertSymbols;
+use crate::kind::{Kind, Scanned};
 use crate::scan::Scan;
 use crate::scanner::Scanner;
 use dns_charstr::charstr::CharStr;
+use dns_symbol::symbol::EntrySymbol;
 
 /// A token whose symbols all have an octet is scanned as the character string of these octets,
 /// where there is room. So the unquoted text of a character string, and the text between its
@@ -47,11 +56,14 @@ pub fn character_strings_are_scanned_back<S: Scanner>(
 }
 
 /// Over a builder whose room is known, as an array's, symbols are answered in one way, whatever each
-/// gives, and so is a token that is read as octets.
+/// gives. So is a token that is read as octets, and so are the tokens of an entry that are put
+/// together as character strings, with the tokens that are left.
 pub fn octets_are_answered_in_one_way()
     ensures symbols { (given : PlainSymbol → Result (List ℕ) (List ℕ)) (room : ℕ) (symbols : List PlainSymbol) (error : Option SymbolCharsError) (q r : Result (List ℕ) Cause)
         → AnswersGiven given room room (λ why. why) (λ s. s) symbols error q → AnswersGiven given room room (λ why. why) (λ s. s) symbols error r → q ≡ r }
     ensures token { (room : ℕ) (token : Token) (q r : Result (List ℕ) Cause) → OctetsRead room room token q → OctetsRead room room token r → q ≡ r }
+    ensures entry { (room : ℕ) (tokens : List Token) (q r : Result (List ℕ) Cause) (rest others : List Token) → AnswersStrings room room (λ why. why) (λ s. s) tokens q rest
+        → AnswersStrings room room (λ why. why) (λ s. s) tokens r others → (q ≡ r) × (rest ≡ others) }
 {}
 
 /// A token is read as a number in one way, and the decimal text of a number as that number. A
@@ -64,8 +76,8 @@ pub fn printed_numbers_read_back()
         → SymbolsOf token symbols error → IfOk r (λ v. IsNumber limit symbols v × (error ≡ None)) }
 {}
 
-/// So many scans of one type, as of pairs for a list of mixed types, hand over the values that the
-/// tokens are read as, up to the first refusal, which is the answer.
+/// `count` scans of one type hand over the values that the tokens are read as, up to the first
+/// refusal, which is the answer. The type may be a pair of types, and those pairs too.
 pub fn scans_in_turn<S: Scanner, T: Scan<S>, F: FnMut(T)>(
     scanner: &mut S,
     count: usize,
@@ -87,4 +99,111 @@ pub fn scans_in_turn<S: Scanner, T: Scan<S>, F: FnMut(T)>(
         }
     }
     Ok(())
+}
+
+/// Scans of a list of kinds hand over the values that the tokens are read as, up to the first
+/// refusal, which is the answer. `T` is the type of kind `Other`, as that of character strings.
+pub fn kinds_in_turn<S: Scanner, T: Scan<S>, F: FnMut(Scanned<T>)>(
+    scanner: &mut S,
+    kinds: &[Kind],
+    give: &mut F,
+) -> Result<(), S::Error>
+    requires ready { S.can_scan scanner.old }
+    requires callable { F.IsAlwaysCallable give.old }
+    ensures ready { S.can_scan scanner.new }
+    ensures callable { F.IsAlwaysCallable give.new }
+    ensures reads { (tokens : List Token) → StandsBefore S.next_token scanner.old tokens
+        → (values : List (Scanned T)) × (refusal : Option Cause) × (rest : List Token)
+        × ReadsInTurn (KindReads T.scan_reads) kinds.now tokens values refusal rest
+        × FoldsTo (λ f v g. F.step f v tt g) give.old values give.new × StandsBefore S.next_token scanner.new rest
+        × MatchResult result (λ _. refusal ≡ None) (λ e. refusal ≡ Some (S.Error.cause e)) }
+{
+    for kind in kinds {
+        match kind.scan(scanner) {
+            Ok(scanned) => give(scanned),
+            Err(refusal) => return Err(refusal),
+        }
+    }
+    Ok(())
+}
+
+/// What tokens are read as is a function of the tokens, and so are the tokens that are left: for a
+/// number, and over a builder whose room is known for a character string. Where it is so for scans
+/// of two types, it is for so many of one, for a list of kinds with one, and for pairs of both.
+pub fn scans_have_one_answer<S: Scanner, A: Scan<S> + Drop, B: Scan<S>>()
+    ensures number { (limit : ℕ) → ReadsInOneWay (ReadsFirst (NumberReads limit)) }
+    ensures string { (room : ℕ) → ReadsInOneWay (ReadsFirst (OctetsRead room room)) }
+    ensures each { ReadsInOneWay A.scan_reads → (count : ℕ) → ReadInOneWay (ReadsEach A.scan_reads count) }
+    ensures kinds { ReadsInOneWay A.scan_reads → (kinds : List Kind) → ReadInOneWay (ReadsInTurn (KindReads A.scan_reads) kinds) }
+    ensures both { ReadsInOneWay A.scan_reads → ReadsInOneWay B.scan_reads → ReadsInOneWay (ReadsBoth A.scan_reads B.scan_reads) }
+{}
+
+/// The symbols of all tokens, and the end of each token after them, are handed over in turn, up to
+/// the first refusal, which is the answer. A bad escape is a refusal in its place. Then the tokens
+/// after the refused one are left, and else none.
+pub fn entries_are_handed_over<S: Scanner, F>(scanner: &mut S, op: &mut F) -> Result<(), S::Error>
+where
+    F: FnMut(EntrySymbol) -> Result<(), S::Error>,
+    requires ready { S.can_scan scanner.old }
+    requires callable { F.IsAlwaysCallable op.old }
+    ensures ready { S.can_scan scanner.new }
+    ensures callable { F.IsAlwaysCallable op.new }
+    ensures asks { (tokens : List Token) → StandsBefore S.next_token scanner.old tokens
+        → (rest : List Token) × CallsTokens (AsksToken S.Error.cause (λ f x r g. F.step f x r g)) tokens op.old result rest op.new × StandsBefore S.next_token scanner.new rest }
+    ensures whole { (tokens : List Token) (lists : List (List PlainSymbol)) → StandsBefore S.next_token scanner.old tokens → AllZip (λ token symbols. SymbolsOf token symbols None) tokens lists
+        → CallsEach (λ f x r g. F.step f x r g) (flat_map handed_over lists) (λ r. r ≡ Ok tt) op.old result op.new }
+    ensures rest { (tokens : List Token) → StandsBefore S.next_token scanner.old tokens → LeavesOf S.next_token tokens result scanner.new }
+{
+    scanner.scan_entry_symbols(op)
+}
+
+/// The tokens of an entry are converted in turn, up to the first refusal, which is the answer; the
+/// tail is asked for once all are taken. Then the tokens after the refused one are left, and none
+/// where none or only the tail was refused.
+///
+/// So an entry is converted as one token that is all its tokens joined, up to and with the first
+/// that has a bad escape.
+pub fn entries_convert_as_their_join<S: Scanner, C: ConvertSymbols<EntrySymbol, S::Error>>(
+    scanner: &mut S,
+    convert: C,
+) -> Result<S::Octets, S::Error>
+    requires { S.can_scan scanner.old }
+    ensures ready { S.can_scan scanner.new }
+    ensures converts { (tokens : List Token) → StandsBefore S.next_token scanner.old tokens
+        → (rest : List Token) × Converts S.Error.cause S.OctetsBuilder.sure S.OctetsBuilder.most C.tail S.Octets.octets
+        (λ p a q. CallsTokens (ConvertInEntry S.Error.cause S.OctetsBuilder.sure S.OctetsBuilder.most C.takes) tokens p a rest q) convert result × StandsBefore S.next_token scanner.new rest }
+    ensures join { (tokens : List Token) (text : List ℕ) → StandsBefore S.next_token scanner.old tokens → IsJoin tokens text
+        → Converts S.Error.cause S.OctetsBuilder.sure S.OctetsBuilder.most C.tail S.Octets.octets
+        (λ p a q. ConvertInEntry S.Error.cause S.OctetsBuilder.sure S.OctetsBuilder.most C.takes p text a q) convert result }
+    ensures symbols { (tokens : List Token) → StandsBefore S.next_token scanner.old tokens → IfOk result (λ _. AllByRecursion IsSymbols tokens) }
+    ensures rest { (tokens : List Token) → StandsBefore S.next_token scanner.old tokens → LeavesOf S.next_token tokens result scanner.new }
+{
+    scanner.convert_entry(convert)
+}
+
+/// Texts have a join, and one only. Where each is symbols throughout, it is all of them joined.
+pub fn texts_have_one_join()
+    ensures some { (tokens : List Token) → All IsUtf8 tokens → (text : List ℕ) × IsJoin tokens text }
+    ensures one { (tokens : List Token) (q r : List ℕ) → IsJoin tokens q → IsJoin tokens r → q ≡ r }
+    ensures whole { (tokens : List Token) → AllByRecursion IsSymbols tokens → IsJoin tokens (concat tokens) }
+{}
+
+/// Tokens that are character strings of at most 255 octets are scanned as their wire forms, one
+/// after the other, where there is room. So are the printed texts of character strings, unquoted or
+/// between the double quotes.
+///
+/// Any other tokens are refused, by the first that is no character string or whose wire form finds
+/// no room. Then the tokens after that one are left, and else none.
+pub fn string_entries_are_scanned_back<S: Scanner>(scanner: &mut S) -> Result<S::Octets, S::Error>
+    requires { S.can_scan scanner.old }
+    ensures ready { S.can_scan scanner.new }
+    ensures whole { (tokens : List Token) (strings : List (List ℕ)) → StandsBefore S.next_token scanner.old tokens → AllZip HasOctets tokens strings
+        → All (λ s. length s ≤ 255) strings → GivesWhere S.Error.cause S.Octets.octets S.OctetsBuilder.sure (flat_map wire_of strings) result }
+    ensures printed { (tokens : List Token) (strings : List (List ℕ)) → StandsBefore S.next_token scanner.old tokens → AllZip IsPrinted tokens strings
+        → All (All (λ o. o < 256)) strings → All (λ s. length s ≤ 255) strings → GivesWhere S.Error.cause S.Octets.octets S.OctetsBuilder.sure (flat_map wire_of strings) result }
+    ensures answer { (tokens : List Token) → StandsBefore S.next_token scanner.old tokens
+        → (rest : List Token) × AnswersStrings S.OctetsBuilder.sure S.OctetsBuilder.most S.Error.cause S.Octets.octets tokens result rest × StandsBefore S.next_token scanner.new rest }
+    ensures rest { (tokens : List Token) → StandsBefore S.next_token scanner.old tokens → LeavesOf S.next_token tokens result scanner.new }
+{
+    scanner.scan_charstr_entry()
 }

@@ -3,6 +3,7 @@
 
 pub mod convert;
 pub mod error;
+pub mod kind;
 pub mod laws;
 pub mod number;
 pub mod scan;
@@ -10,5 +11,6 @@ pub mod scanner;
 
 pub use convert::ConvertSymbols;
 pub use error::ScannerError;
+pub use kind::{Kind, Scanned};
 pub use scan::Scan;
 pub use scanner::Scanner;

@@ -1,12 +1,10 @@
 //! Values that can be scanned.
-ghost use Rattle.std.specs.Prelude.{◌≡◌, ◌⊎◌, ℕ, List, Result, Ok, Err, MatchResult, min, refl};
-ghost use Rattle.dns_scan.specs.Asks.{Builds};
+ghost use Rattle.std.specs.Prelude.{◌≡◌, List, Result, Ok, min};
 ghost use Rattle.dns_scan.specs.Cause.{Cause};
-ghost use Rattle.dns_scan.specs.Numbers.{ScannedNumber, by_cause, greatest};
+ghost use Rattle.dns_scan.specs.Numbers.{by_cause, greatest};
 ghost use Rattle.dns_scan.specs.Reads.{ReadsFirst, NumberReads, OctetsRead, ReadsBoth};
 ghost use Rattle.dns_scan.specs.Stands.{StandsBefore};
-ghost use Rattle.dns_scan.specs.Steps.{GivesStep, octet_given};
-ghost use Rattle.dns_scan.specs.Tokens.{Token, ScansToken};
+ghost use Rattle.dns_scan.specs.Tokens.{Token};
 
 use crate::number::scan_number;
 use crate::scanner::Scanner;
@@ -15,9 +13,6 @@ use dns_wire::Ttl;
 
 /// A value that can be scanned.
 pub trait Scan<S: Scanner>: Sized {
-    // The scanner before, the answer, and the scanner after.
-    ghost scan_gives: { S → Result Self S.Error → S → Type 0 };
-
     // The tokens before, the value or the refusal, and the tokens after.
     ghost scan_reads: { List Token → Result Self Cause → List Token → Type 0 };
 
@@ -25,15 +20,12 @@ pub trait Scan<S: Scanner>: Sized {
     fn scan(scanner: &mut S) -> Result<Self, S::Error>
         requires { S.can_scan scanner.old }
         ensures ready { S.can_scan scanner.new }
-        ensures scans { scan_gives scanner.old result scanner.new }
         ensures reads { (tokens : List Token) → StandsBefore S.next_token scanner.old tokens
             → (rest : List Token) × scan_reads tokens (by_cause S.Error.cause result) rest × StandsBefore S.next_token scanner.new rest };
 }
 
 /// A decimal number. The empty token is 0.
 impl<S: Scanner> Scan<S> for u8 {
-    ghost scan_gives = { λ s r t. ScansToken S.next_token S.Error.cause (ScannedNumber S.Error.cause (greatest 8)) s r t };
-
     ghost scan_reads = { ReadsFirst (NumberReads (greatest 8)) };
 
     fn scan(scanner: &mut S) -> Result<Self, S::Error> {
@@ -46,8 +38,6 @@ impl<S: Scanner> Scan<S> for u8 {
 
 /// A decimal number. The empty token is 0.
 impl<S: Scanner> Scan<S> for u16 {
-    ghost scan_gives = { λ s r t. ScansToken S.next_token S.Error.cause (ScannedNumber S.Error.cause (greatest 16)) s r t };
-
     ghost scan_reads = { ReadsFirst (NumberReads (greatest 16)) };
 
     fn scan(scanner: &mut S) -> Result<Self, S::Error> {
@@ -60,8 +50,6 @@ impl<S: Scanner> Scan<S> for u16 {
 
 /// A decimal number. The empty token is 0.
 impl<S: Scanner> Scan<S> for u32 {
-    ghost scan_gives = { λ s r t. ScansToken S.next_token S.Error.cause (ScannedNumber S.Error.cause (greatest 32)) s r t };
-
     ghost scan_reads = { ReadsFirst (NumberReads (greatest 32)) };
 
     fn scan(scanner: &mut S) -> Result<Self, S::Error> {
@@ -74,8 +62,6 @@ impl<S: Scanner> Scan<S> for u32 {
 
 /// A decimal number. The empty token is 0.
 impl<S: Scanner> Scan<S> for u64 {
-    ghost scan_gives = { λ s r t. ScansToken S.next_token S.Error.cause (ScannedNumber S.Error.cause (greatest 64)) s r t };
-
     ghost scan_reads = { ReadsFirst (NumberReads (greatest 64)) };
 
     fn scan(scanner: &mut S) -> Result<Self, S::Error> {
@@ -88,8 +74,6 @@ impl<S: Scanner> Scan<S> for u64 {
 
 /// A decimal number. The empty token is 0.
 impl<S: Scanner> Scan<S> for u128 {
-    ghost scan_gives = { λ s r t. ScansToken S.next_token S.Error.cause (ScannedNumber S.Error.cause (greatest 128)) s r t };
-
     ghost scan_reads = { ReadsFirst (NumberReads (greatest 128)) };
 
     fn scan(scanner: &mut S) -> Result<Self, S::Error> {
@@ -102,8 +86,6 @@ impl<S: Scanner> Scan<S> for u128 {
 
 /// Seconds, as a decimal number.
 impl<S: Scanner> Scan<S> for Ttl {
-    ghost scan_gives = { λ s r t. ScansToken S.next_token S.Error.cause (ScannedNumber S.Error.cause (greatest 32)) s r t };
-
     ghost scan_reads = { ReadsFirst (NumberReads (greatest 32)) };
 
     fn scan(scanner: &mut S) -> Result<Self, S::Error> {
@@ -116,9 +98,6 @@ impl<S: Scanner> Scan<S> for Ttl {
 
 /// A character string, as [`Scanner::scan_charstr`] takes it.
 impl<S: Scanner> Scan<S> for CharStr<S::Octets> {
-    ghost scan_gives = { λ s r t. ScansToken S.next_token S.Error.cause
-        (Builds S.Error.cause (GivesStep S.Error.cause (min S.OctetsBuilder.sure 255) (min S.OctetsBuilder.most 255) octet_given) (λ s. s)) s r t };
-
     ghost scan_reads = { ReadsFirst (OctetsRead (min S.OctetsBuilder.sure 255) (min S.OctetsBuilder.most 255)) };
 
     fn scan(scanner: &mut S) -> Result<Self, S::Error> {
@@ -131,8 +110,6 @@ impl<S: Scanner> Scan<S> for CharStr<S::Octets> {
 
 /// No value, of no tokens.
 impl<S: Scanner> Scan<S> for () {
-    ghost scan_gives = { λ s r t. (r ≡ Ok tt) × (t ≡ s) };
-
     ghost scan_reads = { λ tokens r rest. (r ≡ Ok tt) × (rest ≡ tokens) };
 
     fn scan(_scanner: &mut S) -> Result<Self, S::Error> {
@@ -142,9 +119,6 @@ impl<S: Scanner> Scan<S> for () {
 
 /// One value and then another. So nested pairs are lists of values of any types.
 impl<S: Scanner, A: Scan<S> + Drop, B: Scan<S>> Scan<S> for (A, B) {
-    ghost scan_gives = { λ s r t. MatchResult r (λ p. (m : S) × A.scan_gives s (Ok p.0) m × B.scan_gives m (Ok p.1) t)
-        (λ e. A.scan_gives s (Err e) t ⊎ ((a : A) × (m : S) × A.scan_gives s (Ok a) m × B.scan_gives m (Err e) t)) };
-
     ghost scan_reads = { ReadsBoth A.scan_reads B.scan_reads };
 
     fn scan(scanner: &mut S) -> Result<Self, S::Error> {

@@ -18,8 +18,11 @@ use dns_wire_name::ToName;
 /// Gives the tokens of an entry one by one, read as values.
 ///
 /// A token call takes one token, also where it then refuses it; with none left it answers
-/// [`ScannerError::end_of_entry`]. The symbols of a token are handled in order. An escape that is
-/// none is refused with its text after all symbols before it were handled.
+/// [`ScannerError::end_of_entry`]. The symbols of a token are handled in order. A bad escape is
+/// refused by the text of its error, once all symbols before it were handled.
+///
+/// An entry call takes all tokens, and no token left is no refusal. Where it refuses a token, the
+/// tokens after that one are left.
 pub trait Scanner {
     /// The octets that are scanned.
     type Octets: AsOctets;

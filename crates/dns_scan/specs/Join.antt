@@ -1,0 +1,36 @@
+-- The tokens of an entry: each in turn, and all as one text.
+use Rattle.std.specs.Prelude.{ℕ, List, [], ◌∷◌, ◌++◌, ◌≡◌, ◌⊎◌, Option, Some, None, Result, Ok, IsErr, IsOk, map}
+use Rattle.dns_symbol.specs.Text.{SymbolsOf}
+use Rattle.dns_symbol.specs.declared.symbol.Symbol.{Symbol}
+use Rattle.dns_symbol.specs.declared.symbol.SymbolCharsError.{SymbolCharsError}
+use Rattle.dns_symbol.specs.declared.symbol.EntrySymbol.{EntrySymbol}
+use Rattle.dns_symbol.specs.declared.symbol.EntrySymbol.TheVariants.{EndOfToken, Symbol as Of}
+use Rattle.dns_scan.specs.Stands.{StandsBefore}
+use Rattle.dns_scan.specs.Tokens.{Token}
+
+-- each token in turn by a call, until one is refused: then the tokens after that one are left, and else none
+module _ {F E : Type 0} (call : F → Token → Result (Unit {0}) E → F → Type 0) where
+  abbrev pub CallsTokens : List Token → F → Result (Unit {0}) E → List Token → F → Type 0
+  CallsTokens [] f r rest g = (r ≡ Ok tt) × (rest ≡ []) × (g ≡ f)
+  CallsTokens (t ∷ ts) f r rest g = ((h : F) × call f t (Ok tt) h × CallsTokens ts h r rest g) ⊎ (IsErr r × call f t r g × (rest ≡ ts))
+
+-- what is handed over of a token of these symbols
+abbrev pub handed_over : List Symbol → List EntrySymbol
+handed_over symbols = map Of symbols ++ EndOfToken ∷ []
+
+-- a token that is symbols throughout
+abbrev pub IsSymbols : Token → Type 0
+IsSymbols token = (symbols : List Symbol) × SymbolsOf token symbols None
+
+-- a token with a bad escape, behind symbols
+abbrev pub HasBadEscape : Token → Type 0
+HasBadEscape token = (symbols : List Symbol) × (e : SymbolCharsError) × SymbolsOf token symbols (Some e)
+
+-- the text is all tokens joined, up to and with the first that has a bad escape
+abbrev pub IsJoin : List Token → List ℕ → Type 0
+IsJoin [] text = text ≡ []
+IsJoin (t ∷ ts) text = (IsSymbols t × ((more : List ℕ) × IsJoin ts more × (text ≡ t ++ more))) ⊎ (HasBadEscape t × (text ≡ t))
+
+-- what a call over an entry leaves of its tokens: the last ones, and none where all went well
+abbrev pub LeavesOf : {S V E : Type 0} → (S → Option Token → S → Type 0) → List Token → Result V E → S → Type 0
+LeavesOf next tokens r new = (front : List Token) × (rest : List Token) × (tokens ≡ front ++ rest) × (IsOk r → rest ≡ []) × StandsBefore next new rest

@@ -1,0 +1,101 @@
+//! Values of kinds that are known only when the program runs.
+ghost use Rattle.std.specs.Prelude.{List};
+ghost use Rattle.dns_scan.specs.Kinds.{KindReads};
+ghost use Rattle.dns_scan.specs.Numbers.{by_cause};
+ghost use Rattle.dns_scan.specs.Stands.{StandsBefore};
+ghost use Rattle.dns_scan.specs.Tokens.{Token};
+
+use crate::scan::Scan;
+use crate::scanner::Scanner;
+use dns_wire::Ttl;
+
+/// What a token is scanned as.
+#[derive(Clone, Copy, Debug)]
+pub enum Kind {
+    /// A number of at most 8 bits.
+    U8,
+
+    /// A number of at most 16 bits.
+    U16,
+
+    /// A number of at most 32 bits.
+    U32,
+
+    /// A number of at most 64 bits.
+    U64,
+
+    /// A number of at most 128 bits.
+    U128,
+
+    /// A time to live, in seconds.
+    Ttl,
+
+    /// A value of a type that the caller names, as a character string.
+    Other,
+}
+
+/// A value that was scanned.
+#[derive(Debug, Drop)]
+pub enum Scanned<T> {
+    /// A number of at most 8 bits.
+    U8(u8),
+
+    /// A number of at most 16 bits.
+    U16(u16),
+
+    /// A number of at most 32 bits.
+    U32(u32),
+
+    /// A number of at most 64 bits.
+    U64(u64),
+
+    /// A number of at most 128 bits.
+    U128(u128),
+
+    /// A time to live, in seconds.
+    Ttl(Ttl),
+
+    /// A value of the type that the caller names.
+    Other(T),
+}
+
+impl Kind {
+    /// Takes a token as a value of this kind.
+    pub fn scan<S: Scanner, T: Scan<S>>(self, scanner: &mut S) -> Result<Scanned<T>, S::Error>
+        requires { S.can_scan scanner.old }
+        ensures ready { S.can_scan scanner.new }
+        ensures reads { (tokens : List Token) → StandsBefore S.next_token scanner.old tokens
+            → (rest : List Token) × KindReads T.scan_reads self tokens (by_cause S.Error.cause result) rest × StandsBefore S.next_token scanner.new rest }
+    {
+        match self {
+            Kind::U8 => match u8::scan(scanner) {
+                Ok(value) => Ok(Scanned::U8(value)),
+                Err(error) => Err(error),
+            },
+            Kind::U16 => match u16::scan(scanner) {
+                Ok(value) => Ok(Scanned::U16(value)),
+                Err(error) => Err(error),
+            },
+            Kind::U32 => match u32::scan(scanner) {
+                Ok(value) => Ok(Scanned::U32(value)),
+                Err(error) => Err(error),
+            },
+            Kind::U64 => match u64::scan(scanner) {
+                Ok(value) => Ok(Scanned::U64(value)),
+                Err(error) => Err(error),
+            },
+            Kind::U128 => match u128::scan(scanner) {
+                Ok(value) => Ok(Scanned::U128(value)),
+                Err(error) => Err(error),
+            },
+            Kind::Ttl => match Ttl::scan(scanner) {
+                Ok(value) => Ok(Scanned::Ttl(value)),
+                Err(error) => Err(error),
+            },
+            Kind::Other => match T::scan(scanner) {
+                Ok(value) => Ok(Scanned::Other(value)),
+                Err(error) => Err(error),
+            },
+        }
+    }
+}
