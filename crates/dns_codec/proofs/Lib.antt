@@ -21,6 +21,7 @@ pub mod PlainConversions
 pub mod PaddedConversions
 pub mod EntryConversions
 pub mod Unrefused
+pub mod Wanting
 pub mod Groups
 pub mod Values
 pub mod SliceTexts

@@ -9,11 +9,12 @@ use Rattle.dns_codec.specs.Errors.{answer}
 use Rattle.dns_codec.specs.Room.{IsRoom}
 use Rattle.dns_codec.specs.Padded.{PaddedHeld, IsNewPadded, PushesFrom, Pushes64, MovesParts, padded_move, Ends64, end_error64}
 use Rattle.dns_codec.specs.Runs.{Runs64}
-use Rattle.dns_codec.specs.Outcome.{marks, due, cause64, first_cause, stored64, refusal_of64, IsPushed, IsRefusedBy, Decoded}
+use Rattle.dns_codec.specs.Outcome.{marks, due, cause64, first_cause, stored64, refusal_of64, IsPushed, IsRefusedBy}
 use Rattle.dns_codec.specs.declared.base64.DecodeError.{DecodeError}
 use Rattle.dns_codec.specs.declared.base64.DecodeError.TheVariants.{ShortInput}
 use Rattle.dns_codec.specs.declared.base64.Padding.{Padding}
 use Rattle.dns_codec.specs.declared.base64.Padding.TheVariants.{Absent, Half, Done}
+use Rattle.dns_codec.proofs.Reading.{Decoded}
 use Rattle.dns_codec.proofs.Wholes.{length-whole, whole-nil, Name-length}
 use Rattle.dns_codec.proofs.Unique.{no_mark64}
 use Rattle.dns_codec.proofs.RoundTrip.{last64}

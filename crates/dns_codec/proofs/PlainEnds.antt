@@ -10,10 +10,11 @@ use Rattle.dns_codec.specs.Grammar.{Decodes, may_end}
 use Rattle.dns_codec.specs.Room.{IsRoom}
 use Rattle.dns_codec.specs.Plain.{Held, IsNew, Ends16, Ends32}
 use Rattle.dns_codec.specs.Runs.{Runs}
-use Rattle.dns_codec.specs.Outcome.{want_of, cause, legal_count, stored, first_cause, end_cause, refusal_of, pushed_refusal16, pushed_refusal32, Outcome, IsPushed, Decoded}
+use Rattle.dns_codec.specs.Outcome.{want_of, cause, legal_count, stored, first_cause, end_cause, refusal_of, pushed_refusal16, pushed_refusal32, Outcome, IsPushed}
 use Rattle.dns_codec.specs.declared.base64.DecodeError.{DecodeError}
 use Rattle.dns_codec.specs.declared.base64.DecodeError.TheVariants.{ShortInput}
 use Rattle.dns_codec.proofs.Appending.{appends_cases}
+use Rattle.dns_codec.proofs.Reading.{Decoded}
 use Rattle.dns_codec.proofs.Wholes.{length-whole, whole-nil, Name-length}
 use Rattle.dns_codec.proofs.Causes.{cases_error, want_enough, want_short}
 use Rattle.dns_codec.proofs.PlainRuns.{plain16, plain32, Clean, Reached, clean_octets, clean_no_cause, clean_stored, clean_decodes, any_room, runs_new, decodes_no_cause}

@@ -3,7 +3,7 @@ use Rattle.std.proofs.Common.{◌≡◌, ℕ, suc, ◌<◌, ◌≤◌, List, [],
 use Rattle.std.proofs.lemmas.List.{take-append-drop}
 use Rattle.dns_codec.specs.Base.{Base}
 use Rattle.dns_codec.specs.Grammar.{Decodes}
-use Rattle.dns_codec.specs.Outcome.{IsRefusedBy, Decoded}
+use Rattle.dns_codec.specs.Outcome.{IsRefusedBy}
 use Rattle.dns_codec.specs.declared.base64.DecodeError.{DecodeError}
 
 pub map-same : (xs : List ℕ) → map (λ c. c) xs ≡ xs
@@ -19,6 +19,11 @@ text_here all before c so_far at =
     let front : before ≡ take n all = sym (map-same before) ∙ so_far in
     let back : drop n all ≡ c ∷ drop (suc n) all = drop-cons all n c inside ∙ ap (λ x. x ∷ drop (suc n) all) (sym at.1) in
     sym (take-append-drop n all) ∙ (ap (λ xs. xs ++ drop n all) (sym front) ∙ ap (λ xs. before ++ xs) back)
+
+-- what `decode` answers: the value of a text of the grammar, or the text's error
+abbrev pub Decoded : Base → (ℕ → List ℕ → Option DecodeError) → ℕ → ℕ → List ℕ → Result (List ℕ) DecodeError → Type 0
+Decoded b refusal sure most text (Ok octets) = Decodes b text octets
+Decoded b refusal sure most text (Err e) = IsRefusedBy refusal sure most text e
 
 -- a text that is read wherever there is room isn't refused
 pub never_refused : (refusal : ℕ → List ℕ → Option DecodeError) (sure most : ℕ) (text octets : List ℕ) (e : DecodeError)

@@ -19,7 +19,7 @@ use Rattle.dns_codec.proofs.Wholes.{length-whole, Name-length}
 
 -- ---- with more room no more is refused
 
-both_none : (x y : Option DecodeError) → or_else x y ≡ None → (x ≡ None) × (y ≡ None)
+pub both_none : (x y : Option DecodeError) → or_else x y ≡ None → (x ≡ None) × (y ≡ None)
 both_none None y e = (refl, e)
 both_none (Some x) y e = cc
 

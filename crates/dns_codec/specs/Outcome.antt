@@ -112,8 +112,3 @@ pub record IsRefusedBy (refusal : ℕ → List ℕ → Option DecodeError) (sure
   pub room : ℕ
   pub is_room : IsRoom sure most room
   pub refused : refusal room text ≡ Some error
-
--- what `decode` answers: the value of a text of the grammar, or the text's error
-abbrev pub Decoded : Base → (ℕ → List ℕ → Option DecodeError) → ℕ → ℕ → List ℕ → Result (List ℕ) DecodeError → Type 0
-Decoded b refusal sure most text (Ok octets) = Decodes b text octets
-Decoded b refusal sure most text (Err e) = IsRefusedBy refusal sure most text e

@@ -26,7 +26,7 @@ use crate::register::Register;
 use dns_scan::{ConvertSymbols, ScannerError};
 use dns_symbol::symbol::{EntrySymbol, Symbol};
 use dns_wire::{EmptyBuilder, FreezeBuilder, OctetsBuilder, ShortBuf};
-use std::alloc::{AllocError, Global};
+use std::alloc::{AllocError, Allocator};
 use std::fmt;
 use std::marker::Model;
 
@@ -78,11 +78,11 @@ pub fn decode_slice(text: &[u8], octets: &mut [u8]) -> Option<usize>
 }
 
 /// Reads a text of base 16 into a vector, as [`decode`] does.
-pub fn decode_vec(alloc: Global, s: &str) -> Result<Vec<u8>, DecodeError>
+pub fn decode_vec<A: Allocator + Copy>(alloc: A, s: &str) -> Result<Vec<u8, A>, DecodeError>
     ensures value { IfOk result (λ octets. Decodes base16 (chars s.now) octets.items) }
     ensures refused { IfErr result (λ e. IsRefusedBy (refusal_of base16) 0 greatest_length (chars s.now) e) }
 {
-    decode::<Vec<u8>>(alloc, s)
+    decode::<Vec<u8, A>>(alloc, s)
 }
 
 const ALPHABET: &[u8; 16] = b"0123456789ABCDEF";
@@ -104,7 +104,7 @@ pub fn encode_slice(bytes: &[u8], text: &mut [u8]) -> Result<usize, ShortBuf>
 }
 
 /// The text of octets in base 16. The only error is want of memory.
-pub fn encode_string(alloc: Global, bytes: &[u8]) -> Result<String, ShortBuf>
+pub fn encode_string<A: Allocator>(alloc: A, bytes: &[u8]) -> Result<String<A>, ShortBuf>
     ensures { IfOk result (λ text. string_bytes text ≡ encoded base16 bytes.now) }
 {
     let Ok(mut text) = String::with_capacity(alloc, bytes.len().saturating_mul(2)) else {

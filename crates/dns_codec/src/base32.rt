@@ -27,7 +27,7 @@ use crate::register::Register;
 use dns_scan::{ConvertSymbols, ScannerError};
 use dns_symbol::symbol::{EntrySymbol, Symbol};
 use dns_wire::{EmptyBuilder, FreezeBuilder, OctetsBuilder, ShortBuf};
-use std::alloc::{AllocError, Global};
+use std::alloc::{AllocError, Allocator};
 use std::fmt;
 use std::marker::Model;
 
@@ -105,7 +105,7 @@ pub fn encode_slice_hex(bytes: &[u8], text: &mut [u8]) -> Result<usize, ShortBuf
 }
 
 /// The text of octets in base32hex. The only error is want of memory.
-pub fn encode_string_hex(alloc: Global, bytes: &[u8]) -> Result<String, ShortBuf>
+pub fn encode_string_hex<A: Allocator>(alloc: A, bytes: &[u8]) -> Result<String<A>, ShortBuf>
     ensures { IfOk result (λ text. string_bytes text ≡ encoded base32hex bytes.now) }
 {
     let Ok(mut text) = String::with_capacity(alloc, bytes.len().div_ceil(5).saturating_mul(8))

@@ -26,7 +26,7 @@ use crate::register::Register;
 use dns_scan::{ConvertSymbols, ScannerError};
 use dns_symbol::symbol::{EntrySymbol, Symbol};
 use dns_wire::{EmptyBuilder, FreezeBuilder, OctetsBuilder, ShortBuf};
-use std::alloc::{AllocError, Global};
+use std::alloc::{AllocError, Allocator};
 use std::error::Error;
 use std::fmt;
 use std::marker::Model;
@@ -181,7 +181,7 @@ fn padding_of(bytes: &[u8]) -> &'static str
 }
 
 /// The text of octets in base 64. The only error is want of memory.
-pub fn encode_string(alloc: Global, bytes: &[u8]) -> Result<String, ShortBuf>
+pub fn encode_string<A: Allocator>(alloc: A, bytes: &[u8]) -> Result<String<A>, ShortBuf>
     ensures { IfOk result (λ text. string_bytes text ≡ encoded base64 bytes.now) }
 {
     let Ok(mut text) = String::with_capacity(alloc, bytes.len().div_ceil(3).saturating_mul(4))

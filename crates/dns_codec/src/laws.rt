@@ -19,7 +19,7 @@ ghost use Rattle.dns_codec.specs.Padded.{PaddedHeld, IsNewPadded, Pushes64, Ends
 ghost use Rattle.dns_codec.specs.Runs.{Runs, Runs64};
 ghost use Rattle.dns_codec.specs.Outcome.{cause, cause64, first_cause, stored, stored64, refusal_of, refusal_of64, pushed_refusal16, pushed_refusal32, IsPushed};
 ghost use Rattle.dns_codec.specs.declared.base64.DecodeError.{DecodeError};
-ghost use Rattle.dns_codec.specs.declared.base64.DecodeError.TheVariants.{IllegalChar};
+ghost use Rattle.dns_codec.specs.declared.base64.DecodeError.TheVariants.{IllegalChar, ShortBuf};
 
 /// The text of octets is in the grammar, and its value is these octets.
 pub fn encoded_decodes()
@@ -66,6 +66,17 @@ pub fn grammar_is_read()
         → (refusal_of base32hex room text ≡ None) × (pushed_refusal32 room text ≡ None) }
     ensures base64 { (text octets : List ℕ) (room : ℕ) → Decodes base64 text octets → length octets ≤ room
         → refusal_of64 room text ≡ None }
+{}
+
+/// Where there is too little room, want of room alone refuses a text of the grammar: `decode`
+/// answers no other error, and neither does a decoder that it is pushed to.
+pub fn grammar_wants_room()
+    ensures base16 { (text octets : List ℕ) (room : ℕ) (e : DecodeError) → Decodes base16 text octets
+        → (refusal_of base16 room text ≡ Some e → e ≡ ShortBuf) × (pushed_refusal16 room text ≡ Some e → e ≡ ShortBuf) }
+    ensures base32hex { (text octets : List ℕ) (room : ℕ) (e : DecodeError) → Decodes base32hex text octets
+        → (refusal_of base32hex room text ≡ Some e → e ≡ ShortBuf) × (pushed_refusal32 room text ≡ Some e → e ≡ ShortBuf) }
+    ensures base64 { (text octets : List ℕ) (room : ℕ) (e : DecodeError) → Decodes base64 text octets
+        → refusal_of64 room text ≡ Some e → e ≡ ShortBuf }
 {}
 
 /// And only such a text isn't refused: what `decode` doesn't refuse is a text of the grammar, and
