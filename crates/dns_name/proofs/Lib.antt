@@ -4,6 +4,8 @@ pub mod Taking
 pub mod Runs
 pub mod OneName
 pub mod WholeName
+pub mod OneAnswer
+pub mod OneUncertain
 pub mod Printing
 pub mod TextRead
 pub mod Equal

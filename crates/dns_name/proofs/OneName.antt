@@ -32,7 +32,7 @@ front_symbols (x ∷ xs) (y ∷ ys) rest p q h =
     let s = sym e.0 in
     (f.0, (λ i. s i ∷ f.1 i), f.2, f.3)
 
-zip_short : (ps : List (List Symbol)) (ls : List (List ℕ)) → AllZip IsPiece ps ls → All (λ label. length label ≤ 63) ls
+pub zip_short : (ps : List (List Symbol)) (ls : List (List ℕ)) → AllZip IsPiece ps ls → All (λ label. length label ≤ 63) ls
 zip_short [] [] h = λ k d lt. absurd (omega arith)
 zip_short [] (l ∷ ls) h = absurd h
 zip_short (p ∷ ps) [] h = absurd h

@@ -62,7 +62,7 @@ printed_piece label h = record {
   short = h;
 }
 
-abbrev Bytes : List ℕ → Type 0
+abbrev pub Bytes : List ℕ → Type 0
 Bytes label = All (λ b. b < 256) label
 
 printed_zip : (labels : List (List ℕ)) → All (λ label. length label ≤ 63) labels → AllZip IsPiece (map piece_of labels) labels
@@ -115,7 +115,7 @@ printed_named front last some short few h k fits = record {
 }
 
 -- the octets of labels are octets
-labels_bytes : (labels : List (List ℕ)) → Bytes (wire labels) → All Bytes labels
+pub labels_bytes : (labels : List (List ℕ)) → Bytes (wire labels) → All Bytes labels
 labels_bytes [] h = λ k d lt. absurd (omega arith)
 labels_bytes (l ∷ ls) h =
     let after = All-tail (λ b. b < 256) (length l) (l ++ wire ls) h in
@@ -130,16 +130,16 @@ labels_bytes (l ∷ ls) h =
     back_bytes [] b h = h
     back_bytes (x ∷ a) b h = back_bytes a b (All-tail (λ b. b < 256) x (a ++ b) h)
 
-All-before : (P : List ℕ → Type 0) (a b : List (List ℕ)) → All P (a ++ b) → All P a
+pub All-before : (P : List ℕ → Type 0) (a b : List (List ℕ)) → All P (a ++ b) → All P a
 All-before P [] b h = λ k d lt. absurd (omega arith)
 All-before P (x ∷ a) b h = All-cons P x a (All-head P x (a ++ b) h) (All-before P a b (All-tail P x (a ++ b) h))
 
-All-end : (P : List ℕ → Type 0) (a : List (List ℕ)) (x : List ℕ) → All P (a ++ x ∷ []) → P x
+pub All-end : (P : List ℕ → Type 0) (a : List (List ℕ)) (x : List ℕ) → All P (a ++ x ∷ []) → P x
 All-end P [] x h = All-head P x [] h
 All-end P (y ∷ a) x h = All-end P a x (All-tail P y (a ++ x ∷ []) h)
 
 -- the root stands only last, so no label before it is one
-before_root : (front : List (List ℕ)) → ((a b : List (List ℕ)) → front ++ [] ∷ [] ≡ a ++ [] ∷ b → b ≡ []) → All (λ label. 0 < length label) front
+pub before_root : (front : List (List ℕ)) → ((a b : List (List ℕ)) → front ++ [] ∷ [] ≡ a ++ [] ∷ b → b ≡ []) → All (λ label. 0 < length label) front
 before_root [] h = λ k d lt. absurd (omega arith)
 before_root ([] ∷ xs) h = absurd (some xs (h [] (xs ++ [] ∷ []) refl))
   where

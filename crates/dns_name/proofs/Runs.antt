@@ -39,7 +39,7 @@ pub runs_part : (xs ys : List Symbol) (s u : State) → Runs s (xs ++ ys) u → 
 runs_part [] ys s u p = (s, refl, p)
 runs_part (x ∷ xs) ys s u p = let q = runs_part xs ys p.0 u p.2 in (q.0, (p.0, p.1, q.1), q.2)
 
-same_octet : (a b : ℕ) (r : Result ℕ BadSymbol) → r ≡ Ok a → r ≡ Ok b → a ≡ b
+pub same_octet : (a b : ℕ) (r : Result ℕ BadSymbol) → r ≡ Ok a → r ≡ Ok b → a ≡ b
 same_octet a b r p q = let e = sym p ∙ q in cc
 
 pub steps_same : (s t u : State) (x : Symbol) → Steps s x t → Steps s x u → t ≡ u

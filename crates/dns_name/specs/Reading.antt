@@ -54,14 +54,14 @@ pub record HasNamed (text : List ℕ) (labels : List (List ℕ)) (current rest :
   pub spelled : text ≡ flat_map bytes symbols ++ rest
   pub names : Names symbols labels current
 
--- the same, and the next symbol, which is no plain dot, is x
+-- the same, where the next symbol is x, which is no plain dot
 pub record HasNamedBefore (text : List ℕ) (labels : List (List ℕ)) (current : List ℕ) (x : Symbol) : Type 0 where
   pub rest : List ℕ
   pub named : HasNamed text labels current (bytes x ++ rest)
   pub readable : is_readable x ≡ true
   pub no_dot : is_dot x ≡ false
 
--- the same, and the symbol's octet is one more of the open label's
+-- the same, where the symbol gives the open label one more octet
 abbrev pub HasNamedNext : List ℕ → List (List ℕ) → List ℕ → ℕ → Type 0
 HasNamedNext text labels current octet =
     (x : Symbol) × HasNamedBefore text labels current x × (current ≡ [] → x ≢ bracket) × (octet_of x ≡ Ok octet)
@@ -102,8 +102,8 @@ module _ {O : Type 0} where
       ⊎ (((text ≡ 46 ∷ []) × (sure < 1))
       ⊎ ((labels : List (List ℕ)) × HasNamed text labels [] [] × (labels ≢ []) × (wire_length labels ≤ most) × (sure < wire_length labels + 1)))
 
-  -- what reading a source of characters answers: the characters that it gave up to its end are a text that reads so, or those that were
-  -- taken are, however they go on
+  -- what reading the characters of a source answers: they were taken up to the end, and their text has this answer; or some were taken,
+  -- and every text that begins with them has it
   abbrev pub ReadsChars : {S : Type 0} → (S → Option ℕ → S → Type 0) → S → ℕ → ℕ → Result (UncertainName O) FromStrError → Type 0
   ReadsChars {S} steps s sure most result = (taken : List ℕ) ×
       ((Drains steps s taken × ReadsName sure most (encode_utf8_all taken) result)

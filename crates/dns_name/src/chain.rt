@@ -95,7 +95,7 @@ impl<L: ToRelativeName, R: ToLabelIter> Chain<L, R> {
         DisplayWithDot::new(self)
     }
 
-    /// The chain of clones of both names, refused only as one of these is.
+    /// A clone of the chain, refused only where cloning one of its names is.
     pub fn clone(&self) -> Result<Self, AllocError>
     where
         L: Clone,

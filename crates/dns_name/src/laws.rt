@@ -1,14 +1,15 @@
 //! Laws of names and their text.
-ghost use Rattle.std.specs.Prelude.{◌≡◌, encode_utf8_all};
-ghost use Rattle.dns_wire_name.specs.Printed.{dotted_text};
-ghost use Rattle.dns_name.specs.declared.name.UncertainName.{UncertainName};
-ghost use Rattle.dns_name.specs.Uncertain.{labels_of};
-ghost use Rattle.dns_name.specs.Reading.{ReadsAs};
-ghost use Rattle.std.specs.Prelude.{◌↔◌, true, map};
-ghost use Rattle.std.specs.List.{flat_map};
+ghost use Rattle.std.specs.Prelude.{ℕ, ◌≡◌, ◌↔◌, ◌⊎◌, true, map, Result, Ok, Err, encode_utf8_all};
 ghost use Rattle.std.specs.Hash as fed;
+ghost use Rattle.std.specs.List.{flat_map};
 ghost use Rattle.dns_wire_name.specs.Order.{lowered, lowered_wire};
-ghost use Rattle.dns_name.specs.Uncertain.{is_absolute, same_uncertain};
+ghost use Rattle.dns_wire_name.specs.Printed.{dotted_text};
+ghost use Rattle.dns_name.specs.Reading.{ReadsAs, ReadsName};
+ghost use Rattle.dns_name.specs.Uncertain.{labels_of, is_absolute, same_uncertain, MakesUncertain};
+ghost use Rattle.dns_name.specs.declared.name.UncertainName.{UncertainName};
+ghost use Rattle.dns_name.specs.declared.name.error.FromStrError.{FromStrError};
+ghost use Rattle.dns_name.specs.declared.name.error.FromStrError.TheVariants.{ShortBuf};
+ghost use Rattle.dns_name.specs.declared.name.error.UncertainDnameError.{UncertainDnameError};
 
 use crate::name::UncertainName;
 use dns_wire::AsOctets;
@@ -27,6 +28,32 @@ pub fn texts_have_one_name<Octets: AsOctets>(text: &str, name: &UncertainName<Oc
 {
     let _text = text;
     let _name = name;
+}
+
+/// Whatever room there is, a text that reads as a name is read as that name or refused for want of
+/// room alone.
+pub fn names_are_read<Octets: AsOctets>(text: &str, name: &UncertainName<Octets>)
+    ensures { (sure most : ℕ) (answer : Result (UncertainName Octets) FromStrError)
+        → ReadsName sure most text.now answer → ReadsAs text.now name.now → (answer ≡ Ok name.now) ⊎ (answer ≡ Err ShortBuf) }
+{
+    let _text = text;
+    let _name = name;
+}
+
+/// Where it is known how many octets fit, a text has one answer: one name, or one refusal.
+pub fn texts_have_one_answer<Octets: AsOctets>(text: &str)
+    ensures { (room : ℕ) (left right : Result (UncertainName Octets) FromStrError)
+        → ReadsName room room text.now left → ReadsName room room text.now right → left ≡ right }
+{
+    let _text = text;
+}
+
+/// Octets have one answer: one name of one kind, or one refusal.
+pub fn octets_have_one_answer<Octets: AsOctets>(octets: &[u8])
+    ensures { (left right : Result (UncertainName Octets) UncertainDnameError)
+        → MakesUncertain octets.now left → MakesUncertain octets.now right → left ≡ right }
+{
+    let _octets = octets;
 }
 
 /// Names are equal exactly if they are of one kind and their labels agree in lower case, and equal

@@ -5,7 +5,7 @@ use dns_wire::{
 };
 use dns_wire_name::split::{Rest, rest_of};
 use dns_wire_name::{Name, NameIter, PushError, RelativeName, SplitLabelError, ToLabelIter};
-use std::alloc::{AllocError, Global};
+use std::alloc::{AllocError, Allocator};
 
 mod display;
 pub mod error;
@@ -43,19 +43,19 @@ impl UncertainName<&[u8]> {
     }
 }
 
-impl UncertainName<Vec<u8>> {
+impl<A: Allocator + Copy> UncertainName<Vec<u8, A>> {
     ghost use Rattle.std.specs.Prelude.{◌≡◌, [], ◌∷◌, IfOk};
     ghost use Rattle.dns_name.specs.declared.name.UncertainName.TheVariants.{Absolute, Relative};
 
     /// The root over a vector, or want of memory for its one octet.
-    pub fn root_vec(alloc: Global) -> Result<Self, ShortBuf>
+    pub fn root_vec(alloc: A) -> Result<Self, ShortBuf>
         ensures { IfOk result (λ n. n ≡ Absolute ([] ∷ [])) }
     {
         UncertainName::root(alloc)
     }
 
     /// The relative name of no labels over a vector. It takes no memory.
-    pub fn empty_vec(alloc: Global) -> Self
+    pub fn empty_vec(alloc: A) -> Self
         ensures { result ≡ Relative [] }
     {
         UncertainName::empty(alloc)
@@ -247,7 +247,7 @@ impl<Octets: AsOctets> UncertainName<Octets> {
         }
     }
 
-    /// The same name over a clone of the octets, refused only as that clone is.
+    /// A clone of the name, refused only where cloning its octets is.
     pub fn clone(&self) -> Result<Self, AllocError>
     where
         Octets: Clone,
@@ -261,8 +261,8 @@ impl<Octets: AsOctets> UncertainName<Octets> {
         }
     }
 
-    /// This name with another one after it. On a relative name it is [`LongChainError`] where both
-    /// together have more than 255 octets; after an absolute one nothing follows.
+    /// The chain of this name and another one. On a relative name it is [`LongChainError`] where both
+    /// together have more than 255 octets. An absolute name is the whole chain, whatever follows it.
     pub fn chain<S: ToLabelIter + Drop>(
         self,
         suffix: S,

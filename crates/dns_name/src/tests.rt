@@ -5,8 +5,8 @@ use arrayvec::ArrayVec;
 use dns_symbol::symbol::SymbolCharsError;
 use dns_wire::{AsOctets, OctetsBuilder, ShortBuf};
 use dns_wire_name::{
-    FlattenInto, Label, LabelTypeError, LongLabelError, Name, NameBuilder, NameError, PushError,
-    RelativeName, SplitLabelError, ToLabelIter,
+    DisplayWithDot, DisplayWithoutDot, FlattenInto, Label, LabelTypeError, LongLabelError, Name,
+    NameBuilder, NameError, PushError, RelativeName, SplitLabelError, ToLabelIter,
 };
 use std::alloc::Global;
 use std::hash::{DefaultHasher, Hash, Hasher};
@@ -314,18 +314,28 @@ fn prints_chains(rt: HostRuntime) -> Result<(), Fail> {
         let chain = Chain::new(&left, &right)?;
         assert_eq!(rt; chain.to_string(alloc)?.as_str(), text);
         assert_eq!(rt; chain.fmt_with_dot().to_string(alloc)?.as_str(), dotted);
-        let Ok(right) = right.try_into_absolute() else {
-            continue;
+        let right = match right {
+            UncertainName::Absolute(right) => right,
+            UncertainName::Relative(right) => {
+                let chain = Chain::new(&left, right)?;
+                assert_eq!(rt; chain.to_string(alloc)?.as_str(), text);
+                assert_eq!(rt; chain.fmt_with_dot().to_string(alloc)?.as_str(), dotted);
+                continue;
+            }
         };
+        let chain = Chain::new(&left, &right)?;
+        assert_eq!(rt; chain.to_string(alloc)?.as_str(), text);
+        assert_eq!(rt; chain.fmt_with_dot().to_string(alloc)?.as_str(), dotted);
         let chain = UncertainName::from(left).chain(right)?;
         assert_eq!(rt; chain.to_string(alloc)?.as_str(), text);
         assert_eq!(rt; chain.fmt_with_dot().to_string(alloc)?.as_str(), dotted);
     }
-    for (left, text) in [("\x00", "."), ("\x03com\x00", "com")] {
+    for (left, text, dotted) in [("\x00", ".", "."), ("\x03com\x00", "com", "com.")] {
         for right in ["\x00", "\x03com\x00"] {
             let left = UncertainName::from_octets(left.as_bytes())?;
             let chain = left.chain(Name::from_octets(right.as_bytes())?)?;
             assert_eq!(rt; chain.to_string(alloc)?.as_str(), text);
+            assert_eq!(rt; chain.fmt_with_dot().to_string(alloc)?.as_str(), dotted);
         }
     }
     Ok(())
@@ -378,12 +388,93 @@ fn gives_labels_from_both_ends(rt: HostRuntime) -> Result<(), Fail> {
     let left = UncertainName::from(absolute(b"\x07example\x03com\x00"));
     let other = absolute(b"\x03foo\x03bar\x00");
     let chain = UncertainChain::new(left, &other)?;
-    assert_eq!(rt; chain.iter_labels().count(), 3);
+    let expected: [&[u8]; 3] = [b"example", b"com", b""];
+    let mut labels = chain.iter_labels();
+    for octets in expected {
+        assert!(rt; same(labels.next(), octets));
+    }
+    assert!(rt; labels.next().is_none());
     assert!(rt; same(chain.iter_labels().next_back(), b""));
+    let chain = Chain::new(RelativeName::empty_ref(), Name::root_ref())?;
+    let mut labels = chain.iter_labels();
+    assert!(rt; same(labels.next_back(), b""));
+    assert!(rt; labels.next().is_none());
+    Ok(())
+}
+
+// What lends its labels may be used again after an iterator over them is dropped early.
+#[test]
+fn names_outlive_their_iterators(rt: HostRuntime) -> Result<(), Fail> {
+    let alloc = rt.alloc();
+    let name = absolute(b"\x07example\x03com\x00");
     let mut labels = name.iter_labels();
     assert!(rt; same(labels.next(), b"example"));
     drop(labels);
-    assert_eq!(rt; name.label_count(), 3);
+    assert_eq!(rt; name.to_string(alloc)?.as_str(), "example.com");
+    let chain = Chain::new(relative(b"\x03www"), &name)?;
+    let mut labels = chain.iter_labels();
+    assert!(rt; same(labels.next(), b"www"));
+    drop(labels);
+    assert_eq!(rt; chain.to_string(alloc)?.as_str(), "www.example.com");
+    let (left, right) = chain.unwrap();
+    assert_eq!(rt; left.as_slice(), slice(b"\x03www"));
+    assert_eq!(rt; right.len(), 13);
+    let chain = Vector::from_str(alloc, "www")?.chain(&name)?;
+    let mut labels = chain.iter_labels();
+    assert!(rt; same(labels.next(), b"www"));
+    drop(labels);
+    assert_eq!(rt;
+        chain.clone()?.to_string(alloc)?.as_str(),
+        "www.example.com"
+    );
+    let left = UncertainName::relative(relative(b"\x03www"));
+    let mut labels = left.iter_labels();
+    assert!(rt; same(labels.next(), b"www"));
+    drop(labels);
+    let mut labels = (&left).into_iter();
+    assert!(rt; same(labels.next_back(), b"www"));
+    assert!(rt; labels.next().is_none());
+    assert!(rt; left.is_relative());
+    Ok(())
+}
+
+#[test]
+fn makes_and_clones_names(rt: HostRuntime) -> Result<(), Fail> {
+    let alloc = rt.alloc();
+    let root = Name::<Vec<u8>>::root(alloc)?;
+    assert_eq!(rt; root.as_slice(), slice(b"\x00"));
+    assert!(rt; root.clone()? == root);
+    let empty = RelativeName::<Vec<u8>>::empty(alloc);
+    assert_eq!(rt; empty.as_slice(), slice(b""));
+    assert!(rt; empty.clone()? == empty);
+    let name = empty.into_absolute()?;
+    assert!(rt; name == root);
+    assert!(rt; UncertainName::absolute(name) == Vector::root_vec(alloc)?);
+    let name = absolute(b"\x07example\x03com\x00");
+    let mut labels = name.iter_labels();
+    assert!(rt; same(labels.next(), b"example"));
+    let mut others = labels.clone()?;
+    assert!(rt; same(labels.next(), b"com"));
+    assert!(rt; same(others.next(), b"com"));
+    Ok(())
+}
+
+// A width is passed over.
+#[test]
+fn prints_under_a_width(rt: HostRuntime) -> Result<(), Fail> {
+    let alloc = rt.alloc();
+    let name = absolute(b"\x03com\x00");
+    let left = relative(b"\x03www");
+    let label = Label::from_slice(b"www")?;
+    let without = DisplayWithoutDot::new(&name);
+    let with = DisplayWithDot::new(&name);
+    let text = format!(in alloc; "{label:9}|{name:9}|{left:9}|{without:9}|{with:9}|")?;
+    assert_eq!(rt; text.as_str(), "www|com|www|com|com.|");
+    let uncertain = UncertainName::from(absolute(b"\x03com\x00"));
+    let chain = Chain::new(&left, &name)?;
+    let other = UncertainName::from(relative(b"\x03www")).chain(&name)?;
+    let text = format!(in alloc; "{uncertain:9}|{chain:9}|{other:9}|")?;
+    assert_eq!(rt; text.as_str(), "com.|www.com|www.com|");
     Ok(())
 }
 
@@ -408,6 +499,9 @@ fn flattens_and_composes(rt: HostRuntime) -> Result<(), Fail> {
     assert!(rt; chain.compose(&mut target).is_ok());
     assert_eq!(rt; target.as_slice(), wire);
     let uncertain = UncertainName::from(relative(b"\x03www")).chain(&com)?;
+    let mut target = ArrayVec::<u8, 17>::new();
+    assert!(rt; uncertain.compose(&mut target).is_ok());
+    assert_eq!(rt; target.as_slice(), wire);
     let mut few = ArrayVec::<u8, 8>::new();
     assert_eq!(rt; uncertain.compose(&mut few).err(), Some(ShortBuf));
     assert_eq!(rt; few.as_slice(), slice(b"\x03www"));
@@ -490,13 +584,28 @@ fn errors_of_the_layer_below_have_texts(rt: HostRuntime) -> Result<(), Fail> {
         LabelTypeError(64).to_string(alloc)?.as_str(),
         "bad label type"
     );
-    assert_eq!(rt;
-        NameError::Relative.to_string(alloc)?.as_str(),
-        "relative name"
-    );
-    assert_eq!(rt;
-        NameError::Absolute.to_string(alloc)?.as_str(),
-        "absolute name"
-    );
+    let rows = [
+        (SplitLabelError::Pointer(12), "compression pointer"),
+        (
+            SplitLabelError::BadType(LabelTypeError(64)),
+            "bad label type",
+        ),
+        (SplitLabelError::ShortInput, "short input"),
+    ];
+    for (error, text) in rows {
+        assert_eq!(rt; error.to_string(alloc)?.as_str(), text);
+    }
+    let rows = [
+        (NameError::BadLabel(LabelTypeError(64)), "bad label type"),
+        (NameError::CompressedName, "compressed domain name"),
+        (NameError::LongName, "long domain name"),
+        (NameError::TrailingData, "trailing data"),
+        (NameError::ShortInput, "short input"),
+        (NameError::Relative, "relative name"),
+        (NameError::Absolute, "absolute name"),
+    ];
+    for (error, text) in rows {
+        assert_eq!(rt; error.to_string(alloc)?.as_str(), text);
+    }
     Ok(())
 }

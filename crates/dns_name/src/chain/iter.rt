@@ -4,7 +4,8 @@ use dns_wire_name::{Label, ToLabelIter};
 use std::alloc::AllocError;
 use std::marker::Model;
 
-/// The labels of a name that are left, from both ends.
+/// The labels of a name that are left, from both ends: calls from either end give each label once
+/// ([`labels_from_both_ends`](dns_wire_name::laws::labels_from_both_ends)).
 #[derive(Debug, Drop)]
 pub struct LabelIter<'a, N: ToLabelIter> {
     name: &'a N,
@@ -60,12 +61,12 @@ impl<'a, N: ToLabelIter> Clone for LabelIter<'a, N> {
 }
 
 impl<'a, N: ToLabelIter> Iterator for LabelIter<'a, N> {
-    ghost use Rattle.std.specs.Iterator.{YieldsFirstBy, item_count};
-    ghost use Rattle.dns_wire_name.specs.Label.{label_octets};
+    ghost use Rattle.std.specs.Iterator.{item_count};
+    ghost use Rattle.dns_wire_name.specs.Takes.{TakesFirst};
 
     type Item = Label<'a>;
 
-    ghost next_gives = { YieldsFirstBy label_octets (λ s. s) };
+    ghost next_gives = { TakesFirst };
 
     ghost remaining = { item_count (λ s. s) };
 
@@ -80,10 +81,9 @@ impl<'a, N: ToLabelIter> Iterator for LabelIter<'a, N> {
 }
 
 impl<'a, N: ToLabelIter> DoubleEndedIterator for LabelIter<'a, N> {
-    ghost use Rattle.std.specs.Iterator.{YieldsLastBy};
-    ghost use Rattle.dns_wire_name.specs.Label.{label_octets};
+    ghost use Rattle.dns_wire_name.specs.Takes.{TakesLast};
 
-    ghost next_back_gives = { YieldsLastBy label_octets (λ s. s) };
+    ghost next_back_gives = { TakesLast };
 
     fn next_back(&mut self) -> Option<Label<'a>> {
         if self.front == self.back {

@@ -47,7 +47,7 @@ impl<Octets: AsOctets, R: ToLabelIter> UncertainChain<Octets, R> {
         (self.left, self.right)
     }
 
-    /// The chain of clones of both names, refused only as one of these is.
+    /// A clone of the chain, refused only where cloning one of its names is.
     pub fn clone(&self) -> Result<Self, AllocError>
     where
         Octets: Clone,

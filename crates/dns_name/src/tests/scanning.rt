@@ -58,8 +58,8 @@ fn cut<E: ScannerError>() -> E
     E::custom(SymbolCharsError::ShortInput.as_str())
 }
 
-// A scanner before a backslash at every call, which it refuses; but as a name it reads it as the
-// one that it has, once.
+// A scanner whose next token is always a lone backslash. Read as a name, that is the name it has,
+// once; every other call refuses it.
 #[derive(Drop)]
 struct Names<N, E = Refusal> {
     name: Option<N>,
