@@ -1,5 +1,5 @@
 -- Where the reader stops is the end of the longest viable beginning.
-use Rattle.std.proofs.Common.{IsUtf8, ◌≡◌, ℕ, zero, suc, ◌+◌, ◌-◌, ◌*◌, ◌<◌, ◌≤◌, Bool, true, false, cond, ◌&&◌, if◌then◌else◌, nat_lt, nat_le, List, [], ◌∷◌, ◌++◌, length, take, replicate, refl, sym, ap, ◌∙◌, subst, arith, append_assoc, inl, inr, length-append}
+use Rattle.std.proofs.Common.{IsUtf8, ◌≡◌, ℕ, zero, suc, ◌+◌, ◌-◌, ◌*◌, ◌<◌, ◌≤◌, Bool, true, false, cond, ◌&&◌, if◌then◌else◌, nat_lt, nat_le, List, [], ◌∷◌, ◌++◌, length, take, replicate, refl, sym, ap, ◌∙◌, subst, arith, append_assoc, append-nil, inl, inr, length-append}
 use Rattle.std.specs.Prelude.{Option, Some, None, option_map, option_and_then, encode_utf8, encode_utf8_all}
 use Rattle.std.specs.List.{flat_map, list_all}
 use Rattle.std.proofs.lemmas.Bool.{and_parts, cases_lt, le-leb, leb-true, lt-leb, ltb-true, and_from, and_right, and_left, cond-true}
@@ -82,7 +82,7 @@ tail (Escape q) d = 48 ∷ 48 ∷ 48 ∷ tail_home d q
 tail (OneDigit q n) d = 48 ∷ 48 ∷ tail_home d q
 tail (TwoDigits q n) d = 48 ∷ tail_home d q
 
-abbrev Completes : Mode → ℕ → List ℕ → Type 0
+abbrev pub Completes : Mode → ℕ → List ℕ → Type 0
 Completes m d cs = (t : List ℕ) → (e : Entries) × (read m d t cs ≡ Some e)
 
 -- a step to a mode that can be completed
@@ -95,7 +95,7 @@ close_completes : (d : ℕ) → Completes Outside d (replicate d 41)
 close_completes zero t = (with_open t ([] ∷ []), refl)
 close_completes (suc d) t = step_completes Outside (suc d) 41 (replicate d 41) (record { mode = Outside; depth = d; act = EndToken }) refl (close_completes d) t
 
-line_completes : (m : Mode) (d : ℕ) → ((a : Act) → step m d 10 ≡ move_to Outside d a → Completes m d (10 ∷ replicate d 41))
+pub line_completes : (m : Mode) (d : ℕ) → ((a : Act) → step m d 10 ≡ move_to Outside d a → Completes m d (10 ∷ replicate d 41))
 line_completes m d a h t = step_completes m d 10 (replicate d 41) (record { mode = Outside; depth = d; act = a }) h (close_completes d) t
 
 home_completes : (q : Within) (d : ℕ) → Completes (home q) d (tail_home d q)
@@ -122,14 +122,14 @@ tail_completes (OneDigit q n) d f t = one_completes q n d f t
 tail_completes (TwoDigits q n) d f t = two_completes q n d f t
 
 -- a text that is walked can be completed
-abbrev Completed : List ℕ → List ℕ → Type 0
+abbrev pub Completed : List ℕ → List ℕ → Type 0
 Completed xs cs = (m : Mode) (d : ℕ) (p : Mode × ℕ) → walk m d xs ≡ Some p → Completes p.0 p.1 cs → Completes m d (xs ++ cs)
 
 completed_on : (c : ℕ) (xs cs : List ℕ) → Completed xs cs → (m : Mode) (d : ℕ) (p : Mode × ℕ) (o : Option Move) → step m d c ≡ o → option_and_then (λ (v : Move). walk v.mode v.depth xs) o ≡ Some p → Completes p.0 p.1 cs → Completes m d (c ∷ (xs ++ cs))
 completed_on c xs cs ih m d p None e h k = cc
 completed_on c xs cs ih m d p (Some v) e h k = step_completes m d c (xs ++ cs) v e (ih v.mode v.depth p h k)
 
-walk_completes : (xs cs : List ℕ) → Completed xs cs
+pub walk_completes : (xs cs : List ℕ) → Completed xs cs
 walk_completes [] cs m d p h k = subst (λ (r : Mode × ℕ). Completes r.0 r.1 cs) (sym (Some_same h)) k
 walk_completes (c ∷ xs) cs m d p h k = completed_on c xs cs (walk_completes xs cs) m d p (step m d c) refl h k
 
@@ -233,18 +233,18 @@ tail_is (TwoDigits q n) d = record { zeros = 1; few = omega arith; quoted = is_q
 abbrev low : List ℕ → Bool
 low cs = list_all (λ c. nat_lt c 128) cs
 
-low_encodes : (cs : List ℕ) → low cs ≡ true → encode_utf8_all cs ≡ cs
+pub low_encodes : (cs : List ℕ) → low cs ≡ true → encode_utf8_all cs ≡ cs
 low_encodes [] h = refl
 low_encodes (c ∷ cs) h = let p = and_parts (nat_lt c 128) (low cs) h in rw (encode_ascii c (ltb-true c 128 p.0)) (ap (λ l. c ∷ l) (low_encodes cs p.1))
 
-low_scalars : (cs : List ℕ) → low cs ≡ true → scalars cs ≡ true
+pub low_scalars : (cs : List ℕ) → low cs ≡ true → scalars cs ≡ true
 low_scalars [] h = refl
 low_scalars (c ∷ cs) h =
     let p = and_parts (nat_lt c 128) (low cs) h in
     let small : c < 128 = ltb-true c 128 p.0 in
     and_from _ _ (low_scalar c (omega arith)) (low_scalars cs p.1)
 
-low_close : (d : ℕ) → low (replicate d 41) ≡ true
+pub low_close : (d : ℕ) → low (replicate d 41) ≡ true
 low_close zero = refl
 low_close (suc d) = low_close d
 
@@ -262,7 +262,7 @@ low_tail (Escape q) d = low_home d q
 low_tail (OneDigit q n) d = low_home d q
 low_tail (TwoDigits q n) d = low_home d q
 
-scalars_both : (xs ys : List ℕ) → scalars xs ≡ true → scalars ys ≡ true → scalars (xs ++ ys) ≡ true
+pub scalars_both : (xs ys : List ℕ) → scalars xs ≡ true → scalars ys ≡ true → scalars (xs ++ ys) ≡ true
 scalars_both [] ys h k = k
 scalars_both (x ∷ xs) ys h k = let p = and_parts (scalar x) (scalars xs) h in and_from _ _ p.0 (scalars_both xs ys p.1 k)
 
@@ -288,7 +288,7 @@ walk_append (c ∷ xs) ys m d = go (step m d c) (λ (v : Move). walk_append xs y
     go (Some v) ih = ih v
 
 -- where the walk ends at a place that is no end, nothing is read
-not_ended : (xs : List ℕ) (m : Mode) (d : ℕ) (p : Mode × ℕ) → walk m d xs ≡ Some p → may_end p.0 p.1 ≡ false → (t : List ℕ) (e : Entries) → read m d t xs ≡ Some e → ⊥
+pub not_ended : (xs : List ℕ) (m : Mode) (d : ℕ) (p : Mode × ℕ) → walk m d xs ≡ Some p → may_end p.0 p.1 ≡ false → (t : List ℕ) (e : Entries) → read m d t xs ≡ Some e → ⊥
 not_ended [] m d p h n t e r =
     let no : may_end m d ≡ false = subst (λ (q : Mode × ℕ). may_end q.0 q.1 ≡ false) (sym (Some_same h)) n in
     let k : None ≡ Some e = subst (λ b. cond b (Some (with_open t ([] ∷ []))) None ≡ Some e) no r in
@@ -316,13 +316,13 @@ high_kind _ v_note h = absurd (omega arith)
 high_kind _ v_quote h = absurd (omega arith)
 high_kind _ v_escape h = absurd (omega arith)
 
-abbrev high_step : Mode → ℕ → Option Move
+abbrev pub high_step : Mode → ℕ → Option Move
 high_step Outside d = move_to Outside d Add
 high_step Quoted d = move_to Quoted d Add
 high_step Comment d = move_to Comment d EndToken
 high_step _ d = None
 
-high_is : (m : Mode) (d c : ℕ) → 128 ≤ c → step m d c ≡ high_step m d
+pub high_is : (m : Mode) (d c : ℕ) → 128 ≤ c → step m d c ≡ high_step m d
 high_is Outside d c h = rw (high_kind c (view c) h)
 high_is Quoted d c h = rw (high_kind c (view c) h)
 high_is Comment d c h = rw (high_kind c (view c) h)
@@ -381,7 +381,7 @@ first_byte c = go (encode_utf8 c) (omega (arith, length-encode c, (len_utf8_boun
     go [] h = absurd (omega arith)
     go (b ∷ v) h = (b, v, refl)
 
-scalars_left : (xs ys : List ℕ) → scalars (xs ++ ys) ≡ true → scalars xs ≡ true
+pub scalars_left : (xs ys : List ℕ) → scalars (xs ++ ys) ≡ true → scalars xs ≡ true
 scalars_left [] ys h = refl
 scalars_left (x ∷ xs) ys h = let p = and_parts (scalar x) (scalars (xs ++ ys)) h in and_from _ _ p.0 (scalars_left xs ys p.1)
 
@@ -427,3 +427,13 @@ begins_viable x y e u s =
     let q = begin_same u.0 ys y (is ∙ ap (λ l. l ++ y) (sym u.1.1)) in
     let w = walked u.0 q.0 Outside 0 [] e (ap (read Outside 0 []) (sym q.1) ∙ splits_read ys (x ++ y) e is s) in
     subst IsViable u.1.1 (walked_viable u.0 w.0 u.1.0 w.1)
+
+-- no text goes on with a character that the reader refuses
+pub cant_follow : (xs : List ℕ) (c : ℕ) (p : Mode × ℕ) → scalars xs ≡ true → scalar c ≡ true → walk Outside 0 xs ≡ Some p → step p.0 p.1 c ≡ None → ¬ IsViable (encode_utf8_all xs ++ encode_utf8 c)
+cant_follow xs c p ok fine h stop v =
+    let front : List ℕ = encode_utf8_all xs in
+    let f = first_byte c in
+    let all : List ℕ = front ++ encode_utf8 c in
+    let is : encode_utf8_all (xs ++ c ∷ []) ≡ all = encodes-append xs (c ∷ []) ∙ ap (λ l. front ++ l) (append-nil (encode_utf8 c)) in
+    let bad = stops all xs [] c p is (scalars_both xs (c ∷ []) ok (and_from _ _ fine refl)) h stop in
+    bad.at.longest (length all) (omega (arith, length-append front (encode_utf8 c), ap length f.2)) (omega arith) (subst IsViable (sym (take-length all)) v)

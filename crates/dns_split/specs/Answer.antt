@@ -1,6 +1,5 @@
 -- What `split` answers.
 use Rattle.std.specs.Prelude.{⊤, ℕ, List, ◌++◌, map, codes, Result, Ok, Err, Vec, String, string_bytes}
-use Rattle.std.specs.declared.alloc.Global.{Global}
 use Rattle.dns_split.specs.declared.splitting.SplitError.{SplitError}
 use Rattle.dns_split.specs.declared.splitting.SplitError.TheVariants.{BadText, ShortBuf}
 use Rattle.std.specs.Fmt.{decimal}
@@ -8,15 +7,15 @@ use Rattle.dns_split.specs.Splitting.{Entries, Splits}
 use Rattle.dns_split.specs.Viable.{IsBad}
 
 -- the bytes of each text
-abbrev pub texts : List (String Global) → List (List ℕ)
+abbrev pub texts : {A : Type 0} → List (String A) → List (List ℕ)
 texts ts = map string_bytes ts
 
 -- the tokens of each entry
-abbrev pub entries_of : List (Vec (String Global) Global) → Entries
+abbrev pub entries_of : {A : Type 0} → List (Vec (String A) A) → Entries
 entries_of es = map (λ e. texts e.items) es
 
 -- the entries that the text splits into, or the bytes of its longest viable beginning; nothing is said where memory ran out
-abbrev pub Answers : Result (Vec (Vec (String Global) Global) Global) SplitError → List ℕ → Type 0
+abbrev pub Answers : {A : Type 0} → Result (Vec (Vec (String A) A) A) SplitError → List ℕ → Type 0
 Answers (Ok v) text = Splits text (entries_of v.items)
 Answers (Err (BadText i)) text = IsBad text i
 Answers (Err ShortBuf) text = ⊤

@@ -1,9 +1,12 @@
 pub mod Answer
-pub mod Collected
 pub mod Lexeme
+pub mod Opening
+pub mod Pieces
 pub mod Place
+pub mod Position
 pub mod Reader
 pub mod Rows
+pub mod Run
 pub mod Splitting
 pub mod Token
 pub mod Viable

@@ -1,10 +1,13 @@
 //! Laws on splitting.
 //! Each function's contract is the law; calling one does nothing.
-ghost use Rattle.std.specs.Prelude.{◌≡◌, ◌++◌, ◌∷◌, ◌↔◌, [], List, ℕ};
+ghost use Rattle.std.specs.Prelude.{◌≡◌, ◌<◌, ◌+◌, ◌++◌, ◌∷◌, ◌↔◌, ◌⊎◌, [], List, Bool, ℕ, drop, encode_utf8_all, length, map};
 ghost use Rattle.std.specs.Str.{IsUtf8};
 ghost use Rattle.dns_split.specs.Splitting.{Splits, Entries};
-ghost use Rattle.dns_split.specs.Viable.{IsViable};
+ghost use Rattle.dns_split.specs.Lexeme.{Line, bytes};
+ghost use Rattle.dns_split.specs.Viable.{IsBad, IsViable};
 ghost use Rattle.dns_split.specs.Token.{IsToken};
+ghost use Rattle.dns_split.specs.Pieces.{IsOctetPieces, IsPieces, cut, end_at, moved_piece, place_of};
+ghost use Rattle.dns_split.specs.declared.pieces.Piece.{Piece};
 
 /// A text splits in one way at most.
 pub fn splits_one_way()
@@ -19,4 +22,51 @@ pub fn beginnings_are_viable()
 /// A text splits into itself alone exactly if it is a token.
 pub fn tokens_split_alone()
     ensures { (text : List ℕ) → (Splits text ((text ∷ []) ∷ []) ↔ IsToken text) }
+{}
+
+/// A text has one list of pieces at most.
+pub fn pieces_come_one_way()
+    ensures { (text : List ℕ) (found other : List Piece) → IsPieces text found → IsPieces text other → found ≡ other }
+{}
+
+/// The words and quotes of a text's pieces, cut where entries end, are its entries.
+pub fn pieces_are_tokens()
+    ensures { (text : List ℕ) (found : List Piece) → IsPieces text found → Splits text (cut text found) }
+{}
+
+/// A text that splits has pieces.
+pub fn splits_have_pieces()
+    ensures { (text : List ℕ) (e : Entries) → Splits text e → (found : List Piece) × IsPieces text found × (cut text found ≡ e) }
+{}
+
+/// Texts that split join: with a line's end between them they split into the entries of both.
+pub fn splits_join()
+    ensures { (x y : List ℕ) (has_cr : Bool) (e f : Entries) → Splits x e → Splits y f
+        → Splits (x ++ (bytes (Line has_cr) ++ y)) (e ++ f) }
+{}
+
+/// A text can be cut at the end of any of its entries but the last.
+pub fn splits_are_cut()
+    ensures { (text : List ℕ) (e f : Entries) → Splits text (e ++ f) → 0 < length e → 0 < length f
+        → (x : List ℕ) × (y : List ℕ) × (has_cr : Bool) × (text ≡ x ++ (bytes (Line has_cr) ++ y)) × Splits x e × Splits y f }
+{}
+
+/// Pieces of texts join alike: the first text's last end moves behind the line's end.
+pub fn pieces_join()
+    ensures { (x y : List ℕ) (has_cr : Bool) (found follow : List Piece) → IsPieces x found → IsPieces y follow
+        → (front : List Piece) × (blank : Bool) × (found ≡ front ++ end_at (length x) blank ∷ [])
+        × IsPieces (x ++ (bytes (Line has_cr) ++ y)) (front ++ end_at (length x + length (bytes (Line has_cr))) blank
+        ∷ map (moved_piece (λ i. length x + length (bytes (Line has_cr)) + i)) follow) }
+{}
+
+/// After the end of an entry that is not the last, the pieces are those of the rest alone.
+pub fn pieces_go_on()
+    ensures { (text : List ℕ) (found more : List Piece) (at : ℕ) (blank : Bool) → IsPieces text (found ++ end_at at blank ∷ more)
+        → (more ≡ []) ⊎ ((alone : List Piece) × IsPieces (drop at text) alone × (more ≡ map (moved_piece (λ i. at + i)) alone)) }
+{}
+
+/// Of UTF-8 text the octets, each a character, have the same pieces, or are bad in the same place.
+pub fn octets_agree(text: &str)
+    ensures pieces { (found : List Piece) → IsPieces text.now found → IsOctetPieces text.now found }
+    ensures bad { (at : ℕ) → IsBad text.now at → IsBad (encode_utf8_all text.now) (place_of text.now at) }
 {}

@@ -88,6 +88,7 @@ fn kind_of(c: char) -> Kind
     }
 }
 
+#[inline(always)]
 fn move_to(mode: Mode, depth: usize, act: Act) -> Option<Move>
     ensures { result ≡ move_to mode depth act }
 {
@@ -95,6 +96,7 @@ fn move_to(mode: Mode, depth: usize, act: Act) -> Option<Move>
 }
 
 /// Where the symbols of a quoted text, or of a word, are read.
+#[inline(always)]
 fn home(within: Within) -> Mode
     ensures { result ≡ home within }
 {
@@ -105,6 +107,7 @@ fn home(within: Within) -> Mode
 }
 
 /// A line end ends the entry outside parentheses alone.
+#[inline(always)]
 fn line_end(depth: usize) -> Act
     ensures { result ≡ line_end depth }
 {
@@ -115,6 +118,7 @@ fn line_end(depth: usize) -> Act
     }
 }
 
+#[inline(always)]
 fn outside_step(depth: usize, kind: Kind) -> Option<Move>
     requires { depth + 1 < 2 ^ 64 }
     ensures { result ≡ outside_step depth kind }
@@ -133,6 +137,7 @@ fn outside_step(depth: usize, kind: Kind) -> Option<Move>
     }
 }
 
+#[inline(always)]
 fn quoted_step(depth: usize, kind: Kind) -> Option<Move>
     ensures { result ≡ quoted_step depth kind }
 {
@@ -144,6 +149,7 @@ fn quoted_step(depth: usize, kind: Kind) -> Option<Move>
     }
 }
 
+#[inline(always)]
 fn comment_step(depth: usize, kind: Kind) -> Option<Move>
     ensures { result ≡ comment_step depth kind }
 {
@@ -154,6 +160,7 @@ fn comment_step(depth: usize, kind: Kind) -> Option<Move>
     }
 }
 
+#[inline(always)]
 fn return_step(depth: usize, kind: Kind) -> Option<Move>
     ensures { result ≡ return_step depth kind }
 {
@@ -211,6 +218,7 @@ fn third_digit_step(within: Within, value: u8, depth: usize, c: char) -> Option<
 /// One character, or `None` where no text goes on so.
 ///
 /// An escape's digits are refused as soon as no digits after them can make it an octet.
+#[inline(always)]
 pub(crate) fn step(mode: Mode, depth: usize, c: char) -> Option<Move>
     requires { depth + 1 < 2 ^ 64 }
     ensures { result ≡ step mode depth c }

@@ -1,11 +1,10 @@
 //! Splitting a zone text into entries.
-ghost use Rattle.std.specs.Prelude.{◌≡◌, ◌++◌, ◌∷◌, [], ℕ, Some, OnOk, IfOk, encode_utf8};
+ghost use Rattle.std.specs.Prelude.{◌≡◌, ◌++◌, ◌∷◌, [], Some, OnOk, IfOk};
 ghost use Rattle.dns_split.specs.Answer.{Answers, texts, entries_of};
-ghost use Rattle.dns_split.specs.Collected.{Applied, with_ended, next_start};
 ghost use Rattle.dns_split.specs.Splitting.{SplitsOnlyInto};
 
-use crate::reader::{Act, Mode, may_end, step};
-use std::alloc::{AllocError, Global};
+use crate::pieces::{Piece, Pieces};
+use std::alloc::{AllocError, Allocator};
 use std::error::Error;
 use std::{fmt, mem};
 
@@ -50,25 +49,23 @@ impl From<AllocError> for SplitError {
 
 /// Whole entries, and the tokens of another.
 #[derive(Drop)]
-struct Collected {
-    found: Vec<Vec<String>>,
-    entry: Vec<String>,
+struct Collected<A: Allocator> {
+    found: Vec<Vec<String<A>, A>, A>,
+    entry: Vec<String<A>, A>,
 }
 
-impl Collected {
-    /// Keeps the token that was open, if it has characters.
-    fn end_token(&mut self, alloc: Global, token: &str) -> Result<(), AllocError>
+impl<A: Allocator + Copy> Collected<A> {
+    /// Keeps a token.
+    fn add_token(&mut self, alloc: A, token: &str) -> Result<(), AllocError>
         ensures found { OnOk result (self.new.found ≡ self.old.found) }
-        ensures entry { OnOk result (texts self.new.entry.items ≡ with_ended token.now (texts self.old.entry.items)) }
+        ensures entry { OnOk result (texts self.new.entry.items ≡ texts self.old.entry.items ++ token.now ∷ []) }
     {
-        if !token.is_empty() {
-            self.entry.push(String::from_str(alloc, token)?)?;
-        }
+        self.entry.push(String::from_str(alloc, token)?)?;
         Ok(())
     }
 
     /// Ends the entry.
-    fn end_entry(&mut self, alloc: Global) -> Result<(), AllocError>
+    fn end_entry(&mut self, alloc: A) -> Result<(), AllocError>
         ensures found { OnOk result (entries_of self.new.found.items
             ≡ entries_of self.old.found.items ++ texts self.old.entry.items ∷ []) }
         ensures entry { OnOk result (texts self.new.entry.items ≡ []) }
@@ -76,40 +73,6 @@ impl Collected {
         let entry = mem::replace(&mut self.entry, Vec::new(alloc));
         self.found.push(entry)?;
         Ok(())
-    }
-
-    /// Does what a character asks; `longer` is the open token with that character.
-    fn apply(
-        &mut self,
-        alloc: Global,
-        act: Act,
-        token: &str,
-        longer: &str,
-    ) -> Result<(), AllocError>
-        ensures { OnOk result ((c : ℕ) → longer.now ≡ token.now ++ encode_utf8 c
-            → Applied self.old self.new act c token.now) }
-    {
-        match act {
-            Act::Add => {}
-            Act::EndToken | Act::BeginToken => self.end_token(alloc, token)?,
-            Act::FinishToken => self.end_token(alloc, longer)?,
-            Act::EndEntry => {
-                self.end_token(alloc, token)?;
-                self.end_entry(alloc)?;
-            }
-        }
-        Ok(())
-    }
-}
-
-/// Where the open token begins after a character that stands from `at` to `end`.
-fn next_start(act: Act, start: usize, at: usize, end: usize) -> usize
-    ensures { result ≡ next_start act start at end }
-{
-    match act {
-        Act::Add => start,
-        Act::BeginToken => at,
-        _ => end,
     }
 }
 
@@ -124,7 +87,10 @@ fn next_start(act: Act, start: usize, at: usize, end: usize) -> usize
 ///
 /// A text that is not of this grammar is refused with the place up to which it could still have
 /// become one. `ShortBuf` comes only where memory was refused. The time is linear in the octets.
-pub fn split(alloc: Global, text: &str) -> Result<Vec<Vec<String>>, SplitError>
+pub fn split<A: Allocator + Copy>(
+    alloc: A,
+    text: &str,
+) -> Result<Vec<Vec<String<A>, A>, A>, SplitError>
     ensures exact { Answers result text.now }
     ensures only { IfOk result (λ v. SplitsOnlyInto text.now (entries_of v.items)) }
 {
@@ -132,26 +98,15 @@ pub fn split(alloc: Global, text: &str) -> Result<Vec<Vec<String>>, SplitError>
         found: Vec::new(alloc),
         entry: Vec::new(alloc),
     };
-    let mut mode = Mode::Outside;
-    let mut depth: usize = 0;
-    let mut start: usize = 0;
-    let mut at: usize = 0;
-    for c in text.chars() {
-        let Some(next) = step(mode, depth, c) else {
-            return Err(SplitError::BadText(at));
-        };
-        let end = at + c.len_utf8();
-        collected.apply(alloc, next.act, &text[start..at], &text[start..end])?;
-        start = next_start(next.act, start, at, end);
-        mode = next.mode;
-        depth = next.depth;
-        at = end;
+    for piece in Pieces::new(text) {
+        match piece {
+            Ok(Piece::Word(part)) => collected.add_token(alloc, &text[part.start..part.end])?,
+            Ok(Piece::Quote(part)) => collected.add_token(alloc, &text[part.start..part.end])?,
+            Ok(Piece::Comment(_)) => {}
+            Ok(Piece::End(_)) => collected.end_entry(alloc)?,
+            Err(fault) => return Err(SplitError::BadText(fault.at)),
+        }
     }
-    if !may_end(mode, depth) {
-        return Err(SplitError::BadText(at));
-    }
-    collected.end_token(alloc, &text[start..at])?;
-    collected.end_entry(alloc)?;
     let Collected { found, .. } = collected;
     Ok(found)
 }

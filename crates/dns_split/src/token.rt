@@ -1,7 +1,10 @@
 //! The token test.
-ghost use Rattle.std.specs.Prelude.{◌≡◌, IsTrue, ◌↔◌};
+ghost use Rattle.std.specs.Prelude.{◌≡◌, IsTrue, ◌↔◌, None};
 ghost use Rattle.dns_split.specs.Place.{next_place, is_at_end};
-ghost use Rattle.dns_split.specs.Token.{IsToken};
+ghost use Rattle.dns_split.specs.Token.{IsToken, IsWord, IsQuote};
+ghost use Rattle.std.specs.List.{flat_map};
+ghost use Rattle.dns_symbol.specs.Symbol.{bytes};
+ghost use Rattle.dns_symbol.specs.Text.{SymbolsOf};
 
 use crate::reader::{Act, Mode, step};
 
@@ -58,4 +61,20 @@ pub fn is_token(text: &str) -> bool
         mode = next.mode;
     }
     is_at_end(place, mode)
+}
+
+/// What a token holds: the text between the double quotes of a quoted text, and a word itself.
+///
+/// So its symbols are those of the word, or those between the double quotes.
+pub fn content<'t>(token: &'t str) -> &'t str
+    ensures word { (w : IsWord token.now) → (result.now ≡ token.now) × SymbolsOf result.now w.symbols None }
+    ensures quote { (q : IsQuote token.now) → (result.now ≡ flat_map bytes q.symbols) × SymbolsOf result.now q.symbols None }
+{
+    let octets = token.as_bytes();
+    let end = octets.len();
+    if end >= 2 && octets[0] == b'"' && octets[end - 1] == b'"' {
+        &token[1..end - 1]
+    } else {
+        token
+    }
 }

@@ -1,0 +1,164 @@
+-- One turn of the reader of pieces.
+use Rattle.std.proofs.Common.{◌≡◌, ℕ, zero, suc, ◌+◌, ◌-◌, ◌*◌, ◌<◌, Bool, true, false, cond, ◌&&◌, ◌==◌, nat_le, List, ◌∷◌, length, drop, refl, sym, ap, ◌∙◌, subst, ◌⊎◌, inl, inr}
+use Rattle.std.specs.Prelude.{Some, None, option_map, unwrap_or, Result, Ok}
+use Rattle.std.proofs.Common.{get_or}
+use Rattle.std.proofs.lemmas.List.{drop_more}
+use Rattle.std.proofs.lemmas.Bool.{eq-eqb, cond-true}
+use Rattle.dns_split.specs.declared.reader.Mode.{Mode}
+use Rattle.dns_split.specs.declared.reader.Mode.TheVariants.{Outside, Quoted, Comment, Return, Escape, OneDigit, TwoDigits}
+use Rattle.dns_split.specs.declared.reader.Kind.{Kind}
+use Rattle.dns_split.specs.declared.reader.Kind.TheVariants.{White, LineFeed, CarriageReturn, Opening, Closing, Semicolon, DoubleQuote, Backslash, Plain}
+use Rattle.dns_split.specs.declared.reader.Act.{Act}
+use Rattle.dns_split.specs.declared.reader.Act.TheVariants.{Add, BeginToken, EndToken, EndEntry, FinishToken}
+use Rattle.dns_split.specs.declared.reader.Move.{Move}
+use Rattle.dns_split.specs.declared.reader.Within.TheVariants.{InQuote}
+use Rattle.dns_split.specs.declared.pieces.Piece.{Piece}
+use Rattle.dns_split.specs.declared.pieces.Fault.{Fault}
+use Rattle.dns_symbol.specs.Symbol.{is_digit}
+use Rattle.dns_split.specs.Reader.{kind, home, move_to, step, outside_step, quoted_step, comment_step, return_step, line_end}
+use Rattle.dns_split.specs.Run.{before, closed, finished, start_after, blank_after, fault, wrong_at, run, Still, SameRun, SameFrom}
+use Rattle.dns_split.proofs.Complete.{Some_same}
+
+-- what a step gives and leaves
+abbrev pub stepped : Mode → ℕ → ℕ → Bool → List ℕ → Move → List (Result Piece Fault)
+stepped m s at b bs v = before (closed m v.mode v.act s at) (before (finished v.act s (at + 1) b) (run v.mode v.depth (start_after m v.mode v.act s at) (at + 1) (blank_after v.act b bs) bs))
+
+pub run_step : (m : Mode) (d s at : ℕ) (b : Bool) (c : ℕ) (bs : List ℕ) (v : Move) → step m d c ≡ Some v → run m d s at b (c ∷ bs) ≡ stepped m s at b bs v
+run_step m d s at b c bs v h = ap (λ o. unwrap_or (option_map (stepped m s at b bs) o) (fault at (wrong_at m s))) h
+
+pub run_stop : (m : Mode) (d s at : ℕ) (b : Bool) (c : ℕ) (bs : List ℕ) → step m d c ≡ None → run m d s at b (c ∷ bs) ≡ fault at (wrong_at m s)
+run_stop m d s at b c bs h = ap (λ o. unwrap_or (option_map (stepped m s at b bs) o) (fault at (wrong_at m s))) h
+
+-- the same, in a text
+pub turn : (text : List ℕ) (m : Mode) (d s at : ℕ) (b : Bool) (c : ℕ) (v : Move) → at < length text → c ≡ get_or text at 0 → step m d c ≡ Some v
+    → run m d s at b (drop at text) ≡ stepped m s at b (drop (at + 1) text) v
+turn text m d s at b c v h e g = ap (run m d s at b) (drop_more text at 0 h ∙ ap (λ x. x ∷ drop (at + 1) text) (sym e)) ∙ run_step m d s at b c (drop (at + 1) text) v g
+
+-- nothing is open before the octet that ended it
+abbrev Reopens : Mode → ℕ → ℕ → ℕ → Bool → ℕ → List ℕ → Piece → Move → Type 0
+Reopens m d s at b c bs p v = closed m v.mode v.act s at ≡ Some p → run Outside d at at b (c ∷ bs) ≡ before (finished v.act s (at + 1) b) (run v.mode v.depth (start_after m v.mode v.act s at) (at + 1) (blank_after v.act b bs) bs)
+
+none_some : {A : Type 0} {X : Type 0} {x : X} → None ≡ Some x → A
+none_some h = cc
+
+added : (m m' : Mode) (d s at : ℕ) (b : Bool) (c : ℕ) (bs : List ℕ) (p : Piece) (v : Move) → closed m m' Add s at ≡ None → move_to m' d Add ≡ Some v → Reopens m d s at b c bs p v
+added m m' d s at b c bs p v n h = subst (Reopens m d s at b c bs p) (Some_same h) (λ k. none_some (sym n ∙ k))
+
+only_added : (t : Bool) (m m' : Mode) (d s at : ℕ) (b : Bool) (c : ℕ) (bs : List ℕ) (p : Piece) (v : Move) → closed m m' Add s at ≡ None → cond t (move_to m' d Add) None ≡ Some v
+    → Reopens m d s at b c bs p v
+only_added true m m' d s at b c bs p v n h = added m m' d s at b c bs p v n h
+only_added false m m' d s at b c bs p v n h = none_some h
+
+one_or : (t g k : Bool) (m m' m'' : Mode) (d s at : ℕ) (b : Bool) (c : ℕ) (bs : List ℕ) (p : Piece) (v : Move) → closed m m' Add s at ≡ None → closed m m'' Add s at ≡ None
+    → cond t (cond g (move_to m' d Add) None) (cond k (move_to m'' d Add) None) ≡ Some v → Reopens m d s at b c bs p v
+one_or true g k m m' m'' d s at b c bs p v n o h = only_added g m m' d s at b c bs p v n h
+one_or false g k m m' m'' d s at b c bs p v n o h = only_added k m m'' d s at b c bs p v o h
+
+self : (at : ℕ) → (at == at) ≡ true
+self at = eq-eqb at at refl
+
+outside_again : (d s at : ℕ) (b : Bool) (c : ℕ) (bs : List ℕ) (p : Piece) (n : Mode) (e : ℕ) (a : Act) → step Outside d c ≡ move_to n e a
+    → Reopens Outside d s at b c bs p (record { mode = n; depth = e; act = a })
+outside_again d s at b c bs p n e Add h k = none_some k
+outside_again d s at b c bs p n e FinishToken h k = none_some k
+outside_again d s at b c bs p n e EndToken h k = run_step Outside d at at b c bs _ h ∙ rw (self at)
+outside_again d s at b c bs p n e EndEntry h k = run_step Outside d at at b c bs _ h ∙ rw (self at)
+outside_again d s at b c bs p n e BeginToken h k = run_step Outside d at at b c bs _ h ∙ rw (self at)
+
+-- a line's end, behind a comment or CR
+line_again : (d at : ℕ) (b : Bool) (c : ℕ) (bs : List ℕ) → kind c ≡ LineFeed → (s : ℕ)
+    → run Outside d at at b (c ∷ bs) ≡ before (finished (line_end d) s (at + 1) b) (run Outside d (at + 1) (at + 1) (blank_after (line_end d) b bs) bs)
+line_again zero at b c bs k s = run_step Outside zero at at b c bs _ (ap (outside_step zero) k) ∙ rw (self at)
+line_again (suc d) at b c bs k s = run_step Outside (suc d) at at b c bs _ (ap (outside_step (suc d)) k) ∙ rw (self at)
+
+after_line : (m : Mode) (d s at : ℕ) → start_after Comment Outside (line_end d) s at ≡ at + 1
+after_line m zero s at = refl
+after_line m (suc d) s at = refl
+
+after_return : (d s at : ℕ) → start_after Return Outside (line_end d) s at ≡ at + 1
+after_return zero s at = refl
+after_return (suc d) s at = refl
+
+comment_again : (k : Kind) (d s at : ℕ) (b : Bool) (c : ℕ) (bs : List ℕ) (p : Piece) (v : Move) → kind c ≡ k → comment_step d k ≡ Some v → Reopens Comment d s at b c bs p v
+comment_again LineFeed d s at b c bs p v k h = subst (Reopens Comment d s at b c bs p) (Some_same h) (λ _. line_again d at b c bs k s ∙ ap (λ n. before (finished (line_end d) s (at + 1) b) (run Outside d n (at + 1) (blank_after (line_end d) b bs) bs)) (sym (after_line Comment d s at)))
+comment_again CarriageReturn d s at b c bs p v k h = subst (Reopens Comment d s at b c bs p) (Some_same h) (λ _. run_step Outside d at at b c bs _ (ap (outside_step d) k) ∙ rw (self at))
+comment_again White d s at b c bs p v k h = subst (Reopens Comment d s at b c bs p) (Some_same h) (λ g. none_some g)
+comment_again Opening d s at b c bs p v k h = subst (Reopens Comment d s at b c bs p) (Some_same h) (λ g. none_some g)
+comment_again Closing d s at b c bs p v k h = subst (Reopens Comment d s at b c bs p) (Some_same h) (λ g. none_some g)
+comment_again Semicolon d s at b c bs p v k h = subst (Reopens Comment d s at b c bs p) (Some_same h) (λ g. none_some g)
+comment_again DoubleQuote d s at b c bs p v k h = subst (Reopens Comment d s at b c bs p) (Some_same h) (λ g. none_some g)
+comment_again Backslash d s at b c bs p v k h = subst (Reopens Comment d s at b c bs p) (Some_same h) (λ g. none_some g)
+comment_again Plain d s at b c bs p v k h = subst (Reopens Comment d s at b c bs p) (Some_same h) (λ g. none_some g)
+
+return_again : (k : Kind) (d s at : ℕ) (b : Bool) (c : ℕ) (bs : List ℕ) (p : Piece) (v : Move) → kind c ≡ k → return_step d k ≡ Some v → Reopens Return d s at b c bs p v
+return_again LineFeed d s at b c bs p v k h = subst (Reopens Return d s at b c bs p) (Some_same h) (λ _. line_again d at b c bs k s ∙ ap (λ n. before (finished (line_end d) s (at + 1) b) (run Outside d n (at + 1) (blank_after (line_end d) b bs) bs)) (sym (after_return d s at)))
+return_again CarriageReturn d s at b c bs p v k h = none_some h
+return_again White d s at b c bs p v k h = none_some h
+return_again Opening d s at b c bs p v k h = none_some h
+return_again Closing d s at b c bs p v k h = none_some h
+return_again Semicolon d s at b c bs p v k h = none_some h
+return_again DoubleQuote d s at b c bs p v k h = none_some h
+return_again Backslash d s at b c bs p v k h = none_some h
+return_again Plain d s at b c bs p v k h = none_some h
+
+quoted_again : (k : Kind) (d s at : ℕ) (b : Bool) (c : ℕ) (bs : List ℕ) (p : Piece) (v : Move) → quoted_step d k ≡ Some v → Reopens Quoted d s at b c bs p v
+quoted_again LineFeed d s at b c bs p v h = none_some h
+quoted_again CarriageReturn d s at b c bs p v h = none_some h
+quoted_again DoubleQuote d s at b c bs p v h = subst (Reopens Quoted d s at b c bs p) (Some_same h) (λ g. none_some g)
+quoted_again White d s at b c bs p v h = added Quoted Quoted d s at b c bs p v refl h
+quoted_again Opening d s at b c bs p v h = added Quoted Quoted d s at b c bs p v refl h
+quoted_again Closing d s at b c bs p v h = added Quoted Quoted d s at b c bs p v refl h
+quoted_again Semicolon d s at b c bs p v h = added Quoted Quoted d s at b c bs p v refl h
+quoted_again Plain d s at b c bs p v h = added Quoted Quoted d s at b c bs p v refl h
+quoted_again Backslash d s at b c bs p v h = added Quoted (Escape InQuote) d s at b c bs p v refl h
+
+-- where the reader gives what was open, it may stand before the same octet with nothing open
+pub reopens : (m : Mode) (d s at : ℕ) (b : Bool) (c : ℕ) (bs : List ℕ) (p : Piece) (v : Move) → step m d c ≡ Some v → Reopens m d s at b c bs p v
+reopens Outside d s at b c bs p v h = outside_again d s at b c bs p v.mode v.depth v.act h
+reopens Quoted d s at b c bs p v h = quoted_again (kind c) d s at b c bs p v h
+reopens Comment d s at b c bs p v h = comment_again (kind c) d s at b c bs p v refl h
+reopens Return d s at b c bs p v h = return_again (kind c) d s at b c bs p v refl h
+reopens (Escape q) d s at b c bs p v h = one_or (is_digit c) (nat_le c 50) (nat_le 32 c && nat_le c 126) (Escape q) (OneDigit q (c - 48)) (home q) d s at b c bs p v refl refl h
+reopens (OneDigit q n) d s at b c bs p v h = only_added (is_digit c && nat_le (10 * n + (c - 48)) 25) (OneDigit q n) (TwoDigits q (10 * n + (c - 48))) d s at b c bs p v refl h
+reopens (TwoDigits q n) d s at b c bs p v h = only_added (is_digit c && nat_le (10 * n + (c - 48)) 255) (TwoDigits q n) (home q) d s at b c bs p v refl h
+
+-- in a text: the piece, and what is left
+pub turn_closed : (text : List ℕ) (m : Mode) (d s at : ℕ) (b : Bool) (c : ℕ) (p : Piece) (v : Move) → at < length text → c ≡ get_or text at 0 → step m d c ≡ Some v
+    → closed m v.mode v.act s at ≡ Some p
+    → run m d s at b (drop at text) ≡ Ok p ∷ run Outside d at at b (drop at text)
+turn_closed text m d s at b c p v h e g k =
+    let rest : List ℕ = drop (at + 1) text in
+    let same : drop at text ≡ c ∷ rest = drop_more text at 0 h ∙ ap (λ x. x ∷ rest) (sym e) in
+    turn text m d s at b c v h e g
+    ∙ ap (λ o. before o (before (finished v.act s (at + 1) b) (run v.mode v.depth (start_after m v.mode v.act s at) (at + 1) (blank_after v.act b rest) rest))) k
+    ∙ ap (λ l. Ok p ∷ l) (sym (reopens m d s at b c rest p v g k))
+    ∙ ap (λ l. Ok p ∷ run Outside d at at b l) (sym same)
+
+same_blank : (a : Act) (s e : ℕ) (b : Bool) (bs : List ℕ) → finished a s e b ≡ None → blank_after a b bs ≡ b
+same_blank Add s e b bs h = refl
+same_blank BeginToken s e b bs h = refl
+same_blank EndToken s e b bs h = refl
+same_blank FinishToken s e b bs h = refl
+same_blank EndEntry s e b bs h = none_some (sym h)
+
+-- no piece ends
+pub turn_on : (text : List ℕ) (m : Mode) (d s at : ℕ) (b : Bool) (c : ℕ) (v : Move) → at < length text → c ≡ get_or text at 0 → step m d c ≡ Some v → closed m v.mode v.act s at ≡ None
+    → finished v.act s (at + 1) b ≡ None
+    → run m d s at b (drop at text) ≡ run v.mode v.depth (start_after m v.mode v.act s at) (at + 1) b (drop (at + 1) text)
+turn_on text m d s at b c v h e g k f =
+    let rest : List ℕ = drop (at + 1) text in
+    let left : List (Result Piece Fault) = run v.mode v.depth (start_after m v.mode v.act s at) (at + 1) (blank_after v.act b rest) rest in
+    turn text m d s at b c v h e g ∙ ap (λ o. before o (before (finished v.act s (at + 1) b) left)) k ∙ ap (λ o. before o left) f
+    ∙ ap (λ x. run v.mode v.depth (start_after m v.mode v.act s at) (at + 1) x rest) (same_blank v.act s (at + 1) b rest f)
+
+-- one more octet that changes nothing
+pub still_more : (m : Mode) (text : List ℕ) (i j c : ℕ) → j < length text → c ≡ get_or text j 0 → Still m c → SameRun m text i j → SameRun m text i (j + 1)
+still_more m text i j c h e k same d s b = same d s b ∙ ap (run m d s j b) (drop_more text j 0 h ∙ ap (λ x. x ∷ drop (j + 1) text) (sym e)) ∙ k d s j b (drop (j + 1) text)
+
+-- a blank before which nothing is open
+pub blank_skipped : (c d i : ℕ) (b : Bool) (bs : List ℕ) → (c ≡ 32) ⊎ (c ≡ 9) → run Outside d i i b (c ∷ bs) ≡ run Outside d (i + 1) (i + 1) b bs
+blank_skipped c d i b bs (inl e) = rw e (ap (λ o. before o (run Outside d (i + 1) (i + 1) b bs)) (cond-true _ _ _ (eq-eqb i i refl)))
+blank_skipped c d i b bs (inr e) = rw e (ap (λ o. before o (run Outside d (i + 1) (i + 1) b bs)) (cond-true _ _ _ (eq-eqb i i refl)))
+
+pub blank_more : (text : List ℕ) (i j c : ℕ) → j < length text → c ≡ get_or text j 0 → (c ≡ 32) ⊎ (c ≡ 9) → SameFrom Outside text i i j j → SameFrom Outside text i i (j + 1) (j + 1)
+blank_more text i j c h e k same d b = same d b ∙ ap (run Outside d j j b) (drop_more text j 0 h ∙ ap (λ x. x ∷ drop (j + 1) text) (sym e)) ∙ blank_skipped c d j b (drop (j + 1) text) k

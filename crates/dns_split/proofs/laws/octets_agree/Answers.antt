@@ -1,0 +1,8 @@
+use Rattle.dns_split.proofs.Agree.{small_scalars, octets_have_pieces, octets_are_bad}
+use Rattle.dns_split.proofs.laws.octets_agree.Goals as goal
+
+pub returns-clause-pieces : goal.returns-clause-pieces
+returns-clause-pieces c = octets_have_pieces c.args.text.now (small_scalars c.args.text.now (λ k. (c.type_inv.text k).fits))
+
+pub returns-clause-bad : goal.returns-clause-bad
+returns-clause-bad c = octets_are_bad c.args.text.now c.utf8.text (small_scalars c.args.text.now (λ k. (c.type_inv.text k).fits))

@@ -1,0 +1,8 @@
+use Rattle.std.proofs.Common.{drop}
+use Rattle.dns_split.proofs.PieceMoved.{blank_left}
+use Rattle.dns_split.proofs.pieces.Pieces.begins_blank.Goals as goal
+
+pub returns : goal.returns
+returns c =
+    let s = c.self.inside in
+    blank_left s.is_done s.mode s.depth s.start s.at s.begins_blank (drop s.at s.octets.now) c.args.self.now c.self.view_is

@@ -1,0 +1,11 @@
+-- Where parentheses that are left open were opened.
+use Rattle.std.specs.Prelude.{◌≡◌, ℕ, ◌<◌, ◌≤◌, List, ◌∷◌, length, take, drop}
+use Rattle.dns_split.specs.Splitting.{Entries, Splits}
+
+-- an opening parenthesis, before which the text splits and beyond which no beginning of it does
+pub record IsOpener (text : List ℕ) (i : ℕ) : Type 0 where
+  pub inside : List ℕ
+  pub opens : drop i text ≡ 40 ∷ inside
+  pub found : Entries
+  pub splits : Splits (take i text) found
+  pub never_closed : (j : ℕ) → i < j → j ≤ length text → (e : Entries) → ¬ Splits (take j text) e

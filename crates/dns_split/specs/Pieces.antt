@@ -1,0 +1,182 @@
+-- The pieces of a zone text with their places: words, quoted texts, comments and ends of entries.
+use Rattle.std.specs.Prelude.{⊤, ◌≡◌, ◌≤◌, ℕ, zero, suc, ◌+◌, ◌-◌, ◌⊎◌, Bool, true, false, List, [], ◌∷◌, ◌++◌, length, take, drop, map, replicate, Option, Some, None, Result, Ok, Err, encode_utf8, encode_utf8_all}
+use Rattle.std.specs.List.{flat_map}
+use lib.Utf8.{scalar}
+use Rattle.std.specs.Str.{IsCharBoundary}
+use Rattle.dns_split.specs.declared.pieces.Piece.{Piece}
+use Rattle.dns_split.specs.declared.pieces.Piece.TheVariants.{Word as WordAt, Quote as QuoteAt, Comment as CommentAt, End as EndAt}
+use Rattle.dns_split.specs.declared.pieces.Fault.{Fault}
+use Rattle.dns_split.specs.declared.pieces.Wrong.{Wrong}
+use Rattle.dns_split.specs.declared.pieces.Wrong.TheVariants.{Closing, OpenParenthesis, OpenQuote, LoneReturn, BadEscape}
+use Rattle.dns_split.specs.Lexeme.{Lexeme, Blank, Line, Open, Close, Note, Word, Quote, bytes}
+use Rattle.dns_split.specs.Splitting.{Entries, Splits, are_lexemes, nests, with_token}
+use Rattle.dns_split.specs.Viable.{IsBad, IsViable}
+
+-- a word, a quoted text with its quotes, and a comment with its semicolon, from an octet to before another
+abbrev pub word_at : ℕ → ℕ → Piece
+word_at s e = WordAt (record { start = s; end = e })
+
+abbrev pub quote_at : ℕ → ℕ → Piece
+quote_at s e = QuoteAt (record { start = s; end = e })
+
+abbrev pub comment_at : ℕ → ℕ → Piece
+comment_at s e = CommentAt (record { start = s; end = e })
+
+-- an entry ends, and what follows begins at this octet; the entry began with a blank or didn't
+abbrev pub end_at : ℕ → Bool → Piece
+end_at e b = EndAt (record { at = e; begins_blank = b })
+
+-- a blank comes first
+abbrev pub begins_blank : List Lexeme → Bool
+begins_blank (Blank _ ∷ _) = true
+begins_blank _ = false
+
+-- the pieces of lexemes that stand from an octet on, at a depth, in an entry that began with a blank or didn't
+abbrev pub pieces : ℕ → ℕ → Bool → List Lexeme → List Piece
+pieces at depth b [] = end_at at b ∷ []
+pieces at depth b (Open ∷ ls) = pieces (at + length (bytes Open)) (suc depth) b ls
+pieces at (suc depth) b (Close ∷ ls) = pieces (at + length (bytes Close)) depth b ls
+pieces at zero b (Line r ∷ ls) = end_at (at + length (bytes (Line r))) b ∷ pieces (at + length (bytes (Line r))) zero (begins_blank ls) ls
+pieces at depth b (Word s ss ∷ ls) = word_at at (at + length (bytes (Word s ss))) ∷ pieces (at + length (bytes (Word s ss))) depth b ls
+pieces at depth b (Quote ss ∷ ls) = quote_at at (at + length (bytes (Quote ss))) ∷ pieces (at + length (bytes (Quote ss))) depth b ls
+pieces at depth b (Note cs ∷ ls) = comment_at at (at + length (bytes (Note cs))) ∷ pieces (at + length (bytes (Note cs))) depth b ls
+pieces at depth b (l ∷ ls) = pieces (at + length (bytes l)) depth b ls
+
+-- the text is of the grammar, and these are its pieces
+pub record IsPieces (text : List ℕ) (found : List Piece) : Type 0 where
+  pub lexemes : List Lexeme
+  pub spelled : flat_map bytes lexemes ≡ text
+  pub valid : are_lexemes lexemes ≡ true
+  pub nested : nests 0 lexemes ≡ true
+  pub placed : pieces 0 0 (begins_blank lexemes) lexemes ≡ found
+
+-- every text of the grammar that begins so has these pieces first
+abbrev pub BeginsPieces : List ℕ → List Piece → Type 0
+BeginsPieces front found = (rest : List ℕ) (all : List Piece) → IsPieces (front ++ rest) all → (more : List Piece) × (all ≡ found ++ more)
+
+-- why the longest viable beginning can't go on with the rest of the text
+-- a closing parenthesis follows what splits already; what it is inside of has to be closed; a double quote would end the quoted text from i on; only LF may follow; neither a tab nor LF may
+abbrev pub IsWrong : List ℕ → List ℕ → Wrong → Type 0
+IsWrong front rest Closing = (more : List ℕ) × (e : Entries) × (rest ≡ 41 ∷ more) × Splits front e
+IsWrong front rest OpenParenthesis = (n : ℕ) × (e : Entries) × (rest ≡ []) × Splits (front ++ (10 ∷ replicate (suc n) 41)) e
+IsWrong front rest (OpenQuote i) = (more : List ℕ) (all : List Piece) → IsPieces (front ++ (34 ∷ more)) all → (first : List Piece) × (last : List Piece) × (all ≡ first ++ quote_at i (length front + 1) ∷ last)
+IsWrong front rest LoneReturn = (c : ℕ) → scalar c ≡ true → IsViable (front ++ encode_utf8 c) → c ≡ 10
+IsWrong front rest BadEscape = (¬ IsViable (front ++ 9 ∷ [])) × (¬ IsViable (front ++ 10 ∷ []))
+
+-- the text isn't of the grammar; its longest viable beginning, and why it can't go on
+pub record IsFault (text : List ℕ) (f : Fault) : Type 0 where
+  pub bad : IsBad text f.at
+  pub wrong : IsWrong (take f.at text) (drop f.at text) f.wrong
+  pub boundary : IsCharBoundary text f.at
+
+-- the pieces of a text; or, where it isn't of the grammar, the pieces that its longest viable beginning settles, and then its fault
+pub record Faulty (text : List ℕ) (given : List (Result Piece Fault)) : Type 0 where
+  pub found : List Piece
+  pub fault : Fault
+  pub is : given ≡ map Ok found ++ Err fault ∷ []
+  pub is_fault : IsFault text fault
+  pub settled : BeginsPieces (take fault.at text) found
+
+pub record Whole (text : List ℕ) (given : List (Result Piece Fault)) : Type 0 where
+  pub found : List Piece
+  pub is : given ≡ map Ok found
+  pub placed : IsPieces text found
+
+abbrev pub Reads : List ℕ → List (Result Piece Fault) → Type 0
+Reads text given = Whole text given ⊎ Faulty text given
+
+-- the same with each place moved
+abbrev pub moved_piece : (ℕ → ℕ) → Piece → Piece
+moved_piece f (WordAt p) = word_at (f p.start) (f p.end)
+moved_piece f (QuoteAt p) = quote_at (f p.start) (f p.end)
+moved_piece f (CommentAt p) = comment_at (f p.start) (f p.end)
+moved_piece f (EndAt p) = end_at (f p.at) p.begins_blank
+
+abbrev pub moved_wrong : (ℕ → ℕ) → Wrong → Wrong
+moved_wrong f (OpenQuote i) = OpenQuote (f i)
+moved_wrong f w = w
+
+abbrev pub moved : (ℕ → ℕ) → Result Piece Fault → Result Piece Fault
+moved f (Ok p) = Ok (moved_piece f p)
+moved f (Err e) = Err (record { at = f e.at; wrong = moved_wrong f e.wrong })
+
+-- so much further on
+abbrev pub later : ℕ → List (Result Piece Fault) → List (Result Piece Fault)
+later n given = map (moved (λ i. n + i)) given
+
+-- what the text from an octet on gives alone, with the places in the whole text
+abbrev pub ReadsFrom : List ℕ → ℕ → List (Result Piece Fault) → Type 0
+ReadsFrom text at given = (alone : List (Result Piece Fault)) × Reads (drop at text) alone × (given ≡ later at alone)
+
+-- where a character of octets, each a character, stands in their text
+abbrev pub place_of : List ℕ → ℕ → ℕ
+place_of octets i = length (encode_utf8_all (take i octets))
+
+-- the pieces, or the fault, of the text of the characters with these numbers
+abbrev pub ReadsOctets : List ℕ → List (Result Piece Fault) → Type 0
+ReadsOctets octets given = Reads (encode_utf8_all octets) (map (moved (place_of octets)) given)
+
+-- octets have these pieces
+abbrev pub IsOctetPieces : List ℕ → List Piece → Type 0
+IsOctetPieces octets found = IsPieces (encode_utf8_all octets) (map (moved_piece (place_of octets)) found)
+
+-- whether the entry that ends next began with a blank
+abbrev pub next_blank : List (Result Piece Fault) → Option Bool
+next_blank (Ok (EndAt e) ∷ given) = Some e.begins_blank
+next_blank (Ok _ ∷ given) = next_blank given
+next_blank _ = None
+
+-- the text between two octets
+abbrev pub between : List ℕ → ℕ → ℕ → List ℕ
+between text s e = take (e - s) (drop s text)
+
+-- the words and quotes of a text, cut where entries end
+abbrev pub cut : List ℕ → List Piece → Entries
+cut text [] = []
+cut text (WordAt p ∷ ps) = with_token (between text p.start p.end) (cut text ps)
+cut text (QuoteAt p ∷ ps) = with_token (between text p.start p.end) (cut text ps)
+cut text (CommentAt p ∷ ps) = cut text ps
+cut text (EndAt p ∷ ps) = [] ∷ cut text ps
+
+-- octets of the text that are characters of it
+pub record IsPart (text : List ℕ) (s e : ℕ) : Type 0 where
+  pub ordered : s ≤ e
+  pub starts : IsCharBoundary text s
+  pub ends : IsCharBoundary text e
+
+-- a token or a comment is a part of the text
+abbrev pub IsPieceOf : List ℕ → Piece → Type 0
+IsPieceOf text (WordAt p) = IsPart text p.start p.end
+IsPieceOf text (QuoteAt p) = IsPart text p.start p.end
+IsPieceOf text (CommentAt p) = IsPart text p.start p.end
+IsPieceOf text (EndAt p) = IsCharBoundary text p.at
+
+-- and a fault is the text's
+abbrev pub Fits : List ℕ → Result Piece Fault → Type 0
+Fits text (Ok p) = IsPieceOf text p
+Fits text (Err f) = IsFault text f
+
+abbrev pub EachFits : List ℕ → List (Result Piece Fault) → Type 0
+EachFits text [] = ⊤
+EachFits text (x ∷ xs) = Fits text x × EachFits text xs
+
+-- each that is no fault is a part of the text
+abbrev pub IsPartOf : List ℕ → Result Piece Fault → Type 0
+IsPartOf text (Ok p) = IsPieceOf text p
+IsPartOf text (Err f) = ⊤
+
+abbrev pub EachIsPart : List ℕ → List (Result Piece Fault) → Type 0
+EachIsPart text [] = ⊤
+EachIsPart text (x ∷ xs) = IsPartOf text x × EachIsPart text xs
+
+-- places in order, of octets that many
+abbrev pub IsWithin : ℕ → Result Piece Fault → Type 0
+IsWithin n (Ok (WordAt p)) = (p.start ≤ p.end) × (p.end ≤ n)
+IsWithin n (Ok (QuoteAt p)) = (p.start ≤ p.end) × (p.end ≤ n)
+IsWithin n (Ok (CommentAt p)) = (p.start ≤ p.end) × (p.end ≤ n)
+IsWithin n (Ok (EndAt p)) = p.at ≤ n
+IsWithin n (Err f) = f.at ≤ n
+
+abbrev pub EachWithin : ℕ → List (Result Piece Fault) → Type 0
+EachWithin n [] = ⊤
+EachWithin n (x ∷ xs) = IsWithin n x × EachWithin n xs

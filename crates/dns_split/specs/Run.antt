@@ -1,0 +1,115 @@
+-- The reader by octets, with the pieces that it gives.
+use Rattle.std.specs.Prelude.{◌≡◌, drop, ℕ, ◌+◌, Bool, true, false, if◌then◌else◌, ◌||◌, ◌==◌, List, [], ◌∷◌, Option, Some, None, option_map, unwrap_or, Result, Ok, Err}
+use Rattle.dns_split.specs.declared.reader.Mode.{Mode}
+use Rattle.dns_split.specs.declared.reader.Mode.TheVariants.{Outside, Quoted, Comment, Return}
+use Rattle.dns_split.specs.declared.reader.Act.{Act}
+use Rattle.dns_split.specs.declared.reader.Act.TheVariants.{EndToken, EndEntry, Add, BeginToken, FinishToken}
+use Rattle.dns_split.specs.declared.reader.Move.{Move}
+use Rattle.dns_split.specs.declared.pieces.Piece.{Piece}
+use Rattle.dns_split.specs.declared.pieces.Fault.{Fault}
+use Rattle.dns_split.specs.declared.pieces.Wrong.{Wrong}
+use Rattle.dns_split.specs.declared.pieces.Wrong.TheVariants.{Closing, OpenParenthesis, OpenQuote, LoneReturn, BadEscape}
+use Rattle.dns_split.specs.Reader.{step, may_end}
+use Rattle.dns_split.specs.Pieces.{word_at, quote_at, comment_at, end_at}
+
+-- the comment, or the word if it has octets, that is open
+abbrev pub open_piece : Mode → ℕ → ℕ → Option Piece
+open_piece Comment s at = Some (comment_at s at)
+open_piece _ s at = if s == at then None else Some (word_at s at)
+
+-- what is open goes on
+abbrev pub goes_on : Mode → Mode → Act → Bool
+goes_on Comment Comment a = true
+goes_on Comment _ a = false
+goes_on _ _ Add = true
+goes_on _ _ FinishToken = true
+goes_on _ _ _ = false
+
+-- the piece that ends before an octet
+abbrev pub closed : Mode → Mode → Act → ℕ → ℕ → Option Piece
+closed m n a s at = if goes_on m n a then None else open_piece m s at
+
+-- the piece that ends with an octet, which ends before e
+abbrev pub finished : Act → ℕ → ℕ → Bool → Option Piece
+finished FinishToken s e b = Some (quote_at s e)
+finished EndEntry s e b = Some (end_at e b)
+finished _ s e b = None
+
+-- where what is open begins, after an octet at which a token ended or in a comment
+abbrev pub opens : Mode → ℕ → ℕ
+opens Comment at = at
+opens _ at = at + 1
+
+abbrev pub in_comment : Mode → ℕ → ℕ → ℕ
+in_comment Comment s at = s
+in_comment _ s at = at + 1
+
+abbrev pub next_open : Mode → Mode → ℕ → ℕ → ℕ
+next_open Comment n s at = in_comment n s at
+next_open _ n s at = opens n at
+
+-- where what is open begins after the octet at
+abbrev pub start_after : Mode → Mode → Act → ℕ → ℕ → ℕ
+start_after m n Add s at = s
+start_after m n BeginToken s at = at
+start_after m n EndToken s at = next_open m n s at
+start_after m n EndEntry s at = at + 1
+start_after m n FinishToken s at = at + 1
+
+-- an octet is a blank, and the first one is
+abbrev pub is_blank : ℕ → Bool
+is_blank c = c == 32 || c == 9
+
+abbrev pub first_blank : List ℕ → Bool
+first_blank [] = false
+first_blank (c ∷ bs) = is_blank c
+
+-- the entry that follows begins with a blank
+abbrev pub blank_after : Act → Bool → List ℕ → Bool
+blank_after EndEntry b bs = first_blank bs
+blank_after _ b bs = b
+
+-- what is wrong before an octet that can't follow, and where the text may not end
+abbrev pub wrong_at : Mode → ℕ → Wrong
+wrong_at Outside s = Closing
+wrong_at Comment s = Closing
+wrong_at Quoted s = OpenQuote s
+wrong_at Return s = LoneReturn
+wrong_at _ s = BadEscape
+
+abbrev pub wrong_at_end : Mode → ℕ → Wrong
+wrong_at_end Outside s = OpenParenthesis
+wrong_at_end Comment s = OpenParenthesis
+wrong_at_end m s = wrong_at m s
+
+-- a line may end
+abbrev pub takes_feed : Mode → Bool
+takes_feed Outside = true
+takes_feed Comment = true
+takes_feed Return = true
+takes_feed _ = false
+
+-- the fault alone
+abbrev pub fault : ℕ → Wrong → List (Result Piece Fault)
+fault at w = Err (record { at = at; wrong = w }) ∷ []
+
+abbrev pub before : Option Piece → List (Result Piece Fault) → List (Result Piece Fault)
+before None k = k
+before (Some p) k = Ok p ∷ k
+
+-- what the reader gives from here on
+abbrev pub run : Mode → ℕ → ℕ → ℕ → Bool → List ℕ → List (Result Piece Fault)
+run m d s at b [] = if may_end m d then before (open_piece m s at) (Ok (end_at at b) ∷ []) else fault at (wrong_at_end m s)
+run m d s at b (c ∷ bs) = unwrap_or (option_map (λ (v : Move). before (closed m v.mode v.act s at) (before (finished v.act s (at + 1) b) (run v.mode v.depth (start_after m v.mode v.act s at) (at + 1) (blank_after v.act b bs) bs))) (step m d c)) (fault at (wrong_at m s))
+
+-- the octet changes nothing but the place
+abbrev pub Still : Mode → ℕ → Type 0
+Still m c = (d s at : ℕ) (b : Bool) (bs : List ℕ) → run m d s at b (c ∷ bs) ≡ run m d s (at + 1) b bs
+
+-- the reader gives the same from both places
+abbrev pub SameRun : Mode → List ℕ → ℕ → ℕ → Type 0
+SameRun m text i j = (d s : ℕ) (b : Bool) → run m d s i b (drop i text) ≡ run m d s j b (drop j text)
+
+-- the same, where what is open begins elsewhere too
+abbrev pub SameFrom : Mode → List ℕ → ℕ → ℕ → ℕ → ℕ → Type 0
+SameFrom m text s i t j = (d : ℕ) (b : Bool) → run m d s i b (drop i text) ≡ run m d t j b (drop j text)
