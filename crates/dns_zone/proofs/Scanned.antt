@@ -24,13 +24,13 @@ opened_le (comment bs) n i h = omega arith
 opened_le newline n i h = omega arith
 
 -- the rest of the items from a place on
-pub rest_more : (items : List Item) (i : ℕ) (x : Item) → i < length items → x ≡ get_or items i x
+pub rest_more : {A : Type 0} (items : List (Item A)) (i : ℕ) (x : Item A) → i < length items → x ≡ get_or items i x
     → steps_of (drop i items) ≡ step_of x ∷ steps_of (drop (i + 1) items)
-rest_more items i x h e = ap steps_of (drop_more items i x h) ∙ ap (λ (y : Item). step_of y ∷ steps_of (drop (i + 1) items)) (sym e)
+rest_more {A} items i x h e = ap steps_of (drop_more items i x h) ∙ ap (λ (y : Item A). step_of y ∷ steps_of (drop (i + 1) items)) (sym e)
 
-pub front_more : (items : List Item) (i : ℕ) (x : Item) → i < length items → x ≡ get_or items i x
+pub front_more : {A : Type 0} (items : List (Item A)) (i : ℕ) (x : Item A) → i < length items → x ≡ get_or items i x
     → steps_of (take (i + 1) items) ≡ steps_of (take i items) ++ step_of x ∷ []
-front_more items i x h e = ap steps_of (take_more items i x h) ∙ (map-append step_of (take i items) (get_or items i x ∷ []) ∙ ap (λ (y : Item). steps_of (take i items) ++ step_of y ∷ []) (sym e))
+front_more {A} items i x h e = ap steps_of (take_more items i x h) ∙ (map-append step_of (take i items) (get_or items i x ∷ []) ∙ ap (λ (y : Item A). steps_of (take i items) ++ step_of y ∷ []) (sym e))
 
 -- a fine step has no fault
 pub fine_no_fault : (past : List Step) (x : Step) → IsFine (depth past) x → (e : DocumentError) → ¬ IsFault past x e

@@ -9,7 +9,7 @@ use Rattle.dns_zone.specs.Nesting.{is_nested, IsNested, both_true, some_test}
 use Rattle.dns_zone.specs.declared.document.Document.{Document}
 
 -- the steps of a document's items
-abbrev pub document_steps : Document → List Step
+abbrev pub document_steps : {A : Type 0} → Document A → List Step
 document_steps d = steps_of d.items.items
 
 -- well-formed steps nest
@@ -27,5 +27,5 @@ well_formed_nests zero [] p = refl
 well_formed_nests (suc n) [] p = absurd p
 
 -- so do those of every document
-pub document_nests : (d : Document) → IsNested (document_steps d)
+pub document_nests : {A : Type 0} (d : Document A) → IsNested (document_steps d)
 document_nests d = ∥∥₁_elim d.well_formed (Bool-set _ true) (well_formed_nests 0 (document_steps d))

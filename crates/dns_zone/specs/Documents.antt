@@ -12,7 +12,7 @@ use Rattle.dns_zone.specs.declared.document.DocumentError.{DocumentError}
 use Rattle.dns_zone.specs.declared.document.DocumentError.TheVariants.{BadToken, BadComment, EndWithoutBegin, LineInBlock, OpenBlock}
 
 -- the step that an item is
-abbrev pub step_of : Item → Step
+abbrev pub step_of : {A : Type 0} → Item A → Step
 step_of (Token text) = token (string_bytes text)
 step_of Begin = begin
 step_of End = end
@@ -20,7 +20,7 @@ step_of (Comment text) = comment (string_bytes text)
 step_of Newline = newline
 
 -- the steps that items are
-abbrev pub steps_of : List Item → List Step
+abbrev pub steps_of : {A : Type 0} → List (Item A) → List Step
 steps_of items = map step_of items
 
 -- characters without LF and CR

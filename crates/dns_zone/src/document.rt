@@ -7,19 +7,20 @@ ghost use Rattle.dns_zone.specs.Writers.{Steps, opened};
 use crate::zonefile_fmt::{FormatWriter, Formatter, Result, ZonefileFmt};
 pub use dns_split::splitting::{SplitError, split};
 use dns_split::token::is_token;
+use std::alloc::{Allocator, Global};
 use std::fmt;
 
 /// What a document is made of.
 #[derive(Debug, PartialEq, Eq, Drop)]
-pub enum Item {
+pub enum Item<A: Allocator = Global> {
     /// A word, or a text between double quotes with the quotes (RFC 1035, section 5.1).
-    Token(String),
+    Token(String<A>),
     /// The begin of a block.
     Begin,
     /// The end of a block.
     End,
     /// A comment, without the semicolon.
-    Comment(String),
+    Comment(String<A>),
     /// A line end.
     Newline,
 }
@@ -63,7 +64,7 @@ fn is_comment(text: &str) -> bool
 }
 
 /// What is wrong with the item at a place, where `blocks` blocks are open before it.
-fn fault(item: &Item, place: usize, blocks: usize) -> Option<DocumentError>
+fn fault<A: Allocator>(item: &Item<A>, place: usize, blocks: usize) -> Option<DocumentError>
     ensures fine { IfNone result (IsFine blocks (step_of item.now)) }
     ensures fault { IfSome result (λ e. (past : List Step) → length past ≡ place → depth past ≡ blocks → IsFault past (step_of item.now) e) }
 {
@@ -77,7 +78,7 @@ fn fault(item: &Item, place: usize, blocks: usize) -> Option<DocumentError>
 }
 
 /// Prints an item.
-fn write_item<F: FormatWriter>(p: &mut F, item: &Item) -> Result
+fn write_item<F: FormatWriter, A: Allocator>(p: &mut F, item: &Item<A>) -> Result
     requires end { step_of item.now ≡ end → 0 < F.blocks p.old }
     requires newline { step_of item.now ≡ newline → F.blocks p.old ≡ 0 }
     ensures { OnOk result (Steps F.blocks F.step_gives p.old (step_of item.now) p.new) }
@@ -92,7 +93,7 @@ fn write_item<F: FormatWriter>(p: &mut F, item: &Item) -> Result
 }
 
 /// The open blocks after an item, from those before it.
-fn blocks_after(item: &Item, blocks: usize) -> usize
+fn blocks_after<A: Allocator>(item: &Item<A>, blocks: usize) -> usize
     requires begin { blocks < usize.MAX }
     requires end { step_of item.now ≡ end → 0 < blocks }
     ensures { result ≡ opened (step_of item.now) blocks }
@@ -105,7 +106,7 @@ fn blocks_after(item: &Item, blocks: usize) -> usize
 }
 
 /// What is wrong first with a list of items.
-pub(crate) fn first_fault(items: &[Item]) -> Option<DocumentError>
+pub(crate) fn first_fault<A: Allocator>(items: &[Item<A>]) -> Option<DocumentError>
     ensures fine { IfNone result (IsWellFormed 0 (steps_of items.now)) }
     ensures fault { IfSome result (λ e. IsFirstFault [] (steps_of items.now) e) }
 {
@@ -125,16 +126,18 @@ pub(crate) fn first_fault(items: &[Item]) -> Option<DocumentError>
 
 /// A well-formed list of items: tokens and comments that are such, blocks that nest and close, and line ends outside them.
 #[derive(Debug, Drop)]
-pub struct Document {
-    pub(crate) items: Vec<Item>,
+pub struct Document<A: Allocator = Global> {
+    pub(crate) items: Vec<Item<A>, A>,
     ghost well_formed: { ∥ IsWellFormed 0 (steps_of items.items) ∥₁ },
 }
 
-impl Document {
+impl<A: Allocator> Document<A> {
     ghost use Rattle.dns_zone.specs.DocumentSteps.{document_steps};
 
     /// Takes exactly the well-formed lists, and no memory. Another list comes back with its first fault.
-    pub fn from_items(items: Vec<Item>) -> std::result::Result<Document, (DocumentError, Vec<Item>)>
+    pub fn from_items(
+        items: Vec<Item<A>, A>,
+    ) -> std::result::Result<Document<A>, (DocumentError, Vec<Item<A>, A>)>
         ensures ok { IfOk result (λ d. document_steps d ≡ steps_of items.items) }
         ensures accepts { IsOk result ↔ IsWellFormed 0 (steps_of items.items) }
         ensures err { IfErr result (λ e. IsFirstFault [] (steps_of items.items) e.0 × (e.1 ≡ items)) }
@@ -146,7 +149,7 @@ impl Document {
     }
 }
 
-impl ZonefileFmt for Document {
+impl<A: Allocator> ZonefileFmt for Document<A> {
     ghost use Rattle.dns_zone.specs.DocumentSteps.{document_steps, document_nests};
 
     ghost document = { document_steps };

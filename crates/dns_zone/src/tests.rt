@@ -11,7 +11,7 @@ use std::fmt;
 use std::fmt::Write;
 use std::test::Fail;
 
-/// The item that a word means: `(`, `)`, `n`, `c:TEXT`, and else a token.
+/// The item that a word means: a parenthesis, a line end, a comment, and else a token.
 fn item(alloc: Global, word: &str) -> std::result::Result<Item, AllocError> {
     Ok(match word {
         "(" => Item::Begin,
@@ -106,8 +106,11 @@ fn layouts(rt: HostRuntime) -> std::result::Result<(), Fail> {
             assert!(rt; false, "refused: {text}");
             return Ok(());
         };
-        let printed = document.display_zonefile(kind).to_string(alloc)?;
+        let display = document.display_zonefile(kind);
+        let printed = display.to_string(alloc)?;
         assert_eq!(rt; printed.as_str(), text);
+        let under_a_width = format!(in alloc; "{display:99}")?;
+        assert_eq!(rt; under_a_width.as_str(), text);
     }
     Ok(())
 }
@@ -139,6 +142,7 @@ fn documents(rt: HostRuntime) -> std::result::Result<(), Fail> {
             Err(refusal) => {
                 let (error, returned) = refusal;
                 assert_eq!(rt; returned, items(alloc, words)?);
+                assert_eq!(rt; format!(in alloc; "{error:99}")?, error.to_string(alloc)?);
                 Some(error)
             }
         };
