@@ -272,11 +272,15 @@ pub text_only : (kind : DisplayKind) (steps : List Step) (text : List ℕ) → t
     → (Splits text e → e ≡ document_entries steps) × (e ≡ document_entries steps → Splits text e)
 text_only kind steps text is e w = subst (λ t. (Splits t e → e ≡ document_entries steps) × (e ≡ document_entries steps → Splits t e)) (sym is) (printed_only kind steps e w)
 
+-- and no line of it begins with a blank
+pub text_tight : (kind : DisplayKind) (steps : List Step) (text : List ℕ) → text ≡ printed kind steps → IsWellFormed 0 steps → BeginsNoBlank text
+text_tight kind steps text is w = subst BeginsNoBlank (sym is) (printed_tight kind steps w)
+
 -- a text that is the layout is never bad
 pub never_bad : (kind : DisplayKind) (steps : List Step) (text : List ℕ) (i : ℕ) → text ≡ printed kind steps → IsWellFormed 0 steps → IsBad text i → ⊥
 never_bad kind steps text i is w bad = bad.splits_not (document_entries steps) ((text_only kind steps text is (document_entries steps) w).1 refl)
 
 -- what splitting it can refuse
-pub refusal : (kind : DisplayKind) (steps : List Step) (text : List ℕ) → text ≡ printed kind steps → IsWellFormed 0 steps → (e : SplitError) → Answers (Err e) text → IsRefusal steps (Split e)
-refusal kind steps text is w ShortBuf h = tt
-refusal kind steps text is w (BadText i) h = absurd (never_bad kind steps text i is w h)
+pub refusal : (A : Type 0) (kind : DisplayKind) (steps : List Step) (text : List ℕ) → text ≡ printed kind steps → IsWellFormed 0 steps → (e : SplitError) → Answers {A = A} (Err e) text → IsRefusal steps (Split e)
+refusal A kind steps text is w ShortBuf h = tt
+refusal A kind steps text is w (BadText i) h = absurd (never_bad kind steps text i is w h)

@@ -12,7 +12,7 @@ ghost use Rattle.dns_zone_laws.specs.Refusal.{IsRefusal};
 use dns_split::splitting::{SplitError, split};
 use dns_zone::document::{Document, DocumentError, Item};
 use dns_zone::zonefile_fmt::{DisplayKind, ZonefileFmt};
-use std::alloc::{AllocError, Global};
+use std::alloc::{AllocError, Allocator};
 use std::error::Error;
 use std::fmt;
 
@@ -37,15 +37,17 @@ pub fn normal_form()
         → ((e ≡ f) ↔ (normal_text e ≡ normal_text f)) }
 {}
 
-/// The text of every value that states a well-formed document splits into that document's entries, and into nothing else.
-pub fn values_split<T: ZonefileFmt>(
-    alloc: Global,
+/// The text of every value that states a well-formed document splits into that document's entries,
+/// and into nothing else; no line of it begins with a blank, but inside parentheses.
+pub fn values_split<A: Allocator, T: ZonefileFmt>(
+    alloc: A,
     value: &T,
     kind: DisplayKind,
-) -> Result<String, AllocError>
+) -> Result<String<A>, AllocError>
     ensures text { IfOk result (λ s. string_bytes s ≡ printed kind (T.document value.now)) }
     ensures meaning { IfOk result (λ s. IsWellFormed 0 (T.document value.now)
         → SplitsOnlyInto (string_bytes s) (document_entries (T.document value.now))) }
+    ensures tight { IfOk result (λ s. IsWellFormed 0 (T.document value.now) → BeginsNoBlank (string_bytes s)) }
 {
     value.display_zonefile(kind).to_string(alloc)
 }
@@ -88,15 +90,16 @@ impl From<AllocError> for Refusal {
 /// Makes a document of a list of items, prints it, and splits the text.
 ///
 /// The text has exactly the bytes of the layout and splits, in one way only, into the document's
-/// entries and tokens.
-pub fn items_split(
-    alloc: Global,
-    items: Vec<Item>,
+/// entries and tokens. No line of it begins with a blank, but inside parentheses.
+pub fn items_split<A: Allocator + Copy>(
+    alloc: A,
+    items: Vec<Item<A>, A>,
     kind: DisplayKind,
-) -> Result<(String, Vec<Vec<String>>), Refusal>
+) -> Result<(String<A>, Vec<Vec<String<A>, A>, A>), Refusal>
     ensures formed { IsOk result → IsWellFormed 0 (steps_of items.items) }
     ensures text { IfOk result (λ r. string_bytes r.0 ≡ printed kind (steps_of items.items)) }
     ensures meaning { IfOk result (λ r. SplitsOnlyInto (string_bytes r.0) (document_entries (steps_of items.items))) }
+    ensures tight { IfOk result (λ r. BeginsNoBlank (string_bytes r.0)) }
     ensures entries { IfOk result (λ r. entries_of r.1.items ≡ document_entries (steps_of items.items)) }
     ensures refused { IfErr result (IsRefusal (steps_of items.items)) }
 {

@@ -148,6 +148,8 @@ fn faults_are_named(rt: HostRuntime) -> Result<(), Fail> {
         let refused = items_split(alloc, items(alloc, words)?, DisplayKind::Simple);
         assert!(&rt; matches!(refused, Err(Refusal::Document(f)) if f == fault));
     }
+    let refusal = Refusal::Document(DocumentError::OpenBlock);
+    assert_eq!(&rt; format!(in alloc; "{refusal:99}")?.as_str(), "open block");
     Ok(())
 }
 
@@ -255,4 +257,88 @@ fn short_documents_split_into_their_entries(rt: HostRuntime) -> Result<(), Fail>
         assert_eq!(&rt; well_formed.len(), documents);
     }
     Ok(())
+}
+
+/// Adds the words' items to a list, so many times.
+fn push_times(
+    alloc: Global,
+    items: &mut Vec<Item>,
+    words: &[&str],
+    times: usize,
+) -> Result<(), AllocError> {
+    for _ in 0..times {
+        for word in words {
+            items.push(item(alloc, word)?)?;
+        }
+    }
+    Ok(())
+}
+
+fn token_count(entries: &[Vec<String>]) -> usize {
+    let mut count: usize = 0;
+    for entry in entries {
+        count = count.saturating_add(entry.len());
+    }
+    count
+}
+
+/// Prints the items in each layout, in as many octets as said, and splits the texts into so many
+/// entries and tokens.
+fn prints_at_length(
+    rt: &impl Abort,
+    alloc: Global,
+    items: Vec<Item>,
+    lengths: [usize; 3],
+    counts: (usize, usize),
+) -> Result<(), Fail> {
+    let document = Document::from_items(items).expect(rt, "the items are a document");
+    for (kind, length) in KINDS.into_iter().zip(lengths) {
+        let text = values_split(alloc, &document, kind)?;
+        assert_eq!(rt; text.len(), length);
+        let found = split(alloc, text.as_str()).expect(rt, "the layout splits");
+        assert_eq!(rt; (found.len(), token_count(&found)), counts);
+    }
+    Ok(())
+}
+
+#[test]
+fn many_items_split_into_their_entries(rt: HostRuntime) -> Result<(), Fail> {
+    let alloc = rt.alloc();
+    // Words, how often, and the blocks to close. In the deep blocks each of the 1,000 comments is
+    // followed by an indent, four spaces longer than the one before.
+    let rows: [(&[&str], usize, usize, [usize; 3], (usize, usize)); 3] = [
+        (&["abcdefghi"], 10_000, 0, [99_999; 3], (1, 10_000)),
+        (
+            &["abcdefghi", "\n"],
+            10_000,
+            0,
+            [100_000; 3],
+            (10_001, 10_000),
+        ),
+        (
+            &["(", "; k", "a"],
+            1_000,
+            1_000,
+            [1_999, 1_999, 2_009_999],
+            (1, 1_000),
+        ),
+    ];
+    for (words, times, blocks, lengths, counts) in rows {
+        let mut items = Vec::new(alloc);
+        push_times(alloc, &mut items, words, times)?;
+        push_times(alloc, &mut items, &[")"], blocks)?;
+        prints_at_length(&rt, alloc, items, lengths, counts)?;
+    }
+    Ok(())
+}
+
+#[test]
+fn long_texts_split_into_their_entries(rt: HostRuntime) -> Result<(), Fail> {
+    let alloc = rt.alloc();
+    let long = "a".repeat(alloc, 100_000)?;
+    let quoted = format!(in alloc; "\"{long}\"")?;
+    let tokens = vec![in alloc; Item::Token(quoted), Item::Token(long.clone()?)]?;
+    prints_at_length(&rt, alloc, tokens, [200_003; 3], (1, 2))?;
+    let block = vec![in alloc; Item::Begin, Item::Comment(long), Item::End]?;
+    prints_at_length(&rt, alloc, block, [0, 0, 100_008], (1, 0))
 }
