@@ -1,0 +1,128 @@
+//! Lines of typed fields.
+ghost use Rattle.std.specs.Prelude.{◌≡◌, ◌↔◌, ◌+◌, IfNone, IfSome, IfOk, IfErr, IsOk, IsTrue, OnOk, List, Some};
+ghost use Rattle.dns_zone.specs.Layout.{Step, token};
+ghost use Rattle.dns_entry.specs.Field.{Content, content_of, contents_of, field_text, IsPrintable};
+ghost use Rattle.dns_entry.specs.Line.{IsFirstEmpty, IsLine, line_document, line_nests};
+ghost use Rattle.dns_entry.specs.EntryError.{place_of, error_text};
+
+use dns_charstr::charstr::CharStr;
+use dns_codec::{base16, base64};
+use dns_zone::zonefile_fmt::{self, FormatWriter, Formatter, ZonefileFmt};
+use std::alloc::{Allocator, Global};
+use std::fmt;
+use std::marker::Model;
+
+/// A field of an entry, which prints as one token.
+#[derive(Debug, PartialEq, Eq, Drop)]
+pub enum Field<A: Allocator = Global> {
+    /// A number, in decimal.
+    Number(u32),
+    /// Octets in base 16 (RFC 4648, section 8).
+    Hex(Vec<u8, A>),
+    /// Octets in base 64 (RFC 4648, section 4).
+    Base64(Vec<u8, A>),
+    /// A character string in its unquoted form; `""` if it has no octets.
+    Text(CharStr<Vec<u8, A>>),
+}
+
+/// Why fields are no line: by the field's place, which counts from 0.
+#[derive(Clone, Copy, Debug, PartialEq, Eq)]
+pub enum EntryError {
+    /// An encoding has no octets, so its text is no token. This is the first such field.
+    EmptyEncoding(usize),
+}
+
+impl fmt::Display for EntryError {
+    ghost output = { λ e. Some (error_text e) };
+
+    fn fmt<W: fmt::Write>(&self, f: &mut fmt::Formatter<W>) -> fmt::Result {
+        match self {
+            EntryError::EmptyEncoding(i) => write!(f, "empty encoding at {i}"),
+        }
+    }
+}
+
+impl std::error::Error for EntryError {}
+
+impl<A: Allocator> Field<A> {
+    // Whether the field has no text that is a token.
+    fn is_empty_encoding(&self) -> bool
+        ensures { IsTrue result ↔ ¬ IsPrintable (content_of self.now) }
+    {
+        match self {
+            Field::Number(_) => false,
+            Field::Hex(octets) | Field::Base64(octets) => octets.is_empty(),
+            Field::Text(_) => false,
+        }
+    }
+}
+
+// The place of the first field whose text is no token.
+fn first_empty<A: Allocator>(fields: &[Field<A>]) -> Option<usize>
+    ensures none { IfNone result (IsLine (contents_of fields.now)) }
+    ensures some { IfSome result (λ i. IsFirstEmpty (contents_of fields.now) i) }
+{
+    for (place, field) in fields.iter().enumerate() {
+        if field.is_empty_encoding() {
+            return Some(place);
+        }
+    }
+    None
+}
+
+// Prints a field's token.
+fn write_field<F: FormatWriter, A: Allocator>(p: &mut F, field: &Field<A>) -> zonefile_fmt::Result
+    ensures blocks { OnOk result (F.blocks p.new ≡ F.blocks p.old) }
+    ensures gives { OnOk result (F.step_gives p.old (token (field_text (content_of field.now))) p.new) }
+{
+    match field {
+        Field::Number(number) => p.write_token(*number),
+        Field::Hex(octets) => p.write_token(base16::encode_display(octets)),
+        Field::Base64(octets) => p.write_token(base64::encode_display(octets)),
+        Field::Text(text) if text.is_empty() => p.write_token(text.display_quoted()),
+        Field::Text(text) => p.write_token(text.display_unquoted()),
+    }
+}
+
+/// Fields that print as one entry: each has a text that is a token.
+#[derive(Debug, Drop)]
+pub struct EntryLine<A: Allocator = Global> {
+    pub(crate) fields: Vec<Field<A>, A>,
+}
+
+impl<A: Allocator> Model for EntryLine<A> {
+    ghost Value = { List Content };
+
+    ghost view = { λ line. contents_of line.fields.items };
+
+    ghost invariant = { λ line. IsLine (contents_of line.fields.items) };
+}
+
+impl<A: Allocator> EntryLine<A> {
+    /// Takes every list of fields without an encoding of no octets, and no memory. Another list
+    /// comes back with the first such place.
+    pub fn new(fields: Vec<Field<A>, A>) -> Result<EntryLine<A>, (EntryError, Vec<Field<A>, A>)>
+        ensures ok { IfOk result (λ line. line ≡ contents_of fields.items) }
+        ensures accepts { IsOk result ↔ IsLine (contents_of fields.items) }
+        ensures err { IfErr result (λ e. IsFirstEmpty (contents_of fields.items) (place_of e.0) × (e.1 ≡ fields)) }
+    {
+        match first_empty(&fields) {
+            Some(place) => Err((EntryError::EmptyEncoding(place), fields)),
+            None => Ok(EntryLine { fields }),
+        }
+    }
+}
+
+impl<A: Allocator> ZonefileFmt for EntryLine<A> {
+    ghost document = { line_document };
+
+    ghost nested = { line_nests };
+
+    fn fmt<F: FormatWriter>(&self, p: &mut F) -> zonefile_fmt::Result {
+        p.begin_block()?;
+        for field in &self.fields {
+            write_field(p, field)?;
+        }
+        p.end_block()
+    }
+}

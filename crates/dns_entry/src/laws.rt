@@ -1,0 +1,54 @@
+//! Laws on entry lines.
+//! Each function's contract is the law; calling one does nothing of use.
+ghost use Rattle.std.specs.Prelude.{◌≡◌, ℕ, List};
+ghost use Rattle.dns_split.specs.Token.{IsToken};
+ghost use Rattle.dns_zone.specs.Documents.{IsWellFormed};
+ghost use Rattle.dns_entry.specs.Field.{Content, content_of, field_text, IsContent, IsPrintable};
+ghost use Rattle.dns_entry.specs.Line.{AreContents, IsFirstEmpty, IsLine, line_document};
+
+use crate::entry::{EntryLine, Field};
+use dns_wire::AsOctets;
+use std::alloc::Allocator;
+
+/// A field holds a number of 32 bits, octets, or at most 255 of them.
+pub fn fields_hold_values<A: Allocator>(field: &Field<A>)
+    ensures { IsContent (content_of field.now) }
+{
+    match field {
+        Field::Number(number) => {
+            let _number = *number;
+        }
+        Field::Hex(octets) | Field::Base64(octets) => {
+            let _octets = AsOctets::as_slice(octets);
+        }
+        Field::Text(text) => {
+            let _octets = text.as_slice();
+        }
+    }
+}
+
+/// Every line is one: its fields hold values, and each can be a token.
+pub fn lines_are_lines<A: Allocator>(line: &EntryLine<A>)
+    ensures holds { AreContents line.now }
+    ensures printable { IsLine line.now }
+{
+    for field in &line.fields {
+        fields_hold_values(field);
+    }
+}
+
+/// A list has one first field that can't be a token at most, and a line has none.
+pub fn first_empties_are_unique()
+    ensures one { (fields : List Content) (i j : ℕ) → IsFirstEmpty fields i → IsFirstEmpty fields j → i ≡ j }
+    ensures none { (fields : List Content) (i : ℕ) → IsFirstEmpty fields i → IsLine fields → ⊥ }
+{}
+
+/// The text of every field of a line is a token.
+pub fn field_texts_are_tokens()
+    ensures { (field : Content) → IsContent field → IsPrintable field → IsToken (field_text field) }
+{}
+
+/// The document of every line is well-formed.
+pub fn lines_are_well_formed()
+    ensures { (fields : List Content) → AreContents fields → IsLine fields → IsWellFormed 0 (line_document fields) }
+{}
