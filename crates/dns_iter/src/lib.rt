@@ -2,7 +2,7 @@
 #![tactic(auto)]
 
 pub mod error;
-pub mod laws;
+mod line;
 mod name;
 mod print;
 pub mod program;

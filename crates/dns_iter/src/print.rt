@@ -1,21 +1,21 @@
 //! The program's `print`: a document out of words.
-ghost use Rattle.std.specs.Prelude.{◌≡◌, ◌⊎◌, ◌≤◌, List, IfOk, MatchOption, MatchResult, codes};
+ghost use Rattle.std.specs.Prelude.{◌≡◌, ◌⊎◌, ◌≤◌, ℕ, List, Err, IfOk, MatchOption, MatchResult};
 ghost use Rattle.std.specs.Fmt.{WritesInCalls};
 ghost use Rattle.dns_zone.specs.Layout.{Step};
-ghost use Rattle.dns_zone.specs.Documents.{step_of, steps_of, fault_text};
+ghost use Rattle.dns_zone.specs.Documents.{step_of, steps_of};
 ghost use Rattle.dns_iter.specs.Program.{refusal_line, usage_line, texts};
-ghost use Rattle.dns_iter.specs.Print.{layout_name, item_word, AsksItems, DocumentPrinted, DocumentRefused, NotPrinted};
+ghost use Rattle.dns_iter.specs.Print.{layout_name, item_word, AsksItems, BeginsBy, DocumentPrinted, DocumentRefused};
 
 use crate::program::{refuse, refuse_usage};
-use dns_zone::document::{Document, DocumentError, Item};
+use dns_zone::document::{Document, Item};
 use dns_zone::zonefile_fmt::{DisplayKind, ZonefileFmt};
-use std::alloc::{AllocError, Global};
+use std::alloc::{AllocError, Allocator};
 use std::fmt;
 use std::fmt::{Display, Write};
 
-/// Why words are no items.
+/// Why words are no items or fields.
 #[derive(Clone, Copy)]
-enum Unread {
+pub(crate) enum Unread {
     UnknownItem,
     NoMemory,
 }
@@ -43,8 +43,10 @@ pub(crate) fn layout_kind(word: &str) -> Option<DisplayKind>
 }
 
 /// The item that a word asks for, if there is one.
-fn read_item(alloc: Global, word: &str) -> Result<Option<Item>, AllocError>
-    ensures { IfOk result (λ found. MatchOption found ((x : Step) → word.now ≡ item_word x → ⊥) (λ item. word.now ≡ item_word (step_of item))) }
+fn read_item<A: Allocator + Copy>(alloc: A, word: &str) -> Result<Option<Item<A>>, AllocError>
+    ensures { MatchResult result
+        (λ found. MatchOption found ((x : Step) → word.now ≡ item_word x → ⊥) (λ item. word.now ≡ item_word (step_of item)))
+        (λ _. (x : Step) × (word.now ≡ item_word x)) }
 {
     let item = match word {
         "(" => Item::Begin,
@@ -64,10 +66,10 @@ fn read_item(alloc: Global, word: &str) -> Result<Option<Item>, AllocError>
 }
 
 /// The items that words ask for.
-fn read_items(alloc: Global, words: &[&str]) -> Result<Vec<Item>, Unread>
-    ensures { MatchResult result
-        (λ items. AsksItems (texts words.now) (steps_of items.items))
-        (λ e. e ≡ Unread.UnknownItem → (steps : List Step) → AsksItems (texts words.now) steps → ⊥) }
+fn read_items<A: Allocator + Copy>(alloc: A, words: &[&str]) -> Result<Vec<Item<A>, A>, Unread>
+    ensures items { IfOk result (λ items. AsksItems (texts words.now) (steps_of items.items)) }
+    ensures unknown { result ≡ Err Unread.UnknownItem → (steps : List Step) → AsksItems (texts words.now) steps → ⊥ }
+    ensures memory { result ≡ Err Unread.NoMemory → BeginsBy item_word (texts words.now) }
 {
     let mut items = Vec::new(alloc);
     for word in words {
@@ -81,23 +83,12 @@ fn read_items(alloc: Global, words: &[&str]) -> Result<Vec<Item>, Unread>
     Ok(items)
 }
 
-/// The line of a fault, and the status.
-fn refuse_fault<E: fmt::Write>(err: &mut E, fault: DocumentError) -> u8
-    ensures status { (result ≡ 1) ⊎ (result ≡ 3) }
-    ensures wrote { result ≡ 1 → WritesInCalls E.write_str_gives err.old (refusal_line (fault_text fault)) err.new }
-{
-    match write!(err, "refused: {fault}\n") {
-        Ok(()) => 1,
-        Err(_) => 3,
-    }
-}
-
 /// Prints the document that the words ask for in a layout, with a line end, and answers the exit status.
 ///
 /// Status 0 says that all went well, and 1 that the items are no document, that no memory was found, or that `out` refused;
 /// the reason then stands on `err`. Status 2 is for a word that is no item, and 3 says that `err` refused.
-pub(crate) fn run_print<O: fmt::Write, E: fmt::Write>(
-    alloc: Global,
+pub(crate) fn run_print<A: Allocator + Copy, O: fmt::Write, E: fmt::Write>(
+    alloc: A,
     kind: DisplayKind,
     words: &[&str],
     out: &mut O,
@@ -105,12 +96,12 @@ pub(crate) fn run_print<O: fmt::Write, E: fmt::Write>(
 ) -> u8
     ensures printed { result ≡ 0 → (steps : List Step) × AsksItems (texts words.now) steps
         × DocumentPrinted O.write_str_gives kind steps out.old out.new × (err.new ≡ err.old) }
-    ensures refused { result ≡ 1 → NotPrinted E.write_str_gives (codes "short buffer") out.old out.new err.old err.new
-        ⊎ ((steps : List Step) × AsksItems (texts words.now) steps
-        × DocumentRefused E.write_str_gives steps out.old out.new err.old err.new) }
+    ensures refused { result ≡ 1 → (reason : List ℕ) × DocumentRefused (texts words.now) out.old out.new reason
+        × WritesInCalls E.write_str_gives err.old (refusal_line reason) err.new }
     ensures usage { result ≡ 2 → ((steps : List Step) → AsksItems (texts words.now) steps → ⊥)
         × (out.new ≡ out.old) × WritesInCalls E.write_str_gives err.old usage_line err.new }
-    ensures unknown { result ≡ 3 → ((steps : List Step) → AsksItems (texts words.now) steps → ⊥) → out.new ≡ out.old }
+    ensures silent { result ≡ 3 → (((steps : List Step) → AsksItems (texts words.now) steps → ⊥) × (out.new ≡ out.old))
+        ⊎ ((reason : List ℕ) × DocumentRefused (texts words.now) out.old out.new reason) }
     ensures status { result ≤ 3 }
 {
     let items = match read_items(alloc, words) {
@@ -128,7 +119,7 @@ pub(crate) fn run_print<O: fmt::Write, E: fmt::Write>(
         }
         Err(refusal) => {
             let (fault, _items) = refusal;
-            refuse_fault(err, fault)
+            refuse(err, fault)
         }
     }
 }
@@ -141,7 +132,7 @@ mod tests {
     #[test]
     fn prints_documents(rt: HostRuntime) -> Result<(), Fail> {
         let alloc = rt.alloc();
-        let usage = "usage: dnstext scan|print KIND WORD..\n";
+        let usage = "usage: dnstext scan|print|line KIND WORD..\n";
         let cases: [(&str, &[&str], u8, &str, &str); 6] = [
             (
                 "multiline",

@@ -9,6 +9,7 @@ ghost use Rattle.dns_iter.specs.Program.{kind_name, LineBy, LineWritten, LinesWr
 ghost use Rattle.dns_iter.specs.Run.{AsksNothing, RunPrinted, RunRefused};
 
 use crate::error::StrError;
+use crate::line::run_line;
 use crate::print::{layout_kind, run_print};
 use crate::scanner::IterScanner;
 use dns_codec::{base16, base32, base64};
@@ -18,12 +19,12 @@ use dns_scan::{ConvertSymbols, Scanner};
 use dns_symbol::symbol::Symbol;
 use dns_wire::AsOctets;
 use dns_wire_name::Name;
-use std::alloc::Global;
+use std::alloc::Allocator;
 use std::fmt;
 use std::fmt::{Display, Write};
 
 /// The line for words that ask for nothing known.
-pub const USAGE: &str = "usage: dnstext scan|print KIND WORD..\n";
+pub const USAGE: &str = "usage: dnstext scan|print|line KIND WORD..\n";
 
 /// What tokens are scanned as.
 #[derive(Clone, Copy)]
@@ -60,6 +61,22 @@ pub enum ScanKind {
 
     /// Names, printed as absolute names with a dot at their end.
     Name,
+}
+
+/// What the token of a line's field is scanned as.
+#[derive(Clone, Copy)]
+pub enum FieldKind {
+    /// A number of at most 32 bits.
+    Number,
+
+    /// Octets in base 16.
+    Hex,
+
+    /// Octets in base 64.
+    Base64,
+
+    /// A character string.
+    Text,
 }
 
 /// Why no more is printed.
@@ -161,7 +178,7 @@ where
 }
 
 // Prints the next token as a name.
-fn print_name<S: Scanner<Name = Name<Vec<u8>>>, O: fmt::Write>(
+fn print_name<A: Allocator, S: Scanner<Name = Name<Vec<u8, A>>>, O: fmt::Write>(
     scanner: &mut S,
     out: &mut O,
 ) -> Result<(), Stop<S::Error>>
@@ -183,7 +200,7 @@ fn print_name<S: Scanner<Name = Name<Vec<u8>>>, O: fmt::Write>(
 }
 
 // Prints the next token as a value of the kind.
-fn print_value<S: Scanner<Name = Name<Vec<u8>>>, O: fmt::Write>(
+fn print_value<A: Allocator, S: Scanner<Name = Name<Vec<u8, A>>>, O: fmt::Write>(
     scanner: &mut S,
     kind: ScanKind,
     out: &mut O,
@@ -212,7 +229,7 @@ where
 }
 
 // Prints as many tokens as there are words.
-fn print_values<S: Scanner<Name = Name<Vec<u8>>>, O: fmt::Write>(
+fn print_values<A: Allocator, S: Scanner<Name = Name<Vec<u8, A>>>, O: fmt::Write>(
     scanner: &mut S,
     kind: ScanKind,
     tokens: &[&str],
@@ -233,12 +250,12 @@ where
     Ok(())
 }
 
-// The line of a refusal, and the status.
-pub(crate) fn refuse<E: fmt::Write>(err: &mut E, text: &str) -> u8
+// The line of a refusal for that reason, and the status.
+pub(crate) fn refuse<E: fmt::Write, T: Display + Drop>(err: &mut E, reason: T) -> u8
     ensures status { (result ≡ 1) ⊎ (result ≡ 3) }
-    ensures wrote { result ≡ 1 → WritesInCalls E.write_str_gives err.old (refusal_line text.now) err.new }
+    ensures wrote { result ≡ 1 → IfSome (T.output reason) (λ text. WritesInCalls E.write_str_gives err.old (refusal_line text) err.new) }
 {
-    match write!(err, "refused: {text}\n") {
+    match write!(err, "refused: {reason}\n") {
         Ok(()) => 1,
         Err(_) => 3,
     }
@@ -256,18 +273,20 @@ pub(crate) fn refuse_usage<E: fmt::Write>(err: &mut E) -> u8
 }
 
 // Scans the tokens and prints their values.
-fn run_scan<O: fmt::Write, E: fmt::Write>(
-    alloc: Global,
+fn run_scan<A: Allocator + Copy, O: fmt::Write, E: fmt::Write>(
+    alloc: A,
     kind: ScanKind,
     tokens: &[&str],
     out: &mut O,
     err: &mut E,
 ) -> u8
     ensures printed { result ≡ 0 → ScanPrinted O.write_str_gives kind (texts tokens.now) out.old out.new × (err.new ≡ err.old) }
-    ensures refused { result ≡ 1 → ScanRefused O.write_str_gives E.write_str_gives kind (texts tokens.now) out.old out.new err.old err.new }
+    ensures refused { result ≡ 1 → (reason : List ℕ) × ScanRefused O.write_str_gives kind (texts tokens.now) out.old out.new reason
+        × WritesInCalls E.write_str_gives err.old (refusal_line reason) err.new }
+    ensures silent { result ≡ 3 → (reason : List ℕ) × ScanRefused O.write_str_gives kind (texts tokens.now) out.old out.new reason }
     ensures status { (result ≡ 0) ⊎ ((result ≡ 1) ⊎ (result ≡ 3)) }
 {
-    let mut scanner: IterScanner<_, Vec<u8>> = IterScanner::new(alloc, tokens.iter().copied());
+    let mut scanner: IterScanner<_, Vec<u8, A>> = IterScanner::new(alloc, tokens.iter().copied());
     match print_values(&mut scanner, kind, tokens, out) {
         Ok(()) => 0,
         Err(Stop::Refused(error)) => refuse(err, error.as_str()),
@@ -277,21 +296,24 @@ fn run_scan<O: fmt::Write, E: fmt::Write>(
 
 /// Runs the program on the words after its name, and answers its exit status.
 ///
-/// `scan KIND TOKEN..` prints each token's value on a line of its own, and `print KIND ITEM..` a
-/// document. Status 0 says that all went well, and 1 that a token or the document was refused or
-/// `out` was; the reason then stands on `err`, and the lines before it stay printed. Status 2 is
-/// for words that ask for nothing known: nothing is printed, and `err` has the usage. Status 3
-/// says that `err` refused.
-pub fn run<O: fmt::Write, E: fmt::Write>(
-    alloc: Global,
+/// `scan KIND TOKEN..` prints each token's value on a line of its own, `print KIND ITEM..` a
+/// document, and `line KIND FIELD..` an entry line. Status 0 says that all went well, and 1 that a
+/// token, the document or the line was refused, that no memory was found, or that `out` refused;
+/// the reason then stands on `err`, and the lines before it stay printed. Status 2 is for words
+/// that ask for nothing known: nothing is printed, and `err` has the usage. Status 3 says that
+/// `err` refused what it would have got; `out` is then as at status 1 or 2.
+pub fn run<A: Allocator + Copy, O: fmt::Write, E: fmt::Write>(
+    alloc: A,
     words: &[&str],
     out: &mut O,
     err: &mut E,
 ) -> u8
     ensures printed { result ≡ 0 → RunPrinted O.write_str_gives (texts words.now) out.old out.new × (err.new ≡ err.old) }
-    ensures refused { result ≡ 1 → RunRefused O.write_str_gives E.write_str_gives (texts words.now) out.old out.new err.old err.new }
+    ensures refused { result ≡ 1 → (reason : List ℕ) × RunRefused O.write_str_gives (texts words.now) out.old out.new reason
+        × WritesInCalls E.write_str_gives err.old (refusal_line reason) err.new }
     ensures usage { result ≡ 2 → AsksNothing (texts words.now) × (out.new ≡ out.old) × WritesInCalls E.write_str_gives err.old usage_line err.new }
-    ensures unknown { result ≡ 3 → AsksNothing (texts words.now) → out.new ≡ out.old }
+    ensures silent { result ≡ 3 → (AsksNothing (texts words.now) × (out.new ≡ out.old))
+        ⊎ ((reason : List ℕ) × RunRefused O.write_str_gives (texts words.now) out.old out.new reason) }
     ensures status { result ≤ 3 }
 {
     let Some((command, rest)) = words.split_first() else {
@@ -307,6 +329,10 @@ pub fn run<O: fmt::Write, E: fmt::Write>(
         },
         "print" => match layout_kind(name) {
             Some(kind) => run_print(alloc, kind, others, out, err),
+            None => refuse_usage(err),
+        },
+        "line" => match layout_kind(name) {
+            Some(kind) => run_line(alloc, kind, others, out, err),
             None => refuse_usage(err),
         },
         _ => refuse_usage(err),

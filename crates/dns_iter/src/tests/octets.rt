@@ -1,5 +1,8 @@
 //! Octets and texts out of tokens, also by converters.
+ghost use Rattle.std.specs.Prelude.{[], ◌∷◌, ⊤};
+
 use super::*;
+use std::cell::Cell;
 
 // The first token's octets, its text, and its text where it is ASCII.
 fn first_texts(
@@ -180,4 +183,138 @@ fn entries_are_converted(rt: HostRuntime) {
             Err("incomplete Base 64 data")
         )
     );
+}
+
+// A converter that counts what it is asked, makes an octet each time, and refuses one symbol.
+#[derive(Drop)]
+struct Counting<'a> {
+    symbols: &'a Cell<u32>,
+    tails: &'a Cell<u32>,
+    refused: u32,
+}
+
+impl Counting<'_> {
+    fn count(&self) -> Result<(), StrError> {
+        let count = u32::saturating_add(self.symbols.get(), 1);
+        self.symbols.set(count);
+        if count == self.refused {
+            return Err(StrError::custom("enough"));
+        }
+        Ok(())
+    }
+
+    fn end(&self) {
+        self.tails.set(u32::saturating_add(self.tails.get(), 1));
+    }
+}
+
+impl ConvertSymbols<Symbol, StrError> for Counting<'_> {
+    ghost lends = { λ _. 97 ∷ [] };
+
+    ghost takes = { λ _ _ _ _. ⊤ };
+
+    ghost tail = { λ _ _ _. ⊤ };
+
+    fn take_symbol(&mut self, _symbol: Symbol) -> Result<(), StrError> {
+        self.count()
+    }
+
+    fn take_tail(&mut self) -> Result<(), StrError> {
+        self.end();
+        Ok(())
+    }
+
+    fn lent(&self) -> &[u8] {
+        b"a"
+    }
+}
+
+impl ConvertSymbols<EntrySymbol, StrError> for Counting<'_> {
+    ghost lends = { λ _. 97 ∷ [] };
+
+    ghost takes = { λ _ _ _ _. ⊤ };
+
+    ghost tail = { λ _ _ _. ⊤ };
+
+    fn take_symbol(&mut self, _symbol: EntrySymbol) -> Result<(), StrError> {
+        self.count()
+    }
+
+    fn take_tail(&mut self) -> Result<(), StrError> {
+        self.end();
+        Ok(())
+    }
+
+    fn lent(&self) -> &[u8] {
+        b"a"
+    }
+}
+
+// Whether a converter is asked for that many symbols and tails, of the token and of the entry.
+fn asks(
+    token: &str,
+    refused: u32,
+    want: Result<&[u8], &str>,
+    asked: (u32, u32),
+    of_entry: bool,
+) -> bool {
+    let tokens = [token];
+    let mut scanner: IterScanner<_, ArrayVec<u8, 3>> = IterScanner::new((), tokens.iter().copied());
+    let symbols = Cell::new(0);
+    let tails = Cell::new(0);
+    let counting = Counting {
+        symbols: &symbols,
+        tails: &tails,
+        refused,
+    };
+    let answer = if of_entry {
+        scanner.convert_entry(counting)
+    } else {
+        scanner.convert_token(counting)
+    };
+    is_answer(answer, want) && (symbols.get(), tails.get()) == asked
+}
+
+#[test]
+fn no_tail_is_asked_after_a_refusal(rt: HostRuntime) {
+    let cases: [(&str, u32, Result<&[u8], &str>, (u32, u32)); 5] = [
+        ("ab", 9, Ok(b"aaa"), (2, 1)),
+        ("", 9, Ok(b"a"), (0, 1)),
+        ("abc", 2, Err("enough"), (2, 0)),
+        ("ab\\2", 9, Err("unexpected end of input"), (2, 0)),
+        ("abcde", 9, Err("short buffer"), (4, 0)),
+    ];
+    for (token, refused, want, asked) in cases {
+        assert!(rt; asks(token, refused, want, asked, false), "at {token}");
+        assert!(rt; asks(token, refused, want, asked, true), "at {token}");
+    }
+}
+
+#[test]
+fn the_next_token_is_left(rt: HostRuntime) {
+    let tokens = ["Zg", "=="];
+    let mut scanner: IterScanner<_, Vec<u8>> = IterScanner::new(rt.alloc(), tokens.iter().copied());
+    let refused = scanner.convert_token(base64::SymbolConverter::new());
+    assert!(rt; is_answer(refused, Err("incomplete Base 64 data")));
+    assert!(rt; is_answer(scanner.scan_octets(), Ok(b"==".as_slice())));
+}
+
+#[test]
+fn foreign_texts_are_not_handed_over(rt: HostRuntime) {
+    for (token, calls) in [("\u{e9}", 0), ("a\u{e9}", 0), ("\\233", 0), ("a", 1)] {
+        let tokens = [token];
+        let mut scanner: IterScanner<_, ArrayVec<u8, 9>> = IterScanner::new(
+            (),
+            tokens.iter().copied(),
+        );
+        let called = Cell::new(0);
+        let answer = scanner.scan_ascii_str(|_text| {
+            called.set(1);
+            Ok(())
+        });
+        assert!(rt;
+            answer.is_ok() == (calls == 1) && called.get() == calls,
+            "at {token}"
+        );
+    }
 }

@@ -1,5 +1,6 @@
 //! Character strings out of tokens.
 use super::*;
+use dns_charstr::charstr::CharStr;
 
 // The octets of the first token as a character string, or the refusal, and whether a token is left.
 fn first_string(alloc: Global, tokens: &[&str], want: Result<&[u8], &str>) -> bool {
@@ -95,4 +96,14 @@ fn the_refused_token_is_the_last_taken(rt: HostRuntime) {
         )
     );
     assert!(rt; scanner.is_exhausted());
+}
+
+#[test]
+fn strings_scan_themselves(rt: HostRuntime) {
+    let tokens = ["a(b", "c\\2"];
+    let mut scanner: IterScanner<_, Vec<u8>> = IterScanner::new(rt.alloc(), tokens.iter().copied());
+    let string: Result<CharStr<Vec<u8>>, StrError> = CharStr::scan(&mut scanner);
+    assert!(rt; string.is_ok_and(|string| string.as_slice() == b"a(b".as_slice()));
+    let refused: Result<CharStr<Vec<u8>>, StrError> = CharStr::scan(&mut scanner);
+    assert!(rt; refused.is_err_and(|error| error.as_str() == "unexpected end of input"));
 }

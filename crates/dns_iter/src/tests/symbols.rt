@@ -94,6 +94,32 @@ fn entries_are_handed_over(rt: HostRuntime) {
     );
 }
 
+// The symbols and ends that are handed over, in order: 1 and 2 for a and b, 3 for an end.
+fn order_of(tokens: &[&str]) -> u32 {
+    let mut scanner: IterScanner<_, ArrayVec<u8, 1>> = IterScanner::new((), tokens.iter().copied());
+    let mut order = 0;
+    let mut op = |symbol: EntrySymbol| -> Result<(), StrError> {
+        let next = match symbol {
+            EntrySymbol::Symbol(Symbol::Char('a')) => 1,
+            EntrySymbol::Symbol(Symbol::Char('b')) => 2,
+            EntrySymbol::Symbol(_) => 9,
+            EntrySymbol::EndOfToken => 3,
+        };
+        order = u32::saturating_add(u32::saturating_mul(order, 10), next);
+        Ok(())
+    };
+    match scanner.scan_entry_symbols(&mut op) {
+        Ok(()) => order,
+        Err(_) => 0,
+    }
+}
+
+#[test]
+fn symbols_and_ends_are_in_order(rt: HostRuntime) {
+    assert_eq!(rt; order_of(&["ab", ""]), 1233);
+    assert_eq!(rt; order_of(&["b", "", "a"]), 23313);
+}
+
 #[test]
 fn errors_have_texts(rt: HostRuntime) {
     let cases: [(StrError, &str); 5] = [
