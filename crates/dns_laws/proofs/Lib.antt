@@ -1,0 +1,3 @@
+pub mod Converted
+pub mod LineTokens
+pub mod Spelled

@@ -1,0 +1,48 @@
+-- The tokens of an entry line, and what they are scanned as.
+use Rattle.std.specs.Prelude.{⊤, ◌≡◌, ◌<◌, ◌⊎◌, ℕ, List, [], ◌∷◌, ◌++◌, length, map, Result, Ok}
+use Rattle.dns_split.specs.Splitting.{Entries}
+use Rattle.dns_split.specs.Token.{IsWord}
+use Rattle.dns_scan.specs.Cause.{Cause, short_buf, IsCause}
+use Rattle.dns_scan.specs.Tokens.{Token}
+use Rattle.dns_entry.specs.Field.{Content, number, hex_octets, base64_octets, text_octets, field_text}
+use Rattle.dns_entry.specs.Line.{IsFirstEmpty}
+use Rattle.dns_entry.specs.EntryError.{place_of}
+use Rattle.dns_split.specs.declared.splitting.SplitError.TheVariants.{BadText, ShortBuf}
+use Rattle.dns_laws.specs.declared.lines.Refusal.{Refusal}
+use Rattle.dns_laws.specs.declared.lines.Refusal.TheVariants.{Line, Split}
+use Rattle.dns_iter.specs.declared.program.FieldKind.{FieldKind}
+use Rattle.dns_iter.specs.declared.program.FieldKind.TheVariants.{Number, Hex, Base64, Text}
+use Rattle.dns_laws.specs.declared.lines.Scanned.{Scanned}
+use Rattle.dns_laws.specs.declared.lines.Scanned.TheVariants.{Number as NumberScanned, Octets, Text as TextScanned}
+
+-- the entries of a line: one, with a token a field
+abbrev pub line_entries : List Content → Entries
+line_entries fields = map field_text fields ∷ []
+
+-- why fields were not printed as a line and split: the first that is no token, or want of memory
+abbrev pub IsRefusal : List Content → Refusal → Type 0
+IsRefusal fields (Line error) = IsFirstEmpty fields (place_of error)
+IsRefusal fields (Split (BadText place)) = ⊥
+IsRefusal fields (Split ShortBuf) = ⊤
+
+-- what of a token is scanned: a word as it is, and of a quoted text what stands between its quotes
+abbrev pub IsScannedOf : (token scanned : Token) → Type 0
+IsScannedOf token scanned = (IsWord token × (scanned ≡ token)) ⊎ (token ≡ 34 ∷ (scanned ++ 34 ∷ []))
+
+-- what a field's token is scanned as
+abbrev pub kind_of : Content → FieldKind
+kind_of (number n) = Number
+kind_of (hex_octets os) = Hex
+kind_of (base64_octets os) = Base64
+kind_of (text_octets os) = Text
+
+-- the answer has these octets, or is "short buffer" where they are more than surely fit
+abbrev pub GivesOctets : {O E : Type 0} → (E → Cause) → (O → List ℕ) → ℕ → List ℕ → Result (Scanned O) E → Type 0
+GivesOctets {O} cause octets sure os r = ((o : O) × (r ≡ Ok (Octets o)) × (octets o ≡ os)) ⊎ (IsCause cause r short_buf × (sure < length os))
+
+-- the answer is what the field holds, where its octets find room
+abbrev pub GivesField : {O E : Type 0} → (E → Cause) → (O → List ℕ) → ℕ → Content → Result (Scanned O) E → Type 0
+GivesField cause octets sure (number n) r = r ≡ Ok (NumberScanned n)
+GivesField cause octets sure (hex_octets os) r = GivesOctets cause octets sure os r
+GivesField cause octets sure (base64_octets os) r = GivesOctets cause octets sure os r
+GivesField cause octets sure (text_octets os) r = (r ≡ Ok (TextScanned os)) ⊎ (IsCause cause r short_buf × (sure < length os))

@@ -1,0 +1,26 @@
+//! Laws that join crates, the headline first.
+//!
+//! - [`headline`]: each layout of a document splits into its entries alone, and what was printed of
+//!   a number, an encoding or a character string is scanned back.
+//! - [`lines`]: entry lines, of which all of this holds without a premise of form.
+//! - [`layouts`]: the three layouts and splitting.
+//! - [`encodings`]: what tokens convert to.
+//! - [`strings`]: character strings as tokens of a document.
+#![tactic(auto)]
+
+pub mod encodings;
+pub mod lines;
+pub mod strings;
+#[cfg(test)]
+mod tests;
+
+pub use dns_zone_laws::laws as layouts;
+
+/// The headline: what is printed means one thing, and is read back as that.
+pub mod headline {
+    pub use crate::encodings::{
+        base32hex_is_scanned_back, base64_is_scanned_back, hex_is_scanned_back,
+    };
+    pub use dns_scan::laws::{character_strings_are_scanned_back, printed_numbers_read_back};
+    pub use dns_zone_laws::laws::items_split;
+}

@@ -1,0 +1,127 @@
+//! Laws on entry lines: each layout is one entry with a token a field, and each token is scanned
+//! back.
+ghost use Rattle.std.specs.Prelude.{◌≡◌, List, ◌∷◌, IfErr, IfOk, IsOk, string_bytes};
+ghost use Rattle.dns_scan.specs.Stands.{StandsBefore};
+ghost use Rattle.dns_scan.specs.Tokens.{Token};
+ghost use Rattle.dns_split.specs.Answer.{entries_of};
+ghost use Rattle.dns_split.specs.Splitting.{SplitsOnlyInto};
+ghost use Rattle.dns_zone.specs.Printed.{printed};
+ghost use Rattle.dns_zone.specs.declared.zonefile_fmt.DisplayKind.{DisplayKind};
+ghost use Rattle.dns_entry.specs.Field.{Content, contents_of, IsContent, IsPrintable, field_text};
+ghost use Rattle.dns_entry.specs.Line.{AreContents, IsLine, line_document};
+ghost use Rattle.dns_laws.specs.Lines.{GivesField, IsRefusal, IsScannedOf, kind_of, line_entries};
+
+use crate::encodings::{base64_is_scanned_back, hex_is_scanned_back};
+use dns_charstr::charstr::CharStr;
+use dns_entry::entry::{EntryError, EntryLine, Field};
+use dns_entry::laws::lines_are_lines;
+use dns_iter::program::FieldKind;
+use dns_scan::laws::character_strings_are_scanned_back;
+use dns_scan::{Scan, Scanner};
+use dns_split::splitting::{SplitError, split};
+use dns_wire::AsOctets;
+use dns_zone::zonefile_fmt::DisplayKind;
+use dns_zone_laws::laws::values_split;
+use std::alloc::{AllocError, Allocator};
+
+/// Each layout of a line splits into one entry, whose tokens are its fields' texts, and into
+/// nothing else.
+pub fn line_layouts_split()
+    ensures { (kind : DisplayKind) (fields : List Content) → AreContents fields → IsLine fields
+        → SplitsOnlyInto (printed kind (line_document fields)) (line_entries fields) }
+{}
+
+/// The text of every line splits into one entry, whose tokens are its fields' texts, and into
+/// nothing else.
+pub fn lines_split<A: Allocator, B: Allocator>(
+    alloc: A,
+    line: &EntryLine<B>,
+    kind: DisplayKind,
+) -> Result<String<A>, AllocError>
+    ensures text { IfOk result (λ s. string_bytes s ≡ printed kind (line_document line.now)) }
+    ensures meaning { IfOk result (λ s. SplitsOnlyInto (string_bytes s) (line_entries line.now)) }
+{
+    lines_are_lines(line);
+    values_split(alloc, line, kind)
+}
+
+/// Why fields were not printed as a line and split.
+#[derive(Clone, Copy, Debug, PartialEq, Eq)]
+pub enum Refusal {
+    /// The fields are no line; this says where.
+    Line(EntryError),
+    /// Memory was refused. No other refusal of `split` comes.
+    Split(SplitError),
+}
+
+/// Makes a line of fields, prints it, and splits the text.
+///
+/// The text has exactly the bytes of the layout and splits, in one way only, into one entry, whose
+/// tokens are the fields' texts.
+pub fn fields_split<A: Allocator + Copy>(
+    alloc: A,
+    fields: Vec<Field<A>, A>,
+    kind: DisplayKind,
+) -> Result<(String<A>, Vec<Vec<String<A>, A>, A>), Refusal>
+    ensures formed { IsOk result → IsLine (contents_of fields.items) }
+    ensures text { IfOk result (λ r. string_bytes r.0 ≡ printed kind (line_document (contents_of fields.items))) }
+    ensures meaning { IfOk result (λ r. SplitsOnlyInto (string_bytes r.0) (line_entries (contents_of fields.items))) }
+    ensures entries { IfOk result (λ r. entries_of r.1.items ≡ line_entries (contents_of fields.items)) }
+    ensures refused { IfErr result (IsRefusal (contents_of fields.items)) }
+{
+    let line = match EntryLine::new(fields) {
+        Ok(line) => line,
+        Err((error, _fields)) => return Err(Refusal::Line(error)),
+    };
+    let text = match lines_split(alloc, &line, kind) {
+        Ok(text) => text,
+        Err(_) => return Err(Refusal::Split(SplitError::ShortBuf)),
+    };
+    match split(alloc, text.as_str()) {
+        Ok(entries) => Ok((text, entries)),
+        Err(error) => Err(Refusal::Split(error)),
+    }
+}
+
+/// What was scanned of a field's token.
+#[derive(Drop)]
+pub enum Scanned<Octets: AsOctets> {
+    /// A number.
+    Number(u32),
+    /// Octets out of an encoding.
+    Octets(Octets),
+    /// A character string.
+    Text(CharStr<Octets>),
+}
+
+/// The token of a field, of a quoted one what stands between its quotes, is scanned back by the
+/// field's kind, where there is room for its octets.
+pub fn fields_are_scanned_back<S: Scanner>(
+    scanner: &mut S,
+    kind: FieldKind,
+) -> Result<Scanned<S::Octets>, S::Error>
+    requires { S.can_scan scanner.old }
+    ensures ready { S.can_scan scanner.new }
+    ensures back { (field : Content) (text : Token) (others : List Token) → IsContent field → IsPrintable field → kind_of field ≡ kind → IsScannedOf (field_text field) text
+        → StandsBefore S.next_token scanner.old (text ∷ others) → GivesField S.Error.cause S.Octets.octets S.OctetsBuilder.sure field result }
+    ensures rest { (token : Token) (others : List Token) → StandsBefore S.next_token scanner.old (token ∷ others) → StandsBefore S.next_token scanner.new others }
+{
+    match kind {
+        FieldKind::Number => match u32::scan(scanner) {
+            Ok(number) => Ok(Scanned::Number(number)),
+            Err(error) => Err(error),
+        },
+        FieldKind::Hex => match hex_is_scanned_back(scanner) {
+            Ok(octets) => Ok(Scanned::Octets(octets)),
+            Err(error) => Err(error),
+        },
+        FieldKind::Base64 => match base64_is_scanned_back(scanner) {
+            Ok(octets) => Ok(Scanned::Octets(octets)),
+            Err(error) => Err(error),
+        },
+        FieldKind::Text => match character_strings_are_scanned_back(scanner) {
+            Ok(string) => Ok(Scanned::Text(string)),
+            Err(error) => Err(error),
+        },
+    }
+}

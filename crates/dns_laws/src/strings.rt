@@ -1,0 +1,24 @@
+//! Laws on character strings in zone text.
+ghost use Rattle.std.specs.Prelude.{◌≡◌, ◌<◌, [], ◌∷◌, length, IfOk, IsOk};
+ghost use Rattle.dns_zone.specs.DocumentSteps.{document_steps};
+ghost use Rattle.dns_zone.specs.Layout.{token};
+ghost use Rattle.dns_scan.specs.Octets.{unquoted_token};
+
+use dns_charstr::charstr::CharStr;
+use dns_wire::AsOctets;
+use dns_zone::document::{Document, DocumentError, Item};
+use std::alloc::{AllocError, Allocator};
+
+/// The unquoted text of a character string that isn't empty is taken as a token of a document.
+pub fn unquoted_text_is_a_token<A: Allocator + Copy, Octs: AsOctets>(
+    alloc: A,
+    string: &CharStr<Octs>,
+) -> Result<Result<Document<A>, (DocumentError, Vec<Item<A>, A>)>, AllocError>
+    requires { 0 < length string.now }
+    ensures { IfOk result (λ taken. IsOk taken × IfOk taken (λ document. document_steps document ≡ token (unquoted_token string.now) ∷ [])) }
+{
+    let _octets = string.as_slice();
+    let mut items = Vec::new(alloc);
+    items.push(Item::Token(string.display_unquoted().to_string(alloc)?))?;
+    Ok(Document::from_items(items))
+}
