@@ -1,0 +1,160 @@
+//! Names out of texts and out of other names.
+use super::{Call, Heap, Hostile, Missed, Told, answered, keeps};
+use dns_name::chain::Chain;
+use dns_name::name::{FromStrError, UncertainName};
+use dns_symbol::symbol::SymbolCharsError;
+use dns_wire::{OctetsFrom, ShortBuf};
+use dns_wire_name::{FlattenInto, Name, PushError, RelativeName};
+use std::alloc::Global;
+use std::test::Fail;
+
+/// A name is read out of a text.
+#[derive(Drop)]
+struct Reads<'t, 'o> {
+    text: &'t str,
+    ample: Result<&'o [u8], FromStrError>,
+}
+
+impl Call for Reads<'_, '_> {
+    fn call(&self, heap: &Heap) -> Told {
+        let answer = UncertainName::<Hostile>::from_str(heap, self.text);
+        answered(answer, self.ample, FromStrError::ShortBuf)
+    }
+}
+
+/// Whether a text is read as these octets, or refused.
+fn is_read(alloc: Global, text: &str, ample: Result<&[u8], FromStrError>, least: u64) -> bool {
+    keeps(alloc, &Reads { text, ample }, least)
+}
+
+#[test]
+fn short_names_are_read(rt: HostRuntime) {
+    let alloc = rt.alloc();
+    let rows: [(&str, Result<&[u8], FromStrError>, u64); 6] = [
+        ("www.example.com", Ok(b"\x03www\x07example\x03com"), 2),
+        ("www.example.com.", Ok(b"\x03www\x07example\x03com\x00"), 2),
+        (".", Ok(b"\x00"), 1),
+        ("", Ok(b""), 0),
+        ("aé", Err(FromStrError::BadOctet), 1),
+        ("..", Err(FromStrError::EmptyLabel), 0),
+    ];
+    for (text, ample, least) in rows {
+        assert!(rt; is_read(alloc, text, ample, least), "at {text}");
+    }
+}
+
+#[test]
+fn long_names_are_read(rt: HostRuntime) -> Result<(), Fail> {
+    let alloc = rt.alloc();
+    let labels = "four.".repeat(alloc, 50)?;
+    let octets = "\x04four".repeat(alloc, 50)?;
+    let longest = format!(in alloc; "{labels}com.")?;
+    let wire = format!(in alloc; "{octets}\x03com\0")?;
+    assert!(rt; is_read(alloc, longest.as_str(), Ok(wire.as_bytes()), 3));
+    for (end, error) in [
+        ("coma", FromStrError::LongName),
+        ("co\\1", SymbolCharsError::ShortInput.into()),
+        ("com..", FromStrError::EmptyLabel),
+    ] {
+        let text = format!(in alloc; "{labels}{end}")?;
+        assert!(rt; is_read(alloc, text.as_str(), Err(error), 3), "at {text}");
+    }
+    Ok(())
+}
+
+/// A relative name is made absolute, its octets in as much room as they need, and again as one that
+/// is uncertain.
+#[derive(Drop)]
+struct MakesAbsolute<'a> {
+    relative: &'a [u8],
+    absolute: &'a [u8],
+}
+
+/// The relative name of these octets.
+fn relative<'a>(heap: &'a Heap, octets: &[u8]) -> Result<RelativeName<Hostile<'a>>, Missed> {
+    match OctetsFrom::try_octets_from(heap, octets) {
+        Ok(copy) => match RelativeName::from_octets(copy) {
+            Ok(name) => Ok(name),
+            Err(_) => Err(Missed::Wrong),
+        },
+        Err(ShortBuf) => Err(Missed::Short),
+    }
+}
+
+impl Call for MakesAbsolute<'_> {
+    fn call(&self, heap: &Heap) -> Told {
+        let short = PushError::ShortBuf;
+        let name = relative(heap, self.relative)?;
+        answered(name.into_absolute(), Ok(self.absolute), short)?;
+        let name = UncertainName::relative(relative(heap, self.relative)?);
+        answered(name.into_absolute(), Ok(self.absolute), short)
+    }
+}
+
+#[test]
+fn names_are_made_absolute(rt: HostRuntime) {
+    let alloc = rt.alloc();
+    let rows: [(&[u8], &[u8]); 2] = [
+        (b"\x07sevenx7", b"\x07sevenx7\x00"),
+        (
+            b"\x03www\x03www\x03www\x03www",
+            b"\x03www\x03www\x03www\x03www\x00",
+        ),
+    ];
+    for (relative, absolute) in rows {
+        assert!(rt; keeps(alloc, &MakesAbsolute { relative, absolute }, 4));
+    }
+}
+
+/// The root is made, as a name that is uncertain and as one that isn't.
+#[derive(Drop)]
+struct MakesRoot;
+
+impl Call for MakesRoot {
+    fn call(&self, heap: &Heap) -> Told {
+        let root = Ok(b"\x00".as_slice());
+        answered(UncertainName::root_vec(heap), root, ShortBuf)?;
+        answered(Name::<Hostile>::root(heap), root, ShortBuf)
+    }
+}
+
+/// A chain of two names is copied into one, and that name where it is lent and where it is handed
+/// over.
+#[derive(Drop)]
+struct Flattens<'a> {
+    left: &'a [u8],
+    right: &'a [u8],
+    whole: &'a [u8],
+}
+
+impl Call for Flattens<'_> {
+    fn call(&self, heap: &Heap) -> Told {
+        let left = RelativeName::from_octets(self.left).unwrap_or(RelativeName::empty_ref());
+        let right = Name::from_octets(self.right).unwrap_or(Name::root_ref());
+        let Ok(chain) = Chain::new(left, right) else {
+            return Err(Missed::Wrong);
+        };
+        let whole = Name::from_octets(self.whole).unwrap_or(Name::root_ref());
+        let copy: Result<Name<Hostile>, ShortBuf> = chain.try_flatten_into(heap);
+        answered(copy, Ok(self.whole), ShortBuf)?;
+        let copy: Result<Name<Hostile>, ShortBuf> = (&whole).try_flatten_into(heap);
+        answered(copy, Ok(self.whole), ShortBuf)?;
+        let copy: Result<Name<Hostile>, ShortBuf> = whole.try_flatten_into(heap);
+        answered(copy, Ok(self.whole), ShortBuf)
+    }
+}
+
+#[test]
+fn names_are_made(rt: HostRuntime) -> Result<(), Fail> {
+    let alloc = rt.alloc();
+    assert!(rt; keeps(alloc, &MakesRoot, 2));
+    let left = "\x04four".repeat(alloc, 50)?;
+    let whole = format!(in alloc; "{left}\x03com\0")?;
+    let call = Flattens {
+        left: left.as_bytes(),
+        right: b"\x03com\x00",
+        whole: whole.as_bytes(),
+    };
+    assert!(rt; keeps(alloc, &call, 3));
+    Ok(())
+}
