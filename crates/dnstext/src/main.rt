@@ -1,15 +1,19 @@
 //! The program `dnstext`: it runs `dns_iter::program::run` over its arguments.
 #![tactic(auto)]
 
-use dns_iter::program;
+mod streams;
+
+use std::io::{BufWriter, ErrorKind};
 use std::process::ExitCode;
 use std::{env, io};
 
-fn main(rt: HostRuntime) -> io::Result<ExitCode> {
+/// Runs the program on its arguments, and answers the exit status. The only error is want of memory.
+fn run_arguments(rt: &HostRuntime) -> io::Result<u8> {
     let alloc = rt.alloc();
-    let Ok(all) = env::args(&rt) else {
-        eprint!(rt; "{}", program::USAGE)?;
-        return Ok(ExitCode::from(2));
+    let all = match env::args(rt) {
+        Ok(all) => all,
+        Err(error) if error.kind() == ErrorKind::OutOfMemory => return Err(error),
+        Err(_) => return Ok(streams::refuse_usage(&mut rt.stderr())),
     };
     let mut arguments: Vec<String> = Vec::new(alloc);
     for argument in all.skip(1) {
@@ -19,10 +23,14 @@ fn main(rt: HostRuntime) -> io::Result<ExitCode> {
     for argument in &arguments {
         words.push(argument.as_str())?;
     }
-    let mut out = String::new(alloc);
-    let mut err = String::new(alloc);
-    let status = program::run(alloc, &words, &mut out, &mut err);
-    print!(rt; "{out}")?;
-    eprint!(rt; "{err}")?;
-    Ok(ExitCode::from(status))
+    let mut out = BufWriter::new(alloc, rt.stdout())?;
+    Ok(streams::run(alloc, &words, &mut out, &mut rt.stderr()))
+}
+
+fn main(rt: HostRuntime) -> ExitCode {
+    let status = match run_arguments(&rt) {
+        Ok(status) => status,
+        Err(_) => streams::refuse(&mut rt.stderr(), "short buffer"),
+    };
+    ExitCode::from(status)
 }

@@ -1,0 +1,29 @@
+-- What a run of the program leaves on its streams.
+use Rattle.std.specs.Prelude.{◌≡◌, ◌⊎◌, ℕ, List, [], ◌++◌, Option, codes}
+use Rattle.std.specs.Io.KnownBytes.{Appends, Keeps}
+use Rattle.dns_iter.specs.Program.{refusal_line}
+use Rattle.dns_iter.specs.Run.{RunPrinted, RunRefused}
+
+-- the known bytes of a stream grow by these
+abbrev pub Grows : Option (List ℕ) → List ℕ → Option (List ℕ) → Type 0
+Grows o bytes p = Appends o p bytes
+
+-- what the words ask for was printed on a stream, which kept it
+abbrev pub Printed : List (List ℕ) → Option (List ℕ) → Option (List ℕ) → Type 0
+Printed words o p = (q : Option (List ℕ)) × RunPrinted Grows words o q × Keeps q p
+
+-- it was refused for that reason, and the stream kept what was printed before
+abbrev pub Refused : List (List ℕ) → Option (List ℕ) → Option (List ℕ) → List ℕ → Type 0
+Refused words o p reason = (q : Option (List ℕ)) × RunRefused Grows words o q reason × Keeps q p
+
+-- it was printed, which has no line on standard error, or refused, which has this line
+abbrev pub Ran : List (List ℕ) → Option (List ℕ) → Option (List ℕ) → List ℕ → Type 0
+Ran words o p line =
+    (Printed words o p × (line ≡ []))
+    ⊎ ((reason : List ℕ) × Refused words o p reason × (line ≡ refusal_line reason))
+
+-- what stands on standard error at status 1: the line of the refusal; or, where the output refused at its end, `write failed` behind the run's own line
+abbrev pub Told : List (List ℕ) → Option (List ℕ) → Option (List ℕ) → List ℕ → Type 0
+Told words o p lines =
+    ((reason : List ℕ) × Refused words o p reason × (lines ≡ refusal_line reason))
+    ⊎ ((line : List ℕ) × Ran words o p line × (lines ≡ line ++ refusal_line (codes "write failed")))

@@ -1,0 +1,190 @@
+//! The program over streams of bytes.
+ghost use Rattle.std.specs.Prelude.{◌≡◌, ◌⊎◌, ◌≤◌, ℕ, List, []};
+ghost use Rattle.std.specs.Io.KnownBytes.{Appends, Keeps};
+ghost use Rattle.dns_iter.specs.Program.{refusal_line, usage_line, texts};
+ghost use Rattle.dns_iter.specs.Run.{AsksNothing};
+ghost use Rattle.dnstext.specs.Streams.{Printed, Ran, Told};
+
+use arrayvec::ArrayString;
+use dns_iter::program;
+use std::alloc::Allocator;
+use std::fmt;
+use std::io::Write;
+
+/// Room for what is written to standard error: the line of a refusal, or the usage.
+const LINE_LENGTH: usize = 128;
+
+/// A sink of text over a writer of bytes.
+#[derive(Drop)]
+struct TextSink<'a, W> {
+    writer: &'a mut W,
+
+    /// The writer refused a text.
+    has_refused: bool,
+}
+
+impl<W: Write> fmt::Write for TextSink<'_, W> {
+    ghost write_str_gives = { λ s bytes t. (t.writer.ghost_name ≡ s.writer.ghost_name)
+        × Appends (W.contents s.writer.now) (W.contents t.writer.now) bytes };
+
+    fn write_str(&mut self, s: &str) -> fmt::Result {
+        match self.writer.write_all(s.as_bytes()) {
+            Ok(()) => Ok(()),
+            Err(_) => {
+                self.has_refused = true;
+                Err(fmt::Error)
+            }
+        }
+    }
+}
+
+impl<W: Write> TextSink<'_, W> {
+    /// Lets the writer hand on what it still holds. Whether it refuses that, and refused nothing before.
+    fn refuses_the_end(&mut self) -> bool
+        ensures loan { self.new.writer.ghost_name ≡ self.old.writer.ghost_name }
+        ensures kept { Keeps (W.contents self.old.writer.now) (W.contents self.new.writer.now) }
+    {
+        !self.has_refused && self.writer.flush().is_err()
+    }
+}
+
+/// Writes the line of a refusal, and answers the exit status.
+pub fn refuse<E: Write>(err: &mut E, reason: &str) -> u8
+    ensures status { (result ≡ 1) ⊎ (result ≡ 3) }
+    ensures wrote { result ≡ 1 → Appends (E.contents err.old) (E.contents err.new) (refusal_line reason.now) }
+{
+    match write!(err, "refused: {reason}\n") {
+        Ok(()) => 1,
+        Err(_) => 3,
+    }
+}
+
+/// Writes the usage, and answers the exit status.
+pub fn refuse_usage<E: Write>(err: &mut E) -> u8
+    ensures status { (result ≡ 2) ⊎ (result ≡ 3) }
+    ensures wrote { result ≡ 2 → Appends (E.contents err.old) (E.contents err.new) usage_line }
+{
+    match err.write_all(program::USAGE.as_bytes()) {
+        Ok(()) => 2,
+        Err(_) => 3,
+    }
+}
+
+/// Runs the program on the words after its name, and answers its exit status.
+///
+/// What is printed goes to `out` as it is made, and `out` is flushed before anything is written to
+/// `err`. Where `out` refuses, the status is 1 and the line `refused: write failed` stands on `err`,
+/// behind the line of an earlier refusal. Where `err` refuses, the status is 3.
+pub fn run<A: Allocator + Copy, O: Write, E: Write>(
+    alloc: A,
+    words: &[&str],
+    out: &mut O,
+    err: &mut E,
+) -> u8
+    ensures printed { result ≡ 0 → Printed (texts words.now) (O.contents out.old) (O.contents out.new) × Keeps (E.contents err.old) (E.contents err.new) }
+    ensures refused { result ≡ 1 → (lines : List ℕ) × Told (texts words.now) (O.contents out.old) (O.contents out.new) lines
+        × Appends (E.contents err.old) (E.contents err.new) lines }
+    ensures usage { result ≡ 2 → AsksNothing (texts words.now) × Keeps (O.contents out.old) (O.contents out.new)
+        × Appends (E.contents err.old) (E.contents err.new) usage_line }
+    ensures silent { result ≡ 3 → (AsksNothing (texts words.now) × Keeps (O.contents out.old) (O.contents out.new))
+        ⊎ ((line : List ℕ) × Ran (texts words.now) (O.contents out.old) (O.contents out.new) line) }
+    ensures status { result ≤ 3 }
+{
+    let mut line = ArrayString::<LINE_LENGTH>::new();
+    let mut sink = TextSink {
+        writer: out,
+        has_refused: false,
+    };
+    let status = program::run(alloc, words, &mut sink, &mut line);
+    let is_lost = sink.refuses_the_end();
+    // No effect at run time: the proof reads what `out` holds from this use.
+    let _ = &*sink.writer;
+    if err.write_all(line.as_str().as_bytes()).is_err() {
+        return 3;
+    }
+    if is_lost && status < 2 {
+        return refuse(err, "write failed");
+    }
+    status
+}
+
+#[cfg(test)]
+mod tests {
+    use super::run;
+    use std::alloc::Global;
+    use std::io;
+    use std::io::{BufWriter, ErrorKind, Write};
+    use std::test::Fail;
+
+    /// A stream that takes so many octets, and then refuses.
+    #[derive(Drop)]
+    struct Limited {
+        room: usize,
+        taken: Vec<u8>,
+    }
+
+    impl Limited {
+        fn new(alloc: Global, room: usize) -> Limited {
+            Limited {
+                room,
+                taken: Vec::new(alloc),
+            }
+        }
+    }
+
+    impl Write for Limited {
+        fn write(&mut self, buf: &[u8]) -> io::Result<usize> {
+            let count = buf.len().min(self.room);
+            if count < buf.len() && count == 0 {
+                return Err(io::Error::from(ErrorKind::BrokenPipe));
+            }
+            self.taken.extend_from_slice(&buf[..count])?;
+            self.room -= count;
+            Ok(count)
+        }
+
+        fn flush(&mut self) -> io::Result<()> {
+            Ok(())
+        }
+    }
+
+    #[test]
+    fn streams_that_refuse(rt: HostRuntime) -> Result<(), Fail> {
+        let alloc = rt.alloc();
+        let lost = "refused: write failed\n";
+        let refused = "refused: expected decimal number\n";
+        let both = "refused: expected decimal number\nrefused: write failed\n";
+        let usage = "usage: dnstext scan|print|line KIND WORD..\n";
+        // Words, the room of both streams, the status, and what the streams took. The buffer before
+        // the output has 4 octets: one line of output is refused at its end, four lines on the way.
+        let rows: [(&[&str], usize, usize, u8, &str, &str); 11] = [
+            (&["scan", "u8", "1"], 99, 0, 0, "1\n", ""),
+            (&["scan", "u8", "1", "x"], 99, 99, 1, "1\n", refused),
+            (&["scan", "u8", "1", "x"], 0, 99, 1, "", both),
+            (&["scan", "u8", "1"], 0, 99, 1, "", lost),
+            (&["scan", "u8", "1"], 1, 99, 1, "1", lost),
+            (&["scan", "u8", "1", "2", "3", "4"], 0, 99, 1, "", lost),
+            (&["scan", "u8", "1"], 0, 0, 3, "", ""),
+            (&["scan", "u8", "x"], 99, 5, 3, "", "refus"),
+            (
+                &["scan", "u8", "1", "x"],
+                0,
+                40,
+                3,
+                "",
+                "refused: expected decimal number\nrefused",
+            ),
+            (&["scan", "colour"], 0, 99, 2, "", usage),
+            (&["scan", "colour"], 0, 0, 3, "", ""),
+        ];
+        for (words, room, err_room, status, out_text, err_text) in rows {
+            let mut out = BufWriter::with_capacity(alloc, 4, Limited::new(alloc, room))?;
+            let mut err = Limited::new(alloc, err_room);
+            assert_eq!(rt; run(alloc, words, &mut out, &mut err), status);
+            let (out, _) = out.into_parts();
+            assert_eq!(rt; out.taken.as_slice(), out_text.as_bytes());
+            assert_eq!(rt; err.taken.as_slice(), err_text.as_bytes());
+        }
+        Ok(())
+    }
+}
