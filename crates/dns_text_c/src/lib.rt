@@ -1,11 +1,12 @@
 //! The encodings and splitting, for C and other languages, as a static library.
 //!
-//! `bench/dns_text.h` declares the functions. Those of the encodings read one slice and write the
-//! other, and answer how many bytes they wrote: the greatest `size_t` where the text is refused or
-//! the output is too short. A text is its characters, one octet each. None of them asks for memory.
+//! `bench/dns_text.h` declares the functions. Those of the encodings read one slice, write at the
+//! start of the other, and answer how many bytes they wrote, never more than it holds. The greatest
+//! `size_t` says that the text is refused or the output is too short. A text is its characters, one
+//! octet each. None of these asks for memory.
 #![tactic(auto)]
 
-ghost use Rattle.std.specs.Prelude.{◌≡◌, ◌≢◌, ℕ, List, ◌<◌, ◌≤◌, ◌-◌, ◌^◌, length, take};
+ghost use Rattle.std.specs.Prelude.{◌≡◌, ◌≢◌, ℕ, List, ◌<◌, ◌≤◌, ◌-◌, ◌^◌, length, take, drop};
 ghost use Rattle.dns_codec.specs.Base.{base16, base32hex, base64, encoded};
 ghost use Rattle.dns_codec.specs.Grammar.{Decodes};
 ghost use Rattle.dns_split.specs.Splitting.{Entries, Splits};
@@ -21,43 +22,37 @@ pub const REFUSED: usize = usize::MAX;
 /// Writes the base 16 text of octets.
 #[unsafe(no_mangle)]
 pub extern "C" fn dns_base16_encode(octets: &[u8], text: &mut [u8]) -> usize
-    ensures written { result ≢ REFUSED → take result text.new ≡ encoded base16 octets.now }
+    ensures written { result ≢ REFUSED → (result ≡ length (encoded base16 octets.now)) × (take result text.new ≡ encoded base16 octets.now)
+        × (drop result text.new ≡ drop result text.old) }
     ensures refused { result ≡ REFUSED → (length text.old < length (encoded base16 octets.now)) × (text.new ≡ text.old) }
 {
-    match base16::encode_slice(octets, text) {
-        Ok(len) => len,
-        Err(_) => REFUSED,
-    }
+    base16::encode_slice(octets, text).unwrap_or(REFUSED)
 }
 
 /// Writes the base32hex text of octets.
 #[unsafe(no_mangle)]
 pub extern "C" fn dns_base32hex_encode(octets: &[u8], text: &mut [u8]) -> usize
-    ensures written { result ≢ REFUSED → take result text.new ≡ encoded base32hex octets.now }
+    ensures written { result ≢ REFUSED → (result ≡ length (encoded base32hex octets.now)) × (take result text.new ≡ encoded base32hex octets.now)
+        × (drop result text.new ≡ drop result text.old) }
     ensures refused { result ≡ REFUSED → (length text.old < length (encoded base32hex octets.now)) × (text.new ≡ text.old) }
 {
-    match base32::encode_slice_hex(octets, text) {
-        Ok(len) => len,
-        Err(_) => REFUSED,
-    }
+    base32::encode_slice_hex(octets, text).unwrap_or(REFUSED)
 }
 
 /// Writes the base 64 text of octets.
 #[unsafe(no_mangle)]
 pub extern "C" fn dns_base64_encode(octets: &[u8], text: &mut [u8]) -> usize
-    ensures written { result ≢ REFUSED → take result text.new ≡ encoded base64 octets.now }
+    ensures written { result ≢ REFUSED → (result ≡ length (encoded base64 octets.now)) × (take result text.new ≡ encoded base64 octets.now)
+        × (drop result text.new ≡ drop result text.old) }
     ensures refused { result ≡ REFUSED → (length text.old < length (encoded base64 octets.now)) × (text.new ≡ text.old) }
 {
-    match base64::encode_slice(octets, text) {
-        Ok(len) => len,
-        Err(_) => REFUSED,
-    }
+    base64::encode_slice(octets, text).unwrap_or(REFUSED)
 }
 
 /// Writes the octets of a base 16 text.
 #[unsafe(no_mangle)]
 pub extern "C" fn dns_base16_decode(text: &[u8], octets: &mut [u8]) -> usize
-    ensures read { result ≢ REFUSED → Decodes base16 text.now (take result octets.new) }
+    ensures read { result ≢ REFUSED → (result ≤ length octets.new) × Decodes base16 text.now (take result octets.new) }
     ensures refused { result ≡ REFUSED → (v : List ℕ) → Decodes base16 text.now v → length octets.old < length v }
 {
     base16::decode_slice(text, octets).unwrap_or(REFUSED)
@@ -66,7 +61,7 @@ pub extern "C" fn dns_base16_decode(text: &[u8], octets: &mut [u8]) -> usize
 /// Writes the octets of a base32hex text.
 #[unsafe(no_mangle)]
 pub extern "C" fn dns_base32hex_decode(text: &[u8], octets: &mut [u8]) -> usize
-    ensures read { result ≢ REFUSED → Decodes base32hex text.now (take result octets.new) }
+    ensures read { result ≢ REFUSED → (result ≤ length octets.new) × Decodes base32hex text.now (take result octets.new) }
     ensures refused { result ≡ REFUSED → (v : List ℕ) → Decodes base32hex text.now v → length octets.old < length v }
 {
     base32::decode_slice_hex(text, octets).unwrap_or(REFUSED)
@@ -75,7 +70,7 @@ pub extern "C" fn dns_base32hex_decode(text: &[u8], octets: &mut [u8]) -> usize
 /// Writes the octets of a base 64 text.
 #[unsafe(no_mangle)]
 pub extern "C" fn dns_base64_decode(text: &[u8], octets: &mut [u8]) -> usize
-    ensures read { result ≢ REFUSED → Decodes base64 text.now (take result octets.new) }
+    ensures read { result ≢ REFUSED → (result ≤ length octets.new) × Decodes base64 text.now (take result octets.new) }
     ensures refused { result ≡ REFUSED → (v : List ℕ) → Decodes base64 text.now v → length octets.old < length v }
 {
     base64::decode_slice(text, octets).unwrap_or(REFUSED)
@@ -87,7 +82,7 @@ pub extern "C" fn dns_base64_decode(text: &[u8], octets: &mut [u8]) -> usize
 /// splits has an entry at least.
 #[unsafe(no_mangle)]
 pub extern "C" fn dns_text_split(alloc: Global, text: &[u8]) -> usize
-    ensures { 0 < result → (e : Entries) → Splits text.now e → length e ≡ result }
+    ensures { 0 < result → (e : Entries) × Splits text.now e × (length e ≡ result) }
 {
     let Ok(text) = str::from_utf8(text) else {
         return 0;
