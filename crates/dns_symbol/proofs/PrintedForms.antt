@@ -1,8 +1,11 @@
 -- What is printed is read: the symbols of octets in a printed form.
-use Rattle.std.proofs.Common.{◌≡◌, ℕ, ◌<◌, Bool, true, false, List, [], ◌∷◌, ◌++◌, map, All, refl, sym, ap, ◌∙◌, arith, append-nil, None, Ok}
+use Rattle.std.proofs.Common.{◌≡◌, ℕ, ◌<◌, Bool, true, false, List, [], ◌∷◌, ◌++◌, map, All, refl, sym, ap, ◌∙◌, arith, append-nil, append_assoc, None, Ok}
 use Rattle.std.specs.Prelude.{encode_utf8_all, if◌then◌else◌}
 use Rattle.std.specs.List.{flat_map, list_all}
-use Rattle.std.proofs.lemmas.Str.{encodes-append}
+use Rattle.std.specs.Str.{IsAscii}
+use Rattle.std.proofs.lemmas.Str.{encodes-append, encodes-IsAscii, IsAscii-append}
+use Rattle.std.proofs.lemmas.Str.Ascii.{IsAscii-from_all, IsAscii-nil}
+use Rattle.std.proofs.lemmas.Grind.{flat_map-append}
 use Rattle.std.proofs.lemmas.List.Elements.{All-tail, All-head}
 use Rattle.std.proofs.lemmas.Bool.Decides.{nat_tests}
 use Rattle.dns_symbol.specs.Symbol.{spell, bytes, is_readable, is_printable, is_digit, octet_of, is_word_symbol}
@@ -77,6 +80,29 @@ module _ (is_escape : ℕ → Bool) where
   -- whatever follows the text, it begins with their bytes
   pub printed_front : (octets : List ℕ) (rest : List ℕ) → encode_utf8_all (text_of is_escape octets) ++ rest ≡ flat_map bytes (map (symbol_of is_escape) octets) ++ rest
   printed_front octets rest = ap (λ t. t ++ rest) (printed_bytes octets)
+
+  -- a printed octet is ASCII
+  pub spelled_ascii : (o : ℕ) → o < 256 → IsAscii (spell (symbol_of is_escape o))
+  spelled_ascii o h = IsAscii-from_all _ (by_tests (is_printable o) (is_escape o) refl)
+    where
+      by_tests : (p e : Bool) → is_printable o ≡ p → All (λ b. b < 128) (spell (if p then (if e then SimpleEscape o else Char o) else DecimalEscape o))
+      by_tests true true shown = grind (arith, nat_tests)
+      by_tests true false shown = grind (arith, nat_tests)
+      by_tests false e shown = grind (arith, nat_tests)
+
+  -- so is the text of octets, which as bytes is then the same
+  pub printed_ascii : (octets : List ℕ) → All (λ o. o < 256) octets → IsAscii (text_of is_escape octets)
+  printed_ascii [] h = IsAscii-nil
+  printed_ascii (o ∷ os) h =
+      IsAscii-append _ _ (spelled_ascii o (All-head (λ o. o < 256) o os h)) (printed_ascii os (All-tail (λ o. o < 256) o os h))
+
+  -- a block of octets that is printed, and then the rest
+  pub printed_block : (all block rest text done : List ℕ) → all ≡ block ++ rest → All (λ o. o < 256) block → text ≡ text_of is_escape block
+      → (done ++ text) ++ encode_utf8_all (text_of is_escape rest) ≡ done ++ encode_utf8_all (text_of is_escape all)
+  printed_block all block rest text done parts h is =
+      let bytes = encodes-IsAscii (text_of is_escape block) (printed_ascii block h) in
+      let both = encodes-append (text_of is_escape block) (text_of is_escape rest) in
+      rw (parts, is, append_assoc, flat_map-append, both, bytes) refl
 
 -- in the unquoted form each octet is a symbol of a word
 pub unquoted_word : (o : ℕ) → o < 256 → is_word_symbol (symbol_of is_unquoted_escape o) ≡ true
