@@ -6,7 +6,7 @@ use Rattle.std.proofs.lemmas.List.{take_more, map-append}
 use Rattle.std.proofs.lemmas.Str.{encodes-append, encode_ascii}
 use Rattle.std.proofs.lemmas.Grind.{common_steps, flat_map-append}
 use Rattle.dns_wire_name.specs.Building.{closed}
-use Rattle.dns_wire_name.specs.Printed.{label_text, joined_text, without_root, dotted_text, undotted_text}
+use Rattle.dns_wire_name.specs.Printed.{joined_by, dotted_by, joined_text, without_root, undotted_text}
 
 -- one octet more
 pub text_more : (f : ℕ → List ℕ) (xs : List ℕ) (i : ℕ) → i < length xs
@@ -19,36 +19,37 @@ join_more x [] y = refl
 join_more x (z ∷ xs) y =
     ap (λ t. x ++ 46 ∷ t) (join_more z xs y) ∙ sym (append_assoc x (46 ∷ join_with_byte 46 (z ∷ xs)) (46 ∷ y))
 
--- one label more: the first alone, each other one after a dot
-pub first_label : (labels : List (List ℕ)) (label : List ℕ) → label ≡ get_or labels 0 [] → 0 < length labels
-    → encode_utf8_all (label_text label) ≡ encode_utf8_all (joined_text (take 1 labels))
-first_label [] label is h = absurd (omega arith)
-first_label (l ∷ ls) label is h = ap (λ x. encode_utf8_all (label_text x)) is
-
-joined_push : (labels : List (List ℕ)) (label : List ℕ) → 0 < length labels → joined_text (labels ++ label ∷ []) ≡ joined_text labels ++ 46 ∷ label_text label
-joined_push [] label h = absurd (omega arith)
-joined_push (l ∷ ls) label h =
-    ap (join_with_byte 46) (map-append label_text (l ∷ ls) (label ∷ [])) ∙ join_more (label_text l) (map label_text ls) (label_text label)
-
 dot_first : (text : List ℕ) → 46 ∷ encode_utf8_all text ≡ encode_utf8_all (46 ∷ text)
 dot_first text = ap (λ x. x ++ encode_utf8_all text) (sym (encode_ascii 46 (omega arith)))
 
-pub next_label : (labels : List (List ℕ)) (label : List ℕ) (i : ℕ) → label ≡ get_or labels i [] → 0 < i → i < length labels
-    → encode_utf8_all (joined_text (take i labels)) ++ (46 ∷ encode_utf8_all (label_text label)) ≡ encode_utf8_all (joined_text (take (i + 1) labels))
-next_label labels label i is some h =
-    let n : 0 < length (take i labels) = Prim.grind (arith, common_steps) in
-    ap (λ x. encode_utf8_all (joined_text (take i labels)) ++ (46 ∷ encode_utf8_all (label_text x))) is
-    ∙ ap (λ x. encode_utf8_all (joined_text (take i labels)) ++ x) (dot_first (label_text (get_or labels i [])))
-    ∙ sym (ap (λ x. encode_utf8_all (joined_text x)) (take_more labels i [] h) ∙ ap encode_utf8_all (joined_push (take i labels) (get_or labels i []) n)
-    ∙ encodes-append (joined_text (take i labels)) (46 ∷ label_text (get_or labels i [])))
+-- whatever a label prints
+module _ (text : List ℕ → List ℕ) where
+  -- one label more: the first alone, each other one after a dot
+  pub first_label : (labels : List (List ℕ)) (label : List ℕ) → label ≡ get_or labels 0 [] → 0 < length labels
+      → encode_utf8_all (text label) ≡ encode_utf8_all (joined_by text (take 1 labels))
+  first_label [] label is h = absurd (omega arith)
+  first_label (l ∷ ls) label is h = ap (λ x. encode_utf8_all (text x)) is
 
--- but for the lone root, a dot at the end is the empty text of the root
-pub dotted_joined : (labels : List (List ℕ)) → (labels ≡ [] ∷ [] → ⊥) → dotted_text labels ≡ joined_text labels
-dotted_joined [] h = refl
-dotted_joined ([] ∷ []) h = absurd (h refl)
-dotted_joined ((x ∷ xs) ∷ []) h = refl
-dotted_joined ([] ∷ b ∷ c) h = refl
-dotted_joined ((x ∷ xs) ∷ b ∷ c) h = refl
+  joined_push : (labels : List (List ℕ)) (label : List ℕ) → 0 < length labels → joined_by text (labels ++ label ∷ []) ≡ joined_by text labels ++ 46 ∷ text label
+  joined_push [] label h = absurd (omega arith)
+  joined_push (l ∷ ls) label h = ap (join_with_byte 46) (map-append text (l ∷ ls) (label ∷ [])) ∙ join_more (text l) (map text ls) (text label)
+
+  pub next_label : (labels : List (List ℕ)) (label : List ℕ) (i : ℕ) → label ≡ get_or labels i [] → 0 < i → i < length labels
+      → encode_utf8_all (joined_by text (take i labels)) ++ (46 ∷ encode_utf8_all (text label)) ≡ encode_utf8_all (joined_by text (take (i + 1) labels))
+  next_label labels label i is some h =
+      let n : 0 < length (take i labels) = Prim.grind (arith, common_steps) in
+      ap (λ x. encode_utf8_all (joined_by text (take i labels)) ++ (46 ∷ encode_utf8_all (text x))) is
+      ∙ ap (λ x. encode_utf8_all (joined_by text (take i labels)) ++ x) (dot_first (text (get_or labels i [])))
+      ∙ sym (ap (λ x. encode_utf8_all (joined_by text x)) (take_more labels i [] h) ∙ ap encode_utf8_all (joined_push (take i labels) (get_or labels i []) n)
+      ∙ encodes-append (joined_by text (take i labels)) (46 ∷ text (get_or labels i [])))
+
+  -- but for the lone root, a dot at the end is the empty text of the root
+  pub dotted_joined : (labels : List (List ℕ)) → (labels ≡ [] ∷ [] → ⊥) → dotted_by text labels ≡ joined_by text labels
+  dotted_joined [] h = refl
+  dotted_joined ([] ∷ []) h = absurd (h refl)
+  dotted_joined ((x ∷ xs) ∷ []) h = refl
+  dotted_joined ([] ∷ b ∷ c) h = refl
+  dotted_joined ((x ∷ xs) ∷ b ∷ c) h = refl
 
 pub undotted_joined : (labels : List (List ℕ)) → (labels ≡ [] ∷ [] → ⊥) → undotted_text labels ≡ joined_text (without_root labels)
 undotted_joined [] h = refl

@@ -1,4 +1,5 @@
 pub mod Building
+pub mod Form
 pub mod FromOctets
 pub mod Label
 pub mod LabelOrder
@@ -11,3 +12,4 @@ pub mod Shown
 pub mod Split
 pub mod Takes
 pub mod Wire
+pub mod ZoneText

@@ -12,9 +12,12 @@ is_label_escape o = o == 32 || o == 46 || o == 92
 abbrev pub label_text : List ℕ → List ℕ
 label_text = text_of is_label_escape
 
--- labels joined by dots
+-- labels joined by dots, where `text` says what a label prints
+abbrev pub joined_by : (List ℕ → List ℕ) → List (List ℕ) → List ℕ
+joined_by text labels = join_with_byte 46 (map text labels)
+
 abbrev pub joined_text : List (List ℕ) → List ℕ
-joined_text labels = join_with_byte 46 (map label_text labels)
+joined_text = joined_by label_text
 
 -- the labels but for a root at the end
 abbrev pub without_root : List (List ℕ) → List (List ℕ)
@@ -23,9 +26,12 @@ without_root (label ∷ []) = closed label
 without_root (label ∷ next ∷ more) = label ∷ without_root (next ∷ more)
 
 -- a name that ends in a dot where it ends in the root, whose own text is empty; the root alone is one dot
+abbrev pub dotted_by : (List ℕ → List ℕ) → List (List ℕ) → List ℕ
+dotted_by text ([] ∷ []) = 46 ∷ []
+dotted_by text labels = joined_by text labels
+
 abbrev pub dotted_text : List (List ℕ) → List ℕ
-dotted_text ([] ∷ []) = 46 ∷ []
-dotted_text labels = joined_text labels
+dotted_text = dotted_by label_text
 
 -- a name without a dot at its end, but for the root alone
 abbrev pub undotted_text : List (List ℕ) → List ℕ

@@ -2,10 +2,12 @@
 //!
 //! A label escapes the space, the dot and the backslash by a backslash, and octets outside 0x20 to
 //! 0x7E by their decimal value (RFC 1035 section 5.1). It prints the double quote, the semicolon
-//! and parentheses plain.
+//! and parentheses plain, which end a token of zone text: [`ZoneName`] prints a name there.
 ghost use Rattle.std.specs.Prelude.{◌≡◌, ◌≤◌, ◌↔◌, [], ◌∷◌, length, take, IsTrue};
 ghost use Rattle.dns_symbol.specs.Printed.{symbol_of};
 ghost use Rattle.dns_wire_name.specs.Printed.{is_label_escape, without_root};
+ghost use Rattle.dns_wire_name.specs.ZoneText.{zone_symbol};
+ghost use Rattle.dns_wire_name.specs.Form.{form_symbol};
 
 use crate::label::Label;
 use crate::name::Name;
@@ -26,6 +28,60 @@ fn label_symbol(octet: u8) -> Symbol
     }
 }
 
+// The symbol that an octet is printed as where each octet with a meaning in zone text is escaped.
+fn decimal_symbol(octet: u8) -> Symbol
+    ensures { result ≡ zone_symbol octet }
+{
+    match octet {
+        b'A'..=b'Z' | b'a'..=b'z' | b'0'..=b'9' | b'-' | b'_' | b'*' => {
+            Symbol::Char(char::from(octet))
+        }
+        _ => Symbol::DecimalEscape(octet),
+    }
+}
+
+// A form in which labels are printed.
+#[derive(Clone, Copy)]
+enum Form {
+    // The space, the dot and the backslash are escaped.
+    Label,
+    // All but letters, digits, `-`, `_` and `*` is escaped.
+    Zone,
+}
+
+// The symbol that an octet is printed as in a form.
+fn symbol_in(form: Form, octet: u8) -> Symbol
+    ensures { result ≡ form_symbol form octet }
+{
+    match form {
+        Form::Label => label_symbol(octet),
+        Form::Zone => decimal_symbol(octet),
+    }
+}
+
+// A label in a form.
+#[derive(Drop)]
+struct Formed<'a> {
+    label: Label<'a>,
+    form: Form,
+}
+
+impl fmt::Display for Formed<'_> {
+    ghost use Rattle.std.specs.Prelude.{Some, encode_utf8_all};
+    ghost use Rattle.dns_wire_name.specs.Label.{label_octets};
+    ghost use Rattle.dns_wire_name.specs.Form.{form_text};
+
+    ghost output = { λ l. Some (encode_utf8_all (form_text l.form (label_octets l.label))) };
+
+    fn fmt<W: fmt::Write>(&self, f: &mut fmt::Formatter<W>) -> fmt::Result {
+        for octet in self.label.as_slice() {
+            let symbol = symbol_in(self.form, *octet);
+            write!(f, "{symbol}")?;
+        }
+        Ok(())
+    }
+}
+
 impl fmt::Display for Label<'_> {
     ghost use Rattle.std.specs.Prelude.{Some, encode_utf8_all};
     ghost use Rattle.dns_wire_name.specs.Label.{label_octets};
@@ -34,37 +90,42 @@ impl fmt::Display for Label<'_> {
     ghost output = { λ l. Some (encode_utf8_all (label_text (label_octets l))) };
 
     fn fmt<W: fmt::Write>(&self, f: &mut fmt::Formatter<W>) -> fmt::Result {
-        for octet in self.as_slice() {
-            let symbol = label_symbol(*octet);
-            write!(f, "{symbol}")?;
-        }
-        Ok(())
+        let label = Formed {
+            label: *self,
+            form: Form::Label,
+        };
+        write!(f, "{label}")
     }
 }
 
-// The first labels of a name, joined by dots.
+// The first labels of a name in a form, joined by dots.
 #[derive(Drop)]
 struct Joined<'a, N: ToLabelIter> {
     name: &'a N,
+    form: Form,
     count: usize,
     ghost few: { count ≤ length (N.labels name.now) },
 }
 
 impl<N: ToLabelIter> fmt::Display for Joined<'_, N> {
     ghost use Rattle.std.specs.Prelude.{Some, encode_utf8_all};
-    ghost use Rattle.dns_wire_name.specs.Printed.{joined_text};
+    ghost use Rattle.dns_wire_name.specs.Form.{form_text};
+    ghost use Rattle.dns_wire_name.specs.Printed.{joined_by};
 
-    ghost output = { λ d. Some (encode_utf8_all (joined_text (take d.count (N.labels d.name.now)))) };
+    ghost output = { λ d. Some (encode_utf8_all (joined_by (form_text d.form) (take d.count (N.labels d.name.now)))) };
 
     fn fmt<W: fmt::Write>(&self, f: &mut fmt::Formatter<W>) -> fmt::Result {
+        let form = self.form;
         if self.count == 0 {
             return Ok(());
         }
         let first = self.name.label_at(0);
-        write!(f, "{first}")?;
+        let shown = Formed { label: first, form };
+        write!(f, "{shown}")?;
         for place in 1..self.count {
             let label = self.name.label_at(place);
-            write!(f, ".{label}")?;
+            let next = Formed { label, form };
+            write!(f, ".{next}")?;
         }
         Ok(())
     }
@@ -124,8 +185,51 @@ impl<N: ToLabelIter> fmt::Display for DisplayWithDot<'_, N> {
         }
         let labels = Joined {
             name,
+            form: Form::Label,
             count: name.label_count(),
         };
+        write!(f, "{labels}")
+    }
+}
+
+/// A name in zone text (RFC 1035 section 5.1): its labels joined by dots, with a dot at the end
+/// where it is absolute. The root alone is one dot.
+///
+/// Letters, digits, `-`, `_` and `*` stand plain, and every other octet by its decimal value, as
+/// `\DDD`. So a name of one label or more is one word, in which every reader of zone text sees that
+/// name. A relative name of no labels prints nothing, the only text that reads as it: `@` would read
+/// as a label of that one character.
+#[derive(Drop)]
+pub struct ZoneName<'a, N: ToLabelIter> {
+    name: &'a N,
+}
+
+impl<'a, N: ToLabelIter> ZoneName<'a, N> {
+    ghost use Rattle.dns_wire_name.specs.Shown.{zone_name};
+
+    /// Shows this name.
+    pub fn new(name: &'a N) -> Self
+        ensures { zone_name result ≡ name.now }
+    {
+        ZoneName { name }
+    }
+}
+
+impl<N: ToLabelIter> fmt::Display for ZoneName<'_, N> {
+    ghost use Rattle.std.specs.Prelude.{Some};
+    ghost use Rattle.dns_wire_name.specs.Shown.{zone_name};
+    ghost use Rattle.dns_wire_name.specs.ZoneText.{zone_text};
+
+    ghost output = { λ d. Some (zone_text (N.labels (zone_name d))) };
+
+    fn fmt<W: fmt::Write>(&self, f: &mut fmt::Formatter<W>) -> fmt::Result {
+        let name = self.name;
+        if is_lone_root(name) {
+            return write!(f, ".");
+        }
+        let form = Form::Zone;
+        let count = name.label_count();
+        let labels = Joined { name, form, count };
         write!(f, "{labels}")
     }
 }
@@ -161,6 +265,7 @@ impl<N: ToLabelIter> fmt::Display for DisplayWithoutDot<'_, N> {
         }
         let labels = Joined {
             name,
+            form: Form::Label,
             count: count_without_root(name),
         };
         write!(f, "{labels}")
@@ -190,6 +295,7 @@ impl<Octets: AsOctets> fmt::Display for RelativeName<Octets> {
     fn fmt<W: fmt::Write>(&self, f: &mut fmt::Formatter<W>) -> fmt::Result {
         let labels = Joined {
             name: self,
+            form: Form::Label,
             count: self.label_count(),
         };
         write!(f, "{labels}")

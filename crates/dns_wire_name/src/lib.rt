@@ -26,7 +26,7 @@ pub mod relative;
 pub mod split;
 pub mod to_label_iter;
 
-pub use display::{DisplayWithDot, DisplayWithoutDot};
+pub use display::{DisplayWithDot, DisplayWithoutDot, ZoneName};
 pub use error::{LabelTypeError, LongLabelError, NameError, PushError, SplitLabelError};
 pub use flatten::FlattenInto;
 pub use label::Label;
