@@ -50,7 +50,7 @@ IsFine n begin = ⊤
 IsFine n end = 0 < n
 IsFine n newline = n ≡ 0
 
--- what is wrong with a step, behind the steps of `past`; its place is how many they are
+-- what is wrong with a step, after the steps of `past`; its place is how many they are
 abbrev pub IsFault : List Step → Step → DocumentError → Type 0
 IsFault past (token text) e = (e ≡ BadToken (length past)) × ¬ IsToken text
 IsFault past (comment text) e = (e ≡ BadComment (length past)) × ¬ IsComment text
@@ -58,7 +58,7 @@ IsFault past begin e = ⊥
 IsFault past end e = (e ≡ EndWithoutBegin (length past)) × (depth past ≡ 0)
 IsFault past newline e = (e ≡ LineInBlock (length past)) × (0 < depth past)
 
--- the first fault behind the steps of `past`: the next step's, or, where it has none, the first one behind it; a block left open comes last
+-- the first fault after the steps of `past`: the next step's, or, where it has none, the first one after it; a block left open comes last
 abbrev pub IsFirstFault : List Step → List Step → DocumentError → Type 0
 IsFirstFault past [] e = (e ≡ OpenBlock) × (0 < depth past)
 IsFirstFault past (x ∷ xs) e = IsFault past x e ⊎ (((f : DocumentError) → ¬ IsFault past x f) × IsFirstFault (x ∷ past) xs e)

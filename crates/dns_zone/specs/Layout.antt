@@ -82,7 +82,7 @@ is_shown (token bs ∷ past) = is_shown past
 is_shown (comment bs ∷ past) = is_shown past
 is_shown (newline ∷ past) = is_shown past
 
--- no word stands behind the last break: a line end, or a comment that is shown
+-- no word stands after the last break: a line end, or a comment that is shown
 abbrev pub is_row_start : List Step → Bool
 is_row_start [] = true
 is_row_start (newline ∷ past) = true
@@ -95,7 +95,7 @@ is_row_start (end ∷ past) = false
 abbrev pub word : List Step → List ℕ → List ℕ
 word past bs = (if is_row_start past then [] else 32 ∷ []) ++ bs
 
--- the text of the words behind the last break
+-- the text of the words after the last break
 abbrev pub row : List Step → List ℕ
 row [] = []
 row (newline ∷ past) = []
@@ -123,15 +123,15 @@ abbrev mutual
   indent (token bs ∷ past) = indent past
   indent (end ∷ past) = indent past
 
--- the bytes that stand behind the last break, with its spaces
+-- the bytes that stand after the last break, with its spaces
 abbrev pub line_width : List Step → ℕ
 line_width past = lead past + length (row past)
 
--- a comment, the line end behind it, and the spaces of the next line
+-- a comment, the line end after it, and the spaces of the next line
 abbrev pub shown_comment : ℕ → List ℕ → List ℕ
 shown_comment spaces bs = (9 ∷ 59 ∷ 32 ∷ []) ++ (bs ++ (10 ∷ replicate spaces 32))
 
--- the text of a step: block marks are words, and comments are shown behind a begin
+-- the text of a step: block marks are words, and comments are shown after a begin
 abbrev pub multiline_piece : List Step → Step → List ℕ
 multiline_piece past (token bs) = word past bs
 multiline_piece past begin = word past (40 ∷ [])

@@ -9,3 +9,5 @@ pub mod Printed
 pub mod Displayed
 pub mod Documents
 pub mod DocumentSteps
+pub mod Tokens
+pub mod Each

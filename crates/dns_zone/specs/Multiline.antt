@@ -20,7 +20,7 @@ pub record MultilineStands {W : Type 0} (w : MultiLineWriter W) (past : List Ste
   pub block_indent : w.block_indent ≡ (if is_shown past then Some (indent past) else None)
   pub column : w.line.column ≡ line_width past
 
--- a step that went well: behind whatever steps the writer stands, the text of this one is appended
+-- a step that went well: after whatever steps the writer stands, the text of this one is appended
 abbrev pub MultilineStep : {W : Type 0} → (W → List ℕ → W → Type 0) → MultiLineWriter W → Step → MultiLineWriter W → Type 0
 MultilineStep took = PrintsStep MultilineStands multiline_sink took multiline_piece
 

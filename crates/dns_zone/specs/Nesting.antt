@@ -56,7 +56,7 @@ from_none_test n h = grind (arith, nat_tests)
 none_test : (m n : ℕ) → (n == 0) ≡ true → m ≡ n → (m == 0) ≡ true
 none_test m n p e = rw e p
 
--- one document behind another
+-- one document after another
 pub nested_append : (n : ℕ) (xs ys : List Step) → is_nested n xs ≡ true → IsNested ys → is_nested n (xs ++ ys) ≡ true
 nested_append n [] ys p q = subst (λ (k : ℕ). is_nested k ys ≡ true) (sym (from_none_test n p)) q
 nested_append n (token bs ∷ xs) ys p q = nested_append n xs ys p q

@@ -4,7 +4,7 @@ use Rattle.dns_zone.specs.Layout.{Step, layout, simple_piece, tabbed_piece, mult
 use Rattle.dns_zone.specs.declared.zonefile_fmt.DisplayKind.{DisplayKind}
 use Rattle.dns_zone.specs.declared.zonefile_fmt.DisplayKind.TheVariants.{Simple, Tabbed, Multiline}
 
--- the text of a step in a layout, behind the steps before it
+-- the text of a step in a layout, after the steps before it
 abbrev pub piece_of : DisplayKind → List Step → Step → List ℕ
 piece_of Simple = simple_piece
 piece_of Tabbed = tabbed_piece

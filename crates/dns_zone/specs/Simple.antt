@@ -17,6 +17,6 @@ pub record SimpleStands {W : Type 0} (w : SimpleWriter W) (past : List Step) : T
   pub first : w.first ≡ is_line_start past
   pub blocks : w.blocks ≡ depth past
 
--- a step that went well: behind whatever steps the writer stands, the text of this one is appended
+-- a step that went well: after whatever steps the writer stands, the text of this one is appended
 abbrev pub SimpleStep : {W : Type 0} → (W → List ℕ → W → Type 0) → SimpleWriter W → Step → SimpleWriter W → Type 0
 SimpleStep took = PrintsStep SimpleStands simple_sink took simple_piece

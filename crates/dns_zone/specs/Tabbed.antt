@@ -18,6 +18,6 @@ pub record TabbedStands {W : Type 0} (w : TabbedWriter W) (past : List Step) : T
   pub blocks : w.blocks ≡ depth past
   pub first_block : 0 < depth past → w.first_block ≡ is_block_start past
 
--- a step that went well: behind whatever steps the writer stands, the text of this one is appended
+-- a step that went well: after whatever steps the writer stands, the text of this one is appended
 abbrev pub TabbedStep : {W : Type 0} → (W → List ℕ → W → Type 0) → TabbedWriter W → Step → TabbedWriter W → Type 0
 TabbedStep took = PrintsStep TabbedStands tabbed_sink took tabbed_piece

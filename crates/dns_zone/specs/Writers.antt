@@ -28,6 +28,6 @@ pub record Prints {F W : Type 0} (stands : F → List Step → Type 0) (sink : F
   pub next : stands v (x ∷ past)
   pub wrote : WritesInCalls took (sink w) (piece past x) (sink v)
 
--- the same behind whatever steps the writer stands
+-- the same after whatever steps the writer stands
 abbrev pub PrintsStep : {F W : Type 0} → (F → List Step → Type 0) → (F → W) → (W → List ℕ → W → Type 0) → (List Step → Step → List ℕ) → F → Step → F → Type 0
 PrintsStep stands sink took piece w x v = (past : List Step) → stands w past → Prints stands sink took piece past w x v

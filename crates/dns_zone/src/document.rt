@@ -36,7 +36,7 @@ pub enum DocumentError {
     EndWithoutBegin(usize),
     /// A block is open at a line end.
     LineInBlock(usize),
-    /// A block is open behind the last item, and nothing else is wrong.
+    /// A block is open after the last item, and nothing else is wrong.
     OpenBlock,
 }
 

@@ -13,6 +13,8 @@
 //! - [`zonefile_fmt::Formatter`]: what a value prints itself with. Every `FormatWriter` is one.
 //! - [`document::Item`] and [`document::Document`]: a document as a list of items, made of exactly the well-formed lists:
 //!   each token is a word or a quoted text, no comment has a line end, blocks nest and close, and line ends stand outside them.
+//! - [`tokens::ZoneToken`]: a value that is one token; [`tokens::write_each`] and [`tokens::Each`] print such values in a row.
+//! - [`tokens::ZoneTokens`]: a value whose document is always well-formed.
 //!
 //! What a document is, and its text in each layout, is defined in `specs/Layout.antt`, step by step and by the steps before alone;
 //! `specs/Rows.antt` has worked texts. The laws on well-formed documents are in [`laws`].
@@ -91,7 +93,7 @@
 //!                   )
 //! ```
 //!
-//! For values that print in a loop, `specs/Nesting.antt` has lemmas on documents one behind another (`nested_append`, `nested_lines`,
+//! For values that print in a loop, `specs/Nesting.antt` has lemmas on documents one after another (`nested_append`, `nested_lines`,
 //! `nested_in_block`, `no_line_append`), and `proofs/Runs.antt` those on what a writer was given
 //! (`runs_none`, `runs_step`, `runs_append`, `runs_block`, `runs_then_step`).
 #![tactic(auto)]
@@ -102,4 +104,5 @@ mod example;
 pub mod laws;
 #[cfg(test)]
 mod tests;
+pub mod tokens;
 pub mod zonefile_fmt;

@@ -35,7 +35,7 @@ pub enum DisplayKind {
     Simple,
     /// Each entry on one line, its tokens apart by a tab outside blocks and by a space in them; no comments.
     Tabbed,
-    /// Blocks in parentheses, with a line end behind each comment in them (RFC 1035, section 5.1).
+    /// Blocks in parentheses, with a line end after each comment in them (RFC 1035, section 5.1).
     Multiline,
 }
 

@@ -21,7 +21,7 @@ pub struct MultiLineWriter<W> {
     first: bool,
     /// The open blocks.
     blocks: usize,
-    /// Where the last block mark is a begin, the spaces that stand behind a comment.
+    /// Where the last block mark is a begin, the spaces that stand after a comment.
     block_indent: Option<usize>,
     line: Line<W>,
 }
@@ -60,7 +60,7 @@ impl<W> MultiLineWriter<W> {
         }
     }
 
-    /// The bytes behind the last line end or shown comment, with its indent.
+    /// The bytes after the last line end or shown comment, with its indent.
     pub(crate) fn line_width(&self) -> usize
         ensures { (past : List Step) → MultilineStands self.now past → result ≡ line_width past }
     {

@@ -1,0 +1,108 @@
+//! Values that print as one token, and values whose text always splits into their entries.
+ghost use Rattle.std.specs.Prelude.{◌≡◌, ℕ, List, All, OnOk};
+ghost use Rattle.dns_split.specs.Token.{IsToken};
+ghost use Rattle.dns_zone.specs.Documents.{IsWellFormed};
+ghost use Rattle.dns_zone.specs.Layout.{token};
+ghost use Rattle.dns_zone.specs.Each.{each_values, each_nested, each_formed};
+ghost use Rattle.dns_zone.specs.Tokens.{one_each};
+ghost use Rattle.dns_zone.specs.Writers.{Runs};
+
+use crate::zonefile_fmt::{FormatWriter, Result, ZonefileFmt};
+
+/// A value that prints as one token: a word, or a text between double quotes (RFC 1035, section
+/// 5.1).
+pub trait ZoneToken {
+    // The token's text.
+    ghost text: { Self → List ℕ };
+
+    // What is known of every value.
+    ghost holds: { Self → Type 0 };
+
+    /// Prints the token.
+    fn write<F: FormatWriter>(&self, p: &mut F) -> Result
+        ensures blocks { OnOk result (F.blocks p.new ≡ F.blocks p.old) }
+        ensures gives { OnOk result (F.step_gives p.old (token (text self.now)) p.new) };
+
+    /// States what is known of the value, and does nothing else.
+    fn known(&self)
+        ensures { holds self.now };
+
+    ghost is_token: { (x : Self) → holds x → IsToken (text x) };
+}
+
+/// A value whose document is well-formed: each token and comment is one, blocks nest and close, and
+/// line ends stand outside them. So each layout of it splits into its entries.
+pub trait ZoneTokens: ZonefileFmt {
+    // What is known of every value.
+    ghost holds: { Self → Type 0 };
+
+    /// States what is known of the value, and does nothing else.
+    fn known(&self)
+        ensures { holds self.now };
+
+    ghost formed: { (x : Self) → holds x → IsWellFormed 0 (Self.document x) };
+}
+
+impl<T: ZoneTokens> ZoneTokens for &T {
+    ghost holds = { λ r. T.holds r.now };
+
+    fn known(&self) {
+        (**self).known();
+    }
+
+    ghost formed = { λ r h. T.formed r.now h };
+}
+
+/// Prints values one after another: the document is a token for each, in order.
+pub fn write_each<T: ZoneToken, F: FormatWriter>(p: &mut F, items: &[T]) -> Result
+    ensures { OnOk result (Runs F.blocks F.step_gives p.old (one_each T.text items.now) p.new) }
+{
+    for item in items {
+        item.write(p)?;
+    }
+    Ok(())
+}
+
+// States what is known of each value.
+fn known_each<T: ZoneToken>(items: &[T])
+    ensures { All T.holds items.now }
+{
+    for item in items {
+        item.known();
+    }
+}
+
+/// Values in a row. The document is a token for each, in order.
+#[derive(Drop)]
+pub struct Each<'a, T> {
+    items: &'a [T],
+}
+
+impl<'a, T> Each<'a, T> {
+    /// These values in a row.
+    pub fn new(items: &'a [T]) -> Self
+        ensures { each_values result ≡ items.now }
+    {
+        Each { items }
+    }
+}
+
+impl<T: ZoneToken> ZonefileFmt for Each<'_, T> {
+    ghost document = { λ x. one_each T.text (each_values x) };
+
+    ghost nested = { λ x. each_nested T.text (each_values x) };
+
+    fn fmt<F: FormatWriter>(&self, p: &mut F) -> Result {
+        write_each(p, self.items)
+    }
+}
+
+impl<T: ZoneToken> ZoneTokens for Each<'_, T> {
+    ghost holds = { λ x. All T.holds (each_values x) };
+
+    fn known(&self) {
+        known_each(self.items);
+    }
+
+    ghost formed = { λ x h. each_formed T.text T.holds T.is_token (each_values x) h };
+}
