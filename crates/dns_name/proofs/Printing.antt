@@ -1,5 +1,5 @@
 -- The printed text of a name is that name's.
-use Rattle.std.proofs.Common.{◌≡◌, ℕ, ◌<◌, ◌≤◌, Bool, true, false, List, [], ◌∷◌, ◌++◌, length, map, refl, sym, ap, subst, ◌∙◌, arith, append_assoc, append-nil, length-append, inl, inr}
+use Rattle.std.proofs.Common.{◌≡◌, ℕ, ◌<◌, ◌≤◌, Bool, true, false, List, [], ◌∷◌, ◌++◌, length, map, refl, sym, ap, subst, ◌∙◌, arith, append_assoc, append-nil, length-append, inl, inr, Ok}
 use Rattle.std.specs.Prelude.{All, not, encode_utf8_all, if◌then◌else◌}
 use Rattle.std.specs.List.{flat_map, list_all, AllZip}
 use Rattle.std.proofs.lemmas.Str.{encodes-append}
@@ -7,15 +7,16 @@ use Rattle.std.proofs.lemmas.Grind.{flat_map-append}
 use Rattle.std.proofs.lemmas.List.Elements.{All-head, All-tail, All-cons}
 use Rattle.std.proofs.lemmas.List.Folds.{list_all-append}
 use Rattle.std.proofs.lemmas.Bool.Decides.{nat_tests}
-use Rattle.dns_symbol.specs.Symbol.{bytes, is_readable, is_printable}
+use Rattle.dns_symbol.specs.Symbol.{bytes, spell, is_readable, is_printable, octet_of}
 use Rattle.dns_symbol.specs.Printed.{symbol_of}
 use Rattle.dns_symbol.specs.declared.symbol.Symbol.{Symbol}
 use Rattle.dns_symbol.specs.declared.symbol.Symbol.TheVariants.{Char, SimpleEscape, DecimalEscape}
-use Rattle.dns_symbol.proofs.PrintedForms.{IsForm, printed_octets, printed_bytes, all_printed_readable}
+use Rattle.dns_symbol.proofs.PrintedForms.{IsForm, printed_octet, printed_readable}
 use Rattle.dns_wire_name.specs.Wire.{wire, wire_length, IsName, HasNoRoot}
 use Rattle.dns_wire_name.specs.Building.{closed}
-use Rattle.dns_wire_name.specs.Printed.{is_label_escape, label_text, joined_text, dotted_text}
-use Rattle.dns_wire_name.proofs.Wires.{wire_length_append}
+use Rattle.dns_wire_name.specs.Printed.{is_label_escape, joined_by, dotted_by, dotted_text}
+use Rattle.dns_wire_name.specs.ZoneText.{is_zone_plain, zone_symbol, zone_text}
+use Rattle.dns_wire_name.proofs.Wires.{Bytes, labels_bytes, wire_length_append}
 use Rattle.dns_wire_name.proofs.Texts.{dotted_joined}
 use Rattle.dns_name.specs.Uncertain.{labels_of, IsUncertain}
 use Rattle.dns_name.specs.Reading.{is_dot, bracket, IsPiece, dotted, HasNamed, ReadsAs}
@@ -23,112 +24,70 @@ use Rattle.dns_name.specs.declared.name.UncertainName.{UncertainName}
 use Rattle.dns_name.specs.declared.name.UncertainName.TheVariants.{Absolute, Relative}
 use Rattle.dns_name.proofs.Naming.{dot_bytes, named_none}
 
-label_form : IsForm is_label_escape
-label_form = record { backslash = refl; no_digits = λ o e. Prim.grind (arith, nat_tests) }
+-- how octets are printed in labels: each by a readable symbol that stands for it, and is no plain dot and no escaped bracket
+pub record IsLabelForm (symbol : ℕ → Symbol) : Type 0 where
+  pub stands : (o : ℕ) → octet_of (symbol o) ≡ Ok o
+  pub readable : (o : ℕ) → o < 256 → is_readable (symbol o) ≡ true
+  pub no_dot : (o : ℕ) → is_dot (symbol o) ≡ false
+  pub no_bracket : (o : ℕ) → symbol o ≡ bracket → ⊥
 
-abbrev piece_of : List ℕ → List Symbol
-piece_of = map (symbol_of is_label_escape)
+-- simple escapes of the space, the dot and the backslash
+simple_form : IsForm is_label_escape
+simple_form = record { backslash = refl; no_digits = λ o e. Prim.grind (arith, nat_tests) }
 
--- a printed octet is no plain dot, and no escaped bracket
-printed_dot : (o : ℕ) → is_dot (symbol_of is_label_escape o) ≡ false
-printed_dot o = by (is_printable o) (is_label_escape o) refl
+label_form : IsLabelForm (symbol_of is_label_escape)
+label_form = record { stands = printed_octet is_label_escape; readable = printed_readable is_label_escape simple_form; no_dot = dot; no_bracket = no_bracket }
   where
-    by : (p e : Bool) → is_label_escape o ≡ e → is_dot (if p then (if e then SimpleEscape o else Char o) else DecimalEscape o) ≡ false
-    by true true h = refl
-    by true false h = Prim.grind (arith, nat_tests)
-    by false e h = refl
+    dot : (o : ℕ) → is_dot (symbol_of is_label_escape o) ≡ false
+    dot o = by (is_printable o) (is_label_escape o) refl
+      where
+        by : (p e : Bool) → is_label_escape o ≡ e → is_dot (if p then (if e then SimpleEscape o else Char o) else DecimalEscape o) ≡ false
+        by true true h = refl
+        by true false h = Prim.grind (arith, nat_tests)
+        by false e h = refl
 
-printed_bracket : (o : ℕ) → symbol_of is_label_escape o ≡ bracket → ⊥
-printed_bracket o h = by (is_printable o) (is_label_escape o) refl h
+    no_bracket : (o : ℕ) → symbol_of is_label_escape o ≡ bracket → ⊥
+    no_bracket o h = by (is_printable o) (is_label_escape o) refl h
+      where
+        by : (p e : Bool) → is_label_escape o ≡ e → (if p then (if e then SimpleEscape o else Char o) else DecimalEscape o) ≡ bracket → ⊥
+        by true true shown is = let f : o ≡ 91 = cc is in Prim.grind (arith, nat_tests)
+        by true false shown is = cc
+        by false e shown is = cc
+
+-- in zone text
+zone_form : IsLabelForm zone_symbol
+zone_form = record { stands = stands; readable = readable; no_dot = dot; no_bracket = no_bracket }
   where
-    by : (p e : Bool) → is_label_escape o ≡ e → (if p then (if e then SimpleEscape o else Char o) else DecimalEscape o) ≡ bracket → ⊥
-    by true true shown is = let f : o ≡ 91 = cc is in Prim.grind (arith, nat_tests)
-    by true false shown is = cc
-    by false e shown is = cc
+    stands : (o : ℕ) → octet_of (zone_symbol o) ≡ Ok o
+    stands o = by (is_zone_plain o) refl
+      where
+        printable : is_zone_plain o ≡ true → is_printable o ≡ true
+        printable h = Prim.grind (arith, nat_tests)
 
-piece_dots : (label : List ℕ) → list_all (λ x. not (is_dot x)) (piece_of label) ≡ true
-piece_dots [] = refl
-piece_dots (o ∷ os) = rw (printed_dot o, piece_dots os) refl
+        by : (b : Bool) → is_zone_plain o ≡ b → octet_of (if b then Char o else DecimalEscape o) ≡ Ok o
+        by true h = rw (printable h) refl
+        by false h = refl
 
-piece_bracket : (label : List ℕ) (more : List Symbol) → piece_of label ≡ bracket ∷ more → ⊥
-piece_bracket [] more h = cc
-piece_bracket (o ∷ os) more h = printed_bracket o (cc h)
+    readable : (o : ℕ) → o < 256 → is_readable (zone_symbol o) ≡ true
+    readable o small = by (is_zone_plain o) refl
+      where
+        by : (b : Bool) → is_zone_plain o ≡ b → is_readable (if b then Char o else DecimalEscape o) ≡ true
+        by true h = Prim.grind (arith, nat_tests)
+        by false h = Prim.grind (arith, nat_tests)
 
-printed_piece : (label : List ℕ) → length label ≤ 63 → IsPiece (piece_of label) label
-printed_piece label h = record {
-  octets_are = printed_octets is_label_escape label;
-  no_dot = piece_dots label;
-  no_binary = piece_bracket label;
-  short = h;
-}
+    dot : (o : ℕ) → is_dot (zone_symbol o) ≡ false
+    dot o = by (is_zone_plain o) refl
+      where
+        by : (b : Bool) → is_zone_plain o ≡ b → is_dot (if b then Char o else DecimalEscape o) ≡ false
+        by true h = Prim.grind (arith, nat_tests)
+        by false h = refl
 
-abbrev pub Bytes : List ℕ → Type 0
-Bytes label = All (λ b. b < 256) label
-
-printed_zip : (labels : List (List ℕ)) → All (λ label. length label ≤ 63) labels → AllZip IsPiece (map piece_of labels) labels
-printed_zip [] h = tt
-printed_zip (l ∷ ls) h =
-    (printed_piece l (All-head (λ label. length label ≤ 63) l ls h), printed_zip ls (All-tail (λ label. length label ≤ 63) l ls h))
-
--- labels before a last one
-abbrev symbols_of : List (List ℕ) → List ℕ → List Symbol
-symbols_of front last = dotted (map piece_of front) ++ piece_of last
-
-readable_of : (front : List (List ℕ)) (last : List ℕ) → All Bytes front → Bytes last → list_all is_readable (symbols_of front last) ≡ true
-readable_of [] last h k = all_printed_readable is_label_escape label_form last k
-readable_of (l ∷ ls) last h k =
-    let a = all_printed_readable is_label_escape label_form l (All-head Bytes l ls h) in
-    let b = readable_of ls last (All-tail Bytes l ls h) k in
-    ap (list_all is_readable) (append_assoc (piece_of l ++ Char 46 ∷ []) (dotted (map piece_of ls)) (piece_of last)
-    ∙ append_assoc (piece_of l) (Char 46 ∷ []) (symbols_of ls last))
-    ∙ list_all-append is_readable (piece_of l) (Char 46 ∷ symbols_of ls last) ∙ rw (a, b) refl
-
-joined_cons : (label : List ℕ) (labels : List (List ℕ)) (last : List ℕ) → joined_text (label ∷ (labels ++ last ∷ [])) ≡ label_text label ++ 46 ∷ joined_text (labels ++ last ∷ [])
-joined_cons label [] last = refl
-joined_cons label (l ∷ ls) last = refl
-
-spelled_of : (front : List (List ℕ)) (last : List ℕ) → encode_utf8_all (joined_text (front ++ last ∷ [])) ≡ flat_map bytes (symbols_of front last)
-spelled_of [] last = printed_bytes is_label_escape last
-spelled_of (l ∷ ls) last =
-    ap encode_utf8_all (joined_cons l ls last) ∙ encodes-append (label_text l) (46 ∷ joined_text (ls ++ last ∷ []))
-    ∙ (λ i. printed_bytes is_label_escape l i ++ encodes-append (46 ∷ []) (joined_text (ls ++ last ∷ [])) i)
-    ∙ ap (λ t. flat_map bytes (piece_of l) ++ (bytes (Char 46) ++ t)) (spelled_of ls last)
-    ∙ sym (flat_map-append bytes (piece_of l) (Char 46 ∷ symbols_of ls last))
-    ∙ ap (flat_map bytes) (sym (append_assoc (piece_of l ++ Char 46 ∷ []) (dotted (map piece_of ls)) (piece_of last)
-    ∙ append_assoc (piece_of l) (Char 46 ∷ []) (symbols_of ls last)))
-
-printed_named : (front : List (List ℕ)) (last : List ℕ) → All (λ label. 0 < length label) front → All (λ label. length label ≤ 63) front → length last ≤ 63
-    → All Bytes front → Bytes last → wire_length (front ++ closed last) ≤ 254 → HasNamed (encode_utf8_all (joined_text (front ++ last ∷ []))) front last []
-printed_named front last some short few h k fits = record {
-  symbols = symbols_of front last;
-  readable = readable_of front last h k;
-  spelled = spelled_of front last ∙ sym (append-nil (flat_map bytes (symbols_of front last)));
-  names = record {
-    pieces = map piece_of front;
-    last = piece_of last;
-    joined = refl;
-    finished = printed_zip front short;
-    opened = printed_piece last few;
-    some = some;
-    fits = fits;
-  };
-}
-
--- the octets of labels are octets
-pub labels_bytes : (labels : List (List ℕ)) → Bytes (wire labels) → All Bytes labels
-labels_bytes [] h = λ k d lt. absurd (omega arith)
-labels_bytes (l ∷ ls) h =
-    let after = All-tail (λ b. b < 256) (length l) (l ++ wire ls) h in
-    All-cons Bytes l ls (front_bytes l (wire ls) after) (labels_bytes ls (back_bytes l (wire ls) after))
-  where
-    front_bytes : (a b : List ℕ) → Bytes (a ++ b) → Bytes a
-    front_bytes [] b h = λ k d lt. absurd (omega arith)
-    front_bytes (x ∷ a) b h =
-        All-cons (λ b. b < 256) x a (All-head (λ b. b < 256) x (a ++ b) h) (front_bytes a b (All-tail (λ b. b < 256) x (a ++ b) h))
-
-    back_bytes : (a b : List ℕ) → Bytes (a ++ b) → Bytes b
-    back_bytes [] b h = h
-    back_bytes (x ∷ a) b h = back_bytes a b (All-tail (λ b. b < 256) x (a ++ b) h)
+    no_bracket : (o : ℕ) → zone_symbol o ≡ bracket → ⊥
+    no_bracket o h = by (is_zone_plain o) h
+      where
+        by : (b : Bool) → (if b then Char o else DecimalEscape o) ≡ bracket → ⊥
+        by true is = cc
+        by false is = cc
 
 pub All-before : (P : List ℕ → Type 0) (a b : List (List ℕ)) → All P (a ++ b) → All P a
 All-before P [] b h = λ k d lt. absurd (omega arith)
@@ -159,47 +118,132 @@ closed_one : (last : List ℕ) → 0 < length last → closed last ≡ last ∷ 
 closed_one [] h = absurd (omega arith)
 closed_one (x ∷ xs) h = refl
 
-relative : (O : Type 0) (x : List ℕ) (xs : List (List ℕ)) → IsName (x ∷ xs) × HasNoRoot (x ∷ xs) × (wire_length (x ∷ xs) ≤ 254) → Bytes (wire (x ∷ xs))
-    → ReadsAs {O = O} (encode_utf8_all (dotted_text (x ∷ xs))) (Relative (x ∷ xs))
-relative O x xs h are =
-    let f = last_label x xs in
-    let front = f.0 in
-    let last = f.1 in
-    let all = subst (λ l. All Bytes l) f.2 (labels_bytes (x ∷ xs) are) in
-    let short = subst (λ l. All (λ label. length label ≤ 63) l) f.2 h.0.short in
-    let some = subst (λ l. All (λ label. 0 < length label) l) f.2 h.1 in
-    let one : 0 < length last = All-end (λ label. 0 < length label) front last some in
-    let c = closed_one last one in
-    let fits = subst (λ l. wire_length l ≤ 254) (f.2 ∙ ap (λ l. front ++ l) (sym c)) h.2 in
-    let named = printed_named front last (All-before (λ label. 0 < length label) front (last ∷ []) some) (All-before (λ label. length label ≤ 63) front (last ∷ []) short)
-    (All-end (λ label. length label ≤ 63) front last short) (All-before Bytes front (last ∷ []) all) (All-end Bytes front last all) fits in
-    let no_root : x ∷ xs ≡ [] ∷ [] → ⊥ = (λ e. let n = All-head (λ label. 0 < length label) x xs h.1 in let m : x ≡ [] = cc e in omega (arith, n, ap length m)) in
-    let text = dotted_joined (x ∷ xs) no_root ∙ ap joined_text f.2 in (
-      front,
-      last,
-      subst (λ t. HasNamed (encode_utf8_all t) front last []) (sym text) named,
-      f.2 ∙ ap (λ l. front ++ l) (sym c),
-      λ none. absurd (omega (arith, one, ap length none)),
-    )
+module _ (symbol : ℕ → Symbol) (form : IsLabelForm symbol) where
+  abbrev text_by : List ℕ → List ℕ
+  text_by = flat_map (λ o. spell (symbol o))
 
-absolute : (O : Type 0) (name front : List (List ℕ)) → IsName name → name ≡ front ++ [] ∷ [] → Bytes (wire name)
-    → ReadsAs {O = O} (encode_utf8_all (dotted_text name)) (Absolute name)
-absolute O name [] h e are = inl (ap (λ l. encode_utf8_all (dotted_text l)) e ∙ dot_bytes, e)
-absolute O name (x ∷ xs) h e are =
-    let front = x ∷ xs in
-    let all = subst (λ l. All Bytes l) e (labels_bytes name are) in
-    let short = subst (λ l. All (λ label. length label ≤ 63) l) e h.short in
-    let some = before_root front (λ a b f. h.root_last a b (e ∙ f)) in
-    let fits : wire_length (front ++ []) ≤ 254 =
-    omega (arith, h.fits, ap wire_length e, wire_length_append front ([] ∷ []), ap wire_length (append-nil front)) in
-    let named = printed_named front [] some (All-before (λ label. length label ≤ 63) front ([] ∷ []) short) (omega arith)
-    (All-before Bytes front ([] ∷ []) all) (λ k d lt. absurd (omega arith)) fits in
-    let no_root : name ≡ [] ∷ [] → ⊥ = (λ f. let n = sym e ∙ f in omega (arith, ap length n, length-append xs ([] ∷ []))) in
-    let text = dotted_joined name no_root ∙ ap joined_text e in
-    inr (front, subst (λ t. HasNamed (encode_utf8_all t) front [] []) (sym text) named, (λ f. let z : ⊥ = cc f in z), e)
+  abbrev piece_of : List ℕ → List Symbol
+  piece_of = map symbol
+
+  piece_octets : (label : List ℕ) → map octet_of (piece_of label) ≡ map Ok label
+  piece_octets [] = refl
+  piece_octets (o ∷ os) = λ i. form.stands o i ∷ piece_octets os i
+
+  piece_dots : (label : List ℕ) → list_all (λ x. not (is_dot x)) (piece_of label) ≡ true
+  piece_dots [] = refl
+  piece_dots (o ∷ os) = rw (form.no_dot o, piece_dots os) refl
+
+  piece_bracket : (label : List ℕ) (more : List Symbol) → piece_of label ≡ bracket ∷ more → ⊥
+  piece_bracket [] more h = cc
+  piece_bracket (o ∷ os) more h = form.no_bracket o (cc h)
+
+  piece_readable : (label : List ℕ) → Bytes label → list_all is_readable (piece_of label) ≡ true
+  piece_readable [] h = refl
+  piece_readable (o ∷ os) h = rw (form.readable o (All-head (λ b. b < 256) o os h), piece_readable os (All-tail (λ b. b < 256) o os h)) refl
+
+  piece_bytes : (label : List ℕ) → encode_utf8_all (text_by label) ≡ flat_map bytes (piece_of label)
+  piece_bytes [] = refl
+  piece_bytes (o ∷ os) = encodes-append (spell (symbol o)) (text_by os) ∙ ap (λ t. bytes (symbol o) ++ t) (piece_bytes os)
+
+  printed_piece : (label : List ℕ) → length label ≤ 63 → IsPiece (piece_of label) label
+  printed_piece label h = record { octets_are = piece_octets label; no_dot = piece_dots label; no_binary = piece_bracket label; short = h }
+
+  printed_zip : (labels : List (List ℕ)) → All (λ label. length label ≤ 63) labels → AllZip IsPiece (map piece_of labels) labels
+  printed_zip [] h = tt
+  printed_zip (l ∷ ls) h =
+      (printed_piece l (All-head (λ label. length label ≤ 63) l ls h), printed_zip ls (All-tail (λ label. length label ≤ 63) l ls h))
+
+  -- labels before a last one
+  abbrev symbols_of : List (List ℕ) → List ℕ → List Symbol
+  symbols_of front last = dotted (map piece_of front) ++ piece_of last
+
+  readable_of : (front : List (List ℕ)) (last : List ℕ) → All Bytes front → Bytes last → list_all is_readable (symbols_of front last) ≡ true
+  readable_of [] last h k = piece_readable last k
+  readable_of (l ∷ ls) last h k =
+      let a = piece_readable l (All-head Bytes l ls h) in
+      let b = readable_of ls last (All-tail Bytes l ls h) k in
+      ap (list_all is_readable) (append_assoc (piece_of l ++ Char 46 ∷ []) (dotted (map piece_of ls)) (piece_of last)
+      ∙ append_assoc (piece_of l) (Char 46 ∷ []) (symbols_of ls last))
+      ∙ list_all-append is_readable (piece_of l) (Char 46 ∷ symbols_of ls last) ∙ rw (a, b) refl
+
+  joined_cons : (label : List ℕ) (labels : List (List ℕ)) (last : List ℕ) → joined_by text_by (label ∷ (labels ++ last ∷ [])) ≡ text_by label ++ 46 ∷ joined_by text_by (labels ++ last ∷ [])
+  joined_cons label [] last = refl
+  joined_cons label (l ∷ ls) last = refl
+
+  spelled_of : (front : List (List ℕ)) (last : List ℕ) → encode_utf8_all (joined_by text_by (front ++ last ∷ [])) ≡ flat_map bytes (symbols_of front last)
+  spelled_of [] last = piece_bytes last
+  spelled_of (l ∷ ls) last =
+      ap encode_utf8_all (joined_cons l ls last) ∙ encodes-append (text_by l) (46 ∷ joined_by text_by (ls ++ last ∷ []))
+      ∙ (λ i. piece_bytes l i ++ encodes-append (46 ∷ []) (joined_by text_by (ls ++ last ∷ [])) i)
+      ∙ ap (λ t. flat_map bytes (piece_of l) ++ (bytes (Char 46) ++ t)) (spelled_of ls last)
+      ∙ sym (flat_map-append bytes (piece_of l) (Char 46 ∷ symbols_of ls last))
+      ∙ ap (flat_map bytes) (sym (append_assoc (piece_of l ++ Char 46 ∷ []) (dotted (map piece_of ls)) (piece_of last)
+      ∙ append_assoc (piece_of l) (Char 46 ∷ []) (symbols_of ls last)))
+
+  printed_named : (front : List (List ℕ)) (last : List ℕ) → All (λ label. 0 < length label) front → All (λ label. length label ≤ 63) front → length last ≤ 63
+      → All Bytes front → Bytes last → wire_length (front ++ closed last) ≤ 254 → HasNamed (encode_utf8_all (joined_by text_by (front ++ last ∷ []))) front last []
+  printed_named front last some short few h k fits = record {
+    symbols = symbols_of front last;
+    readable = readable_of front last h k;
+    spelled = spelled_of front last ∙ sym (append-nil (flat_map bytes (symbols_of front last)));
+    names = record {
+      pieces = map piece_of front;
+      last = piece_of last;
+      joined = refl;
+      finished = printed_zip front short;
+      opened = printed_piece last few;
+      some = some;
+      fits = fits;
+    };
+  }
+
+  relative : (O : Type 0) (x : List ℕ) (xs : List (List ℕ)) → IsName (x ∷ xs) × HasNoRoot (x ∷ xs) × (wire_length (x ∷ xs) ≤ 254) → Bytes (wire (x ∷ xs))
+      → ReadsAs {O = O} (encode_utf8_all (dotted_by text_by (x ∷ xs))) (Relative (x ∷ xs))
+  relative O x xs h are =
+      let f = last_label x xs in
+      let front = f.0 in
+      let last = f.1 in
+      let all = subst (λ l. All Bytes l) f.2 (labels_bytes (x ∷ xs) are) in
+      let short = subst (λ l. All (λ label. length label ≤ 63) l) f.2 h.0.short in
+      let some = subst (λ l. All (λ label. 0 < length label) l) f.2 h.1 in
+      let one : 0 < length last = All-end (λ label. 0 < length label) front last some in
+      let c = closed_one last one in
+      let fits = subst (λ l. wire_length l ≤ 254) (f.2 ∙ ap (λ l. front ++ l) (sym c)) h.2 in
+      let named = printed_named front last (All-before (λ label. 0 < length label) front (last ∷ []) some) (All-before (λ label. length label ≤ 63) front (last ∷ []) short)
+      (All-end (λ label. length label ≤ 63) front last short) (All-before Bytes front (last ∷ []) all) (All-end Bytes front last all) fits in
+      let no_root : x ∷ xs ≡ [] ∷ [] → ⊥ = (λ e. let n = All-head (λ label. 0 < length label) x xs h.1 in let m : x ≡ [] = cc e in omega (arith, n, ap length m)) in
+      let text = dotted_joined text_by (x ∷ xs) no_root ∙ ap (joined_by text_by) f.2 in (
+        front,
+        last,
+        subst (λ t. HasNamed (encode_utf8_all t) front last []) (sym text) named,
+        f.2 ∙ ap (λ l. front ++ l) (sym c),
+        λ none. absurd (omega (arith, one, ap length none)),
+      )
+
+  absolute : (O : Type 0) (name front : List (List ℕ)) → IsName name → name ≡ front ++ [] ∷ [] → Bytes (wire name)
+      → ReadsAs {O = O} (encode_utf8_all (dotted_by text_by name)) (Absolute name)
+  absolute O name [] h e are = inl (ap (λ l. encode_utf8_all (dotted_by text_by l)) e ∙ dot_bytes, e)
+  absolute O name (x ∷ xs) h e are =
+      let front = x ∷ xs in
+      let all = subst (λ l. All Bytes l) e (labels_bytes name are) in
+      let short = subst (λ l. All (λ label. length label ≤ 63) l) e h.short in
+      let some = before_root front (λ a b f. h.root_last a b (e ∙ f)) in
+      let fits : wire_length (front ++ []) ≤ 254 =
+      omega (arith, h.fits, ap wire_length e, wire_length_append front ([] ∷ []), ap wire_length (append-nil front)) in
+      let named = printed_named front [] some (All-before (λ label. length label ≤ 63) front ([] ∷ []) short) (omega arith)
+      (All-before Bytes front ([] ∷ []) all) (λ k d lt. absurd (omega arith)) fits in
+      let no_root : name ≡ [] ∷ [] → ⊥ = (λ f. let n = sym e ∙ f in omega (arith, ap length n, length-append xs ([] ∷ []))) in
+      let text = dotted_joined text_by name no_root ∙ ap (joined_by text_by) e in
+      inr (front, subst (λ t. HasNamed (encode_utf8_all t) front [] []) (sym text) named, (λ f. let z : ⊥ = cc f in z), e)
+
+  reads : {O : Type 0} (n : UncertainName O) → IsUncertain n → Bytes (wire (labels_of n)) → ReadsAs (encode_utf8_all (dotted_by text_by (labels_of n))) n
+  reads (Relative []) h are = ([], [], named_none, refl, λ e. refl)
+  reads {O} (Relative (x ∷ xs)) h are = relative O x xs h are
+  reads {O} (Absolute name) h are = absolute O name h.1.0 h.0 h.1.1 are
 
 module _ {O : Type 0} where
   pub printed_reads : (n : UncertainName O) → IsUncertain n → Bytes (wire (labels_of n)) → ReadsAs (encode_utf8_all (dotted_text (labels_of n))) n
-  printed_reads (Relative []) h are = ([], [], named_none, refl, λ e. refl)
-  printed_reads (Relative (x ∷ xs)) h are = relative O x xs h are
-  printed_reads (Absolute name) h are = absolute O name h.1.0 h.0 h.1.1 are
+  printed_reads n h are = reads (symbol_of is_label_escape) label_form n h are
+
+  pub zone_reads : (n : UncertainName O) → IsUncertain n → Bytes (wire (labels_of n)) → ReadsAs (zone_text (labels_of n)) n
+  zone_reads n h are = reads zone_symbol zone_form n h are

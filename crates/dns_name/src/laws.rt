@@ -4,6 +4,7 @@ ghost use Rattle.std.specs.Hash as fed;
 ghost use Rattle.std.specs.List.{flat_map};
 ghost use Rattle.dns_wire_name.specs.Order.{lowered, lowered_wire};
 ghost use Rattle.dns_wire_name.specs.Printed.{dotted_text};
+ghost use Rattle.dns_wire_name.specs.ZoneText.{zone_text};
 ghost use Rattle.dns_name.specs.Reading.{ReadsAs, ReadsName};
 ghost use Rattle.dns_name.specs.Uncertain.{labels_of, is_absolute, same_uncertain, MakesUncertain};
 ghost use Rattle.dns_name.specs.declared.name.UncertainName.{UncertainName};
@@ -22,6 +23,15 @@ pub fn printed_name_reads_back<Octets: AsOctets>(name: &UncertainName<Octets>)
     let _octets = AsOctets::as_slice(name);
 }
 
+/// The zone text of a name reads as it, whatever octets its labels have. An empty relative name has
+/// no text, which is what reads as it.
+pub fn zone_text_reads_back<Octets: AsOctets>(name: &UncertainName<Octets>)
+    ensures { ReadsAs (zone_text (labels_of name.now)) name.now }
+{
+    let _slice = name.as_slice();
+    let _octets = AsOctets::as_slice(name);
+}
+
 /// A text reads as one name alone.
 pub fn texts_have_one_name<Octets: AsOctets>(text: &str, name: &UncertainName<Octets>)
     ensures { (other : UncertainName Octets) → ReadsAs text.now name.now → ReadsAs text.now other → other ≡ name.now }
@@ -30,7 +40,7 @@ pub fn texts_have_one_name<Octets: AsOctets>(text: &str, name: &UncertainName<Oc
     let _name = name;
 }
 
-/// Whatever room there is, a text that reads as a name is read as that name or refused for want of
+/// Whatever room there is, a text that reads as a name is read as that name or refused for lack of
 /// room alone.
 pub fn names_are_read<Octets: AsOctets>(text: &str, name: &UncertainName<Octets>)
     ensures { (sure most : ℕ) (answer : Result (UncertainName Octets) FromStrError)

@@ -3,7 +3,7 @@ use Rattle.std.proofs.Common.{◌≡◌, ℕ, ◌+◌, ◌-◌, ◌<◌, ◌≤�
 use Rattle.std.specs.Prelude.{All, IsTrue, false}
 use Rattle.std.proofs.lemmas.List.{get_or_append_left}
 use Rattle.std.proofs.lemmas.List.Sums.{sum_by-append, sum_by-cons}
-use Rattle.std.proofs.lemmas.List.Elements.{All-push, All-head, All-tail, All-append}
+use Rattle.std.proofs.lemmas.List.Elements.{All-push, All-head, All-tail, All-cons, All-append}
 use Rattle.std.proofs.lemmas.Grind.{common_steps, flat_map-append}
 use Rattle.dns_wire_name.specs.Wire.{wire, wire_label, wire_length, IsPlain, IsName, EndsInRoot, HasNoRoot}
 use Rattle.dns_wire_name.specs.Labelled.{Labelled, wire_same}
@@ -104,3 +104,22 @@ is_root = (IsName-absolute [] (λ k d h. absurd (omega arith)) (omega arith), ([
 -- where so many octets aren't taken for certain
 pub short_of : (sure len more : ℕ) → (more ≤ sure - len → IsTrue false) → sure < len + more
 short_of sure len more h = let g : more ≤ sure - len → ⊥ = (λ p. let e = h p in cc) in omega arith
+
+abbrev pub Bytes : List ℕ → Type 0
+Bytes label = All (λ b. b < 256) label
+
+-- the octets of labels are octets
+pub labels_bytes : (labels : List (List ℕ)) → Bytes (wire labels) → All Bytes labels
+labels_bytes [] h = λ k d lt. absurd (omega arith)
+labels_bytes (l ∷ ls) h =
+    let after = All-tail (λ b. b < 256) (length l) (l ++ wire ls) h in
+    All-cons Bytes l ls (front_bytes l (wire ls) after) (labels_bytes ls (back_bytes l (wire ls) after))
+  where
+    front_bytes : (a b : List ℕ) → Bytes (a ++ b) → Bytes a
+    front_bytes [] b h = λ k d lt. absurd (omega arith)
+    front_bytes (x ∷ a) b h =
+        All-cons (λ b. b < 256) x a (All-head (λ b. b < 256) x (a ++ b) h) (front_bytes a b (All-tail (λ b. b < 256) x (a ++ b) h))
+
+    back_bytes : (a b : List ℕ) → Bytes (a ++ b) → Bytes b
+    back_bytes [] b h = h
+    back_bytes (x ∷ a) b h = back_bytes a b (All-tail (λ b. b < 256) x (a ++ b) h)
