@@ -1,2 +1,3 @@
 pub mod Layouts
 pub mod Normal
+pub mod ZoneNames

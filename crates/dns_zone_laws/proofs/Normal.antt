@@ -11,17 +11,17 @@ use Rattle.dns_split.specs.Token.{IsToken}
 use Rattle.dns_split.proofs.Complete.{one_way}
 use Rattle.dns_zone_laws.proofs.Layouts.{simple_splits}
 
-abbrev AreTokens : List (List ℕ) → Type 0
+abbrev pub AreTokens : List (List ℕ) → Type 0
 AreTokens [] = Unit {0}
 AreTokens (t ∷ ts) = IsToken t × AreTokens ts
 
 -- entries of tokens, at least one
-abbrev AreEntries : Entries → Type 0
+abbrev pub AreEntries : Entries → Type 0
 AreEntries [] = ⊥
 AreEntries (ts ∷ []) = AreTokens ts
 AreEntries (ts ∷ us ∷ es) = AreTokens ts × AreEntries (us ∷ es)
 
-more_token : (t : List ℕ) (e : Entries) → IsToken t → AreEntries e → AreEntries (with_token t e)
+pub more_token : (t : List ℕ) (e : Entries) → IsToken t → AreEntries e → AreEntries (with_token t e)
 more_token t [] i a = (i, tt)
 more_token t (ts ∷ []) i a = (i, a)
 more_token t (ts ∷ us ∷ es) i a = ((i, a.0), a.1)
@@ -30,7 +30,8 @@ more_entry : (e : Entries) → AreEntries e → AreEntries ([] ∷ e)
 more_entry [] a = absurd a
 more_entry (ts ∷ es) a = (tt, a)
 
-are_entries : (d : ℕ) (ls : List Lexeme) → are_lexemes ls ≡ true → AreEntries (entries d ls)
+-- what lexemes are cut into are tokens
+pub are_entries : (d : ℕ) (ls : List Lexeme) → are_lexemes ls ≡ true → AreEntries (entries d ls)
 are_entries d [] v = tt
 are_entries d (Open ∷ ls) v = are_entries (suc d) ls v
 are_entries zero (Line b ∷ ls) v = more_entry (entries zero ls) (are_entries zero ls v)
@@ -73,7 +74,7 @@ back [] a = absurd a
 back (ts ∷ []) a = ap document_entries (sym (append-nil (tokens ts))) ∙ entries_tokens ts [] ∙ join_first ts []
 back (ts ∷ us ∷ es) a = entries_tokens ts (newline ∷ document_of (us ∷ es)) ∙ join_first ts _ ∙ ap (λ x. ts ∷ x) (back (us ∷ es) a.1)
 
-split_entries : (text : List ℕ) (e : Entries) → Splits text e → AreEntries e
+pub split_entries : (text : List ℕ) (e : Entries) → Splits text e → AreEntries e
 split_entries text e s = subst AreEntries s.cut (are_entries 0 s.lexemes s.valid)
 
 -- the tokens of such entries are a well-formed document

@@ -7,7 +7,7 @@ use Rattle.dns_zone.specs.Documents.{IsFirstFault, fault_text}
 use Rattle.dns_zone_laws.specs.declared.laws.Refusal.{Refusal}
 use Rattle.dns_zone_laws.specs.declared.laws.Refusal.TheVariants.{Document, Split}
 
--- the list's first fault, or want of memory; a printed text is never refused
+-- the list's first fault, or lack of memory; a printed text is never refused
 abbrev pub IsRefusal : List Step → Refusal → Type 0
 IsRefusal steps (Document fault) = IsFirstFault [] steps fault
 IsRefusal steps (Split ShortBuf) = ⊤

@@ -1,7 +1,10 @@
 //! Laws on layouts and splitting.
-ghost use Rattle.std.specs.Prelude.{◌≡◌, ◌↔◌, List, ℕ, IfOk, IfErr, IsOk, Some, string_bytes};
+ghost use Rattle.std.specs.Prelude.{◌≡◌, ◌≢◌, ◌↔◌, ◌<◌, List, [], ℕ, All, IfOk, IfErr, IsOk, Some, string_bytes};
 ghost use Rattle.dns_split.specs.Answer.{entries_of};
 ghost use Rattle.dns_split.specs.Splitting.{BeginsNoBlank, Entries, Splits, SplitsOnlyInto};
+ghost use Rattle.dns_split.specs.Token.{IsWord};
+ghost use Rattle.dns_wire_name.specs.Wire.{wire};
+ghost use Rattle.dns_wire_name.specs.ZoneText.{zone_text};
 ghost use Rattle.dns_zone.specs.Documents.{IsWellFormed, steps_of};
 ghost use Rattle.dns_zone.specs.Layout.{Step};
 ghost use Rattle.dns_zone.specs.Printed.{printed};
@@ -11,6 +14,7 @@ ghost use Rattle.dns_zone_laws.specs.Refusal.{IsRefusal};
 
 use dns_split::splitting::{SplitError, split};
 use dns_zone::document::{Document, DocumentError, Item};
+use dns_zone::tokens::ZoneTokens;
 use dns_zone::zonefile_fmt::{DisplayKind, ZonefileFmt};
 use std::alloc::{AllocError, Allocator};
 use std::error::Error;
@@ -51,6 +55,26 @@ pub fn values_split<A: Allocator, T: ZonefileFmt>(
 {
     value.display_zonefile(kind).to_string(alloc)
 }
+
+/// The text of every value whose document is always well-formed splits into that document's entries,
+/// and into nothing else; no line of it begins with a blank, but inside parentheses.
+pub fn zone_tokens_split<A: Allocator, T: ZoneTokens>(
+    alloc: A,
+    value: &T,
+    kind: DisplayKind,
+) -> Result<String<A>, AllocError>
+    ensures text { IfOk result (λ s. string_bytes s ≡ printed kind (T.document value.now)) }
+    ensures meaning { IfOk result (λ s. SplitsOnlyInto (string_bytes s) (document_entries (T.document value.now))) }
+    ensures tight { IfOk result (λ s. BeginsNoBlank (string_bytes s)) }
+{
+    value.known();
+    values_split(alloc, value, kind)
+}
+
+/// The zone text of a name of one label or more is one word, whatever octets its labels have.
+pub fn zone_names_are_words()
+    ensures { (name : List (List ℕ)) → name ≢ [] → All (λ o. o < 256) (wire name) → IsWord (zone_text name) }
+{}
 
 /// Why a list of items was not printed and split.
 #[derive(Clone, Copy, Debug, PartialEq, Eq)]
