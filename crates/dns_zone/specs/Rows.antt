@@ -1,8 +1,9 @@
 -- Worked examples of the three layouts, and of lists that are documents or aren't.
-use Rattle.std.specs.Prelude.{◌≡◌, List, [], ◌∷◌, ◌++◌, replicate, codes, refl}
+use Rattle.std.specs.Prelude.{◌≡◌, ℕ, Bool, true, false, List, [], ◌∷◌, ◌++◌, replicate, codes, refl}
 use lib.Utf8.{encode}
 use Rattle.std.proofs.Common.{inl, inr, arith}
 use Rattle.dns_symbol.specs.declared.symbol.Symbol.TheVariants.{Char, SimpleEscape}
+use Rattle.dns_split.specs.Token.{IsToken}
 use Rattle.dns_zone.specs.Documents.{IsFirstFault, IsWellFormed}
 use Rattle.dns_zone.specs.declared.document.DocumentError.TheVariants.{EndWithoutBegin, LineInBlock, OpenBlock}
 use Rattle.dns_zone.specs.Layout.{Step, token, begin, end, comment, newline, layout, simple_piece, tabbed_piece, multiline_piece}
@@ -85,3 +86,13 @@ empty_quoted_token = (inr (record { symbols = []; valid = refl; spelled = refl }
 escaped_semicolon : IsWellFormed 0 (token (codes "a\\;b") ∷ [])
 unfolding encode
 escaped_semicolon = (inl (record { symbols = Char 97 ∷ SimpleEscape 59 ∷ Char 98 ∷ []; some = omega arith; valid = refl; spelled = refl }), tt)
+
+-- a flag as a word
+abbrev pub flag_text : Bool → List ℕ
+flag_text true = codes "yes"
+flag_text false = codes "no"
+
+pub flag_token : (set : Bool) → IsToken (flag_text set)
+unfolding encode
+flag_token true = inl (record { symbols = Char 121 ∷ Char 101 ∷ Char 115 ∷ []; some = omega arith; valid = refl; spelled = refl })
+flag_token false = inl (record { symbols = Char 110 ∷ Char 111 ∷ []; some = omega arith; valid = refl; spelled = refl })

@@ -4,6 +4,7 @@ ghost use Rattle.dns_zone.specs.Layout.{Step, token, begin, end, comment, newlin
 ghost use Rattle.dns_zone.specs.Documents.{step_of, steps_of, IsComment, IsFine, IsFault, IsFirstFault, IsWellFormed, fault_text};
 ghost use Rattle.dns_zone.specs.Writers.{Steps, opened};
 
+use crate::tokens::ZoneTokens;
 use crate::zonefile_fmt::{FormatWriter, Formatter, Result, ZonefileFmt};
 pub use dns_split::splitting::{SplitError, split};
 use dns_split::token::is_token;
@@ -162,4 +163,16 @@ impl<A: Allocator> ZonefileFmt for Document<A> {
         }
         Ok(())
     }
+}
+
+impl<A: Allocator> ZoneTokens for Document<A> {
+    ghost use Rattle.dns_zone.specs.DocumentSteps.{document_steps};
+
+    ghost holds = { λ d. IsWellFormed 0 (document_steps d) };
+
+    fn known(&self) {
+        let _fault = first_fault(&self.items);
+    }
+
+    ghost formed = { λ _ h. h };
 }

@@ -7,13 +7,14 @@ ghost use Rattle.dns_zone.specs.DocumentSteps.{document_steps};
 ghost use Rattle.dns_zone.specs.Multiline.{MultilineStands};
 
 use crate::document::{Document, DocumentError, Item, first_fault};
+use crate::tokens::ZoneTokens;
 use crate::zonefile_fmt::{FormatWriter, MultiLineWriter};
 
 /// Every document is well-formed.
 pub fn documents_are_well_formed(document: &Document)
     ensures { IsWellFormed 0 (document_steps document.now) }
 {
-    let _fault = first_fault(&document.items);
+    document.known();
 }
 
 /// A list of items is well-formed exactly if it has no first fault.

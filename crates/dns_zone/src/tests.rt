@@ -11,6 +11,8 @@ use std::fmt;
 use std::fmt::Write;
 use std::test::Fail;
 
+mod in_a_row;
+
 /// The item that a word means: a parenthesis, a line end, a comment, and else a token.
 fn item(alloc: Global, word: &str) -> std::result::Result<Item, AllocError> {
     Ok(match word {

@@ -23,7 +23,7 @@ pub trait ZoneToken {
         ensures blocks { OnOk result (F.blocks p.new ≡ F.blocks p.old) }
         ensures gives { OnOk result (F.step_gives p.old (token (text self.now)) p.new) };
 
-    /// States what is known of the value, and does nothing else.
+    /// States what is known of the value. Nothing comes of it when it runs.
     fn known(&self)
         ensures { holds self.now };
 
@@ -36,7 +36,7 @@ pub trait ZoneTokens: ZonefileFmt {
     // What is known of every value.
     ghost holds: { Self → Type 0 };
 
-    /// States what is known of the value, and does nothing else.
+    /// States what is known of the value. Nothing comes of it when it runs.
     fn known(&self)
         ensures { holds self.now };
 
@@ -64,11 +64,11 @@ pub fn write_each<T: ZoneToken, F: FormatWriter>(p: &mut F, items: &[T]) -> Resu
 }
 
 // States what is known of each value.
-fn known_each<T: ZoneToken>(items: &[T])
-    ensures { All T.holds items.now }
+fn known_each<T: ZoneToken>(values: &[T])
+    ensures { All T.holds values.now }
 {
-    for item in items {
-        item.known();
+    for value in values {
+        value.known();
     }
 }
 

@@ -1,6 +1,0 @@
-use Rattle.dns_zone.specs.DocumentSteps.{document_steps}
-use Rattle.dns_zone.proofs.Scanned.{surely_well_formed}
-use Rattle.dns_zone.proofs.laws.documents_are_well_formed.Goals as goal
-
-pub returns : goal.returns
-returns c = surely_well_formed (document_steps c.args.document.now) c.first_fault-fault.result (rw (← c.deref.ensures.value) c.first_fault-fault.ensures.fine) (rw (← c.deref.ensures.value) c.first_fault-fault.ensures.fault) c.args.document.now.well_formed
