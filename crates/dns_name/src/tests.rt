@@ -13,6 +13,7 @@ use std::hash::{DefaultHasher, Hash, Hasher};
 use std::test::Fail;
 
 mod scanning;
+mod zone_text;
 
 type Vector = UncertainName<Vec<u8>>;
 

@@ -1,0 +1,98 @@
+//! Names in zone text against rows from outside.
+use super::{Vector, absolute, octets_of, relative};
+use dns_wire_name::ZoneName;
+use std::alloc::{AllocError, Global};
+use std::test::Fail;
+
+// The octets that stand plain.
+const PLAIN: &str = "*-0123456789ABCDEFGHIJKLMNOPQRSTUVWXYZ_abcdefghijklmnopqrstuvwxyz";
+
+// An octet's text (RFC 1035 section 5.1).
+fn octet_text(alloc: Global, octet: u8) -> Result<String, AllocError> {
+    let mut text = String::new(alloc);
+    if octet < 128 && PLAIN.contains(char::from(octet)) {
+        text.push(char::from(octet))?;
+        return Ok(text);
+    }
+    text.push('\\')?;
+    for digit in [octet / 100, octet / 10 % 10, octet % 10] {
+        text.push(char::from(b'0' + digit))?;
+    }
+    Ok(text)
+}
+
+// Each octet alone in a label, in a relative name and in an absolute one.
+#[test]
+fn prints_each_octet(rt: HostRuntime) -> Result<(), Fail> {
+    let alloc = rt.alloc();
+    for octet in 0..=255u8 {
+        let text = octet_text(alloc, octet)?;
+        let octets = [1, octet];
+        let name = relative(&octets);
+        let printed = format!(in alloc; "{}", ZoneName::new(&name))?;
+        assert_eq!(rt; printed.as_str(), text.as_str());
+        let read = Vector::from_str(alloc, printed.as_str());
+        assert!(rt; matches!(read, Ok(read) if read.as_slice() == octets.as_slice() && read.is_relative()));
+        let octets = [1, octet, 0];
+        let name = absolute(&octets);
+        let printed = format!(in alloc; "{}", ZoneName::new(&name))?;
+        let text = format!(in alloc; "{text}.")?;
+        assert_eq!(rt; printed.as_str(), text.as_str());
+        let read = Vector::from_str(alloc, printed.as_str());
+        assert!(rt; matches!(read, Ok(read) if read.as_slice() == octets.as_slice() && read.is_absolute()));
+    }
+    Ok(())
+}
+
+#[test]
+fn prints_rows(rt: HostRuntime) -> Result<(), Fail> {
+    let alloc = rt.alloc();
+    let rows: [(&str, &str); 7] = [
+        (".", "."),
+        ("", ""),
+        (r"\@", r"\064"),
+        ("_443._tcp.example.", "_443._tcp.example."),
+        ("*.Example", "*.Example"),
+        (r"a\.b.c\;d\(.", r"a\046b.c\059d\040."),
+        (r#"\"\ \000\255."#, r"\034\032\000\255."),
+    ];
+    for (text, printed) in rows {
+        let Ok(name) = Vector::from_str(alloc, text) else {
+            assert!(rt; false, "{text}");
+            return Ok(());
+        };
+        let shown = format!(in alloc; "{}", ZoneName::new(&name))?;
+        assert_eq!(rt; shown.as_str(), printed);
+    }
+    Ok(())
+}
+
+// Labels of 63 octets and names of 255, where each octet is printed as four characters.
+#[test]
+fn prints_the_longest_names(rt: HostRuntime) -> Result<(), Fail> {
+    let alloc = rt.alloc();
+    for (lengths, root, size) in [
+        ([63, 63, 63, 61].as_slice(), true, 1004),
+        (&[63, 63, 63, 61], false, 1003),
+        (&[63], true, 253),
+        (&[63], false, 252),
+        (&[1; 127], true, 635),
+    ] {
+        let mut octets = octets_of(alloc, lengths, root)?;
+        let mut place = 0;
+        for length in lengths {
+            for octet in &mut octets[place + 1..place + 1 + *length as usize] {
+                *octet = b'.';
+            }
+            place += 1 + *length as usize;
+        }
+        let Ok(name) = Vector::from_octets(octets) else {
+            assert!(rt; false, "{lengths:?}");
+            return Ok(());
+        };
+        let printed = format!(in alloc; "{}", ZoneName::new(&name))?;
+        assert_eq!(rt; printed.as_str().len(), size);
+        assert!(rt; matches!(Vector::from_str(alloc, printed.as_str()), Ok(read) if read == name));
+    }
+    Ok(())
+}
