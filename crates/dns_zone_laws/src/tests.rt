@@ -1,7 +1,8 @@
-use crate::laws::{Refusal, items_split, values_split};
+use crate::laws::{Refusal, items_split, values_split, zone_tokens_split};
 use dns_split::splitting::split;
 use dns_zone::document::{Document, DocumentError, Item};
 use dns_zone::zonefile_fmt::DisplayKind;
+use refusing_heap::Refusing;
 use std::alloc::{AllocError, Global};
 use std::process::Abort;
 use std::test::Fail;
@@ -341,4 +342,27 @@ fn long_texts_split_into_their_entries(rt: HostRuntime) -> Result<(), Fail> {
     prints_at_length(&rt, alloc, tokens, [200_003; 3], (1, 2))?;
     let block = vec![in alloc; Item::Begin, Item::Comment(long), Item::End]?;
     prints_at_length(&rt, alloc, block, [0, 0, 100_008], (1, 0))
+}
+
+/// A document, with each growth of its text refused in turn.
+#[test]
+fn refused_growths_are_told(rt: HostRuntime) -> Result<(), Fail> {
+    let alloc = rt.alloc();
+    let Ok(document) = Document::from_items(items(alloc, &NESTED)?) else {
+        assert!(rt; false, "refused");
+        return Ok(());
+    };
+    let mut refused = 0;
+    for nth in 1..100 {
+        let heap = Refusing::new(alloc, nth);
+        let text = zone_tokens_split(&heap, &document, DisplayKind::Simple);
+        if !heap.has_refused() {
+            assert!(rt; matches!(&text, Ok(text) if text.as_str() == "a b c d\ne"));
+            break;
+        }
+        assert!(rt; text.is_err());
+        refused = nth;
+    }
+    assert!(rt; refused > 0);
+    Ok(())
 }
