@@ -5,10 +5,12 @@ pub mod Content
 pub mod Joins
 pub mod Openers
 pub mod PieceFaults
+pub mod PieceGiven
 pub mod PieceJoins
 pub mod PieceLexemes
 pub mod PieceMoved
 pub mod PieceParts
+pub mod PieceSettled
 pub mod PieceSplit
 pub mod PieceSteps
 pub mod PieceWhole

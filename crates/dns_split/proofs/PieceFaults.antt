@@ -21,145 +21,16 @@ use Rattle.dns_split.specs.declared.pieces.Wrong.TheVariants.{Closing as Late, O
 use Rattle.dns_split.specs.Splitting.{Splits, Entries}
 use Rattle.dns_split.specs.Reader.{kind, step, outside_step, comment_step, return_step, read, may_end, with_open}
 use Rattle.dns_split.specs.Viable.{IsBad, IsViable}
-use Rattle.dns_split.specs.Pieces.{quote_at, begins_blank, pieces, IsPieces, BeginsPieces, IsWrong, Whole, Faulty, Reads}
+use Rattle.dns_split.specs.Pieces.{quote_at, end_at, begins_blank, pieces, IsPieces, Begins, Settles, IsWrong, Whole, Faulty, Reads}
 use Rattle.dns_split.specs.Run.{before, closed, finished, start_after, first_blank, blank_after, fault, wrong_at, wrong_at_end, run}
 use Rattle.dns_split.proofs.Complete.{Some_same, View, view, v_space, v_tab, v_lf, v_cr, v_open, v_close, v_note, v_quote, v_escape, v_plain}
 use Rattle.dns_split.proofs.Sound.{read_splits}
-use Rattle.dns_split.proofs.Viable.{walk, walk_completes, Completes, line_completes, low_encodes, low_scalars, low_close, scalars_both, scalars_left, begin_same, cant_follow}
+use Rattle.dns_split.proofs.Viable.{walk, walk_fine, walk_completes, Completes, line_completes, low_encodes, low_scalars, low_close, scalars_both, scalars_left, begin_same, cant_follow}
 use Rattle.dns_split.proofs.Steps.{bad_step, early, whole, boundary}
-use Rattle.dns_split.proofs.PieceLexemes.{run_some, run_none, first_blank_char}
+use Rattle.dns_split.proofs.PieceLexemes.{run_none}
+use Rattle.dns_split.proofs.PieceGiven.{Stop, stop, Gives, front_of, same_first, settled, some_walked}
+use Rattle.dns_split.proofs.PieceSettled.{gives_all, longest, Ended, ended}
 use Rattle.dns_split.proofs.PieceWhole.{pieces_run}
-
--- how far a text is walked
-record Stop (m : Mode) (d : ℕ) (cs : List ℕ) : Type 0 where
-  pub ys : List ℕ
-  pub zs : List ℕ
-  pub is : cs ≡ ys ++ zs
-  pub place : Mode × ℕ
-  pub walked : walk m d ys ≡ Some place
-  pub end : (zs ≡ []) ⊎ ((c : ℕ) × (ws : List ℕ) × (zs ≡ c ∷ ws) × (step place.0 place.1 c ≡ None))
-
-stop : (cs : List ℕ) (m : Mode) (d : ℕ) → Stop m d cs
-stop [] m d = record { ys = []; zs = []; is = refl; place = (m, d); walked = refl; end = inl refl }
-stop (c ∷ cs) m d = go (step m d c) refl (λ (v : Move). stop cs v.mode v.depth)
-  where
-    go : (o : Option Move) → step m d c ≡ o → ((v : Move) → Stop v.mode v.depth cs) → Stop m d (c ∷ cs)
-    go None e ih = record { ys = []; zs = c ∷ cs; is = refl; place = (m, d); walked = refl; end = inr (c, cs, refl, e) }
-    go (Some v) e ih = let r = ih v in record { ys = c ∷ r.ys; zs = r.zs; is = ap (λ l. c ∷ l) r.is; place = r.place; walked = ap (option_and_then (λ (w : Move). walk w.mode w.depth r.ys)) e ∙ r.walked; end = r.end }
-
--- the pieces of what was walked, whatever follows
-record Gives (m : Mode) (d s at : ℕ) (b : Bool) (ys : List ℕ) (p : Mode × ℕ) : Type 0 where
-  pub found : List Piece
-  pub start : ℕ
-  pub gives : (rest : List ℕ) → (x : Bool) × (run m d s at b (encode_utf8_all ys ++ rest) ≡ map Ok found ++ run p.0 p.1 start (at + length (encode_utf8_all ys)) x rest)
-
-abbrev listed : Option Piece → List Piece
-listed None = []
-listed (Some p) = p ∷ []
-
-before_is : (o : Option Piece) (k : List (Result Piece Fault)) → before o k ≡ map Ok (listed o) ++ k
-before_is None k = refl
-before_is (Some p) k = refl
-
-both : (o q : Option Piece) (found : List Piece) (k : List (Result Piece Fault)) → before o (before q (map Ok found ++ k)) ≡ map Ok (listed o ++ (listed q ++ found)) ++ k
-both None None found k = refl
-both None (Some q) found k = refl
-both (Some o) None found k = refl
-both (Some o) (Some q) found k = refl
-
--- one more character before
-more : (c : ℕ) (ys : List ℕ) (m : Mode) (d s at : ℕ) (b x : Bool) (v : Move) (p : Mode × ℕ) → step m d c ≡ Some v → ((rest : List ℕ) → blank_after v.act b (encode_utf8_all ys ++ rest) ≡ x)
-    → Gives v.mode v.depth (start_after m v.mode v.act s at) (at + length (encode_utf8 c)) x ys p → Gives m d s at b (c ∷ ys) p
-more c ys m d s at b x v p h same g = record {
-  found = listed (closed m v.mode v.act s at) ++ (listed (finished v.act s (at + 1) b) ++ g.found);
-  start = g.start;
-  gives = λ rest.
-      let r = g.gives rest in
-      let all : List ℕ = encode_utf8_all ys ++ rest in
-      let o : Option Piece = closed m v.mode v.act s at in
-      let q : Option Piece = finished v.act s (at + 1) b in
-      let e : ℕ = at + length (encode_utf8 c) in (
-        r.0,
-        ap (run m d s at b) (append_assoc (encode_utf8 c) (encode_utf8_all ys) rest)
-            ∙ run_some m d s at b c all v h
-            ∙ ap (λ y. before o (before q (run v.mode v.depth (start_after m v.mode v.act s at) e y all))) (same rest)
-            ∙ ap (λ l. before o (before q l)) r.1
-            ∙ both o q g.found (run p.0 p.1 g.start (e + length (encode_utf8_all ys)) r.0 rest)
-            ∙ ap (λ n. map Ok (listed o ++ (listed q ++ g.found)) ++ run p.0 p.1 g.start n r.0 rest) (omega (arith, length-append (encode_utf8 c) (encode_utf8_all ys))),
-      );
-}
-
-last_one : (c : ℕ) (m : Mode) (d s at : ℕ) (b : Bool) (v : Move) → step m d c ≡ Some v → Gives m d s at b (c ∷ []) (v.mode, v.depth)
-last_one c m d s at b v h = record {
-  found = listed (closed m v.mode v.act s at) ++ (listed (finished v.act s (at + 1) b) ++ []);
-  start = start_after m v.mode v.act s at;
-  gives = λ rest.
-      let o : Option Piece = closed m v.mode v.act s at in
-      let q : Option Piece = finished v.act s (at + 1) b in
-      let t : ℕ = start_after m v.mode v.act s at in
-      let x : Bool = blank_after v.act b rest in (
-        x,
-        ap (λ l. run m d s at b (l ++ rest)) (append-nil (encode_utf8 c))
-            ∙ run_some m d s at b c rest v h
-            ∙ both o q [] (run v.mode v.depth t (at + length (encode_utf8 c)) x rest)
-            ∙ ap (λ l. map Ok (listed o ++ (listed q ++ [])) ++ run v.mode v.depth t (at + length l) x rest) (sym (append-nil (encode_utf8 c))),
-      );
-}
-
-then_blank : (a : Act) (b : Bool) (c : ℕ) (ys rest : List ℕ) → blank_after a b (encode_utf8_all (c ∷ ys) ++ rest) ≡ blank_after a b (c ∷ [])
-then_blank EndEntry b c ys rest = ap first_blank (append_assoc (encode_utf8 c) (encode_utf8_all ys) rest) ∙ first_blank_char c (encode_utf8_all ys ++ rest)
-then_blank Add b c ys rest = refl
-then_blank BeginToken b c ys rest = refl
-then_blank EndToken b c ys rest = refl
-then_blank FinishToken b c ys rest = refl
-
-settle : (ys : List ℕ) (m : Mode) (d s at : ℕ) (b : Bool) (p : Mode × ℕ) → walk m d ys ≡ Some p → Gives m d s at b ys p
-settle [] m d s at b p h = subst (Gives m d s at b []) (Some_same h) (record { found = []; start = s; gives = λ rest. (b, ap (λ n. run m d s n b rest) (omega arith)) })
-settle (c ∷ []) m d s at b p h = go (step m d c) refl h
-  where
-    go : (o : Option Move) → step m d c ≡ o → option_and_then (λ (v : Move). walk v.mode v.depth []) o ≡ Some p → Gives m d s at b (c ∷ []) p
-    go None e k = cc
-    go (Some v) e k = subst (Gives m d s at b (c ∷ [])) (Some_same k) (last_one c m d s at b v e)
-settle (c ∷ y ∷ ys) m d s at b p h = go (step m d c) refl h (λ (v : Move) (t e : ℕ) (x : Bool) (k : walk v.mode v.depth (y ∷ ys) ≡ Some p). settle (y ∷ ys) v.mode v.depth t e x p k)
-  where
-    go : (o : Option Move) → step m d c ≡ o → option_and_then (λ (v : Move). walk v.mode v.depth (y ∷ ys)) o ≡ Some p
-        → ((v : Move) (t e : ℕ) (x : Bool) → walk v.mode v.depth (y ∷ ys) ≡ Some p → Gives v.mode v.depth t e x (y ∷ ys) p) → Gives m d s at b (c ∷ y ∷ ys) p
-    go None e k ih = cc
-    go (Some v) e k ih = more c (y ∷ ys) m d s at b (blank_after v.act b (y ∷ [])) v p e (then_blank v.act b y ys) (ih v _ _ _ k)
-
-abbrev tail_of : List (Result Piece Fault) → List (Result Piece Fault)
-tail_of [] = []
-tail_of (x ∷ xs) = xs
-
-abbrev first_of : Piece → List (Result Piece Fault) → Piece
-first_of p (Ok q ∷ xs) = q
-first_of p _ = p
-
--- pieces that are first among pieces
-front_of : (found all : List Piece) (l : List (Result Piece Fault)) → map Ok all ≡ map Ok found ++ l → (more : List Piece) × (all ≡ found ++ more)
-front_of [] all l e = (all, refl)
-front_of (p ∷ ps) [] l e = cc
-front_of (p ∷ ps) (q ∷ qs) l e =
-    let r = front_of ps qs l (ap tail_of e) in
-    (r.0, ap (λ x. x ∷ qs) (ap (first_of q) e) ∙ ap (λ x. p ∷ x) r.1)
-
-same_first : (c : ℕ) (ys r1 r2 : List ℕ) → first_blank (encode_utf8_all (c ∷ ys) ++ r1) ≡ first_blank (encode_utf8_all (c ∷ ys) ++ r2)
-same_first c ys r1 r2 = then_blank EndEntry false c ys r1 ∙ sym (then_blank EndEntry false c ys r2)
-
--- what was walked settles its pieces
-settled : (ys r : List ℕ) (p : Mode × ℕ) → (g : Gives Outside 0 0 0 (first_blank (encode_utf8_all ys ++ r)) ys p) → walk Outside 0 ys ≡ Some p → g.found ≡ [] ⊎ (0 < length ys)
-    → BeginsPieces (encode_utf8_all ys) g.found
-settled [] r p g h (inl e) rest all is = (all, ap (λ l. l ++ all) (sym e))
-settled [] r p g h (inr e) rest all is = absurd (omega arith)
-settled (c ∷ ys) r p g h e rest all is =
-    let k = g.gives rest in
-    let text : List ℕ = encode_utf8_all (c ∷ ys) ++ rest in
-    front_of g.found all (run p.0 p.1 g.start (0 + length (encode_utf8_all (c ∷ ys))) k.0 rest) (sym (pieces_run text all is) ∙ ap (λ b. run Outside 0 0 0 b text) (same_first c ys rest r) ∙ k.1)
-
--- nothing is found in nothing
-some_walked : (ys : List ℕ) (b : Bool) (p : Mode × ℕ) (h : walk Outside 0 ys ≡ Some p) → (g : Gives Outside 0 0 0 b ys p) × ((g.found ≡ []) ⊎ (0 < length ys))
-some_walked [] b p h = (subst (Gives Outside 0 0 0 b []) (Some_same h) (record { found = []; start = 0; gives = λ rest. (b, refl) }), inl refl)
-some_walked (c ∷ ys) b p h = (settle (c ∷ ys) Outside 0 0 0 b p h, inr (omega arith))
 
 -- with a double quote behind it, the quoted text that is open is a piece
 quoted_piece : (c : ℕ) (ys r rest : List ℕ) (d : ℕ) → (g : Gives Outside 0 0 0 (first_blank (encode_utf8_all (c ∷ ys) ++ r)) (c ∷ ys) (Quoted, d))
@@ -282,11 +153,28 @@ end_wrong ys (Escape q) d g ok h f = inside_wrong ys [] [] (Escape q) d g ok h r
 end_wrong ys (OneDigit q n) d g ok h f = inside_wrong ys [] [] (OneDigit q n) d g ok h refl
 end_wrong ys (TwoDigits q n) d g ok h f = inside_wrong ys [] [] (TwoDigits q n) d g ok h refl
 
+-- what was walked settles its pieces and no more
+all_settled : (ys r : List ℕ) (p : Mode × ℕ) → (g : Gives Outside 0 0 0 (first_blank (encode_utf8_all ys ++ r)) ys p) → walk Outside 0 ys ≡ Some p → (g.found ≡ []) ⊎ (0 < length ys) → scalars ys ≡ true → (w : Wrong)
+    → (p.0 ≡ Return → w ≡ LoneReturn) → Settles (encode_utf8_all ys) w g.found
+all_settled ys r p g h e ok w lone =
+    let gives = gives_all ys r p g h e in
+    record {
+      first = settled ys r p g h e;
+      ended = ended ys p.0 p.1 g.start g.found gives;
+      longest = λ other begins. go other (longest ys p.0 p.1 g.start g.found other gives ok h (g.stands (omega arith, λ k. refl)) (walk_fine ys Outside 0 p tt h) begins);
+    }
+  where
+    go : (other : List Piece) → Begins other g.found ⊎ ((p.0 ≡ Return) × Ended other g.found (length (encode_utf8_all ys)))
+        → Begins other g.found ⊎ ((w ≡ LoneReturn) × (b : Bool) × (other ≡ g.found ++ end_at (length (encode_utf8_all ys) + 1) b ∷ []))
+    go other (inl b) = inl b
+    go other (inr b) = inr (lone b.0, b.1.0, b.1.1)
+
 -- the pieces that were settled, and the fault
 faulty : (text ys r : List ℕ) (p : Mode × ℕ) → IsUtf8 text → encode_utf8_all ys ++ r ≡ text → walk Outside 0 ys ≡ Some p → (w : ℕ → Wrong)
     → ((t n : ℕ) (x : Bool) → run p.0 p.1 t n x r ≡ fault n (w t)) → IsBad text (length (encode_utf8_all ys))
-    → ((g : Gives Outside 0 0 0 (first_blank (encode_utf8_all ys ++ r)) ys p) → scalars ys ≡ true → IsWrong (encode_utf8_all ys) r (w g.start)) → Faulty text (run Outside 0 0 0 (first_blank text) text)
-faulty text ys r p u is h w stops bad wrong =
+    → ((g : Gives Outside 0 0 0 (first_blank (encode_utf8_all ys ++ r)) ys p) → scalars ys ≡ true → IsWrong (encode_utf8_all ys) r (w g.start)) → ((i : ℕ) → p.0 ≡ Return → w i ≡ LoneReturn)
+    → Faulty text (run Outside 0 0 0 (first_blank text) text)
+faulty text ys r p u is h w stops bad wrong lone =
     let front : List ℕ = encode_utf8_all ys in
     let s = some_walked ys (first_blank (front ++ r)) p h in
     let g = s.0 in
@@ -304,7 +192,7 @@ faulty text ys r p u is h w stops bad wrong =
         wrong = subst (λ l. IsWrong l (drop (length front) text) (w g.start)) (sym behind) (subst (λ l. IsWrong front l (w g.start)) (sym left) (wrong g ok));
         boundary = boundary text ys r (length front) u is refl;
       };
-      settled = subst (λ l. BeginsPieces l g.found) (sym behind) (settled ys r p g h s.1);
+      settled = subst (λ l. Settles l (w g.start) g.found) (sym behind) (all_settled ys r p g h s.1 ok (w g.start) (lone g.start));
     }
 
 good : (text : List ℕ) (e : Entries) → Splits text e → Whole text (run Outside 0 0 0 (first_blank text) text)
@@ -326,7 +214,7 @@ reads text u = go q.end
     at_end e true h =
         let k = walk_completes q.ys [] Outside 0 q.place q.walked (λ t. (with_open t ([] ∷ []), cond-true _ _ _ h)) [] in
         inl (good text k.0 (whole text q.ys k.0 u e (ap (read Outside 0 []) (sym (append-nil q.ys)) ∙ k.1)))
-    at_end e false h = inr (faulty text q.ys [] q.place u (append-nil _ ∙ e) q.walked (wrong_at_end q.place.0) (λ t n x. cond-false _ _ _ h) (early text q.ys q.place.0 q.place.1 u e q.walked h) (λ g ok. end_wrong q.ys q.place.0 q.place.1 g ok q.walked h))
+    at_end e false h = inr (faulty text q.ys [] q.place u (append-nil _ ∙ e) q.walked (wrong_at_end q.place.0) (λ t n x. cond-false _ _ _ h) (early text q.ys q.place.0 q.place.1 u e q.walked h) (λ g ok. end_wrong q.ys q.place.0 q.place.1 g ok q.walked h) (λ i k. ap (λ m. wrong_at_end m i) k))
 
     go : (q.zs ≡ []) ⊎ ((c : ℕ) × (ws : List ℕ) × (q.zs ≡ c ∷ ws) × (step q.place.0 q.place.1 c ≡ None)) → Reads text (run Outside 0 0 0 (first_blank text) text)
     go (inl e) = at_end (sym (append-nil _) ∙ ap (λ l. encode_utf8_all q.ys ++ encode_utf8_all l) (sym e) ∙ is) (may_end q.place.0 q.place.1) refl
@@ -334,4 +222,4 @@ reads text u = go q.end
         let rest : List ℕ = encode_utf8_all k.1 in
         let all : encode_utf8_all q.ys ++ (encode_utf8 k.0 ++ rest) ≡ text = ap (λ l. encode_utf8_all q.ys ++ encode_utf8_all l) (sym k.2) ∙ is in
         inr (faulty text q.ys (encode_utf8 k.0 ++ rest) q.place u all q.walked (wrong_at q.place.0) (λ t n x. run_none q.place.0 q.place.1 t n x k.0 rest k.3) (bad_step text q.ys rest k.0 q.place.0 q.place.1 u all q.walked k.3)
-        (λ g ok. step_wrong q.ys rest k.0 q.place.0 q.place.1 g ok q.walked k.3))
+        (λ g ok. step_wrong q.ys rest k.0 q.place.0 q.place.1 g ok q.walked k.3) (λ i e. ap (λ m. wrong_at m i) e))

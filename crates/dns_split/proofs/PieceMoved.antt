@@ -19,6 +19,7 @@ use Rattle.dns_split.proofs.Complete.{Some_same}
 use Rattle.dns_split.proofs.Viable.{high_is}
 use Rattle.dns_split.proofs.PieceSteps.{run_step, run_stop}
 use Rattle.dns_split.proofs.PieceLexemes.{run_none, first_blank_char, high_bytes, stays, high_run}
+use Rattle.dns_split.proofs.PieceGiven.{start_within}
 use Rattle.dns_split.proofs.PieceFaults.{reads}
 
 -- the flag is that of the entry that ends next
@@ -123,40 +124,6 @@ start_moved f m n BeginToken s at e = refl
 start_moved f m n EndToken s at e = next_moved f m n s at e
 start_moved f m n EndEntry s at e = e
 start_moved f m n FinishToken s at e = e
-
-opens_within : (n : Mode) (at : ℕ) → opens n at ≤ at + 1
-opens_within Comment at = omega arith
-opens_within Outside at = omega arith
-opens_within Quoted at = omega arith
-opens_within Return at = omega arith
-opens_within (Escape q) at = omega arith
-opens_within (OneDigit q n) at = omega arith
-opens_within (TwoDigits q n) at = omega arith
-
-in_comment_within : (n : Mode) (s at : ℕ) → s ≤ at → in_comment n s at ≤ at + 1
-in_comment_within Comment s at h = omega arith
-in_comment_within Outside s at h = omega arith
-in_comment_within Quoted s at h = omega arith
-in_comment_within Return s at h = omega arith
-in_comment_within (Escape q) s at h = omega arith
-in_comment_within (OneDigit q n) s at h = omega arith
-in_comment_within (TwoDigits q n) s at h = omega arith
-
-next_within : (m n : Mode) (s at : ℕ) → s ≤ at → next_open m n s at ≤ at + 1
-next_within Comment n s at h = in_comment_within n s at h
-next_within Outside n s at h = opens_within n at
-next_within Quoted n s at h = opens_within n at
-next_within Return n s at h = opens_within n at
-next_within (Escape q) n s at h = opens_within n at
-next_within (OneDigit q k) n s at h = opens_within n at
-next_within (TwoDigits q k) n s at h = opens_within n at
-
-start_within : (m n : Mode) (a : Act) (s at : ℕ) → s ≤ at → start_after m n a s at ≤ at + 1
-start_within m n Add s at h = omega arith
-start_within m n BeginToken s at h = omega arith
-start_within m n EndToken s at h = next_within m n s at h
-start_within m n EndEntry s at h = omega arith
-start_within m n FinishToken s at h = omega arith
 
 wrong_moved : (f : ℕ → ℕ) (m : Mode) (s : ℕ) → moved_wrong f (wrong_at m s) ≡ wrong_at m (f s)
 wrong_moved f Outside s = refl

@@ -86,12 +86,12 @@ abbrev pub Completes : Mode → ℕ → List ℕ → Type 0
 Completes m d cs = (t : List ℕ) → (e : Entries) × (read m d t cs ≡ Some e)
 
 -- a step to a mode that can be completed
-step_completes : (m : Mode) (d c : ℕ) (cs : List ℕ) (v : Move) → step m d c ≡ Some v → Completes v.mode v.depth cs → Completes m d (c ∷ cs)
+pub step_completes : (m : Mode) (d c : ℕ) (cs : List ℕ) (v : Move) → step m d c ≡ Some v → Completes v.mode v.depth cs → Completes m d (c ∷ cs)
 step_completes m d c cs v h k t =
     let p = after_gives v.act c t (λ u. read v.mode v.depth u cs) k in
     (p.0, ap (option_and_then (λ (w : Move). after w.act c t (λ u. read w.mode w.depth u cs))) h ∙ p.1)
 
-close_completes : (d : ℕ) → Completes Outside d (replicate d 41)
+pub close_completes : (d : ℕ) → Completes Outside d (replicate d 41)
 close_completes zero t = (with_open t ([] ∷ []), refl)
 close_completes (suc d) t = step_completes Outside (suc d) 41 (replicate d 41) (record { mode = Outside; depth = d; act = EndToken }) refl (close_completes d) t
 
@@ -212,7 +212,7 @@ fine_on : (c : ℕ) (xs : List ℕ) → FineOn xs → (m : Mode) (d : ℕ) (p : 
 fine_on c xs ih m d p None e h = cc
 fine_on c xs ih m d p (Some v) e h = ih v.mode v.depth p (step_fine m d c v e) h
 
-walk_fine : (xs : List ℕ) → FineOn xs
+pub walk_fine : (xs : List ℕ) → FineOn xs
 walk_fine [] m d p f h = subst (λ (r : Mode × ℕ). Fine r.0) (Some_same h) f
 walk_fine (c ∷ xs) m d p f h = fine_on c xs (walk_fine xs) m d p (step m d c) refl h
 
@@ -230,7 +230,7 @@ tail_is (Escape q) d = record { zeros = 3; few = omega arith; quoted = is_quoted
 tail_is (OneDigit q n) d = record { zeros = 2; few = omega arith; quoted = is_quoted q; lined = false; open_blocks = d; is = ap (λ l. 48 ∷ 48 ∷ l) (home_is d q) }
 tail_is (TwoDigits q n) d = record { zeros = 1; few = omega arith; quoted = is_quoted q; lined = false; open_blocks = d; is = ap (λ l. 48 ∷ l) (home_is d q) }
 
-abbrev low : List ℕ → Bool
+abbrev pub low : List ℕ → Bool
 low cs = list_all (λ c. nat_lt c 128) cs
 
 pub low_encodes : (cs : List ℕ) → low cs ≡ true → encode_utf8_all cs ≡ cs

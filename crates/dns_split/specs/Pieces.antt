@@ -50,9 +50,25 @@ pub record IsPieces (text : List ℕ) (found : List Piece) : Type 0 where
   pub nested : nests 0 lexemes ≡ true
   pub placed : pieces 0 0 (begins_blank lexemes) lexemes ≡ found
 
+-- places in order, of octets that many
+abbrev pub IsWithin : ℕ → Result Piece Fault → Type 0
+IsWithin n (Ok (WordAt p)) = (p.start ≤ p.end) × (p.end ≤ n)
+IsWithin n (Ok (QuoteAt p)) = (p.start ≤ p.end) × (p.end ≤ n)
+IsWithin n (Ok (CommentAt p)) = (p.start ≤ p.end) × (p.end ≤ n)
+IsWithin n (Ok (EndAt p)) = p.at ≤ n
+IsWithin n (Err f) = f.at ≤ n
+
+abbrev pub EachWithin : ℕ → List (Result Piece Fault) → Type 0
+EachWithin n [] = ⊤
+EachWithin n (x ∷ xs) = IsWithin n x × EachWithin n xs
+
+-- these pieces come first
+abbrev pub Begins : List Piece → List Piece → Type 0
+Begins first all = (more : List Piece) × (all ≡ first ++ more)
+
 -- every text of the grammar that begins so has these pieces first
 abbrev pub BeginsPieces : List ℕ → List Piece → Type 0
-BeginsPieces front found = (rest : List ℕ) (all : List Piece) → IsPieces (front ++ rest) all → (more : List Piece) × (all ≡ found ++ more)
+BeginsPieces front found = (rest : List ℕ) (all : List Piece) → IsPieces (front ++ rest) all → Begins found all
 
 -- why the longest viable beginning can't go on with the rest of the text
 -- a closing parenthesis follows what splits already; what it is inside of has to be closed; a double quote would end the quoted text from i on; only LF may follow; neither a tab nor LF may
@@ -62,6 +78,12 @@ IsWrong front rest OpenParenthesis = (n : ℕ) × (e : Entries) × (rest ≡ [])
 IsWrong front rest (OpenQuote i) = (more : List ℕ) (all : List Piece) → IsPieces (front ++ (34 ∷ more)) all → (first : List Piece) × (last : List Piece) × (all ≡ first ++ quote_at i (length front + 1) ∷ last)
 IsWrong front rest LoneReturn = (c : ℕ) → scalar c ≡ true → IsViable (front ++ encode_utf8 c) → c ≡ 10
 IsWrong front rest BadEscape = (¬ IsViable (front ++ 9 ∷ [])) × (¬ IsViable (front ++ 10 ∷ []))
+
+-- every text of the grammar that begins so has these pieces first, and no more; but where a CR waits for its LF, that the entry ends with it is known
+pub record Settles (front : List ℕ) (wrong : Wrong) (found : List Piece) : Type 0 where
+  pub first : BeginsPieces front found
+  pub ended : EachWithin (length front) (map Ok found)
+  pub longest : (other : List Piece) → BeginsPieces front other → Begins other found ⊎ ((wrong ≡ LoneReturn) × (b : Bool) × (other ≡ found ++ end_at (length front + 1) b ∷ []))
 
 -- the text isn't of the grammar; its longest viable beginning, and why it can't go on
 pub record IsFault (text : List ℕ) (f : Fault) : Type 0 where
@@ -75,7 +97,7 @@ pub record Faulty (text : List ℕ) (given : List (Result Piece Fault)) : Type 0
   pub fault : Fault
   pub is : given ≡ map Ok found ++ Err fault ∷ []
   pub is_fault : IsFault text fault
-  pub settled : BeginsPieces (take fault.at text) found
+  pub settled : Settles (take fault.at text) fault.wrong found
 
 pub record Whole (text : List ℕ) (given : List (Result Piece Fault)) : Type 0 where
   pub found : List Piece
@@ -168,15 +190,3 @@ IsPartOf text (Err f) = ⊤
 abbrev pub EachIsPart : List ℕ → List (Result Piece Fault) → Type 0
 EachIsPart text [] = ⊤
 EachIsPart text (x ∷ xs) = IsPartOf text x × EachIsPart text xs
-
--- places in order, of octets that many
-abbrev pub IsWithin : ℕ → Result Piece Fault → Type 0
-IsWithin n (Ok (WordAt p)) = (p.start ≤ p.end) × (p.end ≤ n)
-IsWithin n (Ok (QuoteAt p)) = (p.start ≤ p.end) × (p.end ≤ n)
-IsWithin n (Ok (CommentAt p)) = (p.start ≤ p.end) × (p.end ≤ n)
-IsWithin n (Ok (EndAt p)) = p.at ≤ n
-IsWithin n (Err f) = f.at ≤ n
-
-abbrev pub EachWithin : ℕ → List (Result Piece Fault) → Type 0
-EachWithin n [] = ⊤
-EachWithin n (x ∷ xs) = IsWithin n x × EachWithin n xs

@@ -330,7 +330,11 @@ impl<'t> Iterator for Pieces<'t> {
 
 impl<'t> Pieces<'t> {
     /// The pieces of a zone text, in order: words, quoted texts, comments and ends of entries. The
-    /// last is an end. A text that is not of the grammar has its fault last.
+    /// last is an end.
+    ///
+    /// A text that is not of the grammar has its fault last. Before it come the pieces that have
+    /// ended in every text of the grammar with the same octets before the fault, and no others: a
+    /// word that touches the fault might go on, and is not given.
     pub fn new(text: &'t str) -> Pieces<'t>
         ensures reads { Reads text.now result }
         ensures fits { EachFits text.now result }
