@@ -2,7 +2,9 @@ pub mod Agree
 pub mod Collecting
 pub mod Complete
 pub mod Content
+pub mod FaultJoins
 pub mod Joins
+pub mod OctetJoins
 pub mod Openers
 pub mod PieceFaults
 pub mod PieceGiven

@@ -21,11 +21,11 @@ use Rattle.dns_split.specs.declared.pieces.Wrong.TheVariants.{Closing as Late, O
 use Rattle.dns_split.specs.Splitting.{Splits, Entries}
 use Rattle.dns_split.specs.Reader.{kind, step, outside_step, comment_step, return_step, read, may_end, with_open}
 use Rattle.dns_split.specs.Viable.{IsBad, IsViable}
-use Rattle.dns_split.specs.Pieces.{quote_at, end_at, begins_blank, pieces, IsPieces, Begins, Settles, IsWrong, Whole, Faulty, Reads}
+use Rattle.dns_split.specs.Pieces.{quote_at, end_at, begins_blank, pieces, IsPieces, Begins, Settles, EndsQuote, IsWrong, Whole, Faulty, Reads}
 use Rattle.dns_split.specs.Run.{before, closed, finished, start_after, first_blank, blank_after, fault, wrong_at, wrong_at_end, run}
 use Rattle.dns_split.proofs.Complete.{Some_same, View, view, v_space, v_tab, v_lf, v_cr, v_open, v_close, v_note, v_quote, v_escape, v_plain}
 use Rattle.dns_split.proofs.Sound.{read_splits}
-use Rattle.dns_split.proofs.Viable.{walk, walk_fine, walk_completes, Completes, line_completes, low_encodes, low_scalars, low_close, scalars_both, scalars_left, begin_same, cant_follow}
+use Rattle.dns_split.proofs.Viable.{walk, walk_append, walk_fine, walk_completes, walked_viable, Completes, line_completes, low_encodes, low_scalars, low_close, scalars_both, scalars_left, begin_same, cant_follow}
 use Rattle.dns_split.proofs.Steps.{bad_step, early, whole, boundary}
 use Rattle.dns_split.proofs.PieceLexemes.{run_none}
 use Rattle.dns_split.proofs.PieceGiven.{Stop, stop, Gives, front_of, same_first, settled, some_walked}
@@ -33,9 +33,9 @@ use Rattle.dns_split.proofs.PieceSettled.{gives_all, longest, Ended, ended}
 use Rattle.dns_split.proofs.PieceWhole.{pieces_run}
 
 -- with a double quote behind it, the quoted text that is open is a piece
-quoted_piece : (c : ℕ) (ys r rest : List ℕ) (d : ℕ) → (g : Gives Outside 0 0 0 (first_blank (encode_utf8_all (c ∷ ys) ++ r)) (c ∷ ys) (Quoted, d))
-    → IsWrong (encode_utf8_all (c ∷ ys)) rest (OpenQuote g.start)
-quoted_piece c ys r rest d g more all is =
+quoted_piece : (c : ℕ) (ys r : List ℕ) (d : ℕ) → (g : Gives Outside 0 0 0 (first_blank (encode_utf8_all (c ∷ ys) ++ r)) (c ∷ ys) (Quoted, d))
+    → EndsQuote (encode_utf8_all (c ∷ ys)) g.start
+quoted_piece c ys r d g more all is =
     let front : List ℕ = encode_utf8_all (c ∷ ys) in
     let n : ℕ = length front in
     let k = g.gives (34 ∷ more) in
@@ -46,6 +46,11 @@ quoted_piece c ys r rest d g more all is =
     sym (pieces_run text all is) ∙ ap (λ b. run Outside 0 0 0 b text) (same_first c ys (34 ∷ more) r) ∙ k.1 ∙ ap (λ i. map Ok g.found ++ run Quoted d g.start i k.0 (34 ∷ more)) (zero-add n) in
     let m = front_of (g.found ++ q ∷ []) all left (e ∙ sym (ap (λ l. l ++ left) (map-append Ok g.found (q ∷ [])) ∙ append_assoc (map Ok g.found) (Ok q ∷ []) left)) in
     (g.found, m.0, m.1 ∙ append_assoc g.found (q ∷ []) m.0)
+
+quote_viable : (ys : List ℕ) (d : ℕ) → scalars ys ≡ true → walk Outside 0 ys ≡ Some (Quoted, d) → IsViable (encode_utf8_all ys ++ 34 ∷ [])
+quote_viable ys d ok h =
+    let there : walk Outside 0 (ys ++ 34 ∷ []) ≡ Some (Outside, d) = walk_append ys (34 ∷ []) Outside 0 ∙ ap (option_and_then (λ (q : Mode × ℕ). walk q.0 q.1 (34 ∷ []))) h in
+    subst IsViable (encodes-append ys (34 ∷ []) ∙ ap (λ l. encode_utf8_all ys ++ l) (low_encodes (34 ∷ []) refl)) (walked_viable (ys ++ 34 ∷ []) (Outside, d) (scalars_both ys (34 ∷ []) ok refl) there)
 
 -- after CR
 no_feed : (ys : List ℕ) (d c : ℕ) (k : Kind) → scalars ys ≡ true → walk Outside 0 ys ≡ Some (Return, d) → kind c ≡ k → return_step d k ≡ None → scalar c ≡ true
@@ -120,7 +125,7 @@ is_inside _ = true
 inside_wrong : (ys r rest : List ℕ) (m : Mode) (d : ℕ) → (g : Gives Outside 0 0 0 (first_blank (encode_utf8_all ys ++ r)) ys (m, d)) → scalars ys ≡ true → walk Outside 0 ys ≡ Some (m, d)
     → is_inside m ≡ true → IsWrong (encode_utf8_all ys) rest (wrong_at m g.start)
 inside_wrong [] r rest m d g ok h i = let e : Outside ≡ m = ap (λ (q : Mode × ℕ). q.0) (Some_same h) in let k : is_inside Outside ≡ true = subst (λ n. is_inside n ≡ true) (sym e) i in cc
-inside_wrong (c ∷ ys) r rest Quoted d g ok h i = quoted_piece c ys r rest d g
+inside_wrong (c ∷ ys) r rest Quoted d g ok h i = (quote_viable (c ∷ ys) d ok h, quoted_piece c ys r d g)
 inside_wrong (c ∷ ys) r rest Return d g ok h i = only_feed (c ∷ ys) rest d ok h
 inside_wrong (c ∷ ys) r rest (Escape q) d g ok h i = bad_escape (c ∷ ys) (Escape q) d ok h refl refl
 inside_wrong (c ∷ ys) r rest (OneDigit q n) d g ok h i = bad_escape (c ∷ ys) (OneDigit q n) d ok h refl refl

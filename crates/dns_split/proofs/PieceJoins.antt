@@ -12,7 +12,7 @@ use Rattle.dns_split.specs.Splitting.{may_precede, are_lexemes, nests}
 use Rattle.dns_split.specs.Pieces.{word_at, quote_at, comment_at, end_at, begins_blank, pieces, IsPieces, moved_piece}
 use Rattle.dns_split.proofs.Joins.{join_lexemes, join_nests, join_bytes}
 
-abbrev further : ℕ → List Piece → List Piece
+abbrev pub further : ℕ → List Piece → List Piece
 further n found = map (moved_piece (λ i. n + i)) found
 
 -- the same lexemes further on

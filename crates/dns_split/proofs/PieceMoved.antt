@@ -13,7 +13,7 @@ use Rattle.dns_split.specs.declared.reader.Move.{Move}
 use Rattle.dns_split.specs.declared.pieces.Piece.{Piece}
 use Rattle.dns_split.specs.declared.pieces.Fault.{Fault}
 use Rattle.dns_split.specs.Reader.{step, may_end}
-use Rattle.dns_split.specs.Pieces.{word_at, end_at, moved_piece, moved_wrong, moved, later, next_blank, place_of, Reads, ReadsFrom, ReadsOctets}
+use Rattle.dns_split.specs.Pieces.{word_at, end_at, moved_piece, moved_wrong, moved, later, next_blank, place_of, Reads, ReadsFrom, ReadsOctets, ReadsOctetsFrom}
 use Rattle.dns_split.specs.Run.{open_piece, goes_on, before, closed, finished, start_after, opens, in_comment, next_open, first_blank, blank_after, fault, wrong_at, wrong_at_end, run}
 use Rattle.dns_split.proofs.Complete.{Some_same}
 use Rattle.dns_split.proofs.Viable.{high_is}
@@ -193,11 +193,13 @@ later_run n (c ∷ bs) m d s at b h = go (step m d c) refl (later_run n bs)
         ∙ turn_moved (λ i. n + i) m v s at b b bs bs (omega arith) (same_later n s at) refl (λ t w. ih v.mode v.depth t (at + 1) (blank_after v.act b bs) w) h
         ∙ ap (later n) (sym (run_step m d s at b c bs v e))
 
+-- from a place on, the same further on
+from_place : (rest : List ℕ) (at : ℕ) → run Outside 0 at at (first_blank rest) rest ≡ later at (run Outside 0 0 0 (first_blank rest) rest)
+from_place rest at = ap (λ n. run Outside 0 n n (first_blank rest) rest) (omega arith) ∙ later_run at rest Outside 0 0 0 (first_blank rest) (omega arith)
+
 -- a text from a boundary on
 pub reads_from : (text : List ℕ) (at : ℕ) → IsUtf8 (drop at text) → ReadsFrom text at (run Outside 0 at at (first_blank (drop at text)) (drop at text))
-reads_from text at u =
-    let rest : List ℕ = drop at text in
-    (run Outside 0 0 0 (first_blank rest) rest, reads rest u, ap (λ n. run Outside 0 n n (first_blank rest) rest) (omega arith) ∙ later_run at rest Outside 0 0 0 (first_blank rest) (omega arith))
+reads_from text at u = (run Outside 0 0 0 (first_blank (drop at text)) (drop at text), reads (drop at text) u, from_place (drop at text) at)
 
 -- the flag of what is left
 pub blank_left : (done : Bool) (m : Mode) (d s at : ℕ) (b : Bool) (bs : List ℕ) (given : List (Result Piece Fault)) → cond done [] (run m d s at b bs) ≡ given → IfSome (next_blank given) (λ x. b ≡ x)
@@ -212,7 +214,7 @@ blank_left done m d s at b bs given e = go (next_blank given) refl
     go (Some x) h = find done x (ap next_blank e ∙ h)
 
 -- octets as characters
-mono : (l : List ℕ) (i j : ℕ) → i < j → j ≤ length l → place_of l i < place_of l j
+pub mono : (l : List ℕ) (i j : ℕ) → i < j → j ≤ length l → place_of l i < place_of l j
 mono [] i j h k = absurd (omega arith)
 mono (x ∷ l) i zero h k = absurd (omega arith)
 mono (x ∷ l) zero (suc j) h k = omega (arith, length-append (encode_utf8 x) (encode_utf8_all (take j l)), length-encode x, (len_utf8_bounds x).0)
@@ -306,3 +308,7 @@ octets_run octets = ap (λ b. run Outside 0 0 0 b (encode_utf8_all octets)) (sym
 
 pub reads_octets : (octets : List ℕ) → scalars octets ≡ true → ReadsOctets octets (run Outside 0 0 0 (first_blank octets) octets)
 reads_octets octets ok = subst (Reads (encode_utf8_all octets)) (octets_run octets) (reads (encode_utf8_all octets) (octets, (ok, refl)))
+
+-- octets from a place on
+pub reads_octets_from : (octets : List ℕ) (at : ℕ) → scalars (drop at octets) ≡ true → ReadsOctetsFrom octets at (run Outside 0 at at (first_blank (drop at octets)) (drop at octets))
+reads_octets_from octets at ok = (run Outside 0 0 0 (first_blank (drop at octets)) (drop at octets), reads_octets (drop at octets) ok, from_place (drop at octets) at)

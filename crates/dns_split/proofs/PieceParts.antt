@@ -3,7 +3,7 @@ use Rattle.std.proofs.Common.{◌≡◌, ℕ, ◌+◌, ◌<◌, ◌≤◌, Bool,
 use Rattle.std.specs.Prelude.{⊤, Option, Some, None, map, Result, Ok, Err}
 use Rattle.std.specs.Str.{IsCharBoundary}
 use Rattle.std.proofs.lemmas.Bool.{cases_lt, cond_both}
-use Rattle.std.proofs.lemmas.List.{take-append-drop, length-take-le}
+use Rattle.std.proofs.lemmas.List.{take-append-drop, length-drop, length-take-le}
 use Rattle.std.proofs.lemmas.Str.{IsCharBoundary-start, IsCharBoundary-end, IsCharBoundary-before_ascii, IsCharBoundary-after_ascii}
 use Rattle.std.proofs.Math.Seq.{get_or-append_seam}
 use Rattle.dns_split.specs.declared.reader.Mode.{Mode}
@@ -192,3 +192,6 @@ within_of n (Err f ∷ xs) h = (h.0, within_of n xs h.1)
 
 pub each_within : (octets : List ℕ) (b : Bool) → EachWithin (length octets) (run Outside 0 0 0 b octets)
 each_within octets b = within_of (length octets) _ (right_within (length octets) octets 0 (omega arith) Outside 0 0 b (omega arith) (omega arith))
+
+pub within_from : (octets : List ℕ) (at : ℕ) → at ≤ length octets → EachWithin (length octets) (run Outside 0 at at (first_blank (drop at octets)) (drop at octets))
+within_from octets at h = within_of (length octets) _ (right_within (length octets) (drop at octets) at (omega (arith, length-drop at octets)) Outside 0 at (first_blank (drop at octets)) (omega arith) h)

@@ -27,7 +27,7 @@ use Rattle.dns_split.proofs.PieceSplit.{split_pieces}
 use Rattle.dns_split.proofs.PieceParts.{each_within}
 use Rattle.dns_split.proofs.PieceGiven.{Gives, Stands, is_return, same_first, first_of, tail_of}
 
-abbrev end_of : Piece → ℕ
+abbrev pub end_of : Piece → ℕ
 end_of (WordAt p) = p.end
 end_of (QuoteAt p) = p.end
 end_of (CommentAt p) = p.end

@@ -43,7 +43,7 @@ pub one_more : (ys rest text : List ℕ) (all : List ℕ) (c : ℕ) → encode_u
 one_more ys rest text all c e f =
     ap (λ l. l ++ rest) (encodes-append ys (c ∷ []) ∙ ap (λ l. encode_utf8_all ys ++ l) (append-nil (encode_utf8 c))) ∙ append_assoc (encode_utf8_all ys) (encode_utf8 c) rest ∙ ap (λ l. encode_utf8_all ys ++ l) (sym f) ∙ e
 
-scalars_rest : (xs ys : List ℕ) → scalars (xs ++ ys) ≡ true → scalars ys ≡ true
+pub scalars_rest : (xs ys : List ℕ) → scalars (xs ++ ys) ≡ true → scalars ys ≡ true
 scalars_rest [] ys h = h
 scalars_rest (x ∷ xs) ys h = scalars_rest xs ys (and_parts (scalar x) (scalars (xs ++ ys)) h).1
 

@@ -28,7 +28,7 @@ abbrev pub walk : Mode → ℕ → List ℕ → Option (Mode × ℕ)
 walk m d [] = Some (m, d)
 walk m d (c ∷ cs) = option_and_then (λ (v : Move). walk v.mode v.depth cs) (step m d c)
 
-after_had : (a : Act) (c : ℕ) (t : List ℕ) (k : List ℕ → Option Entries) (e : Entries) → after a c t k ≡ Some e → (u : List ℕ) × (y : Entries) × (k u ≡ Some y)
+pub after_had : (a : Act) (c : ℕ) (t : List ℕ) (k : List ℕ → Option Entries) (e : Entries) → after a c t k ≡ Some e → (u : List ℕ) × (y : Entries) × (k u ≡ Some y)
 after_had EndToken c t k e h = let p = map_some (with_open t) (k []) e h in ([], p.0, p.1)
 after_had EndEntry c t k e h = let p = map_some (λ (x : Entries). with_open t ([] ∷ x)) (k []) e h in ([], p.0, p.1)
 after_had Add c t k e h = (t ++ encode_utf8 c, e, h)

@@ -70,12 +70,16 @@ Begins first all = (more : List Piece) × (all ≡ first ++ more)
 abbrev pub BeginsPieces : List ℕ → List Piece → Type 0
 BeginsPieces front found = (rest : List ℕ) (all : List Piece) → IsPieces (front ++ rest) all → Begins found all
 
+-- with a double quote behind it, the quoted text from i on ends
+abbrev pub EndsQuote : List ℕ → ℕ → Type 0
+EndsQuote front i = (more : List ℕ) (all : List Piece) → IsPieces (front ++ (34 ∷ more)) all → (first : List Piece) × (last : List Piece) × (all ≡ first ++ quote_at i (length front + 1) ∷ last)
+
 -- why the longest viable beginning can't go on with the rest of the text
--- a closing parenthesis follows what splits already; what it is inside of has to be closed; a double quote would end the quoted text from i on; only LF may follow; neither a tab nor LF may
+-- a closing parenthesis follows what splits already; what it is inside of has to be closed; a double quote may follow, and would end the quoted text from i on; only LF may follow; neither a tab nor LF may
 abbrev pub IsWrong : List ℕ → List ℕ → Wrong → Type 0
 IsWrong front rest Closing = (more : List ℕ) × (e : Entries) × (rest ≡ 41 ∷ more) × Splits front e
 IsWrong front rest OpenParenthesis = (n : ℕ) × (e : Entries) × (rest ≡ []) × Splits (front ++ (10 ∷ replicate (suc n) 41)) e
-IsWrong front rest (OpenQuote i) = (more : List ℕ) (all : List Piece) → IsPieces (front ++ (34 ∷ more)) all → (first : List Piece) × (last : List Piece) × (all ≡ first ++ quote_at i (length front + 1) ∷ last)
+IsWrong front rest (OpenQuote i) = IsViable (front ++ 34 ∷ []) × EndsQuote front i
 IsWrong front rest LoneReturn = (c : ℕ) → scalar c ≡ true → IsViable (front ++ encode_utf8 c) → c ≡ 10
 IsWrong front rest BadEscape = (¬ IsViable (front ++ 9 ∷ [])) × (¬ IsViable (front ++ 10 ∷ []))
 
@@ -118,9 +122,12 @@ abbrev pub moved_wrong : (ℕ → ℕ) → Wrong → Wrong
 moved_wrong f (OpenQuote i) = OpenQuote (f i)
 moved_wrong f w = w
 
+abbrev pub moved_fault : (ℕ → ℕ) → Fault → Fault
+moved_fault f e = record { at = f e.at; wrong = moved_wrong f e.wrong }
+
 abbrev pub moved : (ℕ → ℕ) → Result Piece Fault → Result Piece Fault
 moved f (Ok p) = Ok (moved_piece f p)
-moved f (Err e) = Err (record { at = f e.at; wrong = moved_wrong f e.wrong })
+moved f (Err e) = Err (moved_fault f e)
 
 -- so much further on
 abbrev pub later : ℕ → List (Result Piece Fault) → List (Result Piece Fault)
@@ -137,6 +144,10 @@ place_of octets i = length (encode_utf8_all (take i octets))
 -- the pieces, or the fault, of the text of the characters with these numbers
 abbrev pub ReadsOctets : List ℕ → List (Result Piece Fault) → Type 0
 ReadsOctets octets given = Reads (encode_utf8_all octets) (map (moved (place_of octets)) given)
+
+-- what the octets from a place on give alone, with the places among all
+abbrev pub ReadsOctetsFrom : List ℕ → ℕ → List (Result Piece Fault) → Type 0
+ReadsOctetsFrom octets at given = (alone : List (Result Piece Fault)) × ReadsOctets (drop at octets) alone × (given ≡ later at alone)
 
 -- octets have these pieces
 abbrev pub IsOctetPieces : List ℕ → List Piece → Type 0

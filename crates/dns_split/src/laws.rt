@@ -1,13 +1,14 @@
 //! Laws on splitting.
 //! Each function's contract is the law; calling one does nothing.
-ghost use Rattle.std.specs.Prelude.{◌≡◌, ◌<◌, ◌+◌, ◌++◌, ◌∷◌, ◌↔◌, ◌⊎◌, [], List, Bool, ℕ, drop, encode_utf8_all, length, map};
+ghost use Rattle.std.specs.Prelude.{◌≡◌, ◌<◌, ◌≤◌, ◌+◌, ◌++◌, ◌∷◌, ◌↔◌, ◌⊎◌, [], List, Bool, ℕ, drop, encode_utf8_all, length, map};
 ghost use Rattle.std.specs.Str.{IsUtf8};
 ghost use Rattle.dns_split.specs.Splitting.{Splits, Entries};
 ghost use Rattle.dns_split.specs.Lexeme.{Line, bytes};
 ghost use Rattle.dns_split.specs.Viable.{IsBad, IsViable};
 ghost use Rattle.dns_split.specs.Token.{IsToken};
-ghost use Rattle.dns_split.specs.Pieces.{IsOctetPieces, IsPieces, cut, end_at, moved_piece, place_of};
+ghost use Rattle.dns_split.specs.Pieces.{IsFault, IsOctetPieces, IsPieces, cut, end_at, moved_fault, moved_piece, place_of};
 ghost use Rattle.dns_split.specs.declared.pieces.Piece.{Piece};
+ghost use Rattle.dns_split.specs.declared.pieces.Fault.{Fault};
 
 /// A text splits in one way at most.
 pub fn splits_one_way()
@@ -45,6 +46,19 @@ pub fn splits_join()
         → Splits (x ++ (bytes (Line has_cr) ++ y)) (e ++ f) }
 {}
 
+/// Where a text that splits has a bad one after it, with a line's end between, the place is the
+/// bad text's.
+pub fn bad_texts_join()
+    ensures { (x y : List ℕ) (has_cr : Bool) (e : Entries) (at : ℕ) → Splits x e → IsBad y at
+        → IsBad (x ++ (bytes (Line has_cr) ++ y)) (length x + length (bytes (Line has_cr)) + at) }
+{}
+
+/// And the fault is the bad text's, further on.
+pub fn faults_join()
+    ensures { (x y : List ℕ) (has_cr : Bool) (e : Entries) (fault : Fault) → Splits x e → IsFault y fault
+        → IsFault (x ++ (bytes (Line has_cr) ++ y)) (moved_fault (λ i. length x + length (bytes (Line has_cr)) + i) fault) }
+{}
+
 /// A text can be cut at the end of any of its entries but the last.
 pub fn splits_are_cut()
     ensures { (text : List ℕ) (e f : Entries) → Splits text (e ++ f) → 0 < length e → 0 < length f
@@ -63,6 +77,14 @@ pub fn pieces_join()
 pub fn pieces_go_on()
     ensures { (text : List ℕ) (found more : List Piece) (at : ℕ) (blank : Bool) → IsPieces text (found ++ end_at at blank ∷ more)
         → (more ≡ []) ⊎ ((alone : List Piece) × IsPieces (drop at text) alone × (more ≡ map (moved_piece (λ i. at + i)) alone)) }
+{}
+
+/// The same of octets, each a character: what [`Pieces::of_octets_starting_at`] gives.
+///
+/// [`Pieces::of_octets_starting_at`]: crate::pieces::Pieces::of_octets_starting_at
+pub fn octet_pieces_go_on()
+    ensures { (octets : List ℕ) (found more : List Piece) (at : ℕ) (blank : Bool) → at ≤ length octets → IsOctetPieces octets (found ++ end_at at blank ∷ more)
+        → (more ≡ []) ⊎ ((alone : List Piece) × IsOctetPieces (drop at octets) alone × (more ≡ map (moved_piece (λ i. at + i)) alone)) }
 {}
 
 /// Of UTF-8 text the octets, each a character, have the same pieces, or are bad in the same place.

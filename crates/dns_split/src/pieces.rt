@@ -1,7 +1,7 @@
 //! The pieces of a zone text, one by one, with their places and without memory.
 ghost use Rattle.std.specs.Prelude.{◌≡◌, ◌+◌, ◌<◌, ◌^◌, ◌≤◌, IsTrue, IfSome, length, drop};
 ghost use Rattle.std.specs.Str.{IsCharBoundary};
-ghost use Rattle.dns_split.specs.Pieces.{Reads, EachFits, ReadsOctets, EachWithin, ReadsFrom, EachIsPart, next_blank};
+ghost use Rattle.dns_split.specs.Pieces.{Reads, EachFits, ReadsOctets, ReadsOctetsFrom, EachWithin, IsPart, between, ReadsFrom, EachIsPart, next_blank};
 ghost use Rattle.dns_split.specs.Run.{open_piece, goes_on, closed, finished, start_after, first_blank, wrong_at, wrong_at_end, run, Still, SameRun, SameFrom};
 ghost use Rattle.dns_split.specs.declared.reader.Mode.TheVariants.{Outside};
 
@@ -13,6 +13,25 @@ use std::marker::Model;
 pub struct Span {
     pub start: usize,
     pub end: usize,
+}
+
+impl Span {
+    /// The part of a text that the span names. The pieces of [`Pieces::new`] have such spans.
+    pub fn of<'t>(self, text: &'t str) -> &'t str
+        requires { IsPart text.now self.start self.end }
+        ensures { result.now ≡ between text.now self.start self.end }
+    {
+        &text[self.start..self.end]
+    }
+
+    /// The same of octets. The pieces of [`Pieces::of_octets`] have such spans.
+    pub fn of_octets<'t>(self, octets: &'t [u8]) -> &'t [u8]
+        requires ordered { self.start ≤ self.end }
+        requires within { self.end ≤ length octets.now }
+        ensures { result.now ≡ between octets.now self.start self.end }
+    {
+        &octets[self.start..self.end]
+    }
 }
 
 /// The end of an entry.
@@ -359,6 +378,15 @@ impl<'t> Pieces<'t> {
         ensures parts { EachIsPart text.now result }
     {
         Pieces::beginning(text.as_bytes(), at)
+    }
+
+    /// The same of octets that need not be UTF-8, from an entry's beginning on.
+    pub fn of_octets_starting_at(octets: &'t [u8], at: usize) -> Pieces<'t>
+        requires { at ≤ length octets.now }
+        ensures reads { ReadsOctetsFrom octets.now at result }
+        ensures within { EachWithin (length octets.now) result }
+    {
+        Pieces::beginning(octets, at)
     }
 
     /// Whether the entry that comes next, or that is being given, begins with a blank.
