@@ -1,6 +1,7 @@
 //! Scanning over an iterator of tokens, and the program.
 #![tactic(auto)]
 
+pub mod entry;
 pub mod error;
 mod line;
 mod name;
@@ -12,5 +13,6 @@ mod take;
 mod tests;
 mod token;
 
+pub use entry::{EntryScanner, TokenText, entry_scanner};
 pub use error::StrError;
 pub use scanner::IterScanner;

@@ -4,7 +4,7 @@ ghost use Rattle.std.specs.Iterator.{IsFinite, AlwaysYields};
 ghost use Rattle.dns_scan.specs.Entries.{ScansEntry};
 ghost use Rattle.dns_scan.specs.Stands.{StandsBefore};
 ghost use Rattle.dns_scan.specs.Tokens.{Token, Peeks};
-ghost use Rattle.dns_iter.specs.TokenNext.{token_next};
+ghost use Rattle.dns_iter.specs.TokenNext.{token_next, spaced_after};
 ghost use Rattle.dns_iter.specs.Name.{ReadsToken};
 ghost use Rattle.dns_iter.specs.Ahead.{IsReady, Fills, TakesAhead, tokens_left};
 
@@ -40,6 +40,7 @@ where
     iter: Iter,
     ahead: Ahead<Iter::Item>,
     alloc: <Octets::Builder as EmptyBuilder>::Alloc,
+    spaced: bool,
     error: PhantomData<E>,
 }
 
@@ -57,11 +58,25 @@ where
         requires ends { IsFinite (Iter.remaining iter) }
         ensures ready { ⟦<Self as Scanner>⟧.can_scan result }
         ensures stands { (ts : List Token) → AlwaysYields Iter.next_gives (λ t. t.now) iter ts → StandsBefore (⟦<Self as Scanner>⟧.next_token) result ts }
+        ensures spaced { ⟦<Self as Scanner>⟧.is_spaced result ≡ false }
+    {
+        IterScanner::spaced(alloc, iter, false)
+    }
+
+    /// A scanner of the iterator's tokens, which says whether white space stands before the first.
+    /// None stands before the others.
+    pub fn spaced(alloc: <Octets::Builder as EmptyBuilder>::Alloc, iter: Iter, spaced: bool) -> Self
+        requires can { Iter.can_next iter }
+        requires ends { IsFinite (Iter.remaining iter) }
+        ensures ready { ⟦<Self as Scanner>⟧.can_scan result }
+        ensures stands { (ts : List Token) → AlwaysYields Iter.next_gives (λ t. t.now) iter ts → StandsBefore (⟦<Self as Scanner>⟧.next_token) result ts }
+        ensures spaced { ⟦<Self as Scanner>⟧.is_spaced result ≡ spaced }
     {
         IterScanner {
             iter,
             ahead: Ahead::Unknown,
             alloc,
+            spaced,
             error: PhantomData,
         }
     }
@@ -100,6 +115,7 @@ where
         ensures ready { IsReady Iter.can_next Iter.remaining self.new.iter self.new.ahead }
         ensures left { tokens_left Iter.remaining self.new.iter self.new.ahead ≤ tokens_left Iter.remaining self.old.iter self.old.ahead }
         ensures fills { Fills Iter.next_gives self.old.iter self.old.ahead self.new.iter self.new.ahead }
+        ensures spaced { self.new.spaced ≡ self.old.spaced }
     {
         if let Ahead::Unknown = self.ahead {
             match self.iter.next() {
@@ -115,11 +131,13 @@ where
         ensures ready { IsReady Iter.can_next Iter.remaining self.new.iter self.new.ahead }
         ensures fewer { OnSome result (tokens_left Iter.remaining self.new.iter self.new.ahead < tokens_left Iter.remaining self.old.iter self.old.ahead) }
         ensures takes { TakesAhead Iter.next_gives self.old.iter self.old.ahead result self.new.iter self.new.ahead }
+        ensures spaced { self.new.spaced ≡ spaced_after self.old.spaced result }
     {
         self.fill();
         match self.ahead {
             Ahead::Token(token) => {
                 self.ahead = Ahead::Unknown;
+                self.spaced = false;
                 Some(token)
             }
             _ => None,
@@ -172,10 +190,10 @@ where
 
     ghost reads_name = { λ t r. ReadsToken Octets E.cause Octets.Builder.sure Octets.Builder.most t r };
 
-    ghost is_spaced = { λ _. false };
+    ghost is_spaced = { λ s. s.spaced };
 
     fn has_space(&self) -> bool {
-        false
+        self.spaced
     }
 
     fn continues(&mut self) -> bool {

@@ -10,6 +10,7 @@ use dns_wire::{AsOctets, ShortBuf, Ttl};
 use std::alloc::{AllocError, Global};
 use std::fmt;
 
+mod entries;
 mod names;
 mod numbers;
 mod octets;

@@ -1,0 +1,21 @@
+-- What the tokens of an entry hold.
+use Rattle.std.specs.Prelude.{ℕ, List, [], ◌∷◌, ◌≡◌, ◌⊎◌, Option, MatchOption}
+use Rattle.std.specs.Borrow.{Bor}
+use Rattle.std.specs.List.{AllZip, flat_map}
+use Rattle.dns_symbol.specs.Symbol.{bytes}
+use Rattle.dns_scan.specs.Tokens.{Token}
+use Rattle.dns_split.specs.Token.{IsWord, IsQuote}
+
+-- a word holds itself, and a quoted text what stands between its double quotes
+abbrev pub IsContent : Token → List ℕ → Type 0
+IsContent token content = (IsWord token × (content ≡ token)) ⊎ ((q : IsQuote token) × (content ≡ flat_map bytes q.symbols))
+
+-- what each token of an entry holds
+abbrev pub AreContents : List Token → List (List ℕ) → Type 0
+AreContents = AllZip IsContent
+
+-- a call at the texts of tokens gave what the first of them holds and left the others, or there was none
+abbrev pub content_next : {S : Type 0} → (S → List Token) → S → Option (Bor (List ℕ)) → S → Type 0
+content_next texts s given t =
+    MatchOption given (texts s ≡ [])
+    (λ text. (token : Token) × (texts s ≡ token ∷ texts t) × ((content : List ℕ) → IsContent token content → text.now ≡ content))

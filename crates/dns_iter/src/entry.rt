@@ -1,0 +1,120 @@
+//! Scanners over the entries of zone text.
+//!
+//! [`dns_split::splitting::split`] gives each entry as a list of strings. Whoever reads by the
+//! cursor [`dns_split::pieces::Pieces`] collects a list of slices instead, and copies no text:
+//!
+//! ```text
+//! for piece in Pieces::new(text) {
+//!     match piece? {
+//!         Piece::Word(part) | Piece::Quote(part) => tokens.push(&text[part.start..part.end])?,
+//!         Piece::Comment(_) => {}
+//!         Piece::End(end) => {
+//!             let mut scanner = entry_scanner(alloc, &tokens, end.begins_blank);
+//!             // `scanner` reads the entry.
+//!             tokens.clear();
+//!         }
+//!     }
+//! }
+//! ```
+ghost use Rattle.std.specs.Prelude.{◌≡◌, List, ℕ, map};
+ghost use Rattle.dns_scan.specs.Stands.{StandsBefore};
+ghost use Rattle.dns_iter.specs.Contents.{AreContents};
+
+use crate::error::StrError;
+use crate::scanner::IterScanner;
+use dns_scan::{Scanner, ScannerError};
+use dns_split::token::content;
+use dns_wire::{AsOctetsMut, EmptyBuilder, FreezeBuilder, FromBuilder, Truncate};
+use std::alloc::Allocator;
+
+/// A token of zone text as it is spelled, with its double quotes.
+///
+/// [`dns_split::splitting::split`] gives strings, and the places that
+/// [`dns_split::pieces::Pieces`] gives are slices of the text.
+pub trait TokenText {
+    // The text's bytes.
+    ghost text: { Self → List ℕ };
+
+    /// The text.
+    fn text(&self) -> &str
+        ensures { result.now ≡ text self.now };
+}
+
+impl<A: Allocator> TokenText for String<A> {
+    ghost use Rattle.std.specs.Prelude.{string_bytes};
+
+    ghost text = { string_bytes };
+
+    fn text(&self) -> &str {
+        self.as_str()
+    }
+}
+
+impl<'t> TokenText for &'t str {
+    ghost text = { λ t. t.now };
+
+    fn text(&self) -> &str {
+        self
+    }
+}
+
+/// What the tokens of an entry hold, one after the other: a word itself, and of a quoted text what
+/// stands between its double quotes.
+#[derive(Drop)]
+pub struct Contents<'a, T> {
+    tokens: &'a [T],
+}
+
+impl<'a, T: TokenText> Contents<'a, T> {
+    /// What these tokens hold.
+    pub fn new(tokens: &'a [T]) -> Self
+        ensures { result.tokens.now ≡ tokens.now }
+    {
+        Contents { tokens }
+    }
+}
+
+impl<'a, T: TokenText> Iterator for Contents<'a, T> {
+    ghost use Rattle.std.specs.Prelude.{map, length};
+    ghost use Rattle.std.specs.Iterator.{at_most};
+    ghost use Rattle.dns_iter.specs.Contents.{content_next};
+
+    type Item = &'a str;
+
+    ghost next_gives = { content_next (λ s. map T.text s.tokens.now) };
+
+    ghost remaining = { λ s. at_most (length s.tokens.now) };
+
+    fn next(&mut self) -> Option<&'a str> {
+        match self.tokens.split_first() {
+            Some((first, rest)) => {
+                self.tokens = rest;
+                Some(content(first.text()))
+            }
+            None => None,
+        }
+    }
+}
+
+/// A scanner over an entry of zone text: it reads a word as it stands, and of a quoted text what
+/// stands between its double quotes.
+pub type EntryScanner<'a, T, Octets, E = StrError> = IterScanner<Contents<'a, T>, Octets, E>;
+
+/// A scanner over the tokens of an entry, each as it is spelled.
+///
+/// `spaced` says whether the entry began with a blank: [`Scanner::has_space`] answers it until the
+/// first token is taken. Octets are allocated from `alloc`.
+pub fn entry_scanner<'a, T: TokenText, Octets: FromBuilder + Drop, E: ScannerError>(
+    alloc: <Octets::Builder as EmptyBuilder>::Alloc,
+    tokens: &'a [T],
+    spaced: bool,
+) -> EntryScanner<'a, T, Octets, E>
+where
+    Octets::Builder: EmptyBuilder + AsOctetsMut + Truncate + FreezeBuilder<Octets = Octets> + Drop,
+    ensures ready { ⟦<EntryScanner<'a, T, Octets, E> as Scanner>⟧.can_scan result }
+    ensures stands { (contents : List (List ℕ)) → AreContents (map T.text tokens.now) contents
+        → StandsBefore (⟦<EntryScanner<'a, T, Octets, E> as Scanner>⟧.next_token) result contents }
+    ensures spaced { ⟦<EntryScanner<'a, T, Octets, E> as Scanner>⟧.is_spaced result ≡ spaced }
+{
+    IterScanner::spaced(alloc, Contents::new(tokens), spaced)
+}

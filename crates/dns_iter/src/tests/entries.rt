@@ -1,0 +1,96 @@
+//! The entries of zone text.
+use super::*;
+use crate::entry::{EntryScanner, TokenText, entry_scanner};
+use dns_split::pieces::{Piece, Pieces};
+use dns_split::splitting::split;
+
+// Whether an entry of these tokens is read as these character strings, and nothing else.
+fn is_read<T: TokenText>(alloc: Global, tokens: &[T], strings: &[&[u8]]) -> bool {
+    let mut scanner: EntryScanner<'_, T, Vec<u8>> = entry_scanner(alloc, tokens, false);
+    let mut same = true;
+    for string in strings {
+        same = same
+            && scanner
+                .scan_charstr()
+                .is_ok_and(|found| found.as_slice() == *string);
+    }
+    same && scanner.is_exhausted()
+}
+
+#[test]
+fn quoted_texts_are_read_between_their_quotes(rt: HostRuntime) {
+    let alloc = rt.alloc();
+    let entries = split(alloc, "a \"b c\" \"\"").unwrap_or(Vec::new(alloc));
+    assert!(rt; entries.len() == 1);
+    for entry in &entries {
+        assert!(rt; is_read(alloc, entry, &[b"a", b"b c", b""]));
+    }
+}
+
+#[test]
+fn escapes_and_long_texts_are_read(rt: HostRuntime) -> Result<(), AllocError> {
+    let alloc = rt.alloc();
+    let long = "x".repeat(alloc, 250)?;
+    let text = format!(in alloc; "\"{long}\" \"\\\"\\034\" \\\"{long}\\\" \"a\"b\"c\"")?;
+    let quoted = format!(in alloc; "\"{long}\"")?;
+    let entries = split(alloc, text.as_str()).unwrap_or(Vec::new(alloc));
+    assert!(rt; entries.len() == 1);
+    for entry in &entries {
+        let strings: [&[u8]; 6] = [
+            long.as_bytes(),
+            b"\"\"",
+            quoted.as_bytes(),
+            b"a",
+            b"b",
+            b"c",
+        ];
+        assert!(rt; is_read(alloc, entry, &strings));
+    }
+    Ok(())
+}
+
+#[test]
+fn space_stands_before_the_first_token(rt: HostRuntime) {
+    let alloc = rt.alloc();
+    let tokens = ["\"b c\"", "1"];
+    let mut scanner: EntryScanner<'_, _, Vec<u8>> = entry_scanner(alloc, &tokens, true);
+    assert!(rt; scanner.has_space());
+    assert!(rt; scanner.continues());
+    assert!(rt; scanner.has_space());
+    assert!(rt; is_answer(scanner.scan_octets(), Ok(b"b c".as_slice())));
+    assert!(rt; !scanner.has_space());
+    assert!(rt; is_answer(scanner.scan_octets(), Ok(b"1".as_slice())));
+    assert!(rt; !scanner.has_space());
+    let mut scanner: EntryScanner<'_, _, Vec<u8>> = entry_scanner(alloc, &tokens, false);
+    assert!(rt; !scanner.has_space());
+}
+
+// The way from the cursor to scanners, an entry at a time: the tokens are slices of the text.
+#[test]
+fn the_cursor_leads_to_scanners(rt: HostRuntime) -> Result<(), AllocError> {
+    let alloc = rt.alloc();
+    let text = "a \"b;c\" ; d\n \"\" ( e\n f )\n";
+    let mut tokens: Vec<&str> = Vec::new(alloc);
+    let mut entries = 0;
+    for piece in Pieces::new(text) {
+        match piece {
+            Ok(Piece::Word(part)) => tokens.push(&text[part.start..part.end])?,
+            Ok(Piece::Quote(part)) => tokens.push(&text[part.start..part.end])?,
+            Ok(Piece::Comment(_)) => {}
+            Ok(Piece::End(end)) => {
+                let want: &[&[u8]] = match entries {
+                    0 => &[b"a", b"b;c"],
+                    1 => &[b"", b"e", b"f"],
+                    _ => &[],
+                };
+                assert!(rt; end.begins_blank == (entries == 1));
+                assert!(rt; is_read(alloc, &tokens, want));
+                tokens.clear();
+                entries += 1;
+            }
+            Err(_) => assert!(rt; false),
+        }
+    }
+    assert!(rt; entries == 3);
+    Ok(())
+}
