@@ -1,4 +1,4 @@
--- A text reads as one name, and a text that is a name's is refused by nothing but want of room.
+-- A text reads as one name, and a text that is a name's is refused by nothing but lack of room.
 use Rattle.std.proofs.Common.{◌≡◌, ℕ, ◌+◌, ◌<◌, ◌≤◌, ◌⊎◌, true, List, [], ◌∷◌, ◌++◌, length, refl, sym, ap, subst, ◌∙◌, arith, append_assoc, append-nil, length-append, Some, Result, Ok, Err, inl, inr, ⊎_elim}
 use Rattle.std.specs.Prelude.{All}
 use Rattle.std.specs.List.{flat_map, list_all, AllZip}
@@ -91,7 +91,7 @@ module _ (text : List ℕ) (labels : List (List ℕ)) (current : List ℕ) (whol
       (size, omega (arith, few, length-append last (octet ∷ []))))
       n.1
 
-  -- no refusal but want of room
+  -- no refusal but lack of room
   pub refused_whole : (O : Type 0) (sure most : ℕ) (e : FromStrError) → (text ≡ 46 ∷ [] → ⊥) → ReadsName {O = O} sure most text (Err e)
       → (e ≡ ShortBuf) × ((sure < wire_length (labels ++ closed current)) ⊎ ((current ≡ []) × (labels ≡ [] → ⊥) × (sure < wire_length labels + 1)))
   refused_whole O sure most (NoSymbol e) root r =

@@ -47,7 +47,7 @@ impl<A: Allocator + Copy> UncertainName<Vec<u8, A>> {
     ghost use Rattle.std.specs.Prelude.{◌≡◌, [], ◌∷◌, IfOk};
     ghost use Rattle.dns_name.specs.declared.name.UncertainName.TheVariants.{Absolute, Relative};
 
-    /// The root over a vector, or want of memory for its one octet.
+    /// The root over a vector, or lack of memory for its one octet.
     pub fn root_vec(alloc: A) -> Result<Self, ShortBuf>
         ensures { IfOk result (λ n. n ≡ Absolute ([] ∷ [])) }
     {
@@ -84,7 +84,7 @@ impl<Octets: AsOctets> UncertainName<Octets> {
         UncertainName::Relative(name)
     }
 
-    /// The root, or want of room for its one octet.
+    /// The root, or lack of room for its one octet.
     pub fn root(alloc: <Octets::Builder as EmptyBuilder>::Alloc) -> Result<Self, ShortBuf>
     where
         Octets: FromBuilder,

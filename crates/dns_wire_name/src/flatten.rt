@@ -17,7 +17,7 @@ pub trait FlattenInto<T: ToLabelIter>: ToLabelIter + Sized {
     // How many octets the new name ever has.
     ghost takes_at_most: { ℕ };
 
-    /// A name with the same labels, or want of room for its octets.
+    /// A name with the same labels, or lack of room for its octets.
     fn try_flatten_into(self, alloc: Self::Alloc) -> Result<T, ShortBuf>
         ensures value { IfOk result (λ t. T.labels t ≡ Self.labels self) }
         ensures succeeds { wire_length (Self.labels self) ≤ takes → IsOk result }

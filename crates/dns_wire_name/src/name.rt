@@ -75,7 +75,7 @@ impl<Octets: AsOctets> Name<Octets> {
         }
     }
 
-    /// The root alone, or want of room for its one octet.
+    /// The root alone, or lack of room for its one octet.
     pub fn root(alloc: <Octets::Builder as EmptyBuilder>::Alloc) -> Result<Self, ShortBuf>
     where
         Octets: FromBuilder,
@@ -91,7 +91,7 @@ impl<Octets: AsOctets> Name<Octets> {
         })
     }
 
-    /// The name with the labels of another, or want of room for its octets.
+    /// The name with the labels of another, or lack of room for its octets.
     pub fn from_labels<N: ToName>(
         alloc: <Octets::Builder as EmptyBuilder>::Alloc,
         name: &N,
