@@ -3,28 +3,29 @@
 //! A label escapes the space, the dot and the backslash by a backslash, and octets outside 0x20 to
 //! 0x7E by their decimal value (RFC 1035 section 5.1). It prints the double quote, the semicolon
 //! and parentheses plain, which end a token of zone text: [`ZoneName`] prints a name there.
-ghost use Rattle.std.specs.Prelude.{◌≡◌, ◌≤◌, ◌↔◌, [], ◌∷◌, length, take, IsTrue};
-ghost use Rattle.dns_symbol.specs.Printed.{symbol_of};
+ghost use Rattle.std.specs.Prelude.{◌≡◌, ◌≤◌, ◌↔◌, [], ◌∷◌, length, take, IsTrue, encode_utf8_all};
+ghost use Rattle.std.specs.Fmt.{WritesOnOk};
 ghost use Rattle.dns_wire_name.specs.Printed.{is_label_escape, without_root};
-ghost use Rattle.dns_wire_name.specs.ZoneText.{zone_symbol};
-ghost use Rattle.dns_wire_name.specs.Form.{form_symbol};
+ghost use Rattle.dns_wire_name.specs.ZoneText.{zone_label, zone_symbol};
 
 use crate::label::Label;
 use crate::name::Name;
 use crate::relative::RelativeName;
 use crate::to_label_iter::ToLabelIter;
+use dns_symbol::form::{self, write_octets};
 use dns_symbol::symbol::Symbol;
 use dns_wire::AsOctets;
 use std::fmt;
 
-// The symbol that an octet of a label is printed as.
-fn label_symbol(octet: u8) -> Symbol
-    ensures { result ≡ symbol_of is_label_escape octet }
-{
-    match octet {
-        b' ' | b'.' | b'\\' => Symbol::SimpleEscape(octet),
-        0x20..=0x7E => Symbol::Char(char::from(octet)),
-        _ => Symbol::DecimalEscape(octet),
+// The form of a label: it escapes the space, the dot and the backslash.
+struct InLabel;
+
+impl form::Form for InLabel {
+    ghost is_escape = { is_label_escape };
+
+    #[inline]
+    fn is_escape(octet: u8) -> bool {
+        matches!(octet, b' ' | b'.' | b'\\')
     }
 }
 
@@ -40,23 +41,24 @@ fn decimal_symbol(octet: u8) -> Symbol
     }
 }
 
-// A form in which labels are printed.
+// Prints octets so that each with a meaning in zone text is escaped.
+fn write_zone_octets<W: fmt::Write>(octets: &[u8], f: &mut fmt::Formatter<W>) -> fmt::Result
+    ensures { WritesOnOk W.write_str_gives f.old result (encode_utf8_all (zone_label octets.now)) f.new }
+{
+    for octet in octets {
+        let symbol = decimal_symbol(*octet);
+        write!(f, "{symbol}")?;
+    }
+    Ok(())
+}
+
+// How a name's labels are printed.
 #[derive(Clone, Copy)]
 enum Form {
     // The space, the dot and the backslash are escaped.
     Label,
     // All but letters, digits, `-`, `_` and `*` is escaped.
     Zone,
-}
-
-// The symbol that an octet is printed as in a form.
-fn symbol_in(form: Form, octet: u8) -> Symbol
-    ensures { result ≡ form_symbol form octet }
-{
-    match form {
-        Form::Label => label_symbol(octet),
-        Form::Zone => decimal_symbol(octet),
-    }
 }
 
 // A label in a form.
@@ -67,18 +69,17 @@ struct Formed<'a> {
 }
 
 impl fmt::Display for Formed<'_> {
-    ghost use Rattle.std.specs.Prelude.{Some, encode_utf8_all};
+    ghost use Rattle.std.specs.Prelude.{Some};
     ghost use Rattle.dns_wire_name.specs.Label.{label_octets};
     ghost use Rattle.dns_wire_name.specs.Form.{form_text};
 
     ghost output = { λ l. Some (encode_utf8_all (form_text l.form (label_octets l.label))) };
 
     fn fmt<W: fmt::Write>(&self, f: &mut fmt::Formatter<W>) -> fmt::Result {
-        for octet in self.label.as_slice() {
-            let symbol = symbol_in(self.form, *octet);
-            write!(f, "{symbol}")?;
+        match self.form {
+            Form::Label => write_octets::<InLabel, W>(self.label.as_slice(), f),
+            Form::Zone => write_zone_octets(self.label.as_slice(), f),
         }
-        Ok(())
     }
 }
 
@@ -90,11 +91,7 @@ impl fmt::Display for Label<'_> {
     ghost output = { λ l. Some (encode_utf8_all (label_text (label_octets l))) };
 
     fn fmt<W: fmt::Write>(&self, f: &mut fmt::Formatter<W>) -> fmt::Result {
-        let label = Formed {
-            label: *self,
-            form: Form::Label,
-        };
-        write!(f, "{label}")
+        write_octets::<InLabel, W>(self.as_slice(), f)
     }
 }
 
