@@ -10,4 +10,6 @@ pub mod OneEntry
 pub mod OneReading
 pub mod Reading
 pub mod StringRuns
+pub mod StringsLeft
+pub mod TokensLeft
 pub mod Whole

@@ -77,7 +77,7 @@ octets_same t a b h k =
     let same = symbols_same t h.symbols k.symbols None None h.read k.read in
     given_same k.symbols a b (subst (λ ss. map octet_given ss ≡ map Ok (ones a)) same.0 (given_ones h.symbols a h.octets_are)) (given_ones k.symbols b k.octets_are)
 
-strings_same : (tokens : List Token) (a b : List (List ℕ)) → AllZip HasOctets tokens a → AllZip HasOctets tokens b → a ≡ b
+pub strings_same : (tokens : List Token) (a b : List (List ℕ)) → AllZip HasOctets tokens a → AllZip HasOctets tokens b → a ≡ b
 strings_same [] [] [] h k = refl
 strings_same [] [] (y ∷ b) h k = absurd k
 strings_same [] (x ∷ a) b h k = absurd h
@@ -106,7 +106,7 @@ printed_read (t ∷ ts) (s ∷ ss) z b = (
 
 module _ (sure most : ℕ) where
   -- a character string is refused for want of room alone
-  string_fault : (t : Token) (o : List ℕ) (count : ℕ) (why : Cause) → HasOctets t o → Short o → IsStringFault sure most count t why → (why ≡ short_buf) × (sure < count + length (wire_of o))
+  pub string_fault : (t : Token) (o : List ℕ) (count : ℕ) (why : Cause) → HasOctets t o → Short o → IsStringFault sure most count t why → (why ≡ short_buf) × (sure < count + length (wire_of o))
   string_fault t o count why has short (inl h) =
       let same = symbols_same t h.0 has.symbols h.1 None h.2 has.read in
       let fault : FirstFault octet_given (min sure 255) (min most 255) has.symbols None why =
@@ -125,7 +125,7 @@ module _ (sure most : ℕ) where
       (h.2, omega (arith, h.3, ap length is))
 
   -- the strings before a token, its own, and those behind it
-  cut_at : (front : List Token) (t : Token) (rest : List Token) (strings : List (List ℕ)) → AllZip HasOctets (front ++ t ∷ rest) strings → All Short strings
+  pub cut_at : (front : List Token) (t : Token) (rest : List Token) (strings : List (List ℕ)) → AllZip HasOctets (front ++ t ∷ rest) strings → All Short strings
       → (before : List (List ℕ)) × (s : List ℕ) × AllZip HasOctets front before × HasOctets t s × Short s × (length (wires before) + length (wire_of s) ≤ length (wires strings))
   cut_at [] t rest [] z short = absurd z
   cut_at [] t rest (s ∷ ss) z short = ([], s, tt, z.0, All-head Short s ss short, omega (arith, length-append (wire_of s) (wires ss)))

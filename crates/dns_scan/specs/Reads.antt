@@ -1,12 +1,12 @@
 -- What is read of a list of tokens.
-use Rattle.std.specs.Prelude.{ℕ, List, [], ◌∷◌, ◌≡◌, Option, Some, None, Result, Ok, Err, MatchOption, ◌⊎◌}
+use Rattle.std.specs.Prelude.{ℕ, List, [], ◌∷◌, ◌≡◌, ◌≢◌, Option, Some, None, Result, Ok, Err, MatchOption, ◌⊎◌}
 use Rattle.std.proofs.Common.{replicate}
 use Rattle.dns_symbol.specs.declared.symbol.Symbol.{Symbol}
 use Rattle.dns_symbol.specs.declared.symbol.SymbolCharsError.{SymbolCharsError}
 use Rattle.dns_symbol.specs.Text.{SymbolsOf}
 use Rattle.dns_scan.specs.Answers.{AnswersGiven}
-use Rattle.dns_scan.specs.Cause.{Cause, end_of_entry}
-use Rattle.dns_scan.specs.Numbers.{ScannedNumber}
+use Rattle.dns_scan.specs.Cause.{Cause, end_of_entry, short_buf}
+use Rattle.dns_scan.specs.Numbers.{ScannedNumber, by_cause}
 use Rattle.dns_scan.specs.Stands.{first_of, others_of}
 use Rattle.dns_scan.specs.Steps.{octet_given}
 use Rattle.dns_scan.specs.Tokens.{Token}
@@ -24,6 +24,10 @@ abbrev pub OctetsRead : ℕ → ℕ → Token → Result (List ℕ) Cause → Ty
 OctetsRead sure most token r =
     (symbols : List Symbol) × (error : Option SymbolCharsError) × SymbolsOf token symbols error × AnswersGiven octet_given sure most (λ why. why) (λ s. s) symbols error r
 
+-- a token that a scanner reads as a name
+abbrev pub NameReads : {N E : Type 0} → (E → Cause) → (Token → Result N E → Type 0) → Token → Result N Cause → Type 0
+NameReads {N} {E} cause reads token r = (q : Result N E) × reads token q × (r ≡ by_cause cause q)
+
 -- one reading and then another, until one is refused
 abbrev pub ReadsBoth : {A B : Type 0} → (List Token → Result A Cause → List Token → Type 0) → (List Token → Result B Cause → List Token → Type 0) → List Token → Result (A × B) Cause → List Token → Type 0
 ReadsBoth {A} first second tokens (Ok p) rest = (middle : List Token) × first tokens (Ok p.0) middle × second middle (Ok p.1) rest
@@ -39,6 +43,17 @@ ReadsInTurn {K} {V} reads (k ∷ ks) tokens values refusal rest =
 -- so many readings of one type
 abbrev pub ReadsEach : {V : Type 0} → (List Token → Result V Cause → List Token → Type 0) → ℕ → List Token → List V → Option Cause → List Token → Type 0
 ReadsEach reads n = ReadsInTurn (λ (u : Unit {0}). reads) (replicate n tt)
+
+-- readings of one type, each where a token is left
+abbrev pub ReadsSome : {V : Type 0} → (List Token → Result V Cause → List Token → Type 0) → List Token → List V → List Token → Type 0
+ReadsSome reads tokens [] rest = rest ≡ tokens
+ReadsSome reads tokens (v ∷ vs) rest = (middle : List Token) × (tokens ≢ []) × reads tokens (Ok v) middle × ReadsSome reads middle vs rest
+
+-- readings of one type until no token is left; or up to the first that is refused, or whose value finds no memory
+abbrev pub ReadsRest : {V : Type 0} → (List Token → Result V Cause → List Token → Type 0) → List Token → Result (List V) Cause → List Token → Type 0
+ReadsRest reads tokens (Ok values) rest = ReadsSome reads tokens values [] × (rest ≡ [])
+ReadsRest {V} reads tokens (Err why) rest =
+    (values : List V) × (middle : List Token) × ReadsSome reads tokens values middle × (((middle ≢ []) × reads middle (Err why) rest) ⊎ ((why ≡ short_buf) × (rest ≡ middle)))
 
 -- a reading has one answer of given tokens, and leaves the same
 abbrev pub ReadsInOneWay : {V : Type 0} → (List Token → Result V Cause → List Token → Type 0) → Type 0

@@ -12,7 +12,7 @@ ghost use Rattle.dns_scan.specs.Answers.{AnswersGiven};
 ghost use Rattle.dns_scan.specs.Asks.{CallsEach};
 ghost use Rattle.dns_scan.specs.Cause.{Cause};
 ghost use Rattle.dns_scan.specs.Entries.{AsksToken, Converts, ConvertInEntry};
-ghost use Rattle.dns_scan.specs.Join.{CallsTokens, IsJoin, IsSymbols, LeavesOf, handed_over};
+ghost use Rattle.dns_scan.specs.Join.{CallsTokens, ConvertsTokens, IsJoin, IsSymbols, LeavesOf, handed_over};
 ghost use Rattle.dns_scan.specs.Kinds.{KindReads};
 ghost use Rattle.dns_scan.specs.Numbers.{IsNumber};
 ghost use Rattle.dns_scan.specs.Octets.{GivesWhere, IsPrinted, unquoted_token, quoted_token};
@@ -170,8 +170,8 @@ pub fn entries_convert_as_their_join<S: Scanner, C: ConvertSymbols<EntrySymbol, 
     requires { S.can_scan scanner.old }
     ensures ready { S.can_scan scanner.new }
     ensures converts { (tokens : List Token) → StandsBefore S.next_token scanner.old tokens
-        → (rest : List Token) × Converts S.Error.cause S.OctetsBuilder.sure S.OctetsBuilder.most C.tail S.Octets.octets
-        (λ p a q. CallsTokens (ConvertInEntry S.Error.cause S.OctetsBuilder.sure S.OctetsBuilder.most C.takes) tokens p a rest q) convert result × StandsBefore S.next_token scanner.new rest }
+        → (rest : List Token) × ConvertsTokens S.Error.cause S.OctetsBuilder.sure S.OctetsBuilder.most C.takes C.tail S.Octets.octets tokens convert result rest
+        × StandsBefore S.next_token scanner.new rest }
     ensures join { (tokens : List Token) (text : List ℕ) → StandsBefore S.next_token scanner.old tokens → IsJoin tokens text
         → Converts S.Error.cause S.OctetsBuilder.sure S.OctetsBuilder.most C.tail S.Octets.octets
         (λ p a q. ConvertInEntry S.Error.cause S.OctetsBuilder.sure S.OctetsBuilder.most C.takes p text a q) convert result }

@@ -6,11 +6,13 @@ pub mod error;
 pub mod kind;
 pub mod laws;
 pub mod number;
+pub mod rest;
 pub mod scan;
 pub mod scanner;
 
 pub use convert::ConvertSymbols;
 pub use error::ScannerError;
 pub use kind::{Kind, Scanned};
+pub use rest::{RestOf, expect_end, scan_rest, strings_rest};
 pub use scan::Scan;
 pub use scanner::Scanner;

@@ -2,14 +2,15 @@
 ghost use Rattle.std.specs.Prelude.{◌≡◌, List, Result, Ok, min};
 ghost use Rattle.dns_scan.specs.Cause.{Cause};
 ghost use Rattle.dns_scan.specs.Numbers.{by_cause, greatest};
-ghost use Rattle.dns_scan.specs.Reads.{ReadsFirst, NumberReads, OctetsRead, ReadsBoth};
+ghost use Rattle.dns_scan.specs.Reads.{ReadsFirst, NameReads, NumberReads, OctetsRead, ReadsBoth};
 ghost use Rattle.dns_scan.specs.Stands.{StandsBefore};
 ghost use Rattle.dns_scan.specs.Tokens.{Token};
 
 use crate::number::scan_number;
 use crate::scanner::Scanner;
 use dns_charstr::charstr::CharStr;
-use dns_wire::Ttl;
+use dns_wire::{AsOctets, Ttl};
+use dns_wire_name::Name;
 
 /// A value that can be scanned.
 pub trait Scan<S: Scanner>: Sized {
@@ -103,6 +104,18 @@ impl<S: Scanner> Scan<S> for CharStr<S::Octets> {
     fn scan(scanner: &mut S) -> Result<Self, S::Error> {
         match scanner.scan_charstr() {
             Ok(string) => Ok(string),
+            Err(error) => Err(error),
+        }
+    }
+}
+
+/// A name, as [`Scanner::scan_name`] takes it.
+impl<O: AsOctets, S: Scanner<Name = Name<O>>> Scan<S> for Name<O> {
+    ghost scan_reads = { ReadsFirst (NameReads S.Error.cause S.reads_name) };
+
+    fn scan(scanner: &mut S) -> Result<Self, S::Error> {
+        match scanner.scan_name() {
+            Ok(name) => Ok(name),
             Err(error) => Err(error),
         }
     }

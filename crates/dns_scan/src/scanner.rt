@@ -1,5 +1,5 @@
 //! Scanners: where the tokens of an entry come from.
-ghost use Rattle.std.specs.Prelude.{◌≡◌, ℕ, List, [], Option, Some, None, Result, Bool, IsOkAnd, is_some, min, codes};
+ghost use Rattle.std.specs.Prelude.{◌≡◌, ℕ, List, [], Option, Some, None, Result, Bool, false, IsOkAnd, is_some, min, codes};
 ghost use Rattle.dns_scan.specs.Asks.{Builds, ScansSymbols};
 ghost use Rattle.std.specs.Fn.{FnOnceReturnsAt};
 ghost use Rattle.dns_scan.specs.Cause.{custom_text, IsCause};
@@ -52,7 +52,7 @@ pub trait Scanner {
     // Whether white space stands before the next token.
     ghost is_spaced: { Self → Bool };
 
-    /// Whether white space stands before the next token.
+    /// Whether white space stands before the next token, which is so only before the first.
     fn has_space(&self) -> bool
         ensures { result ≡ is_spaced self.now };
 
@@ -60,7 +60,8 @@ pub trait Scanner {
     fn continues(&mut self) -> bool
         requires { can_scan self.old }
         ensures ready { can_scan self.new }
-        ensures peeks { (o : Option Token) × Peeks next_token self.old self.new o × (result ≡ is_some o) };
+        ensures peeks { (o : Option Token) × Peeks next_token self.old self.new o × (result ≡ is_some o) }
+        ensures space { is_spaced self.new ≡ is_spaced self.old };
 
     /// Takes a token and hands over its symbols, until `op` refuses one.
     fn scan_symbols<F>(&mut self, op: &mut F) -> Result<(), Self::Error>
@@ -173,4 +174,7 @@ pub trait Scanner {
         ensures ready { can_scan self.new }
         ensures same { TakesNothing next_token self.old self.new }
         ensures empty { IsOkAnd result (λ b. Self.OctetsBuilder.octets b ≡ []) };
+
+    // White space stands before no token but the first of those that are taken.
+    ghost space_ends: { (s u : Self) (t : Token) → next_token s (Some t) u → is_spaced u ≡ false };
 }

@@ -1,0 +1,35 @@
+-- Readings in turn, where tokens are left.
+use Rattle.std.proofs.Common.{◌≡◌, List, [], ◌∷◌, ◌++◌, true, false, refl, ap, subst, ◌∙◌, Option, Result, Ok}
+use Rattle.std.specs.Prelude.{◌≢◌, is_some, MatchOption}
+use Rattle.dns_scan.specs.Cause.{Cause}
+use Rattle.dns_scan.specs.Reads.{ReadsSome}
+use Rattle.dns_scan.specs.Stands.{StandsBefore, stands_takes, stands_same, first_of}
+use Rattle.dns_scan.specs.Tokens.{Token, Peeks}
+
+-- a look ahead finds the first token, and takes none
+pub peeked : {S : Type 0} (next : S → Option Token → S → Type 0) (u v : S) (o : Option Token) (ts : List Token) → StandsBefore next u ts → Peeks next u v o → (o ≡ first_of ts) × StandsBefore next v ts
+peeked next u v o ts stands p = let at = stands_same next u v ts stands p.same in ((stands_takes next v ts o p.shown.0 at p.shown.1).0, at)
+
+pub none_left : (ts : List Token) (o : Option Token) → o ≡ first_of ts → false ≡ is_some o → ts ≡ []
+none_left [] o is h = refl
+none_left (t ∷ ts) o is h = let z : false ≡ true = h ∙ ap is_some is in cc
+
+pub some_left : (ts : List Token) (o : Option Token) → o ≡ first_of ts → true ≡ is_some o → ts ≢ []
+some_left [] o is h = λ e. let z : true ≡ false = h ∙ ap is_some is in cc
+some_left (t ∷ ts) o is h = λ e. cc
+
+-- what holds by whether a token is left
+pub when_some : (P : Type 0) (Q : Token → Type 0) (ts : List Token) (o : Option Token) → o ≡ first_of ts → true ≡ is_some o → ((t : Token) → Q t) → MatchOption (first_of ts) P Q
+when_some P Q [] o is h q = absurd (some_left [] o is h refl)
+when_some P Q (t ∷ ts) o is h q = q t
+
+pub when_none : (P : Type 0) (Q : Token → Type 0) (ts : List Token) (o : Option Token) → o ≡ first_of ts → false ≡ is_some o → P → MatchOption (first_of ts) P Q
+when_none P Q [] o is h p = p
+when_none P Q (t ∷ ts) o is h p = let z : t ∷ ts ≡ [] = none_left (t ∷ ts) o is h in cc
+
+module _ {V : Type 0} (reads : List Token → Result V Cause → List Token → Type 0) where
+  -- one more at the end
+  pub some_more : (tokens : List Token) (values : List V) (middle after : List Token) (v : V) → ReadsSome reads tokens values middle → middle ≢ [] → reads middle (Ok v) after
+      → ReadsSome reads tokens (values ++ v ∷ []) after
+  some_more tokens [] middle after v some left k = subst (λ t. (m : List Token) × (t ≢ []) × reads t (Ok v) m × (after ≡ m)) some (after, left, k, refl)
+  some_more tokens (w ∷ ws) middle after v some left k = (some.0, some.1, some.2, some_more some.0 ws middle after v some.3 left k)

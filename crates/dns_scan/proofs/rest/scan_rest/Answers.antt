@@ -1,0 +1,45 @@
+use Rattle.std.proofs.Common.{[], refl, sym, subst, inl, inr}
+use Rattle.dns_scan.specs.Reads.{ReadsSome}
+use Rattle.dns_scan.specs.Stands.{StandsBefore}
+use Rattle.dns_scan.proofs.TokensLeft.{peeked, none_left, some_left, some_more}
+use Rattle.dns_scan.proofs.rest.scan_rest.Goals as goal
+
+pub returns-then-not-continues-clause-reads : goal.returns-then-not-continues-clause-reads
+returns-then-not-continues-clause-reads g c = λ tokens stands.
+    let at = c.loop-turn.invariant.reads tokens stands in
+    let peek = c.if-not-continues.ensures.peeks in
+    let left = peeked g.S.Scanner.next_token _ _ peek.0 at.0 at.2 peek.1 in
+    let none = none_left at.0 peek.0 left.0 peek.2 in
+    ([], (subst (λ m. ReadsSome g.T.Scan.scan_reads tokens c.loop-turn.values.items m) none at.1, refl), subst (λ m. StandsBefore g.S.Scanner.next_token c.continues.new.self m) none left.1)
+
+pub returns-in-Err-push-clause-reads : goal.returns-in-Err-push-clause-reads
+returns-in-Err-push-clause-reads g c = λ tokens stands.
+    let at = c.loop-turn.invariant.reads tokens stands in
+    let peek = c.if-not-continues.ensures.peeks in
+    let left = peeked g.S.Scanner.next_token _ _ peek.0 at.0 at.2 peek.1 in
+    let some = some_left at.0 peek.0 left.0 peek.2 in
+    let took = c.in-Ok.ensures.reads at.0 left.1 in
+    let more = some_more g.T.Scan.scan_reads tokens c.loop-turn.values.items at.0 took.0 c.in-Ok.value at.1 some took.1 in
+    (took.0, (_, took.0, more, inr (c.short_buf.ensures, refl)), took.2)
+
+pub returns-in-Err-clause-reads : goal.returns-in-Err-clause-reads
+returns-in-Err-clause-reads g c = λ tokens stands.
+    let at = c.loop-turn.invariant.reads tokens stands in
+    let peek = c.if-not-continues.ensures.peeks in
+    let left = peeked g.S.Scanner.next_token _ _ peek.0 at.0 at.2 peek.1 in
+    let some = some_left at.0 peek.0 left.0 peek.2 in
+    let took = c.in-Err.ensures.reads at.0 left.1 in
+    (took.0, (c.loop-turn.values.items, at.0, at.1, inl (some, took.1)), took.2)
+
+pub loop-turn-preserved : goal.loop-turn-preserved
+loop-turn-preserved g c = record {
+  ready = c.in-Ok.ensures.ready;
+  reads = λ tokens stands.
+      let at = c.loop-turn.invariant.reads tokens stands in
+      let peek = c.if-not-continues.ensures.peeks in
+      let left = peeked g.S.Scanner.next_token _ _ peek.0 at.0 at.2 peek.1 in
+      let some = some_left at.0 peek.0 left.0 peek.2 in
+      let took = c.in-Ok.ensures.reads at.0 left.1 in
+      let more = some_more g.T.Scan.scan_reads tokens c.loop-turn.values.items at.0 took.0 c.in-Ok.value at.1 some took.1 in
+      (took.0, subst (λ l. ReadsSome g.T.Scan.scan_reads tokens l took.0) (sym c.in-Ok-push.ensures.items) more, took.2);
+}

@@ -1,0 +1,112 @@
+//! What is left of an entry.
+ghost use Rattle.std.specs.Prelude.{◌≡◌, ◌≤◌, ◌⊎◌, ℕ, List, [], All, IfOk, IsOkAnd, MatchOption, MatchResult, Option, Ok, Err, length};
+ghost use Rattle.std.specs.List.{AllZip};
+ghost use Rattle.dns_charstr.specs.Reading.{HasOctets};
+ghost use Rattle.dns_scan.specs.Cause.{IsCause, short_buf, trailing_tokens};
+ghost use Rattle.dns_scan.specs.Join.{ConvertsTokens, LeavesOf};
+ghost use Rattle.dns_scan.specs.Reads.{ReadsRest};
+ghost use Rattle.dns_scan.specs.Stands.{StandsBefore, first_of};
+ghost use Rattle.dns_scan.specs.Tokens.{Peeks, Token};
+
+use crate::convert::ConvertSymbols;
+use crate::error::ScannerError;
+use crate::laws::entries_convert_as_their_join;
+use crate::scan::Scan;
+use crate::scanner::Scanner;
+use dns_charstr::charstr::CharStr;
+use dns_symbol::symbol::EntrySymbol;
+use std::alloc::Allocator;
+use std::marker::PhantomData;
+
+/// Refuses tokens that are left, as "trailing data". It takes none.
+pub fn expect_end<S: Scanner>(scanner: &mut S) -> Result<(), S::Error>
+    requires { S.can_scan scanner.old }
+    ensures ready { S.can_scan scanner.new }
+    ensures peeks { (o : Option Token) × Peeks S.next_token scanner.old scanner.new o × MatchOption o (result ≡ Ok tt) (λ _. IsCause S.Error.cause result trailing_tokens) }
+    ensures stands { (tokens : List Token) → StandsBefore S.next_token scanner.old tokens
+        → StandsBefore S.next_token scanner.new tokens × MatchOption (first_of tokens) (result ≡ Ok tt) (λ _. IsCause S.Error.cause result trailing_tokens) }
+{
+    if scanner.continues() {
+        return Err(S::Error::trailing_tokens());
+    }
+    Ok(())
+}
+
+/// Takes all tokens that are left, as values of one type, in a list from `alloc`. No token left is
+/// an empty list.
+///
+/// The first value that is refused is the answer; so is "short buffer" where the list finds no
+/// memory. Then the tokens after that value are left.
+pub fn scan_rest<A: Allocator, S: Scanner, T: Scan<S> + Drop>(
+    alloc: A,
+    scanner: &mut S,
+) -> Result<Vec<T, A>, S::Error>
+    requires { S.can_scan scanner.old }
+    ensures ready { S.can_scan scanner.new }
+    ensures reads { (tokens : List Token) → StandsBefore S.next_token scanner.old tokens
+        → (rest : List Token) × MatchResult result (λ v. ReadsRest T.scan_reads tokens (Ok v.items) rest) (λ e. ReadsRest T.scan_reads tokens (Err (S.Error.cause e)) rest)
+        × StandsBefore S.next_token scanner.new rest }
+{
+    let mut values = Vec::new(alloc);
+    for _turn in 0..u64::MAX {
+        if !scanner.continues() {
+            return Ok(values);
+        }
+        match T::scan(scanner) {
+            Ok(value) => match values.push(value) {
+                Ok(()) => {}
+                Err(_) => return Err(S::Error::short_buf()),
+            },
+            Err(error) => return Err(error),
+        }
+    }
+    // No list holds so many values, so this never is.
+    Err(S::Error::short_buf())
+}
+
+/// The octets of all tokens that are left, through a converter of the type `C`.
+#[derive(Drop)]
+pub struct RestOf<C, O> {
+    /// The octets.
+    pub octets: O,
+    converter: PhantomData<C>,
+}
+
+/// All tokens that are left through one converter, as [`Scanner::convert_entry`] takes them.
+impl<S: Scanner, C: ConvertSymbols<EntrySymbol, S::Error> + Default> Scan<S>
+    for RestOf<C, S::Octets> {
+    ghost scan_reads = { λ tokens r rest. (convert : C) × C.is_default convert × MatchResult r
+        (λ x. ConvertsTokens S.Error.cause S.OctetsBuilder.sure S.OctetsBuilder.most C.takes C.tail S.Octets.octets tokens convert (Ok x.octets) rest)
+        (λ why. (e : S.Error) × (S.Error.cause e ≡ why) × ConvertsTokens S.Error.cause S.OctetsBuilder.sure S.OctetsBuilder.most C.takes C.tail S.Octets.octets tokens convert (Err e) rest) };
+
+    fn scan(scanner: &mut S) -> Result<Self, S::Error> {
+        match entries_convert_as_their_join(scanner, C::default()) {
+            Ok(octets) => Ok(RestOf {
+                octets,
+                converter: PhantomData,
+            }),
+            Err(error) => Err(error),
+        }
+    }
+}
+
+/// Takes all tokens that are left as character strings, in a list from `alloc`. No token left is
+/// an empty list.
+///
+/// Tokens that are character strings of at most 255 octets are read as these, unless memory lacks.
+/// Any other tokens are refused.
+pub fn strings_rest<A: Allocator, S: Scanner>(
+    alloc: A,
+    scanner: &mut S,
+) -> Result<Vec<CharStr<S::Octets>, A>, S::Error>
+where
+    S::Octets: Drop,
+    requires { S.can_scan scanner.old }
+    ensures ready { S.can_scan scanner.new }
+    ensures only { (tokens : List Token) → StandsBefore S.next_token scanner.old tokens → IfOk result (λ v. AllZip HasOctets tokens v.items × All (λ s. length s ≤ 255) v.items) }
+    ensures whole { (tokens : List Token) (strings : List (List ℕ)) → StandsBefore S.next_token scanner.old tokens → AllZip HasOctets tokens strings
+        → All (λ s. length s ≤ 255) strings → IsOkAnd result (λ v. v.items ≡ strings) ⊎ IsCause S.Error.cause result short_buf }
+    ensures rest { (tokens : List Token) → StandsBefore S.next_token scanner.old tokens → LeavesOf S.next_token tokens result scanner.new }
+{
+    scan_rest(alloc, scanner)
+}
