@@ -1,3 +1,5 @@
 pub mod Converted
 pub mod LineTokens
 pub mod Spelled
+pub mod EntryTexts
+pub mod NameBack

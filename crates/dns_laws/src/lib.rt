@@ -4,12 +4,15 @@
 //!   a number, an encoding or a character string is scanned back.
 //! - [`lines`]: entry lines, of which all of this holds without a premise of form.
 //! - [`layouts`]: the three layouts and splitting.
-//! - [`encodings`]: what tokens convert to.
+//! - [`encodings`]: what tokens convert to, and [`entries`], what all tokens of an entry do.
+//! - [`names`]: the texts of absolute names.
 //! - [`strings`]: character strings as tokens of a document.
 #![tactic(auto)]
 
 pub mod encodings;
+pub mod entries;
 pub mod lines;
+pub mod names;
 pub mod strings;
 #[cfg(test)]
 mod tests;
