@@ -4,6 +4,7 @@ pub mod Complete
 pub mod Content
 pub mod FaultJoins
 pub mod Joins
+pub mod Lanes
 pub mod OctetJoins
 pub mod Openers
 pub mod PieceFaults
@@ -18,6 +19,7 @@ pub mod PieceSteps
 pub mod PieceWhole
 pub mod Positions
 pub mod Refused
+pub mod Skips
 pub mod Sound
 pub mod Steps
 pub mod Tight

@@ -1,9 +1,9 @@
 -- One turn of the reader of pieces.
-use Rattle.std.proofs.Common.{◌≡◌, ℕ, zero, suc, ◌+◌, ◌-◌, ◌*◌, ◌<◌, Bool, true, false, cond, ◌&&◌, ◌==◌, nat_le, List, ◌∷◌, length, drop, refl, sym, ap, ◌∙◌, subst, ◌⊎◌, inl, inr}
+use Rattle.std.proofs.Common.{◌≡◌, ℕ, zero, suc, ◌+◌, ◌-◌, ◌*◌, ◌<◌, Bool, true, false, cond, ◌&&◌, ◌==◌, nat_le, List, ◌∷◌, length, drop, refl, sym, ap, ◌∙◌, subst}
 use Rattle.std.specs.Prelude.{Some, None, option_map, unwrap_or, Result, Ok}
 use Rattle.std.proofs.Common.{get_or}
 use Rattle.std.proofs.lemmas.List.{drop_more}
-use Rattle.std.proofs.lemmas.Bool.{eq-eqb, cond-true}
+use Rattle.std.proofs.lemmas.Bool.{eq-eqb}
 use Rattle.dns_split.specs.declared.reader.Mode.{Mode}
 use Rattle.dns_split.specs.declared.reader.Mode.TheVariants.{Outside, Quoted, Comment, Return, Escape, OneDigit, TwoDigits}
 use Rattle.dns_split.specs.declared.reader.Kind.{Kind}
@@ -16,7 +16,7 @@ use Rattle.dns_split.specs.declared.pieces.Piece.{Piece}
 use Rattle.dns_split.specs.declared.pieces.Fault.{Fault}
 use Rattle.dns_symbol.specs.Symbol.{is_digit}
 use Rattle.dns_split.specs.Reader.{kind, home, move_to, step, outside_step, quoted_step, comment_step, return_step, line_end}
-use Rattle.dns_split.specs.Run.{before, closed, finished, start_after, blank_after, fault, wrong_at, run, Still, SameRun, SameFrom}
+use Rattle.dns_split.specs.Run.{before, closed, finished, start_after, blank_after, fault, wrong_at, run}
 use Rattle.dns_split.proofs.Complete.{Some_same}
 
 -- what a step gives and leaves
@@ -150,15 +150,3 @@ turn_on text m d s at b c v h e g k f =
     let left : List (Result Piece Fault) = run v.mode v.depth (start_after m v.mode v.act s at) (at + 1) (blank_after v.act b rest) rest in
     turn text m d s at b c v h e g ∙ ap (λ o. before o (before (finished v.act s (at + 1) b) left)) k ∙ ap (λ o. before o left) f
     ∙ ap (λ x. run v.mode v.depth (start_after m v.mode v.act s at) (at + 1) x rest) (same_blank v.act s (at + 1) b rest f)
-
--- one more octet that changes nothing
-pub still_more : (m : Mode) (text : List ℕ) (i j c : ℕ) → j < length text → c ≡ get_or text j 0 → Still m c → SameRun m text i j → SameRun m text i (j + 1)
-still_more m text i j c h e k same d s b = same d s b ∙ ap (run m d s j b) (drop_more text j 0 h ∙ ap (λ x. x ∷ drop (j + 1) text) (sym e)) ∙ k d s j b (drop (j + 1) text)
-
--- a blank before which nothing is open
-pub blank_skipped : (c d i : ℕ) (b : Bool) (bs : List ℕ) → (c ≡ 32) ⊎ (c ≡ 9) → run Outside d i i b (c ∷ bs) ≡ run Outside d (i + 1) (i + 1) b bs
-blank_skipped c d i b bs (inl e) = rw e (ap (λ o. before o (run Outside d (i + 1) (i + 1) b bs)) (cond-true _ _ _ (eq-eqb i i refl)))
-blank_skipped c d i b bs (inr e) = rw e (ap (λ o. before o (run Outside d (i + 1) (i + 1) b bs)) (cond-true _ _ _ (eq-eqb i i refl)))
-
-pub blank_more : (text : List ℕ) (i j c : ℕ) → j < length text → c ≡ get_or text j 0 → (c ≡ 32) ⊎ (c ≡ 9) → SameFrom Outside text i i j j → SameFrom Outside text i i (j + 1) (j + 1)
-blank_more text i j c h e k same d b = same d b ∙ ap (run Outside d j j b) (drop_more text j 0 h ∙ ap (λ x. x ∷ drop (j + 1) text) (sym e)) ∙ blank_skipped c d j b (drop (j + 1) text) k

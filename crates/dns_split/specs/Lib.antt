@@ -7,6 +7,7 @@ pub mod Position
 pub mod Reader
 pub mod Rows
 pub mod Run
+pub mod Skip
 pub mod Splitting
 pub mod Token
 pub mod Viable

@@ -1,5 +1,5 @@
 -- The reader by octets, with the pieces that it gives.
-use Rattle.std.specs.Prelude.{◌≡◌, drop, ℕ, ◌+◌, Bool, true, false, if◌then◌else◌, ◌||◌, ◌==◌, List, [], ◌∷◌, Option, Some, None, option_map, unwrap_or, Result, Ok, Err}
+use Rattle.std.specs.Prelude.{◌≡◌, ◌<◌, ◌≤◌, drop, length, ℕ, ◌+◌, Bool, true, false, if◌then◌else◌, ◌||◌, ◌==◌, List, [], ◌∷◌, Option, Some, None, option_map, unwrap_or, Result, Ok, Err}
 use Rattle.dns_split.specs.declared.reader.Mode.{Mode}
 use Rattle.dns_split.specs.declared.reader.Mode.TheVariants.{Outside, Quoted, Comment, Return}
 use Rattle.dns_split.specs.declared.reader.Act.{Act}
@@ -7,8 +7,10 @@ use Rattle.dns_split.specs.declared.reader.Act.TheVariants.{EndToken, EndEntry, 
 use Rattle.dns_split.specs.declared.reader.Move.{Move}
 use Rattle.dns_split.specs.declared.pieces.Piece.{Piece}
 use Rattle.dns_split.specs.declared.pieces.Fault.{Fault}
+use Rattle.dns_split.specs.declared.pieces.Given.{Given}
 use Rattle.dns_split.specs.declared.pieces.Wrong.{Wrong}
 use Rattle.dns_split.specs.declared.pieces.Wrong.TheVariants.{Closing, OpenParenthesis, OpenQuote, LoneReturn, BadEscape}
+use Rattle.dns_split.specs.declared.skip.Place.{Place}
 use Rattle.dns_split.specs.Reader.{step, may_end}
 use Rattle.dns_split.specs.Pieces.{word_at, quote_at, comment_at, end_at}
 
@@ -110,6 +112,22 @@ Still m c = (d s at : ℕ) (b : Bool) (bs : List ℕ) → run m d s at b (c ∷ 
 abbrev pub SameRun : Mode → List ℕ → ℕ → ℕ → Type 0
 SameRun m text i j = (d s : ℕ) (b : Bool) → run m d s i b (drop i text) ≡ run m d s j b (drop j text)
 
--- the same, where what is open begins elsewhere too
-abbrev pub SameFrom : Mode → List ℕ → ℕ → ℕ → ℕ → ℕ → Type 0
-SameFrom m text s i t j = (d : ℕ) (b : Bool) → run m d s i b (drop i text) ≡ run m d t j b (drop j text)
+-- the octets between are an escape, in a word and in a quoted text
+pub record Skips (text : List ℕ) (i j : ℕ) : Type 0 where
+  pub on : i < j
+  pub within : j ≤ length text
+  pub word : SameRun Outside text i j
+  pub quoted : SameRun Quoted text i j
+
+-- a later place in the text, from which the reader gives the same
+pub record Passes (m : Mode) (text : List ℕ) (p q : Place) : Type 0 where
+  pub on : p.at ≤ q.at
+  pub within : q.at ≤ length text
+  pub deep : q.depth ≤ q.at
+  pub same : (b : Bool) → run m p.depth p.start p.at b (drop p.at text) ≡ run m q.depth q.start q.at b (drop q.at text)
+
+-- the reader gives a piece, and then stands outside with nothing open
+pub record Gives (m : Mode) (text : List ℕ) (p : Place) (b : Bool) (g : Given) : Type 0 where
+  pub on : p.at ≤ g.at
+  pub within : g.at ≤ length text
+  pub same : run m p.depth p.start p.at b (drop p.at text) ≡ Ok g.piece ∷ run Outside p.depth g.at g.at g.begins_blank (drop g.at text)

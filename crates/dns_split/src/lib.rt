@@ -27,6 +27,7 @@ mod piece_tests;
 pub mod pieces;
 pub mod position;
 mod reader;
+mod skip;
 pub mod splitting;
 #[cfg(test)]
 mod tests;

@@ -1,11 +1,11 @@
 //! The pieces of a zone text, one by one, with their places and without memory.
-ghost use Rattle.std.specs.Prelude.{◌≡◌, ◌+◌, ◌<◌, ◌^◌, ◌≤◌, IsTrue, IfSome, length, drop};
+ghost use Rattle.std.specs.Prelude.{◌≡◌, ◌+◌, ◌<◌, ◌^◌, ◌≤◌, IfSome, length, drop};
 ghost use Rattle.std.specs.Str.{IsCharBoundary};
 ghost use Rattle.dns_split.specs.Pieces.{Reads, EachFits, ReadsOctets, ReadsOctetsFrom, EachWithin, IsPart, between, ReadsFrom, EachIsPart, next_blank};
-ghost use Rattle.dns_split.specs.Run.{open_piece, goes_on, closed, finished, start_after, first_blank, wrong_at, wrong_at_end, run, Still, SameRun, SameFrom};
-ghost use Rattle.dns_split.specs.declared.reader.Mode.TheVariants.{Outside};
+ghost use Rattle.dns_split.specs.Run.{open_piece, goes_on, closed, finished, start_after, first_blank, wrong_at, wrong_at_end, run, Gives};
 
 use crate::reader::{Act, Mode, may_end, step};
+use crate::skip::{Place, skip};
 use std::marker::Model;
 
 /// Octets of a text, from `start` to before `end`.
@@ -178,69 +178,83 @@ fn first_blank(octets: &[u8], at: usize) -> bool
     }
 }
 
-/// Whether an octet, by a few comparisons, neither ends nor begins a piece and keeps the mode.
-///
-/// Some rare octets that change nothing either are left to [`step`].
+/// A piece, and where the reader then stands, outside with nothing open.
+#[derive(Clone, Copy)]
+struct Given {
+    piece: Piece,
+    at: usize,
+    begins_blank: bool,
+}
+
+/// The word that ends before the octet at which the reader stands, if that ends it.
 #[inline(always)]
-fn is_still(mode: Mode, octet: u8) -> bool
-    ensures { IsTrue result → Still mode octet }
+fn word_here(octets: &[u8], place: Place, begins_blank: bool) -> Option<Given>
+    requires within { place.at < length octets.now }
+    requires open { place.start < place.at }
+    ensures { IfSome result (Gives Mode.Outside octets.now place begins_blank) }
 {
+    let Place { start, at, .. } = place;
+    let piece = Piece::Word(Span { start, end: at });
+    match octets[at] {
+        b' ' | b'\t' => Some(Given {
+            piece,
+            at: at + 1,
+            begins_blank,
+        }),
+        b'\n' | b'\r' | b'(' | b';' | b'"' => Some(Given {
+            piece,
+            at,
+            begins_blank,
+        }),
+        _ => None,
+    }
+}
+
+/// The end of the line at which the reader stands, outside parentheses with nothing open.
+#[inline(always)]
+fn end_here(octets: &[u8], place: Place, begins_blank: bool) -> Option<Given>
+    requires within { place.at < length octets.now }
+    requires closed { place.start ≡ place.at }
+    requires flat { place.depth ≡ 0 }
+    ensures { IfSome result (Gives Mode.Outside octets.now place begins_blank) }
+{
+    let at = place.at;
+    let end = match octets[at] {
+        b'\n' => at + 1,
+        b'\r' if octets.get(at + 1) == Some(&b'\n') => at + 2,
+        _ => return None,
+    };
+    Some(Given {
+        piece: Piece::End(EndOfEntry {
+            at: end,
+            begins_blank,
+        }),
+        at: end,
+        begins_blank: first_blank(octets, end),
+    })
+}
+
+/// The piece that is given at the octet at which the reader stands, in the cases that are common.
+#[inline(always)]
+fn piece_here(mode: Mode, octets: &[u8], place: Place, begins_blank: bool) -> Option<Given>
+    requires { place.at < length octets.now }
+    ensures { IfSome result (Gives mode octets.now place begins_blank) }
+{
+    let Place { depth, start, at } = place;
     match mode {
-        Mode::Outside => octet > b')' && octet != b';' && octet != b'\\',
-        Mode::Quoted => octet >= b' ' && octet != b'"' && octet != b'\\',
-        Mode::Comment => octet > b'\r',
-        _ => false,
-    }
-}
-
-/// The first place from `at` on whose octet is not still.
-#[inline(always)]
-fn skip_still(mode: Mode, octets: &[u8], at: usize) -> usize
-    requires { at ≤ length octets.now }
-    ensures on { at ≤ result }
-    ensures within { result ≤ length octets.now }
-    ensures same { SameRun mode octets.now at result }
-{
-    let mut place = at;
-    while place < octets.len() && is_still(mode, octets[place]) {
-        place += 1;
-    }
-    place
-}
-
-/// The first place from `at` on without a blank.
-#[inline(always)]
-fn skip_blanks(octets: &[u8], at: usize) -> usize
-    requires { at ≤ length octets.now }
-    ensures on { at ≤ result }
-    ensures within { result ≤ length octets.now }
-    ensures same { SameFrom Outside octets.now at at result result }
-{
-    let mut place = at;
-    while place < octets.len() && (octets[place] == b' ' || octets[place] == b'\t') {
-        place += 1;
-    }
-    place
-}
-
-/// A later place from which the reader gives the same, and where what is open there begins.
-#[inline(always)]
-fn skip(mode: Mode, octets: &[u8], start: usize, at: usize) -> Span
-    requires { at ≤ length octets.now }
-    ensures on { at ≤ result.end }
-    ensures within { result.end ≤ length octets.now }
-    ensures same { SameFrom mode octets.now start at result.start result.end }
-{
-    match mode {
-        Mode::Outside if start == at => {
-            let word = skip_blanks(octets, at);
-            let end = skip_still(Mode::Outside, octets, word);
-            Span { start: word, end }
-        }
-        _ => {
-            let end = skip_still(mode, octets, at);
-            Span { start, end }
-        }
+        Mode::Outside if start < at => word_here(octets, place, begins_blank),
+        Mode::Outside if start == at && depth == 0 => end_here(octets, place, begins_blank),
+        Mode::Quoted if octets[at] == b'"' => Some(Given {
+            piece: Piece::Quote(Span { start, end: at + 1 }),
+            at: at + 1,
+            begins_blank,
+        }),
+        Mode::Comment if octets[at] == b'\n' || octets[at] == b'\r' => Some(Given {
+            piece: Piece::Comment(Span { start, end: at }),
+            at,
+            begins_blank,
+        }),
+        _ => None,
     }
 }
 
@@ -285,11 +299,22 @@ impl<'t> Iterator for Pieces<'t> {
         }
         let octets = self.octets;
         let mut mode = self.mode;
-        let mut depth = self.depth;
-        let first = skip(mode, octets, self.start, self.at);
-        let mut start = first.start;
-        let mut at = first.end;
-        while at < octets.len() {
+        let now = Place {
+            depth: self.depth,
+            start: self.start,
+            at: self.at,
+        };
+        let mut place = skip(mode, octets, now);
+        while place.at < octets.len() {
+            if let Some(given) = piece_here(mode, octets, place, self.begins_blank) {
+                self.mode = Mode::Outside;
+                self.depth = place.depth;
+                self.start = given.at;
+                self.at = given.at;
+                self.begins_blank = given.begins_blank;
+                return Some(Ok(given.piece));
+            }
+            let Place { depth, start, at } = place;
             let Some(next) = step(mode, depth, char::from(octets[at])) else {
                 self.is_done = true;
                 let wrong = wrong_at(mode, start);
@@ -312,10 +337,9 @@ impl<'t> Iterator for Pieces<'t> {
             let piece = finished(next.act, start, at + 1, self.begins_blank);
             let begins = start_after(mode, next.mode, next.act, start, at);
             mode = next.mode;
-            depth = next.depth;
             if let Some(piece) = piece {
                 self.mode = mode;
-                self.depth = depth;
+                self.depth = next.depth;
                 self.start = begins;
                 self.at = at + 1;
                 if let Act::EndEntry = next.act {
@@ -323,10 +347,14 @@ impl<'t> Iterator for Pieces<'t> {
                 }
                 return Some(Ok(piece));
             }
-            let later = skip(mode, octets, begins, at + 1);
-            start = later.start;
-            at = later.end;
+            let after = Place {
+                depth: next.depth,
+                start: begins,
+                at: at + 1,
+            };
+            place = skip(mode, octets, after);
         }
+        let Place { depth, start, at } = place;
         if !may_end(mode, depth) {
             self.is_done = true;
             let wrong = wrong_at_end(mode, start);

@@ -1,0 +1,182 @@
+-- Octets passed over, and the reader that takes them one by one.
+use Rattle.std.proofs.Common.{◌≡◌, ℕ, zero, suc, ◌+◌, ◌-◌, ◌*◌, ◌<◌, ◌≤◌, arith, rules, Bool, true, false, cond, not, ◌&&◌, ◌==◌, nat_le, nat_lt, List, ◌∷◌, length, drop, refl, sym, ap, ◌∙◌, subst, ◌⊎◌, inl, inr}
+use Rattle.std.specs.Prelude.{Some, None, Ok}
+use Rattle.std.proofs.Common.{get_or}
+use Rattle.std.proofs.lemmas.List.{drop_more}
+use Rattle.std.proofs.lemmas.Bool.{eq-eqb, cond-true, cond-false, cases_lt, le-leb}
+use Rattle.dns_split.specs.declared.reader.Mode.{Mode}
+use Rattle.dns_split.specs.declared.reader.Mode.TheVariants.{Outside, Quoted, Comment, Escape, OneDigit, TwoDigits}
+use Rattle.dns_split.specs.declared.reader.Act.TheVariants.{Add, EndToken}
+use Rattle.dns_split.specs.declared.reader.Within.{Within}
+use Rattle.dns_split.specs.declared.reader.Within.TheVariants.{InQuote, InWord}
+use Rattle.dns_split.specs.declared.skip.Class.{Class}
+use Rattle.dns_split.specs.declared.skip.Class.TheVariants.{Word, Quote, Comment as Note, Blank}
+use Rattle.dns_split.specs.declared.skip.Place.{Place}
+use Rattle.dns_symbol.specs.Symbol.{is_digit, is_printable}
+use Rattle.dns_split.specs.Reader.{home, move_to, step}
+use Rattle.dns_split.specs.Run.{run, before, closed, Still, SameRun, Skips, Passes, Gives, first_blank}
+use Rattle.dns_split.specs.Skip.{is_in, EachIn, RunIn}
+use Rattle.dns_split.proofs.PieceSteps.{run_step}
+
+-- ---- classes
+-- one more octet, and a run of them
+pub each_none : (k : Class) (text : List ℕ) (i : ℕ) → EachIn k text i i
+each_none k text i n from to = absurd (omega arith)
+
+pub each_more : (k : Class) (text : List ℕ) (i j : ℕ) → EachIn k text i j → is_in k (get_or text j 0) ≡ true → EachIn k text i (j + 1)
+each_more k text i j all here n from to = elim (cases_lt n j) [ inl early ↦ all n from early | inr late ↦ subst (λ m. is_in k (get_or text m 0) ≡ true) (omega arith) here ]
+
+pub each_joined : (k : Class) (text : List ℕ) (i j e : ℕ) → EachIn k text i j → EachIn k text j e → EachIn k text i e
+each_joined k text i j e front back n from to = elim (cases_lt n j) [ inl early ↦ front n from early | inr late ↦ back n late to ]
+
+-- an octet of a class changes nothing in its mode
+pub word_still : (c : ℕ) → is_in Word c ≡ true → Still Outside c
+word_still c h d s at b bs = search rules
+
+pub quote_still : (c : ℕ) → is_in Quote c ≡ true → Still Quoted c
+quote_still c h d s at b bs = search rules
+
+pub note_still : (c : ℕ) → is_in Note c ≡ true → Still Comment c
+note_still c h d s at b bs = search rules
+
+at_drop : (text : List ℕ) (i : ℕ) → i < length text → drop i text ≡ get_or text i 0 ∷ drop (i + 1) text
+at_drop text i h = drop_more text i 0 h
+
+-- octets that change nothing, one after the other
+still_run : (m : Mode) (k : Class) → ((c : ℕ) → is_in k c ≡ true → Still m c) → (text : List ℕ) (i r : ℕ) → i + r ≤ length text → EachIn k text i (i + r) → SameRun m text i (i + r)
+still_run m k still text i zero w all = subst (λ j. SameRun m text i j) (omega arith) (λ d s b. refl)
+still_run m k still text i (suc r) w all = λ d s b.
+    let here : is_in k (get_or text i 0) ≡ true = all i (omega arith) (omega arith) in
+    let rest : SameRun m text (i + 1) (i + 1 + r) = still_run m k still text (i + 1) r (omega (arith, w)) (λ n from to. all n (omega arith) (omega (arith, to))) in
+    let further : i + 1 + r ≡ i + suc r = omega arith in
+    let moved : SameRun m text (i + 1) (i + suc r) = subst (λ j. SameRun m text (i + 1) j) further rest in
+    ap (run m d s i b) (at_drop text i (omega (arith, w))) ∙ still (get_or text i 0) here d s i b (drop (i + 1) text) ∙ moved d s b
+
+pub still_between : (m : Mode) (k : Class) → ((c : ℕ) → is_in k c ≡ true → Still m c) → (text : List ℕ) (i j : ℕ) → i ≤ j → j ≤ length text → EachIn k text i j → SameRun m text i j
+still_between m k still text i j o w all = subst (λ e. SameRun m text i e) (omega arith) (still_run m k still text i (j - i) (omega (arith, o, w)) (λ n from to. all n from (omega (arith, o, to))))
+
+-- an octet before and after which nothing is open
+moved_on : (c d n i : ℕ) (b : Bool) (bs : List ℕ) → step Outside d c ≡ move_to Outside n EndToken → run Outside d i i b (c ∷ bs) ≡ run Outside n (i + 1) (i + 1) b bs
+moved_on c d n i b bs h = run_step Outside d i i b c bs _ h ∙ ap (λ o. before o (run Outside n (i + 1) (i + 1) b bs)) (cond-true _ _ _ (eq-eqb i i refl))
+
+blank_step : (c d : ℕ) → is_in Blank c ≡ true → step Outside d c ≡ move_to Outside d EndToken
+blank_step c d h = search rules
+
+pub blank_skipped : (c d i : ℕ) (b : Bool) (bs : List ℕ) → is_in Blank c ≡ true → run Outside d i i b (c ∷ bs) ≡ run Outside d (i + 1) (i + 1) b bs
+blank_skipped c d i b bs h = moved_on c d d i b bs (blank_step c d h)
+
+blank_run : (text : List ℕ) (i r : ℕ) → i + r ≤ length text → EachIn Blank text i (i + r) → (d : ℕ) (b : Bool) → run Outside d i i b (drop i text) ≡ run Outside d (i + r) (i + r) b (drop (i + r) text)
+blank_run text i zero w all d b = subst (λ j. run Outside d i i b (drop i text) ≡ run Outside d j j b (drop j text)) (omega arith) refl
+blank_run text i (suc r) w all d b =
+    let here : is_in Blank (get_or text i 0) ≡ true = all i (omega arith) (omega arith) in
+    let rest = blank_run text (i + 1) r (omega (arith, w)) (λ n from to. all n (omega arith) (omega (arith, to))) d b in
+    let further : i + 1 + r ≡ i + suc r = omega arith in
+    ap (run Outside d i i b) (at_drop text i (omega (arith, w))) ∙ blank_skipped (get_or text i 0) d i b (drop (i + 1) text) here
+    ∙ subst (λ j. run Outside d (i + 1) (i + 1) b (drop (i + 1) text) ≡ run Outside d j j b (drop j text)) further rest
+
+pub blank_between : (text : List ℕ) (i j : ℕ) → i ≤ j → j ≤ length text → EachIn Blank text i j → (d : ℕ) (b : Bool) → run Outside d i i b (drop i text) ≡ run Outside d j j b (drop j text)
+blank_between text i j o w all d b = subst (λ e. run Outside d i i b (drop i text) ≡ run Outside d e e b (drop e text)) (omega arith) (blank_run text i (j - i) (omega (arith, o, w)) (λ n from to. all n from (omega (arith, o, to))) d b)
+
+-- ---- escapes
+-- one octet that joins the token
+joins : (m n : Mode) (d s at : ℕ) (b : Bool) (c : ℕ) (bs : List ℕ) → step m d c ≡ move_to n d Add → run m d s at b (c ∷ bs) ≡ before (closed m n Add s at) (run n d s (at + 1) b bs)
+joins m n d s at b c bs h = run_step m d s at b c bs _ h
+
+-- after the backslash
+simple_left : (q : Within) (c d s at : ℕ) (b : Bool) (bs : List ℕ) → is_printable c ≡ true → is_digit c ≡ false → run (Escape q) d s at b (c ∷ bs) ≡ run (home q) d s (at + 1) b bs
+simple_left InWord c d s at b bs p g = run_step (Escape InWord) d s at b c bs _ (cond-false _ _ _ g ∙ cond-true _ _ _ p)
+simple_left InQuote c d s at b bs p g = run_step (Escape InQuote) d s at b c bs _ (cond-false _ _ _ g ∙ cond-true _ _ _ p)
+
+both : (a c : Bool) → a ≡ true → c ≡ true → (a && c) ≡ true
+both a c p q = rw p q
+
+third_left : (q : Within) (n c d s at : ℕ) (b : Bool) (bs : List ℕ) → is_digit c ≡ true → nat_le (10 * n + (c - 48)) 255 ≡ true → run (TwoDigits q n) d s at b (c ∷ bs) ≡ run (home q) d s (at + 1) b bs
+third_left InWord n c d s at b bs g h = run_step (TwoDigits InWord n) d s at b c bs _ (cond-true _ _ _ (both _ _ g h))
+third_left InQuote n c d s at b bs g h = run_step (TwoDigits InQuote n) d s at b c bs _ (cond-true _ _ _ (both _ _ g h))
+
+second_left : (q : Within) (n c d s at : ℕ) (b : Bool) (bs : List ℕ) → is_digit c ≡ true → nat_le (10 * n + (c - 48)) 25 ≡ true → run (OneDigit q n) d s at b (c ∷ bs) ≡ run (TwoDigits q (10 * n + (c - 48))) d s (at + 1) b bs
+second_left q n c d s at b bs g h = run_step (OneDigit q n) d s at b c bs _ (cond-true _ _ _ (both _ _ g h))
+
+first_left : (q : Within) (c d s at : ℕ) (b : Bool) (bs : List ℕ) → is_digit c ≡ true → nat_le c 50 ≡ true → run (Escape q) d s at b (c ∷ bs) ≡ run (OneDigit q (c - 48)) d s (at + 1) b bs
+first_left q c d s at b bs g h = run_step (Escape q) d s at b c bs _ (cond-true _ _ _ g ∙ cond-true _ _ _ h)
+
+begun : (q : Within) (d s at : ℕ) (b : Bool) (bs : List ℕ) → run (home q) d s at b (92 ∷ bs) ≡ run (Escape q) d s (at + 1) b bs
+begun InWord d s at b bs = refl
+begun InQuote d s at b bs = refl
+
+-- a simple escape, and one of three digits, in a text
+simple_escape : (q : Within) (text : List ℕ) (i : ℕ) → i + 2 ≤ length text → get_or text i 0 ≡ 92 → is_printable (get_or text (i + 1) 0) ≡ true → is_digit (get_or text (i + 1) 0) ≡ false → SameRun (home q) text i (i + 2)
+simple_escape q text i w e p g d s b =
+    ap (run (home q) d s i b) (at_drop text i (omega arith) ∙ ap (λ c. c ∷ drop (i + 1) text) e) ∙ begun q d s i b (drop (i + 1) text)
+    ∙ ap (run (Escape q) d s (i + 1) b) (at_drop text (i + 1) (omega arith)) ∙ simple_left q (get_or text (i + 1) 0) d s (i + 1) b (drop (i + 1 + 1) text) p g
+    ∙ ap (λ j. run (home q) d s j b (drop j text)) (omega arith)
+
+digits_escape : (q : Within) (text : List ℕ) (i x y z : ℕ) → i + 4 ≤ length text → get_or text i 0 ≡ 92 → is_digit (get_or text (i + 1) 0) ≡ true → get_or text (i + 1) 0 ≡ x + 48
+    → is_digit (get_or text (i + 1 + 1) 0) ≡ true → get_or text (i + 1 + 1) 0 ≡ y + 48 → is_digit (get_or text (i + 1 + 1 + 1) 0) ≡ true → get_or text (i + 1 + 1 + 1) 0 ≡ z + 48
+    → 100 * x + 10 * y + z ≤ 255 → SameRun (home q) text i (i + 4)
+digits_escape q text i x y z w e gx ex gy ey gz ez small d s b =
+    let c : ℕ = get_or text (i + 1) 0 in
+    let e1 : c - 48 ≡ x = omega (arith, ex) in
+    let f : ℕ = get_or text (i + 1 + 1) 0 in
+    let e2 : f - 48 ≡ y = omega (arith, ey) in
+    let g : ℕ = get_or text (i + 1 + 1 + 1) 0 in
+    let e3 : g - 48 ≡ z = omega (arith, ez) in
+    let first : nat_le c 50 ≡ true = le-leb c 50 (omega (arith, ex, small)) in
+    let second : nat_le (10 * (c - 48) + (f - 48)) 25 ≡ true = le-leb (10 * (c - 48) + (f - 48)) 25 (omega (arith, e1, e2, small)) in
+    let third : nat_le (10 * (10 * (c - 48) + (f - 48)) + (g - 48)) 255 ≡ true = le-leb (10 * (10 * (c - 48) + (f - 48)) + (g - 48)) 255 (omega (arith, e1, e2, e3, small)) in
+    ap (run (home q) d s i b) (at_drop text i (omega arith) ∙ ap (λ o. o ∷ drop (i + 1) text) e) ∙ begun q d s i b (drop (i + 1) text)
+    ∙ ap (run (Escape q) d s (i + 1) b) (at_drop text (i + 1) (omega arith)) ∙ first_left q c d s (i + 1) b (drop (i + 1 + 1) text) gx first
+    ∙ ap (run (OneDigit q (c - 48)) d s (i + 1 + 1) b) (at_drop text (i + 1 + 1) (omega arith)) ∙ second_left q (c - 48) f d s (i + 1 + 1) b (drop (i + 1 + 1 + 1) text) gy second
+    ∙ ap (run (TwoDigits q (10 * (c - 48) + (f - 48))) d s (i + 1 + 1 + 1) b) (at_drop text (i + 1 + 1 + 1) (omega arith))
+    ∙ third_left q (10 * (c - 48) + (f - 48)) g d s (i + 1 + 1 + 1) b (drop (i + 1 + 1 + 1 + 1) text) gz third
+    ∙ ap (λ j. run (home q) d s j b (drop j text)) (omega arith)
+
+-- each in a word and in a quoted text
+pub simple_skipped : (text : List ℕ) (i : ℕ) → i + 2 ≤ length text → get_or text i 0 ≡ 92 → is_printable (get_or text (i + 1) 0) ≡ true → is_digit (get_or text (i + 1) 0) ≡ false → Skips text i (i + 2)
+simple_skipped text i w e p g = record { on = omega arith; within = w; word = simple_escape InWord text i w e p g; quoted = simple_escape InQuote text i w e p g }
+
+pub digits_skipped : (text : List ℕ) (i x y z : ℕ) → i + 4 ≤ length text → get_or text i 0 ≡ 92 → is_digit (get_or text (i + 1) 0) ≡ true → get_or text (i + 1) 0 ≡ x + 48
+    → is_digit (get_or text (i + 2) 0) ≡ true → get_or text (i + 2) 0 ≡ y + 48 → is_digit (get_or text (i + 3) 0) ≡ true → get_or text (i + 3) 0 ≡ z + 48
+    → 100 * x + 10 * y + z ≤ 255 → Skips text i (i + 4)
+digits_skipped text i x y z w e gx ex gy ey gz ez small =
+    let p : i + 2 ≡ i + 1 + 1 = omega arith in
+    let r : i + 3 ≡ i + 1 + 1 + 1 = omega arith in
+    let dy = subst (λ j. is_digit (get_or text j 0) ≡ true) p gy in
+    let vy = subst (λ j. get_or text j 0 ≡ y + 48) p ey in
+    let dz = subst (λ j. is_digit (get_or text j 0) ≡ true) r gz in
+    let vz = subst (λ j. get_or text j 0 ≡ z + 48) r ez in
+    record {
+      on = omega arith;
+      within = w;
+      word = digits_escape InWord text i x y z w e gx ex dy vy dz vz small;
+      quoted = digits_escape InQuote text i x y z w e gx ex dy vy dz vz small;
+    }
+
+-- ---- later places
+pub class_passed : (m : Mode) (k : Class) → ((c : ℕ) → is_in k c ≡ true → Still m c) → (text : List ℕ) (p : Place) (e : ℕ) → p.at < length text → p.depth ≤ p.at → is_in k (get_or text p.at 0) ≡ true
+    → p.at + 1 ≤ e → e ≤ length text → EachIn k text (p.at + 1) e → Passes m text p (record { depth = p.depth; start = p.start; at = e })
+class_passed m k still text p e w deep here o v rest =
+    let all = each_joined k text p.at (p.at + 1) e (each_more k text p.at p.at (each_none k text p.at) here) rest in
+    record {
+      on = omega (arith, o);
+      within = v;
+      deep = omega (arith, o, deep);
+      same = λ b. still_between m k still text p.at e (omega (arith, o)) v all p.depth p.start b;
+    }
+
+pub blanks_passed : (text : List ℕ) (p : Place) (e : ℕ) → p.at < length text → p.depth ≤ p.at → p.start ≡ p.at → is_in Blank (get_or text p.at 0) ≡ true
+    → p.at + 1 ≤ e → e ≤ length text → EachIn Blank text (p.at + 1) e → Passes Outside text p (record { depth = p.depth; start = e; at = e })
+blanks_passed text p e w deep none here o v rest =
+    let all = each_joined Blank text p.at (p.at + 1) e (each_more Blank text p.at p.at (each_none Blank text p.at) here) rest in
+    record {
+      on = omega (arith, o);
+      within = v;
+      deep = omega (arith, o, deep);
+      same = λ b. ap (λ s. run Outside p.depth s p.at b (drop p.at text)) none ∙ blank_between text p.at e (omega (arith, o)) v all p.depth b;
+    }
+
+pub stays : (m : Mode) (text : List ℕ) (p : Place) → p.depth ≤ p.at → p.at ≤ length text → Passes m text p p
+stays m text p deep w = record { on = omega arith; within = w; deep = deep; same = λ b. refl }
+
+pub passes_on : (m : Mode) (text : List ℕ) (p q r : Place) → Passes m text p q → Passes m text q r → Passes m text p r
+passes_on m text p q r f g = record { on = omega (arith, f.on, g.on); within = g.within; deep = g.deep; same = λ b. f.same b ∙ g.same b }

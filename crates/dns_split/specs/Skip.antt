@@ -1,0 +1,24 @@
+-- Octets that the reader passes over together.
+use Rattle.std.specs.Prelude.{◌≡◌, ◌≤◌, ◌<◌, ℕ, ◌+◌, if◌then◌else◌, Bool, true, not, nat_lt, nat_le, ◌&&◌, ◌||◌, ◌==◌, List, slice_index}
+use Rattle.std.specs.Int.{w64, trailing_zeros}
+use Rattle.dns_split.specs.declared.skip.Class.{Class}
+use Rattle.dns_split.specs.declared.skip.Class.TheVariants.{Word, Quote, Comment, Blank}
+
+-- not every octet that changes nothing: those that a few comparisons find
+abbrev pub is_in : Class → ℕ → Bool
+is_in Word c = nat_lt 41 c && (not (c == 59) && not (c == 92))
+is_in Quote c = nat_le 32 c && (not (c == 34) && not (c == 92))
+is_in Comment c = nat_lt 13 c
+is_in Blank c = c == 32 || c == 9
+
+-- each octet from one place to before another
+abbrev pub EachIn : Class → List ℕ → ℕ → ℕ → Type 0
+EachIn k text i j = (n : ℕ) → i ≤ n → n < j → is_in k (slice_index text n) ≡ true
+
+-- the first octets of 16
+abbrev pub RunIn : Class → List ℕ → ℕ → ℕ → Type 0
+RunIn k text i run = (run ≤ 16) × EachIn k text i (i + run)
+
+-- the place of the lowest bit that is set, or 16
+abbrev pub first_set : ℕ → ℕ
+first_set mask = if mask == 0 then 16 else trailing_zeros w64 mask
