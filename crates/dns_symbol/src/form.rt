@@ -14,6 +14,7 @@ use std::{fmt, str};
 /// as the character alone, and all other octets as a backslash and three decimal digits (RFC 1035
 /// section 5.1).
 pub trait Form {
+    // Which of the octets from 0x20 to 0x7E the form escapes simply.
     ghost is_escape: { ℕ → Bool };
 
     /// Whether the form escapes an octet simply, if it is one of 0x20 to 0x7E.

@@ -2,7 +2,7 @@
 ghost use Rattle.std.specs.Prelude.{◌≡◌};
 
 use crate::charstr::CharStr;
-use dns_symbol::symbol::Symbol;
+use dns_symbol::form::{Plain, Quoted, Unquoted, write_octets};
 use dns_wire::AsOctets;
 use std::fmt;
 
@@ -14,11 +14,7 @@ impl<Octs: AsOctets> fmt::Display for CharStr<Octs> {
     ghost output = { λ s. Some (encode_utf8_all (text_of is_plain_escape s)) };
 
     fn fmt<W: fmt::Write>(&self, f: &mut fmt::Formatter<W>) -> fmt::Result {
-        for octet in self.as_slice() {
-            let symbol = Symbol::display_from_octet(*octet);
-            write!(f, "{symbol}")?;
-        }
-        Ok(())
+        write_octets::<Plain, W>(self.as_slice(), f)
     }
 }
 
@@ -78,12 +74,9 @@ impl fmt::Display for DisplayQuoted<'_> {
     ghost output = { λ d. Some (encode_utf8_all (quoted_text (quoted_octets d))) };
 
     fn fmt<W: fmt::Write>(&self, f: &mut fmt::Formatter<W>) -> fmt::Result {
-        write!(f, "\"")?;
-        for octet in self.octets {
-            let symbol = Symbol::quoted_from_octet(*octet);
-            write!(f, "{symbol}")?;
-        }
-        write!(f, "\"")
+        f.write_str("\"")?;
+        write_octets::<Quoted, W>(self.octets, f)?;
+        f.write_str("\"")
     }
 }
 
@@ -112,11 +105,7 @@ impl fmt::Display for DisplayUnquoted<'_> {
     ghost output = { λ d. Some (encode_utf8_all (text_of is_unquoted_escape (unquoted_octets d))) };
 
     fn fmt<W: fmt::Write>(&self, f: &mut fmt::Formatter<W>) -> fmt::Result {
-        for octet in self.octets {
-            let symbol = Symbol::from_octet(*octet);
-            write!(f, "{symbol}")?;
-        }
-        Ok(())
+        write_octets::<Unquoted, W>(self.octets, f)
     }
 }
 
