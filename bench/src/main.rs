@@ -6,8 +6,10 @@ mod codecs;
 mod heap;
 mod measure;
 mod splitting;
+mod strings;
 
 fn main() {
     codecs::run();
     splitting::run();
+    strings::run();
 }
