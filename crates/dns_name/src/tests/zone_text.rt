@@ -32,14 +32,18 @@ fn prints_each_octet(rt: HostRuntime) -> Result<(), Fail> {
         let printed = format!(in alloc; "{}", ZoneName::new(&name))?;
         assert_eq!(rt; printed.as_str(), text.as_str());
         let read = Vector::from_str(alloc, printed.as_str());
-        assert!(rt; matches!(read, Ok(read) if read.as_slice() == octets.as_slice() && read.is_relative()));
+        assert!(rt;
+            matches!(read, Ok(read) if read.as_slice() == octets.as_slice() && read.is_relative())
+        );
         let octets = [1, octet, 0];
         let name = absolute(&octets);
         let printed = format!(in alloc; "{}", ZoneName::new(&name))?;
         let text = format!(in alloc; "{text}.")?;
         assert_eq!(rt; printed.as_str(), text.as_str());
         let read = Vector::from_str(alloc, printed.as_str());
-        assert!(rt; matches!(read, Ok(read) if read.as_slice() == octets.as_slice() && read.is_absolute()));
+        assert!(rt;
+            matches!(read, Ok(read) if read.as_slice() == octets.as_slice() && read.is_absolute())
+        );
     }
     Ok(())
 }
