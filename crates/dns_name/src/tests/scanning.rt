@@ -67,7 +67,7 @@ struct Names<N, E = Refusal> {
 }
 
 impl<N: ToName + Drop, E: ScannerError> Scanner for Names<N, E> {
-    ghost use Rattle.std.specs.Prelude.{◌≡◌, Some, false, ⊤, codes};
+    ghost use Rattle.std.specs.Prelude.{◌≡◌, Some, false, ⊤, codes, refl};
 
     type Octets = ArrayVec<u8, 0>;
 
@@ -84,6 +84,8 @@ impl<N: ToName + Drop, E: ScannerError> Scanner for Names<N, E> {
     ghost reads_name = { λ _ _. ⊤ };
 
     ghost is_spaced = { λ _. false };
+
+    ghost space_ends = { λ _ _ _ _. refl };
 
     fn has_space(&self) -> bool {
         false
