@@ -17,7 +17,11 @@
 //! }
 //! ```
 ghost use Rattle.std.specs.Prelude.{◌≡◌, List, ℕ, map};
+ghost use Rattle.std.specs.List.{AllByRecursion};
+ghost use Rattle.dns_split.specs.Token.{IsToken};
+ghost use Rattle.dns_scan.specs.Join.{IsSymbols};
 ghost use Rattle.dns_scan.specs.Stands.{StandsBefore};
+ghost use Rattle.dns_scan.specs.Tokens.{Token};
 ghost use Rattle.dns_iter.specs.Contents.{AreContents};
 
 use crate::error::StrError;
@@ -118,3 +122,11 @@ where
 {
     IterScanner::spaced(alloc, Contents::new(tokens), spaced)
 }
+
+/// Each token holds one text, and that is symbols throughout, so that no scan refuses a bad escape
+/// of it.
+pub fn tokens_hold_one_text()
+    ensures some { (tokens : List Token) → AllByRecursion IsToken tokens → (contents : List (List ℕ)) × AreContents tokens contents }
+    ensures one { (tokens : List Token) (a b : List (List ℕ)) → AreContents tokens a → AreContents tokens b → a ≡ b }
+    ensures symbols { (tokens : List Token) (contents : List (List ℕ)) → AreContents tokens contents → AllByRecursion IsSymbols contents }
+{}

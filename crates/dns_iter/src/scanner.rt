@@ -86,6 +86,7 @@ where
         requires { ⟦<Self as Scanner>⟧.can_scan self.old }
         ensures ready { ⟦<Self as Scanner>⟧.can_scan self.new }
         ensures peeks { (o : Option Token) × Peeks (⟦<Self as Scanner>⟧.next_token) self.old self.new o × (result ≡ is_none o) }
+        ensures space { ⟦<Self as Scanner>⟧.is_spaced self.new ≡ ⟦<Self as Scanner>⟧.is_spaced self.old }
     {
         self.peek().is_none()
     }
@@ -95,6 +96,7 @@ where
         requires { IsReady Iter.can_next Iter.remaining self.old.iter self.old.ahead }
         ensures ready { IsReady Iter.can_next Iter.remaining self.new.iter self.new.ahead }
         ensures peeks { Peeks (⟦<Self as Scanner>⟧.next_token) self.old self.new (option_map (λ t. t.now) result) }
+        ensures space { self.new.spaced ≡ self.old.spaced }
     {
         self.fill();
         match self.ahead {
@@ -192,6 +194,8 @@ where
 
     ghost is_spaced = { λ s. s.spaced };
 
+    ghost space_ends = { λ _ _ _ taken. taken.1 };
+
     fn has_space(&self) -> bool {
         self.spaced
     }
@@ -231,10 +235,9 @@ where
         let mut into = Converting {
             convert,
             builder: <Octets::Builder as EmptyBuilder>::empty(self.alloc),
-            error: PhantomData,
         };
         match self.each_token(&mut into) {
-            Ok(()) => match into.take_tail::<EntrySymbol>() {
+            Ok(()) => match into.take_tail::<EntrySymbol, E>() {
                 Ok(()) => Ok(into.builder.freeze()),
                 Err(error) => Err(error),
             },
@@ -284,7 +287,6 @@ where
         let mut into = IntoStrings {
             builder: <Octets::Builder as EmptyBuilder>::empty(self.alloc),
             alloc: self.alloc,
-            error: PhantomData,
         };
         match self.each_token(&mut into) {
             Ok(()) => Ok(into.builder.freeze()),

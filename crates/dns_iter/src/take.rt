@@ -11,7 +11,6 @@ use dns_charstr::charstr::CharStrBuilder;
 use dns_scan::{ConvertSymbols, ScannerError};
 use dns_symbol::symbol::{EntrySymbol, Symbol};
 use dns_wire::{EmptyBuilder, OctetsBuilder};
-use std::marker::PhantomData;
 
 /// What a symbol is handed over as.
 pub(crate) trait OfSymbol {
@@ -96,12 +95,11 @@ where
 
 /// A symbol's octet goes into the builder.
 #[derive(Drop)]
-pub(crate) struct IntoOctets<B, E> {
+pub(crate) struct IntoOctets<B> {
     pub builder: B,
-    pub error: PhantomData<E>,
 }
 
-impl<B: OctetsBuilder, E: ScannerError> TakeSymbol<Symbol, E> for IntoOctets<B, E> {
+impl<B: OctetsBuilder, E: ScannerError> TakeSymbol<Symbol, E> for IntoOctets<B> {
     ghost can_take = { λ _. ⊤ };
 
     ghost step = { λ f x r g. GivesStep E.cause B.sure B.most octet_given (B.octets f.builder) x r (B.octets g.builder) };
@@ -119,12 +117,11 @@ impl<B: OctetsBuilder, E: ScannerError> TakeSymbol<Symbol, E> for IntoOctets<B, 
 
 /// A symbol's character goes into the builder, as UTF-8.
 #[derive(Drop)]
-pub(crate) struct IntoText<B, E> {
+pub(crate) struct IntoText<B> {
     pub builder: B,
-    pub error: PhantomData<E>,
 }
 
-impl<B: OctetsBuilder, E: ScannerError> TakeSymbol<Symbol, E> for IntoText<B, E> {
+impl<B: OctetsBuilder, E: ScannerError> TakeSymbol<Symbol, E> for IntoText<B> {
     ghost can_take = { λ _. ⊤ };
 
     ghost step = { λ f x r g. GivesStep E.cause B.sure B.most text_given (B.octets f.builder) x r (B.octets g.builder) };
@@ -146,10 +143,9 @@ impl<B: OctetsBuilder, E: ScannerError> TakeSymbol<Symbol, E> for IntoText<B, E>
 
 /// A symbol goes through the converter into the builder.
 #[derive(Drop)]
-pub(crate) struct Converting<C, B, E> {
+pub(crate) struct Converting<C, B> {
     pub convert: C,
     pub builder: B,
-    pub error: PhantomData<E>,
 }
 
 // Appends the octets that a converter made, if it made any.
@@ -165,9 +161,9 @@ fn append<B: OctetsBuilder, E: ScannerError>(builder: &mut B, octets: &[u8]) -> 
     }
 }
 
-impl<C, B: OctetsBuilder, E: ScannerError> Converting<C, B, E> {
+impl<C, B: OctetsBuilder> Converting<C, B> {
     /// The converter's tail goes into the builder.
-    pub(crate) fn take_tail<Sym>(&mut self) -> Result<(), E>
+    pub(crate) fn take_tail<Sym, E: ScannerError>(&mut self) -> Result<(), E>
     where
         C: ConvertSymbols<Sym, E>,
         ensures { ConvertTail E.cause B.sure B.most C.tail (self.old.convert, B.octets self.old.builder) result (self.new.convert, B.octets self.new.builder) }
@@ -180,7 +176,7 @@ impl<C, B: OctetsBuilder, E: ScannerError> Converting<C, B, E> {
 }
 
 impl<Sym, C: ConvertSymbols<Sym, E>, B: OctetsBuilder, E: ScannerError> TakeSymbol<Sym, E>
-    for Converting<C, B, E> {
+    for Converting<C, B> {
     ghost can_take = { λ _. ⊤ };
 
     ghost step = { λ f x r g. ConvertStep E.cause B.sure B.most C.takes (f.convert, B.octets f.builder) x r (g.convert, B.octets g.builder) };
@@ -194,25 +190,24 @@ impl<Sym, C: ConvertSymbols<Sym, E>, B: OctetsBuilder, E: ScannerError> TakeSymb
 }
 
 impl<C: ConvertSymbols<EntrySymbol, E>, B: OctetsBuilder, E: ScannerError> TakeToken<E>
-    for Converting<C, B, E> {
+    for Converting<C, B> {
     ghost can_take = { λ _. ⊤ };
 
     ghost step = { λ f t r g. ConvertInEntry E.cause B.sure B.most C.takes (f.convert, B.octets f.builder) t r (g.convert, B.octets g.builder) };
 
     fn take_token(&mut self, token: &str) -> Result<(), E> {
-        each_symbol::<EntrySymbol, Converting<C, B, E>, E>(token, self)
+        each_symbol::<EntrySymbol, Converting<C, B>, E>(token, self)
     }
 }
 
 /// A token's octets go into the builder as a character string: their count, and then they.
 #[derive(Drop)]
-pub(crate) struct IntoStrings<B: EmptyBuilder, E> {
+pub(crate) struct IntoStrings<B: EmptyBuilder> {
     pub builder: B,
     pub alloc: B::Alloc,
-    pub error: PhantomData<E>,
 }
 
-impl<B: EmptyBuilder + Drop, E: ScannerError> TakeToken<E> for IntoStrings<B, E> {
+impl<B: EmptyBuilder + Drop, E: ScannerError> TakeToken<E> for IntoStrings<B> {
     ghost can_take = { λ _. ⊤ };
 
     ghost step = { λ f t r g. StringStep E.cause B.sure B.most (B.octets f.builder) t r (B.octets g.builder) };
@@ -220,7 +215,6 @@ impl<B: EmptyBuilder + Drop, E: ScannerError> TakeToken<E> for IntoStrings<B, E>
     fn take_token(&mut self, token: &str) -> Result<(), E> {
         let mut into = IntoOctets {
             builder: CharStrBuilder::<B>::new(self.alloc),
-            error: PhantomData,
         };
         match each_symbol::<Symbol, _, E>(token, &mut into) {
             Ok(()) => {

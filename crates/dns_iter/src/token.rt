@@ -13,7 +13,6 @@ use dns_charstr::charstr::{CharStr, CharStrBuilder};
 use dns_scan::{ConvertSymbols, ScannerError};
 use dns_symbol::symbol::{Symbol, SymbolOctetsError};
 use dns_wire::{EmptyBuilder, FreezeBuilder, Str};
-use std::marker::PhantomData;
 
 // The text of an error within a token.
 fn escape_text(error: SymbolOctetsError) -> &'static str
@@ -57,7 +56,6 @@ pub(crate) fn token_octets<B: EmptyBuilder + FreezeBuilder + Drop, E: ScannerErr
 {
     let mut into = IntoOctets {
         builder: B::empty(alloc),
-        error: PhantomData,
     };
     match each_symbol::<Symbol, _, E>(token, &mut into) {
         Ok(()) => Ok(into.builder.freeze()),
@@ -74,7 +72,6 @@ pub(crate) fn token_charstr<B: EmptyBuilder + FreezeBuilder + Drop, E: ScannerEr
 {
     let mut into = IntoOctets {
         builder: CharStrBuilder::<B>::new(alloc),
-        error: PhantomData,
     };
     match each_symbol::<Symbol, _, E>(token, &mut into) {
         Ok(()) => Ok(into.builder.finish()),
@@ -93,7 +90,6 @@ where
 {
     let mut into = IntoText {
         builder: B::empty(alloc),
-        error: PhantomData,
     };
     match each_symbol::<Symbol, _, E>(token, &mut into) {
         Ok(()) => match Str::from_utf8(into.builder.freeze()) {
@@ -117,7 +113,6 @@ pub(crate) fn token_ascii<
 {
     let mut into = IntoText {
         builder: B::empty(alloc),
-        error: PhantomData,
     };
     match each_symbol::<Symbol, _, E>(token, &mut into) {
         Ok(()) => match std::str::from_utf8(into.builder.as_slice()) {
@@ -145,10 +140,9 @@ pub(crate) fn token_converted<
     let mut into = Converting {
         convert,
         builder: B::empty(alloc),
-        error: PhantomData,
     };
     match each_symbol::<Symbol, _, E>(token, &mut into) {
-        Ok(()) => match into.take_tail::<Symbol>() {
+        Ok(()) => match into.take_tail::<Symbol, E>() {
             Ok(()) => Ok(into.builder.freeze()),
             Err(error) => Err(error),
         },
