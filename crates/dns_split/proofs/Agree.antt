@@ -36,7 +36,8 @@ read_pieces text given found (inr f) h = elim (no_fault found f.found f.fault (s
 
 pub octets_have_pieces : (text : List ℕ) → scalars text ≡ true → (found : List Piece) → IsPieces text found → IsOctetPieces text found
 octets_have_pieces text ok found p =
-    read_pieces (encode_utf8_all text) (run Outside 0 0 0 (first_blank (encode_utf8_all text)) (encode_utf8_all text)) (map (moved_piece (place_of text)) found) (reads (encode_utf8_all text) (text, (ok, refl)))
+    read_pieces (encode_utf8_all text) (run Outside 0 0 0 (first_blank (encode_utf8_all text)) (encode_utf8_all text)) (map (moved_piece (place_of text)) found)
+    (reads (encode_utf8_all text) (text, (ok, refl)))
     (octets_run text ∙ ap (map (moved (place_of text))) (pieces_run text found p) ∙ moved_oks (place_of text) found)
 
 -- a text is bad in one place
@@ -70,7 +71,8 @@ moved_fault g (p ∷ found) (q ∷ other) f h = let rest : map (moved g) (map Ok
 pub octets_are_bad : (text : List ℕ) → IsUtf8 text → scalars text ≡ true → (at : ℕ) → IsBad text at → IsBad (encode_utf8_all text) (place_of text at)
 octets_are_bad text u ok at bad = go (reads text u) (reads (encode_utf8_all text) (text, (ok, refl)))
   where
-    go : Reads text (run Outside 0 0 0 (first_blank text) text) → Reads (encode_utf8_all text) (run Outside 0 0 0 (first_blank (encode_utf8_all text)) (encode_utf8_all text)) → IsBad (encode_utf8_all text) (place_of text at)
+    go : Reads text (run Outside 0 0 0 (first_blank text) text) → Reads (encode_utf8_all text) (run Outside 0 0 0 (first_blank (encode_utf8_all text)) (encode_utf8_all text))
+        → IsBad (encode_utf8_all text) (place_of text at)
     go (inl w) r = elim (bad.splits_not (cut text w.found) (pieces_split text w.found w.placed)) [ ]
     go (inr f) (inl w) = elim (moved_fault (place_of text) f.found w.found f.fault (ap (map (moved (place_of text))) (sym f.is) ∙ sym (octets_run text) ∙ w.is)) [ ]
     go (inr f) (inr g) =

@@ -1,5 +1,6 @@
 -- What splits is read so.
-use Rattle.std.proofs.Common.{◌≡◌, ℕ, zero, suc, ◌+◌, ◌-◌, ◌*◌, ◌/◌, ◌%◌, ◌<◌, ◌≤◌, Bool, true, false, not, ◌&&◌, ◌||◌, ◌==◌, nat_le, List, [], ◌∷◌, ◌++◌, length, refl, sym, ap, ◌∙◌, subst, arith, append_assoc, append-nil, inl, inr, ◌⊎◌, length-append}
+use Rattle.std.proofs.Common.{◌≡◌, ℕ, zero, suc, ◌+◌, ◌-◌, ◌*◌, ◌/◌, ◌%◌, ◌<◌, ◌≤◌, Bool, true, false, not, ◌&&◌, ◌||◌, ◌==◌, nat_le, List, [], ◌∷◌, ◌++◌, length, refl, sym, ap, ◌∙◌, subst}
+use Rattle.std.proofs.Common.{arith, append_assoc, append-nil, inl, inr, ◌⊎◌, length-append}
 use Rattle.std.specs.Prelude.{unwrap_or, Option, Some, None, option_map, option_and_then, encode_utf8, encode_utf8_all}
 use Rattle.std.specs.List.{flat_map, list_all}
 use Rattle.std.proofs.lemmas.Bool.{and_parts, eqb-true, cases_Bool, le-leb, not-true, and_from, ltb-true}
@@ -147,7 +148,8 @@ symbol_read q d t cs (DecimalEscape o) h =
     ∙ ap (λ u. read (home q) d u cs) (four t (encode_utf8 92) (encode_utf8 (48 + a)) (encode_utf8 (48 + b)) (encode_utf8 (48 + e)))
 
 -- symbols of the open token
-pub symbols_read : (q : Within) (d : ℕ) (t cs : List ℕ) (ss : List Symbol) → list_all (allowed q) ss ≡ true → read (home q) d t (flat_map spell ss ++ cs) ≡ read (home q) d (t ++ encode_utf8_all (flat_map spell ss)) cs
+pub symbols_read : (q : Within) (d : ℕ) (t cs : List ℕ) (ss : List Symbol) → list_all (allowed q) ss ≡ true
+    → read (home q) d t (flat_map spell ss ++ cs) ≡ read (home q) d (t ++ encode_utf8_all (flat_map spell ss)) cs
 symbols_read q d t cs [] h = rw append-nil
 symbols_read q d t cs (s ∷ ss) h =
     let p = and_parts (allowed q s) (list_all (allowed q) ss) h in

@@ -26,7 +26,8 @@ char_first c rest w h =
 -- no word begins with a double quote
 symbols_first : (ss : List Symbol) → 0 < length ss → list_all is_word_symbol ss ≡ true → get_or (flat_map bytes ss) 0 0 ≡ 34 → ⊥
 symbols_first [] h v e = absurd (omega arith)
-symbols_first (Char c ∷ ss) h v e = char_first c (flat_map bytes ss) (and_parts (is_word_symbol (Char c)) (list_all is_word_symbol ss) v).0 (ap (λ l. get_or l 0 0) (sym (append_assoc (encode_utf8 c) [] (flat_map bytes ss))) ∙ e)
+symbols_first (Char c ∷ ss) h v e = char_first c (flat_map bytes ss) (and_parts (is_word_symbol (Char c)) (list_all is_word_symbol ss) v).0
+    (ap (λ l. get_or l 0 0) (sym (append_assoc (encode_utf8 c) [] (flat_map bytes ss))) ∙ e)
 symbols_first (SimpleEscape o ∷ ss) h v e = escape_first _ (ap (λ l. get_or l 0 0) (sym (append_assoc (encode_utf8 92) _ (flat_map bytes ss))) ∙ e)
 symbols_first (DecimalEscape o ∷ ss) h v e = escape_first _ (ap (λ l. get_or l 0 0) (sym (append_assoc (encode_utf8 92) _ (flat_map bytes ss))) ∙ e)
 

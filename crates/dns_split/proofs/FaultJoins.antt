@@ -1,5 +1,6 @@
 -- Faults of a text behind another, with a line's end between.
-use Rattle.std.proofs.Common.{◌≡◌, ℕ, zero, suc, ◌+◌, ◌-◌, ◌*◌, ◌/◌, ◌%◌, ◌<◌, ◌≤◌, Bool, true, false, ◌&&◌, ◌==◌, nat_le, List, [], ◌∷◌, ◌++◌, length, take, drop, replicate, refl, sym, ap, ◌∙◌, subst, arith, append_assoc, append-nil, length-append, inl, inr, ◌⊎◌}
+use Rattle.std.proofs.Common.{◌≡◌, ℕ, zero, suc, ◌+◌, ◌-◌, ◌*◌, ◌/◌, ◌%◌, ◌<◌, ◌≤◌, Bool, true, false, ◌&&◌, ◌==◌, nat_le, List, [], ◌∷◌, ◌++◌, length, take, drop, replicate, refl, sym, ap, ◌∙◌}
+use Rattle.std.proofs.Common.{subst, arith, append_assoc, append-nil, length-append, inl, inr, ◌⊎◌}
 use Rattle.std.specs.Prelude.{Option, Some, None, option_map, option_and_then, map, not, encode_utf8, encode_utf8_all}
 use Rattle.std.specs.List.{flat_map, list_all}
 use Rattle.std.specs.Str.{IsCharBoundary}
@@ -231,6 +232,7 @@ fault_joined x y r e f s h =
     let left : drop k all ≡ y = ap (λ i. drop i all) (omega arith) ∙ drop_joined x l y 0 in
     record {
       bad = bad_joined x y r e f.at s h.bad;
-      wrong = subst (λ t. IsWrong t (drop (k + f.at) all) w) (sym (take_joined x l y f.at)) (subst (λ t. IsWrong (x ++ (l ++ take f.at y)) t w) (sym (drop_joined x l y f.at)) (wrong_joined x (take f.at y) (drop f.at y) r e f.wrong s h.wrong));
+      wrong = subst (λ t. IsWrong t (drop (k + f.at) all) w) (sym (take_joined x l y f.at))
+          (subst (λ t. IsWrong (x ++ (l ++ take f.at y)) t w) (sym (drop_joined x l y f.at)) (wrong_joined x (take f.at y) (drop f.at y) r e f.wrong s h.wrong));
       boundary = IsCharBoundary-from_rest all k f.at (omega (arith, length-append x (l ++ y), length-append l y)) (subst (λ t. IsCharBoundary t f.at) (sym left) h.boundary);
     }

@@ -17,8 +17,10 @@ module _ (octets : List ℕ) (at : ℕ) (fits : at ≤ length octets) where
   place_split : (i : ℕ) → place_of octets (at + i) ≡ place_of octets at + place_of (drop at octets) i
   place_split i =
       let e : take (at + i) octets ≡ take at octets ++ take i (drop at octets) =
-      ap (take (at + i)) (sym (take-append-drop at octets)) ∙ ap (λ n. take (n + i) (take at octets ++ drop at octets)) (sym (length-take-le at octets fits)) ∙ take-append-add (take at octets) (drop at octets) i in
-      ap (λ l. length (encode_utf8_all l)) e ∙ ap length (encodes-append (take at octets) (take i (drop at octets))) ∙ length-append (encode_utf8_all (take at octets)) (encode_utf8_all (take i (drop at octets)))
+      ap (take (at + i)) (sym (take-append-drop at octets)) ∙ ap (λ n. take (n + i) (take at octets ++ drop at octets)) (sym (length-take-le at octets fits))
+      ∙ take-append-add (take at octets) (drop at octets) i in
+      ap (λ l. length (encode_utf8_all l)) e ∙ ap length (encodes-append (take at octets) (take i (drop at octets)))
+      ∙ length-append (encode_utf8_all (take at octets)) (encode_utf8_all (take i (drop at octets)))
 
   -- a place behind this one, counted from here
   place_back : (i j : ℕ) → place_of octets i ≡ place_of octets at + j → (i ≡ at + (i - at)) × (place_of (drop at octets) (i - at) ≡ j)
@@ -90,14 +92,18 @@ module _ (octets : List ℕ) (at : ℕ) (fits : at ≤ length octets) where
   all_back (p ∷ more) [] e = cc
   all_back (p ∷ more) (q ∷ alone) e =
       let f = piece_back p q (ap (first_of p) e) in
-      let r = all_back more alone (ap tail_of e) in
-      (ap (λ x. x ∷ more) f.0 ∙ ap (λ l. moved_piece (λ i. at + i) (moved_piece back p) ∷ l) r.0, ap (λ x. x ∷ map (moved_piece (place_of (drop at octets))) (map (moved_piece back) more)) f.1 ∙ ap (λ l. q ∷ l) r.1)
+      let r = all_back more alone (ap tail_of e) in (
+        ap (λ x. x ∷ more) f.0 ∙ ap (λ l. moved_piece (λ i. at + i) (moved_piece back p) ∷ l) r.0,
+        ap (λ x. x ∷ map (moved_piece (place_of (drop at octets))) (map (moved_piece back) more)) f.1
+            ∙ ap (λ l. q ∷ l) r.1,
+      )
 
   nothing : (more : List Piece) → map (moved_piece (place_of octets)) more ≡ [] → more ≡ []
   nothing [] e = refl
   nothing (p ∷ more) e = cc
 
-  pub octet_pieces_go_on : (found more : List Piece) (b : Bool) → IsOctetPieces octets (found ++ end_at at b ∷ more) → (more ≡ []) ⊎ ((alone : List Piece) × IsOctetPieces (drop at octets) alone × (more ≡ further at alone))
+  pub octet_pieces_go_on : (found more : List Piece) (b : Bool) → IsOctetPieces octets (found ++ end_at at b ∷ more)
+      → (more ≡ []) ⊎ ((alone : List Piece) × IsOctetPieces (drop at octets) alone × (more ≡ further at alone))
   octet_pieces_go_on found more b p =
       go (pieces_go_on (encode_utf8_all octets) (map (moved_piece (place_of octets)) found) (map (moved_piece (place_of octets)) more) (place_of octets at) b
       (subst (IsPieces (encode_utf8_all octets)) (map-append (moved_piece (place_of octets)) found (end_at at b ∷ more)) p))
@@ -107,7 +113,8 @@ module _ (octets : List ℕ) (at : ℕ) (fits : at ≤ length octets) where
           ap (λ l. drop (place_of octets at) (encode_utf8_all l)) (sym (take-append-drop at octets)) ∙ ap (drop (place_of octets at)) (encodes-append (take at octets) (drop at octets))
           ∙ drop-append_seam (encode_utf8_all (take at octets)) (encode_utf8_all (drop at octets))
 
-      go : (map (moved_piece (place_of octets)) more ≡ []) ⊎ ((alone : List Piece) × IsPieces (drop (place_of octets at) (encode_utf8_all octets)) alone × (map (moved_piece (place_of octets)) more ≡ further (place_of octets at) alone))
+      go : (map (moved_piece (place_of octets)) more ≡ []) ⊎
+          ((alone : List Piece) × IsPieces (drop (place_of octets at) (encode_utf8_all octets)) alone × (map (moved_piece (place_of octets)) more ≡ further (place_of octets at) alone))
           → (more ≡ []) ⊎ ((alone : List Piece) × IsOctetPieces (drop at octets) alone × (more ≡ further at alone))
       go (inl e) = inl (nothing more e)
       go (inr g) =

@@ -1,5 +1,6 @@
 -- The parenthesis that is left open.
-use Rattle.std.proofs.Common.{◌≡◌, ℕ, zero, suc, ◌+◌, ◌-◌, ◌*◌, ◌<◌, Bool, true, false, cond, ◌&&◌, nat_le, List, [], ◌∷◌, ◌++◌, length, take, drop, replicate, refl, sym, ap, ◌∙◌, subst, arith, append_assoc, append-nil, length-append, inl, inr, ◌⊎◌, IsUtf8}
+use Rattle.std.proofs.Common.{◌≡◌, ℕ, zero, suc, ◌+◌, ◌-◌, ◌*◌, ◌<◌, Bool, true, false, cond, ◌&&◌, nat_le, List, [], ◌∷◌, ◌++◌, length, take, drop, replicate, refl, sym, ap, ◌∙◌, subst, arith}
+use Rattle.std.proofs.Common.{append_assoc, append-nil, length-append, inl, inr, ◌⊎◌, IsUtf8}
 use Rattle.std.specs.Prelude.{Some, None, option_and_then, encode_utf8, encode_utf8_all}
 use Rattle.std.specs.List.{flat_map}
 use lib.Utf8.{scalars}
@@ -158,7 +159,8 @@ still_opened ys c m d v opened h e o p = record {
   stays = λ xs zs q same w. elim (last_or o.back xs zs c same) [
     | inl all ↦
         let whole : Some q ≡ Some (v.mode, v.depth) =
-        sym w ∙ ap (walk Outside 1) all ∙ sym (walk_on o.front (o.back ++ c ∷ []) o.outside) ∙ ap (walk Outside 0) (sym (ap (λ l. l ++ c ∷ []) o.is ∙ append_assoc o.front (40 ∷ o.back) (c ∷ []))) ∙ one_walked ys c m d v h e in
+        sym w ∙ ap (walk Outside 1) all ∙ sym (walk_on o.front (o.back ++ c ∷ []) o.outside) ∙ ap (walk Outside 0) (sym (ap (λ l. l ++ c ∷ []) o.is ∙ append_assoc o.front (40 ∷ o.back) (c ∷ [])))
+        ∙ one_walked ys c m d v h e in
         subst (λ (r : Mode × ℕ). 0 < r.1) (sym (Some_same whole)) p
     | inr some ↦ o.stays xs some.0 q some.1 w
   ];
@@ -200,17 +202,20 @@ opener text ys opened is ok o =
       inside = encode_utf8_all o.back;
       opens = ap (drop opened) all ∙ drop_at front rest opened (sym o.place) ∙ ap (λ l. l ++ encode_utf8_all o.back) (encode_ascii 40 (omega arith));
       found = k.0;
-      splits = subst (λ l. Splits l k.0) (sym (ap (take opened) all ∙ ap (λ n. take n (front ++ rest)) o.place ∙ take-append_seam front rest)) (read_splits o.front k.0 fine (ap (read Outside 0 []) (sym (append-nil o.front)) ∙ k.1));
+      splits = subst (λ l. Splits l k.0) (sym (ap (take opened) all ∙ ap (λ n. take n (front ++ rest)) o.place ∙ take-append_seam front rest))
+          (read_splits o.front k.0 fine (ap (read Outside 0 []) (sym (append-nil o.front)) ∙ k.1));
       never_closed = λ j more within e s.
           let cs : List ℕ = flat_map characters s.lexemes in
           let spelled : encode_utf8_all cs ≡ take j text = sym (bytes_all s.lexemes) ∙ s.spelled in
           let begin : List ℕ = o.front ++ 40 ∷ [] in
-          let long : length (encode_utf8_all begin) ≡ opened + 1 = ap length (encodes-append o.front (40 ∷ []) ∙ ap (λ l. front ++ (l ++ [])) (encode_ascii 40 (omega arith))) ∙ length-append front (40 ∷ []) ∙ ap (λ n. n + 1) (sym o.place) in
+          let long : length (encode_utf8_all begin) ≡ opened + 1 = ap length (encodes-append o.front (40 ∷ []) ∙ ap (λ l. front ++ (l ++ [])) (encode_ascii 40 (omega arith)))
+          ∙ length-append front (40 ∷ []) ∙ ap (λ n. n + 1) (sym o.place) in
           let n : ℕ = j - (opened + 1) in
           let far : j ≡ length (encode_utf8_all begin) + n = omega arith in
           let shape : text ≡ encode_utf8_all begin ++ encode_utf8_all o.back = sym is ∙ ap encode_utf8_all (o.is ∙ sym (append_assoc o.front (40 ∷ []) o.back)) ∙ encodes-append begin o.back in
           let r : List ℕ = take n (encode_utf8_all o.back) in
-          let cut : encode_utf8_all cs ≡ encode_utf8_all begin ++ r = spelled ∙ ap (take j) shape ∙ ap (λ i. take i (encode_utf8_all begin ++ encode_utf8_all o.back)) far ∙ take-append-add (encode_utf8_all begin) (encode_utf8_all o.back) n in
+          let cut : encode_utf8_all cs ≡ encode_utf8_all begin ++ r = spelled ∙ ap (take j) shape ∙ ap (λ i. take i (encode_utf8_all begin ++ encode_utf8_all o.back)) far
+          ∙ take-append-add (encode_utf8_all begin) (encode_utf8_all o.back) n in
           let a = begin_same begin cs r cut in
           let b = begin_same cs ys (drop j text) (is ∙ sym (take-append-drop j text) ∙ ap (λ l. l ++ drop j text) (sym spelled)) in
           let back : o.back ≡ a.0 ++ b.0 =
@@ -243,13 +248,15 @@ tail_read ys w =
 pub not_refused : (text ys rest : List ℕ) (c : ℕ) (m : Mode) (d : ℕ) → IsUtf8 text → encode_utf8_all ys ++ (encode_utf8 c ++ rest) ≡ text → walk Outside 0 ys ≡ Some (m, d) → step m d c ≡ None
     → IsWrong text [] OpenParenthesis → ⊥
 not_refused text ys rest c m d u e h stop w =
-    let front : encode_utf8_all u.0 ≡ encode_utf8_all (ys ++ c ∷ []) ++ rest = u.1.1 ∙ sym e ∙ sym (append_assoc (encode_utf8_all ys) (encode_utf8 c) rest) ∙ ap (λ l. l ++ rest) (ap (λ l. encode_utf8_all ys ++ l) (sym (append-nil (encode_utf8 c))) ∙ sym (encodes-append ys (c ∷ []))) in
+    let front : encode_utf8_all u.0 ≡ encode_utf8_all (ys ++ c ∷ []) ++ rest = u.1.1 ∙ sym e ∙ sym (append_assoc (encode_utf8_all ys) (encode_utf8 c) rest)
+    ∙ ap (λ l. l ++ rest) (ap (λ l. encode_utf8_all ys ++ l) (sym (append-nil (encode_utf8 c))) ∙ sym (encodes-append ys (c ∷ []))) in
     let q = begin_same (ys ++ c ∷ []) u.0 rest front in
     let t = tail_read u.0 (subst (λ l. IsWrong l [] OpenParenthesis) (sym u.1.1) w) in
     let tail : List ℕ = 10 ∷ replicate (suc t.0) 41 in
     let shape : u.0 ++ tail ≡ ys ++ c ∷ (q.0 ++ tail) = ap (λ l. l ++ tail) (q.1 ∙ append_assoc ys (c ∷ []) q.0) ∙ append_assoc ys (c ∷ q.0) tail in
     let none : None ≡ Some t.1 =
-    sym (walk_append ys (c ∷ (q.0 ++ tail)) Outside 0 ∙ ap (option_and_then (λ (p : Mode × ℕ). walk p.0 p.1 (c ∷ (q.0 ++ tail)))) h ∙ ap (option_and_then (λ (v : Move). walk v.mode v.depth (q.0 ++ tail))) stop) ∙ ap (walk Outside 0) (sym shape) ∙ t.2 in
+    sym (walk_append ys (c ∷ (q.0 ++ tail)) Outside 0 ∙ ap (option_and_then (λ (p : Mode × ℕ). walk p.0 p.1 (c ∷ (q.0 ++ tail)))) h
+    ∙ ap (option_and_then (λ (v : Move). walk v.mode v.depth (q.0 ++ tail))) stop) ∙ ap (walk Outside 0) (sym shape) ∙ t.2 in
     cc
 
 pub not_open : (ys : List ℕ) (m : Mode) (d : ℕ) → walk Outside 0 ys ≡ Some (m, d) → (0 < d → takes_feed m ≡ true → ⊥) → IsWrong (encode_utf8_all ys) [] OpenParenthesis → ⊥

@@ -1,5 +1,6 @@
 -- What the reader of pieces gives of any text.
-use Rattle.std.proofs.Common.{◌≡◌, ℕ, zero, suc, ◌+◌, ◌<◌, Bool, true, false, List, [], ◌∷◌, ◌++◌, length, take, drop, replicate, refl, sym, ap, ◌∙◌, subst, arith, append_assoc, append-nil, length-append, inl, inr, ◌⊎◌, IsUtf8}
+use Rattle.std.proofs.Common.{◌≡◌, ℕ, zero, suc, ◌+◌, ◌<◌, Bool, true, false, List, [], ◌∷◌, ◌++◌, length, take, drop, replicate, refl, sym, ap, ◌∙◌, subst, arith, append_assoc, append-nil}
+use Rattle.std.proofs.Common.{length-append, inl, inr, ◌⊎◌, IsUtf8}
 use Rattle.std.specs.Prelude.{Option, Some, None, map, Result, Ok, encode_utf8, encode_utf8_all, option_and_then}
 use lib.Utf8.{scalar, scalars}
 use Rattle.std.proofs.Math.Nat.{zero-add}
@@ -25,7 +26,8 @@ use Rattle.dns_split.specs.Pieces.{quote_at, end_at, begins_blank, pieces, IsPie
 use Rattle.dns_split.specs.Run.{before, closed, finished, start_after, first_blank, blank_after, fault, wrong_at, wrong_at_end, run}
 use Rattle.dns_split.proofs.Complete.{Some_same, View, view, v_space, v_tab, v_lf, v_cr, v_open, v_close, v_note, v_quote, v_escape, v_plain}
 use Rattle.dns_split.proofs.Sound.{read_splits}
-use Rattle.dns_split.proofs.Viable.{walk, walk_append, walk_fine, walk_completes, walked_viable, Completes, line_completes, low_encodes, low_scalars, low_close, scalars_both, scalars_left, begin_same, cant_follow}
+use Rattle.dns_split.proofs.Viable.{walk, walk_append, walk_fine, walk_completes, walked_viable, Completes, line_completes, low_encodes, low_scalars, low_close, scalars_both, scalars_left}
+use Rattle.dns_split.proofs.Viable.{begin_same, cant_follow}
 use Rattle.dns_split.proofs.Steps.{bad_step, early, whole, boundary}
 use Rattle.dns_split.proofs.PieceLexemes.{run_none}
 use Rattle.dns_split.proofs.PieceGiven.{Stop, stop, Gives, front_of, same_first, settled, some_walked}
@@ -159,7 +161,8 @@ end_wrong ys (OneDigit q n) d g ok h f = inside_wrong ys [] [] (OneDigit q n) d 
 end_wrong ys (TwoDigits q n) d g ok h f = inside_wrong ys [] [] (TwoDigits q n) d g ok h refl
 
 -- what was walked settles its pieces and no more
-all_settled : (ys r : List ℕ) (p : Mode × ℕ) → (g : Gives Outside 0 0 0 (first_blank (encode_utf8_all ys ++ r)) ys p) → walk Outside 0 ys ≡ Some p → (g.found ≡ []) ⊎ (0 < length ys) → scalars ys ≡ true → (w : Wrong)
+all_settled : (ys r : List ℕ) (p : Mode × ℕ) → (g : Gives Outside 0 0 0 (first_blank (encode_utf8_all ys ++ r)) ys p) → walk Outside 0 ys ≡ Some p → (g.found ≡ []) ⊎ (0 < length ys)
+    → scalars ys ≡ true → (w : Wrong)
     → (p.0 ≡ Return → w ≡ LoneReturn) → Settles (encode_utf8_all ys) w g.found
 all_settled ys r p g h e ok w lone =
     let gives = gives_all ys r p g h e in
@@ -191,7 +194,8 @@ faulty text ys r p u is h w stops bad wrong lone =
     record {
       found = g.found;
       fault = record { at = length front; wrong = w g.start };
-      is = ap (λ l. run Outside 0 0 0 (first_blank l) l) (sym is) ∙ k.1 ∙ ap (λ l. map Ok g.found ++ l) (stops g.start (0 + length front) k.0) ∙ ap (λ n. map Ok g.found ++ fault n (w g.start)) (zero-add (length front));
+      is = ap (λ l. run Outside 0 0 0 (first_blank l) l) (sym is) ∙ k.1 ∙ ap (λ l. map Ok g.found ++ l) (stops g.start (0 + length front) k.0)
+          ∙ ap (λ n. map Ok g.found ++ fault n (w g.start)) (zero-add (length front));
       is_fault = record {
         bad = bad;
         wrong = subst (λ l. IsWrong l (drop (length front) text) (w g.start)) (sym behind) (subst (λ l. IsWrong front l (w g.start)) (sym left) (wrong g ok));
@@ -219,12 +223,14 @@ reads text u = go q.end
     at_end e true h =
         let k = walk_completes q.ys [] Outside 0 q.place q.walked (λ t. (with_open t ([] ∷ []), cond-true _ _ _ h)) [] in
         inl (good text k.0 (whole text q.ys k.0 u e (ap (read Outside 0 []) (sym (append-nil q.ys)) ∙ k.1)))
-    at_end e false h = inr (faulty text q.ys [] q.place u (append-nil _ ∙ e) q.walked (wrong_at_end q.place.0) (λ t n x. cond-false _ _ _ h) (early text q.ys q.place.0 q.place.1 u e q.walked h) (λ g ok. end_wrong q.ys q.place.0 q.place.1 g ok q.walked h) (λ i k. ap (λ m. wrong_at_end m i) k))
+    at_end e false h = inr (faulty text q.ys [] q.place u (append-nil _ ∙ e) q.walked (wrong_at_end q.place.0) (λ t n x. cond-false _ _ _ h) (early text q.ys q.place.0 q.place.1 u e q.walked h)
+        (λ g ok. end_wrong q.ys q.place.0 q.place.1 g ok q.walked h) (λ i k. ap (λ m. wrong_at_end m i) k))
 
     go : (q.zs ≡ []) ⊎ ((c : ℕ) × (ws : List ℕ) × (q.zs ≡ c ∷ ws) × (step q.place.0 q.place.1 c ≡ None)) → Reads text (run Outside 0 0 0 (first_blank text) text)
     go (inl e) = at_end (sym (append-nil _) ∙ ap (λ l. encode_utf8_all q.ys ++ encode_utf8_all l) (sym e) ∙ is) (may_end q.place.0 q.place.1) refl
     go (inr k) =
         let rest : List ℕ = encode_utf8_all k.1 in
         let all : encode_utf8_all q.ys ++ (encode_utf8 k.0 ++ rest) ≡ text = ap (λ l. encode_utf8_all q.ys ++ encode_utf8_all l) (sym k.2) ∙ is in
-        inr (faulty text q.ys (encode_utf8 k.0 ++ rest) q.place u all q.walked (wrong_at q.place.0) (λ t n x. run_none q.place.0 q.place.1 t n x k.0 rest k.3) (bad_step text q.ys rest k.0 q.place.0 q.place.1 u all q.walked k.3)
+        inr (faulty text q.ys (encode_utf8 k.0 ++ rest) q.place u all q.walked (wrong_at q.place.0) (λ t n x. run_none q.place.0 q.place.1 t n x k.0 rest k.3)
+        (bad_step text q.ys rest k.0 q.place.0 q.place.1 u all q.walked k.3)
         (λ g ok. step_wrong q.ys rest k.0 q.place.0 q.place.1 g ok q.walked k.3) (λ i e. ap (λ m. wrong_at m i) e))

@@ -1,5 +1,6 @@
 -- The pieces of what the reader has walked, whatever follows, and where what is open begins.
-use Rattle.std.proofs.Common.{◌≡◌, ℕ, zero, suc, ◌+◌, ◌-◌, ◌*◌, ◌<◌, ◌≤◌, Bool, true, false, List, [], ◌∷◌, ◌++◌, length, refl, sym, ap, ◌∙◌, subst, arith, append_assoc, append-nil, length-append, inl, inr, ◌⊎◌}
+use Rattle.std.proofs.Common.{◌≡◌, ℕ, zero, suc, ◌+◌, ◌-◌, ◌*◌, ◌<◌, ◌≤◌, Bool, true, false, List, [], ◌∷◌, ◌++◌, length, refl, sym, ap, ◌∙◌, subst, arith, append_assoc, append-nil}
+use Rattle.std.proofs.Common.{length-append, inl, inr, ◌⊎◌}
 use Rattle.std.specs.Prelude.{Option, Some, None, map, Result, Ok, encode_utf8, encode_utf8_all, option_and_then, nat_le, ◌&&◌, cond}
 use Rattle.std.proofs.lemmas.Str.{encode_ascii, length-encode, len_utf8_bounds}
 use Rattle.dns_symbol.specs.Symbol.{is_digit}
@@ -37,7 +38,15 @@ stop (c ∷ cs) m d = go (step m d c) refl (λ (v : Move). stop cs v.mode v.dept
   where
     go : (o : Option Move) → step m d c ≡ o → ((v : Move) → Stop v.mode v.depth cs) → Stop m d (c ∷ cs)
     go None e ih = record { ys = []; zs = c ∷ cs; is = refl; place = (m, d); walked = refl; end = inr (c, cs, refl, e) }
-    go (Some v) e ih = let r = ih v in record { ys = c ∷ r.ys; zs = r.zs; is = ap (λ l. c ∷ l) r.is; place = r.place; walked = ap (option_and_then (λ (w : Move). walk w.mode w.depth r.ys)) e ∙ r.walked; end = r.end }
+    go (Some v) e ih = let r = ih v in record {
+      ys = c ∷ r.ys;
+      zs = r.zs;
+      is = ap (λ l. c ∷ l) r.is;
+      place = r.place;
+      walked = ap (option_and_then (λ (w : Move). walk w.mode w.depth r.ys)) e
+          ∙ r.walked;
+      end = r.end;
+    }
 
 -- what is open begins no further than here
 opens_within : (n : Mode) (at : ℕ) → opens n at ≤ at + 1
@@ -239,7 +248,8 @@ then_blank EndToken b c ys rest = refl
 then_blank FinishToken b c ys rest = refl
 
 settle : (ys : List ℕ) (m : Mode) (d s at : ℕ) (b : Bool) (p : Mode × ℕ) → walk m d ys ≡ Some p → Gives m d s at b ys p
-settle [] m d s at b p h = subst (Gives m d s at b []) (Some_same h) (record { found = []; start = s; gives = λ rest. (b, ap (λ n. run m d s n b rest) (omega arith)); stands = λ k. subst (Stands m s) (omega arith) k })
+settle [] m d s at b p h = subst (Gives m d s at b []) (Some_same h)
+    (record { found = []; start = s; gives = λ rest. (b, ap (λ n. run m d s n b rest) (omega arith)); stands = λ k. subst (Stands m s) (omega arith) k })
 settle (c ∷ []) m d s at b p h = go (step m d c) refl h
   where
     go : (o : Option Move) → step m d c ≡ o → option_and_then (λ (v : Move). walk v.mode v.depth []) o ≡ Some p → Gives m d s at b (c ∷ []) p

@@ -44,7 +44,8 @@ record Joined (at d : ℕ) (b : Bool) (ls more : List Lexeme) (r : Bool) (end ne
   pub both : pieces at d b (ls ++ Line r ∷ more) ≡ front ++ end_at next blank ∷ pieces next 0 (begins_blank more) more
 
 abbrev Joins : List Lexeme → Type 0
-Joins ls = (more : List Lexeme) (r : Bool) (at d : ℕ) (b : Bool) → nests d ls ≡ true → Joined at d b ls more r (at + length (flat_map bytes ls)) (at + length (flat_map bytes ls) + length (bytes (Line r)))
+Joins ls = (more : List Lexeme) (r : Bool) (at d : ℕ) (b : Bool) → nests d ls ≡ true
+    → Joined at d b ls more r (at + length (flat_map bytes ls)) (at + length (flat_map bytes ls) + length (bytes (Line r)))
 
 -- one more lexeme, which gives these pieces
 one_more : (l : Lexeme) (ls more : List Lexeme) (r : Bool) (at d d' : ℕ) (b b' : Bool) (given : List Piece) → pieces at d b (l ∷ ls) ≡ given ++ pieces (at + length (bytes l)) d' b' ls
@@ -56,8 +57,10 @@ one_more l ls more r at d d' b b' given e f j =
     record {
       front = given ++ j.front;
       blank = j.blank;
-      first = e ∙ ap (λ x. given ++ x) j.first ∙ sym (append_assoc given j.front (end_at (at + length (bytes l) + length (flat_map bytes ls)) j.blank ∷ [])) ∙ ap (λ k. (given ++ j.front) ++ end_at k j.blank ∷ []) n;
-      both = f ∙ ap (λ x. given ++ x) j.both ∙ sym (append_assoc given j.front _) ∙ ap (λ k. (given ++ j.front) ++ end_at (k + length (bytes (Line r))) j.blank ∷ pieces (k + length (bytes (Line r))) 0 (begins_blank more) more) n;
+      first = e ∙ ap (λ x. given ++ x) j.first ∙ sym (append_assoc given j.front (end_at (at + length (bytes l) + length (flat_map bytes ls)) j.blank ∷ []))
+          ∙ ap (λ k. (given ++ j.front) ++ end_at k j.blank ∷ []) n;
+      both = f ∙ ap (λ x. given ++ x) j.both ∙ sym (append_assoc given j.front _)
+          ∙ ap (λ k. (given ++ j.front) ++ end_at (k + length (bytes (Line r))) j.blank ∷ pieces (k + length (bytes (Line r))) 0 (begins_blank more) more) n;
     }
 
 same_blank : (ls more : List Lexeme) (r : Bool) → begins_blank (ls ++ Line r ∷ more) ≡ begins_blank ls
@@ -71,14 +74,16 @@ same_blank (Word _ _ ∷ ls) more r = refl
 same_blank (Quote _ ∷ ls) more r = refl
 
 joins : (ls : List Lexeme) → Joins ls
-joins [] more r at zero b h = let n : at + length (flat_map bytes []) ≡ at = omega arith in subst (λ k. Joined at zero b [] more r k (k + length (bytes (Line r)))) (sym n) (record { front = []; blank = b; first = refl; both = refl })
+joins [] more r at zero b h = let n : at + length (flat_map bytes []) ≡ at = omega arith in
+    subst (λ k. Joined at zero b [] more r k (k + length (bytes (Line r)))) (sym n) (record { front = []; blank = b; first = refl; both = refl })
 joins [] more r at (suc d) b h = cc
 joins (Open ∷ ls) more r at d b h = one_more Open ls more r at d (suc d) b b [] refl refl (joins ls more r _ (suc d) b h)
 joins (Close ∷ ls) more r at zero b h = cc
 joins (Close ∷ ls) more r at (suc d) b h = one_more Close ls more r at (suc d) d b b [] refl refl (joins ls more r _ d b h)
 joins (Line t ∷ ls) more r at zero b h =
     let w : ℕ = at + length (bytes (Line t)) in
-    one_more (Line t) ls more r at zero zero b (begins_blank ls) (end_at w b ∷ []) refl (ap (λ x. end_at w b ∷ pieces w zero x (ls ++ Line r ∷ more)) (same_blank ls more r)) (joins ls more r w zero (begins_blank ls) h)
+    one_more (Line t) ls more r at zero zero b (begins_blank ls) (end_at w b ∷ []) refl (ap (λ x. end_at w b ∷ pieces w zero x (ls ++ Line r ∷ more)) (same_blank ls more r))
+    (joins ls more r w zero (begins_blank ls) h)
 joins (Line t ∷ ls) more r at (suc d) b h = one_more (Line t) ls more r at (suc d) (suc d) b b [] refl refl (joins ls more r _ (suc d) b h)
 joins (Blank t ∷ ls) more r at d b h = one_more (Blank t) ls more r at d d b b [] refl refl (joins ls more r _ d b h)
 joins (Note cs ∷ ls) more r at d b h = one_more (Note cs) ls more r at d d b b (comment_at at (at + length (bytes (Note cs))) ∷ []) refl refl (joins ls more r _ d b h)
@@ -87,7 +92,8 @@ joins (Quote ss ∷ ls) more r at d b h = one_more (Quote ss) ls more r at d d b
 
 -- the pieces of texts behind each other, with a line's end between
 pub pieces_joined : (x y : List ℕ) (r : Bool) (found follow : List Piece) → IsPieces x found → IsPieces y follow
-    → (front : List Piece) × (b : Bool) × (found ≡ front ++ end_at (length x) b ∷ []) × IsPieces (x ++ (bytes (Line r) ++ y)) (front ++ end_at (length x + length (bytes (Line r))) b ∷ further (length x + length (bytes (Line r))) follow)
+    → (front : List Piece) × (b : Bool) × (found ≡ front ++ end_at (length x) b ∷ [])
+    × IsPieces (x ++ (bytes (Line r) ++ y)) (front ++ end_at (length x + length (bytes (Line r))) b ∷ further (length x + length (bytes (Line r))) follow)
 pieces_joined x y r found follow p q =
     let j = joins p.lexemes q.lexemes r 0 0 (begins_blank p.lexemes) p.nested in
     let n : 0 + length (flat_map bytes p.lexemes) ≡ length x = omega (arith, ap length p.spelled) in
@@ -119,11 +125,20 @@ record GoesOn (at : ℕ) (ls : List Lexeme) (e : ℕ) (more : List Piece) : Type
   pub place : e ≡ at + length (flat_map bytes front)
 
 abbrev Goes : List Lexeme → Type 0
-Goes ls = (at d : ℕ) (b : Bool) (found more : List Piece) (e : ℕ) (t : Bool) → are_lexemes ls ≡ true → nests d ls ≡ true → pieces at d b ls ≡ found ++ end_at e t ∷ more → (more ≡ []) ⊎ GoesOn at ls e more
+Goes ls = (at d : ℕ) (b : Bool) (found more : List Piece) (e : ℕ) (t : Bool) → are_lexemes ls ≡ true → nests d ls ≡ true → pieces at d b ls ≡ found ++ end_at e t ∷ more
+    → (more ≡ []) ⊎ GoesOn at ls e more
 
 behind : (l : Lexeme) (ls : List Lexeme) (at e : ℕ) (more : List Piece) → (more ≡ []) ⊎ GoesOn (at + length (bytes l)) ls e more → (more ≡ []) ⊎ GoesOn at (l ∷ ls) e more
 behind l ls at e more (inl h) = inl h
-behind l ls at e more (inr g) = inr (record { front = l ∷ g.front; back = g.back; is = ap (λ x. l ∷ x) g.is; nested = g.nested; valid = g.valid; placed = g.placed; place = omega (arith, g.place, length-append (bytes l) (flat_map bytes g.front)) })
+behind l ls at e more (inr g) = inr (record {
+  front = l ∷ g.front;
+  back = g.back;
+  is = ap (λ x. l ∷ x) g.is;
+  nested = g.nested;
+  valid = g.valid;
+  placed = g.placed;
+  place = omega (arith, g.place, length-append (bytes l) (flat_map bytes g.front));
+})
 
 no_end : (found more : List Piece) (p : Piece) → [] ≡ found ++ p ∷ more → ⊥
 no_end [] more p h = cc
@@ -156,7 +171,15 @@ goes (Close ∷ ls) at (suc d) b found more e t v n is = behind Close ls at e mo
 goes (Line r ∷ ls) at zero b [] more e t v n is =
     let k : at + length (bytes (Line r)) ≡ e = ap first_in is in
     let rest : pieces (at + length (bytes (Line r))) zero (begins_blank ls) ls ≡ more = cc in
-    inr (record { front = Line r ∷ []; back = ls; is = refl; nested = n; valid = valid_rest (Line r) ls v; placed = ap (λ i. pieces i zero (begins_blank ls) ls) (sym k) ∙ rest; place = omega (arith, k, length-append (bytes (Line r)) []) })
+    inr (record {
+      front = Line r ∷ [];
+      back = ls;
+      is = refl;
+      nested = n;
+      valid = valid_rest (Line r) ls v;
+      placed = ap (λ i. pieces i zero (begins_blank ls) ls) (sym k) ∙ rest;
+      place = omega (arith, k, length-append (bytes (Line r)) []);
+    })
 goes (Line r ∷ ls) at zero b (x ∷ found) more e t v n is = behind (Line r) ls at e more (goes ls _ zero (begins_blank ls) found more e t (valid_rest (Line r) ls v) n (cc))
 goes (Line r ∷ ls) at (suc d) b found more e t v n is = behind (Line r) ls at e more (goes ls _ (suc d) b found more e t (valid_rest (Line r) ls v) n is)
 goes (Blank x ∷ ls) at d b found more e t v n is = behind (Blank x) ls at e more (goes ls _ d b found more e t (valid_rest (Blank x) ls v) n is)
@@ -173,7 +196,8 @@ pieces_go_on text found more at b p = go (goes p.lexemes 0 0 (begins_blank p.lex
     go (inl h) = inl h
     go (inr g) =
         let left : flat_map bytes g.back ≡ drop at text =
-        sym (drop_at (flat_map bytes g.front) (flat_map bytes g.back) at (omega (arith, g.place))) ∙ ap (drop at) (sym (flat_map-append bytes g.front g.back) ∙ ap (flat_map bytes) (sym g.is) ∙ p.spelled) in
+        sym (drop_at (flat_map bytes g.front) (flat_map bytes g.back) at (omega (arith, g.place)))
+        ∙ ap (drop at) (sym (flat_map-append bytes g.front g.back) ∙ ap (flat_map bytes) (sym g.is) ∙ p.spelled) in
         let n : at ≡ at + 0 = omega arith in
         inr (
           pieces 0 0 (begins_blank g.back) g.back,

@@ -1,5 +1,6 @@
 -- The reader of pieces on characters, and on lexemes.
-use Rattle.std.proofs.Common.{◌≡◌, ℕ, zero, suc, ◌+◌, ◌*◌, ◌/◌, ◌%◌, ◌<◌, ◌≤◌, Bool, true, false, cond, ◌==◌, nat_le, List, [], ◌∷◌, ◌++◌, length, refl, sym, ap, ◌∙◌, subst, arith, append_assoc, append-nil, length-append, inl, inr}
+use Rattle.std.proofs.Common.{◌≡◌, ℕ, zero, suc, ◌+◌, ◌*◌, ◌/◌, ◌%◌, ◌<◌, ◌≤◌, Bool, true, false, cond, ◌==◌, nat_le, List, [], ◌∷◌, ◌++◌, length, refl, sym, ap, ◌∙◌, subst, arith, append_assoc}
+use Rattle.std.proofs.Common.{append-nil, length-append, inl, inr}
 use Rattle.std.specs.Prelude.{Some, None, Result, Ok, encode_utf8, encode_utf8_all}
 use Rattle.std.specs.List.{flat_map, list_all}
 use lib.Utf8.{encode}
@@ -40,8 +41,25 @@ unfolding encode
 high_bytes c h = elim (cases_lt c 2048) [
   | inl two ↦ rw (le-ltb c 128 h, lt-ltb c 2048 two, le-leb 128 (192 + c / 64) (omega arith), le-leb 128 (128 + c % 64) (omega arith)) refl
   | inr more ↦ elim (cases_lt c 65536) [
-    | inl three ↦ rw (le-ltb c 128 h, le-ltb c 2048 more, lt-ltb c 65536 three, le-leb 128 (224 + c / 4096) (omega arith), le-leb 128 (128 + c / 64 % 64) (omega arith), le-leb 128 (128 + c % 64) (omega arith)) refl
-    | inr four ↦ rw (le-ltb c 128 h, le-ltb c 2048 more, le-ltb c 65536 four, le-leb 128 (240 + c / 262144) (omega arith), le-leb 128 (128 + c / 4096 % 64) (omega arith), le-leb 128 (128 + c / 64 % 64) (omega arith), le-leb 128 (128 + c % 64) (omega arith)) refl
+    | inl three ↦ rw (
+      le-ltb c 128 h,
+      le-ltb c 2048 more,
+      lt-ltb c 65536 three,
+      le-leb 128 (224 + c / 4096) (omega arith),
+      le-leb 128 (128 + c / 64 % 64) (omega arith),
+      le-leb 128 (128 + c % 64)
+          (omega arith),
+    ) refl
+    | inr four ↦ rw (
+      le-ltb c 128 h,
+      le-ltb c 2048 more,
+      le-ltb c 65536 four,
+      le-leb 128 (240 + c / 262144) (omega arith),
+      le-leb 128 (128 + c / 4096 % 64) (omega arith),
+      le-leb 128
+          (128 + c / 64 % 64) (omega arith),
+      le-leb 128 (128 + c % 64) (omega arith),
+    ) refl
   ]
 ]
 
@@ -58,7 +76,8 @@ high_run (x ∷ bs) rest m d s at b h k =
     let p = and_parts (is_high x) (list_all is_high bs) h in
     go m k (leb-true 128 x p.0) (high_run bs rest m d s (at + 1) b p.1 k ∙ ap (λ n. run m d s n b rest) (omega arith))
   where
-    go : (m : Mode) → stays m ≡ true → 128 ≤ x → run m d s (at + 1) b (bs ++ rest) ≡ run m d s (at + suc (length bs)) b rest → run m d s at b (x ∷ (bs ++ rest)) ≡ run m d s (at + suc (length bs)) b rest
+    go : (m : Mode) → stays m ≡ true → 128 ≤ x → run m d s (at + 1) b (bs ++ rest) ≡ run m d s (at + suc (length bs)) b rest
+        → run m d s at b (x ∷ (bs ++ rest)) ≡ run m d s (at + suc (length bs)) b rest
     go Outside k big on = run_step Outside d s at b x (bs ++ rest) _ (high_is Outside d x big) ∙ on
     go Quoted k big on = run_step Quoted d s at b x (bs ++ rest) _ (high_is Quoted d x big) ∙ on
     go Comment k big on = run_step Comment d s at b x (bs ++ rest) _ (high_is Comment d x big) ∙ on
@@ -69,7 +88,8 @@ high_run (x ∷ bs) rest m d s at b h k =
 
 -- what a character gives and leaves
 abbrev pub char_stepped : Mode → ℕ → ℕ → Bool → ℕ → List ℕ → Move → List (Result Piece Fault)
-char_stepped m s at b w rest v = before (closed m v.mode v.act s at) (before (finished v.act s (at + 1) b) (run v.mode v.depth (start_after m v.mode v.act s at) (at + w) (blank_after v.act b rest) rest))
+char_stepped m s at b w rest v = before (closed m v.mode v.act s at)
+    (before (finished v.act s (at + 1) b) (run v.mode v.depth (start_after m v.mode v.act s at) (at + w) (blank_after v.act b rest) rest))
 
 pub run_some : (m : Mode) (d s at : ℕ) (b : Bool) (c : ℕ) (rest : List ℕ) (v : Move) → step m d c ≡ Some v
     → run m d s at b (encode_utf8 c ++ rest) ≡ char_stepped m s at b (length (encode_utf8 c)) rest v
@@ -143,7 +163,8 @@ symbol_run q d s at b rest (SimpleEscape o) h =
     let y : List ℕ = encode_utf8 o in
     ap (run (home q) d s at b) (append_assoc x (y ++ []) rest ∙ ap (λ l. x ++ (l ++ rest)) (append-nil y))
     ∙ add_run (home q) (Escape q) d s at (at + length x) b 92 (y ++ rest) (home_open q (Escape q) s at) (escape_step q d) refl
-    ∙ add_run (Escape q) (home q) d s (at + length x) (at + length (x ++ (y ++ []))) b o rest refl (simple_step q d o (simple_readable q o h)) (omega (arith, length-append x (y ++ []), length-append y []))
+    ∙ add_run (Escape q) (home q) d s (at + length x) (at + length (x ++ (y ++ []))) b o rest refl (simple_step q d o (simple_readable q o h))
+    (omega (arith, length-append x (y ++ []), length-append y []))
 symbol_run q d s at b rest (DecimalEscape o) h =
     let small : o < 256 = decimal_small q o h in
     let u : ℕ = o / 100 in
@@ -156,8 +177,10 @@ symbol_run q d s at b rest (DecimalEscape o) h =
     ap (run (home q) d s at b) (four_bytes x xu xv xw rest)
     ∙ add_run (home q) (Escape q) d s at (at + length x) b 92 (xu ++ (xv ++ (xw ++ rest))) (home_open q (Escape q) s at) (escape_step q d) refl
     ∙ add_run (Escape q) (OneDigit q u) d s (at + length x) (at + length x + length xu) b (48 + u) (xv ++ (xw ++ rest)) refl (first_step q d u (omega arith)) refl
-    ∙ add_run (OneDigit q u) (TwoDigits q (10 * u + v)) d s (at + length x + length xu) (at + length x + length xu + length xv) b (48 + v) (xw ++ rest) refl (second_step q d u v (omega arith) (omega arith)) refl
-    ∙ add_run (TwoDigits q (10 * u + v)) (home q) d s (at + length x + length xu + length xv) (at + length (x ++ (xu ++ (xv ++ (xw ++ []))))) b (48 + w) rest refl (third_step q d (10 * u + v) w (omega arith) (omega arith)) (omega (arith, four_long x xu xv xw))
+    ∙ add_run (OneDigit q u) (TwoDigits q (10 * u + v)) d s (at + length x + length xu) (at + length x + length xu + length xv) b (48 + v) (xw ++ rest) refl
+    (second_step q d u v (omega arith) (omega arith)) refl
+    ∙ add_run (TwoDigits q (10 * u + v)) (home q) d s (at + length x + length xu + length xv) (at + length (x ++ (xu ++ (xv ++ (xw ++ []))))) b (48 + w) rest refl
+    (third_step q d (10 * u + v) w (omega arith) (omega arith)) (omega (arith, four_long x xu xv xw))
 
 pub symbols_run : (q : Within) (d s at : ℕ) (b : Bool) (rest : List ℕ) (ss : List Symbol) → list_all (allowed q) ss ≡ true
     → run (home q) d s at b (encode_utf8_all (flat_map spell ss) ++ rest) ≡ run (home q) d s (at + length (encode_utf8_all (flat_map spell ss))) b rest

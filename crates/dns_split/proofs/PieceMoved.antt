@@ -1,5 +1,6 @@
 -- The reader elsewhere in a text, and on octets that are characters.
-use Rattle.std.proofs.Common.{◌≡◌, ℕ, zero, suc, ◌+◌, ◌<◌, ◌≤◌, Bool, true, false, cond, ◌==◌, List, [], ◌∷◌, ◌++◌, length, take, drop, refl, sym, ap, ◌∙◌, subst, arith, append_assoc, append-nil, length-append, inl, inr, IsUtf8}
+use Rattle.std.proofs.Common.{◌≡◌, ℕ, zero, suc, ◌+◌, ◌<◌, ◌≤◌, Bool, true, false, cond, ◌==◌, List, [], ◌∷◌, ◌++◌, length, take, drop, refl, sym, ap, ◌∙◌, subst, arith, append_assoc, append-nil}
+use Rattle.std.proofs.Common.{length-append, inl, inr, IsUtf8}
 use Rattle.std.specs.Prelude.{Option, Some, None, option_map, map, Result, Ok, IfSome, encode_utf8, encode_utf8_all}
 use lib.Utf8.{scalars}
 use Rattle.std.proofs.lemmas.Bool.{eq-eqb, ne_eqb, eqb-true, cases_Bool, cases_lt}
@@ -60,7 +61,8 @@ blank_run (c ∷ bs) m d s at b x h = go (step m d c) refl (blank_run bs)
   where
     go : (o : Option Move) → step m d c ≡ o → Blank bs → b ≡ x
     go None e ih = let k : None ≡ Some x = ap next_blank (sym (run_stop m d s at b c bs e)) ∙ h in cc
-    go (Some v) e ih = act_blank bs ih v.act v.mode v.depth s (start_after m v.mode v.act s at) (at + 1) (at + 1) b x (sym (closed_blank (goes_on m v.mode v.act) m s at _) ∙ ap next_blank (sym (run_step m d s at b c bs v e)) ∙ h)
+    go (Some v) e ih = act_blank bs ih v.act v.mode v.depth s (start_after m v.mode v.act s at) (at + 1) (at + 1) b x
+        (sym (closed_blank (goes_on m v.mode v.act) m s at _) ∙ ap next_blank (sym (run_step m d s at b c bs v e)) ∙ h)
 
 -- places moved by f, which keeps neighbours where it is asked
 before_moved : (f : ℕ → ℕ) (o : Option Piece) (k : List (Result Piece Fault)) → map (moved f) (before o k) ≡ before (option_map (moved_piece f) o) (map (moved f) k)
@@ -152,7 +154,8 @@ turn_moved f m v s at b x bs cs e g k ih w =
     let t : ℕ = start_after m v.mode v.act s at in
     let left : List (Result Piece Fault) = run v.mode v.depth t (at + 1) (blank_after v.act b bs) bs in
     let same : run v.mode v.depth (start_after m v.mode v.act (f s) (f at)) (f at + 1) (blank_after v.act b cs) cs ≡ map (moved f) left =
-    ap (λ n. run v.mode v.depth n (f at + 1) (blank_after v.act b cs) cs) (sym (start_moved f m v.mode v.act s at e)) ∙ ap (λ n. run v.mode v.depth (f t) n (blank_after v.act b cs) cs) (sym e) ∙ ap (λ y. run v.mode v.depth (f t) (f (at + 1)) y cs) (sym k) ∙ ih t (start_within m v.mode v.act s at w) in
+    ap (λ n. run v.mode v.depth n (f at + 1) (blank_after v.act b cs) cs) (sym (start_moved f m v.mode v.act s at e)) ∙ ap (λ n. run v.mode v.depth (f t) n (blank_after v.act b cs) cs) (sym e)
+    ∙ ap (λ y. run v.mode v.depth (f t) (f (at + 1)) y cs) (sym k) ∙ ih t (start_within m v.mode v.act s at w) in
     let o : Option Piece = closed m v.mode v.act s at in
     let q : Option Piece = finished v.act s (at + 1) b in
     ap (λ l. before (closed m v.mode v.act (f s) (f at)) (before (finished v.act (f s) (f at + 1) b) l)) same
@@ -162,7 +165,8 @@ turn_moved f m v s at b x bs cs e g k ih w =
     ∙ sym (before_moved f o (before q left))
 
 end_moved : (f : ℕ → ℕ) (t : Bool) (m : Mode) (s at : ℕ) (b : Bool) → (f s == f at) ≡ (s == at)
-    → cond t (before (open_piece m (f s) (f at)) (Ok (end_at (f at) b) ∷ [])) (fault (f at) (wrong_at_end m (f s))) ≡ map (moved f) (cond t (before (open_piece m s at) (Ok (end_at at b) ∷ [])) (fault at (wrong_at_end m s)))
+    → cond t (before (open_piece m (f s) (f at)) (Ok (end_at (f at) b) ∷ [])) (fault (f at) (wrong_at_end m (f s))) ≡ map (moved f)
+    (cond t (before (open_piece m s at) (Ok (end_at at b) ∷ [])) (fault at (wrong_at_end m s)))
 end_moved f true m s at b g = ap (λ p. before p (Ok (end_at (f at) b) ∷ [])) (sym (open_moved f m s at g)) ∙ sym (before_moved f (open_piece m s at) (Ok (end_at at b) ∷ []))
 end_moved f false m s at b g = ap (fault (f at)) (sym (end_wrong_moved f m s))
 
@@ -218,7 +222,13 @@ pub mono : (l : List ℕ) (i j : ℕ) → i < j → j ≤ length l → place_of 
 mono [] i j h k = absurd (omega arith)
 mono (x ∷ l) i zero h k = absurd (omega arith)
 mono (x ∷ l) zero (suc j) h k = omega (arith, length-append (encode_utf8 x) (encode_utf8_all (take j l)), length-encode x, (len_utf8_bounds x).0)
-mono (x ∷ l) (suc i) (suc j) h k = omega (arith, mono l i j (omega arith) (omega arith), length-append (encode_utf8 x) (encode_utf8_all (take j l)), length-append (encode_utf8 x) (encode_utf8_all (take i l)))
+mono (x ∷ l) (suc i) (suc j) h k = omega (
+  arith,
+  mono l i j (omega arith) (omega arith),
+  length-append (encode_utf8 x) (encode_utf8_all (take j l)),
+  length-append (encode_utf8 x)
+      (encode_utf8_all (take i l)),
+)
 
 same_place : (l : List ℕ) (s at : ℕ) → s ≤ at → at ≤ length l → (place_of l s == place_of l at) ≡ (s == at)
 same_place l s at h k = elim (cases_Bool (s == at)) [
@@ -233,7 +243,8 @@ same_place l s at h k = elim (cases_Bool (s == at)) [
         no h k = cc
 
 place_at : (all front rest : List ℕ) (at : ℕ) → front ++ rest ≡ all → at ≡ length front → place_of all at ≡ length (encode_utf8_all front)
-place_at all front rest at e k = ap (λ n. length (encode_utf8_all (take n all))) k ∙ ap (λ l. length (encode_utf8_all (take (length front) l))) (sym e) ∙ ap (λ l. length (encode_utf8_all l)) (take-append_seam front rest)
+place_at all front rest at e k = ap (λ n. length (encode_utf8_all (take n all))) k ∙ ap (λ l. length (encode_utf8_all (take (length front) l))) (sym e)
+    ∙ ap (λ l. length (encode_utf8_all l)) (take-append_seam front rest)
 
 -- the place behind one more
 place_next : (all front os : List ℕ) (at c : ℕ) → front ++ (c ∷ os) ≡ all → at ≡ length front → place_of all (at + 1) ≡ place_of all at + length (encode_utf8 c)
@@ -263,7 +274,8 @@ low_octet all os at c small within e ih m d s b h = go (step m d c) refl
     is = ap (λ l. l ++ encode_utf8_all os) (encode_ascii c small)
 
     go : (o : Option Move) → step m d c ≡ o → run m d (place_of all s) (place_of all at) b (encode_utf8_all (c ∷ os)) ≡ map (moved (place_of all)) (run m d s at b (c ∷ os))
-    go None k = ap (run m d (place_of all s) (place_of all at) b) is ∙ run_stop m d (place_of all s) (place_of all at) b c (encode_utf8_all os) k ∙ fault_moved (place_of all) m s at ∙ ap (map (moved (place_of all))) (sym (run_stop m d s at b c os k))
+    go None k = ap (run m d (place_of all s) (place_of all at) b) is ∙ run_stop m d (place_of all s) (place_of all at) b c (encode_utf8_all os) k ∙ fault_moved (place_of all) m s at
+        ∙ ap (map (moved (place_of all))) (sym (run_stop m d s at b c os k))
     go (Some v) k =
         ap (run m d (place_of all s) (place_of all at) b) is ∙ run_step m d (place_of all s) (place_of all at) b c (encode_utf8_all os) v k
         ∙ turn_moved (place_of all) m v s at b b os (encode_utf8_all os) e (same_place all s at h within) (blank_same v.act b os) (λ t w. ih v.mode v.depth t (blank_after v.act b os) w) h
@@ -277,7 +289,8 @@ high_octet all os at c big e ih m d s b h = go m
   where
     on : (m : Mode) → stays m ≡ true → run m d s (at + 1) b os ≡ run m d s at b (c ∷ os) → SameOctet all os at c d s b m
     on m k same =
-        high_run (encode_utf8 c) (encode_utf8_all os) m d (place_of all s) (place_of all at) b (high_bytes c big) k ∙ ap (λ n. run m d (place_of all s) n b (encode_utf8_all os)) (sym e) ∙ ih m d s b (omega arith)
+        high_run (encode_utf8 c) (encode_utf8_all os) m d (place_of all s) (place_of all at) b (high_bytes c big) k ∙ ap (λ n. run m d (place_of all s) n b (encode_utf8_all os)) (sym e)
+        ∙ ih m d s b (omega arith)
         ∙ ap (map (moved (place_of all))) same
 
     off : (m : Mode) → step m d c ≡ None → SameOctet all os at c d s b m

@@ -1,5 +1,6 @@
 -- What is given are parts of the text.
-use Rattle.std.proofs.Common.{◌≡◌, ℕ, ◌+◌, ◌<◌, ◌≤◌, Bool, true, false, cond, ◌==◌, List, [], ◌∷◌, ◌++◌, length, refl, sym, ap, ◌∙◌, subst, arith, append_assoc, append-nil, length-append, inl, inr, IsUtf8, get_or, take, drop}
+use Rattle.std.proofs.Common.{◌≡◌, ℕ, ◌+◌, ◌<◌, ◌≤◌, Bool, true, false, cond, ◌==◌, List, [], ◌∷◌, ◌++◌, length, refl, sym, ap, ◌∙◌, subst, arith, append_assoc, append-nil, length-append, inl}
+use Rattle.std.proofs.Common.{inr, IsUtf8, get_or, take, drop}
 use Rattle.std.specs.Prelude.{⊤, Option, Some, None, map, Result, Ok, Err}
 use Rattle.std.specs.Str.{IsCharBoundary}
 use Rattle.std.proofs.lemmas.Bool.{cases_lt, cond_both}
@@ -140,13 +141,15 @@ abbrev TextParts : List ℕ → List (Result Piece Fault) → Type 0
 TextParts text l = Parts (IsCharBoundary text) (λ _. ⊤) l
 
 right_parts : (text front bs : List ℕ) (at : ℕ) → IsUtf8 text → front ++ bs ≡ text → at ≡ length front → RightParts (IsCharBoundary text) (λ _. ⊤) at bs
-right_parts text front [] at u e k = end_parts (IsCharBoundary text) (λ _. ⊤) at (subst (IsCharBoundary text) (omega (arith, k, ap length (sym e), length-append front [])) (IsCharBoundary-end text)) tt
+right_parts text front [] at u e k = end_parts (IsCharBoundary text) (λ _. ⊤) at
+    (subst (IsCharBoundary text) (omega (arith, k, ap length (sym e), length-append front [])) (IsCharBoundary-end text)) tt
 right_parts text front (c ∷ bs) at u e k =
     let ih = right_parts text (front ++ c ∷ []) bs (at + 1) u (append_assoc front (c ∷ []) bs ∙ e) (omega (arith, k, length-append front (c ∷ []))) in
     let room : at < length text = omega (arith, k, ap length (sym e), length-append front (c ∷ bs)) in
     let is : get_or text at 0 ≡ c = ap (λ n. get_or text n 0) k ∙ ap (λ l. get_or l (length front) 0) (sym e) ∙ get_or-append_seam front c bs 0 in
     elim (cases_lt c 128) [
-      | inl small ↦ low_parts (IsCharBoundary text) (λ _. ⊤) bs at c (IsCharBoundary-before_ascii text at room (omega (arith, is, small))) (IsCharBoundary-after_ascii text at u room (omega (arith, is, small))) tt ih
+      | inl small ↦ low_parts (IsCharBoundary text) (λ _. ⊤) bs at c (IsCharBoundary-before_ascii text at room (omega (arith, is, small)))
+          (IsCharBoundary-after_ascii text at u room (omega (arith, is, small))) tt ih
       | inr big ↦ high_parts (IsCharBoundary text) (λ _. ⊤) bs at c big tt ih
     ]
 
@@ -163,7 +166,8 @@ parts_of text (x ∷ xs) h = (part_of text x h.0, parts_of text xs h.1)
 
 -- from a boundary on, each piece is a part
 pub each_is_part : (text : List ℕ) (at : ℕ) → IsUtf8 text → IsCharBoundary text at → EachIsPart text (run Outside 0 at at (first_blank (drop at text)) (drop at text))
-each_is_part text at u p = parts_of text _ (right_parts text (take at text) (drop at text) at u (take-append-drop at text) (sym (length-take-le at text p.0)) Outside 0 at (first_blank (drop at text)) (omega arith) p)
+each_is_part text at u p = parts_of text _ (right_parts text (take at text) (drop at text) at u (take-append-drop at text) (sym (length-take-le at text p.0)) Outside 0 at
+    (first_blank (drop at text)) (omega arith) p)
 
 -- parts, and the text's fault
 all_fit : (text : List ℕ) (found : List Piece) (k : List (Result Piece Fault)) → EachFits text k → EachIsPart text (map Ok found ++ k) → EachFits text (map Ok found ++ k)
@@ -194,4 +198,5 @@ pub each_within : (octets : List ℕ) (b : Bool) → EachWithin (length octets) 
 each_within octets b = within_of (length octets) _ (right_within (length octets) octets 0 (omega arith) Outside 0 0 b (omega arith) (omega arith))
 
 pub within_from : (octets : List ℕ) (at : ℕ) → at ≤ length octets → EachWithin (length octets) (run Outside 0 at at (first_blank (drop at octets)) (drop at octets))
-within_from octets at h = within_of (length octets) _ (right_within (length octets) (drop at octets) at (omega (arith, length-drop at octets)) Outside 0 at (first_blank (drop at octets)) (omega arith) h)
+within_from octets at h = within_of (length octets) _ (right_within (length octets) (drop at octets) at (omega (arith, length-drop at octets)) Outside 0 at (first_blank (drop at octets))
+    (omega arith) h)

@@ -1,5 +1,6 @@
 -- What is given before a fault is all that is settled.
-use Rattle.std.proofs.Common.{◌≡◌, ℕ, zero, suc, ◌+◌, ◌*◌, ◌<◌, ◌≤◌, Bool, true, false, cond, ◌==◌, List, [], ◌∷◌, ◌++◌, length, replicate, refl, sym, ap, ◌∙◌, subst, arith, append_assoc, append-nil, inl, inr, ◌⊎◌}
+use Rattle.std.proofs.Common.{◌≡◌, ℕ, zero, suc, ◌+◌, ◌*◌, ◌<◌, ◌≤◌, Bool, true, false, cond, ◌==◌, List, [], ◌∷◌, ◌++◌, length, replicate, refl, sym, ap, ◌∙◌, subst, arith, append_assoc}
+use Rattle.std.proofs.Common.{append-nil, inl, inr, ◌⊎◌}
 use Rattle.std.specs.Prelude.{Some, None, map, Result, Ok, encode_utf8_all}
 use lib.Utf8.{scalars}
 use Rattle.std.proofs.Math.Nat.{zero-add}
@@ -139,7 +140,8 @@ two_apart : (q : Within) (v d s n : ℕ) → v ≤ 25 → s ≤ n → Apart (Two
 two_apart q v d s n few h = digit_apart (TwoDigits q v) (home q) d s n (third_step q d v 0 (omega arith) (omega arith)) refl (home_apart q d s (n + 1) (omega arith))
 
 one_apart : (q : Within) (v d s n : ℕ) → v ≤ 2 → s ≤ n → Apart (OneDigit q v) d s n
-one_apart q v d s n few h = digit_apart (OneDigit q v) (TwoDigits q (10 * v + 0)) d s n (second_step q d v 0 (omega arith) (omega arith)) refl (two_apart q (10 * v + 0) d s (n + 1) (omega arith) (omega arith))
+one_apart q v d s n few h = digit_apart (OneDigit q v) (TwoDigits q (10 * v + 0)) d s n (second_step q d v 0 (omega arith) (omega arith)) refl
+    (two_apart q (10 * v + 0) d s (n + 1) (omega arith) (omega arith))
 
 escape_apart : (q : Within) (d s n : ℕ) → s ≤ n → Apart (Escape q) d s n
 escape_apart q d s n h = digit_apart (Escape q) (OneDigit q 0) d s n (first_step q d 0 (omega arith)) refl (one_apart q 0 d s (n + 1) (omega arith) (omega arith))
@@ -148,7 +150,8 @@ escape_apart q d s n h = digit_apart (Escape q) (OneDigit q 0) d s n (first_step
 return_apart : (d n : ℕ) → Apart Return (suc d) n n
 return_apart d n =
     let a = outside_apart (suc d) (n + 1) (n + 1) (omega arith) in
-    let on : (x : Bool) (l : List ℕ) → run Return (suc d) n n x (10 ∷ l) ≡ run Outside (suc d) (n + 1) (n + 1) x l = λ x l. ap (λ t. before (cond t None (Some (word_at n n))) (run Outside (suc d) (n + 1) (n + 1) x l)) (self n) in
+    let on : (x : Bool) (l : List ℕ) → run Return (suc d) n n x (10 ∷ l) ≡ run Outside (suc d) (n + 1) (n + 1) x l =
+    λ x l. ap (λ t. before (cond t None (Some (word_at n n))) (run Outside (suc d) (n + 1) (n + 1) x l)) (self n) in
     record {
       one = 10 ∷ a.one;
       two = 10 ∷ a.two;
@@ -185,7 +188,8 @@ completed ys w p ok h small c =
 
 -- what the reader gives of every text that begins with what was walked
 abbrev pub GivesAll : List ℕ → Mode → ℕ → List Piece → ℕ → Type 0
-GivesAll ys m d found s = (w : List ℕ) → (x : Bool) × (run Outside 0 0 0 (first_blank (encode_utf8_all ys ++ w)) (encode_utf8_all ys ++ w) ≡ map Ok found ++ run m d s (0 + length (encode_utf8_all ys)) x w)
+GivesAll ys m d found s = (w : List ℕ) → (x : Bool) × (run Outside 0 0 0 (first_blank (encode_utf8_all ys ++ w)) (encode_utf8_all ys ++ w) ≡ map Ok found ++ run m d s
+    (0 + length (encode_utf8_all ys)) x w)
 
 pub gives_all : (ys r : List ℕ) (p : Mode × ℕ) → (g : Gives Outside 0 0 0 (first_blank (encode_utf8_all ys ++ r)) ys p) → walk Outside 0 ys ≡ Some p → (g.found ≡ []) ⊎ (0 < length ys)
     → GivesAll ys p.0 p.1 g.found g.start
@@ -201,7 +205,8 @@ gives_all (c ∷ ys) r p g h e w =
     (k.0, ap (λ b. run Outside 0 0 0 b (encode_utf8_all (c ∷ ys) ++ w)) (same_first c ys w r) ∙ k.1)
 
 -- where two ways differ, nothing more is settled
-apart_longest : (ys : List ℕ) (m : Mode) (d s : ℕ) (found other : List Piece) → Apart m d s (0 + length (encode_utf8_all ys)) → GivesAll ys m d found s → scalars ys ≡ true → walk Outside 0 ys ≡ Some (m, d)
+apart_longest : (ys : List ℕ) (m : Mode) (d s : ℕ) (found other : List Piece) → Apart m d s (0 + length (encode_utf8_all ys)) → GivesAll ys m d found s → scalars ys ≡ true
+    → walk Outside 0 ys ≡ Some (m, d)
     → BeginsPieces (encode_utf8_all ys) other → Begins other found
 apart_longest ys m d s found other a gives ok h begins =
     let u = completed ys a.one (m, d) ok h a.low_one a.one_completes in
@@ -252,7 +257,8 @@ return_longest ys s found other is gives ok h begins =
     line : (x : Bool) (l : List ℕ) → run Return 0 s n x (10 ∷ l) ≡ Ok (end_at (n + 1) x) ∷ rest l
     line x l = ap (λ i. run Return 0 i n x (10 ∷ l)) is ∙ ap (λ t. before (cond t None (Some (word_at n n))) (Ok (end_at (n + 1) x) ∷ rest l)) (self n)
 
-    go : (i j : List Piece) (x y : Bool) → Common other found (Ok (end_at (n + 1) x) ∷ rest a.one) (Ok (end_at (n + 1) y) ∷ rest a.two) i j → Begins other found ⊎ Ended other found (length (encode_utf8_all ys))
+    go : (i j : List Piece) (x y : Bool) → Common other found (Ok (end_at (n + 1) x) ∷ rest a.one) (Ok (end_at (n + 1) y) ∷ rest a.two) i j
+        → Begins other found ⊎ Ended other found (length (encode_utf8_all ys))
     go i j x y (inl b) = inl b
     go i j x y (inr b) = inr (x, last b.1 b.2 b.3 b.4)
       where
@@ -268,7 +274,8 @@ return_longest ys s found other is gives ok h begins =
         last (o ∷ os) e f g = elim (a.differ (first_blank a.one) (first_blank a.two) o _ _ (ap tail_of f) (ap tail_of g)) [ ]
 
 -- nothing more is settled than what was given
-pub longest : (ys : List ℕ) (m : Mode) (d s : ℕ) (found other : List Piece) → GivesAll ys m d found s → scalars ys ≡ true → walk Outside 0 ys ≡ Some (m, d) → Stands m s (0 + length (encode_utf8_all ys)) → Fine m
+pub longest : (ys : List ℕ) (m : Mode) (d s : ℕ) (found other : List Piece) → GivesAll ys m d found s → scalars ys ≡ true → walk Outside 0 ys ≡ Some (m, d)
+    → Stands m s (0 + length (encode_utf8_all ys)) → Fine m
     → BeginsPieces (encode_utf8_all ys) other → Begins other found ⊎ ((m ≡ Return) × Ended other found (length (encode_utf8_all ys)))
 longest ys Outside d s found other gives ok h w f begins = inl (apart_longest ys Outside d s found other (outside_apart d s _ w.0) gives ok h begins)
 longest ys Quoted d s found other gives ok h w f begins = inl (apart_longest ys Quoted d s found other (quoted_apart d s _) gives ok h begins)
@@ -282,7 +289,8 @@ longest ys Return zero s found other gives ok h w f begins = go (return_longest 
     go (inl b) = inl b
     go (inr b) = inr (refl, b)
 longest ys Return (suc d) s found other gives ok h w f begins =
-    inl (apart_longest ys Return (suc d) s found other (subst (λ i. Apart Return (suc d) i (0 + length (encode_utf8_all ys))) (sym (w.1 refl)) (return_apart d (0 + length (encode_utf8_all ys)))) gives ok h begins)
+    inl (apart_longest ys Return (suc d) s found other (subst (λ i. Apart Return (suc d) i (0 + length (encode_utf8_all ys))) (sym (w.1 refl))
+    (return_apart d (0 + length (encode_utf8_all ys)))) gives ok h begins)
 
 within_front : (n : ℕ) (found : List Piece) (k : List (Result Piece Fault)) → EachWithin n (map Ok found ++ k) → EachWithin n (map Ok found)
 within_front n [] k h = tt
@@ -294,4 +302,5 @@ ended ys m d s found gives =
     let k = gives [] in
     let is : encode_utf8_all ys ++ [] ≡ encode_utf8_all ys = append-nil (encode_utf8_all ys) in
     within_front (length (encode_utf8_all ys)) found _
-    (subst (EachWithin (length (encode_utf8_all ys))) k.1 (subst (λ l. EachWithin (length l) (run Outside 0 0 0 (first_blank (encode_utf8_all ys ++ [])) (encode_utf8_all ys ++ []))) is (each_within (encode_utf8_all ys ++ []) (first_blank (encode_utf8_all ys ++ [])))))
+    (subst (EachWithin (length (encode_utf8_all ys))) k.1 (subst (λ l. EachWithin (length l) (run Outside 0 0 0 (first_blank (encode_utf8_all ys ++ [])) (encode_utf8_all ys ++ []))) is
+    (each_within (encode_utf8_all ys ++ []) (first_blank (encode_utf8_all ys ++ [])))))

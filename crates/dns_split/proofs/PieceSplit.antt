@@ -1,5 +1,6 @@
 -- The pieces of a text, and its entries.
-use Rattle.std.proofs.Common.{◌≡◌, ℕ, zero, suc, ◌+◌, ◌-◌, Bool, true, false, List, [], ◌∷◌, ◌++◌, length, take, drop, refl, sym, ap, ◌∙◌, subst, arith, append_assoc, append-nil, length-append, inl, inr}
+use Rattle.std.proofs.Common.{◌≡◌, ℕ, zero, suc, ◌+◌, ◌-◌, Bool, true, false, List, [], ◌∷◌, ◌++◌, length, take, drop, refl, sym, ap, ◌∙◌, subst, arith, append_assoc, append-nil, length-append}
+use Rattle.std.proofs.Common.{inl, inr}
 use Rattle.std.specs.Prelude.{Option, Some, None, option_map, map, Result, Ok, Err}
 use Rattle.std.specs.List.{flat_map}
 use Rattle.std.proofs.lemmas.List.{drop_at}
@@ -27,7 +28,8 @@ Cuts ls = (text before : List ℕ) (d at : ℕ) (b : Bool) → before ++ flat_ma
 
 on : (l : Lexeme) (ls : List Lexeme) → Cuts ls → (text before : List ℕ) (d at : ℕ) (b : Bool) → before ++ flat_map bytes (l ∷ ls) ≡ text → at ≡ length before → nests d ls ≡ true
     → entries d ls ≡ cut text (pieces (at + length (bytes l)) d b ls)
-on l ls ih text before d at b e k n = ih text (before ++ bytes l) d (at + length (bytes l)) b (append_assoc before (bytes l) (flat_map bytes ls) ∙ e) (omega (arith, k, length-append before (bytes l))) n
+on l ls ih text before d at b e k n = ih text (before ++ bytes l) d (at + length (bytes l)) b (append_assoc before (bytes l) (flat_map bytes ls) ∙ e)
+    (omega (arith, k, length-append before (bytes l))) n
 
 cuts : (ls : List Lexeme) → Cuts ls
 cuts [] text before d at b e k n = refl
@@ -161,12 +163,14 @@ front_nil (x ∷ ts) e = ap (λ l. l ∷ e) (append-nil (x ∷ ts))
 pub token_glue : {A : Type 0} (old new : Collected A) (t : List ℕ) (o : Option Entries) → new.found ≡ old.found → texts new.entry.items ≡ texts old.entry.items ++ t ∷ []
     → glue old (option_map (with_token t) o) ≡ glue new o
 token_glue old new t None f h = refl
-token_glue old new t (Some e) f h = ap Some (ap (λ l. entries_of old.found.items ++ l) (front_token (texts old.entry.items) t e) ∙ ap (λ v. entries_of v.items ++ front (texts old.entry.items ++ t ∷ []) e) (sym f) ∙ ap (λ l. entries_of new.found.items ++ front l e) (sym h))
+token_glue old new t (Some e) f h = ap Some (ap (λ l. entries_of old.found.items ++ l) (front_token (texts old.entry.items) t e)
+    ∙ ap (λ v. entries_of v.items ++ front (texts old.entry.items ++ t ∷ []) e) (sym f) ∙ ap (λ l. entries_of new.found.items ++ front l e) (sym h))
 
 pub end_glue : {A : Type 0} (old new : Collected A) (o : Option Entries) → entries_of new.found.items ≡ entries_of old.found.items ++ texts old.entry.items ∷ [] → texts new.entry.items ≡ []
     → glue old (option_map (λ e. [] ∷ e) o) ≡ glue new o
 end_glue old new None f h = refl
-end_glue old new (Some e) f h = ap Some (ap (λ l. entries_of old.found.items ++ l) (front_nil (texts old.entry.items) e) ∙ sym (append_assoc (entries_of old.found.items) (texts old.entry.items ∷ []) e) ∙ ap (λ l. l ++ e) (sym f) ∙ ap (λ l. entries_of new.found.items ++ front l e) (sym h))
+end_glue old new (Some e) f h = ap Some (ap (λ l. entries_of old.found.items ++ l) (front_nil (texts old.entry.items) e)
+    ∙ sym (append_assoc (entries_of old.found.items) (texts old.entry.items ∷ []) e) ∙ ap (λ l. l ++ e) (sym f) ∙ ap (λ l. entries_of new.found.items ++ front l e) (sym h))
 
 -- nothing is open
 abbrev pub is_none : List (List ℕ) → Bool

@@ -1,5 +1,6 @@
 -- What is read splits so.
-use Rattle.std.proofs.Common.{◌≡◌, ℕ, zero, suc, ◌+◌, ◌-◌, ◌*◌, ◌/◌, ◌%◌, ◌<◌, ◌≤◌, Bool, true, false, cond, ◌&&◌, nat_le, List, [], ◌∷◌, ◌++◌, refl, sym, ap, ◌∙◌, subst, arith, append_assoc, append-nil, inl, inr, ◌⊎◌}
+use Rattle.std.proofs.Common.{◌≡◌, ℕ, zero, suc, ◌+◌, ◌-◌, ◌*◌, ◌/◌, ◌%◌, ◌<◌, ◌≤◌, Bool, true, false, cond, ◌&&◌, nat_le, List, [], ◌∷◌, ◌++◌, refl, sym, ap, ◌∙◌, subst, arith, append_assoc}
+use Rattle.std.proofs.Common.{append-nil, inl, inr, ◌⊎◌}
 use Rattle.std.specs.Prelude.{Option, Some, None, option_map, option_and_then, encode_utf8, encode_utf8_all}
 use Rattle.std.specs.List.{flat_map, list_all}
 use Rattle.std.proofs.lemmas.Bool.{and_parts, cases_Bool, leb-true, lt-ltb, and_from, not_from_false}
@@ -15,7 +16,8 @@ use Rattle.dns_split.specs.Splitting.{Splits, may_precede, are_lexemes, nests, e
 use Rattle.dns_symbol.specs.Symbol.{spell, is_word_symbol, is_readable, is_digit}
 use Rattle.dns_split.specs.declared.reader.Move.{Move}
 use Rattle.dns_split.specs.Reader.{home, move_to, read, after, with_open}
-use Rattle.dns_split.proofs.Complete.{View, view, v_space, v_tab, v_lf, v_cr, v_open, v_close, v_note, v_quote, v_escape, v_plain, allowed, with_open_some, word_some, quote_some, no_word, Some_same, bytes_all}
+use Rattle.dns_split.proofs.Complete.{View, view, v_space, v_tab, v_lf, v_cr, v_open, v_close, v_note, v_quote, v_escape, v_plain, allowed, with_open_some, word_some, quote_some, no_word}
+use Rattle.dns_split.proofs.Complete.{Some_same, bytes_all}
 use Rattle.dns_split.specs.declared.reader.Within.{Within}
 use Rattle.dns_split.specs.declared.reader.Within.TheVariants.{InWord, InQuote}
 
@@ -135,7 +137,8 @@ pub lexed : (d : ℕ) (cs : List ℕ) (e : Entries) → FromGap d [] cs e → Le
 lexed d cs e g = lexed_with d cs e g.ss g.ls g.text g.symbols g.apart g.valid g.nested g.is
 
 -- lexemes without a word first end the open token
-gap_of : (d : ℕ) (t cs : List ℕ) (e : Entries) (ls : List Lexeme) → cs ≡ flat_map characters ls → no_word ls ≡ true → are_lexemes ls ≡ true → nests d ls ≡ true → e ≡ with_open t (entries d ls) → FromGap d t cs e
+gap_of : (d : ℕ) (t cs : List ℕ) (e : Entries) (ls : List Lexeme) → cs ≡ flat_map characters ls → no_word ls ≡ true → are_lexemes ls ≡ true → nests d ls ≡ true → e ≡ with_open t (entries d ls)
+    → FromGap d t cs e
 gap_of d t cs e ls text apart valid nested is = record {
   ss = [];
   ls = ls;
@@ -156,7 +159,8 @@ symbol_before InQuote d t rest s e ok f = record {
   symbols = and_from (is_quote_symbol s) (list_all is_quote_symbol f.ss) ok f.symbols;
   valid = f.valid;
   nested = f.nested;
-  is = f.is ∙ ap (λ u. with_open u (entries d f.ls)) (longer t (encode_utf8_all (spell s)) (encode_utf8_all (flat_map spell f.ss)) (encode_utf8_all (spell s ++ flat_map spell f.ss)) (encode_utf8 34) (encodes-append (spell s) (flat_map spell f.ss)));
+  is = f.is ∙ ap (λ u. with_open u (entries d f.ls)) (longer t (encode_utf8_all (spell s)) (encode_utf8_all (flat_map spell f.ss)) (encode_utf8_all (spell s ++ flat_map spell f.ss))
+      (encode_utf8 34) (encodes-append (spell s) (flat_map spell f.ss)));
 }
   where
     longer : (t a b ab c : List ℕ) → ab ≡ a ++ b → t ++ a ++ (b ++ c) ≡ t ++ (ab ++ c)
@@ -169,7 +173,8 @@ symbol_before InWord d t rest s e ok f = record {
   apart = f.apart;
   valid = f.valid;
   nested = f.nested;
-  is = f.is ∙ ap (λ u. with_open u (entries d f.ls)) (append_assoc t (encode_utf8_all (spell s)) (encode_utf8_all (flat_map spell f.ss)) ∙ ap (λ u. t ++ u) (sym (encodes-append (spell s) (flat_map spell f.ss))));
+  is = f.is ∙ ap (λ u. with_open u (entries d f.ls)) (append_assoc t (encode_utf8_all (spell s)) (encode_utf8_all (flat_map spell f.ss))
+      ∙ ap (λ u. t ++ u) (sym (encodes-append (spell s) (flat_map spell f.ss))));
 }
 
 char_before : (q : Within) (d : ℕ) (t rest : List ℕ) (c : ℕ) (e : Entries) → allowed q (Char c) ≡ true → FromHome q d (t ++ encode_utf8 c) rest e → FromHome q d t (c ∷ rest) e
@@ -206,7 +211,8 @@ digits_before q d t cs e f =
     let s : Symbol = DecimalEscape (10 * (10 * f.x + one.x) + two.x) in
     let spelled : spell s ≡ 92 ∷ (48 + f.x) ∷ (48 + one.x) ∷ (48 + two.x) ∷ [] = decimal_spelled f.x one.x two.x one.digit two.digit in
     let whole : cs ≡ (48 + f.x) ∷ (48 + one.x) ∷ (48 + two.x) ∷ two.rest = f.text ∙ ap (λ r. (48 + f.x) ∷ r) one.text ∙ ap (λ r. (48 + f.x) ∷ (48 + one.x) ∷ r) two.text in
-    let same : t ++ encode_utf8 92 ++ encode_utf8 (48 + f.x) ++ encode_utf8 (48 + one.x) ++ encode_utf8 (48 + two.x) ≡ t ++ encode_utf8_all (spell s) = four t _ _ _ _ ∙ ap (λ l. t ++ encode_utf8_all l) (sym spelled) in
+    let same : t ++ encode_utf8 92 ++ encode_utf8 (48 + f.x) ++ encode_utf8 (48 + one.x) ++ encode_utf8 (48 + two.x) ≡ t ++ encode_utf8_all (spell s) = four t _ _ _ _
+    ∙ ap (λ l. t ++ encode_utf8_all l) (sym spelled) in
     subst (λ x. FromHome q d t x e) (ap (λ l. l ++ two.rest) spelled ∙ ap (λ x. 92 ∷ x) (sym whole))
     (symbol_before q d t two.rest s e (decimal_allowed q _ (omega (arith, two.fits))) (subst (λ u. FromHome q d u two.rest e) same two.then))
 
@@ -303,7 +309,8 @@ gap_sound _ v_quote cs ih ok d t e h =
     let p = map_some (with_open t) (read Quoted d (encode_utf8 34) cs) e h in
     let l = ih Quoted d (encode_utf8 34) p.0 p.1 in
     let token : encode_utf8 34 ++ (encode_utf8_all (flat_map spell l.ss) ++ encode_utf8 34) ≡ bytes (Quote l.ss) = simp (encodes-append, append-nil) in
-    gap_of d t _ e (Quote l.ss ∷ l.ls) (ap (λ x. 34 ∷ x) (l.text ∙ sym (append_assoc (flat_map spell l.ss) (34 ∷ []) (flat_map characters l.ls)))) refl (and_from _ _ (and_from _ _ l.symbols refl) l.valid) l.nested
+    gap_of d t _ e (Quote l.ss ∷ l.ls) (ap (λ x. 34 ∷ x) (l.text ∙ sym (append_assoc (flat_map spell l.ss) (34 ∷ []) (flat_map characters l.ls)))) refl
+    (and_from _ _ (and_from _ _ l.symbols refl) l.valid) l.nested
     (p.2 ∙ ap (with_open t) (l.is ∙ ap (λ u. with_open u (entries d l.ls)) token ∙ with_open_some (bytes (Quote l.ss)) (entries d l.ls) (quote_some l.ss)))
 gap_sound _ v_escape cs ih ok d t e h = escape_before InWord d t cs e (ih (Escape InWord) d (t ++ encode_utf8 92) e h)
 gap_sound c (v_plain p) cs ih ok d t e h =
@@ -330,7 +337,17 @@ note_before : (d : ℕ) (t cs : List ℕ) (c : ℕ) (e : Entries) → is_note_ch
 note_before d t cs c e ok ih h =
     let p = map_some (with_open t) (read Comment d [] cs) e h in
     let l = ih Comment d [] p.0 p.1 in
-    record { left = c ∷ l.left; ls = l.ls; text = ap (λ x. c ∷ x) l.text; note_chars = and_from _ _ ok l.note_chars; ends = l.ends; valid = l.valid; nested = l.nested; is = p.2 ∙ ap (with_open t) l.is }
+    record {
+      left = c ∷ l.left;
+      ls = l.ls;
+      text = ap (λ x. c ∷ x) l.text;
+      note_chars = and_from _ _ ok l.note_chars;
+      ends = l.ends;
+      valid = l.valid;
+      nested = l.nested;
+      is = p.2
+          ∙ ap (with_open t) l.is;
+    }
 
 comment_sound : (c : ℕ) → View c → (cs : List ℕ) → Right cs → scalar c ≡ true → (d : ℕ) (t : List ℕ) (e : Entries) → read Comment d t (c ∷ cs) ≡ Some e → FromComment d t (c ∷ cs) e
 comment_sound _ v_lf cs ih ok d t e h =
@@ -339,7 +356,17 @@ comment_sound _ v_lf cs ih ok d t e h =
 comment_sound _ v_cr cs ih ok d t e h =
     let p = map_some (with_open t) (read Return d [] cs) e h in
     let l = ih Return d [] p.0 p.1 in
-    record { left = []; ls = Line true ∷ l.ls; text = ap (λ x. 13 ∷ x) l.text; note_chars = refl; ends = refl; valid = l.valid; nested = l.nested; is = p.2 ∙ ap (with_open t) (l.is ∙ line_same d l.ls) }
+    record {
+      left = [];
+      ls = Line true ∷ l.ls;
+      text = ap (λ x. 13 ∷ x) l.text;
+      note_chars = refl;
+      ends = refl;
+      valid = l.valid;
+      nested = l.nested;
+      is = p.2
+          ∙ ap (with_open t) (l.is ∙ line_same d l.ls);
+    }
 comment_sound _ v_space cs ih ok d t e h = note_before d t cs 32 e refl ih h
 comment_sound _ v_tab cs ih ok d t e h = note_before d t cs 9 e refl ih h
 comment_sound _ v_open cs ih ok d t e h = note_before d t cs 40 e refl ih h
@@ -403,13 +430,16 @@ one_sound c cs ih q n d t e h =
       digit = v.2;
       fits = omega arith;
       text = ap (λ x. x ∷ cs) is;
-      then = subst (λ x. FromTwo q (10 * n + v.0) d (t ++ encode_utf8 x) cs e) is (subst (λ x. FromTwo q (10 * n + x) d (t ++ encode_utf8 c) cs e) value (ih (TwoDigits q (10 * n + (c - 48))) d (t ++ encode_utf8 c) e p.1));
+      then = subst (λ x. FromTwo q (10 * n + v.0) d (t ++ encode_utf8 x) cs e) is
+          (subst (λ x. FromTwo q (10 * n + x) d (t ++ encode_utf8 c) cs e) value (ih (TwoDigits q (10 * n + (c - 48))) d (t ++ encode_utf8 c) e p.1));
     }
 
 begun_sound : (c : ℕ) (cs : List ℕ) → Right cs → (q : Within) (d : ℕ) (t : List ℕ) (e : Entries) → read (Escape q) d t (c ∷ cs) ≡ Some e → FromSimple q d t (c ∷ cs) e ⊎ FromDigit q d t (c ∷ cs) e
 begun_sound c cs ih q d t e h = elim (cases_Bool (is_digit c)) [
   | inl yes_digit ↦
-      let p = cond_some k (nat_le c 50) (move_to (OneDigit q (c - 48)) d Add) e (subst (λ b. option_and_then k (cond b (cond (nat_le c 50) (move_to (OneDigit q (c - 48)) d Add) None) (cond (nat_le 32 c && nat_le c 126) (move_to (home q) d Add) None)) ≡ Some e) yes_digit h) in
+      let p = cond_some k (nat_le c 50) (move_to (OneDigit q (c - 48)) d Add) e
+      (subst (λ b. option_and_then k (cond b (cond (nat_le c 50) (move_to (OneDigit q (c - 48)) d Add) None)
+      (cond (nat_le 32 c && nat_le c 126) (move_to (home q) d Add) None)) ≡ Some e) yes_digit h) in
       let v = digit_value_of c yes_digit in
       let is : c ≡ 48 + v.0 = v.1 in
       let low : c ≤ 50 = leb-true c 50 p.0 in
@@ -422,7 +452,9 @@ begun_sound c cs ih q d t e h = elim (cases_Bool (is_digit c)) [
         then = subst (λ x. FromOne q v.0 d (t ++ encode_utf8 x) cs e) is (subst (λ x. FromOne q x d (t ++ encode_utf8 c) cs e) value (ih (OneDigit q (c - 48)) d (t ++ encode_utf8 c) e p.1));
       })
   | inr no_digit ↦
-      let p = cond_some k (nat_le 32 c && nat_le c 126) (move_to (home q) d Add) e (subst (λ b. option_and_then k (cond b (cond (nat_le c 50) (move_to (OneDigit q (c - 48)) d Add) None) (cond (nat_le 32 c && nat_le c 126) (move_to (home q) d Add) None)) ≡ Some e) no_digit h) in
+      let p = cond_some k (nat_le 32 c && nat_le c 126) (move_to (home q) d Add) e
+      (subst (λ b. option_and_then k (cond b (cond (nat_le c 50) (move_to (OneDigit q (c - 48)) d Add) None)
+      (cond (nat_le 32 c && nat_le c 126) (move_to (home q) d Add) None)) ≡ Some e) no_digit h) in
       inl (record {
         o = c;
         rest = cs;

@@ -24,7 +24,8 @@ use Rattle.dns_split.proofs.Viable.{walk, begin_same, stops, ends}
 pub bad_step : (text ys rest : List ℕ) (c : ℕ) (m : Mode) (d : ℕ) → IsUtf8 text → encode_utf8_all ys ++ (encode_utf8 c ++ rest) ≡ text → walk Outside 0 ys ≡ Some (m, d) → step m d c ≡ None
     → IsBad text (length (encode_utf8_all ys))
 bad_step text ys rest c m d u e w stop =
-    let front : encode_utf8_all u.0 ≡ encode_utf8_all (ys ++ c ∷ []) ++ rest = u.1.1 ∙ sym e ∙ sym (append_assoc (encode_utf8_all ys) (encode_utf8 c) rest) ∙ ap (λ l. l ++ rest) (ap (λ l. encode_utf8_all ys ++ l) (sym (append-nil (encode_utf8 c))) ∙ sym (encodes-append ys (c ∷ []))) in
+    let front : encode_utf8_all u.0 ≡ encode_utf8_all (ys ++ c ∷ []) ++ rest = u.1.1 ∙ sym e ∙ sym (append_assoc (encode_utf8_all ys) (encode_utf8 c) rest)
+    ∙ ap (λ l. l ++ rest) (ap (λ l. encode_utf8_all ys ++ l) (sym (append-nil (encode_utf8 c))) ∙ sym (encodes-append ys (c ∷ []))) in
     let q = begin_same (ys ++ c ∷ []) u.0 rest front in
     let whole : u.0 ≡ ys ++ c ∷ q.0 = q.1 ∙ append_assoc ys (c ∷ []) q.0 in
     stops text ys q.0 c (m, d) (ap encode_utf8_all (sym whole) ∙ u.1.1) (ap scalars (sym whole) ∙ u.1.0) w stop
@@ -41,7 +42,8 @@ whole text ys e u is r =
 
 pub one_more : (ys rest text : List ℕ) (all : List ℕ) (c : ℕ) → encode_utf8_all ys ++ all ≡ text → all ≡ encode_utf8 c ++ rest → encode_utf8_all (ys ++ c ∷ []) ++ rest ≡ text
 one_more ys rest text all c e f =
-    ap (λ l. l ++ rest) (encodes-append ys (c ∷ []) ∙ ap (λ l. encode_utf8_all ys ++ l) (append-nil (encode_utf8 c))) ∙ append_assoc (encode_utf8_all ys) (encode_utf8 c) rest ∙ ap (λ l. encode_utf8_all ys ++ l) (sym f) ∙ e
+    ap (λ l. l ++ rest) (encodes-append ys (c ∷ []) ∙ ap (λ l. encode_utf8_all ys ++ l) (append-nil (encode_utf8 c))) ∙ append_assoc (encode_utf8_all ys) (encode_utf8 c) rest
+    ∙ ap (λ l. encode_utf8_all ys ++ l) (sym f) ∙ e
 
 pub scalars_rest : (xs ys : List ℕ) → scalars (xs ++ ys) ≡ true → scalars ys ≡ true
 scalars_rest [] ys h = h

@@ -17,7 +17,8 @@ use Rattle.dns_split.specs.Lexeme.{Lexeme, Blank, Line, Open, Close, Note, Word,
 use Rattle.dns_split.specs.Splitting.{BeginsNoBlank, may_precede, are_lexemes, nests, is_tight}
 use Rattle.dns_symbol.specs.Symbol.{spell, is_word_symbol}
 use Rattle.dns_split.specs.Reader.{kind, home, step, move_to}
-use Rattle.dns_split.proofs.Complete.{View, view, v_space, v_tab, v_lf, v_cr, v_open, v_close, v_note, v_quote, v_escape, v_plain, allowed, char_step, escape_step, simple_step, first_step, second_step, third_step, simple_readable, decimal_small, note_step, bytes_all}
+use Rattle.dns_split.proofs.Complete.{View, view, v_space, v_tab, v_lf, v_cr, v_open, v_close, v_note, v_quote, v_escape, v_plain, allowed, char_step, escape_step, simple_step, first_step}
+use Rattle.dns_split.proofs.Complete.{second_step, third_step, simple_readable, decimal_small, note_step, bytes_all}
 use Rattle.dns_split.specs.declared.reader.Within.{Within}
 use Rattle.dns_split.specs.declared.reader.Within.TheVariants.{InWord, InQuote}
 

@@ -1,5 +1,6 @@
 -- Where the reader stops is the end of the longest viable beginning.
-use Rattle.std.proofs.Common.{IsUtf8, ◌≡◌, ℕ, zero, suc, ◌+◌, ◌-◌, ◌*◌, ◌<◌, ◌≤◌, Bool, true, false, cond, ◌&&◌, if◌then◌else◌, nat_lt, nat_le, List, [], ◌∷◌, ◌++◌, length, take, replicate, refl, sym, ap, ◌∙◌, subst, arith, append_assoc, append-nil, inl, inr, length-append}
+use Rattle.std.proofs.Common.{IsUtf8, ◌≡◌, ℕ, zero, suc, ◌+◌, ◌-◌, ◌*◌, ◌<◌, ◌≤◌, Bool, true, false, cond, ◌&&◌, if◌then◌else◌, nat_lt, nat_le, List, [], ◌∷◌, ◌++◌, length, take, replicate, refl}
+use Rattle.std.proofs.Common.{sym, ap, ◌∙◌, subst, arith, append_assoc, append-nil, inl, inr, length-append}
 use Rattle.std.specs.Prelude.{Option, Some, None, option_map, option_and_then, encode_utf8, encode_utf8_all}
 use Rattle.std.specs.List.{flat_map, list_all}
 use Rattle.std.proofs.lemmas.Bool.{and_parts, cases_lt, le-leb, leb-true, lt-leb, ltb-true, and_from, and_right, and_left, cond-true}
@@ -46,7 +47,8 @@ after_gives FinishToken c t k h = let p = h [] in (with_open (t ++ encode_utf8 c
 abbrev Walked : List ℕ → List ℕ → Type 0
 Walked xs ys = (m : Mode) (d : ℕ) (t : List ℕ) (e : Entries) → read m d t (xs ++ ys) ≡ Some e → (p : Mode × ℕ) × (walk m d xs ≡ Some p)
 
-walked_on : (c : ℕ) (xs ys : List ℕ) (t : List ℕ) (e : Entries) → Walked xs ys → (o : Option Move) → option_and_then (λ (v : Move). after v.act c t (λ u. read v.mode v.depth u (xs ++ ys))) o ≡ Some e → (p : Mode × ℕ) × (option_and_then (λ (v : Move). walk v.mode v.depth xs) o ≡ Some p)
+walked_on : (c : ℕ) (xs ys : List ℕ) (t : List ℕ) (e : Entries) → Walked xs ys → (o : Option Move)
+    → option_and_then (λ (v : Move). after v.act c t (λ u. read v.mode v.depth u (xs ++ ys))) o ≡ Some e → (p : Mode × ℕ) × (option_and_then (λ (v : Move). walk v.mode v.depth xs) o ≡ Some p)
 walked_on c xs ys t e ih None h = cc
 walked_on c xs ys t e ih (Some v) h = let r = after_had v.act c t (λ u. read v.mode v.depth u (xs ++ ys)) e h in ih v.mode v.depth r.0 r.1 r.2
 
@@ -104,11 +106,13 @@ home_completes InQuote d = step_completes Quoted d 34 (replicate d 41) (record {
 
 two_completes : (q : Within) (n d : ℕ) → n ≤ 25 → Completes (TwoDigits q n) d (48 ∷ tail_home d q)
 two_completes q n d small =
-    step_completes (TwoDigits q n) d 48 (tail_home d q) (record { mode = home q; depth = d; act = Add }) (cond-true (nat_le (10 * n + 0) 255) (move_to (home q) d Add) None (le-leb (10 * n + 0) 255 (omega arith))) (home_completes q d)
+    step_completes (TwoDigits q n) d 48 (tail_home d q) (record { mode = home q; depth = d; act = Add })
+    (cond-true (nat_le (10 * n + 0) 255) (move_to (home q) d Add) None (le-leb (10 * n + 0) 255 (omega arith))) (home_completes q d)
 
 one_completes : (q : Within) (n d : ℕ) → n ≤ 2 → Completes (OneDigit q n) d (48 ∷ 48 ∷ tail_home d q)
 one_completes q n d small =
-    step_completes (OneDigit q n) d 48 (48 ∷ tail_home d q) (record { mode = TwoDigits q (10 * n + 0); depth = d; act = Add }) (cond-true (nat_le (10 * n + 0) 25) (move_to (TwoDigits q (10 * n + 0)) d Add) None (le-leb (10 * n + 0) 25 (omega arith))) (two_completes q (10 * n + 0) d (omega arith))
+    step_completes (OneDigit q n) d 48 (48 ∷ tail_home d q) (record { mode = TwoDigits q (10 * n + 0); depth = d; act = Add })
+    (cond-true (nat_le (10 * n + 0) 25) (move_to (TwoDigits q (10 * n + 0)) d Add) None (le-leb (10 * n + 0) 25 (omega arith))) (two_completes q (10 * n + 0) d (omega arith))
 
 tail_completes : (m : Mode) (d : ℕ) → Fine m → Completes m d (tail m d)
 tail_completes Outside d f t = close_completes d t
@@ -125,7 +129,8 @@ tail_completes (TwoDigits q n) d f t = two_completes q n d f t
 abbrev pub Completed : List ℕ → List ℕ → Type 0
 Completed xs cs = (m : Mode) (d : ℕ) (p : Mode × ℕ) → walk m d xs ≡ Some p → Completes p.0 p.1 cs → Completes m d (xs ++ cs)
 
-completed_on : (c : ℕ) (xs cs : List ℕ) → Completed xs cs → (m : Mode) (d : ℕ) (p : Mode × ℕ) (o : Option Move) → step m d c ≡ o → option_and_then (λ (v : Move). walk v.mode v.depth xs) o ≡ Some p → Completes p.0 p.1 cs → Completes m d (c ∷ (xs ++ cs))
+completed_on : (c : ℕ) (xs cs : List ℕ) → Completed xs cs → (m : Mode) (d : ℕ) (p : Mode × ℕ) (o : Option Move) → step m d c ≡ o
+    → option_and_then (λ (v : Move). walk v.mode v.depth xs) o ≡ Some p → Completes p.0 p.1 cs → Completes m d (c ∷ (xs ++ cs))
 completed_on c xs cs ih m d p None e h k = cc
 completed_on c xs cs ih m d p (Some v) e h k = step_completes m d c (xs ++ cs) v e (ih v.mode v.depth p h k)
 
@@ -275,7 +280,8 @@ walked_viable xs p ok h =
       tail = rest;
       is_tail = tail_is p.0 p.1;
       found = k.0;
-      splits = subst (λ text. Splits text k.0) (encodes-append xs rest ∙ ap (λ l. encode_utf8_all xs ++ l) (low_encodes rest (low_tail p.0 p.1))) (read_splits (xs ++ rest) k.0 (scalars_both xs rest ok (low_scalars rest (low_tail p.0 p.1))) k.1);
+      splits = subst (λ text. Splits text k.0) (encodes-append xs rest ∙ ap (λ l. encode_utf8_all xs ++ l) (low_encodes rest (low_tail p.0 p.1)))
+          (read_splits (xs ++ rest) k.0 (scalars_both xs rest ok (low_scalars rest (low_tail p.0 p.1))) k.1);
     }
 
 pub walk_append : (xs ys : List ℕ) (m : Mode) (d : ℕ) → walk m d (xs ++ ys) ≡ option_and_then (λ (p : Mode × ℕ). walk p.0 p.1 ys) (walk m d xs)
@@ -296,7 +302,8 @@ not_ended [] m d p h n t e r =
   where
     None_some : {A : Type 0} {x : A} → None ≡ Some x → ⊥
     None_some k = cc
-not_ended (c ∷ xs) m d p h n t e r = go (step m d c) (λ (v : Move) (f : walk v.mode v.depth xs ≡ Some p) (u : List ℕ) (y : Entries) (g : read v.mode v.depth u xs ≡ Some y). not_ended xs v.mode v.depth p f n u y g) h r
+not_ended (c ∷ xs) m d p h n t e r = go (step m d c) (λ (v : Move) (f : walk v.mode v.depth xs ≡ Some p) (u : List ℕ) (y : Entries)
+    (g : read v.mode v.depth u xs ≡ Some y). not_ended xs v.mode v.depth p f n u y g) h r
   where
     go : (o : Option Move) → ((v : Move) → walk v.mode v.depth xs ≡ Some p → (u : List ℕ) (y : Entries) → read v.mode v.depth u xs ≡ Some y → ⊥)
         → option_and_then (λ (v : Move). walk v.mode v.depth xs) o ≡ Some p → option_and_then (λ (v : Move). after v.act c t (λ u. read v.mode v.depth u xs)) o ≡ Some e → ⊥
@@ -346,7 +353,8 @@ alike m d c y b r s v w e f = elim (cases_lt b 128) [
       let is_y : y ≡ b = char_from_byte (b ∷ w) s y f small (omega arith) in
       ap (step m d) (is_c ∙ sym is_y)
   | inr big ↦
-      let up : (x : ℕ) (l k : List ℕ) → b ∷ l ≡ encode_utf8 x ++ k → 128 ≤ x = λ x l k g. elim (cases_lt x 128) [ inl less ↦ absurd (omega (arith, byte_from_char (b ∷ l) k x g less)) | inr more ↦ more ] in
+      let up : (x : ℕ) (l k : List ℕ) → b ∷ l ≡ encode_utf8 x ++ k
+      → 128 ≤ x = λ x l k g. elim (cases_lt x 128) [ inl less ↦ absurd (omega (arith, byte_from_char (b ∷ l) k x g less)) | inr more ↦ more ] in
       high_is m d c (up c v r e) ∙ sym (high_is m d y (up y w s f))
 ]
 
@@ -359,7 +367,8 @@ begin_same (x ∷ xs) ys r h =
     (q.0, p.1 ∙ ap (λ l. x ∷ l) q.1, q.2)
 
 -- where the reader stops, no text that goes on with this byte splits
-no_further : (xs : List ℕ) (c : ℕ) (p : Mode × ℕ) → walk Outside 0 xs ≡ Some p → step p.0 p.1 c ≡ None → (b : ℕ) (v w rest : List ℕ) → b ∷ v ≡ encode_utf8 c ++ rest → (e : Entries) → Splits (encode_utf8_all xs ++ (b ∷ w)) e → ⊥
+no_further : (xs : List ℕ) (c : ℕ) (p : Mode × ℕ) → walk Outside 0 xs ≡ Some p → step p.0 p.1 c ≡ None → (b : ℕ) (v w rest : List ℕ) → b ∷ v ≡ encode_utf8 c ++ rest → (e : Entries)
+    → Splits (encode_utf8_all xs ++ (b ∷ w)) e → ⊥
 no_further xs c p h stop b v w rest first e s =
     let ys : List ℕ = flat_map characters s.lexemes in
     let is : encode_utf8_all ys ≡ encode_utf8_all xs ++ (b ∷ w) = sym (bytes_all s.lexemes) ∙ s.spelled in
@@ -370,7 +379,8 @@ no_further xs c p h stop b v w rest first e s =
     go [] i r = cc
     go (y ∷ zs) i r =
         let k = walked (xs ++ y ∷ []) zs Outside 0 [] e (ap (read Outside 0 []) (append_assoc xs (y ∷ []) zs) ∙ r) in
-        let l : walk Outside 0 (xs ++ y ∷ []) ≡ None = walk_append xs (y ∷ []) Outside 0 ∙ ap (option_and_then (λ (t : Mode × ℕ). walk t.0 t.1 (y ∷ []))) h ∙ ap (option_and_then (λ (t : Move). walk t.mode t.depth [])) (sym (alike p.0 p.1 c y b rest (encode_utf8_all zs) v w first (sym i)) ∙ stop) in
+        let l : walk Outside 0 (xs ++ y ∷ []) ≡ None = walk_append xs (y ∷ []) Outside 0 ∙ ap (option_and_then (λ (t : Mode × ℕ). walk t.0 t.1 (y ∷ []))) h
+        ∙ ap (option_and_then (λ (t : Move). walk t.mode t.depth [])) (sym (alike p.0 p.1 c y b rest (encode_utf8_all zs) v w first (sym i)) ∙ stop) in
         let no : None ≡ Some k.0 = sym l ∙ k.1 in
         cc
 
@@ -386,7 +396,8 @@ scalars_left [] ys h = refl
 scalars_left (x ∷ xs) ys h = let p = and_parts (scalar x) (scalars (xs ++ ys)) h in and_from _ _ p.0 (scalars_left xs ys p.1)
 
 -- the reader stops before c
-pub stops : (text xs zs : List ℕ) (c : ℕ) (p : Mode × ℕ) → encode_utf8_all (xs ++ c ∷ zs) ≡ text → scalars (xs ++ c ∷ zs) ≡ true → walk Outside 0 xs ≡ Some p → step p.0 p.1 c ≡ None → IsBad text (length (encode_utf8_all xs))
+pub stops : (text xs zs : List ℕ) (c : ℕ) (p : Mode × ℕ) → encode_utf8_all (xs ++ c ∷ zs) ≡ text → scalars (xs ++ c ∷ zs) ≡ true → walk Outside 0 xs ≡ Some p → step p.0 p.1 c ≡ None
+    → IsBad text (length (encode_utf8_all xs))
 stops text xs zs c p is ok h stop =
     let front : List ℕ = encode_utf8_all xs in
     let f = first_byte c in
@@ -403,7 +414,8 @@ stops text xs zs c p is ok h stop =
         longest = λ j more fits s.
             let k : ℕ = j - suc (length front) in
             let same : j ≡ length front + suc k = omega arith in
-            let cut : take j text ++ s.tail ≡ front ++ (b ∷ (take k v ++ s.tail)) = ap (λ l. take j l ++ s.tail) whole ∙ ap (λ n. take n (front ++ (b ∷ v)) ++ s.tail) same ∙ ap (λ l. l ++ s.tail) (take-append-add front (b ∷ v) (suc k)) ∙ append_assoc front (b ∷ take k v) s.tail in
+            let cut : take j text ++ s.tail ≡ front ++ (b ∷ (take k v ++ s.tail)) = ap (λ l. take j l ++ s.tail) whole ∙ ap (λ n. take n (front ++ (b ∷ v)) ++ s.tail) same
+            ∙ ap (λ l. l ++ s.tail) (take-append-add front (b ∷ v) (suc k)) ∙ append_assoc front (b ∷ take k v) s.tail in
             no_further xs c p h stop b v (take k v ++ s.tail) (encode_utf8_all zs) first s.found (subst (λ x. Splits x s.found) cut s.splits);
       };
     }

@@ -1,5 +1,6 @@
 -- A text is a token exactly if the reader finds it whole.
-use Rattle.std.proofs.Common.{IsUtf8, ◌≡◌, cond, ◌==◌, ℕ, zero, suc, ◌+◌, ◌*◌, ◌/◌, ◌%◌, ◌<◌, ◌≤◌, Bool, true, false, List, [], ◌∷◌, ◌++◌, length, refl, sym, ap, ◌∙◌, subst, arith, append_assoc, append-nil, length-append}
+use Rattle.std.proofs.Common.{IsUtf8, ◌≡◌, cond, ◌==◌, ℕ, zero, suc, ◌+◌, ◌*◌, ◌/◌, ◌%◌, ◌<◌, ◌≤◌, Bool, true, false, List, [], ◌∷◌, ◌++◌, length, refl, sym, ap, ◌∙◌, subst, arith, append_assoc}
+use Rattle.std.proofs.Common.{append-nil, length-append}
 use Rattle.std.specs.Prelude.{map, if◌then◌else◌, Option, Some, None, option_map, option_and_then, unwrap_or, encode_utf8, encode_utf8_all}
 use Rattle.std.specs.List.{flat_map, list_all}
 use Rattle.std.proofs.lemmas.Bool.{and_parts, and_from, eqb-true, eq-eqb, ne_eqb, both_ways}
@@ -93,7 +94,8 @@ done_end m (c ∷ cs) h = go (step m 0 c) h
     none true h = cc
     none false h = cc
 
-    go : (o : Option Move) → unwrap_or (option_and_then (λ (v : Move). cond (v.depth == 0) (option_map (λ (q : Place). is_whole q v.mode cs) (next_place Done v.act)) None) o) false ≡ true → (c ∷ cs ≡ []) × (m ≡ Outside)
+    go : (o : Option Move) → unwrap_or (option_and_then (λ (v : Move). cond (v.depth == 0) (option_map (λ (q : Place). is_whole q v.mode cs) (next_place Done v.act)) None) o) false ≡ true
+        → (c ∷ cs ≡ []) × (m ≡ Outside)
     go None h = cc
     go (Some v) h = none (v.depth == 0) h
 
@@ -121,7 +123,8 @@ by_act c cs ih Inside EndEntry m t h f = cc
 by_act c cs ih Inside BeginToken m t h f = cc
 by_act c cs ih Done a m t h f = cc
 
-by_move : (c : ℕ) (cs : List ℕ) → Reads cs → (p : Place) (o : Option Move) (t : List ℕ) → unwrap_or (option_and_then (λ (v : Move). cond (v.depth == 0) (option_map (λ (q : Place). is_whole q v.mode cs) (next_place p v.act)) None) o) false ≡ true → (p ≡ Fresh → t ≡ [])
+by_move : (c : ℕ) (cs : List ℕ) → Reads cs → (p : Place) (o : Option Move) (t : List ℕ)
+    → unwrap_or (option_and_then (λ (v : Move). cond (v.depth == 0) (option_map (λ (q : Place). is_whole q v.mode cs) (next_place p v.act)) None) o) false ≡ true → (p ≡ Fresh → t ≡ [])
     → option_and_then (λ (v : Move). after v.act c t (λ u. read v.mode v.depth u cs)) o ≡ Some (with_open (t ++ (encode_utf8 c ++ encode_utf8_all cs)) ([] ∷ []))
 by_move c cs ih p None t h f = cc
 by_move c cs ih p (Some v) t h f =
@@ -225,8 +228,20 @@ pub token_itself : (t : List ℕ) → IsToken t → Splits t ((t ∷ []) ∷ [])
 token_itself t i = go (token_one i).lexeme (token_one i).is_one (token_one i).valid (token_one i).spelled
   where
     go : (l : Lexeme) → is_token_lexeme l ≡ true → is_lexeme l ≡ true → bytes l ≡ t → Splits t ((t ∷ []) ∷ [])
-    go (Word s ss) o v e = record { lexemes = Word s ss ∷ []; spelled = append-nil (bytes (Word s ss)) ∙ e; valid = and_from _ _ (and_from _ _ v refl) refl; nested = refl; cut = ap (λ x. (x ∷ []) ∷ []) e }
-    go (Quote ss) o v e = record { lexemes = Quote ss ∷ []; spelled = append-nil (bytes (Quote ss)) ∙ e; valid = and_from _ _ (and_from _ _ v refl) refl; nested = refl; cut = ap (λ x. (x ∷ []) ∷ []) e }
+    go (Word s ss) o v e = record {
+      lexemes = Word s ss ∷ [];
+      spelled = append-nil (bytes (Word s ss)) ∙ e;
+      valid = and_from _ _ (and_from _ _ v refl) refl;
+      nested = refl;
+      cut = ap (λ x. (x ∷ []) ∷ []) e;
+    }
+    go (Quote ss) o v e = record {
+      lexemes = Quote ss ∷ [];
+      spelled = append-nil (bytes (Quote ss)) ∙ e;
+      valid = and_from _ _ (and_from _ _ v refl) refl;
+      nested = refl;
+      cut = ap (λ x. (x ∷ []) ∷ []) e;
+    }
     go (Blank _) o v e = cc
     go (Line _) o v e = cc
     go Open o v e = cc
@@ -242,9 +257,11 @@ whole_token text (c ∷ cs) is ok h =
     subst IsToken is (itself_token t (read_splits (c ∷ cs) ((t ∷ []) ∷ []) ok r))
 
 -- a text at whose character c the reader gives up is no token
-pub refused : (text ys rest : List ℕ) (c : ℕ) (p : Place) (m : Mode) → IsUtf8 text → encode_utf8_all ys ++ (encode_utf8 c ++ rest) ≡ text → ((cs : List ℕ) → is_whole p m cs ≡ is_whole Fresh Outside (ys ++ cs)) → ((zs : List ℕ) → is_whole p m (c ∷ zs) ≡ false) → IsToken text → ⊥
+pub refused : (text ys rest : List ℕ) (c : ℕ) (p : Place) (m : Mode) → IsUtf8 text → encode_utf8_all ys ++ (encode_utf8 c ++ rest) ≡ text
+    → ((cs : List ℕ) → is_whole p m cs ≡ is_whole Fresh Outside (ys ++ cs)) → ((zs : List ℕ) → is_whole p m (c ∷ zs) ≡ false) → IsToken text → ⊥
 refused text ys rest c p m u e kept fails t =
-    let front : encode_utf8_all u.0 ≡ encode_utf8_all (ys ++ c ∷ []) ++ rest = u.1.1 ∙ sym e ∙ sym (append_assoc (encode_utf8_all ys) (encode_utf8 c) rest) ∙ ap (λ l. l ++ rest) (ap (λ l. encode_utf8_all ys ++ l) (sym (append-nil (encode_utf8 c))) ∙ sym (encodes-append ys (c ∷ []))) in
+    let front : encode_utf8_all u.0 ≡ encode_utf8_all (ys ++ c ∷ []) ++ rest = u.1.1 ∙ sym e ∙ sym (append_assoc (encode_utf8_all ys) (encode_utf8 c) rest)
+    ∙ ap (λ l. l ++ rest) (ap (λ l. encode_utf8_all ys ++ l) (sym (append-nil (encode_utf8 c))) ∙ sym (encodes-append ys (c ∷ []))) in
     let q = begin_same (ys ++ c ∷ []) u.0 rest front in
     let whole : u.0 ≡ ys ++ c ∷ q.0 = q.1 ∙ append_assoc ys (c ∷ []) q.0 in
     both_ways (is_whole p m (c ∷ q.0)) (fails q.0) (kept (c ∷ q.0) ∙ ap (is_whole Fresh Outside) (sym whole) ∙ token_whole text u.0 u.1.1 t)
@@ -258,12 +275,14 @@ too_deep p m c v zs h d = rw (h, ne_eqb v.depth 0 d)
 pub no_place : (p : Place) (m : Mode) (c : ℕ) (v : Move) (zs : List ℕ) → step m 0 c ≡ Some v → v.depth ≡ 0 → next_place p v.act ≡ None → is_whole p m (c ∷ zs) ≡ false
 no_place p m c v zs h d n = rw (h, eq-eqb v.depth 0 d, n)
 
-pub goes_on : (ys : List ℕ) (c : ℕ) (p q : Place) (m : Mode) (v : Move) (cs : List ℕ) → step m 0 c ≡ Some v → v.depth ≡ 0 → next_place p v.act ≡ Some q → ((ds : List ℕ) → is_whole p m ds ≡ is_whole Fresh Outside (ys ++ ds)) → is_whole q v.mode cs ≡ is_whole Fresh Outside (ys ++ c ∷ [] ++ cs)
+pub goes_on : (ys : List ℕ) (c : ℕ) (p q : Place) (m : Mode) (v : Move) (cs : List ℕ) → step m 0 c ≡ Some v → v.depth ≡ 0 → next_place p v.act ≡ Some q
+    → ((ds : List ℕ) → is_whole p m ds ≡ is_whole Fresh Outside (ys ++ ds)) → is_whole q v.mode cs ≡ is_whole Fresh Outside (ys ++ c ∷ [] ++ cs)
 goes_on ys c p q m v cs h d n kept =
     let one : is_whole p m (c ∷ cs) ≡ is_whole q v.mode cs = rw (h, eq-eqb v.depth 0 d, n) in
     sym one ∙ kept (c ∷ cs) ∙ ap (is_whole Fresh Outside) (sym (append_assoc ys (c ∷ []) cs))
 
-pub at_end : (text ys : List ℕ) (p : Place) (m : Mode) → IsUtf8 text → encode_utf8_all ys ≡ text → ((cs : List ℕ) → is_whole p m cs ≡ is_whole Fresh Outside (ys ++ cs)) → (is_at_end p m ≡ true → IsToken text) × (IsToken text → is_at_end p m ≡ true)
+pub at_end : (text ys : List ℕ) (p : Place) (m : Mode) → IsUtf8 text → encode_utf8_all ys ≡ text → ((cs : List ℕ) → is_whole p m cs ≡ is_whole Fresh Outside (ys ++ cs))
+    → (is_at_end p m ≡ true → IsToken text) × (IsToken text → is_at_end p m ≡ true)
 at_end text ys p m u e kept =
     let same : u.0 ≡ ys = encodes_same u.0 ys (u.1.1 ∙ sym e) in
     let end : is_at_end p m ≡ is_whole Fresh Outside ys = kept [] ∙ ap (is_whole Fresh Outside) (append-nil ys) in

@@ -15,8 +15,11 @@ both_ways b h k = cc
 
 pub returns-in_default-clause-left_open : goal.returns-in_default-clause-left_open
 returns-in_default-clause-left_open c =
-    let inv = c.loop-c.invariant in
-    (λ h. cc, λ w. elim (not_refused c.args.text.now c.loop-c.yielded _ c.in-Some.c c.loop-c.mode c.loop-c.depth c.utf8.text (ap (λ l. encode_utf8_all c.loop-c.yielded ++ l) (sym c.in-Some.ensures.steps.0) ∙ inv.text) inv.walked (sym c.step.ensures ∙ c.in_default.is) w) [ ])
+    let inv = c.loop-c.invariant in (
+      λ h. cc,
+      λ w. elim (not_refused c.args.text.now c.loop-c.yielded _ c.in-Some.c c.loop-c.mode c.loop-c.depth c.utf8.text
+          (ap (λ l. encode_utf8_all c.loop-c.yielded ++ l) (sym c.in-Some.ensures.steps.0) ∙ inv.text) inv.walked (sym c.step.ensures ∙ c.in_default.is) w) [ ],
+    )
 
 pub loop-c-preserved : goal.loop-c-preserved
 loop-c-preserved c =
@@ -54,8 +57,11 @@ returns-then-takes_feed-clause-left_open c =
     let ys : List ℕ = c.loop-c.yielded in
     let u = c.utf8.text in
     let is : encode_utf8_all ys ≡ c.args.text.now = ended _ _ _ inv.text c.in-None.ensures.steps.0.0 in
-    let ok : scalars ys ≡ true = ap scalars (sym (encodes_same u.0 ys (u.1.1 ∙ sym is))) ∙ u.1.0 in
-    (λ h. subst (λ l. IsWrong l [] OpenParenthesis) is (left_open ys c.loop-c.mode c.loop-c.depth ok inv.walked (omega (arith, c.if-depth-gt0.true)) (sym c.takes_feed.ensures ∙ c.if-takes_feed.true)), λ w. refl)
+    let ok : scalars ys ≡ true = ap scalars (sym (encodes_same u.0 ys (u.1.1 ∙ sym is))) ∙ u.1.0 in (
+      λ h. subst (λ l. IsWrong l [] OpenParenthesis) is (left_open ys c.loop-c.mode c.loop-c.depth ok inv.walked (omega (arith, c.if-depth-gt0.true))
+          (sym c.takes_feed.ensures ∙ c.if-takes_feed.true)),
+      λ w. refl,
+    )
 
 pub returns-else-depth-gt0-clause-left_open : goal.returns-else-depth-gt0-clause-left_open
 returns-else-depth-gt0-clause-left_open c =

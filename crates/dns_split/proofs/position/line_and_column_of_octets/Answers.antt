@@ -16,11 +16,13 @@ loop-octet-preserved c =
       | then-octet-eq10 w ↦ record {
         short = omega (arith, w.line-is, inv.short);
         narrow = omega (arith, w.column-is);
-        is = rw (w.line-is, w.column-is) (subst (λ l. IsPosition l (c.loop-octet.line + 1) 1) (sym more) (feed_more (take i before) (get_or before i 0) c.loop-octet.line c.loop-octet.column w.if-octet-eq10.true inv.is));
+        is = rw (w.line-is, w.column-is) (subst (λ l. IsPosition l (c.loop-octet.line + 1) 1) (sym more)
+            (feed_more (take i before) (get_or before i 0) c.loop-octet.line c.loop-octet.column w.if-octet-eq10.true inv.is));
       }
       | else-octet-eq10 w ↦ record {
         short = omega (arith, w.line-is, inv.short);
         narrow = omega (arith, w.column-is, inv.narrow);
-        is = rw (w.line-is, w.column-is) (subst (λ l. IsPosition l c.loop-octet.line (c.loop-octet.column + 1)) (sym more) (other_more (take i before) (get_or before i 0) c.loop-octet.line c.loop-octet.column w.if-octet-eq10.false inv.is));
+        is = rw (w.line-is, w.column-is) (subst (λ l. IsPosition l c.loop-octet.line (c.loop-octet.column + 1)) (sym more)
+            (other_more (take i before) (get_or before i 0) c.loop-octet.line c.loop-octet.column w.if-octet-eq10.false inv.is));
       }
     ]

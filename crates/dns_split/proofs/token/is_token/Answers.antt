@@ -7,7 +7,8 @@ pub returns-in_default : goal.returns-in_default
 returns-in_default c =
     let inv = c.loop-c.invariant in (
       λ h. cc,
-      λ t. absurd (refused c.args.text.now c.loop-c.yielded _ c.in-Some.c c.loop-c.place c.loop-c.mode c.utf8.text (ap (λ l. encode_utf8_all c.loop-c.yielded ++ l) (sym c.in-Some.ensures.steps.0) ∙ inv.text) inv.kept
+      λ t. absurd (refused c.args.text.now c.loop-c.yielded _ c.in-Some.c c.loop-c.place c.loop-c.mode c.utf8.text
+          (ap (λ l. encode_utf8_all c.loop-c.yielded ++ l) (sym c.in-Some.ensures.steps.0) ∙ inv.text) inv.kept
           (λ zs. no_step c.loop-c.place c.loop-c.mode c.in-Some.c zs (sym c.step.ensures ∙ c.in_default.is)) t),
     )
 
@@ -15,7 +16,8 @@ pub returns-then-next-ne0 : goal.returns-then-next-ne0
 returns-then-next-ne0 c =
     let inv = c.loop-c.invariant in (
       λ h. cc,
-      λ t. absurd (refused c.args.text.now c.loop-c.yielded _ c.in-Some.c c.loop-c.place c.loop-c.mode c.utf8.text (ap (λ l. encode_utf8_all c.loop-c.yielded ++ l) (sym c.in-Some.ensures.steps.0) ∙ inv.text) inv.kept
+      λ t. absurd (refused c.args.text.now c.loop-c.yielded _ c.in-Some.c c.loop-c.place c.loop-c.mode c.utf8.text
+          (ap (λ l. encode_utf8_all c.loop-c.yielded ++ l) (sym c.in-Some.ensures.steps.0) ∙ inv.text) inv.kept
           (λ zs. too_deep c.loop-c.place c.loop-c.mode c.in-Some.c c.in-Some-step.next zs (sym c.step.ensures ∙ c.in-Some-step.is) c.if-next-ne0.true) t),
     )
 
@@ -23,8 +25,10 @@ pub returns-in_default-next_place : goal.returns-in_default-next_place
 returns-in_default-next_place c =
     let inv = c.loop-c.invariant in (
       λ h. cc,
-      λ t. absurd (refused c.args.text.now c.loop-c.yielded _ c.in-Some.c c.loop-c.place c.loop-c.mode c.utf8.text (ap (λ l. encode_utf8_all c.loop-c.yielded ++ l) (sym c.in-Some.ensures.steps.0) ∙ inv.text) inv.kept
-          (λ zs. no_place c.loop-c.place c.loop-c.mode c.in-Some.c c.in-Some-step.next zs (sym c.step.ensures ∙ c.in-Some-step.is) c.if-next-ne0.false (sym c.next_place.ensures ∙ c.in_default-next_place.is)) t),
+      λ t. absurd (refused c.args.text.now c.loop-c.yielded _ c.in-Some.c c.loop-c.place c.loop-c.mode c.utf8.text
+          (ap (λ l. encode_utf8_all c.loop-c.yielded ++ l) (sym c.in-Some.ensures.steps.0) ∙ inv.text) inv.kept
+          (λ zs. no_place c.loop-c.place c.loop-c.mode c.in-Some.c c.in-Some-step.next zs (sym c.step.ensures ∙ c.in-Some-step.is) c.if-next-ne0.false
+          (sym c.next_place.ensures ∙ c.in_default-next_place.is)) t),
     )
 
 pub loop-c-preserved : goal.loop-c-preserved
@@ -32,7 +36,8 @@ loop-c-preserved c =
     let inv = c.loop-c.invariant in
     record {
       text = one_more c.loop-c.yielded _ _ _ c.in-Some.c inv.text c.in-Some.ensures.steps.0;
-      kept = λ cs. goes_on c.loop-c.yielded c.in-Some.c c.loop-c.place _ c.loop-c.mode c.in-Some-step.next cs (sym c.step.ensures ∙ c.in-Some-step.is) c.if-next-ne0.false (sym c.next_place.ensures ∙ c.in-Some-next_place.is) inv.kept;
+      kept = λ cs. goes_on c.loop-c.yielded c.in-Some.c c.loop-c.place _ c.loop-c.mode c.in-Some-step.next cs (sym c.step.ensures ∙ c.in-Some-step.is) c.if-next-ne0.false
+          (sym c.next_place.ensures ∙ c.in-Some-next_place.is) inv.kept;
     }
 
 pub returns : goal.returns

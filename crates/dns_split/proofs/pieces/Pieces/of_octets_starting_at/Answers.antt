@@ -12,7 +12,8 @@ pub returns-clause-reads : goal.returns-clause-reads
 returns-clause-reads c =
     let all = small_scalars c.args.octets.now (λ k. (c.type_inv.octets k).fits) in
     subst (ReadsOctetsFrom c.args.octets.now c.args.at) (sym c.beginning.ensures)
-    (reads_octets_from c.args.octets.now c.args.at (scalars_rest (take c.args.at c.args.octets.now) (drop c.args.at c.args.octets.now) (ap scalars (take-append-drop c.args.at c.args.octets.now) ∙ all)))
+    (reads_octets_from c.args.octets.now c.args.at (scalars_rest (take c.args.at c.args.octets.now) (drop c.args.at c.args.octets.now)
+    (ap scalars (take-append-drop c.args.at c.args.octets.now) ∙ all)))
 
 pub returns-clause-within : goal.returns-clause-within
 returns-clause-within c = subst (EachWithin (length c.args.octets.now)) (sym c.beginning.ensures) (within_from c.args.octets.now c.args.at c.requires)
