@@ -20,6 +20,8 @@
 //! the reader that the cursor and `split` run, which goes through the octets once.
 #![tactic(auto)]
 
+#[cfg(test)]
+mod cursor_tests;
 pub mod laws;
 pub mod opening;
 #[cfg(test)]
