@@ -174,9 +174,3 @@ blanks_passed text p e w deep none here o v rest =
       deep = omega (arith, o, deep);
       same = λ b. ap (λ s. run Outside p.depth s p.at b (drop p.at text)) none ∙ blank_between text p.at e (omega (arith, o)) v all p.depth b;
     }
-
-pub stays : (m : Mode) (text : List ℕ) (p : Place) → p.depth ≤ p.at → p.at ≤ length text → Passes m text p p
-stays m text p deep w = record { on = omega arith; within = w; deep = deep; same = λ b. refl }
-
-pub passes_on : (m : Mode) (text : List ℕ) (p q r : Place) → Passes m text p q → Passes m text q r → Passes m text p r
-passes_on m text p q r f g = record { on = omega (arith, f.on, g.on); within = g.within; deep = g.deep; same = λ b. f.same b ∙ g.same b }

@@ -5,7 +5,7 @@ ghost use Rattle.dns_split.specs.Pieces.{Reads, EachFits, ReadsOctets, ReadsOcte
 ghost use Rattle.dns_split.specs.Run.{open_piece, goes_on, closed, finished, start_after, first_blank, wrong_at, wrong_at_end, run, Gives};
 
 use crate::reader::{Act, Mode, may_end, step};
-use crate::skip::{Place, skip};
+use crate::skip::{Place, over};
 use std::marker::Model;
 
 /// Octets of a text, from `start` to before `end`.
@@ -299,13 +299,16 @@ impl<'t> Iterator for Pieces<'t> {
         }
         let octets = self.octets;
         let mut mode = self.mode;
-        let now = Place {
+        let mut place = Place {
             depth: self.depth,
             start: self.start,
             at: self.at,
         };
-        let mut place = skip(mode, octets, now);
         while place.at < octets.len() {
+            if let Some(later) = over(mode, octets, place) {
+                place = later;
+                continue;
+            }
             if let Some(given) = piece_here(mode, octets, place, self.begins_blank) {
                 self.mode = Mode::Outside;
                 self.depth = place.depth;
@@ -347,12 +350,11 @@ impl<'t> Iterator for Pieces<'t> {
                 }
                 return Some(Ok(piece));
             }
-            let after = Place {
+            place = Place {
                 depth: next.depth,
                 start: begins,
                 at: at + 1,
             };
-            place = skip(mode, octets, after);
         }
         let Place { depth, start, at } = place;
         if !may_end(mode, depth) {

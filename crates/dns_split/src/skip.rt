@@ -272,7 +272,7 @@ fn over_comment(octets: &[u8], place: Place) -> Option<Place>
 
 /// A later place from which the reader gives the same, if one is found.
 #[inline(always)]
-fn over(mode: Mode, octets: &[u8], place: Place) -> Option<Place>
+pub(crate) fn over(mode: Mode, octets: &[u8], place: Place) -> Option<Place>
     requires within { place.at < length octets.now }
     requires deep { place.depth ≤ place.at }
     ensures on { IfSome result (λ p. place.at < p.at) }
@@ -283,38 +283,5 @@ fn over(mode: Mode, octets: &[u8], place: Place) -> Option<Place>
         Mode::Quoted => over_quoted(octets, place),
         Mode::Comment => over_comment(octets, place),
         _ => None,
-    }
-}
-
-/// The last place that is found so.
-#[inline(always)]
-fn skip_in(mode: Mode, octets: &[u8], place: Place) -> Place
-    requires within { place.at ≤ length octets.now }
-    requires deep { place.depth ≤ place.at }
-    ensures { Passes mode octets.now place result }
-{
-    let mut last = place;
-    while last.at < octets.len() {
-        let Some(next) = over(mode, octets, last) else {
-            return last;
-        };
-        last = next;
-    }
-    last
-}
-
-/// The last place that is found from which the reader gives the same.
-#[inline(always)]
-pub(crate) fn skip(mode: Mode, octets: &[u8], place: Place) -> Place
-    requires within { place.at ≤ length octets.now }
-    requires deep { place.depth ≤ place.at }
-    ensures { Passes mode octets.now place result }
-{
-    // The loop is compiled for each mode by itself.
-    match mode {
-        Mode::Outside => skip_in(Mode::Outside, octets, place),
-        Mode::Quoted => skip_in(Mode::Quoted, octets, place),
-        Mode::Comment => skip_in(Mode::Comment, octets, place),
-        _ => place,
     }
 }

@@ -16,7 +16,7 @@ returns-in_default-act c =
     let began : c.args.self.now ≡ run s.mode s.depth s.start s.at s.begins_blank (drop s.at s.octets.now) = sym c.self.view_is ∙ cond-false _ _ _ c.if-self.false in
     let t = turn_closed octets c.loop-place.mode c.loop-place.place.depth c.loop-place.place.start at s.begins_blank _ c.in-Some-closed.piece c.in-Some-step.next (omega (arith, c.loop-place-test.true)) c.from.ensures went (sym c.closed.ensures ∙ c.in-Some-closed.is) in
     let e =
-    began ∙ c.skip-place.ensures.same s.begins_blank ∙ sym inv.left ∙ t
+    began ∙ sym inv.left ∙ t
     ∙ ap (λ l. Ok c.in-Some-closed.piece ∷ l) (sym (cond-false s.is_done [] _ c.if-self.false)) in
     rw inv.same
     (record {
@@ -54,17 +54,12 @@ loop-place-preserved c =
     let at : ℕ = c.loop-place.place.at in
     let v = c.in-Some-step.next in
     let went = sym c.step.ensures ∙ c.in-Some-step.is in
+    let d = step_depth c.loop-place.mode c.loop-place.place.depth _ v went in
     let ends = sym c.finished-piece.ensures ∙ c.in_default-piece.is in
-    let skip = c.skip-place-in-loop-place in
     let t = turn_on octets c.loop-place.mode c.loop-place.place.depth c.loop-place.place.start at s.begins_blank _ v (omega (arith, c.loop-place-test.true)) c.from.ensures went (sym c.closed.ensures ∙ c.in_default-closed.is) (rw (← inv.same) ends) in
     record {
       same = inv.same;
-      deep = skip.ensures.deep;
-      within = skip.ensures.within;
-      left = sym (skip.ensures.same s.begins_blank) ∙ ap (λ n. run v.mode v.depth n (at + 1) s.begins_blank (drop (at + 1) octets)) c.start_after-begins.ensures ∙ sym t ∙ inv.left;
+      deep = omega (arith, d, inv.deep);
+      within = omega (arith, c.loop-place-test.true);
+      left = ap (λ n. run v.mode v.depth n (at + 1) s.begins_blank (drop (at + 1) octets)) c.start_after-begins.ensures ∙ sym t ∙ inv.left;
     }
-
-pub skip-place-requires-in-loop-place-clause-deep : goal.skip-place-requires-in-loop-place-clause-deep
-skip-place-requires-in-loop-place-clause-deep c =
-    let d = step_depth c.loop-place.mode c.loop-place.place.depth _ c.in-Some-step.next (sym c.step.ensures ∙ c.in-Some-step.is) in
-    omega (arith, d, c.loop-place.invariant.deep)
