@@ -1,16 +1,16 @@
 //! Times the proved library beside plain Rust that was written for the comparison.
 //!
-//! Run `rt lib` in `crates/dns_text_c` and in `crates/dns_charstr_c`, and then `cargo run --release`
-//! here.
+//! Run `rt lib` in `crates/dns_text_c`, then `./make_library.sh` and `cargo run --release` here.
 
 mod codecs;
 mod heap;
 mod measure;
 mod splitting;
 mod strings;
+mod texts;
 
 fn main() {
     codecs::run();
-    splitting::run();
     strings::run();
+    splitting::run();
 }

@@ -1,12 +1,18 @@
-//! Splitting a zone text into entries and tokens.
-use crate::measure::{compare, seconds};
+//! Zone text: `split` and the cursor, beside a plain splitter, which is ours too.
+use crate::measure::{nanoseconds, processor_seconds, seconds_of_child};
+use crate::texts::{texts, zone, Text};
 
 extern "C" {
     fn dns_text_split(text: *const u8, length: usize) -> usize;
+    fn dns_text_tokens(text: *const u8, length: usize) -> usize;
 }
 
 fn proved(text: &[u8]) -> usize {
     unsafe { dns_text_split(text.as_ptr(), text.len()) }
+}
+
+fn cursor(text: &[u8]) -> usize {
+    unsafe { dns_text_tokens(text.as_ptr(), text.len()) }
 }
 
 /// The octets of the escape that begins a text, if one does.
@@ -99,27 +105,69 @@ fn plain_count(octets: &[u8]) -> usize {
     plain(text).map_or(0, |entries| entries.len())
 }
 
-fn case(what: &str, text: &str) {
+/// Nanoseconds an octet of `split`, of the plain splitter and of the cursor, in turns.
+fn times(text: &str) -> [f64; 3] {
     let octets = text.as_bytes();
-    assert_eq!(proved(octets), plain_count(octets), "{what}");
-    let ours = seconds(|| assert_ne!(proved(octets), 0));
-    let theirs = seconds(|| assert_ne!(plain_count(octets), 0));
-    compare(what, octets.len(), ours, theirs);
+    let entries = plain(text).expect("the text is of the grammar");
+    assert_eq!(proved(octets), entries.len());
+    assert_eq!(cursor(octets), entries.iter().map(Vec::len).sum());
+    drop(entries);
+    nanoseconds(octets, [&proved, &plain_count, &cursor])
+}
+
+/// One line: each of the three at 1, 10 and 100 times the text.
+fn case(name: &str, sizes: [&str; 3]) {
+    let sizes = sizes.map(times);
+    print!("{name:<28}");
+    for call in 0..3 {
+        print!(" |");
+        for size in sizes {
+            print!(" {:>6.2}", size[call]);
+        }
+    }
+    println!();
+}
+
+fn growing(octets: [usize; 3]) {
+    let sizes = octets.map(texts);
+    let [small, middle, large] = &sizes;
+    for ((small, middle), large) in small.iter().zip(middle).zip(large) {
+        let parts: [&Text; 3] = [small, middle, large];
+        case(small.name, parts.map(|it| it.text.as_str()));
+    }
+}
+
+/// The zone of 200,000 lines as multiples of `wc -l`.
+fn beside_wc() {
+    let text = zone(200_000);
+    let path = std::env::temp_dir().join("dnstext-bench.zone");
+    std::fs::write(&path, &text).expect("the zone is written");
+    let wc = seconds_of_child("wc", &["-l", path.to_str().expect("a path in UTF-8")]);
+    println!(
+        "\nzone of 200,000 lines, {} octets: wc -l {:.2} ms",
+        text.len(),
+        wc * 1e3
+    );
+    let calls: [(&str, &dyn Fn(&[u8]) -> usize); 3] = [
+        ("split", &proved),
+        ("plain", &plain_count),
+        ("cursor", &cursor),
+    ];
+    for (name, call) in calls {
+        let took = processor_seconds(15, || assert_ne!(call(text.as_bytes()), 0));
+        println!(
+            "{name:<8} {:>8.2} ms, {:>5.1} x wc -l",
+            took * 1e3,
+            took / wc
+        );
+    }
+    std::fs::remove_file(&path).expect("the zone is removed");
 }
 
 pub fn run() {
-    let line = "name.example. 3600 IN DS ( 5414 15 2 DEADBEEF )\n";
-    case("split 200,000 lines", &line.repeat(200_000));
-    case(
-        "split one entry of 2,000,000 tokens",
-        &"a ".repeat(2_000_000),
-    );
-    case(
-        "split 2,000,000 nested parentheses",
-        &("(".repeat(2_000_000) + &")".repeat(2_000_000)),
-    );
-    case(
-        "split a comment of 4 MB",
-        &(";".to_string() + &"x".repeat(4_000_000)),
-    );
+    println!("\nnanoseconds an octet at 1, 10 and 100 times the text: split | plain | cursor");
+    let [small, middle, large] = [2_000, 20_000, 200_000].map(zone);
+    case("zone", [&small, &middle, &large]);
+    growing([40_000, 400_000, 4_000_000]);
+    beside_wc();
 }

@@ -1,9 +1,5 @@
-//! The printed forms of character strings, as a static library for the benchmark.
-//!
-//! Each function prints into memory of its own, and answers how many octets the text has. It is 0
-//! where memory was refused.
-#![tactic(auto)]
-
+//! The printed forms of character strings. Each function prints into memory of its own, and answers
+//! how many octets the text has; 0 where memory was refused.
 ghost use Rattle.std.specs.Prelude.{◌≡◌, ◌<◌, ◌≤◌, length, encode_utf8_all};
 ghost use Rattle.dns_symbol.specs.Printed.{text_of, is_plain_escape, is_unquoted_escape};
 ghost use Rattle.dns_charstr.specs.Printed.{quoted_text};
