@@ -1,3 +1,8 @@
+pub mod Runs
+pub mod Conversion
+pub mod SymbolSteps
+pub mod Padded
+pub mod Plain
 pub mod Appending
 pub mod BitLemmas
 pub mod Alphabets
@@ -19,10 +24,14 @@ pub mod Putting
 pub mod Texts
 pub mod PlainConversions
 pub mod PaddedConversions
-pub mod EntryConversions
 pub mod Unrefused
 pub mod Wanting
 pub mod Groups
 pub mod Values
 pub mod SliceTexts
 pub mod Fronts
+pub mod Instances
+pub mod Decoders
+pub mod Conversions
+pub mod Pushed
+pub mod Each

@@ -1,5 +1,5 @@
 -- Texts of base 64, to their ends.
-use Rattle.std.proofs.Common.{◌≡◌, ℕ, ◌+◌, ◌-◌, ◌*◌, ◌/◌, ◌%◌, ◌==◌, ◌≤◌, max, true, false, List, [], ◌∷◌, ◌++◌, length, replicate, refl, sym, ap, ◌∙◌, arith, Option, Some, None, Result, Ok, Err, MatchResult, ◌⊎◌, inl, inr, append_assoc, append-nil, length-append}
+use Rattle.std.proofs.Common.{◌≡◌, ℕ, ◌+◌, ◌-◌, ◌*◌, ◌/◌, ◌%◌, ◌==◌, ◌≤◌, max, true, false, List, [], ◌∷◌, ◌++◌, length, replicate, refl, sym, ap, ◌∙◌, arith, Option, Some, None, Result, Ok, Err, ◌⊎◌, inl, inr, append_assoc, append-nil, length-append}
 use Rattle.std.specs.List.{list_any}
 use Rattle.std.proofs.lemmas.Bool.{cases_Bool, eqb-true, eqb-false, eq-eqb, ne_eqb}
 use Rattle.std.proofs.lemmas.List.{nil_from_length}
@@ -7,8 +7,8 @@ use Rattle.dns_codec.specs.Base.{base64}
 use Rattle.dns_codec.specs.Grammar.{Name, Decodes}
 use Rattle.dns_codec.specs.Errors.{answer}
 use Rattle.dns_codec.specs.Room.{IsRoom}
-use Rattle.dns_codec.specs.Padded.{PaddedHeld, IsNewPadded, PushesFrom, Pushes64, MovesParts, padded_move, Ends64, end_error64}
-use Rattle.dns_codec.specs.Runs.{Runs64}
+use Rattle.dns_codec.proofs.Padded.{PaddedHeld, IsNewPadded, PushesFrom, Pushes64, MovesParts, padded_move, Ends64, end_error64}
+use Rattle.dns_codec.proofs.Runs.{Runs64}
 use Rattle.dns_codec.specs.Outcome.{marks, due, cause64, first_cause, stored64, refusal_of64, IsPushed, IsRefusedBy}
 use Rattle.dns_codec.specs.declared.base64.DecodeError.{DecodeError}
 use Rattle.dns_codec.specs.declared.base64.DecodeError.TheVariants.{ShortInput}
@@ -307,12 +307,6 @@ unfolding Fails
 refused64 sure most text k e failed is =
     let same : Some failed.0 ≡ Some e = sym failed.2 ∙ is in
     record { room = failed.1; is_room = failed.3; refused = rw failed.4 same }
-
-pub finalized64 : (sure most : ℕ) (text : List ℕ) (k : PaddedHeld) {T : Type 0} (shown : T → List ℕ) (r : Result T DecodeError) → HeldClean sure most text k
-    → MatchResult r (λ o. Ends64 k (Ok (shown o))) (λ e. Ends64 k (Err e))
-    → MatchResult r (λ o. Decoded base64 refusal_of64 sure most text (Ok (shown o))) (λ e. Decoded base64 refusal_of64 sure most text (Err e))
-finalized64 sure most text k shown (Ok o) at end = decoded64_by sure most text k (Ok (shown o)) at end
-finalized64 sure most text k shown (Err e) at end = decoded64_by sure most text k (Err e) at end
 
 -- a push that was answered by an error
 pub push64_refused : (sure most : ℕ) (text rest : List ℕ) (h : PaddedHeld) (c : ℕ) (j : PaddedHeld) (r : Result (Unit {0}) DecodeError) (e : DecodeError) → HeldClean sure most text h → Pushes64 sure most h c j

@@ -1,5 +1,5 @@
 -- The end of a text, in base 16 and base32hex.
-use Rattle.std.proofs.Common.{◌≡◌, ℕ, ◌-◌, ◌*◌, ◌/◌, ◌%◌, ◌==◌, ◌<◌, ◌≤◌, max, true, false, List, [], ◌++◌, length, refl, sym, ap, ◌∙◌, arith, subst, Option, Some, None, Result, Ok, Err, MatchResult, inl, inr, append-nil, length-append}
+use Rattle.std.proofs.Common.{◌≡◌, ℕ, ◌-◌, ◌*◌, ◌/◌, ◌%◌, ◌==◌, ◌<◌, ◌≤◌, max, true, false, List, [], ◌++◌, length, refl, sym, ap, ◌∙◌, arith, subst, Option, Some, None, Result, Ok, Err, inl, inr, append-nil, length-append}
 use Rattle.std.specs.Prelude.{if◌then◌else◌}
 use Rattle.std.specs.List.{list_any}
 use Rattle.std.proofs.lemmas.Bool.{cases_Bool, eqb-true, eqb-false}
@@ -8,8 +8,8 @@ use Rattle.dns_codec.specs.Bits.{whole}
 use Rattle.dns_codec.specs.Base.{base16, base32hex}
 use Rattle.dns_codec.specs.Grammar.{Decodes, may_end}
 use Rattle.dns_codec.specs.Room.{IsRoom}
-use Rattle.dns_codec.specs.Plain.{Held, IsNew, Ends16, Ends32}
-use Rattle.dns_codec.specs.Runs.{Runs}
+use Rattle.dns_codec.proofs.Plain.{Held, IsNew, Ends16, Ends32}
+use Rattle.dns_codec.proofs.Runs.{Runs}
 use Rattle.dns_codec.specs.Outcome.{want_of, cause, legal_count, stored, first_cause, end_cause, refusal_of, pushed_refusal16, pushed_refusal32, Outcome, IsPushed}
 use Rattle.dns_codec.specs.declared.base64.DecodeError.{DecodeError}
 use Rattle.dns_codec.specs.declared.base64.DecodeError.TheVariants.{ShortInput}
@@ -237,15 +237,3 @@ decoded32_by sure most text k (Ok octets) at end = (decoded32 sure most text k (
 decoded32_by sure most text k (Err e) at end =
     let d = decoded32 sure most text k (Err e) at end in
     record { room = d.0; is_room = d.1; refused = d.2 }
-
-pub finalized16 : (sure most : ℕ) (text : List ℕ) (k : Held) {T : Type 0} (shown : T → List ℕ) (r : Result T DecodeError) → Clean base16 plain16 sure most text k
-    → MatchResult r (λ o. Ends16 k (Ok (shown o))) (λ e. Ends16 k (Err e))
-    → MatchResult r (λ o. Decoded base16 (refusal_of base16) sure most text (Ok (shown o))) (λ e. Decoded base16 (refusal_of base16) sure most text (Err e))
-finalized16 sure most text k shown (Ok o) at end = decoded16_by sure most text k (Ok (shown o)) at end
-finalized16 sure most text k shown (Err e) at end = decoded16_by sure most text k (Err e) at end
-
-pub finalized32 : (sure most : ℕ) (text : List ℕ) (k : Held) {T : Type 0} (shown : T → List ℕ) (r : Result T DecodeError) → Clean base32hex plain32 sure most text k
-    → MatchResult r (λ o. Ends32 sure most k (Ok (shown o))) (λ e. Ends32 sure most k (Err e))
-    → MatchResult r (λ o. Decoded base32hex (refusal_of base32hex) sure most text (Ok (shown o))) (λ e. Decoded base32hex (refusal_of base32hex) sure most text (Err e))
-finalized32 sure most text k shown (Ok o) at end = decoded32_by sure most text k (Ok (shown o)) at end
-finalized32 sure most text k shown (Err e) at end = decoded32_by sure most text k (Err e) at end

@@ -42,3 +42,11 @@ pub clauses : (b : Base) (refusal : ℕ → List ℕ → Option DecodeError) (su
 clauses b refusal sure most text shown (Ok o) reads is = (is, λ octets d le. refl, tt)
 clauses b refusal sure most text shown (Err e) reads is =
     (tt, λ octets d le. absurd (never_refused refusal sure most text octets e (λ room. reads octets room d) le is), is)
+
+-- what the result is, from what it is of lists
+pub finished : (b : Base) (refusal : ℕ → List ℕ → Option DecodeError) (sure most : ℕ) (text : List ℕ) {T : Type 0} (shown : T → List ℕ) (r : Result T DecodeError) (P : Result (List ℕ) DecodeError → Type 0)
+    → ((s : Result (List ℕ) DecodeError) → P s → Decoded b refusal sure most text s)
+    → MatchResult r (λ o. P (Ok (shown o))) (λ e. P (Err e))
+    → MatchResult r (λ o. Decoded b refusal sure most text (Ok (shown o))) (λ e. Decoded b refusal sure most text (Err e))
+finished b refusal sure most text shown (Ok o) P by end = by (Ok (shown o)) end
+finished b refusal sure most text shown (Err e) P by end = by (Err e) end

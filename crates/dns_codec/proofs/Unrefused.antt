@@ -6,7 +6,7 @@ use Rattle.dns_codec.specs.Base.{Base, base16, base32hex, base64, value}
 use Rattle.dns_codec.specs.Grammar.{Name, Decodes, may_end}
 use Rattle.dns_codec.specs.Errors.{or_else}
 use Rattle.dns_codec.specs.Outcome.{want_of, cause, marks, due, cause_plain, cause_marked, cause64, first_cause, end_cause, refusal_of, refusal_of64}
-use Rattle.dns_codec.specs.Conversion.{Agrees}
+use Rattle.dns_codec.specs.Conversions.{Agrees}
 use Rattle.dns_codec.specs.declared.base64.DecodeError.{DecodeError}
 use Rattle.dns_codec.specs.declared.base64.DecodeError.TheVariants.{IllegalChar, TrailingInput, ShortInput, ShortBuf}
 use Rattle.dns_codec.proofs.Causes.{want_enough, cases_value, first_cause-append}

@@ -88,12 +88,29 @@ refusal_of b room text = or_else (first_cause (cause b room) [] text) (end_cause
 abbrev pub refusal_of64 : ℕ → List ℕ → Option DecodeError
 refusal_of64 room text = or_else (stored64 room text) (if length text % 4 == 0 then None else Some ShortInput)
 
+-- the same of any encoding
+abbrev pub cause_of : Base → ℕ → List ℕ → ℕ → Option DecodeError
+cause_of b room front c = if nat_lt 1 b.unit then cause64 room front c else cause b room front c
+
+abbrev pub refusal : Base → ℕ → List ℕ → Option DecodeError
+refusal b room text = if nat_lt 1 b.unit then refusal_of64 room text else refusal_of b room text
+
 -- why a decoder refuses a text that was pushed to its end. Base 64 keeps the first error
 abbrev pub pushed_refusal16 : ℕ → List ℕ → Option DecodeError
 pushed_refusal16 room text = if legal_count base16 text % 2 == 0 then stored base16 room text else Some ShortInput
 
 abbrev pub pushed_refusal32 : ℕ → List ℕ → Option DecodeError
 pushed_refusal32 room text = or_else (stored base32hex room text) (end_cause base32hex room (length text))
+
+-- the error that is stored once a text was pushed, and why the decoder refuses it at its end
+abbrev pub stored_of : Base → ℕ → List ℕ → Option DecodeError
+stored_of b room text = if nat_lt 1 b.unit then stored64 room text else stored b room text
+
+abbrev pub pushed_refusal : Base → ℕ → List ℕ → Option DecodeError
+pushed_refusal b room text =
+    if nat_lt 1 b.unit then refusal_of64 room text
+    else if b.ends_first then pushed_refusal16 room text
+    else pushed_refusal32 room text
 
 -- the result is the value of a text of the grammar, or the error said
 abbrev pub Outcome : Base → List ℕ → Option DecodeError → Result (List ℕ) DecodeError → Type 0

@@ -1,45 +1,50 @@
 //! Base 16, also called hex (RFC 4648, section 8).
 //!
 //! Two characters spell an octet. Texts are printed with capitals and read without case.
-ghost use Rattle.std.specs.Prelude.{◌≡◌, ℕ, ◌<◌, List, [], ⊤, codes, length, ◌≤◌, take, IfSome, IfNone, OnOk, Some, IfOk, IfErr, IsOk, Ok, Err, MatchResult};
+ghost use Rattle.std.specs.Prelude.{◌≡◌, ℕ, List, length, ◌≤◌, take, ◌<◌, IfSome, IfNone, OnOk, IfOk, IfErr, IsOk, Some};
 ghost use Rattle.std.specs.Str.{chars};
 ghost use Rattle.std.specs.Fmt.{WritesInCalls};
 ghost use Rattle.std.specs.String.{string_bytes};
-ghost use Rattle.dns_scan.specs.Convert.{handed};
-ghost use Rattle.dns_codec.specs.Converter.{Makes, piece_in, symbol_step, entry_step, tail16};
-ghost use Rattle.dns_codec.specs.Base.{base16, value, encoded};
-ghost use Rattle.dns_codec.specs.Errors.{answer};
+ghost use Rattle.dns_codec.specs.Base.{base16, encoded};
 ghost use Rattle.dns_wire.specs.Octets.{greatest_length};
+ghost use Rattle.dns_codec.specs.Decoding.{IsNew};
 ghost use Rattle.dns_codec.specs.Grammar.{Decodes};
 ghost use Rattle.dns_codec.specs.Outcome.{refusal_of, IsRefusedBy};
 ghost use Rattle.dns_codec.specs.Shown.{shown16};
-ghost use Rattle.dns_codec.specs.Plain.{IsNew, Pushes, Ends16};
 ghost use Rattle.dns_codec.specs.Written.{IsWritten};
 
+use crate::base::Base16;
 pub use crate::base64::DecodeError;
-use crate::blocks::append_groups;
-use crate::convert::Pieces;
 use crate::encode::{put_names, write_names};
-use crate::group::take;
 use crate::read::{VALUES16, read_text};
-use crate::register::Register;
-use dns_scan::{ConvertSymbols, ScannerError};
-use dns_symbol::symbol::{EntrySymbol, Symbol};
+use crate::{converter, decoder};
 use dns_wire::{EmptyBuilder, FreezeBuilder, OctetsBuilder, ShortBuf};
-use std::alloc::{AllocError, Allocator};
+use std::alloc::Allocator;
 use std::fmt;
-use std::marker::Model;
 
-#[tactic(auto, using(crate::proofs::Alphabets::value16_ranges))]
-fn value_of(c: char) -> Option<u8>
-    ensures value { result ≡ value base16 c }
-    ensures piece { IfSome result (λ v. v < 16) }
-{
-    match c {
-        '0'..='9' => Some((c as u32 - 48) as u8),
-        'A'..='F' => Some((c as u32 - 55) as u8),
-        'a'..='f' => Some((c as u32 - 87) as u8),
-        _ => None,
+/// Reads base 16, one character after another.
+pub type Decoder<B> = decoder::Decoder<B, Base16>;
+
+/// Makes octets of the symbols of base 16.
+///
+/// The refusals are "expected hex digits" for a symbol, and "uneven number of hex digits" for half
+/// an octet at the end.
+pub type SymbolConverter = converter::Converter<Base16>;
+
+impl<B: OctetsBuilder + EmptyBuilder + Drop> decoder::Decoder<B, Base16> {
+    /// A decoder that nothing was pushed to.
+    pub fn new(alloc: B::Alloc) -> Self
+        ensures { IsNew result }
+    {
+        decoder::Decoder::empty(alloc)
+    }
+}
+
+impl<B: OctetsBuilder + EmptyBuilder<Alloc = ()> + Drop> Default for decoder::Decoder<B, Base16> {
+    ghost is_default = { IsNew };
+
+    fn default() -> Self {
+        decoder::Decoder::empty(())
     }
 }
 
@@ -55,12 +60,7 @@ pub fn decode<B: OctetsBuilder + EmptyBuilder + FreezeBuilder + Drop>(
     ensures succeeds { (octets : List ℕ) → Decodes base16 (chars s.now) octets → length octets ≤ B.sure → IsOk result }
     ensures refused { IfErr result (λ e. IsRefusedBy (refusal_of base16) B.sure B.most (chars s.now) e) }
 {
-    let mut decoder: Decoder<B> = Decoder::new(alloc);
-    let rest = append_groups::<B, 4, 2, 1>(&VALUES16, &mut decoder.builder, s);
-    for c in rest.chars() {
-        decoder.push(c)?;
-    }
-    decoder.finalize()
+    decoder::decode::<B, Base16>(alloc, s)
 }
 
 /// Reads a text of base 16 into the start of a slice, and answers how many octets; none where the
@@ -134,230 +134,5 @@ impl fmt::Display for Encoded<'_> {
 
     fn fmt<W: fmt::Write>(&self, f: &mut fmt::Formatter<W>) -> fmt::Result {
         display(self.octets, f)
-    }
-}
-
-/// Reads base 16, one character after another.
-///
-/// An octet is appended to the builder with its second digit. An error is stored and answered from
-/// then on; a later illegal character takes its place.
-#[derive(Drop)]
-pub struct Decoder<B: OctetsBuilder + Drop> {
-    builder: B,
-    group: Register<4>,
-    error: Option<DecodeError>,
-}
-
-impl<B: OctetsBuilder + Drop> Model for Decoder<B> {
-    ghost use Rattle.std.specs.Prelude.{◌<◌, length};
-    ghost use Rattle.dns_wire.specs.Octets.{greatest_length};
-    ghost use Rattle.dns_codec.specs.Plain.{Held};
-
-    ghost Value = { Held };
-
-    ghost view = { λ s. record {
-      octets = B.octets s.builder;
-      group = s.group;
-      error = s.error;
-    } };
-
-    ghost invariant = { λ s. length s.group < 2 };
-}
-
-impl<B: OctetsBuilder + EmptyBuilder + Drop> Decoder<B> {
-    /// A decoder that nothing was pushed to.
-    pub fn new(alloc: B::Alloc) -> Self
-        ensures { IsNew result }
-    {
-        Decoder {
-            builder: B::empty(alloc),
-            group: Register::new(),
-            error: None,
-        }
-    }
-}
-
-impl<B: OctetsBuilder + EmptyBuilder<Alloc = ()> + Drop> Default for Decoder<B> {
-    ghost use Rattle.dns_codec.specs.Plain.{IsNew};
-
-    ghost is_default = { IsNew };
-
-    fn default() -> Self {
-        Decoder::new(())
-    }
-}
-
-impl<B: OctetsBuilder + Drop> Decoder<B> {
-    /// Takes the next character, and answers the stored error, if there is one then.
-    ///
-    /// A character outside the alphabet is [`DecodeError::IllegalChar`], and an octet that the
-    /// builder refuses [`DecodeError::ShortBuf`]. Nothing is appended once an error is stored.
-    pub fn push(&mut self, c: char) -> Result<(), DecodeError>
-        ensures pushes { Pushes base16 B.sure B.most self.old c self.new }
-        ensures answers { result ≡ answer self.new.error }
-    {
-        self.error = take::<B, 4, 2>(
-            &mut self.builder,
-            &mut self.group,
-            self.error,
-            c,
-            value_of(c),
-        );
-        match self.error {
-            Some(error) => Err(error),
-            None => Ok(()),
-        }
-    }
-}
-
-impl<B: OctetsBuilder + FreezeBuilder + Drop> Decoder<B> {
-    /// The octets.
-    ///
-    /// Half an octet at the end is [`DecodeError::ShortInput`]; else a stored error is answered.
-    pub fn finalize(self) -> Result<B::Octets, DecodeError>
-        ensures { MatchResult result
-            (λ o. Ends16 self (Ok (B.Octets.octets o)))
-            (λ e. Ends16 self (Err e)) }
-    {
-        let Decoder {
-            builder,
-            group,
-            error,
-        } = self;
-        if group.len() > 0 {
-            return Err(DecodeError::ShortInput);
-        }
-        match error {
-            Some(error) => Err(error),
-            None => Ok(builder.freeze()),
-        }
-    }
-}
-
-/// Makes octets of the symbols of base 16.
-///
-/// A symbol counts as its character: a simple escape of a printable octet too, a decimal escape
-/// doesn't. Each octet is lent with its second digit. Any other symbol is refused with the text
-/// "expected hex digits", and half an octet at the end with "uneven number of hex digits".
-#[derive(Debug, Drop)]
-pub struct SymbolConverter {
-    pieces: Pieces<4>,
-}
-
-impl Model for SymbolConverter {
-    ghost use Rattle.std.specs.Prelude.{◌<◌, length};
-    ghost use Rattle.dns_codec.specs.Converter.{Holding};
-
-    ghost Value = { Holding };
-
-    ghost view = { λ s. s.pieces };
-
-    ghost invariant = { λ s. length s.pieces.group < 2 };
-}
-
-impl SymbolConverter {
-    /// A converter that no symbol was given to.
-    pub fn new() -> Self
-        ensures { result ≡ record { group = []; lends = [] } }
-    {
-        SymbolConverter {
-            pieces: Pieces::new(),
-        }
-    }
-
-    // Takes a symbol by its character.
-    fn take<E: ScannerError>(&mut self, symbol: Symbol) -> Result<(), E>
-        ensures { Makes E.cause (symbol_step base16 (codes "expected hex digits") self.old.group symbol) (handed result self.new.lends) self.new }
-    {
-        self.pieces
-            .take::<E, 2>(piece_of(symbol), "expected hex digits")
-    }
-
-    // Takes the end of the symbols.
-    fn finish<E: ScannerError>(&mut self) -> Result<(), E>
-        ensures { Makes E.cause (tail16 self.old.group) (handed result self.new.lends) self.new }
-    {
-        self.pieces.keep();
-        if self.pieces.len() > 0 {
-            return Err(E::custom("uneven number of hex digits"));
-        }
-        Ok(())
-    }
-}
-
-// The piece that a symbol's character names.
-fn piece_of(symbol: Symbol) -> Option<u8>
-    ensures value { result ≡ piece_in base16 symbol }
-    ensures piece { IfSome result (λ v. v < 16) }
-{
-    match symbol.into_char() {
-        Ok(c) => value_of(c),
-        Err(_) => None,
-    }
-}
-
-impl Default for SymbolConverter {
-    ghost is_default = { λ c. c ≡ record { group = []; lends = [] } };
-
-    fn default() -> Self {
-        SymbolConverter::new()
-    }
-}
-
-impl Clone for SymbolConverter {
-    ghost is_clone = { λ old new. new ≡ old };
-
-    ghost is_infallible = { λ _. ⊤ };
-
-    fn clone(&self) -> Result<Self, AllocError> {
-        Ok(SymbolConverter {
-            pieces: self.pieces.copy(),
-        })
-    }
-}
-
-impl<E: ScannerError> ConvertSymbols<Symbol, E> for SymbolConverter {
-    ghost lends = { λ s. s.lends };
-
-    ghost takes = { λ s symbol r after. Makes E.cause (symbol_step base16 (codes "expected hex digits") s.group symbol) r after };
-
-    ghost tail = { λ s r after. Makes E.cause (tail16 s.group) r after };
-
-    fn take_symbol(&mut self, symbol: Symbol) -> Result<(), E> {
-        self.take(symbol)
-    }
-
-    fn take_tail(&mut self) -> Result<(), E> {
-        self.finish()
-    }
-
-    fn lent(&self) -> &[u8] {
-        self.pieces.lent()
-    }
-}
-
-impl<E: ScannerError> ConvertSymbols<EntrySymbol, E> for SymbolConverter {
-    ghost lends = { λ s. s.lends };
-
-    ghost takes = { λ s symbol r after. Makes E.cause (entry_step base16 (codes "expected hex digits") s.group symbol) r after };
-
-    ghost tail = { λ s r after. Makes E.cause (tail16 s.group) r after };
-
-    fn take_symbol(&mut self, symbol: EntrySymbol) -> Result<(), E> {
-        match symbol {
-            EntrySymbol::Symbol(symbol) => self.take(symbol),
-            EntrySymbol::EndOfToken => {
-                self.pieces.keep();
-                Ok(())
-            }
-        }
-    }
-
-    fn take_tail(&mut self) -> Result<(), E> {
-        self.finish()
-    }
-
-    fn lent(&self) -> &[u8] {
-        self.pieces.lent()
     }
 }

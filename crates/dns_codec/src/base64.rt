@@ -1,35 +1,27 @@
 //! Base 64 (RFC 4648, section 4).
 //!
 //! Four characters spell three octets, and a last group is padded with `=` to four characters.
-ghost use Rattle.std.specs.Prelude.{◌≡◌, ◌≢◌, ℕ, ◌+◌, ◌-◌, ◌<◌, List, [], ⊤, false, length, ◌≤◌, take, IfSome, IfNone, OnOk, map, slice_index, ◌++◌, IfOk, IfErr, IsOk, Some, None, Ok, Err, MatchResult};
+ghost use Rattle.std.specs.Prelude.{◌≡◌, ◌≢◌, ◌+◌, ◌-◌, ◌++◌, map, slice_index, ℕ, List, length, ◌≤◌, take, ◌<◌, IfSome, IfNone, OnOk, IfOk, IfErr, IsOk, Some};
 ghost use Rattle.std.specs.Str.{chars};
 ghost use Rattle.std.specs.Fmt.{WritesInCalls};
 ghost use Rattle.std.specs.String.{string_bytes};
-ghost use Rattle.dns_scan.specs.Convert.{handed};
-ghost use Rattle.dns_codec.specs.Converter.{MakesParts, Makes64, char_step64, symbol_step64, entry_step64, tail64};
-ghost use Rattle.dns_codec.specs.Base.{base64, value, encoded};
-ghost use Rattle.dns_codec.specs.Errors.{answer, error_text};
+ghost use Rattle.dns_codec.specs.Base.{base64, encoded};
+ghost use Rattle.dns_codec.specs.Bits.{pieces};
+ghost use Rattle.dns_codec.specs.Errors.{error_text};
+ghost use Rattle.dns_codec.specs.Decoding.{IsNew};
 ghost use Rattle.dns_codec.specs.Grammar.{Decodes};
 ghost use Rattle.dns_codec.specs.Outcome.{refusal_of64, IsRefusedBy};
-ghost use Rattle.dns_codec.specs.Bits.{pieces};
 ghost use Rattle.dns_codec.specs.Shown.{shown64};
-ghost use Rattle.dns_codec.specs.Padded.{move_in_group, move_after_half, padded_move, MovesParts, Pushes64, IsNewPadded, Ends64};
 ghost use Rattle.dns_codec.specs.Written.{IsWritten};
-ghost use Rattle.dns_codec.specs.declared.base64.Padding.TheVariants.{Absent, Half};
 
-use crate::append::append_or;
-use crate::blocks::append_groups;
-use crate::convert::Pieces;
+use crate::base::Base64;
 use crate::encode::{put_block, put_octets, write_names};
 use crate::read::{VALUES64, read_text};
-use crate::register::Register;
-use dns_scan::{ConvertSymbols, ScannerError};
-use dns_symbol::symbol::{EntrySymbol, Symbol};
+use crate::{converter, decoder};
 use dns_wire::{EmptyBuilder, FreezeBuilder, OctetsBuilder, ShortBuf};
-use std::alloc::{AllocError, Allocator};
+use std::alloc::Allocator;
 use std::error::Error;
 use std::fmt;
-use std::marker::Model;
 
 /// Why a text isn't decoded, in any of the three encodings.
 #[derive(Clone, Copy, Debug, PartialEq, Eq)]
@@ -80,22 +72,31 @@ pub enum Padding {
     Done,
 }
 
-#[tactic(auto, using(crate::proofs::Alphabets::value64_ranges))]
-fn value_of(c: char) -> Option<u8>
-    ensures value { result ≡ value base64 c }
-    ensures piece { IfSome result (λ v. v < 64) }
-{
-    match c {
-        'A'..='Z' => Some((c as u32 - 65) as u8),
-        'a'..='z' => Some((c as u32 - 71) as u8),
-        '0'..='9' => Some((c as u32 + 4) as u8),
-        '+' => Some(62),
-        '/' => Some(63),
-        _ => None,
+/// Reads base 64, one character after another.
+pub type Decoder<B> = decoder::Decoder<B, Base64>;
+
+/// Makes octets of the symbols of base 64.
+///
+/// The refusals are "illegal Base 64 data" for a symbol, "trailing Base 64 data" for a character
+/// after a padded group, and "incomplete Base 64 data" for the end within a group.
+pub type SymbolConverter = converter::Converter<Base64>;
+
+impl<B: OctetsBuilder + EmptyBuilder + Drop> decoder::Decoder<B, Base64> {
+    /// A decoder that nothing was pushed to.
+    pub fn new(alloc: B::Alloc) -> Self
+        ensures { IsNew result }
+    {
+        decoder::Decoder::empty(alloc)
     }
 }
 
-const PAD: char = '=';
+impl<B: OctetsBuilder + EmptyBuilder<Alloc = ()> + Drop> Default for decoder::Decoder<B, Base64> {
+    ghost is_default = { IsNew };
+
+    fn default() -> Self {
+        decoder::Decoder::empty(())
+    }
+}
 
 /// Reads a text of base 64, up to the first character that is refused.
 ///
@@ -109,12 +110,7 @@ pub fn decode<B: OctetsBuilder + EmptyBuilder + FreezeBuilder + Drop>(
     ensures succeeds { (octets : List ℕ) → Decodes base64 (chars s.now) octets → length octets ≤ B.sure → IsOk result }
     ensures refused { IfErr result (λ e. IsRefusedBy refusal_of64 B.sure B.most (chars s.now) e) }
 {
-    let mut decoder: Decoder<B> = Decoder::new(alloc);
-    let rest = append_groups::<B, 6, 4, 3>(&VALUES64, &mut decoder.builder, s);
-    for c in rest.chars() {
-        decoder.push(c)?;
-    }
-    decoder.finalize()
+    decoder::decode::<B, Base64>(alloc, s)
 }
 
 /// Reads a text of base 64 into the start of a slice, and answers how many octets; none where the
@@ -212,407 +208,5 @@ impl fmt::Display for Encoded<'_> {
 
     fn fmt<W: fmt::Write>(&self, f: &mut fmt::Formatter<W>) -> fmt::Result {
         display(self.octets, f)
-    }
-}
-
-/// Reads base 64, one character after another.
-///
-/// The octets of a group are appended to the builder with its last character, one by one. The first
-/// error is kept, and answered from then on.
-#[derive(Drop)]
-pub struct Decoder<B: OctetsBuilder + Drop> {
-    builder: B,
-    group: Register<6>,
-    padding: Padding,
-    error: Option<DecodeError>,
-}
-
-impl<B: OctetsBuilder + Drop> Model for Decoder<B> {
-    ghost use Rattle.std.specs.Prelude.{◌≡◌, ◌<◌, length};
-    ghost use Rattle.dns_codec.specs.Padded.{PaddedHeld};
-    ghost use Rattle.dns_codec.specs.declared.base64.Padding.TheVariants.{Half};
-
-    ghost Value = { PaddedHeld };
-
-    ghost view = { λ s. record {
-      octets = B.octets s.builder;
-      group = s.group;
-      padding = s.padding;
-      error = s.error;
-    } };
-
-    ghost invariant = { λ s. (length s.group < 4) × (s.padding ≡ Half → length s.group ≡ 2) };
-}
-
-impl<B: OctetsBuilder + EmptyBuilder + Drop> Decoder<B> {
-    /// A decoder that nothing was pushed to.
-    pub fn new(alloc: B::Alloc) -> Self
-        ensures { IsNewPadded result }
-    {
-        Decoder {
-            builder: B::empty(alloc),
-            group: Register::new(),
-            padding: Padding::Absent,
-            error: None,
-        }
-    }
-}
-
-impl<B: OctetsBuilder + EmptyBuilder<Alloc = ()> + Drop> Default for Decoder<B> {
-    ghost use Rattle.dns_codec.specs.Padded.{IsNewPadded};
-
-    ghost is_default = { IsNewPadded };
-
-    fn default() -> Self {
-        Decoder::new(())
-    }
-}
-
-impl<B: OctetsBuilder + Drop> Decoder<B> {
-    /// Takes the next character, and answers the stored error, if there is one then.
-    ///
-    /// After a padded group each character is [`DecodeError::TrailingInput`], as is a character of
-    /// the alphabet after `xx=`. A character outside the alphabet is [`DecodeError::IllegalChar`],
-    /// as is `=` in the first two places of a group. An octet that the builder refuses is
-    /// [`DecodeError::ShortBuf`]. The first error is kept, and nothing changes after it.
-    pub fn push(&mut self, c: char) -> Result<(), DecodeError>
-        ensures pushes { Pushes64 B.sure B.most self.old c self.new }
-        ensures answers { result ≡ answer self.new.error }
-    {
-        if let Some(error) = self.error {
-            return Err(error);
-        }
-        self.error = take(&mut self.builder, &mut self.group, &mut self.padding, c);
-        match self.error {
-            Some(error) => Err(error),
-            None => Ok(()),
-        }
-    }
-}
-
-impl<B: OctetsBuilder + FreezeBuilder + Drop> Decoder<B> {
-    /// The octets, or the first error. An open group is [`DecodeError::ShortInput`].
-    pub fn finalize(self) -> Result<B::Octets, DecodeError>
-        ensures { MatchResult result
-            (λ o. Ends64 self (Ok (B.Octets.octets o)))
-            (λ e. Ends64 self (Err e)) }
-    {
-        let Decoder {
-            builder,
-            group,
-            padding,
-            error,
-        } = self;
-        if let Some(error) = error {
-            return Err(error);
-        }
-        if group.len() > 0 || padding == Padding::Half {
-            return Err(DecodeError::ShortInput);
-        }
-        Ok(builder.freeze())
-    }
-}
-
-// Takes a character, and answers the error that is stored then.
-fn take<B: OctetsBuilder>(
-    builder: &mut B,
-    group: &mut Register<6>,
-    padding: &mut Padding,
-    c: char,
-) -> Option<DecodeError>
-    requires few { length group.old < 4 }
-    requires half { padding.old ≡ Half → length group.old ≡ 2 }
-    ensures moves { MovesParts B.sure B.most (B.octets builder.old) (padded_move group.old padding.old c)
-        (B.octets builder.new) group.new padding.new result }
-    ensures few { length group.new < 4 }
-    ensures half { padding.new ≡ Half → length group.new ≡ 2 }
-{
-    match *padding {
-        Padding::Absent => match value_of(c) {
-            Some(piece) => take_piece(builder, group, piece),
-            None => take_other(builder, group, padding, c),
-        },
-        Padding::Half => take_after_half(builder, group, padding, c),
-        Padding::Done => Some(DecodeError::TrailingInput),
-    }
-}
-
-// A character of the alphabet, where the group has no `=`.
-fn take_piece<B: OctetsBuilder>(
-    builder: &mut B,
-    group: &mut Register<6>,
-    piece: u8,
-) -> Option<DecodeError>
-    requires few { length group.old < 4 }
-    requires piece { piece < 64 }
-    ensures moves { MovesParts B.sure B.most (B.octets builder.old) (move_in_group group.old 0 (Some piece))
-        (B.octets builder.new) group.new Absent result }
-    ensures few { length group.new < 4 }
-{
-    group.push(piece);
-    if group.len() < 4 {
-        return None;
-    }
-    let (octets, start) = group.octets();
-    *group = Register::new();
-    append_or(builder, &octets[start..], None)
-}
-
-// A character outside the alphabet, where the group has no `=`.
-fn take_other<B: OctetsBuilder>(
-    builder: &mut B,
-    group: &mut Register<6>,
-    padding: &mut Padding,
-    c: char,
-) -> Option<DecodeError>
-    requires few { length group.old < 4 }
-    requires absent { padding.old ≡ Absent }
-    ensures moves { MovesParts B.sure B.most (B.octets builder.old) (move_in_group group.old c None)
-        (B.octets builder.new) group.new padding.new result }
-    ensures few { length group.new < 4 }
-    ensures half { padding.new ≡ Half → length group.new ≡ 2 }
-{
-    if c != PAD || group.len() < 2 {
-        return Some(DecodeError::IllegalChar(c));
-    }
-    if group.len() == 2 {
-        *padding = Padding::Half;
-        return None;
-    }
-    *padding = Padding::Done;
-    let (octets, start) = group.octets();
-    *group = Register::new();
-    append_or(builder, &octets[start..], None)
-}
-
-// The character after `xx=`.
-fn take_after_half<B: OctetsBuilder>(
-    builder: &mut B,
-    group: &mut Register<6>,
-    padding: &mut Padding,
-    c: char,
-) -> Option<DecodeError>
-    requires two { length group.old ≡ 2 }
-    requires half { padding.old ≡ Half }
-    ensures moves { MovesParts B.sure B.most (B.octets builder.old) (move_after_half group.old c (value base64 c))
-        (B.octets builder.new) group.new padding.new result }
-    ensures few { length group.new < 4 }
-    ensures half { padding.new ≡ Half → length group.new ≡ 2 }
-{
-    let (octets, start) = group.octets();
-    if value_of(c).is_some() {
-        return append_or(builder, &octets[start..], Some(DecodeError::TrailingInput));
-    }
-    if c != PAD {
-        return Some(DecodeError::IllegalChar(c));
-    }
-    *padding = Padding::Done;
-    *group = Register::new();
-    append_or(builder, &octets[start..], None)
-}
-
-/// Makes octets of the symbols of base 64.
-///
-/// A symbol counts as its character: a simple escape of a printable octet too, a decimal escape
-/// doesn't. The octets of a group are lent with its last character. Any other symbol, and a
-/// character of the alphabet after `xx=`, is refused with the text "illegal Base 64 data"; any
-/// character after a padded group with "trailing Base 64 data"; and the end within a group with
-/// "incomplete Base 64 data". Once a character of the alphabet was refused after `xx=`, each symbol
-/// and the end are refused.
-#[derive(Debug, Drop)]
-pub struct SymbolConverter {
-    pieces: Pieces<6>,
-    padding: Padding,
-    spoiled: bool,
-}
-
-impl Model for SymbolConverter {
-    ghost use Rattle.std.specs.Prelude.{◌≡◌, ◌<◌, length};
-    ghost use Rattle.dns_codec.specs.Converter.{PaddedHolding};
-    ghost use Rattle.dns_codec.specs.declared.base64.Padding.TheVariants.{Half};
-
-    ghost Value = { PaddedHolding };
-
-    ghost view = { λ s. record {
-      group = s.pieces.group;
-      padding = s.padding;
-      spoiled = s.spoiled;
-      lends = s.pieces.lends;
-    } };
-
-    ghost invariant = { λ s. (length s.pieces.group < 4) × (s.padding ≡ Half → length s.pieces.group ≡ 2) };
-}
-
-impl SymbolConverter {
-    /// A converter that no symbol was given to.
-    pub fn new() -> Self
-        ensures { result ≡ record { group = []; padding = Absent; spoiled = false; lends = [] } }
-    {
-        SymbolConverter {
-            pieces: Pieces::new(),
-            padding: Padding::Absent,
-            spoiled: false,
-        }
-    }
-
-    // Takes a symbol by its character.
-    fn take<E: ScannerError>(&mut self, symbol: Symbol) -> Result<(), E>
-        ensures { Makes64 E.cause (symbol_step64 self.old.group self.old.padding self.old.spoiled symbol) (handed result self.new.lends) self.new }
-    {
-        self.pieces.keep();
-        if self.spoiled {
-            return Err(E::custom(ILLEGAL));
-        }
-        let Ok(c) = symbol.into_char() else {
-            return Err(E::custom(ILLEGAL));
-        };
-        match self.padding {
-            Padding::Absent => convert_in_group(&mut self.pieces, &mut self.padding, c),
-            Padding::Half => {
-                convert_after_half(&mut self.pieces, &mut self.padding, &mut self.spoiled, c)
-            }
-            Padding::Done => Err(E::custom("trailing Base 64 data")),
-        }
-    }
-
-    // Takes the end of the symbols.
-    fn finish<E: ScannerError>(&mut self) -> Result<(), E>
-        ensures { Makes64 E.cause (tail64 self.old.group self.old.padding self.old.spoiled) (handed result self.new.lends) self.new }
-    {
-        self.pieces.keep();
-        if self.spoiled || self.padding == Padding::Half || self.pieces.len() > 0 {
-            return Err(E::custom("incomplete Base 64 data"));
-        }
-        Ok(())
-    }
-}
-
-const ILLEGAL: &str = "illegal Base 64 data";
-
-// A character where the group has no `=`.
-fn convert_in_group<E: ScannerError>(
-    pieces: &mut Pieces<6>,
-    padding: &mut Padding,
-    c: char,
-) -> Result<(), E>
-    requires few { length pieces.old.group < 4 }
-    requires absent { padding.old ≡ Absent }
-    requires nothing { pieces.old.lends ≡ [] }
-    ensures makes { MakesParts E.cause (char_step64 pieces.old.group Absent (Some c)) (handed result pieces.new.lends) pieces.new.group padding.new false pieces.new.lends }
-    ensures few { length pieces.new.group < 4 }
-    ensures half { padding.new ≡ Half → length pieces.new.group ≡ 2 }
-{
-    if let Some(piece) = value_of(c) {
-        pieces.push(piece);
-        if pieces.len() < 4 {
-            return Ok(());
-        }
-        pieces.close();
-        return Ok(());
-    }
-    if c != PAD || pieces.len() < 2 {
-        return Err(E::custom(ILLEGAL));
-    }
-    if pieces.len() == 2 {
-        *padding = Padding::Half;
-        return Ok(());
-    }
-    *padding = Padding::Done;
-    pieces.close();
-    Ok(())
-}
-
-// The character after `xx=`.
-fn convert_after_half<E: ScannerError>(
-    pieces: &mut Pieces<6>,
-    padding: &mut Padding,
-    spoiled: &mut bool,
-    c: char,
-) -> Result<(), E>
-    requires two { length pieces.old.group ≡ 2 }
-    requires half { padding.old ≡ Half }
-    requires whole { spoiled.old ≡ false }
-    requires nothing { pieces.old.lends ≡ [] }
-    ensures makes { MakesParts E.cause (char_step64 pieces.old.group Half (Some c)) (handed result pieces.new.lends) pieces.new.group padding.new spoiled.new pieces.new.lends }
-    ensures few { length pieces.new.group < 4 }
-    ensures half { padding.new ≡ Half → length pieces.new.group ≡ 2 }
-{
-    if value_of(c).is_some() {
-        *spoiled = true;
-        return Err(E::custom(ILLEGAL));
-    }
-    if c != PAD {
-        return Err(E::custom(ILLEGAL));
-    }
-    *padding = Padding::Done;
-    pieces.close();
-    Ok(())
-}
-
-impl Default for SymbolConverter {
-    ghost is_default = { λ c. c ≡ record { group = []; padding = Absent; spoiled = false; lends = [] } };
-
-    fn default() -> Self {
-        SymbolConverter::new()
-    }
-}
-
-impl Clone for SymbolConverter {
-    ghost is_clone = { λ old new. new ≡ old };
-
-    ghost is_infallible = { λ _. ⊤ };
-
-    fn clone(&self) -> Result<Self, AllocError> {
-        Ok(SymbolConverter {
-            pieces: self.pieces.copy(),
-            padding: self.padding,
-            spoiled: self.spoiled,
-        })
-    }
-}
-
-impl<E: ScannerError> ConvertSymbols<Symbol, E> for SymbolConverter {
-    ghost lends = { λ s. s.lends };
-
-    ghost takes = { λ s symbol r after. Makes64 E.cause (symbol_step64 s.group s.padding s.spoiled symbol) r after };
-
-    ghost tail = { λ s r after. Makes64 E.cause (tail64 s.group s.padding s.spoiled) r after };
-
-    fn take_symbol(&mut self, symbol: Symbol) -> Result<(), E> {
-        self.take(symbol)
-    }
-
-    fn take_tail(&mut self) -> Result<(), E> {
-        self.finish()
-    }
-
-    fn lent(&self) -> &[u8] {
-        self.pieces.lent()
-    }
-}
-
-impl<E: ScannerError> ConvertSymbols<EntrySymbol, E> for SymbolConverter {
-    ghost lends = { λ s. s.lends };
-
-    ghost takes = { λ s symbol r after. Makes64 E.cause (entry_step64 s.group s.padding s.spoiled symbol) r after };
-
-    ghost tail = { λ s r after. Makes64 E.cause (tail64 s.group s.padding s.spoiled) r after };
-
-    fn take_symbol(&mut self, symbol: EntrySymbol) -> Result<(), E> {
-        match symbol {
-            EntrySymbol::Symbol(symbol) => self.take(symbol),
-            EntrySymbol::EndOfToken => {
-                self.pieces.keep();
-                Ok(())
-            }
-        }
-    }
-
-    fn take_tail(&mut self) -> Result<(), E> {
-        self.finish()
-    }
-
-    fn lent(&self) -> &[u8] {
-        self.pieces.lent()
     }
 }

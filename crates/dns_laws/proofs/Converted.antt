@@ -1,5 +1,5 @@
 -- What the converters make of the texts of octets.
-use Rattle.std.proofs.Common.{ℕ, ◌≡◌, ◌<◌, ◌+◌, ◌==◌, List, [], ◌∷◌, ◌++◌, length, map, refl, sym, ap, subst, ◌∙◌, arith, append-nil, append_assoc, Option, Some, None, Result, Ok, Err, Bool, true, false, codes}
+use Rattle.std.proofs.Common.{inl, inr, ℕ, ◌≡◌, ◌<◌, ◌+◌, ◌==◌, List, [], ◌∷◌, ◌++◌, length, map, refl, sym, ap, subst, ◌∙◌, arith, append-nil, append_assoc, Option, Some, None, Result, Ok, Err, Bool, true, false}
 use Rattle.std.specs.Prelude.{nat_lt, not, ◌&&◌}
 use Rattle.std.specs.List.{list_all}
 use Rattle.std.proofs.lemmas.Bool.{and_parts}
@@ -9,23 +9,18 @@ use Rattle.dns_symbol.specs.declared.symbol.Symbol.TheVariants.{Char}
 use Rattle.dns_symbol.specs.Symbol.{is_readable}
 use Rattle.dns_symbol.specs.Text.{SymbolsOf}
 use Rattle.dns_symbol.proofs.Unique.{symbols_same}
-use Rattle.dns_codec.specs.Base.{Base, base16, base32hex, base64, encoded}
-use Rattle.dns_codec.specs.Converter.{symbol_step, symbol_step64, tail16, tail32}
-use Rattle.dns_codec.specs.Conversion.{then_answer, conversion, conversion64, Agrees}
+use Rattle.dns_codec.specs.Base.{Base, base16, base32hex, base64, encoded, IsEncoding as Known}
+use Rattle.dns_codec.specs.Group.{Group, fresh}
+use Rattle.dns_codec.specs.Converting.{convert, convert_tail}
+use Rattle.dns_codec.specs.Conversions.{then_answer, converts, Agrees}
 use Rattle.dns_codec.specs.Grammar.{Decodes}
-use Rattle.dns_codec.specs.Outcome.{refusal_of, refusal_of64}
-use Rattle.dns_codec.proofs.PlainConversions.{agrees16, agrees32}
-use Rattle.dns_codec.proofs.PaddedConversions.{agrees64}
-use Rattle.dns_codec.proofs.PlainEnds.{succeeds16, succeeds32}
-use Rattle.dns_codec.proofs.PaddedEnds.{decodes64_no_cause}
-use Rattle.dns_codec.proofs.Unique.{one_value, no_mark16, no_mark32, no_mark64}
+use Rattle.dns_codec.specs.Outcome.{refusal}
+use Rattle.dns_codec.proofs.Each.{once, reads, agrees}
 use Rattle.dns_codec.specs.declared.base64.DecodeError.{DecodeError}
-use Rattle.dns_codec.specs.declared.base64.Padding.{Padding}
-use Rattle.dns_codec.specs.declared.base64.Padding.TheVariants.{Absent}
 use Rattle.dns_scan.specs.Cause.{Cause, custom_text}
 use Rattle.dns_scan.specs.Tokens.{Token}
 use Rattle.dns_entry.proofs.Words.{ascii_bytes, encoded_all}
-use Rattle.dns_iter.specs.Codecs.{Codec, then_made, converted, ConvertsTo, hex_codec, base32hex_codec, base64_codec}
+use Rattle.dns_iter.specs.Codecs.{Codec, then_made, converted, ConvertsTo, codec_of, hex_codec, base32hex_codec, base64_codec}
 
 -- the symbols of characters that stand for themselves
 abbrev pub plain_symbols : List ℕ → List Symbol
@@ -46,18 +41,9 @@ joined built (Ok o) (Err text) go same = same o
 joined built (Err text) c go same = refl
 
 -- a run over symbols, in both ways of saying it
-pub hex_run : (xs : List Symbol) (g built : List ℕ) → converted hex_codec g built xs None ≡ onto built (conversion (symbol_step base16 (codes "expected hex digits")) tail16 g xs)
-hex_run [] g built = ended built (tail16 g).answer
-hex_run (x ∷ xs) g built = joined built _ _ _ (λ o. hex_run xs (symbol_step base16 (codes "expected hex digits") g x).group (built ++ o))
-
-pub base32hex_run : (xs : List Symbol) (g built : List ℕ) → converted base32hex_codec g built xs None ≡ onto built (conversion (symbol_step base32hex (codes "illegal Base 32 data")) tail32 g xs)
-base32hex_run [] g built = ended built (tail32 g).answer
-base32hex_run (x ∷ xs) g built = joined built _ _ _ (λ o. base32hex_run xs (symbol_step base32hex (codes "illegal Base 32 data") g x).group (built ++ o))
-
-pub base64_run : (xs : List Symbol) (g : List ℕ) (p : Padding) (s : Bool) (built : List ℕ) → converted base64_codec (g, p, s) built xs None ≡ onto built (conversion64 symbol_step64 g p s xs)
-base64_run [] g p s built = ended built _
-base64_run (x ∷ xs) g p s built =
-    joined built _ _ _ (λ o. base64_run xs (symbol_step64 g p s x).group (symbol_step64 g p s x).padding (symbol_step64 g p s x).spoiled (built ++ o))
+pub base_run : (b : Base) (xs : List Symbol) (g : Group) (s : Bool) (built : List ℕ) → converted (codec_of b) (g, s) built xs None ≡ onto built (converts (convert b) (convert_tail b) g s xs)
+base_run b [] g s built = ended built _
+base_run b (x ∷ xs) g s built = joined built _ _ _ (λ o. base_run b xs (convert b g s x).group (convert b g s x).spoiled (built ++ o))
 
 -- where the run agrees with decoding, a text of the grammar gives its octets
 pub by_agreement : (b : Base) (text octets : List ℕ) (refusal : Option DecodeError) (c : Result (List ℕ) (List ℕ))
@@ -100,30 +86,31 @@ converts_plain codec text r all h =
     let same = symbols_same text h.0 (plain_symbols text) h.1 None h.2 (plain_read text all) in
     (λ i. converted codec codec.start [] (sym same.0 i) (sym same.1 i)) ∙ h.3
 
--- each base: a text of the grammar gives its octets, and only such a text does
-pub hex_text : (text octets : List ℕ) → Decodes base16 text octets → converted hex_codec [] [] (plain_symbols text) None ≡ Ok octets
-hex_text text octets d =
-    let room = length text + 3 + length octets in
-    hex_run (plain_symbols text) [] [] ∙ by_agreement base16 text octets (refusal_of base16 room text) _ (one_value base16 no_mark16 text) d (succeeds16 text octets room d (omega arith)).0 (agrees16 text room (omega arith))
+-- a text of the grammar gives its octets, and only such a text does
+module _ (b : Base) (known : Known b) where
+  base_text : (text octets : List ℕ) → Decodes b text octets → converted (codec_of b) (fresh, false) [] (plain_symbols text) None ≡ Ok octets
+  base_text text octets d =
+      let room = length text + 3 + length octets in
+      base_run b (plain_symbols text) fresh false [] ∙ by_agreement b text octets (refusal b room text) _ (once b known text) d (reads b known text octets room d (omega arith)).0 (agrees b known text room (omega arith))
 
-pub base32hex_text : (text octets : List ℕ) → Decodes base32hex text octets → converted base32hex_codec [] [] (plain_symbols text) None ≡ Ok octets
-base32hex_text text octets d =
-    let room = length text + 3 + length octets in
-    base32hex_run (plain_symbols text) [] [] ∙ by_agreement base32hex text octets (refusal_of base32hex room text) _ (one_value base32hex no_mark32 text) d (succeeds32 text octets room d (omega arith)).0 (agrees32 text room (omega arith))
+  base_only : (text octets : List ℕ) → converted (codec_of b) (fresh, false) [] (plain_symbols text) None ≡ Ok octets → Decodes b text octets
+  base_only text octets e =
+      from_agreement b text octets (refusal b (length text + 3) text) _ (agrees b known text (length text + 3) (omega arith)) (sym (base_run b (plain_symbols text) fresh false []) ∙ e)
 
-pub base64_text : (text octets : List ℕ) → Decodes base64 text octets → converted base64_codec ([], Absent, false) [] (plain_symbols text) None ≡ Ok octets
-base64_text text octets d =
-    let room = length text + 3 + length octets in
-    base64_run (plain_symbols text) [] Absent false [] ∙ by_agreement base64 text octets (refusal_of64 room text) _ (one_value base64 no_mark64 text) d (decodes64_no_cause room text octets d (omega arith)) (agrees64 text room (omega arith))
+pub hex_text : (text octets : List ℕ) → Decodes base16 text octets → converted hex_codec (fresh, false) [] (plain_symbols text) None ≡ Ok octets
+hex_text = base_text base16 (inl refl)
 
-pub hex_only : (text octets : List ℕ) → converted hex_codec [] [] (plain_symbols text) None ≡ Ok octets → Decodes base16 text octets
-hex_only text octets e =
-    from_agreement base16 text octets (refusal_of base16 (length text + 3) text) _ (agrees16 text (length text + 3) (omega arith)) (sym (hex_run (plain_symbols text) [] []) ∙ e)
+pub base32hex_text : (text octets : List ℕ) → Decodes base32hex text octets → converted base32hex_codec (fresh, false) [] (plain_symbols text) None ≡ Ok octets
+base32hex_text = base_text base32hex (inr (inl refl))
 
-pub base32hex_only : (text octets : List ℕ) → converted base32hex_codec [] [] (plain_symbols text) None ≡ Ok octets → Decodes base32hex text octets
-base32hex_only text octets e =
-    from_agreement base32hex text octets (refusal_of base32hex (length text + 3) text) _ (agrees32 text (length text + 3) (omega arith)) (sym (base32hex_run (plain_symbols text) [] []) ∙ e)
+pub base64_text : (text octets : List ℕ) → Decodes base64 text octets → converted base64_codec (fresh, false) [] (plain_symbols text) None ≡ Ok octets
+base64_text = base_text base64 (inr (inr refl))
 
-pub base64_only : (text octets : List ℕ) → converted base64_codec ([], Absent, false) [] (plain_symbols text) None ≡ Ok octets → Decodes base64 text octets
-base64_only text octets e =
-    from_agreement base64 text octets (refusal_of64 (length text + 3) text) _ (agrees64 text (length text + 3) (omega arith)) (sym (base64_run (plain_symbols text) [] Absent false []) ∙ e)
+pub hex_only : (text octets : List ℕ) → converted hex_codec (fresh, false) [] (plain_symbols text) None ≡ Ok octets → Decodes base16 text octets
+hex_only = base_only base16 (inl refl)
+
+pub base32hex_only : (text octets : List ℕ) → converted base32hex_codec (fresh, false) [] (plain_symbols text) None ≡ Ok octets → Decodes base32hex text octets
+base32hex_only = base_only base32hex (inr (inl refl))
+
+pub base64_only : (text octets : List ℕ) → converted base64_codec (fresh, false) [] (plain_symbols text) None ≡ Ok octets → Decodes base64 text octets
+base64_only = base_only base64 (inr (inr refl))

@@ -1,5 +1,5 @@
 -- The tokens that convert to octets are the texts of the encoding, and answers of converters are one.
-use Rattle.std.proofs.Common.{ℕ, ◌≡◌, ◌<◌, List, [], ◌∷◌, ◌++◌, length, map, refl, sym, ap, subst, ◌∙◌, arith, append_assoc, ◌⊎◌, inl, inr, ⊎_elim, Option, Some, None, Result, Ok, Err, Bool, true, false, codes}
+use Rattle.std.proofs.Common.{ℕ, ◌≡◌, ◌<◌, List, [], ◌∷◌, ◌++◌, length, map, refl, sym, ap, subst, ◌∙◌, arith, append_assoc, ◌⊎◌, inl, inr, ⊎_elim, Option, Some, None, Result, Ok, Err, Bool, true, false}
 use Rattle.std.specs.Prelude.{IfOk}
 use Rattle.std.specs.List.{list_all, AllByRecursion}
 use Rattle.dns_symbol.specs.declared.symbol.Symbol.{Symbol}
@@ -10,14 +10,14 @@ use Rattle.dns_symbol.specs.Symbol.{char_of}
 use Rattle.dns_symbol.specs.Text.{SymbolsOf}
 use Rattle.dns_symbol.proofs.Unique.{symbols_same}
 use Rattle.dns_codec.specs.Base.{Base, base16, base32hex, base64, encoded}
-use Rattle.dns_codec.specs.Converter.{char_in, piece_in, made, step_by, char_step64}
+use Rattle.dns_codec.specs.Group.{Group}
+use Rattle.dns_codec.specs.Converting.{char_in, made, convert_char}
 use Rattle.dns_codec.specs.Grammar.{Decodes}
-use Rattle.dns_codec.specs.declared.base64.Padding.{Padding}
 use Rattle.dns_codec.proofs.RoundTrip.{encoded16-decodes, encoded32-decodes, encoded64-decodes}
 use Rattle.dns_scan.specs.Cause.{Cause}
 use Rattle.dns_scan.specs.Octets.{GivesWhere}
 use Rattle.dns_scan.specs.Tokens.{Token}
-use Rattle.dns_iter.specs.Codecs.{Codec, then_made, then_more, converted, made_of, ConvertsTo, MadeOf, AnswersConverted, IsEncoding, hex_codec, base32hex_codec, base64_codec}
+use Rattle.dns_iter.specs.Codecs.{Codec, then_made, then_more, converted, made_of, ConvertsTo, MadeOf, AnswersConverted, IsEncoding, codec_of}
 use Rattle.dns_laws.proofs.Converted.{plain_symbols, is_plain, plain_read, encoded_plain}
 
 -- a step that went well, and what followed
@@ -183,38 +183,17 @@ base32hex_encoding octets all = plain_encoding base32hex octets refl (encoded32-
 pub base64_encoding : (octets : List ℕ) → AllByRecursion (λ o. o < 256) octets → IsEncoding base64 (encoded base64 octets) octets
 base64_encoding octets all = plain_encoding base64 octets refl (encoded64-decodes octets all)
 
--- the three converters look at a symbol's character alone, and refuse a symbol that has none
-piece_same : (b : Base) (x : Symbol) (c : ℕ) → char_in x ≡ Some c → piece_in b x ≡ piece_in b (Char c)
-piece_same b x c e = rw (e, piece_in) refl
-
-no_piece : (b : Base) (x : Symbol) → char_in x ≡ None → piece_in b x ≡ None
-no_piece b x e = rw (e, piece_in) refl
-
+-- the converters look at a symbol's character alone, and refuse a symbol that has none
 refuses : (a : Result (List ℕ) (List ℕ)) (text o : List ℕ) → a ≡ Err text → a ≡ Ok o → ⊥
 refuses a text o e is = cc
 
-abbrev plain_step : Base → List ℕ → List ℕ → Option ℕ → Result (List ℕ) (List ℕ) × List ℕ
-plain_step b text held o = ((step_by b.width b.group text held o).answer, (step_by b.width b.group text held o).group)
+abbrev char_step : Base → Group → Option ℕ → Result (List ℕ) (List ℕ) × (Group × Bool)
+char_step b g o = ((convert_char b g o).answer, ((convert_char b g o).group, (convert_char b g o).spoiled))
 
-pub hex_same : (held : List ℕ) (x : Symbol) (c : ℕ) → char_in x ≡ Some c → hex_codec.step held x ≡ hex_codec.step held (Char c)
-hex_same held x c e = ap (plain_step base16 (codes "expected hex digits") held) (piece_same base16 x c e)
+pub base_same : (b : Base) (held : Group × Bool) (x : Symbol) (c : ℕ) → char_in x ≡ Some c → (codec_of b).step held x ≡ (codec_of b).step held (Char c)
+base_same b (g, true) x c e = refl
+base_same b (g, false) x c e = ap (char_step b g) e
 
-pub hex_needs : (held : List ℕ) (x : Symbol) (o : List ℕ) → char_in x ≡ None → (hex_codec.step held x).0 ≡ Ok o → ⊥
-hex_needs held x o e is = refuses _ _ o (ap (λ p. (plain_step base16 (codes "expected hex digits") held p).0) (no_piece base16 x e)) is
-
-pub base32hex_same : (held : List ℕ) (x : Symbol) (c : ℕ) → char_in x ≡ Some c → base32hex_codec.step held x ≡ base32hex_codec.step held (Char c)
-base32hex_same held x c e = ap (plain_step base32hex (codes "illegal Base 32 data") held) (piece_same base32hex x c e)
-
-pub base32hex_needs : (held : List ℕ) (x : Symbol) (o : List ℕ) → char_in x ≡ None → (base32hex_codec.step held x).0 ≡ Ok o → ⊥
-base32hex_needs held x o e is = refuses _ _ o (ap (λ p. (plain_step base32hex (codes "illegal Base 32 data") held p).0) (no_piece base32hex x e)) is
-
-abbrev padded_step : List ℕ → Padding → Option ℕ → Result (List ℕ) (List ℕ) × (List ℕ × Padding × Bool)
-padded_step g p o = ((char_step64 g p o).answer, ((char_step64 g p o).group, (char_step64 g p o).padding, (char_step64 g p o).spoiled))
-
-pub base64_same : (held : List ℕ × Padding × Bool) (x : Symbol) (c : ℕ) → char_in x ≡ Some c → base64_codec.step held x ≡ base64_codec.step held (Char c)
-base64_same (g, p, true) x c e = refl
-base64_same (g, p, false) x c e = ap (padded_step g p) e
-
-pub base64_needs : (held : List ℕ × Padding × Bool) (x : Symbol) (o : List ℕ) → char_in x ≡ None → (base64_codec.step held x).0 ≡ Ok o → ⊥
-base64_needs (g, p, true) x o e is = refuses _ _ o refl is
-base64_needs (g, p, false) x o e is = refuses _ _ o (ap (λ a. (padded_step g p a).0) e) is
+pub base_needs : (b : Base) (held : Group × Bool) (x : Symbol) (o : List ℕ) → char_in x ≡ None → ((codec_of b).step held x).0 ≡ Ok o → ⊥
+base_needs b (g, true) x o e is = refuses _ _ o refl is
+base_needs b (g, false) x o e is = refuses _ _ o (ap (λ a. (char_step b g a).0) e) is

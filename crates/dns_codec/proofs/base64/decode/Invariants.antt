@@ -1,8 +1,0 @@
-use Rattle.std.proofs.Common.{◌≡◌, ℕ, List, ◌++◌}
-use Rattle.std.specs.Str.{chars}
-use Rattle.dns_codec.proofs.PaddedEnds.{HeldClean}
-use Rattle.dns_codec.proofs.base64.decode.Given as goal
-
-abbrev pub invariant-loop-c : goal.invariant-loop-c
-invariant-loop-c g l =
-    (front : List ℕ) × (chars l.s ≡ front ++ chars l.initial.c-iterator.rest.now) × HeldClean g.B.OctetsBuilder.sure g.B.OctetsBuilder.most (front ++ l.yielded) l.decoder
