@@ -1,5 +1,6 @@
 use Rattle.std.proofs.Common.{subst, sym, refl, Some, Ok, Err, [], ◌∷◌}
 use Rattle.std.proofs.lemmas.Iterator.Adapters.{YieldsList-from_once}
+use Rattle.dns_codec.specs.Base.{base16, base64}
 use Rattle.dns_wire.specs.Octets.{greatest_length}
 use Rattle.dns_entry.specs.Field.{number, hex_octets, base64_octets, text_octets}
 use Rattle.dns_scan.specs.Cause.{Cause}
@@ -7,7 +8,7 @@ use Rattle.dns_scan.specs.Numbers.{greatest}
 use Rattle.dns_scan.proofs.Whole.{of_first}
 use Rattle.dns_iter.specs.EntryLine.{Holds, NoField}
 use Rattle.dns_iter.specs.StrError.{str_cause}
-use Rattle.dns_iter.proofs.Converting.{hex_answer, base64_answer}
+use Rattle.dns_iter.proofs.Converting.{base_answer}
 use Rattle.dns_iter.proofs.Fielding.{number_held, text_held, octets_stop}
 use Rattle.dns_iter.proofs.Printing.{number_refused, charstr_stops}
 use Rattle.dns_iter.proofs.Roads.{texts_from}
@@ -30,7 +31,7 @@ returns-in-Ok-convert_token g c =
     let road = YieldsList-from_once (Some c.args.text) c.once.ensures.item in
     subst (λ k. Holds k c.args.text.now (hex_octets c.in-Ok-convert_token.octets.items)) (sym c.in-Hex.is) (
       _,
-      (hex_answer str_cause 0 greatest_length (λ v. v.items) c.args.text.now c.new.result (Ok c.in-Ok-convert_token.octets) c.new.ensures
+      (base_answer str_cause 0 greatest_length base16 (λ v. v.items) c.args.text.now c.new.result (Ok c.in-Ok-convert_token.octets) c.new.ensures
           (of_first _ _ _ _ _ _ _ [] (c.new-scanner.ensures.stands _ (texts_from road)) c.in-Ok-convert_token.ensures.scans).0).2.0,
       refl,
     )
@@ -39,7 +40,7 @@ pub returns-in-Err-convert_token : goal.returns-in-Err-convert_token
 returns-in-Err-convert_token g c =
     let road = YieldsList-from_once (Some c.args.text) c.once.ensures.item in
     subst (λ k. NoField k c.args.text.now (str_cause c.in-Err-convert_token.error)) (sym c.in-Hex.is)
-    (octets_stop _ _ _ (hex_answer str_cause 0 greatest_length (λ v. v.items) c.args.text.now c.new.result (Err c.in-Err-convert_token.error) c.new.ensures
+    (octets_stop _ _ _ (base_answer str_cause 0 greatest_length base16 (λ v. v.items) c.args.text.now c.new.result (Err c.in-Err-convert_token.error) c.new.ensures
     (of_first _ _ _ _ _ _ _ [] (c.new-scanner.ensures.stands _ (texts_from road)) c.in-Err-convert_token.ensures.scans).0).2)
 
 pub returns-in-Ok-convert_token-2 : goal.returns-in-Ok-convert_token-2
@@ -47,7 +48,7 @@ returns-in-Ok-convert_token-2 g c =
     let road = YieldsList-from_once (Some c.args.text) c.once.ensures.item in
     subst (λ k. Holds k c.args.text.now (base64_octets c.in-Ok-convert_token-2.octets.items)) (sym c.in-Base64.is) (
       _,
-      (base64_answer str_cause 0 greatest_length (λ v. v.items) c.args.text.now c.new-in-Base64.result (Ok c.in-Ok-convert_token-2.octets) c.new-in-Base64.ensures
+      (base_answer str_cause 0 greatest_length base64 (λ v. v.items) c.args.text.now c.new-in-Base64.result (Ok c.in-Ok-convert_token-2.octets) c.new-in-Base64.ensures
           (of_first _ _ _ _ _ _ _ [] (c.new-scanner.ensures.stands _ (texts_from road)) c.in-Ok-convert_token-2.ensures.scans).0).2.0,
       refl,
     )
@@ -56,7 +57,7 @@ pub returns-in-Err-convert_token-2 : goal.returns-in-Err-convert_token-2
 returns-in-Err-convert_token-2 g c =
     let road = YieldsList-from_once (Some c.args.text) c.once.ensures.item in
     subst (λ k. NoField k c.args.text.now (str_cause c.in-Err-convert_token-2.error)) (sym c.in-Base64.is)
-    (octets_stop _ _ _ (base64_answer str_cause 0 greatest_length (λ v. v.items) c.args.text.now c.new-in-Base64.result (Err c.in-Err-convert_token-2.error) c.new-in-Base64.ensures
+    (octets_stop _ _ _ (base_answer str_cause 0 greatest_length base64 (λ v. v.items) c.args.text.now c.new-in-Base64.result (Err c.in-Err-convert_token-2.error) c.new-in-Base64.ensures
     (of_first _ _ _ _ _ _ _ [] (c.new-scanner.ensures.stands _ (texts_from road)) c.in-Err-convert_token-2.ensures.scans).0).2)
 
 pub returns-in-Ok-scan_charstr : goal.returns-in-Ok-scan_charstr
