@@ -3,6 +3,7 @@ pub mod Conversion
 pub mod SymbolSteps
 pub mod Padded
 pub mod Plain
+pub mod Known
 pub mod Appending
 pub mod BitLemmas
 pub mod Alphabets

@@ -1,5 +1,5 @@
 //! The three encodings, by their numbers and rules.
-ghost use Rattle.std.specs.Prelude.{◌≡◌, ℕ, ◌<◌, ◌≤◌, ◌^◌, nat_lt, None, IfSome};
+ghost use Rattle.std.specs.Prelude.{◌≡◌, ℕ, ◌<◌, ◌≤◌, ◌^◌, nat_lt, length, None, IfSome};
 ghost use Rattle.dns_codec.specs.Base.{Base, IsShape, IsTable, IsEncoding, value};
 ghost use Rattle.dns_codec.specs.Grammar.{may_end};
 ghost use Rattle.dns_codec.specs.Front.{ReadsFront};
@@ -16,9 +16,14 @@ pub trait Encoding {
     /// The characters of a whole group.
     const CHARS: u32;
 
+    /// The octets of a whole group.
+    const OCTETS: usize;
+
     ghost BITS: { ℕ };
 
     ghost CHARS: { ℕ };
+
+    ghost OCTETS: { ℕ };
 
     ghost base: { Base };
 
@@ -26,6 +31,11 @@ pub trait Encoding {
     fn values() -> &'static [u8; 256]
         ensures table { IsTable base result.now }
         ensures past { (c : ℕ) → 128 ≤ c → value base c ≡ None };
+
+    /// The characters, by their values.
+    fn alphabet() -> &'static [u8]
+        ensures names { result.now ≡ base.alphabet }
+        ensures len { length result.now ≡ 2 ^ BITS };
 
     /// Whether `=` fills a last group.
     fn is_padded() -> bool
@@ -61,7 +71,7 @@ pub trait Encoding {
     fn append_front<'a, B: OctetsBuilder>(builder: &mut B, text: &'a str) -> &'a str
         ensures { ReadsFront base B.most text.now (B.octets builder.old) result.now (B.octets builder.new) };
 
-    ghost shape: { IsShape base BITS CHARS };
+    ghost shape: { IsShape base BITS CHARS OCTETS };
 
     ghost known: { IsEncoding base };
 }
@@ -94,6 +104,8 @@ impl Encoding for Base16 {
 
     const CHARS: u32 = 2;
 
+    const OCTETS: usize = 1;
+
     ghost use Rattle.dns_codec.specs.Base.{base16};
     ghost use Rattle.std.proofs.Common.{arith};
     ghost use Rattle.std.proofs.Common.{refl, inl, inr};
@@ -102,10 +114,16 @@ impl Encoding for Base16 {
 
     ghost CHARS = { 2 };
 
+    ghost OCTETS = { 1 };
+
     ghost base = { base16 };
 
     fn values() -> &'static [u8; 256] {
         &VALUES16
+    }
+
+    fn alphabet() -> &'static [u8] {
+        b"0123456789ABCDEF"
     }
 
     fn is_padded() -> bool {
@@ -143,9 +161,15 @@ impl Encoding for Base16 {
     ghost shape = { record {
       bits_are = refl;
       chars_are = refl;
+      low = Prim.omega arith;
+      narrow = Prim.omega arith;
       some = Prim.omega arith;
       few = Prim.omega arith;
-      narrow = Prim.omega arith;
+      full = Prim.omega arith;
+      short = Prim.omega arith;
+      even = refl;
+      whole = refl;
+      block = refl;
       room = λ n lt. Prim.omega arith;
     } };
 
@@ -161,6 +185,8 @@ impl Encoding for Base32Hex {
 
     const CHARS: u32 = 8;
 
+    const OCTETS: usize = 5;
+
     ghost use Rattle.dns_codec.specs.Base.{base32hex};
     ghost use Rattle.std.proofs.Common.{arith};
     ghost use Rattle.std.proofs.Common.{refl, inl, inr};
@@ -169,10 +195,16 @@ impl Encoding for Base32Hex {
 
     ghost CHARS = { 8 };
 
+    ghost OCTETS = { 5 };
+
     ghost base = { base32hex };
 
     fn values() -> &'static [u8; 256] {
         &VALUES32HEX
+    }
+
+    fn alphabet() -> &'static [u8] {
+        b"0123456789ABCDEFGHIJKLMNOPQRSTUV"
     }
 
     fn is_padded() -> bool {
@@ -210,9 +242,15 @@ impl Encoding for Base32Hex {
     ghost shape = { record {
       bits_are = refl;
       chars_are = refl;
+      low = Prim.omega arith;
+      narrow = Prim.omega arith;
       some = Prim.omega arith;
       few = Prim.omega arith;
-      narrow = Prim.omega arith;
+      full = Prim.omega arith;
+      short = Prim.omega arith;
+      even = refl;
+      whole = refl;
+      block = refl;
       room = λ n lt. Prim.omega arith;
     } };
 
@@ -228,6 +266,8 @@ impl Encoding for Base64 {
 
     const CHARS: u32 = 4;
 
+    const OCTETS: usize = 3;
+
     ghost use Rattle.dns_codec.specs.Base.{base64};
     ghost use Rattle.std.proofs.Common.{arith};
     ghost use Rattle.std.proofs.Common.{refl, inl, inr};
@@ -236,10 +276,16 @@ impl Encoding for Base64 {
 
     ghost CHARS = { 4 };
 
+    ghost OCTETS = { 3 };
+
     ghost base = { base64 };
 
     fn values() -> &'static [u8; 256] {
         &VALUES64
+    }
+
+    fn alphabet() -> &'static [u8] {
+        b"ABCDEFGHIJKLMNOPQRSTUVWXYZabcdefghijklmnopqrstuvwxyz0123456789+/"
     }
 
     fn is_padded() -> bool {
@@ -277,9 +323,15 @@ impl Encoding for Base64 {
     ghost shape = { record {
       bits_are = refl;
       chars_are = refl;
+      low = Prim.omega arith;
+      narrow = Prim.omega arith;
       some = Prim.omega arith;
       few = Prim.omega arith;
-      narrow = Prim.omega arith;
+      full = Prim.omega arith;
+      short = Prim.omega arith;
+      even = refl;
+      whole = refl;
+      block = refl;
       room = λ n lt. Prim.omega arith;
     } };
 

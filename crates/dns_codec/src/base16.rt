@@ -10,14 +10,13 @@ ghost use Rattle.dns_wire.specs.Octets.{greatest_length};
 ghost use Rattle.dns_codec.specs.Decoding.{IsNew};
 ghost use Rattle.dns_codec.specs.Grammar.{Decodes};
 ghost use Rattle.dns_codec.specs.Outcome.{refusal_of, IsRefusedBy};
-ghost use Rattle.dns_codec.specs.Shown.{shown16};
+ghost use Rattle.dns_codec.specs.Shown.{shown};
 ghost use Rattle.dns_codec.specs.Written.{IsWritten};
 
 use crate::base::Base16;
 pub use crate::base64::DecodeError;
-use crate::encode::{put_names, write_names};
 use crate::read::{VALUES16, read_text};
-use crate::{converter, decoder};
+use crate::{converter, decoder, encode};
 use dns_wire::{EmptyBuilder, FreezeBuilder, OctetsBuilder, ShortBuf};
 use std::alloc::Allocator;
 use std::fmt;
@@ -85,13 +84,11 @@ pub fn decode_vec<A: Allocator + Copy>(alloc: A, s: &str) -> Result<Vec<u8, A>, 
     decode::<Vec<u8, A>>(alloc, s)
 }
 
-const ALPHABET: &[u8; 16] = b"0123456789ABCDEF";
-
 /// Writes octets in base 16, with capitals.
 pub fn display<W: fmt::Write>(bytes: &[u8], f: &mut W) -> fmt::Result
     ensures { OnOk result (WritesInCalls W.write_str_gives f.old (encoded base16 bytes.now) f.new) }
 {
-    write_names::<W, 4, 1>(ALPHABET, bytes, f)
+    encode::display::<Base16, W>(bytes, f)
 }
 
 /// Writes the text of octets at the start of a slice, and answers how many characters it has.
@@ -100,39 +97,22 @@ pub fn display<W: fmt::Write>(bytes: &[u8], f: &mut W) -> fmt::Result
 pub fn encode_slice(bytes: &[u8], text: &mut [u8]) -> Result<usize, ShortBuf>
     ensures { IsWritten (encoded base16 bytes.now) text.old result text.new }
 {
-    put_names::<4, 1>(ALPHABET, bytes, text)
+    encode::encode_slice::<Base16>(bytes, text)
 }
 
-/// The text of octets in base 16. The only error is want of memory.
+/// The text of octets in base 16. The only error is lack of memory.
 pub fn encode_string<A: Allocator>(alloc: A, bytes: &[u8]) -> Result<String<A>, ShortBuf>
     ensures { IfOk result (λ text. string_bytes text ≡ encoded base16 bytes.now) }
 {
-    let Ok(mut text) = String::with_capacity(alloc, bytes.len().saturating_mul(2)) else {
-        return Err(ShortBuf);
-    };
-    match display(bytes, &mut text) {
-        Ok(()) => Ok(text),
-        Err(_) => Err(ShortBuf),
-    }
+    encode::encode_string::<Base16, A>(alloc, bytes)
 }
 
 /// Octets that print as base 16.
-#[derive(Drop)]
-pub struct Encoded<'a> {
-    octets: &'a [u8],
-}
+pub type Encoded<'a> = encode::Encoded<'a, Base16>;
 
 /// The octets, to be printed as [`display`] does.
 pub fn encode_display(octets: &[u8]) -> Encoded<'_>
-    ensures { shown16 result ≡ octets.entry.now }
+    ensures { shown result ≡ octets.entry.now }
 {
-    Encoded { octets }
-}
-
-impl fmt::Display for Encoded<'_> {
-    ghost output = { λ e. Some (encoded base16 (shown16 e)) };
-
-    fn fmt<W: fmt::Write>(&self, f: &mut fmt::Formatter<W>) -> fmt::Result {
-        display(self.octets, f)
-    }
+    encode::Encoded::of(octets)
 }

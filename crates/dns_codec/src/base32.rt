@@ -10,14 +10,13 @@ ghost use Rattle.dns_codec.specs.Base.{base32hex, encoded};
 ghost use Rattle.dns_codec.specs.Decoding.{IsNew};
 ghost use Rattle.dns_codec.specs.Grammar.{Decodes};
 ghost use Rattle.dns_codec.specs.Outcome.{refusal_of, IsRefusedBy};
-ghost use Rattle.dns_codec.specs.Shown.{shown32};
+ghost use Rattle.dns_codec.specs.Shown.{shown};
 ghost use Rattle.dns_codec.specs.Written.{IsWritten};
 
 use crate::base::{Base32Hex, Encoding};
 pub use crate::base64::DecodeError;
-use crate::encode::{put_names, write_names};
 use crate::read::{VALUES32HEX, read_text};
-use crate::{converter, decoder};
+use crate::{converter, decoder, encode};
 use dns_wire::{EmptyBuilder, FreezeBuilder, OctetsBuilder, ShortBuf};
 use std::alloc::Allocator;
 use std::fmt;
@@ -69,13 +68,11 @@ pub fn decode_slice_hex(text: &[u8], octets: &mut [u8]) -> Option<usize>
     read_text::<5, 8, 5>(&VALUES32HEX, text, octets)
 }
 
-const ALPHABET: &[u8; 32] = b"0123456789ABCDEFGHIJKLMNOPQRSTUV";
-
 /// Writes octets in base32hex, with capitals and no padding.
 pub fn display_hex<W: fmt::Write>(bytes: &[u8], f: &mut W) -> fmt::Result
     ensures { OnOk result (WritesInCalls W.write_str_gives f.old (encoded base32hex bytes.now) f.new) }
 {
-    write_names::<W, 5, 5>(ALPHABET, bytes, f)
+    encode::display::<Base32Hex, W>(bytes, f)
 }
 
 /// Writes the text of octets at the start of a slice, and answers how many characters it has.
@@ -84,40 +81,22 @@ pub fn display_hex<W: fmt::Write>(bytes: &[u8], f: &mut W) -> fmt::Result
 pub fn encode_slice_hex(bytes: &[u8], text: &mut [u8]) -> Result<usize, ShortBuf>
     ensures { IsWritten (encoded base32hex bytes.now) text.old result text.new }
 {
-    put_names::<5, 5>(ALPHABET, bytes, text)
+    encode::encode_slice::<Base32Hex>(bytes, text)
 }
 
-/// The text of octets in base32hex. The only error is want of memory.
+/// The text of octets in base32hex. The only error is lack of memory.
 pub fn encode_string_hex<A: Allocator>(alloc: A, bytes: &[u8]) -> Result<String<A>, ShortBuf>
     ensures { IfOk result (λ text. string_bytes text ≡ encoded base32hex bytes.now) }
 {
-    let Ok(mut text) = String::with_capacity(alloc, bytes.len().div_ceil(5).saturating_mul(8))
-    else {
-        return Err(ShortBuf);
-    };
-    match display_hex(bytes, &mut text) {
-        Ok(()) => Ok(text),
-        Err(_) => Err(ShortBuf),
-    }
+    encode::encode_string::<Base32Hex, A>(alloc, bytes)
 }
 
 /// Octets that print as base32hex.
-#[derive(Drop)]
-pub struct EncodedHex<'a> {
-    octets: &'a [u8],
-}
+pub type EncodedHex<'a> = encode::Encoded<'a, Base32Hex>;
 
 /// The octets, to be printed as [`display_hex`] does.
 pub fn encode_display_hex(octets: &[u8]) -> EncodedHex<'_>
-    ensures { shown32 result ≡ octets.entry.now }
+    ensures { shown result ≡ octets.entry.now }
 {
-    EncodedHex { octets }
-}
-
-impl fmt::Display for EncodedHex<'_> {
-    ghost output = { λ e. Some (encoded base32hex (shown32 e)) };
-
-    fn fmt<W: fmt::Write>(&self, f: &mut fmt::Formatter<W>) -> fmt::Result {
-        display_hex(self.octets, f)
-    }
+    encode::Encoded::of(octets)
 }

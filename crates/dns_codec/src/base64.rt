@@ -11,13 +11,12 @@ ghost use Rattle.dns_codec.specs.Errors.{error_text};
 ghost use Rattle.dns_codec.specs.Decoding.{IsNew};
 ghost use Rattle.dns_codec.specs.Grammar.{Decodes};
 ghost use Rattle.dns_codec.specs.Outcome.{refusal_of64, IsRefusedBy};
-ghost use Rattle.dns_codec.specs.Shown.{shown64};
+ghost use Rattle.dns_codec.specs.Shown.{shown};
 ghost use Rattle.dns_codec.specs.Written.{IsWritten};
 
 use crate::base::Base64;
-use crate::encode::{put_block, put_octets, write_names};
 use crate::read::{VALUES64, read_text};
-use crate::{converter, decoder};
+use crate::{converter, decoder, encode};
 use dns_wire::{EmptyBuilder, FreezeBuilder, OctetsBuilder, ShortBuf};
 use std::alloc::Allocator;
 use std::error::Error;
@@ -142,14 +141,11 @@ fn marks_of(text: &[u8]) -> usize
     }
 }
 
-const ALPHABET: &[u8; 64] = b"ABCDEFGHIJKLMNOPQRSTUVWXYZabcdefghijklmnopqrstuvwxyz0123456789+/";
-
 /// Writes octets in base 64, with padding.
 pub fn display<W: fmt::Write>(bytes: &[u8], f: &mut W) -> fmt::Result
     ensures { OnOk result (WritesInCalls W.write_str_gives f.old (encoded base64 bytes.now) f.new) }
 {
-    write_names::<W, 6, 3>(ALPHABET, bytes, f)?;
-    f.write_str(padding_of(bytes))
+    encode::display::<Base64, W>(bytes, f)
 }
 
 /// Writes the text of octets at the start of a slice, and answers how many characters it has.
@@ -158,55 +154,22 @@ pub fn display<W: fmt::Write>(bytes: &[u8], f: &mut W) -> fmt::Result
 pub fn encode_slice(bytes: &[u8], text: &mut [u8]) -> Result<usize, ShortBuf>
     ensures { IsWritten (encoded base64 bytes.now) text.old result text.new }
 {
-    if bytes.len().div_ceil(3) > text.len() / 4 {
-        return Err(ShortBuf);
-    }
-    let end = put_block::<6, 3>(ALPHABET, bytes, text);
-    Ok(put_octets(padding_of(bytes).as_bytes(), text, end))
+    encode::encode_slice::<Base64>(bytes, text)
 }
 
-// The `=` after the characters of octets.
-fn padding_of(bytes: &[u8]) -> &'static str
-    ensures { encoded base64 bytes.now ≡ map (slice_index ALPHABET.now) (pieces 6 bytes.now) ++ result.now }
-{
-    match bytes.len() % 3 {
-        0 => "",
-        1 => "==",
-        _ => "=",
-    }
-}
-
-/// The text of octets in base 64. The only error is want of memory.
+/// The text of octets in base 64. The only error is lack of memory.
 pub fn encode_string<A: Allocator>(alloc: A, bytes: &[u8]) -> Result<String<A>, ShortBuf>
     ensures { IfOk result (λ text. string_bytes text ≡ encoded base64 bytes.now) }
 {
-    let Ok(mut text) = String::with_capacity(alloc, bytes.len().div_ceil(3).saturating_mul(4))
-    else {
-        return Err(ShortBuf);
-    };
-    match display(bytes, &mut text) {
-        Ok(()) => Ok(text),
-        Err(_) => Err(ShortBuf),
-    }
+    encode::encode_string::<Base64, A>(alloc, bytes)
 }
 
 /// Octets that print as base 64.
-#[derive(Drop)]
-pub struct Encoded<'a> {
-    octets: &'a [u8],
-}
+pub type Encoded<'a> = encode::Encoded<'a, Base64>;
 
 /// The octets, to be printed as [`display`] does.
 pub fn encode_display(octets: &[u8]) -> Encoded<'_>
-    ensures { shown64 result ≡ octets.entry.now }
+    ensures { shown result ≡ octets.entry.now }
 {
-    Encoded { octets }
-}
-
-impl fmt::Display for Encoded<'_> {
-    ghost output = { λ e. Some (encoded base64 (shown64 e)) };
-
-    fn fmt<W: fmt::Write>(&self, f: &mut fmt::Formatter<W>) -> fmt::Result {
-        display(self.octets, f)
-    }
+    encode::Encoded::of(octets)
 }
