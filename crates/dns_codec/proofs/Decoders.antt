@@ -1,147 +1,168 @@
--- Texts that are read by a decoder of any encoding.
-use Rattle.std.proofs.Common.{◌≡◌, ℕ, ◌<◌, ◌≤◌, max, List, [], ◌∷◌, ◌++◌, length, refl, sym, ap, ◌∙◌, arith, None, Result, Ok, Err, inl, inr, append-nil, nat_lt, false}
+-- Texts that are read by a decoder of any encoding, push by push, up to the first error.
+use Rattle.std.proofs.Common.{◌≡◌, ℕ, ◌+◌, ◌≤◌, ◌⊎◌, max, Bool, true, false, List, [], ◌∷◌, ◌++◌, length, refl, sym, ap, subst, ◌∙◌, arith, Option, Some, None, Result, Ok, Err, inl, inr, append-nil, length-append}
+use Rattle.std.specs.Prelude.{if◌then◌else◌}
 use Rattle.std.proofs.lemmas.List.{nil_from_length}
-use Rattle.dns_codec.specs.Base.{Base, base16, base32hex, base64, IsEncoding}
-use Rattle.dns_codec.specs.Grammar.{Name, Decodes}
-use Rattle.dns_codec.specs.Errors.{answer}
+use Rattle.std.proofs.Math.Nat.{le-max_left}
+use Rattle.dns_codec.specs.Bits.{whole}
+use Rattle.dns_codec.specs.Base.{Base, IsEncoding}
+use Rattle.dns_codec.specs.Grammar.{Decodes}
+use Rattle.dns_codec.specs.Errors.{answer, or_else}
 use Rattle.dns_codec.specs.Front.{ReadsFront}
-use Rattle.dns_codec.specs.Group.{Group}
-use Rattle.dns_codec.specs.Decoding.{DecoderState, IsNew, Pushes, Ends}
-use Rattle.dns_codec.specs.Outcome.{refusal, refusal_of, IsRefusedBy}
+use Rattle.dns_codec.specs.Group.{Group, Step, step, is_complete}
+use Rattle.dns_codec.specs.Decoding.{DecoderState, IsNew, Takes, PushesAfter, Pushes, short, Ends}
+use Rattle.dns_codec.specs.Outcome.{cause_of, refusal, Outcome, IsRefusedBy}
+use Rattle.dns_codec.specs.Room.{IsRoom}
 use Rattle.dns_codec.specs.declared.base64.DecodeError.{DecodeError}
-use Rattle.dns_codec.specs.declared.base64.Padding.{Padding}
-use Rattle.dns_codec.specs.declared.base64.Padding.TheVariants.{Absent, Half, Done}
-use Rattle.dns_codec.proofs.Reading.{Decoded}
-use Rattle.dns_codec.proofs.PlainRuns.{IsPlain, plain16, plain32, Clean, push_taken, push_refused}
-use Rattle.dns_codec.proofs.PlainEnds.{decoded16_by, decoded32_by, succeeds16, succeeds32}
-use Rattle.dns_codec.proofs.PaddedRuns.{StateOf}
-use Rattle.dns_codec.proofs.PaddedEnds.{HeldClean, push64_taken, push64_refused, decoded64_by, decodes64_no_cause}
+use Rattle.dns_codec.specs.declared.base64.DecodeError.TheVariants.{ShortInput, ShortBuf}
+use Rattle.dns_codec.proofs.Appending.{appends_cases}
+use Rattle.dns_codec.proofs.Causes.{cases_error, or_else_none, want_enough, want_short, first_here}
+use Rattle.dns_codec.proofs.Ends.{where_it_ends, ended}
 use Rattle.dns_codec.proofs.Fronts.{held_within, whole_none}
+use Rattle.dns_codec.proofs.Marks.{refusal_first}
+use Rattle.dns_codec.proofs.Numbers.{numbers}
+use Rattle.dns_codec.proofs.Reading.{Decoded}
+use Rattle.dns_codec.proofs.Steps.{IsRead, no_cause, stepped}
 use Rattle.dns_codec.proofs.Wholes.{Name-length}
-use Rattle.dns_codec.proofs.Instances.{plain_of, padded_of, push_plain, push_padded, ends16, ends32, ends64_of}
 
--- how a text is read, push by push: what a decoder holds that stored no error, and what becomes of it
-pub record Theory (b : Base) : Type 1 where
-  pub Stands : ℕ → ℕ → List ℕ → DecoderState → Type 0
-  pub starts : (sure most : ℕ) (text rest new : List ℕ) (d : DecoderState) → IsNew d → (at : ReadsFront b most text d.octets rest new)
-      → Stands sure most (at.front ++ []) (record { octets = new; group = d.group; error = d.error })
-  pub takes : (sure most : ℕ) (text : List ℕ) (h : DecoderState) (c : ℕ) (j : DecoderState) (r : Result (Unit {0}) DecodeError) (u : Unit {0}) → Stands sure most text h → Pushes b sure most h c j
-      → r ≡ answer j.error → r ≡ Ok u → Stands sure most (text ++ c ∷ []) j
-  pub refuses : (sure most : ℕ) (text rest : List ℕ) (h : DecoderState) (c : ℕ) (j : DecoderState) (r : Result (Unit {0}) DecodeError) (e : DecodeError) → Stands sure most text h → Pushes b sure most h c j
-      → r ≡ answer j.error → r ≡ Err e → IsRefusedBy (refusal b) sure most (text ++ c ∷ rest) e
-  pub ends : (sure most : ℕ) (text : List ℕ) (k : DecoderState) (r : Result (List ℕ) DecodeError) → Stands sure most text k → Ends b sure most k r → Decoded b (refusal b) sure most text r
-  pub reads : (text octets : List ℕ) (room : ℕ) → Decodes b text octets → length octets ≤ room → refusal b room text ≡ None
+-- what a decoder holds after a text, where no error is stored
+pub record Stands (b : Base) (sure most : ℕ) (text : List ℕ) (d : DecoderState) : Type 0 where
+  pub quiet : d.error ≡ None
+  pub held : length d.octets ≤ max sure most
+  pub read : IsRead b text d.octets d.group.pieces d.group.padding
 
-named_none : (b : Base) (cs ps : List ℕ) → Name b cs ps → length cs ≡ 0 → length ps ≡ 0
-named_none b cs ps named none = sym (Name-length b cs ps named) ∙ none
+-- what stands after a character that was refused
+pub record Refuses (b : Base) (sure most : ℕ) (text : List ℕ) (c : ℕ) (d j : DecoderState) : Type 0 where
+  pub error : DecodeError
+  pub stored_is : j.error ≡ Some error
+  pub room : ℕ
+  pub is_room : IsRoom sure most room
+  pub holds : length d.octets ≤ room
+  pub cause_is : cause_of b room text c ≡ Some error
 
-front_held : (b : Base) (sure most : ℕ) (text rest new : List ℕ) (d : DecoderState) → IsNew d → (at : ReadsFront b most text d.octets rest new) → length new ≤ max sure most
-front_held b sure most text rest new d is at =
-    held_within sure most (length at.front) new at.held (λ nothing.
-    let none : at.pieces ≡ [] = nil_from_length at.pieces (named_none b at.front at.pieces at.named nothing) in
-    ap length (at.appended ∙ rw (is.0, none) refl) ∙ whole_none b.width)
+pub any_room : (sure most : ℕ) → IsRoom sure most (max sure most)
+any_room sure most = let left = le-max_left sure most in record { surely = left; within = omega arith }
 
--- ---- without padding
+-- ---- one character
 
-module _ (b : Base) (plain : IsPlain b) (unpadded : nat_lt 1 b.unit ≡ false) (goes_on : b.keeps_first ≡ false) where
-  abbrev pub PlainStands : ℕ → ℕ → List ℕ → DecoderState → Type 0
-  PlainStands sure most text d = (d.group.padding ≡ Absent) × Clean b plain sure most text (plain_of d)
+pub one_push : (b : Base) → IsEncoding b → (sure most : ℕ) (text : List ℕ) (d : DecoderState) (c : ℕ) (j : DecoderState) → Stands b sure most text d → Pushes b sure most d c j
+    → Stands b sure most (text ++ c ∷ []) j ⊎ Refuses b sure most text c d j
+one_push b known sure most text d c j at push =
+    let s : Step = step b d.group c in
+    let t : Takes sure most d.octets s j = subst (λ (x : Option DecodeError). PushesAfter b sure most x d c j) at.quiet push in
+    let next = stepped b known text d.octets d.group.pieces d.group.padding c at.read in
+    elim (appends_cases sure most s.octets d.octets j.octets s.error j.error t.appends at.held) [
+      | inl all ↦ elim (cases_error s.error) [
+        | inl none ↦ inl (record {
+          quiet = all.0 ∙ none;
+          held = all.2;
+          read = subst (λ (g : Group). IsRead b (text ++ c ∷ []) j.octets g.pieces g.padding) (sym t.group)
+              (subst (λ (os : List ℕ). IsRead b (text ++ c ∷ []) os s.group.pieces s.group.padding) (sym all.1) (next.goes_on none));
+        })
+        | inr some ↦ inr (record {
+          error = some.0;
+          stored_is = all.0 ∙ some.1;
+          room = max sure most;
+          is_room = any_room sure most;
+          holds = at.held;
+          cause_is = next.cause_is (max sure most) at.held ∙ ap (λ (x : Option DecodeError). or_else x s.error) (want_enough (max sure most) _ (omega (arith, all.2, ap length all.1, length-append d.octets s.octets))) ∙ some.1;
+        })
+      ]
+      | inr no_room ↦ inr (record {
+        error = ShortBuf;
+        stored_is = no_room.0;
+        room = length j.octets;
+        is_room = no_room.3;
+        holds = no_room.1;
+        cause_is = next.cause_is (length j.octets) no_room.1 ∙ ap (λ (x : Option DecodeError). or_else x s.error) (want_short (length j.octets) _ no_room.2);
+      })
+    ]
 
-  pub plain_starts : (sure most : ℕ) (text rest new : List ℕ) (d : DecoderState) → IsNew d → (at : ReadsFront b most text d.octets rest new)
-      → PlainStands sure most (at.front ++ []) (record { octets = new; group = d.group; error = d.error })
-  plain_starts sure most text rest new d is at =
-      let some = plain.some in
-      let empty : d.group.pieces ≡ [] = ap (λ (g : Group). g.pieces) is.1 in (
-        ap (λ (g : Group). g.padding) is.1,
-        record {
-          quiet = is.2;
-          front = at.pieces;
-          named = rw (empty, append-nil, append-nil) at.named;
-          closed = at.closed;
-          few = rw empty some;
-          octets = at.appended ∙ rw is.0 refl;
-          held = front_held b sure most text rest new d is at;
-        },
-      )
+-- ---- the end
 
-  pub plain_takes : (sure most : ℕ) (text : List ℕ) (h : DecoderState) (c : ℕ) (j : DecoderState) (r : Result (Unit {0}) DecodeError) (u : Unit {0}) → PlainStands sure most text h → Pushes b sure most h c j
-      → r ≡ answer j.error → r ≡ Ok u → PlainStands sure most (text ++ c ∷ []) j
-  plain_takes sure most text h c j r u at push answers is =
-      let p = push_plain b sure most h c j unpadded goes_on at.0 push in
-      (p.1, push_taken b plain sure most text (plain_of h) c (plain_of j) r u at.1 p.0 answers is)
+ends_by : (first : Bool) (s e : Option DecodeError) → e ≡ None → (if first then or_else s e else or_else e s) ≡ s
+ends_by true s e none = rw none (or_else_none s)
+ends_by false s e none = rw none refl
 
-  pub plain_refuses : (sure most : ℕ) (text rest : List ℕ) (h : DecoderState) (c : ℕ) (j : DecoderState) (r : Result (Unit {0}) DecodeError) (e : DecodeError) → PlainStands sure most text h → Pushes b sure most h c j
-      → r ≡ answer j.error → r ≡ Err e → IsRefusedBy (refusal_of b) sure most (text ++ c ∷ rest) e
-  plain_refuses sure most text rest h c j r e at push answers is =
-      let p = push_plain b sure most h c j unpadded goes_on at.0 push in
-      push_refused b plain sure most text rest (plain_of h) c (plain_of j) r e at.1 p.0 answers is
+no_short : (ends : Bool) → (if ends then None else Some ShortInput) ≡ None → ends ≡ true
+no_short true is = refl
+no_short false is = cc is
 
-theory16 : Theory base16
-theory16 = record {
-  Stands = PlainStands base16 plain16 refl refl;
-  starts = plain_starts base16 plain16 refl refl;
-  takes = plain_takes base16 plain16 refl refl;
-  refuses = plain_refuses base16 plain16 refl refl;
-  ends = λ sure most text k r at end. decoded16_by sure most text (plain_of k) r at.1 (ends16 sure most k r at.0 at.1.few end);
-  reads = λ text octets room d le. (succeeds16 text octets room d le).0;
-}
+some_short : (ends : Bool) (e : DecodeError) (other : Option DecodeError) → (if ends then None else Some ShortInput) ≡ Some e → (if ends then other else Some ShortInput) ≡ Some e
+some_short true e other is = cc is
+some_short false e other is = is
 
-theory32 : Theory base32hex
-theory32 = record {
-  Stands = PlainStands base32hex plain32 refl refl;
-  starts = plain_starts base32hex plain32 refl refl;
-  takes = plain_takes base32hex plain32 refl refl;
-  refuses = plain_refuses base32hex plain32 refl refl;
-  ends = λ sure most text k r at end. decoded32_by sure most text (plain_of k) r at.1 (ends32 sure most k r at.0 end);
-  reads = λ text octets room d le. (succeeds32 text octets room d le).0;
-}
+-- for some room, the result is the text's
+pub decoded : (b : Base) → IsEncoding b → (sure most : ℕ) (text : List ℕ) (d : DecoderState) (r : Result (List ℕ) DecodeError) → Stands b sure most text d → Ends b sure most d r
+    → (room : ℕ) × IsRoom sure most room × (length d.octets ≤ room) × Outcome b text (refusal b room text) r
+decoded b known sure most text d (Ok octets) at end =
+    let e = ended b known text d.octets d.group.pieces d.group.padding at.read in
+    let ends = no_short (is_complete b d.group) (sym (ends_by b.ends_first (short b d.group) d.error at.quiet) ∙ end.0) in
+    elim (appends_cases sure most (whole b.width d.group.pieces) d.octets octets None None end.1 at.held) [
+      | inr no_room ↦ let bad = no_room.0 in cc bad
+      | inl all ↦
+          let room : ℕ = max sure most in
+          let fits : length d.octets + length (whole b.width d.group.pieces) ≤ room = omega (arith, all.2, ap length all.1, length-append d.octets (whole b.width d.group.pieces)) in
+          (room, any_room sure most, at.held, (e.refusal_is room at.held ∙ where_it_ends _ _ ends ∙ want_enough room _ fits, subst (Decodes b text) (sym all.1) (e.decodes ends)))
+    ]
+decoded b known sure most text d (Err f) at (inl end) =
+    let e = ended b known text d.octets d.group.pieces d.group.padding at.read in
+    let room : ℕ = max sure most in
+    (room, any_room sure most, at.held, e.refusal_is room at.held ∙ some_short (is_complete b d.group) f _ (sym (ends_by b.ends_first (short b d.group) d.error at.quiet) ∙ end))
+decoded b known sure most text d (Err f) at (inr end) =
+    let e = ended b known text d.octets d.group.pieces d.group.padding at.read in
+    let ends = no_short (is_complete b d.group) (sym (ends_by b.ends_first (short b d.group) d.error at.quiet) ∙ end.0) in
+    elim (appends_cases sure most (whole b.width d.group.pieces) d.octets end.1.0 None (Some f) end.1.1 at.held) [
+      | inl all ↦ let bad = all.0 in cc bad
+      | inr no_room ↦
+          let room : ℕ = length end.1.0 in
+          (room, no_room.3, no_room.1, e.refusal_is room no_room.1 ∙ where_it_ends _ _ ends ∙ want_short room _ no_room.2 ∙ sym no_room.0)
+    ]
 
--- ---- base 64
+-- ---- what `decode` asks
 
-abbrev pub PaddedStands : ℕ → ℕ → List ℕ → DecoderState → Type 0
-PaddedStands sure most text d = HeldClean sure most text (padded_of d)
-
-state_few : (p : Padding) (g m f : ℕ) → StateOf p g m f → g < 4
-state_few Absent g m f s = s.1
-state_few Half g m f s = let two = s.1 in omega arith
-state_few Done g m f s = let none = s.0 in omega arith
-
-stands_few : (sure most : ℕ) (text : List ℕ) (d : DecoderState) → PaddedStands sure most text d → length d.group.pieces < 4
-unfolding HeldClean
-stands_few sure most text d at = state_few d.group.padding (length d.group.pieces) at.1.count (length at.1.front) at.1.state
-
-padded_starts : (sure most : ℕ) (text rest new : List ℕ) (d : DecoderState) → IsNew d → (at : ReadsFront base64 most text d.octets rest new)
-    → PaddedStands sure most (at.front ++ []) (record { octets = new; group = d.group; error = d.error })
-unfolding HeldClean
-padded_starts sure most text rest new d is at =
-    let empty : d.group.pieces ≡ [] = ap (λ (g : Group). g.pieces) is.1 in
-    let absent : d.group.padding ≡ Absent = ap (λ (g : Group). g.padding) is.1 in
-    let closed = at.closed in (
-      is.2,
-      rw (append-nil, empty, absent) (record {
+-- after characters that were read at once
+pub starts : (b : Base) → IsEncoding b → (sure most : ℕ) (text rest new : List ℕ) (d : DecoderState) → IsNew d → (at : ReadsFront b most text d.octets rest new)
+    → Stands b sure most (at.front ++ []) (record { octets = new; group = d.group; error = d.error })
+starts b known sure most text rest new d is at =
+    let len : length at.pieces ≡ length at.front = sym (Name-length b at.front at.pieces at.named) in
+    let made : new ≡ whole b.width at.pieces = at.appended ∙ rw is.0 refl in
+    record {
+      quiet = is.2;
+      held = held_within sure most (length at.front) new at.held (λ none. ap length (made ∙ ap (whole b.width) (nil_from_length at.pieces (len ∙ none))) ∙ whole_none b.width);
+      read = subst (λ (g : Group). IsRead b (at.front ++ []) new g.pieces g.padding) (sym is.1) (rw append-nil (record {
         chars = at.front;
         front = at.pieces;
         count = 0;
         spelled = sym (append-nil at.front);
         named = rw append-nil at.named;
-        octets = at.appended ∙ rw is.0 refl;
-        state = (refl, omega arith, closed);
-        held = front_held base64 sure most text rest new d is at;
-      }),
-    )
+        made = made;
+        counts = (refl, (numbers b known).some, at.closed);
+      }));
+    }
 
-theory64 : Theory base64
-theory64 = record {
-  Stands = PaddedStands;
-  starts = padded_starts;
-  takes = λ sure most text h c j r u at push. push64_taken sure most text (padded_of h) c (padded_of j) r u at (push_padded sure most h c j (stands_few sure most text h at) push);
-  refuses = λ sure most text rest h c j r e at push. push64_refused sure most text rest (padded_of h) c (padded_of j) r e at (push_padded sure most h c j (stands_few sure most text h at) push);
-  ends = λ sure most text k r at end. decoded64_by sure most text (padded_of k) r at (ends64_of sure most k r end);
-  reads = λ text octets room d le. decodes64_no_cause room text octets d le;
-}
+-- after a push that went well
+pub takes : (b : Base) → IsEncoding b → (sure most : ℕ) (text : List ℕ) (d : DecoderState) (c : ℕ) (j : DecoderState) (r : Result (Unit {0}) DecodeError) (u : Unit {0}) → Stands b sure most text d → Pushes b sure most d c j
+    → r ≡ answer j.error → r ≡ Ok u → Stands b sure most (text ++ c ∷ []) j
+takes b known sure most text d c j r u at push answers is = elim (one_push b known sure most text d c j at push) [
+  | inl next ↦ next
+  | inr refused ↦ let bad : Err refused.error ≡ Ok u = sym (answers ∙ ap answer refused.stored_is) ∙ is in cc bad
+]
 
--- each encoding has one
-pub theory : (b : Base) → IsEncoding b → Theory b
-theory b (inl is) = rw is theory16
-theory b (inr (inl is)) = rw is theory32
-theory b (inr (inr is)) = rw is theory64
+-- a push that was answered by an error, whatever text follows
+pub refuses : (b : Base) → IsEncoding b → (sure most : ℕ) (text rest : List ℕ) (d : DecoderState) (c : ℕ) (j : DecoderState) (r : Result (Unit {0}) DecodeError) (e : DecodeError) → Stands b sure most text d → Pushes b sure most d c j
+    → r ≡ answer j.error → r ≡ Err e → IsRefusedBy (refusal b) sure most (text ++ c ∷ rest) e
+refuses b known sure most text rest d c j r e at push answers is = elim (one_push b known sure most text d c j at push) [
+  | inl next ↦ let bad : Ok tt ≡ Err e = sym (answers ∙ ap answer next.quiet) ∙ is in cc bad
+  | inr refused ↦
+      let same : Err refused.error ≡ Err e = sym (answers ∙ ap answer refused.stored_is) ∙ is in
+      let f : refused.error ≡ e = cc same in
+      let first = first_here (cause_of b refused.room) text rest c refused.error (no_cause b known text d.octets d.group.pieces d.group.padding at.read refused.room refused.holds) refused.cause_is in
+      record { room = refused.room; is_room = refused.is_room; refused = refusal_first b refused.room (text ++ c ∷ rest) refused.error first ∙ ap Some f }
+]
+
+-- the whole text was read
+pub ends : (b : Base) → IsEncoding b → (sure most : ℕ) (text : List ℕ) (d : DecoderState) (r : Result (List ℕ) DecodeError) → Stands b sure most text d → Ends b sure most d r → Decoded b (refusal b) sure most text r
+ends b known sure most text d (Ok octets) at end = (decoded b known sure most text d (Ok octets) at end).3.1
+ends b known sure most text d (Err e) at end =
+    let o = decoded b known sure most text d (Err e) at end in
+    record { room = o.0; is_room = o.1; refused = o.3 }

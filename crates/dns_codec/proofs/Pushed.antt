@@ -1,76 +1,145 @@
 -- Lists of pushes to a decoder of any encoding, and its end.
-use Rattle.std.proofs.Common.{◌≡◌, ℕ, ◌+◌, ◌==◌, ◌<◌, Bool, true, false, nat_lt, if◌then◌else◌, List, [], ◌∷◌, ◌++◌, length, refl, sym, ap, ◌∙◌, arith, Option, Some, None, IsSome, IsErr, Result, Ok, Err, ◌⊎◌, inl, inr, subst, length-append}
-use Rattle.std.proofs.lemmas.Bool.{cases_Bool, eqb-false}
-use Rattle.dns_codec.specs.Base.{Base, base16, base32hex, base64, value, IsEncoding}
+use Rattle.std.proofs.Common.{◌≡◌, ℕ, ◌+◌, ◌*◌, ◌/◌, ◌%◌, ◌==◌, ◌≤◌, max, Bool, true, false, nat_lt, if◌then◌else◌, is_none, is_some, List, [], ◌∷◌, ◌++◌, length, reverse, refl, sym, ap, ◌∙◌, arith, Option, Some, None, IsSome, IsErr, Result, Ok, Err, ◌⊎◌, inl, inr, subst, length-append, append_assoc, append-nil}
+use Rattle.std.specs.List.{find}
+use Rattle.std.proofs.lemmas.Bool.{cases_Bool, eqb-true, eqb-false}
+use Rattle.std.proofs.lemmas.List.{reverse-append}
+use Rattle.dns_codec.specs.Base.{Base, base16, base32hex, value, IsEncoding}
 use Rattle.dns_codec.specs.Errors.{or_else}
-use Rattle.dns_codec.specs.Group.{Group, Step, step}
+use Rattle.dns_codec.specs.Grammar.{Name}
+use Rattle.dns_codec.specs.Group.{Group, Step, refused, step_other, step_in, step_from, step}
 use Rattle.dns_codec.specs.Decoding.{DecoderState, IsNew, PushesAfter, Pushes, Runs, short, end_error, Ends}
-use Rattle.dns_codec.proofs.Plain.{move_by}
-use Rattle.dns_codec.proofs.Padded.{PaddedHeld, PushesFrom}
-use Rattle.dns_codec.proofs.Runs.{Runs as PlainRuns, Runs64}
-use Rattle.dns_codec.specs.Outcome.{stored_of, pushed_refusal, IsPushed}
+use Rattle.dns_codec.specs.Outcome.{want_of, grouped, cause, cause_of, first_cause, last_illegal, legal_count, stored_by, stored, stored_of, refusal, pushed_refusal, Outcome, IsPushed}
+use Rattle.dns_codec.specs.Room.{IsRoom}
 use Rattle.dns_codec.specs.declared.base64.DecodeError.{DecodeError}
 use Rattle.dns_codec.specs.declared.base64.DecodeError.TheVariants.{IllegalChar}
-use Rattle.dns_codec.specs.declared.base64.Padding.TheVariants.{Absent}
-use Rattle.dns_codec.proofs.Keeping.{plain_kept}
-use Rattle.dns_codec.proofs.PlainEnds.{pushes16, pushes32}
-use Rattle.dns_codec.proofs.PaddedEnds.{pushes64}
-use Rattle.dns_codec.proofs.Instances.{plain_of, padded_of, push_plain, push_padded, ends16, ends32, ends64_of}
-use Rattle.dns_codec.proofs.Conversions.{few_move}
+use Rattle.dns_codec.specs.declared.base64.Padding.{Padding}
+use Rattle.dns_codec.specs.declared.base64.Padding.TheVariants.{Absent, Half, Done}
+use Rattle.dns_codec.proofs.Causes.{cases_error, want_enough, want_more, first_here, first_cause-append, find_last, find_before, find_none_append, count_by-append}
+use Rattle.dns_codec.proofs.Decoders.{Stands, any_room, one_push, decoded}
+use Rattle.dns_codec.proofs.Marks.{causes_padded}
+use Rattle.dns_codec.proofs.Numbers.{IsPlain, plain16, numbers, kinds, is_padded}
+use Rattle.dns_codec.proofs.Steps.{IsRead, lengths, plain_text, read_none, no_cause}
 
--- ---- without padding
+-- ---- steps of base 16 and base32hex
 
-few_plain : (w size : ℕ) (x : Option DecodeError) (g new : List ℕ) (c : ℕ) (o : Option ℕ) → length g < size → new ≡ (move_by w size x g c o).group → length new < size
-few_plain w size x g new c None few is = rw is few
-few_plain w size x g new c (Some v) few is = elim (cases_Bool (length g + 1 == size)) [
-  | inl last ↦ let e : new ≡ [] = rw last at is in let none : length new ≡ 0 = ap length e in omega arith
-  | inr more ↦
-      let other : length g + 1 ≡ size → ⊥ = eqb-false (length g + 1) size more in
-      let e : new ≡ g ++ v ∷ [] = rw more at is in
-      let size_is = ap length e ∙ length-append g (v ∷ []) in
-      omega arith
-]
+-- the error of a step, by the piece that its character names
+abbrev illegal_in : ℕ → Option ℕ → Option DecodeError
+illegal_in c None = Some (IllegalChar c)
+illegal_in c (Some v) = None
 
-module _ (b : Base) (unpadded : nat_lt 1 b.unit ≡ false) (goes_on : b.keeps_first ≡ false) where
-  pub runs_plain : (sure most : ℕ) (d : DecoderState) (cs : List ℕ) (k : DecoderState) → d.group.padding ≡ Absent → length d.group.pieces < b.group → Runs b sure most d cs k
-      → PlainRuns b sure most (plain_of d) cs (plain_of k) × (k.group.padding ≡ Absent) × (length k.group.pieces < b.group)
-  runs_plain sure most d [] k absent few run = (ap plain_of run, ap (λ (x : DecoderState). x.group.padding) run ∙ absent, rw run few)
-  runs_plain sure most d (c ∷ cs) k absent few run =
-      let p = push_plain b sure most d c run.0 unpadded goes_on absent run.1 in
-      let next = few_plain b.width b.group d.error d.group.pieces run.0.group.pieces c (value b c) few p.0.group in
-      let later = runs_plain sure most run.0 cs k p.1 next run.2 in
-      ((plain_of run.0, p.0, later.0), later.1, later.2)
+module _ (b : Base) (known : IsEncoding b) (plain : IsPlain b) where
+  other_step : (ps : List ℕ) (c : ℕ) → step_other b ps c ≡ refused ps Absent (IllegalChar c)
+  other_step ps c = elim (cases_Bool (c == 61)) [
+    | inl mark ↦ rw (mark, plain.unpadded) refl
+    | inr other ↦ rw other refl
+  ]
 
--- ---- base 64
+  step_error : (ps : List ℕ) (c : ℕ) (o : Option ℕ) → (step_in b ps c o).error ≡ illegal_in c o
+  step_error ps c None = ap (λ (s : Step). s.error) (other_step ps c)
+  step_error ps c (Some v) = elim (cases_Bool (length ps + 1 == b.group)) [
+    | inl last ↦ rw last refl
+    | inr more ↦ rw more refl
+  ]
 
-few_from : (sure most : ℕ) (x : Option DecodeError) (old new : PaddedHeld) (c : ℕ) → length old.group < 4 → PushesFrom sure most x old c new → length new.group < 4
-few_from sure most None old new c few push = let g = push.group in rw g (few_move old.group old.padding c few)
-few_from sure most (Some e) old new c few push = rw push few
+  -- the characters of the alphabet are counted
+  step_count : (text ps : List ℕ) (c : ℕ) (o : Option ℕ) → value b c ≡ o → length ps ≡ legal_count b text % b.group
+      → ((step_in b ps c o).group.padding ≡ Absent) × (length (step_in b ps c o).group.pieces ≡ legal_count b (text ++ c ∷ []) % b.group)
+  step_count text ps c None is count =
+      let same : legal_count b (text ++ c ∷ []) ≡ legal_count b text + 0 = count_by-append (λ c. is_some (value b c)) text (c ∷ []) ∙ rw is refl in
+      let plus : legal_count b text + 0 ≡ legal_count b text = omega arith in
+      rw (other_step ps c) (refl, count ∙ ap (λ n. n % b.group) (sym (same ∙ plus)))
+  step_count text ps c (Some v) is count =
+      let n = numbers b known in
+      let one : legal_count b (text ++ c ∷ []) ≡ legal_count b text + 1 = count_by-append (λ c. is_some (value b c)) text (c ∷ []) ∙ rw is refl in
+      elim (cases_Bool (length ps + 1 == b.group)) [
+        | inl last ↦
+            let full : length ps + 1 ≡ b.group = eqb-true (length ps + 1) b.group last in
+            rw (last, one) (refl, n.count_closed (legal_count b text) (length ps) count full)
+        | inr more ↦
+            let other : length ps + 1 ≡ b.group → ⊥ = eqb-false (length ps + 1) b.group more in
+            rw (more, one) (refl, length-append ps (v ∷ []) ∙ n.count_open (legal_count b text) (length ps) count other)
+      ]
 
-runs_padded : (sure most : ℕ) (d : DecoderState) (cs : List ℕ) (k : DecoderState) → length d.group.pieces < 4 → Runs base64 sure most d cs k → Runs64 sure most (padded_of d) cs (padded_of k)
-runs_padded sure most d [] k few run = ap padded_of run
-runs_padded sure most d (c ∷ cs) k few run =
-    let p = push_padded sure most d c run.0 few run.1 in
-    (padded_of run.0, p, runs_padded sure most run.0 cs k (few_from sure most d.error (padded_of d) (padded_of run.0) c few p) run.2)
+  -- a push to a decoder that stored an error
+  later_push : (sure most : ℕ) (x : Option DecodeError) (d : DecoderState) (c : ℕ) (j : DecoderState) (e : DecodeError) → x ≡ Some e → PushesAfter b sure most x d c j
+      → j ≡ record { octets = d.octets; group = (step b d.group c).group; error = or_else (step b d.group c).error (Some e) }
+  later_push sure most None d c j e is push = cc is
+  later_push sure most (Some f) d c j e is push =
+      let same : f ≡ e = cc is in
+      let s : Step = step b d.group c in
+      subst (λ (g : DecodeError). j ≡ record { octets = d.octets; group = s.group; error = or_else s.error (Some g) }) same
+      (subst (λ (x : Bool). j ≡ (if x then d else record { octets = d.octets; group = s.group; error = or_else s.error (Some f) })) plain.goes_on push)
 
--- ---- any
+  later_error : (sure most : ℕ) (d : DecoderState) (c : ℕ) (j : DecoderState) (e : DecodeError) → d.group.padding ≡ Absent → d.error ≡ Some e → Pushes b sure most d c j
+      → j.error ≡ or_else (illegal_in c (value b c)) (Some e)
+  later_error sure most d c j e absent is push =
+      ap (λ (k : DecoderState). k.error) (later_push sure most d.error d c j e is push)
+      ∙ ap (λ (p : Padding). or_else (step_from b d.group.pieces p c (value b c)).error (Some e)) absent
+      ∙ ap (λ (x : Option DecodeError). or_else x (Some e)) (step_error d.group.pieces c (value b c))
 
-pub pushed : (b : Base) → IsEncoding b → (sure most : ℕ) (h k : DecoderState) (text : List ℕ) (r : Result (List ℕ) DecodeError) → IsNew h → Runs b sure most h text k → Ends b sure most k r
-    → IsPushed b (stored_of b) (pushed_refusal b) sure most text k.error r
-pushed b (inl is) = rw is (λ sure most h k text r new run end.
-    let pieces : h.group.pieces ≡ [] = ap (λ (g : Group). g.pieces) new.1 in
-    let none : length h.group.pieces ≡ 0 = ap length pieces in
-    let p = runs_plain base16 refl refl sure most h text k (ap (λ (g : Group). g.padding) new.1) (omega arith) run in
-    pushes16 sure most (plain_of h) (plain_of k) text r (new.0, pieces, new.2) p.0 (ends16 sure most k r p.1 p.2 end))
-pushed b (inr (inl is)) = rw is (λ sure most h k text r new run end.
-    let pieces : h.group.pieces ≡ [] = ap (λ (g : Group). g.pieces) new.1 in
-    let none : length h.group.pieces ≡ 0 = ap length pieces in
-    let p = runs_plain base32hex refl refl sure most h text k (ap (λ (g : Group). g.padding) new.1) (omega arith) run in
-    pushes32 sure most (plain_of h) (plain_of k) text r (new.0, pieces, new.2) p.0 (ends32 sure most k r p.1 end))
-pushed b (inr (inr is)) = rw is (λ sure most h k text r new run end.
-    let pieces : h.group.pieces ≡ [] = ap (λ (g : Group). g.pieces) new.1 in
-    let none : length h.group.pieces ≡ 0 = ap length pieces in
-    pushes64 sure most (padded_of h) (padded_of k) text r (new.0, pieces, ap (λ (g : Group). g.padding) new.1, new.2) (runs_padded sure most h text k (omega arith) run) (ends64_of sure most k r end))
+  push_group : (sure most : ℕ) (x : Option DecodeError) (d : DecoderState) (c : ℕ) (j : DecoderState) → PushesAfter b sure most x d c j → j.group ≡ (step b d.group c).group
+  push_group sure most None d c j push = push.group
+  push_group sure most (Some e) d c j push = ap (λ (k : DecoderState). k.group) (later_push sure most (Some e) d c j e refl push)
+
+  push_count : (sure most : ℕ) (text : List ℕ) (d : DecoderState) (c : ℕ) (j : DecoderState) → Pushes b sure most d c j → d.group.padding ≡ Absent → length d.group.pieces ≡ legal_count b text % b.group
+      → (j.group.padding ≡ Absent) × (length j.group.pieces ≡ legal_count b (text ++ c ∷ []) % b.group)
+  push_count sure most text d c j push absent count =
+      subst (λ (g : Group). (g.padding ≡ Absent) × (length g.pieces ≡ legal_count b (text ++ c ∷ []) % b.group)) (sym (push_group sure most d.error d c j push))
+      (subst (λ (p : Padding). ((step_from b d.group.pieces p c (value b c)).group.padding ≡ Absent) × (length (step_from b d.group.pieces p c (value b c)).group.pieces ≡ legal_count b (text ++ c ∷ []) % b.group)) (sym absent)
+      (step_count text d.group.pieces c (value b c) refl count))
+
+  -- ---- their texts
+
+  none_illegal : (text ps : List ℕ) → Name b text ps → last_illegal b text ≡ None
+  none_illegal [] ps n = refl
+  none_illegal (c ∷ cs) [] n = absurd n
+  none_illegal (c ∷ cs) (p ∷ ps) n =
+      let alone : find (λ x. is_none (value b x)) (c ∷ []) ≡ None = rw n.0 refl in
+      rw (reverse-append (c ∷ []) cs) (find_none_append (λ x. is_none (value b x)) (reverse cs) (c ∷ []) (none_illegal cs ps n.1) alone)
+
+  pub all_legal : (text ps : List ℕ) → Name b text ps → legal_count b text ≡ length text
+  all_legal [] ps n = refl
+  all_legal (c ∷ cs) [] n = absurd n
+  all_legal (c ∷ cs) (p ∷ ps) n =
+      let one : legal_count b (c ∷ []) ≡ 1 = rw n.0 refl in
+      let later = all_legal cs ps n.1 in
+      count_by-append (λ x. is_some (value b x)) (c ∷ []) cs ∙ rw (one, later) (omega arith)
+
+  -- nothing is padded
+  pub read_plain : (text os ps : List ℕ) (p : Padding) → IsRead b text os ps p → (p ≡ Absent) × IsRead b text os ps Absent
+  read_plain text os ps Absent at = (refl, at)
+  read_plain text os ps Half at = let bad : true ≡ false = sym (is_padded b at.counts.0).0 ∙ plain.unpadded in cc bad
+  read_plain text os ps Done at = let bad : true ≡ false = sym (is_padded b at.counts.0).0 ∙ plain.unpadded in cc bad
+
+  pub text_named : (text os ps : List ℕ) → (at : IsRead b text os ps Absent) → Name b text (at.front ++ ps)
+  text_named text os ps at = rw (← plain_text b text os ps at) at at.named
+
+  pub legal_stored : (room : ℕ) (text ps : List ℕ) → Name b text ps → stored_of b room text ≡ want_of room (grouped b (length text))
+  legal_stored room text ps n = rw plain.unpadded (ap (stored_by b room (length text)) (none_illegal text ps n))
+
+  stored_now : (room : ℕ) (text ps : List ℕ) (c : ℕ) (e : DecodeError) (o : Option ℕ) → value b c ≡ o → Name b text ps → cause b room text c ≡ Some e → stored b room (text ++ c ∷ []) ≡ Some e
+  stored_now room text ps c e None is named why =
+      let hit : is_none (value b c) ≡ true = rw is refl in
+      ap (stored_by b room (length (text ++ c ∷ []))) (find_last (λ x. is_none (value b x)) text c hit) ∙ rw is at why
+  stored_now room text ps c e (Some v) is named why =
+      let miss : is_none (value b c) ≡ false = rw is refl in
+      let none : last_illegal b (text ++ c ∷ []) ≡ None = find_before (λ x. is_none (value b x)) text c miss ∙ none_illegal text ps named in
+      let len = length-append text (c ∷ []) in
+      ap (stored_by b room (length (text ++ c ∷ []))) none ∙ (ap (λ n. want_of room (grouped b n)) len ∙ rw is at why)
+
+  stored_more : (room : ℕ) (text : List ℕ) (c : ℕ) (e : DecodeError) (o : Option ℕ) → stored_by b room (length text) o ≡ Some e → stored_by b room (length (text ++ c ∷ [])) o ≡ Some e
+  stored_more room text c e (Some d) held = held
+  stored_more room text c e None held =
+      want_more room (grouped b (length text)) (grouped b (length (text ++ c ∷ []))) e ((numbers b known).grouped_grows (length text) (length (text ++ c ∷ [])) (omega (arith, length-append text (c ∷ [])))) held
+
+  -- a stored error stays, or a later illegal character takes its place
+  stored_later : (room : ℕ) (text : List ℕ) (c : ℕ) (e : DecodeError) (o : Option ℕ) → value b c ≡ o → stored b room text ≡ Some e → stored b room (text ++ c ∷ []) ≡ or_else (illegal_in c o) (Some e)
+  stored_later room text c e None is held =
+      let hit : is_none (value b c) ≡ true = rw is refl in
+      ap (stored_by b room (length (text ++ c ∷ []))) (find_last (λ x. is_none (value b x)) text c hit)
+  stored_later room text c e (Some v) is held =
+      let miss : is_none (value b c) ≡ false = rw is refl in
+      ap (stored_by b room (length (text ++ c ∷ []))) (find_before (λ x. is_none (value b x)) text c miss) ∙ stored_more room text c e (last_illegal b text) held
 
 -- ---- a stored error stays
 
@@ -100,16 +169,19 @@ pub kept : (b : Base) (sure most : ℕ) (old new : DecoderState) (c : ℕ) → I
     → (new.octets ≡ old.octets) × IsSome new.error × (b.keeps_first ≡ true → new ≡ old)
 kept b sure most old new c some push = kept_after b sure most old.error old new c refl some push
 
-replaced_plain : (b : Base) → nat_lt 1 b.unit ≡ false → b.keeps_first ≡ false → (sure most : ℕ) (old new : DecoderState) (c : ℕ) → old.group.padding ≡ Absent → IsSome old.error → Pushes b sure most old c new
-    → (new.error ≡ old.error) ⊎ ((value b c ≡ None) × (new.error ≡ Some (IllegalChar c)))
-replaced_plain b unpadded goes_on sure most old new c absent some push =
-    (plain_kept b sure most (plain_of old) (plain_of new) c some (push_plain b sure most old c new unpadded goes_on absent push).0).1
-
 pub replaced : (b : Base) → IsEncoding b → (sure most : ℕ) (old new : DecoderState) (c : ℕ) → old.group.padding ≡ Absent → IsSome old.error → Pushes b sure most old c new
     → (new.error ≡ old.error) ⊎ ((value b c ≡ None) × (new.error ≡ Some (IllegalChar c)))
-replaced b (inl is) = rw is (replaced_plain base16 refl refl)
-replaced b (inr (inl is)) = rw is (replaced_plain base32hex refl refl)
-replaced b (inr (inr is)) = rw is (λ sure most old new c absent some push. inl (ap (λ (d : DecoderState). d.error) ((kept base64 sure most old new c some push).2 refl)))
+replaced b known sure most old new c absent some push = elim (kinds b known) [
+  | inl plain ↦ elim (cases_error old.error) [
+    | inl none ↦ let bad : IsSome {T = DecodeError} None = subst (λ (x : Option DecodeError). IsSome x) none some in cc bad
+    | inr is ↦ by (value b c) refl (later_error b known plain sure most old c new is.0 absent is.1 push) is.1
+  ]
+  | inr same ↦ inl (ap (λ (d : DecoderState). d.error) ((kept b sure most old new c some push).2 (is_padded b same).1))
+]
+  where
+    by : {e : DecodeError} (o : Option ℕ) → value b c ≡ o → new.error ≡ or_else (illegal_in c o) (Some e) → old.error ≡ Some e → (new.error ≡ old.error) ⊎ ((value b c ≡ None) × (new.error ≡ Some (IllegalChar c)))
+    by None is now before = inr (is, now)
+    by (Some v) is now before = inl (now ∙ sym before)
 
 or_some : (x y : Option DecodeError) → IsSome y → or_else x y ≡ None → ⊥
 or_some None (Some e) some is = cc is
@@ -129,3 +201,195 @@ end_some b k some is = elim (cases_Bool b.ends_first) [
 pub end_kept : (b : Base) (sure most : ℕ) (k : DecoderState) (r : Result (List ℕ) DecodeError) → IsSome k.error → Ends b sure most k r → IsErr r
 end_kept b sure most k (Ok octets) some end = absurd (end_some b k some end.0)
 end_kept b sure most k (Err e) some end = refl
+
+-- ---- the error that is stored
+
+-- in base 64 it is the first
+stored_first : (b : Base) (room : ℕ) (text : List ℕ) → nat_lt 1 b.unit ≡ true → stored_of b room text ≡ first_cause (cause_of b room) [] text
+stored_first b room text padded = rw (padded, causes_padded b room padded) refl
+
+pub stored_none : (b : Base) → IsEncoding b → (text os ps : List ℕ) (p : Padding) → IsRead b text os ps p → (room : ℕ) → length os ≤ room → stored_of b room text ≡ None
+stored_none b known text os ps p at room le = elim (kinds b known) [
+  | inl plain ↦
+      let alone = (read_plain b known plain text os ps p at).1 in
+      let n = lengths b text os ps Absent alone in
+      let len : length text ≡ length alone.front + length ps = ap length (plain_text b text os ps alone) ∙ n.chars_are in
+      let fits : grouped b (length text) ≡ length os = (numbers b known).grouped_at (length text) (length alone.front) (length ps) len alone.counts.2 alone.counts.1 ∙ sym n.octets_are in
+      legal_stored b known plain room text (alone.front ++ ps) (text_named b known plain text os ps alone) ∙ want_enough room (grouped b (length text)) (rw fits le)
+  | inr same ↦ stored_first b room text (is_padded b same).0 ∙ no_cause b known text os ps p at room le
+]
+
+stored_here : (b : Base) → IsEncoding b → (text os ps : List ℕ) (p : Padding) (c : ℕ) (e : DecodeError) → IsRead b text os ps p → (room : ℕ) → length os ≤ room → cause_of b room text c ≡ Some e
+    → stored_of b room (text ++ c ∷ []) ≡ Some e
+stored_here b known text os ps p c e at room le why = elim (kinds b known) [
+  | inl plain ↦
+      let alone = (read_plain b known plain text os ps p at).1 in
+      rw plain.unpadded (stored_now b known plain room text (alone.front ++ ps) c e (value b c) refl (text_named b known plain text os ps alone) (rw plain.unpadded at why))
+  | inr same ↦ stored_first b room (text ++ c ∷ []) (is_padded b same).0 ∙ first_here (cause_of b room) text [] c e (no_cause b known text os ps p at room le) why
+]
+
+-- ---- lists of pushes
+
+-- what stands after a text that was pushed
+pub record Reached (b : Base) (sure most : ℕ) (text : List ℕ) (d : DecoderState) : Type 0 where
+  pub room : ℕ
+  pub is_room : IsRoom sure most room
+  pub stored_is : d.error ≡ stored_of b room text
+  pub stands : d.error ≡ None → Stands b sure most text d
+  pub counted : IsPlain b → (d.group.padding ≡ Absent) × (length d.group.pieces ≡ legal_count b text % b.group)
+
+stands_reached : (b : Base) → IsEncoding b → (sure most : ℕ) (text : List ℕ) (d : DecoderState) → Stands b sure most text d
+    → (IsPlain b → (d.group.padding ≡ Absent) × (length d.group.pieces ≡ legal_count b text % b.group)) → Reached b sure most text d
+stands_reached b known sure most text d at counted = record {
+  room = max sure most;
+  is_room = any_room sure most;
+  stored_is = at.quiet ∙ sym (stored_none b known text d.octets d.group.pieces d.group.padding at.read (max sure most) at.held);
+  stands = λ none. at;
+  counted = counted;
+}
+
+-- an error is stored, and one more character is pushed
+stays : (b : Base) → IsEncoding b → (sure most room : ℕ) (text : List ℕ) (d : DecoderState) (c : ℕ) (j : DecoderState) (e : DecodeError) → (IsPlain b → d.group.padding ≡ Absent) → d.error ≡ Some e → stored_of b room text ≡ Some e
+    → Pushes b sure most d c j → (j.error ≡ stored_of b room (text ++ c ∷ [])) × IsSome j.error
+stays b known sure most room text d c j e absent is held push = elim (kinds b known) [
+  | inl plain ↦
+      let now = later_error b known plain sure most d c j e (absent plain) is push in
+      let later = stored_later b known plain room text c e (value b c) refl (rw plain.unpadded at held) in
+      (now ∙ sym (rw plain.unpadded later), subst (λ (x : Option DecodeError). IsSome x) (sym now) (some_or (illegal_in c (value b c)) e))
+  | inr same ↦
+      let padded = is_padded b same in
+      let kept_is = kept b sure most d j c (subst (λ (x : Option DecodeError). IsSome x) (sym is) refl) push in
+      let now : j.error ≡ Some e = ap (λ (k : DecoderState). k.error) (kept_is.2 padded.1) ∙ is in
+      let first = sym (stored_first b room text padded.0) ∙ held in
+      (now ∙ sym (stored_first b room (text ++ c ∷ []) padded.0 ∙ first_cause-append (cause_of b room) [] text (c ∷ []) ∙ ap (λ (x : Option DecodeError). or_else x (first_cause (cause_of b room) text (c ∷ []))) first), kept_is.1)
+]
+
+reach_push : (b : Base) → IsEncoding b → (sure most : ℕ) (text : List ℕ) (d : DecoderState) (c : ℕ) (j : DecoderState) → Reached b sure most text d → Pushes b sure most d c j → Reached b sure most (text ++ c ∷ []) j
+reach_push b known sure most text d c j at push =
+    let counted : IsPlain b → (j.group.padding ≡ Absent) × (length j.group.pieces ≡ legal_count b (text ++ c ∷ []) % b.group) =
+    λ plain. push_count b known plain sure most text d c j push (at.counted plain).0 (at.counted plain).1 in
+    elim (cases_error d.error) [
+      | inl none ↦
+          let stands = at.stands none in
+          elim (one_push b known sure most text d c j stands push) [
+            | inl next ↦ stands_reached b known sure most (text ++ c ∷ []) j next counted
+            | inr r ↦ record {
+              room = r.room;
+              is_room = r.is_room;
+              stored_is = r.stored_is ∙ sym (stored_here b known text d.octets d.group.pieces d.group.padding c r.error stands.read r.room r.holds r.cause_is);
+              stands = λ quiet. let bad : Some r.error ≡ None = sym r.stored_is ∙ quiet in cc bad;
+              counted = counted;
+            }
+          ]
+      | inr some ↦
+          let k = stays b known sure most at.room text d c j some.0 (λ plain. (at.counted plain).0) some.1 (sym at.stored_is ∙ some.1) push in
+          record {
+            room = at.room;
+            is_room = at.is_room;
+            stored_is = k.0;
+            stands = λ quiet. let bad : IsSome {T = DecodeError} None = subst (λ (x : Option DecodeError). IsSome x) quiet k.1 in cc bad;
+            counted = counted;
+          }
+    ]
+
+runs_reached : (b : Base) → IsEncoding b → (sure most : ℕ) (text cs : List ℕ) (d k : DecoderState) → Reached b sure most text d → Runs b sure most d cs k → Reached b sure most (text ++ cs) k
+runs_reached b known sure most text [] d k at run = rw (append-nil, run) at
+runs_reached b known sure most text (c ∷ cs) d k at run =
+    rw append_assoc at (runs_reached b known sure most (text ++ c ∷ []) cs run.0 k (reach_push b known sure most text d c run.0 at run.1) run.2)
+
+new_reached : (b : Base) → IsEncoding b → (sure most : ℕ) (d : DecoderState) → IsNew d → Reached b sure most [] d
+new_reached b known sure most d new =
+    let none : length d.octets ≡ 0 = ap length new.0 in
+    stands_reached b known sure most [] d
+    (record {
+      quiet = new.2;
+      held = omega arith;
+      read = subst (λ (os : List ℕ). IsRead b [] os d.group.pieces d.group.padding) (sym new.0) (subst (λ (g : Group). IsRead b [] [] g.pieces g.padding) (sym new.1) (read_none b known));
+    })
+    (λ plain. (ap (λ (g : Group). g.padding) new.1, ap (λ (g : Group). length g.pieces) new.1 ∙ sym (numbers b known).none))
+
+-- ---- the end
+
+same16 : (text os ps : List ℕ) (p : Padding) → IsRead base16 text os ps p → (room : ℕ) → length os ≤ room → pushed_refusal base16 room text ≡ refusal base16 room text
+same16 text os ps p at room le =
+    let known : IsEncoding base16 = inl refl in
+    let alone = (read_plain base16 known plain16 text os ps p at).1 in
+    let n = lengths base16 text os ps Absent alone in
+    let len : length text ≡ length alone.front + length ps = ap length (plain_text base16 text os ps alone) ∙ n.chars_are in
+    let legal = all_legal base16 known plain16 text (alone.front ++ ps) (text_named base16 known plain16 text os ps alone) in
+    let first = no_cause base16 known text os ps p at room le in
+    let made = n.octets_are in
+    let closed = alone.counts.2 in
+    let few = alone.counts.1 in
+    elim (cases_Bool (length text % 2 == 0)) [
+      | inl even ↦
+          let zero : length text % 2 ≡ 0 = eqb-true (length text % 2) 0 even in
+          let fits : length text * 4 / 8 ≤ room = omega arith in
+          rw (legal, zero, first) (stored_none base16 known text os ps p at room le ∙ sym (want_enough room (length text * 4 / 8) fits))
+      | inr odd ↦
+          let other : length text % 2 ≡ 0 → ⊥ = eqb-false (length text % 2) 0 odd in
+          let one : length text % 2 ≡ 1 = omega arith in
+          rw (legal, one, first) refl
+    ]
+
+same32 : (text os ps : List ℕ) (p : Padding) → IsRead base32hex text os ps p → (room : ℕ) → length os ≤ room → pushed_refusal base32hex room text ≡ refusal base32hex room text
+same32 text os ps p at room le =
+    let known : IsEncoding base32hex = inr (inl refl) in
+    rw (stored_none base32hex known text os ps p at room le, no_cause base32hex known text os ps p at room le) refl
+
+-- a text without a cause is refused in one way, whether all of it was pushed or not
+pub same_refusal : (b : Base) → IsEncoding b → (text os ps : List ℕ) (p : Padding) → IsRead b text os ps p → (room : ℕ) → length os ≤ room → pushed_refusal b room text ≡ refusal b room text
+same_refusal b (inl is) = rw is same16
+same_refusal b (inr (inl is)) = rw is same32
+same_refusal b (inr (inr is)) = rw is (λ text os ps p at room le. refl)
+
+stored_end16 : (room : ℕ) (text : List ℕ) (k : DecoderState) (e : DecodeError) → k.group.padding ≡ Absent → length k.group.pieces ≡ legal_count base16 text % 2 → k.error ≡ Some e → stored_of base16 room text ≡ Some e
+    → pushed_refusal base16 room text ≡ end_error base16 k
+stored_end16 room text k e absent count is held = elim (cases_Bool (legal_count base16 text % 2 == 0)) [
+  | inl even ↦
+      let zero : legal_count base16 text % 2 ≡ 0 = eqb-true (legal_count base16 text % 2) 0 even in
+      let size : length k.group.pieces ≡ 0 = count ∙ zero in
+      rw (zero, absent, size, is) held
+  | inr odd ↦
+      let other : legal_count base16 text % 2 ≡ 0 → ⊥ = eqb-false (legal_count base16 text % 2) 0 odd in
+      let one : legal_count base16 text % 2 ≡ 1 = omega arith in
+      let size : length k.group.pieces ≡ 1 = count ∙ one in
+      rw (one, absent, size) refl
+]
+
+-- the end of a text that left an error
+stored_end : (b : Base) → IsEncoding b → (room : ℕ) (text : List ℕ) (k : DecoderState) (e : DecodeError) → (IsPlain b → (k.group.padding ≡ Absent) × (length k.group.pieces ≡ legal_count b text % b.group)) → k.error ≡ Some e
+    → stored_of b room text ≡ Some e → pushed_refusal b room text ≡ end_error b k
+stored_end b (inl is) = rw is (λ room text k e counted some held.
+    let c = counted plain16 in
+    stored_end16 room text k e c.0 c.1 some held)
+stored_end b (inr (inl is)) = rw is (λ room text k e counted some held. rw (held, some) refl)
+stored_end b (inr (inr is)) = rw is (λ room text k e counted some held. rw (held, some) refl)
+
+pub pushed : (b : Base) → IsEncoding b → (sure most : ℕ) (h k : DecoderState) (text : List ℕ) (r : Result (List ℕ) DecodeError) → IsNew h → Runs b sure most h text k → Ends b sure most k r
+    → IsPushed b (stored_of b) (pushed_refusal b) sure most text k.error r
+pushed b known sure most h k text r new run end =
+    let at = runs_reached b known sure most [] text h k (new_reached b known sure most h new) run in
+    elim (cases_error k.error) [
+      | inl none ↦
+          let stands = at.stands none in
+          let o = decoded b known sure most text k r stands end in
+          record {
+            room = o.0;
+            is_room = o.1;
+            stored_is = none ∙ sym (stored_none b known text k.octets k.group.pieces k.group.padding stands.read o.0 o.2);
+            outcome = subst (λ (x : Option DecodeError). Outcome b text x r) (sym (same_refusal b known text k.octets k.group.pieces k.group.padding stands.read o.0 o.2)) o.3;
+          }
+      | inr some ↦ record {
+        room = at.room;
+        is_room = at.is_room;
+        stored_is = at.stored_is;
+        outcome = subst (λ (x : Option DecodeError). Outcome b text x r) (sym (stored_end b known at.room text k some.0 at.counted some.1 (sym at.stored_is ∙ some.1)))
+            (by r end (subst (λ (x : Option DecodeError). IsSome x) (sym some.1) refl));
+      }
+    ]
+  where
+    by : (r : Result (List ℕ) DecodeError) → Ends b sure most k r → IsSome k.error → Outcome b text (end_error b k) r
+    by (Ok octets) end some = absurd (end_some b k some end.0)
+    by (Err e) (inl is) some = is
+    by (Err e) (inr end) some = absurd (end_some b k some end.0)

@@ -1,0 +1,183 @@
+-- The end of a text that is read, and texts of the grammar.
+use Rattle.std.proofs.Common.{◌≡◌, ℕ, ◌+◌, ◌-◌, ◌*◌, ◌/◌, ◌%◌, ◌==◌, ◌≤◌, Bool, true, false, List, [], ◌++◌, length, take, drop, refl, sym, ap, ◌∙◌, arith, Option, Some, None, inl, inr, append-nil}
+use Rattle.std.specs.Prelude.{if◌then◌else◌}
+use Rattle.std.specs.List.{list_any}
+use Rattle.std.proofs.lemmas.Bool.{cases_Bool, eqb-true, eqb-false, eq-eqb, ne_eqb}
+use Rattle.std.proofs.lemmas.List.{length-take-le, length-drop, take-append-drop, nil_from_length}
+use Rattle.dns_codec.specs.Bits.{whole}
+use Rattle.dns_codec.specs.Base.{Base, base64, IsEncoding}
+use Rattle.dns_codec.specs.Grammar.{Name, Decodes, may_end}
+use Rattle.dns_codec.specs.Group.{may_end_in}
+use Rattle.dns_codec.specs.Outcome.{want_of, cause, first_cause, refusal}
+use Rattle.dns_codec.specs.declared.base64.DecodeError.{DecodeError}
+use Rattle.dns_codec.specs.declared.base64.DecodeError.TheVariants.{ShortInput}
+use Rattle.dns_codec.specs.declared.base64.Padding.{Padding}
+use Rattle.dns_codec.specs.declared.base64.Padding.TheVariants.{Absent, Half, Done}
+use Rattle.dns_codec.proofs.Causes.{want_enough}
+use Rattle.dns_codec.proofs.Marks.{causes_plain}
+use Rattle.dns_codec.proofs.Numbers.{IsPlain, numbers, kinds}
+use Rattle.dns_codec.proofs.RoundTrip.{last64}
+use Rattle.dns_codec.proofs.Steps.{CountsOf, IsRead, lengths, plain_text, no_cause, closed_octets}
+use Rattle.dns_codec.proofs.Wholes.{length-whole, whole-nil, Name-length}
+
+-- why the text is refused at its end, and its value where it isn't
+pub record Ended (b : Base) (text octets pieces : List ℕ) (padding : Padding) : Type 0 where
+  pub refusal_is : (room : ℕ) → length octets ≤ room → refusal b room text ≡ (if may_end_in b pieces padding then want_of room (length octets + length (whole b.width pieces)) else Some ShortInput)
+  pub decodes : may_end_in b pieces padding ≡ true → Decodes b text (octets ++ whole b.width pieces)
+
+pub where_it_ends : (ends : Bool) (x : Option DecodeError) → ends ≡ true → (if ends then x else Some ShortInput) ≡ x
+where_it_ends ends x is = rw is refl
+
+-- ---- base 16 and base32hex
+
+ended_plain : (b : Base) → IsEncoding b → IsPlain b → (text os ps : List ℕ) → IsRead b text os ps Absent → Ended b text os ps Absent
+ended_plain b known plain text os ps at =
+    let n = numbers b known in
+    let all = plain_text b text os ps at in
+    let len : length text ≡ length at.front + length ps = ap length all ∙ (lengths b text os ps Absent at).chars_are in
+    let few = at.counts.1 in
+    let same : length ps % b.group ≡ length text % b.group = n.place (length ps) 0 (length ps) (omega arith) n.none few ∙ sym (n.place (length text) (length at.front) (length ps) len at.counts.2 few) in
+    let ends_same : may_end b (length ps) ≡ may_end b (length text) = ap (λ m. list_any (λ r. r == m) b.lasts) same in
+    let sum : length os + length (whole b.width ps) ≡ length text * b.width / 8 =
+    rw ((lengths b text os ps Absent at).octets_are, length-whole) (n.sum (length at.front) (length ps) at.counts.2 ∙ ap (λ k. k * b.width / 8) (sym len)) in
+    record {
+      refusal_is = λ room le.
+          let first : first_cause (cause b room) [] text ≡ None = rw (causes_plain b room plain.unpadded) at (no_cause b known text os ps Absent at room le) in
+          rw (plain.unpadded, first, ends_same, sum) refl;
+      decodes = λ ends. record {
+        chars = text;
+        pieces = at.front ++ ps;
+        named = rw (← all) at at.named;
+        count = sym ends_same ∙ rw plain.unpadded at ends;
+        spelled = rw (plain.no_marks (length text)) (sym (append-nil text));
+        value_is = closed_octets b known os at.front ps at.chars at.made at.counts.2 at.named;
+      };
+    }
+
+-- ---- base 64
+
+whole_groups : (ps : List ℕ) (m f n : ℕ) (p : Padding) → CountsOf base64 p (length ps) m f → n ≡ f + length ps + m → (n % 4 == 0) ≡ may_end_in base64 ps p
+whole_groups ps m f n Half c is = let one = c.1 in let two = c.2 in let four = c.3 in ne_eqb (n % 4) 0 (omega arith)
+whole_groups ps m f n Absent c is = let zero = c.0 in let few = c.1 in let four = c.2 in elim (cases_Bool (length ps == 0)) [
+  | inl none ↦ let e : length ps ≡ 0 = eqb-true (length ps) 0 none in rw none (eq-eqb (n % 4) 0 (omega arith))
+  | inr some ↦ let d : length ps ≡ 0 → ⊥ = eqb-false (length ps) 0 some in rw some (ne_eqb (n % 4) 0 (omega arith))
+]
+whole_groups ps m f n Done c is = let none = c.1 in let all = c.4 in rw (eq-eqb (length ps) 0 none) (eq-eqb (n % 4) 0 (omega arith))
+
+closing : (ps : List ℕ) (m f : ℕ) (p : Padding) → CountsOf base64 p (length ps) m f → may_end_in base64 ps p ≡ true → (length ps ≡ 0) × (f % 4 ≡ 1 → ⊥) × ((4 - f % 4) % 4 ≡ m)
+closing ps m f Half c ends = cc ends
+closing ps m f Absent c ends = let zero = c.0 in let four = c.2 in (eqb-true (length ps) 0 ends, λ one. omega arith, omega arith)
+closing ps m f Done c ends = let some = c.2 in let few = c.3 in let all = c.4 in (c.1, λ one. omega arith, omega arith)
+
+ended64 : (text os ps : List ℕ) (p : Padding) → IsRead base64 text os ps p → Ended base64 text os ps p
+ended64 text os ps p at =
+    let n = lengths base64 text os ps p at in
+    let same = whole_groups ps at.count (length at.front) (length text) p at.counts n.text_is in
+    record {
+      refusal_is = λ room le.
+          let first = no_cause base64 (inr (inr refl)) text os ps p at room le in
+          elim (cases_Bool (may_end_in base64 ps p)) [
+            | inl ends ↦
+                let none = (closing ps at.count (length at.front) p at.counts ends).0 in
+                let group = length-whole 6 ps in
+                rw (first, same, ends) (sym (want_enough room (length os + length (whole 6 ps)) (omega arith)))
+            | inr more ↦ rw (first, same, more) refl
+          ];
+      decodes = λ ends.
+          let k = closing ps at.count (length at.front) p at.counts ends in
+          let empty : ps ≡ [] = nil_from_length ps k.0 in
+          let long : length at.chars ≡ length at.front = omega (arith, n.chars_are, k.0) in
+          record {
+            chars = at.chars;
+            pieces = at.front;
+            named = rw (empty, append-nil) at at.named;
+            count = last64 (length at.chars % 4) (omega arith) (rw long k.1);
+            spelled = rw (long, k.2) at.spelled;
+            value_is = rw (empty, whole-nil, append-nil) at.made;
+          };
+    }
+
+ended_padded : (b : Base) → b ≡ base64 → (text os ps : List ℕ) (p : Padding) → IsRead b text os ps p → Ended b text os ps p
+ended_padded b same = rw same ended64
+
+pub ended : (b : Base) → IsEncoding b → (text os ps : List ℕ) (p : Padding) → IsRead b text os ps p → Ended b text os ps p
+ended b known text os ps Absent at = elim (kinds b known) [ inl plain ↦ ended_plain b known plain text os ps at | inr same ↦ ended_padded b same text os ps Absent at ]
+ended b known text os ps Half at = ended_padded b at.counts.0 text os ps Half at
+ended b known text os ps Done at = ended_padded b at.counts.0 text os ps Done at
+
+-- ---- texts of the grammar are read
+
+pub record ReadOf (b : Base) (text octets : List ℕ) : Type 0 where
+  pub made : List ℕ
+  pub pieces : List ℕ
+  pub padding : Padding
+  pub read : IsRead b text made pieces padding
+  pub ends : may_end_in b pieces padding ≡ true
+  pub value_is : octets ≡ made ++ whole b.width pieces
+
+read_plain : (b : Base) → IsEncoding b → IsPlain b → (text octets : List ℕ) → Decodes b text octets → ReadOf b text octets
+read_plain b known plain text octets d =
+    let n = numbers b known in
+    let len = Name-length b d.chars d.pieces d.named in
+    let count : ℕ = length d.pieces in
+    let m : ℕ = count - count % b.group in
+    let rest = n.rest count in
+    let front : length (take m d.pieces) ≡ m = length-take-le m d.pieces (omega arith) in
+    let back : length (drop m d.pieces) ≡ count % b.group = length-drop m d.pieces ∙ omega (arith, rest.1) in
+    let parts : take m d.pieces ++ drop m d.pieces ≡ d.pieces = take-append-drop m d.pieces in
+    let closed : length (take m d.pieces) % b.group ≡ 0 = rw front rest.0 in
+    let same : length (drop m d.pieces) % b.group ≡ length d.chars % b.group =
+    n.place (length (drop m d.pieces)) 0 (length (drop m d.pieces)) (omega arith) n.none (rw back rest.2) ∙ back ∙ ap (λ k. k % b.group) (sym len) in
+    let named : Name b d.chars (take m d.pieces ++ drop m d.pieces) = rw parts d.named in
+    record {
+      made = whole b.width (take m d.pieces);
+      pieces = drop m d.pieces;
+      padding = Absent;
+      read = record {
+        chars = d.chars;
+        front = take m d.pieces;
+        count = 0;
+        spelled = d.spelled ∙ rw (plain.no_marks (length d.chars)) refl;
+        named = named;
+        made = refl;
+        counts = (refl, rw back rest.2, closed);
+      };
+      ends = rw plain.unpadded (ap (λ k. list_any (λ r. r == k) b.lasts) same ∙ d.count);
+      value_is = d.value_is ∙ ap (whole b.width) (sym parts) ∙ sym (closed_octets b known _ (take m d.pieces) (drop m d.pieces) d.chars refl closed named);
+    }
+
+read64 : (text octets : List ℕ) → Decodes base64 text octets → ReadOf base64 text octets
+read64 text octets d =
+    let len = Name-length base64 d.chars d.pieces d.named in
+    let named : Name base64 d.chars (d.pieces ++ []) = rw append-nil d.named in
+    let value : octets ≡ whole 6 d.pieces ++ whole 6 [] = d.value_is ∙ rw (whole-nil, append-nil) refl in
+    elim (cases_Bool (length d.chars % 4 == 0)) [
+      | inl closed ↦
+          let zero : length d.chars % 4 ≡ 0 = eqb-true (length d.chars % 4) 0 closed in
+          let four : length d.pieces % 4 ≡ 0 = omega arith in
+          record {
+            made = whole 6 d.pieces;
+            pieces = [];
+            padding = Absent;
+            read = record { chars = d.chars; front = d.pieces; count = 0; spelled = rw zero at d.spelled; named = named; made = refl; counts = (refl, omega arith, four) };
+            ends = refl;
+            value_is = value;
+          }
+      | inr more ↦
+          let some : length d.chars % 4 ≡ 0 → ⊥ = eqb-false (length d.chars % 4) 0 more in
+          let two : length d.chars % 4 ≡ 1 → ⊥ = λ one. let bad : false ≡ true = rw one at d.count in cc bad in
+          record {
+            made = whole 6 d.pieces;
+            pieces = [];
+            padding = Done;
+            read = record { chars = d.chars; front = d.pieces; count = (4 - length d.chars % 4) % 4; spelled = d.spelled; named = named; made = refl; counts = (refl, refl, omega arith, omega arith, omega arith) };
+            ends = refl;
+            value_is = value;
+          }
+    ]
+
+read_padded : (b : Base) → b ≡ base64 → (text octets : List ℕ) → Decodes b text octets → ReadOf b text octets
+read_padded b same = rw same read64
+
+pub read_of : (b : Base) → IsEncoding b → (text octets : List ℕ) → Decodes b text octets → ReadOf b text octets
+read_of b known text octets d = elim (kinds b known) [ inl plain ↦ read_plain b known plain text octets d | inr same ↦ read_padded b same text octets d ]
