@@ -15,7 +15,9 @@ use Rattle.dns_codec.specs.Converting.{convert, convert_tail}
 use Rattle.dns_codec.specs.Conversions.{then_answer, converts, Agrees}
 use Rattle.dns_codec.specs.Grammar.{Decodes}
 use Rattle.dns_codec.specs.Outcome.{refusal}
-use Rattle.dns_codec.proofs.Each.{once, reads, agrees}
+use Rattle.dns_codec.proofs.Conversions.{agrees}
+use Rattle.dns_codec.proofs.Each.{once}
+use Rattle.dns_codec.proofs.Refusals.{reads}
 use Rattle.dns_codec.specs.declared.base64.DecodeError.{DecodeError}
 use Rattle.dns_scan.specs.Cause.{Cause, custom_text}
 use Rattle.dns_scan.specs.Tokens.{Token}
