@@ -10,7 +10,7 @@ use Rattle.dns_codec.specs.Errors.{answer, or_else}
 use Rattle.dns_codec.specs.Front.{ReadsFront}
 use Rattle.dns_codec.specs.Group.{Group, Step, step, is_complete}
 use Rattle.dns_codec.specs.Decoding.{DecoderState, IsNew, Takes, PushesAfter, Pushes, short, Ends}
-use Rattle.dns_codec.specs.Outcome.{cause_of, refusal, Outcome, IsRefusedBy}
+use Rattle.dns_codec.specs.Outcome.{cause, refusal, Outcome, IsRefusedBy}
 use Rattle.dns_codec.specs.Room.{IsRoom}
 use Rattle.dns_codec.specs.declared.base64.DecodeError.{DecodeError}
 use Rattle.dns_codec.specs.declared.base64.DecodeError.TheVariants.{ShortInput, ShortBuf}
@@ -37,7 +37,7 @@ pub record Refuses (b : Base) (sure most : ℕ) (text : List ℕ) (c : ℕ) (d j
   pub room : ℕ
   pub is_room : IsRoom sure most room
   pub holds : length d.octets ≤ room
-  pub cause_is : cause_of b room text c ≡ Some error
+  pub cause_is : cause b room text c ≡ Some error
 
 pub any_room : (sure most : ℕ) → IsRoom sure most (max sure most)
 any_room sure most = let left = le-max_left sure most in record { surely = left; within = omega arith }
@@ -58,13 +58,13 @@ one_push b known sure most text d c j at push =
           read = subst (λ (g : Group). IsRead b (text ++ c ∷ []) j.octets g.pieces g.padding) (sym t.group)
               (subst (λ (os : List ℕ). IsRead b (text ++ c ∷ []) os s.group.pieces s.group.padding) (sym all.1) (next.goes_on none));
         })
-        | inr some ↦ inr (record {
+        | inr some ↦ let sum = ap length all.1 ∙ length-append d.octets s.octets in inr (record {
           error = some.0;
           stored_is = all.0 ∙ some.1;
           room = max sure most;
           is_room = any_room sure most;
           holds = at.held;
-          cause_is = next.cause_is (max sure most) at.held ∙ ap (λ (x : Option DecodeError). or_else x s.error) (want_enough (max sure most) _ (omega (arith, all.2, ap length all.1, length-append d.octets s.octets))) ∙ some.1;
+          cause_is = next.cause_is (max sure most) at.held ∙ ap (λ (x : Option DecodeError). or_else x s.error) (want_enough (max sure most) _ (omega (arith, all.2, sum))) ∙ some.1;
         })
       ]
       | inr no_room ↦ inr (record {
@@ -141,7 +141,8 @@ starts b known sure most text rest new d is at =
     }
 
 -- after a push that went well
-pub takes : (b : Base) → IsEncoding b → (sure most : ℕ) (text : List ℕ) (d : DecoderState) (c : ℕ) (j : DecoderState) (r : Result (Unit {0}) DecodeError) (u : Unit {0}) → Stands b sure most text d → Pushes b sure most d c j
+pub takes : (b : Base) → IsEncoding b → (sure most : ℕ) (text : List ℕ) (d : DecoderState) (c : ℕ) (j : DecoderState) (r : Result (Unit {0}) DecodeError) (u : Unit {0})
+    → Stands b sure most text d → Pushes b sure most d c j
     → r ≡ answer j.error → r ≡ Ok u → Stands b sure most (text ++ c ∷ []) j
 takes b known sure most text d c j r u at push answers is = elim (one_push b known sure most text d c j at push) [
   | inl next ↦ next
@@ -149,19 +150,21 @@ takes b known sure most text d c j r u at push answers is = elim (one_push b kno
 ]
 
 -- a push that was answered by an error, whatever text follows
-pub refuses : (b : Base) → IsEncoding b → (sure most : ℕ) (text rest : List ℕ) (d : DecoderState) (c : ℕ) (j : DecoderState) (r : Result (Unit {0}) DecodeError) (e : DecodeError) → Stands b sure most text d → Pushes b sure most d c j
+pub refuses : (b : Base) → IsEncoding b → (sure most : ℕ) (text rest : List ℕ) (d : DecoderState) (c : ℕ) (j : DecoderState) (r : Result (Unit {0}) DecodeError) (e : DecodeError)
+    → Stands b sure most text d → Pushes b sure most d c j
     → r ≡ answer j.error → r ≡ Err e → IsRefusedBy (refusal b) sure most (text ++ c ∷ rest) e
 refuses b known sure most text rest d c j r e at push answers is = elim (one_push b known sure most text d c j at push) [
   | inl next ↦ let bad : Ok tt ≡ Err e = sym (answers ∙ ap answer next.quiet) ∙ is in cc bad
   | inr refused ↦
       let same : Err refused.error ≡ Err e = sym (answers ∙ ap answer refused.stored_is) ∙ is in
       let f : refused.error ≡ e = cc same in
-      let first = first_here (cause_of b refused.room) text rest c refused.error (no_cause b known text d.octets d.group.pieces d.group.padding at.read refused.room refused.holds) refused.cause_is in
+      let first = first_here (cause b refused.room) text rest c refused.error (no_cause b known text d.octets d.group.pieces d.group.padding at.read refused.room refused.holds) refused.cause_is in
       record { room = refused.room; is_room = refused.is_room; refused = refusal_first b refused.room (text ++ c ∷ rest) refused.error first ∙ ap Some f }
 ]
 
 -- the whole text was read
-pub ends : (b : Base) → IsEncoding b → (sure most : ℕ) (text : List ℕ) (d : DecoderState) (r : Result (List ℕ) DecodeError) → Stands b sure most text d → Ends b sure most d r → Decoded b (refusal b) sure most text r
+pub ends : (b : Base) → IsEncoding b → (sure most : ℕ) (text : List ℕ) (d : DecoderState) (r : Result (List ℕ) DecodeError) → Stands b sure most text d → Ends b sure most d r
+    → Decoded b (refusal b) sure most text r
 ends b known sure most text d (Ok octets) at end = (decoded b known sure most text d (Ok octets) at end).3.1
 ends b known sure most text d (Err e) at end =
     let o = decoded b known sure most text d (Err e) at end in

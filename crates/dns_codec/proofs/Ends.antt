@@ -6,18 +6,18 @@ use Rattle.std.proofs.lemmas.Bool.{cases_Bool, eqb-true, eqb-false, eq-eqb, ne_e
 use Rattle.std.proofs.lemmas.List.{length-take-le, length-drop, take-append-drop, nil_from_length}
 use Rattle.dns_codec.specs.Bits.{whole}
 use Rattle.dns_codec.specs.Base.{Base, base64, IsEncoding}
+use Rattle.dns_codec.specs.Errors.{or_else}
 use Rattle.dns_codec.specs.Grammar.{Name, Decodes, may_end}
 use Rattle.dns_codec.specs.Group.{may_end_in}
-use Rattle.dns_codec.specs.Outcome.{want_of, cause, first_cause, refusal}
+use Rattle.dns_codec.specs.Outcome.{want_of, due, may_stop, end_cause, refusal}
 use Rattle.dns_codec.specs.declared.base64.DecodeError.{DecodeError}
 use Rattle.dns_codec.specs.declared.base64.DecodeError.TheVariants.{ShortInput}
 use Rattle.dns_codec.specs.declared.base64.Padding.{Padding}
 use Rattle.dns_codec.specs.declared.base64.Padding.TheVariants.{Absent, Half, Done}
 use Rattle.dns_codec.proofs.Causes.{want_enough}
-use Rattle.dns_codec.proofs.Marks.{causes_plain}
 use Rattle.dns_codec.proofs.Numbers.{IsPlain, numbers, kinds}
 use Rattle.dns_codec.proofs.RoundTrip.{last64}
-use Rattle.dns_codec.proofs.Steps.{CountsOf, IsRead, lengths, plain_text, no_cause, closed_octets}
+use Rattle.dns_codec.proofs.Steps.{CountsOf, IsRead, lengths, plain_text, due_is, no_cause, closed_octets}
 use Rattle.dns_codec.proofs.Wholes.{length-whole, whole-nil, Name-length}
 
 -- why the text is refused at its end, and its value where it isn't
@@ -28,22 +28,22 @@ pub record Ended (b : Base) (text octets pieces : List ℕ) (padding : Padding) 
 pub where_it_ends : (ends : Bool) (x : Option DecodeError) → ends ≡ true → (if ends then x else Some ShortInput) ≡ x
 where_it_ends ends x is = rw is refl
 
--- ---- base 16 and base32hex
+-- whether the text may end there, and its value if so
+record Stop (b : Base) (text octets pieces : List ℕ) (padding : Padding) : Type 0 where
+  same : may_stop b (length text) ≡ may_end_in b pieces padding
+  decodes : may_end_in b pieces padding ≡ true → Decodes b text (octets ++ whole b.width pieces)
 
-ended_plain : (b : Base) → IsEncoding b → IsPlain b → (text os ps : List ℕ) → IsRead b text os ps Absent → Ended b text os ps Absent
-ended_plain b known plain text os ps at =
+stop_plain : (b : Base) → IsEncoding b → IsPlain b → (text os ps : List ℕ) → IsRead b text os ps Absent → Stop b text os ps Absent
+stop_plain b known plain text os ps at =
     let n = numbers b known in
     let all = plain_text b text os ps at in
     let len : length text ≡ length at.front + length ps = ap length all ∙ (lengths b text os ps Absent at).chars_are in
     let few = at.counts.1 in
-    let same : length ps % b.group ≡ length text % b.group = n.place (length ps) 0 (length ps) (omega arith) n.none few ∙ sym (n.place (length text) (length at.front) (length ps) len at.counts.2 few) in
+    let place = n.place (length text) (length at.front) (length ps) len at.counts.2 few in
+    let same : length ps % b.group ≡ length text % b.group = n.place (length ps) 0 (length ps) (omega arith) n.none few ∙ sym place in
     let ends_same : may_end b (length ps) ≡ may_end b (length text) = ap (λ m. list_any (λ r. r == m) b.lasts) same in
-    let sum : length os + length (whole b.width ps) ≡ length text * b.width / 8 =
-    rw ((lengths b text os ps Absent at).octets_are, length-whole) (n.sum (length at.front) (length ps) at.counts.2 ∙ ap (λ k. k * b.width / 8) (sym len)) in
     record {
-      refusal_is = λ room le.
-          let first : first_cause (cause b room) [] text ≡ None = rw (causes_plain b room plain.unpadded) at (no_cause b known text os ps Absent at room le) in
-          rw (plain.unpadded, first, ends_same, sum) refl;
+      same = rw plain.unpadded (sym ends_same);
       decodes = λ ends. record {
         chars = text;
         pieces = at.front ++ ps;
@@ -69,20 +69,11 @@ closing ps m f Half c ends = cc ends
 closing ps m f Absent c ends = let zero = c.0 in let four = c.2 in (eqb-true (length ps) 0 ends, λ one. omega arith, omega arith)
 closing ps m f Done c ends = let some = c.2 in let few = c.3 in let all = c.4 in (c.1, λ one. omega arith, omega arith)
 
-ended64 : (text os ps : List ℕ) (p : Padding) → IsRead base64 text os ps p → Ended base64 text os ps p
-ended64 text os ps p at =
+stop64 : (text os ps : List ℕ) (p : Padding) → IsRead base64 text os ps p → Stop base64 text os ps p
+stop64 text os ps p at =
     let n = lengths base64 text os ps p at in
-    let same = whole_groups ps at.count (length at.front) (length text) p at.counts n.text_is in
     record {
-      refusal_is = λ room le.
-          let first = no_cause base64 (inr (inr refl)) text os ps p at room le in
-          elim (cases_Bool (may_end_in base64 ps p)) [
-            | inl ends ↦
-                let none = (closing ps at.count (length at.front) p at.counts ends).0 in
-                let group = length-whole 6 ps in
-                rw (first, same, ends) (sym (want_enough room (length os + length (whole 6 ps)) (omega arith)))
-            | inr more ↦ rw (first, same, more) refl
-          ];
+      same = whole_groups ps at.count (length at.front) (length text) p at.counts n.text_is;
       decodes = λ ends.
           let k = closing ps at.count (length at.front) p at.counts ends in
           let empty : ps ≡ [] = nil_from_length ps k.0 in
@@ -97,13 +88,24 @@ ended64 text os ps p at =
           };
     }
 
-ended_padded : (b : Base) → b ≡ base64 → (text os ps : List ℕ) (p : Padding) → IsRead b text os ps p → Ended b text os ps p
-ended_padded b same = rw same ended64
+stop_padded : (b : Base) → b ≡ base64 → (text os ps : List ℕ) (p : Padding) → IsRead b text os ps p → Stop b text os ps p
+stop_padded b same = rw same stop64
+
+stop : (b : Base) → IsEncoding b → (text os ps : List ℕ) (p : Padding) → IsRead b text os ps p → Stop b text os ps p
+stop b known text os ps Absent at = elim (kinds b known) [ inl plain ↦ stop_plain b known plain text os ps at | inr same ↦ stop_padded b same text os ps Absent at ]
+stop b known text os ps Half at = stop_padded b at.counts.0 text os ps Half at
+stop b known text os ps Done at = stop_padded b at.counts.0 text os ps Done at
 
 pub ended : (b : Base) → IsEncoding b → (text os ps : List ℕ) (p : Padding) → IsRead b text os ps p → Ended b text os ps p
-ended b known text os ps Absent at = elim (kinds b known) [ inl plain ↦ ended_plain b known plain text os ps at | inr same ↦ ended_padded b same text os ps Absent at ]
-ended b known text os ps Half at = ended_padded b at.counts.0 text os ps Half at
-ended b known text os ps Done at = ended_padded b at.counts.0 text os ps Done at
+ended b known text os ps p at =
+    let s = stop b known text os ps p at in
+    record {
+      refusal_is = λ room le.
+          ap (λ (x : Option DecodeError). or_else x (end_cause b room text)) (no_cause b known text os ps p at room le)
+          ∙ ap (λ (x : Bool). if x then want_of room (due b text) else Some ShortInput) s.same
+          ∙ ap (λ n. if may_end_in b ps p then want_of room n else Some ShortInput) (due_is b known text os ps p at);
+      decodes = s.decodes;
+    }
 
 -- ---- texts of the grammar are read
 
@@ -170,7 +172,15 @@ read64 text octets d =
             made = whole 6 d.pieces;
             pieces = [];
             padding = Done;
-            read = record { chars = d.chars; front = d.pieces; count = (4 - length d.chars % 4) % 4; spelled = d.spelled; named = named; made = refl; counts = (refl, refl, omega arith, omega arith, omega arith) };
+            read = record {
+              chars = d.chars;
+              front = d.pieces;
+              count = (4 - length d.chars % 4) % 4;
+              spelled = d.spelled;
+              named = named;
+              made = refl;
+              counts = (refl, refl, omega arith, omega arith, omega arith);
+            };
             ends = refl;
             value_is = value;
           }

@@ -19,7 +19,6 @@ pub record Numbers (b : Base) : Type 0 where
   pub sum : (m r : ℕ) → m % b.group ≡ 0 → m * b.width / 8 + r * b.width / 8 ≡ (m + r) * b.width / 8
   pub grouped_at : (n m r : ℕ) → n ≡ m + r → m % b.group ≡ 0 → r < b.group → grouped b n ≡ m * b.width / 8
   pub grouped_grows : (m n : ℕ) → m ≤ n → grouped b m ≤ grouped b n
-  pub grouped_below : (n : ℕ) → grouped b n ≤ n * b.width / 8
   pub count_closed : (n g : ℕ) → g ≡ n % b.group → g + 1 ≡ b.group → 0 ≡ (n + 1) % b.group
   pub count_open : (n g : ℕ) → g ≡ n % b.group → (g + 1 ≡ b.group → ⊥) → g + 1 ≡ (n + 1) % b.group
 
@@ -37,7 +36,6 @@ numbers16 = record {
   sum = λ m r e. omega arith;
   grouped_at = λ n m r e f g. omega arith;
   grouped_grows = λ m n le. omega arith;
-  grouped_below = λ n. omega arith;
   count_closed = λ n g e f. omega arith;
   count_open = λ n g e f. omega arith;
 }
@@ -56,7 +54,6 @@ numbers32 = record {
   sum = λ m r e. omega arith;
   grouped_at = λ n m r e f g. omega arith;
   grouped_grows = λ m n le. omega arith;
-  grouped_below = λ n. omega arith;
   count_closed = λ n g e f. omega arith;
   count_open = λ n g e f. omega arith;
 }
@@ -75,7 +72,6 @@ numbers64 = record {
   sum = λ m r e. omega arith;
   grouped_at = λ n m r e f g. omega arith;
   grouped_grows = λ m n le. omega arith;
-  grouped_below = λ n. omega arith;
   count_closed = λ n g e f. omega arith;
   count_open = λ n g e f. omega arith;
 }

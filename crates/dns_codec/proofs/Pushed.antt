@@ -1,5 +1,6 @@
 -- Lists of pushes to a decoder of any encoding, and its end.
-use Rattle.std.proofs.Common.{◌≡◌, ℕ, ◌+◌, ◌*◌, ◌/◌, ◌%◌, ◌==◌, ◌≤◌, max, Bool, true, false, nat_lt, if◌then◌else◌, is_none, is_some, List, [], ◌∷◌, ◌++◌, length, reverse, refl, sym, ap, ◌∙◌, arith, Option, Some, None, IsSome, IsErr, Result, Ok, Err, ◌⊎◌, inl, inr, subst, length-append, append_assoc, append-nil}
+use Rattle.std.proofs.Common.{◌≡◌, ℕ, ◌+◌, ◌*◌, ◌/◌, ◌%◌, ◌==◌, ◌≤◌, ◌-◌, ◌&&◌, max, Bool, true, false, nat_lt, if◌then◌else◌, is_none, is_some, List, [], ◌∷◌, ◌++◌, length, reverse, refl, sym, ap, ◌∙◌, arith, Option, Some, None, IsSome, IsErr, Result, Ok, Err, ◌⊎◌, inl, inr, subst, length-append, append_assoc, append-nil}
+use Rattle.std.specs.Prelude.{nat_le}
 use Rattle.std.specs.List.{find}
 use Rattle.std.proofs.lemmas.Bool.{cases_Bool, eqb-true, eqb-false}
 use Rattle.std.proofs.lemmas.List.{reverse-append}
@@ -8,7 +9,7 @@ use Rattle.dns_codec.specs.Errors.{or_else}
 use Rattle.dns_codec.specs.Grammar.{Name}
 use Rattle.dns_codec.specs.Group.{Group, Step, refused, step_other, step_in, step_from, step}
 use Rattle.dns_codec.specs.Decoding.{DecoderState, IsNew, PushesAfter, Pushes, Runs, short, end_error, Ends}
-use Rattle.dns_codec.specs.Outcome.{want_of, grouped, cause, cause_of, first_cause, last_illegal, legal_count, stored_by, stored, stored_of, refusal, pushed_refusal, Outcome, IsPushed}
+use Rattle.dns_codec.specs.Outcome.{want_of, grouped, cause, first_cause, last_illegal, legal_count, stored_by, stored, refusal, pushed_refusal, Outcome, IsPushed}
 use Rattle.dns_codec.specs.Room.{IsRoom}
 use Rattle.dns_codec.specs.declared.base64.DecodeError.{DecodeError}
 use Rattle.dns_codec.specs.declared.base64.DecodeError.TheVariants.{IllegalChar}
@@ -16,9 +17,10 @@ use Rattle.dns_codec.specs.declared.base64.Padding.{Padding}
 use Rattle.dns_codec.specs.declared.base64.Padding.TheVariants.{Absent, Half, Done}
 use Rattle.dns_codec.proofs.Causes.{cases_error, want_enough, want_more, first_here, first_cause-append, find_last, find_before, find_none_append, count_by-append}
 use Rattle.dns_codec.proofs.Decoders.{Stands, any_room, one_push, decoded}
-use Rattle.dns_codec.proofs.Marks.{causes_padded}
+use Rattle.dns_codec.proofs.Marks.{legal, illegal}
 use Rattle.dns_codec.proofs.Numbers.{IsPlain, plain16, numbers, kinds, is_padded}
 use Rattle.dns_codec.proofs.Steps.{IsRead, lengths, plain_text, read_none, no_cause}
+use Rattle.dns_codec.proofs.Wholes.{Name-push}
 
 -- ---- steps of base 16 and base32hex
 
@@ -28,11 +30,14 @@ illegal_in c None = Some (IllegalChar c)
 illegal_in c (Some v) = None
 
 module _ (b : Base) (known : IsEncoding b) (plain : IsPlain b) where
-  other_step : (ps : List ℕ) (c : ℕ) → step_other b ps c ≡ refused ps Absent (IllegalChar c)
-  other_step ps c = elim (cases_Bool (c == 61)) [
+  plain_test : (c n : ℕ) → ((c == 61) && (nat_lt 1 b.unit && nat_le 2 n)) ≡ false
+  plain_test c n = elim (cases_Bool (c == 61)) [
     | inl mark ↦ rw (mark, plain.unpadded) refl
     | inr other ↦ rw other refl
   ]
+
+  other_step : (ps : List ℕ) (c : ℕ) → step_other b ps c ≡ refused ps Absent (IllegalChar c)
+  other_step ps c = rw (plain_test c (length ps)) refl
 
   step_error : (ps : List ℕ) (c : ℕ) (o : Option ℕ) → (step_in b ps c o).error ≡ illegal_in c o
   step_error ps c None = ap (λ (s : Step). s.error) (other_step ps c)
@@ -81,11 +86,12 @@ module _ (b : Base) (known : IsEncoding b) (plain : IsPlain b) where
   push_group sure most None d c j push = push.group
   push_group sure most (Some e) d c j push = ap (λ (k : DecoderState). k.group) (later_push sure most (Some e) d c j e refl push)
 
-  push_count : (sure most : ℕ) (text : List ℕ) (d : DecoderState) (c : ℕ) (j : DecoderState) → Pushes b sure most d c j → d.group.padding ≡ Absent → length d.group.pieces ≡ legal_count b text % b.group
+  push_count : (sure most : ℕ) (text : List ℕ) (d : DecoderState) (c : ℕ) (j : DecoderState) → Pushes b sure most d c j → d.group.padding ≡ Absent
+      → length d.group.pieces ≡ legal_count b text % b.group
       → (j.group.padding ≡ Absent) × (length j.group.pieces ≡ legal_count b (text ++ c ∷ []) % b.group)
   push_count sure most text d c j push absent count =
       subst (λ (g : Group). (g.padding ≡ Absent) × (length g.pieces ≡ legal_count b (text ++ c ∷ []) % b.group)) (sym (push_group sure most d.error d c j push))
-      (subst (λ (p : Padding). ((step_from b d.group.pieces p c (value b c)).group.padding ≡ Absent) × (length (step_from b d.group.pieces p c (value b c)).group.pieces ≡ legal_count b (text ++ c ∷ []) % b.group)) (sym absent)
+      (subst (λ (p : Padding). let g = (step_from b d.group.pieces p c (value b c)).group in (g.padding ≡ Absent) × (length g.pieces ≡ legal_count b (text ++ c ∷ []) % b.group)) (sym absent)
       (step_count text d.group.pieces c (value b c) refl count))
 
   -- ---- their texts
@@ -114,32 +120,36 @@ module _ (b : Base) (known : IsEncoding b) (plain : IsPlain b) where
   pub text_named : (text os ps : List ℕ) → (at : IsRead b text os ps Absent) → Name b text (at.front ++ ps)
   text_named text os ps at = rw (← plain_text b text os ps at) at at.named
 
-  pub legal_stored : (room : ℕ) (text ps : List ℕ) → Name b text ps → stored_of b room text ≡ want_of room (grouped b (length text))
-  legal_stored room text ps n = rw plain.unpadded (ap (stored_by b room (length text)) (none_illegal text ps n))
+  stored_last : (room : ℕ) (text : List ℕ) → stored b room text ≡ stored_by b room (length text) (last_illegal b text)
+  stored_last room text = ap (λ (x : Bool). if x then first_cause (cause b room) [] text else stored_by b room (length text) (last_illegal b text)) plain.goes_on
+
+  pub legal_stored : (room : ℕ) (text ps : List ℕ) → Name b text ps → stored b room text ≡ want_of room (grouped b (length text))
+  legal_stored room text ps n = stored_last room text ∙ ap (stored_by b room (length text)) (none_illegal text ps n)
 
   stored_now : (room : ℕ) (text ps : List ℕ) (c : ℕ) (e : DecodeError) (o : Option ℕ) → value b c ≡ o → Name b text ps → cause b room text c ≡ Some e → stored b room (text ++ c ∷ []) ≡ Some e
   stored_now room text ps c e None is named why =
       let hit : is_none (value b c) ≡ true = rw is refl in
-      ap (stored_by b room (length (text ++ c ∷ []))) (find_last (λ x. is_none (value b x)) text c hit) ∙ rw is at why
+      stored_last room (text ++ c ∷ []) ∙ ap (stored_by b room (length (text ++ c ∷ []))) (find_last (λ x. is_none (value b x)) text c hit)
+      ∙ sym (illegal b known room text ps c named is (plain_test c (length text % b.group))) ∙ why
   stored_now room text ps c e (Some v) is named why =
-      let miss : is_none (value b c) ≡ false = rw is refl in
-      let none : last_illegal b (text ++ c ∷ []) ≡ None = find_before (λ x. is_none (value b x)) text c miss ∙ none_illegal text ps named in
       let len = length-append text (c ∷ []) in
-      ap (stored_by b room (length (text ++ c ∷ []))) none ∙ (ap (λ n. want_of room (grouped b n)) len ∙ rw is at why)
+      legal_stored room (text ++ c ∷ []) (ps ++ v ∷ []) (Name-push b text ps c v named is) ∙ ap (λ n. want_of room (grouped b n)) len ∙ sym (legal b known room text ps c v named is) ∙ why
 
   stored_more : (room : ℕ) (text : List ℕ) (c : ℕ) (e : DecodeError) (o : Option ℕ) → stored_by b room (length text) o ≡ Some e → stored_by b room (length (text ++ c ∷ [])) o ≡ Some e
   stored_more room text c e (Some d) held = held
   stored_more room text c e None held =
-      want_more room (grouped b (length text)) (grouped b (length (text ++ c ∷ []))) e ((numbers b known).grouped_grows (length text) (length (text ++ c ∷ [])) (omega (arith, length-append text (c ∷ [])))) held
+      let grows = (numbers b known).grouped_grows (length text) (length (text ++ c ∷ [])) (omega (arith, length-append text (c ∷ []))) in
+      want_more room (grouped b (length text)) (grouped b (length (text ++ c ∷ []))) e grows held
 
   -- a stored error stays, or a later illegal character takes its place
   stored_later : (room : ℕ) (text : List ℕ) (c : ℕ) (e : DecodeError) (o : Option ℕ) → value b c ≡ o → stored b room text ≡ Some e → stored b room (text ++ c ∷ []) ≡ or_else (illegal_in c o) (Some e)
   stored_later room text c e None is held =
       let hit : is_none (value b c) ≡ true = rw is refl in
-      ap (stored_by b room (length (text ++ c ∷ []))) (find_last (λ x. is_none (value b x)) text c hit)
+      stored_last room (text ++ c ∷ []) ∙ ap (stored_by b room (length (text ++ c ∷ []))) (find_last (λ x. is_none (value b x)) text c hit)
   stored_later room text c e (Some v) is held =
       let miss : is_none (value b c) ≡ false = rw is refl in
-      ap (stored_by b room (length (text ++ c ∷ []))) (find_before (λ x. is_none (value b x)) text c miss) ∙ stored_more room text c e (last_illegal b text) held
+      stored_last room (text ++ c ∷ []) ∙ ap (stored_by b room (length (text ++ c ∷ []))) (find_before (λ x. is_none (value b x)) text c miss)
+      ∙ stored_more room text c e (last_illegal b text) (sym (stored_last room text) ∙ held)
 
 -- ---- a stored error stays
 
@@ -179,7 +189,8 @@ replaced b known sure most old new c absent some push = elim (kinds b known) [
   | inr same ↦ inl (ap (λ (d : DecoderState). d.error) ((kept b sure most old new c some push).2 (is_padded b same).1))
 ]
   where
-    by : {e : DecodeError} (o : Option ℕ) → value b c ≡ o → new.error ≡ or_else (illegal_in c o) (Some e) → old.error ≡ Some e → (new.error ≡ old.error) ⊎ ((value b c ≡ None) × (new.error ≡ Some (IllegalChar c)))
+    by : {e : DecodeError} (o : Option ℕ) → value b c ≡ o → new.error ≡ or_else (illegal_in c o) (Some e) → old.error ≡ Some e
+        → (new.error ≡ old.error) ⊎ ((value b c ≡ None) × (new.error ≡ Some (IllegalChar c)))
     by None is now before = inr (is, now)
     by (Some v) is now before = inl (now ∙ sym before)
 
@@ -205,10 +216,10 @@ end_kept b sure most k (Err e) some end = refl
 -- ---- the error that is stored
 
 -- in base 64 it is the first
-stored_first : (b : Base) (room : ℕ) (text : List ℕ) → nat_lt 1 b.unit ≡ true → stored_of b room text ≡ first_cause (cause_of b room) [] text
-stored_first b room text padded = rw (padded, causes_padded b room padded) refl
+stored_first : (b : Base) (room : ℕ) (text : List ℕ) → b.keeps_first ≡ true → stored b room text ≡ first_cause (cause b room) [] text
+stored_first b room text keeps = ap (λ (x : Bool). if x then first_cause (cause b room) [] text else stored_by b room (length text) (last_illegal b text)) keeps
 
-pub stored_none : (b : Base) → IsEncoding b → (text os ps : List ℕ) (p : Padding) → IsRead b text os ps p → (room : ℕ) → length os ≤ room → stored_of b room text ≡ None
+pub stored_none : (b : Base) → IsEncoding b → (text os ps : List ℕ) (p : Padding) → IsRead b text os ps p → (room : ℕ) → length os ≤ room → stored b room text ≡ None
 stored_none b known text os ps p at room le = elim (kinds b known) [
   | inl plain ↦
       let alone = (read_plain b known plain text os ps p at).1 in
@@ -216,16 +227,16 @@ stored_none b known text os ps p at room le = elim (kinds b known) [
       let len : length text ≡ length alone.front + length ps = ap length (plain_text b text os ps alone) ∙ n.chars_are in
       let fits : grouped b (length text) ≡ length os = (numbers b known).grouped_at (length text) (length alone.front) (length ps) len alone.counts.2 alone.counts.1 ∙ sym n.octets_are in
       legal_stored b known plain room text (alone.front ++ ps) (text_named b known plain text os ps alone) ∙ want_enough room (grouped b (length text)) (rw fits le)
-  | inr same ↦ stored_first b room text (is_padded b same).0 ∙ no_cause b known text os ps p at room le
+  | inr same ↦ stored_first b room text (is_padded b same).1 ∙ no_cause b known text os ps p at room le
 ]
 
-stored_here : (b : Base) → IsEncoding b → (text os ps : List ℕ) (p : Padding) (c : ℕ) (e : DecodeError) → IsRead b text os ps p → (room : ℕ) → length os ≤ room → cause_of b room text c ≡ Some e
-    → stored_of b room (text ++ c ∷ []) ≡ Some e
+stored_here : (b : Base) → IsEncoding b → (text os ps : List ℕ) (p : Padding) (c : ℕ) (e : DecodeError) → IsRead b text os ps p → (room : ℕ) → length os ≤ room → cause b room text c ≡ Some e
+    → stored b room (text ++ c ∷ []) ≡ Some e
 stored_here b known text os ps p c e at room le why = elim (kinds b known) [
   | inl plain ↦
       let alone = (read_plain b known plain text os ps p at).1 in
-      rw plain.unpadded (stored_now b known plain room text (alone.front ++ ps) c e (value b c) refl (text_named b known plain text os ps alone) (rw plain.unpadded at why))
-  | inr same ↦ stored_first b room (text ++ c ∷ []) (is_padded b same).0 ∙ first_here (cause_of b room) text [] c e (no_cause b known text os ps p at room le) why
+      stored_now b known plain room text (alone.front ++ ps) c e (value b c) refl (text_named b known plain text os ps alone) why
+  | inr same ↦ stored_first b room (text ++ c ∷ []) (is_padded b same).1 ∙ first_here (cause b room) text [] c e (no_cause b known text os ps p at room le) why
 ]
 
 -- ---- lists of pushes
@@ -234,7 +245,7 @@ stored_here b known text os ps p c e at room le why = elim (kinds b known) [
 pub record Reached (b : Base) (sure most : ℕ) (text : List ℕ) (d : DecoderState) : Type 0 where
   pub room : ℕ
   pub is_room : IsRoom sure most room
-  pub stored_is : d.error ≡ stored_of b room text
+  pub stored_is : d.error ≡ stored b room text
   pub stands : d.error ≡ None → Stands b sure most text d
   pub counted : IsPlain b → (d.group.padding ≡ Absent) × (length d.group.pieces ≡ legal_count b text % b.group)
 
@@ -249,22 +260,25 @@ stands_reached b known sure most text d at counted = record {
 }
 
 -- an error is stored, and one more character is pushed
-stays : (b : Base) → IsEncoding b → (sure most room : ℕ) (text : List ℕ) (d : DecoderState) (c : ℕ) (j : DecoderState) (e : DecodeError) → (IsPlain b → d.group.padding ≡ Absent) → d.error ≡ Some e → stored_of b room text ≡ Some e
-    → Pushes b sure most d c j → (j.error ≡ stored_of b room (text ++ c ∷ [])) × IsSome j.error
+stays : (b : Base) → IsEncoding b → (sure most room : ℕ) (text : List ℕ) (d : DecoderState) (c : ℕ) (j : DecoderState) (e : DecodeError) → (IsPlain b → d.group.padding ≡ Absent)
+    → d.error ≡ Some e → stored b room text ≡ Some e
+    → Pushes b sure most d c j → (j.error ≡ stored b room (text ++ c ∷ [])) × IsSome j.error
 stays b known sure most room text d c j e absent is held push = elim (kinds b known) [
   | inl plain ↦
       let now = later_error b known plain sure most d c j e (absent plain) is push in
-      let later = stored_later b known plain room text c e (value b c) refl (rw plain.unpadded at held) in
-      (now ∙ sym (rw plain.unpadded later), subst (λ (x : Option DecodeError). IsSome x) (sym now) (some_or (illegal_in c (value b c)) e))
+      let later = stored_later b known plain room text c e (value b c) refl held in
+      (now ∙ sym later, subst (λ (x : Option DecodeError). IsSome x) (sym now) (some_or (illegal_in c (value b c)) e))
   | inr same ↦
       let padded = is_padded b same in
       let kept_is = kept b sure most d j c (subst (λ (x : Option DecodeError). IsSome x) (sym is) refl) push in
       let now : j.error ≡ Some e = ap (λ (k : DecoderState). k.error) (kept_is.2 padded.1) ∙ is in
-      let first = sym (stored_first b room text padded.0) ∙ held in
-      (now ∙ sym (stored_first b room (text ++ c ∷ []) padded.0 ∙ first_cause-append (cause_of b room) [] text (c ∷ []) ∙ ap (λ (x : Option DecodeError). or_else x (first_cause (cause_of b room) text (c ∷ []))) first), kept_is.1)
+      let first = sym (stored_first b room text padded.1) ∙ held in
+      let later = first_cause-append (cause b room) [] text (c ∷ []) ∙ ap (λ (x : Option DecodeError). or_else x (first_cause (cause b room) text (c ∷ []))) first in
+      (now ∙ sym (stored_first b room (text ++ c ∷ []) padded.1 ∙ later), kept_is.1)
 ]
 
-reach_push : (b : Base) → IsEncoding b → (sure most : ℕ) (text : List ℕ) (d : DecoderState) (c : ℕ) (j : DecoderState) → Reached b sure most text d → Pushes b sure most d c j → Reached b sure most (text ++ c ∷ []) j
+reach_push : (b : Base) → IsEncoding b → (sure most : ℕ) (text : List ℕ) (d : DecoderState) (c : ℕ) (j : DecoderState) → Reached b sure most text d → Pushes b sure most d c j
+    → Reached b sure most (text ++ c ∷ []) j
 reach_push b known sure most text d c j at push =
     let counted : IsPlain b → (j.group.padding ≡ Absent) × (length j.group.pieces ≡ legal_count b (text ++ c ∷ []) % b.group) =
     λ plain. push_count b known plain sure most text d c j push (at.counted plain).0 (at.counted plain).1 in
@@ -324,8 +338,8 @@ same16 text os ps p at room le =
     elim (cases_Bool (length text % 2 == 0)) [
       | inl even ↦
           let zero : length text % 2 ≡ 0 = eqb-true (length text % 2) 0 even in
-          let fits : length text * 4 / 8 ≤ room = omega arith in
-          rw (legal, zero, first) (stored_none base16 known text os ps p at room le ∙ sym (want_enough room (length text * 4 / 8) fits))
+          let fits : (length text - 0) * 4 / 8 ≤ room = omega arith in
+          rw (legal, zero, first) (stored_none base16 known text os ps p at room le ∙ sym (want_enough room ((length text - 0) * 4 / 8) fits))
       | inr odd ↦
           let other : length text % 2 ≡ 0 → ⊥ = eqb-false (length text % 2) 0 odd in
           let one : length text % 2 ≡ 1 = omega arith in
@@ -343,7 +357,8 @@ same_refusal b (inl is) = rw is same16
 same_refusal b (inr (inl is)) = rw is same32
 same_refusal b (inr (inr is)) = rw is (λ text os ps p at room le. refl)
 
-stored_end16 : (room : ℕ) (text : List ℕ) (k : DecoderState) (e : DecodeError) → k.group.padding ≡ Absent → length k.group.pieces ≡ legal_count base16 text % 2 → k.error ≡ Some e → stored_of base16 room text ≡ Some e
+stored_end16 : (room : ℕ) (text : List ℕ) (k : DecoderState) (e : DecodeError) → k.group.padding ≡ Absent → length k.group.pieces ≡ legal_count base16 text % 2 → k.error ≡ Some e
+    → stored base16 room text ≡ Some e
     → pushed_refusal base16 room text ≡ end_error base16 k
 stored_end16 room text k e absent count is held = elim (cases_Bool (legal_count base16 text % 2 == 0)) [
   | inl even ↦
@@ -358,8 +373,9 @@ stored_end16 room text k e absent count is held = elim (cases_Bool (legal_count 
 ]
 
 -- the end of a text that left an error
-stored_end : (b : Base) → IsEncoding b → (room : ℕ) (text : List ℕ) (k : DecoderState) (e : DecodeError) → (IsPlain b → (k.group.padding ≡ Absent) × (length k.group.pieces ≡ legal_count b text % b.group)) → k.error ≡ Some e
-    → stored_of b room text ≡ Some e → pushed_refusal b room text ≡ end_error b k
+stored_end : (b : Base) → IsEncoding b → (room : ℕ) (text : List ℕ) (k : DecoderState) (e : DecodeError)
+    → (IsPlain b → (k.group.padding ≡ Absent) × (length k.group.pieces ≡ legal_count b text % b.group)) → k.error ≡ Some e
+    → stored b room text ≡ Some e → pushed_refusal b room text ≡ end_error b k
 stored_end b (inl is) = rw is (λ room text k e counted some held.
     let c = counted plain16 in
     stored_end16 room text k e c.0 c.1 some held)
@@ -367,7 +383,7 @@ stored_end b (inr (inl is)) = rw is (λ room text k e counted some held. rw (hel
 stored_end b (inr (inr is)) = rw is (λ room text k e counted some held. rw (held, some) refl)
 
 pub pushed : (b : Base) → IsEncoding b → (sure most : ℕ) (h k : DecoderState) (text : List ℕ) (r : Result (List ℕ) DecodeError) → IsNew h → Runs b sure most h text k → Ends b sure most k r
-    → IsPushed b (stored_of b) (pushed_refusal b) sure most text k.error r
+    → IsPushed b (stored b) (pushed_refusal b) sure most text k.error r
 pushed b known sure most h k text r new run end =
     let at = runs_reached b known sure most [] text h k (new_reached b known sure most h new) run in
     elim (cases_error k.error) [

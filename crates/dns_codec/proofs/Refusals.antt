@@ -1,13 +1,13 @@
 -- The refusal of a text, and the grammar.
 use Rattle.std.proofs.Common.{◌≡◌, ℕ, ◌+◌, ◌%◌, ◌==◌, ◌≤◌, nat_lt, Bool, true, false, List, [], ◌∷◌, ◌++◌, length, refl, sym, ap, ◌∙◌, arith, Option, Some, None, inl, inr, append_assoc, append-nil, length-append}
 use Rattle.std.specs.Prelude.{if◌then◌else◌}
-use Rattle.std.proofs.lemmas.Bool.{cases_Bool, ltb-false, eqb-true, eqb-false}
+use Rattle.std.proofs.lemmas.Bool.{cases_Bool, ltb-false}
 use Rattle.dns_codec.specs.Bits.{whole}
 use Rattle.dns_codec.specs.Base.{Base, base16, base32hex, value, IsEncoding}
 use Rattle.dns_codec.specs.Errors.{or_else}
 use Rattle.dns_codec.specs.Grammar.{Name, Decodes, may_end}
 use Rattle.dns_codec.specs.Group.{Step, step_from, may_end_in}
-use Rattle.dns_codec.specs.Outcome.{want_of, cause_of, end_cause, stored_of, refusal, pushed_refusal}
+use Rattle.dns_codec.specs.Outcome.{want_of, cause, legal_count, stored, refusal, pushed_refusal}
 use Rattle.dns_codec.specs.declared.base64.DecodeError.{DecodeError}
 use Rattle.dns_codec.specs.declared.base64.DecodeError.TheVariants.{ShortInput, ShortBuf}
 use Rattle.dns_codec.specs.declared.base64.Padding.{Padding}
@@ -16,7 +16,7 @@ use Rattle.dns_codec.proofs.Causes.{cases_error, or_else_none, want_enough, firs
 use Rattle.dns_codec.proofs.Ends.{where_it_ends, ended, read_of}
 use Rattle.dns_codec.proofs.Marks.{refusal_first}
 use Rattle.dns_codec.proofs.Numbers.{IsPlain, plain16, plain32}
-use Rattle.dns_codec.proofs.Pushed.{read_plain, text_named, all_legal, legal_stored, same_refusal}
+use Rattle.dns_codec.proofs.Pushed.{all_legal, legal_stored, same_refusal}
 use Rattle.dns_codec.proofs.Steps.{IsRead, read_none, no_cause, stepped}
 
 -- a text of the grammar isn't refused where there is room for its octets
@@ -47,15 +47,16 @@ not_short room n false e = cc e
 
 module _ (b : Base) (known : IsEncoding b) (room : ℕ) where
   -- what isn't refused has no cause at the next character
-  unrefused_next : (text os ps rest : List ℕ) (p : Padding) (c : ℕ) → IsRead b text os ps p → length os ≤ room → refusal b room (text ++ c ∷ rest) ≡ None → cause_of b room text c ≡ None
-  unrefused_next text os ps rest p c at le e = elim (cases_error (cause_of b room text c)) [
+  unrefused_next : (text os ps rest : List ℕ) (p : Padding) (c : ℕ) → IsRead b text os ps p → length os ≤ room → refusal b room (text ++ c ∷ rest) ≡ None → cause b room text c ≡ None
+  unrefused_next text os ps rest p c at le e = elim (cases_error (cause b room text c)) [
     | inl none ↦ none
     | inr some ↦
-        let bad : Some some.0 ≡ None = sym (refusal_first b room (text ++ c ∷ rest) some.0 (first_here (cause_of b room) text rest c some.0 (no_cause b known text os ps p at room le) some.1)) ∙ e in
+        let bad : Some some.0 ≡ None = sym (refusal_first b room (text ++ c ∷ rest) some.0 (first_here (cause b room) text rest c some.0 (no_cause b known text os ps p at room le) some.1)) ∙ e in
         cc bad
   ]
 
-  unrefused_from : (text cs os ps : List ℕ) (p : Padding) → IsRead b text os ps p → length os ≤ room → refusal b room (text ++ cs) ≡ None → (octets : List ℕ) × Decodes b (text ++ cs) octets × (length octets ≤ room)
+  unrefused_from : (text cs os ps : List ℕ) (p : Padding) → IsRead b text os ps p → length os ≤ room → refusal b room (text ++ cs) ≡ None
+      → (octets : List ℕ) × Decodes b (text ++ cs) octets × (length octets ≤ room)
   unrefused_from text [] os ps p at le e =
       let all : text ++ [] ≡ text = append-nil text in
       let n = ended b known text os ps p at in
@@ -79,7 +80,8 @@ want_is room n e is = elim (cases_Bool (nat_lt room n)) [
 ]
 
 module _ (b : Base) (known : IsEncoding b) (room wide : ℕ) (e : DecodeError) where
-  wants_from : (text cs os ps : List ℕ) (p : Padding) → IsRead b text os ps p → length os ≤ room → length os ≤ wide → refusal b wide (text ++ cs) ≡ None → refusal b room (text ++ cs) ≡ Some e → e ≡ ShortBuf
+  wants_from : (text cs os ps : List ℕ) (p : Padding) → IsRead b text os ps p → length os ≤ room → length os ≤ wide → refusal b wide (text ++ cs) ≡ None
+      → refusal b room (text ++ cs) ≡ Some e → e ≡ ShortBuf
   wants_from text [] os ps p at le wider none is =
       let all : text ++ [] ≡ text = append-nil text in
       let n = ended b known text os ps p at in
@@ -89,55 +91,45 @@ module _ (b : Base) (known : IsEncoding b) (room wide : ℕ) (e : DecodeError) w
       let s : Step = step_from b ps p c (value b c) in
       let next = stepped b known text os ps p c at in
       let both = both_none (want_of wide (length os + length s.octets)) s.error (sym (next.cause_is wide wider) ∙ unrefused_next b known wide text os ps cs p c at wider none) in
-      let here : cause_of b room text c ≡ want_of room (length os + length s.octets) = next.cause_is room le ∙ ap (or_else (want_of room (length os + length s.octets))) both.1 ∙ or_else_none _ in
+      let here : cause b room text c ≡ want_of room (length os + length s.octets) = next.cause_is room le ∙ ap (or_else (want_of room (length os + length s.octets))) both.1 ∙ or_else_none _ in
       elim (cases_error (want_of room (length os + length s.octets))) [
         | inl fits ↦ wants_from (text ++ c ∷ []) cs (os ++ s.octets) s.group.pieces s.group.padding (next.goes_on both.1)
             (rw length-append (want_fits room _ fits)) (rw length-append (want_fits wide _ both.0)) (rw append_assoc none) (rw append_assoc is)
         | inr short ↦
-            let first = first_here (cause_of b room) text cs c short.0 (no_cause b known text os ps p at room le) (here ∙ short.1) in
+            let first = first_here (cause b room) text cs c short.0 (no_cause b known text os ps p at room le) (here ∙ short.1) in
             let same : Some short.0 ≡ Some e = sym (refusal_first b room (text ++ c ∷ cs) short.0 first) ∙ is in
             let equals : short.0 ≡ e = cc same in
             sym equals ∙ want_is room _ short.0 short.1
       ]
 
-decodes_named : (b : Base) → IsEncoding b → IsPlain b → (text octets : List ℕ) → Decodes b text octets → (ps : List ℕ) × Name b text ps
-decodes_named b known plain text octets d =
-    let r = read_of b known text octets d in
-    let alone = (read_plain b known plain text r.made r.pieces r.padding r.read).1 in
-    (alone.front ++ r.pieces, text_named b known plain text r.made r.pieces alone)
+-- in base 16 and base32hex, a text of the grammar is characters of the alphabet, as many as whole octets need
+decodes_named : (b : Base) → IsPlain b → (text octets : List ℕ) → Decodes b text octets → (ps : List ℕ) × Name b text ps × (may_end b (length text) ≡ true)
+decodes_named b plain text octets d =
+    let all : text ≡ d.chars = d.spelled ∙ rw (plain.no_marks (length d.chars)) (append-nil d.chars) in
+    (d.pieces, rw all d.named, rw all d.count)
 
-pushed_wants16 : (text ps : List ℕ) (room wide : ℕ) (e : DecodeError) → Name base16 text ps → pushed_refusal base16 wide text ≡ None → pushed_refusal base16 room text ≡ Some e → e ≡ ShortBuf
-pushed_wants16 text ps room wide e named none is =
-    let legal = all_legal base16 (inl refl) plain16 text ps named in
-    elim (cases_Bool (length text % 2 == 0)) [
-      | inl even ↦
-          let zero : length text % 2 ≡ 0 = eqb-true (length text % 2) 0 even in
-          want_is room _ e (sym (legal_stored base16 (inl refl) plain16 room text ps named) ∙ rw (legal, zero) at is)
-      | inr odd ↦
-          let other : length text % 2 ≡ 0 → ⊥ = eqb-false (length text % 2) 0 odd in
-          let one : length text % 2 ≡ 1 = omega arith in
-          let bad : Some ShortInput ≡ None = rw (legal, one) at none in
-          cc bad
-    ]
+pushed_wants16 : (text octets : List ℕ) (room : ℕ) (e : DecodeError) → Decodes base16 text octets → pushed_refusal base16 room text ≡ Some e → e ≡ ShortBuf
+pushed_wants16 text octets room e d is =
+    let n = decodes_named base16 plain16 text octets d in
+    let ends : may_end base16 (legal_count base16 text) ≡ true = rw (all_legal base16 (inl refl) plain16 text n.0 n.1) n.2 in
+    want_is room _ e (sym (legal_stored base16 (inl refl) plain16 room text n.0 n.1) ∙ rw ends at is)
 
-pushed_wants32 : (text ps : List ℕ) (room wide : ℕ) (e : DecodeError) → Name base32hex text ps → pushed_refusal base32hex wide text ≡ None → pushed_refusal base32hex room text ≡ Some e → e ≡ ShortBuf
-pushed_wants32 text ps room wide e named none is =
-    let stored_is = legal_stored base32hex (inr (inl refl)) plain32 room text ps named in
-    let both = both_none (stored_of base32hex wide text) (end_cause base32hex wide (length text)) none in
-    let k = not_short wide _ (may_end base32hex (length text)) both.1 in
-    elim (cases_error (stored_of base32hex room text)) [
-      | inl enough ↦ want_is room _ e (rw (enough, k.0) at is)
+pushed_wants32 : (text octets : List ℕ) (room : ℕ) (e : DecodeError) → Decodes base32hex text octets → pushed_refusal base32hex room text ≡ Some e → e ≡ ShortBuf
+pushed_wants32 text octets room e d is =
+    let n = decodes_named base32hex plain32 text octets d in
+    elim (cases_error (stored base32hex room text)) [
+      | inl enough ↦ want_is room _ e (rw (enough, n.2) at is)
       | inr some ↦
           let same : Some some.0 ≡ Some e = rw some.1 at is in
           let equals : some.0 ≡ e = cc same in
-          sym equals ∙ want_is room _ some.0 (sym stored_is ∙ some.1)
+          sym equals ∙ want_is room _ some.0 (sym (legal_stored base32hex (inr (inl refl)) plain32 room text n.0 n.1) ∙ some.1)
     ]
 
-pushed_wants : (b : Base) → IsEncoding b → (text octets : List ℕ) (room wide : ℕ) (e : DecodeError) → Decodes b text octets → pushed_refusal b wide text ≡ None → refusal b wide text ≡ None
-    → (refusal b room text ≡ Some e → e ≡ ShortBuf) → pushed_refusal b room text ≡ Some e → e ≡ ShortBuf
-pushed_wants b (inl is) = rw is (λ text octets room wide e d none first only. pushed_wants16 text _ room wide e (decodes_named base16 (inl refl) plain16 text octets d).1 none)
-pushed_wants b (inr (inl is)) = rw is (λ text octets room wide e d none first only. pushed_wants32 text _ room wide e (decodes_named base32hex (inr (inl refl)) plain32 text octets d).1 none)
-pushed_wants b (inr (inr is)) = rw is (λ text octets room wide e d none first only. only)
+pushed_wants : (b : Base) → IsEncoding b → (text octets : List ℕ) (room : ℕ) (e : DecodeError) → Decodes b text octets → (refusal b room text ≡ Some e → e ≡ ShortBuf)
+    → pushed_refusal b room text ≡ Some e → e ≡ ShortBuf
+pushed_wants b (inl is) = rw is (λ text octets room e d only. pushed_wants16 text octets room e d)
+pushed_wants b (inr (inl is)) = rw is (λ text octets room e d only. pushed_wants32 text octets room e d)
+pushed_wants b (inr (inr is)) = rw is (λ text octets room e d only. only)
 
 pub wants : (b : Base) → IsEncoding b → (text octets : List ℕ) (room : ℕ) (e : DecodeError) → Decodes b text octets
     → (refusal b room text ≡ Some e → e ≡ ShortBuf) × (pushed_refusal b room text ≡ Some e → e ≡ ShortBuf)
@@ -145,4 +137,4 @@ wants b known text octets room e d =
     let wide : ℕ = length octets in
     let read = reads b known text octets wide d (omega arith) in
     let only = wants_from b known room wide e [] text [] [] Absent (read_none b known) (omega arith) (omega arith) read.0 in
-    (only, pushed_wants b known text octets room wide e d read.1 read.0 only)
+    (only, pushed_wants b known text octets room e d only)

@@ -8,20 +8,20 @@ use Rattle.dns_codec.specs.Base.{Base, base64, value, IsEncoding}
 use Rattle.dns_codec.specs.Errors.{or_else}
 use Rattle.dns_codec.specs.Grammar.{Name}
 use Rattle.dns_codec.specs.Group.{Step, step_piece, step_other, step_half, step_from}
-use Rattle.dns_codec.specs.Outcome.{want_of, grouped, marks, due, cause_of, cause64, first_cause}
+use Rattle.dns_codec.specs.Outcome.{want_of, grouped, marks, due, cause, first_cause}
 use Rattle.dns_codec.specs.declared.base64.DecodeError.{DecodeError}
 use Rattle.dns_codec.specs.declared.base64.DecodeError.TheVariants.{IllegalChar, TrailingInput}
 use Rattle.dns_codec.specs.declared.base64.Padding.{Padding}
 use Rattle.dns_codec.specs.declared.base64.Padding.TheVariants.{Absent, Half, Done}
 use Rattle.dns_codec.proofs.Causes.{cases_value, or_else_none, want_enough}
-use Rattle.dns_codec.proofs.Marks.{marks-spelled, legal_last, legal_none, illegal, chars_none, mark_two, mark_three, mark_half, mark_done, half_none, one_none, two_none}
-use Rattle.dns_codec.proofs.Numbers.{numbers, kinds}
+use Rattle.dns_codec.proofs.Marks.{marks-spelled, legal, illegal, chars_none, mark_two, mark_three, mark_half, mark_done, half_none, one_none, two_none}
+use Rattle.dns_codec.proofs.Numbers.{numbers, kinds, is_padded}
 use Rattle.dns_codec.proofs.Wholes.{length-whole, whole-nil, whole-append, Name-below, Name-push, Name-length, below_front}
 
 -- how many pieces are open, how many `=` came, and how many pieces stand in front
 abbrev pub CountsOf : Base → Padding → ℕ → ℕ → ℕ → Type 0
 CountsOf b Absent g m f = (m ≡ 0) × (g < b.group) × (f % b.group ≡ 0)
-CountsOf b Half g m f = (b ≡ base64) × (m ≡ 1) × (g ≡ 2) × (f % 4 ≡ 0)
+CountsOf b Half g m f = (b ≡ base64) × (m ≡ 1) × (g ≡ 2) × (f % b.group ≡ 0)
 CountsOf b Done g m f = (b ≡ base64) × (g ≡ 0) × (1 ≤ m) × (m ≤ 2) × (f % 4 + m ≡ 4)
 
 -- the octets that a text without a cause has made, and the group that is open after it
@@ -61,12 +61,35 @@ lengths b text os ps p at =
 pub plain_text : (b : Base) (text os ps : List ℕ) → (at : IsRead b text os ps Absent) → text ≡ at.chars
 plain_text b text os ps at = let none = at.counts.0 in rw (none, append-nil) at at.spelled
 
-marked : (text os ps : List ℕ) (p : Padding) → (at : IsRead base64 text os ps p) → marks text ≡ at.count
-marked text os ps p at = ap marks at.spelled ∙ marks-spelled at.chars (at.front ++ ps) at.count at.named
+pub marked : (b : Base) → IsEncoding b → (text os ps : List ℕ) (p : Padding) → (at : IsRead b text os ps p) → marks b text ≡ at.count
+marked b known text os ps p at = elim (cases_Bool (nat_lt 1 b.unit)) [
+  | inl padded ↦ ap (marks b) at.spelled ∙ marks-spelled b known at.chars (at.front ++ ps) at.count at.named padded
+  | inr plain ↦ rw plain (sym (none p at.counts plain))
+]
+  where
+    none : (p : Padding) → CountsOf b p (length ps) at.count (length at.front) → nat_lt 1 b.unit ≡ false → at.count ≡ 0
+    none Absent c plain = c.0
+    none Half c plain = let bad : true ≡ false = sym (is_padded b c.0).0 ∙ plain in cc bad
+    none Done c plain = let bad : true ≡ false = sym (is_padded b c.0).0 ∙ plain in cc bad
+
+-- the whole octets of its characters
+pub due_is : (b : Base) → IsEncoding b → (text os ps : List ℕ) (p : Padding) → IsRead b text os ps p → (due b text ≡ length os + length (whole b.width ps))
+due_is b known text os ps p at =
+    let n = lengths b text os ps p at in
+    let e : length text - marks b text ≡ length at.front + length ps = omega (arith, n.text_is, marked b known text os ps p at) in
+    ap (λ k. k * b.width / 8) e ∙ sym (sum p at.counts) ∙ rw (n.octets_are, length-whole) refl
+  where
+    sum : (p : Padding) → CountsOf b p (length ps) at.count (length at.front) → length at.front * b.width / 8 + length ps * b.width / 8 ≡ (length at.front + length ps) * b.width / 8
+    sum Absent c = (numbers b known).sum (length at.front) (length ps) c.2
+    sum Half c = (numbers b known).sum (length at.front) (length ps) c.3
+    sum Done c =
+        let e : length at.front + 0 ≡ length at.front = omega arith in
+        let none : 0 * b.width / 8 ≡ 0 = omega arith in
+        rw (c.1, e, none) (omega arith)
 
 -- ---- a text that is read has no cause
 
-half64_none : (text os ps : List ℕ) → IsRead base64 text os ps Half → (room : ℕ) → length os ≤ room → first_cause (cause64 room) [] text ≡ None
+half64_none : (text os ps : List ℕ) → IsRead base64 text os ps Half → (room : ℕ) → length os ≤ room → first_cause (cause base64 room) [] text ≡ None
 half64_none text os ps at room le =
     let n = lengths base64 text os ps Half at in
     let long = n.chars_are in
@@ -76,7 +99,7 @@ half64_none text os ps at room le =
     let spelled : text ≡ at.chars ++ 61 ∷ [] = rw at.counts.1 at at.spelled in
     rw spelled (half_none room at.chars (at.front ++ ps) at.named (omega arith) (omega arith))
 
-done64_none : (text os ps : List ℕ) → IsRead base64 text os ps Done → (room : ℕ) → length os ≤ room → first_cause (cause64 room) [] text ≡ None
+done64_none : (text os ps : List ℕ) → IsRead base64 text os ps Done → (room : ℕ) → length os ≤ room → first_cause (cause base64 room) [] text ≡ None
 done64_none text os ps at room le =
     let n = lengths base64 text os ps Done at in
     let long = n.chars_are in
@@ -97,14 +120,16 @@ done64_none text os ps at room le =
           rw spelled (two_none room at.chars (at.front ++ ps) at.named (omega arith) (omega arith))
     ]
 
-padded_none : (b : Base) → b ≡ base64 → (text os ps : List ℕ) (p : Padding) → (p ≡ Half) ⊎ (p ≡ Done) → IsRead b text os ps p → (room : ℕ) → length os ≤ room → first_cause (cause_of b room) [] text ≡ None
+padded_none : (b : Base) → b ≡ base64 → (text os ps : List ℕ) (p : Padding) → (p ≡ Half) ⊎ (p ≡ Done) → IsRead b text os ps p → (room : ℕ) → length os ≤ room
+    → first_cause (cause b room) [] text ≡ None
 padded_none b same = rw same (λ text os ps p which. elim which [ inl half ↦ rw half (half64_none text os ps) | inr done ↦ rw done (done64_none text os ps) ])
 
-pub no_cause : (b : Base) → IsEncoding b → (text os ps : List ℕ) (p : Padding) → IsRead b text os ps p → (room : ℕ) → length os ≤ room → first_cause (cause_of b room) [] text ≡ None
+pub no_cause : (b : Base) → IsEncoding b → (text os ps : List ℕ) (p : Padding) → IsRead b text os ps p → (room : ℕ) → length os ≤ room → first_cause (cause b room) [] text ≡ None
 no_cause b known text os ps Absent at room le =
     let n = lengths b text os ps Absent at in
     let plain = plain_text b text os ps at in
-    let fits : grouped b (length text) ≤ room = rw ((numbers b known).grouped_at (length text) (length at.front) (length ps) (ap length plain ∙ n.chars_are) at.counts.2 at.counts.1, ← n.octets_are) le in
+    let same = (numbers b known).grouped_at (length text) (length at.front) (length ps) (ap length plain ∙ n.chars_are) at.counts.2 at.counts.1 in
+    let fits : grouped b (length text) ≤ room = rw (same, ← n.octets_are) le in
     let z : 0 + length text ≡ length text = omega arith in
     chars_none b known room [] text [] (at.front ++ ps) tt (rw (← plain) at at.named) (rw z fits)
 no_cause b known text os ps Half at room le = padded_none b at.counts.0 text os ps Half (inl refl) at room le
@@ -115,17 +140,18 @@ no_cause b known text os ps Done at room le = padded_none b at.counts.0 text os 
 -- the cause of a character is want of room for the octets of its step, and then the step's error. Without an error the
 -- text is read with it
 pub record Stepped (b : Base) (text octets : List ℕ) (c : ℕ) (s : Step) : Type 0 where
-  pub cause_is : (room : ℕ) → length octets ≤ room → cause_of b room text c ≡ or_else (want_of room (length octets + length s.octets)) s.error
+  pub cause_is : (room : ℕ) → length octets ≤ room → cause b room text c ≡ or_else (want_of room (length octets + length s.octets)) s.error
   pub goes_on : s.error ≡ None → IsRead b (text ++ c ∷ []) (octets ++ s.octets) s.group.pieces s.group.padding
 
 -- a group that is closed: its octets follow those of the front
-pub closed_octets : (b : Base) → IsEncoding b → (os front g chars : List ℕ) → os ≡ whole b.width front → length front % b.group ≡ 0 → Name b chars (front ++ g) → os ++ whole b.width g ≡ whole b.width (front ++ g)
+pub closed_octets : (b : Base) → IsEncoding b → (os front g chars : List ℕ) → os ≡ whole b.width front → length front % b.group ≡ 0 → Name b chars (front ++ g)
+    → os ++ whole b.width g ≡ whole b.width (front ++ g)
 closed_octets b known os front g chars made whole_groups named =
     let n = numbers b known in
     rw made (sym (whole-append b.width front g (n.bits (length front) whole_groups) (below_front (2 ^ b.width) front g (Name-below b n.below chars (front ++ g) named))))
 
 -- refused, whatever the room
-at_once : (b : Base) (text os : List ℕ) (c : ℕ) (s : Step) (e : DecodeError) → s.octets ≡ [] → s.error ≡ Some e → ((room : ℕ) → cause_of b room text c ≡ Some e) → Stepped b text os c s
+at_once : (b : Base) (text os : List ℕ) (c : ℕ) (s : Step) (e : DecodeError) → s.octets ≡ [] → s.error ≡ Some e → ((room : ℕ) → cause b room text c ≡ Some e) → Stepped b text os c s
 at_once b text os c s e nothing is why =
     let sum : length os + length s.octets ≡ length os = rw nothing (omega arith) in
     record {
@@ -144,7 +170,6 @@ piece b known text os ps c v is at =
     let few = at.counts.1 in
     let closed = at.counts.2 in
     let size = length-append ps (v ∷ []) in
-    let place = n.place (length text) (length at.front) (length ps) len closed few in
     elim (cases_Bool (length ps + 1 == b.group)) [
       | inl last ↦
           let full : length ps + 1 ≡ b.group = eqb-true (length ps + 1) b.group last in
@@ -152,10 +177,11 @@ piece b known text os ps c v is at =
           let group : length (ps ++ v ∷ []) ≡ b.group = size ∙ full in
           let on : length (at.front ++ (ps ++ v ∷ [])) % b.group ≡ 0 = ap (λ k. k % b.group) all ∙ n.closed (length at.front) (length (ps ++ v ∷ [])) closed group in
           let long : length text + 1 ≡ length (at.front ++ (ps ++ v ∷ [])) + 0 = omega arith in
+          let same = n.grouped_at (length text + 1) (length (at.front ++ (ps ++ v ∷ []))) 0 long on n.some in
           let sum : length os + length (whole b.width (ps ++ v ∷ [])) ≡ grouped b (length text + 1) =
-          rw (made, length-whole) (n.sum (length at.front) (length (ps ++ v ∷ [])) closed ∙ ap (λ k. k * b.width / 8) (sym all)) ∙ sym (n.grouped_at (length text + 1) (length (at.front ++ (ps ++ v ∷ []))) 0 long on n.some) in
+          rw (made, length-whole) (n.sum (length at.front) (length (ps ++ v ∷ [])) closed ∙ ap (λ k. k * b.width / 8) (sym all)) ∙ sym same in
           rw last (record {
-            cause_is = λ room le. legal_last b (kinds b known) room text (at.front ++ ps) c v text_named is (ap (λ k. k + 1) place ∙ full) ∙ sym (or_else_none _ ∙ ap (want_of room) sum);
+            cause_is = λ room le. legal b known room text (at.front ++ ps) c v text_named is ∙ sym (or_else_none _ ∙ ap (want_of room) sum);
             goes_on = λ none. record {
               chars = text ++ c ∷ [];
               front = at.front ++ (ps ++ v ∷ []);
@@ -171,7 +197,7 @@ piece b known text os ps c v is at =
           let long : length text + 1 ≡ length at.front + (length ps + 1) = omega arith in
           let same : grouped b (length text + 1) ≡ length os = n.grouped_at (length text + 1) (length at.front) (length ps + 1) long closed (omega arith) ∙ sym made in
           rw more (record {
-            cause_is = λ room le. legal_none b (kinds b known) room text (at.front ++ ps) c v text_named is (rw same le) ∙ sym (or_else_none _ ∙ want_enough room (length os + 0) (omega arith));
+            cause_is = λ room le. legal b known room text (at.front ++ ps) c v text_named is ∙ want_enough room _ (rw same le) ∙ sym (or_else_none _ ∙ want_enough room (length os + 0) (omega arith));
             goes_on = λ none. record {
               chars = text ++ c ∷ [];
               front = at.front;
@@ -248,21 +274,21 @@ other b known text os ps c is at =
             | inl plain ↦ let bad : true ≡ false = sym places.0 ∙ plain.unpadded in cc bad
             | inr same ↦ mark_of b same text os ps c (eqb-true c 61 parts.0) (leb-true 2 (length ps) places.1) at
           ]
-      | inr miss ↦ rw miss (at_once b text os c _ (IllegalChar c) refl refl (λ room. illegal b (kinds b known) room text (at.front ++ ps) c (rw (← plain) at at.named) is (rw place miss)))
+      | inr miss ↦ rw miss (at_once b text os c _ (IllegalChar c) refl refl (λ room. illegal b known room text (at.front ++ ps) c (rw (← plain) at at.named) is (rw place miss)))
     ]
 
 -- after `xx=`
 half : (text os ps : List ℕ) (c : ℕ) (o : Option ℕ) → value base64 c ≡ o → IsRead base64 text os ps Half → Stepped base64 text os c (step_half base64 ps c o)
 half text os ps c o is at = by o is
   where
-    one : marks text ≡ 1
-    one = marked text os ps Half at ∙ at.counts.1
+    one : marks base64 text ≡ 1
+    one = marked base64 (inr (inr refl)) text os ps Half at ∙ at.counts.1
 
     place : length text % 4 ≡ 3
     place = omega (arith, (lengths base64 text os ps Half at).text_is, at.counts.1, at.counts.2, at.counts.3)
 
-    sum : length os + length (whole 6 ps) ≡ due text
-    sum = rw one (omega (arith, (lengths base64 text os ps Half at).text_is, (lengths base64 text os ps Half at).octets_are, length-whole 6 ps, at.counts.1, at.counts.2, at.counts.3))
+    sum : length os + length (whole 6 ps) ≡ due base64 text
+    sum = sym (due_is base64 (inr (inr refl)) text os ps Half at)
 
     by : (o : Option ℕ) → value base64 c ≡ o → Stepped base64 text os c (step_half base64 ps c o)
     by (Some v) is = record { cause_is = λ room le. mark_half room c text (Some v) is one place ∙ rw sum refl; goes_on = λ bad. cc bad }
@@ -292,7 +318,7 @@ done text os ps c at =
     let none = at.counts.1 in
     let some = at.counts.2 in
     let all = at.counts.4 in
-    let count : marks text ≡ suc (at.count - 1) = marked text os ps Done at ∙ omega arith in
+    let count : marks base64 text ≡ suc (at.count - 1) = marked base64 (inr (inr refl)) text os ps Done at ∙ omega arith in
     at_once base64 text os c _ TrailingInput refl refl (λ room. mark_done room c text (at.count - 1) count (omega arith))
 
 padded : (b : Base) → b ≡ base64 → (text os ps : List ℕ) (p : Padding) (c : ℕ) → (p ≡ Half) ⊎ (p ≡ Done) → IsRead b text os ps p → Stepped b text os c (step_from b ps p c (value b c))

@@ -9,7 +9,7 @@ ghost use Rattle.dns_codec.specs.Base.{base16, encoded};
 ghost use Rattle.dns_wire.specs.Octets.{greatest_length};
 ghost use Rattle.dns_codec.specs.Decoding.{IsNew};
 ghost use Rattle.dns_codec.specs.Grammar.{Decodes};
-ghost use Rattle.dns_codec.specs.Outcome.{refusal_of, IsRefusedBy};
+ghost use Rattle.dns_codec.specs.Outcome.{refusal, IsRefusedBy};
 ghost use Rattle.dns_codec.specs.Shown.{shown};
 ghost use Rattle.dns_codec.specs.Written.{IsWritten};
 
@@ -57,7 +57,7 @@ pub fn decode<B: OctetsBuilder + EmptyBuilder + FreezeBuilder + Drop>(
 ) -> Result<B::Octets, DecodeError>
     ensures value { IfOk result (λ o. Decodes base16 (chars s.now) (B.Octets.octets o)) }
     ensures succeeds { (octets : List ℕ) → Decodes base16 (chars s.now) octets → length octets ≤ B.sure → IsOk result }
-    ensures refused { IfErr result (λ e. IsRefusedBy (refusal_of base16) B.sure B.most (chars s.now) e) }
+    ensures refused { IfErr result (λ e. IsRefusedBy (refusal base16) B.sure B.most (chars s.now) e) }
 {
     decoder::decode::<B, Base16>(alloc, s)
 }
@@ -79,7 +79,7 @@ pub fn decode_slice(text: &[u8], octets: &mut [u8]) -> Option<usize>
 /// Reads a text of base 16 into a vector, as [`decode`] does.
 pub fn decode_vec<A: Allocator + Copy>(alloc: A, s: &str) -> Result<Vec<u8, A>, DecodeError>
     ensures value { IfOk result (λ octets. Decodes base16 (chars s.now) octets.items) }
-    ensures refused { IfErr result (λ e. IsRefusedBy (refusal_of base16) 0 greatest_length (chars s.now) e) }
+    ensures refused { IfErr result (λ e. IsRefusedBy (refusal base16) 0 greatest_length (chars s.now) e) }
 {
     decode::<Vec<u8, A>>(alloc, s)
 }

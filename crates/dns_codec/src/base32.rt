@@ -9,7 +9,7 @@ ghost use Rattle.std.specs.String.{string_bytes};
 ghost use Rattle.dns_codec.specs.Base.{base32hex, encoded};
 ghost use Rattle.dns_codec.specs.Decoding.{IsNew};
 ghost use Rattle.dns_codec.specs.Grammar.{Decodes};
-ghost use Rattle.dns_codec.specs.Outcome.{refusal_of, IsRefusedBy};
+ghost use Rattle.dns_codec.specs.Outcome.{refusal, IsRefusedBy};
 ghost use Rattle.dns_codec.specs.Shown.{shown};
 ghost use Rattle.dns_codec.specs.Written.{IsWritten};
 
@@ -49,7 +49,7 @@ pub fn decode_hex<B: OctetsBuilder + EmptyBuilder + FreezeBuilder + Drop>(
 ) -> Result<B::Octets, DecodeError>
     ensures value { IfOk result (λ o. Decodes base32hex (chars s.now) (B.Octets.octets o)) }
     ensures succeeds { (octets : List ℕ) → Decodes base32hex (chars s.now) octets → length octets ≤ B.sure → IsOk result }
-    ensures refused { IfErr result (λ e. IsRefusedBy (refusal_of base32hex) B.sure B.most (chars s.now) e) }
+    ensures refused { IfErr result (λ e. IsRefusedBy (refusal base32hex) B.sure B.most (chars s.now) e) }
 {
     decoder::decode::<B, Base32Hex>(alloc, s)
 }

@@ -10,7 +10,7 @@ ghost use Rattle.dns_codec.specs.Bits.{pieces};
 ghost use Rattle.dns_codec.specs.Errors.{error_text};
 ghost use Rattle.dns_codec.specs.Decoding.{IsNew};
 ghost use Rattle.dns_codec.specs.Grammar.{Decodes};
-ghost use Rattle.dns_codec.specs.Outcome.{refusal_of64, IsRefusedBy};
+ghost use Rattle.dns_codec.specs.Outcome.{refusal, IsRefusedBy};
 ghost use Rattle.dns_codec.specs.Shown.{shown};
 ghost use Rattle.dns_codec.specs.Written.{IsWritten};
 
@@ -107,7 +107,7 @@ pub fn decode<B: OctetsBuilder + EmptyBuilder + FreezeBuilder + Drop>(
 ) -> Result<B::Octets, DecodeError>
     ensures value { IfOk result (λ o. Decodes base64 (chars s.now) (B.Octets.octets o)) }
     ensures succeeds { (octets : List ℕ) → Decodes base64 (chars s.now) octets → length octets ≤ B.sure → IsOk result }
-    ensures refused { IfErr result (λ e. IsRefusedBy refusal_of64 B.sure B.most (chars s.now) e) }
+    ensures refused { IfErr result (λ e. IsRefusedBy (refusal base64) B.sure B.most (chars s.now) e) }
 {
     decoder::decode::<B, Base64>(alloc, s)
 }

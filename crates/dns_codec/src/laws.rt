@@ -15,7 +15,7 @@ ghost use Rattle.dns_codec.specs.Converting.{convert_entry, convert_tail};
 ghost use Rattle.dns_codec.specs.Group.{fresh};
 ghost use Rattle.dns_codec.specs.Grammar.{Decodes};
 ghost use Rattle.dns_codec.specs.Decoding.{DecoderState, IsNew, Pushes, Runs, Ends};
-ghost use Rattle.dns_codec.specs.Outcome.{cause_of, first_cause, stored_of, refusal, pushed_refusal, IsPushed};
+ghost use Rattle.dns_codec.specs.Outcome.{cause, first_cause, stored, refusal, pushed_refusal, IsPushed};
 ghost use Rattle.dns_codec.specs.declared.base64.DecodeError.{DecodeError};
 ghost use Rattle.dns_codec.specs.declared.base64.DecodeError.TheVariants.{IllegalChar, ShortBuf};
 
@@ -40,7 +40,7 @@ pub fn encoded_order()
 pub fn pushes()
     ensures { (b : Base) → IsEncoding b → (sure most : ℕ) (h k : DecoderState) (text : List ℕ) (r : Result (List ℕ) DecodeError)
         → IsNew h → Runs b sure most h text k → Ends b sure most k r
-        → IsPushed b (stored_of b) (pushed_refusal b) sure most text k.error r }
+        → IsPushed b (stored b) (pushed_refusal b) sure most text k.error r }
 {}
 
 /// A text of the grammar isn't refused where there is room for its octets, neither by `decode` nor
@@ -84,7 +84,7 @@ pub fn converters_decode()
 /// cause: no character of a text is refused exactly if none has a cause, and so for each beginning.
 pub fn converters_stop()
     ensures { (b : Base) → IsEncoding b → (text : List ℕ) (room : ℕ) → length text + 3 ≤ room
-        → takes_all_of b (map Char text) ≡ is_none (first_cause (cause_of b room) [] text) }
+        → takes_all_of b (map Char text) ≡ is_none (first_cause (cause b room) [] text) }
 {}
 
 /// The tokens of an entry convert as their join.
