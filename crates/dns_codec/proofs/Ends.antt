@@ -1,5 +1,5 @@
 -- The end of a text that is read, and texts of the grammar.
-use Rattle.std.proofs.Common.{◌≡◌, ℕ, ◌+◌, ◌-◌, ◌*◌, ◌/◌, ◌%◌, ◌==◌, ◌≤◌, Bool, true, false, List, [], ◌++◌, length, take, drop, refl, sym, ap, ◌∙◌, arith, Option, Some, None, inl, inr, append-nil}
+use Rattle.std.proofs.Common.{◌≡◌, ℕ, ◌+◌, ◌-◌, ◌%◌, ◌==◌, ◌≤◌, Bool, true, false, List, [], ◌++◌, length, take, drop, refl, sym, ap, ◌∙◌, arith, Option, Some, inl, inr, append-nil}
 use Rattle.std.specs.Prelude.{if◌then◌else◌}
 use Rattle.std.specs.List.{list_any}
 use Rattle.std.proofs.lemmas.Bool.{cases_Bool, eqb-true, eqb-false, eq-eqb, ne_eqb}
@@ -14,11 +14,10 @@ use Rattle.dns_codec.specs.declared.base64.DecodeError.{DecodeError}
 use Rattle.dns_codec.specs.declared.base64.DecodeError.TheVariants.{ShortInput}
 use Rattle.dns_codec.specs.declared.base64.Padding.{Padding}
 use Rattle.dns_codec.specs.declared.base64.Padding.TheVariants.{Absent, Half, Done}
-use Rattle.dns_codec.proofs.Causes.{want_enough}
 use Rattle.dns_codec.proofs.Numbers.{IsPlain, numbers, kinds}
 use Rattle.dns_codec.proofs.RoundTrip.{last64}
 use Rattle.dns_codec.proofs.Steps.{CountsOf, IsRead, lengths, plain_text, due_is, no_cause, closed_octets}
-use Rattle.dns_codec.proofs.Wholes.{length-whole, whole-nil, Name-length}
+use Rattle.dns_codec.proofs.Wholes.{whole-nil, Name-length}
 
 -- why the text is refused at its end, and its value where it isn't
 pub record Ended (b : Base) (text octets pieces : List ℕ) (padding : Padding) : Type 0 where

@@ -23,58 +23,13 @@ pub record Numbers (b : Base) : Type 0 where
   pub count_open : (n g : ℕ) → g ≡ n % b.group → (g + 1 ≡ b.group → ⊥) → g + 1 ≡ (n + 1) % b.group
 
 numbers16 : Numbers base16
-numbers16 = record {
-  below = below16;
-  no_mark = no_mark16;
-  some = omega arith;
-  none = refl;
-  small = λ n. omega arith;
-  place = λ n m r e f g. omega arith;
-  closed = λ m r e f. omega arith;
-  rest = λ n. (omega arith, omega arith, omega arith);
-  bits = λ m e. omega arith;
-  sum = λ m r e. omega arith;
-  grouped_at = λ n m r e f g. omega arith;
-  grouped_grows = λ m n le. omega arith;
-  count_closed = λ n g e f. omega arith;
-  count_open = λ n g e f. omega arith;
-}
+numbers16 = search (arith, below16, no_mark16)
 
 numbers32 : Numbers base32hex
-numbers32 = record {
-  below = below32;
-  no_mark = no_mark32;
-  some = omega arith;
-  none = refl;
-  small = λ n. omega arith;
-  place = λ n m r e f g. omega arith;
-  closed = λ m r e f. omega arith;
-  rest = λ n. (omega arith, omega arith, omega arith);
-  bits = λ m e. omega arith;
-  sum = λ m r e. omega arith;
-  grouped_at = λ n m r e f g. omega arith;
-  grouped_grows = λ m n le. omega arith;
-  count_closed = λ n g e f. omega arith;
-  count_open = λ n g e f. omega arith;
-}
+numbers32 = search (arith, below32, no_mark32)
 
 numbers64 : Numbers base64
-numbers64 = record {
-  below = below64;
-  no_mark = no_mark64;
-  some = omega arith;
-  none = refl;
-  small = λ n. omega arith;
-  place = λ n m r e f g. omega arith;
-  closed = λ m r e f. omega arith;
-  rest = λ n. (omega arith, omega arith, omega arith);
-  bits = λ m e. omega arith;
-  sum = λ m r e. omega arith;
-  grouped_at = λ n m r e f g. omega arith;
-  grouped_grows = λ m n le. omega arith;
-  count_closed = λ n g e f. omega arith;
-  count_open = λ n g e f. omega arith;
-}
+numbers64 = search (arith, below64, no_mark64)
 
 pub numbers : (b : Base) → IsEncoding b → Numbers b
 numbers b (inl is) = rw is numbers16
