@@ -64,12 +64,15 @@ pub fn only_grammar_is_read()
 {}
 
 /// A decoder that failed once keeps failing. The octets stay, and so does the error, unless a later
-/// illegal character takes its place. Where the first error is kept, nothing changes any more.
+/// illegal character takes its place. Where the first error is kept, nothing changes any more. A new
+/// decoder has seen no padding, and in an encoding without padding that stays so.
 pub fn failure_is_kept()
     ensures pushes { (b : Base) (sure most : ℕ) (old new : DecoderState) (c : ℕ) → IsSome old.error → Pushes b sure most old c new
         → (new.octets ≡ old.octets) × IsSome new.error × (b.keeps_first ≡ true → new ≡ old) }
     ensures replaced { (b : Base) → IsEncoding b → (sure most : ℕ) (old new : DecoderState) (c : ℕ) → old.group.padding ≡ fresh.padding → IsSome old.error → Pushes b sure most old c new
         → (new.error ≡ old.error) ⊎ ((value b c ≡ None) × (new.error ≡ Some (IllegalChar c))) }
+    ensures unpadded { (b : Base) → nat_lt 1 b.unit ≡ false → (sure most : ℕ) (old new : DecoderState) (c : ℕ) → old.group.padding ≡ fresh.padding → Pushes b sure most old c new
+        → new.group.padding ≡ fresh.padding }
     ensures ends { (b : Base) (sure most : ℕ) (k : DecoderState) (r : Result (List ℕ) DecodeError) → IsSome k.error → Ends b sure most k r → IsErr r }
 {}
 
