@@ -1,7 +1,9 @@
 //! Names in zone text against rows from outside.
-use super::{Vector, absolute, octets_of, relative};
+use super::{Vector, octets_of};
+use crate::name::UncertainName;
 use dns_wire_name::ZoneName;
 use std::alloc::{AllocError, Global};
+use std::process::Abort;
 use std::test::Fail;
 
 // The octets that stand plain.
@@ -21,29 +23,40 @@ fn octet_text(alloc: Global, octet: u8) -> Result<String, AllocError> {
     Ok(text)
 }
 
+// The text of a name, which is read back as the same octets.
+fn shown(rt: &impl Abort, alloc: Global, name: &Vector) -> Result<String, AllocError> {
+    let printed = format!(in alloc; "{}", ZoneName::new(name))?;
+    let same = match &Vector::from_str(alloc, printed.as_str()) {
+        Ok(read) => {
+            read.as_slice() == name.as_slice() && read.is_absolute() == name.is_absolute()
+        }
+        Err(_) => false,
+    };
+    assert!(rt; same);
+    Ok(printed)
+}
+
 // Each octet alone in a label, in a relative name and in an absolute one.
 #[test]
 fn prints_each_octet(rt: HostRuntime) -> Result<(), Fail> {
     let alloc = rt.alloc();
     for octet in 0..=255u8 {
         let text = octet_text(alloc, octet)?;
-        let octets = [1, octet];
-        let name = relative(&octets);
-        let printed = format!(in alloc; "{}", ZoneName::new(&name))?;
+        let octets = vec![in alloc; 1, octet]?;
+        let Ok(name) = Vector::from_octets(octets) else {
+            assert!(rt; false, "{octet}");
+            return Ok(());
+        };
+        let printed = shown(&rt, alloc, &name)?;
         assert_eq!(rt; printed.as_str(), text.as_str());
-        let read = Vector::from_str(alloc, printed.as_str());
-        assert!(rt;
-            matches!(read, Ok(read) if read.as_slice() == octets.as_slice() && read.is_relative())
-        );
-        let octets = [1, octet, 0];
-        let name = absolute(&octets);
-        let printed = format!(in alloc; "{}", ZoneName::new(&name))?;
+        let Ok(name) = name.into_absolute() else {
+            assert!(rt; false, "{octet}");
+            return Ok(());
+        };
+        let name = UncertainName::Absolute(name);
+        let printed = shown(&rt, alloc, &name)?;
         let text = format!(in alloc; "{text}.")?;
         assert_eq!(rt; printed.as_str(), text.as_str());
-        let read = Vector::from_str(alloc, printed.as_str());
-        assert!(rt;
-            matches!(read, Ok(read) if read.as_slice() == octets.as_slice() && read.is_absolute())
-        );
     }
     Ok(())
 }
@@ -65,8 +78,8 @@ fn prints_rows(rt: HostRuntime) -> Result<(), Fail> {
             assert!(rt; false, "{text}");
             return Ok(());
         };
-        let shown = format!(in alloc; "{}", ZoneName::new(&name))?;
-        assert_eq!(rt; shown.as_str(), printed);
+        let text = shown(&rt, alloc, &name)?;
+        assert_eq!(rt; text.as_str(), printed);
     }
     Ok(())
 }
@@ -94,9 +107,8 @@ fn prints_the_longest_names(rt: HostRuntime) -> Result<(), Fail> {
             assert!(rt; false, "{lengths:?}");
             return Ok(());
         };
-        let printed = format!(in alloc; "{}", ZoneName::new(&name))?;
+        let printed = shown(&rt, alloc, &name)?;
         assert_eq!(rt; printed.as_str().len(), size);
-        assert!(rt; matches!(Vector::from_str(alloc, printed.as_str()), Ok(read) if read == name));
     }
     Ok(())
 }
