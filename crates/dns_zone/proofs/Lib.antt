@@ -6,3 +6,4 @@ pub mod Prints
 pub mod Comments
 pub mod Scanned
 pub mod Written
+pub mod Lines

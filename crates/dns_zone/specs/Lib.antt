@@ -11,3 +11,5 @@ pub mod Documents
 pub mod DocumentSteps
 pub mod Tokens
 pub mod Each
+pub mod Forming
+pub mod Lines

@@ -14,7 +14,8 @@
 //! - [`document::Item`] and [`document::Document`]: a document as a list of items, made of exactly the well-formed lists:
 //!   each token is a word or a quoted text, no comment has a line end, blocks nest and close, and line ends stand outside them.
 //! - [`tokens::ZoneToken`]: a value that is one token; [`tokens::write_each`] and [`tokens::Each`] print such values in a row.
-//! - [`tokens::ZoneTokens`]: a value whose document is always well-formed.
+//! - [`tokens::ZoneTokens`]: a value whose document is always well-formed; [`tokens::Lines`] prints values with a line end after each.
+//!   `specs/Forming.antt` has lemmas to show it (`formed_append`, `formed_in_block`, `formed_lines`).
 //!
 //! What a document is, and its text in each layout, is defined in `specs/Layout.antt`, step by step and by the steps before alone;
 //! `specs/Rows.antt` has worked texts. The laws on well-formed documents are in [`laws`].

@@ -4,10 +4,13 @@ ghost use Rattle.dns_split.specs.Token.{IsToken};
 ghost use Rattle.dns_zone.specs.Documents.{IsWellFormed};
 ghost use Rattle.dns_zone.specs.Layout.{token};
 ghost use Rattle.dns_zone.specs.Each.{each_values, each_nested, each_formed};
+ghost use Rattle.dns_zone.specs.Forming.{formed_lines};
+ghost use Rattle.dns_zone.specs.Lines.{lines_values};
+ghost use Rattle.dns_zone.specs.Nesting.{Fits, lines_of, nested_lines};
 ghost use Rattle.dns_zone.specs.Tokens.{one_each};
 ghost use Rattle.dns_zone.specs.Writers.{Runs};
 
-use crate::zonefile_fmt::{FormatWriter, Result, ZonefileFmt};
+use crate::zonefile_fmt::{FormatWriter, Formatter, Result, ZonefileFmt};
 
 /// A value that prints as one token: a word, or a text between double quotes (RFC 1035, section
 /// 5.1).
@@ -105,4 +108,60 @@ impl<T: ZoneToken> ZoneTokens for Each<'_, T> {
     }
 
     ghost formed = { λ x h. each_formed T.text T.holds T.is_token (each_values x) h };
+}
+
+// States what is known of each value.
+fn known_lines<T: ZoneTokens>(values: &[T])
+    ensures { All T.holds values.now }
+{
+    for value in values {
+        value.known();
+    }
+}
+
+// Prints values one after another, with a line end after each.
+fn write_lines<T: ZonefileFmt, F: FormatWriter>(p: &mut F, values: &[T]) -> Result
+    requires { Fits (lines_of T.document values.now) (F.blocks p.old) }
+    ensures { OnOk result (Runs F.blocks F.step_gives p.old (lines_of T.document values.now) p.new) }
+{
+    for value in values {
+        p.write_show(value)?;
+        p.newline()?;
+    }
+    Ok(())
+}
+
+/// Values one after another, with a line end after each, as the records of a zone.
+#[derive(Drop)]
+pub struct Lines<'a, T> {
+    values: &'a [T],
+}
+
+impl<'a, T> Lines<'a, T> {
+    /// These values, a line end after each.
+    pub fn new(values: &'a [T]) -> Self
+        ensures { lines_values result ≡ values.now }
+    {
+        Lines { values }
+    }
+}
+
+impl<T: ZonefileFmt> ZonefileFmt for Lines<'_, T> {
+    ghost document = { λ x. lines_of T.document (lines_values x) };
+
+    ghost nested = { λ x. nested_lines T.document T.nested (lines_values x) };
+
+    fn fmt<F: FormatWriter>(&self, p: &mut F) -> Result {
+        write_lines(p, self.values)
+    }
+}
+
+impl<T: ZoneTokens> ZoneTokens for Lines<'_, T> {
+    ghost holds = { λ x. All T.holds (lines_values x) };
+
+    fn known(&self) {
+        known_lines(self.values);
+    }
+
+    ghost formed = { λ x h. formed_lines T.document T.holds T.formed (lines_values x) h };
 }
