@@ -7,6 +7,7 @@ mod line;
 mod name;
 mod print;
 pub mod program;
+pub mod room;
 pub mod scanner;
 mod take;
 #[cfg(test)]

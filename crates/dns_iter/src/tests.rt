@@ -15,6 +15,7 @@ mod names;
 mod numbers;
 mod octets;
 mod programs;
+mod rests;
 mod strings;
 mod symbols;
 

@@ -1,0 +1,38 @@
+//! Laws on octets of a fixed capacity, whose room is known.
+ghost use Rattle.std.specs.Prelude.{◌≡◌, ◌≤◌, List, ℕ, ◌∷◌, All, IsOkAnd, length};
+ghost use Rattle.std.specs.List.{AllZip, flat_map};
+ghost use Rattle.dns_charstr.specs.Reading.{HasOctets};
+ghost use Rattle.dns_charstr.specs.Wire.{wire_of};
+ghost use Rattle.dns_scan.specs.Stands.{StandsBefore};
+ghost use Rattle.dns_scan.specs.Tokens.{Token};
+
+use crate::entry::{EntryScanner, TokenText};
+use arrayvec::ArrayVec;
+use dns_charstr::charstr::CharStr;
+use dns_scan::laws::{character_strings_are_scanned_back, string_entries_are_scanned_back};
+use dns_scan::{Scanner, ScannerError};
+
+/// A character string that fits is answered.
+pub fn fitting_strings_are_answered<'a, T: TokenText, E: ScannerError, const N: usize>(
+    scanner: &mut EntryScanner<'a, T, ArrayVec<u8, N>, E>,
+) -> Result<CharStr<ArrayVec<u8, N>>, E>
+    requires { ⟦<EntryScanner<'a, T, ArrayVec<u8, N>, E> as Scanner>⟧.can_scan scanner.old }
+    ensures ready { ⟦<EntryScanner<'a, T, ArrayVec<u8, N>, E> as Scanner>⟧.can_scan scanner.new }
+    ensures fits { (token : Token) (others : List Token) (octets : List ℕ) → StandsBefore (⟦<EntryScanner<'a, T, ArrayVec<u8, N>, E> as Scanner>⟧.next_token) scanner.old (token ∷ others)
+        → HasOctets token octets → length octets ≤ N → length octets ≤ 255 → IsOkAnd result (λ s. s ≡ octets) }
+{
+    character_strings_are_scanned_back(scanner)
+}
+
+/// Character strings whose wire forms fit are answered.
+pub fn fitting_entries_are_answered<'a, T: TokenText, E: ScannerError, const N: usize>(
+    scanner: &mut EntryScanner<'a, T, ArrayVec<u8, N>, E>,
+) -> Result<ArrayVec<u8, N>, E>
+    requires { ⟦<EntryScanner<'a, T, ArrayVec<u8, N>, E> as Scanner>⟧.can_scan scanner.old }
+    ensures ready { ⟦<EntryScanner<'a, T, ArrayVec<u8, N>, E> as Scanner>⟧.can_scan scanner.new }
+    ensures fits { (tokens : List Token) (strings : List (List ℕ)) → StandsBefore (⟦<EntryScanner<'a, T, ArrayVec<u8, N>, E> as Scanner>⟧.next_token) scanner.old tokens
+        → AllZip HasOctets tokens strings → All (λ s. length s ≤ 255) strings → length (flat_map wire_of strings) ≤ N
+        → IsOkAnd result (λ o. o.items ≡ flat_map wire_of strings) }
+{
+    string_entries_are_scanned_back(scanner)
+}
