@@ -19,6 +19,7 @@ pub mod PieceSteps
 pub mod PieceWhole
 pub mod Positions
 pub mod Refused
+pub mod SettledOnce
 pub mod Skips
 pub mod Sound
 pub mod Steps

@@ -189,10 +189,6 @@ abbrev listed : Option Piece → List Piece
 listed None = []
 listed (Some p) = p ∷ []
 
-before_is : (o : Option Piece) (k : List (Result Piece Fault)) → before o k ≡ map Ok (listed o) ++ k
-before_is None k = refl
-before_is (Some p) k = refl
-
 both : (o q : Option Piece) (found : List Piece) (k : List (Result Piece Fault)) → before o (before q (map Ok found ++ k)) ≡ map Ok (listed o ++ (listed q ++ found)) ++ k
 both None None found k = refl
 both None (Some q) found k = refl

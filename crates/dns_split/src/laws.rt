@@ -1,12 +1,12 @@
 //! Laws on splitting.
 //! Each function's contract is the law; calling one does nothing.
-ghost use Rattle.std.specs.Prelude.{◌≡◌, ◌<◌, ◌≤◌, ◌+◌, ◌++◌, ◌∷◌, ◌↔◌, ◌⊎◌, [], List, Bool, ℕ, drop, encode_utf8_all, length, map};
+ghost use Rattle.std.specs.Prelude.{◌≡◌, ◌<◌, ◌≤◌, ◌+◌, ◌++◌, ◌∷◌, ◌↔◌, ◌⊎◌, [], List, Bool, Result, ℕ, drop, encode_utf8_all, length, map};
 ghost use Rattle.std.specs.Str.{IsUtf8};
 ghost use Rattle.dns_split.specs.Splitting.{Splits, Entries};
 ghost use Rattle.dns_split.specs.Lexeme.{Line, bytes};
 ghost use Rattle.dns_split.specs.Viable.{IsBad, IsViable};
 ghost use Rattle.dns_split.specs.Token.{IsToken};
-ghost use Rattle.dns_split.specs.Pieces.{IsFault, IsOctetPieces, IsPieces, cut, end_at, moved_fault, moved_piece, place_of};
+ghost use Rattle.dns_split.specs.Pieces.{Faulty, IsFault, IsOctetPieces, IsPieces, cut, end_at, moved_fault, moved_piece, place_of};
 ghost use Rattle.dns_split.specs.declared.pieces.Piece.{Piece};
 ghost use Rattle.dns_split.specs.declared.pieces.Fault.{Fault};
 
@@ -28,6 +28,11 @@ pub fn tokens_split_alone()
 /// A text has one list of pieces at most.
 pub fn pieces_come_one_way()
     ensures { (text : List ℕ) (found other : List Piece) → IsPieces text found → IsPieces text other → found ≡ other }
+{}
+
+/// A bad text has one place of its fault, and one list of pieces before it.
+pub fn faults_come_one_way()
+    ensures { (text : List ℕ) (given other : List (Result Piece Fault)) (f : Faulty text given) (g : Faulty text other) → (f.found ≡ g.found) × (f.fault.at ≡ g.fault.at) }
 {}
 
 /// The words and quotes of a text's pieces, cut where entries end, are its entries.
