@@ -1,7 +1,7 @@
 -- Faults of a text behind another, with a line's end between.
-use Rattle.std.proofs.Common.{◌≡◌, ℕ, zero, suc, ◌+◌, ◌-◌, ◌*◌, ◌/◌, ◌%◌, ◌<◌, ◌≤◌, Bool, true, false, ◌&&◌, ◌==◌, nat_le, List, [], ◌∷◌, ◌++◌, length, take, drop, replicate, refl, sym, ap, ◌∙◌}
-use Rattle.std.proofs.Common.{subst, arith, append_assoc, append-nil, length-append, inl, inr, ◌⊎◌}
-use Rattle.std.specs.Prelude.{Option, Some, None, option_map, option_and_then, map, not, encode_utf8, encode_utf8_all}
+use Rattle.std.proofs.Common.{◌≡◌, ℕ, zero, suc, ◌+◌, ◌-◌, ◌/◌, ◌%◌, ◌<◌, ◌≤◌, Bool, true, false, ◌&&◌, ◌==◌, nat_le, List, [], ◌∷◌, ◌++◌, length, take, drop, replicate, refl, sym, ap, ◌∙◌}
+use Rattle.std.proofs.Common.{subst, arith, append_assoc, length-append, inl, inr, ◌⊎◌}
+use Rattle.std.specs.Prelude.{Option, Some, None, option_and_then, not, encode_utf8, encode_utf8_all}
 use Rattle.std.specs.List.{flat_map, list_all}
 use Rattle.std.specs.Str.{IsCharBoundary}
 use Rattle.std.proofs.lemmas.Bool.{and_parts, and_from, cases_Bool, leb-true, ltb-true}
@@ -26,7 +26,7 @@ use Rattle.dns_split.specs.Splitting.{Splits, Entries, may_precede, are_lexemes}
 use Rattle.dns_split.specs.Viable.{IsViable, IsBad}
 use Rattle.dns_split.specs.Reader.{step, after, with_open, read, may_end}
 use Rattle.dns_split.specs.Pieces.{quote_at, end_at, IsPieces, EndsQuote, IsWrong, IsFault, moved_wrong, moved_fault}
-use Rattle.dns_split.proofs.Complete.{Some_same, allowed, bytes_all, splits_read}
+use Rattle.dns_split.proofs.Complete.{allowed, bytes_all, splits_read}
 use Rattle.dns_split.proofs.Sound.{map_some, read_splits}
 use Rattle.dns_split.proofs.Viable.{walk, after_had, not_ended, scalars_both, begin_same}
 use Rattle.dns_split.proofs.Steps.{scalars_rest}

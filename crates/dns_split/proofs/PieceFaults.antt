@@ -1,7 +1,7 @@
 -- What the reader of pieces gives of any text.
 use Rattle.std.proofs.Common.{◌≡◌, ℕ, zero, suc, ◌+◌, ◌<◌, Bool, true, false, List, [], ◌∷◌, ◌++◌, length, take, drop, replicate, refl, sym, ap, ◌∙◌, subst, arith, append_assoc, append-nil}
-use Rattle.std.proofs.Common.{length-append, inl, inr, ◌⊎◌, IsUtf8}
-use Rattle.std.specs.Prelude.{Option, Some, None, map, Result, Ok, encode_utf8, encode_utf8_all, option_and_then}
+use Rattle.std.proofs.Common.{inl, inr, ◌⊎◌, IsUtf8}
+use Rattle.std.specs.Prelude.{Some, None, map, Result, Ok, encode_utf8, encode_utf8_all, option_and_then}
 use lib.Utf8.{scalar, scalars}
 use Rattle.std.proofs.Math.Nat.{zero-add}
 use Rattle.std.proofs.lemmas.List.{map-append, drop_at}
@@ -12,18 +12,16 @@ use Rattle.dns_split.specs.declared.reader.Mode.{Mode}
 use Rattle.dns_split.specs.declared.reader.Mode.TheVariants.{Outside, Quoted, Comment, Return, Escape, OneDigit, TwoDigits}
 use Rattle.dns_split.specs.declared.reader.Kind.{Kind}
 use Rattle.dns_split.specs.declared.reader.Kind.TheVariants.{White, LineFeed, CarriageReturn, Opening, Closing, Semicolon, DoubleQuote, Backslash, Plain}
-use Rattle.dns_split.specs.declared.reader.Act.{Act}
-use Rattle.dns_split.specs.declared.reader.Act.TheVariants.{Add, BeginToken, EndToken, EndEntry, FinishToken}
-use Rattle.dns_split.specs.declared.reader.Move.{Move}
+use Rattle.dns_split.specs.declared.reader.Act.TheVariants.{EndToken}
 use Rattle.dns_split.specs.declared.pieces.Piece.{Piece}
 use Rattle.dns_split.specs.declared.pieces.Fault.{Fault}
 use Rattle.dns_split.specs.declared.pieces.Wrong.{Wrong}
-use Rattle.dns_split.specs.declared.pieces.Wrong.TheVariants.{Closing as Late, OpenParenthesis, OpenQuote, LoneReturn}
+use Rattle.dns_split.specs.declared.pieces.Wrong.TheVariants.{Closing as Late, OpenParenthesis, LoneReturn}
 use Rattle.dns_split.specs.Splitting.{Splits, Entries}
 use Rattle.dns_split.specs.Reader.{kind, step, outside_step, comment_step, return_step, read, may_end, with_open}
 use Rattle.dns_split.specs.Viable.{IsBad, IsViable}
 use Rattle.dns_split.specs.Pieces.{quote_at, end_at, begins_blank, pieces, IsPieces, Begins, Settles, EndsQuote, IsWrong, Whole, Faulty, Reads}
-use Rattle.dns_split.specs.Run.{before, closed, finished, start_after, first_blank, blank_after, fault, wrong_at, wrong_at_end, run}
+use Rattle.dns_split.specs.Run.{first_blank, fault, wrong_at, wrong_at_end, run}
 use Rattle.dns_split.proofs.Complete.{Some_same, View, view, v_space, v_tab, v_lf, v_cr, v_open, v_close, v_note, v_quote, v_escape, v_plain}
 use Rattle.dns_split.proofs.Sound.{read_splits}
 use Rattle.dns_split.proofs.Viable.{walk, walk_append, walk_fine, walk_completes, walked_viable, Completes, line_completes, low_encodes, low_scalars, low_close, scalars_both, scalars_left}

@@ -1,5 +1,5 @@
 -- What is given before a fault is all that is settled.
-use Rattle.std.proofs.Common.{◌≡◌, ℕ, zero, suc, ◌+◌, ◌*◌, ◌<◌, ◌≤◌, Bool, true, false, cond, ◌==◌, List, [], ◌∷◌, ◌++◌, length, replicate, refl, sym, ap, ◌∙◌, subst, arith, append_assoc}
+use Rattle.std.proofs.Common.{◌≡◌, ℕ, zero, suc, ◌+◌, ◌*◌, ◌<◌, ◌≤◌, Bool, true, false, cond, ◌==◌, List, [], ◌∷◌, ◌++◌, length, replicate, refl, sym, ap, ◌∙◌, subst, arith}
 use Rattle.std.proofs.Common.{append-nil, inl, inr, ◌⊎◌}
 use Rattle.std.specs.Prelude.{Some, None, map, Result, Ok, encode_utf8_all}
 use lib.Utf8.{scalars}
@@ -20,13 +20,13 @@ use Rattle.dns_split.specs.Pieces.{word_at, quote_at, comment_at, end_at, IsPiec
 use Rattle.dns_split.specs.Run.{before, closed, first_blank, run}
 use Rattle.dns_split.proofs.Complete.{Some_same, first_step, second_step, third_step}
 use Rattle.dns_split.proofs.Sound.{read_splits}
-use Rattle.dns_split.proofs.Viable.{walk, walk_completes, walk_fine, Completes, Fine, step_completes, close_completes, line_completes, low, low_encodes, low_scalars, low_close, scalars_both}
+use Rattle.dns_split.proofs.Viable.{walk, walk_completes, Completes, Fine, step_completes, close_completes, line_completes, low, low_encodes, low_scalars, low_close, scalars_both}
 use Rattle.dns_split.proofs.PieceSteps.{run_step}
 use Rattle.dns_split.proofs.PieceLexemes.{self}
 use Rattle.dns_split.proofs.PieceWhole.{pieces_run}
 use Rattle.dns_split.proofs.PieceSplit.{split_pieces}
 use Rattle.dns_split.proofs.PieceParts.{each_within}
-use Rattle.dns_split.proofs.PieceGiven.{Gives, Stands, is_return, same_first, first_of, tail_of}
+use Rattle.dns_split.proofs.PieceGiven.{Gives, Stands, same_first, first_of, tail_of}
 
 abbrev pub end_of : Piece → ℕ
 end_of (WordAt p) = p.end
