@@ -1,4 +1,4 @@
--- Faults of a text behind another, with a line's end between.
+-- Faults of a text after another, with a line's end between.
 use Rattle.std.proofs.Common.{◌≡◌, ℕ, zero, suc, ◌+◌, ◌-◌, ◌/◌, ◌%◌, ◌<◌, ◌≤◌, Bool, true, false, ◌&&◌, ◌==◌, nat_le, List, [], ◌∷◌, ◌++◌, length, take, drop, replicate, refl, sym, ap, ◌∙◌}
 use Rattle.std.proofs.Common.{subst, arith, append_assoc, length-append, inl, inr, ◌⊎◌}
 use Rattle.std.specs.Prelude.{Option, Some, None, option_and_then, not, encode_utf8, encode_utf8_all}
@@ -99,7 +99,7 @@ goes (c ∷ xs) ys m d t e h = go (step m d c) refl h (λ (v : Move). goes xs ys
         let g = ih v r.0 r.1 r.2 in
         record { place = g.place; walked = ap (option_and_then (λ (w : Move). walk w.mode w.depth xs)) s ∙ g.walked; token = g.token; found = g.found; is_read = g.is_read }
 
--- behind the end of a line where a text may end, another begins
+-- after the end of a line where a text may end, another begins
 line_read : (m : Mode) (d : ℕ) (r : Bool) (t us : List ℕ) (e : Entries) → may_end m d ≡ true → read m d t (characters (Line r) ++ us) ≡ Some e → (f : Entries) × (read Outside 0 [] us ≡ Some f)
 line_read Outside zero false t us e k h = let p = map_some (λ (x : Entries). with_open t ([] ∷ x)) (read Outside 0 [] us) e h in (p.0, p.1)
 line_read Comment zero false t us e k h = let p = map_some (λ (x : Entries). with_open t ([] ∷ x)) (read Outside 0 [] us) e h in (p.0, p.1)
@@ -141,7 +141,7 @@ behind_line x w r e g s t =
 joined_more : (x l z w : List ℕ) → (x ++ (l ++ z)) ++ w ≡ x ++ (l ++ (z ++ w))
 joined_more x l z w = append_assoc x (l ++ z) w ∙ ap (λ t. x ++ t) (append_assoc l z w)
 
--- so a beginning is viable exactly if it is behind such a text
+-- so a beginning is viable exactly if it is so after such a text
 pub viable_behind : (x z : List ℕ) (r : Bool) (e : Entries) → Splits x e → IsViable (x ++ (bytes (Line r) ++ z)) → IsViable z
 viable_behind x z r e s v =
     let f = behind_line x (z ++ v.tail) r e v.found s (subst (λ l. Splits l v.found) (joined_more x (bytes (Line r)) z v.tail) v.splits) in
@@ -155,7 +155,7 @@ viable_joined x z r e s v = record {
   splits = subst (λ l. Splits l (e ++ v.found)) (sym (joined_more x (bytes (Line r)) z v.tail)) (split_joined x (z ++ v.tail) r e v.found s v.splits);
 }
 
--- the octets of the texts behind each other
+-- the octets of the texts one after the other
 take_joined : (x l y : List ℕ) (n : ℕ) → take (length x + length l + n) (x ++ (l ++ y)) ≡ x ++ (l ++ take n y)
 take_joined x l y n =
     ap (λ i. take (i + n) (x ++ (l ++ y))) (sym (length-append x l)) ∙ ap (take (length (x ++ l) + n)) (sym (append_assoc x l y)) ∙ take-append-add (x ++ l) y n ∙ append_assoc x l (take n y)
@@ -182,7 +182,7 @@ bad_joined x y r e n s b =
       };
     }
 
--- with a double quote behind it, the same quoted text ends
+-- with a double quote after it, the same quoted text ends
 quote_joined : (x front : List ℕ) (r : Bool) (e : Entries) (i : ℕ) → Splits x e → EndsQuote front i → EndsQuote (x ++ (bytes (Line r) ++ front)) (length x + length (bytes (Line r)) + i)
 quote_joined x front r e i s h more all there =
     let l : List ℕ = bytes (Line r) in

@@ -90,7 +90,7 @@ is_return _ = false
 false_true : {A : Type 0} → false ≡ true → A
 false_true h = cc
 
--- nothing but CR leads behind a CR, and nothing is open there
+-- nothing but CR leads past a CR, and nothing is open there
 abbrev Returns : Mode → ℕ → Move → Type 0
 Returns m c v = is_return v.mode ≡ true → (c ≡ 13) × ((s at : ℕ) → start_after m v.mode v.act s at ≡ at + 1)
 
@@ -166,7 +166,7 @@ step_returns (Escape q) d c v h = one_other (is_digit c) (nat_le c 50) (nat_le 3
 step_returns (OneDigit q n) d c v h = only_other (is_digit c && nat_le (10 * n + (c - 48)) 25) (OneDigit q n) c (TwoDigits q (10 * n + (c - 48))) d v refl h
 step_returns (TwoDigits q n) d c v h = only_other (is_digit c && nat_le (10 * n + (c - 48)) 255) (TwoDigits q n) c (home q) d v (home_other q) h
 
--- where what is open begins: behind a CR, here
+-- where what is open begins: after a CR, here
 abbrev pub Stands : Mode → ℕ → ℕ → Type 0
 Stands m s at = (s ≤ at) × (is_return m ≡ true → s ≡ at)
 

@@ -146,7 +146,7 @@ one_apart q v d s n few h = digit_apart (OneDigit q v) (TwoDigits q (10 * v + 0)
 escape_apart : (q : Within) (d s n : ℕ) → s ≤ n → Apart (Escape q) d s n
 escape_apart q d s n h = digit_apart (Escape q) (OneDigit q 0) d s n (first_step q d 0 (omega arith)) refl (one_apart q 0 d s (n + 1) (omega arith) (omega arith))
 
--- behind a CR in parentheses
+-- after a CR in parentheses
 return_apart : (d n : ℕ) → Apart Return (suc d) n n
 return_apart d n =
     let a = outside_apart (suc d) (n + 1) (n + 1) (omega arith) in
@@ -225,7 +225,7 @@ apart_longest ys m d s found other a gives ok h begins =
     go i j x y (inl b) = b
     go i j x y (inr b) = elim (a.differ x y b.0 _ _ b.3 b.4) [ ]
 
--- behind a CR outside parentheses, the end of the entry is settled
+-- after a CR outside parentheses, the end of the entry is settled
 abbrev pub Ended : List Piece → List Piece → ℕ → Type 0
 Ended other found n = (b : Bool) × (other ≡ found ++ end_at (n + 1) b ∷ [])
 

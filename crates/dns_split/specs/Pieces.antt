@@ -71,7 +71,7 @@ Begins first all = (more : List Piece) × (all ≡ first ++ more)
 abbrev pub BeginsPieces : List ℕ → List Piece → Type 0
 BeginsPieces front found = (rest : List ℕ) (all : List Piece) → IsPieces (front ++ rest) all → Begins found all
 
--- with a double quote behind it, the quoted text from i on ends
+-- with a double quote after it, the quoted text from i on ends
 abbrev pub EndsQuote : List ℕ → ℕ → Type 0
 EndsQuote front i = (more : List ℕ) (all : List Piece) → IsPieces (front ++ (34 ∷ more)) all → (first : List Piece) × (last : List Piece) × (all ≡ first ++ quote_at i (length front + 1) ∷ last)
 
