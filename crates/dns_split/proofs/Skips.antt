@@ -1,6 +1,5 @@
 -- Octets passed over, and the reader that takes them one by one.
-use Rattle.std.proofs.Common.{◌≡◌, ℕ, zero, suc, ◌+◌, ◌-◌, ◌*◌, ◌<◌, ◌≤◌, arith, rules, Bool, true, false, cond, not, ◌&&◌, ◌==◌, nat_le, nat_lt, List, ◌∷◌, length, drop, refl, sym, ap, ◌∙◌, subst, ◌⊎◌, inl, inr}
-use Rattle.std.specs.Prelude.{Some, None, Ok}
+use Rattle.std.proofs.Common.{◌≡◌, ℕ, zero, suc, ◌+◌, ◌-◌, ◌*◌, ◌<◌, ◌≤◌, arith, rules, Bool, true, false, ◌&&◌, nat_le, List, ◌∷◌, length, drop, refl, ap, ◌∙◌, subst, inl, inr}
 use Rattle.std.proofs.Common.{get_or}
 use Rattle.std.proofs.lemmas.List.{drop_more}
 use Rattle.std.proofs.lemmas.Bool.{eq-eqb, cond-true, cond-false, cases_lt, le-leb}
@@ -14,8 +13,8 @@ use Rattle.dns_split.specs.declared.skip.Class.TheVariants.{Word, Quote, Comment
 use Rattle.dns_split.specs.declared.skip.Place.{Place}
 use Rattle.dns_symbol.specs.Symbol.{is_digit, is_printable}
 use Rattle.dns_split.specs.Reader.{home, move_to, step}
-use Rattle.dns_split.specs.Run.{run, before, closed, Still, SameRun, Skips, Passes, Gives, first_blank}
-use Rattle.dns_split.specs.Skip.{is_in, EachIn, RunIn}
+use Rattle.dns_split.specs.Run.{run, before, closed, Still, SameRun, Skips, Passes}
+use Rattle.dns_split.specs.Skip.{is_in, EachIn}
 use Rattle.dns_split.proofs.PieceSteps.{run_step}
 
 -- ---- classes
@@ -75,7 +74,8 @@ blank_run text i (suc r) w all d b =
     ∙ subst (λ j. run Outside d (i + 1) (i + 1) b (drop (i + 1) text) ≡ run Outside d j j b (drop j text)) further rest
 
 pub blank_between : (text : List ℕ) (i j : ℕ) → i ≤ j → j ≤ length text → EachIn Blank text i j → (d : ℕ) (b : Bool) → run Outside d i i b (drop i text) ≡ run Outside d j j b (drop j text)
-blank_between text i j o w all d b = subst (λ e. run Outside d i i b (drop i text) ≡ run Outside d e e b (drop e text)) (omega arith) (blank_run text i (j - i) (omega (arith, o, w)) (λ n from to. all n from (omega (arith, o, to))) d b)
+blank_between text i j o w all d b = subst (λ e. run Outside d i i b (drop i text) ≡ run Outside d e e b (drop e text)) (omega arith)
+    (blank_run text i (j - i) (omega (arith, o, w)) (λ n from to. all n from (omega (arith, o, to))) d b)
 
 -- ---- escapes
 -- one octet that joins the token
@@ -94,7 +94,8 @@ third_left : (q : Within) (n c d s at : ℕ) (b : Bool) (bs : List ℕ) → is_d
 third_left InWord n c d s at b bs g h = run_step (TwoDigits InWord n) d s at b c bs _ (cond-true _ _ _ (both _ _ g h))
 third_left InQuote n c d s at b bs g h = run_step (TwoDigits InQuote n) d s at b c bs _ (cond-true _ _ _ (both _ _ g h))
 
-second_left : (q : Within) (n c d s at : ℕ) (b : Bool) (bs : List ℕ) → is_digit c ≡ true → nat_le (10 * n + (c - 48)) 25 ≡ true → run (OneDigit q n) d s at b (c ∷ bs) ≡ run (TwoDigits q (10 * n + (c - 48))) d s (at + 1) b bs
+second_left : (q : Within) (n c d s at : ℕ) (b : Bool) (bs : List ℕ) → is_digit c ≡ true → nat_le (10 * n + (c - 48)) 25 ≡ true
+    → run (OneDigit q n) d s at b (c ∷ bs) ≡ run (TwoDigits q (10 * n + (c - 48))) d s (at + 1) b bs
 second_left q n c d s at b bs g h = run_step (OneDigit q n) d s at b c bs _ (cond-true _ _ _ (both _ _ g h))
 
 first_left : (q : Within) (c d s at : ℕ) (b : Bool) (bs : List ℕ) → is_digit c ≡ true → nat_le c 50 ≡ true → run (Escape q) d s at b (c ∷ bs) ≡ run (OneDigit q (c - 48)) d s (at + 1) b bs
@@ -105,7 +106,8 @@ begun InWord d s at b bs = refl
 begun InQuote d s at b bs = refl
 
 -- a simple escape, and one of three digits, in a text
-simple_escape : (q : Within) (text : List ℕ) (i : ℕ) → i + 2 ≤ length text → get_or text i 0 ≡ 92 → is_printable (get_or text (i + 1) 0) ≡ true → is_digit (get_or text (i + 1) 0) ≡ false → SameRun (home q) text i (i + 2)
+simple_escape : (q : Within) (text : List ℕ) (i : ℕ) → i + 2 ≤ length text → get_or text i 0 ≡ 92 → is_printable (get_or text (i + 1) 0) ≡ true → is_digit (get_or text (i + 1) 0) ≡ false
+    → SameRun (home q) text i (i + 2)
 simple_escape q text i w e p g d s b =
     ap (run (home q) d s i b) (at_drop text i (omega arith) ∙ ap (λ c. c ∷ drop (i + 1) text) e) ∙ begun q d s i b (drop (i + 1) text)
     ∙ ap (run (Escape q) d s (i + 1) b) (at_drop text (i + 1) (omega arith)) ∙ simple_left q (get_or text (i + 1) 0) d s (i + 1) b (drop (i + 1 + 1) text) p g
@@ -132,7 +134,8 @@ digits_escape q text i x y z w e gx ex gy ey gz ez small d s b =
     ∙ ap (λ j. run (home q) d s j b (drop j text)) (omega arith)
 
 -- each in a word and in a quoted text
-pub simple_skipped : (text : List ℕ) (i : ℕ) → i + 2 ≤ length text → get_or text i 0 ≡ 92 → is_printable (get_or text (i + 1) 0) ≡ true → is_digit (get_or text (i + 1) 0) ≡ false → Skips text i (i + 2)
+pub simple_skipped : (text : List ℕ) (i : ℕ) → i + 2 ≤ length text → get_or text i 0 ≡ 92 → is_printable (get_or text (i + 1) 0) ≡ true → is_digit (get_or text (i + 1) 0) ≡ false
+    → Skips text i (i + 2)
 simple_skipped text i w e p g = record { on = omega arith; within = w; word = simple_escape InWord text i w e p g; quoted = simple_escape InQuote text i w e p g }
 
 pub digits_skipped : (text : List ℕ) (i x y z : ℕ) → i + 4 ≤ length text → get_or text i 0 ≡ 92 → is_digit (get_or text (i + 1) 0) ≡ true → get_or text (i + 1) 0 ≡ x + 48
