@@ -61,7 +61,7 @@ fn first_set(mask: u64) -> usize
     }
 }
 
-#[inline(always)]
+#[inline]
 fn word_run(octets: &[u8], at: usize) -> usize
     requires { at + LANES ≤ length octets.now }
     ensures { RunIn Class.Word octets.now at result }
@@ -73,7 +73,7 @@ fn word_run(octets: &[u8], at: usize) -> usize
     first_set(ends.to_bitmask())
 }
 
-#[inline(always)]
+#[inline]
 fn quote_run(octets: &[u8], at: usize) -> usize
     requires { at + LANES ≤ length octets.now }
     ensures { RunIn Class.Quote octets.now at result }
@@ -85,7 +85,7 @@ fn quote_run(octets: &[u8], at: usize) -> usize
     first_set(ends.to_bitmask())
 }
 
-#[inline(always)]
+#[inline]
 fn comment_run(octets: &[u8], at: usize) -> usize
     requires { at + LANES ≤ length octets.now }
     ensures { RunIn Class.Comment octets.now at result }
@@ -94,7 +94,7 @@ fn comment_run(octets: &[u8], at: usize) -> usize
     first_set(v.simd_le(u8x16::splat(b'\r')).to_bitmask())
 }
 
-#[inline(always)]
+#[inline]
 fn blank_run(octets: &[u8], at: usize) -> usize
     requires { at + LANES ≤ length octets.now }
     ensures { RunIn Class.Blank octets.now at result }
@@ -105,7 +105,7 @@ fn blank_run(octets: &[u8], at: usize) -> usize
 }
 
 /// How many of the octets of one load are of a class, from the first.
-#[inline(always)]
+#[inline]
 fn run_in(class: Class, octets: &[u8], at: usize) -> usize
     requires { at + LANES ≤ length octets.now }
     ensures { RunIn class octets.now at result }
