@@ -5,8 +5,10 @@
 //! - [`base16`], [`base32`], [`base64`]: the encodings of RFC 4648 sections 8, 7 and 4.
 //! - [`scan`]: typed values out of the tokens of an entry.
 //! - [`name`] and [`chain`]: names that are absolute or relative, and one after another.
+//! - [`wire`]: names and labels in wire form, octets and their builders.
 //! - [`zonefile_fmt`] and [`document`]: zone text in three layouts, and `split`, which reads it.
 //! - [`entry`]: lines of typed fields that print as one entry.
+//! - [`record`]: record data between zone text and values, for those who write record types.
 //! - [`program`]: the command `dnstext` over its words.
 //! - [`laws`]: what holds of several of these together.
 #![tactic(auto)]
@@ -25,13 +27,31 @@ pub mod symbol {
     };
 }
 
+/// Names and labels in wire form, octets and their builders.
+pub mod wire {
+    pub use dns_wire::{
+        AsOctets, AsOctetsMut, EmptyBuilder, FreezeBuilder, FromBuilder, OctetsBuilder, ShortBuf,
+        Truncate, Ttl,
+    };
+    pub use dns_wire_name::{Label, Name, RelativeName, ToLabelIter, ToName, ZoneName};
+}
+
+/// Record data between zone text and values.
+pub mod record {
+    pub use dns_record::fields::{Field, FieldValue, scan_fields, write_unquoted};
+    pub use dns_record::name_token::NameToken;
+    pub use dns_record::record::{RecordData, record_reads_back, scan_record};
+    pub use dns_record::several::{SomeOctets, Strings, base64_rest, hex_rest, strings_rest};
+}
+
 /// Typed values out of the tokens of an entry.
 pub mod scan {
+    pub use dns_iter::entry::{EntryScanner, TokenText, entry_scanner};
     pub use dns_iter::{IterScanner, StrError};
     pub use dns_scan::{ConvertSymbols, Scan, Scanner, ScannerError};
 }
 
 /// What holds of several of these together: each function's contract is a law.
 pub mod laws {
-    pub use dns_laws::{encodings, headline, layouts, lines, strings};
+    pub use dns_laws::{encodings, entries, headline, layouts, lines, names, strings};
 }

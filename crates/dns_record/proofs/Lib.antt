@@ -1,0 +1,4 @@
+pub mod FieldsBack
+pub mod OneEntry
+pub mod Pieces
+pub mod StringsBack

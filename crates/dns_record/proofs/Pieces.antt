@@ -1,0 +1,180 @@
+-- The document of pieces: it is well-formed, and one entry whose tokens hold the texts of the values.
+use Rattle.std.proofs.Common.{ℕ, zero, suc, ◌≡◌, ◌<◌, ◌≤◌, ◌==◌, ◌&&◌, Bool, true, false, List, [], ◌∷◌, ◌++◌, length, map, refl, sym, ap, subst, ◌∙◌, arith, inl, inr}
+use Rattle.std.specs.Prelude.{All, encode_utf8_all, nat_le, if◌then◌else◌}
+use Rattle.std.specs.Fmt.{decimal}
+use Rattle.std.specs.List.{list_all, flat_map}
+use Rattle.std.proofs.lemmas.Bool.{and_parts}
+use Rattle.std.proofs.lemmas.Bool.Decides.{nat_tests}
+use Rattle.std.proofs.lemmas.Str.{encode_ascii}
+use Rattle.dns_symbol.specs.Symbol.{is_printable}
+use Rattle.dns_symbol.specs.Printed.{symbol_of, is_quoted_escape}
+use Rattle.dns_symbol.specs.declared.symbol.Symbol.TheVariants.{Char, SimpleEscape, DecimalEscape}
+use Rattle.dns_symbol.proofs.PrintedForms.{printed_bytes}
+use Rattle.std.proofs.lemmas.List.Elements.{All-head, All-tail}
+use Rattle.dns_charstr.specs.Printed.{quoted_text}
+use Rattle.dns_charstr.proofs.ReadBack.{quotes}
+use Rattle.dns_codec.specs.Base.{base16, base64, encoded}
+use Rattle.dns_entry.specs.Field.{field_text, text_octets}
+use Rattle.dns_entry.proofs.Words.{number_word, hex_word, base64_word, text_word}
+use Rattle.dns_split.specs.Lexeme.{is_note_char, is_quote_symbol}
+use Rattle.dns_split.specs.Splitting.{with_token}
+use Rattle.dns_split.specs.Token.{IsToken, IsWord, IsQuote}
+use Rattle.dns_scan.specs.Octets.{quoted_token, unquoted_token}
+use Rattle.dns_scan.specs.Tokens.{Token}
+use Rattle.dns_zone.specs.Documents.{IsWellFormed, IsComment}
+use Rattle.dns_zone.specs.Layout.{Step}
+use Rattle.dns_zone.specs.Nesting.{is_nested, IsNested, has_line, from_none_test}
+use Rattle.dns_zone_laws.specs.Entries.{document_entries}
+use Rattle.dns_wire_name.specs.Wire.{EndsInRoot}
+use Rattle.dns_wire_name.specs.ZoneText.{zone_text}
+use Rattle.dns_zone_laws.proofs.ZoneNames.{zone_word}
+use Rattle.dns_iter.specs.Contents.{IsContent, AreContents}
+use Rattle.dns_record.specs.Pieces.{Piece, field, unquoted, note, opens, closes, value_token, step_of, steps_of, values_of, is_note_ascii, is_laid_out, IsLaidOut}
+use Rattle.dns_record.specs.Values.{Value, number8, number16, number32, name, hex, base64_octets, string, IsValue, IsText, AreValues, AreTexts}
+
+-- ---- tokens and comments
+
+quote_symbol : (o : ℕ) → o < 256 → is_quote_symbol (symbol_of is_quoted_escape o) ≡ true
+quote_symbol o small = by (is_printable o) (is_quoted_escape o) refl refl
+  where
+    by : (p e : Bool) → is_printable o ≡ p → is_quoted_escape o ≡ e → is_quote_symbol (if p then (if e then SimpleEscape o else Char o) else DecimalEscape o) ≡ true
+    by true true h k = Prim.grind (arith, nat_tests)
+    by true false h k = Prim.grind (arith, nat_tests)
+    by false e h k = Prim.grind (arith, nat_tests)
+
+quote_symbols : (s : List ℕ) → All (λ o. o < 256) s → list_all is_quote_symbol (map (symbol_of is_quoted_escape) s) ≡ true
+quote_symbols [] h = refl
+quote_symbols (o ∷ os) h = rw (quote_symbol o (All-head (λ b. b < 256) o os h), quote_symbols os (All-tail (λ b. b < 256) o os h)) refl
+
+-- the quoted text of some octets
+string_quote : (s : List ℕ) → All (λ o. o < 256) s → IsQuote (encode_utf8_all (quoted_text s))
+string_quote s h = record {
+  symbols = map (symbol_of is_quoted_escape) s;
+  valid = quote_symbols s h;
+  spelled = quotes s ∙ ap (λ l. 34 ∷ (l ++ 34 ∷ [])) (printed_bytes is_quoted_escape s);
+}
+
+has_root : (labels : List (List ℕ)) → EndsInRoot labels → labels ≡ [] → ⊥
+has_root labels (front, e) none = by front (sym none ∙ e)
+  where
+    by : (f : List (List ℕ)) → [] ≡ f ++ [] ∷ [] → ⊥
+    by [] h = cc
+    by (x ∷ xs) h = cc
+
+-- what a value's token holds
+held : Value → Token
+held (number8 n) = decimal n
+held (number16 n) = decimal n
+held (number32 n) = decimal n
+held (name labels) = zone_text labels
+held (hex octets) = encoded base16 octets
+held (base64_octets octets) = encoded base64 octets
+held (string octets) = quoted_token octets
+
+value_content : (v : Value) → IsValue v → IsContent (value_token v) (held v)
+unfolding held string_quote
+value_content (number8 n) is = inl (number_word n (omega (arith, is)), refl)
+value_content (number16 n) is = inl (number_word n (omega (arith, is)), refl)
+value_content (number32 n) is = inl (number_word n is, refl)
+value_content (name labels) is = inl (zone_word labels (has_root labels is.1) is.2, refl)
+value_content (hex octets) is = inl (hex_word octets is.0 is.1, refl)
+value_content (base64_octets octets) is = inl (base64_word octets is.0 is.1, refl)
+value_content (string octets) is = inr (string_quote octets is.0, printed_bytes is_quoted_escape octets)
+
+value_text : (v : Value) → IsText v (held v)
+unfolding held
+value_text (number8 n) = refl
+value_text (number16 n) = refl
+value_text (number32 n) = refl
+value_text (name labels) = refl
+value_text (hex octets) = refl
+value_text (base64_octets octets) = refl
+value_text (string octets) = inr refl
+
+unquoted_content : (octets : List ℕ) → All (λ o. o < 256) octets → IsContent (field_text (text_octets octets)) (unquoted_token octets)
+unquoted_content [] all = inr (record { symbols = []; valid = refl; spelled = refl }, refl)
+unquoted_content (o ∷ os) all = inl (text_word o os all, refl)
+
+is_token : (token content : List ℕ) → IsContent token content → IsToken token
+is_token token content (inl h) = inl h.0
+is_token token content (inr h) = inr h.0
+
+note_plain : (text : List ℕ) → list_all is_note_ascii text ≡ true → list_all is_note_char text ≡ true
+note_plain [] h = refl
+note_plain (c ∷ cs) h =
+    let parts = and_parts (is_note_ascii c) (list_all is_note_ascii cs) h in
+    rw (one c parts.0, note_plain cs parts.1) refl
+  where
+    one : (c : ℕ) → is_note_ascii c ≡ true → is_note_char c ≡ true
+    one c k = Prim.grind (arith, nat_tests)
+
+note_low : (c : ℕ) → is_note_ascii c ≡ true → c < 128
+note_low c h = Prim.grind (arith, nat_tests)
+
+note_bytes : (text : List ℕ) → list_all is_note_ascii text ≡ true → encode_utf8_all text ≡ text
+note_bytes [] h = refl
+note_bytes (c ∷ cs) h =
+    let parts = and_parts (is_note_ascii c) (list_all is_note_ascii cs) h in
+    λ i. encode_ascii c (note_low c parts.0) i ++ note_bytes cs parts.1 i
+
+note_comment : (text : List ℕ) → list_all is_note_ascii text ≡ true → IsComment text
+note_comment text h = record { characters = text; plain = note_plain text h; spelled = note_bytes text h }
+
+-- ---- the document
+
+pub pieces_formed : (n : ℕ) (ps : List Piece) → AreValues (values_of ps) → is_laid_out n ps ≡ true → IsWellFormed n (steps_of ps)
+pieces_formed zero [] is laid = tt
+pieces_formed (suc n) [] is laid = let no = from_none_test (suc n) laid in absurd (omega (arith, no))
+pieces_formed n (opens ∷ ps) is laid = pieces_formed (suc n) ps is laid
+pieces_formed zero (closes ∷ ps) is laid = cc
+pieces_formed (suc n) (closes ∷ ps) is laid = pieces_formed n ps is laid
+pieces_formed zero (note text ∷ ps) is laid = let parts = and_parts (list_all is_note_ascii text) (is_laid_out zero ps) laid in (note_comment text parts.0, pieces_formed zero ps is parts.1)
+pieces_formed (suc n) (note text ∷ ps) is laid = let parts = and_parts (list_all is_note_ascii text) (is_laid_out (suc n) ps) laid in (note_comment text parts.0, pieces_formed (suc n) ps is parts.1)
+pieces_formed zero (field v ∷ ps) is laid = (is_token (value_token v) (held v) (value_content v is.0), pieces_formed zero ps is.1 laid)
+pieces_formed (suc n) (field v ∷ ps) is laid = (is_token (value_token v) (held v) (value_content v is.0), pieces_formed (suc n) ps is.1 laid)
+pieces_formed zero (unquoted os ∷ ps) is laid = (is_token (field_text (text_octets os)) (unquoted_token os) (unquoted_content os is.0.0), pieces_formed zero ps is.1 laid)
+pieces_formed (suc n) (unquoted os ∷ ps) is laid = (is_token (field_text (text_octets os)) (unquoted_token os) (unquoted_content os is.0.0), pieces_formed (suc n) ps is.1 laid)
+
+-- the tokens, and what they hold
+pub tokens_of : List Piece → List Token
+tokens_of [] = []
+tokens_of (field v ∷ ps) = value_token v ∷ tokens_of ps
+tokens_of (unquoted os ∷ ps) = field_text (text_octets os) ∷ tokens_of ps
+tokens_of (note text ∷ ps) = tokens_of ps
+tokens_of (opens ∷ ps) = tokens_of ps
+tokens_of (closes ∷ ps) = tokens_of ps
+
+pub held_of : List Piece → List Token
+held_of [] = []
+held_of (field v ∷ ps) = held v ∷ held_of ps
+held_of (unquoted os ∷ ps) = unquoted_token os ∷ held_of ps
+held_of (note text ∷ ps) = held_of ps
+held_of (opens ∷ ps) = held_of ps
+held_of (closes ∷ ps) = held_of ps
+
+pub pieces_entry : (ps : List Piece) → document_entries (steps_of ps) ≡ tokens_of ps ∷ []
+unfolding tokens_of
+pieces_entry [] = refl
+pieces_entry (field v ∷ ps) = ap (with_token (value_token v)) (pieces_entry ps)
+pieces_entry (unquoted os ∷ ps) = ap (with_token (field_text (text_octets os))) (pieces_entry ps)
+pieces_entry (note text ∷ ps) = pieces_entry ps
+pieces_entry (opens ∷ ps) = pieces_entry ps
+pieces_entry (closes ∷ ps) = pieces_entry ps
+
+pub pieces_contents : (ps : List Piece) → AreValues (values_of ps) → AreContents (tokens_of ps) (held_of ps)
+unfolding tokens_of held_of
+pieces_contents [] is = tt
+pieces_contents (field v ∷ ps) is = (value_content v is.0, pieces_contents ps is.1)
+pieces_contents (unquoted os ∷ ps) is = (unquoted_content os is.0.0, pieces_contents ps is.1)
+pieces_contents (note text ∷ ps) is = pieces_contents ps is
+pieces_contents (opens ∷ ps) is = pieces_contents ps is
+pieces_contents (closes ∷ ps) is = pieces_contents ps is
+
+pub pieces_texts : (ps : List Piece) → AreTexts (values_of ps) (held_of ps) []
+unfolding held_of
+pieces_texts [] = refl
+pieces_texts (field v ∷ ps) = (value_text v, pieces_texts ps)
+pieces_texts (unquoted os ∷ ps) = (inl refl, pieces_texts ps)
+pieces_texts (note text ∷ ps) = pieces_texts ps
+pieces_texts (opens ∷ ps) = pieces_texts ps
+pieces_texts (closes ∷ ps) = pieces_texts ps

@@ -1,0 +1,16 @@
+use Rattle.std.proofs.Common.{ℕ, ◌<◌, List, [], ◌∷◌}
+use Rattle.std.proofs.lemmas.List.Elements.{recursion_from_All}
+use Rattle.dns_record.specs.Values.{hex}
+use Rattle.dns_record.proofs.FieldsBack.{hex_text, some_rest, no_rest}
+use Rattle.dns_record.proofs.several.hex_rest.Goals as goal
+
+pub returns-in-Ok-clause-back : goal.returns-in-Ok-clause-back
+returns-in-Ok-clause-back g c = λ octets tokens is texts stands.
+    let given = c.in-Ok.ensures in
+    some_rest g.S.Scanner.next_token g.S.Error.ScannerError.cause g.S.Octets.AsOctets.octets _ (λ o. hex o) octets tokens _ _ c.some_octets.result is.0.1
+    (given.back octets tokens (recursion_from_All (λ o. o < 256) octets is.0.0) stands (hex_text octets tokens texts)) (given.rest tokens stands) c.some_octets.ensures
+
+pub returns-in-Err-clause-back : goal.returns-in-Err-clause-back
+returns-in-Err-clause-back g c = λ octets tokens is texts stands.
+    no_rest g.S.Scanner.next_token g.S.Error.ScannerError.cause g.S.Octets.AsOctets.octets _ (λ o. hex o) octets tokens _ {T = List ℕ} (λ o. hex o ∷ []) (hex octets ∷ []) _
+    (c.in-Err.ensures.back octets tokens (recursion_from_All (λ o. o < 256) octets is.0.0) stands (hex_text octets tokens texts))

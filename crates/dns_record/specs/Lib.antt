@@ -1,0 +1,6 @@
+pub mod FieldLaws
+pub mod NameReads
+pub mod Pieces
+pub mod ReadsBack
+pub mod Several
+pub mod Values

@@ -1,0 +1,65 @@
+-- The pieces of a record's text: fields, and how the multiline layout sets them.
+use Rattle.std.specs.Prelude.{ℕ, zero, suc, ◌≡◌, ◌==◌, ◌&&◌, Bool, true, false, List, [], ◌∷◌, map, nat_le, encode_utf8_all}
+use Rattle.std.specs.Fmt.{decimal}
+use Rattle.std.specs.List.{list_all}
+use Rattle.dns_codec.specs.Base.{base16, base64, encoded}
+use Rattle.dns_charstr.specs.Printed.{quoted_text}
+use Rattle.dns_entry.specs.Field.{field_text, text_octets}
+use Rattle.dns_zone.specs.Layout.{Step, token, begin, end, comment}
+use Rattle.dns_wire_name.specs.ZoneText.{zone_text}
+use Rattle.dns_record.specs.Values.{Value, number8, number16, number32, name, hex, base64_octets, string}
+
+-- a field, a character string that needs no double quotes, a note on what stands before it, or a parenthesis of a block
+pub data Piece : Type 0 where
+  field : Value → Piece
+  unquoted : List ℕ → Piece
+  note : List ℕ → Piece
+  opens : Piece
+  closes : Piece
+
+-- the token of a value: a character string stands between double quotes
+abbrev pub value_token : Value → List ℕ
+value_token (number8 n) = decimal n
+value_token (number16 n) = decimal n
+value_token (number32 n) = decimal n
+value_token (name labels) = zone_text labels
+value_token (hex octets) = encoded base16 octets
+value_token (base64_octets octets) = encoded base64 octets
+value_token (string octets) = encode_utf8_all (quoted_text octets)
+
+abbrev pub step_of : Piece → Step
+step_of (field v) = token (value_token v)
+step_of (unquoted octets) = token (field_text (text_octets octets))
+step_of (note text) = comment text
+step_of opens = begin
+step_of closes = end
+
+-- the document of pieces
+abbrev pub steps_of : List Piece → List Step
+steps_of = map step_of
+
+-- the values that pieces show
+abbrev pub values_of : List Piece → List Value
+values_of [] = []
+values_of (field v ∷ ps) = v ∷ values_of ps
+values_of (unquoted octets ∷ ps) = string octets ∷ values_of ps
+values_of (note text ∷ ps) = values_of ps
+values_of (opens ∷ ps) = values_of ps
+values_of (closes ∷ ps) = values_of ps
+
+-- a printable ASCII character
+abbrev pub is_note_ascii : ℕ → Bool
+is_note_ascii c = nat_le 32 c && nat_le c 126
+
+-- where so many blocks are open before: blocks nest and close, and notes are printable ASCII
+abbrev pub is_laid_out : (open_blocks : ℕ) → List Piece → Bool
+is_laid_out n [] = n == 0
+is_laid_out n (opens ∷ ps) = is_laid_out (suc n) ps
+is_laid_out zero (closes ∷ ps) = false
+is_laid_out (suc n) (closes ∷ ps) = is_laid_out n ps
+is_laid_out n (note text ∷ ps) = list_all is_note_ascii text && is_laid_out n ps
+is_laid_out n (field v ∷ ps) = is_laid_out n ps
+is_laid_out n (unquoted octets ∷ ps) = is_laid_out n ps
+
+abbrev pub IsLaidOut : List Piece → Type 0
+IsLaidOut ps = is_laid_out 0 ps ≡ true

@@ -1,0 +1,34 @@
+-- A list of character strings: its pieces, its values and its document.
+use Rattle.std.specs.Prelude.{ℕ, List, [], ◌∷◌, ◌≡◌, ◌<◌, ◌≤◌, true, refl, map, length, All, encode_utf8_all}
+use Rattle.std.proofs.Common.{ap, sym}
+use Rattle.dns_charstr.specs.Printed.{quoted_text}
+use Rattle.dns_zone.specs.Layout.{Step, token}
+use Rattle.dns_zone.specs.Nesting.{IsNested}
+use Rattle.dns_record.specs.Pieces.{Piece, field, IsLaidOut, steps_of, values_of}
+use Rattle.dns_record.specs.Values.{Value, string}
+
+-- each between double quotes
+abbrev pub string_pieces : List (List ℕ) → List Piece
+string_pieces = map (λ s. field (string s))
+
+abbrev pub strings_of : List (List ℕ) → List Value
+strings_of xs = values_of (string_pieces xs)
+
+abbrev pub string_steps : List (List ℕ) → List Step
+string_steps = map (λ s. token (encode_utf8_all (quoted_text s)))
+
+-- what a character string can hold
+abbrev pub IsString : List ℕ → Type 0
+IsString s = All (λ o. o < 256) s × (length s ≤ 255)
+
+pub strings_shown : (xs : List (List ℕ)) → string_steps xs ≡ steps_of (string_pieces xs)
+strings_shown [] = refl
+strings_shown (x ∷ xs) = ap (λ l. token (encode_utf8_all (quoted_text x)) ∷ l) (strings_shown xs)
+
+pub strings_laid_out : (xs : List (List ℕ)) → IsLaidOut (string_pieces xs)
+strings_laid_out [] = refl
+strings_laid_out (x ∷ xs) = strings_laid_out xs
+
+pub strings_nested : (xs : List (List ℕ)) → IsNested (string_steps xs)
+strings_nested [] = refl
+strings_nested (x ∷ xs) = strings_nested xs

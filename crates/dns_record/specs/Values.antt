@@ -1,0 +1,52 @@
+-- The values of a record's fields, and the texts that are scanned as them.
+use Rattle.std.specs.Prelude.{ℕ, ◌≡◌, ◌<◌, ◌≤◌, ◌^◌, List, [], ◌∷◌, length, All}
+use Rattle.std.specs.Fmt.{decimal}
+use Rattle.std.specs.List.{AllByRecursion}
+use Rattle.dns_codec.specs.Base.{base16, base64, encoded}
+use Rattle.dns_wire_name.specs.Wire.{wire, IsName, EndsInRoot}
+use Rattle.dns_scan.specs.Octets.{IsPrinted}
+use Rattle.dns_scan.specs.Tokens.{Token}
+use Rattle.dns_wire_name.specs.ZoneText.{zone_text}
+
+-- a number of 8, 16 or 32 bits, the labels of a name, octets in an encoding, or the octets of a character string
+pub data Value : Type 0 where
+  number8 : ℕ → Value
+  number16 : ℕ → Value
+  number32 : ℕ → Value
+  name : List (List ℕ) → Value
+  hex : List ℕ → Value
+  base64_octets : List ℕ → Value
+  string : List ℕ → Value
+
+-- what such a field can hold: an encoding of no octets would have no text
+abbrev pub IsValue : Value → Type 0
+IsValue (number8 n) = n < 2 ^ 8
+IsValue (number16 n) = n < 2 ^ 16
+IsValue (number32 n) = n < 2 ^ 32
+IsValue (name labels) = IsName labels × EndsInRoot labels × All (λ o. o < 256) (wire labels)
+IsValue (hex octets) = All (λ o. o < 256) octets × (0 < length octets)
+IsValue (base64_octets octets) = All (λ o. o < 256) octets × (0 < length octets)
+IsValue (string octets) = All (λ o. o < 256) octets × (length octets ≤ 255)
+
+abbrev pub AreValues : List Value → Type 0
+AreValues = AllByRecursion IsValue
+
+-- the values of an entry: one at least
+abbrev pub AreFields : List Value → Type 0
+AreFields values = AreValues values × (0 < length values)
+
+-- the text is that of the value, as it is scanned
+abbrev pub IsText : Value → Token → Type 0
+IsText (number8 n) text = text ≡ decimal n
+IsText (number16 n) text = text ≡ decimal n
+IsText (number32 n) text = text ≡ decimal n
+IsText (name labels) text = text ≡ zone_text labels
+IsText (hex octets) text = text ≡ encoded base16 octets
+IsText (base64_octets octets) text = text ≡ encoded base64 octets
+IsText (string octets) text = IsPrinted text octets
+
+-- texts of the values, and then others
+abbrev pub AreTexts : List Value → List Token → List Token → Type 0
+AreTexts [] texts others = texts ≡ others
+AreTexts (v ∷ vs) [] others = ⊥
+AreTexts (v ∷ vs) (t ∷ ts) others = IsText v t × AreTexts vs ts others

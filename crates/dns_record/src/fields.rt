@@ -1,0 +1,173 @@
+//! The fields of records: each is scanned back from the text that it prints.
+ghost use Rattle.std.specs.Prelude.{◌≡◌, List, [], ◌∷◌, ◌++◌, OnOk, Result, min, encode_utf8_all};
+ghost use Rattle.dns_charstr.specs.Printed.{quoted_text};
+ghost use Rattle.dns_scan.specs.Cause.{Cause};
+ghost use Rattle.dns_scan.specs.Stands.{StandsBefore};
+ghost use Rattle.dns_scan.specs.Tokens.{Token};
+ghost use Rattle.dns_zone.specs.Layout.{token};
+ghost use Rattle.dns_entry.specs.Field.{field_text, text_octets};
+ghost use Rattle.dns_record.specs.FieldLaws.{number8_back, number16_back, number32_back, string_back, both_back, token_back};
+ghost use Rattle.dns_record.specs.ReadsBack.{FieldBack, ReadsBack};
+ghost use Rattle.dns_record.specs.Values.{Value, number8, number16, number32, name, string, AreValues, AreTexts};
+
+use crate::name_token::NameToken;
+use dns_charstr::charstr::CharStr;
+use dns_iter::IterScanner;
+use dns_scan::{Scan, Scanner, ScannerError};
+use dns_wire::{AsOctets, AsOctetsMut, EmptyBuilder, FreezeBuilder, FromBuilder, Truncate, Ttl};
+use dns_wire_name::Name;
+use dns_zone::zonefile_fmt::{self, FormatWriter, Formatter};
+
+/// A value that is one field of a record, or several in a row.
+pub trait FieldValue: Sized {
+    // The values of the fields.
+    ghost values: { Self → List Value };
+
+    /// States that each field can be printed, which always holds, and does nothing else.
+    fn known(&self)
+        ensures { AreValues (values self.now) };
+}
+
+impl FieldValue for u8 {
+    ghost values = { λ n. number8 n ∷ [] };
+
+    fn known(&self) {
+        let _value = *self;
+    }
+}
+
+impl FieldValue for u16 {
+    ghost values = { λ n. number16 n ∷ [] };
+
+    fn known(&self) {
+        let _value = *self;
+    }
+}
+
+impl FieldValue for u32 {
+    ghost values = { λ n. number32 n ∷ [] };
+
+    fn known(&self) {
+        let _value = *self;
+    }
+}
+
+impl FieldValue for Ttl {
+    ghost values = { λ n. number32 n ∷ [] };
+
+    fn known(&self) {
+        let _value = self.as_secs();
+    }
+}
+
+impl<Octets: AsOctets> FieldValue for Name<Octets> {
+    ghost values = { λ labels. name labels ∷ [] };
+
+    fn known(&self) {
+        let _name = self.as_slice();
+        let _octets = self.as_octets().as_slice();
+    }
+}
+
+impl<N: FieldValue> FieldValue for NameToken<N> {
+    ghost values = { λ token. N.values token.name };
+
+    fn known(&self) {
+        self.name.known();
+    }
+}
+
+impl<Octets: AsOctets> FieldValue for CharStr<Octets> {
+    ghost values = { λ octets. string octets ∷ [] };
+
+    fn known(&self) {
+        let _octets = self.as_slice();
+    }
+}
+
+impl<A: FieldValue, B: FieldValue> FieldValue for (A, B) {
+    ghost values = { λ pair. A.values pair.0 ++ B.values pair.1 };
+
+    fn known(&self) {
+        self.0.known();
+        self.1.known();
+    }
+}
+
+/// A value that is scanned from the texts that it prints.
+pub trait Field<S: Scanner>: FieldValue + Scan<S> {
+    // Whatever is read of the texts of its fields is the value, or there is no room.
+    ghost back: { (x : Self) (tokens others rest : List Token) (r : Result Self Cause) → AreValues (Self.values x) → AreTexts (Self.values x) tokens others
+        → Self.scan_reads tokens r rest → FieldBack Self.values (Self.values x) others r rest };
+}
+
+impl<S: Scanner> Field<S> for u8 {
+    ghost back = { number8_back };
+}
+
+impl<S: Scanner> Field<S> for u16 {
+    ghost back = { number16_back };
+}
+
+impl<S: Scanner> Field<S> for u32 {
+    ghost back = { number32_back };
+}
+
+impl<S: Scanner> Field<S> for Ttl {
+    ghost back = { number32_back };
+}
+
+impl<S: Scanner> Field<S> for CharStr<S::Octets> {
+    ghost back = { string_back (min S.OctetsBuilder.sure 255) (min S.OctetsBuilder.most 255) };
+}
+
+impl<S: Scanner, A: Field<S> + Drop, B: Field<S>> Field<S> for (A, B) {
+    ghost back = { both_back A.values B.values A.scan_reads B.scan_reads A.back B.back };
+}
+
+impl<'a, Iter: Iterator<Item = &'a str>, Octets: FromBuilder + Drop, E: ScannerError> Field<
+    IterScanner<Iter, Octets, E>,
+> for NameToken<Name<Octets>>
+where
+    Octets::Builder: EmptyBuilder + AsOctetsMut + Truncate + FreezeBuilder<Octets = Octets> + Drop,
+{
+    ghost back = { token_back Octets E.cause Octets.Builder.sure Octets.Builder.most };
+}
+
+/// Takes the texts of fields: they are scanned back to the same values, and the tokens after them
+/// are left. Where other fields follow, their texts are.
+pub fn scan_fields<S: Scanner, T: Field<S>>(scanner: &mut S) -> Result<T, S::Error>
+    requires { S.can_scan scanner.old }
+    ensures ready { S.can_scan scanner.new }
+    ensures back { (x : T) (tokens others : List Token) → AreValues (T.values x) → AreTexts (T.values x) tokens others → StandsBefore S.next_token scanner.old tokens
+        → ReadsBack S.next_token S.Error.cause T.values (T.values x) others result scanner.new }
+    ensures before { (x : T) (more : List Value) (tokens others : List Token) → AreValues (T.values x ++ more) → AreTexts (T.values x ++ more) tokens others → StandsBefore S.next_token scanner.old tokens
+        → (middle : List Token) × AreValues more × AreTexts more middle others × ReadsBack S.next_token S.Error.cause T.values (T.values x) middle result scanner.new }
+{
+    T::scan(scanner)
+}
+
+/// Prints a character string as one token, between double quotes.
+pub fn write_quoted<F: FormatWriter, Octets: AsOctets>(
+    p: &mut F,
+    string: &CharStr<Octets>,
+) -> zonefile_fmt::Result
+    ensures blocks { OnOk result (F.blocks p.new ≡ F.blocks p.old) }
+    ensures gives { OnOk result (F.step_gives p.old (token (encode_utf8_all (quoted_text string.now))) p.new) }
+{
+    p.write_token(string.display_quoted())
+}
+
+/// Prints a character string as one token: without double quotes, where it has octets.
+pub fn write_unquoted<F: FormatWriter, Octets: AsOctets>(
+    p: &mut F,
+    string: &CharStr<Octets>,
+) -> zonefile_fmt::Result
+    ensures blocks { OnOk result (F.blocks p.new ≡ F.blocks p.old) }
+    ensures gives { OnOk result (F.step_gives p.old (token (field_text (text_octets string.now))) p.new) }
+{
+    if string.is_empty() {
+        return p.write_token(string.display_quoted());
+    }
+    p.write_token(string.display_unquoted())
+}

@@ -1,0 +1,111 @@
+//! Record data: values that print as the tokens of one entry, and are scanned back from them.
+ghost use Rattle.std.specs.Prelude.{◌≡◌, ◌⊎◌, List, [], IsOk, IsOkAnd};
+ghost use Rattle.dns_split.specs.Answer.{texts};
+ghost use Rattle.dns_scan.specs.Stands.{StandsBefore};
+ghost use Rattle.dns_scan.specs.Tokens.{Token};
+ghost use Rattle.dns_record.specs.Pieces.{Piece, IsLaidOut, steps_of, values_of};
+ghost use Rattle.dns_record.specs.ReadsBack.{Lacks, ReadsBack};
+ghost use Rattle.dns_record.specs.Values.{AreFields, AreTexts};
+
+use dns_iter::entry::{EntryScanner, TokenText, entry_scanner};
+use dns_scan::{Scanner, ScannerError};
+use dns_split::splitting::split;
+use dns_wire::{AsOctetsMut, EmptyBuilder, FreezeBuilder, FromBuilder, Truncate};
+use dns_zone::zonefile_fmt::{DisplayKind, ZonefileFmt};
+use dns_zone_laws::laws::values_split;
+use std::alloc::Allocator;
+
+/// The data of a record over these octets, and over memory from `A` where it holds a list.
+///
+/// It states the pieces of its text, prints them as one entry, and is scanned from what the tokens
+/// of an entry hold.
+pub trait RecordData<Octets: FromBuilder + Drop, A: Allocator + Copy>: ZonefileFmt
+where
+    Octets::Builder: EmptyBuilder + AsOctetsMut + Truncate + FreezeBuilder<Octets = Octets> + Drop,
+{
+    // The pieces of the text.
+    ghost pieces: { Self → List Piece };
+
+    /// States that there is a field and that each can be printed, which always holds, and does
+    /// nothing else.
+    fn known(&self)
+        ensures { AreFields (values_of (pieces self.now)) };
+
+    /// Takes the tokens of the data.
+    fn scan_data<'a, T: TokenText, E: ScannerError>(
+        alloc: A,
+        scanner: &mut EntryScanner<'a, T, Octets, E>,
+    ) -> Result<Self, E>
+        requires { ⟦<EntryScanner<'a, T, Octets, E> as Scanner>⟧.can_scan scanner.old }
+        ensures ready { ⟦<EntryScanner<'a, T, Octets, E> as Scanner>⟧.can_scan scanner.new }
+        ensures back { (x : Self) (tokens : List Token) → AreFields (values_of (pieces x)) → AreTexts (values_of (pieces x)) tokens []
+            → StandsBefore (⟦<EntryScanner<'a, T, Octets, E> as Scanner>⟧.next_token) scanner.old tokens
+            → ReadsBack (⟦<EntryScanner<'a, T, Octets, E> as Scanner>⟧.next_token) E.cause (λ y. values_of (pieces y)) (values_of (pieces x)) [] result scanner.new };
+
+    // The document is that of the pieces.
+    ghost shown: { (x : Self) → Self.document x ≡ steps_of (pieces x) };
+
+    // Blocks nest, and notes are printable ASCII.
+    ghost laid_out: { (x : Self) → IsLaidOut (pieces x) };
+}
+
+/// Takes the data and the end of the entry: a token that is left is refused.
+pub fn scan_record<
+    'a,
+    R,
+    T: TokenText,
+    Octets: FromBuilder + Drop,
+    A: Allocator + Copy,
+    E: ScannerError,
+>(alloc: A, scanner: &mut EntryScanner<'a, T, Octets, E>) -> Result<R, E>
+where
+    Octets::Builder: EmptyBuilder + AsOctetsMut + Truncate + FreezeBuilder<Octets = Octets> + Drop,
+    R: RecordData<Octets, A> + Drop,
+    requires { ⟦<EntryScanner<'a, T, Octets, E> as Scanner>⟧.can_scan scanner.old }
+    ensures ready { ⟦<EntryScanner<'a, T, Octets, E> as Scanner>⟧.can_scan scanner.new }
+    ensures back { (x : R) (tokens : List Token) → AreFields (values_of (R.pieces x)) → AreTexts (values_of (R.pieces x)) tokens []
+        → StandsBefore (⟦<EntryScanner<'a, T, Octets, E> as Scanner>⟧.next_token) scanner.old tokens
+        → IsOkAnd result (λ y. values_of (R.pieces y) ≡ values_of (R.pieces x)) ⊎ Lacks E.cause result }
+    ensures all { (tokens : List Token) → StandsBefore (⟦<EntryScanner<'a, T, Octets, E> as Scanner>⟧.next_token) scanner.new tokens → IsOk result → tokens ≡ [] }
+{
+    match R::scan_data(alloc, scanner) {
+        Ok(data) => {
+            if scanner.continues() {
+                return Err(E::trailing_tokens());
+            }
+            Ok(data)
+        }
+        Err(error) => Err(error),
+    }
+}
+
+/// The text that a value prints in a layout splits into one entry, and scanning that entry gives a
+/// value of the same fields, where memory and room suffice.
+pub fn record_reads_back<R, Octets: FromBuilder + Drop, A: Allocator + Copy, E: ScannerError>(
+    alloc: A,
+    octets_alloc: <Octets::Builder as EmptyBuilder>::Alloc,
+    value: &R,
+    kind: DisplayKind,
+) -> Result<R, E>
+where
+    Octets::Builder: EmptyBuilder + AsOctetsMut + Truncate + FreezeBuilder<Octets = Octets> + Drop,
+    R: RecordData<Octets, A> + Drop,
+    ensures { IsOkAnd result (λ y. values_of (R.pieces y) ≡ values_of (R.pieces value.now)) ⊎ Lacks E.cause result }
+{
+    value.known();
+    let Ok(text) = values_split(alloc, value, kind) else {
+        return Err(E::short_buf());
+    };
+    let Ok(entries) = split(alloc, text.as_str()) else {
+        return Err(E::short_buf());
+    };
+    let Some((tokens, _)) = entries.split_first() else {
+        return Err(E::short_buf());
+    };
+    let mut scanner: EntryScanner<'_, String<A>, Octets, E> = entry_scanner(
+        octets_alloc,
+        tokens,
+        false,
+    );
+    scan_record(alloc, &mut scanner)
+}

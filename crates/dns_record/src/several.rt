@@ -1,0 +1,223 @@
+//! Fields that are all that is left of an entry.
+ghost use Rattle.std.specs.Prelude.{◌≡◌, ◌↔◌, ◌<◌, List, ℕ, [], ◌∷◌, length, map, All, IfOk, IfErr, IsOk, IsOkAnd, OnOk};
+ghost use Rattle.dns_scan.specs.Stands.{StandsBefore};
+ghost use Rattle.dns_scan.specs.Tokens.{Token};
+ghost use Rattle.dns_zone.specs.Writers.{Runs};
+ghost use Rattle.dns_record.specs.ReadsBack.{ReadsBack};
+ghost use Rattle.dns_record.specs.Several.{IsString, string_steps, strings_of};
+ghost use Rattle.dns_record.specs.Values.{Value, hex, base64_octets, AreFields, AreTexts, AreValues};
+
+use crate::fields::{scan_fields, write_quoted};
+use dns_charstr::charstr::CharStr;
+use dns_laws::entries::{base64_entry_is_scanned_back, hex_entry_is_scanned_back};
+use dns_scan::{Scanner, ScannerError};
+use dns_wire::AsOctets;
+use dns_zone::zonefile_fmt::{self, FormatWriter, ZonefileFmt};
+use std::alloc::Allocator;
+use std::marker::Model;
+
+/// Octets that an encoding has a text of: one at least.
+#[derive(Drop)]
+pub struct SomeOctets<Octets: AsOctets> {
+    octets: Octets,
+}
+
+impl<Octets: AsOctets> Model for SomeOctets<Octets> {
+    ghost use Rattle.std.specs.Prelude.{List, ℕ, ◌<◌, length};
+
+    ghost Value = { List ℕ };
+
+    ghost view = { λ s. Octets.octets s.octets };
+
+    ghost invariant = { λ s. 0 < length (Octets.octets s.octets) };
+}
+
+impl<Octets: AsOctets> SomeOctets<Octets> {
+    /// Takes octets of which there is one at least. No octets come back.
+    pub fn new(octets: Octets) -> Result<Self, Octets>
+        ensures accepts { IsOk result ↔ (0 < length (Octets.octets octets)) }
+        ensures ok { IfOk result (λ s. s ≡ Octets.octets octets) }
+        ensures err { IfErr result (λ o. o ≡ octets) }
+    {
+        if octets.as_slice().is_empty() {
+            return Err(octets);
+        }
+        Ok(SomeOctets { octets })
+    }
+
+    /// The octets.
+    pub fn as_slice(&self) -> &[u8]
+        ensures value { result.now ≡ self.now }
+        ensures bytes { All (λ o. o < 256) self.now }
+        ensures some { 0 < length self.now }
+    {
+        self.octets.as_slice()
+    }
+}
+
+/// Takes all tokens that are left as octets in base 16 (RFC 4648 section 8).
+///
+/// Without an octet the entry is refused as one that ended early.
+pub fn hex_rest<S: Scanner>(scanner: &mut S) -> Result<SomeOctets<S::Octets>, S::Error>
+where
+    S::Octets: Drop,
+    requires { S.can_scan scanner.old }
+    ensures ready { S.can_scan scanner.new }
+    ensures back { (octets : List ℕ) (tokens : List Token) → AreValues (hex octets ∷ []) → AreTexts (hex octets ∷ []) tokens [] → StandsBefore S.next_token scanner.old tokens
+        → ReadsBack S.next_token S.Error.cause (λ o. hex o ∷ []) (hex octets ∷ []) [] result scanner.new }
+{
+    match hex_entry_is_scanned_back(scanner) {
+        Ok(octets) => some_octets(octets),
+        Err(error) => Err(error),
+    }
+}
+
+/// Takes all tokens that are left as octets in base 64 (RFC 4648 section 4).
+///
+/// Without an octet the entry is refused as one that ended early.
+pub fn base64_rest<S: Scanner>(scanner: &mut S) -> Result<SomeOctets<S::Octets>, S::Error>
+where
+    S::Octets: Drop,
+    requires { S.can_scan scanner.old }
+    ensures ready { S.can_scan scanner.new }
+    ensures back { (octets : List ℕ) (tokens : List Token) → AreValues (base64_octets octets ∷ []) → AreTexts (base64_octets octets ∷ []) tokens [] → StandsBefore S.next_token scanner.old tokens
+        → ReadsBack S.next_token S.Error.cause (λ o. base64_octets o ∷ []) (base64_octets octets ∷ []) [] result scanner.new }
+{
+    match base64_entry_is_scanned_back(scanner) {
+        Ok(octets) => some_octets(octets),
+        Err(error) => Err(error),
+    }
+}
+
+// The octets, of which there has to be one.
+fn some_octets<Octets: AsOctets + Drop, E: ScannerError>(
+    octets: Octets,
+) -> Result<SomeOctets<Octets>, E>
+    ensures { 0 < length (Octets.octets octets) → IsOkAnd result (λ s. s ≡ Octets.octets octets) }
+{
+    match SomeOctets::new(octets) {
+        Ok(octets) => Ok(octets),
+        Err(_) => Err(E::end_of_entry()),
+    }
+}
+
+/// Character strings, one at least.
+#[derive(Drop)]
+pub struct Strings<Octets: AsOctets, A: Allocator> {
+    strings: Vec<CharStr<Octets>, A>,
+}
+
+impl<Octets: AsOctets, A: Allocator> Model for Strings<Octets, A> {
+    ghost use Rattle.std.specs.Prelude.{List, ℕ, ◌<◌, length};
+
+    ghost Value = { List (List ℕ) };
+
+    ghost view = { λ s. s.strings.items };
+
+    ghost invariant = { λ s. 0 < length s.strings.items };
+}
+
+impl<Octets: AsOctets, A: Allocator> Strings<Octets, A> {
+    /// Takes strings of which there is one at least. An empty list comes back.
+    pub fn new(strings: Vec<CharStr<Octets>, A>) -> Result<Self, Vec<CharStr<Octets>, A>>
+        ensures accepts { IsOk result ↔ (0 < length strings.items) }
+        ensures ok { IfOk result (λ s. s ≡ strings.items) }
+        ensures err { IfErr result (λ l. l ≡ strings) }
+    {
+        if strings.is_empty() {
+            return Err(strings);
+        }
+        Ok(Strings { strings })
+    }
+
+    /// The strings.
+    pub fn as_slice(&self) -> &[CharStr<Octets>]
+        ensures value { result.now ≡ self.now }
+        ensures some { 0 < length self.now }
+    {
+        &self.strings
+    }
+
+    /// States that there is a string and that each can be printed, which always holds, and does
+    /// nothing else.
+    pub fn known(&self)
+        ensures { AreFields (strings_of self.now) }
+    {
+        known_each(self.as_slice());
+    }
+}
+
+// States what is known of each string.
+fn known_each<Octets: AsOctets>(strings: &[CharStr<Octets>])
+    ensures { All IsString strings.now }
+{
+    for string in strings {
+        let _octets = string.as_slice();
+    }
+}
+
+// Prints each string between double quotes.
+fn write_strings<F: FormatWriter, Octets: AsOctets>(
+    p: &mut F,
+    strings: &[CharStr<Octets>],
+) -> zonefile_fmt::Result
+    ensures { OnOk result (Runs F.blocks F.step_gives p.old (string_steps strings.now) p.new) }
+{
+    for string in strings {
+        write_quoted(p, string)?;
+    }
+    Ok(())
+}
+
+/// Prints each between double quotes.
+impl<Octets: AsOctets, A: Allocator> ZonefileFmt for Strings<Octets, A> {
+    ghost use Rattle.dns_record.specs.Several.{string_steps, strings_nested};
+
+    ghost document = { string_steps };
+
+    ghost nested = { strings_nested };
+
+    fn fmt<F: FormatWriter>(&self, p: &mut F) -> zonefile_fmt::Result {
+        write_strings(p, &self.strings)
+    }
+}
+
+/// Takes all tokens that are left as character strings, one at least.
+pub fn strings_rest<S: Scanner, A: Allocator>(
+    alloc: A,
+    scanner: &mut S,
+) -> Result<Strings<S::Octets, A>, S::Error>
+where
+    S::Octets: Drop,
+    requires { S.can_scan scanner.old }
+    ensures ready { S.can_scan scanner.new }
+    ensures back { (strings : List (List ℕ)) (tokens : List Token) → AreFields (strings_of strings) → AreTexts (strings_of strings) tokens [] → StandsBefore S.next_token scanner.old tokens
+        → ReadsBack S.next_token S.Error.cause strings_of (strings_of strings) [] result scanner.new }
+{
+    let mut strings: Vec<CharStr<S::Octets>, A> = Vec::new(alloc);
+    for _turn in 0..u64::MAX {
+        match scan_fields::<S, CharStr<S::Octets>>(scanner) {
+            Ok(string) => match strings.push(string) {
+                Ok(()) => {}
+                Err(_) => return Err(S::Error::short_buf()),
+            },
+            Err(error) => return Err(error),
+        }
+        if !scanner.continues() {
+            return some_strings(strings);
+        }
+    }
+    Err(S::Error::short_buf())
+}
+
+// The strings, of which there has to be one.
+fn some_strings<Octets: AsOctets + Drop, A: Allocator, E: ScannerError>(
+    strings: Vec<CharStr<Octets>, A>,
+) -> Result<Strings<Octets, A>, E>
+    ensures { 0 < length strings.items → IsOkAnd result (λ s. s ≡ strings.items) }
+{
+    match Strings::new(strings) {
+        Ok(strings) => Ok(strings),
+        Err(_) => Err(E::end_of_entry()),
+    }
+}
