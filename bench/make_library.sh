@@ -10,8 +10,11 @@ for crate in refusing_heap dns_wire dns_symbol dns_charstr dns_split; do
     cp -r ../crates/$crate $space/crates/
 done
 rm -rf $space/crates/dns_bench_c
-mkdir -p $space/crates/dns_bench_c/proofs
-cp -r library/src library/specs $space/crates/dns_bench_c/
+mkdir -p $space/crates/dns_bench_c/src $space/crates/dns_bench_c/specs $space/crates/dns_bench_c/proofs
+for module in lib cursor strings; do
+    cp library/$module.rt.in $space/crates/dns_bench_c/src/$module.rt
+done
+: > $space/crates/dns_bench_c/specs/Lib.antt
 : > $space/crates/dns_bench_c/proofs/Lib.antt
 cp ../HANDLES $space/
 cat > $space/crates.txt <<'LIST'
