@@ -1,0 +1,7 @@
+use Rattle.dns_records.proofs.txt.TxtRecordData.scan_data.Goals as goal
+
+pub returns-in-Ok-clause-back : goal.returns-in-Ok-clause-back
+returns-in-Ok-clause-back g c = λ x tokens is texts stands. c.in-Ok.ensures.back x.strings tokens is texts stands
+
+pub returns-in-Err-clause-back : goal.returns-in-Err-clause-back
+returns-in-Err-clause-back g c = λ x tokens is texts stands. c.in-Err.ensures.back x.strings tokens is texts stands

@@ -1,0 +1,13 @@
+-- The pieces of each record's text.
+use Rattle.std.specs.Prelude.{List, [], ◌∷◌, codes}
+use Rattle.dns_record.specs.Pieces.{Piece, field, note}
+use Rattle.dns_record.specs.Several.{string_pieces}
+use Rattle.dns_record.specs.Values.{number16, name}
+use Rattle.dns_records.specs.declared.mx.Mx.{Mx}
+use Rattle.dns_records.specs.declared.txt.Txt.{Txt}
+
+abbrev pub mx_pieces : {O : Type 0} → Mx O → List Piece
+mx_pieces x = field (number16 x.preference) ∷ note (codes "preference") ∷ field (name x.exchange) ∷ note (codes "exchange") ∷ []
+
+abbrev pub txt_pieces : {O A : Type 0} → Txt O A → List Piece
+txt_pieces x = string_pieces x.strings

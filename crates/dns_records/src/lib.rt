@@ -1,0 +1,5 @@
+//! Record types over the author's kit: each prints as one entry, and is scanned back from it.
+#![tactic(auto)]
+
+pub mod mx;
+pub mod txt;
