@@ -7,7 +7,7 @@ use Rattle.std.proofs.lemmas.List.Folds.{list_all-append}
 use Rattle.dns_symbol.specs.declared.symbol.Symbol.{Symbol}
 use Rattle.dns_symbol.specs.declared.symbol.Symbol.TheVariants.{Char}
 use Rattle.dns_codec.specs.Base.{Base, encoded}
-use Rattle.dns_codec.specs.Converter.{char_in}
+use Rattle.dns_codec.specs.Converting.{char_in}
 use Rattle.dns_codec.specs.Grammar.{Decodes}
 use Rattle.dns_scan.specs.Cause.{Cause}
 use Rattle.dns_scan.specs.Join.{IsJoin, IsSymbols}
