@@ -170,11 +170,16 @@ fn keeps_to_the_buffer(rt: HostRuntime) {
 
 // The octets of labels of these lengths, and of the root after them.
 fn octets_of(alloc: Global, lengths: &[u8], root: bool) -> Result<Vec<u8>, Fail> {
+    labels_of(alloc, b'x', lengths, root)
+}
+
+// Labels of one octet.
+fn labels_of(alloc: Global, octet: u8, lengths: &[u8], root: bool) -> Result<Vec<u8>, Fail> {
     let mut octets = Vec::new(alloc);
     for length in lengths {
         octets.push(*length)?;
         for _ in 0..*length {
-            octets.push(b'x')?;
+            octets.push(octet)?;
         }
     }
     if root {

@@ -1,5 +1,5 @@
 //! Names in zone text against rows from outside.
-use super::{Vector, octets_of};
+use super::{Vector, labels_of};
 use crate::name::UncertainName;
 use dns_wire_name::ZoneName;
 use std::alloc::{AllocError, Global};
@@ -95,14 +95,7 @@ fn prints_the_longest_names(rt: HostRuntime) -> Result<(), Fail> {
         (&[63], false, 252),
         (&[1; 127], true, 635),
     ] {
-        let mut octets = octets_of(alloc, lengths, root)?;
-        let mut place = 0;
-        for length in lengths {
-            for octet in &mut octets[place + 1..place + 1 + *length as usize] {
-                *octet = b'.';
-            }
-            place += 1 + *length as usize;
-        }
+        let octets = labels_of(alloc, b'.', lengths, root)?;
         let Ok(name) = Vector::from_octets(octets) else {
             assert!(rt; false, "{lengths:?}");
             return Ok(());
