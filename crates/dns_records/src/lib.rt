@@ -2,4 +2,6 @@
 #![tactic(auto)]
 
 pub mod mx;
+#[cfg(test)]
+mod tests;
 pub mod txt;

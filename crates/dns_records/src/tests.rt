@@ -1,0 +1,220 @@
+//! Texts of RFC 1035 to records and back, in three layouts.
+use crate::mx::Mx;
+use crate::txt::Txt;
+use dns_text::charstr::CharStr;
+use dns_text::document::split;
+use dns_text::record::{RecordData, Strings, record_reads_back, scan_record};
+use dns_text::scan::{EntryScanner, ScannerError, StrError, entry_scanner};
+use dns_text::wire::Name;
+use dns_text::zonefile_fmt::{DisplayKind, ZonefileFmt};
+use refusing_heap::Refusing;
+use std::alloc::{Allocator, Global};
+use std::process::Abort;
+use std::test::Fail;
+
+/// The record data of a text that is one entry.
+fn scanned<R, A: Allocator + Copy>(alloc: A, text: &str) -> Result<R, StrError>
+where
+    R: RecordData<Vec<u8, A>, A> + Drop,
+{
+    let Ok(entries) = split(alloc, text) else {
+        return Err(StrError::short_buf());
+    };
+    let Some((tokens, _)) = entries.split_first() else {
+        return Err(StrError::end_of_entry());
+    };
+    let mut scanner: EntryScanner<'_, String<A>, Vec<u8, A>> = entry_scanner(alloc, tokens, false);
+    scan_record(alloc, &mut scanner)
+}
+
+/// Whether a text is read as a record that prints so in the simple and the multiline layout, and so
+/// in the tabbed one, and whose three layouts are read as a record that prints so again.
+fn prints<R>(
+    rt: &impl Abort,
+    alloc: Global,
+    text: &str,
+    simple: &str,
+    tabbed: &str,
+) -> Result<(), Fail>
+where
+    R: RecordData<Vec<u8>, Global> + Drop,
+{
+    let record: R = scanned(alloc, text).expect(rt, "record data");
+    prints_as(rt, alloc, &record, DisplayKind::Simple, simple)?;
+    prints_as(rt, alloc, &record, DisplayKind::Tabbed, tabbed)?;
+    prints_as(rt, alloc, &record, DisplayKind::Multiline, simple)?;
+    reads_back(rt, alloc, &record, DisplayKind::Simple, simple)?;
+    reads_back(rt, alloc, &record, DisplayKind::Tabbed, simple)?;
+    reads_back(rt, alloc, &record, DisplayKind::Multiline, simple)
+}
+
+/// Whether a record prints so in this layout.
+fn prints_as<R: ZonefileFmt>(
+    rt: &impl Abort,
+    alloc: Global,
+    record: &R,
+    kind: DisplayKind,
+    wanted: &str,
+) -> Result<(), Fail> {
+    let printed = record.display_zonefile(kind).to_string(alloc)?;
+    assert_eq!(rt; printed.as_str(), wanted);
+    Ok(())
+}
+
+/// Whether what this layout shows is read as a record that prints so.
+fn reads_back<R>(
+    rt: &impl Abort,
+    alloc: Global,
+    record: &R,
+    kind: DisplayKind,
+    simple: &str,
+) -> Result<(), Fail>
+where
+    R: RecordData<Vec<u8>, Global> + Drop,
+{
+    let back: R = record_reads_back::<R, Vec<u8>, Global, StrError>(
+        alloc, alloc, record, kind,
+    ).expect(rt, "the same record data");
+    prints_as(rt, alloc, &back, DisplayKind::Simple, simple)
+}
+
+/// Whether a text is refused with this error.
+fn refuses<R>(rt: &impl Abort, alloc: Global, text: &str, error: &str) -> Result<(), Fail>
+where
+    R: RecordData<Vec<u8>, Global> + Drop,
+{
+    match scanned::<R, Global>(alloc, text) {
+        Ok(_) => assert!(rt; false),
+        Err(why) => assert_eq!(rt; format!(in alloc; "{why}")?.as_str(), error),
+    }
+    Ok(())
+}
+
+// RFC 1035 section 5.3, with the origin written out.
+#[test]
+fn mx(rt: HostRuntime) -> Result<(), Fail> {
+    let alloc = rt.alloc();
+    let venera = "20 VAXA.ISI.EDU.";
+    prints::<Mx<Vec<u8>>>(&rt, alloc, venera, venera, "20\tVAXA.ISI.EDU.")?;
+    let block = "( 10 ; the first\n VENERA.ISI.EDU. )";
+    prints::<Mx<Vec<u8>>>(
+        &rt,
+        alloc,
+        block,
+        "10 VENERA.ISI.EDU.",
+        "10\tVENERA.ISI.EDU.",
+    )?;
+    prints::<Mx<Vec<u8>>>(&rt, alloc, "0 .", "0 .", "0\t.")?;
+    let dot = "65535 Action\\.domains.ISI.EDU.";
+    let simple = "65535 Action\\046domains.ISI.EDU.";
+    prints::<Mx<Vec<u8>>>(
+        &rt,
+        alloc,
+        dot,
+        simple,
+        "65535\tAction\\046domains.ISI.EDU.",
+    )
+}
+
+// RFC 1035 sections 3.3.14 and 5.1.
+#[test]
+fn txt(rt: HostRuntime) -> Result<(), Fail> {
+    prints::<Txt<Vec<u8>, Global>>(
+        &rt,
+        rt.alloc(),
+        "a \"b c\" ( \"\" ; none\n \\\"\\\\\\;\\255\\010 )",
+        "\"a\" \"b c\" \"\" \"\\\"\\\\;\\255\\010\"",
+        "\"a\"\t\"b c\"\t\"\"\t\"\\\"\\\\;\\255\\010\"",
+    )
+}
+
+// Each octet alone in a label.
+#[test]
+fn names_of_each_octet(rt: HostRuntime) -> Result<(), Fail> {
+    let alloc = rt.alloc();
+    for octet in 0..=255u8 {
+        let mut octets = Vec::new(alloc);
+        octets.extend_from_slice(&[1, octet, 0])?;
+        let mx = Mx {
+            preference: 1,
+            exchange: Name::from_octets(octets).expect(&rt, "a name"),
+        };
+        let text = mx.display_zonefile(DisplayKind::Simple).to_string(alloc)?;
+        let back: Mx<Vec<u8>> = scanned(alloc, text.as_str()).expect(&rt, "the same data");
+        assert!(&rt; back.exchange.as_slice() == [1, octet, 0].as_slice());
+    }
+    Ok(())
+}
+
+// A character string holds 255 octets at most.
+#[test]
+fn strings_of_most_octets(rt: HostRuntime) -> Result<(), Fail> {
+    let alloc = rt.alloc();
+    let mut text = String::new(alloc);
+    for _ in 0..255u8 {
+        text.push('x')?;
+    }
+    let one: Txt<Vec<u8>, Global> = scanned(alloc, text.as_str()).expect(&rt, "record data");
+    assert_eq!(&rt; one.strings.as_slice().len(), 1);
+    text.push('x')?;
+    refuses::<Txt<Vec<u8>, Global>>(&rt, alloc, text.as_str(), "short buffer")
+}
+
+#[test]
+fn refused_texts(rt: HostRuntime) -> Result<(), Fail> {
+    let alloc = rt.alloc();
+    refuses::<Mx<Vec<u8>>>(&rt, alloc, "10 a. b.", "trailing data")?;
+    refuses::<Mx<Vec<u8>>>(&rt, alloc, "65536 a.", "decimal number overflow")?;
+    refuses::<Mx<Vec<u8>>>(&rt, alloc, "x a.", "expected decimal number")?;
+    refuses::<Mx<Vec<u8>>>(&rt, alloc, "10", "unexpected end of entry")?;
+    refuses::<Mx<Vec<u8>>>(&rt, alloc, "10 a..b.", "invalid domain name")
+}
+
+/// Octets in memory of which one call is refused.
+type Hostile<'a> = Vec<u8, &'a Refusing<Global>>;
+
+// Whichever growth is refused, the text is the same record or lacks memory.
+#[test]
+fn growths_of_mx_refused(rt: HostRuntime) -> Result<(), Fail> {
+    let alloc = rt.alloc();
+    for nth in 1..100 {
+        let heap = Refusing::new(alloc, nth);
+        match scanned::<Mx<Hostile<'_>>, _>(&heap, "10 a.example.") {
+            Ok(mx) => assert_eq!(&rt; mx.preference, 10),
+            Err(why) => {
+                assert!(&rt; heap.has_refused());
+                let told = format!(in alloc; "{why}")?;
+                assert!(&rt;
+                    told.as_str() == "short buffer" || told.as_str() == "invalid domain name"
+                );
+            }
+        }
+        if !heap.has_refused() {
+            assert!(&rt; nth > 4);
+            return Ok(());
+        }
+    }
+    assert!(&rt; false);
+    Ok(())
+}
+
+#[test]
+fn growths_of_txt_refused(rt: HostRuntime) -> Result<(), Fail> {
+    let alloc = rt.alloc();
+    for nth in 1..100 {
+        let heap = Refusing::new(alloc, nth);
+        match scanned::<Txt<Hostile<'_>, &Refusing<Global>>, _>(&heap, "a \"b c\" d") {
+            Ok(txt) => assert_eq!(&rt; txt.strings.as_slice().len(), 3),
+            Err(why) => {
+                assert!(&rt; heap.has_refused());
+                assert_eq!(&rt; format!(in alloc; "{why}")?.as_str(), "short buffer");
+            }
+        }
+        if !heap.has_refused() {
+            assert!(&rt; nth > 4);
+            return Ok(());
+        }
+    }
+    assert!(&rt; false);
+    Ok(())
+}
