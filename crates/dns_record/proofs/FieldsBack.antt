@@ -1,11 +1,11 @@
 -- What was read of a list of tokens, as what a scanner answered.
-use Rattle.std.proofs.Common.{ℕ, ◌≡◌, ◌<◌, List, [], ◌∷◌, length, refl, append-nil, arith, ◌⊎◌, inl, inr, ⊎_elim, subst, sym, ap, ◌∙◌, Option, Result, Ok, Err}
+use Rattle.std.proofs.Common.{ℕ, ◌≡◌, ◌<◌, List, [], ◌∷◌, length, refl, append-nil, arith, ◌⊎◌, inl, inr, ⊎_elim, subst, ap, ◌∙◌, Option, Result, Ok, Err}
 use Rattle.std.specs.Prelude.{IsOkAnd}
-use Rattle.dns_scan.specs.Cause.{Cause, IsCause}
+use Rattle.dns_scan.specs.Cause.{Cause}
 use Rattle.dns_scan.specs.Numbers.{by_cause}
 use Rattle.dns_scan.specs.Stands.{StandsBefore}
 use Rattle.dns_scan.specs.Tokens.{Token}
-use Rattle.dns_record.specs.ReadsBack.{FieldBack, Lacks, ReadsBack}
+use Rattle.dns_record.specs.ReadsBack.{FieldBack, ReadsBack}
 use Rattle.std.specs.List.{concat}
 use Rattle.dns_codec.specs.Base.{base16, base64, encoded}
 use Rattle.dns_scan.specs.Join.{LeavesOf}

@@ -1,9 +1,5 @@
 -- The text of a record's data is one entry.
-use Rattle.std.proofs.Common.{ℕ, ◌≡◌, List, [], ◌∷◌, refl, ap, sym, subst, ◌∙◌, Vec, String, inl, inr, ⊎_elim, Option, Result}
-use Rattle.std.specs.Prelude.{IsOkAnd, ◌⊎◌}
-use Rattle.dns_scan.specs.Cause.{Cause}
-use Rattle.dns_scan.specs.Stands.{StandsBefore}
-use Rattle.dns_scan.specs.Tokens.{Token}
+use Rattle.std.proofs.Common.{ℕ, ◌≡◌, List, [], ◌∷◌, ap, sym, subst, ◌∙◌, Vec, String}
 use Rattle.dns_split.specs.Answer.{texts, entries_of}
 use Rattle.dns_split.specs.Splitting.{Entries, Splits, SplitsOnlyInto}
 use Rattle.dns_zone.specs.Documents.{IsWellFormed}

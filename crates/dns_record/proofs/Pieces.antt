@@ -1,8 +1,8 @@
 -- The document of pieces: it is well-formed, and one entry whose tokens hold the texts of the values.
-use Rattle.std.proofs.Common.{ℕ, zero, suc, ◌≡◌, ◌<◌, ◌≤◌, ◌==◌, ◌&&◌, Bool, true, false, List, [], ◌∷◌, ◌++◌, length, map, refl, sym, ap, subst, ◌∙◌, arith, inl, inr}
-use Rattle.std.specs.Prelude.{All, encode_utf8_all, nat_le, if◌then◌else◌}
+use Rattle.std.proofs.Common.{ℕ, zero, suc, ◌≡◌, ◌<◌, Bool, true, false, List, [], ◌∷◌, ◌++◌, map, refl, sym, ap, ◌∙◌, arith, inl, inr}
+use Rattle.std.specs.Prelude.{All, encode_utf8_all, if◌then◌else◌}
 use Rattle.std.specs.Fmt.{decimal}
-use Rattle.std.specs.List.{list_all, flat_map}
+use Rattle.std.specs.List.{list_all}
 use Rattle.std.proofs.lemmas.Bool.{and_parts}
 use Rattle.std.proofs.lemmas.Bool.Decides.{nat_tests}
 use Rattle.std.proofs.lemmas.Str.{encode_ascii}
@@ -18,18 +18,17 @@ use Rattle.dns_entry.specs.Field.{field_text, text_octets}
 use Rattle.dns_entry.proofs.Words.{number_word, hex_word, base64_word, text_word}
 use Rattle.dns_split.specs.Lexeme.{is_note_char, is_quote_symbol}
 use Rattle.dns_split.specs.Splitting.{with_token}
-use Rattle.dns_split.specs.Token.{IsToken, IsWord, IsQuote}
+use Rattle.dns_split.specs.Token.{IsToken, IsQuote}
 use Rattle.dns_scan.specs.Octets.{quoted_token, unquoted_token}
 use Rattle.dns_scan.specs.Tokens.{Token}
 use Rattle.dns_zone.specs.Documents.{IsWellFormed, IsComment}
-use Rattle.dns_zone.specs.Layout.{Step}
-use Rattle.dns_zone.specs.Nesting.{is_nested, IsNested, has_line, from_none_test}
+use Rattle.dns_zone.specs.Nesting.{from_none_test}
 use Rattle.dns_zone_laws.specs.Entries.{document_entries}
 use Rattle.dns_wire_name.specs.Wire.{EndsInRoot}
 use Rattle.dns_wire_name.specs.ZoneText.{zone_text}
 use Rattle.dns_zone_laws.proofs.ZoneNames.{zone_word}
 use Rattle.dns_iter.specs.Contents.{IsContent, AreContents}
-use Rattle.dns_record.specs.Pieces.{Piece, field, unquoted, note, opens, closes, value_token, step_of, steps_of, values_of, is_note_ascii, is_laid_out, IsLaidOut}
+use Rattle.dns_record.specs.Pieces.{Piece, field, unquoted, note, opens, closes, value_token, steps_of, values_of, is_note_ascii, is_laid_out}
 use Rattle.dns_record.specs.Values.{Value, number8, number16, number32, name, hex, base64_octets, string, IsValue, IsText, AreValues, AreTexts}
 
 -- ---- tokens and comments

@@ -1,19 +1,18 @@
 -- What is read of the texts of fields is their values.
-use Rattle.std.proofs.Common.{ℕ, ◌+◌, ◌≡◌, ◌<◌, ◌≤◌, ◌^◌, Bool, List, [], ◌∷◌, ◌++◌, length, map, refl, sym, ap, subst, ◌∙◌, arith, ◌⊎◌, inl, inr, ⊎_elim, Option, None, Result, Ok, Err}
-use Rattle.std.specs.Prelude.{IsOkAnd, All, encode_utf8_all, MatchResult}
+use Rattle.std.proofs.Common.{ℕ, ◌+◌, ◌≡◌, ◌<◌, ◌≤◌, ◌^◌, Bool, List, [], ◌∷◌, ◌++◌, length, map, refl, sym, ap, subst, ◌∙◌, arith, inl, inr, ⊎_elim, None, Result, Ok, Err}
+use Rattle.std.specs.Prelude.{All, encode_utf8_all}
 use Rattle.std.specs.List.{concat}
 use Rattle.std.specs.Fmt.{decimal}
 use Rattle.dns_symbol.specs.declared.symbol.Symbol.{Symbol}
 use Rattle.dns_symbol.specs.Symbol.{octet_of}
 use Rattle.dns_symbol.specs.Printed.{symbol_of, text_of, is_quoted_escape, is_unquoted_escape}
-use Rattle.dns_symbol.specs.Text.{SymbolsOf}
 use Rattle.dns_symbol.proofs.PrintedForms.{IsForm, printed_symbols, printed_octets, unquoted_form, quoted_form}
 use Rattle.dns_symbol.proofs.Unique.{symbols_same}
 use Rattle.dns_scan.specs.Answers.{AllGiven, AnswersGiven}
-use Rattle.dns_scan.specs.Cause.{Cause, short_buf, IsCause}
+use Rattle.dns_scan.specs.Cause.{Cause}
 use Rattle.dns_scan.specs.Numbers.{greatest, by_cause}
 use Rattle.dns_scan.specs.Octets.{IsPrinted}
-use Rattle.dns_scan.specs.Reads.{ReadsFirst, ReadsBoth, NumberReads, OctetsRead}
+use Rattle.dns_scan.specs.Reads.{ReadsFirst, ReadsBoth, NameReads, NumberReads, OctetsRead}
 use Rattle.dns_scan.specs.Steps.{octet_given, bad_or}
 use Rattle.dns_scan.specs.Tokens.{Token}
 use Rattle.dns_scan.proofs.Answered.{all_given_in, first_fault_in}
@@ -26,8 +25,6 @@ use Rattle.dns_name.proofs.Printing.{zone_reads}
 use Rattle.dns_iter.specs.Name.{ReadsToken}
 use Rattle.dns_laws.specs.Names.{GivesName}
 use Rattle.dns_laws.proofs.NameBack.{name_back}
-use Rattle.dns_record.specs.NameReads.{NameReads}
-use Rattle.dns_record.specs.declared.name_token.NameToken.{NameToken}
 use Rattle.dns_record.specs.ReadsBack.{FieldBack, Lacks}
 use Rattle.dns_record.specs.Values.{Value, number8, number16, number32, name, string, AreValues, AreTexts}
 
@@ -189,9 +186,3 @@ module _ (O : Type 0) {E : Type 0} (cause : E → Cause) (sure most : ℕ) where
       let text : ReadsAs {O = O} t (Absolute labels) = subst (λ (x : Token). ReadsAs {O = O} x (Absolute labels)) (sym texts.0) (zone_reads {O = O} (Absolute labels) (is.0.0, is.0.1) is.0.2) in
       let one = reads.0 in
       name_given labels one.0 r others rest (reads.1 ∙ texts.1) (name_back O cause sure most t labels text one.0 one.1) one.2
-
-  pub token_back : (x : NameToken (List (List ℕ))) (tokens others rest : List Token) (r : Result (NameToken (List (List ℕ))) Cause) → AreValues (name x.name ∷ []) → AreTexts (name x.name ∷ []) tokens others
-      → MatchResult r (λ y. ReadsFirst (NameReads cause Reads) tokens (Ok y.name) rest) (λ why. ReadsFirst (NameReads cause Reads) tokens (Err why) rest)
-      → FieldBack (λ y. name y.name ∷ []) (name x.name ∷ []) others r rest
-  token_back x tokens others rest (Ok y) is texts reads = name_read x.name tokens others rest (Ok y.name) is texts reads
-  token_back x tokens others rest (Err why) is texts reads = name_read x.name tokens others rest (Err why) is texts reads

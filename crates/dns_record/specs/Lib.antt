@@ -1,5 +1,4 @@
 pub mod FieldLaws
-pub mod NameReads
 pub mod Pieces
 pub mod ReadsBack
 pub mod Several

@@ -1,6 +1,6 @@
 -- A list of character strings: its pieces, its values and its document.
-use Rattle.std.specs.Prelude.{ℕ, List, [], ◌∷◌, ◌≡◌, ◌<◌, ◌≤◌, true, refl, map, length, All, encode_utf8_all}
-use Rattle.std.proofs.Common.{ap, sym}
+use Rattle.std.specs.Prelude.{ℕ, List, [], ◌∷◌, ◌≡◌, ◌<◌, ◌≤◌, refl, map, length, All, encode_utf8_all}
+use Rattle.std.proofs.Common.{ap}
 use Rattle.dns_charstr.specs.Printed.{quoted_text}
 use Rattle.dns_zone.specs.Layout.{Step, token}
 use Rattle.dns_zone.specs.Nesting.{IsNested}

@@ -6,11 +6,10 @@ ghost use Rattle.dns_scan.specs.Stands.{StandsBefore};
 ghost use Rattle.dns_scan.specs.Tokens.{Token};
 ghost use Rattle.dns_zone.specs.Layout.{token};
 ghost use Rattle.dns_entry.specs.Field.{field_text, text_octets};
-ghost use Rattle.dns_record.specs.FieldLaws.{number8_back, number16_back, number32_back, string_back, both_back, token_back};
+ghost use Rattle.dns_record.specs.FieldLaws.{number8_back, number16_back, number32_back, string_back, both_back, name_read};
 ghost use Rattle.dns_record.specs.ReadsBack.{FieldBack, ReadsBack};
 ghost use Rattle.dns_record.specs.Values.{Value, number8, number16, number32, name, string, AreValues, AreTexts};
 
-use crate::name_token::NameToken;
 use dns_charstr::charstr::CharStr;
 use dns_iter::IterScanner;
 use dns_scan::{Scan, Scanner, ScannerError};
@@ -69,14 +68,6 @@ impl<Octets: AsOctets> FieldValue for Name<Octets> {
     }
 }
 
-impl<N: FieldValue> FieldValue for NameToken<N> {
-    ghost values = { λ token. N.values token.name };
-
-    fn known(&self) {
-        self.name.known();
-    }
-}
-
 impl<Octets: AsOctets> FieldValue for CharStr<Octets> {
     ghost values = { λ octets. string octets ∷ [] };
 
@@ -127,11 +118,11 @@ impl<S: Scanner, A: Field<S> + Drop, B: Field<S>> Field<S> for (A, B) {
 
 impl<'a, Iter: Iterator<Item = &'a str>, Octets: FromBuilder + Drop, E: ScannerError> Field<
     IterScanner<Iter, Octets, E>,
-> for NameToken<Name<Octets>>
+> for Name<Octets>
 where
     Octets::Builder: EmptyBuilder + AsOctetsMut + Truncate + FreezeBuilder<Octets = Octets> + Drop,
 {
-    ghost back = { token_back Octets E.cause Octets.Builder.sure Octets.Builder.most };
+    ghost back = { name_read Octets E.cause Octets.Builder.sure Octets.Builder.most };
 }
 
 /// Takes the texts of fields: they are scanned back to the same values, and the tokens after them

@@ -3,6 +3,5 @@
 #![tactic(auto)]
 
 pub mod fields;
-pub mod name_token;
 pub mod record;
 pub mod several;

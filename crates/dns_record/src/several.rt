@@ -7,7 +7,7 @@ ghost use Rattle.dns_record.specs.ReadsBack.{ReadsBack};
 ghost use Rattle.dns_record.specs.Several.{IsString, string_steps, strings_of};
 ghost use Rattle.dns_record.specs.Values.{Value, hex, base64_octets, AreFields, AreTexts, AreValues};
 
-use crate::fields::{scan_fields, write_quoted};
+use crate::fields::write_quoted;
 use dns_charstr::charstr::CharStr;
 use dns_laws::entries::{base64_entry_is_scanned_back, hex_entry_is_scanned_back};
 use dns_scan::{Scanner, ScannerError};
@@ -183,6 +183,8 @@ impl<Octets: AsOctets, A: Allocator> ZonefileFmt for Strings<Octets, A> {
 }
 
 /// Takes all tokens that are left as character strings, one at least.
+///
+/// Without a string the entry is refused as one that ended early.
 pub fn strings_rest<S: Scanner, A: Allocator>(
     alloc: A,
     scanner: &mut S,
@@ -194,20 +196,10 @@ where
     ensures back { (strings : List (List ℕ)) (tokens : List Token) → AreFields (strings_of strings) → AreTexts (strings_of strings) tokens [] → StandsBefore S.next_token scanner.old tokens
         → ReadsBack S.next_token S.Error.cause strings_of (strings_of strings) [] result scanner.new }
 {
-    let mut strings: Vec<CharStr<S::Octets>, A> = Vec::new(alloc);
-    for _turn in 0..u64::MAX {
-        match scan_fields::<S, CharStr<S::Octets>>(scanner) {
-            Ok(string) => match strings.push(string) {
-                Ok(()) => {}
-                Err(_) => return Err(S::Error::short_buf()),
-            },
-            Err(error) => return Err(error),
-        }
-        if !scanner.continues() {
-            return some_strings(strings);
-        }
+    match dns_scan::strings_rest(alloc, scanner) {
+        Ok(strings) => some_strings(strings),
+        Err(error) => Err(error),
     }
-    Err(S::Error::short_buf())
 }
 
 // The strings, of which there has to be one.

@@ -3,7 +3,7 @@ ghost use Rattle.std.specs.Prelude.{refl};
 ghost use Rattle.dns_record.specs.Pieces.{steps_of};
 ghost use Rattle.dns_records.specs.Pieces.{mx_pieces};
 
-use dns_text::record::{FieldValue, NameToken, RecordData, scan_fields};
+use dns_text::record::{FieldValue, RecordData, scan_fields};
 use dns_text::scan::{EntryScanner, ScannerError, TokenText};
 use dns_text::wire::{
     AsOctets, AsOctetsMut, EmptyBuilder, FreezeBuilder, FromBuilder, Name, Truncate, ZoneName,
@@ -47,10 +47,10 @@ where
         _alloc: A,
         scanner: &mut EntryScanner<'a, T, Octets, E>,
     ) -> Result<Self, E> {
-        match scan_fields::<_, (u16, NameToken<Name<Octets>>)>(scanner) {
+        match scan_fields::<_, (u16, Name<Octets>)>(scanner) {
             Ok((preference, exchange)) => Ok(Mx {
                 preference,
-                exchange: exchange.name,
+                exchange,
             }),
             Err(error) => Err(error),
         }

@@ -1,4 +1,4 @@
-use Rattle.std.proofs.Common.{List, ℕ, [], sym, ap, subst, ◌∙◌, string_bytes}
+use Rattle.std.proofs.Common.{List, ℕ, sym, ap, subst, ◌∙◌, string_bytes}
 use Rattle.dns_split.specs.Answer.{texts, entries_of}
 use Rattle.dns_split.specs.Splitting.{Splits}
 use Rattle.dns_iter.specs.Contents.{AreContents}
