@@ -2,9 +2,15 @@
 use Rattle.std.specs.Prelude.{List, [], ◌∷◌, codes}
 use Rattle.dns_record.specs.Pieces.{Piece, field, note}
 use Rattle.dns_record.specs.Several.{string_pieces}
-use Rattle.dns_record.specs.Values.{number16, name}
+use Rattle.dns_record.specs.Values.{number8, number16, name, hex}
+use Rattle.dns_records.specs.declared.ds.Ds.{Ds}
 use Rattle.dns_records.specs.declared.mx.Mx.{Mx}
 use Rattle.dns_records.specs.declared.txt.Txt.{Txt}
+
+abbrev pub ds_pieces : {O : Type 0} → Ds O → List Piece
+ds_pieces x =
+    field (number16 x.key_tag) ∷ note (codes "key tag") ∷ field (number8 x.algorithm) ∷ note (codes "algorithm")
+    ∷ field (number8 x.digest_type) ∷ note (codes "digest type") ∷ field (hex x.digest) ∷ []
 
 abbrev pub mx_pieces : {O : Type 0} → Mx O → List Piece
 mx_pieces x = field (number16 x.preference) ∷ note (codes "preference") ∷ field (name x.exchange) ∷ note (codes "exchange") ∷ []

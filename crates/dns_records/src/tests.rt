@@ -1,4 +1,5 @@
-//! Texts of RFC 1035 to records and back, in three layouts.
+//! Texts of the standards to records and back, in three layouts.
+use crate::ds::Ds;
 use crate::mx::Mx;
 use crate::txt::Txt;
 use dns_text::charstr::CharStr;
@@ -116,6 +117,18 @@ fn mx(rt: HostRuntime) -> Result<(), Fail> {
     )
 }
 
+// RFC 4034 section 5.4.
+#[test]
+fn ds(rt: HostRuntime) -> Result<(), Fail> {
+    prints::<Ds<Vec<u8>>>(
+        &rt,
+        rt.alloc(),
+        "60485 5 1 ( 2BB183AF5F22588179A53B0A\n 98631FAD1A292118 )",
+        "60485 5 1 2BB183AF5F22588179A53B0A98631FAD1A292118",
+        "60485\t5\t1\t2BB183AF5F22588179A53B0A98631FAD1A292118",
+    )
+}
+
 // RFC 1035 sections 3.3.14 and 5.1.
 #[test]
 fn txt(rt: HostRuntime) -> Result<(), Fail> {
@@ -167,7 +180,10 @@ fn refused_texts(rt: HostRuntime) -> Result<(), Fail> {
     refuses::<Mx<Vec<u8>>>(&rt, alloc, "65536 a.", "decimal number overflow")?;
     refuses::<Mx<Vec<u8>>>(&rt, alloc, "x a.", "expected decimal number")?;
     refuses::<Mx<Vec<u8>>>(&rt, alloc, "10", "unexpected end of entry")?;
-    refuses::<Mx<Vec<u8>>>(&rt, alloc, "10 a..b.", "invalid domain name")
+    refuses::<Mx<Vec<u8>>>(&rt, alloc, "10 a..b.", "invalid domain name")?;
+    refuses::<Ds<Vec<u8>>>(&rt, alloc, "1 2 3", "unexpected end of entry")?;
+    refuses::<Ds<Vec<u8>>>(&rt, alloc, "1 256 3 AB", "decimal number overflow")?;
+    refuses::<Ds<Vec<u8>>>(&rt, alloc, "1 2 3 AB G0", "expected hex digits")
 }
 
 /// Octets in memory of which one call is refused.

@@ -1,0 +1,77 @@
+//! DS (RFC 4034 section 5).
+ghost use Rattle.std.specs.Prelude.{refl};
+ghost use Rattle.dns_record.specs.Pieces.{steps_of};
+ghost use Rattle.dns_records.specs.Pieces.{ds_pieces};
+
+use dns_text::base16;
+use dns_text::record::{FieldValue, RecordData, SomeOctets, hex_rest, scan_fields};
+use dns_text::scan::{EntryScanner, ScannerError, TokenText};
+use dns_text::wire::{AsOctets, AsOctetsMut, EmptyBuilder, FreezeBuilder, FromBuilder, Truncate};
+use dns_text::zonefile_fmt::{self, FormatWriter, Formatter, ZonefileFmt};
+use std::alloc::Allocator;
+
+/// The digest of a key of a child zone.
+#[derive(Drop)]
+pub struct Ds<Octets: AsOctets> {
+    pub key_tag: u16,
+    pub algorithm: u8,
+    pub digest_type: u8,
+    pub digest: SomeOctets<Octets>,
+}
+
+impl<Octets: AsOctets> ZonefileFmt for Ds<Octets> {
+    ghost document = { λ x. steps_of (ds_pieces x) };
+
+    ghost nested = { λ _. refl };
+
+    fn fmt<F: FormatWriter>(&self, p: &mut F) -> zonefile_fmt::Result {
+        p.write_token(self.key_tag)?;
+        p.write_comment("key tag")?;
+        p.write_token(self.algorithm)?;
+        p.write_comment("algorithm")?;
+        p.write_token(self.digest_type)?;
+        p.write_comment("digest type")?;
+        p.write_token(base16::encode_display(self.digest.as_slice()))
+    }
+}
+
+impl<Octets: FromBuilder + Drop, A: Allocator + Copy> RecordData<Octets, A> for Ds<Octets>
+where
+    Octets::Builder: EmptyBuilder + AsOctetsMut + Truncate + FreezeBuilder<Octets = Octets> + Drop,
+{
+    ghost pieces = { ds_pieces };
+
+    fn known(&self) {
+        self.key_tag.known();
+        self.algorithm.known();
+        self.digest_type.known();
+        let _digest = self.digest.as_slice();
+    }
+
+    fn scan_data<'a, T: TokenText, E: ScannerError>(
+        _alloc: A,
+        scanner: &mut EntryScanner<'a, T, Octets, E>,
+    ) -> Result<Self, E> {
+        let (key_tag, algorithm) = match scan_fields::<_, (u16, u8)>(scanner) {
+            Ok(numbers) => numbers,
+            Err(error) => return Err(error),
+        };
+        let digest_type = match scan_fields::<_, u8>(scanner) {
+            Ok(number) => number,
+            Err(error) => return Err(error),
+        };
+        match hex_rest(scanner) {
+            Ok(digest) => Ok(Ds {
+                key_tag,
+                algorithm,
+                digest_type,
+                digest,
+            }),
+            Err(error) => Err(error),
+        }
+    }
+
+    ghost shown = { λ _. refl };
+
+    ghost laid_out = { λ _. refl };
+}
