@@ -1,4 +1,5 @@
 //! Texts of the standards to records and back, in three layouts.
+use crate::caa::Caa;
 use crate::ds::Ds;
 use crate::mx::Mx;
 use crate::txt::Txt;
@@ -117,6 +118,24 @@ fn mx(rt: HostRuntime) -> Result<(), Fail> {
     )
 }
 
+// RFC 8659 section 4.
+#[test]
+fn caa(rt: HostRuntime) -> Result<(), Fail> {
+    let alloc = rt.alloc();
+    let issue = "0 issue \"ca1.example.net; account=230123\"";
+    let tabbed = "0\tissue\t\"ca1.example.net; account=230123\"";
+    prints::<Caa<Vec<u8>>>(&rt, alloc, issue, issue, tabbed)?;
+    let unknown = "128 tbs \"Unknown\"";
+    prints::<Caa<Vec<u8>>>(
+        &rt,
+        alloc,
+        "128 tbs Unknown",
+        unknown,
+        "128\ttbs\t\"Unknown\"",
+    )?;
+    prints::<Caa<Vec<u8>>>(&rt, alloc, "0 issue \"\"", "0 issue \"\"", "0\tissue\t\"\"")
+}
+
 // RFC 4034 section 5.4.
 #[test]
 fn ds(rt: HostRuntime) -> Result<(), Fail> {
@@ -183,7 +202,9 @@ fn refused_texts(rt: HostRuntime) -> Result<(), Fail> {
     refuses::<Mx<Vec<u8>>>(&rt, alloc, "10 a..b.", "invalid domain name")?;
     refuses::<Ds<Vec<u8>>>(&rt, alloc, "1 2 3", "unexpected end of entry")?;
     refuses::<Ds<Vec<u8>>>(&rt, alloc, "1 256 3 AB", "decimal number overflow")?;
-    refuses::<Ds<Vec<u8>>>(&rt, alloc, "1 2 3 AB G0", "expected hex digits")
+    refuses::<Ds<Vec<u8>>>(&rt, alloc, "1 2 3 AB G0", "expected hex digits")?;
+    refuses::<Caa<Vec<u8>>>(&rt, alloc, "0 issue \"a\" b", "trailing data")?;
+    refuses::<Caa<Vec<u8>>>(&rt, alloc, "0 issue", "unexpected end of entry")
 }
 
 /// Octets in memory of which one call is refused.

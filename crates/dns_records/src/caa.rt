@@ -1,0 +1,64 @@
+//! CAA (RFC 8659 section 4).
+ghost use Rattle.std.specs.Prelude.{refl};
+ghost use Rattle.dns_record.specs.Pieces.{steps_of};
+ghost use Rattle.dns_records.specs.Pieces.{caa_pieces};
+
+use dns_text::charstr::CharStr;
+use dns_text::record::{FieldValue, RecordData, scan_fields, write_unquoted};
+use dns_text::scan::{EntryScanner, ScannerError, TokenText};
+use dns_text::wire::{AsOctets, AsOctetsMut, EmptyBuilder, FreezeBuilder, FromBuilder, Truncate};
+use dns_text::zonefile_fmt::{self, FormatWriter, Formatter, ZonefileFmt};
+use std::alloc::Allocator;
+
+/// Which certification authority may issue certificates for the owner.
+#[derive(Drop)]
+pub struct Caa<Octets: AsOctets> {
+    pub flags: u8,
+    pub tag: CharStr<Octets>,
+    pub value: CharStr<Octets>,
+}
+
+impl<Octets: AsOctets> ZonefileFmt for Caa<Octets> {
+    ghost document = { λ x. steps_of (caa_pieces x) };
+
+    ghost nested = { λ _. refl };
+
+    fn fmt<F: FormatWriter>(&self, p: &mut F) -> zonefile_fmt::Result {
+        p.write_token(self.flags)?;
+        p.write_comment("flags")?;
+        write_unquoted(p, &self.tag)?;
+        p.write_comment("tag")?;
+        p.write_token(self.value.display_quoted())
+    }
+}
+
+impl<Octets: FromBuilder + Drop, A: Allocator + Copy> RecordData<Octets, A> for Caa<Octets>
+where
+    Octets::Builder: EmptyBuilder + AsOctetsMut + Truncate + FreezeBuilder<Octets = Octets> + Drop,
+{
+    ghost pieces = { caa_pieces };
+
+    fn known(&self) {
+        self.flags.known();
+        self.tag.known();
+        self.value.known();
+    }
+
+    fn scan_data<'a, T: TokenText, E: ScannerError>(
+        _alloc: A,
+        scanner: &mut EntryScanner<'a, T, Octets, E>,
+    ) -> Result<Self, E> {
+        let (flags, tag) = match scan_fields::<_, (u8, CharStr<Octets>)>(scanner) {
+            Ok(fields) => fields,
+            Err(error) => return Err(error),
+        };
+        match scan_fields(scanner) {
+            Ok(value) => Ok(Caa { flags, tag, value }),
+            Err(error) => Err(error),
+        }
+    }
+
+    ghost shown = { λ _. refl };
+
+    ghost laid_out = { λ _. refl };
+}
