@@ -1,7 +1,6 @@
 //! The entries of zone text.
 use super::*;
 use crate::entry::{EntryScanner, TokenText, entry_scanner};
-use dns_split::pieces::{Piece, Pieces};
 use dns_split::splitting::split;
 
 // Whether an entry of these tokens is read as these character strings, and nothing else.
@@ -63,34 +62,4 @@ fn space_stands_before_the_first_token(rt: HostRuntime) {
     assert!(rt; !scanner.has_space());
     let mut scanner: EntryScanner<'_, _, Vec<u8>> = entry_scanner(alloc, &tokens, false);
     assert!(rt; !scanner.has_space());
-}
-
-// The way from the cursor to scanners, an entry at a time: the tokens are slices of the text.
-#[test]
-fn the_cursor_leads_to_scanners(rt: HostRuntime) -> Result<(), AllocError> {
-    let alloc = rt.alloc();
-    let text = "a \"b;c\" ; d\n \"\" ( e\n f )\n";
-    let mut tokens: Vec<&str> = Vec::new(alloc);
-    let mut entries = 0;
-    for piece in Pieces::new(text) {
-        match piece {
-            Ok(Piece::Word(part)) => tokens.push(&text[part.start..part.end])?,
-            Ok(Piece::Quote(part)) => tokens.push(&text[part.start..part.end])?,
-            Ok(Piece::Comment(_)) => {}
-            Ok(Piece::End(end)) => {
-                let want: &[&[u8]] = match entries {
-                    0 => &[b"a", b"b;c"],
-                    1 => &[b"", b"e", b"f"],
-                    _ => &[],
-                };
-                assert!(rt; end.begins_blank == (entries == 1));
-                assert!(rt; is_read(alloc, &tokens, want));
-                tokens.clear();
-                entries += 1;
-            }
-            Err(_) => assert!(rt; false),
-        }
-    }
-    assert!(rt; entries == 3);
-    Ok(())
 }
