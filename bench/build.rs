@@ -1,17 +1,12 @@
-//! Links the static libraries that `rt lib` makes in `crates/dns_text_c`, and `make_library.sh`.
+//! Links the static library that `make_library.sh` makes.
 use std::env;
 use std::path::PathBuf;
 
 fn main() {
     let bench = PathBuf::from(env::var("CARGO_MANIFEST_DIR").unwrap());
-    link(bench.join("../crates/dns_text_c/out"), "dns_text_c");
-    let library = bench.join("target/library/crates/dns_bench_c/out");
-    link(library, "dns_bench_c");
-}
-
-fn link(folder: PathBuf, name: &str) {
+    let folder = bench.join("target/library/crates/dns_bench_c/out");
     println!("cargo:rustc-link-search=native={}", folder.display());
-    println!("cargo:rustc-link-lib=static={name}");
-    let file = folder.join(format!("lib{name}.a"));
+    println!("cargo:rustc-link-lib=static=dns_bench_c");
+    let file = folder.join("libdns_bench_c.a");
     println!("cargo:rerun-if-changed={}", file.display());
 }

@@ -1,29 +1,29 @@
 #!/bin/sh
-# Makes the static library of the calls that the benchmark times beside those of dns_text_c: a crate
-# of its own, in a copy under target/, since it is no part of what is proved and tested.
+# Makes the static library that the benchmark times: one crate over everything, in a copy of the
+# crates under target/, since it is no part of what is proved and tested. Words given to it go to
+# `rt lib`. The program `dnstext`, whose memory is measured, is built beside it.
 set -e
 cd "$(dirname "$0")"
 space=target/library
 mkdir -p $space/crates
-for crate in refusing_heap dns_wire dns_symbol dns_charstr dns_split; do
-    rm -rf $space/crates/$crate
-    cp -r ../crates/$crate $space/crates/
+for crate in ../crates/*/; do
+    copy=$space/crates/$(basename "$crate")
+    mkdir -p "$copy"
+    [ -d "$copy/out" ] || [ ! -d "$crate/out" ] || cp -a "$crate/out" "$copy/"
+    rm -rf "$copy/src" "$copy/specs" "$copy/proofs"
+    for part in src specs proofs; do
+        [ ! -d "$crate/$part" ] || cp -a "$crate/$part" "$copy/"
+    done
 done
-rm -rf $space/crates/dns_bench_c
-mkdir -p $space/crates/dns_bench_c/src $space/crates/dns_bench_c/specs $space/crates/dns_bench_c/proofs
-for module in lib cursor strings; do
-    cp library/$module.rt.in $space/crates/dns_bench_c/src/$module.rt
+bench=$space/crates/dns_bench_c
+mkdir -p $bench/src $bench/specs $bench/proofs
+for module in library/*.rt.in; do
+    cp "$module" "$bench/src/$(basename "$module" .in)"
 done
-: > $space/crates/dns_bench_c/specs/Lib.antt
-: > $space/crates/dns_bench_c/proofs/Lib.antt
+: > $bench/specs/Lib.antt
+: > $bench/proofs/Lib.antt
 cp ../HANDLES $space/
-cat > $space/crates.txt <<'LIST'
-refusing_heap:
-dns_wire: arrayvec thiserror
-dns_symbol:
-dns_charstr: dns_symbol dns_wire arrayvec refusing_heap
-dns_split: dns_symbol refusing_heap
-dns_bench_c staticlib: dns_charstr dns_split dns_symbol
-LIST
-cd $space/crates/dns_bench_c
-rt lib
+cp ../crates.txt $space/
+echo "dns_bench_c staticlib: dns_text dns_records dns_record dns_split dns_charstr dns_symbol" >> $space/crates.txt
+(cd $bench && rt lib "$@")
+(cd $space/crates/dnstext && rt run "$@" -- print simple t:a)

@@ -1,54 +1,66 @@
-//! Octets per second of the encodings, beside plain table-driven ones.
-//!
-//! Both sides read a slice and write into one of the caller's. The ratio is the library's time by
-//! the plain one's: below 1 the library is the faster.
-
-use crate::measure::{compare, seconds_of};
-use std::hint::black_box;
+//! The encodings, beside plain table-driven ones.
+use crate::rows::{Case, Rows};
+use crate::texts;
+use std::cell::RefCell;
 
 mod library {
+    use super::{Call, Slices};
+
     extern "C" {
-        pub fn dns_base16_encode(
-            octets: *const u8,
-            octets_len: usize,
-            text: *mut u8,
-            text_len: usize,
-        ) -> usize;
-        pub fn dns_base32hex_encode(
-            octets: *const u8,
-            octets_len: usize,
-            text: *mut u8,
-            text_len: usize,
-        ) -> usize;
-        pub fn dns_base64_encode(
-            octets: *const u8,
-            octets_len: usize,
-            text: *mut u8,
-            text_len: usize,
-        ) -> usize;
-        pub fn dns_base16_decode(
-            text: *const u8,
-            text_len: usize,
-            octets: *mut u8,
-            octets_len: usize,
-        ) -> usize;
-        pub fn dns_base32hex_decode(
-            text: *const u8,
-            text_len: usize,
-            octets: *mut u8,
-            octets_len: usize,
-        ) -> usize;
-        pub fn dns_base64_decode(
-            text: *const u8,
-            text_len: usize,
-            octets: *mut u8,
-            octets_len: usize,
-        ) -> usize;
+        fn bench_base16_encode(from: *const u8, len: usize, to: *mut u8, room: usize) -> usize;
+        fn bench_base16_decode(from: *const u8, len: usize, to: *mut u8, room: usize) -> usize;
+        fn bench_base16_encode_string(from: *const u8, len: usize) -> usize;
+        fn bench_base16_decode_vec(from: *const u8, len: usize) -> usize;
+        fn bench_base16_scan(from: *const u8, len: usize) -> usize;
+        fn bench_base32hex_encode(from: *const u8, len: usize, to: *mut u8, room: usize) -> usize;
+        fn bench_base32hex_decode(from: *const u8, len: usize, to: *mut u8, room: usize) -> usize;
+        fn bench_base32hex_encode_string(from: *const u8, len: usize) -> usize;
+        fn bench_base32hex_decode_vec(from: *const u8, len: usize) -> usize;
+        fn bench_base32hex_scan(from: *const u8, len: usize) -> usize;
+        fn bench_base64_encode(from: *const u8, len: usize, to: *mut u8, room: usize) -> usize;
+        fn bench_base64_decode(from: *const u8, len: usize, to: *mut u8, room: usize) -> usize;
+        fn bench_base64_encode_string(from: *const u8, len: usize) -> usize;
+        fn bench_base64_decode_vec(from: *const u8, len: usize) -> usize;
+        fn bench_base64_scan(from: *const u8, len: usize) -> usize;
     }
+
+    /// The calls of an encoding.
+    pub struct Calls {
+        pub encode: Slices,
+        pub decode: Slices,
+        pub encode_string: Call,
+        pub decode_vec: Call,
+        pub scan: Call,
+    }
+
+    pub const BASE16: Calls = Calls {
+        encode: bench_base16_encode,
+        decode: bench_base16_decode,
+        encode_string: bench_base16_encode_string,
+        decode_vec: bench_base16_decode_vec,
+        scan: bench_base16_scan,
+    };
+
+    pub const BASE32HEX: Calls = Calls {
+        encode: bench_base32hex_encode,
+        decode: bench_base32hex_decode,
+        encode_string: bench_base32hex_encode_string,
+        decode_vec: bench_base32hex_decode_vec,
+        scan: bench_base32hex_scan,
+    };
+
+    pub const BASE64: Calls = Calls {
+        encode: bench_base64_encode,
+        decode: bench_base64_decode,
+        encode_string: bench_base64_encode_string,
+        decode_vec: bench_base64_decode_vec,
+        scan: bench_base64_scan,
+    };
 }
 
-mod plain {
+pub mod plain {
     //! Table-driven encodings, a group at a time.
+    use crate::symbols::plain::Symbol;
 
     pub struct Encoding {
         names: &'static [u8],
@@ -196,88 +208,124 @@ mod plain {
             _ => decode_groups::<6, 3, 4>(e, text, octets),
         }
     }
+
+    /// How many characters the text of so many octets has.
+    fn length(e: &Encoding, octets: usize) -> usize {
+        let chars = (octets * 8).div_ceil(e.bits);
+        if e.padded {
+            chars.next_multiple_of(4)
+        } else {
+            chars
+        }
+    }
+
+    pub fn encode_string(e: &Encoding, octets: &[u8]) -> String {
+        let mut text = vec![0; length(e, octets.len())];
+        let len = encode(e, octets, &mut text);
+        assert_eq!(len, text.len());
+        String::from_utf8(text).expect("ASCII")
+    }
+
+    pub fn decode_vec(e: &Encoding, text: &str) -> Option<Vec<u8>> {
+        let mut octets = vec![0; text.len() * e.bits / 8 + 8];
+        let len = decode(e, text.as_bytes(), &mut octets)?;
+        octets.truncate(len);
+        Some(octets)
+    }
+
+    /// A token symbol by symbol: each has a character, and each group of characters its octets.
+    pub fn scan(e: &Encoding, token: &str) -> Option<Vec<u8>> {
+        let mut chars = token.chars();
+        let mut octets = Vec::new();
+        let (mut number, mut bits, mut padding) = (0u32, 0, 0);
+        while let Some(symbol) = Symbol::next(&mut chars).ok()? {
+            let c = symbol.char().filter(char::is_ascii)? as u8;
+            if e.padded && c == b'=' {
+                padding += 1;
+                continue;
+            }
+            let value = e.values[c as usize];
+            if value == NONE || padding > 0 {
+                return None;
+            }
+            number = number << e.bits | u32::from(value);
+            bits += e.bits;
+            if bits >= 8 {
+                bits -= 8;
+                octets.push((number >> bits) as u8);
+            }
+        }
+        let whole = !e.padded || (bits + padding * 6) % 8 == 0;
+        (whole && bits < 8 && padding < 3).then_some(octets)
+    }
 }
 
-type Call = unsafe extern "C" fn(*const u8, usize, *mut u8, usize) -> usize;
+type Slices = unsafe extern "C" fn(*const u8, usize, *mut u8, usize) -> usize;
 
-fn call(f: Call, from: &[u8], to: &mut [u8]) -> usize {
+type Call = unsafe extern "C" fn(*const u8, usize) -> usize;
+
+fn call(f: Slices, from: &[u8], to: &mut [u8]) -> usize {
     unsafe { f(from.as_ptr(), from.len(), to.as_mut_ptr(), to.len()) }
 }
 
-pub fn run() {
-    let encodings: [(&str, plain::Encoding, Call, Call); 3] = [
-        (
-            "base16",
-            plain::Encoding::encoding16(),
-            library::dns_base16_encode,
-            library::dns_base16_decode,
-        ),
-        (
-            "base32hex",
-            plain::Encoding::encoding32hex(),
-            library::dns_base32hex_encode,
-            library::dns_base32hex_decode,
-        ),
-        (
-            "base64",
-            plain::Encoding::encoding64(),
-            library::dns_base64_encode,
-            library::dns_base64_decode,
-        ),
-    ];
-    for len in [16usize, 1024, 1 << 20] {
-        let mut seed = 0x2545_f491u32;
-        let octets: Vec<u8> = (0..len)
-            .map(|_| {
-                seed = seed.wrapping_mul(1_664_525).wrapping_add(1_013_904_223);
-                (seed >> 24) as u8
-            })
-            .collect();
-        let runs = (1 << 22) / (len + 64);
-        for (name, plain, encode, decode) in &encodings {
-            let mut ours = vec![0u8; len * 2 + 8];
-            let mut theirs = vec![0u8; len * 2 + 8];
-            let size = call(*encode, &octets, &mut ours);
-            assert_eq!(plain::encode(plain, &octets, &mut theirs), size);
-            assert_eq!(ours[..size], theirs[..size]);
-            let text = ours[..size].to_vec();
-            assert_eq!(call(*decode, &text, &mut ours), len);
-            assert_eq!(plain::decode(plain, &text, &mut theirs), Some(len));
-            assert!(ours[..len] == octets[..] && theirs[..len] == octets[..]);
+fn add_encoding(rows: &mut Rows, name: &str, e: &plain::Encoding, calls: &library::Calls) {
+    let octets = [16, 1024, 1 << 20].map(texts::random);
+    let spelled = octets.each_ref().map(|it| plain::encode_string(e, it));
+    let room = RefCell::new(vec![0; (1 << 21) + 8]);
+    let room = &room;
+    let named = |what: &str| format!("{name}, {what}");
+    rows.add("Encodings", &named("encode into a slice"), || {
+        octets.each_ref().map(|octets| {
+            Case::new(
+                octets.len(),
+                move || call(calls.encode, octets, &mut room.borrow_mut()),
+                move || plain::encode(e, octets, &mut room.borrow_mut()),
+            )
+        })
+    });
+    rows.add("Encodings", &named("decode into a slice"), || {
+        spelled.each_ref().map(|text| {
+            Case::new(
+                text.len(),
+                move || call(calls.decode, text.as_bytes(), &mut room.borrow_mut()),
+                move || plain::decode(e, text.as_bytes(), &mut room.borrow_mut()).unwrap_or(0),
+            )
+        })
+    });
+    rows.add("Encodings", &named("`encode_string`"), || {
+        octets.each_ref().map(|octets| {
+            Case::new(
+                octets.len(),
+                move || unsafe { (calls.encode_string)(octets.as_ptr(), octets.len()) },
+                move || plain::encode_string(e, octets).len(),
+            )
+        })
+    });
+    rows.add("Encodings", &named("`decode` into a vector"), || {
+        spelled.each_ref().map(|text| {
+            Case::new(
+                text.len(),
+                move || unsafe { (calls.decode_vec)(text.as_ptr(), text.len()) },
+                move || plain::decode_vec(e, text).map_or(0, |octets| octets.len()),
+            )
+        })
+    });
+    rows.add("Encodings", &named("scanned"), || {
+        spelled.each_ref().map(|text| {
+            Case::new(
+                text.len(),
+                move || unsafe { (calls.scan)(text.as_ptr(), text.len()) },
+                move || plain::scan(e, text).map_or(0, |octets| octets.len()),
+            )
+        })
+    });
+}
 
-            let library_time = seconds_of(runs, || {
-                black_box(call(*encode, black_box(&octets), black_box(&mut ours)));
-            });
-            let plain_time = seconds_of(runs, || {
-                black_box(plain::encode(
-                    plain,
-                    black_box(&octets),
-                    black_box(&mut theirs),
-                ));
-            });
-            compare(
-                &format!("{name} encode, {len} octets"),
-                len,
-                library_time,
-                plain_time,
-            );
-
-            let library_time = seconds_of(runs, || {
-                black_box(call(*decode, black_box(&text), black_box(&mut ours)));
-            });
-            let plain_time = seconds_of(runs, || {
-                black_box(plain::decode(
-                    plain,
-                    black_box(&text),
-                    black_box(&mut theirs),
-                ));
-            });
-            compare(
-                &format!("{name} decode, {len} octets"),
-                len,
-                library_time,
-                plain_time,
-            );
-        }
-    }
+pub fn add(rows: &mut Rows) {
+    let base16 = plain::Encoding::encoding16();
+    add_encoding(rows, "base 16", &base16, &library::BASE16);
+    let base32hex = plain::Encoding::encoding32hex();
+    add_encoding(rows, "base32hex", &base32hex, &library::BASE32HEX);
+    let base64 = plain::Encoding::encoding64();
+    add_encoding(rows, "base 64", &base64, &library::BASE64);
 }

@@ -1,16 +1,56 @@
-//! Times the proved library beside plain Rust that was written for the comparison.
+//! Times the proved library beside plain Rust that was written for the comparison, and is ours too.
 //!
-//! Run `rt lib` in `crates/dns_text_c`, then `./make_library.sh` and `cargo run --release` here.
+//! `./make_library.sh` makes the library. `cargo run --release` prints the rows, with `--markdown`
+//! as tables, and with `--svg` writes a bar chart into `../docs/speed.svg`. Words after these pick
+//! rows by a part of their names, and then the tables of texts and of memory are left out.
 
+mod chart;
 mod codecs;
+mod documents;
 mod heap;
 mod measure;
+mod memory;
+mod names;
+mod records;
+mod rows;
 mod splitting;
 mod strings;
+mod symbols;
+mod table;
 mod texts;
 
+use rows::Rows;
+
 fn main() {
-    codecs::run();
-    strings::run();
-    splitting::run();
+    let words: Vec<String> = std::env::args().skip(1).collect();
+    if let [first, operation, file] = &words[..] {
+        if first == "--memory" {
+            return memory::run(operation, file);
+        }
+    }
+    let (options, wanted): (Vec<String>, Vec<String>) =
+        words.into_iter().partition(|word| word.starts_with("--"));
+    let all = wanted.is_empty();
+    let mut rows = Rows::new(wanted);
+    symbols::add(&mut rows);
+    strings::add(&mut rows);
+    names::add(&mut rows);
+    codecs::add(&mut rows);
+    splitting::add(&mut rows);
+    documents::add(&mut rows);
+    records::add(&mut rows);
+    let has = |option: &str| options.iter().any(|it| it == option);
+    if has("--markdown") {
+        print!("{}", table::markdown(&rows.found));
+        if all {
+            print!("{}", table::texts(&splitting::each_text()));
+            print!("{}", table::memory(&memory::rows()));
+        }
+    } else {
+        print!("{}", table::plain(&rows.found));
+    }
+    if has("--svg") {
+        let path = concat!(env!("CARGO_MANIFEST_DIR"), "/../docs/speed.svg");
+        std::fs::write(path, chart::svg(&rows.found)).expect("the chart is written");
+    }
 }

@@ -1,6 +1,5 @@
-//! Times, and lines that compare two of them.
-use std::process::{Command, Stdio};
-use std::time::Instant;
+//! Processor times, least of many turns, and the peak of memory.
+use std::process::{Child, Command, Stdio};
 
 #[repr(C)]
 #[derive(Default)]
@@ -14,17 +13,24 @@ struct Time {
 struct Usage {
     user: Time,
     system: Time,
-    rest: [i64; 14],
+    peak: i64,
+    rest: [i64; 13],
 }
 
 extern "C" {
     fn clock_gettime(clock: i32, time: *mut Time) -> i32;
     fn getrusage(who: i32, usage: *mut Usage) -> i32;
+    fn wait4(child: i32, status: *mut i32, options: i32, usage: *mut Usage) -> i32;
 }
 
 const PROCESSOR_TIME: i32 = 2;
 
+const ITSELF: i32 = 0;
+
 const CHILDREN: i32 = -1;
+
+/// Work that is done so many times.
+pub type Work<'a> = Box<dyn Fn(usize) -> usize + 'a>;
 
 /// The processor time of this process so far, in seconds.
 fn processor_time() -> f64 {
@@ -33,39 +39,60 @@ fn processor_time() -> f64 {
     time.seconds as f64 + time.fraction as f64 * 1e-9
 }
 
-/// The least processor time of `turns` runs, in seconds.
-pub fn processor_seconds(turns: usize, mut run: impl FnMut()) -> f64 {
-    let times = (0..turns).map(|_| {
-        let start = processor_time();
-        run();
-        processor_time() - start
-    });
-    times.fold(f64::INFINITY, f64::min)
+/// The processor time of a call, in seconds.
+pub fn processor_seconds(call: impl FnOnce() -> usize) -> f64 {
+    let start = processor_time();
+    std::hint::black_box(call());
+    processor_time() - start
 }
 
-/// Nanoseconds of processor time an octet, the least of many turns of the three calls.
-pub fn nanoseconds(octets: &[u8], calls: [&dyn Fn(&[u8]) -> usize; 3]) -> [f64; 3] {
-    let runs = 1 + 200_000 / octets.len();
-    let mut best = [f64::INFINITY; 3];
-    for _ in 0..9 {
-        for (best, call) in best.iter_mut().zip(calls) {
-            let took = processor_seconds(1, || {
-                for _ in 0..runs {
-                    std::hint::black_box(call(std::hint::black_box(octets)));
-                }
-            });
-            *best = best.min(took / runs as f64);
+/// The length of a turn, in seconds, and how many turns there are.
+const TURN: f64 = 0.002;
+
+const TURNS: usize = 15;
+
+/// Nanoseconds of processor time an octet, of each work, the least of turns one after another. What
+/// a work does once is taken off.
+pub fn in_turns(octets: usize, works: [&Work; 2]) -> [f64; 2] {
+    let once = processor_seconds(|| works[0](1)).max(1e-8);
+    let runs = 1 + (TURN / once) as usize;
+    let mut made = [f64::INFINITY; 2];
+    let mut done = [f64::INFINITY; 2];
+    for _ in 0..TURNS {
+        for (place, work) in works.iter().enumerate() {
+            made[place] = made[place].min(processor_seconds(|| work(0)));
+            done[place] = done[place].min(processor_seconds(|| work(runs)));
         }
     }
-    best.map(|it| it * 1e9 / octets.len() as f64)
+    std::array::from_fn(|place| (done[place] - made[place]) / runs as f64 * 1e9 / octets as f64)
+}
+
+fn usage(who: i32) -> Usage {
+    let mut usage = Usage::default();
+    assert_eq!(unsafe { getrusage(who, &mut usage) }, 0);
+    usage
 }
 
 /// The processor time of the children that have ended, in seconds.
 fn time_of_children() -> f64 {
-    let mut usage = Usage::default();
-    assert_eq!(unsafe { getrusage(CHILDREN, &mut usage) }, 0);
+    let usage = usage(CHILDREN);
     let of = |time: Time| time.seconds as f64 + time.fraction as f64 * 1e-6;
     of(usage.user) + of(usage.system)
+}
+
+/// The most memory that this process has held, in octets.
+pub fn peak() -> usize {
+    usage(ITSELF).peak as usize * 1024
+}
+
+/// The most memory that a child has held until its end, in octets.
+pub fn peak_of(child: Child) -> usize {
+    let mut usage = Usage::default();
+    let mut status = 0;
+    let id = child.id() as i32;
+    assert_eq!(unsafe { wait4(id, &mut status, 0, &mut usage) }, id);
+    assert_eq!(status, 0);
+    usage.peak as usize * 1024
 }
 
 /// The least processor time of a command, of many runs, in seconds.
@@ -78,31 +105,4 @@ pub fn seconds_of_child(command: &str, arguments: &[&str]) -> f64 {
         time_of_children() - start
     });
     times.fold(f64::INFINITY, f64::min)
-}
-
-/// The shortest of several runs, in seconds.
-pub fn seconds(mut run: impl FnMut()) -> f64 {
-    (0..9)
-        .map(|_| {
-            let start = Instant::now();
-            run();
-            start.elapsed().as_secs_f64()
-        })
-        .fold(f64::INFINITY, f64::min)
-}
-
-/// The shortest time of one of so many runs in a row, in seconds.
-pub fn seconds_of(runs: usize, mut run: impl FnMut()) -> f64 {
-    seconds(|| (0..runs).for_each(|_| run())) / runs as f64
-}
-
-/// Prints octets per second of both, and the proved one's time as a multiple of the other's.
-pub fn compare(what: &str, octets: usize, proved: f64, plain: f64) {
-    let millions = octets as f64 / 1e6;
-    println!(
-        "{what:<40} {:>9.1} MB/s, plain {:>9.1} MB/s, time ratio {:.2}",
-        millions / proved,
-        millions / plain,
-        proved / plain,
-    );
 }

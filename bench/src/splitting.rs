@@ -1,17 +1,18 @@
 //! Zone text: `split` and the cursor, beside a plain splitter, which is ours too.
-use crate::measure::{nanoseconds, processor_seconds, seconds_of_child};
-use crate::texts::{texts, zone, Text};
+use crate::measure::{in_turns, processor_seconds, seconds_of_child, Work};
+use crate::rows::{Case, Rows};
+use crate::texts::{self, zone};
 
 extern "C" {
-    fn dns_text_split(text: *const u8, length: usize) -> usize;
+    fn bench_split(text: *const u8, length: usize) -> usize;
     fn dns_text_tokens(text: *const u8, length: usize) -> usize;
 }
 
-fn proved(text: &[u8]) -> usize {
-    unsafe { dns_text_split(text.as_ptr(), text.len()) }
+pub fn ours(text: &[u8]) -> usize {
+    unsafe { bench_split(text.as_ptr(), text.len()) }
 }
 
-fn cursor(text: &[u8]) -> usize {
+pub fn cursor(text: &[u8]) -> usize {
     unsafe { dns_text_tokens(text.as_ptr(), text.len()) }
 }
 
@@ -32,7 +33,7 @@ fn escape(text: &[u8]) -> Option<usize> {
 }
 
 /// The end of a word or of a quoted text that goes on at a place.
-fn token_end(text: &[u8], mut at: usize, ends: impl Fn(u8) -> bool) -> Option<usize> {
+pub fn token_end(text: &[u8], mut at: usize, ends: impl Fn(u8) -> bool) -> Option<usize> {
     while let Some(&octet) = text.get(at) {
         if ends(octet) {
             break;
@@ -47,7 +48,7 @@ fn token_end(text: &[u8], mut at: usize, ends: impl Fn(u8) -> bool) -> Option<us
 }
 
 /// A splitter as one would write it by hand.
-fn plain(text: &str) -> Option<Vec<Vec<String>>> {
+pub fn plain(text: &str) -> Option<Vec<Vec<String>>> {
     let octets = text.as_bytes();
     let mut found = Vec::new();
     let mut entry = Vec::new();
@@ -100,74 +101,62 @@ fn plain(text: &str) -> Option<Vec<Vec<String>>> {
     (depth == 0).then_some(found)
 }
 
-fn plain_count(octets: &[u8]) -> usize {
+pub fn plain_count(octets: &[u8]) -> usize {
     let text = std::str::from_utf8(octets).expect("the text is UTF-8");
     plain(text).map_or(0, |entries| entries.len())
 }
 
-/// Nanoseconds an octet of `split`, of the plain splitter and of the cursor, in turns.
-fn times(text: &str) -> [f64; 3] {
-    let octets = text.as_bytes();
-    let entries = plain(text).expect("the text is of the grammar");
-    assert_eq!(proved(octets), entries.len());
-    assert_eq!(cursor(octets), entries.iter().map(Vec::len).sum());
-    drop(entries);
-    nanoseconds(octets, [&proved, &plain_count, &cursor])
+/// How many tokens a text has, as the plain splitter finds them.
+fn plain_tokens(octets: &[u8]) -> usize {
+    let text = std::str::from_utf8(octets).expect("the text is UTF-8");
+    plain(text).map_or(0, |entries| entries.iter().map(Vec::len).sum())
 }
 
-/// One line: each of the three at 1, 10 and 100 times the text.
-fn case(name: &str, sizes: [&str; 3]) {
-    let sizes = sizes.map(times);
-    print!("{name:<28}");
-    for call in 0..3 {
-        print!(" |");
-        for size in sizes {
-            print!(" {:>6.2}", size[call]);
-        }
-    }
-    println!();
-}
-
-fn growing(octets: [usize; 3]) {
-    let sizes = octets.map(texts);
-    let [small, middle, large] = &sizes;
-    for ((small, middle), large) in small.iter().zip(middle).zip(large) {
-        let parts: [&Text; 3] = [small, middle, large];
-        case(small.name, parts.map(|it| it.text.as_str()));
-    }
+/// The texts of one thing over and over: nanoseconds an octet of the cursor, of `split` and of the
+/// plain splitter.
+pub fn each_text() -> Vec<(String, [f64; 3])> {
+    let texts = texts::texts(1_000_000);
+    let times = texts.iter().map(|it| {
+        eprintln!("text: {}", it.name);
+        let text = it.text.as_bytes();
+        assert_eq!(ours(text), plain_count(text), "{}", it.name);
+        let work = |call: fn(&[u8]) -> usize| -> Work<'_> {
+            Box::new(move |times| (0..times).map(|_| call(std::hint::black_box(text))).sum())
+        };
+        let [cursor, plain] = in_turns(text.len(), [&work(cursor), &work(plain_count)]);
+        let [split, _] = in_turns(text.len(), [&work(ours), &work(self::cursor)]);
+        (it.name.to_string(), [cursor, split, plain])
+    });
+    let mut times: Vec<_> = times.collect();
+    times.push(beside_wc());
+    times
 }
 
 /// The zone of 200,000 lines as multiples of `wc -l`.
-fn beside_wc() {
+fn beside_wc() -> (String, [f64; 3]) {
     let text = zone(200_000);
     let path = std::env::temp_dir().join("dnstext-bench.zone");
     std::fs::write(&path, &text).expect("the zone is written");
     let wc = seconds_of_child("wc", &["-l", path.to_str().expect("a path in UTF-8")]);
-    println!(
-        "\nzone of 200,000 lines, {} octets: wc -l {:.2} ms",
-        text.len(),
-        wc * 1e3
-    );
-    let calls: [(&str, &dyn Fn(&[u8]) -> usize); 3] = [
-        ("split", &proved),
-        ("plain", &plain_count),
-        ("cursor", &cursor),
-    ];
-    for (name, call) in calls {
-        let took = processor_seconds(15, || assert_ne!(call(text.as_bytes()), 0));
-        println!(
-            "{name:<8} {:>8.2} ms, {:>5.1} x wc -l",
-            took * 1e3,
-            took / wc
-        );
-    }
     std::fs::remove_file(&path).expect("the zone is removed");
+    let least = |call: fn(&[u8]) -> usize| {
+        let times = (0..15).map(|_| processor_seconds(|| call(text.as_bytes())));
+        times.fold(f64::INFINITY, f64::min) / wc
+    };
+    let name = format!("zone of 200,000 lines, times `wc -l` of {:.2} ms", wc * 1e3);
+    (name, [least(cursor), least(ours), least(plain_count)])
 }
 
-pub fn run() {
-    println!("\nnanoseconds an octet at 1, 10 and 100 times the text: split | plain | cursor");
-    let [small, middle, large] = [2_000, 20_000, 200_000].map(zone);
-    case("zone", [&small, &middle, &large]);
-    growing([40_000, 400_000, 4_000_000]);
-    beside_wc();
+pub fn add(rows: &mut Rows) {
+    let texts = [20, 2_000, 200_000].map(|lines| zone(lines).into_bytes());
+    rows.add("Zone text", "`split`", || {
+        texts
+            .each_ref()
+            .map(|text| Case::new(text.len(), move || ours(text), move || plain_count(text)))
+    });
+    rows.add("Zone text", "the cursor, beside the plain splitter", || {
+        texts
+            .each_ref()
+            .map(|text| Case::new(text.len(), move || cursor(text), move || plain_tokens(text)))
+    });
 }

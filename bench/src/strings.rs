@@ -1,39 +1,25 @@
-//! Printing character strings, beside a plain program that prints one symbol after another.
+//! Character strings: read from text, and printed in three forms.
 //!
-//! Both sides print into a new text, and answer its length.
-
-use crate::measure::{compare, seconds_of};
-use std::hint::black_box;
+//! 1 KiB and more are strings of 255 octets, one after another.
+use crate::rows::{Case, Rows};
+use crate::symbols::plain::Symbol;
+use crate::texts;
 
 mod library {
     extern "C" {
+        pub fn dns_charstr_read(text: *const u8, length: usize) -> usize;
         pub fn dns_charstr_plain(octets: *const u8, length: usize) -> usize;
         pub fn dns_charstr_quoted(octets: *const u8, length: usize) -> usize;
         pub fn dns_charstr_unquoted(octets: *const u8, length: usize) -> usize;
     }
 }
 
-type Print = unsafe extern "C" fn(*const u8, usize) -> usize;
+type Call = unsafe extern "C" fn(*const u8, usize) -> usize;
 
-mod plain {
+pub mod plain {
     //! A symbol for each octet, and each symbol through the formatter.
+    use crate::symbols::plain::Symbol;
     use std::fmt;
-
-    pub enum Symbol {
-        Char(char),
-        SimpleEscape(u8),
-        DecimalEscape(u8),
-    }
-
-    impl fmt::Display for Symbol {
-        fn fmt(&self, f: &mut fmt::Formatter<'_>) -> fmt::Result {
-            match *self {
-                Symbol::Char(c) => write!(f, "{c}"),
-                Symbol::SimpleEscape(octet) => write!(f, "\\{}", octet as char),
-                Symbol::DecimalEscape(octet) => write!(f, "\\{octet:03}"),
-            }
-        }
-    }
 
     pub fn plain(octet: u8) -> Symbol {
         match octet {
@@ -51,18 +37,10 @@ mod plain {
         }
     }
 
-    pub fn unquoted(octet: u8) -> Symbol {
-        match octet {
-            b' ' | b'"' | b'\\' | b';' | b'(' | b')' => Symbol::SimpleEscape(octet),
-            0x20..=0x7e => Symbol::Char(octet as char),
-            _ => Symbol::DecimalEscape(octet),
-        }
-    }
-
-    struct Shown<'a, S> {
-        octets: &'a [u8],
-        symbol: S,
-        mark: &'static str,
+    pub struct Shown<'a, S> {
+        pub octets: &'a [u8],
+        pub symbol: S,
+        pub mark: &'static str,
     }
 
     impl<S: Fn(u8) -> Symbol> fmt::Display for Shown<'_, S> {
@@ -75,72 +53,100 @@ mod plain {
         }
     }
 
-    pub fn print(octets: &[u8], symbol: impl Fn(u8) -> Symbol, mark: &'static str) -> usize {
-        let shown = Shown {
-            octets,
-            symbol,
-            mark,
-        };
-        shown.to_string().len()
+    /// The octets of a text, if it has at most 255.
+    pub fn read(text: &str) -> Option<Vec<u8>> {
+        let mut chars = text.chars();
+        let mut octets = Vec::new();
+        while let Some(symbol) = Symbol::next(&mut chars).ok()? {
+            octets.push(symbol.octet()?);
+        }
+        (octets.len() <= 255).then_some(octets)
     }
 }
 
-/// Octets of which more than half are printed as decimal escapes.
-fn random(count: usize) -> Vec<u8> {
-    let mut state = 12345u64;
-    (0..count)
-        .map(|_| {
-            state ^= state << 13;
-            state ^= state >> 7;
-            state ^= state << 17;
-            (state >> 32) as u8
+fn read(text: &[u8]) -> usize {
+    let text = std::str::from_utf8(text).expect("text");
+    plain::read(text).map_or(0, |octets| octets.len())
+}
+
+/// A row over strings of at most 255 octets.
+fn printed(
+    rows: &mut Rows,
+    name: &str,
+    octets: &[Vec<u8>; 3],
+    call: Call,
+    symbol: fn(u8) -> Symbol,
+    mark: &'static str,
+) {
+    rows.add("Character strings", name, || {
+        octets.each_ref().map(|octets| {
+            let strings = || octets.chunks(255);
+            Case::new(
+                octets.len(),
+                move || {
+                    strings()
+                        .map(|it| unsafe { call(it.as_ptr(), it.len()) })
+                        .sum()
+                },
+                move || {
+                    let shown = |octets| plain::Shown {
+                        octets,
+                        symbol,
+                        mark,
+                    };
+                    strings().map(|it| shown(it).to_string().len()).sum()
+                },
+            )
         })
-        .collect()
-}
-
-fn text(count: usize) -> Vec<u8> {
-    let words = b"v=spf1 include:_spf.example.com ip4:192.0.2.0/24 -all; see the notes of 2024. ";
-    words.iter().copied().cycle().take(count).collect()
-}
-
-/// Compares the printing of strings of at most 255 octets, one after another.
-fn case(what: &str, octets: &[u8], proved: Print, plain: impl Fn(&[u8]) -> usize) {
-    let proved = |string: &[u8]| unsafe { proved(string.as_ptr(), string.len()) };
-    let all = |print: &dyn Fn(&[u8]) -> usize| -> usize {
-        black_box(octets).chunks(255).map(print).sum()
-    };
-    assert_eq!(all(&proved), all(&plain), "{what}");
-    let runs = 200_000 / octets.len();
-    let ours = seconds_of(runs, || {
-        black_box(all(&proved));
     });
-    let theirs = seconds_of(runs, || {
-        black_box(all(&plain));
-    });
-    compare(what, octets.len(), ours, theirs);
 }
 
-pub fn run() {
-    for (size, count) in [("16 octets", 16), ("1 KiB", 1024)] {
-        for (kind, octets) in [("text", text(count)), ("random", random(count))] {
-            case(
-                &format!("strings, plain, {size}, {kind}"),
-                &octets,
-                library::dns_charstr_plain,
-                |string| plain::print(string, plain::plain, ""),
-            );
-            case(
-                &format!("strings, quoted, {size}, {kind}"),
-                &octets,
-                library::dns_charstr_quoted,
-                |string| plain::print(string, plain::quoted, "\""),
-            );
-            case(
-                &format!("strings, unquoted, {size}, {kind}"),
-                &octets,
-                library::dns_charstr_unquoted,
-                |string| plain::print(string, plain::unquoted, ""),
-            );
-        }
+pub fn add(rows: &mut Rows) {
+    let sizes = [16, 1024, 1 << 20];
+    for (kind, make) in [
+        ("text", texts::words as fn(usize) -> Vec<u8>),
+        ("random", texts::random),
+    ] {
+        let octets = sizes.map(make);
+        let texts: [Vec<Vec<u8>>; 3] = octets
+            .each_ref()
+            .map(|octets| octets.chunks(255).map(texts::spelled).collect());
+        rows.add("Character strings", &format!("from text, {kind}"), || {
+            texts.each_ref().map(|texts| {
+                let call = library::dns_charstr_read;
+                Case::new(
+                    texts.iter().map(Vec::len).sum(),
+                    move || {
+                        texts
+                            .iter()
+                            .map(|it| unsafe { call(it.as_ptr(), it.len()) })
+                            .sum()
+                    },
+                    move || texts.iter().map(|it| read(it)).sum(),
+                )
+            })
+        });
+        let name = |form: &str| format!("{form}, {kind}");
+        let call = library::dns_charstr_plain;
+        printed(
+            rows,
+            &name("printed plain"),
+            &octets,
+            call,
+            plain::plain,
+            "",
+        );
+        let call = library::dns_charstr_quoted;
+        printed(
+            rows,
+            &name("printed quoted"),
+            &octets,
+            call,
+            plain::quoted,
+            "\"",
+        );
+        let call = library::dns_charstr_unquoted;
+        let word = crate::symbols::plain::of_word;
+        printed(rows, &name("printed as words"), &octets, call, word, "");
     }
 }

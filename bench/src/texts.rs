@@ -1,4 +1,51 @@
-//! Zone texts to be timed on.
+//! Octets and zone texts to be timed on.
+use crate::symbols::plain;
+
+/// Octets of which more than half are printed as decimal escapes.
+pub fn random(count: usize) -> Vec<u8> {
+    let mut state = 12345u64;
+    (0..count)
+        .map(|_| {
+            state ^= state << 13;
+            state ^= state >> 7;
+            state ^= state << 17;
+            (state >> 32) as u8
+        })
+        .collect()
+}
+
+/// Plain text, with spaces and a few characters that are escaped.
+pub fn words(count: usize) -> Vec<u8> {
+    let words = b"v=spf1 include:_spf.example.com ip4:192.0.2.0/24 -all; see the notes of 2024. ";
+    words.iter().copied().cycle().take(count).collect()
+}
+
+/// Letters, digits and hyphens.
+pub fn letters(count: usize) -> Vec<u8> {
+    let letters = b"www-example4mail2hostabcdefghijkl";
+    letters.iter().copied().cycle().take(count).collect()
+}
+
+/// The text of octets as a word.
+pub fn spelled(octets: &[u8]) -> Vec<u8> {
+    let symbols = octets
+        .iter()
+        .map(|octet| plain::of_word(*octet).to_string());
+    symbols.collect::<String>().into_bytes()
+}
+
+/// So many numbers of 32 bits, one a line.
+pub fn numbers(count: usize) -> Vec<u8> {
+    let number = |place: usize| (place as u32).wrapping_mul(2_654_435_761) % 100_000;
+    let lines = (1..=count).map(|place| format!("{}\n", number(place)));
+    lines.collect::<String>().into_bytes()
+}
+
+/// So many MX records, one a line.
+pub fn exchanges(count: usize) -> Vec<u8> {
+    let lines = (0..count).map(|place| format!("{} mail{place}.example.com.\n", place % 100));
+    lines.collect::<String>().into_bytes()
+}
 
 /// A text, and what it is called.
 pub struct Text {

@@ -1,7 +1,6 @@
 pub mod Alike
 pub mod Answered
 pub mod OneAnswer
-pub mod Ordered
 pub mod ReadBack
 mod RefusedRows
 pub mod Skipped

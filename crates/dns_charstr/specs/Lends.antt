@@ -1,8 +1,8 @@
 -- What a character string ends as, where a write through its octets was lent.
 use Rattle.std.specs.Prelude.{ℕ, List}
 use Rattle.std.specs.Borrow.{Lends, Array, MutBor, Fml, u8 as byte, RattleType}
-use Rattle.dns_wire.specs.Octets.{written_over}
-use Rattle.dns_wire.specs.declared.octets.AsOctets.{Ghosts}
+use Rattle.dns_octets.specs.Octets.{written_over}
+use Rattle.dns_octets.specs.declared.octets.AsOctets.{Ghosts}
 use Rattle.dns_charstr.specs.contracts.charstr.CharStr.{the_row}
 use Rattle.dns_charstr.specs.contracts.charstr.builder.CharStrBuilder.{the_row as builder_row}
 

@@ -4,7 +4,8 @@ use Rattle.std.specs.Char.{encode_utf8}
 use Rattle.std.specs.declared.cmp.Ordering.TheVariants.{Less, Equal, Greater}
 use Rattle.dns_symbol.specs.Printed.{text_of, is_plain_escape, is_unquoted_escape}
 use Rattle.dns_symbol.specs.declared.symbol.Symbol.TheVariants.{Char, SimpleEscape, DecimalEscape}
-use Rattle.dns_charstr.specs.Order.{lowered_order, wire_order}
+use Rattle.dns_octets.specs.Lowered.{lowered_order}
+use Rattle.dns_charstr.specs.Order.{wire_order}
 use Rattle.dns_charstr.specs.Printed.{quoted_text, hex_text, lower_digits, upper_digits}
 use Rattle.dns_charstr.specs.Reading.{HasOctets}
 use Rattle.dns_charstr.specs.Wire.{wire_of}

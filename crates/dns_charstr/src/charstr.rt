@@ -12,11 +12,11 @@ mod wire;
 
 pub use builder::CharStrBuilder;
 pub use display::{DisplayQuoted, DisplayUnquoted, LowerHexDisplay, UpperHexDisplay};
-use dns_symbol::symbol::Symbol;
-use dns_wire::{
+use dns_octets::{
     AsOctets, AsOctetsMut, EmptyBuilder, FreezeBuilder, FromBuilder, IntoBuilder, OctetsBuilder,
     OctetsFrom, ShortBuf,
 };
+use dns_symbol::symbol::Symbol;
 pub use error::{CharStrError, FromStrError, PresentationError};
 pub use iter::{IntoIter, Iter};
 use std::alloc::AllocError;
@@ -243,7 +243,7 @@ impl<Octs: AsOctets> AsOctets for CharStr<Octs> {
 
 impl<Octs: AsOctetsMut> AsOctetsMut for CharStr<Octs> {
     ghost use Rattle.std.specs.Prelude.{refl};
-    ghost use Rattle.dns_wire.specs.Octets.{written_over};
+    ghost use Rattle.dns_octets.specs.Octets.{written_over};
 
     ghost with_octets = { written_over };
 

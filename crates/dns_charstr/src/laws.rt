@@ -8,7 +8,8 @@ ghost use Rattle.dns_symbol.specs.Printed.{text_of, is_plain_escape, is_unquoted
 ghost use Rattle.dns_symbol.specs.declared.symbol.Symbol.{Symbol};
 ghost use Rattle.dns_charstr.specs.Printed.{quoted_text};
 ghost use Rattle.dns_charstr.specs.Reading.{HasOctets, ReadsText};
-ghost use Rattle.dns_charstr.specs.Order.{lowered, same_lowered, lowered_order, wire_order, hash_writes};
+ghost use Rattle.dns_octets.specs.Lowered.{lowered, same_lowered, lowered_order, hash_writes};
+ghost use Rattle.dns_charstr.specs.Order.{wire_order};
 ghost use Rattle.dns_charstr.specs.declared.charstr.error.FromStrError.{FromStrError};
 ghost use Rattle.dns_charstr.specs.declared.charstr.error.FromStrError.TheVariants.{ShortBuf};
 

@@ -10,7 +10,7 @@ use Rattle.dns_codec.specs.Errors.{answer, or_else}
 use Rattle.dns_codec.specs.Front.{ReadsFront}
 use Rattle.dns_codec.specs.Group.{Group, Step, step, is_complete}
 use Rattle.dns_codec.specs.Decoding.{DecoderState, IsNew, Takes, PushesAfter, Pushes, short, Ends}
-use Rattle.dns_codec.specs.Outcome.{cause, refusal, Outcome, IsRefusedBy}
+use Rattle.dns_codec.specs.Outcome.{char_error, refusal, Outcome, IsRefusedBy}
 use Rattle.dns_codec.specs.Room.{IsRoom}
 use Rattle.dns_codec.specs.declared.base64.DecodeError.{DecodeError}
 use Rattle.dns_codec.specs.declared.base64.DecodeError.TheVariants.{ShortInput, ShortBuf}
@@ -37,7 +37,7 @@ pub record Refuses (b : Base) (sure most : ℕ) (text : List ℕ) (c : ℕ) (d j
   pub room : ℕ
   pub is_room : IsRoom sure most room
   pub holds : length d.octets ≤ room
-  pub cause_is : cause b room text c ≡ Some error
+  pub cause_is : char_error b room text c ≡ Some error
 
 pub any_room : (sure most : ℕ) → IsRoom sure most (max sure most)
 any_room sure most = let left = le-max_left sure most in record { surely = left; within = omega arith }
@@ -158,7 +158,7 @@ refuses b known sure most text rest d c j r e at push answers is = elim (one_pus
   | inr refused ↦
       let same : Err refused.error ≡ Err e = sym (answers ∙ ap answer refused.stored_is) ∙ is in
       let f : refused.error ≡ e = cc same in
-      let first = first_here (cause b refused.room) text rest c refused.error (no_cause b known text d.octets d.group.pieces d.group.padding at.read refused.room refused.holds) refused.cause_is in
+      let first = first_here (char_error b refused.room) text rest c refused.error (no_cause b known text d.octets d.group.pieces d.group.padding at.read refused.room refused.holds) refused.cause_is in
       record { room = refused.room; is_room = refused.is_room; refused = refusal_first b refused.room (text ++ c ∷ rest) refused.error first ∙ ap Some f }
 ]
 

@@ -9,7 +9,7 @@ use Rattle.dns_codec.specs.Base.{Base, base64, IsEncoding}
 use Rattle.dns_codec.specs.Errors.{or_else}
 use Rattle.dns_codec.specs.Grammar.{Name, Decodes, may_end}
 use Rattle.dns_codec.specs.Group.{may_end_in}
-use Rattle.dns_codec.specs.Outcome.{want_of, due, may_stop, end_cause, refusal}
+use Rattle.dns_codec.specs.Outcome.{short_buf_if, octet_count, may_stop, text_end_error, refusal}
 use Rattle.dns_codec.specs.declared.base64.DecodeError.{DecodeError}
 use Rattle.dns_codec.specs.declared.base64.DecodeError.TheVariants.{ShortInput}
 use Rattle.dns_codec.specs.declared.base64.Padding.{Padding}
@@ -21,7 +21,7 @@ use Rattle.dns_codec.proofs.Wholes.{whole-nil, Name-length}
 
 -- why the text is refused at its end, and its value where it isn't
 pub record Ended (b : Base) (text octets pieces : List ℕ) (padding : Padding) : Type 0 where
-  pub refusal_is : (room : ℕ) → length octets ≤ room → refusal b room text ≡ (if may_end_in b pieces padding then want_of room (length octets + length (whole b.width pieces)) else Some ShortInput)
+  pub refusal_is : (room : ℕ) → length octets ≤ room → refusal b room text ≡ (if may_end_in b pieces padding then short_buf_if room (length octets + length (whole b.width pieces)) else Some ShortInput)
   pub decodes : may_end_in b pieces padding ≡ true → Decodes b text (octets ++ whole b.width pieces)
 
 pub where_it_ends : (ends : Bool) (x : Option DecodeError) → ends ≡ true → (if ends then x else Some ShortInput) ≡ x
@@ -100,9 +100,9 @@ ended b known text os ps p at =
     let s = stop b known text os ps p at in
     record {
       refusal_is = λ room le.
-          ap (λ (x : Option DecodeError). or_else x (end_cause b room text)) (no_cause b known text os ps p at room le)
-          ∙ ap (λ (x : Bool). if x then want_of room (due b text) else Some ShortInput) s.same
-          ∙ ap (λ n. if may_end_in b ps p then want_of room n else Some ShortInput) (due_is b known text os ps p at);
+          ap (λ (x : Option DecodeError). or_else x (text_end_error b room text)) (no_cause b known text os ps p at room le)
+          ∙ ap (λ (x : Bool). if x then short_buf_if room (octet_count b text) else Some ShortInput) s.same
+          ∙ ap (λ n. if may_end_in b ps p then short_buf_if room n else Some ShortInput) (due_is b known text os ps p at);
       decodes = s.decodes;
     }
 

@@ -9,13 +9,13 @@ use Rattle.dns_codec.specs.Errors.{or_else}
 use Rattle.dns_codec.specs.Grammar.{Name}
 use Rattle.dns_codec.specs.Group.{Group, Step, refused, step_other, step_in, step_from, step}
 use Rattle.dns_codec.specs.Decoding.{DecoderState, IsNew, PushesAfter, Pushes, Runs, short, end_error, Ends}
-use Rattle.dns_codec.specs.Outcome.{want_of, grouped, cause, first_cause, last_illegal, legal_count, stored_by, stored, refusal, pushed_refusal, Outcome, IsPushed}
+use Rattle.dns_codec.specs.Outcome.{short_buf_if, grouped, char_error, first_char_error, last_illegal, legal_count, stored_by, stored, refusal, pushed_refusal, Outcome, IsPushed}
 use Rattle.dns_codec.specs.Room.{IsRoom}
 use Rattle.dns_codec.specs.declared.base64.DecodeError.{DecodeError}
 use Rattle.dns_codec.specs.declared.base64.DecodeError.TheVariants.{IllegalChar}
 use Rattle.dns_codec.specs.declared.base64.Padding.{Padding}
 use Rattle.dns_codec.specs.declared.base64.Padding.TheVariants.{Absent, Half, Done}
-use Rattle.dns_codec.proofs.Causes.{cases_error, want_enough, want_more, first_here, first_cause-append, find_last, find_before, find_none_append, count_by-append}
+use Rattle.dns_codec.proofs.Causes.{cases_error, want_enough, want_more, first_here, first_char_error-append, find_last, find_before, find_none_append, count_by-append}
 use Rattle.dns_codec.proofs.Decoders.{Stands, any_room, one_push, decoded}
 use Rattle.dns_codec.proofs.Marks.{legal, illegal}
 use Rattle.dns_codec.proofs.Numbers.{IsPlain, plain16, numbers, kinds, is_padded}
@@ -121,19 +121,19 @@ module _ (b : Base) (known : IsEncoding b) (plain : IsPlain b) where
   text_named text os ps at = rw (← plain_text b text os ps at) at at.named
 
   stored_last : (room : ℕ) (text : List ℕ) → stored b room text ≡ stored_by b room (length text) (last_illegal b text)
-  stored_last room text = ap (λ (x : Bool). if x then first_cause (cause b room) [] text else stored_by b room (length text) (last_illegal b text)) plain.goes_on
+  stored_last room text = ap (λ (x : Bool). if x then first_char_error (char_error b room) [] text else stored_by b room (length text) (last_illegal b text)) plain.goes_on
 
-  pub legal_stored : (room : ℕ) (text ps : List ℕ) → Name b text ps → stored b room text ≡ want_of room (grouped b (length text))
+  pub legal_stored : (room : ℕ) (text ps : List ℕ) → Name b text ps → stored b room text ≡ short_buf_if room (grouped b (length text))
   legal_stored room text ps n = stored_last room text ∙ ap (stored_by b room (length text)) (none_illegal text ps n)
 
-  stored_now : (room : ℕ) (text ps : List ℕ) (c : ℕ) (e : DecodeError) (o : Option ℕ) → value b c ≡ o → Name b text ps → cause b room text c ≡ Some e → stored b room (text ++ c ∷ []) ≡ Some e
+  stored_now : (room : ℕ) (text ps : List ℕ) (c : ℕ) (e : DecodeError) (o : Option ℕ) → value b c ≡ o → Name b text ps → char_error b room text c ≡ Some e → stored b room (text ++ c ∷ []) ≡ Some e
   stored_now room text ps c e None is named why =
       let hit : is_none (value b c) ≡ true = rw is refl in
       stored_last room (text ++ c ∷ []) ∙ ap (stored_by b room (length (text ++ c ∷ []))) (find_last (λ x. is_none (value b x)) text c hit)
       ∙ sym (illegal b known room text ps c named is (plain_test c (length text % b.group))) ∙ why
   stored_now room text ps c e (Some v) is named why =
       let len = length-append text (c ∷ []) in
-      legal_stored room (text ++ c ∷ []) (ps ++ v ∷ []) (Name-push b text ps c v named is) ∙ ap (λ n. want_of room (grouped b n)) len ∙ sym (legal b known room text ps c v named is) ∙ why
+      legal_stored room (text ++ c ∷ []) (ps ++ v ∷ []) (Name-push b text ps c v named is) ∙ ap (λ n. short_buf_if room (grouped b n)) len ∙ sym (legal b known room text ps c v named is) ∙ why
 
   stored_more : (room : ℕ) (text : List ℕ) (c : ℕ) (e : DecodeError) (o : Option ℕ) → stored_by b room (length text) o ≡ Some e → stored_by b room (length (text ++ c ∷ [])) o ≡ Some e
   stored_more room text c e (Some d) held = held
@@ -216,8 +216,8 @@ end_kept b sure most k (Err e) some end = refl
 -- ---- the error that is stored
 
 -- in base 64 it is the first
-stored_first : (b : Base) (room : ℕ) (text : List ℕ) → b.keeps_first ≡ true → stored b room text ≡ first_cause (cause b room) [] text
-stored_first b room text keeps = ap (λ (x : Bool). if x then first_cause (cause b room) [] text else stored_by b room (length text) (last_illegal b text)) keeps
+stored_first : (b : Base) (room : ℕ) (text : List ℕ) → b.keeps_first ≡ true → stored b room text ≡ first_char_error (char_error b room) [] text
+stored_first b room text keeps = ap (λ (x : Bool). if x then first_char_error (char_error b room) [] text else stored_by b room (length text) (last_illegal b text)) keeps
 
 pub stored_none : (b : Base) → IsEncoding b → (text os ps : List ℕ) (p : Padding) → IsRead b text os ps p → (room : ℕ) → length os ≤ room → stored b room text ≡ None
 stored_none b known text os ps p at room le = elim (kinds b known) [
@@ -230,13 +230,13 @@ stored_none b known text os ps p at room le = elim (kinds b known) [
   | inr same ↦ stored_first b room text (is_padded b same).1 ∙ no_cause b known text os ps p at room le
 ]
 
-stored_here : (b : Base) → IsEncoding b → (text os ps : List ℕ) (p : Padding) (c : ℕ) (e : DecodeError) → IsRead b text os ps p → (room : ℕ) → length os ≤ room → cause b room text c ≡ Some e
+stored_here : (b : Base) → IsEncoding b → (text os ps : List ℕ) (p : Padding) (c : ℕ) (e : DecodeError) → IsRead b text os ps p → (room : ℕ) → length os ≤ room → char_error b room text c ≡ Some e
     → stored b room (text ++ c ∷ []) ≡ Some e
 stored_here b known text os ps p c e at room le why = elim (kinds b known) [
   | inl plain ↦
       let alone = (read_plain b known plain text os ps p at).1 in
       stored_now b known plain room text (alone.front ++ ps) c e (value b c) refl (text_named b known plain text os ps alone) why
-  | inr same ↦ stored_first b room (text ++ c ∷ []) (is_padded b same).1 ∙ first_here (cause b room) text [] c e (no_cause b known text os ps p at room le) why
+  | inr same ↦ stored_first b room (text ++ c ∷ []) (is_padded b same).1 ∙ first_here (char_error b room) text [] c e (no_cause b known text os ps p at room le) why
 ]
 
 -- ---- lists of pushes
@@ -273,7 +273,7 @@ stays b known sure most room text d c j e absent is held push = elim (kinds b kn
       let kept_is = kept b sure most d j c (subst (λ (x : Option DecodeError). IsSome x) (sym is) refl) push in
       let now : j.error ≡ Some e = ap (λ (k : DecoderState). k.error) (kept_is.2 padded.1) ∙ is in
       let first = sym (stored_first b room text padded.1) ∙ held in
-      let later = first_cause-append (cause b room) [] text (c ∷ []) ∙ ap (λ (x : Option DecodeError). or_else x (first_cause (cause b room) text (c ∷ []))) first in
+      let later = first_char_error-append (char_error b room) [] text (c ∷ []) ∙ ap (λ (x : Option DecodeError). or_else x (first_char_error (char_error b room) text (c ∷ []))) first in
       (now ∙ sym (stored_first b room (text ++ c ∷ []) padded.1 ∙ later), kept_is.1)
 ]
 

@@ -7,7 +7,7 @@ use Rattle.dns_codec.specs.Base.{Base, base16, base32hex, value, IsEncoding}
 use Rattle.dns_codec.specs.Errors.{or_else}
 use Rattle.dns_codec.specs.Grammar.{Name, Decodes, may_end}
 use Rattle.dns_codec.specs.Group.{Step, step_from, may_end_in}
-use Rattle.dns_codec.specs.Outcome.{want_of, cause, legal_count, stored, refusal, pushed_refusal}
+use Rattle.dns_codec.specs.Outcome.{short_buf_if, char_error, legal_count, stored, refusal, pushed_refusal}
 use Rattle.dns_codec.specs.declared.base64.DecodeError.{DecodeError}
 use Rattle.dns_codec.specs.declared.base64.DecodeError.TheVariants.{ShortInput, ShortBuf}
 use Rattle.dns_codec.specs.declared.base64.Padding.{Padding}
@@ -35,23 +35,23 @@ both_none : (x y : Option DecodeError) → or_else x y ≡ None → (x ≡ None)
 both_none None y e = (refl, e)
 both_none (Some x) y e = cc
 
-want_fits : (room n : ℕ) → want_of room n ≡ None → n ≤ room
+want_fits : (room n : ℕ) → short_buf_if room n ≡ None → n ≤ room
 want_fits room n e = elim (cases_Bool (nat_lt room n)) [
   | inl short ↦ let bad : Some ShortBuf ≡ None = rw short at e in cc bad
   | inr long ↦ ltb-false room n long
 ]
 
-not_short : (room n : ℕ) (ends : Bool) → (if ends then want_of room n else Some ShortInput) ≡ None → (ends ≡ true) × (n ≤ room)
+not_short : (room n : ℕ) (ends : Bool) → (if ends then short_buf_if room n else Some ShortInput) ≡ None → (ends ≡ true) × (n ≤ room)
 not_short room n true e = (refl, want_fits room n e)
 not_short room n false e = cc e
 
 module _ (b : Base) (known : IsEncoding b) (room : ℕ) where
   -- what isn't refused has no cause at the next character
-  unrefused_next : (text os ps rest : List ℕ) (p : Padding) (c : ℕ) → IsRead b text os ps p → length os ≤ room → refusal b room (text ++ c ∷ rest) ≡ None → cause b room text c ≡ None
-  unrefused_next text os ps rest p c at le e = elim (cases_error (cause b room text c)) [
+  unrefused_next : (text os ps rest : List ℕ) (p : Padding) (c : ℕ) → IsRead b text os ps p → length os ≤ room → refusal b room (text ++ c ∷ rest) ≡ None → char_error b room text c ≡ None
+  unrefused_next text os ps rest p c at le e = elim (cases_error (char_error b room text c)) [
     | inl none ↦ none
     | inr some ↦
-        let bad : Some some.0 ≡ None = sym (refusal_first b room (text ++ c ∷ rest) some.0 (first_here (cause b room) text rest c some.0 (no_cause b known text os ps p at room le) some.1)) ∙ e in
+        let bad : Some some.0 ≡ None = sym (refusal_first b room (text ++ c ∷ rest) some.0 (first_here (char_error b room) text rest c some.0 (no_cause b known text os ps p at room le) some.1)) ∙ e in
         cc bad
   ]
 
@@ -65,15 +65,15 @@ module _ (b : Base) (known : IsEncoding b) (room : ℕ) where
   unrefused_from text (c ∷ cs) os ps p at le e =
       let s : Step = step_from b ps p c (value b c) in
       let next = stepped b known text os ps p c at in
-      let both = both_none (want_of room (length os + length s.octets)) s.error (sym (next.cause_is room le) ∙ unrefused_next text os ps cs p c at le e) in
+      let both = both_none (short_buf_if room (length os + length s.octets)) s.error (sym (next.cause_is room le) ∙ unrefused_next text os ps cs p c at le e) in
       rw append_assoc at (unrefused_from (text ++ c ∷ []) cs (os ++ s.octets) s.group.pieces s.group.padding (next.goes_on both.1) (rw length-append (want_fits room _ both.0)) (rw append_assoc e))
 
 pub unrefused : (b : Base) → IsEncoding b → (text : List ℕ) (room : ℕ) → refusal b room text ≡ None → (octets : List ℕ) × Decodes b text octets × (length octets ≤ room)
 unrefused b known text room e = unrefused_from b known room [] text [] [] Absent (read_none b known) (omega arith) e
 
--- ---- where there is too little room, want of room alone refuses a text of the grammar
+-- ---- where there is too little room, lack of room alone refuses a text of the grammar
 
-want_is : (room n : ℕ) (e : DecodeError) → want_of room n ≡ Some e → e ≡ ShortBuf
+want_is : (room n : ℕ) (e : DecodeError) → short_buf_if room n ≡ Some e → e ≡ ShortBuf
 want_is room n e is = elim (cases_Bool (nat_lt room n)) [
   | inl short ↦ let same : Some ShortBuf ≡ Some e = rw short at is in cc same
   | inr long ↦ let bad : None ≡ Some e = rw long at is in cc bad
@@ -90,13 +90,13 @@ module _ (b : Base) (known : IsEncoding b) (room wide : ℕ) (e : DecodeError) w
   wants_from text (c ∷ cs) os ps p at le wider none is =
       let s : Step = step_from b ps p c (value b c) in
       let next = stepped b known text os ps p c at in
-      let both = both_none (want_of wide (length os + length s.octets)) s.error (sym (next.cause_is wide wider) ∙ unrefused_next b known wide text os ps cs p c at wider none) in
-      let here : cause b room text c ≡ want_of room (length os + length s.octets) = next.cause_is room le ∙ ap (or_else (want_of room (length os + length s.octets))) both.1 ∙ or_else_none _ in
-      elim (cases_error (want_of room (length os + length s.octets))) [
+      let both = both_none (short_buf_if wide (length os + length s.octets)) s.error (sym (next.cause_is wide wider) ∙ unrefused_next b known wide text os ps cs p c at wider none) in
+      let here : char_error b room text c ≡ short_buf_if room (length os + length s.octets) = next.cause_is room le ∙ ap (or_else (short_buf_if room (length os + length s.octets))) both.1 ∙ or_else_none _ in
+      elim (cases_error (short_buf_if room (length os + length s.octets))) [
         | inl fits ↦ wants_from (text ++ c ∷ []) cs (os ++ s.octets) s.group.pieces s.group.padding (next.goes_on both.1)
             (rw length-append (want_fits room _ fits)) (rw length-append (want_fits wide _ both.0)) (rw append_assoc none) (rw append_assoc is)
         | inr short ↦
-            let first = first_here (cause b room) text cs c short.0 (no_cause b known text os ps p at room le) (here ∙ short.1) in
+            let first = first_here (char_error b room) text cs c short.0 (no_cause b known text os ps p at room le) (here ∙ short.1) in
             let same : Some short.0 ≡ Some e = sym (refusal_first b room (text ++ c ∷ cs) short.0 first) ∙ is in
             let equals : short.0 ≡ e = cc same in
             sym equals ∙ want_is room _ short.0 short.1

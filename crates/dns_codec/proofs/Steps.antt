@@ -8,7 +8,7 @@ use Rattle.dns_codec.specs.Base.{Base, base64, value, IsEncoding}
 use Rattle.dns_codec.specs.Errors.{or_else}
 use Rattle.dns_codec.specs.Grammar.{Name}
 use Rattle.dns_codec.specs.Group.{Step, step_piece, step_other, step_half, step_from}
-use Rattle.dns_codec.specs.Outcome.{want_of, grouped, marks, due, cause, first_cause}
+use Rattle.dns_codec.specs.Outcome.{short_buf_if, grouped, pad_count, octet_count, char_error, first_char_error}
 use Rattle.dns_codec.specs.declared.base64.DecodeError.{DecodeError}
 use Rattle.dns_codec.specs.declared.base64.DecodeError.TheVariants.{IllegalChar, TrailingInput}
 use Rattle.dns_codec.specs.declared.base64.Padding.{Padding}
@@ -61,9 +61,9 @@ lengths b text os ps p at =
 pub plain_text : (b : Base) (text os ps : List ℕ) → (at : IsRead b text os ps Absent) → text ≡ at.chars
 plain_text b text os ps at = let none = at.counts.0 in rw (none, append-nil) at at.spelled
 
-pub marked : (b : Base) → IsEncoding b → (text os ps : List ℕ) (p : Padding) → (at : IsRead b text os ps p) → marks b text ≡ at.count
+pub marked : (b : Base) → IsEncoding b → (text os ps : List ℕ) (p : Padding) → (at : IsRead b text os ps p) → pad_count b text ≡ at.count
 marked b known text os ps p at = elim (cases_Bool (nat_lt 1 b.unit)) [
-  | inl padded ↦ ap (marks b) at.spelled ∙ marks-spelled b known at.chars (at.front ++ ps) at.count at.named padded
+  | inl padded ↦ ap (pad_count b) at.spelled ∙ marks-spelled b known at.chars (at.front ++ ps) at.count at.named padded
   | inr plain ↦ rw plain (sym (none p at.counts plain))
 ]
   where
@@ -73,10 +73,10 @@ marked b known text os ps p at = elim (cases_Bool (nat_lt 1 b.unit)) [
     none Done c plain = let bad : true ≡ false = sym (is_padded b c.0).0 ∙ plain in cc bad
 
 -- the whole octets of its characters
-pub due_is : (b : Base) → IsEncoding b → (text os ps : List ℕ) (p : Padding) → IsRead b text os ps p → (due b text ≡ length os + length (whole b.width ps))
+pub due_is : (b : Base) → IsEncoding b → (text os ps : List ℕ) (p : Padding) → IsRead b text os ps p → (octet_count b text ≡ length os + length (whole b.width ps))
 due_is b known text os ps p at =
     let n = lengths b text os ps p at in
-    let e : length text - marks b text ≡ length at.front + length ps = omega (arith, n.text_is, marked b known text os ps p at) in
+    let e : length text - pad_count b text ≡ length at.front + length ps = omega (arith, n.text_is, marked b known text os ps p at) in
     ap (λ k. k * b.width / 8) e ∙ sym (sum p at.counts) ∙ rw (n.octets_are, length-whole) refl
   where
     sum : (p : Padding) → CountsOf b p (length ps) at.count (length at.front) → length at.front * b.width / 8 + length ps * b.width / 8 ≡ (length at.front + length ps) * b.width / 8
@@ -89,7 +89,7 @@ due_is b known text os ps p at =
 
 -- ---- a text that is read has no cause
 
-half64_none : (text os ps : List ℕ) → IsRead base64 text os ps Half → (room : ℕ) → length os ≤ room → first_cause (cause base64 room) [] text ≡ None
+half64_none : (text os ps : List ℕ) → IsRead base64 text os ps Half → (room : ℕ) → length os ≤ room → first_char_error (char_error base64 room) [] text ≡ None
 half64_none text os ps at room le =
     let n = lengths base64 text os ps Half at in
     let long = n.chars_are in
@@ -99,7 +99,7 @@ half64_none text os ps at room le =
     let spelled : text ≡ at.chars ++ 61 ∷ [] = rw at.counts.1 at at.spelled in
     rw spelled (half_none room at.chars (at.front ++ ps) at.named (omega arith) (omega arith))
 
-done64_none : (text os ps : List ℕ) → IsRead base64 text os ps Done → (room : ℕ) → length os ≤ room → first_cause (cause base64 room) [] text ≡ None
+done64_none : (text os ps : List ℕ) → IsRead base64 text os ps Done → (room : ℕ) → length os ≤ room → first_char_error (char_error base64 room) [] text ≡ None
 done64_none text os ps at room le =
     let n = lengths base64 text os ps Done at in
     let long = n.chars_are in
@@ -121,10 +121,10 @@ done64_none text os ps at room le =
     ]
 
 padded_none : (b : Base) → b ≡ base64 → (text os ps : List ℕ) (p : Padding) → (p ≡ Half) ⊎ (p ≡ Done) → IsRead b text os ps p → (room : ℕ) → length os ≤ room
-    → first_cause (cause b room) [] text ≡ None
+    → first_char_error (char_error b room) [] text ≡ None
 padded_none b same = rw same (λ text os ps p which. elim which [ inl half ↦ rw half (half64_none text os ps) | inr done ↦ rw done (done64_none text os ps) ])
 
-pub no_cause : (b : Base) → IsEncoding b → (text os ps : List ℕ) (p : Padding) → IsRead b text os ps p → (room : ℕ) → length os ≤ room → first_cause (cause b room) [] text ≡ None
+pub no_cause : (b : Base) → IsEncoding b → (text os ps : List ℕ) (p : Padding) → IsRead b text os ps p → (room : ℕ) → length os ≤ room → first_char_error (char_error b room) [] text ≡ None
 no_cause b known text os ps Absent at room le =
     let n = lengths b text os ps Absent at in
     let plain = plain_text b text os ps at in
@@ -137,10 +137,10 @@ no_cause b known text os ps Done at room le = padded_none b at.counts.0 text os 
 
 -- ---- one more character
 
--- the cause of a character is want of room for the octets of its step, and then the step's error. Without an error the
+-- the cause of a character is lack of room for the octets of its step, and then the step's error. Without an error the
 -- text is read with it
 pub record Stepped (b : Base) (text octets : List ℕ) (c : ℕ) (s : Step) : Type 0 where
-  pub cause_is : (room : ℕ) → length octets ≤ room → cause b room text c ≡ or_else (want_of room (length octets + length s.octets)) s.error
+  pub cause_is : (room : ℕ) → length octets ≤ room → char_error b room text c ≡ or_else (short_buf_if room (length octets + length s.octets)) s.error
   pub goes_on : s.error ≡ None → IsRead b (text ++ c ∷ []) (octets ++ s.octets) s.group.pieces s.group.padding
 
 -- a group that is closed: its octets follow those of the front
@@ -151,7 +151,7 @@ closed_octets b known os front g chars made whole_groups named =
     rw made (sym (whole-append b.width front g (n.bits (length front) whole_groups) (below_front (2 ^ b.width) front g (Name-below b n.below chars (front ++ g) named))))
 
 -- refused, whatever the room
-at_once : (b : Base) (text os : List ℕ) (c : ℕ) (s : Step) (e : DecodeError) → s.octets ≡ [] → s.error ≡ Some e → ((room : ℕ) → cause b room text c ≡ Some e) → Stepped b text os c s
+at_once : (b : Base) (text os : List ℕ) (c : ℕ) (s : Step) (e : DecodeError) → s.octets ≡ [] → s.error ≡ Some e → ((room : ℕ) → char_error b room text c ≡ Some e) → Stepped b text os c s
 at_once b text os c s e nothing is why =
     let sum : length os + length s.octets ≡ length os = rw nothing (omega arith) in
     record {
@@ -181,7 +181,7 @@ piece b known text os ps c v is at =
           let sum : length os + length (whole b.width (ps ++ v ∷ [])) ≡ grouped b (length text + 1) =
           rw (made, length-whole) (n.sum (length at.front) (length (ps ++ v ∷ [])) closed ∙ ap (λ k. k * b.width / 8) (sym all)) ∙ sym same in
           rw last (record {
-            cause_is = λ room le. legal b known room text (at.front ++ ps) c v text_named is ∙ sym (or_else_none _ ∙ ap (want_of room) sum);
+            cause_is = λ room le. legal b known room text (at.front ++ ps) c v text_named is ∙ sym (or_else_none _ ∙ ap (short_buf_if room) sum);
             goes_on = λ none. record {
               chars = text ++ c ∷ [];
               front = at.front ++ (ps ++ v ∷ []);
@@ -230,7 +230,7 @@ mark text os ps some at =
           let group = length-whole 6 ps in
           let sum : length text * 6 / 8 ≡ length os + length (whole 6 ps) = omega arith in
           rw (allowed, last) (record {
-            cause_is = λ room le. mark_three room text (at.front ++ ps) text_named (omega arith) ∙ sym (or_else_none _ ∙ ap (want_of room) (sym sum));
+            cause_is = λ room le. mark_three room text (at.front ++ ps) text_named (omega arith) ∙ sym (or_else_none _ ∙ ap (short_buf_if room) (sym sum));
             goes_on = λ e. record {
               chars = at.chars;
               front = at.front ++ ps;
@@ -281,13 +281,13 @@ other b known text os ps c is at =
 half : (text os ps : List ℕ) (c : ℕ) (o : Option ℕ) → value base64 c ≡ o → IsRead base64 text os ps Half → Stepped base64 text os c (step_half base64 ps c o)
 half text os ps c o is at = by o is
   where
-    one : marks base64 text ≡ 1
+    one : pad_count base64 text ≡ 1
     one = marked base64 (inr (inr refl)) text os ps Half at ∙ at.counts.1
 
     place : length text % 4 ≡ 3
     place = omega (arith, (lengths base64 text os ps Half at).text_is, at.counts.1, at.counts.2, at.counts.3)
 
-    sum : length os + length (whole 6 ps) ≡ due base64 text
+    sum : length os + length (whole 6 ps) ≡ octet_count base64 text
     sum = sym (due_is base64 (inr (inr refl)) text os ps Half at)
 
     by : (o : Option ℕ) → value base64 c ≡ o → Stepped base64 text os c (step_half base64 ps c o)
@@ -318,7 +318,7 @@ done text os ps c at =
     let none = at.counts.1 in
     let some = at.counts.2 in
     let all = at.counts.4 in
-    let count : marks base64 text ≡ suc (at.count - 1) = marked base64 (inr (inr refl)) text os ps Done at ∙ omega arith in
+    let count : pad_count base64 text ≡ suc (at.count - 1) = marked base64 (inr (inr refl)) text os ps Done at ∙ omega arith in
     at_once base64 text os c _ TrailingInput refl refl (λ room. mark_done room c text (at.count - 1) count (omega arith))
 
 padded : (b : Base) → b ≡ base64 → (text os ps : List ℕ) (p : Padding) (c : ℕ) → (p ≡ Half) ⊎ (p ≡ Done) → IsRead b text os ps p → Stepped b text os c (step_from b ps p c (value b c))

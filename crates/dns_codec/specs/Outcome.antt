@@ -9,59 +9,59 @@ use Rattle.dns_codec.specs.declared.base64.DecodeError.{DecodeError}
 use Rattle.dns_codec.specs.declared.base64.DecodeError.TheVariants.{IllegalChar, TrailingInput, ShortInput, ShortBuf}
 
 -- ShortBuf, if there is no room for so many octets
-abbrev pub want_of : ℕ → ℕ → Option DecodeError
-want_of room octets = if nat_lt room octets then Some ShortBuf else None
+abbrev pub short_buf_if : ℕ → ℕ → Option DecodeError
+short_buf_if room octets = if nat_lt room octets then Some ShortBuf else None
 
 -- the octets of the whole groups of so many characters
 abbrev pub grouped : Base → ℕ → ℕ
 grouped b n = n / b.group * b.group * b.width / 8
 
 -- how many `=` a text has, where the encoding has them
-abbrev pub marks : Base → List ℕ → ℕ
-marks b text = if nat_lt 1 b.unit then count_by (λ c. c == 61) text else 0
+abbrev pub pad_count : Base → List ℕ → ℕ
+pad_count b text = if nat_lt 1 b.unit then count_by (λ c. c == 61) text else 0
 
 -- the whole octets of the other characters
-abbrev pub due : Base → List ℕ → ℕ
-due b text = (length text - marks b text) * b.width / 8
+abbrev pub octet_count : Base → List ℕ → ℕ
+octet_count b text = (length text - pad_count b text) * b.width / 8
 
 -- ---- reading a text to the first character that is refused
 
 -- why a character is refused, or the piece that it names, after a text without `=`
-abbrev pub cause_open : Base → ℕ → List ℕ → ℕ → Option ℕ → Option DecodeError
-cause_open b room front c (Some v) = want_of room (grouped b (length front + 1))
-cause_open b room front c None =
+abbrev pub char_error_open : Base → ℕ → List ℕ → ℕ → Option ℕ → Option DecodeError
+char_error_open b room front c (Some v) = short_buf_if room (grouped b (length front + 1))
+char_error_open b room front c None =
     if (c == 61) && (nat_lt 1 b.unit && nat_le 2 (length front % b.group)) then
-    (if length front % b.group + 1 == b.group then want_of room (due b front) else None)
+    (if length front % b.group + 1 == b.group then short_buf_if room (octet_count b front) else None)
     else Some (IllegalChar c)
 
 -- the same after `xx=`
-abbrev pub cause_marked : Base → ℕ → List ℕ → ℕ → Option ℕ → Option DecodeError
-cause_marked b room front c (Some v) = or_else (want_of room (due b front)) (Some TrailingInput)
-cause_marked b room front c None = if c == 61 then want_of room (due b front) else Some (IllegalChar c)
+abbrev pub char_error_padded : Base → ℕ → List ℕ → ℕ → Option ℕ → Option DecodeError
+char_error_padded b room front c (Some v) = or_else (short_buf_if room (octet_count b front)) (Some TrailingInput)
+char_error_padded b room front c None = if c == 61 then short_buf_if room (octet_count b front) else Some (IllegalChar c)
 
 -- why a character is refused after those in front of it. After a padded group each is
-abbrev pub cause : Base → ℕ → List ℕ → ℕ → Option DecodeError
-cause b room front c =
-    if marks b front == 0 then cause_open b room front c (value b c)
+abbrev pub char_error : Base → ℕ → List ℕ → ℕ → Option DecodeError
+char_error b room front c =
+    if pad_count b front == 0 then char_error_open b room front c (value b c)
     else if length front % b.unit == 0 then Some TrailingInput
-    else cause_marked b room front c (value b c)
+    else char_error_padded b room front c (value b c)
 
 -- the cause at the earliest character that has one. `front` is what stands before the text
-abbrev pub first_cause : (List ℕ → ℕ → Option DecodeError) → List ℕ → List ℕ → Option DecodeError
-first_cause why front [] = None
-first_cause why front (c ∷ cs) = or_else (why front c) (first_cause why (front ++ c ∷ []) cs)
+abbrev pub first_char_error : (List ℕ → ℕ → Option DecodeError) → List ℕ → List ℕ → Option DecodeError
+first_char_error why front [] = None
+first_char_error why front (c ∷ cs) = or_else (why front c) (first_char_error why (front ++ c ∷ []) cs)
 
 -- a text of so many characters may end
 abbrev pub may_stop : Base → ℕ → Bool
 may_stop b n = if nat_lt 1 b.unit then n % b.unit == 0 else may_end b n
 
 -- the error at the end of a text without a cause
-abbrev pub end_cause : Base → ℕ → List ℕ → Option DecodeError
-end_cause b room text = if may_stop b (length text) then want_of room (due b text) else Some ShortInput
+abbrev pub text_end_error : Base → ℕ → List ℕ → Option DecodeError
+text_end_error b room text = if may_stop b (length text) then short_buf_if room (octet_count b text) else Some ShortInput
 
 -- why a text isn't decoded
 abbrev pub refusal : Base → ℕ → List ℕ → Option DecodeError
-refusal b room text = or_else (first_cause (cause b room) [] text) (end_cause b room text)
+refusal b room text = or_else (first_char_error (char_error b room) [] text) (text_end_error b room text)
 
 -- ---- pushing all of its characters
 
@@ -75,17 +75,17 @@ legal_count b text = count_by (λ c. is_some (value b c)) text
 
 abbrev pub stored_by : Base → ℕ → ℕ → Option ℕ → Option DecodeError
 stored_by b room n (Some c) = Some (IllegalChar c)
-stored_by b room n None = want_of room (grouped b n)
+stored_by b room n None = short_buf_if room (grouped b n)
 
--- the error that is stored then: the first, if that is kept; or the last illegal character, else want of room
+-- the error that is stored then: the first, if that is kept; or the last illegal character, else lack of room
 abbrev pub stored : Base → ℕ → List ℕ → Option DecodeError
-stored b room text = if b.keeps_first then first_cause (cause b room) [] text else stored_by b room (length text) (last_illegal b text)
+stored b room text = if b.keeps_first then first_char_error (char_error b room) [] text else stored_by b room (length text) (last_illegal b text)
 
 -- why the decoder refuses the text at its end
 abbrev pub pushed_refusal : Base → ℕ → List ℕ → Option DecodeError
 pushed_refusal b room text =
     if b.ends_first then (if may_end b (legal_count b text) then stored b room text else Some ShortInput)
-    else or_else (stored b room text) (end_cause b room text)
+    else or_else (stored b room text) (text_end_error b room text)
 
 -- ---- results
 

@@ -1,12 +1,27 @@
 //! The three encodings, by their numbers and rules.
-ghost use Rattle.std.specs.Prelude.{◌≡◌, ℕ, ◌<◌, ◌≤◌, ◌^◌, nat_lt, length, None, IfSome};
+ghost use Rattle.std.specs.Prelude.{◌≡◌, ℕ, List, ◌<◌, ◌^◌, nat_lt, length, IfSome};
 ghost use Rattle.dns_codec.specs.Base.{Base, IsShape, IsTable, IsEncoding, value};
 ghost use Rattle.dns_codec.specs.Grammar.{may_end};
-ghost use Rattle.dns_codec.specs.Front.{ReadsFront};
 
-use crate::blocks::append_groups;
 use crate::read::{VALUES16, VALUES32HEX, VALUES64};
-use dns_wire::OctetsBuilder;
+
+/// The rules in which encodings differ.
+#[derive(Clone, Copy, Debug)]
+pub struct Rules {
+    /// Whether `=` fills a last group.
+    pub is_padded: bool,
+    /// Whether a decoder keeps the first error, and nothing changes after it. Else an illegal
+    /// character takes the place of the stored error, and legal ones are counted.
+    pub keeps_first: bool,
+    /// Whether an open group is refused before the stored error.
+    pub ends_first: bool,
+    /// Why a converter refuses a symbol.
+    pub illegal: &'static str,
+    /// Why a converter refuses a symbol after the padding.
+    pub trailing: &'static str,
+    /// Why a converter refuses the end.
+    pub incomplete: &'static str,
+}
 
 /// What sets an encoding apart from the others.
 pub trait Encoding {
@@ -27,51 +42,34 @@ pub trait Encoding {
 
     ghost base: { Base };
 
+    ghost table: { List ℕ };
+
     /// The value of each octet as a character, and 255 where it has none.
     fn values() -> &'static [u8; 256]
-        ensures table { IsTable base result.now }
-        ensures past { (c : ℕ) → 128 ≤ c → value base c ≡ None };
+        ensures { result.now ≡ table };
 
     /// The characters, by their values.
     fn alphabet() -> &'static [u8]
         ensures names { result.now ≡ base.alphabet }
         ensures len { length result.now ≡ 2 ^ BITS };
 
-    /// Whether `=` fills a last group.
-    fn is_padded() -> bool
-        ensures { result ≡ nat_lt 1 base.unit };
-
-    /// Whether a text may end after so many characters of a group.
+    /// Whether a text may end after `count` characters of a group.
     fn may_end(count: u32) -> bool
         requires { count < base.group }
         ensures { result ≡ may_end base count };
 
-    /// Whether a decoder keeps the first error, and nothing changes after it. Else an illegal
-    /// character takes the place of the stored error, and legal ones are counted.
-    fn keeps_first() -> bool
-        ensures { result ≡ base.keeps_first };
-
-    /// Whether an open group is refused before the stored error.
-    fn ends_first() -> bool
-        ensures { result ≡ base.ends_first };
-
-    /// Why a converter refuses a symbol.
-    fn illegal() -> &'static str
-        ensures { result.now ≡ base.illegal };
-
-    /// Why a converter refuses a symbol after the padding.
-    fn trailing() -> &'static str
-        ensures { result.now ≡ base.trailing };
-
-    /// Why a converter refuses the end.
-    fn incomplete() -> &'static str
-        ensures { result.now ≡ base.incomplete };
-
-    /// Appends the octets of whole groups at the start of a text, and answers the rest of the text.
-    fn append_front<'a, B: OctetsBuilder>(builder: &mut B, text: &'a str) -> &'a str
-        ensures { ReadsFront base B.most text.now (B.octets builder.old) result.now (B.octets builder.new) };
+    /// The other rules.
+    fn rules() -> Rules
+        ensures is_padded { result.is_padded ≡ nat_lt 1 base.unit }
+        ensures keeps_first { result.keeps_first ≡ base.keeps_first }
+        ensures ends_first { result.ends_first ≡ base.ends_first }
+        ensures illegal { result.illegal.now ≡ base.illegal }
+        ensures trailing { result.trailing.now ≡ base.trailing }
+        ensures incomplete { result.incomplete.now ≡ base.incomplete };
 
     ghost shape: { IsShape base BITS CHARS OCTETS };
+
+    ghost values_are: { IsTable base table };
 
     ghost known: { IsEncoding base };
 }
@@ -107,8 +105,9 @@ impl Encoding for Base16 {
     const OCTETS: usize = 1;
 
     ghost use Rattle.dns_codec.specs.Base.{base16};
-    ghost use Rattle.std.proofs.Common.{arith};
-    ghost use Rattle.std.proofs.Common.{refl, inl, inr};
+    ghost use Rattle.dns_codec.specs.Tables.{table16};
+    ghost use Rattle.dns_codec.specs.declared.read.TheConstants.{VALUES16};
+    ghost use Rattle.std.proofs.Common.{arith, rules, refl, inl};
 
     ghost BITS = { 4 };
 
@@ -118,6 +117,8 @@ impl Encoding for Base16 {
 
     ghost base = { base16 };
 
+    ghost table = { VALUES16 };
+
     fn values() -> &'static [u8; 256] {
         &VALUES16
     }
@@ -126,52 +127,25 @@ impl Encoding for Base16 {
         b"0123456789ABCDEF"
     }
 
-    fn is_padded() -> bool {
-        false
-    }
-
     fn may_end(count: u32) -> bool {
         count == 0
     }
 
-    fn keeps_first() -> bool {
-        false
+    #[inline(always)]
+    fn rules() -> Rules {
+        Rules {
+            is_padded: false,
+            keeps_first: false,
+            ends_first: true,
+            illegal: "expected hex digits",
+            trailing: "",
+            incomplete: "uneven number of hex digits",
+        }
     }
 
-    fn ends_first() -> bool {
-        true
-    }
+    ghost shape = { Prim.search (arith, rules) };
 
-    fn illegal() -> &'static str {
-        "expected hex digits"
-    }
-
-    fn trailing() -> &'static str {
-        ""
-    }
-
-    fn incomplete() -> &'static str {
-        "uneven number of hex digits"
-    }
-
-    fn append_front<'a, B: OctetsBuilder>(builder: &mut B, text: &'a str) -> &'a str {
-        append_groups::<B, 4, 2, 1>(&VALUES16, builder, text)
-    }
-
-    ghost shape = { record {
-      bits_are = refl;
-      chars_are = refl;
-      low = Prim.omega arith;
-      narrow = Prim.omega arith;
-      some = Prim.omega arith;
-      few = Prim.omega arith;
-      full = Prim.omega arith;
-      short = Prim.omega arith;
-      even = refl;
-      whole = refl;
-      block = refl;
-      room = λ n lt. Prim.omega arith;
-    } };
+    ghost values_are = { table16 };
 
     ghost known = { inl refl };
 }
@@ -188,8 +162,9 @@ impl Encoding for Base32Hex {
     const OCTETS: usize = 5;
 
     ghost use Rattle.dns_codec.specs.Base.{base32hex};
-    ghost use Rattle.std.proofs.Common.{arith};
-    ghost use Rattle.std.proofs.Common.{refl, inl, inr};
+    ghost use Rattle.dns_codec.specs.Tables.{table32};
+    ghost use Rattle.dns_codec.specs.declared.read.TheConstants.{VALUES32HEX};
+    ghost use Rattle.std.proofs.Common.{arith, rules, refl, inl, inr};
 
     ghost BITS = { 5 };
 
@@ -199,6 +174,8 @@ impl Encoding for Base32Hex {
 
     ghost base = { base32hex };
 
+    ghost table = { VALUES32HEX };
+
     fn values() -> &'static [u8; 256] {
         &VALUES32HEX
     }
@@ -207,52 +184,25 @@ impl Encoding for Base32Hex {
         b"0123456789ABCDEFGHIJKLMNOPQRSTUV"
     }
 
-    fn is_padded() -> bool {
-        false
-    }
-
     fn may_end(count: u32) -> bool {
         !matches!(count, 1 | 3 | 6)
     }
 
-    fn keeps_first() -> bool {
-        false
+    #[inline(always)]
+    fn rules() -> Rules {
+        Rules {
+            is_padded: false,
+            keeps_first: false,
+            ends_first: false,
+            illegal: "illegal Base 32 data",
+            trailing: "",
+            incomplete: "short Base 32 input",
+        }
     }
 
-    fn ends_first() -> bool {
-        false
-    }
+    ghost shape = { Prim.search (arith, rules) };
 
-    fn illegal() -> &'static str {
-        "illegal Base 32 data"
-    }
-
-    fn trailing() -> &'static str {
-        ""
-    }
-
-    fn incomplete() -> &'static str {
-        "short Base 32 input"
-    }
-
-    fn append_front<'a, B: OctetsBuilder>(builder: &mut B, text: &'a str) -> &'a str {
-        append_groups::<B, 5, 8, 5>(&VALUES32HEX, builder, text)
-    }
-
-    ghost shape = { record {
-      bits_are = refl;
-      chars_are = refl;
-      low = Prim.omega arith;
-      narrow = Prim.omega arith;
-      some = Prim.omega arith;
-      few = Prim.omega arith;
-      full = Prim.omega arith;
-      short = Prim.omega arith;
-      even = refl;
-      whole = refl;
-      block = refl;
-      room = λ n lt. Prim.omega arith;
-    } };
+    ghost values_are = { table32 };
 
     ghost known = { inr (inl refl) };
 }
@@ -269,8 +219,9 @@ impl Encoding for Base64 {
     const OCTETS: usize = 3;
 
     ghost use Rattle.dns_codec.specs.Base.{base64};
-    ghost use Rattle.std.proofs.Common.{arith};
-    ghost use Rattle.std.proofs.Common.{refl, inl, inr};
+    ghost use Rattle.dns_codec.specs.Tables.{table64};
+    ghost use Rattle.dns_codec.specs.declared.read.TheConstants.{VALUES64};
+    ghost use Rattle.std.proofs.Common.{arith, rules, refl, inr};
 
     ghost BITS = { 6 };
 
@@ -280,6 +231,8 @@ impl Encoding for Base64 {
 
     ghost base = { base64 };
 
+    ghost table = { VALUES64 };
+
     fn values() -> &'static [u8; 256] {
         &VALUES64
     }
@@ -288,52 +241,25 @@ impl Encoding for Base64 {
         b"ABCDEFGHIJKLMNOPQRSTUVWXYZabcdefghijklmnopqrstuvwxyz0123456789+/"
     }
 
-    fn is_padded() -> bool {
-        true
-    }
-
     fn may_end(count: u32) -> bool {
         count != 1
     }
 
-    fn keeps_first() -> bool {
-        true
+    #[inline(always)]
+    fn rules() -> Rules {
+        Rules {
+            is_padded: true,
+            keeps_first: true,
+            ends_first: false,
+            illegal: "illegal Base 64 data",
+            trailing: "trailing Base 64 data",
+            incomplete: "incomplete Base 64 data",
+        }
     }
 
-    fn ends_first() -> bool {
-        false
-    }
+    ghost shape = { Prim.search (arith, rules) };
 
-    fn illegal() -> &'static str {
-        "illegal Base 64 data"
-    }
-
-    fn trailing() -> &'static str {
-        "trailing Base 64 data"
-    }
-
-    fn incomplete() -> &'static str {
-        "incomplete Base 64 data"
-    }
-
-    fn append_front<'a, B: OctetsBuilder>(builder: &mut B, text: &'a str) -> &'a str {
-        append_groups::<B, 6, 4, 3>(&VALUES64, builder, text)
-    }
-
-    ghost shape = { record {
-      bits_are = refl;
-      chars_are = refl;
-      low = Prim.omega arith;
-      narrow = Prim.omega arith;
-      some = Prim.omega arith;
-      few = Prim.omega arith;
-      full = Prim.omega arith;
-      short = Prim.omega arith;
-      even = refl;
-      whole = refl;
-      block = refl;
-      room = λ n lt. Prim.omega arith;
-    } };
+    ghost values_are = { table64 };
 
     ghost known = { inr (inr refl) };
 }

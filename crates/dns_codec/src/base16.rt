@@ -6,7 +6,7 @@ ghost use Rattle.std.specs.Str.{chars};
 ghost use Rattle.std.specs.Fmt.{WritesInCalls};
 ghost use Rattle.std.specs.String.{string_bytes};
 ghost use Rattle.dns_codec.specs.Base.{base16, encoded};
-ghost use Rattle.dns_wire.specs.Octets.{greatest_length};
+ghost use Rattle.dns_octets.specs.Octets.{greatest_length};
 ghost use Rattle.dns_codec.specs.Decoding.{IsNew};
 ghost use Rattle.dns_codec.specs.Grammar.{Decodes};
 ghost use Rattle.dns_codec.specs.Outcome.{refusal, IsRefusedBy};
@@ -15,9 +15,8 @@ ghost use Rattle.dns_codec.specs.Written.{IsWritten};
 
 use crate::base::Base16;
 pub use crate::base64::DecodeError;
-use crate::read::{VALUES16, read_text};
-use crate::{converter, decoder, encode};
-use dns_wire::{EmptyBuilder, FreezeBuilder, OctetsBuilder, ShortBuf};
+use crate::{converter, decoder, encode, read};
+use dns_octets::{EmptyBuilder, FreezeBuilder, OctetsBuilder, ShortBuf};
 use std::alloc::Allocator;
 use std::fmt;
 
@@ -70,10 +69,7 @@ pub fn decode_slice(text: &[u8], octets: &mut [u8]) -> Option<usize>
     ensures read { IfSome result (λ n. Decodes base16 text.now (take n octets.new) × (n ≤ length octets.new)) }
     ensures refused { IfNone result ((v : List ℕ) → Decodes base16 text.now v → length octets.old < length v) }
 {
-    if text.len() % 2 != 0 {
-        return None;
-    }
-    read_text::<4, 2, 1>(&VALUES16, text, octets)
+    read::decode_slice::<Base16>(text, octets)
 }
 
 /// Reads a text of base 16 into a vector, as [`decode`] does.

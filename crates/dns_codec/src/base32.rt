@@ -13,11 +13,10 @@ ghost use Rattle.dns_codec.specs.Outcome.{refusal, IsRefusedBy};
 ghost use Rattle.dns_codec.specs.Shown.{shown};
 ghost use Rattle.dns_codec.specs.Written.{IsWritten};
 
-use crate::base::{Base32Hex, Encoding};
+use crate::base::Base32Hex;
 pub use crate::base64::DecodeError;
-use crate::read::{VALUES32HEX, read_text};
-use crate::{converter, decoder, encode};
-use dns_wire::{EmptyBuilder, FreezeBuilder, OctetsBuilder, ShortBuf};
+use crate::{converter, decoder, encode, read};
+use dns_octets::{EmptyBuilder, FreezeBuilder, OctetsBuilder, ShortBuf};
 use std::alloc::Allocator;
 use std::fmt;
 
@@ -62,10 +61,7 @@ pub fn decode_slice_hex(text: &[u8], octets: &mut [u8]) -> Option<usize>
     ensures read { IfSome result (λ n. Decodes base32hex text.now (take n octets.new) × (n ≤ length octets.new)) }
     ensures refused { IfNone result ((v : List ℕ) → Decodes base32hex text.now v → length octets.old < length v) }
 {
-    if !Base32Hex::may_end((text.len() % 8) as u32) {
-        return None;
-    }
-    read_text::<5, 8, 5>(&VALUES32HEX, text, octets)
+    read::decode_slice::<Base32Hex>(text, octets)
 }
 
 /// Writes octets in base32hex, with capitals and no padding.

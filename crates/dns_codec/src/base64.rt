@@ -1,12 +1,11 @@
 //! Base 64 (RFC 4648, section 4).
 //!
 //! Four characters spell three octets, and a last group is padded with `=` to four characters.
-ghost use Rattle.std.specs.Prelude.{◌≡◌, ◌≢◌, ◌+◌, ◌-◌, ◌++◌, map, slice_index, ℕ, List, length, ◌≤◌, take, ◌<◌, IfSome, IfNone, OnOk, IfOk, IfErr, IsOk, Some};
+ghost use Rattle.std.specs.Prelude.{◌≡◌, ℕ, List, length, ◌≤◌, take, ◌<◌, IfSome, IfNone, OnOk, IfOk, IfErr, IsOk, Some};
 ghost use Rattle.std.specs.Str.{chars};
 ghost use Rattle.std.specs.Fmt.{WritesInCalls};
 ghost use Rattle.std.specs.String.{string_bytes};
 ghost use Rattle.dns_codec.specs.Base.{base64, encoded};
-ghost use Rattle.dns_codec.specs.Bits.{pieces};
 ghost use Rattle.dns_codec.specs.Errors.{error_text};
 ghost use Rattle.dns_codec.specs.Decoding.{IsNew};
 ghost use Rattle.dns_codec.specs.Grammar.{Decodes};
@@ -15,9 +14,8 @@ ghost use Rattle.dns_codec.specs.Shown.{shown};
 ghost use Rattle.dns_codec.specs.Written.{IsWritten};
 
 use crate::base::Base64;
-use crate::read::{VALUES64, read_text};
-use crate::{converter, decoder, encode};
-use dns_wire::{EmptyBuilder, FreezeBuilder, OctetsBuilder, ShortBuf};
+use crate::{converter, decoder, encode, read};
+use dns_octets::{EmptyBuilder, FreezeBuilder, OctetsBuilder, ShortBuf};
 use std::alloc::Allocator;
 use std::error::Error;
 use std::fmt;
@@ -120,25 +118,7 @@ pub fn decode_slice(text: &[u8], octets: &mut [u8]) -> Option<usize>
     ensures read { IfSome result (λ n. Decodes base64 text.now (take n octets.new) × (n ≤ length octets.new)) }
     ensures refused { IfNone result ((v : List ℕ) → Decodes base64 text.now v → length octets.old < length v) }
 {
-    if text.len() % 4 != 0 {
-        return None;
-    }
-    let chars = &text[..text.len() - marks_of(text)];
-    read_text::<6, 4, 3>(&VALUES64, chars, octets)
-}
-
-// How many `=` stand at the end of a text, up to two.
-fn marks_of(text: &[u8]) -> usize
-    ensures few { result ≤ 2 }
-    ensures within { result ≤ length text.now }
-    ensures marks { (k : ℕ) → length text.now ≤ k + result → k < length text.now → slice_index text.now k ≡ 61 }
-    ensures most { result < 2 → result < length text.now → slice_index text.now (length text.now - 1 - result) ≢ 61 }
-{
-    match text {
-        [.., b'=', b'='] => 2,
-        [.., b'='] => 1,
-        _ => 0,
-    }
+    read::decode_slice::<Base64>(text, octets)
 }
 
 /// Writes octets in base 64, with padding.

@@ -15,7 +15,7 @@ ghost use Rattle.dns_codec.specs.Converting.{convert_entry, convert_tail};
 ghost use Rattle.dns_codec.specs.Group.{fresh};
 ghost use Rattle.dns_codec.specs.Grammar.{Decodes};
 ghost use Rattle.dns_codec.specs.Decoding.{DecoderState, IsNew, Pushes, Runs, Ends};
-ghost use Rattle.dns_codec.specs.Outcome.{cause, first_cause, stored, refusal, pushed_refusal, IsPushed};
+ghost use Rattle.dns_codec.specs.Outcome.{char_error, first_char_error, stored, refusal, pushed_refusal, IsPushed};
 ghost use Rattle.dns_codec.specs.declared.base64.DecodeError.{DecodeError};
 ghost use Rattle.dns_codec.specs.declared.base64.DecodeError.TheVariants.{IllegalChar, ShortBuf};
 
@@ -50,7 +50,7 @@ pub fn grammar_is_read()
         → (refusal b room text ≡ None) × (pushed_refusal b room text ≡ None) }
 {}
 
-/// Where there is too little room, want of room alone refuses a text of the grammar: `decode`
+/// Where there is too little room, lack of room alone refuses a text of the grammar: `decode`
 /// answers no other error, and neither does a decoder that it is pushed to.
 pub fn grammar_wants_room()
     ensures { (b : Base) → IsEncoding b → (text octets : List ℕ) (room : ℕ) (e : DecodeError) → Decodes b text octets
@@ -87,7 +87,7 @@ pub fn converters_decode()
 /// cause: no character of a text is refused exactly if none has a cause, and so for each beginning.
 pub fn converters_stop()
     ensures { (b : Base) → IsEncoding b → (text : List ℕ) (room : ℕ) → length text + 3 ≤ room
-        → takes_all_of b (map Char text) ≡ is_none (first_cause (cause b room) [] text) }
+        → takes_all_of b (map Char text) ≡ is_none (first_char_error (char_error b room) [] text) }
 {}
 
 /// The tokens of an entry convert as their join.

@@ -7,7 +7,7 @@ ghost use Rattle.dns_entry.specs.Field.{Content, content_of, field_text, IsConte
 ghost use Rattle.dns_entry.specs.Line.{AreContents, IsFirstEmpty, IsLine, line_document};
 
 use crate::entry::{EntryLine, Field};
-use dns_wire::AsOctets;
+use dns_octets::AsOctets;
 use std::alloc::Allocator;
 
 /// A field holds a number of 32 bits, octets, or at most 255 of them.

@@ -1,5 +1,5 @@
 //! Calls whose growths are refused, one after the other.
-use dns_wire::AsOctets;
+use dns_octets::AsOctets;
 use refusing_heap::Refusing;
 use std::alloc::Global;
 
@@ -38,7 +38,7 @@ trait Call {
 
 /// Makes the call with its first growth refused, then with its second, and so on until it meets no
 /// refusal. Answers how many calls met one, if all came to what they do with ample memory or to
-/// want of memory, and the last one to the first.
+/// lack of memory, and the last one to the first.
 fn refused_calls<C: Call>(alloc: Global, call: &C) -> Option<u64> {
     for nth in 1..5000 {
         let heap = Refusing::new(alloc, nth);
@@ -66,7 +66,7 @@ fn keeps<C: Call>(alloc: Global, call: &C, least: u64) -> bool {
     }
 }
 
-/// Compares an answer with the ample one and with want of memory.
+/// Compares an answer with the ample one and with lack of memory.
 fn answered<O: AsOctets + Drop, E: PartialEq + Copy>(
     answer: Result<O, E>,
     ample: Result<&[u8], E>,
@@ -80,7 +80,7 @@ fn answered<O: AsOctets + Drop, E: PartialEq + Copy>(
     }
 }
 
-/// What an answer came to that isn't want of memory.
+/// What an answer came to that isn't lack of memory.
 fn told_ample(is_ample: bool) -> Told {
     if is_ample {
         return Ok(());

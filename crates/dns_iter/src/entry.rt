@@ -24,11 +24,10 @@ ghost use Rattle.dns_scan.specs.Stands.{StandsBefore};
 ghost use Rattle.dns_scan.specs.Tokens.{Token};
 ghost use Rattle.dns_iter.specs.Contents.{AreContents};
 
-use crate::error::StrError;
 use crate::scanner::IterScanner;
-use dns_scan::{Scanner, ScannerError};
+use dns_octets::{AsOctetsMut, EmptyBuilder, FreezeBuilder, FromBuilder, Truncate};
+use dns_scan::{Scanner, ScannerError, StrError};
 use dns_split::token::content;
-use dns_wire::{AsOctetsMut, EmptyBuilder, FreezeBuilder, FromBuilder, Truncate};
 use std::alloc::Allocator;
 
 /// A token of zone text as it is spelled, with its double quotes.

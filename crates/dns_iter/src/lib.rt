@@ -2,11 +2,7 @@
 #![tactic(auto)]
 
 pub mod entry;
-pub mod error;
-mod line;
 mod name;
-mod print;
-pub mod program;
 pub mod room;
 pub mod scanner;
 mod take;
@@ -14,6 +10,6 @@ mod take;
 mod tests;
 mod token;
 
+pub use dns_scan::StrError;
 pub use entry::{EntryScanner, TokenText, entry_scanner};
-pub use error::StrError;
 pub use scanner::IterScanner;

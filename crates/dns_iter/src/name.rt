@@ -1,13 +1,13 @@
 //! Names out of tokens.
 ghost use Rattle.std.specs.Prelude.{◌≡◌, ◌+◌, ◌<◌, ◌≤◌, [], ◌∷◌, ◌++◌, IfSome, IfNone};
-ghost use Rattle.dns_wire_name.specs.Wire.{wire_length};
+ghost use Rattle.dns_wire.specs.Wire.{wire_length};
 ghost use Rattle.dns_iter.specs.Name.{ReadsToken};
 
 use dns_name::chain::Chain;
 use dns_name::name::{FromStrError, UncertainName};
+use dns_octets::{AsOctetsMut, EmptyBuilder, FreezeBuilder, FromBuilder};
 use dns_scan::ScannerError;
-use dns_wire::{AsOctetsMut, EmptyBuilder, FreezeBuilder, FromBuilder};
-use dns_wire_name::{Name, RelativeName};
+use dns_wire::{Name, RelativeName};
 
 // The name with the root after its labels, if there is room for its octets.
 fn with_root<Octets: FromBuilder>(

@@ -8,17 +8,16 @@ ghost use Rattle.dns_iter.specs.TokenNext.{token_next, spaced_after};
 ghost use Rattle.dns_iter.specs.Name.{ReadsToken};
 ghost use Rattle.dns_iter.specs.Ahead.{IsReady, Fills, TakesAhead, tokens_left};
 
-use crate::error::StrError;
 use crate::name::token_name;
 use crate::take::{Converting, IntoStrings, TakeToken};
 use crate::token::{
     each_symbol, token_ascii, token_charstr, token_converted, token_octets, token_text,
 };
 use dns_charstr::charstr::CharStr;
-use dns_scan::{ConvertSymbols, Scanner, ScannerError};
+use dns_octets::{AsOctets, AsOctetsMut, EmptyBuilder, FreezeBuilder, FromBuilder, Str, Truncate};
+use dns_scan::{ConvertSymbols, Scanner, ScannerError, StrError};
 use dns_symbol::symbol::{EntrySymbol, Symbol};
-use dns_wire::{AsOctets, AsOctetsMut, EmptyBuilder, FreezeBuilder, FromBuilder, Str, Truncate};
-use dns_wire_name::Name;
+use dns_wire::Name;
 use std::marker::PhantomData;
 
 /// What is known of the next token.

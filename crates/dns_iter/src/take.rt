@@ -8,9 +8,9 @@ ghost use Rattle.dns_scan.specs.Tokens.{Token};
 
 use crate::token::each_symbol;
 use dns_charstr::charstr::CharStrBuilder;
+use dns_octets::{EmptyBuilder, OctetsBuilder};
 use dns_scan::{ConvertSymbols, ScannerError};
 use dns_symbol::symbol::{EntrySymbol, Symbol};
-use dns_wire::{EmptyBuilder, OctetsBuilder};
 
 /// What a symbol is handed over as.
 pub(crate) trait OfSymbol {

@@ -1,12 +1,10 @@
 //! Tokens and their values, from outside tables.
-use crate::error::StrError;
-use crate::program;
 use crate::scanner::IterScanner;
 use arrayvec::ArrayVec;
 use dns_codec::{base16, base32, base64};
-use dns_scan::{ConvertSymbols, Scan, Scanner, ScannerError};
+use dns_octets::{AsOctets, ShortBuf, Ttl};
+use dns_scan::{ConvertSymbols, Scan, Scanner, ScannerError, StrError};
 use dns_symbol::symbol::{EntrySymbol, Symbol};
-use dns_wire::{AsOctets, ShortBuf, Ttl};
 use std::alloc::{AllocError, Global};
 use std::fmt;
 
@@ -14,7 +12,6 @@ mod entries;
 mod names;
 mod numbers;
 mod octets;
-mod programs;
 mod rests;
 mod strings;
 mod symbols;

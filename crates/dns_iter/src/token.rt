@@ -10,9 +10,9 @@ ghost use Rattle.dns_scan.specs.Steps.{GivesStep, octet_given, text_given};
 
 use crate::take::{Converting, IntoOctets, IntoText, OfSymbol, TakeSymbol};
 use dns_charstr::charstr::{CharStr, CharStrBuilder};
+use dns_octets::{EmptyBuilder, FreezeBuilder, Str};
 use dns_scan::{ConvertSymbols, ScannerError};
 use dns_symbol::symbol::{Symbol, SymbolOctetsError};
-use dns_wire::{EmptyBuilder, FreezeBuilder, Str};
 
 // The text of an error within a token.
 fn escape_text(error: SymbolOctetsError) -> &'static str

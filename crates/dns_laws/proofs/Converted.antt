@@ -19,10 +19,10 @@ use Rattle.dns_codec.proofs.Conversions.{agrees}
 use Rattle.dns_codec.proofs.Each.{once}
 use Rattle.dns_codec.proofs.Refusals.{reads}
 use Rattle.dns_codec.specs.declared.base64.DecodeError.{DecodeError}
-use Rattle.dns_scan.specs.Cause.{Cause, custom_text}
+use Rattle.dns_symbol.specs.Cause.{Cause, custom_text}
 use Rattle.dns_scan.specs.Tokens.{Token}
 use Rattle.dns_entry.proofs.Words.{ascii_bytes, encoded_all}
-use Rattle.dns_iter.specs.Codecs.{Codec, then_made, converted, ConvertsTo, codec_of, hex_codec, base32hex_codec, base64_codec}
+use Rattle.dns_program.specs.Codecs.{Codec, then_made, converted, ConvertsTo, codec_of, hex_codec, base32hex_codec, base64_codec}
 
 -- the symbols of characters that stand for themselves
 abbrev pub plain_symbols : List ℕ → List Symbol
@@ -63,6 +63,11 @@ from_agreement b text octets refusal (Err reason) agrees is = cc
 abbrev pub is_plain : ℕ → Bool
 is_plain c = nat_lt c 128 && not (c == 92)
 
+pub plain_alphabet : (b : Base) → Known b → list_all is_plain b.alphabet ≡ true
+plain_alphabet b (inl is) = ap (λ (x : Base). list_all is_plain x.alphabet) is
+plain_alphabet b (inr (inl is)) = ap (λ (x : Base). list_all is_plain x.alphabet) is
+plain_alphabet b (inr (inr is)) = ap (λ (x : Base). list_all is_plain x.alphabet) is
+
 pub encoded_plain : (b : Base) (octets : List ℕ) → list_all is_plain b.alphabet ≡ true → list_all is_plain (encoded b octets) ≡ true
 encoded_plain b octets all = encoded_all is_plain b octets all refl refl
 
@@ -90,29 +95,12 @@ converts_plain codec text r all h =
 
 -- a text of the grammar gives its octets, and only such a text does
 module _ (b : Base) (known : Known b) where
-  base_text : (text octets : List ℕ) → Decodes b text octets → converted (codec_of b) (fresh, false) [] (plain_symbols text) None ≡ Ok octets
+  pub base_text : (text octets : List ℕ) → Decodes b text octets → converted (codec_of b) (fresh, false) [] (plain_symbols text) None ≡ Ok octets
   base_text text octets d =
       let room = length text + 3 + length octets in
-      base_run b (plain_symbols text) fresh false [] ∙ by_agreement b text octets (refusal b room text) _ (once b known text) d (reads b known text octets room d (omega arith)).0 (agrees b known text room (omega arith))
+      base_run b (plain_symbols text) fresh false [] ∙ by_agreement b text octets (refusal b room text) _ (once b known text) d
+      (reads b known text octets room d (omega arith)).0 (agrees b known text room (omega arith))
 
-  base_only : (text octets : List ℕ) → converted (codec_of b) (fresh, false) [] (plain_symbols text) None ≡ Ok octets → Decodes b text octets
+  pub base_only : (text octets : List ℕ) → converted (codec_of b) (fresh, false) [] (plain_symbols text) None ≡ Ok octets → Decodes b text octets
   base_only text octets e =
       from_agreement b text octets (refusal b (length text + 3) text) _ (agrees b known text (length text + 3) (omega arith)) (sym (base_run b (plain_symbols text) fresh false []) ∙ e)
-
-pub hex_text : (text octets : List ℕ) → Decodes base16 text octets → converted hex_codec (fresh, false) [] (plain_symbols text) None ≡ Ok octets
-hex_text = base_text base16 (inl refl)
-
-pub base32hex_text : (text octets : List ℕ) → Decodes base32hex text octets → converted base32hex_codec (fresh, false) [] (plain_symbols text) None ≡ Ok octets
-base32hex_text = base_text base32hex (inr (inl refl))
-
-pub base64_text : (text octets : List ℕ) → Decodes base64 text octets → converted base64_codec (fresh, false) [] (plain_symbols text) None ≡ Ok octets
-base64_text = base_text base64 (inr (inr refl))
-
-pub hex_only : (text octets : List ℕ) → converted hex_codec (fresh, false) [] (plain_symbols text) None ≡ Ok octets → Decodes base16 text octets
-hex_only = base_only base16 (inl refl)
-
-pub base32hex_only : (text octets : List ℕ) → converted base32hex_codec (fresh, false) [] (plain_symbols text) None ≡ Ok octets → Decodes base32hex text octets
-base32hex_only = base_only base32hex (inr (inl refl))
-
-pub base64_only : (text octets : List ℕ) → converted base64_codec (fresh, false) [] (plain_symbols text) None ≡ Ok octets → Decodes base64 text octets
-base64_only = base_only base64 (inr (inr refl))

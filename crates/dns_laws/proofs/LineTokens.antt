@@ -16,7 +16,7 @@ use Rattle.dns_split.specs.declared.splitting.SplitError.{SplitError}
 use Rattle.dns_split.specs.declared.splitting.SplitError.TheVariants.{BadText, ShortBuf}
 use Rattle.dns_split.specs.Splitting.{Entries, Splits, SplitsOnlyInto, with_token}
 use Rattle.dns_split.specs.Token.{IsWord}
-use Rattle.dns_scan.specs.Cause.{Cause}
+use Rattle.dns_symbol.specs.Cause.{Cause}
 use Rattle.dns_scan.specs.Numbers.{by_cause, greatest}
 use Rattle.dns_scan.specs.Octets.{GivesWhere, unquoted_token}
 use Rattle.dns_scan.specs.Reads.{NumberReads, ReadsFirst}
@@ -34,7 +34,7 @@ use Rattle.dns_entry.specs.Line.{AreContents, IsLine, field_step, line_document}
 use Rattle.dns_entry.proofs.Words.{line_formed, number_word, hex_word, base64_word, text_word}
 use Rattle.dns_laws.specs.declared.lines.Refusal.TheVariants.{Split}
 use Rattle.dns_laws.specs.Lines.{line_entries, kind_of, IsRefusal, IsScannedOf, GivesField, GivesOctets}
-use Rattle.dns_iter.specs.declared.program.FieldKind.TheVariants.{Number, Hex, Base64, Text}
+use Rattle.dns_program.specs.declared.program.FieldKind.TheVariants.{Number, Hex, Base64, Text}
 use Rattle.dns_laws.specs.declared.lines.Scanned.{Scanned}
 use Rattle.dns_laws.specs.declared.lines.Scanned.TheVariants.{Number as NumberScanned, Octets, Text as TextScanned}
 

@@ -2,10 +2,10 @@
 use Rattle.std.proofs.Common.{◌≡◌, ℕ, ◌+◌, ◌<◌, ◌≤◌, Bool, true, false, List, [], ◌∷◌, ◌++◌, ⊎_elim, subst, refl, ap, ◌∙◌, arith, inl, inr, Result, Ok, Err}
 use Rattle.std.specs.Prelude.{nat_lt}
 use Rattle.std.proofs.lemmas.Bool.Decides.{nat_tests}
-use Rattle.dns_wire_name.specs.Wire.{wire_length}
-use Rattle.dns_wire_name.proofs.Wires.{wire_length_append}
+use Rattle.dns_wire.specs.Wire.{wire_length}
+use Rattle.dns_wire.proofs.Wires.{wire_length_append}
 use Rattle.dns_name.specs.Uncertain.{labels_of}
-use Rattle.dns_scan.specs.Cause.{Cause, IsCause}
+use Rattle.dns_symbol.specs.Cause.{Cause, IsCause}
 use Rattle.dns_iter.specs.Name.{ReadsToken, AnswersName, invalid_name}
 use Rattle.dns_name.specs.Reading.{ReadsAs, ReadsName}
 use Rattle.dns_name.specs.declared.name.UncertainName.{UncertainName}

@@ -9,16 +9,16 @@ use Rattle.dns_symbol.specs.declared.symbol.SymbolCharsError.{SymbolCharsError}
 use Rattle.dns_symbol.specs.Symbol.{char_of}
 use Rattle.dns_symbol.specs.Text.{SymbolsOf}
 use Rattle.dns_symbol.proofs.Unique.{symbols_same}
-use Rattle.dns_codec.specs.Base.{Base, base16, base32hex, base64, encoded}
+use Rattle.dns_codec.specs.Base.{Base, encoded, IsEncoding as Known}
 use Rattle.dns_codec.specs.Group.{Group}
 use Rattle.dns_codec.specs.Converting.{char_in, made, convert_char}
 use Rattle.dns_codec.specs.Grammar.{Decodes}
-use Rattle.dns_codec.proofs.RoundTrip.{encoded16-decodes, encoded32-decodes, encoded64-decodes}
-use Rattle.dns_scan.specs.Cause.{Cause}
+use Rattle.dns_codec.proofs.Each.{decodes}
+use Rattle.dns_symbol.specs.Cause.{Cause}
 use Rattle.dns_scan.specs.Octets.{GivesWhere}
 use Rattle.dns_scan.specs.Tokens.{Token}
-use Rattle.dns_iter.specs.Codecs.{Codec, then_made, then_more, converted, made_of, ConvertsTo, MadeOf, AnswersConverted, IsEncoding, codec_of}
-use Rattle.dns_laws.proofs.Converted.{plain_symbols, is_plain, plain_read, encoded_plain}
+use Rattle.dns_program.specs.Codecs.{Codec, then_made, then_more, converted, made_of, ConvertsTo, MadeOf, AnswersConverted, IsEncoding, codec_of}
+use Rattle.dns_laws.proofs.Converted.{plain_symbols, is_plain, plain_read, plain_alphabet, encoded_plain}
 
 -- a step that went well, and what followed
 went_on : (a : Result (List ℕ) (List ℕ)) (go : List ℕ → Result (List ℕ) Cause) (octets : List ℕ) → then_made a go ≡ Ok octets → (o : List ℕ) × (a ≡ Ok o) × (go o ≡ Ok octets)
@@ -174,14 +174,8 @@ plain_encoding b octets plain d = record {
   decodes = d;
 }
 
-pub hex_encoding : (octets : List ℕ) → AllByRecursion (λ o. o < 256) octets → IsEncoding base16 (encoded base16 octets) octets
-hex_encoding octets all = plain_encoding base16 octets refl (encoded16-decodes octets all)
-
-pub base32hex_encoding : (octets : List ℕ) → AllByRecursion (λ o. o < 256) octets → IsEncoding base32hex (encoded base32hex octets) octets
-base32hex_encoding octets all = plain_encoding base32hex octets refl (encoded32-decodes octets all)
-
-pub base64_encoding : (octets : List ℕ) → AllByRecursion (λ o. o < 256) octets → IsEncoding base64 (encoded base64 octets) octets
-base64_encoding octets all = plain_encoding base64 octets refl (encoded64-decodes octets all)
+pub base_encoding : (b : Base) → Known b → (octets : List ℕ) → AllByRecursion (λ o. o < 256) octets → IsEncoding b (encoded b octets) octets
+base_encoding b known octets all = plain_encoding b octets (plain_alphabet b known) (decodes b known octets all)
 
 -- the converters look at a symbol's character alone, and refuse a symbol that has none
 refuses : (a : Result (List ℕ) (List ℕ)) (text o : List ℕ) → a ≡ Err text → a ≡ Ok o → ⊥

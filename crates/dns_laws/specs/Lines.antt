@@ -2,7 +2,7 @@
 use Rattle.std.specs.Prelude.{⊤, ◌≡◌, ◌<◌, ◌⊎◌, ℕ, List, [], ◌∷◌, ◌++◌, length, map, Result, Ok}
 use Rattle.dns_split.specs.Splitting.{Entries}
 use Rattle.dns_split.specs.Token.{IsWord}
-use Rattle.dns_scan.specs.Cause.{Cause, short_buf, IsCause}
+use Rattle.dns_symbol.specs.Cause.{Cause, short_buf, IsCause}
 use Rattle.dns_scan.specs.Tokens.{Token}
 use Rattle.dns_entry.specs.Field.{Content, number, hex_octets, base64_octets, text_octets, field_text}
 use Rattle.dns_entry.specs.Line.{IsFirstEmpty}
@@ -10,8 +10,8 @@ use Rattle.dns_entry.specs.EntryError.{place_of}
 use Rattle.dns_split.specs.declared.splitting.SplitError.TheVariants.{BadText, ShortBuf}
 use Rattle.dns_laws.specs.declared.lines.Refusal.{Refusal}
 use Rattle.dns_laws.specs.declared.lines.Refusal.TheVariants.{Line, Split}
-use Rattle.dns_iter.specs.declared.program.FieldKind.{FieldKind}
-use Rattle.dns_iter.specs.declared.program.FieldKind.TheVariants.{Number, Hex, Base64, Text}
+use Rattle.dns_program.specs.declared.program.FieldKind.{FieldKind}
+use Rattle.dns_program.specs.declared.program.FieldKind.TheVariants.{Number, Hex, Base64, Text}
 use Rattle.dns_laws.specs.declared.lines.Scanned.{Scanned}
 use Rattle.dns_laws.specs.declared.lines.Scanned.TheVariants.{Number as NumberScanned, Octets, Text as TextScanned}
 
@@ -19,7 +19,7 @@ use Rattle.dns_laws.specs.declared.lines.Scanned.TheVariants.{Number as NumberSc
 abbrev pub line_entries : List Content → Entries
 line_entries fields = map field_text fields ∷ []
 
--- why fields were not printed as a line and split: the first that is no token, or want of memory
+-- why fields were not printed as a line and split: the first that is no token, or lack of memory
 abbrev pub IsRefusal : List Content → Refusal → Type 0
 IsRefusal fields (Line error) = IsFirstEmpty fields (place_of error)
 IsRefusal fields (Split (BadText place)) = ⊥

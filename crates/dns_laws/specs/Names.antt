@@ -1,7 +1,7 @@
 -- What is scanned of a name's text.
 use Rattle.std.specs.Prelude.{ℕ, List, ◌≡◌, ◌⊎◌, ◌<◌, Result, Ok}
-use Rattle.dns_wire_name.specs.Wire.{wire_length}
-use Rattle.dns_scan.specs.Cause.{Cause, IsCause}
+use Rattle.dns_wire.specs.Wire.{wire_length}
+use Rattle.dns_symbol.specs.Cause.{Cause, IsCause}
 use Rattle.dns_iter.specs.Name.{invalid_name}
 
 -- the answer is this name, or a refusal where it has more octets than surely fit

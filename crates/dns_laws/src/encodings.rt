@@ -1,15 +1,39 @@
 //! Laws on encodings: what tokens convert to, and that a text is scanned back.
 ghost use Rattle.std.specs.Prelude.{◌≡◌, ◌↔◌, ℕ, ◌<◌, List, ◌∷◌, Ok, Result, IfOk};
 ghost use Rattle.std.specs.List.{AllByRecursion};
-ghost use Rattle.dns_codec.specs.Base.{base16, base32hex, base64, encoded};
-ghost use Rattle.dns_scan.specs.Cause.{Cause};
+ghost use Rattle.dns_codec.specs.Base.{Base, IsEncoding as IsBase, base16, base32hex, base64, encoded};
+ghost use Rattle.dns_symbol.specs.Cause.{Cause};
 ghost use Rattle.dns_scan.specs.Octets.{GivesWhere};
 ghost use Rattle.dns_scan.specs.Stands.{StandsBefore};
 ghost use Rattle.dns_scan.specs.Tokens.{Token};
-ghost use Rattle.dns_iter.specs.Codecs.{AnswersConverted, ConvertsTo, IsEncoding, hex_codec, base32hex_codec, base64_codec};
+ghost use Rattle.dns_program.specs.Codecs.{AnswersConverted, ConvertsTo, IsEncoding, codec_of, hex_codec, base32hex_codec, base64_codec};
 
-use dns_codec::{base16, base32, base64};
+use dns_codec::base::{Base16, Base32Hex, Base64, Encoding};
+use dns_codec::converter::Converter;
 use dns_scan::Scanner;
+
+/// The text of octets in an encoding is scanned back to these octets, where there is room. So is
+/// each token that is a text of the encoding; a simple escape counts as its character. In base 16
+/// and base32hex letters may be in either case.
+///
+/// Any other token is refused: one with an escape that is none, with a symbol without character,
+/// or whose characters are no text of the encoding.
+pub fn encoding_is_scanned_back<K: Encoding, S: Scanner>(
+    scanner: &mut S,
+) -> Result<S::Octets, S::Error>
+    requires { S.can_scan scanner.old }
+    ensures ready { S.can_scan scanner.new }
+    ensures back { (octets : List ℕ) (others : List Token) → AllByRecursion (λ o. o < 256) octets → StandsBefore S.next_token scanner.old (encoded K.base octets ∷ others)
+        → GivesWhere S.Error.cause S.Octets.octets S.OctetsBuilder.sure octets result }
+    ensures whole { (token : Token) (others : List Token) (octets : List ℕ) → StandsBefore S.next_token scanner.old (token ∷ others)
+        → IsEncoding K.base token octets → GivesWhere S.Error.cause S.Octets.octets S.OctetsBuilder.sure octets result }
+    ensures answer { (token : Token) (others : List Token) → StandsBefore S.next_token scanner.old (token ∷ others)
+        → AnswersConverted (codec_of K.base) S.Error.cause S.Octets.octets S.OctetsBuilder.sure S.OctetsBuilder.most token result }
+    ensures only { (token : Token) (others : List Token) → StandsBefore S.next_token scanner.old (token ∷ others) → IfOk result (λ o. IsEncoding K.base token (S.Octets.octets o)) }
+    ensures rest { (token : Token) (others : List Token) → StandsBefore S.next_token scanner.old (token ∷ others) → StandsBefore S.next_token scanner.new others }
+{
+    scanner.convert_token(Converter::<K>::new())
+}
 
 /// The text of octets in base 16 is scanned back to these octets, where there is room. So is each
 /// token that is a text of the encoding; its letters may be in either case, and a simple escape
@@ -29,7 +53,7 @@ pub fn hex_is_scanned_back<S: Scanner>(scanner: &mut S) -> Result<S::Octets, S::
     ensures only { (token : Token) (others : List Token) → StandsBefore S.next_token scanner.old (token ∷ others) → IfOk result (λ o. IsEncoding base16 token (S.Octets.octets o)) }
     ensures rest { (token : Token) (others : List Token) → StandsBefore S.next_token scanner.old (token ∷ others) → StandsBefore S.next_token scanner.new others }
 {
-    scanner.convert_token(base16::SymbolConverter::new())
+    encoding_is_scanned_back::<Base16, S>(scanner)
 }
 
 /// The text of octets in base32hex is scanned back to these octets, where there is room. So is each
@@ -46,7 +70,7 @@ pub fn base32hex_is_scanned_back<S: Scanner>(scanner: &mut S) -> Result<S::Octet
     ensures only { (token : Token) (others : List Token) → StandsBefore S.next_token scanner.old (token ∷ others) → IfOk result (λ o. IsEncoding base32hex token (S.Octets.octets o)) }
     ensures rest { (token : Token) (others : List Token) → StandsBefore S.next_token scanner.old (token ∷ others) → StandsBefore S.next_token scanner.new others }
 {
-    scanner.convert_token(base32::SymbolConverter::new())
+    encoding_is_scanned_back::<Base32Hex, S>(scanner)
 }
 
 /// The text of octets in base 64 is scanned back to these octets, where there is room. So is each
@@ -64,37 +88,27 @@ pub fn base64_is_scanned_back<S: Scanner>(scanner: &mut S) -> Result<S::Octets, 
     ensures only { (token : Token) (others : List Token) → StandsBefore S.next_token scanner.old (token ∷ others) → IfOk result (λ o. IsEncoding base64 token (S.Octets.octets o)) }
     ensures rest { (token : Token) (others : List Token) → StandsBefore S.next_token scanner.old (token ∷ others) → StandsBefore S.next_token scanner.new others }
 {
-    scanner.convert_token(base64::SymbolConverter::new())
+    encoding_is_scanned_back::<Base64, S>(scanner)
 }
 
 /// The text of octets in base 16, base32hex or base 64 is a token that converts to these octets,
 /// and to nothing else.
 pub fn encodings_convert_back()
-    ensures hex { (octets : List ℕ) (r : Result (List ℕ) Cause) → AllByRecursion (λ o. o < 256) octets → ConvertsTo hex_codec (encoded base16 octets) r → r ≡ Ok octets }
-    ensures base32hex { (octets : List ℕ) (r : Result (List ℕ) Cause) → AllByRecursion (λ o. o < 256) octets → ConvertsTo base32hex_codec (encoded base32hex octets) r → r ≡ Ok octets }
-    ensures base64 { (octets : List ℕ) (r : Result (List ℕ) Cause) → AllByRecursion (λ o. o < 256) octets → ConvertsTo base64_codec (encoded base64 octets) r → r ≡ Ok octets }
+    ensures { (b : Base) → IsBase b → (octets : List ℕ) (r : Result (List ℕ) Cause) → AllByRecursion (λ o. o < 256) octets → ConvertsTo (codec_of b) (encoded b octets) r → r ≡ Ok octets }
 {}
 
 /// The tokens that convert to octets are exactly the texts of the encoding with that value.
 pub fn only_encodings_convert()
-    ensures hex { (token : Token) (octets : List ℕ) → ConvertsTo hex_codec token (Ok octets) ↔ IsEncoding base16 token octets }
-    ensures base32hex { (token : Token) (octets : List ℕ) → ConvertsTo base32hex_codec token (Ok octets) ↔ IsEncoding base32hex token octets }
-    ensures base64 { (token : Token) (octets : List ℕ) → ConvertsTo base64_codec token (Ok octets) ↔ IsEncoding base64 token octets }
+    ensures { (b : Base) → IsBase b → (token : Token) (octets : List ℕ) → ConvertsTo (codec_of b) token (Ok octets) ↔ IsEncoding b token octets }
 {}
 
 /// A token converts to one thing.
 pub fn tokens_convert_to_one_thing()
-    ensures hex { (token : Token) (q r : Result (List ℕ) Cause) → ConvertsTo hex_codec token q → ConvertsTo hex_codec token r → q ≡ r }
-    ensures base32hex { (token : Token) (q r : Result (List ℕ) Cause) → ConvertsTo base32hex_codec token q → ConvertsTo base32hex_codec token r → q ≡ r }
-    ensures base64 { (token : Token) (q r : Result (List ℕ) Cause) → ConvertsTo base64_codec token q → ConvertsTo base64_codec token r → q ≡ r }
+    ensures { (b : Base) (token : Token) (q r : Result (List ℕ) Cause) → ConvertsTo (codec_of b) token q → ConvertsTo (codec_of b) token r → q ≡ r }
 {}
 
 /// Over a builder whose room is known, as an array's, a token is answered in one way.
 pub fn encodings_are_answered_in_one_way()
-    ensures hex { (room : ℕ) (token : Token) (q r : Result (List ℕ) Cause) → AnswersConverted hex_codec (λ why. why) (λ s. s) room room token q
-        → AnswersConverted hex_codec (λ why. why) (λ s. s) room room token r → q ≡ r }
-    ensures base32hex { (room : ℕ) (token : Token) (q r : Result (List ℕ) Cause) → AnswersConverted base32hex_codec (λ why. why) (λ s. s) room room token q
-        → AnswersConverted base32hex_codec (λ why. why) (λ s. s) room room token r → q ≡ r }
-    ensures base64 { (room : ℕ) (token : Token) (q r : Result (List ℕ) Cause) → AnswersConverted base64_codec (λ why. why) (λ s. s) room room token q
-        → AnswersConverted base64_codec (λ why. why) (λ s. s) room room token r → q ≡ r }
+    ensures { (b : Base) (room : ℕ) (token : Token) (q r : Result (List ℕ) Cause) → AnswersConverted (codec_of b) (λ why. why) (λ s. s) room room token q
+        → AnswersConverted (codec_of b) (λ why. why) (λ s. s) room room token r → q ≡ r }
 {}

@@ -6,11 +6,32 @@ ghost use Rattle.dns_scan.specs.Join.{IsJoin, IsSymbols, LeavesOf};
 ghost use Rattle.dns_scan.specs.Octets.{GivesWhere};
 ghost use Rattle.dns_scan.specs.Stands.{StandsBefore};
 ghost use Rattle.dns_scan.specs.Tokens.{Token};
-ghost use Rattle.dns_iter.specs.Codecs.{AnswersConverted, IsEncoding, hex_codec, base32hex_codec, base64_codec};
+ghost use Rattle.dns_program.specs.Codecs.{AnswersConverted, IsEncoding, codec_of, hex_codec, base32hex_codec, base64_codec};
 
-use dns_codec::{base16, base32, base64};
+use dns_codec::base::{Base16, Base32Hex, Base64, Encoding};
+use dns_codec::converter::Converter;
 use dns_scan::Scanner;
 use dns_scan::laws::entries_convert_as_their_join;
+
+/// The text of octets in an encoding, cut into tokens anyhow, is scanned back to these octets, where
+/// there is room. So are all tokens whose join is a text of the encoding; others are refused as
+/// their join is as one token.
+pub fn entry_is_scanned_back<K: Encoding, S: Scanner>(
+    scanner: &mut S,
+) -> Result<S::Octets, S::Error>
+    requires { S.can_scan scanner.old }
+    ensures ready { S.can_scan scanner.new }
+    ensures back { (octets : List ℕ) (tokens : List Token) → AllByRecursion (λ o. o < 256) octets → StandsBefore S.next_token scanner.old tokens
+        → concat tokens ≡ encoded K.base octets → GivesWhere S.Error.cause S.Octets.octets S.OctetsBuilder.sure octets result }
+    ensures whole { (tokens : List Token) (octets : List ℕ) → StandsBefore S.next_token scanner.old tokens → AllByRecursion IsSymbols tokens
+        → IsEncoding K.base (concat tokens) octets → GivesWhere S.Error.cause S.Octets.octets S.OctetsBuilder.sure octets result }
+    ensures answer { (tokens : List Token) (text : List ℕ) → StandsBefore S.next_token scanner.old tokens → IsJoin tokens text
+        → AnswersConverted (codec_of K.base) S.Error.cause S.Octets.octets S.OctetsBuilder.sure S.OctetsBuilder.most text result }
+    ensures only { (tokens : List Token) → StandsBefore S.next_token scanner.old tokens → IfOk result (λ o. IsEncoding K.base (concat tokens) (S.Octets.octets o)) }
+    ensures rest { (tokens : List Token) → StandsBefore S.next_token scanner.old tokens → LeavesOf S.next_token tokens result scanner.new }
+{
+    entries_convert_as_their_join(scanner, Converter::<K>::new())
+}
 
 /// The text of octets in base 16, cut into tokens anyhow, is scanned back to these octets, where
 /// there is room. So are all tokens whose join is a text of the encoding; others are refused as
@@ -27,7 +48,7 @@ pub fn hex_entry_is_scanned_back<S: Scanner>(scanner: &mut S) -> Result<S::Octet
     ensures only { (tokens : List Token) → StandsBefore S.next_token scanner.old tokens → IfOk result (λ o. IsEncoding base16 (concat tokens) (S.Octets.octets o)) }
     ensures rest { (tokens : List Token) → StandsBefore S.next_token scanner.old tokens → LeavesOf S.next_token tokens result scanner.new }
 {
-    entries_convert_as_their_join(scanner, base16::SymbolConverter::new())
+    entry_is_scanned_back::<Base16, S>(scanner)
 }
 
 /// The text of octets in base32hex, cut into tokens anyhow, is scanned back, as in base 16.
@@ -43,7 +64,7 @@ pub fn base32hex_entry_is_scanned_back<S: Scanner>(scanner: &mut S) -> Result<S:
     ensures only { (tokens : List Token) → StandsBefore S.next_token scanner.old tokens → IfOk result (λ o. IsEncoding base32hex (concat tokens) (S.Octets.octets o)) }
     ensures rest { (tokens : List Token) → StandsBefore S.next_token scanner.old tokens → LeavesOf S.next_token tokens result scanner.new }
 {
-    entries_convert_as_their_join(scanner, base32::SymbolConverter::new())
+    entry_is_scanned_back::<Base32Hex, S>(scanner)
 }
 
 /// The text of octets in base 64, cut into tokens anyhow, is scanned back, as in base 16.
@@ -59,5 +80,5 @@ pub fn base64_entry_is_scanned_back<S: Scanner>(scanner: &mut S) -> Result<S::Oc
     ensures only { (tokens : List Token) → StandsBefore S.next_token scanner.old tokens → IfOk result (λ o. IsEncoding base64 (concat tokens) (S.Octets.octets o)) }
     ensures rest { (tokens : List Token) → StandsBefore S.next_token scanner.old tokens → LeavesOf S.next_token tokens result scanner.new }
 {
-    entries_convert_as_their_join(scanner, base64::SymbolConverter::new())
+    entry_is_scanned_back::<Base64, S>(scanner)
 }

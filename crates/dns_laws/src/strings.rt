@@ -5,7 +5,7 @@ ghost use Rattle.dns_zone.specs.Layout.{token};
 ghost use Rattle.dns_scan.specs.Octets.{unquoted_token};
 
 use dns_charstr::charstr::CharStr;
-use dns_wire::AsOctets;
+use dns_octets::AsOctets;
 use dns_zone::document::{Document, DocumentError, Item};
 use std::alloc::{AllocError, Allocator};
 

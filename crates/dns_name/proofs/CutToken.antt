@@ -5,7 +5,7 @@ use Rattle.dns_symbol.specs.declared.symbol.SymbolCharsError.TheVariants.{ShortI
 use Rattle.dns_symbol.specs.Text.{SymbolsOf}
 use Rattle.dns_symbol.proofs.Escapes.{escape_short}
 use Rattle.dns_scan.specs.Asks.{AsksSymbols, Builds}
-use Rattle.dns_scan.specs.Cause.{Cause, custom_text}
+use Rattle.dns_symbol.specs.Cause.{Cause, custom_text}
 use Rattle.dns_scan.specs.Entries.{ScansEntry}
 use Rattle.dns_scan.specs.Tokens.{Token}
 

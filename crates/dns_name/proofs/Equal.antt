@@ -1,7 +1,7 @@
 -- Equal names, of either kind.
 use Rattle.std.proofs.Common.{◌≡◌, true, map, refl}
 use Rattle.std.specs.Cmp.Lexicographic.{pointwise_decides, bytes_decides}
-use Rattle.dns_wire_name.specs.Order.{lowered}
+use Rattle.dns_octets.specs.Lowered.{lowered}
 use Rattle.dns_name.specs.Uncertain.{labels_of, is_absolute, same_uncertain}
 use Rattle.dns_name.specs.declared.name.UncertainName.{UncertainName}
 use Rattle.dns_name.specs.declared.name.UncertainName.TheVariants.{Absolute, Relative}

@@ -1,11 +1,11 @@
 -- Octets that are a name's are refused by no maker of it.
 use Rattle.std.proofs.Common.{◌≡◌, ℕ, ◌<◌, ◌≤◌, List, [], ◌∷◌, length, arith, sym, ◌∙◌, Err}
 use Rattle.std.proofs.Common.{⊎_elim}
-use Rattle.dns_wire_name.specs.FromOctets.{HasRest, MakesName, MakesRelative, AnswersName, AnswersRelative}
-use Rattle.dns_wire_name.proofs.Splitting.{splits_same, cut_none}
-use Rattle.dns_wire_name.specs.declared.split.Rest.TheVariants.{End, Root}
-use Rattle.dns_wire_name.specs.declared.error.NameError.{NameError}
-use Rattle.dns_wire_name.specs.declared.error.NameError.TheVariants.{BadLabel, CompressedName, LongName, TrailingData, ShortInput, Relative, Absolute}
+use Rattle.dns_wire.specs.FromOctets.{HasRest, MakesName, MakesRelative, AnswersName, AnswersRelative}
+use Rattle.dns_wire.proofs.Splitting.{splits_same, cut_none}
+use Rattle.dns_wire.specs.declared.split.Rest.TheVariants.{End, Root}
+use Rattle.dns_wire.specs.declared.error.NameError.{NameError}
+use Rattle.dns_wire.specs.declared.error.NameError.TheVariants.{BadLabel, CompressedName, LongName, TrailingData, ShortInput, Relative, Absolute}
 
 root_refused : (labels : List (List ℕ)) (rest : List ℕ) (e : NameError) → rest ≡ 0 ∷ [] → AnswersName labels rest (Err e) → ⊥
 root_refused labels rest (BadLabel e) h a = let n : 0 ≡ e.0 = (let x = sym h ∙ a.1 in cc) in omega (arith, a.2)

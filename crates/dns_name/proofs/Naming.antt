@@ -10,8 +10,8 @@ use Rattle.std.proofs.lemmas.List.Folds.{list_all-append}
 use Rattle.dns_symbol.specs.Symbol.{bytes, is_readable, octet_of}
 use Rattle.dns_symbol.specs.declared.symbol.Symbol.{Symbol}
 use Rattle.dns_symbol.specs.declared.symbol.Symbol.TheVariants.{Char}
-use Rattle.dns_wire_name.specs.Wire.{wire_length}
-use Rattle.dns_wire_name.specs.Building.{closed}
+use Rattle.dns_wire.specs.Wire.{wire_length}
+use Rattle.dns_wire.specs.Building.{closed}
 use Rattle.dns_name.specs.Reading.{is_dot, bracket, IsPiece, dotted, HasNamed}
 
 zip_push : (ps : List (List Symbol)) (ls : List (List ℕ)) (p : List Symbol) (l : List ℕ) → AllZip IsPiece ps ls → IsPiece p l

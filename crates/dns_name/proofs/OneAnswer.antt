@@ -13,10 +13,10 @@ use Rattle.dns_symbol.specs.declared.symbol.Symbol.TheVariants.{Char, SimpleEsca
 use Rattle.dns_symbol.specs.declared.symbol.SymbolCharsError.{SymbolCharsError}
 use Rattle.dns_symbol.specs.declared.symbol.BadSymbol.{BadSymbol}
 use Rattle.dns_symbol.proofs.Unique.{bytes_same, bytes_some, begins_same}
-use Rattle.dns_wire_name.specs.Wire.{wire_length}
-use Rattle.dns_wire_name.specs.Building.{closed}
-use Rattle.dns_wire_name.proofs.Wires.{wire_length_append}
-use Rattle.dns_wire_name.proofs.OneAnswer.{not_below}
+use Rattle.dns_wire.specs.Wire.{wire_length}
+use Rattle.dns_wire.specs.Building.{closed}
+use Rattle.dns_wire.proofs.Wires.{wire_length_append}
+use Rattle.dns_wire.proofs.OneAnswer.{not_below}
 use Rattle.dns_name.specs.Reading.{is_dot, bracket, HasNamed, HasNamedNext, ReadsName}
 use Rattle.dns_name.specs.declared.name.UncertainName.{UncertainName}
 use Rattle.dns_name.specs.declared.name.UncertainName.TheVariants.{Absolute, Relative}

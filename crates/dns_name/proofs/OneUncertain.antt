@@ -3,8 +3,8 @@ use Rattle.std.proofs.Common.{◌≡◌, ℕ, zero, suc, List, [], ◌∷◌, �
 use Rattle.std.specs.Prelude.{if◌then◌else◌}
 use Rattle.std.specs.Bool.{nat_lt}
 use Rattle.std.proofs.lemmas.Bool.{lt-ltb}
-use Rattle.dns_wire_name.specs.FromOctets.{Splits}
-use Rattle.dns_wire_name.proofs.OneAnswer.{not_below, refusal, refusal_cut, refusal_bad, refusal_pointer, root_not_cut, by_rest}
+use Rattle.dns_wire.specs.FromOctets.{Splits}
+use Rattle.dns_wire.proofs.OneAnswer.{not_below, refusal, refusal_cut, refusal_bad, refusal_pointer, root_not_cut, by_rest}
 use Rattle.dns_name.specs.Uncertain.{AnswersUncertain, MakesUncertain}
 use Rattle.dns_name.specs.declared.name.UncertainName.{UncertainName}
 use Rattle.dns_name.specs.declared.name.UncertainName.TheVariants.{Absolute, Relative}

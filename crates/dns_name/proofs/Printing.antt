@@ -12,12 +12,12 @@ use Rattle.dns_symbol.specs.Printed.{symbol_of}
 use Rattle.dns_symbol.specs.declared.symbol.Symbol.{Symbol}
 use Rattle.dns_symbol.specs.declared.symbol.Symbol.TheVariants.{Char, SimpleEscape, DecimalEscape}
 use Rattle.dns_symbol.proofs.PrintedForms.{IsForm, printed_octet, printed_readable}
-use Rattle.dns_wire_name.specs.Wire.{wire, wire_length, IsName, HasNoRoot}
-use Rattle.dns_wire_name.specs.Building.{closed}
-use Rattle.dns_wire_name.specs.Printed.{is_label_escape, joined_by, dotted_by, dotted_text}
-use Rattle.dns_wire_name.specs.ZoneText.{is_zone_plain, zone_symbol, zone_text}
-use Rattle.dns_wire_name.proofs.Wires.{Bytes, labels_bytes, wire_length_append}
-use Rattle.dns_wire_name.proofs.Texts.{dotted_joined}
+use Rattle.dns_wire.specs.Wire.{wire, wire_length, IsName, HasNoRoot}
+use Rattle.dns_wire.specs.Building.{closed}
+use Rattle.dns_wire.specs.Printed.{is_label_escape, joined_by, dotted_by, dotted_text}
+use Rattle.dns_wire.specs.ZoneText.{is_zone_plain, zone_symbol, zone_text}
+use Rattle.dns_wire.proofs.Wires.{Bytes, labels_bytes, wire_length_append}
+use Rattle.dns_wire.proofs.Texts.{dotted_joined}
 use Rattle.dns_name.specs.Uncertain.{labels_of, IsUncertain}
 use Rattle.dns_name.specs.Reading.{is_dot, bracket, IsPiece, dotted, HasNamed, ReadsAs}
 use Rattle.dns_name.specs.declared.name.UncertainName.{UncertainName}

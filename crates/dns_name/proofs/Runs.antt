@@ -8,9 +8,9 @@ use Rattle.dns_symbol.specs.Symbol.{octet_of}
 use Rattle.dns_symbol.specs.declared.symbol.Symbol.{Symbol}
 use Rattle.dns_symbol.specs.declared.symbol.Symbol.TheVariants.{Char}
 use Rattle.dns_symbol.specs.declared.symbol.BadSymbol.{BadSymbol}
-use Rattle.dns_wire_name.specs.Wire.{wire_length}
-use Rattle.dns_wire_name.specs.Building.{closed}
-use Rattle.dns_wire_name.proofs.Wires.{wire_length_append, All-front}
+use Rattle.dns_wire.specs.Wire.{wire_length}
+use Rattle.dns_wire.specs.Building.{closed}
+use Rattle.dns_wire.proofs.Wires.{wire_length_append, All-front}
 use Rattle.dns_name.specs.Reading.{is_dot, bracket, IsPiece, dotted, Names}
 
 -- finished labels, and the open one's octets

@@ -13,9 +13,9 @@ use Rattle.dns_symbol.specs.declared.symbol.SymbolCharsError.{SymbolCharsError}
 use Rattle.dns_symbol.specs.declared.symbol.SymbolCharsError.TheVariants.{BadEscape, ShortInput}
 use Rattle.dns_symbol.proofs.Endings.{cut_ends, cut_ascii, refused_ends}
 use Rattle.std.proofs.lemmas.Bool.Decides.{nat_tests}
-use Rattle.dns_wire_name.specs.Wire.{wire_length}
-use Rattle.dns_wire_name.specs.Building.{Naming, closed, all_labels, with_octet, ended, no_labels}
-use Rattle.dns_wire_name.proofs.Wires.{wire_length_append}
+use Rattle.dns_wire.specs.Wire.{wire_length}
+use Rattle.dns_wire.specs.Building.{Naming, closed, all_labels, with_octet, ended, no_labels}
+use Rattle.dns_wire.proofs.Wires.{wire_length_append}
 use Rattle.dns_name.specs.Reading.{is_dot, HasNamed, HasNamedBefore, ReadsName, ReadsChars}
 use Rattle.dns_name.specs.ReadingSteps.{TakesSymbol, GivesOctet, MakesAbsolute, Finishes}
 use Rattle.dns_name.specs.declared.name.UncertainName.{UncertainName}

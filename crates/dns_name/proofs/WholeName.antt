@@ -6,9 +6,9 @@ use Rattle.dns_symbol.specs.Symbol.{bytes, is_readable}
 use Rattle.dns_symbol.specs.declared.symbol.Symbol.{Symbol}
 use Rattle.dns_symbol.specs.declared.symbol.Symbol.TheVariants.{Char}
 use Rattle.dns_symbol.proofs.Unique.{bytes_same, bytes_some}
-use Rattle.dns_wire_name.specs.Wire.{wire_length}
-use Rattle.dns_wire_name.specs.Building.{closed}
-use Rattle.dns_wire_name.proofs.Wires.{wire_length_append}
+use Rattle.dns_wire.specs.Wire.{wire_length}
+use Rattle.dns_wire.specs.Building.{closed}
+use Rattle.dns_wire.proofs.Wires.{wire_length_append}
 use Rattle.dns_name.specs.Uncertain.{labels_of}
 use Rattle.dns_name.specs.Reading.{is_dot, HasNamed, HasNamedBefore, ReadsAs, ReadsName}
 use Rattle.dns_name.specs.declared.name.UncertainName.{UncertainName}

@@ -1,5 +1,5 @@
 -- The two names of a chain.
-use Rattle.dns_wire_name.specs.declared.to_label_iter.ToLabelIter.{Ghosts}
+use Rattle.dns_wire.specs.declared.to_label_iter.ToLabelIter.{Ghosts}
 use Rattle.dns_name.specs.declared.chain.Chain.{Chain}
 
 module _ {L R : Type 0} {l : Ghosts L} {r : Ghosts R} where

@@ -1,7 +1,7 @@
 -- Names made absolute.
 use Rattle.std.specs.Prelude.{◌≡◌, ℕ, List, Result, Ok}
-use Rattle.dns_wire_name.specs.Building.{AnswersRoot}
-use Rattle.dns_wire_name.specs.declared.error.PushError.{PushError}
+use Rattle.dns_wire.specs.Building.{AnswersRoot}
+use Rattle.dns_wire.specs.declared.error.PushError.{PushError}
 use Rattle.dns_name.specs.declared.name.UncertainName.{UncertainName}
 use Rattle.dns_name.specs.declared.name.UncertainName.TheVariants.{Absolute, Relative}
 

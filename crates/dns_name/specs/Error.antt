@@ -1,10 +1,10 @@
 -- The texts of errors, and what becomes of those of the layer below.
 use Rattle.std.specs.Prelude.{ℕ, List, codes}
 use Rattle.dns_symbol.specs.Symbol.{chars_error_text}
-use Rattle.dns_wire_name.specs.declared.error.SplitLabelError.{SplitLabelError}
-use Rattle.dns_wire_name.specs.declared.error.SplitLabelError.TheVariants.{Pointer, BadType, ShortInput as Short}
-use Rattle.dns_wire_name.specs.declared.error.PushError.{PushError}
-use Rattle.dns_wire_name.specs.declared.error.PushError.TheVariants.{LongLabel as PushLabel, LongName as PushName, ShortBuf as PushShort}
+use Rattle.dns_wire.specs.declared.error.SplitLabelError.{SplitLabelError}
+use Rattle.dns_wire.specs.declared.error.SplitLabelError.TheVariants.{Pointer, BadType, ShortInput as Short}
+use Rattle.dns_wire.specs.declared.error.PushError.{PushError}
+use Rattle.dns_wire.specs.declared.error.PushError.TheVariants.{LongLabel as PushLabel, LongName as PushName, ShortBuf as PushShort}
 use Rattle.dns_name.specs.declared.name.error.UncertainDnameError.{UncertainDnameError}
 use Rattle.dns_name.specs.declared.name.error.UncertainDnameError.TheVariants.{BadLabel, CompressedName, LongName as Long, TrailingData, ShortInput}
 use Rattle.dns_name.specs.declared.name.error.FromStrError.{FromStrError}

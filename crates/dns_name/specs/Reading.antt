@@ -7,8 +7,8 @@ use Rattle.dns_symbol.specs.Text.{EndsAs}
 use Rattle.dns_symbol.specs.declared.symbol.Symbol.{Symbol}
 use Rattle.dns_symbol.specs.declared.symbol.Symbol.TheVariants.{Char, SimpleEscape, DecimalEscape}
 use Rattle.dns_symbol.specs.declared.symbol.BadSymbol.{BadSymbol}
-use Rattle.dns_wire_name.specs.Wire.{wire_length}
-use Rattle.dns_wire_name.specs.Building.{closed}
+use Rattle.dns_wire.specs.Wire.{wire_length}
+use Rattle.dns_wire.specs.Building.{closed}
 use Rattle.dns_name.specs.Uncertain.{labels_of}
 use Rattle.dns_name.specs.declared.name.UncertainName.{UncertainName}
 use Rattle.dns_name.specs.declared.name.UncertainName.TheVariants.{Absolute, Relative}

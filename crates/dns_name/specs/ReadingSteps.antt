@@ -3,8 +3,8 @@ use Rattle.std.specs.Prelude.{◌≡◌, ◌≢◌, ◌⊎◌, ℕ, ◌+◌, ◌
 use Rattle.dns_symbol.specs.Symbol.{octet_of}
 use Rattle.dns_symbol.specs.declared.symbol.Symbol.{Symbol}
 use Rattle.dns_symbol.specs.declared.symbol.BadSymbol.{BadSymbol}
-use Rattle.dns_wire_name.specs.Wire.{wire_length}
-use Rattle.dns_wire_name.specs.Building.{Naming, all_labels, with_octet}
+use Rattle.dns_wire.specs.Wire.{wire_length}
+use Rattle.dns_wire.specs.Building.{Naming, all_labels, with_octet}
 use Rattle.dns_name.specs.Reading.{bracket}
 use Rattle.dns_name.specs.declared.name.UncertainName.{UncertainName}
 use Rattle.dns_name.specs.declared.name.UncertainName.TheVariants.{Absolute, Relative}

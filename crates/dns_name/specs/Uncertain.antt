@@ -1,6 +1,6 @@
 -- Names that are absolute or relative.
 use Rattle.std.specs.Prelude.{◌≡◌, ◌≢◌, ◌⊎◌, ℕ, ◌<◌, ◌≤◌, Bool, true, false, List, [], ◌∷◌, ◌++◌, length, map, Result, Ok, Err}
-use Rattle.dns_wire_name.specs.Wire.{wire, IsName, EndsInRoot, HasNoRoot, wire_length}
+use Rattle.dns_wire.specs.Wire.{wire, IsName, EndsInRoot, HasNoRoot, wire_length}
 use Rattle.std.proofs.Common.{ap, sym, refl}
 use Rattle.std.specs.List.{flat_map}
 use Rattle.std.specs.Hash as fed
@@ -8,11 +8,12 @@ use Rattle.std.specs.Cmp.{IsEquivalence}
 use Rattle.std.specs.Cmp.Lexicographic.{pointwise_decides, bytes_decides}
 use Rattle.std.proofs.lemmas.Cmp.{on_equiv, lists_equiv, nat_list_eq_equiv}
 use mathlib.Core.Bool.{true≢false}
-use Rattle.dns_wire_name.specs.Order.{lowered, lowered_wire, same_name}
-use Rattle.dns_wire_name.proofs.Chains.{chain_name, chain_ends}
-use Rattle.dns_wire_name.specs.FromOctets.{Splits, IsRootAndMore}
-use Rattle.dns_wire_name.specs.Split.{RefusesLabel, IsCut}
-use Rattle.dns_wire_name.specs.declared.error.SplitLabelError.TheVariants.{Pointer, BadType}
+use Rattle.dns_octets.specs.Lowered.{lowered}
+use Rattle.dns_wire.specs.Order.{lowered_wire, same_name}
+use Rattle.dns_wire.proofs.Chains.{chain_name, chain_ends}
+use Rattle.dns_wire.specs.FromOctets.{Splits, IsRootAndMore}
+use Rattle.dns_wire.specs.Split.{RefusesLabel, IsCut}
+use Rattle.dns_wire.specs.declared.error.SplitLabelError.TheVariants.{Pointer, BadType}
 use Rattle.dns_name.specs.declared.name.UncertainName.{UncertainName}
 use Rattle.dns_name.specs.declared.name.UncertainName.TheVariants.{Absolute, Relative}
 use Rattle.dns_name.specs.declared.name.error.UncertainDnameError.{UncertainDnameError}

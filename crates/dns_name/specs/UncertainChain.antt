@@ -1,6 +1,6 @@
 -- The two names of an uncertain chain.
-use Rattle.dns_wire.specs.declared.octets.AsOctets.{Ghosts as OctetsGhosts}
-use Rattle.dns_wire_name.specs.declared.to_label_iter.ToLabelIter.{Ghosts}
+use Rattle.dns_octets.specs.declared.octets.AsOctets.{Ghosts as OctetsGhosts}
+use Rattle.dns_wire.specs.declared.to_label_iter.ToLabelIter.{Ghosts}
 use Rattle.dns_name.specs.declared.name.UncertainName.{UncertainName}
 use Rattle.dns_name.specs.declared.chain.uncertain.UncertainChain.{UncertainChain}
 

@@ -1,12 +1,10 @@
 //! Names one after another.
 ghost use Rattle.std.specs.Prelude.{◌≤◌, ◌++◌, Some, codes};
-ghost use Rattle.dns_wire_name.specs.Wire.{wire_length};
+ghost use Rattle.dns_wire.specs.Wire.{wire_length};
 
+use dns_octets::{EmptyBuilder, FromBuilder, OctetsBuilder, ShortBuf};
 use dns_scan::Scanner;
-use dns_wire::{EmptyBuilder, FromBuilder, OctetsBuilder, ShortBuf};
-use dns_wire_name::{
-    DisplayWithoutDot, FlattenInto, Label, Name, ToLabelIter, ToName, ToRelativeName,
-};
+use dns_wire::{DisplayWithoutDot, FlattenInto, Label, Name, ToLabelIter, ToName, ToRelativeName};
 use std::alloc::AllocError;
 use std::error::Error;
 use std::fmt;
@@ -14,7 +12,7 @@ use std::fmt;
 mod iter;
 mod uncertain;
 
-pub use dns_wire_name::DisplayWithDot;
+pub use dns_wire::DisplayWithDot;
 pub use iter::{ChainIter, UncertainChainIter};
 pub use uncertain::UncertainChain;
 
@@ -42,13 +40,13 @@ pub struct Chain<L: ToRelativeName, R: ToLabelIter> {
 
 impl<L: ToRelativeName, R: ToLabelIter> Chain<L, R> {
     ghost use Rattle.std.specs.Prelude.{◌≡◌, ◌≤◌, ◌+◌, ◌↔◌, ◌++◌, IsOk, IfOk};
-    ghost use Rattle.dns_wire_name.specs.Wire.{wire_length};
-    ghost use Rattle.dns_wire_name.specs.Shown.{dotted_name};
+    ghost use Rattle.dns_wire.specs.Wire.{wire_length};
+    ghost use Rattle.dns_wire.specs.Shown.{dotted_name};
     ghost use Rattle.dns_name.specs.Chain.{left_of, right_of};
 
     /// The left name with the right one after it, or [`LongChainError`] where both together have
     /// more than 255 octets.
-    #[tactic(auto, using(dns_wire_name::proofs::Wires::wire_length_append))]
+    #[tactic(auto, using(dns_wire::proofs::Wires::wire_length_append))]
     pub fn new(left: L, right: R) -> Result<Self, LongChainError>
     where
         L: Drop,
@@ -127,14 +125,14 @@ impl<L: ToRelativeName, R: ToName> Chain<L, R> {
 
 impl<L: ToRelativeName, R: ToLabelIter> ToLabelIter for Chain<L, R> {
     ghost use Rattle.std.specs.Prelude.{◌++◌};
-    ghost use Rattle.dns_wire_name.proofs.Chains.{chain_name};
+    ghost use Rattle.dns_wire.proofs.Chains.{chain_name};
     ghost use Rattle.dns_name.specs.Chain.{left_of, right_of};
 
     ghost labels = { λ c. L.labels (left_of c) ++ R.labels (right_of c) };
 
     ghost holds = { λ c. L.holds (left_of c) × R.holds (right_of c) };
 
-    #[tactic(auto, using(dns_wire_name::proofs::Chains::both_few))]
+    #[tactic(auto, using(dns_wire::proofs::Chains::both_few))]
     fn label_count(&self) -> usize {
         self.left.label_count() + self.right.label_count()
     }
@@ -161,14 +159,14 @@ impl<L: ToRelativeName, R: ToLabelIter> ToLabelIter for Chain<L, R> {
 }
 
 impl<L: ToRelativeName, R: ToName> ToName for Chain<L, R> {
-    ghost use Rattle.dns_wire_name.proofs.Chains.{chain_ends};
+    ghost use Rattle.dns_wire.proofs.Chains.{chain_ends};
     ghost use Rattle.dns_name.specs.Chain.{left_of, right_of};
 
     ghost ends_in_root = { λ c h. chain_ends (L.labels (left_of c)) (R.labels (right_of c)) (R.ends_in_root (right_of c) h.1) };
 }
 
 impl<L: ToRelativeName, R: ToRelativeName> ToRelativeName for Chain<L, R> {
-    ghost use Rattle.dns_wire_name.proofs.Chains.{chain_relative};
+    ghost use Rattle.dns_wire.proofs.Chains.{chain_relative};
     ghost use Rattle.dns_name.specs.Chain.{left_of, right_of};
 
     ghost has_no_root = { λ c h. chain_relative (L.labels (left_of c)) (R.labels (right_of c)) (L.has_no_root (left_of c) h.0) (R.has_no_root (right_of c) h.1) };
@@ -194,7 +192,7 @@ where
 /// The labels joined by dots, without a dot at the end; a lone root is one dot.
 impl<L: ToRelativeName, R: ToLabelIter> fmt::Display for Chain<L, R> {
     ghost use Rattle.std.specs.Prelude.{Some, encode_utf8_all, ◌++◌};
-    ghost use Rattle.dns_wire_name.specs.Printed.{undotted_text};
+    ghost use Rattle.dns_wire.specs.Printed.{undotted_text};
     ghost use Rattle.dns_name.specs.Chain.{left_of, right_of};
 
     ghost output = { λ c. Some (encode_utf8_all (undotted_text (L.labels (left_of c) ++ R.labels (right_of c)))) };

@@ -2,9 +2,10 @@
 ghost use Rattle.std.specs.Prelude.{ℕ, ◌≡◌, ◌↔◌, ◌⊎◌, true, map, Result, Ok, Err, encode_utf8_all};
 ghost use Rattle.std.specs.Hash as fed;
 ghost use Rattle.std.specs.List.{flat_map};
-ghost use Rattle.dns_wire_name.specs.Order.{lowered, lowered_wire};
-ghost use Rattle.dns_wire_name.specs.Printed.{dotted_text};
-ghost use Rattle.dns_wire_name.specs.ZoneText.{zone_text};
+ghost use Rattle.dns_octets.specs.Lowered.{lowered};
+ghost use Rattle.dns_wire.specs.Order.{lowered_wire};
+ghost use Rattle.dns_wire.specs.Printed.{dotted_text};
+ghost use Rattle.dns_wire.specs.ZoneText.{zone_text};
 ghost use Rattle.dns_name.specs.Reading.{ReadsAs, ReadsName};
 ghost use Rattle.dns_name.specs.Uncertain.{labels_of, is_absolute, same_uncertain, MakesUncertain};
 ghost use Rattle.dns_name.specs.declared.name.UncertainName.{UncertainName};
@@ -13,7 +14,7 @@ ghost use Rattle.dns_name.specs.declared.name.error.FromStrError.TheVariants.{Sh
 ghost use Rattle.dns_name.specs.declared.name.error.UncertainDnameError.{UncertainDnameError};
 
 use crate::name::UncertainName;
-use dns_wire::AsOctets;
+use dns_octets::AsOctets;
 
 /// The printed text of a name reads as it: the same labels, and absolute exactly if it is.
 pub fn printed_name_reads_back<Octets: AsOctets>(name: &UncertainName<Octets>)

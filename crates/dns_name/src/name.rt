@@ -1,10 +1,10 @@
 //! Names that are absolute or relative.
 use crate::chain::{LongChainError, UncertainChain};
-use dns_wire::{
+use dns_octets::{
     AsOctets, EmptyBuilder, FreezeBuilder, FromBuilder, IntoBuilder, OctetsBuilder, ShortBuf,
 };
-use dns_wire_name::split::{Rest, rest_of};
-use dns_wire_name::{Name, NameIter, PushError, RelativeName, SplitLabelError, ToLabelIter};
+use dns_wire::split::{Rest, rest_of};
+use dns_wire::{Name, NameIter, PushError, RelativeName, SplitLabelError, ToLabelIter};
 use std::alloc::{AllocError, Allocator};
 
 mod display;
@@ -64,7 +64,7 @@ impl<A: Allocator + Copy> UncertainName<Vec<u8, A>> {
 
 impl<Octets: AsOctets> UncertainName<Octets> {
     ghost use Rattle.std.specs.Prelude.{◌≡◌, ◌≢◌, ◌≤◌, ◌+◌, ◌↔◌, true, false, [], ◌∷◌, IsTrue, IfOk, IsOk, IfSome, IsSome, MatchResult};
-    ghost use Rattle.dns_wire_name.specs.Wire.{wire, wire_length};
+    ghost use Rattle.dns_wire.specs.Wire.{wire, wire_length};
     ghost use Rattle.dns_name.specs.Uncertain.{labels_of, labels_after, is_absolute, IsUncertain, MakesUncertain};
     ghost use Rattle.dns_name.specs.UncertainChain.{first_of, second_of};
     ghost use Rattle.dns_name.specs.Conversions.{AnswersAbsolute};

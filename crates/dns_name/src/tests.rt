@@ -2,9 +2,9 @@
 use crate::chain::{Chain, LongChainError, UncertainChain};
 use crate::name::{FromStrError, UncertainDnameError, UncertainName};
 use arrayvec::ArrayVec;
+use dns_octets::{AsOctets, OctetsBuilder, ShortBuf};
 use dns_symbol::symbol::SymbolCharsError;
-use dns_wire::{AsOctets, OctetsBuilder, ShortBuf};
-use dns_wire_name::{
+use dns_wire::{
     DisplayWithDot, DisplayWithoutDot, FlattenInto, Label, LabelTypeError, LongLabelError, Name,
     NameBuilder, NameError, PushError, RelativeName, SplitLabelError, ToLabelIter,
 };

@@ -24,12 +24,12 @@ use Rattle.dns_scan.specs.Tokens.{Token}
 use Rattle.dns_zone.specs.Documents.{IsWellFormed, IsComment}
 use Rattle.dns_zone.specs.Nesting.{from_none_test}
 use Rattle.dns_zone_laws.specs.Entries.{document_entries}
-use Rattle.dns_wire_name.specs.Wire.{EndsInRoot}
-use Rattle.dns_wire_name.specs.ZoneText.{zone_text}
+use Rattle.dns_wire.specs.Wire.{EndsInRoot}
+use Rattle.dns_wire.specs.ZoneText.{zone_text}
 use Rattle.dns_zone_laws.proofs.ZoneNames.{zone_word}
 use Rattle.dns_iter.specs.Contents.{IsContent, AreContents}
 use Rattle.dns_record.specs.Pieces.{Piece, field, unquoted, note, opens, closes, value_token, steps_of, values_of, is_note_ascii, is_laid_out}
-use Rattle.dns_record.specs.Values.{Value, number8, number16, number32, name, hex, base64_octets, string, IsValue, IsText, AreValues, AreTexts}
+use Rattle.dns_record.specs.Values.{Value, number8, number16, number32, name, hex, base64_octets, string, listed, IsValue, IsText, AreValues, AreTexts}
 
 -- ---- tokens and comments
 
@@ -69,6 +69,7 @@ held (name labels) = zone_text labels
 held (hex octets) = encoded base16 octets
 held (base64_octets octets) = encoded base64 octets
 held (string octets) = quoted_token octets
+held (listed octets) = quoted_token octets
 
 value_content : (v : Value) → IsValue v → IsContent (value_token v) (held v)
 unfolding held string_quote
@@ -79,6 +80,7 @@ value_content (name labels) is = inl (zone_word labels (has_root labels is.1) is
 value_content (hex octets) is = inl (hex_word octets is.0 is.1, refl)
 value_content (base64_octets octets) is = inl (base64_word octets is.0 is.1, refl)
 value_content (string octets) is = inr (string_quote octets is.0, printed_bytes is_quoted_escape octets)
+value_content (listed octets) is = inr (string_quote octets is.0, printed_bytes is_quoted_escape octets)
 
 value_text : (v : Value) → IsText v (held v)
 unfolding held
@@ -89,6 +91,7 @@ value_text (name labels) = refl
 value_text (hex octets) = refl
 value_text (base64_octets octets) = refl
 value_text (string octets) = inr refl
+value_text (listed octets) = inr refl
 
 unquoted_content : (octets : List ℕ) → All (λ o. o < 256) octets → IsContent (field_text (text_octets octets)) (unquoted_token octets)
 unquoted_content [] all = inr (record { symbols = []; valid = refl; spelled = refl }, refl)

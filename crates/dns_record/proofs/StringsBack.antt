@@ -1,20 +1,22 @@
 -- Character strings that are all that is left.
-use Rattle.std.proofs.Common.{ℕ, ◌≡◌, ◌<◌, ◌≤◌, true, false, List, [], ◌∷◌, length, refl, sym, ap, ◌∙◌, arith, subst, ⊎_elim, inl, inr, Vec, Option, Some, None, Result, Ok, Err}
+use Rattle.std.proofs.Common.{ℕ, ◌≡◌, ◌<◌, ◌≤◌, true, false, List, [], ◌∷◌, ◌++◌, length, refl, sym, ap, ◌∙◌, arith, subst, ⊎_elim, inl, inr, Vec, Option, Some, None, Result, Ok, Err}
 use Rattle.std.specs.Prelude.{is_some, All, IsOkAnd, ◌⊎◌}
 use Rattle.std.specs.List.{AllZip}
 use Rattle.std.proofs.lemmas.List.Elements.{All-cons, All-head, All-nil, All-tail}
 use Rattle.dns_charstr.specs.Reading.{HasOctets}
 use Rattle.dns_charstr.proofs.ReadBack.{reads_back}
-use Rattle.dns_scan.specs.Cause.{Cause, short_buf}
+use Rattle.dns_symbol.specs.Cause.{Cause, short_buf}
 use Rattle.dns_scan.specs.Join.{LeavesOf}
 use Rattle.dns_scan.specs.Octets.{IsPrinted}
-use Rattle.dns_scan.specs.Stands.{StandsBefore, stands_takes, stands_same, first_of}
+use Rattle.dns_scan.specs.Stands.{StandsBefore, stands_takes}
 use Rattle.dns_scan.specs.Tokens.{Token, Peeks}
+use Rattle.dns_scan.proofs.TokensLeft.{none_left}
 use Rattle.dns_symbol.specs.Printed.{is_quoted_escape, is_unquoted_escape}
 use Rattle.dns_symbol.proofs.PrintedForms.{unquoted_form, quoted_form}
+use Rattle.dns_record.specs.FieldLaws.{may_after}
 use Rattle.dns_record.specs.ReadsBack.{ReadsBack}
 use Rattle.dns_record.specs.Several.{IsString, strings_of}
-use Rattle.dns_record.specs.Values.{AreTexts, AreValues}
+use Rattle.dns_record.specs.Values.{Value, AreTexts, AreValues, SomeMayLack}
 
 pub known_values : (xs : List (List ℕ)) → All IsString xs → AreValues (strings_of xs)
 known_values [] h = tt
@@ -29,23 +31,9 @@ pub some_values : (xs : List (List ℕ)) → 0 < length xs → 0 < length (strin
 some_values [] h = h
 some_values (x ∷ xs) h = omega arith
 
-module _ {S : Type 0} (next : S → Option Token → S → Type 0) where
-  pub peeked : (u v : S) (o : Option Token) (ts : List Token) → StandsBefore next u ts → Peeks next u v o → (o ≡ first_of ts) × StandsBefore next v ts
-  peeked u v o ts stands p =
-      let at = stands_same next u v ts stands p.same in ((stands_takes next v ts o p.shown.0 at p.shown.1).0, at)
-
-  -- where nothing was seen, nothing is left
-  pub none_stands : (u v : S) (o : Option Token) (ts : List Token) → Peeks next u v o → false ≡ is_some o → StandsBefore next v ts → ts ≡ []
-  none_stands u v o [] p none stands = refl
-  none_stands u v o (t ∷ ts) p none stands =
-      let seen : o ≡ Some t = (stands_takes next v (t ∷ ts) o p.shown.0 stands p.shown.1).0 in
-      let z : false ≡ true = none ∙ ap is_some seen in cc
-
-  -- and where all was taken, nothing is seen
-  pub none_seen : (u v : S) (o : Option Token) → StandsBefore next u [] → Peeks next u v o → true ≡ is_some o → ⊥
-  none_seen u v o stands p some =
-      let seen : o ≡ None = (peeked u v o [] stands p).0 in
-      let z : true ≡ false = some ∙ ap is_some seen in cc
+-- where nothing was seen, nothing is left
+pub none_stands : {S : Type 0} (next : S → Option Token → S → Type 0) (u v : S) (o : Option Token) (ts : List Token) → Peeks next u v o → false ≡ is_some o → StandsBefore next v ts → ts ≡ []
+none_stands next u v o ts p none stands = none_left ts o (stands_takes next v ts o p.shown.0 stands p.shown.1).0 none
 
 -- ---- all that is left
 
@@ -63,13 +51,13 @@ texts_read [] (t ∷ ts) is texts = cc
 texts_read (x ∷ xs) [] is texts = absurd texts
 texts_read (x ∷ xs) (t ∷ ts) is texts = (has_octets t x is.0.0 texts.0, texts_read xs ts is.1 texts.1)
 
-module _ {S E : Type 0} (next : S → Option Token → S → Type 0) (cause : E → Cause) (strings : List (List ℕ)) (tokens : List Token) (new : S) where
+module _ {S E : Type 0} (next : S → Option Token → S → Type 0) (cause : E → Cause) (sure : ℕ) (strings : List (List ℕ)) (past : List Value) (tokens : List Token) (new : S) where
   -- the texts are those of the strings, and so this is
   abbrev Where : Type 0 → Type 0
   Where answered = AllZip HasOctets tokens strings → All (λ s. length s ≤ 255) strings → answered
 
   pub strings_given : {A : Type 0} (v : Vec (List ℕ) A) (r : Result (List (List ℕ)) E) → AreValues (strings_of strings) → 0 < length (strings_of strings) → AreTexts (strings_of strings) tokens [] → Where ((v.items ≡ strings) ⊎ ⊥)
-      → LeavesOf {V = Vec (List ℕ) A} {E = E} next tokens (Ok v) new → (0 < length v.items → IsOkAnd r (λ s. s ≡ v.items)) → ReadsBack next cause strings_of (strings_of strings) [] r new
+      → LeavesOf {V = Vec (List ℕ) A} {E = E} next tokens (Ok v) new → (0 < length v.items → IsOkAnd r (λ s. s ≡ v.items)) → ReadsBack next cause sure strings_of (strings_of strings) (past ++ strings_of strings) [] r new
   strings_given {A} v r valid some texts whole leaves made =
       let is : v.items ≡ strings = ⊎_elim (λ e. e) (λ e. absurd e) (whole (texts_read strings tokens valid texts) (short_each strings valid)) in
       inl (by r is (made (subst (λ (l : List (List ℕ)). 0 < length l) (sym is) (some_strings strings some))), subst (StandsBefore next new) (leaves.3 refl) leaves.4)
@@ -78,6 +66,12 @@ module _ {S E : Type 0} (next : S → Option Token → S → Type 0) (cause : E 
       by (Ok s) is e = ap strings_of (e ∙ is)
       by (Err x) is e = e
 
-  pub strings_lack : (e : E) → AreValues (strings_of strings) → AreTexts (strings_of strings) tokens [] → Where (⊥ ⊎ (cause e ≡ short_buf)) → ReadsBack {T = List (List ℕ)} next cause strings_of (strings_of strings) [] (Err e) new
-  strings_lack e valid texts whole =
-      ⊎_elim (λ is. absurd is) (λ lack. inr (inl lack)) (whole (texts_read strings tokens valid texts) (short_each strings valid))
+  -- a list may always lack memory
+  may_lack : (xs : List (List ℕ)) → 0 < length (strings_of xs) → SomeMayLack sure (strings_of xs)
+  may_lack [] some = absurd (omega (arith, some))
+  may_lack (x ∷ xs) some = inl tt
+
+  pub strings_lack : (e : E) → AreValues (strings_of strings) → 0 < length (strings_of strings) → AreTexts (strings_of strings) tokens [] → Where (⊥ ⊎ (cause e ≡ short_buf))
+      → ReadsBack {T = List (List ℕ)} next cause sure strings_of (strings_of strings) (past ++ strings_of strings) [] (Err e) new
+  strings_lack e valid some texts whole =
+      ⊎_elim (λ is. absurd is) (λ lack. inr (inl lack, may_after sure past (strings_of strings) (may_lack strings some))) (whole (texts_read strings tokens valid texts) (short_each strings valid))

@@ -6,8 +6,8 @@ use Rattle.dns_codec.specs.Base.{base16, base64, encoded}
 use Rattle.dns_charstr.specs.Printed.{quoted_text}
 use Rattle.dns_entry.specs.Field.{field_text, text_octets}
 use Rattle.dns_zone.specs.Layout.{Step, token, begin, end, comment}
-use Rattle.dns_wire_name.specs.ZoneText.{zone_text}
-use Rattle.dns_record.specs.Values.{Value, number8, number16, number32, name, hex, base64_octets, string}
+use Rattle.dns_wire.specs.ZoneText.{zone_text}
+use Rattle.dns_record.specs.Values.{Value, number8, number16, number32, name, hex, base64_octets, string, listed}
 
 -- a field, a character string that needs no double quotes, a note on what stands before it, or a parenthesis of a block
 pub data Piece : Type 0 where
@@ -26,6 +26,7 @@ value_token (name labels) = zone_text labels
 value_token (hex octets) = encoded base16 octets
 value_token (base64_octets octets) = encoded base64 octets
 value_token (string octets) = encode_utf8_all (quoted_text octets)
+value_token (listed octets) = encode_utf8_all (quoted_text octets)
 
 abbrev pub step_of : Piece → Step
 step_of (field v) = token (value_token v)

@@ -5,11 +5,11 @@ use Rattle.dns_charstr.specs.Printed.{quoted_text}
 use Rattle.dns_zone.specs.Layout.{Step, token}
 use Rattle.dns_zone.specs.Nesting.{IsNested}
 use Rattle.dns_record.specs.Pieces.{Piece, field, IsLaidOut, steps_of, values_of}
-use Rattle.dns_record.specs.Values.{Value, string}
+use Rattle.dns_record.specs.Values.{Value, listed}
 
 -- each between double quotes
 abbrev pub string_pieces : List (List ℕ) → List Piece
-string_pieces = map (λ s. field (string s))
+string_pieces = map (λ s. field (listed s))
 
 abbrev pub strings_of : List (List ℕ) → List Value
 strings_of xs = values_of (string_pieces xs)

@@ -1,14 +1,14 @@
 -- The values of a record's fields, and the texts that are scanned as them.
-use Rattle.std.specs.Prelude.{ℕ, ◌≡◌, ◌<◌, ◌≤◌, ◌^◌, List, [], ◌∷◌, length, All}
+use Rattle.std.specs.Prelude.{ℕ, ◌≡◌, ◌⊎◌, ◌<◌, ◌≤◌, ◌^◌, List, [], ◌∷◌, length, All}
 use Rattle.std.specs.Fmt.{decimal}
 use Rattle.std.specs.List.{AllByRecursion}
 use Rattle.dns_codec.specs.Base.{base16, base64, encoded}
-use Rattle.dns_wire_name.specs.Wire.{wire, IsName, EndsInRoot}
+use Rattle.dns_wire.specs.Wire.{wire, wire_length, IsName, EndsInRoot}
 use Rattle.dns_scan.specs.Octets.{IsPrinted}
 use Rattle.dns_scan.specs.Tokens.{Token}
-use Rattle.dns_wire_name.specs.ZoneText.{zone_text}
+use Rattle.dns_wire.specs.ZoneText.{zone_text}
 
--- a number of 8, 16 or 32 bits, the labels of a name, octets in an encoding, or the octets of a character string
+-- a number of 8, 16 or 32 bits, the labels of a name, octets in an encoding, or the octets of a character string, by itself or in a list
 pub data Value : Type 0 where
   number8 : ℕ → Value
   number16 : ℕ → Value
@@ -17,6 +17,7 @@ pub data Value : Type 0 where
   hex : List ℕ → Value
   base64_octets : List ℕ → Value
   string : List ℕ → Value
+  listed : List ℕ → Value
 
 -- what such a field can hold: an encoding of no octets would have no text
 abbrev pub IsValue : Value → Type 0
@@ -27,6 +28,7 @@ IsValue (name labels) = IsName labels × EndsInRoot labels × All (λ o. o < 256
 IsValue (hex octets) = All (λ o. o < 256) octets × (0 < length octets)
 IsValue (base64_octets octets) = All (λ o. o < 256) octets × (0 < length octets)
 IsValue (string octets) = All (λ o. o < 256) octets × (length octets ≤ 255)
+IsValue (listed octets) = All (λ o. o < 256) octets × (length octets ≤ 255)
 
 abbrev pub AreValues : List Value → Type 0
 AreValues = AllByRecursion IsValue
@@ -44,9 +46,26 @@ IsText (name labels) text = text ≡ zone_text labels
 IsText (hex octets) text = text ≡ encoded base16 octets
 IsText (base64_octets octets) text = text ≡ encoded base64 octets
 IsText (string octets) text = IsPrinted text octets
+IsText (listed octets) text = IsPrinted text octets
 
 -- texts of the values, and then others
 abbrev pub AreTexts : List Value → List Token → List Token → Type 0
 AreTexts [] texts others = texts ≡ others
 AreTexts (v ∷ vs) [] others = ⊥
 AreTexts (v ∷ vs) (t ∷ ts) others = IsText v t × AreTexts vs ts others
+
+-- such a field may lack room, where `sure` octets surely fit, or memory: it has more octets, or it stands in a list
+abbrev pub MayLack : (sure : ℕ) → Value → Type 0
+MayLack sure (number8 n) = ⊥
+MayLack sure (number16 n) = ⊥
+MayLack sure (number32 n) = ⊥
+MayLack sure (name labels) = sure < wire_length labels
+MayLack sure (hex octets) = sure < length octets
+MayLack sure (base64_octets octets) = sure < length octets
+MayLack sure (string octets) = sure < length octets
+MayLack sure (listed octets) = Unit {0}
+
+-- some field may
+abbrev pub SomeMayLack : (sure : ℕ) → List Value → Type 0
+SomeMayLack sure [] = ⊥
+SomeMayLack sure (v ∷ vs) = MayLack sure v ⊎ SomeMayLack sure vs

@@ -1,7 +1,7 @@
 //! The fields of records: each is scanned back from the text that it prints.
 ghost use Rattle.std.specs.Prelude.{◌≡◌, List, [], ◌∷◌, ◌++◌, OnOk, Result, min, encode_utf8_all};
 ghost use Rattle.dns_charstr.specs.Printed.{quoted_text};
-ghost use Rattle.dns_scan.specs.Cause.{Cause};
+ghost use Rattle.dns_symbol.specs.Cause.{Cause};
 ghost use Rattle.dns_scan.specs.Stands.{StandsBefore};
 ghost use Rattle.dns_scan.specs.Tokens.{Token};
 ghost use Rattle.dns_zone.specs.Layout.{token};
@@ -12,9 +12,9 @@ ghost use Rattle.dns_record.specs.Values.{Value, number8, number16, number32, na
 
 use dns_charstr::charstr::CharStr;
 use dns_iter::IterScanner;
+use dns_octets::{AsOctets, AsOctetsMut, EmptyBuilder, FreezeBuilder, FromBuilder, Truncate, Ttl};
 use dns_scan::{Scan, Scanner, ScannerError};
-use dns_wire::{AsOctets, AsOctetsMut, EmptyBuilder, FreezeBuilder, FromBuilder, Truncate, Ttl};
-use dns_wire_name::Name;
+use dns_wire::Name;
 use dns_zone::zonefile_fmt::{self, FormatWriter, Formatter};
 
 /// A value that is one field of a record, or several in a row.
@@ -87,33 +87,33 @@ impl<A: FieldValue, B: FieldValue> FieldValue for (A, B) {
 
 /// A value that is scanned from the texts that it prints.
 pub trait Field<S: Scanner>: FieldValue + Scan<S> {
-    // Whatever is read of the texts of its fields is the value, or there is no room.
+    // Whatever is read of the texts of its fields is the value, or there is no room for a field.
     ghost back: { (x : Self) (tokens others rest : List Token) (r : Result Self Cause) → AreValues (Self.values x) → AreTexts (Self.values x) tokens others
-        → Self.scan_reads tokens r rest → FieldBack Self.values (Self.values x) others r rest };
+        → Self.scan_reads tokens r rest → FieldBack S.OctetsBuilder.sure Self.values (Self.values x) others r rest };
 }
 
 impl<S: Scanner> Field<S> for u8 {
-    ghost back = { number8_back };
+    ghost back = { number8_back S.OctetsBuilder.sure };
 }
 
 impl<S: Scanner> Field<S> for u16 {
-    ghost back = { number16_back };
+    ghost back = { number16_back S.OctetsBuilder.sure };
 }
 
 impl<S: Scanner> Field<S> for u32 {
-    ghost back = { number32_back };
+    ghost back = { number32_back S.OctetsBuilder.sure };
 }
 
 impl<S: Scanner> Field<S> for Ttl {
-    ghost back = { number32_back };
+    ghost back = { number32_back S.OctetsBuilder.sure };
 }
 
 impl<S: Scanner> Field<S> for CharStr<S::Octets> {
-    ghost back = { string_back (min S.OctetsBuilder.sure 255) (min S.OctetsBuilder.most 255) };
+    ghost back = { string_back S.OctetsBuilder.sure (min S.OctetsBuilder.most 255) };
 }
 
 impl<S: Scanner, A: Field<S> + Drop, B: Field<S>> Field<S> for (A, B) {
-    ghost back = { both_back A.values B.values A.scan_reads B.scan_reads A.back B.back };
+    ghost back = { both_back S.OctetsBuilder.sure A.values B.values A.scan_reads B.scan_reads A.back B.back };
 }
 
 impl<'a, Iter: Iterator<Item = &'a str>, Octets: FromBuilder + Drop, E: ScannerError> Field<
@@ -126,14 +126,15 @@ where
 }
 
 /// Takes the texts of fields: they are scanned back to the same values, and the tokens after them
-/// are left. Where other fields follow, their texts are.
+/// are left. Where other fields follow, their texts are. Room or memory lacks only where a field of
+/// the record has more octets than surely fit.
 pub fn scan_fields<S: Scanner, T: Field<S>>(scanner: &mut S) -> Result<T, S::Error>
     requires { S.can_scan scanner.old }
     ensures ready { S.can_scan scanner.new }
-    ensures back { (x : T) (tokens others : List Token) → AreValues (T.values x) → AreTexts (T.values x) tokens others → StandsBefore S.next_token scanner.old tokens
-        → ReadsBack S.next_token S.Error.cause T.values (T.values x) others result scanner.new }
-    ensures before { (x : T) (more : List Value) (tokens others : List Token) → AreValues (T.values x ++ more) → AreTexts (T.values x ++ more) tokens others → StandsBefore S.next_token scanner.old tokens
-        → (middle : List Token) × AreValues more × AreTexts more middle others × ReadsBack S.next_token S.Error.cause T.values (T.values x) middle result scanner.new }
+    ensures back { (x : T) (past : List Value) (tokens others : List Token) → AreValues (T.values x) → AreTexts (T.values x) tokens others → StandsBefore S.next_token scanner.old tokens
+        → ReadsBack S.next_token S.Error.cause S.OctetsBuilder.sure T.values (T.values x) (past ++ T.values x) others result scanner.new }
+    ensures before { (x : T) (past more : List Value) (tokens others : List Token) → AreValues (T.values x ++ more) → AreTexts (T.values x ++ more) tokens others → StandsBefore S.next_token scanner.old tokens
+        → (middle : List Token) × AreValues more × AreTexts more middle others × ReadsBack S.next_token S.Error.cause S.OctetsBuilder.sure T.values (T.values x) (past ++ (T.values x ++ more)) middle result scanner.new }
 {
     T::scan(scanner)
 }

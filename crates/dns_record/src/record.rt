@@ -1,16 +1,16 @@
 //! Record data: values that print as the tokens of one entry, and are scanned back from them.
-ghost use Rattle.std.specs.Prelude.{◌≡◌, ◌⊎◌, List, [], IsOk, IsOkAnd};
+ghost use Rattle.std.specs.Prelude.{◌≡◌, ◌⊎◌, List, [], IfSome, IsOk, IsOkAnd};
 ghost use Rattle.dns_split.specs.Answer.{texts};
 ghost use Rattle.dns_scan.specs.Stands.{StandsBefore};
 ghost use Rattle.dns_scan.specs.Tokens.{Token};
 ghost use Rattle.dns_record.specs.Pieces.{Piece, IsLaidOut, steps_of, values_of};
 ghost use Rattle.dns_record.specs.ReadsBack.{Lacks, ReadsBack};
-ghost use Rattle.dns_record.specs.Values.{AreFields, AreTexts};
+ghost use Rattle.dns_record.specs.Values.{AreFields, AreTexts, SomeMayLack};
 
 use dns_iter::entry::{EntryScanner, TokenText, entry_scanner};
+use dns_octets::{AsOctetsMut, EmptyBuilder, FreezeBuilder, FromBuilder, Truncate};
 use dns_scan::{Scanner, ScannerError};
 use dns_split::splitting::split;
-use dns_wire::{AsOctetsMut, EmptyBuilder, FreezeBuilder, FromBuilder, Truncate};
 use dns_zone::zonefile_fmt::{DisplayKind, ZonefileFmt};
 use dns_zone_laws::laws::values_split;
 use std::alloc::Allocator;
@@ -40,7 +40,7 @@ where
         ensures ready { ⟦<EntryScanner<'a, T, Octets, E> as Scanner>⟧.can_scan scanner.new }
         ensures back { (x : Self) (tokens : List Token) → AreFields (values_of (pieces x)) → AreTexts (values_of (pieces x)) tokens []
             → StandsBefore (⟦<EntryScanner<'a, T, Octets, E> as Scanner>⟧.next_token) scanner.old tokens
-            → ReadsBack (⟦<EntryScanner<'a, T, Octets, E> as Scanner>⟧.next_token) E.cause (λ y. values_of (pieces y)) (values_of (pieces x)) [] result scanner.new };
+            → ReadsBack (⟦<EntryScanner<'a, T, Octets, E> as Scanner>⟧.next_token) E.cause Octets.Builder.sure (λ y. values_of (pieces y)) (values_of (pieces x)) (values_of (pieces x)) [] result scanner.new };
 
     // The document is that of the pieces.
     ghost shown: { (x : Self) → Self.document x ≡ steps_of (pieces x) };
@@ -65,7 +65,7 @@ where
     ensures ready { ⟦<EntryScanner<'a, T, Octets, E> as Scanner>⟧.can_scan scanner.new }
     ensures back { (x : R) (tokens : List Token) → AreFields (values_of (R.pieces x)) → AreTexts (values_of (R.pieces x)) tokens []
         → StandsBefore (⟦<EntryScanner<'a, T, Octets, E> as Scanner>⟧.next_token) scanner.old tokens
-        → IsOkAnd result (λ y. values_of (R.pieces y) ≡ values_of (R.pieces x)) ⊎ Lacks E.cause result }
+        → IsOkAnd result (λ y. values_of (R.pieces y) ≡ values_of (R.pieces x)) ⊎ (Lacks E.cause result × SomeMayLack Octets.Builder.sure (values_of (R.pieces x))) }
     ensures all { (tokens : List Token) → StandsBefore (⟦<EntryScanner<'a, T, Octets, E> as Scanner>⟧.next_token) scanner.new tokens → IsOk result → tokens ≡ [] }
 {
     match R::scan_data(alloc, scanner) {
@@ -92,20 +92,46 @@ where
     R: RecordData<Octets, A> + Drop,
     ensures { IsOkAnd result (λ y. values_of (R.pieces y) ≡ values_of (R.pieces value.now)) ⊎ Lacks E.cause result }
 {
+    match record_reads_back_in_room(alloc, octets_alloc, value, kind) {
+        Some(read) => read,
+        None => Err(E::short_buf()),
+    }
+}
+
+/// The same, or none where the text or the list of its tokens finds no memory. So room or memory
+/// lacks only where a field has more octets than surely fit, or stands in a list: a record of
+/// numbers, names and character strings over 255 octets of capacity is always read.
+pub fn record_reads_back_in_room<
+    R,
+    Octets: FromBuilder + Drop,
+    A: Allocator + Copy,
+    E: ScannerError,
+>(
+    alloc: A,
+    octets_alloc: <Octets::Builder as EmptyBuilder>::Alloc,
+    value: &R,
+    kind: DisplayKind,
+) -> Option<Result<R, E>>
+where
+    Octets::Builder: EmptyBuilder + AsOctetsMut + Truncate + FreezeBuilder<Octets = Octets> + Drop,
+    R: RecordData<Octets, A> + Drop,
+    ensures { IfSome result (λ r. IsOkAnd r (λ y. values_of (R.pieces y) ≡ values_of (R.pieces value.now))
+        ⊎ (Lacks E.cause r × SomeMayLack Octets.Builder.sure (values_of (R.pieces value.now)))) }
+{
     value.known();
     let Ok(text) = values_split(alloc, value, kind) else {
-        return Err(E::short_buf());
+        return None;
     };
     let Ok(entries) = split(alloc, text.as_str()) else {
-        return Err(E::short_buf());
+        return None;
     };
     let Some((tokens, _)) = entries.split_first() else {
-        return Err(E::short_buf());
+        return None;
     };
     let mut scanner: EntryScanner<'_, String<A>, Octets, E> = entry_scanner(
         octets_alloc,
         tokens,
         false,
     );
-    scan_record(alloc, &mut scanner)
+    Some(scan_record(alloc, &mut scanner))
 }

@@ -1,5 +1,5 @@
 //! Fields that are all that is left of an entry.
-ghost use Rattle.std.specs.Prelude.{◌≡◌, ◌↔◌, ◌<◌, List, ℕ, [], ◌∷◌, length, map, All, IfOk, IfErr, IsOk, IsOkAnd, OnOk};
+ghost use Rattle.std.specs.Prelude.{◌≡◌, ◌↔◌, ◌<◌, List, ℕ, [], ◌∷◌, ◌++◌, length, map, All, IfOk, IfErr, IsOk, IsOkAnd, OnOk};
 ghost use Rattle.dns_scan.specs.Stands.{StandsBefore};
 ghost use Rattle.dns_scan.specs.Tokens.{Token};
 ghost use Rattle.dns_zone.specs.Writers.{Runs};
@@ -10,8 +10,8 @@ ghost use Rattle.dns_record.specs.Values.{Value, hex, base64_octets, AreFields, 
 use crate::fields::write_quoted;
 use dns_charstr::charstr::CharStr;
 use dns_laws::entries::{base64_entry_is_scanned_back, hex_entry_is_scanned_back};
+use dns_octets::AsOctets;
 use dns_scan::{Scanner, ScannerError};
-use dns_wire::AsOctets;
 use dns_zone::zonefile_fmt::{self, FormatWriter, ZonefileFmt};
 use std::alloc::Allocator;
 use std::marker::Model;
@@ -63,8 +63,8 @@ where
     S::Octets: Drop,
     requires { S.can_scan scanner.old }
     ensures ready { S.can_scan scanner.new }
-    ensures back { (octets : List ℕ) (tokens : List Token) → AreValues (hex octets ∷ []) → AreTexts (hex octets ∷ []) tokens [] → StandsBefore S.next_token scanner.old tokens
-        → ReadsBack S.next_token S.Error.cause (λ o. hex o ∷ []) (hex octets ∷ []) [] result scanner.new }
+    ensures back { (octets : List ℕ) (past : List Value) (tokens : List Token) → AreValues (hex octets ∷ []) → AreTexts (hex octets ∷ []) tokens [] → StandsBefore S.next_token scanner.old tokens
+        → ReadsBack S.next_token S.Error.cause S.OctetsBuilder.sure (λ o. hex o ∷ []) (hex octets ∷ []) (past ++ hex octets ∷ []) [] result scanner.new }
 {
     match hex_entry_is_scanned_back(scanner) {
         Ok(octets) => some_octets(octets),
@@ -80,8 +80,8 @@ where
     S::Octets: Drop,
     requires { S.can_scan scanner.old }
     ensures ready { S.can_scan scanner.new }
-    ensures back { (octets : List ℕ) (tokens : List Token) → AreValues (base64_octets octets ∷ []) → AreTexts (base64_octets octets ∷ []) tokens [] → StandsBefore S.next_token scanner.old tokens
-        → ReadsBack S.next_token S.Error.cause (λ o. base64_octets o ∷ []) (base64_octets octets ∷ []) [] result scanner.new }
+    ensures back { (octets : List ℕ) (past : List Value) (tokens : List Token) → AreValues (base64_octets octets ∷ []) → AreTexts (base64_octets octets ∷ []) tokens [] → StandsBefore S.next_token scanner.old tokens
+        → ReadsBack S.next_token S.Error.cause S.OctetsBuilder.sure (λ o. base64_octets o ∷ []) (base64_octets octets ∷ []) (past ++ base64_octets octets ∷ []) [] result scanner.new }
 {
     match base64_entry_is_scanned_back(scanner) {
         Ok(octets) => some_octets(octets),
@@ -193,8 +193,8 @@ where
     S::Octets: Drop,
     requires { S.can_scan scanner.old }
     ensures ready { S.can_scan scanner.new }
-    ensures back { (strings : List (List ℕ)) (tokens : List Token) → AreFields (strings_of strings) → AreTexts (strings_of strings) tokens [] → StandsBefore S.next_token scanner.old tokens
-        → ReadsBack S.next_token S.Error.cause strings_of (strings_of strings) [] result scanner.new }
+    ensures back { (strings : List (List ℕ)) (past : List Value) (tokens : List Token) → AreFields (strings_of strings) → AreTexts (strings_of strings) tokens [] → StandsBefore S.next_token scanner.old tokens
+        → ReadsBack S.next_token S.Error.cause S.OctetsBuilder.sure strings_of (strings_of strings) (past ++ strings_of strings) [] result scanner.new }
 {
     match dns_scan::strings_rest(alloc, scanner) {
         Ok(strings) => some_strings(strings),

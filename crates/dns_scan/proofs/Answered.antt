@@ -6,7 +6,7 @@ use Rattle.dns_symbol.specs.declared.symbol.Symbol.{Symbol}
 use Rattle.dns_symbol.specs.declared.symbol.SymbolCharsError.{SymbolCharsError}
 use Rattle.dns_symbol.specs.Text.{SymbolsOf}
 use Rattle.dns_symbol.proofs.Unique.{symbols_same}
-use Rattle.dns_scan.specs.Cause.{Cause, custom_text, short_buf}
+use Rattle.dns_symbol.specs.Cause.{Cause, custom_text, short_buf}
 use Rattle.dns_scan.specs.Tokens.{Token}
 use Rattle.dns_scan.specs.Asks.{Builds, CallsEach, Ends}
 use Rattle.dns_scan.specs.Steps.{GivesStep, Appends}
@@ -58,7 +58,8 @@ module _ {E : Type 0} (cause : E → Cause) (given : Symbol → Result (List ℕ
       (λ k. stopped u k.0 k.1)
       h
     where
-      more : (u : Result (Unit {0}) E) (m : List ℕ) (one : (o : List ℕ) × (given x ≡ Ok o) × (m ≡ b ++ o) × (length m ≤ most)) → MatchResult u (λ _. Went xs error m c) (λ e. Stopped xs error m (cause e))
+      more : (u : Result (Unit {0}) E) (m : List ℕ) (one : (o : List ℕ) × (given x ≡ Ok o) × (m ≡ b ++ o) × (length m ≤ most))
+          → MatchResult u (λ _. Went xs error m c) (λ e. Stopped xs error m (cause e))
           → MatchResult u (λ _. Went (x ∷ xs) error b c) (λ e. Stopped (x ∷ xs) error b (cause e))
       more (Ok v) m one rest = record {
         parts = one.0 ∷ rest.parts;
@@ -68,7 +69,8 @@ module _ {E : Type 0} (cause : E → Cause) (given : Symbol → Result (List ℕ
         fits = rest.fits;
       }
       more (Err e) m one rest =
-          let count : length m + length (concat rest.parts) ≡ length b + length (concat (one.0 ∷ rest.parts)) = omega (arith, ap length one.2, length-append b one.0, length-append one.0 (concat rest.parts)) in
+          let count : length m + length (concat rest.parts) ≡ length b + length (concat (one.0 ∷ rest.parts)) = omega
+          (arith, ap length one.2, length-append b one.0, length-append one.0 (concat rest.parts)) in
           record {
             front = x ∷ rest.front;
             rest = rest.rest;
@@ -100,7 +102,16 @@ module _ {E : Type 0} (cause : E → Cause) (given : Symbol → Result (List ℕ
       by (Err f) (Ok x) g k = cc
       by (Err f) (Err e) g k =
           let same : f ≡ e = cc in
-          record { front = k.front; rest = k.rest; parts = k.parts; whole = k.whole; gives = k.gives; fits = omega (arith, k.fits); fault = subst (λ n. IsFault given sure most n k.rest error (cause e)) (zero-add (length (concat k.parts))) (subst (λ e. IsFault given sure most (0 + length (concat k.parts)) k.rest error (cause e)) same k.fault) }
+          record {
+            front = k.front;
+            rest = k.rest;
+            parts = k.parts;
+            whole = k.whole;
+            gives = k.gives;
+            fits = omega (arith, k.fits);
+            fault = subst (λ n. IsFault given sure most n k.rest error (cause e)) (zero-add (length (concat k.parts)))
+                (subst (λ e. IsFault given sure most (0 + length (concat k.parts)) k.rest error (cause e)) same k.fault);
+          }
 
   -- the same, with the symbols that were read
   pub builds_read : {O : Type 0} (octets : O → List ℕ) (t : Token) (r : Result O E) → Builds cause (GivesStep cause sure most given) octets t r

@@ -8,7 +8,7 @@ use Rattle.dns_symbol.specs.declared.symbol.EntrySymbol.TheVariants.{EndOfToken,
 use Rattle.dns_symbol.specs.Text.{SymbolsOf}
 use Rattle.dns_symbol.proofs.Unique.{symbols_same}
 use Rattle.dns_scan.specs.Asks.{AsksSymbols, CallsEach, Ends}
-use Rattle.dns_scan.specs.Cause.{Cause}
+use Rattle.dns_symbol.specs.Cause.{Cause}
 use Rattle.dns_scan.specs.Entries.{AsksToken, ScansEntry}
 use Rattle.dns_scan.specs.Join.{CallsTokens, handed_over}
 use Rattle.dns_scan.specs.Stands.{StandsBefore}

@@ -13,7 +13,7 @@ use Rattle.dns_symbol.specs.declared.symbol.SymbolCharsError.{SymbolCharsError}
 use Rattle.dns_symbol.proofs.Texts.{symbols_exist}
 use Rattle.dns_symbol.proofs.Unique.{symbols_same}
 use Rattle.dns_scan.specs.Asks.{AsksSymbols, CallsEach, Ends}
-use Rattle.dns_scan.specs.Cause.{Cause}
+use Rattle.dns_symbol.specs.Cause.{Cause}
 use Rattle.dns_scan.specs.Entries.{Converts, ConvertsEntry, ConvertInEntry}
 use Rattle.dns_scan.specs.Join.{CallsTokens, HasBadEscape, IsJoin, IsSymbols, LeavesOf}
 use Rattle.dns_scan.specs.Stands.{StandsBefore}
@@ -90,7 +90,7 @@ module _ {F E : Type 0} (cause : E → Cause) (step : F → Symbol → Result (U
       (λ k. inr k)
       a
 
-  -- where all went well, nothing stands behind the symbols
+  -- where all went well, nothing stands after the symbols
   calls_end : (xs : List Symbol) (e : Option SymbolCharsError) (f g : F) → CallsEach step xs (Ends cause e) f (Ok tt) g → e ≡ None
   calls_end [] None f g a = refl
   calls_end [] (Some x) f g a = absurd a.1

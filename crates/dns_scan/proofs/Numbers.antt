@@ -6,7 +6,7 @@ use Rattle.std.proofs.Math.Nat.{add-mul, mul_assoc}
 use Rattle.std.specs.Prelude.{IsErr, MatchOption, IfOk}
 use Rattle.dns_symbol.specs.declared.symbol.Symbol.{Symbol}
 use Rattle.dns_symbol.specs.declared.symbol.SymbolCharsError.{SymbolCharsError}
-use Rattle.dns_scan.specs.Cause.{Cause, end_of_entry, IsCause}
+use Rattle.dns_symbol.specs.Cause.{Cause, end_of_entry, IsCause}
 use Rattle.dns_scan.specs.Asks.{AsksSymbols, CallsEach, Ends, ScansSymbols}
 use Rattle.dns_scan.specs.Tokens.{Token, ScansToken}
 use Rattle.dns_scan.specs.Numbers.{digit_of, value_of, IsNumber, ReadsNumber, ScannedNumber, AddsDigit, by_cause}
@@ -94,7 +94,8 @@ module _ (limit : ℕ) where
     where
       positive : (k : ℕ) → 1 ≤ 10 ^ k
       positive zero = omega arith
-      positive (suc k) = let below = positive k in let power : 10 ^ (1 + k) ≡ 10 ^ 1 * 10 ^ k = pow-add 10 1 k in let same : 10 ^ suc k ≡ 10 ^ (1 + k) = ap (λ n. 10 ^ n) (omega arith) in omega (arith, below, power, same)
+      positive (suc k) = let below = positive k in let power : 10 ^ (1 + k) ≡ 10 ^ 1 * 10 ^ k = pow-add 10 1 k in let same : 10 ^ suc k ≡ 10 ^ (1 + k) = ap (λ n. 10 ^ n)
+          (omega arith) in omega (arith, below, power, same)
 
       at_least : (n k : ℕ) → n ≤ n * 10 ^ k
       at_least n k = times n (10 ^ k) (positive k)
@@ -178,7 +179,8 @@ module _ (limit : ℕ) where
           (kept.0, record { symbols = asks.symbols; error = asks.error; read = asks.read; reads = reads_on asks.symbols [] 0 (view h) u asks.error number_none from })
 
 -- keeps is what the calls keep of the state that they began with
-module _ {S E F : Type 0} {next : S → Option Token → S → Type 0} {cause : E → Cause} {step : F → Symbol → Result (Unit {0}) E → F → Type 0} {s t : S} {f h : F} (limit : ℕ) (view : F → ℕ) (keeps : F → F → Type 0) where
+module _ {S E F : Type 0} {next : S → Option Token → S → Type 0} {cause : E → Cause} {step : F → Symbol → Result (Unit {0}) E → F → Type 0} {s t : S} {f h : F} (limit : ℕ)
+    (view : F → ℕ) (keeps : F → F → Type 0) where
   pub number_after_ok : ScansSymbols next cause step s f (Ok tt) t h → keeps f f → view f ≡ 0
       → ((q : F) (x : Symbol) (r : Result (Unit {0}) E) (p : F) → keeps f q → step q x r p → keeps f p × AddsDigit cause limit (view q) x r (view p))
       → keeps f h × ScansToken next cause (ScannedNumber cause limit) s (Ok (view h)) t

@@ -5,7 +5,7 @@ use Rattle.dns_symbol.specs.declared.symbol.SymbolCharsError.{SymbolCharsError}
 use Rattle.dns_symbol.specs.Symbol.{chars_error_text}
 use Rattle.dns_symbol.specs.Text.{SymbolsOf}
 use Rattle.dns_symbol.proofs.Unique.{symbols_same}
-use Rattle.dns_scan.specs.Cause.{Cause, custom_text}
+use Rattle.dns_symbol.specs.Cause.{Cause, custom_text}
 use Rattle.dns_scan.specs.Numbers.{IsNumber, NoNumber, ReadsNumber, refusal_at, by_cause}
 use Rattle.dns_scan.specs.Reads.{NumberReads}
 use Rattle.dns_scan.specs.Tokens.{Token}

@@ -8,7 +8,7 @@ use Rattle.dns_symbol.specs.declared.symbol.SymbolCharsError.{SymbolCharsError}
 use Rattle.dns_symbol.specs.Symbol.{chars_error_text}
 use Rattle.dns_symbol.proofs.Unique.{symbols_same}
 use Rattle.dns_scan.specs.Answers.{IsFault, FirstFault, AllGiven, AnswersGiven}
-use Rattle.dns_scan.specs.Cause.{Cause, custom_text, short_buf}
+use Rattle.dns_symbol.specs.Cause.{Cause, custom_text, short_buf}
 use Rattle.dns_scan.specs.Reads.{OctetsRead}
 use Rattle.dns_scan.specs.Steps.{octet_given}
 use Rattle.dns_scan.specs.Tokens.{Token}
@@ -57,7 +57,8 @@ module _ (given : Symbol → Result (List ℕ) (List ℕ)) (room : ℕ) where
 
   none_refused : (symbols : List Symbol) (error : Option SymbolCharsError) (octets : List ℕ) → AllGiven given room room symbols error octets → fault_of 0 symbols error ≡ None
   none_refused symbols error octets h =
-      ap (λ l. fault_of 0 l error) (sym (append-nil symbols)) ∙ passed symbols [] error h.parts 0 h.gives (omega (arith, h.fits, ap length h.joined)) ∙ ap (λ e. fault_of (0 + length (concat h.parts)) [] e) h.ends
+      ap (λ l. fault_of 0 l error) (sym (append-nil symbols)) ∙ passed symbols [] error h.parts 0 h.gives (omega (arith, h.fits, ap length h.joined))
+      ∙ ap (λ e. fault_of (0 + length (concat h.parts)) [] e) h.ends
 
   pub same_parts : (symbols : List Symbol) (a b : List (List ℕ)) → map given symbols ≡ map Ok a → map given symbols ≡ map Ok b → a ≡ b
   same_parts [] [] [] h k = refl

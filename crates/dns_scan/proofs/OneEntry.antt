@@ -11,7 +11,7 @@ use Rattle.dns_symbol.proofs.Unique.{symbols_same}
 use Rattle.dns_charstr.specs.Reading.{HasOctets}
 use Rattle.dns_charstr.specs.Wire.{wire_of}
 use Rattle.dns_scan.specs.Answers.{FirstFault, IsFault}
-use Rattle.dns_scan.specs.Cause.{Cause, custom_text, short_buf}
+use Rattle.dns_symbol.specs.Cause.{Cause, custom_text, short_buf}
 use Rattle.dns_scan.specs.Octets.{GivesWhere, IsPrinted, quoted_token, unquoted_token}
 use Rattle.dns_scan.specs.Steps.{octet_given, bad_or}
 use Rattle.dns_scan.specs.Strings.{AnswersStrings, IsStringFault}
@@ -37,7 +37,7 @@ given_ones (x ∷ xs) (o ∷ os) e =
     λ i. bad_or (λ n. n ∷ []) (first i) ∷ given_ones xs os others i
 
 module _ (given : Symbol → Result (List ℕ) (List ℕ)) (sure most : ℕ) where
-  -- what the symbols behind others give
+  -- what the symbols after others give
   passed : (front rest : List Symbol) (before parts : List (List ℕ)) → map given front ≡ map Ok before → map given (front ++ rest) ≡ map Ok parts
       → (after : List (List ℕ)) × (map given rest ≡ map Ok after) × (length (concat parts) ≡ length (concat before) + length (concat after))
   passed [] rest [] parts e f = (parts, f, omega arith)
@@ -124,7 +124,7 @@ module _ (sure most : ℕ) where
       let is : h.0 ≡ o = given.joined ∙ ap concat parts ∙ concat_ones o in
       (h.2, omega (arith, h.3, ap length is))
 
-  -- the strings before a token, its own, and those behind it
+  -- the strings before a token, its own, and those after it
   pub cut_at : (front : List Token) (t : Token) (rest : List Token) (strings : List (List ℕ)) → AllZip HasOctets (front ++ t ∷ rest) strings → All Short strings
       → (before : List (List ℕ)) × (s : List ℕ) × AllZip HasOctets front before × HasOctets t s × Short s × (length (wires before) + length (wire_of s) ≤ length (wires strings))
   cut_at [] t rest [] z short = absurd z

@@ -3,7 +3,7 @@ use Rattle.std.proofs.Common.{ℕ, ◌≡◌, List, [], ◌∷◌, sym, ap, subs
 use Rattle.std.specs.Prelude.{MatchOption}
 use Rattle.dns_scan.specs.declared.kind.Kind.{Kind}
 use Rattle.dns_scan.specs.declared.kind.Kind.TheVariants.{U8, U16, U32, U64, U128, Ttl, Other}
-use Rattle.dns_scan.specs.Cause.{Cause, end_of_entry}
+use Rattle.dns_symbol.specs.Cause.{Cause, end_of_entry}
 use Rattle.dns_scan.specs.Kinds.{KindReads, ReadsAs}
 use Rattle.dns_scan.specs.Numbers.{greatest}
 use Rattle.dns_scan.specs.Reads.{NumberReads, OctetsRead, ReadInOneWay, ReadsBoth, ReadsEach, ReadsFirst, ReadsInOneWay, ReadsInTurn}
@@ -73,9 +73,9 @@ both_once {A} {B} first second once later tokens q r rest others h k = by q r h 
     stop : (a : A) (why : Cause) (middle end : List Token) → first tokens (Ok a) middle → first tokens (Err why) end → ⊥
     stop a why middle end x y = let same = (once tokens (Ok a) (Err why) middle end x y).0 in cc same
 
-    behind : (a b : A) (middle between : List Token) (x y : Result B Cause) → first tokens (Ok a) middle → first tokens (Ok b) between → second middle x rest → second between y others
+    after : (a b : A) (middle between : List Token) (x y : Result B Cause) → first tokens (Ok a) middle → first tokens (Ok b) between → second middle x rest → second between y others
         → (a ≡ b) × (x ≡ y) × (rest ≡ others)
-    behind a b middle between x y p q s t =
+    after a b middle between x y p q s t =
         let same = once tokens (Ok a) (Ok b) middle between p q in
         let value : a ≡ b = let is = same.0 in cc is in
         let more = later between x y rest others (subst (λ l. second l x rest) same.1 s) t in
@@ -83,13 +83,13 @@ both_once {A} {B} first second once later tokens q r rest others h k = by q r h 
 
     by : (q r : Result (A × B) Cause) → ReadsBoth first second tokens q rest → ReadsBoth first second tokens r others → (q ≡ r) × (rest ≡ others)
     by (Ok p) (Ok s) h k =
-        let more = behind p.0 s.0 h.0 k.0 (Ok p.1) (Ok s.1) h.1 k.1 h.2 k.2 in
+        let more = after p.0 s.0 h.0 k.0 (Ok p.1) (Ok s.1) h.1 k.1 h.2 k.2 in
         let value : p.1 ≡ s.1 = let is = more.1 in cc is in
         ((λ i. Ok (more.0 i, value i)), more.2)
     by (Ok p) (Err why) h (inl k) = absurd (stop p.0 why h.0 others h.1 k)
-    by (Ok p) (Err why) h (inr k) = let more = (behind p.0 k.0 h.0 k.1 (Ok p.1) (Err why) h.1 k.2 h.2 k.3).1 in cc more
+    by (Ok p) (Err why) h (inr k) = let more = (after p.0 k.0 h.0 k.1 (Ok p.1) (Err why) h.1 k.2 h.2 k.3).1 in cc more
     by (Err why) (Ok s) (inl h) k = absurd (stop s.0 why k.0 rest k.1 h)
-    by (Err why) (Ok s) (inr h) k = let more = (behind h.0 s.0 h.1 k.0 (Err why) (Ok s.1) h.2 k.1 h.3 k.2).1 in cc more
+    by (Err why) (Ok s) (inr h) k = let more = (after h.0 s.0 h.1 k.0 (Err why) (Ok s.1) h.2 k.1 h.3 k.2).1 in cc more
     by (Err a) (Err b) (inl h) (inl k) =
         let same = once tokens (Err a) (Err b) rest others h k in
         let why : a ≡ b = let is = same.0 in cc is in
@@ -97,6 +97,6 @@ both_once {A} {B} first second once later tokens q r rest others h k = by q r h 
     by (Err a) (Err b) (inl h) (inr k) = absurd (stop k.0 a k.1 rest k.2 h)
     by (Err a) (Err b) (inr h) (inl k) = absurd (stop h.0 b h.1 others h.2 k)
     by (Err a) (Err b) (inr h) (inr k) =
-        let more = behind h.0 k.0 h.1 k.1 (Err a) (Err b) h.2 k.2 h.3 k.3 in
+        let more = after h.0 k.0 h.1 k.1 (Err a) (Err b) h.2 k.2 h.3 k.3 in
         let why : a ≡ b = let is = more.1 in cc is in
         (ap (λ x. Err x) why, more.2)

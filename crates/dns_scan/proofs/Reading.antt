@@ -5,7 +5,7 @@ use Rattle.dns_symbol.specs.declared.symbol.Symbol.{Symbol}
 use Rattle.dns_symbol.specs.declared.symbol.SymbolCharsError.{SymbolCharsError}
 use Rattle.dns_scan.specs.Answers.{AnswersGiven}
 use Rattle.dns_scan.specs.Asks.{Builds}
-use Rattle.dns_scan.specs.Cause.{Cause, end_of_entry, IsCause}
+use Rattle.dns_symbol.specs.Cause.{Cause, end_of_entry, IsCause}
 use Rattle.dns_scan.specs.Numbers.{ScannedNumber, by_cause}
 use Rattle.dns_scan.specs.Reads.{ReadsEach, ReadsInTurn, ReadsFirst, NumberReads, OctetsRead}
 use Rattle.dns_scan.specs.Stands.{StandsBefore, stands_takes, others_of}

@@ -7,7 +7,7 @@ use Rattle.dns_symbol.specs.Text.{SymbolsOf}
 use Rattle.dns_charstr.specs.Reading.{HasOctets}
 use Rattle.dns_charstr.specs.Wire.{wire_of}
 use Rattle.dns_scan.specs.Asks.{Builds}
-use Rattle.dns_scan.specs.Cause.{Cause, short_buf, IsCause}
+use Rattle.dns_symbol.specs.Cause.{Cause, short_buf, IsCause}
 use Rattle.dns_scan.specs.Entries.{BuildsEntry, StringStep}
 use Rattle.dns_scan.specs.Join.{CallsTokens, LeavesOf}
 use Rattle.dns_scan.specs.Reads.{OctetsRead}

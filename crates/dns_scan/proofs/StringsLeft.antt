@@ -8,7 +8,7 @@ use Rattle.dns_symbol.specs.declared.symbol.BadSymbol.{BadSymbol}
 use Rattle.dns_symbol.specs.Symbol.{octet_of}
 use Rattle.dns_symbol.specs.Text.{SymbolsOf}
 use Rattle.dns_charstr.specs.Reading.{HasOctets}
-use Rattle.dns_scan.specs.Cause.{Cause, short_buf, IsCause}
+use Rattle.dns_symbol.specs.Cause.{Cause, short_buf, IsCause}
 use Rattle.dns_scan.specs.Join.{LeavesOf}
 use Rattle.dns_scan.specs.Reads.{OctetsRead, ReadsFirst, ReadsSome, ReadsRest}
 use Rattle.dns_scan.specs.Stands.{StandsBefore}

@@ -1,7 +1,7 @@
 -- Readings in turn, where tokens are left.
 use Rattle.std.proofs.Common.{◌≡◌, List, [], ◌∷◌, ◌++◌, true, false, refl, ap, subst, ◌∙◌, Option, Result, Ok}
 use Rattle.std.specs.Prelude.{◌≢◌, is_some, MatchOption}
-use Rattle.dns_scan.specs.Cause.{Cause}
+use Rattle.dns_symbol.specs.Cause.{Cause}
 use Rattle.dns_scan.specs.Reads.{ReadsSome}
 use Rattle.dns_scan.specs.Stands.{StandsBefore, stands_takes, stands_same, first_of}
 use Rattle.dns_scan.specs.Tokens.{Token, Peeks}

@@ -9,7 +9,7 @@ use Rattle.dns_symbol.specs.Text.{SymbolsOf}
 use Rattle.dns_symbol.specs.Printed.{symbol_of, text_of}
 use Rattle.dns_symbol.proofs.Unique.{symbols_same}
 use Rattle.dns_symbol.proofs.PrintedForms.{IsForm, printed_symbols, printed_octets}
-use Rattle.dns_scan.specs.Cause.{Cause, short_buf, end_of_entry, IsCause}
+use Rattle.dns_symbol.specs.Cause.{Cause, short_buf, end_of_entry, IsCause}
 use Rattle.dns_scan.specs.Tokens.{Token, ScansToken}
 use Rattle.dns_scan.specs.Asks.{Builds, CallsEach, Ends}
 use Rattle.dns_scan.specs.Steps.{GivesStep, Appends, octet_given, bad_or}
@@ -120,7 +120,8 @@ module _ {S O E : Type 0} (next : S → Option Token → S → Type 0) (cause : 
   pub scans_whole : (t : Token) (ts : List Token) (os : List ℕ) → StandsBefore next old (t ∷ ts) → HasOctets t os → GivesWhere cause octets sure os r
   scans_whole t ts os stands has = builds_whole cause sure most octets t r (of_first next cause _ old r new t ts stands scans).0 has.symbols os has.read has.octets_are
 
-  pub scans_printed : (f : ℕ → Bool) → IsForm f → (os : List ℕ) (ts : List Token) → All (λ o. o < 256) os → StandsBefore next old (encode_utf8_all (text_of f os) ∷ ts) → GivesWhere cause octets sure os r
+  pub scans_printed : (f : ℕ → Bool) → IsForm f → (os : List ℕ) (ts : List Token) → All (λ o. o < 256) os → StandsBefore next old (encode_utf8_all (text_of f os) ∷ ts)
+      → GivesWhere cause octets sure os r
   scans_printed f form os ts bytes stands =
       scans_whole (encode_utf8_all (text_of f os)) ts os stands (record { symbols = map (symbol_of f) os; read = printed_symbols f form os bytes; octets_are = printed_octets f os })
 

@@ -4,7 +4,7 @@ use Rattle.std.specs.List.{concat}
 use Rattle.dns_symbol.specs.declared.symbol.Symbol.{Symbol}
 use Rattle.dns_symbol.specs.declared.symbol.SymbolCharsError.{SymbolCharsError}
 use Rattle.dns_symbol.specs.Symbol.{chars_error_text}
-use Rattle.dns_scan.specs.Cause.{Cause, custom_text, short_buf}
+use Rattle.dns_symbol.specs.Cause.{Cause, custom_text, short_buf}
 
 -- what each symbol gives, where `sure` octets surely fit and `most` at most
 module _ (given : Symbol → Result (List ℕ) (List ℕ)) (sure most : ℕ) where

@@ -4,7 +4,7 @@ use Rattle.dns_symbol.specs.declared.symbol.Symbol.{Symbol}
 use Rattle.dns_symbol.specs.declared.symbol.SymbolCharsError.{SymbolCharsError}
 use Rattle.dns_symbol.specs.Symbol.{chars_error_text}
 use Rattle.dns_symbol.specs.Text.{SymbolsOf}
-use Rattle.dns_scan.specs.Cause.{Cause, custom_text, end_of_entry, IsCause}
+use Rattle.dns_symbol.specs.Cause.{Cause, custom_text, end_of_entry, IsCause}
 use Rattle.dns_scan.specs.Tokens.{Token}
 
 module _ {F X E : Type 0} (step : F → X → Result (Unit {0}) E → F → Type 0) where

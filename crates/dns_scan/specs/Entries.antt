@@ -5,7 +5,7 @@ use Rattle.dns_symbol.specs.declared.symbol.Symbol.{Symbol}
 use Rattle.dns_symbol.specs.declared.symbol.EntrySymbol.{EntrySymbol}
 use Rattle.dns_symbol.specs.declared.symbol.EntrySymbol.TheVariants.{EndOfToken, Symbol as Of}
 use Rattle.dns_charstr.specs.Wire.{wire_of}
-use Rattle.dns_scan.specs.Cause.{Cause, custom_text, short_buf, IsCause}
+use Rattle.dns_symbol.specs.Cause.{Cause, custom_text, short_buf, IsCause}
 use Rattle.dns_scan.specs.Tokens.{Token}
 use Rattle.dns_scan.specs.Asks.{AsksSymbols}
 use Rattle.dns_scan.specs.Steps.{Adds, GivesStep, octet_given, text_given}
@@ -47,7 +47,8 @@ module _ {E : Type 0} (cause : E → Cause) (sure most : ℕ) where
   ConvertInEntry takes p t r q = AsksSymbols cause (λ p x a s. ConvertStep takes p (Of x) a s) t p r q
 
   -- a run from a converter and no octets, then the tail where none refused, and the octets in all; or the first refusal
-  pub record Converts {C O : Type 0} (tail : C → Result (List ℕ) E → C → Type 0) (octets : O → List ℕ) (run : C × List ℕ → Result (Unit {0}) E → C × List ℕ → Type 0) (convert : C) (r : Result O E) : Type 0 where
+  pub record Converts {C O : Type 0} (tail : C → Result (List ℕ) E → C → Type 0) (octets : O → List ℕ) (run : C × List ℕ → Result (Unit {0}) E → C × List ℕ → Type 0)
+      (convert : C) (r : Result O E) : Type 0 where
     pub answer : Result (Unit {0}) E
     pub state : C × List ℕ
     pub ran : run (convert, []) answer state

@@ -5,7 +5,7 @@ use Rattle.dns_symbol.specs.declared.symbol.Symbol.{Symbol}
 use Rattle.dns_symbol.specs.declared.symbol.SymbolCharsError.{SymbolCharsError}
 use Rattle.dns_symbol.specs.declared.symbol.EntrySymbol.{EntrySymbol}
 use Rattle.dns_symbol.specs.declared.symbol.EntrySymbol.TheVariants.{EndOfToken, Symbol as Of}
-use Rattle.dns_scan.specs.Cause.{Cause}
+use Rattle.dns_symbol.specs.Cause.{Cause}
 use Rattle.dns_scan.specs.Entries.{Converts, ConvertInEntry}
 use Rattle.dns_scan.specs.Stands.{StandsBefore}
 use Rattle.dns_scan.specs.Tokens.{Token}
@@ -24,7 +24,7 @@ handed_over symbols = map Of symbols ++ EndOfToken ∷ []
 abbrev pub IsSymbols : Token → Type 0
 IsSymbols token = (symbols : List Symbol) × SymbolsOf token symbols None
 
--- a token with a bad escape, behind symbols
+-- a token with a bad escape, after symbols
 abbrev pub HasBadEscape : Token → Type 0
 HasBadEscape token = (symbols : List Symbol) × (e : SymbolCharsError) × SymbolsOf token symbols (Some e)
 

@@ -4,7 +4,7 @@ use Rattle.dns_scan.specs.declared.kind.Kind.{Kind}
 use Rattle.dns_scan.specs.declared.kind.Kind.TheVariants.{U8, U16, U32, U64, U128, Ttl, Other}
 use Rattle.dns_scan.specs.declared.kind.Scanned.{Scanned}
 use Rattle.dns_scan.specs.declared.kind.Scanned.TheVariants.{U8 as in_u8, U16 as in_u16, U32 as in_u32, U64 as in_u64, U128 as in_u128, Ttl as in_ttl, Other as in_other}
-use Rattle.dns_scan.specs.Cause.{Cause}
+use Rattle.dns_symbol.specs.Cause.{Cause}
 use Rattle.dns_scan.specs.Numbers.{greatest}
 use Rattle.dns_scan.specs.Reads.{NumberReads, ReadsFirst}
 use Rattle.dns_scan.specs.Tokens.{Token}

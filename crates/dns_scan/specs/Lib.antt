@@ -1,7 +1,5 @@
 pub mod Answers
 pub mod Asks
-pub mod Cause
-pub mod Convert
 pub mod Entries
 pub mod Join
 pub mod Kinds
@@ -10,5 +8,6 @@ pub mod Octets
 pub mod Reads
 pub mod Stands
 pub mod Steps
+pub mod StrError
 pub mod Strings
 pub mod Tokens

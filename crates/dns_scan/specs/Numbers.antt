@@ -5,7 +5,7 @@ use Rattle.dns_symbol.specs.declared.symbol.Symbol.TheVariants.{Char, SimpleEsca
 use Rattle.dns_symbol.specs.declared.symbol.SymbolCharsError.{SymbolCharsError}
 use Rattle.dns_symbol.specs.Symbol.{is_digit, chars_error_text}
 use Rattle.dns_symbol.specs.Text.{SymbolsOf}
-use Rattle.dns_scan.specs.Cause.{Cause, custom_text}
+use Rattle.dns_symbol.specs.Cause.{Cause, custom_text}
 use Rattle.dns_scan.specs.Tokens.{Token}
 
 -- the greatest number of each type

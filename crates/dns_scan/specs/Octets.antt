@@ -1,7 +1,7 @@
 -- Tokens of octets, and what is answered of them.
 use Rattle.std.specs.Prelude.{ℕ, List, ◌≡◌, ◌<◌, ◌⊎◌, Result, IsOkAnd, encode_utf8_all, length}
 use Rattle.dns_symbol.specs.Printed.{text_of, is_quoted_escape, is_unquoted_escape}
-use Rattle.dns_scan.specs.Cause.{Cause, short_buf, IsCause}
+use Rattle.dns_symbol.specs.Cause.{Cause, short_buf, IsCause}
 use Rattle.dns_scan.specs.Tokens.{Token}
 
 -- the token that octets print as in the unquoted form

@@ -5,7 +5,7 @@ use Rattle.dns_symbol.specs.declared.symbol.Symbol.{Symbol}
 use Rattle.dns_symbol.specs.declared.symbol.SymbolCharsError.{SymbolCharsError}
 use Rattle.dns_symbol.specs.Text.{SymbolsOf}
 use Rattle.dns_scan.specs.Answers.{AnswersGiven}
-use Rattle.dns_scan.specs.Cause.{Cause, end_of_entry, short_buf}
+use Rattle.dns_symbol.specs.Cause.{Cause, end_of_entry, short_buf}
 use Rattle.dns_scan.specs.Numbers.{ScannedNumber, by_cause}
 use Rattle.dns_scan.specs.Stands.{first_of, others_of}
 use Rattle.dns_scan.specs.Steps.{octet_given}
@@ -29,7 +29,8 @@ abbrev pub NameReads : {N E : Type 0} → (E → Cause) → (Token → Result N 
 NameReads {N} {E} cause reads token r = (q : Result N E) × reads token q × (r ≡ by_cause cause q)
 
 -- one reading and then another, until one is refused
-abbrev pub ReadsBoth : {A B : Type 0} → (List Token → Result A Cause → List Token → Type 0) → (List Token → Result B Cause → List Token → Type 0) → List Token → Result (A × B) Cause → List Token → Type 0
+abbrev pub ReadsBoth : {A B : Type 0} → (List Token → Result A Cause → List Token → Type 0) → (List Token → Result B Cause → List Token → Type 0) → List Token
+    → Result (A × B) Cause → List Token → Type 0
 ReadsBoth {A} first second tokens (Ok p) rest = (middle : List Token) × first tokens (Ok p.0) middle × second middle (Ok p.1) rest
 ReadsBoth {A} first second tokens (Err why) rest = first tokens (Err why) rest ⊎ ((a : A) × (middle : List Token) × first tokens (Ok a) middle × second middle (Err why) rest)
 

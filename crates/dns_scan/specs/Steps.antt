@@ -3,7 +3,7 @@ use Rattle.std.specs.Prelude.{ℕ, List, [], ◌∷◌, ◌++◌, ◌-◌, ◌<�
 use Rattle.dns_symbol.specs.declared.symbol.Symbol.{Symbol}
 use Rattle.dns_symbol.specs.declared.symbol.BadSymbol.{BadSymbol}
 use Rattle.dns_symbol.specs.Symbol.{octet_of, char_of}
-use Rattle.dns_scan.specs.Cause.{Cause, custom_text, short_buf, IsCause}
+use Rattle.dns_symbol.specs.Cause.{Cause, custom_text, short_buf, IsCause}
 
 -- the octets that a symbol gives, or the text of the refusal
 abbrev pub bad_or : {A : Type 0} → (A → List ℕ) → Result A BadSymbol → Result (List ℕ) (List ℕ)

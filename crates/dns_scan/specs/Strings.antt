@@ -3,7 +3,7 @@ use Rattle.std.specs.Prelude.{ℕ, List, ◌∷◌, ◌++◌, [], ◌+◌, ◌�
 use Rattle.std.specs.List.{AllZip, flat_map}
 use Rattle.dns_charstr.specs.Reading.{HasOctets}
 use Rattle.dns_charstr.specs.Wire.{wire_of}
-use Rattle.dns_scan.specs.Cause.{Cause, short_buf}
+use Rattle.dns_symbol.specs.Cause.{Cause, short_buf}
 use Rattle.dns_scan.specs.Reads.{OctetsRead}
 use Rattle.dns_scan.specs.Tokens.{Token}
 

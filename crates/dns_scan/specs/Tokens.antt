@@ -1,6 +1,6 @@
 -- What a call of a scanner does to the tokens before it.
 use Rattle.std.specs.Prelude.{ℕ, List, ◌≡◌, ◌≢◌, Option, Some, Result, Ok, Err, Bool, true, false, MatchOption, codes}
-use Rattle.dns_scan.specs.Cause.{Cause, end_of_entry, IsCause}
+use Rattle.dns_symbol.specs.Cause.{Cause, end_of_entry, IsCause}
 
 -- a token: its text's bytes
 abbrev pub Token : Type 0

@@ -1,27 +1,76 @@
-//! The errors of a scanner.
-ghost use Rattle.std.specs.Prelude.{◌≡◌};
-ghost use Rattle.dns_scan.specs.Cause.{Cause, custom_text, end_of_entry, short_buf, trailing_tokens};
+//! An error of a scanner that is a text.
+ghost use Rattle.std.specs.Prelude.{◌≡◌, Some};
+ghost use Rattle.dns_scan.specs.StrError.{str_cause, str_text, of_short_buf};
 
+use dns_octets::ShortBuf;
+use dns_symbol::ScannerError;
 use std::error::Error;
+use std::fmt;
 
-/// An error of a scanner. It tells which of these calls made it.
-pub trait ScannerError: Error {
-    // Which call made the error, and the text of `custom`.
-    ghost cause: { Self → Cause };
-
-    /// An error with a text of the caller's.
-    fn custom(msg: &'static str) -> Self
-        ensures { cause result ≡ custom_text msg.now };
+/// An error that is a text.
+#[derive(Debug, Drop)]
+pub enum StrError {
+    /// A text of the caller's.
+    Custom(&'static str),
 
     /// No token was left where one was asked for.
-    fn end_of_entry() -> Self
-        ensures { cause result ≡ end_of_entry };
+    EndOfEntry,
 
     /// There was no room for the octets, or no memory.
-    fn short_buf() -> Self
-        ensures { cause result ≡ short_buf };
+    ShortBuf,
 
     /// Tokens were left where none was expected.
-    fn trailing_tokens() -> Self
-        ensures { cause result ≡ trailing_tokens };
+    TrailingTokens,
+}
+
+impl StrError {
+    /// The text.
+    pub fn as_str(&self) -> &'static str
+        ensures { result.now ≡ str_text self.now }
+    {
+        match self {
+            StrError::Custom(text) => text,
+            StrError::EndOfEntry => "unexpected end of entry",
+            StrError::ShortBuf => "short buffer",
+            StrError::TrailingTokens => "trailing data",
+        }
+    }
+}
+
+impl fmt::Display for StrError {
+    ghost output = { λ e. Some (str_text e) };
+
+    fn fmt<W: fmt::Write>(&self, f: &mut fmt::Formatter<W>) -> fmt::Result {
+        write!(f, "{}", self.as_str())
+    }
+}
+
+impl Error for StrError {}
+
+impl From<ShortBuf> for StrError {
+    ghost from_gives = { λ _ e. e ≡ of_short_buf };
+
+    fn from(_: ShortBuf) -> Self {
+        StrError::ShortBuf
+    }
+}
+
+impl ScannerError for StrError {
+    ghost cause = { str_cause };
+
+    fn custom(msg: &'static str) -> Self {
+        StrError::Custom(msg)
+    }
+
+    fn end_of_entry() -> Self {
+        StrError::EndOfEntry
+    }
+
+    fn short_buf() -> Self {
+        StrError::ShortBuf
+    }
+
+    fn trailing_tokens() -> Self {
+        StrError::TrailingTokens
+    }
 }

@@ -7,7 +7,7 @@ ghost use Rattle.dns_scan.specs.Tokens.{Token};
 
 use crate::scan::Scan;
 use crate::scanner::Scanner;
-use dns_wire::Ttl;
+use dns_octets::Ttl;
 
 /// What a token is scanned as.
 #[derive(Clone, Copy, Debug)]

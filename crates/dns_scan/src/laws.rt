@@ -10,7 +10,7 @@ ghost use Rattle.dns_charstr.specs.Reading.{HasOctets};
 ghost use Rattle.dns_charstr.specs.Wire.{wire_of};
 ghost use Rattle.dns_scan.specs.Answers.{AnswersGiven};
 ghost use Rattle.dns_scan.specs.Asks.{CallsEach};
-ghost use Rattle.dns_scan.specs.Cause.{Cause};
+ghost use Rattle.dns_symbol.specs.Cause.{Cause};
 ghost use Rattle.dns_scan.specs.Entries.{AsksToken, Converts, ConvertInEntry};
 ghost use Rattle.dns_scan.specs.Join.{CallsTokens, ConvertsTokens, IsJoin, IsSymbols, LeavesOf, handed_over};
 ghost use Rattle.dns_scan.specs.Kinds.{KindReads};
@@ -22,11 +22,11 @@ ghost use Rattle.dns_scan.specs.Stands.{StandsBefore};
 ghost use Rattle.dns_scan.specs.Strings.{AnswersStrings};
 ghost use Rattle.dns_scan.specs.Tokens.{Token};
 
-use crate::convert::ConvertSymbols;
 use crate::kind::{Kind, Scanned};
 use crate::scan::Scan;
 use crate::scanner::Scanner;
 use dns_charstr::charstr::CharStr;
+use dns_symbol::ConvertSymbols;
 use dns_symbol::symbol::EntrySymbol;
 
 /// A token whose symbols all have an octet is scanned as the character string of these octets,

@@ -1,7 +1,6 @@
 //! Scanning: typed values out of the tokens of an entry.
 #![tactic(auto)]
 
-pub mod convert;
 pub mod error;
 pub mod kind;
 pub mod laws;
@@ -10,8 +9,8 @@ pub mod rest;
 pub mod scan;
 pub mod scanner;
 
-pub use convert::ConvertSymbols;
-pub use error::ScannerError;
+pub use dns_symbol::{ConvertSymbols, ScannerError};
+pub use error::StrError;
 pub use kind::{Kind, Scanned};
 pub use rest::{RestOf, expect_end, scan_rest, strings_rest};
 pub use scan::Scan;

@@ -3,8 +3,8 @@ ghost use Rattle.std.specs.Prelude.{◌≡◌, ◌≤◌, ◌<◌, IfSome, IfOk}
 ghost use Rattle.dns_scan.specs.Numbers.{digit_of, AddsDigit, ScannedNumber};
 ghost use Rattle.dns_scan.specs.Tokens.{ScansToken};
 
-use crate::error::ScannerError;
 use crate::scanner::Scanner;
+use dns_symbol::ScannerError;
 use dns_symbol::symbol::Symbol;
 
 // The value of a plain digit.

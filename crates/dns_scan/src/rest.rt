@@ -2,19 +2,18 @@
 ghost use Rattle.std.specs.Prelude.{◌≡◌, ◌≤◌, ◌⊎◌, ℕ, List, [], All, IfOk, IsOkAnd, MatchOption, MatchResult, Option, Ok, Err, length};
 ghost use Rattle.std.specs.List.{AllZip};
 ghost use Rattle.dns_charstr.specs.Reading.{HasOctets};
-ghost use Rattle.dns_scan.specs.Cause.{IsCause, short_buf, trailing_tokens};
+ghost use Rattle.dns_symbol.specs.Cause.{IsCause, short_buf, trailing_tokens};
 ghost use Rattle.dns_scan.specs.Join.{ConvertsTokens, LeavesOf};
 ghost use Rattle.dns_scan.specs.Reads.{ReadsRest};
 ghost use Rattle.dns_scan.specs.Stands.{StandsBefore, first_of};
 ghost use Rattle.dns_scan.specs.Tokens.{Peeks, Token};
 
-use crate::convert::ConvertSymbols;
-use crate::error::ScannerError;
 use crate::laws::entries_convert_as_their_join;
 use crate::scan::Scan;
 use crate::scanner::Scanner;
 use dns_charstr::charstr::CharStr;
 use dns_symbol::symbol::EntrySymbol;
+use dns_symbol::{ConvertSymbols, ScannerError};
 use std::alloc::Allocator;
 use std::marker::PhantomData;
 

@@ -1,6 +1,6 @@
 //! Values that can be scanned.
 ghost use Rattle.std.specs.Prelude.{◌≡◌, List, Result, Ok, min};
-ghost use Rattle.dns_scan.specs.Cause.{Cause};
+ghost use Rattle.dns_symbol.specs.Cause.{Cause};
 ghost use Rattle.dns_scan.specs.Numbers.{by_cause, greatest};
 ghost use Rattle.dns_scan.specs.Reads.{ReadsFirst, NameReads, NumberReads, OctetsRead, ReadsBoth};
 ghost use Rattle.dns_scan.specs.Stands.{StandsBefore};
@@ -9,8 +9,8 @@ ghost use Rattle.dns_scan.specs.Tokens.{Token};
 use crate::number::scan_number;
 use crate::scanner::Scanner;
 use dns_charstr::charstr::CharStr;
-use dns_wire::{AsOctets, Ttl};
-use dns_wire_name::Name;
+use dns_octets::{AsOctets, Ttl};
+use dns_wire::Name;
 
 /// A value that can be scanned.
 pub trait Scan<S: Scanner>: Sized {
@@ -102,10 +102,7 @@ impl<S: Scanner> Scan<S> for CharStr<S::Octets> {
     ghost scan_reads = { ReadsFirst (OctetsRead (min S.OctetsBuilder.sure 255) (min S.OctetsBuilder.most 255)) };
 
     fn scan(scanner: &mut S) -> Result<Self, S::Error> {
-        match scanner.scan_charstr() {
-            Ok(string) => Ok(string),
-            Err(error) => Err(error),
-        }
+        scanner.scan_charstr()
     }
 }
 
@@ -114,10 +111,7 @@ impl<O: AsOctets, S: Scanner<Name = Name<O>>> Scan<S> for Name<O> {
     ghost scan_reads = { ReadsFirst (NameReads S.Error.cause S.reads_name) };
 
     fn scan(scanner: &mut S) -> Result<Self, S::Error> {
-        match scanner.scan_name() {
-            Ok(name) => Ok(name),
-            Err(error) => Err(error),
-        }
+        scanner.scan_name()
     }
 }
 

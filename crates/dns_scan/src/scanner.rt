@@ -2,18 +2,17 @@
 ghost use Rattle.std.specs.Prelude.{◌≡◌, ℕ, List, [], Option, Some, None, Result, Bool, false, IsOkAnd, is_some, min, codes};
 ghost use Rattle.dns_scan.specs.Asks.{Builds, ScansSymbols};
 ghost use Rattle.std.specs.Fn.{FnOnceReturnsAt};
-ghost use Rattle.dns_scan.specs.Cause.{custom_text, IsCause};
+ghost use Rattle.dns_symbol.specs.Cause.{custom_text, IsCause};
 ghost use Rattle.dns_scan.specs.Entries.{AsciiText, AsksToken, BuildsEntry, Converts, ConvertsEntry, ConvertToken, ScansEntry, StringStep};
 ghost use Rattle.dns_scan.specs.Steps.{GivesStep, octet_given, text_given};
 ghost use Rattle.dns_scan.specs.Tokens.{Token, TakesNothing, Peeks, ScansToken, MarkerCall};
 
-use crate::convert::ConvertSymbols;
-use crate::error::ScannerError;
 use dns_charstr::charstr::CharStr;
+use dns_octets::str::Str;
+use dns_octets::{AsOctets, AsOctetsMut, FreezeBuilder, OctetsBuilder, Truncate};
 use dns_symbol::symbol::{EntrySymbol, Symbol};
-use dns_wire::str::Str;
-use dns_wire::{AsOctets, AsOctetsMut, FreezeBuilder, OctetsBuilder, Truncate};
-use dns_wire_name::ToName;
+use dns_symbol::{ConvertSymbols, ScannerError};
+use dns_wire::ToName;
 
 /// Gives the tokens of an entry one by one, read as values.
 ///

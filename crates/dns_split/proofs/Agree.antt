@@ -40,6 +40,10 @@ octets_have_pieces text ok found p =
     (reads (encode_utf8_all text) (text, (ok, refl)))
     (octets_run text ∙ ap (map (moved (place_of text))) (pieces_run text found p) ∙ moved_oks (place_of text) found)
 
+-- the pieces of the text that octets spell are those of the octets, moved
+pub pieces_of_octets : (octets : List ℕ) (found : List Piece) → IsPieces (encode_utf8_all octets) found → (given : List (Result Piece Fault)) × (map (moved (place_of octets)) given ≡ map Ok found)
+pieces_of_octets octets found p = (run Outside 0 0 0 (first_blank octets) octets, sym (octets_run octets) ∙ pieces_run (encode_utf8_all octets) found p)
+
 -- a text is bad in one place
 pub bad_once : (text : List ℕ) (i j : ℕ) → IsBad text i → IsBad text j → i ≡ j
 bad_once text i j a b = elim (cases_lt i j) [

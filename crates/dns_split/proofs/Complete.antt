@@ -183,7 +183,7 @@ note_read d (c ∷ cs) rest h =
     ∙ map_open_nil (read Comment d [] (cs ++ rest))
     ∙ note_read d cs rest p.1
 
--- behind a comment stands nothing, or a line's end
+-- after a comment stands nothing, or a line's end
 note_end : (d : ℕ) (ls : List Lexeme) (cs : List ℕ) → may_precede (Note cs) ls ≡ true → nests d ls ≡ true → read Comment d [] (flat_map characters ls) ≡ read Outside d [] (flat_map characters ls)
 note_end zero [] cs h n = refl
 note_end (suc d) [] cs h n = cc

@@ -1,4 +1,4 @@
--- Texts behind each other, with a line's end between.
+-- Texts one after the other, with a line's end between.
 use Rattle.std.proofs.Common.{◌≡◌, ℕ, zero, suc, ◌<◌, Bool, true, ◌&&◌, List, [], ◌∷◌, ◌++◌, length, refl, sym, ap, ◌∙◌, arith, length-append}
 use Rattle.std.specs.List.{flat_map}
 use Rattle.std.proofs.lemmas.Bool.{and_parts, and_from}
@@ -132,7 +132,7 @@ split_joined x y r e f s t = record {
   cut = join_entries s.lexemes t.lexemes r 0 s.nested ∙ ap (λ l. l ++ entries 0 t.lexemes) s.cut ∙ ap (λ l. e ++ l) t.cut;
 }
 
--- lexemes cut behind so many entries
+-- lexemes cut after so many entries
 record IsCut (d : ℕ) (ls : List Lexeme) (e f : Entries) : Type 0 where
   pub front : List Lexeme
   pub ends : Bool
@@ -200,7 +200,7 @@ cuts (Quote ss ∷ ls) d e f n is h k =
     let p = token_front (bytes (Quote ss)) (entries d ls) e f (some_entry ls d) h is in
     one_before (Quote ss) ls d d e p.0 f (cuts ls d p.0 f n p.2 p.1 k) (λ more. refl) (λ more g. ap (with_token (bytes (Quote ss))) g ∙ p.3)
 
--- a text that splits, cut behind some of its entries
+-- a text that splits, cut after some of its entries
 pub split_cut : (text : List ℕ) (e f : Entries) → Splits text (e ++ f) → 0 < length e → 0 < length f
     → (x : List ℕ) × (y : List ℕ) × (r : Bool) × (text ≡ x ++ (bytes (Line r) ++ y)) × Splits x e × Splits y f
 split_cut text e f s h k =

@@ -2,6 +2,7 @@ pub mod Agree
 pub mod Collecting
 pub mod Complete
 pub mod Content
+pub mod Entries
 pub mod FaultJoins
 pub mod Joins
 pub mod Lanes

@@ -97,7 +97,7 @@ begins (Escape q) c v h p = absurd (omega (arith, either (is_digit c) (nat_le c 
 begins (OneDigit q n) c v h p = absurd (omega (arith, only (is_digit c && nat_le (10 * n + (c - 48)) 25) (TwoDigits q (10 * n + (c - 48))) 0 v h))
 begins (TwoDigits q n) c v h p = absurd (omega (arith, only (is_digit c && nat_le (10 * n + (c - 48)) 255) (home q) 0 v h))
 
--- what was read: a parenthesis at that place, and no return to depth 0 behind it
+-- what was read: a parenthesis at that place, and no return to depth 0 after it
 pub record Opened (ys : List ℕ) (opened : ℕ) : Type 0 where
   pub front : List ℕ
   pub back : List ℕ

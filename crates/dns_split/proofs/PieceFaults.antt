@@ -32,7 +32,7 @@ use Rattle.dns_split.proofs.PieceGiven.{Stop, stop, Gives, front_of, same_first,
 use Rattle.dns_split.proofs.PieceSettled.{gives_all, longest, Ended, ended}
 use Rattle.dns_split.proofs.PieceWhole.{pieces_run}
 
--- with a double quote behind it, the quoted text that is open is a piece
+-- with a double quote after it, the quoted text that is open is a piece
 quoted_piece : (c : ℕ) (ys r : List ℕ) (d : ℕ) → (g : Gives Outside 0 0 0 (first_blank (encode_utf8_all (c ∷ ys) ++ r)) (c ∷ ys) (Quoted, d))
     → EndsQuote (encode_utf8_all (c ∷ ys)) g.start
 quoted_piece c ys r d g more all is =
@@ -80,7 +80,7 @@ bad_escape ys m d ok h e f = (
   λ v. cant_follow ys 10 (m, d) ok refl h f (subst (λ l. IsViable (encode_utf8_all ys ++ l)) (sym (encode_ascii 10 (omega arith))) v),
 )
 
--- behind what splits
+-- after what splits
 closing : (ys r : List ℕ) (c d : ℕ) → scalars ys ≡ true → walk Outside 0 ys ≡ Some (Outside, d) → step Outside d c ≡ None → View c → IsWrong (encode_utf8_all ys) (encode_utf8 c ++ r) Late
 closing ys r _ zero ok h f v_close =
     let k = walk_completes ys [] Outside 0 (Outside, 0) h (λ t. (with_open t ([] ∷ []), refl)) [] in

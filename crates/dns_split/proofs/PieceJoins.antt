@@ -1,4 +1,4 @@
--- Pieces of texts behind each other, and of what follows an entry's end.
+-- Pieces of texts one after the other, and of what follows an entry's end.
 use Rattle.std.proofs.Common.{◌≡◌, ℕ, zero, suc, ◌+◌, Bool, true, ◌&&◌, List, [], ◌∷◌, ◌++◌, length, drop, refl, sym, ap, ◌∙◌, subst, arith, add_assoc, append_assoc, length-append, ◌⊎◌, inl, inr}
 use Rattle.std.specs.Prelude.{map}
 use Rattle.std.specs.List.{flat_map}
@@ -90,7 +90,7 @@ joins (Note cs ∷ ls) more r at d b h = one_more (Note cs) ls more r at d d b b
 joins (Word s ss ∷ ls) more r at d b h = one_more (Word s ss) ls more r at d d b b (word_at at (at + length (bytes (Word s ss))) ∷ []) refl refl (joins ls more r _ d b h)
 joins (Quote ss ∷ ls) more r at d b h = one_more (Quote ss) ls more r at d d b b (quote_at at (at + length (bytes (Quote ss))) ∷ []) refl refl (joins ls more r _ d b h)
 
--- the pieces of texts behind each other, with a line's end between
+-- the pieces of texts one after the other, with a line's end between
 pub pieces_joined : (x y : List ℕ) (r : Bool) (found follow : List Piece) → IsPieces x found → IsPieces y follow
     → (front : List Piece) × (b : Bool) × (found ≡ front ++ end_at (length x) b ∷ [])
     × IsPieces (x ++ (bytes (Line r) ++ y)) (front ++ end_at (length x + length (bytes (Line r))) b ∷ further (length x + length (bytes (Line r))) follow)
@@ -187,7 +187,7 @@ goes (Note cs ∷ ls) at d b found more e t v n is = past (Note cs) ls (comment_
 goes (Word s ss ∷ ls) at d b found more e t v n is = past (Word s ss) ls (word_at at (at + length (bytes (Word s ss)))) at d b found more e t (λ q f g. cc) (goes ls) (valid_rest (Word s ss) ls v) n is
 goes (Quote ss ∷ ls) at d b found more e t v n is = past (Quote ss) ls (quote_at at (at + length (bytes (Quote ss)))) at d b found more e t (λ q f g. cc) (goes ls) (valid_rest (Quote ss) ls v) n is
 
--- behind an entry's end that isn't the text's, the rest alone has the pieces that follow
+-- after an entry's end that isn't the text's, the rest alone has the pieces that follow
 pub pieces_go_on : (text : List ℕ) (found more : List Piece) (at : ℕ) (b : Bool) → IsPieces text (found ++ end_at at b ∷ more)
     → (more ≡ []) ⊎ ((alone : List Piece) × IsPieces (drop at text) alone × (more ≡ further at alone))
 pieces_go_on text found more at b p = go (goes p.lexemes 0 0 (begins_blank p.lexemes) found more at b p.valid p.nested p.placed)

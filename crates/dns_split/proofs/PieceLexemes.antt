@@ -235,7 +235,7 @@ note_bytes cs = ap (λ l. l ++ encode_utf8_all cs) (encode_ascii 59 (omega arith
 pub quote_bytes : (ss : List Symbol) → bytes (Quote ss) ≡ 34 ∷ (encode_utf8_all (flat_map spell ss) ++ 34 ∷ [])
 quote_bytes ss = ap (λ l. encode_utf8 34 ++ l) (encodes-append (flat_map spell ss) (34 ∷ [])) ∙ ap (λ l. l ++ (encode_utf8_all (flat_map spell ss) ++ (l ++ []))) (encode_ascii 34 (omega arith))
 
--- behind a comment
+-- after a comment
 pub note_end : (d s at : ℕ) (b : Bool) (ls : List Lexeme) (cs : List ℕ) → may_precede (Note cs) ls ≡ true → nests d ls ≡ true
     → run Comment d s at b (flat_map bytes ls) ≡ Ok (comment_at s at) ∷ run Outside d at at b (flat_map bytes ls)
 note_end zero s at b [] cs h n = rw (self at) refl

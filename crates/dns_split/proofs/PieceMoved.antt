@@ -246,7 +246,7 @@ place_at : (all front rest : List ℕ) (at : ℕ) → front ++ rest ≡ all → 
 place_at all front rest at e k = ap (λ n. length (encode_utf8_all (take n all))) k ∙ ap (λ l. length (encode_utf8_all (take (length front) l))) (sym e)
     ∙ ap (λ l. length (encode_utf8_all l)) (take-append_seam front rest)
 
--- the place behind one more
+-- the place after one more
 place_next : (all front os : List ℕ) (at c : ℕ) → front ++ (c ∷ os) ≡ all → at ≡ length front → place_of all (at + 1) ≡ place_of all at + length (encode_utf8 c)
 place_next all front os at c e k =
     place_at all (front ++ c ∷ []) os (at + 1) (append_assoc front (c ∷ []) os ∙ e) (omega (arith, k, length-append front (c ∷ [])))

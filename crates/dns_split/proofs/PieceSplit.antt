@@ -17,7 +17,7 @@ use Rattle.dns_split.proofs.Collecting.{front, glue}
 use Rattle.dns_split.proofs.Complete.{Some_same}
 use Rattle.dns_split.proofs.PieceWhole.{pieces_run}
 
-between_is : (before w rest text : List ℕ) (at : ℕ) → before ++ (w ++ rest) ≡ text → at ≡ length before → between text at (at + length w) ≡ w
+pub between_is : (before w rest text : List ℕ) (at : ℕ) → before ++ (w ++ rest) ≡ text → at ≡ length before → between text at (at + length w) ≡ w
 between_is before w rest text at e k =
     let n : at + length w - at ≡ length w = omega arith in
     ap (λ l. take (at + length w - at) (drop at l)) (sym e) ∙ ap (take (at + length w - at)) (drop_at before (w ++ rest) at (sym k)) ∙ ap (λ i. take i (w ++ rest)) n ∙ take-append_seam w rest

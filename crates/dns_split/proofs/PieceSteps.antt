@@ -1,6 +1,6 @@
 -- One turn of the reader of pieces.
 use Rattle.std.proofs.Common.{◌≡◌, ℕ, zero, suc, ◌+◌, ◌-◌, ◌*◌, ◌<◌, Bool, true, false, cond, ◌&&◌, ◌==◌, nat_le, List, ◌∷◌, length, drop, refl, sym, ap, ◌∙◌, subst}
-use Rattle.std.specs.Prelude.{Some, None, option_map, unwrap_or, Result, Ok}
+use Rattle.std.specs.Prelude.{Option, Some, None, option_map, unwrap_or, Result, Ok}
 use Rattle.std.proofs.Common.{get_or}
 use Rattle.std.proofs.lemmas.List.{drop_more}
 use Rattle.std.proofs.lemmas.Bool.{eq-eqb}
@@ -16,7 +16,7 @@ use Rattle.dns_split.specs.declared.pieces.Piece.{Piece}
 use Rattle.dns_split.specs.declared.pieces.Fault.{Fault}
 use Rattle.dns_symbol.specs.Symbol.{is_digit}
 use Rattle.dns_split.specs.Reader.{kind, home, move_to, step, outside_step, quoted_step, comment_step, return_step, line_end}
-use Rattle.dns_split.specs.Run.{before, closed, finished, start_after, blank_after, fault, wrong_at, run}
+use Rattle.dns_split.specs.Run.{before, closed, finished, start_after, first_blank, blank_after, fault, wrong_at, run}
 use Rattle.dns_split.proofs.Complete.{Some_same}
 
 -- what a step gives and leaves
@@ -36,7 +36,8 @@ turn text m d s at b c v h e g = ap (run m d s at b) (drop_more text at 0 h ∙ 
 
 -- nothing is open before the octet that ended it
 abbrev Reopens : Mode → ℕ → ℕ → ℕ → Bool → ℕ → List ℕ → Piece → Move → Type 0
-Reopens m d s at b c bs p v = closed m v.mode v.act s at ≡ Some p → run Outside d at at b (c ∷ bs) ≡ before (finished v.act s (at + 1) b) (run v.mode v.depth (start_after m v.mode v.act s at) (at + 1) (blank_after v.act b bs) bs)
+Reopens m d s at b c bs p v = closed m v.mode v.act s at ≡ Some p
+    → run Outside d at at b (c ∷ bs) ≡ before (finished v.act s (at + 1) b) (run v.mode v.depth (start_after m v.mode v.act s at) (at + 1) (blank_after v.act b bs) bs)
 
 none_some : {A : Type 0} {X : Type 0} {x : X} → None ≡ Some x → A
 none_some h = cc
@@ -65,7 +66,7 @@ outside_again d s at b c bs p n e EndToken h k = run_step Outside d at at b c bs
 outside_again d s at b c bs p n e EndEntry h k = run_step Outside d at at b c bs _ h ∙ rw (self at)
 outside_again d s at b c bs p n e BeginToken h k = run_step Outside d at at b c bs _ h ∙ rw (self at)
 
--- a line's end, behind a comment or CR
+-- a line's end, after a comment or CR
 line_again : (d at : ℕ) (b : Bool) (c : ℕ) (bs : List ℕ) → kind c ≡ LineFeed → (s : ℕ)
     → run Outside d at at b (c ∷ bs) ≡ before (finished (line_end d) s (at + 1) b) (run Outside d (at + 1) (at + 1) (blank_after (line_end d) b bs) bs)
 line_again zero at b c bs k s = run_step Outside zero at at b c bs _ (ap (outside_step zero) k) ∙ rw (self at)
@@ -80,7 +81,8 @@ after_return zero s at = refl
 after_return (suc d) s at = refl
 
 comment_again : (k : Kind) (d s at : ℕ) (b : Bool) (c : ℕ) (bs : List ℕ) (p : Piece) (v : Move) → kind c ≡ k → comment_step d k ≡ Some v → Reopens Comment d s at b c bs p v
-comment_again LineFeed d s at b c bs p v k h = subst (Reopens Comment d s at b c bs p) (Some_same h) (λ _. line_again d at b c bs k s ∙ ap (λ n. before (finished (line_end d) s (at + 1) b) (run Outside d n (at + 1) (blank_after (line_end d) b bs) bs)) (sym (after_line Comment d s at)))
+comment_again LineFeed d s at b c bs p v k h = subst (Reopens Comment d s at b c bs p) (Some_same h) (λ _. line_again d at b c bs k s
+    ∙ ap (λ n. before (finished (line_end d) s (at + 1) b) (run Outside d n (at + 1) (blank_after (line_end d) b bs) bs)) (sym (after_line Comment d s at)))
 comment_again CarriageReturn d s at b c bs p v k h = subst (Reopens Comment d s at b c bs p) (Some_same h) (λ _. run_step Outside d at at b c bs _ (ap (outside_step d) k) ∙ rw (self at))
 comment_again White d s at b c bs p v k h = subst (Reopens Comment d s at b c bs p) (Some_same h) (λ g. none_some g)
 comment_again Opening d s at b c bs p v k h = subst (Reopens Comment d s at b c bs p) (Some_same h) (λ g. none_some g)
@@ -91,7 +93,8 @@ comment_again Backslash d s at b c bs p v k h = subst (Reopens Comment d s at b 
 comment_again Plain d s at b c bs p v k h = subst (Reopens Comment d s at b c bs p) (Some_same h) (λ g. none_some g)
 
 return_again : (k : Kind) (d s at : ℕ) (b : Bool) (c : ℕ) (bs : List ℕ) (p : Piece) (v : Move) → kind c ≡ k → return_step d k ≡ Some v → Reopens Return d s at b c bs p v
-return_again LineFeed d s at b c bs p v k h = subst (Reopens Return d s at b c bs p) (Some_same h) (λ _. line_again d at b c bs k s ∙ ap (λ n. before (finished (line_end d) s (at + 1) b) (run Outside d n (at + 1) (blank_after (line_end d) b bs) bs)) (sym (after_return d s at)))
+return_again LineFeed d s at b c bs p v k h = subst (Reopens Return d s at b c bs p) (Some_same h) (λ _. line_again d at b c bs k s
+    ∙ ap (λ n. before (finished (line_end d) s (at + 1) b) (run Outside d n (at + 1) (blank_after (line_end d) b bs) bs)) (sym (after_return d s at)))
 return_again CarriageReturn d s at b c bs p v k h = none_some h
 return_again White d s at b c bs p v k h = none_some h
 return_again Opening d s at b c bs p v k h = none_some h
@@ -150,3 +153,107 @@ turn_on text m d s at b c v h e g k f =
     let left : List (Result Piece Fault) = run v.mode v.depth (start_after m v.mode v.act s at) (at + 1) (blank_after v.act b rest) rest in
     turn text m d s at b c v h e g ∙ ap (λ o. before o (before (finished v.act s (at + 1) b) left)) k ∙ ap (λ o. before o left) f
     ∙ ap (λ x. run v.mode v.depth (start_after m v.mode v.act s at) (at + 1) x rest) (same_blank v.act s (at + 1) b rest f)
+
+-- where a piece ends with an octet, the reader stands outside after it
+abbrev is_outside : Mode → Bool
+is_outside Outside = true
+is_outside _ = false
+
+abbrev is_home : Mode → Act → Bool
+is_home m EndEntry = is_outside m
+is_home m FinishToken = is_outside m
+is_home m _ = true
+
+abbrev comes_home : Option Move → Bool
+comes_home None = true
+comes_home (Some v) = is_home v.mode v.act
+
+either_home : (b : Bool) (x y : Option Move) → comes_home x ≡ true → comes_home y ≡ true → comes_home (cond b x y) ≡ true
+either_home true x y h k = h
+either_home false x y h k = k
+
+line_home : (d : ℕ) → comes_home (move_to Outside d (line_end d)) ≡ true
+line_home zero = refl
+line_home (suc d) = refl
+
+outside_home : (d : ℕ) (k : Kind) → comes_home (outside_step d k) ≡ true
+outside_home d LineFeed = line_home d
+outside_home zero Closing = refl
+outside_home (suc d) Closing = refl
+outside_home d White = refl
+outside_home d CarriageReturn = refl
+outside_home d Opening = refl
+outside_home d Semicolon = refl
+outside_home d DoubleQuote = refl
+outside_home d Backslash = refl
+outside_home d Plain = refl
+
+quoted_home : (d : ℕ) (k : Kind) → comes_home (quoted_step d k) ≡ true
+quoted_home d LineFeed = refl
+quoted_home d CarriageReturn = refl
+quoted_home d DoubleQuote = refl
+quoted_home d Backslash = refl
+quoted_home d White = refl
+quoted_home d Opening = refl
+quoted_home d Closing = refl
+quoted_home d Semicolon = refl
+quoted_home d Plain = refl
+
+comment_home : (d : ℕ) (k : Kind) → comes_home (comment_step d k) ≡ true
+comment_home d LineFeed = line_home d
+comment_home d CarriageReturn = refl
+comment_home d White = refl
+comment_home d Opening = refl
+comment_home d Closing = refl
+comment_home d Semicolon = refl
+comment_home d DoubleQuote = refl
+comment_home d Backslash = refl
+comment_home d Plain = refl
+
+return_home : (d : ℕ) (k : Kind) → comes_home (return_step d k) ≡ true
+return_home d LineFeed = line_home d
+return_home d CarriageReturn = refl
+return_home d White = refl
+return_home d Opening = refl
+return_home d Closing = refl
+return_home d Semicolon = refl
+return_home d DoubleQuote = refl
+return_home d Backslash = refl
+return_home d Plain = refl
+
+step_home : (m : Mode) (d c : ℕ) → comes_home (step m d c) ≡ true
+step_home Outside d c = outside_home d (kind c)
+step_home Quoted d c = quoted_home d (kind c)
+step_home Comment d c = comment_home d (kind c)
+step_home Return d c = return_home d (kind c)
+step_home (Escape q) d c = either_home (is_digit c) _ _ (either_home (nat_le c 50) _ _ refl refl) (either_home (nat_le 32 c && nat_le c 126) _ _ refl refl)
+step_home (OneDigit q n) d c = either_home (is_digit c && nat_le (10 * n + (c - 48)) 25) _ _ refl refl
+step_home (TwoDigits q n) d c = either_home (is_digit c && nat_le (10 * n + (c - 48)) 255) _ _ refl refl
+
+outside_is : (m : Mode) → is_outside m ≡ true → m ≡ Outside
+outside_is Outside h = refl
+outside_is Quoted h = cc
+outside_is Comment h = cc
+outside_is Return h = cc
+outside_is (Escape q) h = cc
+outside_is (OneDigit q n) h = cc
+outside_is (TwoDigits q n) h = cc
+
+after_finished : (m n : Mode) (a : Act) (d s at : ℕ) (b : Bool) (bs : List ℕ) (p : Piece) → is_home n a ≡ true → finished a s (at + 1) b ≡ Some p
+    → run n d (start_after m n a s at) (at + 1) (blank_after a b bs) bs ≡ run Outside d (at + 1) (at + 1) (blank_after a b bs) bs
+after_finished m n EndEntry d s at b bs p h f = ap (λ o. run o d (at + 1) (at + 1) (first_blank bs) bs) (outside_is n h)
+after_finished m n FinishToken d s at b bs p h f = ap (λ o. run o d (at + 1) (at + 1) b bs) (outside_is n h)
+after_finished m n Add d s at b bs p h f = none_some f
+after_finished m n BeginToken d s at b bs p h f = none_some f
+after_finished m n EndToken d s at b bs p h f = none_some f
+
+-- a piece ends with the octet
+pub turn_finished : (text : List ℕ) (m : Mode) (d s at : ℕ) (b : Bool) (c : ℕ) (p : Piece) (v : Move) → at < length text → c ≡ get_or text at 0 → step m d c ≡ Some v
+    → closed m v.mode v.act s at ≡ None → finished v.act s (at + 1) b ≡ Some p
+    → run m d s at b (drop at text) ≡ Ok p ∷ run Outside v.depth (at + 1) (at + 1) (blank_after v.act b (drop (at + 1) text)) (drop (at + 1) text)
+turn_finished text m d s at b c p v h e g k f =
+    let rest : List ℕ = drop (at + 1) text in
+    let left : List (Result Piece Fault) = run v.mode v.depth (start_after m v.mode v.act s at) (at + 1) (blank_after v.act b rest) rest in
+    let home : is_home v.mode v.act ≡ true = ap comes_home (sym g) ∙ step_home m d c in
+    turn text m d s at b c v h e g ∙ ap (λ o. before o (before (finished v.act s (at + 1) b) left)) k ∙ ap (λ o. before o left) f
+    ∙ ap (λ l. Ok p ∷ l) (after_finished m v.mode v.act v.depth s at b rest p home f)

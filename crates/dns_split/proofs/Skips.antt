@@ -1,5 +1,5 @@
 -- Octets passed over, and the reader that takes them one by one.
-use Rattle.std.proofs.Common.{◌≡◌, ℕ, zero, suc, ◌+◌, ◌-◌, ◌*◌, ◌<◌, ◌≤◌, arith, rules, Bool, true, false, ◌&&◌, nat_le, List, ◌∷◌, length, drop, refl, ap, ◌∙◌, subst, inl, inr}
+use Rattle.std.proofs.Common.{◌≡◌, ℕ, zero, suc, ◌+◌, ◌-◌, ◌*◌, ◌<◌, ◌≤◌, arith, rules, Bool, true, false, ◌&&◌, nat_le, List, ◌∷◌, length, drop, refl, ap, ◌∙◌, subst, inl, inr, ◌⊎◌}
 use Rattle.std.proofs.Common.{get_or}
 use Rattle.std.proofs.lemmas.List.{drop_more}
 use Rattle.std.proofs.lemmas.Bool.{eq-eqb, cond-true, cond-false, cases_lt, le-leb}
@@ -13,8 +13,9 @@ use Rattle.dns_split.specs.declared.skip.Class.TheVariants.{Word, Quote, Comment
 use Rattle.dns_split.specs.declared.skip.Place.{Place}
 use Rattle.dns_symbol.specs.Symbol.{is_digit, is_printable}
 use Rattle.dns_split.specs.Reader.{home, move_to, step}
-use Rattle.dns_split.specs.Run.{run, before, closed, Still, SameRun, Skips, Passes}
-use Rattle.dns_split.specs.Skip.{is_in, EachIn}
+use Rattle.dns_split.specs.Run.{run, before, closed, Still, SameRun, Skips, GoesOn, Passes, EndsWord, EndsComment, Gives}
+use Rattle.dns_split.specs.Pieces.{word_at, quote_at, comment_at}
+use Rattle.dns_split.specs.Skip.{is_in, EachIn, class_of}
 use Rattle.dns_split.proofs.PieceSteps.{run_step}
 
 -- ---- classes
@@ -155,25 +156,82 @@ digits_skipped text i x y z w e gx ex gy ey gz ez small =
       quoted = digits_escape InQuote text i x y z w e gx ex dy vy dz vz small;
     }
 
--- ---- later places
-pub class_passed : (m : Mode) (k : Class) → ((c : ℕ) → is_in k c ≡ true → Still m c) → (text : List ℕ) (p : Place) (e : ℕ) → p.at < length text → p.depth ≤ p.at → is_in k (get_or text p.at 0) ≡ true
-    → p.at + 1 ≤ e → e ≤ length text → EachIn k text (p.at + 1) e → Passes m text p (record { depth = p.depth; start = p.start; at = e })
-class_passed m k still text p e w deep here o v rest =
-    let all = each_joined k text p.at (p.at + 1) e (each_more k text p.at p.at (each_none k text p.at) here) rest in
-    record {
-      on = omega (arith, o);
-      within = v;
-      deep = omega (arith, o, deep);
-      same = λ b. still_between m k still text p.at e (omega (arith, o)) v all p.depth p.start b;
-    }
+-- ---- tokens
+-- a class in its mode
+pub class_still : (q : Within) (c : ℕ) → is_in (class_of q) c ≡ true → Still (home q) c
+class_still InWord c h = word_still c h
+class_still InQuote c h = quote_still c h
 
-pub blanks_passed : (text : List ℕ) (p : Place) (e : ℕ) → p.at < length text → p.depth ≤ p.at → p.start ≡ p.at → is_in Blank (get_or text p.at 0) ≡ true
-    → p.at + 1 ≤ e → e ≤ length text → EachIn Blank text (p.at + 1) e → Passes Outside text p (record { depth = p.depth; start = e; at = e })
-blanks_passed text p e w deep none here o v rest =
+pub class_run : (q : Within) (text : List ℕ) (i j : ℕ) → i ≤ j → j ≤ length text → EachIn (class_of q) text i j → SameRun (home q) text i j
+class_run q text i j o w all = still_between (home q) (class_of q) (class_still q) text i j o w all
+
+pub run_joined : (m : Mode) (text : List ℕ) (i j e : ℕ) → SameRun m text i j → SameRun m text j e → SameRun m text i e
+run_joined m text i j e front back d s b = front d s b ∙ back d s b
+
+-- a run of the class, after what gave the same
+pub class_more : (q : Within) (k : Class) → k ≡ class_of q → (text : List ℕ) (i j e : ℕ) → SameRun (home q) text i j → j ≤ e → e ≤ length text → EachIn k text j e → SameRun (home q) text i e
+class_more q k is text i j e before on within each =
+    run_joined (home q) text i j e before (class_run q text j e on within (subst (λ l. EachIn l text j e) is each))
+
+-- an octet that joins a token, in a text
+pub one_on : (q : Within) (text : List ℕ) (i : ℕ) → i < length text → Still (home q) (get_or text i 0) → GoesOn q text i (i + 1)
+one_on q text i h still = record {
+  on = omega arith;
+  within = omega arith;
+  same = λ d s b. ap (run (home q) d s i b) (at_drop text i h) ∙ still d s i b (drop (i + 1) text);
+}
+
+pub escape_on : (q : Within) (text : List ℕ) (i j : ℕ) → Skips text i j → GoesOn q text i j
+escape_on InWord text i j h = record { on = h.on; within = h.within; same = h.word }
+escape_on InQuote text i j h = record { on = h.on; within = h.within; same = h.quoted }
+
+-- ---- later places
+pub blanks_passed : (text : List ℕ) (p : Place) (e : ℕ) → p.at < length text → p.depth ≤ p.at → is_in Blank (get_or text p.at 0) ≡ true
+    → p.at + 1 ≤ e → e ≤ length text → EachIn Blank text (p.at + 1) e → Passes text p (record { depth = p.depth; at = e })
+blanks_passed text p e w deep here o v rest =
     let all = each_joined Blank text p.at (p.at + 1) e (each_more Blank text p.at p.at (each_none Blank text p.at) here) rest in
     record {
       on = omega (arith, o);
       within = v;
       deep = omega (arith, o, deep);
-      same = λ b. ap (λ s. run Outside p.depth s p.at b (drop p.at text)) none ∙ blank_between text p.at e (omega (arith, o)) v all p.depth b;
+      same = λ b. blank_between text p.at e (omega (arith, o)) v all p.depth b;
     }
+
+pub blank_is : (c : ℕ) → (c ≡ 9) ⊎ (c ≡ 32) → is_in Blank c ≡ true
+blank_is c (inl e) = ap (is_in Blank) e
+blank_is c (inr e) = ap (is_in Blank) e
+
+-- ---- pieces
+opens_comment : (d at : ℕ) (b : Bool) (bs : List ℕ) → run Outside d at at b (59 ∷ bs) ≡ run Comment d at (at + 1) b bs
+opens_comment d at b bs = run_step Outside d at at b 59 bs _ refl ∙ ap (λ o. before o (run Comment d at (at + 1) b bs)) (cond-true _ _ _ (eq-eqb at at refl))
+
+opens_quote : (d at : ℕ) (b : Bool) (bs : List ℕ) → run Outside d at at b (34 ∷ bs) ≡ run Quoted d at (at + 1) b bs
+opens_quote d at b bs = run_step Outside d at at b 34 bs _ refl ∙ ap (λ o. before o (run Quoted d at (at + 1) b bs)) (cond-true _ _ _ (eq-eqb at at refl))
+
+opened : (m : Mode) (n : ℕ) → ((d at : ℕ) (b : Bool) (bs : List ℕ) → run Outside d at at b (n ∷ bs) ≡ run m d at (at + 1) b bs)
+    → (text : List ℕ) (i : ℕ) → i < length text → get_or text i 0 ≡ n → (d : ℕ) (b : Bool) → run Outside d i i b (drop i text) ≡ run m d i (i + 1) b (drop (i + 1) text)
+opened m n opens text i w is d b = ap (run Outside d i i b) (at_drop text i w ∙ ap (λ c. c ∷ drop (i + 1) text) is) ∙ opens d i b (drop (i + 1) text)
+
+pub comment_given : (text : List ℕ) (p : Place) (b : Bool) (e : ℕ) → p.at < length text → get_or text p.at 0 ≡ 59 → p.at + 1 ≤ e → e ≤ length text → EachIn Note text (p.at + 1) e
+    → EndsComment text p.depth e → Gives text p b (record { piece = comment_at p.at e; at = e; begins_blank = b })
+comment_given text p b e w is o v all ends = record {
+  on = omega (arith, o);
+  within = v;
+  same = opened Comment 59 opens_comment text p.at w is p.depth b ∙ still_between Comment Note note_still text (p.at + 1) e o v all p.depth p.at b ∙ ends p.at b;
+}
+
+pub quote_given : (text : List ℕ) (p : Place) (b : Bool) (e : ℕ) → p.at < length text → get_or text p.at 0 ≡ 34 → p.at + 1 ≤ e → e < length text → SameRun Quoted text (p.at + 1) e
+    → get_or text e 0 ≡ 34 → Gives text p b (record { piece = quote_at p.at (e + 1); at = e + 1; begins_blank = b })
+quote_given text p b e w is o v same ends = record {
+  on = omega (arith, o);
+  within = omega (arith, v);
+  same = opened Quoted 34 opens_quote text p.at w is p.depth b ∙ same p.depth p.at b ∙ ap (run Quoted p.depth p.at e b) (at_drop text e v ∙ ap (λ c. c ∷ drop (e + 1) text) ends);
+}
+
+pub word_given : (text : List ℕ) (p : Place) (b : Bool) (e at : ℕ) → p.at < e → SameRun Outside text p.at e → EndsWord text p.depth e at
+    → Gives text p b (record { piece = word_at p.at e; at = at; begins_blank = b })
+word_given text p b e at o same ends = record {
+  on = omega (arith, o, ends.on);
+  within = ends.within;
+  same = same p.depth p.at b ∙ ends.same p.at b o;
+}

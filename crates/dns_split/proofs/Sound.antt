@@ -248,7 +248,7 @@ line_same : (d : ℕ) (ls : List Lexeme) → entries d (Line false ∷ ls) ≡ e
 line_same zero ls = refl
 line_same (suc d) ls = refl
 
--- behind a flushed token
+-- after a flushed token
 flushed : (d : ℕ) (t cs : List ℕ) (e : Entries) → Right cs → option_map (with_open t) (read Outside d [] cs) ≡ Some e → (y : Entries) × Lexed d cs y × (e ≡ with_open t y)
 flushed d t cs e ih h = let p = map_some (with_open t) (read Outside d [] cs) e h in (p.0, lexed d cs p.0 (ih Outside d [] p.0 p.1), p.2)
 

@@ -30,7 +30,7 @@ abbrev is_blank : Kind → Bool
 is_blank White = true
 is_blank _ = false
 
--- the reader meets no blank at the start, if starts, and behind a line's end
+-- the reader meets no blank at the start, if starts, and after a line's end
 abbrev tight : Bool → Mode → ℕ → List ℕ → Bool
 tight starts m d [] = true
 tight starts m d (c ∷ cs) = not (is_blank (kind c) && starts) && unwrap_or (option_map (λ (v : Move). tight (is_cut v.act) v.mode v.depth cs) (step m d c)) true

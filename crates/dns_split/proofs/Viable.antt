@@ -24,7 +24,7 @@ use Rattle.dns_split.proofs.Sound.{read_splits, map_some}
 use Rattle.dns_split.specs.declared.reader.Within.{Within}
 use Rattle.dns_split.specs.declared.reader.Within.TheVariants.{InWord, InQuote}
 
--- the mode and the depth behind a text
+-- the mode and the depth after a text
 abbrev pub walk : Mode → ℕ → List ℕ → Option (Mode × ℕ)
 walk m d [] = Some (m, d)
 walk m d (c ∷ cs) = option_and_then (λ (v : Move). walk v.mode v.depth cs) (step m d c)

@@ -11,6 +11,7 @@ use Rattle.dns_split.specs.declared.pieces.Wrong.{Wrong}
 use Rattle.dns_split.specs.declared.pieces.Wrong.TheVariants.{Closing, OpenParenthesis, OpenQuote, LoneReturn, BadEscape}
 use Rattle.dns_split.specs.Lexeme.{Lexeme, Blank, Line, Open, Close, Note, Word, Quote, bytes}
 use Rattle.dns_split.specs.Splitting.{Entries, Splits, are_lexemes, nests, with_token}
+use Rattle.dns_split.specs.Token.{IsWord, IsQuote, IsComment}
 use Rattle.dns_split.specs.Viable.{IsBad, IsViable}
 
 -- a word, a quoted text with its quotes, and a comment with its semicolon, from an octet to before another
@@ -172,6 +173,14 @@ cut text (WordAt p ∷ ps) = with_token (between text p.start p.end) (cut text p
 cut text (QuoteAt p ∷ ps) = with_token (between text p.start p.end) (cut text ps)
 cut text (CommentAt p ∷ ps) = cut text ps
 cut text (EndAt p ∷ ps) = [] ∷ cut text ps
+
+-- between its places stands what the piece says
+abbrev pub IsSpelled : List ℕ → Result Piece Fault → Type 0
+IsSpelled text (Ok (WordAt p)) = IsWord (between text p.start p.end)
+IsSpelled text (Ok (QuoteAt p)) = IsQuote (between text p.start p.end)
+IsSpelled text (Ok (CommentAt p)) = IsComment (between text p.start p.end)
+IsSpelled text (Ok (EndAt p)) = ⊤
+IsSpelled text (Err f) = ⊤
 
 -- octets of the text that are characters of it
 pub record IsPart (text : List ℕ) (s e : ℕ) : Type 0 where

@@ -15,6 +15,6 @@ pub record IsPosition (before : List ℕ) (line column : ℕ) : Type 0 where
   pub counted : line ≡ length lines + 1
   pub along : column ≡ length last + 1
 
--- the position behind the characters of a text
+-- the position after the characters of a text
 abbrev pub IsTextPosition : List ℕ → ℕ → ℕ → Type 0
 IsTextPosition before line column = (cs : List ℕ) × (encode_utf8_all cs ≡ before) × IsPosition cs line column

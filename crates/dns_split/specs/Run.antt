@@ -8,10 +8,12 @@ use Rattle.dns_split.specs.declared.reader.Move.{Move}
 use Rattle.dns_split.specs.declared.pieces.Piece.{Piece}
 use Rattle.dns_split.specs.declared.pieces.Fault.{Fault}
 use Rattle.dns_split.specs.declared.pieces.Given.{Given}
+use Rattle.dns_split.specs.declared.pieces.Stepped.{Stepped}
 use Rattle.dns_split.specs.declared.pieces.Wrong.{Wrong}
 use Rattle.dns_split.specs.declared.pieces.Wrong.TheVariants.{Closing, OpenParenthesis, OpenQuote, LoneReturn, BadEscape}
 use Rattle.dns_split.specs.declared.skip.Place.{Place}
-use Rattle.dns_split.specs.Reader.{step, may_end}
+use Rattle.dns_split.specs.declared.reader.Within.{Within}
+use Rattle.dns_split.specs.Reader.{home, step, may_end}
 use Rattle.dns_split.specs.Pieces.{word_at, quote_at, comment_at, end_at}
 
 -- the comment, or the word if it has octets, that is open
@@ -102,7 +104,8 @@ before (Some p) k = Ok p ∷ k
 -- what the reader gives from here on
 abbrev pub run : Mode → ℕ → ℕ → ℕ → Bool → List ℕ → List (Result Piece Fault)
 run m d s at b [] = if may_end m d then before (open_piece m s at) (Ok (end_at at b) ∷ []) else fault at (wrong_at_end m s)
-run m d s at b (c ∷ bs) = unwrap_or (option_map (λ (v : Move). before (closed m v.mode v.act s at) (before (finished v.act s (at + 1) b) (run v.mode v.depth (start_after m v.mode v.act s at) (at + 1) (blank_after v.act b bs) bs))) (step m d c)) (fault at (wrong_at m s))
+run m d s at b (c ∷ bs) = unwrap_or (option_map (λ (v : Move). before (closed m v.mode v.act s at) (before (finished v.act s (at + 1) b)
+    (run v.mode v.depth (start_after m v.mode v.act s at) (at + 1) (blank_after v.act b bs) bs))) (step m d c)) (fault at (wrong_at m s))
 
 -- the octet changes nothing but the place
 abbrev pub Still : Mode → ℕ → Type 0
@@ -119,15 +122,37 @@ pub record Skips (text : List ℕ) (i j : ℕ) : Type 0 where
   pub word : SameRun Outside text i j
   pub quoted : SameRun Quoted text i j
 
--- a later place in the text, from which the reader gives the same
-pub record Passes (m : Mode) (text : List ℕ) (p q : Place) : Type 0 where
+-- a later place, from which the reader gives the same in a word, or in a quoted text
+pub record GoesOn (q : Within) (text : List ℕ) (i j : ℕ) : Type 0 where
+  pub on : i < j
+  pub within : j ≤ length text
+  pub same : SameRun (home q) text i j
+
+-- a later place in the text, from which the reader gives the same; nothing is open at either
+pub record Passes (text : List ℕ) (p q : Place) : Type 0 where
   pub on : p.at ≤ q.at
   pub within : q.at ≤ length text
   pub deep : q.depth ≤ q.at
-  pub same : (b : Bool) → run m p.depth p.start p.at b (drop p.at text) ≡ run m q.depth q.start q.at b (drop q.at text)
+  pub same : (b : Bool) → run Outside p.depth p.at p.at b (drop p.at text) ≡ run Outside q.depth q.at q.at b (drop q.at text)
 
--- the reader gives a piece, and then stands outside with nothing open
-pub record Gives (m : Mode) (text : List ℕ) (p : Place) (b : Bool) (g : Given) : Type 0 where
+-- before an octet, or the text's end, the reader gives the word that is open, and then stands with nothing open
+pub record EndsWord (text : List ℕ) (d e at : ℕ) : Type 0 where
+  pub on : e ≤ at
+  pub within : at ≤ length text
+  pub same : (s : ℕ) (b : Bool) → s < e → run Outside d s e b (drop e text) ≡ Ok (word_at s e) ∷ run Outside d at at b (drop at text)
+
+-- and the comment that is open
+abbrev pub EndsComment : List ℕ → ℕ → ℕ → Type 0
+EndsComment text d e = (s : ℕ) (b : Bool) → run Comment d s e b (drop e text) ≡ Ok (comment_at s e) ∷ run Outside d e e b (drop e text)
+
+-- the reader gives a piece, and then stands with nothing open
+pub record Gives (text : List ℕ) (p : Place) (b : Bool) (g : Given) : Type 0 where
   pub on : p.at ≤ g.at
   pub within : g.at ≤ length text
-  pub same : run m p.depth p.start p.at b (drop p.at text) ≡ Ok g.piece ∷ run Outside p.depth g.at g.at g.begins_blank (drop g.at text)
+  pub same : run Outside p.depth p.at p.at b (drop p.at text) ≡ Ok g.piece ∷ run Outside p.depth g.at g.at g.begins_blank (drop g.at text)
+
+-- the reader gives a piece or a fault, and then stands with nothing open or is done
+pub record Steps (text : List ℕ) (p : Place) (b : Bool) (t : Stepped) : Type 0 where
+  pub within : t.place.at ≤ length text
+  pub deep : t.place.depth ≤ t.place.at
+  pub same : run Outside p.depth p.at p.at b (drop p.at text) ≡ t.given ∷ (if t.is_done then [] else run Outside t.place.depth t.place.at t.place.at t.begins_blank (drop t.place.at text))

@@ -1,6 +1,9 @@
 -- Octets that the reader passes over together.
-use Rattle.std.specs.Prelude.{◌≡◌, ◌≤◌, ◌<◌, ℕ, ◌+◌, if◌then◌else◌, Bool, true, not, nat_lt, nat_le, ◌&&◌, ◌||◌, ◌==◌, List, slice_index}
+use Rattle.std.specs.Prelude.{◌≡◌, ◌≤◌, ◌<◌, ℕ, ◌+◌, if◌then◌else◌, Bool, true, not, nat_lt, nat_le, ◌&&◌, ◌||◌, ◌==◌, List, map, slice_index}
 use Rattle.std.specs.Int.{w64, trailing_zeros}
+use lib.Lanes.{mask_l}
+use Rattle.dns_split.specs.declared.reader.Within.{Within}
+use Rattle.dns_split.specs.declared.reader.Within.TheVariants.{InWord, InQuote}
 use Rattle.dns_split.specs.declared.skip.Class.{Class}
 use Rattle.dns_split.specs.declared.skip.Class.TheVariants.{Word, Quote, Comment, Blank}
 
@@ -8,7 +11,7 @@ use Rattle.dns_split.specs.declared.skip.Class.TheVariants.{Word, Quote, Comment
 abbrev pub is_in : Class → ℕ → Bool
 is_in Word c = nat_lt 41 c && (not (c == 59) && not (c == 92))
 is_in Quote c = nat_le 32 c && (not (c == 34) && not (c == 92))
-is_in Comment c = nat_lt 13 c
+is_in Comment c = not (c == 10) && not (c == 13)
 is_in Blank c = c == 32 || c == 9
 
 -- each octet from one place to before another
@@ -18,6 +21,17 @@ EachIn k text i j = (n : ℕ) → i ≤ n → n < j → is_in k (slice_index tex
 -- the first octets of 16
 abbrev pub RunIn : Class → List ℕ → ℕ → ℕ → Type 0
 RunIn k text i run = (run ≤ 16) × EachIn k text i (i + run)
+
+-- the bits of marks on octets, the lowest first, and each octet without a mark is of a class
+pub record Marks (k : Class) (octets : List ℕ) (bits : ℕ) : Type 0 where
+  pub marked : ℕ → Bool
+  pub is : bits ≡ mask_l (map marked octets)
+  pub unmarked : (c : ℕ) → c < 256 → (marked c || is_in k c) ≡ true
+
+-- the class in a word, and in a quoted text
+abbrev pub class_of : Within → Class
+class_of InWord = Word
+class_of InQuote = Quote
 
 -- the place of the lowest bit that is set, or 16
 abbrev pub first_set : ℕ → ℕ

@@ -1,9 +1,9 @@
--- What a token is: a word, or a quoted text with its quotes.
-use Rattle.std.specs.Prelude.{◌≡◌, ◌⊎◌, ℕ, ◌<◌, true, List, [], ◌∷◌, ◌++◌, length}
+-- What a token is: a word, or a quoted text with its quotes; and what a comment is.
+use Rattle.std.specs.Prelude.{◌≡◌, ◌⊎◌, ℕ, ◌<◌, true, List, [], ◌∷◌, ◌++◌, length, encode_utf8_all}
 use Rattle.std.specs.List.{flat_map, list_all}
 use Rattle.dns_symbol.specs.Symbol.{bytes, is_word_symbol}
 use Rattle.dns_symbol.specs.declared.symbol.Symbol.{Symbol}
-use Rattle.dns_split.specs.Lexeme.{is_quote_symbol}
+use Rattle.dns_split.specs.Lexeme.{is_quote_symbol, is_note_char}
 
 -- one symbol or more that may stand in a word
 pub record IsWord (text : List ℕ) : Type 0 where
@@ -21,3 +21,9 @@ pub record IsQuote (text : List ℕ) : Type 0 where
 -- a word, or a quoted text
 abbrev pub IsToken : List ℕ → Type 0
 IsToken text = IsWord text ⊎ IsQuote text
+
+-- a semicolon, and characters other than LF and CR
+pub record IsComment (text : List ℕ) : Type 0 where
+  pub characters : List ℕ
+  pub valid : list_all is_note_char characters ≡ true
+  pub spelled : text ≡ encode_utf8_all (59 ∷ characters)

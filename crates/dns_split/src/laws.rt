@@ -1,12 +1,15 @@
 //! Laws on splitting.
 //! Each function's contract is the law; calling one does nothing.
-ghost use Rattle.std.specs.Prelude.{◌≡◌, ◌<◌, ◌≤◌, ◌+◌, ◌++◌, ◌∷◌, ◌↔◌, ◌⊎◌, [], List, Bool, Result, ℕ, drop, encode_utf8_all, length, map};
+ghost use Rattle.std.specs.Prelude.{◌≡◌, ◌<◌, ◌≤◌, ◌+◌, ◌++◌, ◌∷◌, ◌↔◌, ◌⊎◌, [], List, Bool};
+ghost use Rattle.std.specs.Prelude.{Result, ℕ, drop, encode_utf8_all, length, map};
+ghost use Rattle.std.specs.List.{AllByRecursion};
 ghost use Rattle.std.specs.Str.{IsUtf8};
 ghost use Rattle.dns_split.specs.Splitting.{Splits, Entries};
 ghost use Rattle.dns_split.specs.Lexeme.{Line, bytes};
 ghost use Rattle.dns_split.specs.Viable.{IsBad, IsViable};
 ghost use Rattle.dns_split.specs.Token.{IsToken};
-ghost use Rattle.dns_split.specs.Pieces.{Faulty, IsFault, IsOctetPieces, IsPieces, cut, end_at, moved_fault, moved_piece, place_of};
+ghost use Rattle.dns_split.specs.Pieces.{Faulty, IsFault, IsOctetPieces, IsPieces, IsSpelled};
+ghost use Rattle.dns_split.specs.Pieces.{Reads, cut, end_at, moved_fault, moved_piece, place_of};
 ghost use Rattle.dns_split.specs.declared.pieces.Piece.{Piece};
 ghost use Rattle.dns_split.specs.declared.pieces.Fault.{Fault};
 
@@ -25,24 +28,42 @@ pub fn tokens_split_alone()
     ensures { (text : List ℕ) → (Splits text ((text ∷ []) ∷ []) ↔ IsToken text) }
 {}
 
+/// What a text splits into are tokens, in one entry or more.
+pub fn entries_are_tokens()
+    ensures tokens { (text : List ℕ) (found : Entries) → Splits text found
+        → AllByRecursion (AllByRecursion IsToken) found }
+    ensures some { (text : List ℕ) (found : Entries) → Splits text found → 0 < length found }
+{}
+
+/// Of what the cursor gives, before a fault too, each word is a word, each quoted text a quoted
+/// text and each comment a comment.
+pub fn pieces_are_spelled()
+    ensures { (text : List ℕ) (given : List (Result Piece Fault)) → Reads text given
+        → AllByRecursion (IsSpelled text) given }
+{}
+
 /// A text has one list of pieces at most.
 pub fn pieces_come_one_way()
-    ensures { (text : List ℕ) (found other : List Piece) → IsPieces text found → IsPieces text other → found ≡ other }
+    ensures { (text : List ℕ) (found other : List Piece) → IsPieces text found
+        → IsPieces text other → found ≡ other }
 {}
 
 /// A bad text has one place of its fault, and one list of pieces before it.
 pub fn faults_come_one_way()
-    ensures { (text : List ℕ) (given other : List (Result Piece Fault)) (f : Faulty text given) (g : Faulty text other) → (f.found ≡ g.found) × (f.fault.at ≡ g.fault.at) }
+    ensures { (text : List ℕ) (given other : List (Result Piece Fault)) (f : Faulty text given)
+        (g : Faulty text other) → (f.found ≡ g.found) × (f.fault.at ≡ g.fault.at) }
 {}
 
 /// The words and quotes of a text's pieces, cut where entries end, are its entries.
 pub fn pieces_are_tokens()
-    ensures { (text : List ℕ) (found : List Piece) → IsPieces text found → Splits text (cut text found) }
+    ensures { (text : List ℕ) (found : List Piece) → IsPieces text found
+        → Splits text (cut text found) }
 {}
 
 /// A text that splits has pieces.
 pub fn splits_have_pieces()
-    ensures { (text : List ℕ) (e : Entries) → Splits text e → (found : List Piece) × IsPieces text found × (cut text found ≡ e) }
+    ensures { (text : List ℕ) (e : Entries) → Splits text e → (found : List Piece)
+        × IsPieces text found × (cut text found ≡ e) }
 {}
 
 /// Texts that split join: with a line's end between them they split into the entries of both.
@@ -60,40 +81,50 @@ pub fn bad_texts_join()
 
 /// And the fault is the bad text's, further on.
 pub fn faults_join()
-    ensures { (x y : List ℕ) (has_cr : Bool) (e : Entries) (fault : Fault) → Splits x e → IsFault y fault
-        → IsFault (x ++ (bytes (Line has_cr) ++ y)) (moved_fault (λ i. length x + length (bytes (Line has_cr)) + i) fault) }
+    ensures { (x y : List ℕ) (has_cr : Bool) (e : Entries) (fault : Fault) → Splits x e
+        → IsFault y fault
+        → IsFault (x ++ (bytes (Line has_cr) ++ y))
+        (moved_fault (λ i. length x + length (bytes (Line has_cr)) + i) fault) }
 {}
 
 /// A text can be cut at the end of any of its entries but the last.
 pub fn splits_are_cut()
     ensures { (text : List ℕ) (e f : Entries) → Splits text (e ++ f) → 0 < length e → 0 < length f
-        → (x : List ℕ) × (y : List ℕ) × (has_cr : Bool) × (text ≡ x ++ (bytes (Line has_cr) ++ y)) × Splits x e × Splits y f }
+        → (x : List ℕ) × (y : List ℕ) × (has_cr : Bool)
+        × (text ≡ x ++ (bytes (Line has_cr) ++ y)) × Splits x e × Splits y f }
 {}
 
-/// Pieces of texts join alike: the first text's last end moves behind the line's end.
+/// Pieces of texts join alike: the first text's last end moves after the line's end.
 pub fn pieces_join()
-    ensures { (x y : List ℕ) (has_cr : Bool) (found follow : List Piece) → IsPieces x found → IsPieces y follow
+    ensures { (x y : List ℕ) (has_cr : Bool) (found follow : List Piece) → IsPieces x found
+        → IsPieces y follow
         → (front : List Piece) × (blank : Bool) × (found ≡ front ++ end_at (length x) blank ∷ [])
-        × IsPieces (x ++ (bytes (Line has_cr) ++ y)) (front ++ end_at (length x + length (bytes (Line has_cr))) blank
+        × IsPieces (x ++ (bytes (Line has_cr) ++ y))
+        (front ++ end_at (length x + length (bytes (Line has_cr))) blank
         ∷ map (moved_piece (λ i. length x + length (bytes (Line has_cr)) + i)) follow) }
 {}
 
 /// After the end of an entry that is not the last, the pieces are those of the rest alone.
 pub fn pieces_go_on()
-    ensures { (text : List ℕ) (found more : List Piece) (at : ℕ) (blank : Bool) → IsPieces text (found ++ end_at at blank ∷ more)
-        → (more ≡ []) ⊎ ((alone : List Piece) × IsPieces (drop at text) alone × (more ≡ map (moved_piece (λ i. at + i)) alone)) }
+    ensures { (text : List ℕ) (found more : List Piece) (at : ℕ) (blank : Bool)
+        → IsPieces text (found ++ end_at at blank ∷ more)
+        → (more ≡ []) ⊎ ((alone : List Piece) × IsPieces (drop at text) alone
+        × (more ≡ map (moved_piece (λ i. at + i)) alone)) }
 {}
 
 /// The same of octets, each a character: what [`Pieces::of_octets_starting_at`] gives.
 ///
 /// [`Pieces::of_octets_starting_at`]: crate::pieces::Pieces::of_octets_starting_at
 pub fn octet_pieces_go_on()
-    ensures { (octets : List ℕ) (found more : List Piece) (at : ℕ) (blank : Bool) → at ≤ length octets → IsOctetPieces octets (found ++ end_at at blank ∷ more)
-        → (more ≡ []) ⊎ ((alone : List Piece) × IsOctetPieces (drop at octets) alone × (more ≡ map (moved_piece (λ i. at + i)) alone)) }
+    ensures { (octets : List ℕ) (found more : List Piece) (at : ℕ) (blank : Bool)
+        → at ≤ length octets → IsOctetPieces octets (found ++ end_at at blank ∷ more)
+        → (more ≡ []) ⊎ ((alone : List Piece) × IsOctetPieces (drop at octets) alone
+        × (more ≡ map (moved_piece (λ i. at + i)) alone)) }
 {}
 
 /// Of UTF-8 text the octets, each a character, have the same pieces, or are bad in the same place.
 pub fn octets_agree(text: &str)
     ensures pieces { (found : List Piece) → IsPieces text.now found → IsOctetPieces text.now found }
-    ensures bad { (at : ℕ) → IsBad text.now at → IsBad (encode_utf8_all text.now) (place_of text.now at) }
+    ensures bad { (at : ℕ) → IsBad text.now at
+        → IsBad (encode_utf8_all text.now) (place_of text.now at) }
 {}

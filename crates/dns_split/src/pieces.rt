@@ -1,11 +1,15 @@
 //! The pieces of a zone text, one by one, with their places and without memory.
-ghost use Rattle.std.specs.Prelude.{◌≡◌, ◌+◌, ◌<◌, ◌^◌, ◌≤◌, IfSome, length, drop};
+ghost use Rattle.std.specs.Prelude.{◌≡◌, ◌+◌, ◌<◌, ◌^◌, ◌≤◌, IfSome, IsTrue, length, drop};
+ghost use Rattle.std.specs.Prelude.{slice_index};
 ghost use Rattle.std.specs.Str.{IsCharBoundary};
-ghost use Rattle.dns_split.specs.Pieces.{Reads, EachFits, ReadsOctets, ReadsOctetsFrom, EachWithin, IsPart, between, ReadsFrom, EachIsPart, next_blank};
-ghost use Rattle.dns_split.specs.Run.{open_piece, goes_on, closed, finished, start_after, first_blank, wrong_at, wrong_at_end, run, Gives};
+ghost use Rattle.dns_split.specs.Pieces.{Reads, EachFits, ReadsOctets, ReadsOctetsFrom, EachWithin};
+ghost use Rattle.dns_split.specs.Pieces.{IsPart, between, ReadsFrom, EachIsPart, next_blank};
+ghost use Rattle.dns_split.specs.Run.{open_piece, goes_on, closed, finished, start_after};
+ghost use Rattle.dns_split.specs.Run.{first_blank, blank_after, wrong_at, wrong_at_end, run};
+ghost use Rattle.dns_split.specs.Run.{EndsWord, EndsComment, Gives, Steps};
 
-use crate::reader::{Act, Mode, may_end, step};
-use crate::skip::{Place, over};
+use crate::reader::{Act, Mode, Within, may_end, step};
+use crate::skip::{Class, Place, past_all, skip_class, token_end};
 use std::marker::Model;
 
 /// Octets of a text, from `start` to before `end`.
@@ -178,7 +182,17 @@ fn first_blank(octets: &[u8], at: usize) -> bool
     }
 }
 
-/// A piece, and where the reader then stands, outside with nothing open.
+/// Whether the entry that is open after an octet began with a blank; the octet ends before `end`.
+fn blank_after(act: Act, begins_blank: bool, octets: &[u8], end: usize) -> bool
+    ensures { result ≡ blank_after act begins_blank (drop end octets.now) }
+{
+    match act {
+        Act::EndEntry => first_blank(octets, end),
+        _ => begins_blank,
+    }
+}
+
+/// A piece, and where the reader then stands with nothing open.
 #[derive(Clone, Copy)]
 struct Given {
     piece: Piece,
@@ -186,75 +200,209 @@ struct Given {
     begins_blank: bool,
 }
 
-/// The word that ends before the octet at which the reader stands, if that ends it.
+/// Where the reader stands after a word that ends before `end`, with nothing open, if it ends.
 #[inline(always)]
-fn word_here(octets: &[u8], place: Place, begins_blank: bool) -> Option<Given>
-    requires within { place.at < length octets.now }
-    requires open { place.start < place.at }
-    ensures { IfSome result (Gives Mode.Outside octets.now place begins_blank) }
+fn after_word(octets: &[u8], depth: usize, end: usize) -> Option<usize>
+    requires { end ≤ length octets.now }
+    ensures { IfSome result (EndsWord octets.now depth end) }
 {
-    let Place { start, at, .. } = place;
-    let piece = Piece::Word(Span { start, end: at });
-    match octets[at] {
-        b' ' | b'\t' => Some(Given {
-            piece,
-            at: at + 1,
-            begins_blank,
-        }),
-        b'\n' | b'\r' | b'(' | b';' | b'"' => Some(Given {
-            piece,
-            at,
-            begins_blank,
-        }),
+    if end == octets.len() {
+        return if depth == 0 { Some(end) } else { None };
+    }
+    match octets[end] {
+        b' ' | b'\t' => Some(end + 1),
+        b'\n' | b'\r' | b'(' | b';' | b'"' => Some(end),
+        b')' if depth > 0 => Some(end),
         _ => None,
     }
 }
 
-/// The end of the line at which the reader stands, outside parentheses with nothing open.
+/// The word that begins at a place, if no fault follows it.
+#[inline(always)]
+fn word_here(octets: &[u8], place: Place, begins_blank: bool) -> Option<Given>
+    requires { place.at ≤ length octets.now }
+    ensures { IfSome result (Gives octets.now place begins_blank) }
+{
+    let start = place.at;
+    let end = token_end(Within::InWord, octets, start);
+    if end == start {
+        return None;
+    }
+    let at = after_word(octets, place.depth, end)?;
+    Some(Given {
+        piece: Piece::Word(Span { start, end }),
+        at,
+        begins_blank,
+    })
+}
+
+/// The quoted text whose double quote stands at a place, if it is closed.
+#[inline(always)]
+fn quote_here(octets: &[u8], place: Place, begins_blank: bool) -> Option<Given>
+    requires within { place.at < length octets.now }
+    requires opens { slice_index octets.now place.at ≡ 34 }
+    ensures { IfSome result (Gives octets.now place begins_blank) }
+{
+    let start = place.at;
+    let last = token_end(Within::InQuote, octets, start + 1);
+    if last == octets.len() || octets[last] != b'"' {
+        return None;
+    }
+    let end = last + 1;
+    Some(Given {
+        piece: Piece::Quote(Span { start, end }),
+        at: end,
+        begins_blank,
+    })
+}
+
+/// Whether a comment that ends before `end` ends there, with its line or with the text.
+#[inline(always)]
+fn ends_comment(octets: &[u8], depth: usize, end: usize) -> bool
+    requires { end ≤ length octets.now }
+    ensures { IsTrue result → EndsComment octets.now depth end }
+{
+    if end == octets.len() {
+        return depth == 0;
+    }
+    matches!(octets[end], b'\n' | b'\r')
+}
+
+/// The comment whose semicolon stands at a place, unless parentheses are left open after it.
+#[inline(always)]
+fn comment_here(octets: &[u8], place: Place, begins_blank: bool) -> Option<Given>
+    requires within { place.at < length octets.now }
+    requires opens { slice_index octets.now place.at ≡ 59 }
+    ensures { IfSome result (Gives octets.now place begins_blank) }
+{
+    let start = place.at;
+    let end = skip_class(Class::Comment, octets, start + 1);
+    if !ends_comment(octets, place.depth, end) {
+        return None;
+    }
+    Some(Given {
+        piece: Piece::Comment(Span { start, end }),
+        at: end,
+        begins_blank,
+    })
+}
+
+/// The end of an entry, with the line that ends at a place.
 #[inline(always)]
 fn end_here(octets: &[u8], place: Place, begins_blank: bool) -> Option<Given>
-    requires within { place.at < length octets.now }
-    requires closed { place.start ≡ place.at }
-    requires flat { place.depth ≡ 0 }
-    ensures { IfSome result (Gives Mode.Outside octets.now place begins_blank) }
+    requires { place.at < length octets.now }
+    ensures { IfSome result (Gives octets.now place begins_blank) }
 {
-    let at = place.at;
-    let end = match octets[at] {
+    let Place { depth, at } = place;
+    if depth > 0 {
+        return None;
+    }
+    let at = match octets[at] {
         b'\n' => at + 1,
         b'\r' if octets.get(at + 1) == Some(&b'\n') => at + 2,
         _ => return None,
     };
     Some(Given {
-        piece: Piece::End(EndOfEntry {
-            at: end,
-            begins_blank,
-        }),
-        at: end,
-        begins_blank: first_blank(octets, end),
+        piece: Piece::End(EndOfEntry { at, begins_blank }),
+        at,
+        begins_blank: first_blank(octets, at),
     })
 }
 
-/// The piece that is given at the octet at which the reader stands, in the cases that are common.
+/// The piece that begins at a place, if no fault is in it; the end of the text is left out.
 #[inline(always)]
-fn piece_here(mode: Mode, octets: &[u8], place: Place, begins_blank: bool) -> Option<Given>
-    requires { place.at < length octets.now }
-    ensures { IfSome result (Gives mode octets.now place begins_blank) }
+fn piece_here(octets: &[u8], place: Place, begins_blank: bool) -> Option<Given>
+    requires { place.at ≤ length octets.now }
+    ensures { IfSome result (Gives octets.now place begins_blank) }
 {
-    let Place { depth, start, at } = place;
-    match mode {
-        Mode::Outside if start < at => word_here(octets, place, begins_blank),
-        Mode::Outside if start == at && depth == 0 => end_here(octets, place, begins_blank),
-        Mode::Quoted if octets[at] == b'"' => Some(Given {
-            piece: Piece::Quote(Span { start, end: at + 1 }),
-            at: at + 1,
+    if place.at == octets.len() {
+        return None;
+    }
+    match octets[place.at] {
+        b'"' => quote_here(octets, place, begins_blank),
+        b';' => comment_here(octets, place, begins_blank),
+        b'\n' | b'\r' => end_here(octets, place, begins_blank),
+        _ => word_here(octets, place, begins_blank),
+    }
+}
+
+/// A piece or a fault, and where the reader then stands with nothing open, unless that was last.
+#[derive(Clone, Copy)]
+struct Stepped {
+    given: Result<Piece, Fault>,
+    place: Place,
+    begins_blank: bool,
+    is_done: bool,
+}
+
+/// What is given next, found by a step of the reader for each octet.
+#[inline(never)]
+fn by_steps(octets: &[u8], place: Place, begins_blank: bool) -> Stepped
+    requires within { place.at ≤ length octets.now }
+    requires deep { place.depth ≤ place.at }
+    ensures { Steps octets.now place begins_blank result }
+{
+    let mut mode = Mode::Outside;
+    let mut depth = place.depth;
+    let mut start = place.at;
+    let mut at = place.at;
+    while at < octets.len() {
+        let Some(next) = step(mode, depth, char::from(octets[at])) else {
+            let wrong = wrong_at(mode, start);
+            return Stepped {
+                given: Err(Fault { at, wrong }),
+                place,
+                begins_blank,
+                is_done: true,
+            };
+        };
+        if let Some(piece) = closed(mode, next.mode, next.act, start, at) {
+            return Stepped {
+                given: Ok(piece),
+                place: Place { depth, at },
+                begins_blank,
+                is_done: false,
+            };
+        }
+        let end = at + 1;
+        if let Some(piece) = finished(next.act, start, end, begins_blank) {
+            return Stepped {
+                given: Ok(piece),
+                place: Place {
+                    depth: next.depth,
+                    at: end,
+                },
+                begins_blank: blank_after(next.act, begins_blank, octets, end),
+                is_done: false,
+            };
+        }
+        start = start_after(mode, next.mode, next.act, start, at);
+        mode = next.mode;
+        depth = next.depth;
+        at = end;
+    }
+    if !may_end(mode, depth) {
+        let wrong = wrong_at_end(mode, start);
+        return Stepped {
+            given: Err(Fault { at, wrong }),
+            place,
             begins_blank,
-        }),
-        Mode::Comment if octets[at] == b'\n' || octets[at] == b'\r' => Some(Given {
-            piece: Piece::Comment(Span { start, end: at }),
-            at,
+            is_done: true,
+        };
+    }
+    match open_piece(mode, start, at) {
+        Some(piece) => Stepped {
+            given: Ok(piece),
+            place: Place { depth, at },
             begins_blank,
-        }),
-        _ => None,
+            is_done: false,
+        },
+        None => Stepped {
+            given: Ok(Piece::End(EndOfEntry { at, begins_blank })),
+            place,
+            begins_blank,
+            is_done: true,
+        },
     }
 }
 
@@ -262,9 +410,7 @@ fn piece_here(mode: Mode, octets: &[u8], place: Place, begins_blank: bool) -> Op
 #[derive(Drop)]
 pub struct Pieces<'t> {
     octets: &'t [u8],
-    mode: Mode,
     depth: usize,
-    start: usize,
     at: usize,
     begins_blank: bool,
     is_done: bool,
@@ -273,12 +419,14 @@ pub struct Pieces<'t> {
 impl<'t> Model for Pieces<'t> {
     ghost use Rattle.std.specs.Prelude.{◌≤◌, List, [], Result, length, drop, if◌then◌else◌};
     ghost use Rattle.dns_split.specs.Run.{run};
+    ghost use Rattle.dns_split.specs.declared.reader.Mode.TheVariants.{Outside};
     ghost use Rattle.dns_split.specs.declared.pieces.Piece.{Piece};
     ghost use Rattle.dns_split.specs.declared.pieces.Fault.{Fault};
 
     ghost Value = { List (Result Piece Fault) };
 
-    ghost view = { λ p. if p.is_done then [] else run p.mode p.depth p.start p.at p.begins_blank (drop p.at p.octets.now) };
+    ghost view = { λ p. if p.is_done then []
+        else run Outside p.depth p.at p.at p.begins_blank (drop p.at p.octets.now) };
 
     ghost invariant = { λ p. (p.depth ≤ p.at) × (p.at ≤ length p.octets.now) };
 }
@@ -298,82 +446,23 @@ impl<'t> Iterator for Pieces<'t> {
             return None;
         }
         let octets = self.octets;
-        let mut mode = self.mode;
-        let mut place = Place {
+        let here = Place {
             depth: self.depth,
-            start: self.start,
             at: self.at,
         };
-        while place.at < octets.len() {
-            if let Some(later) = over(mode, octets, place) {
-                place = later;
-                continue;
-            }
-            if let Some(given) = piece_here(mode, octets, place, self.begins_blank) {
-                self.mode = Mode::Outside;
-                self.depth = place.depth;
-                self.start = given.at;
-                self.at = given.at;
-                self.begins_blank = given.begins_blank;
-                return Some(Ok(given.piece));
-            }
-            let Place { depth, start, at } = place;
-            let Some(next) = step(mode, depth, char::from(octets[at])) else {
-                self.is_done = true;
-                let wrong = wrong_at(mode, start);
-                return Some(Err(Fault { at, wrong }));
-            };
-            if let Some(piece) = closed(mode, next.mode, next.act, start, at) {
-                if let Act::EndToken | Act::BeginToken = next.act {
-                    self.mode = next.mode;
-                    self.depth = next.depth;
-                    self.start = start_after(mode, next.mode, next.act, start, at);
-                    self.at = at + 1;
-                } else {
-                    self.mode = Mode::Outside;
-                    self.depth = depth;
-                    self.start = at;
-                    self.at = at;
-                }
-                return Some(Ok(piece));
-            }
-            let piece = finished(next.act, start, at + 1, self.begins_blank);
-            let begins = start_after(mode, next.mode, next.act, start, at);
-            mode = next.mode;
-            if let Some(piece) = piece {
-                self.mode = mode;
-                self.depth = next.depth;
-                self.start = begins;
-                self.at = at + 1;
-                if let Act::EndEntry = next.act {
-                    self.begins_blank = first_blank(octets, at + 1);
-                }
-                return Some(Ok(piece));
-            }
-            place = Place {
-                depth: next.depth,
-                start: begins,
-                at: at + 1,
-            };
+        let place = past_all(octets, here);
+        if let Some(given) = piece_here(octets, place, self.begins_blank) {
+            self.depth = place.depth;
+            self.at = given.at;
+            self.begins_blank = given.begins_blank;
+            return Some(Ok(given.piece));
         }
-        let Place { depth, start, at } = place;
-        if !may_end(mode, depth) {
-            self.is_done = true;
-            let wrong = wrong_at_end(mode, start);
-            return Some(Err(Fault { at, wrong }));
-        }
-        if let Some(piece) = open_piece(mode, start, at) {
-            self.mode = Mode::Outside;
-            self.depth = depth;
-            self.start = at;
-            self.at = at;
-            return Some(Ok(piece));
-        }
-        self.is_done = true;
-        Some(Ok(Piece::End(EndOfEntry {
-            at,
-            begins_blank: self.begins_blank,
-        })))
+        let stepped = by_steps(octets, place, self.begins_blank);
+        self.depth = stepped.place.depth;
+        self.at = stepped.place.at;
+        self.begins_blank = stepped.begins_blank;
+        self.is_done = stepped.is_done;
+        Some(stepped.given)
     }
 }
 
@@ -429,13 +518,12 @@ impl<'t> Pieces<'t> {
     /// At the beginning of an entry.
     fn beginning(octets: &'t [u8], at: usize) -> Pieces<'t>
         requires { at ≤ length octets.now }
-        ensures { result ≡ run Mode.Outside 0 at at (first_blank (drop at octets.now)) (drop at octets.now) }
+        ensures { result
+            ≡ run Mode.Outside 0 at at (first_blank (drop at octets.now)) (drop at octets.now) }
     {
         Pieces {
             octets,
-            mode: Mode::Outside,
             depth: 0,
-            start: at,
             at,
             begins_blank: first_blank(octets, at),
             is_done: false,

@@ -1,7 +1,8 @@
 //! The reader: one character after the other, with a depth and an escape's digits.
 ghost use Rattle.std.specs.Prelude.{◌≡◌, ◌+◌, ◌-◌, ◌*◌, ◌<◌, ◌^◌, ◌↔◌, true, IsSome, IfSome};
 ghost use Rattle.dns_symbol.specs.Symbol.{is_digit};
-ghost use Rattle.dns_split.specs.Reader.{kind, home, move_to, step, outside_step, quoted_step, comment_step, return_step, line_end, may_end};
+ghost use Rattle.dns_split.specs.Reader.{kind, home, move_to, step, outside_step, quoted_step};
+ghost use Rattle.dns_split.specs.Reader.{comment_step, return_step, line_end, may_end};
 
 /// What a character is to the grammar.
 #[derive(Clone, Copy)]

@@ -1,10 +1,11 @@
 //! Runs of octets that give no piece, passed over without a step of the reader for each.
 ghost use Rattle.std.specs.Prelude.{◌≡◌, ◌+◌, ◌<◌, ◌≤◌, true, IfSome, length};
 ghost use Rattle.dns_symbol.specs.Symbol.{is_digit};
-ghost use Rattle.dns_split.specs.Run.{Skips, Passes};
-ghost use Rattle.dns_split.specs.Skip.{is_in, EachIn, RunIn, first_set};
+ghost use Rattle.dns_split.specs.Reader.{home};
+ghost use Rattle.dns_split.specs.Run.{SameRun, Skips, GoesOn, Passes};
+ghost use Rattle.dns_split.specs.Skip.{is_in, EachIn, RunIn, Marks, class_of, first_set};
 
-use crate::reader::Mode;
+use crate::reader::Within;
 use std::simd::prelude::*;
 
 /// The octets of one load.
@@ -26,25 +27,23 @@ pub(crate) enum Class {
     Blank,
 }
 
-/// Where the reader stands in a text.
+/// A place of a text at which no token and no comment is open.
 #[derive(Clone, Copy)]
 pub(crate) struct Place {
     /// How many parentheses are open.
     pub(crate) depth: usize,
-    /// Where the open token or comment begins; `at` where none is open.
-    pub(crate) start: usize,
     pub(crate) at: usize,
 }
 
 /// Whether an octet is of a class, by a few comparisons.
 #[inline(always)]
-pub(crate) fn is_in(class: Class, octet: u8) -> bool
+fn is_in(class: Class, octet: u8) -> bool
     ensures { result ≡ is_in class octet }
 {
     match class {
         Class::Word => octet > b')' && octet != b';' && octet != b'\\',
         Class::Quote => octet >= b' ' && octet != b'"' && octet != b'\\',
-        Class::Comment => octet > b'\r',
+        Class::Comment => octet != b'\n' && octet != b'\r',
         Class::Blank => octet == b' ' || octet == b'\t',
     }
 }
@@ -61,81 +60,56 @@ fn first_set(mask: u64) -> usize
     }
 }
 
-#[inline]
-fn word_run(octets: &[u8], at: usize) -> usize
-    requires { at + LANES ≤ length octets.now }
-    ensures { RunIn Class.Word octets.now at result }
+/// A bit for each octet of a load, set where a run of octets of a class ends.
+#[inline(always)]
+fn ends(class: Class, octets: u8x16) -> u64
+    requires { length octets ≡ LANES }
+    ensures { Marks class octets result }
 {
-    let v = u8x16::from_slice(&octets[at..]);
-    let ends = v.simd_lt(u8x16::splat(b'*'))
-        | v.simd_eq(u8x16::splat(b';'))
-        | v.simd_eq(u8x16::splat(b'\\'));
-    first_set(ends.to_bitmask())
-}
-
-#[inline]
-fn quote_run(octets: &[u8], at: usize) -> usize
-    requires { at + LANES ≤ length octets.now }
-    ensures { RunIn Class.Quote octets.now at result }
-{
-    let v = u8x16::from_slice(&octets[at..]);
-    let ends = v.simd_lt(u8x16::splat(b' '))
-        | v.simd_eq(u8x16::splat(b'"'))
-        | v.simd_eq(u8x16::splat(b'\\'));
-    first_set(ends.to_bitmask())
-}
-
-#[inline]
-fn comment_run(octets: &[u8], at: usize) -> usize
-    requires { at + LANES ≤ length octets.now }
-    ensures { RunIn Class.Comment octets.now at result }
-{
-    let v = u8x16::from_slice(&octets[at..]);
-    first_set(v.simd_le(u8x16::splat(b'\r')).to_bitmask())
-}
-
-#[inline]
-fn blank_run(octets: &[u8], at: usize) -> usize
-    requires { at + LANES ≤ length octets.now }
-    ensures { RunIn Class.Blank octets.now at result }
-{
-    let v = u8x16::from_slice(&octets[at..]);
-    let ends = v.simd_ne(u8x16::splat(b' ')) & v.simd_ne(u8x16::splat(b'\t'));
-    first_set(ends.to_bitmask())
+    match class {
+        Class::Word => {
+            let low = octets.simd_lt(u8x16::splat(b'*'));
+            let semicolon = octets.simd_eq(u8x16::splat(b';'));
+            (low | semicolon | octets.simd_eq(u8x16::splat(b'\\'))).to_bitmask()
+        }
+        Class::Quote => {
+            let low = octets.simd_lt(u8x16::splat(b' '));
+            let quote = octets.simd_eq(u8x16::splat(b'"'));
+            (low | quote | octets.simd_eq(u8x16::splat(b'\\'))).to_bitmask()
+        }
+        Class::Comment => {
+            let feed = octets.simd_eq(u8x16::splat(b'\n'));
+            (feed | octets.simd_eq(u8x16::splat(b'\r'))).to_bitmask()
+        }
+        Class::Blank => {
+            let no_space = octets.simd_ne(u8x16::splat(b' '));
+            (no_space & octets.simd_ne(u8x16::splat(b'\t'))).to_bitmask()
+        }
+    }
 }
 
 /// How many of the octets of one load are of a class, from the first.
-#[inline]
+#[inline(always)]
 fn run_in(class: Class, octets: &[u8], at: usize) -> usize
     requires { at + LANES ≤ length octets.now }
     ensures { RunIn class octets.now at result }
 {
-    match class {
-        Class::Word => word_run(octets, at),
-        Class::Quote => quote_run(octets, at),
-        Class::Comment => comment_run(octets, at),
-        Class::Blank => blank_run(octets, at),
-    }
+    first_set(ends(class, u8x16::from_slice(&octets[at..])))
 }
 
 /// The first place from `at` on whose octet is not of a class.
 #[inline(always)]
-fn skip_class(class: Class, octets: &[u8], at: usize) -> usize
+pub(crate) fn skip_class(class: Class, octets: &[u8], at: usize) -> usize
     requires { at ≤ length octets.now }
     ensures on { at ≤ result }
     ensures within { result ≤ length octets.now }
     ensures each { EachIn class octets.now at result }
 {
     let mut place = at;
-    let few = if octets.len() - at < FEW {
-        octets.len()
-    } else {
-        at + FEW
-    };
-    'by_few: while place < few && is_in(class, octets[place]) {
+    'by_few: while place < octets.len() && place - at < FEW && is_in(class, octets[place]) {
         place += 1;
     }
-    if place < few {
+    if place - at < FEW {
         return place;
     }
     'by_load: while octets.len() - place >= LANES {
@@ -162,18 +136,22 @@ fn digit(octet: u8) -> Option<u32>
     }
 }
 
-/// The end of the escape that begins here, if one does; some near the text's end are left out.
+/// The end of the escape that begins here, if one does.
 #[inline(always)]
 fn escape_end(octets: &[u8], at: usize) -> Option<usize>
     requires { at < length octets.now }
     ensures { IfSome result (Skips octets.now at) }
 {
-    if octets.len() - at < 4 || octets[at] != b'\\' {
+    let left = octets.len() - at;
+    if left < 2 || octets[at] != b'\\' {
         return None;
     }
     let octet = octets[at + 1];
     match octet {
         b'0'..=b'9' => {
+            if left < 4 {
+                return None;
+            }
             let first = digit(octet)?;
             let second = digit(octets[at + 2])?;
             let third = digit(octets[at + 3])?;
@@ -187,101 +165,101 @@ fn escape_end(octets: &[u8], at: usize) -> Option<usize>
     }
 }
 
-/// A later place outside quoted texts and comments, if no piece ends or begins before it.
+/// The place after an escape, or after an octet that a word or a quoted text may hold.
 #[inline(always)]
-fn over_outside(octets: &[u8], place: Place) -> Option<Place>
+fn symbol_end(within: Within, octets: &[u8], at: usize) -> Option<usize>
+    requires { at < length octets.now }
+    ensures { IfSome result (GoesOn within octets.now at) }
+{
+    match octets[at] {
+        b'\\' => escape_end(octets, at),
+        b'"' | b'\n' | b'\r' => None,
+        b' ' | b'\t' | b'(' | b')' | b';' => match within {
+            Within::InWord => None,
+            Within::InQuote => Some(at + 1),
+        },
+        _ => Some(at + 1),
+    }
+}
+
+/// The class of octets that are passed over together in a word, or in a quoted text.
+#[inline(always)]
+fn class_of(within: Within) -> Class
+    ensures { result ≡ class_of within }
+{
+    match within {
+        Within::InWord => Class::Word,
+        Within::InQuote => Class::Quote,
+    }
+}
+
+/// The end of a word or of a quoted text that is open at `at`: before what can't join it.
+#[inline(always)]
+pub(crate) fn token_end(within: Within, octets: &[u8], at: usize) -> usize
+    requires { at ≤ length octets.now }
+    ensures on { at ≤ result }
+    ensures within { result ≤ length octets.now }
+    ensures same { SameRun (home within) octets.now at result }
+{
+    let class = class_of(within);
+    let mut place = at;
+    while place < octets.len() {
+        let stop = skip_class(class, octets, place);
+        if stop == octets.len() {
+            return stop;
+        }
+        let Some(next) = symbol_end(within, octets, stop) else {
+            return stop;
+        };
+        place = next;
+    }
+    place
+}
+
+/// The place after a blank, a parenthesis, or the end of a line in parentheses.
+#[inline(always)]
+fn past_one(octets: &[u8], place: Place) -> Option<Place>
     requires within { place.at < length octets.now }
     requires deep { place.depth ≤ place.at }
     ensures on { IfSome result (λ p. place.at < p.at) }
-    ensures passes { IfSome result (Passes Mode.Outside octets.now place) }
+    ensures passes { IfSome result (Passes octets.now place) }
 {
-    let Place { depth, start, at } = place;
-    let octet = octets[at];
-    if is_in(Class::Word, octet) {
-        let at = skip_class(Class::Word, octets, at + 1);
-        return Some(Place { depth, start, at });
-    }
-    if octet == b'\\' {
-        let at = escape_end(octets, at)?;
-        return Some(Place { depth, start, at });
-    }
-    if start != at {
-        return None;
-    }
-    if is_in(Class::Blank, octet) {
-        let at = skip_class(Class::Blank, octets, at + 1);
-        return Some(Place {
+    let Place { depth, at } = place;
+    match octets[at] {
+        b' ' | b'\t' => Some(Place {
             depth,
-            start: at,
-            at,
-        });
-    }
-    let at = at + 1;
-    match octet {
+            at: skip_class(Class::Blank, octets, at + 1),
+        }),
         b'(' => Some(Place {
             depth: depth + 1,
-            start: at,
-            at,
+            at: at + 1,
         }),
         b')' if depth > 0 => Some(Place {
             depth: depth - 1,
-            start: at,
-            at,
+            at: at + 1,
         }),
-        b'\n' if depth > 0 => Some(Place {
+        b'\n' if depth > 0 => Some(Place { depth, at: at + 1 }),
+        b'\r' if depth > 0 && octets.get(at + 1) == Some(&b'\n') => Some(Place {
             depth,
-            start: at,
-            at,
+            at: at + 2,
         }),
         _ => None,
     }
 }
 
-/// A later place in a quoted text, if it does not end before.
+/// Where the next piece begins, or what ends one.
 #[inline(always)]
-fn over_quoted(octets: &[u8], place: Place) -> Option<Place>
-    requires within { place.at < length octets.now }
+pub(crate) fn past_all(octets: &[u8], place: Place) -> Place
+    requires within { place.at ≤ length octets.now }
     requires deep { place.depth ≤ place.at }
-    ensures on { IfSome result (λ p. place.at < p.at) }
-    ensures passes { IfSome result (Passes Mode.Quoted octets.now place) }
+    ensures { Passes octets.now place result }
 {
-    let Place { depth, start, at } = place;
-    if is_in(Class::Quote, octets[at]) {
-        let at = skip_class(Class::Quote, octets, at + 1);
-        return Some(Place { depth, start, at });
+    let mut place = place;
+    while place.at < octets.len() {
+        let Some(later) = past_one(octets, place) else {
+            return place;
+        };
+        place = later;
     }
-    let at = escape_end(octets, at)?;
-    Some(Place { depth, start, at })
-}
-
-/// A later place in a comment, if it does not end before.
-#[inline(always)]
-fn over_comment(octets: &[u8], place: Place) -> Option<Place>
-    requires within { place.at < length octets.now }
-    requires deep { place.depth ≤ place.at }
-    ensures on { IfSome result (λ p. place.at < p.at) }
-    ensures passes { IfSome result (Passes Mode.Comment octets.now place) }
-{
-    let Place { depth, start, at } = place;
-    if is_in(Class::Comment, octets[at]) {
-        let at = skip_class(Class::Comment, octets, at + 1);
-        return Some(Place { depth, start, at });
-    }
-    None
-}
-
-/// A later place from which the reader gives the same, if one is found.
-#[inline(always)]
-pub(crate) fn over(mode: Mode, octets: &[u8], place: Place) -> Option<Place>
-    requires within { place.at < length octets.now }
-    requires deep { place.depth ≤ place.at }
-    ensures on { IfSome result (λ p. place.at < p.at) }
-    ensures passes { IfSome result (Passes mode octets.now place) }
-{
-    match mode {
-        Mode::Outside => over_outside(octets, place),
-        Mode::Quoted => over_quoted(octets, place),
-        Mode::Comment => over_comment(octets, place),
-        _ => None,
-    }
+    place
 }

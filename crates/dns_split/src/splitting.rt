@@ -1,7 +1,9 @@
 //! Splitting a zone text into entries.
 ghost use Rattle.std.specs.Prelude.{◌≡◌, ◌++◌, ◌∷◌, [], Some, OnOk, IfOk};
+ghost use Rattle.std.specs.List.{All, AllByRecursion};
 ghost use Rattle.dns_split.specs.Answer.{Answers, texts, entries_of};
 ghost use Rattle.dns_split.specs.Splitting.{SplitsOnlyInto};
+ghost use Rattle.dns_split.specs.Token.{IsToken};
 
 use crate::pieces::{Piece, Pieces};
 use std::alloc::{AllocError, Allocator};
@@ -58,7 +60,8 @@ impl<A: Allocator + Copy> Collected<A> {
     /// Keeps a token.
     fn add_token(&mut self, alloc: A, token: &str) -> Result<(), AllocError>
         ensures found { OnOk result (self.new.found ≡ self.old.found) }
-        ensures entry { OnOk result (texts self.new.entry.items ≡ texts self.old.entry.items ++ token.now ∷ []) }
+        ensures entry { OnOk result (texts self.new.entry.items
+            ≡ texts self.old.entry.items ++ token.now ∷ []) }
     {
         self.entry.push(String::from_str(alloc, token)?)?;
         Ok(())
@@ -93,6 +96,7 @@ pub fn split<A: Allocator + Copy>(
 ) -> Result<Vec<Vec<String<A>, A>, A>, SplitError>
     ensures exact { Answers result text.now }
     ensures only { IfOk result (λ v. SplitsOnlyInto text.now (entries_of v.items)) }
+    ensures tokens { IfOk result (λ v. All (λ e. AllByRecursion IsToken (texts e.items)) v.items) }
 {
     let mut collected = Collected {
         found: Vec::new(alloc),

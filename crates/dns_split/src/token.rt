@@ -67,8 +67,10 @@ pub fn is_token(text: &str) -> bool
 ///
 /// So its symbols are those of the word, or those between the double quotes.
 pub fn content<'t>(token: &'t str) -> &'t str
-    ensures word { (w : IsWord token.now) → (result.now ≡ token.now) × SymbolsOf result.now w.symbols None }
-    ensures quote { (q : IsQuote token.now) → (result.now ≡ flat_map bytes q.symbols) × SymbolsOf result.now q.symbols None }
+    ensures word { (w : IsWord token.now) → (result.now ≡ token.now)
+        × SymbolsOf result.now w.symbols None }
+    ensures quote { (q : IsQuote token.now) → (result.now ≡ flat_map bytes q.symbols)
+        × SymbolsOf result.now q.symbols None }
 {
     let octets = token.as_bytes();
     let end = octets.len();

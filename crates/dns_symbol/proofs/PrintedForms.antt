@@ -97,10 +97,10 @@ module _ (is_escape : ℕ → Bool) where
       IsAscii-append _ _ (spelled_ascii o (All-head (λ o. o < 256) o os h)) (printed_ascii os (All-tail (λ o. o < 256) o os h))
 
   -- a block of octets that is printed, and then the rest
-  pub printed_block : (all block rest text done : List ℕ) → all ≡ block ++ rest → All (λ o. o < 256) block → text ≡ text_of is_escape block
+  pub printed_block : (all block rest text done : List ℕ) → all ≡ block ++ rest → IsAscii (text_of is_escape block) → text ≡ text_of is_escape block
       → (done ++ text) ++ encode_utf8_all (text_of is_escape rest) ≡ done ++ encode_utf8_all (text_of is_escape all)
   printed_block all block rest text done parts h is =
-      let bytes = encodes-IsAscii (text_of is_escape block) (printed_ascii block h) in
+      let bytes = encodes-IsAscii (text_of is_escape block) h in
       let both = encodes-append (text_of is_escape block) (text_of is_escape rest) in
       rw (parts, is, append_assoc, flat_map-append, both, bytes) refl
 

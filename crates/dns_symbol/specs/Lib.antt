@@ -1,3 +1,5 @@
+pub mod Cause
+pub mod Convert
 pub mod Index
 pub mod Printed
 pub mod Reading

@@ -83,7 +83,8 @@ unfolding encode_utf8
 begins_decimal = record { readable = refl; spelled = refl }
 
 -- overlong forms, a surrogate, a lone continuation, a lead without its continuation
-errors_utf8 : map octets_error ((0xC0 ∷ 0xAE ∷ []) ∷ (0xE0 ∷ 0x9F ∷ 0xBF ∷ []) ∷ (0xF0 ∷ 0x8F ∷ 0xBF ∷ 0xBF ∷ []) ∷ (0xED ∷ 0xA0 ∷ 0x80 ∷ []) ∷ (0x80 ∷ []) ∷ (0xE2 ∷ 0x28 ∷ []) ∷ (0xF8 ∷ 0x80 ∷ 0x80 ∷ []) ∷ [])
+errors_utf8 : map octets_error ((0xC0 ∷ 0xAE ∷ []) ∷ (0xE0 ∷ 0x9F ∷ 0xBF ∷ []) ∷ (0xF0 ∷ 0x8F ∷ 0xBF ∷ 0xBF ∷ []) ∷ (0xED ∷ 0xA0 ∷ 0x80 ∷ []) ∷ (0x80 ∷ []) ∷
+    (0xE2 ∷ 0x28 ∷ []) ∷ (0xF8 ∷ 0x80 ∷ 0x80 ∷ []) ∷ [])
     ≡ BadUtf8 ∷ BadUtf8 ∷ BadUtf8 ∷ BadUtf8 ∷ BadUtf8 ∷ BadUtf8 ∷ BadUtf8 ∷ []
 errors_utf8 = refl
 

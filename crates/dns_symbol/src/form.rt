@@ -3,6 +3,7 @@ ghost use Rattle.std.specs.Prelude.{◌≡◌, ℕ, ◌+◌, ◌*◌, ◌<◌, �
 ghost use Rattle.std.specs.Fmt.{WritesOnOk};
 ghost use Rattle.std.specs.Str.{IsAscii};
 ghost use Rattle.dns_symbol.specs.Symbol.{spell};
+ghost use Rattle.dns_symbol.specs.declared.symbol.Symbol.TheVariants.{DecimalEscape};
 ghost use Rattle.dns_symbol.specs.Printed.{symbol_of, text_of, is_unquoted_escape, is_quoted_escape, is_plain_escape};
 
 use crate::symbol::Symbol;
@@ -71,14 +72,14 @@ pub fn write_octets<F: Form, W: fmt::Write>(octets: &[u8], f: &mut fmt::Formatte
 {
     let mut text = [0; TEXT];
     for block in octets.chunks(BLOCK) {
-        let len = put_block::<F>(block, &mut text);
+        let len = put_octets::<F>(block, &mut text, 0);
         f.write_str(ascii_text(&text[..len]))?;
     }
     Ok(())
 }
 
-// ASCII as text.
-fn ascii_text(bytes: &[u8]) -> &str
+/// ASCII as text.
+pub fn ascii_text(bytes: &[u8]) -> &str
     requires { IsAscii bytes.now }
     ensures { result.now ≡ bytes.now }
 {
@@ -86,18 +87,19 @@ fn ascii_text(bytes: &[u8]) -> &str
     unsafe { str::from_utf8_unchecked(bytes) }
 }
 
-// Puts the characters of octets at the start of a text, and answers how many they are.
-fn put_block<F: Form>(octets: &[u8], text: &mut [u8]) -> usize
-    requires room { 4 * length octets.now ≤ length text.old }
-    ensures text { take result text.new ≡ text_of F.is_escape octets.now }
-    ensures fits { result ≤ length text.new }
-    ensures bytes { All (λ o. o < 256) octets.now }
+/// Puts the characters of octets in a form into a text at a place, and answers the place after
+/// them. There has to be room for four characters of each octet.
+pub fn put_octets<F: Form>(octets: &[u8], text: &mut [u8], at: usize) -> usize
+    requires room { at + 4 * length octets.now ≤ length text.old }
+    ensures text { take result text.new ≡ take at text.old ++ text_of F.is_escape octets.now }
+    ensures fits { result ≤ at + 4 * length octets.now }
+    ensures ascii { IsAscii (text_of F.is_escape octets.now) }
 {
-    let mut at = 0;
+    let mut end = at;
     for octet in octets {
-        at = put_octet::<F>(*octet, text, at);
+        end = put_octet::<F>(*octet, text, end);
     }
-    at
+    end
 }
 
 // Puts the characters of an octet into a text at a place, and answers the place after them.
@@ -117,12 +119,21 @@ fn put_octet<F: Form>(octet: u8, text: &mut [u8], at: usize) -> usize
             text[at + 1] = octet;
             at + 2
         }
-        Symbol::DecimalEscape(_) => {
-            text[at] = b'\\';
-            text[at + 1] = b'0' + octet / 100;
-            text[at + 2] = b'0' + octet / 10 % 10;
-            text[at + 3] = b'0' + octet % 10;
-            at + 4
-        }
+        Symbol::DecimalEscape(_) => put_decimal(octet, text, at),
     }
+}
+
+/// Puts a backslash and the three decimal digits of an octet into a text at a place, and answers
+/// the place after them.
+#[inline(always)]
+pub fn put_decimal(octet: u8, text: &mut [u8], at: usize) -> usize
+    requires room { at + 4 ≤ length text.old }
+    ensures text { take result text.new ≡ take at text.old ++ spell (DecimalEscape octet) }
+    ensures fits { result ≡ at + 4 }
+{
+    text[at] = b'\\';
+    text[at + 1] = b'0' + octet / 100;
+    text[at + 2] = b'0' + octet / 10 % 10;
+    text[at + 3] = b'0' + octet % 10;
+    at + 4
 }

@@ -16,8 +16,8 @@
 pub use dns_charstr::charstr;
 pub use dns_codec::{base16, base32, base64};
 pub use dns_entry::entry;
-pub use dns_iter::program;
 pub use dns_name::{chain, name};
+pub use dns_program::program;
 pub use dns_zone::{document, zonefile_fmt};
 
 /// The units of the text form.
@@ -29,11 +29,11 @@ pub mod symbol {
 
 /// Names and labels in wire form, octets and their builders.
 pub mod wire {
-    pub use dns_wire::{
+    pub use dns_octets::{
         AsOctets, AsOctetsMut, EmptyBuilder, FreezeBuilder, FromBuilder, OctetsBuilder, ShortBuf,
         Truncate, Ttl,
     };
-    pub use dns_wire_name::{Label, Name, RelativeName, ToLabelIter, ToName, ZoneName};
+    pub use dns_wire::{Label, Name, RelativeName, ToLabelIter, ToName, ZoneName};
 }
 
 /// Record data between zone text and values.

@@ -1,0 +1,4 @@
+mod Leading
+mod Lengths
+mod ToldTexts
+mod Written

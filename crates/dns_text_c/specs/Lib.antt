@@ -1,0 +1,5 @@
+pub mod Codecs
+pub mod Entries
+pub mod Status
+pub mod Strings
+pub mod Told

@@ -1,23 +1,43 @@
-//! The layer below the text of DNS: octets and the builders that make them.
+//! Labels and domain names in wire form (RFC 1035 sections 2.3.4 and 3.1).
 //!
-//! [`AsOctets`] is the one meaning that octets have here: a list, each of 0 to 255. Every builder
-//! trait stands on it. A builder is such a list, and a refused append changes nothing.
+//! A [`Label`] has 0 to 63 octets; the label of none is the root. A name is a list of labels, and
+//! its octets are each label's length octet and octets, one after another. A [`Name`] ends in the
+//! root and has at most 255 octets, a [`RelativeName`] has no root and at most 254. Both are made
+//! from octets, or by a [`NameBuilder`] octet by octet.
+//!
+//! [`ToLabelIter`] is what all kinds of names have in common: a count of labels, the label at a
+//! place, and the octets. [`ToName`] adds that the last label is the root, [`ToRelativeName`] that
+//! none is. [`FlattenInto`] copies the labels into a name over octets of another type.
+//!
+//! Names are equal, and hash equally, where their labels are the same but for the case of ASCII
+//! letters (RFC 4343).
+//!
+//! What `dns_octets` has is named here again, so one `use` serves for both.
 #![tactic(auto)]
 
-pub mod builder;
-pub mod compose;
-pub mod octets;
-pub mod parser;
-pub mod str;
-#[cfg(test)]
-mod tests;
-pub mod ttl;
+mod compare;
+pub mod display;
+pub mod error;
+pub mod flatten;
+pub mod label;
+pub mod laws;
+pub mod name;
+pub mod name_builder;
+pub mod name_iter;
+pub mod relative;
+pub mod split;
+pub mod to_label_iter;
 
-pub use builder::{
-    EmptyBuilder, FreezeBuilder, FromBuilder, IntoBuilder, OctetsBuilder, ShortBuf, Truncate,
+pub use display::{DisplayWithDot, DisplayWithoutDot, ZoneName};
+pub use dns_octets::{
+    AsOctets, AsOctetsMut, CanonicalOrd, Compose, EmptyBuilder, FreezeBuilder, FromBuilder,
+    IntoBuilder, OctetsBuilder, OctetsFrom, ParseError, Parser, ShortBuf, Str, Truncate, Ttl,
 };
-pub use compose::{CanonicalOrd, Compose};
-pub use octets::{AsOctets, AsOctetsMut, OctetsFrom};
-pub use parser::{ParseError, Parser};
-pub use str::Str;
-pub use ttl::Ttl;
+pub use error::{LabelTypeError, LongLabelError, NameError, PushError, SplitLabelError};
+pub use flatten::FlattenInto;
+pub use label::Label;
+pub use name::Name;
+pub use name_builder::NameBuilder;
+pub use name_iter::NameIter;
+pub use relative::RelativeName;
+pub use to_label_iter::{ToLabelIter, ToName, ToRelativeName};

@@ -126,17 +126,27 @@ token_tight b d Open ls o = cc
 token_tight b d Close ls o = cc
 token_tight b d (Note _) ls o = cc
 
-flat_token : (fresh tab : Bool) (d : ℕ) (t text : List ℕ) (e : Entries) → IsToken t → LaidFrom false d text e → LaidFrom fresh d ((if fresh then [] else (if tab then 9 ∷ [] else 32 ∷ [])) ++ t ++ text) (with_token t e)
+flat_token : (fresh tab : Bool) (d : ℕ) (t text : List ℕ) (e : Entries) → IsToken t → LaidFrom false d text e
+    → LaidFrom fresh d ((if fresh then [] else (if tab then 9 ∷ [] else 32 ∷ [])) ++ t ++ text) (with_token t e)
 unfolding with_blank with_one
 flat_token true tab d t text e i r = (with_one d t text e i r.0 (r.1 refl), λ no_start. cc, token_tight (is_outside d) d (token_one i).lexeme r.0.ls (token_one i).is_one ∙ r.2)
-flat_token false true d t text e i r = (with_blank d true (t ++ text) (with_token t e) (with_one d t text e i r.0 (r.1 refl)), λ _. refl, token_tight false d (token_one i).lexeme r.0.ls (token_one i).is_one ∙ r.2)
-flat_token false false d t text e i r = (with_blank d false (t ++ text) (with_token t e) (with_one d t text e i r.0 (r.1 refl)), λ _. refl, token_tight false d (token_one i).lexeme r.0.ls (token_one i).is_one ∙ r.2)
+flat_token false true d t text e i r = (
+  with_blank d true (t ++ text) (with_token t e) (with_one d t text e i r.0 (r.1 refl)),
+  λ _. refl,
+  token_tight false d (token_one i).lexeme r.0.ls (token_one i).is_one ∙ r.2,
+)
+flat_token false false d t text e i r = (
+  with_blank d false (t ++ text) (with_token t e) (with_one d t text e i r.0 (r.1 refl)),
+  λ _. refl,
+  token_tight false d (token_one i).lexeme r.0.ls (token_one i).is_one ∙ r.2,
+)
 
 flat_laid : (sep : List Step → Bool) (steps past : List Step) (d : ℕ) → IsWellFormed d steps → LaidFrom (is_line_start past) 0 (pieces (flat sep) past steps) (document_entries steps)
 unfolding with_line
 flat_laid sep [] past zero w = (record { ls = []; spelled = refl; valid = refl; nested = refl; cut = refl }, λ _. refl, refl)
 flat_laid sep [] past (suc d) w = absurd w
-flat_laid sep (token t ∷ steps) past d w = flat_token (is_line_start past) (sep past) 0 t (pieces (flat sep) (token t ∷ past) steps) (document_entries steps) w.0 (flat_laid sep steps (token t ∷ past) d w.1)
+flat_laid sep (token t ∷ steps) past d w = flat_token (is_line_start past) (sep past) 0 t (pieces (flat sep) (token t ∷ past) steps) (document_entries steps) w.0
+    (flat_laid sep steps (token t ∷ past) d w.1)
 flat_laid sep (newline ∷ steps) past zero w = let r = flat_laid sep steps (newline ∷ past) zero w in (with_line _ _ r.0, λ _. refl, r.2)
 flat_laid sep (newline ∷ steps) past (suc d) w = absurd w
 flat_laid sep (begin ∷ steps) past d w = flat_laid sep steps (begin ∷ past) (suc d) w
@@ -212,12 +222,14 @@ spaced_word : (start : Bool) (d : ℕ) (t text : List ℕ) (e : Entries) → IsT
 spaced_word start d t text e i r = flat_token start false d t text e i r
 
 -- a mark of the multiline layout
-spaced_mark : (start : Bool) (d c : ℕ) (text : List ℕ) (e : Entries) → (l : Laid d (c ∷ text) e) → no_word l.ls ≡ true → ((b : Bool) → is_tight b d l.ls ≡ true) → LaidFrom start d ((if start then [] else 32 ∷ []) ++ c ∷ [] ++ text) e
+spaced_mark : (start : Bool) (d c : ℕ) (text : List ℕ) (e : Entries) → (l : Laid d (c ∷ text) e) → no_word l.ls ≡ true → ((b : Bool) → is_tight b d l.ls ≡ true)
+    → LaidFrom start d ((if start then [] else 32 ∷ []) ++ c ∷ [] ++ text) e
 unfolding with_blank
 spaced_mark true d c text e l n b = (l, λ _. n, b (is_outside d))
 spaced_mark false d c text e l n b = (with_blank d false (c ∷ text) e l, λ _. refl, b false)
 
-inner : (start : Bool) (d : ℕ) (cs : List ℕ) (ls : List Lexeme) → is_tight false (suc d) ls ≡ true → is_tight (start && is_outside (suc d)) (suc d) (Blank true ∷ Note (32 ∷ cs) ∷ Line false ∷ ls) ≡ true
+inner : (start : Bool) (d : ℕ) (cs : List ℕ) (ls : List Lexeme) → is_tight false (suc d) ls ≡ true
+    → is_tight (start && is_outside (suc d)) (suc d) (Blank true ∷ Note (32 ∷ cs) ∷ Line false ∷ ls) ≡ true
 inner true d cs ls h = h
 inner false d cs ls h = h
 
@@ -226,14 +238,18 @@ maybe_note : (shown start : Bool) (n d : ℕ) (t text : List ℕ) (e : Entries) 
 unfolding with_note
 maybe_note false start n d t text e i inside r = r
 maybe_note true start n zero t text e i inside r = absurd (omega (arith, inside refl))
-maybe_note true start n (suc d) t text e i inside r =
-    (with_note d t (replicate n 32 ++ text) _ e i (sym (append_assoc t (10 ∷ replicate n 32) text)) (with_blanks (suc d) n text e r.0), λ _. refl, inner start d i.characters ((with_blanks (suc d) n text e r.0).ls) (blanks_tight (suc d) n text e r.0 ∙ r.2))
+maybe_note true start n (suc d) t text e i inside r = (
+  with_note d t (replicate n 32 ++ text) _ e i (sym (append_assoc t (10 ∷ replicate n 32) text)) (with_blanks (suc d) n text e r.0),
+  λ _. refl,
+  inner start d i.characters ((with_blanks (suc d) n text e r.0).ls) (blanks_tight (suc d) n text e r.0 ∙ r.2),
+)
 
 multiline_laid : (steps past : List Step) (d : ℕ) → IsWellFormed d steps → (is_shown past ≡ true → 0 < d) → LaidFrom (is_row_start past) d (pieces multiline_piece past steps) (document_entries steps)
 unfolding with_line with_opening with_closing
 multiline_laid [] past zero w s = (record { ls = []; spelled = refl; valid = refl; nested = refl; cut = refl }, λ _. refl, refl)
 multiline_laid [] past (suc d) w s = absurd w
-multiline_laid (token t ∷ steps) past d w s = spaced_word (is_row_start past) d t (pieces multiline_piece (token t ∷ past) steps) (document_entries steps) w.0 (multiline_laid steps (token t ∷ past) d w.1 s)
+multiline_laid (token t ∷ steps) past d w s = spaced_word (is_row_start past) d t (pieces multiline_piece (token t ∷ past) steps) (document_entries steps) w.0
+    (multiline_laid steps (token t ∷ past) d w.1 s)
 multiline_laid (newline ∷ steps) past zero w s = let r = multiline_laid steps (newline ∷ past) zero w s in (with_line _ _ r.0, λ _. refl, r.2)
 multiline_laid (newline ∷ steps) past (suc d) w s = absurd w
 multiline_laid (begin ∷ steps) past d w s =
@@ -243,7 +259,8 @@ multiline_laid (end ∷ steps) past zero w s = absurd w
 multiline_laid (end ∷ steps) past (suc d) w s =
     let r = multiline_laid steps (end ∷ past) d w (λ h. cc) in
     spaced_mark (is_row_start past) (suc d) 41 (pieces multiline_piece (end ∷ past) steps) (document_entries steps) (with_closing d _ _ r.0) refl (λ _. r.2)
-multiline_laid (comment t ∷ steps) past d w s = maybe_note (is_shown past) (is_row_start past) (indent past) d t (pieces multiline_piece (comment t ∷ past) steps) (document_entries steps) w.0 s (multiline_laid steps (comment t ∷ past) d w.1 s)
+multiline_laid (comment t ∷ steps) past d w s = maybe_note (is_shown past) (is_row_start past) (indent past) d t (pieces multiline_piece (comment t ∷ past) steps)
+    (document_entries steps) w.0 s (multiline_laid steps (comment t ∷ past) d w.1 s)
 
 pub multiline_splits : (steps : List Step) → IsWellFormed 0 steps → Splits (layout multiline_piece steps) (document_entries steps)
 multiline_splits steps w = laid_splits _ _ (multiline_laid steps [] 0 w (λ h. cc)).0
@@ -281,6 +298,7 @@ pub never_bad : (kind : DisplayKind) (steps : List Step) (text : List ℕ) (i : 
 never_bad kind steps text i is w bad = bad.splits_not (document_entries steps) ((text_only kind steps text is (document_entries steps) w).1 refl)
 
 -- what splitting it can refuse
-pub refusal : (A : Type 0) (kind : DisplayKind) (steps : List Step) (text : List ℕ) → text ≡ printed kind steps → IsWellFormed 0 steps → (e : SplitError) → Answers {A = A} (Err e) text → IsRefusal steps (Split e)
+pub refusal : (A : Type 0) (kind : DisplayKind) (steps : List Step) (text : List ℕ) → text ≡ printed kind steps → IsWellFormed 0 steps → (e : SplitError)
+    → Answers {A = A} (Err e) text → IsRefusal steps (Split e)
 refusal A kind steps text is w ShortBuf h = tt
 refusal A kind steps text is w (BadText i) h = absurd (never_bad kind steps text i is w h)

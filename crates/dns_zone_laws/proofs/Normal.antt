@@ -42,7 +42,8 @@ are_entries d (Blank b ∷ ls) v = are_entries d ls v
 are_entries d (Note cs ∷ ls) v = are_entries d ls (and_parts _ _ v).1
 are_entries d (Word s ss ∷ ls) v =
     let p = and_parts (is_lexeme (Word s ss) && may_precede (Word s ss) ls) (are_lexemes ls) v in
-    more_token (bytes (Word s ss)) (entries d ls) (one_token (record { lexeme = Word s ss; is_one = refl; valid = (and_parts (is_lexeme (Word s ss)) (may_precede (Word s ss) ls) p.0).0; spelled = refl })) (are_entries d ls p.1)
+    more_token (bytes (Word s ss)) (entries d ls) (one_token
+    (record { lexeme = Word s ss; is_one = refl; valid = (and_parts (is_lexeme (Word s ss)) (may_precede (Word s ss) ls) p.0).0; spelled = refl })) (are_entries d ls p.1)
 are_entries d (Quote ss ∷ ls) v =
     let p = and_parts (is_lexeme (Quote ss) && true) (are_lexemes ls) v in
     more_token (bytes (Quote ss)) (entries d ls) (one_token (record { lexeme = Quote ss; is_one = refl; valid = (and_parts (is_lexeme (Quote ss)) true p.0).0; spelled = refl })) (are_entries d ls p.1)

@@ -11,11 +11,11 @@ use Rattle.dns_symbol.specs.Symbol.{bytes, spell, is_word_symbol}
 use Rattle.dns_symbol.specs.declared.symbol.Symbol.{Symbol}
 use Rattle.dns_symbol.specs.declared.symbol.Symbol.TheVariants.{Char, DecimalEscape}
 use Rattle.dns_split.specs.Token.{IsWord}
-use Rattle.dns_wire_name.specs.Printed.{joined_by}
-use Rattle.dns_wire_name.specs.Wire.{wire}
-use Rattle.dns_wire_name.specs.ZoneText.{is_zone_plain, zone_symbol, zone_label, zone_text}
-use Rattle.dns_wire_name.proofs.Texts.{dotted_joined}
-use Rattle.dns_wire_name.proofs.Wires.{Bytes, labels_bytes}
+use Rattle.dns_wire.specs.Printed.{joined_by}
+use Rattle.dns_wire.specs.Wire.{wire}
+use Rattle.dns_wire.specs.ZoneText.{is_zone_plain, zone_symbol, zone_label, zone_text}
+use Rattle.dns_wire.proofs.Texts.{dotted_joined}
+use Rattle.dns_wire.proofs.Wires.{Bytes, labels_bytes}
 
 symbol_word : (o : ℕ) → o < 256 → is_word_symbol (zone_symbol o) ≡ true
 symbol_word o small = by (is_zone_plain o) refl

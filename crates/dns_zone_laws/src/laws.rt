@@ -3,8 +3,8 @@ ghost use Rattle.std.specs.Prelude.{◌≡◌, ◌≢◌, ◌↔◌, ◌<◌, Li
 ghost use Rattle.dns_split.specs.Answer.{entries_of};
 ghost use Rattle.dns_split.specs.Splitting.{BeginsNoBlank, Entries, Splits, SplitsOnlyInto};
 ghost use Rattle.dns_split.specs.Token.{IsWord};
-ghost use Rattle.dns_wire_name.specs.Wire.{wire};
-ghost use Rattle.dns_wire_name.specs.ZoneText.{zone_text};
+ghost use Rattle.dns_wire.specs.Wire.{wire};
+ghost use Rattle.dns_wire.specs.ZoneText.{zone_text};
 ghost use Rattle.dns_zone.specs.Documents.{IsWellFormed, steps_of};
 ghost use Rattle.dns_zone.specs.Layout.{Step};
 ghost use Rattle.dns_zone.specs.Printed.{printed};

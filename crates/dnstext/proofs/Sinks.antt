@@ -1,15 +1,15 @@
--- What a run wrote to a sink, seen by what the stream behind it holds.
+-- What a run wrote to a sink, seen by what the stream below it holds.
 use Rattle.std.proofs.Common.{◌≡◌, ◌≤◌, ◌<◌, ◌⊎◌, inl, inr, ⊎_elim, ℕ, zero, suc, List, [], ◌∷◌, ◌++◌, Option, Some, None, refl, sym, ap, subst, ◌∙◌, arith, append_assoc, append-nil}
 use Rattle.std.specs.List.{FoldsTo}
 use Rattle.std.specs.Fmt.{WritesInCalls}
 use Rattle.std.specs.Io.KnownBytes.{Appends, Keeps}
 use Rattle.std.proofs.lemmas.Fmt.{contents_after_writes}
-use Rattle.dns_iter.specs.Program.{refusal_line}
-use Rattle.dns_iter.specs.Run.{AsksNothing, RunPrinted, RunRefused}
+use Rattle.dns_program.specs.Program.{refusal_line}
+use Rattle.dns_program.specs.Run.{AsksNothing, RunPrinted, RunRefused}
 use Rattle.dnstext.specs.Streams.{Grows, Printed, Refused, Ran}
 use Rattle.dnstext.specs.declared.streams.TextSink.{TextSink}
 
--- bytes that are kept, and bytes behind one another
+-- bytes that are kept, and bytes after one another
 pub kept_here : (o : Option (List ℕ)) → Keeps o o
 kept_here None = tt
 kept_here (Some xs) = refl
@@ -60,7 +60,8 @@ module _ {S N : Type 0} (took : S → List ℕ → S → Type 0) (name : S → N
   printed_held words s t p kept (inr (inr r)) =
       (held t, inr (inr (r.0, r.1, r.2, (r.3.0, r.3.1, r.3.2, calls_grow s _ t r.3.3))), kept (calls_stay s _ t r.3.3))
 
-  pub refused_held : (words : List (List ℕ)) (s t : S) (p : Option (List ℕ)) (reason : List ℕ) → (name t ≡ name s → Keeps (held t) p) → RunRefused took words s t reason → Refused words (held s) p reason
+  pub refused_held : (words : List (List ℕ)) (s t : S) (p : Option (List ℕ)) (reason : List ℕ) → (name t ≡ name s → Keeps (held t) p) → RunRefused took words s t reason
+      → Refused words (held s) p reason
   refused_held words s t p reason kept (inl (kind, tokens, asks, inl r)) =
       (held t, inl (kind, tokens, asks, inl (r.0, r.1, r.2, calls_grow s _ t r.3, r.4)), kept (calls_stay s _ t r.3))
   refused_held words s t p reason kept (inl (kind, tokens, asks, inr r)) = (p, inl (kind, tokens, asks, inr r), kept_here p)
@@ -97,7 +98,8 @@ module _ {O : Type 0} (contents : O → Option (List ℕ)) where
   printed_on words s t e v g r =
       printed_held Took (λ x. x.writer.ghost_name) (λ x. contents x.writer.now) (λ x b y k. k.0) (λ x b y k. k.1) words s t (contents v) (kept_back s t e v g) r
 
-  pub refused_on : (words : List (List ℕ)) (s t e : TextSink O) (v : O) (reason : List ℕ) → GivenBack s t e v → RunRefused Took words s t reason → Refused words (contents s.writer.now) (contents v) reason
+  pub refused_on : (words : List (List ℕ)) (s t e : TextSink O) (v : O) (reason : List ℕ) → GivenBack s t e v → RunRefused Took words s t reason
+      → Refused words (contents s.writer.now) (contents v) reason
   refused_on words s t e v reason g r =
       refused_held Took (λ x. x.writer.ghost_name) (λ x. contents x.writer.now) (λ x b y k. k.0) (λ x b y k. k.1) words s t (contents v) reason (kept_back s t e v g) r
 

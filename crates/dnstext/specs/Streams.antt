@@ -1,8 +1,8 @@
 -- What a run of the program leaves on its streams.
 use Rattle.std.specs.Prelude.{◌≡◌, ◌⊎◌, ℕ, List, [], ◌++◌, Option, codes}
 use Rattle.std.specs.Io.KnownBytes.{Appends, Keeps}
-use Rattle.dns_iter.specs.Program.{refusal_line}
-use Rattle.dns_iter.specs.Run.{RunPrinted, RunRefused}
+use Rattle.dns_program.specs.Program.{refusal_line}
+use Rattle.dns_program.specs.Run.{RunPrinted, RunRefused}
 
 -- the known bytes of a stream grow by these
 abbrev pub Grows : Option (List ℕ) → List ℕ → Option (List ℕ) → Type 0
@@ -22,7 +22,7 @@ Ran words o p line =
     (Printed words o p × (line ≡ []))
     ⊎ ((reason : List ℕ) × Refused words o p reason × (line ≡ refusal_line reason))
 
--- what stands on standard error at status 1: the line of the refusal; or, where the output refused at its end, `write failed` behind the run's own line
+-- what stands on standard error at status 1: the line of the refusal; or, where the output refused at its end, `write failed` after the run's own line
 abbrev pub Told : List (List ℕ) → Option (List ℕ) → Option (List ℕ) → List ℕ → Type 0
 Told words o p lines =
     ((reason : List ℕ) × Refused words o p reason × (lines ≡ refusal_line reason))

@@ -1,12 +1,12 @@
 //! The program over streams of bytes.
 ghost use Rattle.std.specs.Prelude.{◌≡◌, ◌⊎◌, ◌≤◌, ℕ, List, []};
 ghost use Rattle.std.specs.Io.KnownBytes.{Appends, Keeps};
-ghost use Rattle.dns_iter.specs.Program.{refusal_line, usage_line, texts};
-ghost use Rattle.dns_iter.specs.Run.{AsksNothing};
+ghost use Rattle.dns_program.specs.Program.{refusal_line, usage_line, texts};
+ghost use Rattle.dns_program.specs.Run.{AsksNothing};
 ghost use Rattle.dnstext.specs.Streams.{Printed, Ran, Told};
 
 use arrayvec::ArrayString;
-use dns_iter::program;
+use dns_program::program;
 use std::alloc::Allocator;
 use std::fmt;
 use std::io::Write;
@@ -74,7 +74,7 @@ pub fn refuse_usage<E: Write>(err: &mut E) -> u8
 ///
 /// What is printed goes to `out` as it is made, and `out` is flushed before anything is written to
 /// `err`. Where `out` refuses, the status is 1 and the line `refused: write failed` stands on `err`,
-/// behind the line of an earlier refusal. Where `err` refuses, the status is 3.
+/// after the line of an earlier refusal. Where `err` refuses, the status is 3.
 pub fn run<A: Allocator + Copy, O: Write, E: Write>(
     alloc: A,
     words: &[&str],

@@ -1,9 +1,9 @@
 //! Character strings that are being built.
 ghost use Rattle.std.specs.Prelude.{◌≡◌, ◌≤◌, ◌<◌, ◌↔◌, List, [], ℕ, length, min, All, IsTrue, IfOk, IsOk, refl};
-ghost use Rattle.dns_wire.specs.Octets.{written_over};
+ghost use Rattle.dns_octets.specs.Octets.{written_over};
 
 use crate::charstr::{CharStr, CharStrError};
-use dns_wire::{
+use dns_octets::{
     AsOctets, AsOctetsMut, EmptyBuilder, FreezeBuilder, OctetsBuilder, ShortBuf, Truncate,
 };
 use std::alloc::{AllocError, Allocator};
@@ -35,7 +35,7 @@ impl<B: OctetsBuilder> CharStrBuilder<B> {
         }
     }
 
-    /// A builder of no octets, with room set aside for so many where that can be done.
+    /// A builder of no octets, with room set aside for `capacity` where that can be done.
     pub fn with_capacity(alloc: B::Alloc, capacity: usize) -> Result<Self, ShortBuf>
     where
         B: EmptyBuilder,
@@ -120,7 +120,7 @@ impl<A: Allocator + Copy> CharStrBuilder<Vec<u8, A>> {
         CharStrBuilder::new(alloc)
     }
 
-    /// A builder of no octets over a vector, with room set aside for so many.
+    /// A builder of no octets over a vector, with room set aside for `capacity`.
     pub fn vec_with_capacity(alloc: A, capacity: usize) -> Result<Self, ShortBuf>
         ensures { IfOk result (λ b. b ≡ []) }
     {

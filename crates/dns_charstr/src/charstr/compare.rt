@@ -3,10 +3,11 @@
 //! Letters from A to Z count as their lower case (RFC 4343). The canonical order alone tells
 //! them apart.
 ghost use Rattle.std.specs.Prelude.{◌≡◌};
-ghost use Rattle.dns_charstr.specs.Order.{same_lowered, lowered_order};
+ghost use Rattle.dns_octets.specs.Lowered.{same_lowered, lowered_order};
 
 use crate::charstr::CharStr;
-use dns_wire::{AsOctets, CanonicalOrd};
+use dns_octets::lowered::{compare_lowered, hash_lowered, same_octets};
+use dns_octets::{AsOctets, CanonicalOrd};
 use std::cmp::Ordering;
 use std::hash::{Hash, Hasher};
 
@@ -15,7 +16,7 @@ impl<Octs: AsOctets> CharStr<Octs> {
     pub fn eq_octets(&self, octets: &[u8]) -> bool
         ensures { result ≡ same_lowered self.now octets.now }
     {
-        self.as_slice().eq_ignore_ascii_case(octets)
+        same_octets(self.as_slice(), octets)
     }
 
     /// How the octets stand to others, the case of letters left aside.
@@ -26,25 +27,10 @@ impl<Octs: AsOctets> CharStr<Octs> {
     }
 }
 
-fn compare_lowered(left: &[u8], right: &[u8]) -> Ordering
-    ensures { result ≡ lowered_order left.now right.now }
-{
-    let shared = left.len().min(right.len());
-    for i in 0..shared {
-        let order = left[i]
-            .to_ascii_lowercase()
-            .cmp(&right[i].to_ascii_lowercase());
-        if order.is_ne() {
-            return order;
-        }
-    }
-    left.len().cmp(&right.len())
-}
-
 impl<Octs: AsOctets> PartialEq for CharStr<Octs> {
     ghost use Rattle.std.specs.Cmp.{partial_equiv_from_equiv};
     ghost use Rattle.std.proofs.lemmas.Cmp.{on_equiv, nat_list_eq_equiv};
-    ghost use Rattle.dns_charstr.specs.Order.{lowered};
+    ghost use Rattle.dns_octets.specs.Lowered.{lowered};
 
     ghost eq = { same_lowered };
 
@@ -57,7 +43,7 @@ impl<Octs: AsOctets> PartialEq for CharStr<Octs> {
 
 impl<Octs: AsOctets> Eq for CharStr<Octs> {
     ghost use Rattle.std.proofs.lemmas.Cmp.{on_equiv, nat_list_eq_equiv};
-    ghost use Rattle.dns_charstr.specs.Order.{lowered};
+    ghost use Rattle.dns_octets.specs.Lowered.{lowered};
 
     ghost laws = { on_equiv lowered nat_list_eq_equiv };
 }
@@ -66,7 +52,7 @@ impl<Octs: AsOctets> PartialOrd for CharStr<Octs> {
     ghost use Rattle.std.specs.Prelude.{Some};
     ghost use Rattle.std.specs.Cmp.{on_po};
     ghost use Rattle.std.specs.Cmp.Lexicographic.{texts_po};
-    ghost use Rattle.dns_charstr.specs.Order.{lowered};
+    ghost use Rattle.dns_octets.specs.Lowered.{lowered};
 
     ghost partial_cmp = { λ a b. Some (lowered_order a b) };
 
@@ -81,7 +67,7 @@ impl<Octs: AsOctets> Ord for CharStr<Octs> {
     ghost use Rattle.std.specs.Prelude.{refl};
     ghost use Rattle.std.proofs.lemmas.Cmp.{on_total, nat_list_cmp_total};
     ghost use Rattle.std.specs.Cmp.Lexicographic.{texts_ties};
-    ghost use Rattle.dns_charstr.specs.Order.{lowered};
+    ghost use Rattle.dns_octets.specs.Lowered.{lowered};
 
     ghost cmp = { lowered_order };
 
@@ -101,16 +87,14 @@ impl<Octs: AsOctets> Hash for CharStr<Octs> {
     ghost use Rattle.std.specs.Hash as fed;
     ghost use Rattle.std.specs.Cmp.Lexicographic.{same_text};
     ghost use Rattle.std.proofs.Common.{ap, sym};
-    ghost use Rattle.dns_charstr.specs.Order.{lowered, hash_writes};
+    ghost use Rattle.dns_octets.specs.Lowered.{lowered, hash_writes};
 
     ghost hash_input = { hash_writes };
 
     ghost respects_eq = { λ a b h. ap (flat_map fed.u8) (same_text (lowered a) (lowered b) (sym h)) };
 
     fn hash<H: Hasher>(&self, state: &mut H) {
-        for octet in self.as_slice() {
-            octet.to_ascii_lowercase().hash(state);
-        }
+        hash_lowered(self.as_slice(), state);
     }
 }
 

@@ -2,8 +2,8 @@
 ghost use Rattle.std.specs.Prelude.{◌≡◌};
 
 use crate::charstr::CharStr;
+use dns_octets::AsOctets;
 use dns_symbol::form::{Plain, Quoted, Unquoted, write_octets};
-use dns_wire::AsOctets;
 use std::fmt;
 
 /// Prints the octets with no character special but the backslash.

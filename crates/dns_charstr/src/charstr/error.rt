@@ -1,8 +1,8 @@
 //! Why there is no character string.
 ghost use Rattle.std.specs.Prelude.{Some, codes};
 
+use dns_octets::ShortBuf;
 use dns_symbol::symbol::{BadSymbol, SymbolCharsError};
-use dns_wire::ShortBuf;
 use std::error::Error;
 use std::fmt;
 

@@ -2,7 +2,7 @@
 ghost use Rattle.std.specs.Prelude.{◌≡◌};
 
 use crate::charstr::CharStr;
-use dns_wire::AsOctets;
+use dns_octets::AsOctets;
 use std::marker::Model;
 
 /// The octets of a character string that is borrowed.

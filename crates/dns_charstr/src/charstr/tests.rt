@@ -4,10 +4,10 @@ use crate::charstr::{
     PresentationError,
 };
 use arrayvec::ArrayVec;
-use dns_symbol::symbol::{BadSymbol, SymbolCharsError};
-use dns_wire::{
+use dns_octets::{
     AsOctetsMut, CanonicalOrd, OctetsBuilder, OctetsFrom, ParseError, Parser, ShortBuf, Truncate,
 };
+use dns_symbol::symbol::{BadSymbol, SymbolCharsError};
 use refusing_heap::Refusing;
 use std::alloc::Global;
 use std::cmp::Ordering;

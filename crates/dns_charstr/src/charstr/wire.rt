@@ -1,10 +1,10 @@
 //! The wire form of character strings: a length octet and the octets (RFC 1035 section 3.3).
 ghost use Rattle.std.specs.Prelude.{◌≡◌, ◌≤◌, ◌-◌, ◌∷◌, [], ◌++◌, ℕ, List, length, min, IfOk, IsOk, OnOk, OnErr};
-ghost use Rattle.dns_wire.specs.Parsing.{rest, gone_on};
+ghost use Rattle.dns_octets.specs.Parsing.{rest, gone_on};
 ghost use Rattle.dns_charstr.specs.Wire.{wire_of, BeginsNone, IsLeft};
 
 use crate::charstr::CharStr;
-use dns_wire::{AsOctets, OctetsBuilder, ParseError, Parser, ShortBuf};
+use dns_octets::{AsOctets, OctetsBuilder, ParseError, Parser, ShortBuf};
 
 impl<'a> CharStr<&'a [u8]> {
     /// Takes the wire form of a character string from a parser.

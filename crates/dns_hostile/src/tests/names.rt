@@ -2,9 +2,9 @@
 use super::{Call, Heap, Hostile, Missed, Told, answered, keeps};
 use dns_name::chain::Chain;
 use dns_name::name::{FromStrError, UncertainName};
+use dns_octets::{OctetsFrom, ShortBuf};
 use dns_symbol::symbol::SymbolCharsError;
-use dns_wire::{OctetsFrom, ShortBuf};
-use dns_wire_name::{FlattenInto, Name, PushError, RelativeName};
+use dns_wire::{FlattenInto, Name, PushError, RelativeName};
 use std::alloc::Global;
 use std::test::Fail;
 

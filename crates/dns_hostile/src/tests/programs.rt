@@ -1,6 +1,6 @@
 //! The program, with sinks whose room was reserved, and with sinks that refuse.
 use super::{Call, Heap, Missed, Told, keeps};
-use dns_iter::program;
+use dns_program::program;
 use std::alloc::{AllocError, Global};
 use std::fmt;
 

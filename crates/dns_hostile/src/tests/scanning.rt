@@ -2,9 +2,9 @@
 use super::{Call, Heap, Hostile, Missed, Told, keeps, told_ample, told_refusal};
 use dns_codec::{base16, base32, base64};
 use dns_iter::{IterScanner, StrError};
+use dns_octets::AsOctets;
 use dns_scan::{ConvertSymbols, Scanner};
 use dns_symbol::symbol::{EntrySymbol, Symbol};
-use dns_wire::AsOctets;
 use std::alloc::{AllocError, Global};
 use std::iter;
 
@@ -12,7 +12,7 @@ const SHORT: &str = "short buffer";
 
 const INVALID: &str = "invalid domain name";
 
-/// What a scan came to whose want of memory has this text.
+/// What a scan came to whose lack of memory has this text.
 fn scanned<O: AsOctets + Drop>(
     answer: Result<O, StrError>,
     ample: Result<&[u8], &'static str>,
@@ -326,7 +326,7 @@ fn entries_of_strings_are_read(rt: HostRuntime) -> Result<(), AllocError> {
     Ok(())
 }
 
-/// A token is read as a name. Any want of memory is an invalid name.
+/// A token is read as a name. Any lack of memory is an invalid name.
 #[derive(Drop)]
 struct ScansName<'t, 'o> {
     token: &'t str,

@@ -1,8 +1,8 @@
 //! Character strings out of texts, copies of octets, and room that is set aside.
 use super::{Call, Heap, Hostile, Told, answered, keeps};
 use dns_charstr::charstr::{CharStr, CharStrBuilder, FromStrError, PresentationError};
+use dns_octets::{EmptyBuilder, OctetsFrom, ShortBuf};
 use dns_symbol::symbol::{BadSymbol, SymbolCharsError};
-use dns_wire::{EmptyBuilder, OctetsFrom, ShortBuf};
 use dns_zone::document::{Document, DocumentError, Item};
 use std::alloc::Global;
 use std::test::Fail;

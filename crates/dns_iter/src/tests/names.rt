@@ -1,8 +1,8 @@
 //! Names out of tokens.
 use super::*;
 use dns_name::name::UncertainName;
-use dns_wire::FromBuilder;
-use dns_wire_name::Name;
+use dns_octets::FromBuilder;
+use dns_wire::Name;
 
 // The octets of the first token as a name, or the refusal. The token is taken.
 fn first_name(alloc: Global, token: &str, want: Result<&[u8], &str>) -> bool {

@@ -1,11 +1,11 @@
 //! The labels of chains, from both ends.
 use crate::chain::{Chain, UncertainChain};
-use dns_wire_name::{Label, ToLabelIter};
+use dns_wire::{Label, ToLabelIter};
 use std::alloc::AllocError;
 use std::marker::Model;
 
 /// The labels of a name that are left, from both ends: calls from either end give each label once
-/// ([`labels_from_both_ends`](dns_wire_name::laws::labels_from_both_ends)).
+/// ([`labels_from_both_ends`](dns_wire::laws::labels_from_both_ends)).
 #[derive(Debug, Drop)]
 pub struct LabelIter<'a, N: ToLabelIter> {
     name: &'a N,
@@ -62,7 +62,7 @@ impl<'a, N: ToLabelIter> Clone for LabelIter<'a, N> {
 
 impl<'a, N: ToLabelIter> Iterator for LabelIter<'a, N> {
     ghost use Rattle.std.specs.Iterator.{item_count};
-    ghost use Rattle.dns_wire_name.specs.Takes.{TakesFirst};
+    ghost use Rattle.dns_wire.specs.Takes.{TakesFirst};
 
     type Item = Label<'a>;
 
@@ -81,7 +81,7 @@ impl<'a, N: ToLabelIter> Iterator for LabelIter<'a, N> {
 }
 
 impl<'a, N: ToLabelIter> DoubleEndedIterator for LabelIter<'a, N> {
-    ghost use Rattle.dns_wire_name.specs.Takes.{TakesLast};
+    ghost use Rattle.dns_wire.specs.Takes.{TakesLast};
 
     ghost next_back_gives = { TakesLast };
 

@@ -1,13 +1,13 @@
 //! Chains on uncertain names.
 ghost use Rattle.std.specs.Prelude.{◌≤◌};
-ghost use Rattle.dns_wire_name.specs.Wire.{wire_length};
+ghost use Rattle.dns_wire.specs.Wire.{wire_length};
 ghost use Rattle.dns_name.specs.Uncertain.{labels_after};
 
 use crate::chain::{Chain, DisplayWithDot, LongChainError, UncertainChainIter};
 use crate::name::UncertainName;
+use dns_octets::{AsOctets, OctetsBuilder, ShortBuf};
 use dns_scan::Scanner;
-use dns_wire::{AsOctets, OctetsBuilder, ShortBuf};
-use dns_wire_name::{DisplayWithoutDot, Label, ToLabelIter, ToName};
+use dns_wire::{DisplayWithoutDot, Label, ToLabelIter, ToName};
 use std::alloc::AllocError;
 use std::fmt;
 
@@ -25,7 +25,7 @@ impl<Octets: AsOctets, R: ToLabelIter> UncertainChain<Octets, R> {
 
     /// The left name with the right one after it. On a relative name it is [`LongChainError`] where
     /// both together have more than 255 octets. On an absolute one no length is checked.
-    #[tactic(auto, using(dns_wire_name::proofs::Wires::wire_length_append))]
+    #[tactic(auto, using(dns_wire::proofs::Wires::wire_length_append))]
     pub fn new(left: UncertainName<Octets>, right: R) -> Result<Self, LongChainError>
     where
         Octets: Drop,
@@ -68,7 +68,7 @@ impl<Octets: AsOctets, R: ToName> UncertainChain<Octets, R> {
     ghost use Rattle.std.specs.Prelude.{◌≡◌};
     ghost use Rattle.dns_scan.specs.Tokens.{ScansToken};
     ghost use Rattle.dns_name.specs.UncertainChain.{first_of, second_of};
-    ghost use Rattle.dns_wire_name.specs.Shown.{dotted_name};
+    ghost use Rattle.dns_wire.specs.Shown.{dotted_name};
 
     /// Scans a chain with a scanner whose names are such chains.
     pub fn scan<S: Scanner<Name = Self>>(scanner: &mut S) -> Result<Self, S::Error>
@@ -150,7 +150,7 @@ impl<Octets: AsOctets, R: ToName> ToName for UncertainChain<Octets, R> {
 /// The labels joined by dots, without a dot at the end; a lone root is one dot.
 impl<Octets: AsOctets, R: ToName> fmt::Display for UncertainChain<Octets, R> {
     ghost use Rattle.std.specs.Prelude.{Some, encode_utf8_all};
-    ghost use Rattle.dns_wire_name.specs.Printed.{undotted_text};
+    ghost use Rattle.dns_wire.specs.Printed.{undotted_text};
     ghost use Rattle.dns_name.specs.UncertainChain.{first_of, second_of};
 
     ghost output = { λ c. Some (encode_utf8_all (undotted_text (labels_after (first_of c) (R.labels (second_of c))))) };

@@ -1,7 +1,7 @@
 //! Why there is no name.
+use dns_octets::ShortBuf;
 use dns_symbol::symbol::SymbolCharsError;
-use dns_wire::ShortBuf;
-use dns_wire_name::{LabelTypeError, PushError, SplitLabelError};
+use dns_wire::{LabelTypeError, PushError, SplitLabelError};
 use std::error::Error;
 use std::fmt;
 

@@ -4,9 +4,9 @@ ghost use Rattle.dns_name.specs.Reading.{is_dot};
 ghost use Rattle.dns_name.specs.ReadingSteps.{TakesSymbol, MakesAbsolute, Finishes};
 
 use crate::name::{FromStrError, UncertainName};
+use dns_octets::{AsOctets, AsOctetsMut, EmptyBuilder, FreezeBuilder, FromBuilder, OctetsBuilder};
 use dns_symbol::symbol::Symbol;
-use dns_wire::{AsOctets, AsOctetsMut, EmptyBuilder, FreezeBuilder, FromBuilder, OctetsBuilder};
-use dns_wire_name::NameBuilder;
+use dns_wire::NameBuilder;
 
 fn is_dot(symbol: Symbol) -> bool
     ensures { result ≡ is_dot symbol }
@@ -60,7 +60,7 @@ fn finish<B: OctetsBuilder + FreezeBuilder + Drop>(
 impl<Octets: AsOctets> UncertainName<Octets> {
     ghost use Rattle.std.specs.Prelude.{◌≡◌, ◌≤◌, Ok};
     ghost use Rattle.std.specs.Iterator.{IsFinite};
-    ghost use Rattle.dns_wire_name.specs.Wire.{wire_length};
+    ghost use Rattle.dns_wire.specs.Wire.{wire_length};
     ghost use Rattle.dns_name.specs.Uncertain.{labels_of};
     ghost use Rattle.dns_name.specs.declared.name.UncertainName.{UncertainName};
     ghost use Rattle.dns_name.specs.Reading.{ReadsAs, ReadsName, ReadsChars};

@@ -1,7 +1,7 @@
 //! Uncertain names as labels and as octets, and their comparison.
 use crate::name::UncertainName;
-use dns_wire::{AsOctets, OctetsBuilder, ShortBuf};
-use dns_wire_name::{Label, Name, NameIter, RelativeName, ToLabelIter};
+use dns_octets::{AsOctets, OctetsBuilder, ShortBuf};
+use dns_wire::{Label, Name, NameIter, RelativeName, ToLabelIter};
 use std::hash::{Hash, Hasher};
 
 impl<Octets: AsOctets> From<Name<Octets>> for UncertainName<Octets> {
@@ -27,7 +27,7 @@ impl<Octets: AsOctets> From<RelativeName<Octets>> for UncertainName<Octets> {
 }
 
 impl<Octets: AsOctets> AsOctets for UncertainName<Octets> {
-    ghost use Rattle.dns_wire_name.specs.Wire.{wire};
+    ghost use Rattle.dns_wire.specs.Wire.{wire};
     ghost use Rattle.dns_name.specs.Uncertain.{labels_of};
 
     ghost octets = { λ n. wire (labels_of n) };
@@ -121,7 +121,7 @@ impl<Octets: AsOctets> Eq for UncertainName<Octets> {
 impl<Octets: AsOctets> Hash for UncertainName<Octets> {
     ghost use Rattle.std.specs.List.{flat_map};
     ghost use Rattle.std.specs.Hash as fed;
-    ghost use Rattle.dns_wire_name.specs.Order.{lowered_wire};
+    ghost use Rattle.dns_wire.specs.Order.{lowered_wire};
     ghost use Rattle.dns_name.specs.Uncertain.{labels_of, same_uncertain_hash};
 
     ghost hash_input = { λ n. flat_map fed.u8 (lowered_wire (labels_of n)) };

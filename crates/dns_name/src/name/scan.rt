@@ -1,8 +1,8 @@
 //! Scanning names.
 use crate::name::UncertainName;
+use dns_octets::AsOctets;
 use dns_scan::Scanner;
-use dns_wire::AsOctets;
-use dns_wire_name::Name;
+use dns_wire::Name;
 
 impl<Octets: AsOctets> UncertainName<Octets> {
     ghost use Rattle.dns_scan.specs.Tokens.{ScansToken};

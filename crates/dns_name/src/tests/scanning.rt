@@ -1,13 +1,13 @@
 //! Chains out of a scanner that has them.
 ghost use Rattle.std.specs.Prelude.{◌≡◌, codes};
-ghost use Rattle.dns_scan.specs.Cause.{custom_text};
+ghost use Rattle.dns_symbol.specs.Cause.{custom_text};
 
 use super::*;
 use dns_charstr::charstr::CharStr;
+use dns_octets::Str;
 use dns_scan::{ConvertSymbols, Scanner, ScannerError};
 use dns_symbol::symbol::{EntrySymbol, Symbol};
-use dns_wire::Str;
-use dns_wire_name::ToName;
+use dns_wire::ToName;
 use std::error::Error;
 use std::fmt;
 use std::marker::PhantomData;
@@ -29,7 +29,7 @@ impl fmt::Display for Refusal {
 impl Error for Refusal {}
 
 impl ScannerError for Refusal {
-    ghost use Rattle.dns_scan.specs.Cause.{Cause, custom_text, end_of_entry, short_buf, trailing_tokens};
+    ghost use Rattle.dns_symbol.specs.Cause.{Cause, custom_text, end_of_entry, short_buf, trailing_tokens};
     ghost use Rattle.dns_name.specs.declared.tests.scanning.Refusal.TheVariants.{Custom, EndOfEntry, ShortBuf, TrailingTokens};
 
     ghost cause = { λ e. elim e [ Custom t ↦ custom_text t.now | EndOfEntry ↦ end_of_entry | ShortBuf ↦ short_buf | TrailingTokens ↦ trailing_tokens ] };

@@ -1,7 +1,7 @@
 //! Names in zone text against rows from outside.
 use super::{Vector, labels_of};
 use crate::name::UncertainName;
-use dns_wire_name::ZoneName;
+use dns_wire::ZoneName;
 use std::alloc::{AllocError, Global};
 use std::process::Abort;
 use std::test::Fail;

@@ -83,14 +83,17 @@ impl<W: fmt::Write> Write for MultiLineWriter<W> {
     }
 }
 
-/// Writes that many spaces.
+// Spaces, that indents are cut from.
+const SPACES: &str = "                                                                ";
+
+// Writes that many spaces, a slice of them at a time.
 fn write_spaces<W: fmt::Write>(writer: &mut W, count: usize) -> fmt::Result
     ensures { OnOk result (WritesInCalls W.write_str_gives writer.old (replicate count 32) writer.new) }
 {
-    for _i in 0..count {
-        writer.write_str(" ")?;
+    for _slice in 0..count / SPACES.len() {
+        writer.write_str(SPACES)?;
     }
-    Ok(())
+    writer.write_str(&SPACES[..count % SPACES.len()])
 }
 
 impl<W: fmt::Write> FormatWriter for MultiLineWriter<W> {

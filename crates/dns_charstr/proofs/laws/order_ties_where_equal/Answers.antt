@@ -1,5 +1,5 @@
 use Rattle.std.proofs.lemmas.Cmp.{on_total, nat_list_cmp_total}
-use Rattle.dns_charstr.specs.Order.{lowered}
+use Rattle.dns_octets.specs.Lowered.{lowered}
 use Rattle.dns_charstr.proofs.Alike.{tied_same, same_tied}
 use Rattle.dns_charstr.proofs.laws.order_ties_where_equal.Goals as goal
 

@@ -13,12 +13,12 @@ use Rattle.dns_codec.proofs.decoder.decode.Goals as goal
 
 pub loop-c-init : goal.loop-c-init
 loop-c-init g c =
-    let same : c.into_iter-c-iterator.result.rest.now ≡ c.append_front-rest.result.now = cc in
+    let same : c.into_iter-c-iterator.result.rest.now ≡ c.append_groups-rest.result.now = cc in
     let new = c.empty-decoder.ensures in
     let view = c.decoder.view_is in
-    let rest = c.append_front-rest.result.now in
-    let taken = g.B.AsOctets.octets c.append_front-rest.new.builder in
-    let at = c.append_front-rest.ensures in (
+    let rest = c.append_groups-rest.result.now in
+    let taken = g.B.AsOctets.octets c.append_groups-rest.new.builder in
+    let at = c.append_groups-rest.ensures.front in (
       at.front,
       rw same (chars_front c.args.s.now at.front rest at.split at.ascii),
       starts g.K.Encoding.base g.met.K.Encoding.known g.B.OctetsBuilder.sure g.B.OctetsBuilder.most c.args.s.now rest taken
@@ -36,10 +36,10 @@ loop-c-preserved g c = (
 pub returns-in_err-push : goal.returns-in_err-push
 returns-in_err-push g c =
     let known = g.met.K.Encoding.known in
-    let rest = c.append_front-rest.result.now in
+    let rest = c.append_groups-rest.result.now in
     let same : c.into_iter-c-iterator.result.rest.now ≡ rest = cc in
     let split = rw same at c.loop-c.invariant.1 in
-    let text = YieldsList-from_chars rest c.append_front-rest.utf8 same in
+    let text = YieldsList-from_chars rest c.append_groups-rest.utf8 same in
     let so_far = YieldsList-so_far text c.loop-c.yielded _ c.loop-c.yielded_by in
     let turn = YieldsList-turn text c.loop-c.yielded _ c.loop-c.yielded_by _ _ c.in-Some.c c.in-Some.is c.next.ensures.steps in
     let here = after_front (chars c.args.s.now) c.loop-c.invariant.0 (chars rest) c.loop-c.yielded _ c.in-Some.c split (text_here (chars rest) c.loop-c.yielded c.in-Some.c so_far turn) in
@@ -51,10 +51,10 @@ returns-in_err-push g c =
 pub returns : goal.returns
 returns g c =
     let known = g.met.K.Encoding.known in
-    let rest = c.append_front-rest.result.now in
+    let rest = c.append_groups-rest.result.now in
     let same : c.into_iter-c-iterator.result.rest.now ≡ rest = cc in
     let split = rw same at c.loop-c.invariant.1 in
-    let text = YieldsList-from_chars rest c.append_front-rest.utf8 same in
+    let text = YieldsList-from_chars rest c.append_groups-rest.utf8 same in
     let done = YieldsList-end text c.loop-c.yielded _ c.loop-c.yielded_by _ _ c.in-None.is c.next.ensures.steps in
     let all = after_all (chars c.args.s.now) c.loop-c.invariant.0 (chars rest) c.loop-c.yielded split (sym (map-same c.loop-c.yielded) ∙ done.0) in
     let stands = rw all at c.loop-c.invariant.2 in

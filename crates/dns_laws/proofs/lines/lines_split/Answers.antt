@@ -8,4 +8,5 @@ returns-clause-text g c = search rules
 
 pub returns-clause-meaning : goal.returns-clause-meaning
 returns-clause-meaning g c =
-    IfOk-weaker c.values_split.result _ _ (λ s is e. line_only c.args.kind c.args.line.now (string_bytes s) c.lines_are_lines.ensures.holds c.lines_are_lines.ensures.printable is e) (returns-clause-text g c)
+    IfOk-weaker c.values_split.result _ _ (λ s is e. line_only c.args.kind c.args.line.now
+    (string_bytes s) c.lines_are_lines.ensures.holds c.lines_are_lines.ensures.printable is e) (returns-clause-text g c)

@@ -1,9 +1,9 @@
 use Rattle.std.specs.Prelude.{encode_utf8_all}
-use Rattle.dns_wire_name.specs.Printed.{dotted_text}
+use Rattle.dns_wire.specs.Printed.{dotted_text}
 use Rattle.dns_name.specs.declared.name.UncertainName.TheVariants.{Absolute, Relative}
 use Rattle.dns_name.proofs.Printing.{printed_reads, zone_reads}
 use Rattle.dns_scan.proofs.Whole.{of_first}
-use Rattle.dns_wire_name.specs.ZoneText.{zone_text}
+use Rattle.dns_wire.specs.ZoneText.{zone_text}
 use Rattle.dns_laws.proofs.NameBack.{name_back, relative_back}
 use Rattle.dns_laws.proofs.names.names_are_scanned_back.Goals as goal
 

@@ -1,6 +1,6 @@
 use Rattle.std.proofs.Common.{List, Option, drop}
 use Rattle.std.specs.List.{FoldsTo}
-use Rattle.dns_scan.specs.Cause.{Cause}
+use Rattle.dns_symbol.specs.Cause.{Cause}
 use Rattle.dns_scan.specs.Kinds.{KindReads}
 use Rattle.dns_scan.specs.Reads.{ReadsInTurn}
 use Rattle.dns_scan.specs.Stands.{StandsBefore}

@@ -2,7 +2,7 @@ use Rattle.std.proofs.Common.{ℕ, ◌≡◌, arith, Option, None, Result, Ok, E
 use Rattle.std.specs.Prelude.{IfOk}
 use Rattle.dns_symbol.specs.declared.symbol.Symbol.{Symbol}
 use Rattle.dns_symbol.specs.declared.symbol.SymbolCharsError.{SymbolCharsError}
-use Rattle.dns_scan.specs.Cause.{Cause}
+use Rattle.dns_symbol.specs.Cause.{Cause}
 use Rattle.dns_scan.specs.Numbers.{IsNumber, ReadsNumber}
 use Rattle.dns_scan.proofs.Decimal.{decimal_read}
 use Rattle.dns_scan.proofs.Once.{numbers_once, reads_of}

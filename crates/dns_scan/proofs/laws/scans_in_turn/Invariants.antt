@@ -1,6 +1,6 @@
 use Rattle.std.proofs.Common.{List, Option, ◌-◌}
 use Rattle.std.specs.List.{FoldsTo}
-use Rattle.dns_scan.specs.Cause.{Cause}
+use Rattle.dns_symbol.specs.Cause.{Cause}
 use Rattle.dns_scan.specs.Reads.{ReadsEach}
 use Rattle.dns_scan.specs.Stands.{StandsBefore}
 use Rattle.dns_scan.specs.Tokens.{Token}

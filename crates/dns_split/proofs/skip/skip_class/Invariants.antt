@@ -5,12 +5,12 @@ use Rattle.dns_split.proofs.skip.skip_class.Given as goal
 abbrev pub invariant-by_few : goal.invariant-by_few
 invariant-by_few l = record {
   on : l.at ≤ l.place;
-  within : (l.place ≤ l.few) × (l.few ≤ length l.octets);
+  within : l.place ≤ length l.octets;
   each : EachIn l.class l.octets l.at l.place;
 }
 
 abbrev pub decreases-by_few : goal.decreases-by_few
-decreases-by_few l = l.few - l.place
+decreases-by_few l = length l.octets - l.place
 
 abbrev pub invariant-by_load : goal.invariant-by_load
 invariant-by_load l = record {

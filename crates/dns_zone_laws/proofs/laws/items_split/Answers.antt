@@ -8,14 +8,16 @@ pub returns-in-Ok-split-clause-text : goal.returns-in-Ok-split-clause-text
 returns-in-Ok-split-clause-text g c = search rules
 
 pub returns-in-Ok-split-clause-meaning : goal.returns-in-Ok-split-clause-meaning
-returns-in-Ok-split-clause-meaning g c = λ e. text_only c.args.kind (steps_of c.args.items.items) (string_bytes c.in_ok-text.text) (returns-in-Ok-split-clause-text g c) e (c.in-Ok.ensures.accepts.0 refl)
+returns-in-Ok-split-clause-meaning g c = λ e. text_only c.args.kind (steps_of c.args.items.items) (string_bytes c.in_ok-text.text) (returns-in-Ok-split-clause-text g c) e
+    (c.in-Ok.ensures.accepts.0 refl)
 
 pub returns-in-Ok-split-clause-tight : goal.returns-in-Ok-split-clause-tight
 returns-in-Ok-split-clause-tight g c = text_tight c.args.kind (steps_of c.args.items.items) (string_bytes c.in_ok-text.text) (returns-in-Ok-split-clause-text g c) (c.in-Ok.ensures.accepts.0 refl)
 
 pub returns-in-Ok-split-clause-entries : goal.returns-in-Ok-split-clause-entries
 returns-in-Ok-split-clause-entries g c =
-    (text_only c.args.kind (steps_of c.args.items.items) c.as_str.result.now (c.as_str.ensures.value ∙ returns-in-Ok-split-clause-text g c) _ (c.in-Ok.ensures.accepts.0 refl)).0 c.in-Ok-split.ensures.exact
+    (text_only c.args.kind (steps_of c.args.items.items) c.as_str.result.now (c.as_str.ensures.value ∙ returns-in-Ok-split-clause-text g c) _
+    (c.in-Ok.ensures.accepts.0 refl)).0 c.in-Ok-split.ensures.exact
 
 pub returns-clause-refused : goal.returns-clause-refused
 returns-clause-refused g c =

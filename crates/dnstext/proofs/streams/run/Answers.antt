@@ -1,6 +1,6 @@
 use Rattle.std.proofs.Common.{rules, ◌≡◌, [], ◌++◌, codes, refl, ap, subst, ◌∙◌, inl, inr}
 use Rattle.std.specs.Io.KnownBytes.{Appends}
-use Rattle.dns_iter.specs.Program.{refusal_line, usage_line, texts}
+use Rattle.dns_program.specs.Program.{refusal_line, usage_line, texts}
 use Rattle.dnstext.proofs.Sinks.{kept_by_none, appends_twice, text_after, untouched, printed_on, refused_on, ran_on, silent_on}
 use Rattle.dnstext.proofs.streams.run.Goals as goal
 
@@ -28,22 +28,39 @@ pub returns-clause-printed : goal.returns-clause-printed
 returns-clause-printed g c = λ is.
     let run = c.run-status.ensures.printed is in
     let wrote : Appends (g.E.Write.contents c.args.err.now) (g.E.Write.contents c.write_all.new.self) c.as_bytes.result.now = search rules in
-    let none : c.as_bytes.result.now ≡ [] = c.as_bytes.ensures.value ∙ c.as_str.ensures.value ∙ ap (λ x. x.bytes) run.1 ∙ c.new-line.ensures in
-    (printed_on g.O.Write.contents _ _ c.run-status.new.out c.refuses_the_end-is_lost.new.self _ (record { back = λ same. search rules; loan = c.refuses_the_end-is_lost.ensures.loan; kept = c.refuses_the_end-is_lost.ensures.kept }) run.0, kept_by_none _ _ _ none wrote)
+    let none : c.as_bytes.result.now ≡ [] = c.as_bytes.ensures.value ∙ c.as_str.ensures.value ∙ ap (λ x. x.bytes) run.1 ∙ c.new-line.ensures in (
+      printed_on g.O.Write.contents _ _ c.run-status.new.out c.refuses_the_end-is_lost.new.self _
+          (record { back = λ same. search rules; loan = c.refuses_the_end-is_lost.ensures.loan; kept = c.refuses_the_end-is_lost.ensures.kept }) run.0,
+      kept_by_none _ _ _ none wrote,
+    )
 
 pub returns-clause-refused : goal.returns-clause-refused
 returns-clause-refused g c = λ is.
     let run = c.run-status.ensures.refused is in
     let wrote : Appends (g.E.Write.contents c.args.err.now) (g.E.Write.contents c.write_all.new.self) c.as_bytes.result.now = search rules in
-    let line : c.as_bytes.result.now ≡ refusal_line run.0 = c.as_bytes.ensures.value ∙ c.as_str.ensures.value ∙ text_after (λ x. x.bytes) c.new-line.result (refusal_line run.0) c.run-status.new.err c.new-line.ensures run.2 in
-    (c.as_bytes.result.now, inl (run.0, refused_on g.O.Write.contents _ _ c.run-status.new.out c.refuses_the_end-is_lost.new.self _ run.0 (record { back = λ same. search rules; loan = c.refuses_the_end-is_lost.ensures.loan; kept = c.refuses_the_end-is_lost.ensures.kept }) run.1, line), wrote)
+    let line : c.as_bytes.result.now ≡ refusal_line run.0 = c.as_bytes.ensures.value ∙ c.as_str.ensures.value
+    ∙ text_after (λ x. x.bytes) c.new-line.result (refusal_line run.0) c.run-status.new.err c.new-line.ensures run.2 in (
+      c.as_bytes.result.now,
+      inl (
+        run.0,
+        refused_on g.O.Write.contents _ _ c.run-status.new.out c.refuses_the_end-is_lost.new.self _ run.0
+            (record { back = λ same. search rules; loan = c.refuses_the_end-is_lost.ensures.loan; kept = c.refuses_the_end-is_lost.ensures.kept }) run.1,
+        line,
+      ),
+      wrote,
+    )
 
 pub returns-clause-usage : goal.returns-clause-usage
 returns-clause-usage g c = λ is.
     let run = c.run-status.ensures.usage is in
     let wrote : Appends (g.E.Write.contents c.args.err.now) (g.E.Write.contents c.write_all.new.self) c.as_bytes.result.now = search rules in
-    let line : c.as_bytes.result.now ≡ usage_line = c.as_bytes.ensures.value ∙ c.as_str.ensures.value ∙ text_after (λ x. x.bytes) c.new-line.result usage_line c.run-status.new.err c.new-line.ensures run.2 in
-    (run.0, untouched g.O.Write.contents _ c.run-status.new.out c.refuses_the_end-is_lost.new.self _ (record { back = λ same. search rules; loan = c.refuses_the_end-is_lost.ensures.loan; kept = c.refuses_the_end-is_lost.ensures.kept }) run.1, subst (λ b. Appends (g.E.Write.contents c.args.err.now) (g.E.Write.contents c.write_all.new.self) b) line wrote)
+    let line : c.as_bytes.result.now ≡ usage_line = c.as_bytes.ensures.value ∙ c.as_str.ensures.value
+    ∙ text_after (λ x. x.bytes) c.new-line.result usage_line c.run-status.new.err c.new-line.ensures run.2 in (
+      run.0,
+      untouched g.O.Write.contents _ c.run-status.new.out c.refuses_the_end-is_lost.new.self _
+          (record { back = λ same. search rules; loan = c.refuses_the_end-is_lost.ensures.loan; kept = c.refuses_the_end-is_lost.ensures.kept }) run.1,
+      subst (λ b. Appends (g.E.Write.contents c.args.err.now) (g.E.Write.contents c.write_all.new.self) b) line wrote,
+    )
 
 pub returns-clause-silent : goal.returns-clause-silent
 returns-clause-silent g c = λ is. silent_on g.O.Write.contents (texts c.args.words.now) _ c.run-status.new.out c.refuses_the_end-is_lost.new.self _ c.run-status.result

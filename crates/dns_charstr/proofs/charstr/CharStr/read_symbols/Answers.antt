@@ -29,10 +29,26 @@ pub returns-in_err-octet : goal.returns-in_err-octet
 returns-in_err-octet g c =
     let begins = symbol_taken c.in-Some.symbol c.loop-builder.chars c.from_chars.new.chars (rw c.in-Some.is at c.in_ok-symbol.ensures.reads) in
     let p = err_from_is_err_and c.from_residual-in_err-octet.result c.from_residual-in_err-octet.ensures.1 in
-    rw (p.1, p.2) (c.loop-builder.builder, c.in-Some.symbol, read_next _ _ _ _ c.in-Some.symbol c.loop-builder.invariant.read begins, omega arith, c.loop-builder.invariant.within, sym c.in_err-octet.ensures)
+    rw (p.1, p.2) (
+      c.loop-builder.builder,
+      c.in-Some.symbol,
+      read_next _ _ _ _ c.in-Some.symbol c.loop-builder.invariant.read begins,
+      omega arith,
+      c.loop-builder.invariant.within,
+      sym c.in_err-octet.ensures,
+    )
 
 pub returns-in_err-append_slice : goal.returns-in_err-append_slice
 returns-in_err-append_slice g c =
     let begins = symbol_taken c.in-Some.symbol c.loop-builder.chars c.from_chars.new.chars (rw c.in-Some.is at c.in_ok-symbol.ensures.reads) in
     let p = err_from_is_err_and c.from_residual-in_err-append_slice.result c.from_residual-in_err-append_slice.ensures.1 in
-    rw (p.1, p.2) (c.loop-builder.builder, c.in-Some.symbol, c.in_ok-octet.octet, read_next _ _ _ _ c.in-Some.symbol c.loop-builder.invariant.read begins, omega arith, c.loop-builder.invariant.within, sym c.in_ok-octet.ensures, grind (arith, common_steps))
+    rw (p.1, p.2) (
+      c.loop-builder.builder,
+      c.in-Some.symbol,
+      c.in_ok-octet.octet,
+      read_next _ _ _ _ c.in-Some.symbol c.loop-builder.invariant.read begins,
+      omega arith,
+      c.loop-builder.invariant.within,
+      sym c.in_ok-octet.ensures,
+      grind (arith, common_steps),
+    )

@@ -1,4 +1,4 @@
-use Rattle.dns_wire_name.proofs.Chains.{composed_err, second_fits}
+use Rattle.dns_wire.proofs.Chains.{composed_err, second_fits}
 use Rattle.dns_name.specs.Chain.{left_of, right_of}
 use Rattle.dns_name.proofs.chain.ChainToLabelIter.compose.Goals as goal
 

@@ -1,14 +1,9 @@
-use Rattle.std.proofs.Common.{Ok, Err, refl}
+use Rattle.std.proofs.Common.{refl}
 use Rattle.dns_scan.proofs.Reading.{reads_first}
 use Rattle.dns_scan.specs.Reads.{NameReads}
 use Rattle.dns_scan.proofs.scan.NameScan.scan.Goals as goal
 
-pub returns-in-Ok-clause-reads : goal.returns-in-Ok-clause-reads
-returns-in-Ok-clause-reads g c =
+pub returns-clause-reads : goal.returns-clause-reads
+returns-clause-reads g c =
     reads_first g.S.Scanner.next_token g.S.Error.ScannerError.cause g.S.Scanner.reads_name (NameReads g.S.Error.ScannerError.cause g.S.Scanner.reads_name) (λ t r h. (r, h, refl))
-    _ (Ok c.in-Ok.name) _ c.in-Ok.ensures.scans
-
-pub returns-in-Err-clause-reads : goal.returns-in-Err-clause-reads
-returns-in-Err-clause-reads g c =
-    reads_first g.S.Scanner.next_token g.S.Error.ScannerError.cause g.S.Scanner.reads_name (NameReads g.S.Error.ScannerError.cause g.S.Scanner.reads_name) (λ t r h. (r, h, refl))
-    _ (Err c.in-Err.error) _ c.in-Err.ensures.scans
+    _ c.scan_name.result _ c.scan_name.ensures.scans

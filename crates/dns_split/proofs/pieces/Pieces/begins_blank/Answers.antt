@@ -1,8 +1,9 @@
 use Rattle.std.proofs.Common.{drop}
+use Rattle.dns_split.specs.declared.reader.Mode.TheVariants.{Outside}
 use Rattle.dns_split.proofs.PieceMoved.{blank_left}
 use Rattle.dns_split.proofs.pieces.Pieces.begins_blank.Goals as goal
 
 pub returns : goal.returns
 returns c =
     let s = c.self.inside in
-    blank_left s.is_done s.mode s.depth s.start s.at s.begins_blank (drop s.at s.octets.now) c.args.self.now c.self.view_is
+    blank_left s.is_done Outside s.depth s.at s.at s.begins_blank (drop s.at s.octets.now) c.args.self.now c.self.view_is

@@ -1,4 +1,4 @@
-use Rattle.dns_wire_name.proofs.Chains.{composed_err, second_fits}
+use Rattle.dns_wire.proofs.Chains.{composed_err, second_fits}
 use Rattle.dns_name.specs.UncertainChain.{second_of}
 use Rattle.dns_name.proofs.chain.uncertain.UncertainChainToLabelIter.compose.Goals as goal
 

@@ -1,5 +1,5 @@
 use Rattle.std.proofs.Common.{arith}
-use Rattle.dns_wire_name.proofs.Chains.{both_few}
+use Rattle.dns_wire.proofs.Chains.{both_few}
 use Rattle.dns_name.specs.UncertainChain.{second_of}
 use Rattle.dns_name.proofs.chain.uncertain.UncertainChainToLabelIter.label_count.Goals as goal
 

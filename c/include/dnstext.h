@@ -1,0 +1,129 @@
+/* The text layer of DNS, for C and C++.
+ *
+ * Octets and texts are passed as a pointer and a length. The pointer may be NULL where the length is
+ * 0. A text is its characters, one octet each, with no end mark. Whoever passes memory owns it: the
+ * functions keep no pointer, and take no memory (dns_text_split alone does). While a call runs nobody
+ * writes what it reads, and nobody reads or writes what it writes; what it writes overlaps nothing else
+ * that it was passed. Octets need no alignment; structs are aligned as C aligns them, and a pointer to
+ * one struct is not NULL.
+ *
+ * A call answers one of the statuses below and writes a struct dns_outcome. What it gives stands at the
+ * start of the memory that it was passed; what follows there stays as it was. Where there is no room,
+ * DNS_NO_ROOM is answered and the length is what is needed: so a call with no room at all asks for it.
+ * The functions may run in several threads at once. */
+#ifndef DNSTEXT_H
+#define DNSTEXT_H
+
+#include <stddef.h>
+#include <stdint.h>
+
+#ifdef __cplusplus
+extern "C" {
+#endif
+
+enum dns_status {
+    DNS_OK = 0,
+    DNS_END = 1,               /* nothing is left */
+    DNS_NO_ROOM = 2,           /* the length says how much is needed */
+    DNS_BAD_ESCAPE = 3,        /* a backslash with what makes no escape */
+    DNS_SHORT_INPUT = 4,       /* the end inside an escape or a character */
+    DNS_BAD_UTF8 = 5,          /* no UTF-8 */
+    DNS_BAD_SYMBOL = 6,        /* a character that stands for no octet */
+    DNS_TOO_LONG = 7,          /* more than 255 octets; 2^60 for the encodings */
+    DNS_BAD_ENCODING = 8,      /* no text of the encoding; the place is not told */
+    DNS_CLOSING = 9,           /* a closing parenthesis, and none is open */
+    DNS_OPEN_PARENTHESIS = 10, /* the text ends inside parentheses */
+    DNS_OPEN_QUOTE = 11,       /* the text or a line ends inside a quoted text */
+    DNS_LONE_RETURN = 12,      /* a CR without its LF */
+    DNS_BAD_CURSOR = 13        /* a cursor that stands past the end of the text */
+};
+
+struct dns_outcome {
+    size_t length; /* what was given: octets, characters or tokens; or what is needed */
+    size_t place;  /* the octets before a fault; 0 where there is none */
+};
+
+/* ---- Character strings (RFC 1035 section 5.1): at most 255 octets.
+ *
+ * Reading takes the octets of a text's symbols. Symbols are handled in order: what is no symbol is
+ * refused first, then a symbol after 255 octets, then one that stands for no octet. */
+uint32_t dns_charstr_read(const uint8_t *text, size_t text_len, uint8_t *octets, size_t octets_len,
+                          struct dns_outcome *outcome);
+/* Plain: a backslash alone is escaped, and what is not printable ASCII by its decimal value. */
+uint32_t dns_charstr_print(const uint8_t *octets, size_t octets_len, uint8_t *text, size_t text_len,
+                           struct dns_outcome *outcome);
+/* Between double quotes. */
+uint32_t dns_charstr_print_quoted(const uint8_t *octets, size_t octets_len, uint8_t *text,
+                                  size_t text_len, struct dns_outcome *outcome);
+/* As a word of zone text. No octets print nothing, which is no word. */
+uint32_t dns_charstr_print_unquoted(const uint8_t *octets, size_t octets_len, uint8_t *text,
+                                    size_t text_len, struct dns_outcome *outcome);
+
+/* ---- The encodings of RFC 4648 sections 8, 7 and 4.
+ *
+ * Printing writes capitals, and padding in base 64 alone. Reading takes either case in base 16 and
+ * base32hex. It answers DNS_NO_ROOM by the number of characters, before the text is judged. After
+ * DNS_BAD_ENCODING nothing is said of the octets that there was to be room for. */
+uint32_t dns_base16_print(const uint8_t *octets, size_t octets_len, uint8_t *text, size_t text_len,
+                          struct dns_outcome *outcome);
+uint32_t dns_base32hex_print(const uint8_t *octets, size_t octets_len, uint8_t *text,
+                             size_t text_len, struct dns_outcome *outcome);
+uint32_t dns_base64_print(const uint8_t *octets, size_t octets_len, uint8_t *text, size_t text_len,
+                          struct dns_outcome *outcome);
+uint32_t dns_base16_read(const uint8_t *text, size_t text_len, uint8_t *octets, size_t octets_len,
+                         struct dns_outcome *outcome);
+uint32_t dns_base32hex_read(const uint8_t *text, size_t text_len, uint8_t *octets,
+                            size_t octets_len, struct dns_outcome *outcome);
+uint32_t dns_base64_read(const uint8_t *text, size_t text_len, uint8_t *octets, size_t octets_len,
+                         struct dns_outcome *outcome);
+
+/* ---- Zone text, entry by entry (RFC 1035 section 5.1).
+ *
+ * An octet of 0x80 or more counts as a character of its own, so that comments need not be UTF-8. */
+struct dns_token {
+    size_t start;     /* the octets of the text from here .. */
+    size_t end;       /* .. to before here */
+    size_t is_quoted; /* 1 for a quoted text, which has its double quotes; 0 for a word */
+};
+
+/* At first all three are 0. */
+struct dns_cursor {
+    size_t at;           /* where the next entry begins */
+    size_t begins_blank; /* 1 where the entry given last began with a blank */
+    size_t is_done;      /* 1 once nothing is left */
+};
+
+/* Gives the places of the next entry's tokens, and moves the cursor on. The length is the number of
+ * tokens. Where they do not all fit, the first ones are given with DNS_NO_ROOM, and the cursor stays:
+ * call again with more room. A fault is told with its place, after the tokens before it, and then the
+ * text is done. Once nothing is left the answer is DNS_END. */
+uint32_t dns_entry_next(const uint8_t *text, size_t text_len, struct dns_cursor *cursor,
+                        struct dns_token *tokens, size_t tokens_len, struct dns_outcome *outcome);
+
+/* ---- The text of a status, also of an unknown one. */
+uint32_t dns_status_text(uint32_t status, uint8_t *text, size_t text_len,
+                         struct dns_outcome *outcome);
+
+/* ---- Answers that are a length alone.
+ *
+ * The encodings: how many octets were written at the start of the other, or SIZE_MAX where the text is
+ * not one of the encoding or the output too short. */
+size_t dns_base16_encode(const uint8_t *octets, size_t octets_len, uint8_t *text, size_t text_len);
+size_t dns_base32hex_encode(const uint8_t *octets, size_t octets_len, uint8_t *text,
+                            size_t text_len);
+size_t dns_base64_encode(const uint8_t *octets, size_t octets_len, uint8_t *text, size_t text_len);
+size_t dns_base16_decode(const uint8_t *text, size_t text_len, uint8_t *octets, size_t octets_len);
+size_t dns_base32hex_decode(const uint8_t *text, size_t text_len, uint8_t *octets,
+                            size_t octets_len);
+size_t dns_base64_decode(const uint8_t *text, size_t text_len, uint8_t *octets, size_t octets_len);
+
+/* How many entries a zone text splits into; 0 where the octets are no UTF-8 or do not split, or where
+ * memory was refused. It takes memory from malloc, by the three functions of heap.c; a program that
+ * defines these itself has its own used. */
+size_t dns_text_split(const uint8_t *text, size_t text_len);
+
+#ifdef __cplusplus
+}
+#endif
+
+#endif

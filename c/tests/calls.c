@@ -1,0 +1,195 @@
+/* Each call with ample room, with room for one less and with none, and each status. */
+#include <dnstext.h>
+#include <stdio.h>
+#include <stdlib.h>
+#include <string.h>
+
+#define BYTES(text) (const uint8_t *)(text), sizeof(text) - 1
+
+typedef uint32_t (*call)(const uint8_t *, size_t, uint8_t *, size_t, struct dns_outcome *);
+
+static int failures;
+
+static void expect(int is_so, const char *what, int line) {
+    if (!is_so) {
+        fprintf(stderr, "tests/calls.c:%d: %s\n", line, what);
+        failures++;
+    }
+}
+#define EXPECT(is_so) expect((is_so), #is_so, __LINE__)
+
+/* A call on memory of just the lengths that are passed, so that a sanitizer sees what is beyond. */
+static uint32_t run(call f, const uint8_t *from, size_t from_len, uint8_t *to, size_t to_len,
+                    struct dns_outcome *outcome) {
+    uint8_t *input = from_len != 0 ? (uint8_t *)malloc(from_len) : NULL;
+    uint8_t *output = to_len != 0 ? (uint8_t *)malloc(to_len) : NULL;
+    uint32_t status;
+    if (from_len != 0)
+        memcpy(input, from, from_len);
+    if (to_len != 0)
+        memcpy(output, to, to_len);
+    status = f(input, from_len, output, to_len, outcome);
+    if (to_len != 0)
+        memcpy(to, output, to_len);
+    free(input);
+    free(output);
+    return status;
+}
+
+static void gives(call f, const uint8_t *from, size_t from_len, const uint8_t *made, size_t length,
+                  int line) {
+    uint8_t memory[600];
+    struct dns_outcome outcome = {7, 7};
+    size_t room, i;
+    for (room = 0; room <= length + 2; room++) {
+        uint32_t status;
+        memset(memory, '-', sizeof memory);
+        status = run(f, from, from_len, memory, room, &outcome);
+        expect(outcome.length == length && outcome.place == 0, "length and place", line);
+        expect(status == (room < length ? DNS_NO_ROOM : DNS_OK), "status", line);
+        for (i = 0; i < sizeof memory; i++)
+            expect(memory[i] == (status == DNS_OK && i < length ? made[i] : '-'), "memory", line);
+    }
+}
+#define GIVES(f, from, made) gives(f, BYTES(from), BYTES(made), __LINE__)
+
+static void refuses(call f, const uint8_t *from, size_t from_len, uint32_t status, size_t place,
+                    int line) {
+    uint8_t memory[600] = {0};
+    struct dns_outcome outcome = {7, 7};
+    expect(run(f, from, from_len, memory, sizeof memory, &outcome) == status, "status", line);
+    expect(outcome.length == 0 && outcome.place == place, "length and place", line);
+}
+#define REFUSES(f, from, status, place) refuses(f, BYTES(from), status, place, __LINE__)
+
+static void strings(void) {
+    uint8_t long_string[256];
+    memset(long_string, 'x', sizeof long_string);
+    GIVES(dns_charstr_read, "foo\\112", "foop");
+    GIVES(dns_charstr_read, "f\\;\\\"", "f;\"");
+    GIVES(dns_charstr_read, "", "");
+    gives(dns_charstr_read, long_string, 255, long_string, 255, __LINE__);
+    REFUSES(dns_charstr_read, "a\\25x", DNS_BAD_ESCAPE, 1);
+    REFUSES(dns_charstr_read, "ab\\25", DNS_SHORT_INPUT, 2);
+    REFUSES(dns_charstr_read, "abc\xFFz", DNS_BAD_UTF8, 3);
+    REFUSES(dns_charstr_read, "abcd\xC3\xA9", DNS_BAD_SYMBOL, 4);
+    refuses(dns_charstr_read, long_string, 256, DNS_TOO_LONG, 255, __LINE__);
+    GIVES(dns_charstr_print, "f\"o;\\\n", "f\"o;\\\\\\010");
+    GIVES(dns_charstr_print_quoted, "f\"o;", "\"f\\\"o;\"");
+    GIVES(dns_charstr_print_quoted, "", "\"\"");
+    GIVES(dns_charstr_print_unquoted, "f\"o;", "f\\\"o\\;");
+    refuses(dns_charstr_print, long_string, 256, DNS_TOO_LONG, 255, __LINE__);
+    refuses(dns_charstr_print_quoted, long_string, 256, DNS_TOO_LONG, 255, __LINE__);
+    refuses(dns_charstr_print_unquoted, long_string, 256, DNS_TOO_LONG, 255, __LINE__);
+}
+
+/* The rows of RFC 4648 section 10. */
+static void encodings(void) {
+    GIVES(dns_base16_print, "foobar", "666F6F626172");
+    GIVES(dns_base16_read, "666F6f626172", "foobar");
+    GIVES(dns_base16_print, "", "");
+    GIVES(dns_base16_read, "", "");
+    REFUSES(dns_base16_read, "666", DNS_BAD_ENCODING, 0);
+    REFUSES(dns_base16_read, "6x", DNS_BAD_ENCODING, 0);
+    GIVES(dns_base32hex_print, "foobar", "CPNMUOJ1E8");
+    GIVES(dns_base32hex_print, "foob", "CPNMUOG");
+    GIVES(dns_base32hex_read, "cpnmuoj1E8", "foobar");
+    GIVES(dns_base32hex_read, "CO", "f");
+    REFUSES(dns_base32hex_read, "C", DNS_BAD_ENCODING, 0);
+    REFUSES(dns_base32hex_read, "CPNMUOJ1E8======", DNS_BAD_ENCODING, 0);
+    GIVES(dns_base64_print, "f", "Zg==");
+    GIVES(dns_base64_print, "fo", "Zm8=");
+    GIVES(dns_base64_print, "foobar", "Zm9vYmFy");
+    GIVES(dns_base64_read, "Zg==", "f");
+    GIVES(dns_base64_read, "Zm8=", "fo");
+    GIVES(dns_base64_read, "Zm9vYmFy", "foobar");
+    REFUSES(dns_base64_read, "Zg=", DNS_BAD_ENCODING, 0);
+    REFUSES(dns_base64_read, "=Zg=", DNS_BAD_ENCODING, 0);
+    REFUSES(dns_base64_read, "Zm9vYmF!", DNS_BAD_ENCODING, 0);
+}
+
+static void lengths(void) {
+    uint8_t memory[16];
+    EXPECT(dns_base16_encode(BYTES("fo"), memory, 4) == 4 && memcmp(memory, "666F", 4) == 0);
+    EXPECT(dns_base16_encode(BYTES("fo"), memory, 3) == SIZE_MAX);
+    EXPECT(dns_base16_decode(BYTES("666f"), memory, 2) == 2 && memcmp(memory, "fo", 2) == 0);
+    EXPECT(dns_base16_decode(BYTES("666f"), memory, 1) == SIZE_MAX);
+    EXPECT(dns_base32hex_encode(BYTES("foob"), memory, 7) == 7 && memcmp(memory, "CPNMUOG", 7) == 0);
+    EXPECT(dns_base32hex_decode(BYTES("CPNMUOG"), memory, 4) == 4);
+    EXPECT(dns_base64_encode(BYTES("foob"), memory, 8) == 8 && memcmp(memory, "Zm9vYg==", 8) == 0);
+    EXPECT(dns_base64_decode(BYTES("Zm9vYg=="), memory, 4) == 4);
+    EXPECT(dns_base64_decode(NULL, 0, NULL, 0) == 0);
+    EXPECT(dns_text_split(BYTES("a ( b\n)\n\"c\"")) == 2);
+    EXPECT(dns_text_split(NULL, 0) == 1);
+    EXPECT(dns_text_split(BYTES("a)")) == 0);
+}
+
+static void wrong(const uint8_t *text, size_t length, uint32_t status, size_t place, size_t tokens,
+                  int line) {
+    struct dns_token memory[4];
+    struct dns_cursor cursor = {0, 0, 0};
+    struct dns_outcome outcome = {7, 7};
+    expect(dns_entry_next(text, length, &cursor, memory, 4, &outcome) == status, "status", line);
+    expect(outcome.place == place && outcome.length == tokens, "place and length", line);
+    expect(cursor.is_done == 1, "cursor", line);
+    expect(dns_entry_next(text, length, &cursor, memory, 4, &outcome) == DNS_END, "end", line);
+    expect(outcome.place == 0 && outcome.length == 0, "place and length of the end", line);
+}
+#define WRONG(text, status, place, tokens) wrong(BYTES(text), status, place, tokens, __LINE__)
+
+static void entries(void) {
+    static const char whole[] = " one ( \"two\"\n; comment\n) three\n\nlast";
+    const struct dns_token none = {9, 9, 9};
+    struct dns_token tokens[4] = {{9, 9, 9}, {9, 9, 9}, {9, 9, 9}, {9, 9, 9}};
+    struct dns_cursor cursor = {0, 0, 0}, past = {3, 0, 0};
+    struct dns_outcome outcome = {7, 7};
+    EXPECT(dns_entry_next(BYTES(whole), &cursor, NULL, 0, &outcome) == DNS_NO_ROOM);
+    EXPECT(outcome.length == 3 && cursor.at == 0 && cursor.is_done == 0);
+    EXPECT(dns_entry_next(BYTES(whole), &cursor, tokens, 2, &outcome) == DNS_NO_ROOM);
+    EXPECT(outcome.length == 3 && cursor.at == 0);
+    EXPECT(tokens[0].start == 1 && tokens[0].end == 4 && tokens[1].start == 7);
+    EXPECT(memcmp(&tokens[2], &none, sizeof none) == 0);
+    EXPECT(dns_entry_next(BYTES(whole), &cursor, tokens, 3, &outcome) == DNS_OK);
+    EXPECT(outcome.length == 3 && outcome.place == 0);
+    EXPECT(tokens[0].is_quoted == 0 && tokens[1].is_quoted == 1 && tokens[1].end == 12);
+    EXPECT(tokens[2].start == 25 && tokens[2].end == 30);
+    EXPECT(memcmp(&tokens[3], &none, sizeof none) == 0);
+    EXPECT(cursor.at == 31 && cursor.begins_blank == 1 && cursor.is_done == 0);
+    EXPECT(dns_entry_next(BYTES(whole), &cursor, NULL, 0, &outcome) == DNS_OK);
+    EXPECT(outcome.length == 0 && cursor.at == 32 && cursor.begins_blank == 0);
+    EXPECT(dns_entry_next(BYTES(whole), &cursor, tokens, 4, &outcome) == DNS_OK);
+    EXPECT(outcome.length == 1 && cursor.is_done == 1);
+    EXPECT(tokens[0].start == 32 && tokens[0].end == 36);
+    EXPECT(dns_entry_next(BYTES(whole), &cursor, tokens, 4, &outcome) == DNS_END);
+    EXPECT(dns_entry_next(BYTES("ab"), &past, tokens, 4, &outcome) == DNS_BAD_CURSOR);
+    EXPECT(past.at == 3 && past.is_done == 0 && outcome.place == 0);
+    WRONG("a b)", DNS_CLOSING, 3, 1);
+    WRONG("a ( b", DNS_OPEN_PARENTHESIS, 5, 1);
+    WRONG("a \"b\n", DNS_OPEN_QUOTE, 4, 1);
+    WRONG("a \rb", DNS_LONE_RETURN, 3, 1);
+    WRONG("a b\\256", DNS_BAD_ESCAPE, 6, 1);
+}
+
+static void texts(void) {
+    uint8_t memory[64];
+    struct dns_outcome outcome;
+    uint32_t status;
+    for (status = 0; status <= DNS_BAD_CURSOR + 1; status++) {
+        size_t length;
+        EXPECT(dns_status_text(status, NULL, 0, &outcome) == DNS_NO_ROOM);
+        length = outcome.length;
+        EXPECT(dns_status_text(status, memory, length - 1, &outcome) == DNS_NO_ROOM);
+        EXPECT(dns_status_text(status, memory, length, &outcome) == DNS_OK);
+        EXPECT(outcome.length == length && length < sizeof memory);
+    }
+    EXPECT(outcome.length == 14 && memcmp(memory, "unknown status", 14) == 0);
+}
+
+int main(void) {
+    strings();
+    encodings();
+    lengths();
+    entries();
+    texts();
+    return failures != 0;
+}

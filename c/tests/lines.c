@@ -1,0 +1,98 @@
+/* A zone text of 200,000 lines, written from tokens that are known, gives just these tokens. */
+#include <dnstext.h>
+#include <stdio.h>
+#include <stdlib.h>
+#include <string.h>
+
+enum { LINES = 200000, ROOM = 16 * 1024 * 1024 };
+
+static uint8_t *text;
+static size_t length;
+static uint32_t seed = 1;
+
+static uint32_t chance(uint32_t below) {
+    seed = seed * 1664525u + 1013904223u;
+    return (seed >> 8) % below;
+}
+
+static void put(const char *characters) {
+    size_t n = strlen(characters);
+    memcpy(text + length, characters, n);
+    length += n;
+}
+
+/* What is known of a token: where it stands, and what kind it is. */
+static struct dns_token *known;
+static size_t count;
+
+static void put_token(void) {
+    static const char *const words[] = {"a", "example.com.", "3600", "IN", "\\;", "x\\032y", "@", "caf\xC3\xA9"};
+    static const char *const quoted[] = {"\"\"", "\"a b\"", "\"( ; )\"", "\"\\\"\""};
+    known[count].start = length;
+    known[count].is_quoted = chance(4) == 0;
+    put(known[count].is_quoted ? quoted[chance(4)] : words[chance(8)]);
+    known[count].end = length;
+    count++;
+}
+
+static void fail(const char *what, size_t line) {
+    fprintf(stderr, "tests/lines.c: %s at line %lu\n", what, (unsigned long)line);
+    exit(1);
+}
+
+int main(void) {
+    size_t *ends = (size_t *)malloc(LINES * sizeof *ends);
+    uint8_t *blanks = (uint8_t *)malloc(LINES);
+    struct dns_token tokens[16];
+    struct dns_cursor cursor = {0, 0, 0};
+    struct dns_outcome outcome;
+    size_t line, at = 0, i;
+    text = (uint8_t *)malloc(ROOM);
+    known = (struct dns_token *)malloc(LINES * 8 * sizeof *known);
+    if (ends == NULL || blanks == NULL || text == NULL || known == NULL)
+        return 2;
+    for (line = 0; line < LINES; line++) {
+        uint32_t n = chance(7), inside = chance(5) == 0;
+        blanks[line] = chance(4) == 0;
+        if (blanks[line])
+            put(chance(2) ? " " : "\t");
+        if (inside)
+            put("(");
+        for (i = 0; i < n; i++) {
+            if (i != 0)
+                put(inside && chance(3) == 0 ? " ; \xE9 (\"\n " : " ");
+            put_token();
+        }
+        if (inside)
+            put("\r\n)");
+        if (chance(6) == 0)
+            put(n == 0 && !inside ? "; a comment" : " ; a comment: \" ( )");
+        ends[line] = count;
+        if (line + 1 < LINES)
+            put(chance(5) == 0 ? "\r\n" : "\n");
+    }
+    for (line = 0; line < LINES; line++) {
+        size_t from = at;
+        at = ends[line];
+        if (dns_entry_next(text, length, &cursor, tokens, 16, &outcome) != DNS_OK)
+            fail("no entry", line);
+        if (outcome.length != at - from || cursor.begins_blank != blanks[line])
+            fail("another entry", line);
+        for (i = 0; i < outcome.length; i++)
+            if (memcmp(&tokens[i], &known[from + i], sizeof tokens[i]) != 0)
+                fail("another token", line);
+    }
+    if (dns_entry_next(text, length, &cursor, tokens, 16, &outcome) != DNS_END)
+        fail("more entries", line);
+    /* The text of the same tokens that is UTF-8 splits into as many entries. */
+    for (i = 0; i < length; i++)
+        if (text[i] == 0xE9)
+            text[i] = 'e';
+    if (dns_text_split(text, length) != LINES)
+        fail("another number of entries", line);
+    free(ends);
+    free(blanks);
+    free(text);
+    free(known);
+    return 0;
+}

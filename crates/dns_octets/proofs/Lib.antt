@@ -1,0 +1,2 @@
+pub mod SliceThrough
+pub mod Ordered

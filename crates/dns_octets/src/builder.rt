@@ -1,0 +1,207 @@
+//! Builders of octets.
+ghost use Rattle.std.specs.Prelude.{◌≡◌, ℕ, ◌+◌, ◌-◌, ◌≤◌, ◌↔◌, [], ◌++◌, length, take, Bool, true, false, IsTrue, IfOk, IsOk, OnOk, OnErr};
+ghost use Rattle.dns_octets.specs.Octets.{greatest_length};
+ghost use Rattle.arrayvec.specs.ArrayVec.{array_vec_len};
+
+use crate::octets::AsOctets;
+use arrayvec::ArrayVec;
+use std::alloc::Allocator;
+use thiserror::Error;
+
+/// There was no room for the octets, or no memory.
+#[derive(Clone, Copy, Debug, PartialEq, Eq, Error)]
+#[error("buffer size exceeded")]
+pub struct ShortBuf;
+
+/// Octets that more octets can be appended to.
+///
+/// Two numbers of octets belong to each such type: those that surely fit in all, and those that
+/// it ever holds. They are equal for a buffer of fixed size. A vector has 0 and the greatest
+/// `usize`, since it may find no memory.
+pub trait OctetsBuilder: AsOctets {
+    // How many octets surely fit, in all.
+    ghost sure: { ℕ };
+
+    // How many octets it ever holds.
+    ghost most: { ℕ };
+
+    /// Appends all of the slice, or changes nothing.
+    fn append_slice(&mut self, slice: &[u8]) -> Result<(), ShortBuf>
+        ensures ok { OnOk result (Self.octets self.new ≡ Self.octets self.old ++ slice.now) }
+        ensures err { OnErr result (Self.octets self.new ≡ Self.octets self.old) }
+        ensures fits { length slice.now ≤ sure - length (Self.octets self.old) → IsOk result }
+        ensures within { OnOk result (length (Self.octets self.new) ≤ most) };
+}
+
+/// A builder that can be made with no octets in it.
+pub trait EmptyBuilder: OctetsBuilder + Sized {
+    /// What is allocated from, or `()` where nothing is.
+    type Alloc: Copy;
+
+    // Whether `with_capacity` always succeeds.
+    ghost takes_no_memory: { Bool };
+
+    /// A builder of no octets. It takes no memory.
+    fn empty(alloc: Self::Alloc) -> Self
+        ensures { Self.octets result ≡ [] };
+
+    /// A builder of no octets, with room set aside for `capacity` where that can be done.
+    fn with_capacity(alloc: Self::Alloc, capacity: usize) -> Result<Self, ShortBuf>
+        ensures value { IfOk result (λ b. Self.octets b ≡ []) }
+        ensures succeeds { IsTrue takes_no_memory → IsOk result };
+}
+
+/// A builder that can be turned into finished octets.
+pub trait FreezeBuilder: AsOctets + Sized {
+    /// The finished octets.
+    type Octets: AsOctets;
+
+    /// The same octets, finished.
+    fn freeze(self) -> Self::Octets
+        ensures { Self.Octets.octets result ≡ Self.octets self };
+}
+
+/// Octets that can be made from their builder.
+pub trait FromBuilder: AsOctets + Sized {
+    /// The builder.
+    type Builder: AsOctets;
+
+    /// The builder's octets.
+    fn from_builder(builder: Self::Builder) -> Self
+        ensures { Self.octets result ≡ Self.Builder.octets builder };
+}
+
+/// Octets that can be turned into their builder.
+pub trait IntoBuilder: AsOctets + Sized {
+    /// The builder.
+    type Builder: AsOctets;
+
+    /// A builder of the same octets.
+    fn into_builder(self) -> Self::Builder
+        ensures { Self.Builder.octets result ≡ Self.octets self };
+}
+
+/// Octets that can be cut short.
+pub trait Truncate: AsOctets {
+    /// Keeps the first `len` octets. A greater `len` changes nothing.
+    fn truncate(&mut self, len: usize)
+        ensures { Self.octets self.new ≡ take len (Self.octets self.old) };
+}
+
+impl<A: Allocator> OctetsBuilder for Vec<u8, A> {
+    ghost sure = { 0 };
+
+    ghost most = { greatest_length };
+
+    fn append_slice(&mut self, slice: &[u8]) -> Result<(), ShortBuf> {
+        self.extend_from_slice(slice).map_err(|_| ShortBuf)
+    }
+}
+
+impl<const N: usize> OctetsBuilder for ArrayVec<u8, N> {
+    ghost sure = { N };
+
+    ghost most = { N };
+
+    fn append_slice(&mut self, slice: &[u8]) -> Result<(), ShortBuf>
+        ensures ok { OnOk result (self.new.items ≡ self.old.items ++ slice.now) }
+        ensures err { OnErr result (self.new.items ≡ self.old.items) }
+        ensures fits { length slice.now ≤ N - length self.old.items → IsOk result }
+        ensures within { OnOk result (length self.new.items ≤ N) }
+        ensures exact { IsOk result ↔ (array_vec_len self.old + length slice.now ≤ N) }
+    {
+        let room = self.remaining_capacity();
+        if room < slice.len() {
+            return Err(ShortBuf);
+        }
+        self.try_extend_from_slice(slice).map_err(|_| ShortBuf)
+    }
+}
+
+impl<A: Allocator + Copy> EmptyBuilder for Vec<u8, A> {
+    type Alloc = A;
+
+    ghost takes_no_memory = { false };
+
+    fn empty(alloc: A) -> Self {
+        Vec::new(alloc)
+    }
+
+    fn with_capacity(alloc: A, capacity: usize) -> Result<Self, ShortBuf> {
+        Vec::with_capacity(alloc, capacity).map_err(|_| ShortBuf)
+    }
+}
+
+impl<const N: usize> EmptyBuilder for ArrayVec<u8, N> {
+    type Alloc = ();
+
+    ghost takes_no_memory = { true };
+
+    fn empty(_alloc: ()) -> Self {
+        ArrayVec::new()
+    }
+
+    fn with_capacity(_alloc: (), _capacity: usize) -> Result<Self, ShortBuf> {
+        Ok(ArrayVec::new())
+    }
+}
+
+impl<A: Allocator> FreezeBuilder for Vec<u8, A> {
+    type Octets = Vec<u8, A>;
+
+    fn freeze(self) -> Vec<u8, A> {
+        self
+    }
+}
+
+impl<const N: usize> FreezeBuilder for ArrayVec<u8, N> {
+    type Octets = ArrayVec<u8, N>;
+
+    fn freeze(self) -> ArrayVec<u8, N> {
+        self
+    }
+}
+
+impl<A: Allocator> FromBuilder for Vec<u8, A> {
+    type Builder = Vec<u8, A>;
+
+    fn from_builder(builder: Vec<u8, A>) -> Self {
+        builder
+    }
+}
+
+impl<const N: usize> FromBuilder for ArrayVec<u8, N> {
+    type Builder = ArrayVec<u8, N>;
+
+    fn from_builder(builder: ArrayVec<u8, N>) -> Self {
+        builder
+    }
+}
+
+impl<A: Allocator> IntoBuilder for Vec<u8, A> {
+    type Builder = Vec<u8, A>;
+
+    fn into_builder(self) -> Vec<u8, A> {
+        self
+    }
+}
+
+impl<const N: usize> IntoBuilder for ArrayVec<u8, N> {
+    type Builder = ArrayVec<u8, N>;
+
+    fn into_builder(self) -> ArrayVec<u8, N> {
+        self
+    }
+}
+
+impl<A: Allocator> Truncate for Vec<u8, A> {
+    fn truncate(&mut self, len: usize) {
+        Vec::truncate(self, len);
+    }
+}
+
+impl<const N: usize> Truncate for ArrayVec<u8, N> {
+    fn truncate(&mut self, len: usize) {
+        ArrayVec::truncate(self, len);
+    }
+}

@@ -1,0 +1,88 @@
+//! Reading octets from the front.
+ghost use Rattle.std.specs.Prelude.{◌≡◌, ◌∷◌, ◌≤◌, ◌<◌, ◌↔◌, length, take, IsOk, IfOk, is_ok, if◌then◌else◌};
+ghost use Rattle.dns_octets.specs.Parsing.{Parsing, rest, gone_on};
+
+use std::marker::Model;
+use thiserror::Error;
+
+/// Why octets can't be read.
+#[derive(Clone, Copy, Debug, PartialEq, Eq, Error)]
+pub enum ParseError {
+    /// Fewer octets are left than were asked for.
+    #[error("unexpected end of input")]
+    ShortInput,
+}
+
+/// A place among octets, before which everything has been read.
+///
+/// A call that is refused leaves the parser as it was.
+#[derive(Drop)]
+pub struct Parser<'a> {
+    octets: &'a [u8],
+    pos: usize,
+}
+
+impl<'a> Model for Parser<'a> {
+    ghost Value = { Parsing };
+
+    ghost view = { λ p. record { octets = p.octets.now; place = p.pos } };
+
+    ghost invariant = { λ p. p.pos ≤ length p.octets.now };
+}
+
+impl<'a> Parser<'a> {
+    /// A parser that stands before the first octet.
+    pub fn from_slice(octets: &'a [u8]) -> Self
+        ensures { result ≡ record { octets = octets.now; place = 0 } }
+    {
+        Parser { octets, pos: 0 }
+    }
+
+    /// How many octets have been read.
+    pub fn pos(&self) -> usize
+        ensures value { result ≡ self.now.place }
+        ensures within { result ≤ length self.now.octets }
+    {
+        self.pos
+    }
+
+    /// The octets that are left. They stay unread.
+    pub fn peek_all(&self) -> &'a [u8]
+        ensures { result.now ≡ rest self.now }
+    {
+        &self.octets[self.pos..]
+    }
+
+    /// Passes over `len` octets.
+    pub fn advance(&mut self, len: usize) -> Result<(), ParseError>
+        ensures ok { IsOk result ↔ (len ≤ length (rest self.old)) }
+        ensures moved { self.new ≡ (if is_ok result then gone_on len self.old else self.old) }
+    {
+        self.parse_octets(len)?;
+        Ok(())
+    }
+
+    /// Reads one octet.
+    pub fn parse_u8(&mut self) -> Result<u8, ParseError>
+        ensures ok { IsOk result ↔ (1 ≤ length (rest self.old)) }
+        ensures value { IfOk result (λ octet. rest self.old ≡ octet ∷ rest self.new) }
+        ensures moved { self.new ≡ (if is_ok result then gone_on 1 self.old else self.old) }
+    {
+        let octets = self.parse_octets(1)?;
+        Ok(octets[0])
+    }
+
+    /// Reads `len` octets.
+    pub fn parse_octets(&mut self, len: usize) -> Result<&'a [u8], ParseError>
+        ensures ok { IsOk result ↔ (len ≤ length (rest self.old)) }
+        ensures value { IfOk result (λ octets. octets.now ≡ take len (rest self.old)) }
+        ensures moved { self.new ≡ (if is_ok result then gone_on len self.old else self.old) }
+    {
+        let left = self.peek_all();
+        if left.len() < len {
+            return Err(ParseError::ShortInput);
+        }
+        self.pos += len;
+        Ok(&left[..len])
+    }
+}

@@ -1,0 +1,94 @@
+-- What the converters make of a token.
+use Rattle.std.specs.Prelude.{ℕ, List, [], ◌∷◌, ◌++◌, ◌≡◌, ◌<◌, ◌≤◌, ◌⊎◌, length, map, Bool, false, Option, Some, None, Result, Ok, Err, MatchResult}
+use Rattle.dns_symbol.specs.declared.symbol.Symbol.{Symbol}
+use Rattle.dns_symbol.specs.declared.symbol.SymbolCharsError.{SymbolCharsError}
+use Rattle.dns_symbol.specs.Symbol.{chars_error_text, char_of}
+use Rattle.dns_symbol.specs.Text.{SymbolsOf}
+use Rattle.dns_codec.specs.Base.{Base, base16, base32hex, base64, encoded}
+use Rattle.dns_codec.specs.Group.{Group, fresh}
+use Rattle.dns_codec.specs.Converting.{made, convert, convert_tail}
+use Rattle.dns_codec.specs.Grammar.{Decodes}
+use Rattle.dns_symbol.specs.Cause.{Cause, custom_text, short_buf}
+use Rattle.dns_scan.specs.Tokens.{Token}
+
+-- a converter by what it holds: the octets of a symbol or the refusal's text, and what it holds then; and those of the tail
+pub record Codec : Type 1 where
+  pub Held : Type 0
+  pub start : Held
+  pub step : Held → Symbol → Result (List ℕ) (List ℕ) × Held
+  pub tail : Held → Result (List ℕ) (List ℕ)
+
+-- go on from octets that were made, or answer the refusal
+abbrev pub then_made : Result (List ℕ) (List ℕ) → (List ℕ → Result (List ℕ) Cause) → Result (List ℕ) Cause
+then_made (Ok octets) go = go octets
+then_made (Err text) go = Err (custom_text text)
+
+-- octets and those made after them, or none at a refusal
+abbrev pub then_more : Result (List ℕ) (List ℕ) → List ℕ → List ℕ
+then_more (Ok octets) more = octets ++ more
+then_more (Err text) more = []
+
+module _ (codec : Codec) where
+  -- what comes after the symbols: the token's error, or else the tail's octets or refusal
+  abbrev pub finished : codec.Held → List ℕ → Option SymbolCharsError → Result (List ℕ) Cause
+  finished held built None = then_made (codec.tail held) (λ octets. Ok (built ++ octets))
+  finished held built (Some e) = Err (custom_text (chars_error_text e))
+
+  -- the octets made of symbols, from what is held and built, or the first refusal
+  abbrev pub converted : codec.Held → List ℕ → List Symbol → Option SymbolCharsError → Result (List ℕ) Cause
+  converted held built [] error = finished held built error
+  converted held built (x ∷ xs) error = then_made (codec.step held x).0 (λ octets. converted (codec.step held x).1 (built ++ octets) xs error)
+
+  -- what a new converter makes of a token
+  abbrev pub ConvertsTo : Token → Result (List ℕ) Cause → Type 0
+  ConvertsTo token r = (symbols : List Symbol) × (error : Option SymbolCharsError) × SymbolsOf token symbols error × (converted codec.start [] symbols error ≡ r)
+
+  -- the octets that are made of symbols, and of the tail where nothing else follows, up to the first refusal
+  abbrev pub made_of : codec.Held → List Symbol → Option SymbolCharsError → List ℕ
+  made_of held [] None = made (codec.tail held)
+  made_of held [] (Some e) = []
+  made_of held (x ∷ xs) error = then_more (codec.step held x).0 (made_of (codec.step held x).1 xs error)
+
+  -- the octets that a new converter makes of a token up to the first refusal
+  abbrev pub MadeOf : Token → List ℕ → Type 0
+  MadeOf token octets = (symbols : List Symbol) × (error : Option SymbolCharsError) × SymbolsOf token symbols error × (octets ≡ made_of codec.start symbols error)
+
+  -- the answer is what the token converts to, where what is made of it fits, at most `most` octets; or "short buffer", where that is more than the `sure` octets that surely fit
+  abbrev pub AnswersConverted : {O E : Type 0} → (E → Cause) → (O → List ℕ) → ℕ → ℕ → Token → Result O E → Type 0
+  AnswersConverted cause value sure most token r = (built : List ℕ) × MadeOf token built × MatchResult r
+      (λ x. ConvertsTo token (Ok (value x)) × (length built ≤ most))
+      (λ e. (ConvertsTo token (Err (cause e)) × (length built ≤ most)) ⊎ ((cause e ≡ short_buf) × (sure < length built)))
+
+  -- the token is octets in that encoding, which print in upper case hex
+  abbrev pub OctetsPrint : Token → List ℕ → Type 0
+  OctetsPrint token text = (octets : List ℕ) × ConvertsTo token (Ok octets) × (text ≡ encoded base16 octets)
+
+  -- the token is none
+  abbrev pub OctetsRefused : Token → Cause → Type 0
+  OctetsRefused token why = ConvertsTo token (Err why)
+
+-- the converter of an encoding holds the open group, and whether a character came within the padding
+abbrev pub codec_of : Base → Codec
+codec_of b = record {
+  Held = Group × Bool;
+  start = (fresh, false);
+  step = λ held x. ((convert b held.0 held.1 x).answer, ((convert b held.0 held.1 x).group, (convert b held.0 held.1 x).spoiled));
+  tail = λ held. (convert_tail b held.0 held.1).answer;
+}
+
+abbrev pub hex_codec : Codec
+hex_codec = codec_of base16
+
+abbrev pub base32hex_codec : Codec
+base32hex_codec = codec_of base32hex
+
+abbrev pub base64_codec : Codec
+base64_codec = codec_of base64
+
+-- a token that is a text of the encoding, of that value: its symbols all have a character, nothing else stands in it, and the grammar has their characters
+pub record IsEncoding (b : Base) (token : Token) (octets : List ℕ) : Type 0 where
+  pub symbols : List Symbol
+  pub read : SymbolsOf token symbols None
+  pub text : List ℕ
+  pub chars : map char_of symbols ≡ map Ok text
+  pub decodes : Decodes b text octets

@@ -1,0 +1,6 @@
+pub mod Codecs
+pub mod EntryLine
+pub mod Print
+pub mod Program
+pub mod Rows
+pub mod Run

@@ -1,0 +1,40 @@
+-- Worked examples of the definitions, computed.
+use Rattle.std.specs.Char.{encode_utf8}
+use Rattle.std.specs.Prelude.{false, ◌≡◌, [], ◌∷◌, Some, None, Err, codes, refl}
+use Rattle.dns_symbol.specs.declared.symbol.Symbol.TheVariants.{Char, SimpleEscape, DecimalEscape}
+use Rattle.dns_symbol.specs.declared.symbol.SymbolCharsError.TheVariants.{ShortInput}
+use Rattle.dns_codec.specs.Bits.{bits, joined, cut, whole}
+use Rattle.dns_codec.specs.Group.{fresh}
+use Rattle.dns_codec.specs.Base.{base16, value}
+use Rattle.dns_symbol.specs.Cause.{custom_text}
+use Rattle.dns_program.specs.Codecs.{converted, made_of, hex_codec, base32hex_codec, IsEncoding}
+
+-- a simple escape counts as its character, and letter case doesn't matter
+escaped : IsEncoding base16 (codes "Ca\\FE") (202 ∷ 254 ∷ [])
+unfolding bits joined cut whole value encode_utf8
+escaped = record {
+  symbols = Char 67 ∷ Char 97 ∷ SimpleEscape 70 ∷ Char 69 ∷ [];
+  read = record { rest = []; readable = refl; spelled = refl; ends = refl };
+  text = codes "CaFE";
+  chars = refl;
+  decodes = record { chars = codes "CaFE"; pieces = 12 ∷ 10 ∷ 15 ∷ 14 ∷ []; named = (refl, (refl, (refl, (refl, tt)))); count = refl; spelled = refl; value_is = refl };
+}
+
+-- a decimal escape has no character
+no_character : converted hex_codec (fresh, false) [] (Char 67 ∷ Char 65 ∷ DecimalEscape 70 ∷ []) None ≡ Err (custom_text (codes "expected hex digits"))
+unfolding bits joined cut whole value
+no_character = refl
+
+-- what was made before the refusal
+before_refusal : made_of hex_codec (fresh, false) (Char 67 ∷ Char 65 ∷ Char 70 ∷ Char 71 ∷ Char 70 ∷ Char 70 ∷ []) None ≡ 202 ∷ []
+unfolding bits joined cut whole value
+before_refusal = refl
+
+-- the last group's octets, by the tail; and none where an error follows the symbols
+by_tail : made_of base32hex_codec (fresh, false) (Char 67 ∷ Char 79 ∷ []) None ≡ codes "f"
+unfolding bits joined cut whole value
+by_tail = refl
+
+cut_off : made_of base32hex_codec (fresh, false) (Char 67 ∷ Char 79 ∷ []) (Some ShortInput) ≡ []
+unfolding bits joined cut whole value
+cut_off = refl

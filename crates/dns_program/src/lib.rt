@@ -1,0 +1,9 @@
+//! The command `dnstext` over its words: it scans values, prints documents, and prints lines of
+//! fields.
+#![tactic(auto)]
+
+mod line;
+mod print;
+pub mod program;
+#[cfg(test)]
+mod tests;

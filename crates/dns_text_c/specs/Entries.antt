@@ -1,0 +1,103 @@
+-- The tokens of an entry, and what the call that gives them says.
+use Rattle.std.specs.Prelude.{◌≡◌, ◌≢◌, ℕ, ◌<◌, ◌≤◌, Bool, true, false, List, [], ◌∷◌, length, min, Result, Ok, Err}
+use Rattle.dns_octets.specs.Octets.{greatest_length}
+use Rattle.dns_split.specs.Pieces.{ReadsOctetsFrom}
+use Rattle.dns_split.specs.declared.pieces.Piece.{Piece}
+use Rattle.dns_split.specs.declared.pieces.Piece.TheVariants.{Word as WordAt, Quote as QuoteAt, Comment as CommentAt, End as EndAt}
+use Rattle.dns_split.specs.declared.pieces.Fault.{Fault as TextFault}
+use Rattle.dns_split.specs.declared.pieces.Wrong.{Wrong}
+use Rattle.dns_split.specs.declared.pieces.Wrong.TheVariants.{Closing as NoneOpen, OpenParenthesis as NotClosed, OpenQuote as NotQuoted, LoneReturn as NoFeed, BadEscape as NoEscape}
+use Rattle.dns_text_c.specs.Told.{number_of, IsRefused}
+use Rattle.dns_text_c.specs.declared.outcome.Outcome.{Outcome}
+use Rattle.dns_text_c.specs.declared.outcome.Refusal.{Refusal}
+use Rattle.dns_text_c.specs.declared.outcome.Refusal.TheVariants.{NoRoom, BadEscape, Closing, OpenParenthesis, OpenQuote, LoneReturn, BadCursor}
+use Rattle.dns_text_c.specs.declared.tokens.Token.{Token as TokenAt}
+use Rattle.dns_text_c.specs.declared.tokens.Cursor.{Cursor}
+use Rattle.dns_text_c.specs.declared.tokens.Stop.{Stop}
+use Rattle.dns_text_c.specs.declared.tokens.Stop.TheVariants.{End, Fault, Nothing}
+use Rattle.dns_text_c.specs.declared.tokens.Step.{Step}
+use Rattle.dns_text_c.specs.declared.tokens.Step.TheVariants.{Token, Comment, Stop as Stops}
+
+abbrev pub bit : Bool → ℕ
+bit true = 1
+bit false = 0
+
+abbrev pub is_nothing : {A : Type 0} → List A → Bool
+is_nothing [] = true
+is_nothing (x ∷ xs) = false
+
+abbrev pub refusal_of_wrong : Wrong → Refusal
+refusal_of_wrong NoneOpen = Closing
+refusal_of_wrong NotClosed = OpenParenthesis
+refusal_of_wrong (NotQuoted at) = OpenQuote
+refusal_of_wrong NoFeed = LoneReturn
+refusal_of_wrong NoEscape = BadEscape
+
+abbrev pub token_at : ℕ → ℕ → ℕ → TokenAt
+token_at s e quoted = record { start = s; end = e; is_quoted = quoted }
+
+-- the words and quoted texts of pieces up to the first end of an entry or fault
+abbrev pub tokens_of : List (Result Piece TextFault) → List TokenAt
+tokens_of (Ok (WordAt p) ∷ given) = token_at p.start p.end 0 ∷ tokens_of given
+tokens_of (Ok (QuoteAt p) ∷ given) = token_at p.start p.end 1 ∷ tokens_of given
+tokens_of (Ok (CommentAt p) ∷ given) = tokens_of given
+tokens_of (Ok (EndAt e) ∷ given) = []
+tokens_of (Err f ∷ given) = []
+tokens_of [] = []
+
+-- that end, which is the last piece or not; or that fault
+abbrev pub stop_of : List (Result Piece TextFault) → Stop
+stop_of (Ok (WordAt p) ∷ given) = stop_of given
+stop_of (Ok (QuoteAt p) ∷ given) = stop_of given
+stop_of (Ok (CommentAt p) ∷ given) = stop_of given
+stop_of (Ok (EndAt e) ∷ given) = End e (is_nothing given)
+stop_of (Err f ∷ given) = Fault f
+stop_of [] = Nothing
+
+-- what was taken of the pieces
+abbrev pub Steps : List (Result Piece TextFault) → Step → List (Result Piece TextFault) → Type 0
+Steps old (Token t) new = (tokens_of old ≡ t ∷ tokens_of new) × (stop_of old ≡ stop_of new) × (length new < length old)
+Steps old Comment new = (tokens_of old ≡ tokens_of new) × (stop_of old ≡ stop_of new) × (length new < length old)
+Steps old (Stops stop) new = (tokens_of old ≡ []) × (stop_of old ≡ stop)
+
+-- some values written over the start of others, as many as fit
+abbrev pub written_over_start : {A : Type 0} → List A → List A → List A
+written_over_start [] old = old
+written_over_start (x ∷ xs) [] = []
+written_over_start (x ∷ xs) (y ∷ ys) = x ∷ written_over_start xs ys
+
+-- a number as a `usize` has it
+abbrev pub counted : ℕ → ℕ
+counted n = min n greatest_length
+
+-- the first entry of these pieces: its tokens, as many as fit, their number, and how it stops
+pub record IsEntry (given : List (Result Piece TextFault)) (old : List TokenAt) (count : ℕ) (stop : Stop) (new : List TokenAt) : Type 0 where
+  pub tokens_are : new ≡ written_over_start (tokens_of given) old
+  pub count_is : count ≡ counted (length (tokens_of given))
+  pub stop_is : stop ≡ stop_of given
+
+-- what is said of an entry of so many tokens where there is room for some, and where the cursor goes
+abbrev pub GivesEntry : ℕ → Stop → ℕ → ℕ → Cursor → Cursor → Outcome → Type 0
+GivesEntry count (End e last) room status old new outcome =
+    (outcome ≡ record { length = count; place = 0 })
+    × (count ≤ room → (status ≡ 0) × (new ≡ record { at = e.at; begins_blank = bit e.begins_blank; is_done = bit last }))
+    × (room < count → (status ≡ number_of NoRoom) × (new ≡ old))
+GivesEntry count (Fault f) room status old new outcome =
+    (outcome ≡ record { length = count; place = f.at }) × (status ≡ number_of (refusal_of_wrong f.wrong)) × (new ≡ record old { is_done = 1 })
+GivesEntry count Nothing room status old new outcome =
+    (outcome ≡ record { length = count; place = 0 }) × (status ≡ 1) × (new ≡ record old { is_done = 1 })
+
+-- the entry at a place is read, and what is said of it
+pub record ReadsEntry (text : List ℕ) (old new : Cursor) (before after : List TokenAt) (status : ℕ) (outcome : Outcome) : Type 0 where
+  pub given : List (Result Piece TextFault)
+  pub reads : ReadsOctetsFrom text old.at given
+  pub count : ℕ
+  pub stop : Stop
+  pub entry : IsEntry given before count stop after
+  pub told : GivesEntry count stop (length before) status old new outcome
+
+-- a text that is done has no entry; a cursor past the end is refused; and else the entry that begins there is given
+pub record NextEntry (text : List ℕ) (old new : Cursor) (before after : List TokenAt) (status : ℕ) (outcome : Outcome) : Type 0 where
+  pub done : old.is_done ≢ 0 → (status ≡ 1) × (outcome ≡ record { length = 0; place = 0 }) × (new ≡ old) × (after ≡ before)
+  pub past : old.is_done ≡ 0 → length text < old.at → IsRefused (record { refusal = BadCursor; place = 0 }) status outcome × (new ≡ old) × (after ≡ before)
+  pub reads : old.is_done ≡ 0 → old.at ≤ length text → ReadsEntry text old new before after status outcome

@@ -1,0 +1,67 @@
+-- What reading and printing a character string answers.
+use Rattle.std.specs.Prelude.{◌≡◌, ℕ, ◌<◌, ◌≤◌, Bool, true, List, ◌++◌, length, map, drop, Some, Result, Ok, Err}
+use Rattle.std.specs.List.{flat_map, list_all}
+use Rattle.arrayvec.specs.ArrayVec.{ArrayVec}
+use Rattle.dns_symbol.specs.Symbol.{bytes, is_readable, octet_of}
+use Rattle.dns_symbol.specs.Index.{ReadsAt}
+use Rattle.dns_symbol.specs.Printed.{is_plain_escape, is_quoted_escape, is_unquoted_escape, text_of}
+use Rattle.dns_symbol.specs.declared.symbol.Symbol.{Symbol}
+use Rattle.dns_symbol.specs.declared.symbol.BadSymbol.{BadSymbol as WhyNone}
+use Rattle.dns_symbol.specs.declared.symbol.SymbolOctetsError.{SymbolOctetsError}
+use Rattle.dns_symbol.specs.declared.symbol.SymbolOctetsError.TheVariants.{BadUtf8 as NoUtf8, BadEscape as NoEscape, ShortInput as CutShort}
+use Rattle.dns_charstr.specs.Printed.{quoted_text}
+use Rattle.dns_charstr.specs.Reading.{HasOctets}
+use Rattle.dns_text_c.specs.Told.{IsGiven, IsRefused}
+use Rattle.dns_text_c.specs.declared.outcome.Outcome.{Outcome}
+use Rattle.dns_text_c.specs.declared.outcome.Fault.{Fault}
+use Rattle.dns_text_c.specs.declared.outcome.Refusal.{Refusal}
+use Rattle.dns_text_c.specs.declared.outcome.Refusal.TheVariants.{NoRoom, BadEscape, ShortInput, BadUtf8, BadSymbol, TooLong}
+use Rattle.dns_text_c.specs.declared.strings.Form.{Form}
+use Rattle.dns_text_c.specs.declared.strings.Form.TheVariants.{Plain, Quoted, Unquoted}
+
+-- what each form escapes simply, and its text of a character string
+abbrev pub escape_of : Form → ℕ → Bool
+escape_of Plain = is_plain_escape
+escape_of Quoted = is_quoted_escape
+escape_of Unquoted = is_unquoted_escape
+
+abbrev pub string_text : Form → List ℕ → List ℕ
+string_text Plain octets = text_of is_plain_escape octets
+string_text Quoted octets = quoted_text octets
+string_text Unquoted octets = text_of is_unquoted_escape octets
+
+-- at most 255 octets are given as their text, one octet a character; the 256th is refused
+pub record PrintsString (text_is : List ℕ → List ℕ) (octets old : List ℕ) (status : ℕ) (new : List ℕ) (outcome : Outcome) : Type 0 where
+  pub short : length octets ≤ 255 → IsGiven (text_is octets) old status new outcome
+  pub long : 255 < length octets → IsRefused (record { refusal = TooLong; place = 255 }) status outcome × (new ≡ old)
+
+-- the refusal of what is no symbol
+abbrev pub refusal_of : SymbolOctetsError → Refusal
+refusal_of NoUtf8 = BadUtf8
+refusal_of NoEscape = BadEscape
+refusal_of CutShort = ShortInput
+
+-- the text begins with symbols that have these octets and end at a place
+pub record HasOctetsBefore (text octets : List ℕ) (place : ℕ) : Type 0 where
+  pub symbols : List Symbol
+  pub readable : list_all is_readable symbols ≡ true
+  pub octets_are : map octet_of symbols ≡ map Ok octets
+  pub spelled : text ≡ flat_map bytes symbols ++ drop place text
+  pub place_is : place ≡ length (flat_map bytes symbols)
+
+-- why reading goes no further after these octets: what stands there is no symbol, or one too many, or one that has no octet
+abbrev pub Stops : List ℕ → List ℕ → ℕ → Refusal → Type 0
+Stops text octets place NoRoom = ⊥
+Stops text octets place TooLong = (p : Symbol × ℕ) × ReadsAt text place (Ok (Some p)) × (length octets ≡ 255)
+Stops text octets place BadSymbol = (p : Symbol × ℕ) × (e : WhyNone) × ReadsAt text place (Ok (Some p)) × (length octets < 255) × (octet_of p.0 ≡ Err e)
+Stops text octets place other = (e : SymbolOctetsError) × ReadsAt text place (Err e) × (length octets ≤ 255) × (other ≡ refusal_of e)
+
+-- what reading a text answers: the octets of all its symbols, or the first fault
+abbrev pub ReadsString : List ℕ → Result (List ℕ) Fault → Type 0
+ReadsString text (Ok octets) = HasOctets text octets × (length octets ≤ 255)
+ReadsString text (Err fault) = (octets : List ℕ) × HasOctetsBefore text octets fault.place × Stops text octets fault.place fault.refusal
+
+-- the octets that were read
+abbrev pub octets_of : Result (ArrayVec ℕ) Fault → Result (List ℕ) Fault
+octets_of (Ok octets) = Ok octets.items
+octets_of (Err fault) = Err fault

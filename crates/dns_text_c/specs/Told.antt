@@ -1,0 +1,36 @@
+-- What a call says by its status, its length and its place, and what it leaves in the caller's memory.
+use Rattle.std.specs.Prelude.{◌≡◌, ℕ, ◌<◌, ◌≤◌, List, length, take, drop, Result, Ok, Err}
+use Rattle.dns_text_c.specs.declared.outcome.Outcome.{Outcome}
+use Rattle.dns_text_c.specs.declared.outcome.Fault.{Fault}
+use Rattle.dns_text_c.specs.declared.outcome.Refusal.{Refusal}
+use Rattle.dns_text_c.specs.declared.outcome.Refusal.TheVariants.{NoRoom, BadEscape, ShortInput, BadUtf8, BadSymbol, TooLong, BadEncoding, Closing, OpenParenthesis, OpenQuote, LoneReturn, BadCursor}
+
+-- the status of each refusal, as the header has it
+abbrev pub number_of : Refusal → ℕ
+number_of NoRoom = 2
+number_of BadEscape = 3
+number_of ShortInput = 4
+number_of BadUtf8 = 5
+number_of BadSymbol = 6
+number_of TooLong = 7
+number_of BadEncoding = 8
+number_of Closing = 9
+number_of OpenParenthesis = 10
+number_of OpenQuote = 11
+number_of LoneReturn = 12
+number_of BadCursor = 13
+
+-- the octets fit and stand at the start of the buffer, and what follows them is as it was; or they don't fit and nothing was written. The length is theirs
+pub record IsGiven (octets old : List ℕ) (status : ℕ) (new : List ℕ) (outcome : Outcome) : Type 0 where
+  pub told : outcome ≡ record { length = length octets; place = 0 }
+  pub fits : length octets ≤ length old → (status ≡ 0) × (take (length octets) new ≡ octets) × (drop (length octets) new ≡ drop (length octets) old)
+  pub lacks : length old < length octets → (status ≡ number_of NoRoom) × (new ≡ old)
+
+-- the status and the place are the fault's
+abbrev pub IsRefused : Fault → ℕ → Outcome → Type 0
+IsRefused fault status outcome = (status ≡ number_of fault.refusal) × (outcome ≡ record { length = 0; place = fault.place })
+
+-- the octets are given; or the fault is told, and nothing was written
+abbrev pub IsTold : Result (List ℕ) Fault → List ℕ → ℕ → List ℕ → Outcome → Type 0
+IsTold (Ok octets) old status new outcome = IsGiven octets old status new outcome
+IsTold (Err fault) old status new outcome = IsRefused fault status outcome × (new ≡ old)

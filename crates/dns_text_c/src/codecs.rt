@@ -1,0 +1,156 @@
+//! The encodings of RFC 4648 sections 8, 7 and 4, read and printed.
+ghost use Rattle.std.specs.Prelude.{◌≡◌, ◌≤◌, ◌^◌, length, IfOk, IfErr, IfSome, IfNone};
+ghost use Rattle.dns_codec.specs.Base.{base16, base32hex, base64};
+ghost use Rattle.dns_codec.specs.Outcome.{pad_count};
+ghost use Rattle.dns_text_c.specs.Codecs.{PrintsOctets, ReadsText};
+ghost use Rattle.dns_text_c.specs.Told.{number_of, IsRefused};
+ghost use Rattle.dns_text_c.specs.declared.outcome.Refusal.TheVariants.{NoRoom, TooLong, BadEncoding};
+
+use crate::outcome::{Fault, OK, Outcome, Refusal, number_of, refuse};
+use dns_codec::{base16, base32, base64};
+use dns_octets::ShortBuf;
+
+/// The most octets that are printed; no memory holds as many.
+const MOST: usize = 1 << 60;
+
+/// Tells whether a text was written, and how many characters it has.
+fn tell_written(written: Result<usize, ShortBuf>, length: usize, outcome: &mut Outcome) -> u32
+    ensures ok { IfOk written (λ _. result ≡ 0) }
+    ensures short { IfErr written (λ _. result ≡ number_of NoRoom) }
+    ensures told { outcome.new ≡ record { length = length; place = 0 } }
+{
+    *outcome = Outcome { length, place: 0 };
+    match written {
+        Ok(_) => OK,
+        Err(_) => number_of(Refusal::NoRoom),
+    }
+}
+
+/// Refuses octets that no memory holds.
+fn refuse_length(outcome: &mut Outcome) -> u32
+    ensures { IsRefused (record { refusal = TooLong; place = 2 ^ 60 }) result outcome.new }
+{
+    let fault = Fault {
+        refusal: Refusal::TooLong,
+        place: MOST,
+    };
+    refuse(fault, outcome)
+}
+
+/// Prints octets in base 16, with capitals.
+#[unsafe(no_mangle)]
+pub extern "C" fn dns_base16_print(octets: &[u8], text: &mut [u8], outcome: &mut Outcome) -> u32
+    ensures { PrintsOctets base16 octets.now text.old result text.new outcome.new }
+{
+    if octets.len() > MOST {
+        return refuse_length(outcome);
+    }
+    let length = 2 * octets.len();
+    tell_written(base16::encode_slice(octets, text), length, outcome)
+}
+
+/// Prints octets in base32hex, with capitals and without padding.
+#[unsafe(no_mangle)]
+pub extern "C" fn dns_base32hex_print(octets: &[u8], text: &mut [u8], outcome: &mut Outcome) -> u32
+    ensures { PrintsOctets base32hex octets.now text.old result text.new outcome.new }
+{
+    if octets.len() > MOST {
+        return refuse_length(outcome);
+    }
+    let length = (8 * octets.len() + 4) / 5;
+    tell_written(base32::encode_slice_hex(octets, text), length, outcome)
+}
+
+/// Prints octets in base 64, with padding.
+#[unsafe(no_mangle)]
+pub extern "C" fn dns_base64_print(octets: &[u8], text: &mut [u8], outcome: &mut Outcome) -> u32
+    ensures { PrintsOctets base64 octets.now text.old result text.new outcome.new }
+{
+    if octets.len() > MOST {
+        return refuse_length(outcome);
+    }
+    let length = (octets.len() + 2) / 3 * 4;
+    tell_written(base64::encode_slice(octets, text), length, outcome)
+}
+
+/// Tells that there is no room for `length` octets.
+fn refuse_room(length: usize, outcome: &mut Outcome) -> u32
+    ensures { (result ≡ number_of NoRoom) × (outcome.new ≡ record { length = length; place = 0 }) }
+{
+    *outcome = Outcome { length, place: 0 };
+    number_of(Refusal::NoRoom)
+}
+
+/// Tells whether the text was one of the encoding.
+fn tell_read(read: Option<usize>, length: usize, outcome: &mut Outcome) -> u32
+    ensures some { IfSome read (λ _. (result ≡ 0) × (outcome.new ≡ record { length = length; place = 0 })) }
+    ensures none { IfNone read (IsRefused (record { refusal = BadEncoding; place = 0 }) result outcome.new) }
+{
+    match read {
+        Some(_) => {
+            *outcome = Outcome { length, place: 0 };
+            OK
+        }
+        None => {
+            let fault = Fault {
+                refusal: Refusal::BadEncoding,
+                place: 0,
+            };
+            refuse(fault, outcome)
+        }
+    }
+}
+
+/// How many `=` a text has.
+fn count_marks(text: &[u8]) -> usize
+    ensures value { result ≡ pad_count base64 text.now }
+    ensures few { result ≤ length text.now }
+{
+    let mut count = 0;
+    for octet in text {
+        if *octet == b'=' {
+            count += 1;
+        }
+    }
+    count
+}
+
+/// Reads a text of base 16, in either case.
+#[unsafe(no_mangle)]
+pub extern "C" fn dns_base16_read(text: &[u8], octets: &mut [u8], outcome: &mut Outcome) -> u32
+    ensures { ReadsText base16 text.now octets.old result octets.new outcome.new }
+{
+    let length = text.len() / 2;
+    if octets.len() < length {
+        return refuse_room(length, outcome);
+    }
+    let read = base16::decode_slice(text, &mut octets[..length]);
+    tell_read(read, length, outcome)
+}
+
+/// Reads a text of base32hex, in either case and without padding.
+#[unsafe(no_mangle)]
+pub extern "C" fn dns_base32hex_read(text: &[u8], octets: &mut [u8], outcome: &mut Outcome) -> u32
+    ensures { ReadsText base32hex text.now octets.old result octets.new outcome.new }
+{
+    let length = text.len() / 8 * 5 + text.len() % 8 * 5 / 8;
+    if octets.len() < length {
+        return refuse_room(length, outcome);
+    }
+    let read = base32::decode_slice_hex(text, &mut octets[..length]);
+    tell_read(read, length, outcome)
+}
+
+/// Reads a text of base 64, with its padding.
+#[unsafe(no_mangle)]
+pub extern "C" fn dns_base64_read(text: &[u8], octets: &mut [u8], outcome: &mut Outcome) -> u32
+    ensures { ReadsText base64 text.now octets.old result octets.new outcome.new }
+{
+    let chars = text.len() - count_marks(text);
+    let length = chars / 4 * 3 + chars % 4 * 6 / 8;
+    if octets.len() < length {
+        return refuse_room(length, outcome);
+    }
+    let read = base64::decode_slice(text, &mut octets[..length]);
+    tell_read(read, length, outcome)
+}

@@ -1,0 +1,99 @@
+//! What a call says: a status, a length and a place.
+ghost use Rattle.std.specs.Prelude.{◌≡◌};
+ghost use Rattle.dns_text_c.specs.Told.{number_of, IsGiven, IsRefused};
+
+/// What a call says beside its status.
+#[repr(C)]
+#[derive(Clone, Copy, Debug, PartialEq, Eq)]
+pub struct Outcome {
+    /// How many octets were written; or how many have to fit, where there was no room for them.
+    pub length: usize,
+    /// How many octets stand before a fault; 0 where there is none.
+    pub place: usize,
+}
+
+/// Why a call gives no value.
+#[derive(Clone, Copy, Debug, PartialEq, Eq)]
+pub enum Refusal {
+    /// The value doesn't fit into the memory that was passed.
+    NoRoom,
+    /// A backslash with what makes no escape.
+    BadEscape,
+    /// The octets end inside an escape or a character.
+    ShortInput,
+    /// The octets are no UTF-8.
+    BadUtf8,
+    /// A character that stands for no octet.
+    BadSymbol,
+    /// More octets than a value may have.
+    TooLong,
+    /// No text of the encoding.
+    BadEncoding,
+    /// A closing parenthesis, and none is open.
+    Closing,
+    /// The text ends inside parentheses.
+    OpenParenthesis,
+    /// The text or a line ends inside a quoted text.
+    OpenQuote,
+    /// A CR without its LF.
+    LoneReturn,
+    /// A cursor that stands past the end of the text.
+    BadCursor,
+}
+
+/// A refusal, and the octets before what is refused.
+#[derive(Clone, Copy, Debug, PartialEq, Eq)]
+pub struct Fault {
+    pub refusal: Refusal,
+    pub place: usize,
+}
+
+/// The status of a call that did what it says.
+pub const OK: u32 = 0;
+
+/// The status of a call that finds nothing left.
+pub const END: u32 = 1;
+
+/// The status of a refusal.
+pub fn number_of(refusal: Refusal) -> u32
+    ensures { result ≡ number_of refusal }
+{
+    match refusal {
+        Refusal::NoRoom => 2,
+        Refusal::BadEscape => 3,
+        Refusal::ShortInput => 4,
+        Refusal::BadUtf8 => 5,
+        Refusal::BadSymbol => 6,
+        Refusal::TooLong => 7,
+        Refusal::BadEncoding => 8,
+        Refusal::Closing => 9,
+        Refusal::OpenParenthesis => 10,
+        Refusal::OpenQuote => 11,
+        Refusal::LoneReturn => 12,
+        Refusal::BadCursor => 13,
+    }
+}
+
+/// Tells of a fault.
+pub(crate) fn refuse(fault: Fault, outcome: &mut Outcome) -> u32
+    ensures { IsRefused fault result outcome.new }
+{
+    *outcome = Outcome {
+        length: 0,
+        place: fault.place,
+    };
+    number_of(fault.refusal)
+}
+
+/// Puts octets at the start of a buffer, if they fit.
+pub(crate) fn give(octets: &[u8], buffer: &mut [u8], outcome: &mut Outcome) -> u32
+    ensures { IsGiven octets.now buffer.old result buffer.new outcome.new }
+{
+    let length = octets.len();
+    *outcome = Outcome { length, place: 0 };
+    if buffer.len() < length {
+        return number_of(Refusal::NoRoom);
+    }
+    buffer[..length].copy_from_slice(octets);
+    OK
+}

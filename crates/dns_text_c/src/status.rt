@@ -1,0 +1,37 @@
+//! The texts of statuses.
+ghost use Rattle.std.specs.Prelude.{◌≡◌};
+ghost use Rattle.dns_text_c.specs.Told.{IsGiven};
+ghost use Rattle.dns_text_c.specs.Status.{status_text};
+
+use crate::outcome::{Outcome, give};
+
+/// What a status says, in a few words.
+pub fn status_text(status: u32) -> &'static str
+    ensures { result.now ≡ status_text status }
+{
+    match status {
+        0 => "well",
+        1 => "nothing is left",
+        2 => "no room",
+        3 => "illegal escape sequence",
+        4 => "unexpected end of data",
+        5 => "illegal UTF-8 sequence",
+        6 => "non-ASCII symbol",
+        7 => "too many octets",
+        8 => "not of the encoding",
+        9 => "closing parenthesis, and none is open",
+        10 => "parenthesis that is not closed",
+        11 => "quoted text that is not closed",
+        12 => "CR without LF",
+        13 => "cursor past the end",
+        _ => "unknown status",
+    }
+}
+
+/// Gives the text of a status, also of an unknown one.
+#[unsafe(no_mangle)]
+pub extern "C" fn dns_status_text(status: u32, text: &mut [u8], outcome: &mut Outcome) -> u32
+    ensures { IsGiven (status_text status) text.old result text.new outcome.new }
+{
+    give(status_text(status).as_bytes(), text, outcome)
+}

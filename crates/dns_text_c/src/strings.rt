@@ -1,0 +1,199 @@
+//! Character strings, read and printed.
+ghost use Rattle.std.specs.Prelude.{◌≡◌, ℕ, ◌*◌, ◌+◌, ◌≤◌, ◌<◌, ◌++◌, List, Result, Ok, Err, length, IfOk, IfErr, IfSome};
+ghost use Rattle.dns_symbol.specs.Symbol.{spell};
+ghost use Rattle.dns_symbol.specs.Index.{ReadsAt};
+ghost use Rattle.dns_symbol.specs.declared.symbol.SymbolOctetsError.{SymbolOctetsError};
+ghost use Rattle.dns_symbol.specs.Printed.{is_plain_escape, is_unquoted_escape, symbol_of, text_of};
+ghost use Rattle.dns_charstr.specs.Printed.{quoted_text};
+ghost use Rattle.dns_text_c.specs.Told.{IsTold};
+ghost use Rattle.dns_text_c.specs.Strings.{ReadsString, PrintsString, octets_of, escape_of, refusal_of, string_text};
+ghost use Rattle.dns_text_c.specs.declared.outcome.Fault.{Fault};
+
+use crate::outcome::{Fault, Outcome, Refusal, give, refuse};
+use arrayvec::ArrayVec;
+use dns_symbol::symbol::{Symbol, SymbolOctetsError};
+
+/// The most octets of a character string.
+const MOST: usize = 255;
+
+/// The most characters of a text: four of each octet, and two double quotes.
+const TEXT: usize = 1022;
+
+/// A printed form of character strings.
+#[derive(Clone, Copy)]
+pub(crate) enum Form {
+    /// No character but the backslash is special.
+    Plain,
+    /// Between double quotes.
+    Quoted,
+    /// A word.
+    Unquoted,
+}
+
+/// The symbol of an octet in a form.
+fn symbol_in(form: Form, octet: u8) -> Symbol
+    ensures { result ≡ symbol_of (escape_of form) octet }
+{
+    match form {
+        Form::Plain => Symbol::display_from_octet(octet),
+        Form::Quoted => Symbol::quoted_from_octet(octet),
+        Form::Unquoted => Symbol::from_octet(octet),
+    }
+}
+
+/// Appends the characters of an octet.
+fn put_octet(form: Form, octet: u8, text: &mut ArrayVec<u8, TEXT>)
+    requires { length text.old.items + 4 ≤ TEXT }
+    ensures text { text.new.items ≡ text.old.items ++ spell (symbol_of (escape_of form) octet) }
+    ensures few { length text.new.items ≤ length text.old.items + 4 }
+{
+    match symbol_in(form, octet) {
+        Symbol::Char(_) => text.push(octet),
+        Symbol::SimpleEscape(_) => {
+            text.push(b'\\');
+            text.push(octet);
+        }
+        Symbol::DecimalEscape(_) => {
+            text.push(b'\\');
+            text.push(b'0' + octet / 100);
+            text.push(b'0' + octet / 10 % 10);
+            text.push(b'0' + octet % 10);
+        }
+    }
+}
+
+/// Appends the characters of octets.
+fn put_octets(form: Form, octets: &[u8], text: &mut ArrayVec<u8, TEXT>)
+    requires { length text.old.items + 4 * length octets.now ≤ TEXT }
+    ensures text { text.new.items ≡ text.old.items ++ text_of (escape_of form) octets.now }
+    ensures few { length text.new.items ≤ length text.old.items + 4 * length octets.now }
+{
+    for octet in octets {
+        put_octet(form, *octet, text);
+    }
+}
+
+/// The text of a character string in a form.
+fn text_in(form: Form, octets: &[u8]) -> ArrayVec<u8, TEXT>
+    requires { length octets.now ≤ 255 }
+    ensures { result.items ≡ string_text form octets.now }
+{
+    let mut text = ArrayVec::new();
+    match form {
+        Form::Quoted => {
+            text.push(b'"');
+            put_octets(form, octets, &mut text);
+            text.push(b'"');
+        }
+        _ => put_octets(form, octets, &mut text),
+    }
+    text
+}
+
+/// Prints a character string in a form.
+fn print_string(form: Form, octets: &[u8], text: &mut [u8], outcome: &mut Outcome) -> u32
+    ensures { PrintsString (string_text form) octets.now text.old result text.new outcome.new }
+{
+    if octets.len() > MOST {
+        let fault = Fault {
+            refusal: Refusal::TooLong,
+            place: MOST,
+        };
+        return refuse(fault, outcome);
+    }
+    let made = text_in(form, octets);
+    give(made.as_slice(), text, outcome)
+}
+
+/// Prints a character string with no character special but the backslash.
+#[unsafe(no_mangle)]
+pub extern "C" fn dns_charstr_print(octets: &[u8], text: &mut [u8], outcome: &mut Outcome) -> u32
+    ensures { PrintsString (text_of is_plain_escape) octets.now text.old result text.new outcome.new }
+{
+    print_string(Form::Plain, octets, text, outcome)
+}
+
+/// Prints a character string between double quotes.
+#[unsafe(no_mangle)]
+pub extern "C" fn dns_charstr_print_quoted(
+    octets: &[u8],
+    text: &mut [u8],
+    outcome: &mut Outcome,
+) -> u32
+    ensures { PrintsString quoted_text octets.now text.old result text.new outcome.new }
+{
+    print_string(Form::Quoted, octets, text, outcome)
+}
+
+/// Prints a character string as a word of zone text. No octets print nothing, which is no word.
+#[unsafe(no_mangle)]
+pub extern "C" fn dns_charstr_print_unquoted(
+    octets: &[u8],
+    text: &mut [u8],
+    outcome: &mut Outcome,
+) -> u32
+    ensures { PrintsString (text_of is_unquoted_escape) octets.now text.old result text.new outcome.new }
+{
+    print_string(Form::Unquoted, octets, text, outcome)
+}
+
+/// Why no symbol stands among octets.
+fn refusal_of(error: SymbolOctetsError) -> Refusal
+    ensures { result ≡ refusal_of error }
+{
+    match error {
+        SymbolOctetsError::BadUtf8 => Refusal::BadUtf8,
+        SymbolOctetsError::BadEscape => Refusal::BadEscape,
+        SymbolOctetsError::ShortInput => Refusal::ShortInput,
+    }
+}
+
+/// The symbol at a place, if the octets go on there, and the place after it.
+fn symbol_at(text: &[u8], place: usize) -> Result<Option<(Symbol, usize)>, Fault>
+    ensures reads { IfOk result (λ found. ReadsAt text.now place (Ok found)) }
+    ensures refused { IfErr result (λ fault. (e : SymbolOctetsError) × ReadsAt text.now place (Err e) × (fault ≡ record { refusal = refusal_of e; place = place })) }
+    ensures goes { IfOk result (λ found. IfSome found (λ p. (place < p.1) × (p.1 ≤ length text.now))) }
+{
+    match Symbol::from_slice_index(text, place) {
+        Ok(found) => Ok(found),
+        Err(error) => Err(Fault {
+            refusal: refusal_of(error),
+            place,
+        }),
+    }
+}
+
+/// The octets of a text's symbols, or the first fault.
+fn read_string(text: &[u8]) -> Result<ArrayVec<u8, MOST>, Fault>
+    ensures { ReadsString text.now (octets_of result) }
+{
+    let mut octets = ArrayVec::new();
+    let mut place = 0;
+    while let Some((symbol, after)) = symbol_at(text, place)? {
+        if octets.len() == MOST {
+            let refusal = Refusal::TooLong;
+            return Err(Fault { refusal, place });
+        }
+        let Ok(octet) = symbol.into_octet() else {
+            let refusal = Refusal::BadSymbol;
+            return Err(Fault { refusal, place });
+        };
+        octets.push(octet);
+        place = after;
+    }
+    Ok(octets)
+}
+
+/// Reads the text of a character string: the octets of its symbols (RFC 1035 section 5.1).
+///
+/// Symbols are handled in order. What is no symbol is refused first, then a symbol after 255
+/// octets, then one that has no octet. The first fault is told, with its place.
+#[unsafe(no_mangle)]
+pub extern "C" fn dns_charstr_read(text: &[u8], octets: &mut [u8], outcome: &mut Outcome) -> u32
+    ensures { (answer : Result (List ℕ) Fault) × ReadsString text.now answer × IsTold answer octets.old result octets.new outcome.new }
+{
+    match read_string(text) {
+        Ok(read) => give(read.as_slice(), octets, outcome),
+        Err(fault) => refuse(fault, outcome),
+    }
+}

@@ -1,0 +1,196 @@
+//! Zone text, entry by entry (RFC 1035 section 5.1).
+//!
+//! An octet of 0x80 or more counts as a character of its own, so that comments needn't be UTF-8.
+ghost use Rattle.std.specs.Prelude.{◌≡◌, ◌<◌, ◌≤◌, ◌^◌, ℕ, List, Result, length, slice_set};
+ghost use Rattle.dns_split.specs.Pieces.{ReadsOctetsFrom};
+ghost use Rattle.dns_split.specs.declared.pieces.Piece.{Piece};
+ghost use Rattle.dns_split.specs.declared.pieces.Fault.{Fault as TextFault};
+ghost use Rattle.dns_text_c.specs.Entries.{bit, refusal_of_wrong, Steps, IsEntry, GivesEntry, NextEntry};
+
+use crate::outcome::{END, Fault, OK, Outcome, Refusal, number_of, refuse};
+use dns_split::pieces::{EndOfEntry, Fault as TextFault, Piece, Pieces, Wrong};
+
+/// A token of zone text: the octets from `start` to before `end`.
+#[repr(C)]
+#[derive(Clone, Copy, Debug, PartialEq, Eq)]
+pub struct Token {
+    pub start: usize,
+    pub end: usize,
+    /// 1 for a quoted text, which has its double quotes, and 0 for a word.
+    pub is_quoted: usize,
+}
+
+/// Where a zone text is read on.
+#[repr(C)]
+#[derive(Clone, Copy, Debug, PartialEq, Eq)]
+pub struct Cursor {
+    /// Where the next entry begins. It is 0 at first.
+    pub at: usize,
+    /// 1 where the entry given last began with a blank: such a record takes the owner of the one
+    /// before.
+    pub begins_blank: usize,
+    /// 1 once nothing is left. It is 0 at first.
+    pub is_done: usize,
+}
+
+/// How an entry stops.
+#[derive(Clone, Copy)]
+pub(crate) enum Stop {
+    /// It ends, and is the text's last one or not.
+    End(EndOfEntry, bool),
+    /// The text goes wrong.
+    Fault(TextFault),
+    /// There is no entry.
+    Nothing,
+}
+
+/// What comes next in an entry.
+#[derive(Clone, Copy)]
+pub(crate) enum Step {
+    Token(Token),
+    Comment,
+    Stop(Stop),
+}
+
+/// The number of a truth value.
+fn bit(is_so: bool) -> usize
+    ensures { result ≡ bit is_so }
+{
+    if is_so { 1 } else { 0 }
+}
+
+/// The refusal of what is wrong in a text.
+fn refusal_of_wrong(wrong: Wrong) -> Refusal
+    ensures { result ≡ refusal_of_wrong wrong }
+{
+    match wrong {
+        Wrong::Closing => Refusal::Closing,
+        Wrong::OpenParenthesis => Refusal::OpenParenthesis,
+        Wrong::OpenQuote(_) => Refusal::OpenQuote,
+        Wrong::LoneReturn => Refusal::LoneReturn,
+        Wrong::BadEscape => Refusal::BadEscape,
+    }
+}
+
+/// Takes what comes next.
+fn next_step(pieces: &mut Pieces) -> Step
+    ensures { Steps pieces.old result pieces.new }
+{
+    match pieces.next() {
+        Some(Ok(Piece::Word(span))) => Step::Token(Token {
+            start: span.start,
+            end: span.end,
+            is_quoted: 0,
+        }),
+        Some(Ok(Piece::Quote(span))) => Step::Token(Token {
+            start: span.start,
+            end: span.end,
+            is_quoted: 1,
+        }),
+        Some(Ok(Piece::Comment(_))) => Step::Comment,
+        Some(Ok(Piece::End(end))) => {
+            let is_last = pieces.next().is_none();
+            Step::Stop(Stop::End(end, is_last))
+        }
+        Some(Err(fault)) => Step::Stop(Stop::Fault(fault)),
+        None => Step::Stop(Stop::Nothing),
+    }
+}
+
+/// Puts a token at a place, if there is one.
+fn put_token(token: Token, place: usize, tokens: &mut [Token])
+    ensures put { tokens.new ≡ slice_set tokens.old place token }
+    ensures few { length tokens.old < 2 ^ 64 }
+{
+    if place < tokens.len() {
+        tokens[place] = token;
+    }
+}
+
+/// How many tokens an entry has, and how it stops.
+#[derive(Clone, Copy)]
+pub(crate) struct Entry {
+    count: usize,
+    stop: Stop,
+}
+
+/// Puts the tokens of the entry at a place into a slice, as many as fit.
+fn read_entry(text: &[u8], at: usize, tokens: &mut [Token]) -> Entry
+    requires { at ≤ length text.now }
+    ensures { (given : List (Result Piece TextFault)) × ReadsOctetsFrom text.now at given × IsEntry given tokens.old result.count result.stop tokens.new }
+{
+    let mut pieces = Pieces::of_octets_starting_at(text, at);
+    let mut count: usize = 0;
+    loop {
+        match next_step(&mut pieces) {
+            Step::Token(token) => {
+                put_token(token, count, tokens);
+                count = count.saturating_add(1);
+            }
+            Step::Comment => {}
+            Step::Stop(stop) => return Entry { count, stop },
+        }
+    }
+}
+
+/// Tells how an entry stopped, and moves the cursor on.
+fn tell_stop(entry: Entry, room: usize, cursor: &mut Cursor, outcome: &mut Outcome) -> u32
+    ensures { GivesEntry entry.count entry.stop room result cursor.old cursor.new outcome.new }
+{
+    *outcome = Outcome {
+        length: entry.count,
+        place: 0,
+    };
+    match entry.stop {
+        Stop::End(_, _) if room < entry.count => number_of(Refusal::NoRoom),
+        Stop::End(end, is_last) => {
+            *cursor = Cursor {
+                at: end.at,
+                begins_blank: bit(end.begins_blank),
+                is_done: bit(is_last),
+            };
+            OK
+        }
+        Stop::Fault(fault) => {
+            cursor.is_done = 1;
+            outcome.place = fault.at;
+            number_of(refusal_of_wrong(fault.wrong))
+        }
+        Stop::Nothing => {
+            cursor.is_done = 1;
+            END
+        }
+    }
+}
+
+/// Gives the tokens of the next entry of a zone text by their places, and moves the cursor on.
+///
+/// The length is the number of tokens. Where they don't all fit, the first ones are given, the
+/// status says so, and the cursor stays. A fault is told with its place, after the tokens before
+/// it, and then the text is done. Once nothing is left the status is [`END`].
+#[unsafe(no_mangle)]
+pub extern "C" fn dns_entry_next(
+    text: &[u8],
+    cursor: &mut Cursor,
+    tokens: &mut [Token],
+    outcome: &mut Outcome,
+) -> u32
+    ensures { NextEntry text.now cursor.old cursor.new tokens.old tokens.new result outcome.new }
+{
+    if cursor.is_done != 0 {
+        *outcome = Outcome {
+            length: 0,
+            place: 0,
+        };
+        return END;
+    }
+    if cursor.at > text.len() {
+        let fault = Fault {
+            refusal: Refusal::BadCursor,
+            place: 0,
+        };
+        return refuse(fault, outcome);
+    }
+    let entry = read_entry(text, cursor.at, tokens);
+    tell_stop(entry, tokens.len(), cursor, outcome)
+}

@@ -1,0 +1,60 @@
+-- A name that is being built.
+use Rattle.std.specs.Prelude.{◌≡◌, ℕ, zero, suc, slice_set, ◌-◌, ◌+◌, ◌<◌, ◌≤◌, List, [], ◌∷◌, ◌++◌, length, Result, Ok, Err}
+use Rattle.dns_wire.specs.Wire.{wire_length}
+use Rattle.dns_wire.specs.declared.error.PushError.{PushError}
+use Rattle.dns_wire.specs.declared.error.PushError.TheVariants.{LongLabel, LongName, ShortBuf}
+
+-- the finished labels, and the octets of the open one (none where none is open)
+pub record Naming : Type 0 where
+  pub labels : List (List ℕ)
+  pub current : List ℕ
+
+-- the open label, closed
+abbrev pub closed : List ℕ → List (List ℕ)
+closed [] = []
+closed (x ∷ xs) = (x ∷ xs) ∷ []
+
+-- all the labels, once the open one is closed
+abbrev pub all_labels : Naming → List (List ℕ)
+all_labels b = b.labels ++ closed b.current
+
+-- before any label
+abbrev pub no_labels : Naming
+no_labels = record { labels = []; current = [] }
+
+-- once the open label is closed
+abbrev pub ended : Naming → Naming
+ended b = record { labels = all_labels b; current = [] }
+
+-- with one more octet in the open label
+abbrev pub with_octet : Naming → ℕ → Naming
+with_octet b octet = record { labels = b.labels; current = b.current ++ octet ∷ [] }
+
+-- with the open label closed and a whole label after it
+abbrev pub with_label : Naming → List ℕ → Naming
+with_label b label = record { labels = all_labels b ++ label ∷ []; current = [] }
+
+-- what adding to a name without its root answers, where it would then have `all` octets and the label that grows `label`; `sure` octets
+-- surely fit, and `most` ever do
+abbrev pub AnswersGrowth : ℕ → ℕ → ℕ → ℕ → Result (Unit {0}) PushError → Type 0
+AnswersGrowth all label sure most (Ok _) = (all ≤ 254) × (label ≤ 63) × (all ≤ most)
+AnswersGrowth all label sure most (Err LongName) = 254 < all
+AnswersGrowth all label sure most (Err LongLabel) = (all ≤ 254) × (63 < label)
+AnswersGrowth all label sure most (Err ShortBuf) = (all ≤ 254) × (label ≤ 63) × (sure < all)
+
+-- what adding the root after labels answers
+abbrev pub AnswersRoot : List (List ℕ) → ℕ → ℕ → Result (List (List ℕ)) PushError → Type 0
+AnswersRoot labels sure most (Ok name) = (name ≡ labels ++ [] ∷ []) × (wire_length labels + 1 ≤ most)
+AnswersRoot labels sure most (Err LongName) = ⊥
+AnswersRoot labels sure most (Err LongLabel) = ⊥
+AnswersRoot labels sure most (Err ShortBuf) = sure < wire_length labels + 1
+
+-- how many octets one more takes: a new label's length octet stands before it
+abbrev pub needed : ℕ → ℕ
+needed zero = 2
+needed (suc n) = 1
+
+-- the octets once the label of so many octets that ends them has one more; of none, once a label of one octet follows them
+abbrev pub grown : List ℕ → ℕ → ℕ → List ℕ
+grown octets zero octet = octets ++ 1 ∷ octet ∷ []
+grown octets (suc n) octet = slice_set (octets ++ octet ∷ []) (length octets - suc n - 1) (suc n + 1)

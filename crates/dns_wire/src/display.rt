@@ -1,0 +1,323 @@
+//! The text of labels and names.
+//!
+//! A label escapes the space, the dot and the backslash by a backslash, and octets outside 0x20 to
+//! 0x7E by their decimal value (RFC 1035 section 5.1). It prints the double quote, the semicolon
+//! and parentheses plain, which end a token of zone text: [`ZoneName`] prints a name there.
+ghost use Rattle.std.specs.Prelude.{◌≡◌, ◌≤◌, ◌<◌, ◌+◌, ◌*◌, ◌↔◌, ◌++◌, Bool, List, ℕ, length, take, IsTrue, encode_utf8_all};
+ghost use Rattle.std.specs.Fmt.{WritesOnOk};
+ghost use Rattle.std.specs.Str.{IsAscii};
+ghost use Rattle.dns_symbol.specs.Symbol.{spell};
+ghost use Rattle.dns_wire.specs.Form.{form_text, next_text, name_text};
+ghost use Rattle.dns_wire.specs.Printed.{is_label_escape, joined_by};
+ghost use Rattle.dns_wire.specs.Wire.{wire, wire_length, EndsInRoot};
+ghost use Rattle.dns_wire.specs.ZoneText.{zone_label, zone_symbol};
+
+use crate::label::Label;
+use crate::name::Name;
+use crate::name_iter::NameIter;
+use crate::relative::RelativeName;
+use crate::to_label_iter::ToLabelIter;
+use arrayvec::ArrayVec;
+use dns_octets::AsOctets;
+use dns_symbol::form::{self, ascii_text, put_decimal, put_octets, write_octets};
+use std::fmt;
+
+// The form of a label: it escapes the space, the dot and the backslash.
+struct InLabel;
+
+impl form::Form for InLabel {
+    ghost is_escape = { is_label_escape };
+
+    #[inline]
+    fn is_escape(octet: u8) -> bool {
+        matches!(octet, b' ' | b'.' | b'\\')
+    }
+}
+
+// Puts the characters of an octet in zone text into a text at a place, and answers the place after
+// them: a letter, a digit, `-`, `_` or `*` alone, another octet by its decimal value.
+#[inline(always)]
+fn put_zone_octet(octet: u8, text: &mut [u8], at: usize) -> usize
+    requires room { at + 4 ≤ length text.old }
+    ensures text { take result text.new ≡ take at text.old ++ spell (zone_symbol octet) }
+    ensures fits { result ≤ at + 4 }
+{
+    match octet {
+        b'A'..=b'Z' | b'a'..=b'z' | b'0'..=b'9' | b'-' | b'_' | b'*' => {
+            text[at] = octet;
+            at + 1
+        }
+        _ => put_decimal(octet, text, at),
+    }
+}
+
+// Puts the characters of octets in zone text into a text at a place.
+fn put_zone_octets(octets: &[u8], text: &mut [u8], at: usize) -> usize
+    requires room { at + 4 * length octets.now ≤ length text.old }
+    ensures text { take result text.new ≡ take at text.old ++ zone_label octets.now }
+    ensures fits { result ≤ at + 4 * length octets.now }
+    ensures ascii { IsAscii (zone_label octets.now) }
+{
+    let mut end = at;
+    for octet in octets {
+        end = put_zone_octet(*octet, text, end);
+    }
+    end
+}
+
+// How a name's labels are printed.
+#[derive(Clone, Copy)]
+enum Form {
+    // The space, the dot and the backslash are escaped.
+    Label,
+    // All but letters, digits, `-`, `_` and `*` is escaped.
+    Zone,
+}
+
+// Puts the characters of a label into a text at a place, and answers the place after them.
+fn put_label(label: &[u8], form: Form, text: &mut [u8], at: usize) -> usize
+    requires room { at + 4 * length label.now ≤ length text.old }
+    ensures text { take result text.new ≡ take at text.old ++ form_text form label.now }
+    ensures fits { result ≤ at + 4 * length label.now }
+    ensures ascii { IsAscii (form_text form label.now) }
+{
+    match form {
+        Form::Label => put_octets::<InLabel>(label, text, at),
+        Form::Zone => put_zone_octets(label, text, at),
+    }
+}
+
+// Puts a dot, but before the first label, and the characters of a label into a text at a place.
+fn put_next(label: &[u8], form: Form, first: bool, text: &mut [u8], at: usize) -> usize
+    requires room { at + 4 * length label.now + 1 ≤ length text.old }
+    ensures text { take result text.new ≡ take at text.old ++ next_text form first label.now }
+    ensures fits { result ≤ at + 4 * length label.now + 1 }
+    ensures first { IsTrue first → result ≤ at + 4 * length label.now }
+    ensures ascii { IsAscii (form_text form label.now) }
+{
+    if first {
+        return put_label(label, form, text, at);
+    }
+    text[at] = b'.';
+    put_label(label, form, text, at + 1)
+}
+
+// Puts the characters of labels joined by dots at the start of a text, in one walk over them.
+// Answers how many they are, and whether the last label is the root.
+fn put_labels(labels: NameIter<'_>, form: Form, text: &mut [u8]) -> (usize, bool)
+    requires room { 4 * wire_length labels ≤ length text.old }
+    ensures text { take result.0 text.new ≡ joined_by (form_text form) labels.entry }
+    ensures fits { result.0 ≤ length text.new }
+    ensures ascii { IsAscii (joined_by (form_text form) labels.entry) }
+    ensures root { IsTrue result.1 ↔ EndsInRoot labels.entry }
+{
+    let mut rest = labels;
+    let mut end = 0;
+    let mut first = true;
+    let mut root = false;
+    while let Some(label) = rest.next() {
+        end = put_next(label.as_slice(), form, first, text, end);
+        first = false;
+        root = label.is_root();
+    }
+    (end, root)
+}
+
+// Prints labels joined by dots, which are first put into a text; `dot` tells whether one stands
+// before a root at their end. The root alone is one dot.
+fn write_labels<W: fmt::Write>(
+    labels: NameIter<'_>,
+    form: Form,
+    dot: bool,
+    text: &mut [u8],
+    f: &mut fmt::Formatter<W>,
+) -> fmt::Result
+    requires room { 4 * wire_length labels ≤ length text.old }
+    ensures { WritesOnOk W.write_str_gives f.old result (encode_utf8_all (name_text form dot labels.entry)) f.new }
+{
+    let (end, root) = put_labels(labels, form, text);
+    if !root {
+        return f.write_str(ascii_text(&text[..end]));
+    }
+    if end == 0 {
+        return f.write_str(".");
+    }
+    if dot {
+        return f.write_str(ascii_text(&text[..end]));
+    }
+    f.write_str(ascii_text(&text[..end - 1]))
+}
+
+// Prints a name's labels joined by dots; `dot` tells whether one stands before a root at their end.
+// The root alone is one dot.
+fn write_name<N: ToLabelIter, W: fmt::Write>(
+    name: &N,
+    form: Form,
+    dot: bool,
+    f: &mut fmt::Formatter<W>,
+) -> fmt::Result
+    ensures { WritesOnOk W.write_str_gives f.old result (encode_utf8_all (name_text form dot (N.labels name.now))) f.new }
+{
+    let len = name.compose_len();
+    let mut octets = ArrayVec::<u8, 255>::new();
+    name.compose(&mut octets).unwrap();
+    let labels = NameIter {
+        octets: octets.as_slice(),
+    };
+    if len <= 64 {
+        let mut text = [0; 256];
+        return write_labels(labels, form, dot, &mut text, f);
+    }
+    let mut text = [0; 1020];
+    write_labels(labels, form, dot, &mut text, f)
+}
+
+impl fmt::Display for Label<'_> {
+    ghost use Rattle.std.specs.Prelude.{Some, encode_utf8_all};
+    ghost use Rattle.dns_wire.specs.Label.{label_octets};
+    ghost use Rattle.dns_wire.specs.Printed.{label_text};
+
+    ghost output = { λ l. Some (encode_utf8_all (label_text (label_octets l))) };
+
+    fn fmt<W: fmt::Write>(&self, f: &mut fmt::Formatter<W>) -> fmt::Result {
+        write_octets::<InLabel, W>(self.as_slice(), f)
+    }
+}
+
+/// A name's labels joined by dots, with a dot at the end where the name is absolute. The root alone
+/// is one dot.
+#[derive(Drop)]
+pub struct DisplayWithDot<'a, N: ToLabelIter> {
+    name: &'a N,
+}
+
+impl<'a, N: ToLabelIter> DisplayWithDot<'a, N> {
+    ghost use Rattle.dns_wire.specs.Shown.{dotted_name};
+
+    /// Shows this name.
+    pub fn new(name: &'a N) -> Self
+        ensures { dotted_name result ≡ name.now }
+    {
+        DisplayWithDot { name }
+    }
+}
+
+impl<N: ToLabelIter> fmt::Display for DisplayWithDot<'_, N> {
+    ghost use Rattle.std.specs.Prelude.{Some, encode_utf8_all};
+    ghost use Rattle.dns_wire.specs.Printed.{dotted_text};
+    ghost use Rattle.dns_wire.specs.Shown.{dotted_name};
+
+    ghost output = { λ d. Some (encode_utf8_all (dotted_text (N.labels (dotted_name d)))) };
+
+    fn fmt<W: fmt::Write>(&self, f: &mut fmt::Formatter<W>) -> fmt::Result {
+        write_name(self.name, Form::Label, true, f)
+    }
+}
+
+/// A name in zone text (RFC 1035 section 5.1): its labels joined by dots, with a dot at the end
+/// where it is absolute. The root alone is one dot.
+///
+/// Letters, digits, `-`, `_` and `*` stand plain, and every other octet by its decimal value, as
+/// `\DDD`. So a name of one label or more is one word, in which every reader of zone text sees that
+/// name. A relative name of no labels prints nothing, the only text that reads as it: `@` would read
+/// as a label of that one character.
+#[derive(Drop)]
+pub struct ZoneName<'a, N: ToLabelIter> {
+    name: &'a N,
+}
+
+impl<'a, N: ToLabelIter> ZoneName<'a, N> {
+    ghost use Rattle.dns_wire.specs.Shown.{zone_name};
+
+    /// Shows this name.
+    pub fn new(name: &'a N) -> Self
+        ensures { zone_name result ≡ name.now }
+    {
+        ZoneName { name }
+    }
+}
+
+impl<N: ToLabelIter> fmt::Display for ZoneName<'_, N> {
+    ghost use Rattle.std.specs.Prelude.{Some};
+    ghost use Rattle.dns_wire.specs.Shown.{zone_name};
+    ghost use Rattle.dns_wire.specs.ZoneText.{zone_text};
+
+    ghost output = { λ d. Some (zone_text (N.labels (zone_name d))) };
+
+    fn fmt<W: fmt::Write>(&self, f: &mut fmt::Formatter<W>) -> fmt::Result {
+        write_name(self.name, Form::Zone, true, f)
+    }
+}
+
+/// A name's labels joined by dots, without a dot at the end. The root alone is one dot.
+#[derive(Drop)]
+pub struct DisplayWithoutDot<'a, N: ToLabelIter> {
+    name: &'a N,
+}
+
+impl<'a, N: ToLabelIter> DisplayWithoutDot<'a, N> {
+    ghost use Rattle.dns_wire.specs.Shown.{undotted_name};
+
+    /// Shows this name.
+    pub fn new(name: &'a N) -> Self
+        ensures { undotted_name result ≡ name.now }
+    {
+        DisplayWithoutDot { name }
+    }
+}
+
+impl<N: ToLabelIter> fmt::Display for DisplayWithoutDot<'_, N> {
+    ghost use Rattle.std.specs.Prelude.{Some, encode_utf8_all};
+    ghost use Rattle.dns_wire.specs.Printed.{undotted_text};
+    ghost use Rattle.dns_wire.specs.Shown.{undotted_name};
+
+    ghost output = { λ d. Some (encode_utf8_all (undotted_text (N.labels (undotted_name d)))) };
+
+    fn fmt<W: fmt::Write>(&self, f: &mut fmt::Formatter<W>) -> fmt::Result {
+        write_name(self.name, Form::Label, false, f)
+    }
+}
+
+/// The labels joined by dots, without a dot at the end; the root alone is one dot.
+impl<Octets: AsOctets> fmt::Display for Name<Octets> {
+    ghost use Rattle.std.specs.Prelude.{Some, encode_utf8_all};
+    ghost use Rattle.dns_wire.specs.Printed.{undotted_text};
+
+    ghost output = { λ n. Some (encode_utf8_all (undotted_text n)) };
+
+    fn fmt<W: fmt::Write>(&self, f: &mut fmt::Formatter<W>) -> fmt::Result {
+        let shown = DisplayWithoutDot::new(self);
+        write!(f, "{shown}")
+    }
+}
+
+/// The labels joined by dots.
+impl<Octets: AsOctets> fmt::Display for RelativeName<Octets> {
+    ghost use Rattle.std.specs.Prelude.{Some, encode_utf8_all};
+    ghost use Rattle.dns_wire.specs.Printed.{joined_text};
+
+    ghost output = { λ n. Some (encode_utf8_all (joined_text n)) };
+
+    fn fmt<W: fmt::Write>(&self, f: &mut fmt::Formatter<W>) -> fmt::Result {
+        let _relative = self.as_slice();
+        write_name(self, Form::Label, true, f)
+    }
+}
+
+impl fmt::Debug for Label<'_> {
+    fn fmt<W: fmt::Write>(&self, f: &mut fmt::Formatter<W>) -> fmt::Result {
+        write!(f, "Label({self})")
+    }
+}
+
+impl<Octets: AsOctets> fmt::Debug for Name<Octets> {
+    fn fmt<W: fmt::Write>(&self, f: &mut fmt::Formatter<W>) -> fmt::Result {
+        write!(f, "Name({self})")
+    }
+}
+
+impl<Octets: AsOctets> fmt::Debug for RelativeName<Octets> {
+    fn fmt<W: fmt::Write>(&self, f: &mut fmt::Formatter<W>) -> fmt::Result {
+        write!(f, "RelativeName({self})")
+    }
+}

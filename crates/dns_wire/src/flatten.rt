@@ -1,0 +1,55 @@
+//! Copying labels into a name over other octets.
+ghost use Rattle.std.specs.Prelude.{◌≡◌, ℕ, ◌≤◌, IsOk, IfOk};
+ghost use Rattle.dns_wire.specs.Wire.{wire_length};
+
+use crate::name::Name;
+use crate::to_label_iter::{ToLabelIter, ToName};
+use dns_octets::{AsOctets, EmptyBuilder, FromBuilder, OctetsBuilder, ShortBuf};
+
+/// Labels that can be copied into a name of another type.
+pub trait FlattenInto<T: ToLabelIter>: ToLabelIter + Sized {
+    /// What is allocated from, or `()` where nothing is.
+    type Alloc;
+
+    // How many octets surely fit into the new name.
+    ghost takes: { ℕ };
+
+    // How many octets the new name ever has.
+    ghost takes_at_most: { ℕ };
+
+    /// A name with the same labels, or lack of room for its octets.
+    fn try_flatten_into(self, alloc: Self::Alloc) -> Result<T, ShortBuf>
+        ensures value { IfOk result (λ t. T.labels t ≡ Self.labels self) }
+        ensures succeeds { wire_length (Self.labels self) ≤ takes → IsOk result }
+        ensures within { IsOk result → wire_length (Self.labels self) ≤ takes_at_most };
+}
+
+impl<S: AsOctets + Drop, T: FromBuilder> FlattenInto<Name<T>> for Name<S>
+where
+    T::Builder: EmptyBuilder + Drop,
+{
+    type Alloc = <T::Builder as EmptyBuilder>::Alloc;
+
+    ghost takes = { T.Builder.sure };
+
+    ghost takes_at_most = { T.Builder.most };
+
+    fn try_flatten_into(self, alloc: Self::Alloc) -> Result<Name<T>, ShortBuf> {
+        Name::from_labels(alloc, &self)
+    }
+}
+
+impl<N: ToName, T: FromBuilder> FlattenInto<Name<T>> for &N
+where
+    T::Builder: EmptyBuilder + Drop,
+{
+    type Alloc = <T::Builder as EmptyBuilder>::Alloc;
+
+    ghost takes = { T.Builder.sure };
+
+    ghost takes_at_most = { T.Builder.most };
+
+    fn try_flatten_into(self, alloc: Self::Alloc) -> Result<Name<T>, ShortBuf> {
+        Name::from_labels(alloc, self)
+    }
+}

@@ -1,0 +1,88 @@
+//! Labels (RFC 1035 section 2.3.1).
+ghost use Rattle.std.specs.Prelude.{length, ◌≤◌};
+
+use crate::error::{LabelTypeError, LongLabelError, SplitLabelError};
+
+/// A label: at most 63 octets. The label of none is the root.
+#[derive(Clone, Copy)]
+pub struct Label<'a> {
+    octets: &'a [u8],
+    ghost short: { length octets.now ≤ 63 },
+}
+
+impl<'a> Label<'a> {
+    ghost use Rattle.std.specs.Prelude.{◌≡◌, ◌↔◌, ◌+◌, ◌++◌, length, ◌≤◌, IsOk, IfOk, IsTrue, MatchResult, []};
+    ghost use Rattle.dns_wire.specs.Wire.{wire_label};
+    ghost use Rattle.dns_wire.specs.Label.{label_octets};
+    ghost use Rattle.dns_wire.specs.Split.{RefusesLabel};
+
+    /// The label of these octets, or [`LongLabelError`] above 63.
+    pub fn from_slice(octets: &'a [u8]) -> Result<Self, LongLabelError>
+        ensures ok { IsOk result ↔ (length octets.now ≤ 63) }
+        ensures value { IfOk result (λ l. label_octets l ≡ octets.now) }
+    {
+        if octets.len() > 63 {
+            return Err(LongLabelError);
+        }
+        Ok(Label { octets })
+    }
+
+    /// The label that begins the octets in wire form, and the octets after it.
+    ///
+    /// A lead octet of 0 to 0x3F is the label's length. One of 0x40 to 0xBF is
+    /// [`SplitLabelError::BadType`], a greater one a [`SplitLabelError::Pointer`] by its low six bits
+    /// and the next octet. Too few octets are [`SplitLabelError::ShortInput`].
+    pub fn split_from(octets: &'a [u8]) -> Result<(Label<'a>, &'a [u8]), SplitLabelError>
+        ensures { MatchResult result (λ p. octets.now ≡ wire_label (label_octets p.0) ++ p.1.now) (λ e. RefusesLabel e octets.now) }
+    {
+        let Some((lead, rest)) = octets.split_first() else {
+            return Err(SplitLabelError::ShortInput);
+        };
+        let lead = *lead;
+        if lead <= 63 {
+            let len = lead as usize;
+            if rest.len() < len {
+                return Err(SplitLabelError::ShortInput);
+            }
+            let (label, rest) = rest.split_at(len);
+            return Ok((Label { octets: label }, rest));
+        }
+        if lead < 192 {
+            return Err(SplitLabelError::BadType(LabelTypeError(lead)));
+        }
+        match rest.first() {
+            Some(next) => Err(SplitLabelError::Pointer((lead as u16 % 64) * 256 + *next as u16)),
+            None => Err(SplitLabelError::ShortInput),
+        }
+    }
+
+    /// The octets of the label, without its length octet.
+    pub fn as_slice(&self) -> &'a [u8]
+        ensures value { result.now ≡ label_octets self.now }
+        ensures short { length result.now ≤ 63 }
+    {
+        self.octets
+    }
+
+    /// How many octets the label has.
+    pub fn len(&self) -> usize
+        ensures value { result ≡ length (label_octets self.now) }
+        ensures short { result ≤ 63 }
+    {
+        self.octets.len()
+    }
+
+    /// Whether this is the root, the label of no octets.
+    pub fn is_root(&self) -> bool
+        ensures { IsTrue result ↔ (label_octets self.now ≡ []) }
+    {
+        self.octets.is_empty()
+    }
+
+    /// How many octets the wire form has: the length octet and the label's.
+    pub fn compose_len(&self) -> u16
+        ensures { result ≡ length (label_octets self.now) + 1 }
+    {
+        self.octets.len() as u16 + 1
+    }
+}

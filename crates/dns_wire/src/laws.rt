@@ -1,0 +1,39 @@
+//! Laws of labels and names in wire form.
+ghost use Rattle.std.specs.Prelude.{ℕ, ◌≡◌, ◌⊎◌, List, ◌++◌, Result, None};
+ghost use Rattle.std.specs.List.{FoldsTo};
+ghost use Rattle.dns_wire.specs.FromOctets.{Splits, MakesName, MakesRelative};
+ghost use Rattle.dns_wire.specs.Takes.{Take, from_front, from_back, fronts, backs, TakesLabel};
+ghost use Rattle.dns_wire.specs.declared.error.NameError.{NameError};
+
+use crate::split::rest_of;
+
+/// Calls of `next` and `next_back`, in any order, give each label once: the labels before them are
+/// those taken from the front, those that are left, and those taken from the back. Once either end
+/// gives none, all labels were given.
+///
+/// The calls are those of [`NameIter`](crate::NameIter) and of the iterators over chains of names,
+/// whose steps are `TakesFirst` and `TakesLast`.
+pub fn labels_from_both_ends()
+    ensures once { (labels left : List (List ℕ)) (takes : List Take)
+        → FoldsTo TakesLabel labels takes left → labels ≡ fronts takes ++ (left ++ backs takes) }
+    ensures met { (labels left end : List (List ℕ)) (takes : List Take) → FoldsTo TakesLabel labels takes left
+        → TakesLabel left (from_front None) end ⊎ TakesLabel left (from_back None) end → labels ≡ fronts takes ++ backs takes }
+{}
+
+/// Octets are in one way those of some labels other than the root, and a rest with which none of
+/// these begins.
+pub fn octets_split_one_way(octets: &[u8])
+    ensures some { (labels : List (List ℕ)) × (rest : List ℕ) × Splits octets.now labels rest }
+    ensures one { (labels others : List (List ℕ)) (rest more : List ℕ)
+        → Splits octets.now labels rest → Splits octets.now others more → (labels ≡ others) × (rest ≡ more) }
+{
+    let _rest = rest_of(octets);
+}
+
+/// Octets have one answer: one absolute name or one refusal, and so for a relative name.
+pub fn octets_have_one_answer()
+    ensures absolute { (octets : List ℕ) (left right : Result (List (List ℕ)) NameError)
+        → MakesName octets left → MakesName octets right → left ≡ right }
+    ensures relative { (octets : List ℕ) (left right : Result (List (List ℕ)) NameError)
+        → MakesRelative octets left → MakesRelative octets right → left ≡ right }
+{}

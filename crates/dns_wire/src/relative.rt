@@ -1,0 +1,196 @@
+//! Relative names.
+ghost use Rattle.dns_wire.specs.Labelled.{Labelled, Labelled-prop};
+
+use crate::error::{NameError, PushError, SplitLabelError};
+use crate::label::Label;
+use crate::name::Name;
+use crate::name_iter::{NameIter, label_at};
+use crate::split::{Rest, rest_of};
+use crate::to_label_iter::{ToLabelIter, ToRelativeName};
+use dns_octets::{
+    AsOctets, EmptyBuilder, FreezeBuilder, FromBuilder, IntoBuilder, OctetsBuilder, ShortBuf,
+};
+use std::alloc::AllocError;
+use std::marker::Model;
+
+/// A name without the root label, of at most 254 octets in wire form: there is room for the root.
+#[derive(Drop)]
+pub struct RelativeName<Octets: AsOctets> {
+    pub(crate) octets: Octets,
+    ghost labelled: { Labelled (Octets.octets octets) } by { Labelled-prop (Octets.octets octets) },
+}
+
+impl<Octets: AsOctets> Model for RelativeName<Octets> {
+    ghost use Rattle.std.specs.Prelude.{List, ℕ, ◌≤◌};
+    ghost use Rattle.dns_wire.specs.Wire.{IsName, HasNoRoot, wire_length};
+
+    ghost Value = { List (List ℕ) };
+
+    ghost view = { λ n. n.labelled.0 };
+
+    ghost invariant = { λ n. IsName n.labelled.0 × HasNoRoot n.labelled.0 × (wire_length n.labelled.0 ≤ 254) };
+}
+
+impl RelativeName<&[u8]> {
+    ghost use Rattle.std.specs.Prelude.{◌≡◌, []};
+
+    /// The name of no labels, over fixed octets.
+    pub fn empty_ref() -> RelativeName<&'static [u8]>
+        ensures { result ≡ [] }
+    {
+        RelativeName { octets: &[] }
+    }
+}
+
+impl<Octets: AsOctets> RelativeName<Octets> {
+    ghost use Rattle.std.specs.Prelude.{◌≡◌, ◌≤◌, [], length, IfOk, IsOk};
+    ghost use Rattle.dns_wire.specs.Building.{AnswersRoot};
+    ghost use Rattle.dns_wire.specs.FromOctets.{MakesRelative};
+    ghost use Rattle.dns_wire.specs.Wire.{wire, wire_length, IsName, HasNoRoot};
+
+    /// The name of these octets; no octets are the empty name.
+    ///
+    /// More than 254 octets are [`NameError::LongName`]. Then labels are split off from the front,
+    /// as [`Label::split_from`] does, and a root label is [`NameError::Absolute`].
+    pub fn from_octets(octets: Octets) -> Result<Self, NameError>
+    where
+        Octets: Drop,
+        ensures { MakesRelative (Octets.octets octets) result }
+    {
+        let slice = octets.as_slice();
+        if slice.len() > 254 {
+            return Err(NameError::LongName);
+        }
+        match rest_of(slice) {
+            Rest::End => Ok(RelativeName { octets }),
+            Rest::Root | Rest::RootAndMore => Err(NameError::Absolute),
+            Rest::Refused(SplitLabelError::ShortInput) => Err(NameError::ShortInput),
+            Rest::Refused(SplitLabelError::BadType(e)) => Err(NameError::BadLabel(e)),
+            Rest::Refused(SplitLabelError::Pointer(_)) => Err(NameError::CompressedName),
+        }
+    }
+
+    /// The name of no labels. It takes no memory.
+    pub fn empty(alloc: <Octets::Builder as EmptyBuilder>::Alloc) -> Self
+    where
+        Octets: FromBuilder,
+        Octets::Builder: EmptyBuilder,
+        ensures { result ≡ [] }
+    {
+        RelativeName {
+            octets: Octets::from_builder(<Octets::Builder as EmptyBuilder>::empty(alloc)),
+        }
+    }
+
+    /// The octets, in the type that holds them.
+    pub fn as_octets(&self) -> &Octets
+        ensures { Octets.octets result.now ≡ wire self.now }
+    {
+        &self.octets
+    }
+
+    /// The wire octets.
+    #[tactic(auto, using(crate::proofs::Wires::length_wire))]
+    pub fn as_slice(&self) -> &[u8]
+        ensures value { result.now ≡ wire self.now }
+        ensures len { length result.now ≡ wire_length self.now }
+        ensures is_name { IsName self.now }
+        ensures relative { HasNoRoot self.now }
+        ensures fits { wire_length self.now ≤ 254 }
+    {
+        self.octets.as_slice()
+    }
+
+    /// How many octets the wire form has, from 0 to 254.
+    pub fn len(&self) -> usize
+        ensures value { result ≡ wire_length self.now }
+        ensures few { result ≤ 254 }
+    {
+        let octets = self.as_slice();
+        octets.len()
+    }
+
+    /// The labels in order.
+    pub fn iter_labels(&self) -> NameIter<'_>
+        ensures value { result ≡ self.now }
+        ensures is_name { IsName self.now }
+        ensures relative { HasNoRoot self.now }
+        ensures fits { wire_length self.now ≤ 254 }
+    {
+        NameIter {
+            octets: self.octets.as_slice(),
+        }
+    }
+
+    /// The name with the root after its labels, or [`PushError::ShortBuf`] without room for it.
+    pub fn into_absolute(self) -> Result<Name<Octets>, PushError>
+    where
+        Octets: IntoBuilder,
+        Octets::Builder: OctetsBuilder + FreezeBuilder<Octets = Octets> + Drop,
+        ensures { AnswersRoot self Octets.Builder.sure Octets.Builder.most result }
+    {
+        let mut builder = self.octets.into_builder();
+        match builder.append_slice(&[0]) {
+            Ok(()) => Ok(Name {
+                octets: builder.freeze(),
+            }),
+            Err(_) => Err(PushError::ShortBuf),
+        }
+    }
+
+    /// A clone of the name, refused only where cloning its octets is.
+    pub fn clone(&self) -> Result<Self, AllocError>
+    where
+        Octets: Clone,
+        requires { (v w : Octets) → Octets.is_clone v w → Octets.octets w ≡ Octets.octets v }
+        ensures value { IfOk result (λ n. n ≡ self.now) }
+        ensures succeeds { ((v : Octets) → Octets.is_infallible v) → IsOk result }
+    {
+        Ok(RelativeName {
+            octets: self.octets.clone()?,
+        })
+    }
+}
+
+impl<Octets: AsOctets> AsOctets for RelativeName<Octets> {
+    ghost use Rattle.dns_wire.specs.Wire.{wire};
+
+    ghost octets = { λ n. wire n };
+
+    fn as_slice(&self) -> &[u8] {
+        self.octets.as_slice()
+    }
+}
+
+impl<Octets: AsOctets> ToLabelIter for RelativeName<Octets> {
+    ghost use Rattle.std.specs.Prelude.{◌≤◌};
+    ghost use Rattle.dns_wire.specs.Wire.{IsName, HasNoRoot, wire_length};
+
+    ghost labels = { λ n. n };
+
+    ghost holds = { λ n. IsName n × HasNoRoot n × (wire_length n ≤ 254) };
+
+    #[tactic(auto, using(crate::proofs::Wires::name_count))]
+    fn label_count(&self) -> usize {
+        let labels = self.iter_labels();
+        labels.count()
+    }
+
+    fn label_at(&self, place: usize) -> Label<'_> {
+        label_at(self.iter_labels(), place)
+    }
+
+    fn compose_len(&self) -> u16 {
+        self.as_slice().len() as u16
+    }
+
+    fn compose<B: OctetsBuilder>(&self, target: &mut B) -> Result<(), ShortBuf> {
+        target.append_slice(self.as_slice())
+    }
+
+    ghost is_name = { λ _ h. h.0 };
+}
+
+impl<Octets: AsOctets> ToRelativeName for RelativeName<Octets> {
+    ghost has_no_root = { λ _ h. h.1 };
+}

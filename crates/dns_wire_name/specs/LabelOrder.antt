@@ -1,9 +1,0 @@
--- A label's octets for comparisons.
-use Rattle.std.specs.Prelude.{ℕ, List}
-use Rattle.dns_wire_name.specs.Label.{label_octets}
-use Rattle.dns_wire_name.specs.Order.{lowered}
-use Rattle.dns_wire_name.specs.declared.label.Label.{Label}
-
--- its octets in lower case
-abbrev pub lowered_label : Label → List ℕ
-lowered_label label = lowered (label_octets label)

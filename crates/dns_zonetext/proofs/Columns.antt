@@ -1,0 +1,40 @@
+-- One more octet, and the column.
+use Rattle.std.proofs.Common.{◌≡◌, ℕ, ◌+◌, ◌≤◌, ◌<◌, true, false, ◌==◌, not, List, [], ◌∷◌, ◌++◌, length, take, drop, ◌-◌, get_or, sym, ap, ◌∙◌, arith, append_assoc, cond}
+use Rattle.std.specs.Prelude.{reverse}
+use Rattle.std.specs.List.{count_by, take_while}
+use Rattle.std.proofs.lemmas.List.{take_more, reverse-append, take-append-drop, length-take-le}
+use Rattle.std.proofs.Math.Seq.{take-append-add}
+use Rattle.std.proofs.lemmas.List.Sums.{take_while-cons, sum_by-cons}
+use Rattle.dns_zonetext.specs.Place.{begins_character, column_of, last_line}
+
+last_more : (l : List ℕ) (c : ℕ) → last_line (l ++ c ∷ []) ≡ cond (not (c == 10)) (c ∷ last_line l) []
+last_more l c = ap (take_while (λ c. not (c == 10))) (reverse-append l (c ∷ [])) ∙ take_while-cons (λ c. not (c == 10)) c (reverse l)
+
+last_line_goes_on : (l : List ℕ) (c : ℕ) → (c == 10) ≡ false → last_line (l ++ c ∷ []) ≡ c ∷ last_line l
+last_line_goes_on l c h = last_more l c ∙ ap (λ b. cond (not b) (c ∷ last_line l) []) h
+
+pub column_feed : (l : List ℕ) (c : ℕ) → (c == 10) ≡ true → column_of (l ++ c ∷ []) ≡ 1
+column_feed l c h = ap (λ s. count_by begins_character s + 1) (last_more l c ∙ ap (λ b. cond (not b) (c ∷ last_line l) []) h)
+
+pub column_more : (l : List ℕ) (c : ℕ) (n : ℕ) → (c == 10) ≡ false → begins_character c ≡ true → n ≡ column_of l → n + 1 ≡ column_of (l ++ c ∷ [])
+column_more l c n h k e =
+    let s = ap (count_by begins_character) (last_line_goes_on l c h) ∙ sum_by-cons (λ x. cond (begins_character x) 1 0) c (last_line l)
+    ∙ ap (λ b. cond b 1 0 + count_by begins_character (last_line l)) k in
+    omega (arith, e, s)
+
+pub column_same : (l : List ℕ) (c : ℕ) (n : ℕ) → (c == 10) ≡ false → begins_character c ≡ false → n ≡ column_of l → n ≡ column_of (l ++ c ∷ [])
+column_same l c n h k e =
+    let s = ap (count_by begins_character) (last_line_goes_on l c h) ∙ sum_by-cons (λ x. cond (begins_character x) 1 0) c (last_line l)
+    ∙ ap (λ b. cond b 1 0 + count_by begins_character (last_line l)) k in
+    omega (arith, e, s)
+
+-- the octet at i after those before it
+pub one_on : (before xs : List ℕ) (i : ℕ) → i < length xs → before ++ take (i + 1) xs ≡ before ++ take i xs ++ get_or xs i 0 ∷ []
+one_on before xs i h = ap (λ l. before ++ l) (take_more xs i 0 h) ∙ sym (append_assoc before (take i xs) (get_or xs i 0 ∷ []))
+
+-- the octets before a place are those before an earlier one and those between
+pub taken : (xs : List ℕ) (i j : ℕ) → i ≤ j → j ≤ length xs → take j xs ≡ take i xs ++ take (j - i) (drop i xs)
+taken xs i j h k =
+    let short : length (take i xs) ≡ i = length-take-le i xs (omega arith) in
+    let n : j ≡ length (take i xs) + (j - i) = omega (arith, short, h) in
+    ap (take j) (sym (take-append-drop i xs)) ∙ ap (λ m. take m (take i xs ++ drop i xs)) n ∙ take-append-add (take i xs) (drop i xs) (j - i)

@@ -1,0 +1,69 @@
+-- What is left to lay out.
+use Rattle.std.proofs.Common.{◌≡◌, ℕ, Bool, true, false, ◌||◌, ◌&&◌, not, List, [], ◌∷◌, ◌++◌, refl, sym, ap, ◌∙◌, append_assoc}
+use Rattle.std.specs.Prelude.{if◌then◌else◌}
+use Rattle.std.specs.Prelude.{map, Result, Ok, Err, None, IfSome, encode_utf8_all}
+use Rattle.dns_split.specs.declared.pieces.Piece.{Piece}
+use Rattle.dns_split.specs.declared.pieces.Piece.TheVariants.{Word as WordAt, Quote as QuoteAt, Comment as CommentAt, End as EndAt}
+use Rattle.dns_split.specs.declared.pieces.Fault.{Fault}
+use Rattle.dns_split.specs.Pieces.{ReadsOctets, moved, next_blank, place_of}
+use Rattle.dns_split.proofs.PieceSplit.{closes, given_close}
+use Rattle.dns_zonetext.proofs.Givens.{first_fault, pieces_in}
+use Rattle.dns_zonetext.specs.Entries.{parts}
+use Rattle.dns_zonetext.specs.declared.layout.Gap.{Gap}
+use Rattle.dns_zonetext.specs.Entries.{Part, Token, Ends}
+use Rattle.dns_zonetext.specs.Layout.{gap_if, feed_before, laid_out, leads}
+
+abbrev pub feed_if : Bool → List ℕ
+feed_if b = if b then 10 ∷ [] else []
+
+abbrev pub owed : Bool → List Part → List ℕ
+owed true es = feed_before es
+owed false es = []
+
+abbrev pub left : Gap → Bool → Bool → List Part → List ℕ
+left gap feed inside es = owed feed es ++ laid_out gap inside es
+
+owed_some : (feed : Bool) (e : Part) (es : List Part) → owed feed (e ∷ es) ≡ feed_if feed
+owed_some true e es = refl
+owed_some false e es = refl
+
+pub token_left : (gap : Gap) (feed inside lead : Bool) (t out : List ℕ) (es : List Part) → lead ≡ (inside || leads es)
+    → (out ++ feed_if feed ++ gap_if gap lead ++ t) ++ left gap false true es ≡ out ++ left gap feed inside (Token t ∷ es)
+token_left gap feed inside lead t out es e =
+    let r : List ℕ = laid_out gap true es in
+    append_assoc (out ++ feed_if feed ++ gap_if gap lead) t r ∙ append_assoc (out ++ feed_if feed) (gap_if gap lead) (t ++ r) ∙ append_assoc out (feed_if feed) (gap_if gap lead ++ (t ++ r))
+    ∙ ap (λ b. out ++ (feed_if feed ++ (gap_if gap b ++ (t ++ r)))) e
+    ∙ ap (λ f. out ++ (f ++ (gap_if gap (inside || leads es) ++ (t ++ r)))) (sym (owed_some feed (Token t) es))
+
+pub end_left : (gap : Gap) (feed inside b : Bool) (out : List ℕ) (es : List Part)
+    → (out ++ feed_if feed ++ gap_if gap (not inside && b)) ++ left gap true false es ≡ out ++ left gap feed inside (Ends b ∷ es)
+end_left gap feed inside b out es =
+    let r : List ℕ = feed_before es ++ laid_out gap false es in
+    append_assoc (out ++ feed_if feed) (gap_if gap (not inside && b)) r ∙ append_assoc out (feed_if feed) (gap_if gap (not inside && b) ++ r)
+    ∙ ap (λ f. out ++ (f ++ (gap_if gap (not inside && b) ++ r))) (sym (owed_some feed (Ends b) es))
+
+-- the last that is given is an entry's end, or a fault
+moved_closes : (f : ℕ → ℕ) (t : Bool) (given : List (Result Piece Fault)) → closes t (map (moved f) given) ≡ closes t given
+moved_closes f t [] = refl
+moved_closes f t (Ok (WordAt p) ∷ given) = moved_closes f false given
+moved_closes f t (Ok (QuoteAt p) ∷ given) = moved_closes f false given
+moved_closes f t (Ok (CommentAt p) ∷ given) = moved_closes f t given
+moved_closes f t (Ok (EndAt p) ∷ given) = moved_closes f true given
+moved_closes f t (Err e ∷ given) = refl
+
+pub octets_close : (octets : List ℕ) (given : List (Result Piece Fault)) → ReadsOctets octets given → closes true given ≡ true
+octets_close octets given r = sym (moved_closes (place_of octets) true given) ∙ given_close (encode_utf8_all octets) (map (moved (place_of octets)) given) r
+
+-- inside an entry of zone text it is known whether it began with a blank
+pub blank_known : (octets : List ℕ) (given : List (Result Piece Fault)) (b : Bool) → closes false given ≡ true → first_fault given ≡ None
+    → IfSome (next_blank given) (λ x. b ≡ x) → b ≡ leads (parts octets (pieces_in given))
+blank_known octets [] b c n h = cc
+blank_known octets (Ok (WordAt p) ∷ given) b c n h = blank_known octets given b c n h
+blank_known octets (Ok (QuoteAt p) ∷ given) b c n h = blank_known octets given b c n h
+blank_known octets (Ok (CommentAt p) ∷ given) b c n h = blank_known octets given b c n h
+blank_known octets (Ok (EndAt p) ∷ given) b c n h = h
+blank_known octets (Err f ∷ given) b c n h = cc
+
+pub left_none : (gap : Gap) (feed inside : Bool) → left gap feed inside [] ≡ []
+left_none gap true inside = refl
+left_none gap false inside = refl

@@ -1,0 +1,17 @@
+use Rattle.std.proofs.Common.{◌≡◌, ◌++◌, length}
+use Rattle.std.specs.List.{flat_map}
+use Rattle.dns_split.specs.Pieces.{EachWithin}
+use Rattle.dns_zonetext.specs.Place.{Stands}
+use Rattle.dns_zonetext.specs.Tokens.{row_of}
+use Rattle.dns_zonetext.proofs.Givens.{first_fault}
+use Rattle.dns_zonetext.proofs.Order.{InOrder}
+use Rattle.dns_zonetext.proofs.tokens.tokens.Given as goal
+
+abbrev pub invariant-loop-piece : goal.invariant-loop-piece
+invariant-loop-piece g l = record {
+  fault : first_fault l.piece-iterator ≡ first_fault l.initial.piece-iterator;
+  within : EachWithin (length l.octets) l.piece-iterator;
+  order : InOrder l.place.at l.piece-iterator;
+  place : Stands l.octets l.lines_before l.place;
+  rows : l.out.items ++ flat_map (row_of l.octets l.lines_before l.form) l.piece-iterator ≡ l.initial.out.items ++ flat_map (row_of l.octets l.lines_before l.form) l.initial.piece-iterator;
+}

@@ -1,0 +1,19 @@
+//! What the commands of `zonetext` do over zone files, of octets.
+//!
+//! - [`check::check`] answers whether octets are zone text, or the first fault with its position.
+//! - [`tokens::tokens`] writes a row for each token, with its position.
+//!
+//! Octets need not be UTF-8: each counts as a character of the grammar, so that a comment in
+//! another encoding refuses no zone.
+#![tactic(auto)]
+
+pub mod check;
+pub mod diff;
+#[cfg(test)]
+mod entry_tests;
+pub mod laws;
+pub mod layout;
+pub mod place;
+#[cfg(test)]
+mod tests;
+pub mod tokens;

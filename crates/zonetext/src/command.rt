@@ -1,0 +1,114 @@
+//! The words of the program.
+use crate::files;
+use clap::{Arg, ArgAction, ArgMatches, Command, Error};
+use dns_zonetext::layout::Gap;
+use dns_zonetext::tokens::Form;
+use std::alloc::{AllocError, Global};
+use std::io;
+
+/// A command over any number of files.
+fn over_files<'a>(alloc: Global, name: &'a str, about: &'a str) -> Result<Command<'a>, AllocError> {
+    let file = Arg::new(alloc, "FILE")
+        .action(ArgAction::Append)
+        .help("a zone file, or - for standard input");
+    Command::new(alloc, name).about(about).arg(file)
+}
+
+/// An option without a value.
+fn flag<'a>(alloc: Global, name: &'a str, help: &'a str) -> Arg<'a> {
+    Arg::new(alloc, name)
+        .long(name)
+        .action(ArgAction::SetTrue)
+        .help(help)
+}
+
+/// The command line.
+fn command_line<'a>(alloc: Global) -> Result<Command<'a>, AllocError> {
+    let check = over_files(alloc, "check", "Say where files are not zone text")?;
+    let json = flag(alloc, "json", "write a JSON object for each token");
+    let tokens = over_files(
+        alloc,
+        "tokens",
+        "Write a line for each token, with its position",
+    )?
+    .arg(json)?;
+    let tabbed = flag(alloc, "tabbed", "put tabs between tokens");
+    let fmt = over_files(alloc, "fmt", "Write each entry on a line of its own")?.arg(tabbed)?;
+    let first = Arg::new(alloc, "A")
+        .required(true)
+        .action(ArgAction::Set)
+        .help("a zone file");
+    let second = Arg::new(alloc, "B")
+        .required(true)
+        .action(ArgAction::Set)
+        .help("another");
+    let diff = Command::new(alloc, "diff")
+        .about("Say where the entries of two files differ first")
+        .arg(first)?
+        .arg(second)?;
+    Command::new(alloc, "zonetext")
+        .version("0.2.0")
+        .about("Checks, lists, lays out and compares DNS zone files")
+        .subcommand_required(true)
+        .subcommand(check)?
+        .subcommand(tokens)?
+        .subcommand(fmt)?
+        .subcommand(diff)
+}
+
+/// The words, parsed.
+fn parsed<'a>(alloc: Global, words: &'a [&'a str]) -> Result<ArgMatches<'a>, Error> {
+    command_line(alloc)?.try_get_matches_from(words)
+}
+
+/// Runs what the words ask for, and answers the exit status.
+pub fn run(rt: &HostRuntime, alloc: Global, words: &[&str]) -> io::Result<u8> {
+    let matches = match parsed(alloc, words) {
+        Ok(matches) => matches,
+        Err(error) => {
+            error.print(rt)?;
+            return Ok(if error.use_stderr() { 2 } else { 0 });
+        }
+    };
+    let Some((name, inner)) = matches.subcommand() else {
+        return Ok(2);
+    };
+    if name == "diff" {
+        let first = inner.get_str("A").unwrap_or("-");
+        let second = inner.get_str("B").unwrap_or("-");
+        return files::compare(rt, first, second);
+    }
+    let names = match inner.get_strs("FILE") {
+        Some(names) => names,
+        None => return over_file(rt, name, inner, "-"),
+    };
+    let mut status = 0;
+    for file in names {
+        let this = over_file(rt, name, inner, file)?;
+        if this > status {
+            status = this;
+        }
+    }
+    Ok(status)
+}
+
+/// Runs a command that takes one file at a time.
+fn over_file(rt: &HostRuntime, name: &str, inner: &ArgMatches, file: &str) -> io::Result<u8> {
+    if name == "tokens" {
+        let form = if inner.get_flag("json") {
+            Form::Json
+        } else {
+            Form::Plain
+        };
+        files::list(rt, file, form)
+    } else if name == "fmt" {
+        let gap = if inner.get_flag("tabbed") {
+            Gap::Tab
+        } else {
+            Gap::Space
+        };
+        files::lay_out(rt, file, gap)
+    } else {
+        files::check_file(rt, file)
+    }
+}

@@ -1,0 +1,32 @@
+//! The program `zonetext`: it checks, lists, lays out and compares zone files.
+#![tactic(auto)]
+
+mod command;
+mod files;
+
+use std::process::ExitCode;
+use std::{env, io};
+
+/// Runs the program on its arguments, and answers the exit status.
+fn run_arguments(rt: &HostRuntime) -> io::Result<u8> {
+    let alloc = rt.alloc();
+    let mut arguments: Vec<String> = Vec::new(alloc);
+    for argument in env::args(rt)? {
+        arguments.push(argument)?;
+    }
+    let mut words: Vec<&str> = Vec::new(alloc);
+    for argument in &arguments {
+        words.push(argument.as_str())?;
+    }
+    command::run(rt, alloc, words.as_slice())
+}
+
+fn main(rt: HostRuntime) -> ExitCode {
+    match run_arguments(&rt) {
+        Ok(status) => ExitCode::from(status),
+        Err(error) => {
+            let _ = eprintln!(&rt; "zonetext: {error}");
+            ExitCode::from(2)
+        }
+    }
+}

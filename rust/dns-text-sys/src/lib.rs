@@ -1,0 +1,174 @@
+//! The functions of the library `dnstext`, as `c/include/dnstext.h` declares them.
+//!
+//! The crate `dns-text` has safe types over them.
+#![no_std]
+#![allow(non_camel_case_types)]
+
+pub const DNS_OK: u32 = 0;
+pub const DNS_END: u32 = 1;
+pub const DNS_NO_ROOM: u32 = 2;
+pub const DNS_BAD_ESCAPE: u32 = 3;
+pub const DNS_SHORT_INPUT: u32 = 4;
+pub const DNS_BAD_UTF8: u32 = 5;
+pub const DNS_BAD_SYMBOL: u32 = 6;
+pub const DNS_TOO_LONG: u32 = 7;
+pub const DNS_BAD_ENCODING: u32 = 8;
+pub const DNS_CLOSING: u32 = 9;
+pub const DNS_OPEN_PARENTHESIS: u32 = 10;
+pub const DNS_OPEN_QUOTE: u32 = 11;
+pub const DNS_LONE_RETURN: u32 = 12;
+pub const DNS_BAD_CURSOR: u32 = 13;
+
+/// What a call says beside its status.
+#[repr(C)]
+#[derive(Clone, Copy, Debug, Default, PartialEq, Eq)]
+pub struct dns_outcome {
+    pub length: usize,
+    pub place: usize,
+}
+
+/// A token of zone text: the octets from `start` to before `end`.
+#[repr(C)]
+#[derive(Clone, Copy, Debug, Default, PartialEq, Eq)]
+pub struct dns_token {
+    pub start: usize,
+    pub end: usize,
+    pub is_quoted: usize,
+}
+
+/// Where a zone text is read on. At first all three are 0.
+#[repr(C)]
+#[derive(Clone, Copy, Debug, Default, PartialEq, Eq)]
+pub struct dns_cursor {
+    pub at: usize,
+    pub begins_blank: usize,
+    pub is_done: usize,
+}
+
+/// A call that reads octets and gives others.
+pub type dns_call = unsafe extern "C" fn(*const u8, usize, *mut u8, usize, *mut dns_outcome) -> u32;
+
+extern "C" {
+    pub fn dns_charstr_read(
+        text: *const u8,
+        text_len: usize,
+        octets: *mut u8,
+        octets_len: usize,
+        outcome: *mut dns_outcome,
+    ) -> u32;
+    pub fn dns_charstr_print(
+        octets: *const u8,
+        octets_len: usize,
+        text: *mut u8,
+        text_len: usize,
+        outcome: *mut dns_outcome,
+    ) -> u32;
+    pub fn dns_charstr_print_quoted(
+        octets: *const u8,
+        octets_len: usize,
+        text: *mut u8,
+        text_len: usize,
+        outcome: *mut dns_outcome,
+    ) -> u32;
+    pub fn dns_charstr_print_unquoted(
+        octets: *const u8,
+        octets_len: usize,
+        text: *mut u8,
+        text_len: usize,
+        outcome: *mut dns_outcome,
+    ) -> u32;
+    pub fn dns_base16_print(
+        octets: *const u8,
+        octets_len: usize,
+        text: *mut u8,
+        text_len: usize,
+        outcome: *mut dns_outcome,
+    ) -> u32;
+    pub fn dns_base32hex_print(
+        octets: *const u8,
+        octets_len: usize,
+        text: *mut u8,
+        text_len: usize,
+        outcome: *mut dns_outcome,
+    ) -> u32;
+    pub fn dns_base64_print(
+        octets: *const u8,
+        octets_len: usize,
+        text: *mut u8,
+        text_len: usize,
+        outcome: *mut dns_outcome,
+    ) -> u32;
+    pub fn dns_base16_read(
+        text: *const u8,
+        text_len: usize,
+        octets: *mut u8,
+        octets_len: usize,
+        outcome: *mut dns_outcome,
+    ) -> u32;
+    pub fn dns_base32hex_read(
+        text: *const u8,
+        text_len: usize,
+        octets: *mut u8,
+        octets_len: usize,
+        outcome: *mut dns_outcome,
+    ) -> u32;
+    pub fn dns_base64_read(
+        text: *const u8,
+        text_len: usize,
+        octets: *mut u8,
+        octets_len: usize,
+        outcome: *mut dns_outcome,
+    ) -> u32;
+    pub fn dns_entry_next(
+        text: *const u8,
+        text_len: usize,
+        cursor: *mut dns_cursor,
+        tokens: *mut dns_token,
+        tokens_len: usize,
+        outcome: *mut dns_outcome,
+    ) -> u32;
+    pub fn dns_status_text(
+        status: u32,
+        text: *mut u8,
+        text_len: usize,
+        outcome: *mut dns_outcome,
+    ) -> u32;
+
+    pub fn dns_base16_encode(
+        octets: *const u8,
+        octets_len: usize,
+        text: *mut u8,
+        text_len: usize,
+    ) -> usize;
+    pub fn dns_base32hex_encode(
+        octets: *const u8,
+        octets_len: usize,
+        text: *mut u8,
+        text_len: usize,
+    ) -> usize;
+    pub fn dns_base64_encode(
+        octets: *const u8,
+        octets_len: usize,
+        text: *mut u8,
+        text_len: usize,
+    ) -> usize;
+    pub fn dns_base16_decode(
+        text: *const u8,
+        text_len: usize,
+        octets: *mut u8,
+        octets_len: usize,
+    ) -> usize;
+    pub fn dns_base32hex_decode(
+        text: *const u8,
+        text_len: usize,
+        octets: *mut u8,
+        octets_len: usize,
+    ) -> usize;
+    pub fn dns_base64_decode(
+        text: *const u8,
+        text_len: usize,
+        octets: *mut u8,
+        octets_len: usize,
+    ) -> usize;
+    pub fn dns_text_split(text: *const u8, text_len: usize) -> usize;
+}

@@ -1,0 +1,43 @@
+//! Calls that read octets and give others.
+use dns_text_sys::{dns_call, dns_outcome, DNS_NO_ROOM, DNS_OK};
+
+/// A status other than `DNS_OK`, and the place that was told.
+pub(crate) struct Refused {
+    pub(crate) status: u32,
+    pub(crate) place: usize,
+}
+
+/// What the call gives, in room for `expected` octets at first and then for as many as it asks for.
+pub(crate) fn give(call: dns_call, from: &[u8], expected: usize) -> Result<Vec<u8>, Refused> {
+    let mut given = vec![0; expected];
+    loop {
+        let mut outcome = dns_outcome::default();
+        // SAFETY: both slices are as long as is said, and the call keeps to them.
+        let status = unsafe {
+            call(
+                from.as_ptr(),
+                from.len(),
+                given.as_mut_ptr(),
+                given.len(),
+                &mut outcome,
+            )
+        };
+        match status {
+            DNS_OK => {
+                given.truncate(outcome.length);
+                return Ok(given);
+            }
+            DNS_NO_ROOM => given.resize(outcome.length, 0),
+            status => {
+                let place = outcome.place;
+                return Err(Refused { status, place });
+            }
+        }
+    }
+}
+
+/// The text that the call gives, which is ASCII.
+pub(crate) fn print(call: dns_call, octets: &[u8], expected: usize) -> Result<String, Refused> {
+    let text = give(call, octets, expected)?;
+    Ok(String::from_utf8(text).expect("printed texts are ASCII"))
+}

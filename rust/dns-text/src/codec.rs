@@ -1,0 +1,72 @@
+//! Base 16, base32hex and base 64 (RFC 4648 sections 8, 7 and 4).
+//!
+//! ```
+//! use dns_text::codec::{Encoding, BASE16, BASE32HEX, BASE64};
+//!
+//! assert_eq!(BASE16.print(b"foob"), "666F6F62");
+//! assert_eq!(BASE32HEX.print(b"foob"), "CPNMUOG");
+//! assert_eq!(BASE64.print(b"foob"), "Zm9vYg==");
+//! assert_eq!(BASE64.read(b"Zm9vYg==")?, b"foob");
+//! assert!(BASE16.read(b"66f").is_err());
+//! # Ok::<(), dns_text::codec::BadEncoding>(())
+//! ```
+use crate::call::{give, print};
+use crate::status;
+use dns_text_sys::{
+    dns_base16_print, dns_base16_read, dns_base32hex_print, dns_base32hex_read, dns_base64_print,
+    dns_base64_read, dns_call, DNS_BAD_ENCODING,
+};
+use std::error::Error;
+use std::fmt;
+
+/// An encoding.
+#[derive(Clone, Copy)]
+pub struct Encoding {
+    print: dns_call,
+    read: dns_call,
+}
+
+/// Base 16, read in either case.
+pub const BASE16: Encoding = Encoding {
+    print: dns_base16_print,
+    read: dns_base16_read,
+};
+
+/// Base 32 with the extended hex alphabet, read in either case, without padding.
+pub const BASE32HEX: Encoding = Encoding {
+    print: dns_base32hex_print,
+    read: dns_base32hex_read,
+};
+
+/// Base 64, with padding.
+pub const BASE64: Encoding = Encoding {
+    print: dns_base64_print,
+    read: dns_base64_read,
+};
+
+impl Encoding {
+    /// The text of octets.
+    pub fn print(self, octets: &[u8]) -> String {
+        match print(self.print, octets, 2 * octets.len() + 4) {
+            Ok(text) => text,
+            Err(_) => unreachable!("no memory holds as many octets"),
+        }
+    }
+
+    /// The octets of a text.
+    pub fn read(self, text: &[u8]) -> Result<Vec<u8>, BadEncoding> {
+        give(self.read, text, text.len()).map_err(|_| BadEncoding)
+    }
+}
+
+/// A text is none of the encoding.
+#[derive(Clone, Copy, Debug, PartialEq, Eq)]
+pub struct BadEncoding;
+
+impl fmt::Display for BadEncoding {
+    fn fmt(&self, f: &mut fmt::Formatter<'_>) -> fmt::Result {
+        status::write(DNS_BAD_ENCODING, f)
+    }
+}
+
+impl Error for BadEncoding {}

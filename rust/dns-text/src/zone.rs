@@ -1,0 +1,236 @@
+//! Zone text, token by token or entry by entry.
+use crate::status;
+use dns_text_sys::{
+    dns_cursor, dns_entry_next, dns_outcome, dns_token, DNS_BAD_ESCAPE, DNS_CLOSING, DNS_END,
+    DNS_LONE_RETURN, DNS_OK, DNS_OPEN_PARENTHESIS, DNS_OPEN_QUOTE,
+};
+use std::error::Error;
+use std::fmt;
+
+/// A token of zone text: a word, or a quoted text with its double quotes.
+#[derive(Clone, Copy, Debug, PartialEq, Eq)]
+pub struct Token<'t> {
+    /// Where it begins in the text.
+    pub start: usize,
+    /// The token as it is spelled.
+    pub text: &'t [u8],
+    /// Whether it is a quoted text.
+    pub is_quoted: bool,
+}
+
+impl<'t> Token<'t> {
+    /// The text between the double quotes of a quoted text, and a word itself.
+    pub fn content(self) -> &'t [u8] {
+        if self.is_quoted {
+            &self.text[1..self.text.len() - 1]
+        } else {
+            self.text
+        }
+    }
+}
+
+/// What keeps a text from going on, and where.
+#[derive(Clone, Copy, Debug, PartialEq, Eq)]
+pub struct Fault {
+    pub kind: FaultKind,
+    /// The octets of the longest beginning that can still be completed.
+    pub place: usize,
+}
+
+/// What keeps a text from going on.
+#[derive(Clone, Copy, Debug, PartialEq, Eq)]
+#[repr(u32)]
+pub enum FaultKind {
+    /// A backslash with what makes no escape.
+    BadEscape = DNS_BAD_ESCAPE,
+    /// A closing parenthesis, and none is open.
+    Closing = DNS_CLOSING,
+    /// The text ends inside parentheses.
+    OpenParenthesis = DNS_OPEN_PARENTHESIS,
+    /// The text or a line ends inside a quoted text.
+    OpenQuote = DNS_OPEN_QUOTE,
+    /// A CR without its LF.
+    LoneReturn = DNS_LONE_RETURN,
+}
+
+impl FaultKind {
+    fn of(status: u32) -> FaultKind {
+        match status {
+            DNS_BAD_ESCAPE => FaultKind::BadEscape,
+            DNS_CLOSING => FaultKind::Closing,
+            DNS_OPEN_PARENTHESIS => FaultKind::OpenParenthesis,
+            DNS_OPEN_QUOTE => FaultKind::OpenQuote,
+            DNS_LONE_RETURN => FaultKind::LoneReturn,
+            status => unreachable!("status {status} of a zone text"),
+        }
+    }
+}
+
+impl fmt::Display for Fault {
+    fn fmt(&self, f: &mut fmt::Formatter<'_>) -> fmt::Result {
+        status::write(self.kind as u32, f)?;
+        write!(f, " at {}", self.place)
+    }
+}
+
+impl Error for Fault {}
+
+/// The places of the tokens of one entry after another.
+#[derive(Clone, Debug)]
+struct Places<'t> {
+    text: &'t [u8],
+    cursor: dns_cursor,
+    tokens: Vec<dns_token>,
+    count: usize,
+}
+
+impl<'t> Places<'t> {
+    fn new(text: &'t [u8]) -> Places<'t> {
+        Places {
+            text,
+            cursor: dns_cursor::default(),
+            tokens: vec![dns_token::default(); 16],
+            count: 0,
+        }
+    }
+
+    /// Reads the next entry. A fault comes after the tokens before it.
+    fn read(&mut self) -> Option<Result<(), Fault>> {
+        loop {
+            let before = self.cursor;
+            let mut outcome = dns_outcome::default();
+            // SAFETY: both slices are as long as is said, and the call keeps to them.
+            let status = unsafe {
+                dns_entry_next(
+                    self.text.as_ptr(),
+                    self.text.len(),
+                    &mut self.cursor,
+                    self.tokens.as_mut_ptr(),
+                    self.tokens.len(),
+                    &mut outcome,
+                )
+            };
+            if outcome.length > self.tokens.len() {
+                self.tokens.resize(outcome.length, dns_token::default());
+                self.cursor = before;
+                continue;
+            }
+            self.count = outcome.length;
+            match status {
+                DNS_OK => return Some(Ok(())),
+                DNS_END => return None,
+                status => {
+                    let kind = FaultKind::of(status);
+                    let place = outcome.place;
+                    return Some(Err(Fault { kind, place }));
+                }
+            }
+        }
+    }
+
+    fn token(&self, place: usize) -> Token<'t> {
+        let token = self.tokens[place];
+        Token {
+            start: token.start,
+            text: &self.text[token.start..token.end],
+            is_quoted: token.is_quoted != 0,
+        }
+    }
+}
+
+/// An entry of zone text.
+#[derive(Clone, Debug, PartialEq, Eq)]
+pub struct Entry<'t> {
+    /// Whether it began with a blank: such a record takes the owner of the one before.
+    pub begins_blank: bool,
+    pub tokens: Vec<Token<'t>>,
+}
+
+/// The entries of a zone text, up to a fault.
+///
+/// ```
+/// use dns_text::{entries, FaultKind};
+///
+/// let mut found = entries(b"www A 192.0.2.1\n  TXT (");
+/// assert_eq!(found.next().unwrap()?.tokens[2].text, b"192.0.2.1");
+/// let fault = found.next().unwrap().unwrap_err();
+/// assert_eq!((fault.kind, fault.place), (FaultKind::OpenParenthesis, 23));
+/// assert!(found.next().is_none());
+/// # Ok::<(), dns_text::Fault>(())
+/// ```
+pub fn entries(text: &[u8]) -> Entries<'_> {
+    Entries {
+        places: Places::new(text),
+    }
+}
+
+/// The entries of a zone text; see [`entries`].
+#[derive(Clone, Debug)]
+pub struct Entries<'t> {
+    places: Places<'t>,
+}
+
+impl<'t> Iterator for Entries<'t> {
+    type Item = Result<Entry<'t>, Fault>;
+
+    fn next(&mut self) -> Option<Result<Entry<'t>, Fault>> {
+        let read = self.places.read()?;
+        Some(read.map(|()| {
+            Entry {
+                begins_blank: self.places.cursor.begins_blank != 0,
+                tokens: (0..self.places.count)
+                    .map(|place| self.places.token(place))
+                    .collect(),
+            }
+        }))
+    }
+}
+
+/// The tokens of a zone text, whatever entry they are of, up to a fault. None is copied.
+///
+/// An octet of 0x80 or more counts as a character of its own.
+///
+/// ```
+/// use dns_text::tokens;
+///
+/// let words: Result<Vec<_>, _> = tokens(b"a ( b ; why\n \"c d\" )\ne")
+///     .map(|token| token.map(|token| token.text))
+///     .collect();
+/// assert_eq!(words?, [b"a".as_slice(), b"b", b"\"c d\"", b"e"]);
+/// # Ok::<(), dns_text::Fault>(())
+/// ```
+pub fn tokens(text: &[u8]) -> Tokens<'_> {
+    Tokens {
+        places: Places::new(text),
+        next: 0,
+        fault: None,
+    }
+}
+
+/// The tokens of a zone text; see [`tokens`].
+#[derive(Clone, Debug)]
+pub struct Tokens<'t> {
+    places: Places<'t>,
+    next: usize,
+    fault: Option<Fault>,
+}
+
+impl<'t> Iterator for Tokens<'t> {
+    type Item = Result<Token<'t>, Fault>;
+
+    fn next(&mut self) -> Option<Result<Token<'t>, Fault>> {
+        while self.next == self.places.count {
+            if let Some(fault) = self.fault.take() {
+                return Some(Err(fault));
+            }
+            self.next = 0;
+            match self.places.read()? {
+                Ok(()) => {}
+                Err(fault) => self.fault = Some(fault),
+            }
+        }
+        let token = self.places.token(self.next);
+        self.next += 1;
+        Some(Ok(token))
+    }
+}
