@@ -23,7 +23,7 @@ fn line(octets: &[u8]) -> usize {
         symbol: of_word,
         mark: "",
     };
-    format!("{} {hex} {base64} {text}\n", octets.len().min(65_535)).len()
+    format!("{} {hex} {base64} {text}", octets.len().min(65_535)).len()
 }
 
 struct Exchange {
