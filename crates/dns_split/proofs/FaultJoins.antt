@@ -24,6 +24,7 @@ use Rattle.dns_split.specs.declared.pieces.Wrong.TheVariants.{Closing as Late, O
 use Rattle.dns_split.specs.Lexeme.{Lexeme, Blank, Line, Open, Close, Note, Word, Quote, characters, bytes, is_lexeme, is_note_char, stands_in_quote}
 use Rattle.dns_split.specs.Splitting.{Splits, Entries, may_precede, are_lexemes}
 use Rattle.dns_split.specs.Viable.{IsViable, IsBad}
+use Rattle.dns_split.specs.Opening.{IsLeftOpen}
 use Rattle.dns_split.specs.Reader.{step, after, with_open, read, may_end}
 use Rattle.dns_split.specs.Pieces.{quote_at, end_at, IsPieces, EndsQuote, IsWrong, IsFault, moved_wrong, moved_fault}
 use Rattle.dns_split.proofs.Complete.{allowed, bytes_all, splits_read}
@@ -205,13 +206,21 @@ quote_joined x front r e i s h more all there =
           ∙ ap (λ z. front_pieces ++ quote_at (k + i) z ∷ further k c.1) place,
     )
 
+-- the same parentheses are left open
+pub open_joined : (x front : List ℕ) (r : Bool) (e : Entries) → Splits x e → IsLeftOpen front → IsLeftOpen (x ++ (bytes (Line r) ++ front))
+open_joined x front r e s h =
+    let tail : List ℕ = 10 ∷ replicate (suc h.0) 41 in
+    (h.0, e ++ h.1, subst (λ l. Splits l (e ++ h.1)) (sym (joined_more x (bytes (Line r)) front tail)) (split_joined x (front ++ tail) r e h.1 s h.2))
+
 -- and for the same cause
 wrong_joined : (x front rest : List ℕ) (r : Bool) (e : Entries) (w : Wrong) → Splits x e → IsWrong front rest w
     → IsWrong (x ++ (bytes (Line r) ++ front)) rest (moved_wrong (λ i. length x + length (bytes (Line r)) + i) w)
 wrong_joined x front rest r e Late s h = (h.0, e ++ h.1, h.2, split_joined x front r e h.1 s h.3)
-wrong_joined x front rest r e OpenParenthesis s h =
-    let tail : List ℕ = 10 ∷ replicate (suc h.0) 41 in
-    (h.0, e ++ h.1, h.2, subst (λ l. Splits l (e ++ h.1)) (sym (joined_more x (bytes (Line r)) front tail)) (split_joined x (front ++ tail) r e h.1 s h.3))
+wrong_joined x front rest r e OpenParenthesis s h = (
+  h.0,
+  open_joined x front r e s h.1,
+  subst IsViable (sym (joined_more x (bytes (Line r)) front (9 ∷ []))) (viable_joined x (front ++ 9 ∷ []) r e s h.2),
+)
 wrong_joined x front rest r e (OpenQuote i) s h = (
   subst IsViable (sym (joined_more x (bytes (Line r)) front (34 ∷ []))) (viable_joined x (front ++ 34 ∷ []) r e s h.0),
   quote_joined x front r e i s h.1,

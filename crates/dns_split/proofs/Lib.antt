@@ -7,6 +7,7 @@ pub mod FaultJoins
 pub mod Joins
 pub mod Lanes
 pub mod OctetJoins
+pub mod OneCause
 pub mod Openers
 pub mod PieceFaults
 pub mod PieceGiven

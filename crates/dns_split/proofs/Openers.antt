@@ -14,13 +14,11 @@ use Rattle.dns_split.specs.declared.reader.Kind.TheVariants.{White, LineFeed, Ca
 use Rattle.dns_split.specs.declared.reader.Act.{Act}
 use Rattle.dns_split.specs.declared.reader.Act.TheVariants.{Add, EndToken}
 use Rattle.dns_split.specs.declared.reader.Move.{Move}
-use Rattle.dns_split.specs.declared.pieces.Wrong.TheVariants.{OpenParenthesis}
 use Rattle.dns_symbol.specs.Symbol.{is_digit}
 use Rattle.dns_split.specs.Lexeme.{characters}
 use Rattle.dns_split.specs.Splitting.{Entries, Splits}
 use Rattle.dns_split.specs.Reader.{kind, home, move_to, step, outside_step, quoted_step, comment_step, return_step, read, with_open, may_end}
-use Rattle.dns_split.specs.Opening.{IsOpener}
-use Rattle.dns_split.specs.Pieces.{IsWrong}
+use Rattle.dns_split.specs.Opening.{IsOpener, IsLeftOpen}
 use Rattle.dns_split.specs.Run.{takes_feed}
 use Rattle.dns_split.proofs.Complete.{Some_same, View, view, v_space, v_tab, v_lf, v_cr, v_open, v_close, v_note, v_quote, v_escape, v_plain, splits_read, bytes_all}
 use Rattle.dns_split.proofs.Sound.{read_splits}
@@ -227,7 +225,7 @@ opener text ys opened is ok o =
     }
 
 -- closing parentheses on a line of their own complete what may end a line inside parentheses
-pub left_open : (ys : List ℕ) (m : Mode) (d : ℕ) → scalars ys ≡ true → walk Outside 0 ys ≡ Some (m, d) → 0 < d → takes_feed m ≡ true → IsWrong (encode_utf8_all ys) [] OpenParenthesis
+pub left_open : (ys : List ℕ) (m : Mode) (d : ℕ) → scalars ys ≡ true → walk Outside 0 ys ≡ Some (m, d) → 0 < d → takes_feed m ≡ true → IsLeftOpen (encode_utf8_all ys)
 left_open ys m zero ok h p f = absurd (omega arith)
 left_open ys Outside (suc d) ok h p f = parenthesis ys Outside d ok h (line_completes Outside (suc d) EndToken refl)
 left_open ys Comment (suc d) ok h p f = parenthesis ys Comment d ok h (line_completes Comment (suc d) EndToken refl)
@@ -238,20 +236,20 @@ left_open ys (OneDigit q n) (suc d) ok h p f = cc
 left_open ys (TwoDigits q n) (suc d) ok h p f = cc
 
 -- and nothing else
-tail_read : (ys : List ℕ) → IsWrong (encode_utf8_all ys) [] OpenParenthesis → (n : ℕ) × (p : Mode × ℕ) × (walk Outside 0 (ys ++ (10 ∷ replicate (suc n) 41)) ≡ Some p)
+tail_read : (ys : List ℕ) → IsLeftOpen (encode_utf8_all ys) → (n : ℕ) × (p : Mode × ℕ) × (walk Outside 0 (ys ++ (10 ∷ replicate (suc n) 41)) ≡ Some p)
 tail_read ys w =
     let tail : List ℕ = 10 ∷ replicate (suc w.0) 41 in
     let is : encode_utf8_all (ys ++ tail) ≡ encode_utf8_all ys ++ tail = encodes-append ys tail ∙ ap (λ l. encode_utf8_all ys ++ l) (low_encodes tail (low_close w.0)) in
-    let r = split_ends (ys ++ tail) w.1 (splits_read (ys ++ tail) (encode_utf8_all ys ++ tail) w.1 is w.3) in
+    let r = split_ends (ys ++ tail) w.1 (splits_read (ys ++ tail) (encode_utf8_all ys ++ tail) w.1 is w.2) in
     (w.0, r.0, r.1)
 
 pub not_refused : (text ys rest : List ℕ) (c : ℕ) (m : Mode) (d : ℕ) → IsUtf8 text → encode_utf8_all ys ++ (encode_utf8 c ++ rest) ≡ text → walk Outside 0 ys ≡ Some (m, d) → step m d c ≡ None
-    → IsWrong text [] OpenParenthesis → ⊥
+    → IsLeftOpen text → ⊥
 not_refused text ys rest c m d u e h stop w =
     let front : encode_utf8_all u.0 ≡ encode_utf8_all (ys ++ c ∷ []) ++ rest = u.1.1 ∙ sym e ∙ sym (append_assoc (encode_utf8_all ys) (encode_utf8 c) rest)
     ∙ ap (λ l. l ++ rest) (ap (λ l. encode_utf8_all ys ++ l) (sym (append-nil (encode_utf8 c))) ∙ sym (encodes-append ys (c ∷ []))) in
     let q = begin_same (ys ++ c ∷ []) u.0 rest front in
-    let t = tail_read u.0 (subst (λ l. IsWrong l [] OpenParenthesis) (sym u.1.1) w) in
+    let t = tail_read u.0 (subst IsLeftOpen (sym u.1.1) w) in
     let tail : List ℕ = 10 ∷ replicate (suc t.0) 41 in
     let shape : u.0 ++ tail ≡ ys ++ c ∷ (q.0 ++ tail) = ap (λ l. l ++ tail) (q.1 ∙ append_assoc ys (c ∷ []) q.0) ∙ append_assoc ys (c ∷ q.0) tail in
     let none : None ≡ Some t.1 =
@@ -259,7 +257,7 @@ not_refused text ys rest c m d u e h stop w =
     ∙ ap (option_and_then (λ (v : Move). walk v.mode v.depth (q.0 ++ tail))) stop) ∙ ap (walk Outside 0) (sym shape) ∙ t.2 in
     cc
 
-pub not_open : (ys : List ℕ) (m : Mode) (d : ℕ) → walk Outside 0 ys ≡ Some (m, d) → (0 < d → takes_feed m ≡ true → ⊥) → IsWrong (encode_utf8_all ys) [] OpenParenthesis → ⊥
+pub not_open : (ys : List ℕ) (m : Mode) (d : ℕ) → walk Outside 0 ys ≡ Some (m, d) → (0 < d → takes_feed m ≡ true → ⊥) → IsLeftOpen (encode_utf8_all ys) → ⊥
 not_open ys m d h f w = go m d f (sym (walk_append ys (10 ∷ replicate (suc t.0) 41) Outside 0 ∙ ap (option_and_then (λ (p : Mode × ℕ). walk p.0 p.1 (10 ∷ replicate (suc t.0) 41))) h) ∙ t.2)
   where
     t : (n : ℕ) × (p : Mode × ℕ) × (walk Outside 0 (ys ++ (10 ∷ replicate (suc n) 41)) ≡ Some p)

@@ -5,7 +5,7 @@ use Rattle.std.specs.Prelude.{Some, None, map, Result, Ok, encode_utf8, encode_u
 use lib.Utf8.{scalar, scalars}
 use Rattle.std.proofs.Math.Nat.{zero-add}
 use Rattle.std.proofs.lemmas.List.{map-append, drop_at}
-use Rattle.std.proofs.lemmas.Bool.{cond-true, cond-false}
+use Rattle.std.proofs.lemmas.Bool.{cond-true, cond-false, and_from}
 use Rattle.std.proofs.lemmas.Str.{encodes-append, encode_ascii}
 use Rattle.std.proofs.Math.Seq.{take-append_seam}
 use Rattle.dns_split.specs.declared.reader.Mode.{Mode}
@@ -13,13 +13,15 @@ use Rattle.dns_split.specs.declared.reader.Mode.TheVariants.{Outside, Quoted, Co
 use Rattle.dns_split.specs.declared.reader.Kind.{Kind}
 use Rattle.dns_split.specs.declared.reader.Kind.TheVariants.{White, LineFeed, CarriageReturn, Opening, Closing, Semicolon, DoubleQuote, Backslash, Plain}
 use Rattle.dns_split.specs.declared.reader.Act.TheVariants.{EndToken}
+use Rattle.dns_split.specs.declared.reader.Move.{Move}
 use Rattle.dns_split.specs.declared.pieces.Piece.{Piece}
 use Rattle.dns_split.specs.declared.pieces.Fault.{Fault}
 use Rattle.dns_split.specs.declared.pieces.Wrong.{Wrong}
-use Rattle.dns_split.specs.declared.pieces.Wrong.TheVariants.{Closing as Late, OpenParenthesis, LoneReturn}
+use Rattle.dns_split.specs.declared.pieces.Wrong.TheVariants.{Closing as Late, LoneReturn}
 use Rattle.dns_split.specs.Splitting.{Splits, Entries}
 use Rattle.dns_split.specs.Reader.{kind, step, outside_step, comment_step, return_step, read, may_end, with_open}
 use Rattle.dns_split.specs.Viable.{IsBad, IsViable}
+use Rattle.dns_split.specs.Opening.{IsLeftOpen}
 use Rattle.dns_split.specs.Pieces.{quote_at, end_at, begins_blank, pieces, IsPieces, Begins, Settles, EndsQuote, IsWrong, Whole, Faulty, Reads}
 use Rattle.dns_split.specs.Run.{first_blank, fault, wrong_at, wrong_at_end, run}
 use Rattle.dns_split.proofs.Complete.{Some_same, View, view, v_space, v_tab, v_lf, v_cr, v_open, v_close, v_note, v_quote, v_escape, v_plain}
@@ -107,14 +109,25 @@ comment_goes DoubleQuote d h = cc
 comment_goes Backslash d h = cc
 comment_goes Plain d h = cc
 
+-- a character that the reader takes goes on with what is viable
+pub next_viable : (ys : List ℕ) (c : ℕ) (m : Mode) (d : ℕ) (v : Move) → scalars ys ≡ true → scalar c ≡ true → walk Outside 0 ys ≡ Some (m, d) → step m d c ≡ Some v
+    → IsViable (encode_utf8_all ys ++ encode_utf8 c)
+next_viable ys c m d v ok fine h e =
+    let there : walk Outside 0 (ys ++ c ∷ []) ≡ Some (v.mode, v.depth) = walk_append ys (c ∷ []) Outside 0 ∙ ap (option_and_then (λ (p : Mode × ℕ). walk p.0 p.1 (c ∷ []))) h
+    ∙ ap (option_and_then (λ (w : Move). walk w.mode w.depth [])) e in
+    subst IsViable (encodes-append ys (c ∷ []) ∙ ap (λ l. encode_utf8_all ys ++ l) (append-nil (encode_utf8 c)))
+    (walked_viable (ys ++ c ∷ []) (v.mode, v.depth) (scalars_both ys (c ∷ []) ok (and_from _ _ fine refl)) there)
+
+pub tab_viable : (ys : List ℕ) (m : Mode) (d : ℕ) (v : Move) → scalars ys ≡ true → walk Outside 0 ys ≡ Some (m, d) → step m d 9 ≡ Some v → IsViable (encode_utf8_all ys ++ 9 ∷ [])
+tab_viable ys m d v ok h e = subst (λ l. IsViable (encode_utf8_all ys ++ l)) (encode_ascii 9 (omega arith)) (next_viable ys 9 m d v ok refl h e)
+
 -- inside parentheses
-pub parenthesis : (ys : List ℕ) (m : Mode) (d : ℕ) → scalars ys ≡ true → walk Outside 0 ys ≡ Some (m, suc d) → Completes m (suc d) (10 ∷ replicate (suc d) 41)
-    → IsWrong (encode_utf8_all ys) [] OpenParenthesis
+pub parenthesis : (ys : List ℕ) (m : Mode) (d : ℕ) → scalars ys ≡ true → walk Outside 0 ys ≡ Some (m, suc d) → Completes m (suc d) (10 ∷ replicate (suc d) 41) → IsLeftOpen (encode_utf8_all ys)
 parenthesis ys m d ok h k =
     let tail : List ℕ = 10 ∷ replicate (suc d) 41 in
     let r = walk_completes ys tail Outside 0 (m, suc d) h k [] in
     let is : encode_utf8_all (ys ++ tail) ≡ encode_utf8_all ys ++ tail = encodes-append ys tail ∙ ap (λ l. encode_utf8_all ys ++ l) (low_encodes tail (low_close d)) in
-    (d, r.0, refl, subst (λ l. Splits l r.0) is (read_splits (ys ++ tail) r.0 (scalars_both ys tail ok (low_scalars tail (low_close d))) r.1))
+    (d, r.0, subst (λ l. Splits l r.0) is (read_splits (ys ++ tail) r.0 (scalars_both ys tail ok (low_scalars tail (low_close d))) r.1))
 
 -- in a quoted text, after CR or in an escape
 abbrev is_inside : Mode → Bool
@@ -149,9 +162,9 @@ step_wrong ys r c (TwoDigits q n) d g ok h f = inside_wrong ys (encode_utf8 c ++
 end_wrong : (ys : List ℕ) (m : Mode) (d : ℕ) → (g : Gives Outside 0 0 0 (first_blank (encode_utf8_all ys ++ [])) ys (m, d)) → scalars ys ≡ true → walk Outside 0 ys ≡ Some (m, d)
     → may_end m d ≡ false → IsWrong (encode_utf8_all ys) [] (wrong_at_end m g.start)
 end_wrong ys Outside zero g ok h f = cc
-end_wrong ys Outside (suc d) g ok h f = parenthesis ys Outside d ok h (line_completes Outside (suc d) EndToken refl)
+end_wrong ys Outside (suc d) g ok h f = (refl, parenthesis ys Outside d ok h (line_completes Outside (suc d) EndToken refl), tab_viable ys Outside (suc d) _ ok h refl)
 end_wrong ys Comment zero g ok h f = cc
-end_wrong ys Comment (suc d) g ok h f = parenthesis ys Comment d ok h (line_completes Comment (suc d) EndToken refl)
+end_wrong ys Comment (suc d) g ok h f = (refl, parenthesis ys Comment d ok h (line_completes Comment (suc d) EndToken refl), tab_viable ys Comment (suc d) _ ok h refl)
 end_wrong ys Quoted d g ok h f = inside_wrong ys [] [] Quoted d g ok h refl
 end_wrong ys Return d g ok h f = inside_wrong ys [] [] Return d g ok h refl
 end_wrong ys (Escape q) d g ok h f = inside_wrong ys [] [] (Escape q) d g ok h refl

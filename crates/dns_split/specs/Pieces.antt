@@ -1,5 +1,5 @@
 -- The pieces of a zone text with their places: words, quoted texts, comments and ends of entries.
-use Rattle.std.specs.Prelude.{⊤, ◌≡◌, ◌≤◌, ℕ, zero, suc, ◌+◌, ◌-◌, ◌⊎◌, Bool, true, false, List, [], ◌∷◌, ◌++◌, length, take, drop, map, replicate, Option, Some, None, Result, Ok, Err}
+use Rattle.std.specs.Prelude.{⊤, ◌≡◌, ◌≤◌, ℕ, zero, suc, ◌+◌, ◌-◌, ◌⊎◌, Bool, true, false, List, [], ◌∷◌, ◌++◌, length, take, drop, map, Option, Some, None, Result, Ok, Err}
 use Rattle.std.specs.Prelude.{encode_utf8, encode_utf8_all}
 use Rattle.std.specs.List.{flat_map}
 use lib.Utf8.{scalar}
@@ -9,6 +9,7 @@ use Rattle.dns_split.specs.declared.pieces.Piece.TheVariants.{Word as WordAt, Qu
 use Rattle.dns_split.specs.declared.pieces.Fault.{Fault}
 use Rattle.dns_split.specs.declared.pieces.Wrong.{Wrong}
 use Rattle.dns_split.specs.declared.pieces.Wrong.TheVariants.{Closing, OpenParenthesis, OpenQuote, LoneReturn, BadEscape}
+use Rattle.dns_split.specs.Opening.{IsLeftOpen}
 use Rattle.dns_split.specs.Lexeme.{Lexeme, Blank, Line, Open, Close, Note, Word, Quote, bytes}
 use Rattle.dns_split.specs.Splitting.{Entries, Splits, are_lexemes, nests, with_token}
 use Rattle.dns_split.specs.Token.{IsWord, IsQuote, IsComment}
@@ -77,11 +78,11 @@ abbrev pub EndsQuote : List ℕ → ℕ → Type 0
 EndsQuote front i = (more : List ℕ) (all : List Piece) → IsPieces (front ++ (34 ∷ more)) all → (first : List Piece) × (last : List Piece) × (all ≡ first ++ quote_at i (length front + 1) ∷ last)
 
 -- why the longest viable beginning can't go on with the rest of the text
--- a closing parenthesis follows what splits already; what it is inside of has to be closed; a double quote may follow, and would end the quoted text from i on; only LF may follow;
--- neither a tab nor LF may
+-- a closing parenthesis follows what splits already; what it is inside of has to be closed, and a tab may follow; a double quote may follow, and would end the quoted text from i on;
+-- only LF may follow; neither a tab nor LF may
 abbrev pub IsWrong : List ℕ → List ℕ → Wrong → Type 0
 IsWrong front rest Closing = (more : List ℕ) × (e : Entries) × (rest ≡ 41 ∷ more) × Splits front e
-IsWrong front rest OpenParenthesis = (n : ℕ) × (e : Entries) × (rest ≡ []) × Splits (front ++ (10 ∷ replicate (suc n) 41)) e
+IsWrong front rest OpenParenthesis = (rest ≡ []) × IsLeftOpen front × IsViable (front ++ 9 ∷ [])
 IsWrong front rest (OpenQuote i) = IsViable (front ++ 34 ∷ []) × EndsQuote front i
 IsWrong front rest LoneReturn = (c : ℕ) → scalar c ≡ true → IsViable (front ++ encode_utf8 c) → c ≡ 10
 IsWrong front rest BadEscape = (¬ IsViable (front ++ 9 ∷ [])) × (¬ IsViable (front ++ 10 ∷ []))

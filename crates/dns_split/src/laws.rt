@@ -48,10 +48,15 @@ pub fn pieces_come_one_way()
         → IsPieces text other → found ≡ other }
 {}
 
-/// A bad text has one place of its fault, and one list of pieces before it.
+/// A text has one fault at most, in one place and with one cause.
+pub fn faults_have_one_cause()
+    ensures { (text : List ℕ) (f g : Fault) → IsFault text f → IsFault text g → f ≡ g }
+{}
+
+/// A bad text has one fault, and one list of pieces before it.
 pub fn faults_come_one_way()
     ensures { (text : List ℕ) (given other : List (Result Piece Fault)) (f : Faulty text given)
-        (g : Faulty text other) → (f.found ≡ g.found) × (f.fault.at ≡ g.fault.at) }
+        (g : Faulty text other) → (f.found ≡ g.found) × (f.fault ≡ g.fault) }
 {}
 
 /// The words and quotes of a text's pieces, cut where entries end, are its entries.

@@ -1,9 +1,7 @@
 //! Where parentheses that are left open were opened.
-ghost use Rattle.std.specs.Prelude.{◌≡◌, ◌↔◌, [], IsSome, IfSome};
-ghost use Rattle.dns_split.specs.Opening.{IsOpener};
-ghost use Rattle.dns_split.specs.Pieces.{IsWrong};
+ghost use Rattle.std.specs.Prelude.{◌≡◌, ◌↔◌, IsSome, IfSome};
+ghost use Rattle.dns_split.specs.Opening.{IsOpener, IsLeftOpen};
 ghost use Rattle.dns_split.specs.Run.{takes_feed};
-ghost use Rattle.dns_split.specs.declared.pieces.Wrong.TheVariants.{OpenParenthesis};
 
 use crate::reader::{Mode, step};
 
@@ -20,7 +18,7 @@ fn takes_feed(mode: Mode) -> bool
 /// It reads the whole text, so that [`crate::pieces::Pieces`] need not keep the place.
 pub fn outermost_open(text: &str) -> Option<usize>
     ensures place { IfSome result (IsOpener text.now) }
-    ensures left_open { IsSome result ↔ IsWrong text.now [] OpenParenthesis }
+    ensures left_open { IsSome result ↔ IsLeftOpen text.now }
 {
     let mut mode = Mode::Outside;
     let mut depth: usize = 0;

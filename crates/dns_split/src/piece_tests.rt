@@ -68,6 +68,9 @@ fn gives_a_fault_last(rt: HostRuntime) {
         ("\"a", 2, Wrong::OpenQuote(0)),
         ("é \"a\n", 5, Wrong::OpenQuote(3)),
         ("a\r", 2, Wrong::LoneReturn),
+        ("(a\r", 3, Wrong::LoneReturn),
+        ("(\"a", 3, Wrong::OpenQuote(1)),
+        ("(\\", 2, Wrong::BadEscape),
         ("\\3", 1, Wrong::BadEscape),
         ("\"\\26\"", 3, Wrong::BadEscape),
         ("a\\", 2, Wrong::BadEscape),
@@ -84,6 +87,7 @@ fn gives_a_fault_last(rt: HostRuntime) {
         ("(a)", None),
         ("a)", None),
         ("(\"x", None),
+        ("(x\r", Some(0)),
     ] {
         assert!(&rt; outermost_open(text) == opened);
     }

@@ -2,9 +2,8 @@ use Rattle.std.proofs.Common.{◌≡◌, ℕ, ◌+◌, ◌<◌, Bool, true, fals
 use Rattle.std.specs.Prelude.{encode_utf8, encode_utf8_all}
 use Rattle.std.proofs.lemmas.Str.{encodes-append, encodes_same}
 use lib.Utf8.{scalars}
-use Rattle.dns_split.specs.declared.pieces.Wrong.TheVariants.{OpenParenthesis}
 use Rattle.dns_split.specs.Run.{takes_feed}
-use Rattle.dns_split.specs.Pieces.{IsWrong}
+use Rattle.dns_split.specs.Opening.{IsLeftOpen}
 use Rattle.dns_split.proofs.Steps.{one_more, ended, step_depth}
 use Rattle.dns_split.proofs.Openers.{one_walked, first_opened, still_opened, opener, left_open, not_refused, not_open}
 use Rattle.dns_split.proofs.opening.outermost_open.Goals.{then-depth-eq0, else-depth-eq0, else-depth-gt0-via-then-depth-gt0+else-takes_feed, else-depth-gt0-via-else-depth-gt0}
@@ -58,7 +57,7 @@ returns-then-takes_feed-clause-left_open c =
     let u = c.utf8.text in
     let is : encode_utf8_all ys ≡ c.args.text.now = ended _ _ _ inv.text c.in-None.ensures.steps.0.0 in
     let ok : scalars ys ≡ true = ap scalars (sym (encodes_same u.0 ys (u.1.1 ∙ sym is))) ∙ u.1.0 in (
-      λ h. subst (λ l. IsWrong l [] OpenParenthesis) is (left_open ys c.loop-c.mode c.loop-c.depth ok inv.walked (omega (arith, c.if-depth-gt0.true))
+      λ h. subst IsLeftOpen is (left_open ys c.loop-c.mode c.loop-c.depth ok inv.walked (omega (arith, c.if-depth-gt0.true))
           (sym c.takes_feed.ensures ∙ c.if-takes_feed.true)),
       λ w. refl,
     )
@@ -72,4 +71,4 @@ returns-else-depth-gt0-clause-left_open c =
       | else-depth-gt0-via-then-depth-gt0+else-takes_feed w ↦ λ p f. both_ways (takes_feed c.loop-c.mode) f (sym w.takes_feed.ensures ∙ w.if-takes_feed.false)
       | else-depth-gt0-via-else-depth-gt0 w ↦ λ p f. absurd (omega (arith, p, w.if-depth-gt0.false))
     ] in
-    (λ h. cc, λ w. elim (not_open ys c.loop-c.mode c.loop-c.depth inv.walked shut (subst (λ l. IsWrong l [] OpenParenthesis) (sym is) w)) [ ])
+    (λ h. cc, λ w. elim (not_open ys c.loop-c.mode c.loop-c.depth inv.walked shut (subst IsLeftOpen (sym is) w)) [ ])
