@@ -1,4 +1,5 @@
 pub mod Agree
+pub mod Blocks
 pub mod Collecting
 pub mod Complete
 pub mod Content
@@ -7,6 +8,7 @@ pub mod FaultJoins
 pub mod Joins
 pub mod Lanes
 pub mod OctetJoins
+pub mod OctetsOnce
 pub mod OneCause
 pub mod Openers
 pub mod PieceFaults

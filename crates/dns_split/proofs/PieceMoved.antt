@@ -198,7 +198,7 @@ later_run n (c ∷ bs) m d s at b h = go (step m d c) refl (later_run n bs)
         ∙ ap (later n) (sym (run_step m d s at b c bs v e))
 
 -- from a place on, the same further on
-from_place : (rest : List ℕ) (at : ℕ) → run Outside 0 at at (first_blank rest) rest ≡ later at (run Outside 0 0 0 (first_blank rest) rest)
+pub from_place : (rest : List ℕ) (at : ℕ) → run Outside 0 at at (first_blank rest) rest ≡ later at (run Outside 0 0 0 (first_blank rest) rest)
 from_place rest at = ap (λ n. run Outside 0 n n (first_blank rest) rest) (omega arith) ∙ later_run at rest Outside 0 0 0 (first_blank rest) (omega arith)
 
 -- a text from a boundary on

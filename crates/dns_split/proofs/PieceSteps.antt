@@ -3,7 +3,7 @@ use Rattle.std.proofs.Common.{◌≡◌, ℕ, zero, suc, ◌+◌, ◌-◌, ◌*�
 use Rattle.std.specs.Prelude.{Option, Some, None, option_map, unwrap_or, Result, Ok}
 use Rattle.std.proofs.Common.{get_or}
 use Rattle.std.proofs.lemmas.List.{drop_more}
-use Rattle.std.proofs.lemmas.Bool.{eq-eqb}
+use Rattle.std.proofs.lemmas.Bool.{eq-eqb, eqb-true, and_parts}
 use Rattle.dns_split.specs.declared.reader.Mode.{Mode}
 use Rattle.dns_split.specs.declared.reader.Mode.TheVariants.{Outside, Quoted, Comment, Return, Escape, OneDigit, TwoDigits}
 use Rattle.dns_split.specs.declared.reader.Kind.{Kind}
@@ -154,19 +154,19 @@ turn_on text m d s at b c v h e g k f =
     turn text m d s at b c v h e g ∙ ap (λ o. before o (before (finished v.act s (at + 1) b) left)) k ∙ ap (λ o. before o left) f
     ∙ ap (λ x. run v.mode v.depth (start_after m v.mode v.act s at) (at + 1) x rest) (same_blank v.act s (at + 1) b rest f)
 
--- where a piece ends with an octet, the reader stands outside after it
+-- where a piece ends with an octet, the reader stands outside after it, and where an entry does, no parentheses are open
 abbrev is_outside : Mode → Bool
 is_outside Outside = true
 is_outside _ = false
 
-abbrev is_home : Mode → Act → Bool
-is_home m EndEntry = is_outside m
-is_home m FinishToken = is_outside m
-is_home m _ = true
+abbrev is_home : Mode → ℕ → Act → Bool
+is_home m d EndEntry = is_outside m && d == 0
+is_home m d FinishToken = is_outside m
+is_home m d _ = true
 
 abbrev comes_home : Option Move → Bool
 comes_home None = true
-comes_home (Some v) = is_home v.mode v.act
+comes_home (Some v) = is_home v.mode v.depth v.act
 
 either_home : (b : Bool) (x y : Option Move) → comes_home x ≡ true → comes_home y ≡ true → comes_home (cond b x y) ≡ true
 either_home true x y h k = h
@@ -239,9 +239,16 @@ outside_is (Escape q) h = cc
 outside_is (OneDigit q n) h = cc
 outside_is (TwoDigits q n) h = cc
 
-after_finished : (m n : Mode) (a : Act) (d s at : ℕ) (b : Bool) (bs : List ℕ) (p : Piece) → is_home n a ≡ true → finished a s (at + 1) b ≡ Some p
+-- where the reader stands after an entry's end
+pub entry_home : (m : Mode) (d c : ℕ) (v : Move) → step m d c ≡ Some v → v.act ≡ EndEntry → (v.mode ≡ Outside) × (v.depth ≡ 0)
+entry_home m d c v h e =
+    let home : is_home v.mode v.depth v.act ≡ true = ap comes_home (sym h) ∙ step_home m d c in
+    let p = and_parts (is_outside v.mode) (v.depth == 0) (ap (is_home v.mode v.depth) (sym e) ∙ home) in
+    (outside_is v.mode p.0, eqb-true v.depth 0 p.1)
+
+after_finished : (m n : Mode) (a : Act) (d s at : ℕ) (b : Bool) (bs : List ℕ) (p : Piece) → is_home n d a ≡ true → finished a s (at + 1) b ≡ Some p
     → run n d (start_after m n a s at) (at + 1) (blank_after a b bs) bs ≡ run Outside d (at + 1) (at + 1) (blank_after a b bs) bs
-after_finished m n EndEntry d s at b bs p h f = ap (λ o. run o d (at + 1) (at + 1) (first_blank bs) bs) (outside_is n h)
+after_finished m n EndEntry d s at b bs p h f = ap (λ o. run o d (at + 1) (at + 1) (first_blank bs) bs) (outside_is n (and_parts (is_outside n) (d == 0) h).0)
 after_finished m n FinishToken d s at b bs p h f = ap (λ o. run o d (at + 1) (at + 1) b bs) (outside_is n h)
 after_finished m n Add d s at b bs p h f = none_some f
 after_finished m n BeginToken d s at b bs p h f = none_some f
@@ -254,6 +261,6 @@ pub turn_finished : (text : List ℕ) (m : Mode) (d s at : ℕ) (b : Bool) (c : 
 turn_finished text m d s at b c p v h e g k f =
     let rest : List ℕ = drop (at + 1) text in
     let left : List (Result Piece Fault) = run v.mode v.depth (start_after m v.mode v.act s at) (at + 1) (blank_after v.act b rest) rest in
-    let home : is_home v.mode v.act ≡ true = ap comes_home (sym g) ∙ step_home m d c in
+    let home : is_home v.mode v.depth v.act ≡ true = ap comes_home (sym g) ∙ step_home m d c in
     turn text m d s at b c v h e g ∙ ap (λ o. before o (before (finished v.act s (at + 1) b) left)) k ∙ ap (λ o. before o left) f
     ∙ ap (λ l. Ok p ∷ l) (after_finished m v.mode v.act v.depth s at b rest p home f)

@@ -1,7 +1,7 @@
 -- The pieces of a zone text with their places: words, quoted texts, comments and ends of entries.
-use Rattle.std.specs.Prelude.{⊤, ◌≡◌, ◌≤◌, ℕ, zero, suc, ◌+◌, ◌-◌, ◌⊎◌, Bool, true, false, List, [], ◌∷◌, ◌++◌, length, take, drop, map, Option, Some, None, Result, Ok, Err}
+use Rattle.std.specs.Prelude.{⊤, ◌≡◌, ◌≤◌, ℕ, zero, suc, ◌+◌, ◌-◌, ◌⊎◌, Bool, true, false, nat_lt, List, [], ◌∷◌, ◌++◌, length, take, drop, map, Option, Some, None, Result, Ok, Err}
 use Rattle.std.specs.Prelude.{encode_utf8, encode_utf8_all}
-use Rattle.std.specs.List.{flat_map}
+use Rattle.std.specs.List.{flat_map, list_all}
 use lib.Utf8.{scalar}
 use Rattle.std.specs.Str.{IsCharBoundary}
 use Rattle.dns_split.specs.declared.pieces.Piece.{Piece}
@@ -152,6 +152,14 @@ ReadsOctets octets given = Reads (encode_utf8_all octets) (map (moved (place_of 
 -- what the octets from a place on give alone, with the places among all
 abbrev pub ReadsOctetsFrom : List ℕ → ℕ → List (Result Piece Fault) → Type 0
 ReadsOctetsFrom octets at given = (alone : List (Result Piece Fault)) × ReadsOctets (drop at octets) alone × (given ≡ later at alone)
+
+-- what is given of octets
+abbrev pub IsGiven : List ℕ → List (Result Piece Fault) → Type 0
+IsGiven octets given = ReadsOctets octets given × EachWithin (length octets) given
+
+-- numbers below 256
+abbrev pub AreOctets : List ℕ → Type 0
+AreOctets octets = list_all (λ c. nat_lt c 256) octets ≡ true
 
 -- octets have these pieces
 abbrev pub IsOctetPieces : List ℕ → List Piece → Type 0

@@ -1,15 +1,16 @@
 //! Laws on splitting.
 //! Each function's contract is the law; calling one does nothing.
 ghost use Rattle.std.specs.Prelude.{◌≡◌, ◌<◌, ◌≤◌, ◌+◌, ◌++◌, ◌∷◌, ◌↔◌, ◌⊎◌, [], List, Bool};
-ghost use Rattle.std.specs.Prelude.{Result, ℕ, drop, encode_utf8_all, length, map};
+ghost use Rattle.std.specs.Prelude.{Result, Ok, Err, ℕ, drop, encode_utf8_all, length, map, take};
 ghost use Rattle.std.specs.List.{AllByRecursion};
 ghost use Rattle.std.specs.Str.{IsUtf8};
 ghost use Rattle.dns_split.specs.Splitting.{Splits, Entries};
 ghost use Rattle.dns_split.specs.Lexeme.{Line, bytes};
 ghost use Rattle.dns_split.specs.Viable.{IsBad, IsViable};
 ghost use Rattle.dns_split.specs.Token.{IsToken};
-ghost use Rattle.dns_split.specs.Pieces.{Faulty, IsFault, IsOctetPieces, IsPieces, IsSpelled};
-ghost use Rattle.dns_split.specs.Pieces.{Reads, cut, end_at, moved_fault, moved_piece, place_of};
+ghost use Rattle.dns_split.specs.Pieces.{AreOctets, Faulty, IsFault, IsGiven, IsOctetPieces};
+ghost use Rattle.dns_split.specs.Pieces.{IsPieces, IsSpelled, Reads, cut, end_at, later};
+ghost use Rattle.dns_split.specs.Pieces.{moved_fault, moved_piece, place_of};
 ghost use Rattle.dns_split.specs.declared.pieces.Piece.{Piece};
 ghost use Rattle.dns_split.specs.declared.pieces.Fault.{Fault};
 
@@ -57,6 +58,39 @@ pub fn faults_have_one_cause()
 pub fn faults_come_one_way()
     ensures { (text : List ℕ) (given other : List (Result Piece Fault)) (f : Faulty text given)
         (g : Faulty text other) → (f.found ≡ g.found) × (f.fault ≡ g.fault) }
+{}
+
+/// A text is read in one way: it has one list of pieces, or one fault after one list of them.
+pub fn texts_are_read_one_way()
+    ensures { (text : List ℕ) (given other : List (Result Piece Fault)) → Reads text given
+        → Reads text other → given ≡ other }
+{}
+
+/// And so are octets.
+pub fn octets_are_read_one_way()
+    ensures { (octets : List ℕ) (given other : List (Result Piece Fault)) → IsGiven octets given
+        → IsGiven octets other → given ≡ other }
+{}
+
+/// Octets up to the end of an entry that is not the last give the same whatever follows: then
+/// comes what that gives alone, further on.
+///
+/// So octets can be read in blocks: the entries of a block that have ended are given, and what
+/// is left of the block is read with the octets after it.
+pub fn entries_stay()
+    ensures { (octets rest : List ℕ) (found : List Piece) (at : ℕ) (blank : Bool)
+        (left alone : List (Result Piece Fault)) → AreOctets octets → AreOctets rest
+        → IsGiven octets (map Ok found ++ Ok (end_at at blank) ∷ left) → 0 < length left
+        → IsGiven rest alone
+        → IsGiven (take at octets ++ rest)
+        (map Ok found ++ Ok (end_at at blank) ∷ later at alone) }
+{}
+
+/// A fault before the end of octets stays whatever follows.
+pub fn faults_stay()
+    ensures { (octets more : List ℕ) (found : List Piece) (fault : Fault) → AreOctets octets
+        → AreOctets more → IsGiven octets (map Ok found ++ Err fault ∷ [])
+        → fault.at < length octets → IsGiven (octets ++ more) (map Ok found ++ Err fault ∷ []) }
 {}
 
 /// The words and quotes of a text's pieces, cut where entries end, are its entries.

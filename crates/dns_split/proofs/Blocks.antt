@@ -1,0 +1,285 @@
+-- What octets give that more octets follow.
+use Rattle.std.proofs.Common.{◌≡◌, ℕ, suc, ◌+◌, ◌<◌, Bool, true, false, cond, ◌==◌, nat_lt, List, [], ◌∷◌, ◌++◌, length, take, drop, refl, sym, ap, ◌∙◌, subst, arith, append-nil}
+use Rattle.std.proofs.Common.{length-append}
+use Rattle.std.specs.Prelude.{⊤, Option, Some, None, map, Result, Ok, Err}
+use Rattle.std.proofs.lemmas.Bool.{and_parts, and_from}
+use Rattle.std.proofs.lemmas.List.{take-append-drop}
+use Rattle.std.proofs.Math.Nat.{zero-add}
+use Rattle.std.proofs.Math.Seq.{take-append_seam}
+use Rattle.dns_split.specs.declared.reader.Mode.{Mode}
+use Rattle.dns_split.specs.declared.reader.Mode.TheVariants.{Outside, Quoted, Comment, Return, Escape, OneDigit, TwoDigits}
+use Rattle.dns_split.specs.declared.reader.Act.{Act}
+use Rattle.dns_split.specs.declared.reader.Act.TheVariants.{Add, BeginToken, EndToken, EndEntry, FinishToken}
+use Rattle.dns_split.specs.declared.reader.Move.{Move}
+use Rattle.dns_split.specs.declared.pieces.Piece.{Piece}
+use Rattle.dns_split.specs.declared.pieces.Piece.TheVariants.{End as EndAt}
+use Rattle.dns_split.specs.declared.pieces.Fault.{Fault}
+use Rattle.dns_split.specs.Reader.{step, may_end}
+use Rattle.dns_split.specs.Pieces.{word_at, end_at, later, IsGiven, AreOctets}
+use Rattle.dns_split.specs.Run.{open_piece, goes_on, before, closed, finished, start_after, first_blank, blank_after, fault, wrong_at, wrong_at_end, run}
+use Rattle.dns_split.proofs.Complete.{Some_same}
+use Rattle.dns_split.proofs.PieceSteps.{run_step, run_stop, entry_home}
+use Rattle.dns_split.proofs.PieceGiven.{tail_of, first_of}
+use Rattle.dns_split.proofs.PieceMoved.{from_place}
+use Rattle.dns_split.proofs.OctetsOnce.{run_given, given_run}
+
+-- the blank flag is known where an octet follows
+blank_front : (a : Act) (b : Bool) (front y z : List ℕ) → 0 < length front → blank_after a b (front ++ y) ≡ blank_after a b (front ++ z)
+blank_front a b [] y z h = absurd (omega arith)
+blank_front EndEntry b (c ∷ front) y z h = refl
+blank_front Add b (c ∷ front) y z h = refl
+blank_front BeginToken b (c ∷ front) y z h = refl
+blank_front EndToken b (c ∷ front) y z h = refl
+blank_front FinishToken b (c ∷ front) y z h = refl
+
+-- a fault before the end
+abbrev pub first_fault : List (Result Piece Fault) → Option Fault
+first_fault [] = None
+first_fault (Ok p ∷ given) = first_fault given
+first_fault (Err f ∷ given) = Some f
+
+fault_before : (o : Option Piece) (given : List (Result Piece Fault)) → first_fault (before o given) ≡ first_fault given
+fault_before None given = refl
+fault_before (Some p) given = refl
+
+at_end : (m : Mode) (d s at : ℕ) (b : Bool) (f : Fault) → first_fault (run m d s at b []) ≡ Some f → f.at ≡ at
+at_end m d s at b f h = go (may_end m d) h
+  where
+    go : (t : Bool) → first_fault (cond t (before (open_piece m s at) (Ok (end_at at b) ∷ [])) (fault at (wrong_at_end m s))) ≡ Some f → f.at ≡ at
+    go true k = let none : None ≡ Some f = sym (fault_before (open_piece m s at) (Ok (end_at at b) ∷ [])) ∙ k in cc
+    go false k = ap (λ (x : Fault). x.at) (sym (Some_same k))
+
+abbrev Stays : List ℕ → List ℕ → Type 0
+Stays bs y = (m : Mode) (d s at : ℕ) (b : Bool) (f : Fault) → first_fault (run m d s at b bs) ≡ Some f → f.at < at + length bs → run m d s at b (bs ++ y) ≡ run m d s at b bs
+
+stays_on : (bs y : List ℕ) (m : Mode) (d s at : ℕ) (b : Bool) (c : ℕ) (f : Fault) (v : Move) → step m d c ≡ Some v → Stays bs y → first_fault (run m d s at b (c ∷ bs)) ≡ Some f
+    → f.at < at + suc (length bs) → (w : List ℕ) → w ≡ bs → run m d s at b (c ∷ (bs ++ y)) ≡ run m d s at b (c ∷ bs)
+stays_on bs y m d s at b c f v e ih h l w k =
+    let o : Option Piece = closed m v.mode v.act s at in
+    let q : Option Piece = finished v.act s (at + 1) b in
+    let t : ℕ = start_after m v.mode v.act s at in
+    let left : List (Result Piece Fault) = run v.mode v.depth t (at + 1) (blank_after v.act b bs) bs in
+    let here : first_fault left ≡ Some f = sym (fault_before q left) ∙ sym (fault_before o (before q left)) ∙ ap first_fault (sym (run_step m d s at b c bs v e)) ∙ h in
+    on w k here
+  where
+    on : (w : List ℕ) → w ≡ bs → first_fault (run v.mode v.depth (start_after m v.mode v.act s at) (at + 1) (blank_after v.act b bs) bs) ≡ Some f
+        → run m d s at b (c ∷ (bs ++ y)) ≡ run m d s at b (c ∷ bs)
+    on [] k here =
+        let t : ℕ = start_after m v.mode v.act s at in
+        absurd (omega (arith, l, ap length k, at_end v.mode v.depth t (at + 1) (blank_after v.act b []) f (ap (λ w. first_fault (run v.mode v.depth t (at + 1) (blank_after v.act b w) w)) k ∙ here)))
+    on (x ∷ w) k here =
+        let o : Option Piece = closed m v.mode v.act s at in
+        let q : Option Piece = finished v.act s (at + 1) b in
+        let t : ℕ = start_after m v.mode v.act s at in
+        let some : 0 < length bs = omega (arith, ap length k) in
+        let same : blank_after v.act b (bs ++ y) ≡ blank_after v.act b bs = blank_front v.act b bs y [] some ∙ ap (blank_after v.act b) (append-nil bs) in
+        run_step m d s at b c (bs ++ y) v e
+        ∙ ap (λ z. before o (before q (run v.mode v.depth t (at + 1) z (bs ++ y)))) same
+        ∙ ap (λ g. before o (before q g)) (ih v.mode v.depth t (at + 1) (blank_after v.act b bs) f here (omega (arith, l)))
+        ∙ sym (run_step m d s at b c bs v e)
+
+stays : (bs y : List ℕ) → Stays bs y
+stays [] y m d s at b f h l = absurd (omega (arith, at_end m d s at b f h, l))
+stays (c ∷ bs) y m d s at b f h l = go (step m d c) refl (stays bs y)
+  where
+    go : (o : Option Move) → step m d c ≡ o → Stays bs y → run m d s at b (c ∷ (bs ++ y)) ≡ run m d s at b (c ∷ bs)
+    go None e ih = run_stop m d s at b c (bs ++ y) e ∙ sym (run_stop m d s at b c bs e)
+    go (Some v) e ih = stays_on bs y m d s at b c f v e ih h l bs refl
+
+-- a piece that is no entry's end
+abbrev NoEnd : Option Piece → Type 0
+NoEnd None = ⊤
+NoEnd (Some (EndAt p)) = ⊥
+NoEnd (Some _) = ⊤
+
+word_no_end : (t : Bool) (s at : ℕ) → NoEnd (cond t None (Some (word_at s at)))
+word_no_end true s at = tt
+word_no_end false s at = tt
+
+open_no_end : (m : Mode) (s at : ℕ) → NoEnd (open_piece m s at)
+open_no_end Comment s at = tt
+open_no_end Outside s at = word_no_end (s == at) s at
+open_no_end Quoted s at = word_no_end (s == at) s at
+open_no_end Return s at = word_no_end (s == at) s at
+open_no_end (Escape q) s at = word_no_end (s == at) s at
+open_no_end (OneDigit q n) s at = word_no_end (s == at) s at
+open_no_end (TwoDigits q n) s at = word_no_end (s == at) s at
+
+closed_no_end : (t : Bool) (m : Mode) (s at : ℕ) → NoEnd (cond t None (open_piece m s at))
+closed_no_end true m s at = tt
+closed_no_end false m s at = open_no_end m s at
+
+-- the end comes after such a piece
+record Skipped (o : Option Piece) (given : List (Result Piece Fault)) (found : List Piece) (i : ℕ) (x : Bool) (left : List (Result Piece Fault)) : Type 0 where
+  pub more : List Piece
+  pub is : given ≡ map Ok more ++ Ok (end_at i x) ∷ left
+  pub back : (k : List (Result Piece Fault)) → before o (map Ok more ++ k) ≡ map Ok found ++ k
+
+skip : (o : Option Piece) (given : List (Result Piece Fault)) (found : List Piece) (i : ℕ) (x : Bool) (left : List (Result Piece Fault)) → NoEnd o
+    → before o given ≡ map Ok found ++ Ok (end_at i x) ∷ left → Skipped o given found i x left
+skip None given found i x left n e = record { more = found; is = e; back = λ k. refl }
+skip (Some p) given [] i x left n e = elim (subst (λ q. NoEnd (Some q)) (ap (first_of p) e) n) [ ]
+skip (Some p) given (q ∷ found) i x left n e = record { more = found; is = ap tail_of e; back = λ k. ap (λ z. Ok z ∷ (map Ok found ++ k)) (ap (first_of p) e) }
+
+-- octets up to the end of an entry, after which the reader stands as at the beginning
+record Passed (m : Mode) (d s at : ℕ) (b : Bool) (bs : List ℕ) (found : List Piece) (i : ℕ) (x : Bool) : Type 0 where
+  pub front : List ℕ
+  pub rest : List ℕ
+  pub is : bs ≡ front ++ rest
+  pub some : 0 < length front
+  pub place : i ≡ at + length front
+  pub goes : (y : List ℕ) → run m d s at b (front ++ y) ≡ map Ok found ++ Ok (end_at i x) ∷ run Outside 0 i i (first_blank y) y
+
+abbrev Passes : List ℕ → Type 0
+Passes bs = (m : Mode) (d s at : ℕ) (b : Bool) (found : List Piece) (i : ℕ) (x : Bool) (left : List (Result Piece Fault))
+    → run m d s at b bs ≡ map Ok found ++ Ok (end_at i x) ∷ left → 0 < length left → Passed m d s at b bs found i x
+
+-- one thing is given, or two
+one_given : (g : Result Piece Fault) (found : List Piece) (p : Piece) (left : List (Result Piece Fault)) → g ∷ [] ≡ map Ok found ++ Ok p ∷ left → 0 < length left → ⊥
+one_given g found p left e h = absurd (omega (arith, ap length e, length-append (map Ok found) (Ok p ∷ left), h))
+
+last_given : (o : Option Piece) (g : Result Piece Fault) (found : List Piece) (i : ℕ) (x : Bool) (left : List (Result Piece Fault)) → NoEnd o
+    → before o (g ∷ []) ≡ map Ok found ++ Ok (end_at i x) ∷ left → 0 < length left → ⊥
+last_given o g found i x left n e h = let k = skip o (g ∷ []) found i x left n e in one_given g k.more (end_at i x) left k.is h
+
+none_passed : Passes []
+none_passed m d s at b found i x left e h = elim (go (may_end m d) e) [ ]
+  where
+    go : (t : Bool) → cond t (before (open_piece m s at) (Ok (end_at at b) ∷ [])) (fault at (wrong_at_end m s)) ≡ map Ok found ++ Ok (end_at i x) ∷ left → ⊥
+    go true k = last_given (open_piece m s at) (Ok (end_at at b)) found i x left (open_no_end m s at) k h
+    go false k = one_given (Err (record { at = at; wrong = wrong_at_end m s })) found (end_at i x) left k h
+
+abbrev blank_of : Bool → Piece → Bool
+blank_of b (EndAt p) = p.begins_blank
+blank_of b _ = b
+
+abbrev place_in : ℕ → Piece → ℕ
+place_in n (EndAt p) = p.at
+place_in n _ = n
+
+module _ (m : Mode) (d s at : ℕ) (b : Bool) (c : ℕ) (bs : List ℕ) (v : Move) (e : step m d c ≡ Some v) where
+  -- the octet ends the entry
+  ends_here : (found : List Piece) (i : ℕ) (x : Bool) → v.act ≡ EndEntry → i ≡ at + 1 → x ≡ b
+      → ((k : List (Result Piece Fault)) → before (closed m v.mode v.act s at) (map Ok [] ++ k) ≡ map Ok found ++ k) → Passed m d s at b (c ∷ bs) found i x
+  ends_here found i x a i_is x_is back = record {
+    front = c ∷ [];
+    rest = bs;
+    is = refl;
+    some = omega arith;
+    place = i_is;
+    goes = λ y.
+        let home = entry_home m d c v e a in
+        run_step m d s at b c y v e ∙ ap (λ w. before (closed m v.mode v.act s at) (before (finished w s (at + 1) b) (run v.mode v.depth (start_after m v.mode w s at) (at + 1) (blank_after w b y) y))) a
+        ∙ back (Ok (end_at (at + 1) b) ∷ run v.mode v.depth (at + 1) (at + 1) (first_blank y) y)
+        ∙ ap (λ z. map Ok found ++ Ok (end_at (at + 1) b) ∷ run z v.depth (at + 1) (at + 1) (first_blank y) y) home.0
+        ∙ ap (λ z. map Ok found ++ Ok (end_at (at + 1) b) ∷ run Outside z (at + 1) (at + 1) (first_blank y) y) home.1
+        ∙ ap (λ z. map Ok found ++ Ok (end_at (at + 1) z) ∷ run Outside 0 (at + 1) (at + 1) (first_blank y) y) (sym x_is)
+        ∙ ap (λ z. map Ok found ++ Ok (end_at z x) ∷ run Outside 0 z z (first_blank y) y) (sym i_is);
+  }
+
+  -- the entry ends later
+  ends_later : (found more : List Piece) (i : ℕ) (x : Bool) → Passed v.mode v.depth (start_after m v.mode v.act s at) (at + 1) (blank_after v.act b bs) bs more i x
+      → ((k : List (Result Piece Fault)) → before (closed m v.mode v.act s at) (before (finished v.act s (at + 1) b) (map Ok more ++ k)) ≡ map Ok found ++ k) → Passed m d s at b (c ∷ bs) found i x
+  ends_later found more i x p back = record {
+    front = c ∷ p.front;
+    rest = p.rest;
+    is = ap (λ l. c ∷ l) p.is;
+    some = omega arith;
+    place = omega (arith, p.place);
+    goes = λ y.
+        let same : blank_after v.act b (p.front ++ y) ≡ blank_after v.act b bs = blank_front v.act b p.front y p.rest p.some ∙ ap (blank_after v.act b) (sym p.is) in
+        run_step m d s at b c (p.front ++ y) v e
+        ∙ ap (λ z. before (closed m v.mode v.act s at) (before (finished v.act s (at + 1) b) (run v.mode v.depth (start_after m v.mode v.act s at) (at + 1) z (p.front ++ y)))) same
+        ∙ ap (λ l. before (closed m v.mode v.act s at) (before (finished v.act s (at + 1) b) l)) (p.goes y)
+        ∙ back (Ok (end_at i x) ∷ run Outside 0 i i (first_blank y) y);
+  }
+
+  abbrev Back : List Piece → List Piece → Type 0
+  Back more found = (k : List (Result Piece Fault)) → before (closed m v.mode v.act s at) (map Ok more ++ k) ≡ map Ok found ++ k
+
+  abbrev tail : List (Result Piece Fault)
+  tail = run v.mode v.depth (start_after m v.mode v.act s at) (at + 1) (blank_after v.act b bs) bs
+
+  no_end : (found more : List Piece) (i : ℕ) (x : Bool) (left : List (Result Piece Fault)) → Passes bs → 0 < length left → NoEnd (finished v.act s (at + 1) b)
+      → before (finished v.act s (at + 1) b) tail ≡ map Ok more ++ Ok (end_at i x) ∷ left → Back more found → Passed m d s at b (c ∷ bs) found i x
+  no_end found more i x left ih h n e back =
+      let k = skip (finished v.act s (at + 1) b) tail more i x left n e in
+      ends_later found k.more i x (ih v.mode v.depth _ (at + 1) _ k.more i x left k.is h) (λ l. ap (before (closed m v.mode v.act s at)) (k.back l) ∙ back l)
+
+  an_end : (found more : List Piece) (i : ℕ) (x : Bool) (left : List (Result Piece Fault)) → Passes bs → 0 < length left → v.act ≡ EndEntry
+      → Ok (end_at (at + 1) b) ∷ tail ≡ map Ok more ++ Ok (end_at i x) ∷ left → Back more found → Passed m d s at b (c ∷ bs) found i x
+  an_end found [] i x left ih h a e back =
+      let same : end_at i x ≡ end_at (at + 1) b = ap (first_of (end_at i x)) (sym e) in
+      ends_here found i x a (ap (place_in 0) same) (ap (blank_of b) same) back
+  an_end found (q ∷ more) i x left ih h a e back =
+      let same : end_at (at + 1) b ≡ q = ap (first_of q) e in
+      let o : Option Piece = closed m v.mode v.act s at in
+      ends_later found more i x (ih v.mode v.depth _ (at + 1) _ more i x left (ap tail_of e) h)
+      (λ k. ap (λ w. before o (before (finished w s (at + 1) b) (map Ok more ++ k))) a ∙ ap (λ z. before o (Ok z ∷ (map Ok more ++ k))) same ∙ back k)
+
+  by_act : (a : Act) → v.act ≡ a → (found more : List Piece) (i : ℕ) (x : Bool) (left : List (Result Piece Fault)) → Passes bs → 0 < length left
+      → before (finished v.act s (at + 1) b) tail ≡ map Ok more ++ Ok (end_at i x) ∷ left → Back more found → Passed m d s at b (c ∷ bs) found i x
+  by_act EndEntry a found more i x left ih h e back = an_end found more i x left ih h a (ap (λ w. before (finished w s (at + 1) b) tail) (sym a) ∙ e) back
+  by_act FinishToken a found more i x left ih h e back = no_end found more i x left ih h (subst (λ w. NoEnd (finished w s (at + 1) b)) (sym a) tt) e back
+  by_act EndToken a found more i x left ih h e back = no_end found more i x left ih h (subst (λ w. NoEnd (finished w s (at + 1) b)) (sym a) tt) e back
+  by_act BeginToken a found more i x left ih h e back = no_end found more i x left ih h (subst (λ w. NoEnd (finished w s (at + 1) b)) (sym a) tt) e back
+  by_act Add a found more i x left ih h e back = no_end found more i x left ih h (subst (λ w. NoEnd (finished w s (at + 1) b)) (sym a) tt) e back
+
+passed : (bs : List ℕ) → Passes bs
+passed [] m d s at b found i x left e h = none_passed m d s at b found i x left e h
+passed (c ∷ bs) m d s at b found i x left e h = go (step m d c) refl (passed bs)
+  where
+    go : (o : Option Move) → step m d c ≡ o → Passes bs → Passed m d s at b (c ∷ bs) found i x
+    go None g ih = elim (one_given (Err (record { at = at; wrong = wrong_at m s })) found (end_at i x) left (sym (run_stop m d s at b c bs g) ∙ e) h) [ ]
+    go (Some v) g ih =
+        let k = skip (closed m v.mode v.act s at) _ found i x left (closed_no_end (goes_on m v.mode v.act) m s at) (sym (run_step m d s at b c bs v g) ∙ e) in
+        by_act m d s at b c bs v g v.act refl found k.more i x left ih h k.is k.back
+
+abbrev Read : List ℕ → List (Result Piece Fault)
+Read octets = run Outside 0 0 0 (first_blank octets) octets
+
+first_front : (front y z : List ℕ) → 0 < length front → first_blank (front ++ y) ≡ first_blank (front ++ z)
+first_front front y z h = blank_front EndEntry false front y z h
+
+-- what stands before the end of an entry is read alike, whatever follows
+front_read : (octets y : List ℕ) (found : List Piece) (i : ℕ) (x : Bool) (left : List (Result Piece Fault)) → Read octets ≡ map Ok found ++ Ok (end_at i x) ∷ left → 0 < length left
+    → Read (take i octets ++ y) ≡ map Ok found ++ Ok (end_at i x) ∷ later i (Read y)
+front_read octets y found i x left e h =
+    let p = passed octets Outside 0 0 0 (first_blank octets) found i x left e h in
+    let place : i ≡ length p.front = p.place ∙ zero-add (length p.front) in
+    let front : take i octets ≡ p.front = ap (take i) p.is ∙ ap (λ n. take n (p.front ++ p.rest)) place ∙ take-append_seam p.front p.rest in
+    let blank : first_blank (p.front ++ y) ≡ first_blank octets = first_front p.front y p.rest p.some ∙ ap first_blank (sym p.is) in
+    ap (λ l. Read (l ++ y)) front ∙ ap (λ t. run Outside 0 0 0 t (p.front ++ y)) blank ∙ p.goes y
+    ∙ ap (λ l. map Ok found ++ Ok (end_at i x) ∷ l) (from_place y i)
+
+both_octets : (xs ys : List ℕ) → AreOctets xs → AreOctets ys → AreOctets (xs ++ ys)
+both_octets [] ys h k = k
+both_octets (x ∷ xs) ys h k = let p = and_parts (nat_lt x 256) _ h in and_from _ _ p.0 (both_octets xs ys p.1 k)
+
+front_octets : (xs ys : List ℕ) → AreOctets (xs ++ ys) → AreOctets xs
+front_octets [] ys h = refl
+front_octets (x ∷ xs) ys h = let p = and_parts (nat_lt x 256) _ h in and_from _ _ p.0 (front_octets xs ys p.1)
+
+pub entries_stay : (octets rest : List ℕ) (found : List Piece) (at : ℕ) (blank : Bool) (left alone : List (Result Piece Fault)) → AreOctets octets → AreOctets rest
+    → IsGiven octets (map Ok found ++ Ok (end_at at blank) ∷ left) → 0 < length left → IsGiven rest alone
+    → IsGiven (take at octets ++ rest) (map Ok found ++ Ok (end_at at blank) ∷ later at alone)
+entries_stay octets rest found at blank left alone o r given some then =
+    let is = given_run octets (map Ok found ++ Ok (end_at at blank) ∷ left) o given in
+    let all : AreOctets (take at octets ++ rest) = both_octets (take at octets) rest (front_octets (take at octets) (drop at octets) (subst AreOctets (sym (take-append-drop at octets)) o)) r in
+    subst (IsGiven (take at octets ++ rest)) (front_read octets rest found at blank left (sym is) some ∙ ap (λ l. map Ok found ++ Ok (end_at at blank) ∷ later at l) (sym (given_run rest alone r then)))
+    (run_given (take at octets ++ rest) all)
+
+-- and so is a fault before the end
+last_fault : (found : List Piece) (f : Fault) → first_fault (map Ok found ++ Err f ∷ []) ≡ Some f
+last_fault [] f = refl
+last_fault (p ∷ found) f = last_fault found f
+
+pub faults_stay : (octets more : List ℕ) (found : List Piece) (f : Fault) → AreOctets octets → AreOctets more → IsGiven octets (map Ok found ++ Err f ∷ []) → f.at < length octets
+    → IsGiven (octets ++ more) (map Ok found ++ Err f ∷ [])
+faults_stay octets more found f o r given before =
+    let is = given_run octets (map Ok found ++ Err f ∷ []) o given in
+    let here : first_fault (Read octets) ≡ Some f = ap first_fault (sym is) ∙ last_fault found f in
+    let same : first_blank (octets ++ more) ≡ first_blank octets = first_front octets more [] (omega (arith, before)) ∙ ap first_blank (append-nil octets) in
+    subst (IsGiven (octets ++ more))
+    (ap (λ t. run Outside 0 0 0 t (octets ++ more)) same ∙ stays octets more Outside 0 0 0 (first_blank octets) f here (omega (arith, before)) ∙ sym is)
+    (run_given (octets ++ more) (both_octets octets more o r))
