@@ -3,6 +3,7 @@ pub mod Blocks
 pub mod Collecting
 pub mod Complete
 pub mod Content
+pub mod Early
 pub mod Entries
 pub mod FaultJoins
 pub mod Joins

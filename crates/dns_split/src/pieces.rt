@@ -1,9 +1,11 @@
 //! The pieces of a zone text, one by one, with their places and without memory.
 ghost use Rattle.std.specs.Prelude.{◌≡◌, ◌+◌, ◌<◌, ◌^◌, ◌≤◌, IfSome, IsTrue, length, drop};
-ghost use Rattle.std.specs.Prelude.{slice_index};
+ghost use Rattle.std.specs.Prelude.{slice_index, encode_utf8_all, ◌↔◌};
 ghost use Rattle.std.specs.Str.{IsCharBoundary};
 ghost use Rattle.dns_split.specs.Pieces.{Reads, EachFits, ReadsOctets, ReadsOctetsFrom, EachWithin};
 ghost use Rattle.dns_split.specs.Pieces.{IsPart, between, ReadsFrom, EachIsPart, next_blank};
+ghost use Rattle.dns_split.specs.Pieces.{IsFault, moved_fault, place_of};
+ghost use Rattle.dns_split.specs.Viable.{IsViable};
 ghost use Rattle.dns_split.specs.Run.{open_piece, goes_on, closed, finished, start_after};
 ghost use Rattle.dns_split.specs.Run.{first_blank, blank_after, wrong_at, wrong_at_end, run};
 ghost use Rattle.dns_split.specs.Run.{EndsWord, EndsComment, Gives, Steps};
@@ -80,6 +82,22 @@ pub struct Fault {
     /// The octets of the longest beginning that can still be completed.
     pub at: usize,
     pub wrong: Wrong,
+}
+
+impl Fault {
+    /// Whether the text stops too early: it can still be completed, and the fault stands at its
+    /// end. Octets that follow may go on past such a fault, and past no other.
+    ///
+    /// The fault is that of the octets as a text, or as octets of which each is a character.
+    pub fn needs_more(self, octets: &[u8]) -> bool
+        ensures place { IsTrue result ↔ (length octets.now ≤ self.at) }
+        ensures text { IsFault octets.now self → (IsTrue result ↔ IsViable octets.now) }
+        ensures octets { IsFault (encode_utf8_all octets.now)
+            (moved_fault (place_of octets.now) self)
+            → (IsTrue result ↔ IsViable (encode_utf8_all octets.now)) }
+    {
+        self.at >= octets.len()
+    }
 }
 
 /// What is wrong before an octet that can't follow.
