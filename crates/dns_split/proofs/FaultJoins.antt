@@ -24,7 +24,7 @@ use Rattle.dns_split.specs.declared.pieces.Wrong.TheVariants.{Closing as Late, O
 use Rattle.dns_split.specs.Lexeme.{Lexeme, Blank, Line, Open, Close, Note, Word, Quote, characters, bytes, is_lexeme, is_note_char, stands_in_quote}
 use Rattle.dns_split.specs.Splitting.{Splits, Entries, may_precede, are_lexemes}
 use Rattle.dns_split.specs.Viable.{IsViable, IsBad}
-use Rattle.dns_split.specs.Opening.{IsLeftOpen}
+use Rattle.dns_split.specs.Opening.{IsLeftOpen, IsOpener}
 use Rattle.dns_split.specs.Reader.{step, after, with_open, read, may_end}
 use Rattle.dns_split.specs.Pieces.{quote_at, end_at, IsPieces, EndsQuote, IsWrong, IsFault, moved_wrong, moved_fault}
 use Rattle.dns_split.proofs.Complete.{allowed, bytes_all, splits_read}
@@ -244,4 +244,22 @@ fault_joined x y r e f s h =
       wrong = subst (λ t. IsWrong t (drop (k + f.at) all) w) (sym (take_joined x l y f.at))
           (subst (λ t. IsWrong (x ++ (l ++ take f.at y)) t w) (sym (drop_joined x l y f.at)) (wrong_joined x (take f.at y) (drop f.at y) r e f.wrong s h.wrong));
       boundary = IsCharBoundary-from_rest all k f.at (omega (arith, length-append x (l ++ y), length-append l y)) (subst (λ t. IsCharBoundary t f.at) (sym left) h.boundary);
+    }
+
+-- and left open by the same parenthesis
+pub opener_joined : (x y : List ℕ) (r : Bool) (e : Entries) (i : ℕ) → Splits x e → IsOpener y i → IsOpener (x ++ (bytes (Line r) ++ y)) (length x + length (bytes (Line r)) + i)
+opener_joined x y r e i s o =
+    let l : List ℕ = bytes (Line r) in
+    let k : ℕ = length x + length l in
+    let room : length (x ++ (l ++ y)) ≡ k + length y = omega (arith, length-append x (l ++ y), length-append l y) in
+    record {
+      inside = o.inside;
+      opens = drop_joined x l y i ∙ o.opens;
+      found = e ++ o.found;
+      splits = subst (λ t. Splits t (e ++ o.found)) (sym (take_joined x l y i)) (split_joined x (take i y) r e o.found s o.splits);
+      never_closed = λ j more fits g t.
+          let n : ℕ = j - k in
+          let same : j ≡ k + n = omega arith in
+          let f = behind_line x (take n y) r e g s (subst (λ z. Splits z g) (ap (λ z. take z (x ++ (l ++ y))) same ∙ take_joined x l y n) t) in
+          o.never_closed n (omega arith) (omega (arith, room)) f.0 f.1;
     }

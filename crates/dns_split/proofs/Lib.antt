@@ -9,6 +9,7 @@ pub mod FaultJoins
 pub mod Joins
 pub mod Lanes
 pub mod OctetJoins
+pub mod OctetOpeners
 pub mod OctetsOnce
 pub mod OneCause
 pub mod Openers

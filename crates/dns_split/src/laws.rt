@@ -7,6 +7,7 @@ ghost use Rattle.std.specs.Str.{IsUtf8};
 ghost use Rattle.dns_split.specs.Splitting.{Splits, Entries};
 ghost use Rattle.dns_split.specs.Lexeme.{Line, bytes};
 ghost use Rattle.dns_split.specs.Viable.{IsBad, IsViable};
+ghost use Rattle.dns_split.specs.Opening.{IsOpener};
 ghost use Rattle.dns_split.specs.Token.{IsToken};
 ghost use Rattle.dns_split.specs.Pieces.{AreOctets, Faulty, IsFault, IsGiven, IsOctetPieces};
 ghost use Rattle.dns_split.specs.Pieces.{IsPieces, IsSpelled, Reads, cut, end_at, later};
@@ -124,6 +125,12 @@ pub fn faults_join()
         → IsFault y fault
         → IsFault (x ++ (bytes (Line has_cr) ++ y))
         (moved_fault (λ i. length x + length (bytes (Line has_cr)) + i) fault) }
+{}
+
+/// And so is the parenthesis that is left open.
+pub fn openers_join()
+    ensures { (x y : List ℕ) (has_cr : Bool) (e : Entries) (at : ℕ) → Splits x e → IsOpener y at
+        → IsOpener (x ++ (bytes (Line has_cr) ++ y)) (length x + length (bytes (Line has_cr)) + at) }
 {}
 
 /// A text can be cut at the end of any of its entries but the last.

@@ -5,14 +5,16 @@
 //! - [`pieces::Pieces`] gives the words, quoted texts, comments and ends of entries of a text one
 //!   by one, with their places and without memory, or the fault; it can be started again at any
 //!   entry, and reads octets that need not be UTF-8.
-//! - [`opening::outermost_open`] finds the parenthesis that was left open, and
-//!   [`position::line_and_column`] tells a place as people count it.
+//! - [`pieces::Fault::needs_more`] tells the faults past which more octets may go on, and
+//!   [`opening::outermost_open`] finds the parenthesis that was left open.
+//! - [`position::line_and_column`] tells a place as people count it.
 //! - [`token::content`] is the text of a token without its double quotes.
 //! - [`splitting::split`] answers the entries of a text, each with its tokens as they are
 //!   spelled, or [`splitting::SplitError`] with the place up to which the text could have become
 //!   one of the grammar.
 //! - [`laws`] has what holds of the grammar whatever the text: it splits in one way at most,
-//!   texts that split join and can be cut, and pieces go with them.
+//!   texts that split join and can be cut, and pieces go with them; so octets can be read in
+//!   blocks.
 //!
 //! The grammar is a relation on whole texts: a text splits into entries where some list of
 //! blanks, line ends, parentheses, comments, words and quoted texts spells it, and its words and
