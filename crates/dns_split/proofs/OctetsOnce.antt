@@ -89,7 +89,7 @@ piece_restored l (QuoteAt p) h = ap (λ i. quote_at i (unplaced l (place_of l p.
 piece_restored l (CommentAt p) h = ap (λ i. comment_at i (unplaced l (place_of l p.end))) (restored l p.start (omega (arith, h.0, h.1))) ∙ ap (comment_at p.start) (restored l p.end h.1)
 piece_restored l (EndAt p) h = ap (λ i. end_at i p.begins_blank) (restored l p.at h)
 
-abbrev WrongWithin : ℕ → Wrong → Type 0
+abbrev pub WrongWithin : ℕ → Wrong → Type 0
 WrongWithin n (OpenQuote i) = i ≤ n
 WrongWithin n _ = ⊤
 
@@ -119,7 +119,7 @@ all_restored l (Err f ∷ given) h k =
     ap (λ e. Err e ∷ map (moved (unplaced l)) (map (moved (place_of l)) given)) (fault_restored l f h.0 k.0) ∙ ap (λ g. Err f ∷ g) (all_restored l given h.1 k.1)
 
 -- a quoted text that is open begins among the octets
-wrong_within : (l front rest : List ℕ) (w : Wrong) → length front ≤ length (encode_utf8_all l) → IsWrong front rest (moved_wrong (place_of l) w) → WrongWithin (length l) w
+pub wrong_within : (l front rest : List ℕ) (w : Wrong) → length front ≤ length (encode_utf8_all l) → IsWrong front rest (moved_wrong (place_of l) w) → WrongWithin (length l) w
 wrong_within l front rest Late h k = tt
 wrong_within l front rest OpenParenthesis h k = tt
 wrong_within l front rest LoneReturn h k = tt

@@ -306,6 +306,79 @@ fn goes_on_at_ends(rt: HostRuntime) -> Result<(), Fail> {
     Ok(())
 }
 
+/// How many pieces there are up to the last end of an entry that is followed by more, and where
+/// that is.
+fn ended(given: &[Result<Piece, Fault>]) -> (usize, usize) {
+    let mut last = (0, 0);
+    for (place, piece) in given.iter().enumerate() {
+        let count = sum(place, 1);
+        if let Ok(Piece::End(end)) = piece
+            && count < given.len()
+        {
+            last = (count, end.at);
+        }
+    }
+    last
+}
+
+// The first block ends in every place: its entries that have ended, and then what is left of it
+// with the octets after it.
+#[test]
+fn reads_in_blocks(rt: HostRuntime) -> Result<(), Fail> {
+    let alloc = rt.alloc();
+    let mut joints: usize = 0;
+    for text in ROWS {
+        let octets = text.as_bytes();
+        let whole = listed(alloc, Pieces::of_octets(octets))?;
+        for cut in 0..=octets.len() {
+            let block = listed(alloc, Pieces::of_octets(&octets[..cut]))?;
+            let (count, at) = ended(&block);
+            for (piece, wanted) in block.iter().take(count).zip(whole.iter()) {
+                assert!(&rt; piece == wanted);
+            }
+            assert!(&rt; at <= octets.len());
+            let left = whole.get(count..).unwrap_or_default();
+            assert!(&rt; same(left, Pieces::of_octets_starting_at(octets, at)));
+            if let Some(Err(fault)) = block.last() {
+                let needs_more = fault.needs_more(&octets[..cut]);
+                assert!(&rt; needs_more || whole.last() == block.last());
+            }
+            joints = sum(joints, usize::from(count > 0));
+        }
+    }
+    assert_eq!(&rt; joints, 37);
+    Ok(())
+}
+
+// Faults of texts that stop too early, and of others.
+#[test]
+fn tells_what_needs_more(rt: HostRuntime) {
+    for (text, needs_more) in [
+        ("(a", true),
+        ("(a\r", true),
+        ("a\r", true),
+        ("a\rb", false),
+        ("\"a", true),
+        ("\"a\n", false),
+        ("\\", true),
+        ("\\25", true),
+        ("\\26", false),
+        ("\\3", false),
+        ("a)", false),
+        ("(é)\n(", true),
+    ] {
+        let mut fault = None;
+        for piece in Pieces::new(text) {
+            fault = piece.err();
+        }
+        let told = match fault {
+            Some(fault) => Some(fault.needs_more(text.as_bytes())),
+            None => None,
+        };
+        assert!(&rt; told == Some(needs_more));
+    }
+}
+
 // Octets from 128 on, which are no UTF-8, in each mode.
 #[test]
 fn tells_high_octets(rt: HostRuntime) -> Result<(), Fail> {

@@ -1,4 +1,4 @@
-use crate::opening::outermost_open;
+use crate::opening::{outermost_open, outermost_open_of_octets};
 use crate::pieces::{EndOfEntry, Fault, Piece, Pieces, Span, Wrong};
 use crate::position::{Position, line_and_column, line_and_column_of_octets};
 use crate::token::content;
@@ -90,6 +90,17 @@ fn gives_a_fault_last(rt: HostRuntime) {
         ("(x\r", Some(0)),
     ] {
         assert!(&rt; outermost_open(text) == opened);
+    }
+    let rows: [(&[u8], Option<usize>); 6] = [
+        (b"a (b ( c", Some(2)),
+        (&[0xE9, b'(', 0xFF], Some(1)),
+        (&[b'(', b'"', 0x80], None),
+        (&[b';', 0xFF, b'('], None),
+        (&[b'(', 0x80, b')'], None),
+        (&[b'(', b'\\', 0x80], None),
+    ];
+    for (octets, opened) in rows {
+        assert!(&rt; outermost_open_of_octets(octets) == opened);
     }
     let wrong = Wrong::OpenParenthesis;
     check(
