@@ -1,6 +1,6 @@
 -- From what a call does to a scanner to what it reads of the tokens before it.
 use Rattle.std.proofs.Common.{ℕ, suc, ◌≡◌, ◌<◌, ◌+◌, List, [], ◌∷◌, length, drop, get_or, drop-cons, arith, ◌∙◌, refl, sym, ap, subst, inl, inr, Option, Some, None, Result, Ok, Err}
-use Rattle.std.specs.Prelude.{MatchOption}
+use Rattle.std.specs.Prelude.{IsErrAnd, MatchOption}
 use Rattle.dns_symbol.specs.declared.symbol.Symbol.{Symbol}
 use Rattle.dns_symbol.specs.declared.symbol.SymbolCharsError.{SymbolCharsError}
 use Rattle.dns_scan.specs.Answers.{AnswersGiven}
@@ -43,6 +43,13 @@ module _ {S E : Type 0} (next : S → Option Token → S → Type 0) (cause : E 
   pub number_first : (limit : ℕ) (old : S) (r : Result ℕ E) (new : S) → ScansToken next cause (ScannedNumber cause limit) old r new → (tokens : List Token) → StandsBefore next old tokens
       → (rest : List Token) × ReadsFirst (NumberReads limit) tokens (by_cause cause r) rest × StandsBefore next new rest
   number_first limit = reads_first next cause (ScannedNumber cause limit) (NumberReads limit) (number_shows limit)
+
+  -- where the refusal is handed on
+  pub number_refused : (limit : ℕ) (old : S) (e : E) (r : Result ℕ E) (new : S) → IsErrAnd r (λ y. y ≡ e) → ScansToken next cause (ScannedNumber cause limit) old (Err e) new
+      → (tokens : List Token) → StandsBefore next old tokens → (rest : List Token) × ReadsFirst (NumberReads limit) tokens (by_cause cause r) rest × StandsBefore next new rest
+  number_refused limit old e (Ok v) new same scans = absurd same
+  number_refused limit old e (Err y) new same scans =
+      number_first limit old (Err y) new (subst (λ (x : E). ScansToken next cause (ScannedNumber cause limit) old (Err x) new) (sym same) scans)
 
   pub octets_first : (sure most : ℕ) (old : S) (r : Result (List ℕ) E) (new : S) → ScansToken next cause (Builds cause (GivesStep cause sure most octet_given) (λ s. s)) old r new
       → (tokens : List Token) → StandsBefore next old tokens → (rest : List Token) × ReadsFirst (OctetsRead sure most) tokens (by_cause cause r) rest × StandsBefore next new rest

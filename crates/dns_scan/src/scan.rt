@@ -30,10 +30,7 @@ impl<S: Scanner> Scan<S> for u8 {
     ghost scan_reads = { ReadsFirst (NumberReads (greatest 8)) };
 
     fn scan(scanner: &mut S) -> Result<Self, S::Error> {
-        match scan_number(scanner, u8::MAX as u128) {
-            Ok(value) => Ok(value as u8),
-            Err(error) => Err(error),
-        }
+        Ok(scan_number(scanner, u8::MAX as u128)? as u8)
     }
 }
 
@@ -42,10 +39,7 @@ impl<S: Scanner> Scan<S> for u16 {
     ghost scan_reads = { ReadsFirst (NumberReads (greatest 16)) };
 
     fn scan(scanner: &mut S) -> Result<Self, S::Error> {
-        match scan_number(scanner, u16::MAX as u128) {
-            Ok(value) => Ok(value as u16),
-            Err(error) => Err(error),
-        }
+        Ok(scan_number(scanner, u16::MAX as u128)? as u16)
     }
 }
 
@@ -54,10 +48,7 @@ impl<S: Scanner> Scan<S> for u32 {
     ghost scan_reads = { ReadsFirst (NumberReads (greatest 32)) };
 
     fn scan(scanner: &mut S) -> Result<Self, S::Error> {
-        match scan_number(scanner, u32::MAX as u128) {
-            Ok(value) => Ok(value as u32),
-            Err(error) => Err(error),
-        }
+        Ok(scan_number(scanner, u32::MAX as u128)? as u32)
     }
 }
 
@@ -66,10 +57,7 @@ impl<S: Scanner> Scan<S> for u64 {
     ghost scan_reads = { ReadsFirst (NumberReads (greatest 64)) };
 
     fn scan(scanner: &mut S) -> Result<Self, S::Error> {
-        match scan_number(scanner, u64::MAX as u128) {
-            Ok(value) => Ok(value as u64),
-            Err(error) => Err(error),
-        }
+        Ok(scan_number(scanner, u64::MAX as u128)? as u64)
     }
 }
 
@@ -78,10 +66,7 @@ impl<S: Scanner> Scan<S> for u128 {
     ghost scan_reads = { ReadsFirst (NumberReads (greatest 128)) };
 
     fn scan(scanner: &mut S) -> Result<Self, S::Error> {
-        match scan_number(scanner, u128::MAX) {
-            Ok(value) => Ok(value),
-            Err(error) => Err(error),
-        }
+        scan_number(scanner, u128::MAX)
     }
 }
 
@@ -90,10 +75,7 @@ impl<S: Scanner> Scan<S> for Ttl {
     ghost scan_reads = { ReadsFirst (NumberReads (greatest 32)) };
 
     fn scan(scanner: &mut S) -> Result<Self, S::Error> {
-        match scan_number(scanner, u32::MAX as u128) {
-            Ok(value) => Ok(Ttl::from_secs(value as u32)),
-            Err(error) => Err(error),
-        }
+        Ok(Ttl::from_secs(scan_number(scanner, u32::MAX as u128)? as u32))
     }
 }
 

@@ -1,9 +1,10 @@
-use Rattle.std.proofs.Common.{Ok, Err}
-use Rattle.dns_scan.proofs.Reading.{number_first}
+use Rattle.std.proofs.Common.{Ok}
+use Rattle.dns_scan.proofs.Reading.{number_first, number_refused}
 use Rattle.dns_scan.proofs.scan.U32Scan.scan.Goals as goal
 
-pub returns-in-Ok-clause-reads : goal.returns-in-Ok-clause-reads
-returns-in-Ok-clause-reads g c = number_first g.S.Scanner.next_token g.S.Error.ScannerError.cause _ _ (Ok c.in-Ok.value) _ c.in-Ok.ensures.scans
+pub returns-clause-reads : goal.returns-clause-reads
+returns-clause-reads g c = number_first g.S.Scanner.next_token g.S.Error.ScannerError.cause _ _ (Ok c.in_ok-scan_number.field-0) _ c.in_ok-scan_number.ensures.scans
 
-pub returns-in-Err-clause-reads : goal.returns-in-Err-clause-reads
-returns-in-Err-clause-reads g c = number_first g.S.Scanner.next_token g.S.Error.ScannerError.cause _ _ (Err c.in-Err.error) _ c.in-Err.ensures.scans
+pub returns-in_err-scan_number-clause-reads : goal.returns-in_err-scan_number-clause-reads
+returns-in_err-scan_number-clause-reads g c =
+    number_refused g.S.Scanner.next_token g.S.Error.ScannerError.cause _ _ _ c.from_residual.result _ c.from_residual.ensures.1 c.in_err-scan_number.ensures.scans
