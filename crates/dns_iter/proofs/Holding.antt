@@ -1,15 +1,20 @@
 -- A source of what tokens hold gives the contents of these tokens.
-use Rattle.std.proofs.Common.{◌≡◌, ℕ, List, [], ◌∷◌, refl, sym, ◌∙◌, subst, inl, inr, ⊎_elim, Option, None}
+use Rattle.std.proofs.Common.{◌≡◌, ◌≤◌, ℕ, zero, suc, List, [], ◌∷◌, length, refl, sym, ◌∙◌, ap, subst, inl, inr, ⊎_elim, Some, None, Vec, String}
+use Rattle.std.specs.Prelude.{option_map, slice_get}
+use Rattle.std.proofs.lemmas.Option.{slice_get-map, slice_get_past}
 use Rattle.std.specs.List.{flat_map, AllByRecursion}
 use Rattle.std.specs.Iterator.{AlwaysYields}
-use Rattle.std.specs.Borrow.{Bor}
 use Rattle.dns_scan.specs.Tokens.{Token}
 use Rattle.dns_symbol.specs.Symbol.{bytes}
 use Rattle.dns_symbol.specs.Text.{SymbolsOf}
 use Rattle.dns_split.specs.Token.{IsWord, IsQuote, IsToken}
+use Rattle.dns_split.specs.Answer.{texts, entries_of}
+use Rattle.dns_split.specs.Splitting.{Entries, Splits}
+use Rattle.dns_split.proofs.Complete.{one_way}
+use Rattle.dns_split.proofs.Entries.{splits_into_tokens}
 use Rattle.dns_split.proofs.Content.{word_first, quote_first, between_quotes, word_symbols, quote_symbols}
 use Rattle.dns_scan.specs.Join.{IsSymbols}
-use Rattle.dns_iter.specs.Contents.{IsContent, AreContents, content_next}
+use Rattle.dns_iter.specs.Contents.{IsContent, AreContents, HoldsAt, HoldsOnly, content_next}
 
 -- what is given of a token's text
 pub content_given : (spelled token given : List ℕ) → spelled ≡ token → ((w : IsWord spelled) → given ≡ spelled) → ((q : IsQuote spelled) → given ≡ flat_map bytes q.symbols)
@@ -63,3 +68,42 @@ contents_symbols [] [] h = tt
 contents_symbols [] (x ∷ a) h = absurd h
 contents_symbols (t ∷ ts) [] h = absurd h
 contents_symbols (t ∷ ts) (x ∷ a) h = (token_symbols t x h.0, contents_symbols ts a h.1)
+
+-- the tokens of one entry
+entry_tokens : (found : Entries) (place : ℕ) (tokens : List Token) → AllByRecursion (AllByRecursion IsToken) found → slice_get found place ≡ Some tokens → AllByRecursion IsToken tokens
+entry_tokens [] place tokens all is = absurd (cc)
+entry_tokens (e ∷ es) zero tokens all is = let same : e ≡ tokens = cc in subst (AllByRecursion IsToken) same all.0
+entry_tokens (e ∷ es) (suc n) tokens all is = entry_tokens es n tokens all.1 is
+
+-- of an entry with these tokens, what it holds is what they hold
+pub held_at : (found : Entries) (place : ℕ) (tokens contents : List Token) → slice_get found place ≡ Some tokens → HoldsAt found place contents → AreContents tokens contents
+held_at found place tokens contents is h = let both : Some h.0 ≡ Some tokens = sym h.1 ∙ is in let same : h.0 ≡ tokens = cc in subst (λ (t : List Token). AreContents t contents) same h.2
+
+pub holds_only : (text : List ℕ) (found : Entries) (place : ℕ) (tokens : List Token) → Splits text found → slice_get found place ≡ Some tokens
+    → (contents : List Token) × HoldsOnly found place contents × AreContents tokens contents
+holds_only text found place tokens splits is =
+    let some = contents_some tokens (entry_tokens found place tokens (splits_into_tokens text found splits) is) in (
+      some.0,
+      record {
+        holds = (tokens, is, some.1);
+        only = λ other h. contents_one tokens other some.0 (held_at found place tokens other is h) some.1;
+        symbols = contents_symbols tokens some.0 some.1;
+      },
+      some.1,
+    )
+
+-- the tokens of one entry of a list of entries
+pub entry_is : {A : Type 0} (entries : List (Vec (String A) A)) (place : ℕ) (entry : Vec (String A) A) → slice_get entries place ≡ Some entry
+    → slice_get (entries_of entries) place ≡ Some (texts entry.items)
+entry_is entries place entry is = slice_get-map (λ e. texts e.items) entries place ∙ ap (option_map (λ e. texts e.items)) is
+
+-- past the end nothing is held
+pub none_held : {A : Type 0} (entries : List (Vec (String A) A)) (place : ℕ) (contents : List Token) → length entries ≤ place → HoldsAt (entries_of entries) place contents → ⊥
+none_held entries place contents past h =
+    let none : slice_get (entries_of entries) place ≡ None = slice_get-map (λ e. texts e.items) entries place ∙ ap (option_map (λ e. texts e.items)) (slice_get_past entries place past) in
+    let some : slice_get (entries_of entries) place ≡ Some h.0 = h.1 in
+    cc
+
+-- what an entry holds of the entries that a text is known to split into
+pub known_held : (text : List ℕ) (given found : Entries) (place : ℕ) (contents : List Token) → Splits text given → Splits text found → HoldsAt found place contents → HoldsAt given place contents
+known_held text given found place contents splits other h = subst (λ (f : Entries). HoldsAt f place contents) (one_way text found given other splits) h

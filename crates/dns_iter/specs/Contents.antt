@@ -1,9 +1,11 @@
 -- What the tokens of an entry hold.
-use Rattle.std.specs.Prelude.{ℕ, List, [], ◌∷◌, ◌≡◌, ◌⊎◌, Option, MatchOption}
+use Rattle.std.specs.Prelude.{ℕ, List, [], ◌∷◌, ◌≡◌, ◌⊎◌, Option, Some, MatchOption, slice_get}
 use Rattle.std.specs.Borrow.{Bor}
-use Rattle.std.specs.List.{AllZip, flat_map}
+use Rattle.std.specs.List.{AllByRecursion, AllZip, flat_map}
 use Rattle.dns_symbol.specs.Symbol.{bytes}
+use Rattle.dns_scan.specs.Join.{IsSymbols}
 use Rattle.dns_scan.specs.Tokens.{Token}
+use Rattle.dns_split.specs.Splitting.{Entries}
 use Rattle.dns_split.specs.Token.{IsWord, IsQuote}
 
 -- a word holds itself, and a quoted text what stands between its double quotes
@@ -13,6 +15,16 @@ IsContent token content = (IsWord token × (content ≡ token)) ⊎ ((q : IsQuot
 -- what each token of an entry holds
 abbrev pub AreContents : List Token → List (List ℕ) → Type 0
 AreContents = AllZip IsContent
+
+-- the entry of that number, counted from 0, has tokens that hold these texts
+abbrev pub HoldsAt : Entries → ℕ → List Token → Type 0
+HoldsAt entries place contents = (tokens : List Token) × (slice_get entries place ≡ Some tokens) × AreContents tokens contents
+
+-- it holds these texts and no others, and each is symbols throughout
+pub record HoldsOnly (entries : Entries) (place : ℕ) (contents : List Token) : Type 0 where
+  pub holds : HoldsAt entries place contents
+  pub only : (other : List Token) → HoldsAt entries place other → other ≡ contents
+  pub symbols : AllByRecursion IsSymbols contents
 
 -- a call at the texts of tokens gave what the first of them holds and left the others, or there was none
 abbrev pub content_next : {S : Type 0} → (S → List Token) → S → Option (Bor (List ℕ)) → S → Type 0

@@ -16,13 +16,15 @@
 //!     }
 //! }
 //! ```
-ghost use Rattle.std.specs.Prelude.{◌≡◌, List, ℕ, map};
+ghost use Rattle.std.specs.Prelude.{◌≡◌, ◌≤◌, ◌↔◌, List, ℕ, IfSome, IsNone, IsSomeAnd, false, length, map};
 ghost use Rattle.std.specs.List.{AllByRecursion};
+ghost use Rattle.dns_split.specs.Answer.{entries_of};
+ghost use Rattle.dns_split.specs.Splitting.{Entries, Splits};
 ghost use Rattle.dns_split.specs.Token.{IsToken};
 ghost use Rattle.dns_scan.specs.Join.{IsSymbols};
 ghost use Rattle.dns_scan.specs.Stands.{StandsBefore};
 ghost use Rattle.dns_scan.specs.Tokens.{Token};
-ghost use Rattle.dns_iter.specs.Contents.{AreContents};
+ghost use Rattle.dns_iter.specs.Contents.{AreContents, HoldsAt, HoldsOnly};
 
 use crate::scanner::IterScanner;
 use dns_octets::{AsOctetsMut, EmptyBuilder, FreezeBuilder, FromBuilder, Truncate};
@@ -120,6 +122,33 @@ where
     ensures spaced { ⟦<EntryScanner<'a, T, Octets, E> as Scanner>⟧.is_spaced result ≡ spaced }
 {
     IterScanner::spaced(alloc, Contents::new(tokens), spaced)
+}
+
+/// A scanner over the entry of that number, counted from 0, of those that
+/// [`dns_split::splitting::split`] gave; none if there are not so many.
+///
+/// Of entries that a text splits into, it stands before what the tokens of that entry hold: one
+/// list of texts, each of them symbols throughout. `split` does not tell whether an entry began
+/// with a blank, so [`Scanner::has_space`] answers no.
+pub fn entry_at<'a, A: Allocator, Octets: FromBuilder + Drop, E: ScannerError>(
+    alloc: <Octets::Builder as EmptyBuilder>::Alloc,
+    entries: &'a [Vec<String<A>, A>],
+    place: usize,
+) -> Option<EntryScanner<'a, String<A>, Octets, E>>
+where
+    Octets::Builder: EmptyBuilder + AsOctetsMut + Truncate + FreezeBuilder<Octets = Octets> + Drop,
+    ensures none { IsNone result ↔ (length entries.now ≤ place) }
+    ensures ready { IfSome result (λ s. ⟦<EntryScanner<'a, String<A>, Octets, E> as Scanner>⟧.can_scan s) }
+    ensures stands { (contents : List Token) → HoldsAt (entries_of entries.now) place contents
+        → IsSomeAnd result (λ s. StandsBefore (⟦<EntryScanner<'a, String<A>, Octets, E> as Scanner>⟧.next_token) s contents) }
+    ensures splits { (text : List ℕ) (found : Entries) (contents : List Token) → Splits text (entries_of entries.now) → Splits text found → HoldsAt found place contents
+        → IsSomeAnd result (λ s. StandsBefore (⟦<EntryScanner<'a, String<A>, Octets, E> as Scanner>⟧.next_token) s contents) }
+    ensures holds { (text : List ℕ) → Splits text (entries_of entries.now) → IfSome result (λ s. (contents : List Token) × HoldsOnly (entries_of entries.now) place contents
+        × StandsBefore (⟦<EntryScanner<'a, String<A>, Octets, E> as Scanner>⟧.next_token) s contents) }
+    ensures spaced { IfSome result (λ s. ⟦<EntryScanner<'a, String<A>, Octets, E> as Scanner>⟧.is_spaced s ≡ false) }
+{
+    let tokens = entries.get(place)?;
+    Some(entry_scanner(alloc, tokens, false))
 }
 
 /// Each token holds one text, and that is symbols throughout, so that no scan refuses a bad escape

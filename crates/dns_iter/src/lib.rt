@@ -11,5 +11,5 @@ mod tests;
 mod token;
 
 pub use dns_scan::StrError;
-pub use entry::{EntryScanner, TokenText, entry_scanner};
+pub use entry::{EntryScanner, TokenText, entry_at, entry_scanner};
 pub use scanner::IterScanner;

@@ -1,6 +1,6 @@
 //! The entries of zone text.
 use super::*;
-use crate::entry::{EntryScanner, TokenText, entry_scanner};
+use crate::entry::{EntryScanner, TokenText, entry_at, entry_scanner};
 use dns_split::splitting::split;
 
 // Whether an entry of these tokens is read as these character strings, and nothing else.
@@ -62,4 +62,33 @@ fn space_stands_before_the_first_token(rt: HostRuntime) {
     assert!(rt; !scanner.has_space());
     let mut scanner: EntryScanner<'_, _, Vec<u8>> = entry_scanner(alloc, &tokens, false);
     assert!(rt; !scanner.has_space());
+}
+
+// Whether the entry of that number is read as these character strings, and nothing else.
+fn is_entry(alloc: Global, entries: &[Vec<String>], place: usize, strings: &[&[u8]]) -> bool {
+    let found: Option<EntryScanner<'_, String, Vec<u8>>> = entry_at(alloc, entries, place);
+    let Some(mut scanner) = found else {
+        return false;
+    };
+    let mut same = !scanner.has_space();
+    for string in strings {
+        same = same
+            && scanner
+                .scan_charstr()
+                .is_ok_and(|found| found.as_slice() == *string);
+    }
+    same && scanner.is_exhausted()
+}
+
+// The number of entries is one more than that of line ends outside parentheses.
+#[test]
+fn entries_are_found_by_their_number(rt: HostRuntime) {
+    let alloc = rt.alloc();
+    let entries = split(alloc, "a \"b c\" ; d\n\n ( e\n\"f\" )\ng").unwrap_or(Vec::new(alloc));
+    assert!(rt; is_entry(alloc, &entries, 0, &[b"a", b"b c"]));
+    assert!(rt; is_entry(alloc, &entries, 1, &[]));
+    assert!(rt; is_entry(alloc, &entries, 2, &[b"e", b"f"]));
+    assert!(rt; is_entry(alloc, &entries, 3, &[b"g"]));
+    let none: Option<EntryScanner<'_, String, Vec<u8>>> = entry_at(alloc, &entries, 4);
+    assert!(rt; none.is_none());
 }
