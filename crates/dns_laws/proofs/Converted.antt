@@ -1,5 +1,6 @@
 -- What the converters make of the texts of octets.
-use Rattle.std.proofs.Common.{inl, inr, ℕ, ◌≡◌, ◌<◌, ◌+◌, ◌==◌, List, [], ◌∷◌, ◌++◌, length, map, refl, sym, ap, subst, ◌∙◌, arith, append-nil, append_assoc, Option, Some, None, Result, Ok, Err, Bool, true, false}
+use Rattle.std.proofs.Common.{inl, inr, ℕ, ◌≡◌, ◌<◌, ◌+◌, ◌==◌, List, [], ◌∷◌, ◌++◌}
+use Rattle.std.proofs.Common.{length, map, refl, sym, ap, subst, ◌∙◌, arith, append-nil, append_assoc, Option, Some, None, Result, Ok, Err, Bool, true, false}
 use Rattle.std.specs.Prelude.{nat_lt, not, ◌&&◌}
 use Rattle.std.specs.List.{list_all}
 use Rattle.std.proofs.lemmas.Bool.{and_parts}
@@ -9,7 +10,7 @@ use Rattle.dns_symbol.specs.declared.symbol.Symbol.TheVariants.{Char}
 use Rattle.dns_symbol.specs.Symbol.{is_readable}
 use Rattle.dns_symbol.specs.Text.{SymbolsOf}
 use Rattle.dns_symbol.proofs.Unique.{symbols_same}
-use Rattle.dns_codec.specs.Base.{Base, base16, base32hex, base64, encoded, IsEncoding as Known}
+use Rattle.dns_codec.specs.Base.{Base, encoded, IsEncoding as Known}
 use Rattle.dns_codec.specs.Group.{Group, fresh}
 use Rattle.dns_codec.specs.Converting.{convert, convert_tail}
 use Rattle.dns_codec.specs.Conversions.{then_answer, converts, Agrees}
@@ -22,7 +23,7 @@ use Rattle.dns_codec.specs.declared.base64.DecodeError.{DecodeError}
 use Rattle.dns_symbol.specs.Cause.{Cause, custom_text}
 use Rattle.dns_scan.specs.Tokens.{Token}
 use Rattle.dns_entry.proofs.Words.{ascii_bytes, encoded_all}
-use Rattle.dns_program.specs.Codecs.{Codec, then_made, converted, ConvertsTo, codec_of, hex_codec, base32hex_codec, base64_codec}
+use Rattle.dns_program.specs.Codecs.{Codec, then_made, converted, ConvertsTo, codec_of}
 
 -- the symbols of characters that stand for themselves
 abbrev pub plain_symbols : List ℕ → List Symbol

@@ -1,5 +1,6 @@
 -- The tokens that convert to octets are the texts of the encoding, and answers of converters are one.
-use Rattle.std.proofs.Common.{ℕ, ◌≡◌, ◌<◌, List, [], ◌∷◌, ◌++◌, length, map, refl, sym, ap, subst, ◌∙◌, arith, append_assoc, ◌⊎◌, inl, inr, ⊎_elim, Option, Some, None, Result, Ok, Err, Bool, true, false}
+use Rattle.std.proofs.Common.{ℕ, ◌≡◌, ◌<◌, List, [], ◌∷◌, ◌++◌}
+use Rattle.std.proofs.Common.{length, map, refl, sym, ap, subst, ◌∙◌, arith, append_assoc, ◌⊎◌, inl, inr, ⊎_elim, Option, Some, None, Result, Ok, Err, Bool, true, false}
 use Rattle.std.specs.Prelude.{IfOk}
 use Rattle.std.specs.List.{list_all, AllByRecursion}
 use Rattle.dns_symbol.specs.declared.symbol.Symbol.{Symbol}
@@ -108,7 +109,8 @@ module _ (codec : Codec) where
   module _ (same_step : (held : codec.Held) (x : Symbol) (c : ℕ) → char_in x ≡ Some c → codec.step held x ≡ codec.step held (Char c))
       (needs_char : (held : codec.Held) (x : Symbol) (o : List ℕ) → char_in x ≡ None → (codec.step held x).0 ≡ Ok o → ⊥) where
     -- symbols convert as their characters
-    by_chars : (held : codec.Held) (built : List ℕ) (xs : List Symbol) (text : List ℕ) → map char_of xs ≡ map Ok text → converted codec held built xs None ≡ converted codec held built (plain_symbols text) None
+    by_chars : (held : codec.Held) (built : List ℕ) (xs : List Symbol) (text : List ℕ)
+        → map char_of xs ≡ map Ok text → converted codec held built xs None ≡ converted codec held built (plain_symbols text) None
     by_chars held built [] [] e = refl
     by_chars held built [] (c ∷ cs) e = cc
     by_chars held built (x ∷ xs) [] e = cc
