@@ -29,13 +29,22 @@ enum dns_status {
     DNS_SHORT_INPUT = 4,       /* the end inside an escape or a character */
     DNS_BAD_UTF8 = 5,          /* no UTF-8 */
     DNS_BAD_SYMBOL = 6,        /* a character that stands for no octet */
-    DNS_TOO_LONG = 7,          /* more than 255 octets; 2^60 for the encodings */
+    DNS_TOO_LONG = 7,          /* more than 255 octets, or 2^60 for the encodings; of a name's text
+                                  more than 254 before the root */
     DNS_BAD_ENCODING = 8,      /* no text of the encoding; the place is not told */
     DNS_CLOSING = 9,           /* a closing parenthesis, and none is open */
     DNS_OPEN_PARENTHESIS = 10, /* the text ends inside parentheses */
     DNS_OPEN_QUOTE = 11,       /* the text or a line ends inside a quoted text */
     DNS_LONE_RETURN = 12,      /* a CR without its LF */
-    DNS_BAD_CURSOR = 13        /* a cursor that stands past the end of the text */
+    DNS_BAD_CURSOR = 13,       /* a cursor that stands past the end of the text */
+    DNS_EMPTY_LABEL = 14,      /* a plain dot after no octet of a label */
+    DNS_LONG_LABEL = 15,       /* more than 63 octets in a label */
+    DNS_BINARY_LABEL = 16,     /* a label that begins with an escaped opening bracket (RFC 2673) */
+    DNS_BAD_LABEL = 17,        /* a lead octet of no known type of label */
+    DNS_POINTER = 18,          /* a pointer to another name in place of a label */
+    DNS_TRAILING_OCTETS = 19,  /* octets after the root */
+    DNS_NO_DIGIT = 20,         /* a symbol that is no plain decimal digit */
+    DNS_TOO_GREAT = 21         /* a number greater than the greatest one asked for */
 };
 
 struct dns_outcome {
@@ -58,6 +67,41 @@ uint32_t dns_charstr_print_quoted(const uint8_t *octets, size_t octets_len, uint
 /* As a word of zone text. No octets print nothing, which is no word. */
 uint32_t dns_charstr_print_unquoted(const uint8_t *octets, size_t octets_len, uint8_t *text,
                                     size_t text_len, struct dns_outcome *outcome);
+
+/* ---- Names (RFC 1035 sections 3.1 and 5.1): at most 255 octets.
+ *
+ * A name's octets are its wire form: each label's length and its octets, and the root last where the
+ * name is absolute. No octets are the relative name of no labels.
+ *
+ * Reading takes the labels between plain dots. No text is the relative name of no labels, and a dot
+ * alone the root; another name is absolute where a plain dot ends it. Symbols are handled in order: what
+ * is no symbol is refused first, then a plain dot after no octet, an escaped opening bracket that begins
+ * a label, a symbol without an octet, more than 254 octets before the root, more than 63 in a label.
+ * `is_absolute` is not NULL; it is 1 or 0 after DNS_OK and DNS_NO_ROOM, and else stays as it was. */
+uint32_t dns_name_read(const uint8_t *text, size_t text_len, uint8_t *name, size_t name_len,
+                       size_t *is_absolute, struct dns_outcome *outcome);
+/* The labels joined by dots, without a dot at the end; the root alone is one dot. Labels escape the
+ * space, the dot and the backslash, and what is not printable ASCII by its decimal value. Printing
+ * refuses octets that are no name's by DNS_TOO_LONG, DNS_SHORT_INPUT, DNS_BAD_LABEL, DNS_POINTER or
+ * DNS_TRAILING_OCTETS, with no place. */
+uint32_t dns_name_print(const uint8_t *name, size_t name_len, uint8_t *text, size_t text_len,
+                        struct dns_outcome *outcome);
+/* The same with a dot at the end of an absolute name. */
+uint32_t dns_name_print_dotted(const uint8_t *name, size_t name_len, uint8_t *text, size_t text_len,
+                               struct dns_outcome *outcome);
+/* As zone text has it: letters, digits, '-', '_' and '*' stand plain, and every other octet by its
+ * decimal value, with a dot at the end of an absolute name. So a name of one label or more is one word. */
+uint32_t dns_name_print_zone(const uint8_t *name, size_t name_len, uint8_t *text, size_t text_len,
+                             struct dns_outcome *outcome);
+
+/* ---- Decimal numbers: a token's plain digits. No text is 0.
+ *
+ * A greatest number of 255, 65535, UINT32_MAX or UINT64_MAX reads one of 8, 16, 32 or 64 bits. Symbols
+ * are handled in order: what is no symbol is refused first, then any symbol after a number of which ten
+ * times are too great, then one that is no plain digit, then a digit that makes the number too great. After
+ * a fault the number stays as it was. The length is 0. */
+uint32_t dns_number_read(const uint8_t *text, size_t text_len, uint64_t greatest, uint64_t *number,
+                         struct dns_outcome *outcome);
 
 /* ---- The encodings of RFC 4648 sections 8, 7 and 4.
  *

@@ -83,6 +83,108 @@ static void strings(void) {
     refuses(dns_charstr_print_unquoted, long_string, 256, DNS_TOO_LONG, 255, __LINE__);
 }
 
+/* dns_name_read, with what it tells of the name being absolute in `was_absolute`. */
+static size_t was_absolute;
+
+static uint32_t read_name(const uint8_t *text, size_t text_len, uint8_t *name, size_t name_len,
+                          struct dns_outcome *outcome) {
+    was_absolute = 7;
+    return dns_name_read(text, text_len, name, name_len, &was_absolute, outcome);
+}
+
+#define NAMED(text, name, absolute)           \
+    do {                                      \
+        GIVES(read_name, text, name);         \
+        EXPECT(was_absolute == absolute);     \
+    } while (0)
+#define UNNAMED(text, status, place)          \
+    do {                                      \
+        REFUSES(read_name, text, status, place); \
+        EXPECT(was_absolute == 7);            \
+    } while (0)
+
+static void names(void) {
+    uint8_t long_text[256], long_name[255], longest[254];
+    size_t i;
+    NAMED("F.ISI.ARPA.", "\1F\3ISI\4ARPA\0", 1);
+    NAMED("F.ISI.ARPA", "\1F\3ISI\4ARPA", 0);
+    NAMED("", "", 0);
+    NAMED(".", "\0", 1);
+    NAMED("Action\\.domains", "\16Action.domains", 0);
+    NAMED("Donald\\032E\\.\\032Eastlake\\0323rd.example.", "\26Donald E. Eastlake 3rd\7example\0", 1);
+    UNNAMED("..a", DNS_EMPTY_LABEL, 0);
+    UNNAMED("a..b", DNS_EMPTY_LABEL, 2);
+    UNNAMED("a.\\[b", DNS_BINARY_LABEL, 2);
+    UNNAMED("ab\xC3\xA9", DNS_BAD_SYMBOL, 2);
+    UNNAMED("ab\xFFz", DNS_BAD_UTF8, 2);
+    UNNAMED("a.\\25x", DNS_BAD_ESCAPE, 2);
+    UNNAMED("a.\\25", DNS_SHORT_INPUT, 2);
+    memset(long_text, 'a', sizeof long_text);
+    refuses(read_name, long_text, 64, DNS_LONG_LABEL, 63, __LINE__);
+    for (i = 0; i < 128; i++) {
+        long_text[2 * i + 1] = '.';
+        if (i < 127) {
+            long_name[2 * i] = longest[2 * i] = 1;
+            long_name[2 * i + 1] = longest[2 * i + 1] = 'a';
+        }
+    }
+    long_name[254] = 0;
+    gives(read_name, long_text, 254, long_name, 255, __LINE__);
+    gives(read_name, long_text, 253, longest, 254, __LINE__);
+    refuses(read_name, long_text, 256, DNS_TOO_LONG, 254, __LINE__);
+    gives(dns_name_print_dotted, long_name, 255, long_text, 254, __LINE__);
+    gives(dns_name_print, longest, 254, long_text, 253, __LINE__);
+
+    GIVES(dns_name_print, "\1F\3ISI\4ARPA\0", "F.ISI.ARPA");
+    GIVES(dns_name_print_dotted, "\1F\3ISI\4ARPA\0", "F.ISI.ARPA.");
+    GIVES(dns_name_print_zone, "\1F\3ISI\4ARPA\0", "F.ISI.ARPA.");
+    GIVES(dns_name_print_dotted, "\1F\3ISI\4ARPA", "F.ISI.ARPA");
+    GIVES(dns_name_print, "\0", ".");
+    GIVES(dns_name_print_dotted, "\0", ".");
+    GIVES(dns_name_print_zone, "\0", ".");
+    GIVES(dns_name_print, "", "");
+    GIVES(dns_name_print_dotted, "", "");
+    GIVES(dns_name_print_zone, "", "");
+    GIVES(dns_name_print, "\5a;(.\n", "a;(\\.\\010");
+    GIVES(dns_name_print_zone, "\5a;(.\n", "a\\059\\040\\046\\010");
+    REFUSES(dns_name_print, "\2a", DNS_SHORT_INPUT, 0);
+    REFUSES(dns_name_print_dotted, "\1a\0" "b", DNS_TRAILING_OCTETS, 0);
+    REFUSES(dns_name_print_zone, "\1a\xC0\x0C", DNS_POINTER, 0);
+    REFUSES(dns_name_print_zone, "\x80" "a", DNS_BAD_LABEL, 0);
+    refuses(dns_name_print, long_text, 256, DNS_TOO_LONG, 0, __LINE__);
+}
+
+static void number(const uint8_t *text, size_t length, uint64_t greatest, uint32_t status,
+                   uint64_t value, size_t place, int line) {
+    struct dns_outcome outcome = {7, 7};
+    uint64_t found = 7;
+    expect(dns_number_read(text, length, greatest, &found, &outcome) == status, "status", line);
+    expect(found == (status == DNS_OK ? value : 7), "number", line);
+    expect(outcome.length == 0 && outcome.place == place, "length and place", line);
+}
+#define NUMBER(text, greatest, value) number(BYTES(text), greatest, DNS_OK, value, 0, __LINE__)
+#define UNNUMBERED(text, greatest, status, place) \
+    number(BYTES(text), greatest, status, 0, place, __LINE__)
+
+static void numbers(void) {
+    number(NULL, 0, 255, DNS_OK, 0, 0, __LINE__);
+    NUMBER("00255", 255, 255);
+    NUMBER("65535", 65535, 65535);
+    NUMBER("4294967295", UINT32_MAX, UINT32_MAX);
+    NUMBER("18446744073709551615", UINT64_MAX, UINT64_MAX);
+    NUMBER("0", 0, 0);
+    UNNUMBERED("256", 255, DNS_TOO_GREAT, 2);
+    UNNUMBERED("255x", 255, DNS_TOO_GREAT, 3);
+    UNNUMBERED("1", 0, DNS_TOO_GREAT, 0);
+    UNNUMBERED("18446744073709551616", UINT64_MAX, DNS_TOO_GREAT, 19);
+    UNNUMBERED("12x", 255, DNS_NO_DIGIT, 2);
+    UNNUMBERED("-1", 255, DNS_NO_DIGIT, 0);
+    UNNUMBERED("1\\050", 255, DNS_NO_DIGIT, 1);
+    UNNUMBERED("1\\25", 255, DNS_SHORT_INPUT, 1);
+    UNNUMBERED("1\\25x", 255, DNS_BAD_ESCAPE, 1);
+    UNNUMBERED("1\xFFx", 255, DNS_BAD_UTF8, 1);
+}
+
 /* The rows of RFC 4648 section 10. */
 static void encodings(void) {
     GIVES(dns_base16_print, "foobar", "666F6F626172");
@@ -174,7 +276,7 @@ static void texts(void) {
     uint8_t memory[64];
     struct dns_outcome outcome;
     uint32_t status;
-    for (status = 0; status <= DNS_BAD_CURSOR + 1; status++) {
+    for (status = 0; status <= DNS_TOO_GREAT + 1; status++) {
         size_t length;
         EXPECT(dns_status_text(status, NULL, 0, &outcome) == DNS_NO_ROOM);
         length = outcome.length;
@@ -187,6 +289,8 @@ static void texts(void) {
 
 int main(void) {
     strings();
+    names();
+    numbers();
     encodings();
     lengths();
     entries();

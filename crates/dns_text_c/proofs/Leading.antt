@@ -1,6 +1,6 @@
 -- The symbols before a place.
-use Rattle.std.proofs.Common.{◌≡◌, ◌≤◌, ℕ, ◌+◌, List, [], ◌∷◌, ◌++◌, length, drop, map, refl, ap, ◌∙◌, arith, Some, Ok}
-use Rattle.std.specs.List.{flat_map, list_all}
+use Rattle.std.proofs.Common.{◌≡◌, ◌≤◌, ℕ, ◌+◌, List, [], ◌∷◌, ◌++◌, length, drop, refl, ap, ◌∙◌, arith, Some, Ok}
+use Rattle.std.specs.List.{flat_map}
 use Rattle.std.proofs.lemmas.Grind.{common_steps, flat_map-append}
 use Rattle.std.proofs.lemmas.List.{map-append}
 use Rattle.std.proofs.lemmas.List.Folds.{list_all-append}
@@ -30,7 +30,7 @@ before_more text octets place after octet x read next is = record {
     counted : length (flat_map bytes read.symbols) + length (bytes x) ≡ length (flat_map bytes (read.symbols ++ x ∷ []))
     counted = Prim.grind (arith, common_steps, flat_map-append)
 
-nothing_left : (text : List ℕ) (place : ℕ) → length text ≤ place → drop place text ≡ []
+pub nothing_left : (text : List ℕ) (place : ℕ) → length text ≤ place → drop place text ≡ []
 nothing_left text place h = Prim.grind (arith, common_steps)
 
 -- at the end of the text

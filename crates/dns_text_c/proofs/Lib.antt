@@ -1,4 +1,7 @@
 mod Leading
 mod Lengths
+mod NameText
+mod NumberText
 mod ToldTexts
+mod Walks
 mod Written

@@ -10,4 +10,8 @@ status_text n =
     if n == 7 then codes "too many octets" else (if n == 8 then codes "not of the encoding" else (
     if n == 9 then codes "closing parenthesis, and none is open" else (if n == 10 then codes "parenthesis that is not closed" else (
     if n == 11 then codes "quoted text that is not closed" else (if n == 12 then codes "CR without LF" else (
-    if n == 13 then codes "cursor past the end" else codes "unknown status")))))))))))))
+    if n == 13 then codes "cursor past the end" else (if n == 14 then codes "label without octets" else (
+    if n == 15 then codes "more than 63 octets in a label" else (if n == 16 then codes "binary label" else (
+    if n == 17 then codes "unknown type of label" else (if n == 18 then codes "pointer in place of a label" else (
+    if n == 19 then codes "octets after the root" else (if n == 20 then codes "no decimal digit" else (
+    if n == 21 then codes "number too great" else codes "unknown status")))))))))))))))))))))

@@ -3,7 +3,7 @@ use Rattle.std.specs.Prelude.{◌≡◌, ℕ, ◌<◌, ◌≤◌, List, length, 
 use Rattle.dns_text_c.specs.declared.outcome.Outcome.{Outcome}
 use Rattle.dns_text_c.specs.declared.outcome.Fault.{Fault}
 use Rattle.dns_text_c.specs.declared.outcome.Refusal.{Refusal}
-use Rattle.dns_text_c.specs.declared.outcome.Refusal.TheVariants.{NoRoom, BadEscape, ShortInput, BadUtf8, BadSymbol, TooLong, BadEncoding, Closing, OpenParenthesis, OpenQuote, LoneReturn, BadCursor}
+use Rattle.dns_text_c.specs.declared.outcome.Refusal.TheVariants.{NoRoom, BadEscape, ShortInput, BadUtf8, BadSymbol, TooLong, BadEncoding, Closing, OpenParenthesis, OpenQuote, LoneReturn, BadCursor, EmptyLabel, LongLabel, BinaryLabel, BadLabel, Pointer, TrailingOctets, NoDigit, TooGreat}
 
 -- the status of each refusal, as the header has it
 abbrev pub number_of : Refusal → ℕ
@@ -19,6 +19,14 @@ number_of OpenParenthesis = 10
 number_of OpenQuote = 11
 number_of LoneReturn = 12
 number_of BadCursor = 13
+number_of EmptyLabel = 14
+number_of LongLabel = 15
+number_of BinaryLabel = 16
+number_of BadLabel = 17
+number_of Pointer = 18
+number_of TrailingOctets = 19
+number_of NoDigit = 20
+number_of TooGreat = 21
 
 -- the octets fit and stand at the start of the buffer, and what follows them is as it was; or they don't fit and nothing was written. The length is theirs
 pub record IsGiven (octets old : List ℕ) (status : ℕ) (new : List ℕ) (outcome : Outcome) : Type 0 where

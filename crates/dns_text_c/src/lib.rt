@@ -13,6 +13,12 @@ pub mod codecs;
 #[cfg(test)]
 mod encoding_tests;
 pub mod encodings;
+#[cfg(test)]
+mod name_tests;
+pub mod names;
+#[cfg(test)]
+mod number_tests;
+pub mod numbers;
 pub mod outcome;
 pub mod status;
 #[cfg(test)]

@@ -39,6 +39,22 @@ pub enum Refusal {
     LoneReturn,
     /// A cursor that stands past the end of the text.
     BadCursor,
+    /// A plain dot after no octet of a label.
+    EmptyLabel,
+    /// More than 63 octets in a label.
+    LongLabel,
+    /// A label that begins with an escaped opening bracket (RFC 2673).
+    BinaryLabel,
+    /// A lead octet of no known type of label.
+    BadLabel,
+    /// A pointer to another name in place of a label.
+    Pointer,
+    /// Octets after the root.
+    TrailingOctets,
+    /// A symbol that is no plain decimal digit.
+    NoDigit,
+    /// A number greater than the greatest one asked for.
+    TooGreat,
 }
 
 /// A refusal, and the octets before what is refused.
@@ -71,6 +87,14 @@ pub fn number_of(refusal: Refusal) -> u32
         Refusal::OpenQuote => 11,
         Refusal::LoneReturn => 12,
         Refusal::BadCursor => 13,
+        Refusal::EmptyLabel => 14,
+        Refusal::LongLabel => 15,
+        Refusal::BinaryLabel => 16,
+        Refusal::BadLabel => 17,
+        Refusal::Pointer => 18,
+        Refusal::TrailingOctets => 19,
+        Refusal::NoDigit => 20,
+        Refusal::TooGreat => 21,
     }
 }
 

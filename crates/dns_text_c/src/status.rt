@@ -24,6 +24,14 @@ pub fn status_text(status: u32) -> &'static str
         11 => "quoted text that is not closed",
         12 => "CR without LF",
         13 => "cursor past the end",
+        14 => "label without octets",
+        15 => "more than 63 octets in a label",
+        16 => "binary label",
+        17 => "unknown type of label",
+        18 => "pointer in place of a label",
+        19 => "octets after the root",
+        20 => "no decimal digit",
+        21 => "number too great",
         _ => "unknown status",
     }
 }

@@ -149,7 +149,7 @@ fn refusal_of(error: SymbolOctetsError) -> Refusal
 }
 
 /// The symbol at a place, if the octets go on there, and the place after it.
-fn symbol_at(text: &[u8], place: usize) -> Result<Option<(Symbol, usize)>, Fault>
+pub(crate) fn symbol_at(text: &[u8], place: usize) -> Result<Option<(Symbol, usize)>, Fault>
     ensures reads { IfOk result (λ found. ReadsAt text.now place (Ok found)) }
     ensures refused { IfErr result (λ fault. (e : SymbolOctetsError) × ReadsAt text.now place (Err e) × (fault ≡ record { refusal = refusal_of e; place = place })) }
     ensures goes { IfOk result (λ found. IfSome found (λ p. (place < p.1) × (p.1 ≤ length text.now))) }

@@ -53,7 +53,7 @@ pub(crate) enum Step {
 }
 
 /// The number of a truth value.
-fn bit(is_so: bool) -> usize
+pub(crate) fn bit(is_so: bool) -> usize
     ensures { result ≡ bit is_so }
 {
     if is_so { 1 } else { 0 }

@@ -18,6 +18,14 @@ pub const DNS_OPEN_PARENTHESIS: u32 = 10;
 pub const DNS_OPEN_QUOTE: u32 = 11;
 pub const DNS_LONE_RETURN: u32 = 12;
 pub const DNS_BAD_CURSOR: u32 = 13;
+pub const DNS_EMPTY_LABEL: u32 = 14;
+pub const DNS_LONG_LABEL: u32 = 15;
+pub const DNS_BINARY_LABEL: u32 = 16;
+pub const DNS_BAD_LABEL: u32 = 17;
+pub const DNS_POINTER: u32 = 18;
+pub const DNS_TRAILING_OCTETS: u32 = 19;
+pub const DNS_NO_DIGIT: u32 = 20;
+pub const DNS_TOO_GREAT: u32 = 21;
 
 /// What a call says beside its status.
 #[repr(C)]
@@ -75,6 +83,42 @@ extern "C" {
         octets_len: usize,
         text: *mut u8,
         text_len: usize,
+        outcome: *mut dns_outcome,
+    ) -> u32;
+    pub fn dns_name_read(
+        text: *const u8,
+        text_len: usize,
+        name: *mut u8,
+        name_len: usize,
+        is_absolute: *mut usize,
+        outcome: *mut dns_outcome,
+    ) -> u32;
+    pub fn dns_name_print(
+        name: *const u8,
+        name_len: usize,
+        text: *mut u8,
+        text_len: usize,
+        outcome: *mut dns_outcome,
+    ) -> u32;
+    pub fn dns_name_print_dotted(
+        name: *const u8,
+        name_len: usize,
+        text: *mut u8,
+        text_len: usize,
+        outcome: *mut dns_outcome,
+    ) -> u32;
+    pub fn dns_name_print_zone(
+        name: *const u8,
+        name_len: usize,
+        text: *mut u8,
+        text_len: usize,
+        outcome: *mut dns_outcome,
+    ) -> u32;
+    pub fn dns_number_read(
+        text: *const u8,
+        text_len: usize,
+        greatest: u64,
+        number: *mut u64,
         outcome: *mut dns_outcome,
     ) -> u32;
     pub fn dns_base16_print(

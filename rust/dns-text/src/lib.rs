@@ -16,8 +16,12 @@
 mod call;
 mod char_str;
 pub mod codec;
+mod name;
+mod number;
 mod status;
 mod zone;
 
 pub use char_str::{CharStr, LongString, ReadError, ReadErrorKind};
+pub use name::{Name, NameError, NameErrorKind, NameOctetsError};
+pub use number::{number, NumberError, NumberErrorKind};
 pub use zone::{entries, tokens, Entries, Entry, Fault, FaultKind, Token, Tokens};

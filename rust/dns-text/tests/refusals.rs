@@ -1,6 +1,9 @@
 //! Each refusal, and what comes before it.
 use dns_text::codec::{BadEncoding, BASE16, BASE32HEX, BASE64};
-use dns_text::{entries, tokens, CharStr, FaultKind, LongString, ReadErrorKind};
+use dns_text::{
+    entries, number, tokens, CharStr, FaultKind, LongString, Name, NameErrorKind, NameOctetsError,
+    NumberErrorKind, ReadErrorKind,
+};
 
 #[test]
 fn character_strings() {
@@ -25,6 +28,72 @@ fn character_strings() {
     assert_eq!(long.quoted().len(), 1022);
     let error = CharStr::from_text(b"a\\").unwrap_err();
     assert_eq!(error.to_string(), "unexpected end of data at 1");
+}
+
+#[test]
+fn names() {
+    let refused = |text: &[u8]| {
+        let error = Name::from_text(text).unwrap_err();
+        (error.kind, error.place)
+    };
+    assert_eq!(refused(br"a.\25x"), (NameErrorKind::BadEscape, 2));
+    assert_eq!(refused(br"a.\25"), (NameErrorKind::ShortInput, 2));
+    assert_eq!(refused(b"ab\xFFz"), (NameErrorKind::BadUtf8, 2));
+    assert_eq!(
+        refused("ab\u{e9}".as_bytes()),
+        (NameErrorKind::BadSymbol, 2)
+    );
+    assert_eq!(refused(b"..a"), (NameErrorKind::EmptyLabel, 0));
+    assert_eq!(refused(br"a.\[b"), (NameErrorKind::BinaryLabel, 2));
+    assert_eq!(refused(&[b'a'; 64]), (NameErrorKind::LongLabel, 63));
+    assert_eq!(refused(&b"a.".repeat(128)), (NameErrorKind::TooLong, 254));
+    let longest = Name::from_text(&b"a.".repeat(127)).unwrap();
+    assert_eq!(longest.as_octets().len(), 255);
+    assert_eq!(longest.to_string().as_bytes(), b"a.".repeat(127));
+    let octets: Vec<u8> = (1..=62).chain(192..=255).collect();
+    for label in octets.chunks(63) {
+        let wire = [&[label.len() as u8], label, b"\0"].concat();
+        let name = Name::from_octets(wire).unwrap();
+        assert!(name.is_absolute());
+        assert_eq!(Name::from_text(name.to_string().as_bytes()).unwrap(), name);
+        assert_eq!(Name::from_text(name.zone_text().as_bytes()).unwrap(), name);
+    }
+    let ends_in_zero = Name::from_text(br"a.\000").unwrap();
+    assert!(!ends_in_zero.is_absolute());
+    assert_eq!(
+        Name::from_octets(ends_in_zero.as_octets().to_vec()).unwrap(),
+        ends_in_zero
+    );
+    assert_eq!(Name::from_octets(vec![]).unwrap().to_string(), "");
+    assert_eq!(Name::from_text(b".").unwrap().without_dot(), ".");
+    let octets = |octets: &[u8]| Name::from_octets(octets.to_vec()).unwrap_err();
+    assert_eq!(octets(b"\x02a"), NameOctetsError::ShortInput);
+    assert_eq!(octets(&[0; 256]), NameOctetsError::TooLong);
+    assert_eq!(octets(b"\x80a"), NameOctetsError::BadLabel);
+    assert_eq!(octets(b"\x01a\xC0\x0C"), NameOctetsError::Pointer);
+    assert_eq!(octets(b"\x01a\0b"), NameOctetsError::TrailingOctets);
+    assert_eq!(
+        NameOctetsError::TrailingOctets.to_string(),
+        "octets after the root"
+    );
+}
+
+#[test]
+fn numbers() {
+    let refused = |text: &[u8], greatest: u64| {
+        let error = number(text, greatest).unwrap_err();
+        (error.kind, error.place)
+    };
+    assert_eq!(number(b"", 255).unwrap(), 0);
+    assert_eq!(number(b"00255", 255).unwrap(), 255);
+    assert_eq!(number(b"18446744073709551615", u64::MAX).unwrap(), u64::MAX);
+    assert_eq!(refused(b"256", 255), (NumberErrorKind::TooGreat, 2));
+    assert_eq!(refused(b"12x", 255), (NumberErrorKind::NoDigit, 2));
+    assert_eq!(refused(br"1\25", 255), (NumberErrorKind::ShortInput, 1));
+    assert_eq!(refused(br"1\25x", 255), (NumberErrorKind::BadEscape, 1));
+    assert_eq!(refused(b"1\xFFx", 255), (NumberErrorKind::BadUtf8, 1));
+    let error = number(b"-1", 255).unwrap_err();
+    assert_eq!(error.to_string(), "no decimal digit at 0");
 }
 
 #[test]

@@ -1,0 +1,114 @@
+-- What reading and printing a name answers.
+use Rattle.std.specs.Prelude.{◌≡◌, ◌≢◌, ℕ, ◌<◌, ◌≤◌, Bool, true, false, List, [], ◌∷◌, ◌++◌, length, drop, Some, Result, Ok, Err, encode_utf8_all}
+use Rattle.std.specs.Borrow.{Bor}
+use Rattle.arrayvec.specs.ArrayVec.{ArrayVec}
+use Rattle.dns_symbol.specs.Symbol.{octet_of}
+use Rattle.dns_symbol.specs.Index.{ReadsAt}
+use Rattle.dns_symbol.specs.declared.symbol.Symbol.{Symbol}
+use Rattle.dns_symbol.specs.declared.symbol.BadSymbol.{BadSymbol as WhyNone}
+use Rattle.dns_symbol.specs.declared.symbol.SymbolOctetsError.{SymbolOctetsError}
+use Rattle.dns_wire.specs.Building.{Naming, all_labels, closed, with_octet}
+use Rattle.dns_wire.specs.Printed.{dotted_by, undotted_by, label_text}
+use Rattle.dns_wire.specs.Wire.{wire, wire_length}
+use Rattle.dns_wire.specs.ZoneText.{zone_label}
+use Rattle.dns_name.specs.Reading.{HasNamed, ReadsAs, bracket, is_dot}
+use Rattle.dns_name.specs.ReadingSteps.{GivesOctet}
+use Rattle.dns_name.specs.Uncertain.{labels_of, is_absolute, MakesUncertain}
+use Rattle.dns_name.specs.declared.name.UncertainName.{UncertainName}
+use Rattle.dns_name.specs.declared.name.error.UncertainDnameError.{UncertainDnameError}
+use Rattle.dns_name.specs.declared.name.error.UncertainDnameError.TheVariants.{BadLabel as NoType, CompressedName, LongName, TrailingData, ShortInput as CutShort}
+use Rattle.dns_text_c.specs.Entries.{bit}
+use Rattle.dns_text_c.specs.Strings.{refusal_of}
+use Rattle.dns_text_c.specs.Told.{IsGiven, IsRefused}
+use Rattle.dns_text_c.specs.declared.names.Form.{Form}
+use Rattle.dns_text_c.specs.declared.names.Form.TheVariants.{Label, Zone}
+use Rattle.dns_text_c.specs.declared.outcome.Outcome.{Outcome}
+use Rattle.dns_text_c.specs.declared.outcome.Fault.{Fault}
+use Rattle.dns_text_c.specs.declared.outcome.Refusal.{Refusal}
+use Rattle.dns_text_c.specs.declared.outcome.Refusal.TheVariants.{BadEscape, ShortInput, BadUtf8, BadSymbol, TooLong, EmptyLabel, LongLabel, BinaryLabel, BadLabel, Pointer, TrailingOctets}
+
+-- what taking a symbol other than a plain dot answers, and what the builder then holds
+abbrev pub TakesSymbol : Naming → Symbol → Result (Unit {0}) Refusal → Naming → Type 0
+TakesSymbol b x (Ok _) new =
+    (octet : ℕ) × GivesOctet b x octet × (new ≡ with_octet b octet) × (wire_length (all_labels (with_octet b octet)) ≤ 254) × (length b.current < 63)
+TakesSymbol b x (Err BinaryLabel) new = (b.current ≡ []) × (x ≡ bracket)
+TakesSymbol b x (Err BadSymbol) new = (e : WhyNone) × (octet_of x ≡ Err e)
+TakesSymbol b x (Err TooLong) new = (octet : ℕ) × GivesOctet b x octet × (254 < wire_length (all_labels (with_octet b octet)))
+TakesSymbol b x (Err LongLabel) new =
+    (octet : ℕ) × GivesOctet b x octet × (wire_length (all_labels (with_octet b octet)) ≤ 254) × (63 ≤ length b.current)
+TakesSymbol b x (Err other) new = ⊥
+
+-- the next symbol is no plain dot and gives the open label one more octet
+abbrev pub GivesNext : List ℕ → List (List ℕ) → List ℕ → ℕ → ℕ → Type 0
+GivesNext text labels current place octet =
+    (p : Symbol × ℕ) × ReadsAt text place (Ok (Some p)) × (is_dot p.0 ≡ false) × (octet_of p.0 ≡ Ok octet) × (current ≡ [] → p.0 ≢ bracket)
+
+-- why reading goes no further after these labels and the open one: a plain dot follows no octet, and is not the whole text; a bracket is escaped first
+-- in a label; a symbol has no octet; the labels get more than 254 octets, or one more than 63; or what stands there is no symbol
+abbrev pub NameStops : List ℕ → List (List ℕ) → List ℕ → ℕ → Refusal → Type 0
+NameStops text labels current place EmptyLabel = (current ≡ []) × (rest : List ℕ) × (drop place text ≡ 46 ∷ rest) × (labels ≡ [] → rest ≢ [])
+NameStops text labels current place BinaryLabel = (after : ℕ) × ReadsAt text place (Ok (Some (bracket, after))) × (current ≡ [])
+NameStops text labels current place BadSymbol = (p : Symbol × ℕ) × (e : WhyNone) × ReadsAt text place (Ok (Some p)) × (octet_of p.0 ≡ Err e)
+NameStops text labels current place TooLong =
+    (octet : ℕ) × GivesNext text labels current place octet × (254 < wire_length (labels ++ closed (current ++ octet ∷ [])))
+NameStops text labels current place LongLabel =
+    (octet : ℕ) × GivesNext text labels current place octet × (wire_length (labels ++ closed (current ++ octet ∷ [])) ≤ 254) × (length current ≡ 63)
+NameStops text labels current place other = (e : SymbolOctetsError) × ReadsAt text place (Err e) × (other ≡ refusal_of e)
+
+-- a name, or a fault
+abbrev pub NameAnswer : Type 0
+NameAnswer = Result (UncertainName (ArrayVec ℕ)) Fault
+
+-- what reading a name's text answers: its name; or the first fault, with the labels before it
+abbrev pub ReadsNameText : List ℕ → NameAnswer → Type 0
+ReadsNameText text (Ok name) = ReadsAs text name
+ReadsNameText text (Err fault) =
+    (labels : List (List ℕ)) × (current : List ℕ) × HasNamed text labels current (drop fault.place text) × (fault.place ≤ length text)
+    × NameStops text labels current fault.place fault.refusal
+
+-- the wire octets of the name are given, and whether it is absolute; or the fault is told, and nothing was written
+abbrev pub GivesName : NameAnswer → List ℕ → ℕ → ℕ → List ℕ → ℕ → Outcome → Type 0
+GivesName (Ok name) old was status new is outcome = IsGiven (wire (labels_of name)) old status new outcome × (is ≡ bit (is_absolute name))
+GivesName (Err fault) old was status new is outcome = IsRefused fault status outcome × (new ≡ old) × (is ≡ was)
+
+-- the characters of a label in a form
+abbrev pub form_text : Form → List ℕ → List ℕ
+form_text Label = label_text
+form_text Zone = zone_label
+
+-- with a dot before them, but for the first label of a name
+abbrev pub next_text : Form → Bool → List ℕ → List ℕ
+next_text form true label = form_text form label
+next_text form false label = 46 ∷ form_text form label
+
+-- the characters of labels, whose root at the end has its dot or not
+abbrev pub name_text : Form → Bool → List (List ℕ) → List ℕ
+name_text form true = dotted_by (form_text form)
+name_text form false = undotted_by (form_text form)
+
+-- the bytes of these
+abbrev pub labels_text : Form → Bool → List (List ℕ) → List ℕ
+labels_text form dot labels = encode_utf8_all (name_text form dot labels)
+
+-- the refusal of octets that are no name's
+abbrev pub refusal_of_octets : UncertainDnameError → Refusal
+refusal_of_octets (NoType e) = BadLabel
+refusal_of_octets CompressedName = Pointer
+refusal_of_octets LongName = TooLong
+refusal_of_octets TrailingData = TrailingOctets
+refusal_of_octets CutShort = ShortInput
+
+-- the text of the name is given; or the refusal is told, whose place is not, and nothing was written
+abbrev pub GivesText : (List (List ℕ) → List ℕ) → Result (UncertainName (Bor (List ℕ))) UncertainDnameError → List ℕ → ℕ → List ℕ → Outcome → Type 0
+GivesText text_is (Ok name) old status new outcome = IsGiven (text_is (labels_of name)) old status new outcome
+GivesText text_is (Err e) old status new outcome = IsRefused (record { refusal = refusal_of_octets e; place = 0 }) status outcome × (new ≡ old)
+
+-- what printing the name of some octets answers
+abbrev pub PrintsOctetsOf : (List (List ℕ) → List ℕ) → List ℕ → List ℕ → ℕ → List ℕ → Outcome → Type 0
+PrintsOctetsOf text_is octets old status new outcome =
+    (made : Result (UncertainName (Bor (List ℕ))) UncertainDnameError) × MakesUncertain octets made × GivesText text_is made old status new outcome
+
+-- no octets are the relative name of no labels, and others make a name or are refused
+pub record PrintsName (text_is : List (List ℕ) → List ℕ) (octets old : List ℕ) (status : ℕ) (new : List ℕ) (outcome : Outcome) : Type 0 where
+  pub none : octets ≡ [] → IsGiven (text_is []) old status new outcome
+  pub some : octets ≢ [] → PrintsOctetsOf text_is octets old status new outcome

@@ -1,0 +1,315 @@
+//! Names, read and printed.
+//!
+//! A name's octets are its wire form (RFC 1035 section 3.1): each label's length and its octets,
+//! and the root last where the name is absolute. No octets are the relative name of no labels.
+ghost use Rattle.std.specs.Prelude.{◌≡◌, ◌≢◌, ◌≤◌, ◌<◌, ◌+◌, ◌*◌, ◌↔◌, ◌++◌, [], ◌∷◌, length, take, IsTrue, encode_utf8_all};
+ghost use Rattle.std.specs.Str.{IsAscii};
+ghost use Rattle.dns_symbol.specs.Symbol.{spell};
+ghost use Rattle.dns_wire.specs.Building.{all_labels};
+ghost use Rattle.dns_wire.specs.Printed.{is_label_escape, joined_by, dotted_text, undotted_text};
+ghost use Rattle.dns_wire.specs.Wire.{wire_length, EndsInRoot};
+ghost use Rattle.dns_wire.specs.ZoneText.{zone_label, zone_symbol, zone_text};
+ghost use Rattle.dns_name.specs.Reading.{is_dot};
+ghost use Rattle.dns_name.specs.declared.name.UncertainName.TheVariants.{Absolute, Relative};
+ghost use Rattle.dns_text_c.specs.Names.{TakesSymbol, NameAnswer, ReadsNameText, GivesName, form_text, next_text, labels_text, refusal_of_octets, PrintsOctetsOf, PrintsName};
+ghost use Rattle.dns_text_c.specs.Told.{IsGiven};
+
+use crate::outcome::{Fault, Outcome, Refusal, give, refuse};
+use crate::strings::symbol_at;
+use crate::tokens::bit;
+use arrayvec::ArrayVec;
+use dns_name::name::{UncertainDnameError, UncertainName};
+use dns_symbol::form::{self, put_decimal, put_octets};
+use dns_symbol::symbol::Symbol;
+use dns_wire::{NameBuilder, NameIter, PushError};
+
+/// The most octets of a name.
+const MOST: usize = 255;
+
+/// The most characters of a name's text: four of each octet.
+const TEXT: usize = 1020;
+
+/// Whether a symbol is a plain dot, which ends a label.
+fn is_dot(symbol: Symbol) -> bool
+    ensures { result ≡ is_dot symbol }
+{
+    matches!(symbol, Symbol::Char('.'))
+}
+
+/// Takes a symbol other than a plain dot.
+fn push_symbol(builder: &mut NameBuilder<ArrayVec<u8, MOST>>, symbol: Symbol) -> Result<(), Refusal>
+    ensures { TakesSymbol builder.old symbol result builder.new }
+{
+    if symbol == Symbol::SimpleEscape(b'[') && !builder.in_label() {
+        return Err(Refusal::BinaryLabel);
+    }
+    let Ok(octet) = symbol.into_octet() else {
+        return Err(Refusal::BadSymbol);
+    };
+    match builder.push(octet) {
+        Ok(()) => Ok(()),
+        Err(PushError::LongName) => Err(Refusal::TooLong),
+        Err(PushError::LongLabel) => Err(Refusal::LongLabel),
+        Err(PushError::ShortBuf) => Err(Refusal::NoRoom),
+    }
+}
+
+/// The labels with the root after them.
+fn absolute(builder: NameBuilder<ArrayVec<u8, MOST>>) -> UncertainName<ArrayVec<u8, MOST>>
+    requires { wire_length (all_labels builder) ≤ 254 }
+    ensures { result ≡ Absolute (all_labels builder ++ [] ∷ []) }
+{
+    UncertainName::Absolute(builder.into_name().unwrap())
+}
+
+/// The name of a text: a plain dot last makes it absolute.
+fn finish(builder: NameBuilder<ArrayVec<u8, MOST>>) -> UncertainName<ArrayVec<u8, MOST>>
+    requires { wire_length (all_labels builder) ≤ 254 }
+    ensures relative { (builder.current ≡ [] → builder.labels ≡ []) → result ≡ Relative (all_labels builder) }
+    ensures absolute { builder.current ≡ [] → builder.labels ≢ [] → result ≡ Absolute (all_labels builder ++ [] ∷ []) }
+{
+    if builder.in_label() || builder.is_empty() {
+        return UncertainName::Relative(builder.finish());
+    }
+    absolute(builder)
+}
+
+/// The name of a text, or the first fault.
+fn read_name(text: &[u8]) -> Result<UncertainName<ArrayVec<u8, MOST>>, Fault>
+    ensures { ReadsNameText text.now result }
+{
+    let mut builder = NameBuilder::<ArrayVec<u8, MOST>>::new(());
+    let mut place = 0;
+    while let Some((symbol, after)) = symbol_at(text, place)? {
+        if !is_dot(symbol) {
+            match push_symbol(&mut builder, symbol) {
+                Ok(()) => {}
+                Err(refusal) => return Err(Fault { refusal, place }),
+            }
+        } else if builder.in_label() {
+            builder.end_label();
+        } else if builder.is_empty() && after == text.len() {
+            return Ok(absolute(builder));
+        } else {
+            let refusal = Refusal::EmptyLabel;
+            return Err(Fault { refusal, place });
+        }
+        place = after;
+    }
+    Ok(finish(builder))
+}
+
+/// Reads the text of a name (RFC 1035 section 5.1), and tells whether it is absolute.
+///
+/// The labels are the symbols between plain dots. No text is the relative name of no labels, and a
+/// dot alone the root. Another name is absolute where a plain dot ends it. Symbols are handled in
+/// order. What is no symbol is refused first, then a plain dot after no octet, an escaped opening
+/// bracket that begins a label, a symbol without an octet, more than 254 octets before the root,
+/// more than 63 in a label. The first fault is told, with its place.
+#[unsafe(no_mangle)]
+pub extern "C" fn dns_name_read(
+    text: &[u8],
+    name: &mut [u8],
+    is_absolute: &mut usize,
+    outcome: &mut Outcome,
+) -> u32
+    ensures { (answer : NameAnswer) × ReadsNameText text.now answer
+        × GivesName answer name.old is_absolute.old result name.new is_absolute.new outcome.new }
+{
+    match read_name(text) {
+        Ok(read) => {
+            *is_absolute = bit(read.is_absolute());
+            give(read.as_slice(), name, outcome)
+        }
+        Err(fault) => refuse(fault, outcome),
+    }
+}
+
+/// The form of a label: it escapes the space, the dot and the backslash.
+struct InLabel;
+
+impl form::Form for InLabel {
+    ghost is_escape = { is_label_escape };
+
+    fn is_escape(octet: u8) -> bool {
+        matches!(octet, b' ' | b'.' | b'\\')
+    }
+}
+
+/// How a name's labels are printed.
+#[derive(Clone, Copy)]
+pub(crate) enum Form {
+    /// The space, the dot and the backslash are escaped.
+    Label,
+    /// All but letters, digits, `-`, `_` and `*` is escaped.
+    Zone,
+}
+
+/// Puts the characters of an octet in zone text into a text at a place, and answers the place after
+/// them: a letter, a digit, `-`, `_` or `*` alone, another octet by its decimal value.
+fn put_zone_octet(octet: u8, text: &mut [u8], at: usize) -> usize
+    requires room { at + 4 ≤ length text.old }
+    ensures text { take result text.new ≡ take at text.old ++ spell (zone_symbol octet) }
+    ensures fits { result ≤ at + 4 }
+{
+    match octet {
+        b'A'..=b'Z' | b'a'..=b'z' | b'0'..=b'9' | b'-' | b'_' | b'*' => {
+            text[at] = octet;
+            at + 1
+        }
+        _ => put_decimal(octet, text, at),
+    }
+}
+
+/// Puts the characters of octets in zone text into a text at a place.
+fn put_zone_octets(octets: &[u8], text: &mut [u8], at: usize) -> usize
+    requires room { at + 4 * length octets.now ≤ length text.old }
+    ensures text { take result text.new ≡ take at text.old ++ zone_label octets.now }
+    ensures fits { result ≤ at + 4 * length octets.now }
+    ensures ascii { IsAscii (zone_label octets.now) }
+{
+    let mut end = at;
+    for octet in octets {
+        end = put_zone_octet(*octet, text, end);
+    }
+    end
+}
+
+/// Puts the characters of a label into a text at a place, and answers the place after them.
+fn put_label(label: &[u8], form: Form, text: &mut [u8], at: usize) -> usize
+    requires room { at + 4 * length label.now ≤ length text.old }
+    ensures text { take result text.new ≡ take at text.old ++ form_text form label.now }
+    ensures fits { result ≤ at + 4 * length label.now }
+    ensures ascii { IsAscii (form_text form label.now) }
+{
+    match form {
+        Form::Label => put_octets::<InLabel>(label, text, at),
+        Form::Zone => put_zone_octets(label, text, at),
+    }
+}
+
+/// Puts a dot, but before the first label, and the characters of a label into a text at a place.
+fn put_next(label: &[u8], form: Form, first: bool, text: &mut [u8], at: usize) -> usize
+    requires room { at + 4 * length label.now + 1 ≤ length text.old }
+    ensures text { take result text.new ≡ take at text.old ++ next_text form first label.now }
+    ensures fits { result ≤ at + 4 * length label.now + 1 }
+    ensures ascii { IsAscii (form_text form label.now) }
+{
+    if first {
+        return put_label(label, form, text, at);
+    }
+    text[at] = b'.';
+    put_label(label, form, text, at + 1)
+}
+
+/// Puts the characters of labels joined by dots at the start of a text. Answers how many they are,
+/// and whether the last label is the root.
+fn put_labels(labels: NameIter<'_>, form: Form, text: &mut [u8]) -> (usize, bool)
+    requires room { 4 * wire_length labels ≤ length text.old }
+    ensures text { take result.0 text.new ≡ joined_by (form_text form) labels.entry }
+    ensures fits { result.0 ≤ length text.new }
+    ensures ascii { IsAscii (joined_by (form_text form) labels.entry) }
+    ensures root { IsTrue result.1 ↔ EndsInRoot labels.entry }
+{
+    let mut rest = labels;
+    let mut end = 0;
+    let mut first = true;
+    let mut root = false;
+    while let Some(label) = rest.next() {
+        end = put_next(label.as_slice(), form, first, text, end);
+        first = false;
+        root = label.is_root();
+    }
+    (end, root)
+}
+
+/// Gives the text of labels; `dot` tells whether one stands before a root at their end.
+fn give_text(
+    labels: NameIter<'_>,
+    form: Form,
+    dot: bool,
+    text: &mut [u8],
+    outcome: &mut Outcome,
+) -> u32
+    requires { wire_length labels ≤ 255 }
+    ensures { IsGiven (labels_text form dot labels.entry) text.old result text.new outcome.new }
+{
+    let mut made = [0; TEXT];
+    let (end, root) = put_labels(labels, form, &mut made);
+    if !root {
+        return give(&made[..end], text, outcome);
+    }
+    if end == 0 {
+        return give(b".", text, outcome);
+    }
+    if dot {
+        return give(&made[..end], text, outcome);
+    }
+    give(&made[..end - 1], text, outcome)
+}
+
+/// Why octets are no name.
+fn refusal_of_octets(error: UncertainDnameError) -> Refusal
+    ensures { result ≡ refusal_of_octets error }
+{
+    match error {
+        UncertainDnameError::BadLabel(_) => Refusal::BadLabel,
+        UncertainDnameError::CompressedName => Refusal::Pointer,
+        UncertainDnameError::LongName => Refusal::TooLong,
+        UncertainDnameError::TrailingData => Refusal::TrailingOctets,
+        UncertainDnameError::ShortInput => Refusal::ShortInput,
+    }
+}
+
+/// Prints the name of some octets.
+fn print_octets(octets: &[u8], form: Form, dot: bool, text: &mut [u8], outcome: &mut Outcome) -> u32
+    ensures { PrintsOctetsOf (labels_text form dot) octets.now text.old result text.new outcome.new }
+{
+    match UncertainName::from_octets(octets) {
+        Ok(name) => give_text(name.iter_labels(), form, dot, text, outcome),
+        Err(error) => {
+            let refusal = refusal_of_octets(error);
+            refuse(Fault { refusal, place: 0 }, outcome)
+        }
+    }
+}
+
+/// Prints a name.
+fn print_name(octets: &[u8], form: Form, dot: bool, text: &mut [u8], outcome: &mut Outcome) -> u32
+    ensures { PrintsName (labels_text form dot) octets.now text.old result text.new outcome.new }
+{
+    if octets.is_empty() {
+        return give(b"", text, outcome);
+    }
+    print_octets(octets, form, dot, text, outcome)
+}
+
+/// Prints a name's labels joined by dots, without a dot at the end. The root alone is one dot.
+///
+/// Labels escape the space, the dot and the backslash, and octets outside 0x20 to 0x7E by their
+/// decimal value. Octets that are no name's are refused, in the order of
+/// [`UncertainName::from_octets`]; no place is told.
+#[unsafe(no_mangle)]
+pub extern "C" fn dns_name_print(name: &[u8], text: &mut [u8], outcome: &mut Outcome) -> u32
+    ensures { PrintsName (λ labels. encode_utf8_all (undotted_text labels)) name.now text.old result text.new outcome.new }
+{
+    print_name(name, Form::Label, false, text, outcome)
+}
+
+/// Prints the same with a dot at the end of an absolute name.
+#[unsafe(no_mangle)]
+pub extern "C" fn dns_name_print_dotted(name: &[u8], text: &mut [u8], outcome: &mut Outcome) -> u32
+    ensures { PrintsName (λ labels. encode_utf8_all (dotted_text labels)) name.now text.old result text.new outcome.new }
+{
+    print_name(name, Form::Label, true, text, outcome)
+}
+
+/// Prints a name as zone text has it: letters, digits, `-`, `_` and `*` stand plain, and every
+/// other octet by its decimal value, with a dot at the end of an absolute name. So a name of one
+/// label or more is one word, in which every reader of zone text sees that name.
+#[unsafe(no_mangle)]
+pub extern "C" fn dns_name_print_zone(name: &[u8], text: &mut [u8], outcome: &mut Outcome) -> u32
+    ensures { PrintsName zone_text name.now text.old result text.new outcome.new }
+{
+    print_name(name, Form::Zone, true, text, outcome)
+}

@@ -1,0 +1,81 @@
+//! Decimal numbers.
+ghost use Rattle.std.specs.Prelude.{◌≡◌, ◌<◌, ◌≤◌, ℕ, Result, IfSome, IfOk};
+ghost use Rattle.dns_scan.specs.Numbers.{digit_of};
+ghost use Rattle.dns_text_c.specs.Numbers.{AddsDigit, ReadsNumber, GivesNumber};
+ghost use Rattle.dns_text_c.specs.declared.outcome.Fault.{Fault};
+
+use crate::outcome::{Fault, OK, Outcome, Refusal, refuse};
+use crate::strings::symbol_at;
+use dns_symbol::symbol::Symbol;
+
+/// The value of a plain digit.
+fn plain_digit(symbol: Symbol) -> Option<u64>
+    ensures value { result ≡ digit_of symbol }
+    ensures small { IfSome result (λ d. d < 10) }
+{
+    match symbol {
+        Symbol::Char(c @ '0'..='9') => Some(u64::from(c as u8 - b'0')),
+        _ => None,
+    }
+}
+
+/// A symbol more of a number of at most `greatest`.
+fn with_digit(greatest: u64, value: u64, symbol: Symbol) -> Result<u64, Refusal>
+    ensures { AddsDigit greatest value symbol result }
+{
+    if value > greatest / 10 {
+        return Err(Refusal::TooGreat);
+    }
+    let tens = value * 10;
+    let Some(digit) = plain_digit(symbol) else {
+        return Err(Refusal::NoDigit);
+    };
+    if digit > greatest - tens {
+        return Err(Refusal::TooGreat);
+    }
+    Ok(tens + digit)
+}
+
+/// The number of a text's symbols, or the first fault.
+fn read_number(text: &[u8], greatest: u64) -> Result<u64, Fault>
+    ensures { ReadsNumber greatest text.now result }
+{
+    let mut value = 0;
+    let mut place = 0;
+    while let Some((symbol, after)) = symbol_at(text, place)? {
+        match with_digit(greatest, value, symbol) {
+            Ok(next) => value = next,
+            Err(refusal) => return Err(Fault { refusal, place }),
+        }
+        place = after;
+    }
+    Ok(value)
+}
+
+/// Reads a token as an unsigned decimal number of at most `greatest`. No text is 0.
+///
+/// Its symbols are plain digits. They are handled in order: what is no symbol is refused first,
+/// then a number too great already for any digit after it, then a symbol that is no plain digit,
+/// then a number that its digit makes too great. The first fault is told, with its place, and then
+/// the number stays as it was.
+#[unsafe(no_mangle)]
+pub extern "C" fn dns_number_read(
+    text: &[u8],
+    greatest: u64,
+    number: &mut u64,
+    outcome: &mut Outcome,
+) -> u32
+    ensures { (answer : Result ℕ Fault) × ReadsNumber greatest text.now answer × GivesNumber answer number.old result number.new outcome.new }
+{
+    match read_number(text, greatest) {
+        Ok(read) => {
+            *number = read;
+            *outcome = Outcome {
+                length: 0,
+                place: 0,
+            };
+            OK
+        }
+        Err(fault) => refuse(fault, outcome),
+    }
+}

@@ -1,0 +1,238 @@
+//! Names.
+use crate::call::{give, print};
+use crate::status;
+use dns_text_sys::{
+    dns_call, dns_name_print, dns_name_print_dotted, dns_name_print_zone, dns_name_read,
+    dns_outcome, DNS_BAD_ESCAPE, DNS_BAD_LABEL, DNS_BAD_SYMBOL, DNS_BAD_UTF8, DNS_BINARY_LABEL,
+    DNS_EMPTY_LABEL, DNS_LONG_LABEL, DNS_OK, DNS_POINTER, DNS_SHORT_INPUT, DNS_TOO_LONG,
+    DNS_TRAILING_OCTETS,
+};
+use std::error::Error;
+use std::fmt;
+
+/// A name, absolute or relative: at most 255 octets in wire form (RFC 1035 section 3.1).
+///
+/// It prints its labels joined by dots, with a dot at the end where it is absolute.
+/// [`without_dot`](Name::without_dot) leaves that dot out, and [`zone_text`](Name::zone_text) prints
+/// it for zone text.
+///
+/// ```
+/// use dns_text::Name;
+///
+/// let name = Name::from_text(br"Action\.domains.ISI.EDU.")?;
+/// assert_eq!(name.as_octets(), b"\x0EAction.domains\x03ISI\x03EDU\0");
+/// assert!(name.is_absolute());
+/// assert_eq!(name.to_string(), r"Action\.domains.ISI.EDU.");
+/// assert_eq!(name.without_dot(), r"Action\.domains.ISI.EDU");
+/// assert_eq!(name.zone_text(), r"Action\046domains.ISI.EDU.");
+/// # Ok::<(), dns_text::NameError>(())
+/// ```
+#[derive(Clone, Debug, PartialEq, Eq, Hash)]
+pub struct Name {
+    octets: Vec<u8>,
+    is_absolute: bool,
+}
+
+impl Name {
+    /// Reads a name's text: the labels between plain dots. A dot at the end makes it absolute. No
+    /// text is the relative name of no labels.
+    ///
+    /// ```
+    /// use dns_text::{Name, NameErrorKind};
+    ///
+    /// let error = Name::from_text(b"www..example").unwrap_err();
+    /// assert_eq!((error.kind, error.place), (NameErrorKind::EmptyLabel, 4));
+    /// ```
+    pub fn from_text(text: &[u8]) -> Result<Name, NameError> {
+        let mut octets = vec![0; 255];
+        let mut is_absolute = 0;
+        let mut outcome = dns_outcome::default();
+        // SAFETY: both slices are as long as is said, and the call keeps to them.
+        let status = unsafe {
+            dns_name_read(
+                text.as_ptr(),
+                text.len(),
+                octets.as_mut_ptr(),
+                octets.len(),
+                &mut is_absolute,
+                &mut outcome,
+            )
+        };
+        if status != DNS_OK {
+            return Err(NameError {
+                kind: NameErrorKind::of(status),
+                place: outcome.place,
+            });
+        }
+        octets.truncate(outcome.length);
+        Ok(Name {
+            octets,
+            is_absolute: is_absolute != 0,
+        })
+    }
+
+    /// The name of these octets. None are the relative name of no labels.
+    ///
+    /// ```
+    /// use dns_text::{Name, NameOctetsError};
+    ///
+    /// assert_eq!(Name::from_octets(b"\x03www".to_vec()).unwrap().to_string(), "www");
+    /// let error = Name::from_octets(b"\x04www".to_vec()).unwrap_err();
+    /// assert_eq!(error, NameOctetsError::ShortInput);
+    /// ```
+    pub fn from_octets(octets: Vec<u8>) -> Result<Name, NameOctetsError> {
+        match give(dns_name_print, &octets, 4 * octets.len().min(255) + 1) {
+            Ok(_) => {
+                let is_absolute = ends_in_root(&octets);
+                Ok(Name {
+                    octets,
+                    is_absolute,
+                })
+            }
+            Err(refused) => Err(NameOctetsError::of(refused.status)),
+        }
+    }
+
+    /// Whether it ends in the root.
+    pub fn is_absolute(&self) -> bool {
+        self.is_absolute
+    }
+
+    /// The wire octets.
+    pub fn as_octets(&self) -> &[u8] {
+        &self.octets
+    }
+
+    pub fn into_octets(self) -> Vec<u8> {
+        self.octets
+    }
+
+    /// The labels joined by dots, without a dot at the end. The root alone is one dot.
+    pub fn without_dot(&self) -> String {
+        self.printed(dns_name_print)
+    }
+
+    /// The name as zone text has it: letters, digits, `-`, `_` and `*` stand plain, and every other
+    /// octet by its decimal value. So a name of one label or more is one word, in which every reader
+    /// of zone text sees that name. The relative name of no labels prints nothing, which is no word.
+    pub fn zone_text(&self) -> String {
+        self.printed(dns_name_print_zone)
+    }
+
+    fn printed(&self, call: dns_call) -> String {
+        match print(call, &self.octets, self.octets.len() + 1) {
+            Ok(text) => text,
+            Err(_) => unreachable!("the octets are a name's"),
+        }
+    }
+}
+
+/// Whether the labels of a name's octets end in the root.
+fn ends_in_root(octets: &[u8]) -> bool {
+    let mut rest = octets;
+    while let Some((length, after)) = rest.split_first() {
+        if *length == 0 {
+            return true;
+        }
+        rest = &after[usize::from(*length)..];
+    }
+    false
+}
+
+impl fmt::Display for Name {
+    fn fmt(&self, f: &mut fmt::Formatter<'_>) -> fmt::Result {
+        f.write_str(&self.printed(dns_name_print_dotted))
+    }
+}
+
+/// Why a text is no name, and where.
+#[derive(Clone, Copy, Debug, PartialEq, Eq)]
+pub struct NameError {
+    pub kind: NameErrorKind,
+    /// The octets before what is refused.
+    pub place: usize,
+}
+
+/// Why a text is no name.
+#[derive(Clone, Copy, Debug, PartialEq, Eq)]
+#[repr(u32)]
+pub enum NameErrorKind {
+    /// A backslash with what makes no escape.
+    BadEscape = DNS_BAD_ESCAPE,
+    /// The end inside an escape or a character.
+    ShortInput = DNS_SHORT_INPUT,
+    /// No UTF-8.
+    BadUtf8 = DNS_BAD_UTF8,
+    /// A character that stands for no octet.
+    BadSymbol = DNS_BAD_SYMBOL,
+    /// More than 254 octets before the root.
+    TooLong = DNS_TOO_LONG,
+    /// A plain dot after no octet of a label.
+    EmptyLabel = DNS_EMPTY_LABEL,
+    /// More than 63 octets in a label.
+    LongLabel = DNS_LONG_LABEL,
+    /// A label that begins with an escaped opening bracket.
+    BinaryLabel = DNS_BINARY_LABEL,
+}
+
+impl NameErrorKind {
+    fn of(status: u32) -> NameErrorKind {
+        match status {
+            DNS_BAD_ESCAPE => NameErrorKind::BadEscape,
+            DNS_SHORT_INPUT => NameErrorKind::ShortInput,
+            DNS_BAD_UTF8 => NameErrorKind::BadUtf8,
+            DNS_BAD_SYMBOL => NameErrorKind::BadSymbol,
+            DNS_TOO_LONG => NameErrorKind::TooLong,
+            DNS_EMPTY_LABEL => NameErrorKind::EmptyLabel,
+            DNS_LONG_LABEL => NameErrorKind::LongLabel,
+            DNS_BINARY_LABEL => NameErrorKind::BinaryLabel,
+            status => unreachable!("status {status} of a name's text"),
+        }
+    }
+}
+
+impl fmt::Display for NameError {
+    fn fmt(&self, f: &mut fmt::Formatter<'_>) -> fmt::Result {
+        status::write(self.kind as u32, f)?;
+        write!(f, " at {}", self.place)
+    }
+}
+
+impl Error for NameError {}
+
+/// Why octets are no name.
+#[derive(Clone, Copy, Debug, PartialEq, Eq)]
+#[repr(u32)]
+pub enum NameOctetsError {
+    /// They end within a label.
+    ShortInput = DNS_SHORT_INPUT,
+    /// More than 255 octets, or 255 and no root.
+    TooLong = DNS_TOO_LONG,
+    /// A lead octet of no known type of label.
+    BadLabel = DNS_BAD_LABEL,
+    /// A pointer to another name in place of a label.
+    Pointer = DNS_POINTER,
+    /// Octets after the root.
+    TrailingOctets = DNS_TRAILING_OCTETS,
+}
+
+impl NameOctetsError {
+    fn of(status: u32) -> NameOctetsError {
+        match status {
+            DNS_SHORT_INPUT => NameOctetsError::ShortInput,
+            DNS_TOO_LONG => NameOctetsError::TooLong,
+            DNS_BAD_LABEL => NameOctetsError::BadLabel,
+            DNS_POINTER => NameOctetsError::Pointer,
+            DNS_TRAILING_OCTETS => NameOctetsError::TrailingOctets,
+            status => unreachable!("status {status} of a name's octets"),
+        }
+    }
+}
+
+impl fmt::Display for NameOctetsError {
+    fn fmt(&self, f: &mut fmt::Formatter<'_>) -> fmt::Result {
+        status::write(*self as u32, f)
+    }
+}
+
+impl Error for NameOctetsError {}
