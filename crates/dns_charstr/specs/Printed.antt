@@ -1,6 +1,7 @@
 -- What the display types show, and the texts that they print.
 use Rattle.std.specs.Prelude.{ℕ, ◌/◌, ◌%◌, List, [], ◌∷◌, ◌++◌, codes, slice_index}
 use Rattle.std.specs.List.{flat_map}
+use Rattle.dns_symbol.specs.Characters.{double_quote}
 use Rattle.dns_symbol.specs.Printed.{text_of, is_quoted_escape}
 use Rattle.dns_charstr.specs.declared.charstr.display.DisplayQuoted.{DisplayQuoted}
 use Rattle.dns_charstr.specs.declared.charstr.display.DisplayUnquoted.{DisplayUnquoted}
@@ -22,7 +23,7 @@ upper_hex_octets d = d.octets.now
 
 -- the characters of the quoted form, with a double quote at each end
 abbrev pub quoted_text : List ℕ → List ℕ
-quoted_text octets = 34 ∷ text_of is_quoted_escape octets ++ 34 ∷ []
+quoted_text octets = double_quote ∷ text_of is_quoted_escape octets ++ double_quote ∷ []
 
 -- two digits an octet, the higher one first
 abbrev pub hex_text : List ℕ → List ℕ → List ℕ

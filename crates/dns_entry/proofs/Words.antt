@@ -76,7 +76,8 @@ unfolding encoded padded name
 encoded_all t b octets all zero_too mark = names_all t b.alphabet (pieces b.width octets) _ all zero_too (marks_all t mark ((b.unit - length (map (name b) (pieces b.width octets)) % b.unit) % b.unit))
 
 -- octets that have a text of no characters are none
-some_text : (b : Base) (text octets : List ℕ) → ((none xs ys : List ℕ) → Decodes b none xs → Decodes b none ys → xs ≡ ys) → Decodes b [] [] → Decodes b text octets → 0 < length octets → 0 < length text
+some_text : (b : Base) (text octets : List ℕ) → ((none xs ys : List ℕ) → Decodes b none xs → Decodes b none ys → xs ≡ ys) → Decodes b [] [] → Decodes b text octets → 0 < length octets
+    → 0 < length text
 some_text b [] octets once empty is some = absurd (omega (arith, some, ap length (once [] octets [] is empty)))
 some_text b (c ∷ cs) octets once empty is some = omega arith
 

@@ -1,6 +1,7 @@
 -- The fields of an entry line, and the token that each prints as.
 use Rattle.std.specs.Prelude.{ℕ, ◌<◌, ◌≤◌, ◌^◌, List, [], ◌∷◌, length, map, All, ⊤, encode_utf8_all}
 use Rattle.std.specs.Fmt.{decimal}
+use Rattle.dns_symbol.specs.Characters.{double_quote}
 use Rattle.dns_codec.specs.Base.{base16, base64, encoded}
 use Rattle.dns_symbol.specs.Printed.{text_of, is_unquoted_escape}
 use Rattle.dns_entry.specs.declared.entry.Field.{Field}
@@ -41,5 +42,5 @@ abbrev pub field_text : Content → List ℕ
 field_text (number n) = decimal n
 field_text (hex_octets os) = encoded base16 os
 field_text (base64_octets os) = encoded base64 os
-field_text (text_octets []) = 34 ∷ 34 ∷ []
+field_text (text_octets []) = double_quote ∷ double_quote ∷ []
 field_text (text_octets (o ∷ os)) = encode_utf8_all (text_of is_unquoted_escape (o ∷ os))

@@ -1,5 +1,6 @@
 -- The tokens of an entry line, and what they are scanned as.
 use Rattle.std.specs.Prelude.{⊤, ◌≡◌, ◌<◌, ◌⊎◌, ℕ, List, [], ◌∷◌, ◌++◌, length, map, Result, Ok}
+use Rattle.dns_symbol.specs.Characters.{double_quote}
 use Rattle.dns_split.specs.Splitting.{Entries}
 use Rattle.dns_split.specs.Token.{IsWord}
 use Rattle.dns_symbol.specs.Cause.{Cause, short_buf, IsCause}
@@ -27,7 +28,7 @@ IsRefusal fields (Split ShortBuf) = ⊤
 
 -- what of a token is scanned: a word as it is, and of a quoted text what stands between its quotes
 abbrev pub IsScannedOf : (token scanned : Token) → Type 0
-IsScannedOf token scanned = (IsWord token × (scanned ≡ token)) ⊎ (token ≡ 34 ∷ (scanned ++ 34 ∷ []))
+IsScannedOf token scanned = (IsWord token × (scanned ≡ token)) ⊎ (token ≡ double_quote ∷ (scanned ++ double_quote ∷ []))
 
 -- what a field's token is scanned as
 abbrev pub kind_of : Content → FieldKind

@@ -1,5 +1,6 @@
 -- Characters that were taken from a source, and the name that they are a text of.
-use Rattle.std.proofs.Common.{◌≡◌, ℕ, ◌+◌, ◌<◌, ◌≤◌, true, false, List, [], ◌∷◌, ◌++◌, length, refl, sym, ap, subst, ◌∙◌, arith, append_assoc, append-nil, length-append, Option, Some, None, Result, Ok, Err, inl, inr, ⊎_elim}
+use Rattle.std.proofs.Common.{◌≡◌, ℕ, ◌+◌, ◌<◌, ◌≤◌, true, false, List, [], ◌∷◌, ◌++◌, length, refl, sym, ap, subst, ◌∙◌, arith, append_assoc, append-nil, length-append, Option, Some, None}
+use Rattle.std.proofs.Common.{Result, Ok, Err, inl, inr, ⊎_elim}
 use Rattle.std.specs.Prelude.{encode_utf8_all, IsTrue, is_some}
 use Rattle.std.specs.Iterator.{Yields}
 use Rattle.std.specs.Char.{encode_utf8}

@@ -2,6 +2,7 @@
 use Rattle.std.specs.Prelude.{◌≡◌, ◌≢◌, ◌⊎◌, ℕ, ◌+◌, ◌<◌, ◌≤◌, Bool, true, false, ◌==◌, not, List, [], ◌∷◌, ◌++◌, length, map, All, Option, Some, Result, Ok, Err, encode_utf8_all}
 use Rattle.std.specs.List.{flat_map, list_all, AllZip}
 use Rattle.std.specs.Iterator.{Yields, Drains}
+use Rattle.dns_symbol.specs.Characters.{dot}
 use Rattle.dns_symbol.specs.Symbol.{bytes, is_readable, octet_of}
 use Rattle.dns_symbol.specs.Text.{EndsAs}
 use Rattle.dns_symbol.specs.declared.symbol.Symbol.{Symbol}
@@ -17,7 +18,7 @@ use Rattle.dns_name.specs.declared.name.error.FromStrError.TheVariants.{Symbol a
 
 -- a plain dot
 abbrev pub is_dot : Symbol → Bool
-is_dot (Char c) = c == 46
+is_dot (Char c) = c == dot
 is_dot (SimpleEscape o) = false
 is_dot (DecimalEscape o) = false
 
@@ -34,7 +35,7 @@ pub record IsPiece (piece : List Symbol) (label : List ℕ) : Type 0 where
 
 -- pieces, with a plain dot after each
 abbrev pub dotted : List (List Symbol) → List Symbol
-dotted = flat_map (λ piece. piece ++ Char 46 ∷ [])
+dotted = flat_map (λ piece. piece ++ Char dot ∷ [])
 
 -- the symbols are the pieces of finished labels, a plain dot after each, and the piece of the open label; no finished label is empty, and
 -- all have at most 254 octets
@@ -72,7 +73,7 @@ module _ {O : Type 0} where
   ReadsAs text (Relative name) =
       (labels : List (List ℕ)) × (current : List ℕ) × HasNamed text labels current [] × (name ≡ labels ++ closed current) × (current ≡ [] → text ≡ [])
   ReadsAs text (Absolute name) =
-      ((text ≡ 46 ∷ []) × (name ≡ [] ∷ []))
+      ((text ≡ dot ∷ []) × (name ≡ [] ∷ []))
       ⊎ ((labels : List (List ℕ)) × HasNamed text labels [] [] × (labels ≢ []) × (name ≡ labels ++ [] ∷ []))
 
   -- what reading a text answers, where `sure` octets surely fit and `most` ever do: its name, or the refusal of the earliest symbol, with the
@@ -83,7 +84,7 @@ module _ {O : Type 0} where
       (labels : List (List ℕ)) × (current : List ℕ) × (rest : List ℕ) × HasNamed text labels current rest × EndsAs rest (Some e)
       × (wire_length (labels ++ closed current) ≤ most)
   ReadsName sure most text (Err EmptyLabel) =
-      (labels : List (List ℕ)) × (rest : List ℕ) × HasNamed text labels [] (46 ∷ rest) × (labels ≡ [] → rest ≢ []) × (wire_length labels ≤ most)
+      (labels : List (List ℕ)) × (rest : List ℕ) × HasNamed text labels [] (dot ∷ rest) × (labels ≡ [] → rest ≢ []) × (wire_length labels ≤ most)
   ReadsName sure most text (Err BinaryLabel) =
       (labels : List (List ℕ)) × HasNamedBefore text labels [] bracket × (wire_length labels ≤ most)
   ReadsName sure most text (Err BadOctet) =
@@ -99,7 +100,7 @@ module _ {O : Type 0} where
       ((labels : List (List ℕ)) × (current : List ℕ) × (octet : ℕ) × HasNamedNext text labels current octet
       × (wire_length (labels ++ closed (current ++ octet ∷ [])) ≤ 254) × (length current < 63) × (wire_length (labels ++ closed current) ≤ most)
       × (sure < wire_length (labels ++ closed (current ++ octet ∷ []))))
-      ⊎ (((text ≡ 46 ∷ []) × (sure < 1))
+      ⊎ (((text ≡ dot ∷ []) × (sure < 1))
       ⊎ ((labels : List (List ℕ)) × HasNamed text labels [] [] × (labels ≢ []) × (wire_length labels ≤ most) × (sure < wire_length labels + 1)))
 
   -- what reading the characters of a source answers: they were taken up to the end, and their text has this answer; or some were taken,

@@ -12,7 +12,8 @@ use base.Fml.{Lft, Incl, GName, Share, Fml, fsep, fobs, fbor, flft}
 use mir.Syntax.{Lifetime}
 use mir.Val.{Val}
 use types.Logic.{Logic, sem}
-use types.Kit.{‵, check, use2, ◌⊛◌, some, later, await, ◌$◌, ◌∵◌, !, qed, move, use3, pick, show, split3, rewrite, fsplit, fsplit3, fjoin, fjoin3, fpick, fpack, feq_i, feq_l, updating, now as at_once, done}
+use types.Kit.{‵, check, use2, ◌⊛◌, some, later, await, ◌$◌, ◌∵◌, !, qed, move, use3, pick, show, split3, rewrite, fsplit, fsplit3, fjoin, fjoin3, fpick, fpack, feq_i, feq_l, updating}
+use types.Kit.{now as at_once, done}
 use types.SemTy.{Body, Arr}
 use types.Through.{hands_through}
 use denote.RattleType.{RattleType}

@@ -1,6 +1,7 @@
 -- What the program's `line` asks for, writes and answers.
 use Rattle.std.specs.Prelude.{ℕ, List, [], ◌∷◌, ◌++◌, ◌≡◌, ◌≢◌, ◌⊎◌, Option, Some, None, Ok, codes, map}
 use Rattle.std.specs.Fmt.{WritesInCalls}
+use Rattle.dns_symbol.specs.Characters.{line_feed}
 use Rattle.dns_symbol.specs.declared.symbol.Symbol.{Symbol}
 use Rattle.dns_symbol.specs.Text.{SymbolsOf}
 use Rattle.dns_scan.specs.Answers.{AllGiven}
@@ -80,7 +81,7 @@ FieldsUnmade asked OutOfMemory = asked ≢ []
 -- the fields are a line, and its text in the layout was written, and a line end
 abbrev pub LinePrinted : {O : Type 0} → (O → List ℕ → O → Type 0) → DisplayKind → List Asked → O → O → Type 0
 LinePrinted took kind asked o p =
-    (fields : List Content) × FieldsRun asked fields None × IsLine fields × WritesInCalls took o (printed kind (line_document fields) ++ 10 ∷ []) p
+    (fields : List Content) × FieldsRun asked fields None × IsLine fields × WritesInCalls took o (printed kind (line_document fields) ++ line_feed ∷ []) p
 
 -- the words `FIELD..` were refused for that reason: a token is no field, or the fields are no line, and nothing was printed; or their text found no room; or no memory was found for the fields
 abbrev pub LineRefused : {O : Type 0} → List (List ℕ) → O → O → List ℕ → Type 0

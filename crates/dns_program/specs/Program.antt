@@ -2,6 +2,7 @@
 use Rattle.std.specs.Prelude.{ℕ, List, [], ◌∷◌, ◌++◌, ◌≡◌, ◌⊎◌, Option, Some, None, Result, Ok, Err, codes, map, encode_utf8_all}
 use Rattle.std.specs.Borrow.{Bor}
 use Rattle.std.specs.Fmt.{WritesInCalls, decimal}
+use Rattle.dns_symbol.specs.Characters.{line_feed}
 use Rattle.dns_symbol.specs.declared.symbol.Symbol.{Symbol}
 use Rattle.dns_symbol.specs.declared.symbol.SymbolCharsError.{SymbolCharsError}
 use Rattle.dns_symbol.specs.Text.{SymbolsOf}
@@ -109,7 +110,7 @@ IsRefused Name = NameRefused
 abbrev pub ScanRun : ScanKind → List Token → List ℕ → Option Cause → Type 0
 ScanRun kind [] printed refusal = (printed ≡ []) × (refusal ≡ None)
 ScanRun kind (t ∷ ts) printed refusal =
-    ((text : List ℕ) × (more : List ℕ) × PrintsAs kind t text × (printed ≡ (text ++ 10 ∷ []) ++ more) × ScanRun kind ts more refusal)
+    ((text : List ℕ) × (more : List ℕ) × PrintsAs kind t text × (printed ≡ (text ++ line_feed ∷ []) ++ more) × ScanRun kind ts more refusal)
     ⊎ ((why : Cause) × IsRefused kind t why × (printed ≡ []) × (refusal ≡ Some why))
 
 -- the line on standard error for a refusal
@@ -122,13 +123,13 @@ usage_line = codes "usage: dnstext scan|print|line KIND WORD..\n"
 
 -- what printing one token did: its line was written, or it was refused and nothing was, or it is a value and the sink refused
 abbrev pub LineBy : {E O : Type 0} → (E → Cause) → (O → List ℕ → O → Type 0) → (Token → List ℕ → Type 0) → (Token → Cause → Type 0) → Token → O → Result (Unit {0}) (Stop E) → O → Type 0
-LineBy cause took prints refused token o (Ok u) p = (text : List ℕ) × prints token text × WritesInCalls took o (text ++ 10 ∷ []) p
+LineBy cause took prints refused token o (Ok u) p = (text : List ℕ) × prints token text × WritesInCalls took o (text ++ line_feed ∷ []) p
 LineBy cause took prints refused token o (Err (Refused e)) p = refused token (cause e) × (p ≡ o)
 LineBy cause took prints refused token o (Err WriteFailed) p = (text : List ℕ) × prints token text
 
 -- what printing the octets of a token did, which a run of a converter gave
 abbrev pub OctetsLine : {E O : Type 0} → (O → List ℕ → O → Type 0) → (Result (List ℕ) E → Type 0) → O → Result (Unit {0}) (Stop E) → O → Type 0
-OctetsLine took run o (Ok u) p = (octets : List ℕ) × run (Ok octets) × WritesInCalls took o (encoded base16 octets ++ 10 ∷ []) p
+OctetsLine took run o (Ok u) p = (octets : List ℕ) × run (Ok octets) × WritesInCalls took o (encoded base16 octets ++ line_feed ∷ []) p
 OctetsLine took run o (Err (Refused e)) p = run (Err e) × (p ≡ o)
 OctetsLine took run o (Err WriteFailed) p = (octets : List ℕ) × run (Ok octets)
 

@@ -2,6 +2,7 @@
 use Rattle.std.specs.Prelude.{ℕ, zero, suc, ◌≡◌, ◌==◌, ◌&&◌, Bool, true, false, List, [], ◌∷◌, map, nat_le, encode_utf8_all}
 use Rattle.std.specs.Fmt.{decimal}
 use Rattle.std.specs.List.{list_all}
+use Rattle.dns_symbol.specs.Characters.{space, tilde}
 use Rattle.dns_codec.specs.Base.{base16, base64, encoded}
 use Rattle.dns_charstr.specs.Printed.{quoted_text}
 use Rattle.dns_entry.specs.Field.{field_text, text_octets}
@@ -50,7 +51,7 @@ values_of (closes ∷ ps) = values_of ps
 
 -- a printable ASCII character
 abbrev pub is_note_ascii : ℕ → Bool
-is_note_ascii c = nat_le 32 c && nat_le c 126
+is_note_ascii c = nat_le space c && nat_le c tilde
 
 -- where so many blocks are open before: blocks nest and close, and notes are printable ASCII
 abbrev pub is_laid_out : (open_blocks : ℕ) → List Piece → Bool

@@ -16,7 +16,8 @@ use Rattle.dns_split.specs.declared.pieces.Wrong.TheVariants.{Closing as Late, O
 use Rattle.dns_split.specs.Splitting.{Splits}
 use Rattle.dns_split.specs.Viable.{IsViable}
 use Rattle.dns_split.specs.Token.{IsQuote}
-use Rattle.dns_split.specs.Pieces.{word_at, quote_at, comment_at, end_at, IsWithin, EachWithin, EndsQuote, IsWrong, IsSpelled, between, moved_piece, moved_wrong, moved_fault, moved, place_of, ReadsOctets, IsGiven, AreOctets}
+use Rattle.dns_split.specs.Pieces.{word_at, quote_at, comment_at, end_at, IsWithin, EachWithin, EndsQuote, IsWrong, IsSpelled, between, moved_piece, moved_wrong, moved_fault, moved, place_of}
+use Rattle.dns_split.specs.Pieces.{ReadsOctets, IsGiven, AreOctets}
 use Rattle.dns_split.specs.Run.{first_blank, run}
 use Rattle.dns_split.proofs.PieceSplit.{split_pieces}
 use Rattle.dns_split.proofs.PieceMoved.{reads_octets}

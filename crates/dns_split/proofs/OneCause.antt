@@ -188,7 +188,8 @@ no_start s at n i w (p ∷ first) l e = cc
 
 ends_open : (m : Mode) (d s n i : ℕ) (x : Bool) (w : List ℕ) (first : List Piece) (l : List (Result Piece Fault)) → run m d s n x (34 ∷ w) ≡ map Ok first ++ Ok (quote_at i (n + 1)) ∷ l → Ends m s i
 ends_open Outside d s n i x w first l e =
-    elim (none_here (n + 1) i first _ l (subst (Past (n + 1)) (sym (run_step Outside d s n x 34 w _ refl)) (open_past Outside s n (n + 1) _ (run_past w Quoted d n (n + 1) x (n + 1) (omega arith)))) e) [ ]
+    elim (none_here (n + 1) i first _ l
+        (subst (Past (n + 1)) (sym (run_step Outside d s n x 34 w _ refl)) (open_past Outside s n (n + 1) _ (run_past w Quoted d n (n + 1) x (n + 1) (omega arith)))) e) [ ]
 ends_open Comment d s n i x w first l e =
     elim (none_here (n + 1) i first _ l (subst (Past (n + 1)) (sym (run_step Comment d s n x 34 w _ refl)) (run_past w Comment d s (n + 1) x (n + 1) (omega arith))) e) [ ]
 ends_open Return d s n i x w first l e = elim (no_start s n (n + 1) i LoneReturn first l e) [ ]
@@ -246,7 +247,8 @@ open_sort ys (TwoDigits q n) d ok h o v = elim (not_open ys (TwoDigits q n) d h 
 abbrev Feeds : List ℕ → Type 0
 Feeds front = (c : ℕ) → scalar c ≡ true → IsViable (front ++ encode_utf8 c) → c ≡ 10
 
-other : (ys : List ℕ) (c : ℕ) (m : Mode) (d : ℕ) (v : Move) → scalars ys ≡ true → scalar c ≡ true → walk Outside 0 ys ≡ Some (m, d) → step m d c ≡ Some v → Feeds (encode_utf8_all ys) → (c ≡ 10 → ⊥) → sort m ≡ 2
+other : (ys : List ℕ) (c : ℕ) (m : Mode) (d : ℕ) (v : Move) → scalars ys ≡ true → scalar c ≡ true → walk Outside 0 ys ≡ Some (m, d) → step m d c ≡ Some v → Feeds (encode_utf8_all ys)
+    → (c ≡ 10 → ⊥) → sort m ≡ 2
 other ys c m d v ok fine h e w differs = absurd (differs (w c fine (next_viable ys c m d v ok fine h e)))
 
 lone_sort : (ys : List ℕ) (m : Mode) (d : ℕ) → scalars ys ≡ true → walk Outside 0 ys ≡ Some (m, d) → Feeds (encode_utf8_all ys) → sort m ≡ 2
@@ -266,7 +268,8 @@ lone_sort ys (TwoDigits q n) d ok h w =
 feed_viable : (ys : List ℕ) (m : Mode) (d : ℕ) (v : Move) → scalars ys ≡ true → walk Outside 0 ys ≡ Some (m, d) → step m d 10 ≡ Some v → IsViable (encode_utf8_all ys ++ 10 ∷ [])
 feed_viable ys m d v ok h e = subst (λ l. IsViable (encode_utf8_all ys ++ l)) (encode_ascii 10 (omega arith)) (next_viable ys 10 m d v ok refl h e)
 
-escape_sort : (ys : List ℕ) (m : Mode) (d : ℕ) → scalars ys ≡ true → walk Outside 0 ys ≡ Some (m, d) → ¬ IsViable (encode_utf8_all ys ++ 9 ∷ []) → ¬ IsViable (encode_utf8_all ys ++ 10 ∷ []) → sort m ≡ 3
+escape_sort : (ys : List ℕ) (m : Mode) (d : ℕ) → scalars ys ≡ true → walk Outside 0 ys ≡ Some (m, d) → ¬ IsViable (encode_utf8_all ys ++ 9 ∷ []) → ¬ IsViable (encode_utf8_all ys ++ 10 ∷ [])
+    → sort m ≡ 3
 escape_sort ys Outside d ok h t f = absurd (t (tab_viable ys Outside d _ ok h refl))
 escape_sort ys Comment d ok h t f = absurd (t (tab_viable ys Comment d _ ok h refl))
 escape_sort ys Quoted d ok h t f = absurd (t (tab_viable ys Quoted d _ ok h refl))
@@ -280,7 +283,8 @@ abbrev Tells : Mode → ℕ → Wrong → Type 0
 Tells m s (OpenQuote i) = Ends m s i
 Tells m s w = sort m ≡ sort_of w
 
-tells : (ys rest : List ℕ) (m : Mode) (d s : ℕ) (found : List Piece) (w : Wrong) → scalars ys ≡ true → walk Outside 0 ys ≡ Some (m, d) → GivesAll ys m d found s → IsWrong (encode_utf8_all ys) rest w → Tells m s w
+tells : (ys rest : List ℕ) (m : Mode) (d s : ℕ) (found : List Piece) (w : Wrong) → scalars ys ≡ true → walk Outside 0 ys ≡ Some (m, d) → GivesAll ys m d found s
+    → IsWrong (encode_utf8_all ys) rest w → Tells m s w
 tells ys rest m d s found Late ok h g w = late_sort ys m d w.1 h w.3
 tells ys rest m d s found OpenParenthesis ok h g w = open_sort ys m d ok h w.1 w.2
 tells ys rest m d s found (OpenQuote i) ok h g w = quote_open ys m d s i found g w.0 w.1

@@ -2,13 +2,14 @@
 use Rattle.std.specs.Prelude.{ℕ, Bool, true, false, if◌then◌else◌, ◌&&◌, ◌||◌, ◌==◌, not, List, [], ◌∷◌, ◌++◌, encode_utf8_all}
 use Rattle.std.specs.List.{flat_map, list_all}
 use lib.Utf8.{scalar}
+use Rattle.dns_symbol.specs.Characters.{tab, line_feed, carriage_return, space, double_quote, open_parenthesis, close_parenthesis, semicolon}
 use Rattle.dns_symbol.specs.Symbol.{spell, is_readable, is_word_symbol}
 use Rattle.dns_symbol.specs.declared.symbol.Symbol.{Symbol}
 use Rattle.dns_symbol.specs.declared.symbol.Symbol.TheVariants.{Char, SimpleEscape, DecimalEscape}
 
 -- the characters that may stand plain between double quotes: not the double quote, LF or CR
 abbrev pub is_quote_char : ℕ → Bool
-is_quote_char c = not (c == 34 || c == 10 || c == 13)
+is_quote_char c = not (c == double_quote || c == line_feed || c == carriage_return)
 
 -- a symbol that may stand between double quotes: an escape always may
 abbrev pub stands_in_quote : Symbol → Bool
@@ -22,7 +23,7 @@ is_quote_symbol s = stands_in_quote s && is_readable s
 
 -- the characters of a comment: not LF or CR
 abbrev pub is_note_char : ℕ → Bool
-is_note_char c = scalar c && not (c == 10 || c == 13)
+is_note_char c = scalar c && not (c == line_feed || c == carriage_return)
 
 -- a blank is a space or a tab, a line ends in LF or CR LF, a note is a comment, a word has one symbol or more
 pub data Lexeme : Type 0 where
@@ -36,14 +37,14 @@ pub data Lexeme : Type 0 where
 
 -- the characters that a lexeme is written as
 abbrev pub characters : Lexeme → List ℕ
-characters (Blank is_tab) = (if is_tab then 9 else 32) ∷ []
-characters (Line true) = 13 ∷ 10 ∷ []
-characters (Line false) = 10 ∷ []
-characters Open = 40 ∷ []
-characters Close = 41 ∷ []
-characters (Note cs) = 59 ∷ cs
+characters (Blank is_tab) = (if is_tab then tab else space) ∷ []
+characters (Line true) = carriage_return ∷ line_feed ∷ []
+characters (Line false) = line_feed ∷ []
+characters Open = open_parenthesis ∷ []
+characters Close = close_parenthesis ∷ []
+characters (Note cs) = semicolon ∷ cs
 characters (Word s ss) = flat_map spell (s ∷ ss)
-characters (Quote ss) = 34 ∷ (flat_map spell ss ++ 34 ∷ [])
+characters (Quote ss) = double_quote ∷ (flat_map spell ss ++ double_quote ∷ [])
 
 -- and their bytes
 abbrev pub bytes : Lexeme → List ℕ

@@ -1,15 +1,16 @@
 -- Where parentheses that are left open were opened.
 use Rattle.std.specs.Prelude.{◌≡◌, ℕ, suc, ◌<◌, ◌≤◌, List, ◌∷◌, ◌++◌, length, take, drop, replicate}
+use Rattle.dns_symbol.specs.Characters.{line_feed, open_parenthesis, close_parenthesis}
 use Rattle.dns_split.specs.Splitting.{Entries, Splits}
 
 -- an opening parenthesis, before which the text splits and beyond which no beginning of it does
 pub record IsOpener (text : List ℕ) (i : ℕ) : Type 0 where
   pub inside : List ℕ
-  pub opens : drop i text ≡ 40 ∷ inside
+  pub opens : drop i text ≡ open_parenthesis ∷ inside
   pub found : Entries
   pub splits : Splits (take i text) found
   pub never_closed : (j : ℕ) → i < j → j ≤ length text → (e : Entries) → ¬ Splits (take j text) e
 
 -- closing parentheses alone, on a line of their own, complete the text
 abbrev pub IsLeftOpen : List ℕ → Type 0
-IsLeftOpen text = (n : ℕ) × (e : Entries) × Splits (text ++ (10 ∷ replicate (suc n) 41)) e
+IsLeftOpen text = (n : ℕ) × (e : Entries) × Splits (text ++ (line_feed ∷ replicate (suc n) close_parenthesis)) e

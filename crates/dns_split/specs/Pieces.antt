@@ -4,6 +4,7 @@ use Rattle.std.specs.Prelude.{encode_utf8, encode_utf8_all}
 use Rattle.std.specs.List.{flat_map, list_all}
 use lib.Utf8.{scalar}
 use Rattle.std.specs.Str.{IsCharBoundary}
+use Rattle.dns_symbol.specs.Characters.{tab, line_feed, double_quote, close_parenthesis}
 use Rattle.dns_split.specs.declared.pieces.Piece.{Piece}
 use Rattle.dns_split.specs.declared.pieces.Piece.TheVariants.{Word as WordAt, Quote as QuoteAt, Comment as CommentAt, End as EndAt}
 use Rattle.dns_split.specs.declared.pieces.Fault.{Fault}
@@ -75,17 +76,18 @@ BeginsPieces front found = (rest : List ℕ) (all : List Piece) → IsPieces (fr
 
 -- with a double quote after it, the quoted text from i on ends
 abbrev pub EndsQuote : List ℕ → ℕ → Type 0
-EndsQuote front i = (more : List ℕ) (all : List Piece) → IsPieces (front ++ (34 ∷ more)) all → (first : List Piece) × (last : List Piece) × (all ≡ first ++ quote_at i (length front + 1) ∷ last)
+EndsQuote front i = (more : List ℕ) (all : List Piece) → IsPieces (front ++ (double_quote ∷ more)) all → (first : List Piece) × (last : List Piece)
+    × (all ≡ first ++ quote_at i (length front + 1) ∷ last)
 
 -- why the longest viable beginning can't go on with the rest of the text
 -- a closing parenthesis follows what splits already; what it is inside of has to be closed, and a tab may follow; a double quote may follow, and would end the quoted text from i on;
 -- only LF may follow; neither a tab nor LF may
 abbrev pub IsWrong : List ℕ → List ℕ → Wrong → Type 0
-IsWrong front rest Closing = (more : List ℕ) × (e : Entries) × (rest ≡ 41 ∷ more) × Splits front e
-IsWrong front rest OpenParenthesis = (rest ≡ []) × IsLeftOpen front × IsViable (front ++ 9 ∷ [])
-IsWrong front rest (OpenQuote i) = IsViable (front ++ 34 ∷ []) × EndsQuote front i
-IsWrong front rest LoneReturn = (c : ℕ) → scalar c ≡ true → IsViable (front ++ encode_utf8 c) → c ≡ 10
-IsWrong front rest BadEscape = (¬ IsViable (front ++ 9 ∷ [])) × (¬ IsViable (front ++ 10 ∷ []))
+IsWrong front rest Closing = (more : List ℕ) × (e : Entries) × (rest ≡ close_parenthesis ∷ more) × Splits front e
+IsWrong front rest OpenParenthesis = (rest ≡ []) × IsLeftOpen front × IsViable (front ++ tab ∷ [])
+IsWrong front rest (OpenQuote i) = IsViable (front ++ double_quote ∷ []) × EndsQuote front i
+IsWrong front rest LoneReturn = (c : ℕ) → scalar c ≡ true → IsViable (front ++ encode_utf8 c) → c ≡ line_feed
+IsWrong front rest BadEscape = (¬ IsViable (front ++ tab ∷ [])) × (¬ IsViable (front ++ line_feed ∷ []))
 
 -- every text of the grammar that begins so has these pieces first, and no more; but where a CR waits for its LF, that the entry ends with it is known
 pub record Settles (front : List ℕ) (wrong : Wrong) (found : List Piece) : Type 0 where

@@ -1,15 +1,16 @@
 -- Lines and columns.
 use Rattle.std.specs.Prelude.{◌≡◌, ℕ, ◌+◌, ◌==◌, Bool, true, not, List, [], ◌∷◌, ◌++◌, length, encode_utf8_all}
 use Rattle.std.specs.List.{flat_map, list_all}
+use Rattle.dns_symbol.specs.Characters.{line_feed}
 
 abbrev pub no_feed : List ℕ → Bool
-no_feed l = list_all (λ c. not (c == 10)) l
+no_feed l = list_all (λ c. not (c == line_feed)) l
 
 -- what stands before is so many lines, each with its LF, and so many characters of the next; both are counted from 1
 pub record IsPosition (before : List ℕ) (line column : ℕ) : Type 0 where
   pub lines : List (List ℕ)
   pub last : List ℕ
-  pub is : before ≡ flat_map (λ l. l ++ 10 ∷ []) lines ++ last
+  pub is : before ≡ flat_map (λ l. l ++ line_feed ∷ []) lines ++ last
   pub fed : list_all no_feed lines ≡ true
   pub unfed : no_feed last ≡ true
   pub counted : line ≡ length lines + 1

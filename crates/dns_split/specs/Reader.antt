@@ -1,5 +1,6 @@
 -- The reader of zone text, one character after the other.
 use Rattle.std.specs.Prelude.{ℕ, zero, suc, ◌+◌, ◌-◌, ◌*◌, Bool, true, false, if◌then◌else◌, ◌&&◌, ◌==◌, nat_le, List, [], ◌∷◌, ◌++◌, Option, Some, None, option_map, option_and_then, encode_utf8}
+use Rattle.dns_symbol.specs.Characters.{tab, line_feed, carriage_return, space, double_quote, open_parenthesis, close_parenthesis, semicolon, backslash}
 use Rattle.dns_split.specs.declared.reader.Mode.{Mode}
 use Rattle.dns_split.specs.declared.reader.Mode.TheVariants.{Outside, Quoted, Comment, Return, Escape, OneDigit, TwoDigits}
 use Rattle.dns_split.specs.declared.reader.Act.{Act}
@@ -15,8 +16,8 @@ use Rattle.dns_split.specs.declared.reader.Within.TheVariants.{InWord, InQuote}
 -- what a character is to the grammar
 abbrev pub kind : ℕ → Kind
 kind c =
-    if c == 32 then White else (if c == 9 then White else (if c == 10 then LineFeed else (if c == 13 then CarriageReturn else (if c == 40 then Opening else (
-    if c == 41 then Closing else (if c == 59 then Semicolon else (if c == 34 then DoubleQuote else (if c == 92 then Backslash else Plain))))))))
+    if c == space then White else (if c == tab then White else (if c == line_feed then LineFeed else (if c == carriage_return then CarriageReturn else (if c == open_parenthesis then Opening else (
+    if c == close_parenthesis then Closing else (if c == semicolon then Semicolon else (if c == double_quote then DoubleQuote else (if c == backslash then Backslash else Plain))))))))
 
 -- on to a mode and a depth
 abbrev pub move_to : Mode → ℕ → Act → Option Move

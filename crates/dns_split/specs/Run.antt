@@ -1,5 +1,6 @@
 -- The reader by octets, with the pieces that it gives.
 use Rattle.std.specs.Prelude.{◌≡◌, ◌<◌, ◌≤◌, drop, length, ℕ, ◌+◌, Bool, true, false, if◌then◌else◌, ◌||◌, ◌==◌, List, [], ◌∷◌, Option, Some, None, option_map, unwrap_or, Result, Ok, Err}
+use Rattle.dns_symbol.specs.Characters.{tab, space}
 use Rattle.dns_split.specs.declared.reader.Mode.{Mode}
 use Rattle.dns_split.specs.declared.reader.Mode.TheVariants.{Outside, Quoted, Comment, Return}
 use Rattle.dns_split.specs.declared.reader.Act.{Act}
@@ -62,7 +63,7 @@ start_after m n FinishToken s at = at + 1
 
 -- an octet is a blank, and the first one is
 abbrev pub is_blank : ℕ → Bool
-is_blank c = c == 32 || c == 9
+is_blank c = c == space || c == tab
 
 abbrev pub first_blank : List ℕ → Bool
 first_blank [] = false

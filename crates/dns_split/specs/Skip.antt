@@ -2,6 +2,7 @@
 use Rattle.std.specs.Prelude.{◌≡◌, ◌≤◌, ◌<◌, ℕ, ◌+◌, if◌then◌else◌, Bool, true, not, nat_lt, nat_le, ◌&&◌, ◌||◌, ◌==◌, List, map, slice_index}
 use Rattle.std.specs.Int.{w64, trailing_zeros}
 use lib.Lanes.{mask_l}
+use Rattle.dns_symbol.specs.Characters.{tab, line_feed, carriage_return, space, double_quote, close_parenthesis, semicolon, backslash}
 use Rattle.dns_split.specs.declared.reader.Within.{Within}
 use Rattle.dns_split.specs.declared.reader.Within.TheVariants.{InWord, InQuote}
 use Rattle.dns_split.specs.declared.skip.Class.{Class}
@@ -9,10 +10,10 @@ use Rattle.dns_split.specs.declared.skip.Class.TheVariants.{Word, Quote, Comment
 
 -- not every octet that changes nothing: those that a few comparisons find
 abbrev pub is_in : Class → ℕ → Bool
-is_in Word c = nat_lt 41 c && (not (c == 59) && not (c == 92))
-is_in Quote c = nat_le 32 c && (not (c == 34) && not (c == 92))
-is_in Comment c = not (c == 10) && not (c == 13)
-is_in Blank c = c == 32 || c == 9
+is_in Word c = nat_lt close_parenthesis c && (not (c == semicolon) && not (c == backslash))
+is_in Quote c = nat_le space c && (not (c == double_quote) && not (c == backslash))
+is_in Comment c = not (c == line_feed) && not (c == carriage_return)
+is_in Blank c = c == space || c == tab
 
 -- each octet from one place to before another
 abbrev pub EachIn : Class → List ℕ → ℕ → ℕ → Type 0

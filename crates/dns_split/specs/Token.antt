@@ -1,6 +1,7 @@
 -- What a token is: a word, or a quoted text with its quotes; and what a comment is.
 use Rattle.std.specs.Prelude.{◌≡◌, ◌⊎◌, ℕ, ◌<◌, true, List, [], ◌∷◌, ◌++◌, length, encode_utf8_all}
 use Rattle.std.specs.List.{flat_map, list_all}
+use Rattle.dns_symbol.specs.Characters.{double_quote, semicolon}
 use Rattle.dns_symbol.specs.Symbol.{bytes, is_word_symbol}
 use Rattle.dns_symbol.specs.declared.symbol.Symbol.{Symbol}
 use Rattle.dns_split.specs.Lexeme.{is_quote_symbol, is_note_char}
@@ -16,7 +17,7 @@ pub record IsWord (text : List ℕ) : Type 0 where
 pub record IsQuote (text : List ℕ) : Type 0 where
   pub symbols : List Symbol
   pub valid : list_all is_quote_symbol symbols ≡ true
-  pub spelled : text ≡ 34 ∷ (flat_map bytes symbols ++ 34 ∷ [])
+  pub spelled : text ≡ double_quote ∷ (flat_map bytes symbols ++ double_quote ∷ [])
 
 -- a word, or a quoted text
 abbrev pub IsToken : List ℕ → Type 0
@@ -26,4 +27,4 @@ IsToken text = IsWord text ⊎ IsQuote text
 pub record IsComment (text : List ℕ) : Type 0 where
   pub characters : List ℕ
   pub valid : list_all is_note_char characters ≡ true
-  pub spelled : text ≡ encode_utf8_all (59 ∷ characters)
+  pub spelled : text ≡ encode_utf8_all (semicolon ∷ characters)

@@ -1,5 +1,6 @@
 -- Which beginnings of a text can be completed to one that splits.
 use Rattle.std.specs.Prelude.{◌≡◌, ℕ, ◌<◌, ◌≤◌, Bool, if◌then◌else◌, List, [], ◌∷◌, ◌++◌, length, take, replicate}
+use Rattle.dns_symbol.specs.Characters.{line_feed, double_quote, close_parenthesis}
 use Rattle.dns_split.specs.Splitting.{Entries, Splits}
 
 -- what may complete a beginning: an escape's last digits, a double quote, LF, and closing parentheses
@@ -9,7 +10,7 @@ pub record IsTail (tail : List ℕ) : Type 0 where
   pub quoted : Bool
   pub lined : Bool
   pub open_blocks : ℕ
-  pub is : tail ≡ replicate zeros 48 ++ ((if quoted then 34 ∷ [] else []) ++ ((if lined then 10 ∷ [] else []) ++ replicate open_blocks 41))
+  pub is : tail ≡ replicate zeros 48 ++ ((if quoted then double_quote ∷ [] else []) ++ ((if lined then line_feed ∷ [] else []) ++ replicate open_blocks close_parenthesis))
 
 -- some tail makes it a text that splits
 pub record IsViable (beginning : List ℕ) : Type 0 where

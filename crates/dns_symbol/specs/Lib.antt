@@ -1,4 +1,5 @@
 pub mod Cause
+pub mod Characters
 pub mod Convert
 pub mod Index
 pub mod Printed

@@ -1,6 +1,7 @@
 -- The printed forms of octets: which octets each form escapes simply.
 use Rattle.std.specs.Prelude.{◌≡◌, ℕ, Bool, ◌==◌, ◌||◌, if◌then◌else◌, List, map, None, Ok, encode_utf8_all}
 use Rattle.std.specs.List.{flat_map}
+use Rattle.dns_symbol.specs.Characters.{space, double_quote, open_parenthesis, close_parenthesis, semicolon, backslash}
 use Rattle.dns_symbol.specs.Symbol.{spell, is_printable, octet_of}
 use Rattle.dns_symbol.specs.Text.{SymbolsOf}
 use Rattle.dns_symbol.specs.declared.symbol.Symbol.{Symbol}
@@ -8,15 +9,15 @@ use Rattle.dns_symbol.specs.declared.symbol.Symbol.TheVariants.{Char, SimpleEsca
 
 -- the unquoted form escapes the space, the double quote, the backslash, the semicolon and both parentheses
 abbrev pub is_unquoted_escape : ℕ → Bool
-is_unquoted_escape o = o == 32 || o == 34 || o == 92 || o == 59 || o == 40 || o == 41
+is_unquoted_escape o = o == space || o == double_quote || o == backslash || o == semicolon || o == open_parenthesis || o == close_parenthesis
 
 -- the quoted form escapes the double quote and the backslash
 abbrev pub is_quoted_escape : ℕ → Bool
-is_quoted_escape o = o == 34 || o == 92
+is_quoted_escape o = o == double_quote || o == backslash
 
 -- the plain form escapes the backslash alone
 abbrev pub is_plain_escape : ℕ → Bool
-is_plain_escape o = o == 92
+is_plain_escape o = o == backslash
 
 -- the symbol that an octet is printed as, in a form that escapes some octets simply
 abbrev pub symbol_of : (ℕ → Bool) → ℕ → Symbol

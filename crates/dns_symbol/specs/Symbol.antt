@@ -2,6 +2,7 @@
 use Rattle.std.specs.Prelude.{ℕ, ◌+◌, ◌/◌, ◌%◌, Bool, true, ◌==◌, ◌&&◌, ◌||◌, not, nat_le, nat_lt, if◌then◌else◌, List, [], ◌∷◌, Result, Ok, Err, encode_utf8_all, codes}
 use Rattle.std.specs.Char.{digit_value}
 use lib.Utf8.{scalar}
+use Rattle.dns_symbol.specs.Characters.{tab, line_feed, carriage_return, space, double_quote, open_parenthesis, close_parenthesis, semicolon, backslash, tilde}
 use Rattle.dns_symbol.specs.declared.symbol.Symbol.{Symbol}
 use Rattle.dns_symbol.specs.declared.symbol.Symbol.TheVariants.{Char, SimpleEscape, DecimalEscape}
 use Rattle.dns_symbol.specs.declared.symbol.SymbolCharsError.{SymbolCharsError}
@@ -17,13 +18,13 @@ is_digit c = nat_le 48 c && nat_le c 57
 
 -- from the space to the tilde
 abbrev pub is_printable : ℕ → Bool
-is_printable c = nat_le 32 c && nat_le c 126
+is_printable c = nat_le space c && nat_le c tilde
 
 -- the characters that a symbol is written as
 abbrev pub spell : Symbol → List ℕ
 spell (Char c) = c ∷ []
-spell (SimpleEscape o) = 92 ∷ o ∷ []
-spell (DecimalEscape o) = 92 ∷ (48 + o / 100) ∷ (48 + o / 10 % 10) ∷ (48 + o % 10) ∷ []
+spell (SimpleEscape o) = backslash ∷ o ∷ []
+spell (DecimalEscape o) = backslash ∷ (48 + o / 100) ∷ (48 + o / 10 % 10) ∷ (48 + o % 10) ∷ []
 
 -- the bytes that a symbol is written as
 abbrev pub bytes : Symbol → List ℕ
@@ -31,7 +32,7 @@ bytes s = encode_utf8_all (spell s)
 
 -- the symbols that can be read back from their spelling: no plain backslash, no surrogate, no simple escape of a digit or of what isn't printable
 abbrev pub is_readable : Symbol → Bool
-is_readable (Char c) = scalar c && not (c == 92)
+is_readable (Char c) = scalar c && not (c == backslash)
 is_readable (SimpleEscape o) = is_printable o && not (is_digit o)
 is_readable (DecimalEscape o) = nat_lt o 256
 
@@ -79,7 +80,7 @@ bad_symbol_text Escape = codes "unexpected escape sequence"
 
 -- the characters that may stand plain in a word: not the space, tab, LF, CR, a parenthesis, the semicolon or the double quote
 abbrev pub is_word_char : ℕ → Bool
-is_word_char c = not (c == 32 || c == 9 || c == 10 || c == 13 || c == 40 || c == 41 || c == 59 || c == 34)
+is_word_char c = not (c == space || c == tab || c == line_feed || c == carriage_return || c == open_parenthesis || c == close_parenthesis || c == semicolon || c == double_quote)
 
 -- a symbol that may stand in a word: an escape always may
 abbrev pub stands_in_word : Symbol → Bool

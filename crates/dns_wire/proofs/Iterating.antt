@@ -1,5 +1,6 @@
 -- Labels taken off the octets of a name, from either end.
-use Rattle.std.proofs.Common.{◌≡◌, ℕ, ◌+◌, ◌<◌, ◌≤◌, List, [], ◌∷◌, ◌++◌, length, take, refl, sym, ap, ◌∙◌, arith, length-append, append-nil, eqb-true, drop, length-drop, drop-cons, add-one, suc, get_or, Option, Some, None}
+use Rattle.std.proofs.Common.{◌≡◌, ℕ, ◌+◌, ◌<◌, ◌≤◌, List, [], ◌∷◌, ◌++◌, length, take, refl, sym, ap, ◌∙◌, arith, length-append, append-nil, eqb-true, drop, length-drop, drop-cons, add-one, suc}
+use Rattle.std.proofs.Common.{get_or, Option, Some, None}
 use Rattle.std.specs.Iterator.{YieldsFirstBy}
 use Rattle.std.specs.Prelude.{true, false, ◌==◌}
 use Rattle.std.proofs.Math.Seq.{take-append_seam}

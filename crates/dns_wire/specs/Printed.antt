@@ -1,12 +1,13 @@
 -- How labels and names are printed.
 use Rattle.std.specs.Prelude.{ℕ, Bool, ◌==◌, ◌||◌, List, [], ◌∷◌, map}
 use Rattle.std.specs.List.{join_with_byte}
+use Rattle.dns_symbol.specs.Characters.{space, dot, backslash}
 use Rattle.dns_symbol.specs.Printed.{text_of}
 use Rattle.dns_wire.specs.Building.{closed}
 
 -- a label escapes the space, the dot and the backslash simply
 abbrev pub is_label_escape : ℕ → Bool
-is_label_escape o = o == 32 || o == 46 || o == 92
+is_label_escape o = o == space || o == dot || o == backslash
 
 -- the characters of a label
 abbrev pub label_text : List ℕ → List ℕ
@@ -14,7 +15,7 @@ label_text = text_of is_label_escape
 
 -- labels joined by dots, where `text` says what a label prints
 abbrev pub joined_by : (List ℕ → List ℕ) → List (List ℕ) → List ℕ
-joined_by text labels = join_with_byte 46 (map text labels)
+joined_by text labels = join_with_byte dot (map text labels)
 
 abbrev pub joined_text : List (List ℕ) → List ℕ
 joined_text = joined_by label_text
@@ -27,7 +28,7 @@ without_root (label ∷ next ∷ more) = label ∷ without_root (next ∷ more)
 
 -- a name that ends in a dot where it ends in the root, whose own text is empty; the root alone is one dot
 abbrev pub dotted_by : (List ℕ → List ℕ) → List (List ℕ) → List ℕ
-dotted_by text ([] ∷ []) = 46 ∷ []
+dotted_by text ([] ∷ []) = dot ∷ []
 dotted_by text labels = joined_by text labels
 
 abbrev pub dotted_text : List (List ℕ) → List ℕ
@@ -35,7 +36,7 @@ dotted_text = dotted_by label_text
 
 -- a name without a dot at its end, but for the root alone
 abbrev pub undotted_by : (List ℕ → List ℕ) → List (List ℕ) → List ℕ
-undotted_by text ([] ∷ []) = 46 ∷ []
+undotted_by text ([] ∷ []) = dot ∷ []
 undotted_by text labels = joined_by text (without_root labels)
 
 abbrev pub undotted_text : List (List ℕ) → List ℕ

@@ -33,7 +33,8 @@ module _ {W : Type 0} (took : W → List ℕ → W → Type 0) where
 module _ {W : Type 0} (took : W → List ℕ → W → Type 0) where
   pub lent_run : (s r t u : MutBor W) (v : W) (bs : List ℕ) → s ≡ r → u ≡ t → (u.ghost_name ≡ r.ghost_name → v ≡ u.now)
       → WritesInCalls (LentTook took) s bs t → WritesInCalls took r.now bs v
-  lent_run s r t u v bs e i back p = WritesText-from_lent took r u v (Some bs) back (subst (λ (x : MutBor W). WritesInCalls (LentTook took) x bs u) e (subst (λ (x : MutBor W). WritesInCalls (LentTook took) s bs x) (sym i) p))
+  lent_run s r t u v bs e i back p =
+      WritesText-from_lent took r u v (Some bs) back (subst (λ (x : MutBor W). WritesInCalls (LentTook took) x bs u) e (subst (λ (x : MutBor W). WritesInCalls (LentTook took) s bs x) (sym i) p))
 
 pub at_ok : {T E P : Type 0} (r : Result T E) → OnOk r P → IsOk r → P
 at_ok (Ok x) p e = p

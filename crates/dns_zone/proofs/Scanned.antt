@@ -30,7 +30,8 @@ rest_more {A} items i x h e = ap steps_of (drop_more items i x h) ∙ ap (λ (y 
 
 pub front_more : {A : Type 0} (items : List (Item A)) (i : ℕ) (x : Item A) → i < length items → x ≡ get_or items i x
     → steps_of (take (i + 1) items) ≡ steps_of (take i items) ++ step_of x ∷ []
-front_more {A} items i x h e = ap steps_of (take_more items i x h) ∙ (map-append step_of (take i items) (get_or items i x ∷ []) ∙ ap (λ (y : Item A). steps_of (take i items) ++ step_of y ∷ []) (sym e))
+front_more {A} items i x h e =
+    ap steps_of (take_more items i x h) ∙ (map-append step_of (take i items) (get_or items i x ∷ []) ∙ ap (λ (y : Item A). steps_of (take i items) ++ step_of y ∷ []) (sym e))
 
 -- a fine step has no fault
 pub fine_no_fault : (past : List Step) (x : Step) → IsFine (depth past) x → (e : DocumentError) → ¬ IsFault past x e

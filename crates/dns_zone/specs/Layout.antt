@@ -1,5 +1,6 @@
 -- The steps of a document, and the text of each step in the three layouts.
 use Rattle.std.specs.Prelude.{ℕ, ◌+◌, ◌-◌, ◌==◌, Bool, true, false, ◌||◌, if◌then◌else◌, List, [], ◌∷◌, ◌++◌, length, replicate}
+use Rattle.dns_symbol.specs.Characters.{tab, line_feed, space, open_parenthesis, close_parenthesis, semicolon}
 
 -- one step of a document; a token's and a comment's bytes
 pub data Step : Type 0 where
@@ -42,8 +43,8 @@ is_line_start (comment bs ∷ past) = is_line_start past
 
 -- the text of a step: a space before each token but a line's first
 abbrev pub simple_piece : List Step → Step → List ℕ
-simple_piece past (token bs) = (if is_line_start past then [] else 32 ∷ []) ++ bs
-simple_piece past newline = 10 ∷ []
+simple_piece past (token bs) = (if is_line_start past then [] else space ∷ []) ++ bs
+simple_piece past newline = line_feed ∷ []
 simple_piece past begin = []
 simple_piece past end = []
 simple_piece past (comment bs) = []
@@ -61,12 +62,12 @@ is_block_start (comment bs ∷ past) = is_block_start past
 
 -- what stands before a token: nothing before a line's first, a tab outside blocks and before a block's first, else a space
 abbrev pub tabbed_gap : List Step → List ℕ
-tabbed_gap past = if is_line_start past then [] else (if depth past == 0 || is_block_start past then 9 ∷ [] else 32 ∷ [])
+tabbed_gap past = if is_line_start past then [] else (if depth past == 0 || is_block_start past then tab ∷ [] else space ∷ [])
 
 -- the text of a step
 abbrev pub tabbed_piece : List Step → Step → List ℕ
 tabbed_piece past (token bs) = tabbed_gap past ++ bs
-tabbed_piece past newline = 10 ∷ []
+tabbed_piece past newline = line_feed ∷ []
 tabbed_piece past begin = []
 tabbed_piece past end = []
 tabbed_piece past (comment bs) = []
@@ -93,7 +94,7 @@ is_row_start (end ∷ past) = false
 
 -- a word with the space before it
 abbrev pub word : List Step → List ℕ → List ℕ
-word past bs = (if is_row_start past then [] else 32 ∷ []) ++ bs
+word past bs = (if is_row_start past then [] else space ∷ []) ++ bs
 
 -- the text of the words after the last break
 abbrev pub row : List Step → List ℕ
@@ -101,8 +102,8 @@ row [] = []
 row (newline ∷ past) = []
 row (comment bs ∷ past) = if is_shown past then [] else row past
 row (token bs ∷ past) = row past ++ word past bs
-row (begin ∷ past) = row past ++ word past (40 ∷ [])
-row (end ∷ past) = row past ++ word past (41 ∷ [])
+row (begin ∷ past) = row past ++ word past (open_parenthesis ∷ [])
+row (end ∷ past) = row past ++ word past (close_parenthesis ∷ [])
 
 -- `lead`: the spaces that the last break put before that text.
 -- `indent`: of a comment that is shown here, the width of the last begin, and one.
@@ -129,12 +130,12 @@ line_width past = lead past + length (row past)
 
 -- a comment, the line end after it, and the spaces of the next line
 abbrev pub shown_comment : ℕ → List ℕ → List ℕ
-shown_comment spaces bs = (9 ∷ 59 ∷ 32 ∷ []) ++ (bs ++ (10 ∷ replicate spaces 32))
+shown_comment spaces bs = (tab ∷ semicolon ∷ space ∷ []) ++ (bs ++ (line_feed ∷ replicate spaces space))
 
 -- the text of a step: block marks are words, and comments are shown after a begin
 abbrev pub multiline_piece : List Step → Step → List ℕ
 multiline_piece past (token bs) = word past bs
-multiline_piece past begin = word past (40 ∷ [])
-multiline_piece past end = word past (41 ∷ [])
+multiline_piece past begin = word past (open_parenthesis ∷ [])
+multiline_piece past end = word past (close_parenthesis ∷ [])
 multiline_piece past (comment bs) = if is_shown past then shown_comment (indent past) bs else []
-multiline_piece past newline = 10 ∷ []
+multiline_piece past newline = line_feed ∷ []

@@ -24,7 +24,8 @@ pub record Runs {F : Type 0} (blocks : F → ℕ) (step_gives : F → Step → F
 
 -- what a step of a writer over a sink does: after whatever steps `past` it stands, it appends the text of that step,
 -- and stands after that step too
-pub record Prints {F W : Type 0} (stands : F → List Step → Type 0) (sink : F → W) (took : W → List ℕ → W → Type 0) (piece : List Step → Step → List ℕ) (past : List Step) (w : F) (x : Step) (v : F) : Type 0 where
+pub record Prints {F W : Type 0} (stands : F → List Step → Type 0) (sink : F → W) (took : W → List ℕ → W → Type 0) (piece : List Step → Step
+    → List ℕ) (past : List Step) (w : F) (x : Step) (v : F) : Type 0 where
   pub next : stands v (x ∷ past)
   pub wrote : WritesInCalls took (sink w) (piece past x) (sink v)
 

@@ -7,7 +7,8 @@ use lib.Utf8.{encode}
 use Rattle.dns_split.proofs.Tight.{tight_all}
 use Rattle.dns_split.specs.Splitting.{BeginsNoBlank, is_tight, is_outside, Splits, may_precede, are_lexemes, nests, with_token, entries, Entries}
 use Rattle.dns_split.specs.Lexeme.{Lexeme, Blank, Line, Open, Close, Note, Word, Quote, bytes}
-use Rattle.dns_zone.specs.Layout.{Step, token, begin, end, comment, newline, layout, pieces, depth, is_line_start, is_block_start, simple_piece, tabbed_piece, multiline_piece, is_shown, is_row_start, indent}
+use Rattle.dns_zone.specs.Layout.{Step, token, begin, end, comment, newline, layout, pieces, depth, is_line_start, is_block_start, simple_piece, tabbed_piece, multiline_piece, is_shown}
+use Rattle.dns_zone.specs.Layout.{is_row_start, indent}
 use Rattle.dns_zone.specs.Documents.{IsComment, IsWellFormed}
 use Rattle.dns_zone_laws.specs.Entries.{document_entries}
 use Rattle.dns_split.proofs.Tokens.{is_token_lexeme, token_one}

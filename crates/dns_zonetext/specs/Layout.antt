@@ -1,12 +1,13 @@
 -- Zone text with each entry on a line of its own.
 use Rattle.std.specs.Prelude.{⊤, ◌≡◌, ℕ, ◌||◌, ◌&&◌, not, if◌then◌else◌, Bool, true, false, List, [], ◌∷◌, ◌++◌, Result, Ok, Err}
+use Rattle.dns_symbol.specs.Characters.{tab, line_feed, space}
 use Rattle.dns_zonetext.specs.declared.layout.Gap.{Gap}
 use Rattle.dns_zonetext.specs.declared.layout.Gap.TheVariants.{Space, Tab}
 use Rattle.dns_zonetext.specs.Entries.{Part, Token, Ends, HasEntries}
 
 abbrev pub gap_octet : Gap → ℕ
-gap_octet Space = 32
-gap_octet Tab = 9
+gap_octet Space = space
+gap_octet Tab = tab
 
 -- a gap, or none
 abbrev pub gap_if : Gap → Bool → List ℕ
@@ -21,7 +22,7 @@ leads (Ends b ∷ es) = b
 -- a line's end where an entry follows
 abbrev pub feed_before : List Part → List ℕ
 feed_before [] = []
-feed_before (e ∷ es) = 10 ∷ []
+feed_before (e ∷ es) = line_feed ∷ []
 
 -- tokens with gaps between, after a gap where the entry begins with a blank; the first entry has tokens already, or not
 abbrev pub laid_out : Gap → Bool → List Part → List ℕ

@@ -1,6 +1,7 @@
 -- Lines and columns of octets.
 use Rattle.std.specs.Prelude.{◌≡◌, ℕ, ◌+◌, ◌≤◌, ◌==◌, ◌||◌, Bool, not, nat_lt, nat_le, List, reverse, take, length}
 use Rattle.std.specs.List.{count_by, take_while}
+use Rattle.dns_symbol.specs.Characters.{line_feed}
 use Rattle.dns_split.specs.declared.position.Position.{Position}
 use Rattle.dns_zonetext.specs.declared.place.Place.{Place}
 
@@ -10,11 +11,11 @@ begins_character c = nat_lt c 128 || nat_le 192 c
 
 -- how many lines end
 abbrev pub feeds : List ℕ → ℕ
-feeds octets = count_by (λ c. c == 10) octets
+feeds octets = count_by (λ c. c == line_feed) octets
 
 -- the line that comes last, last octet first
 abbrev pub last_line : List ℕ → List ℕ
-last_line octets = take_while (λ c. not (c == 10)) (reverse octets)
+last_line octets = take_while (λ c. not (c == line_feed)) (reverse octets)
 
 -- its characters, and the next one
 abbrev pub column_of : List ℕ → ℕ

@@ -2,6 +2,7 @@
 use Rattle.std.specs.Prelude.{⊤, ◌≡◌, ℕ, ◌+◌, ◌-◌, ◌/◌, ◌%◌, ◌==◌, ◌||◌, ◌&&◌, nat_lt, nat_le, if◌then◌else◌, List, [], ◌∷◌, ◌++◌, take, codes, Result, Ok, Err}
 use Rattle.std.specs.List.{flat_map}
 use Rattle.std.specs.Fmt.{decimal}
+use Rattle.dns_symbol.specs.Characters.{space, double_quote, backslash, tilde}
 use Rattle.dns_split.specs.Pieces.{ReadsOctets, between}
 use Rattle.dns_split.specs.declared.pieces.Piece.{Piece}
 use Rattle.dns_split.specs.declared.pieces.Piece.TheVariants.{Word as WordAt, Quote as QuoteAt}
@@ -18,7 +19,7 @@ hex_digit n = if nat_lt n 10 then 48 + n else 97 + (n - 10)
 
 -- an octet in a JSON string: the characters of ASCII that print stand for themselves, two of them after a backslash, and others are \u00 and two digits
 abbrev pub escaped : ℕ → List ℕ
-escaped c = if c == 34 || c == 92 then 92 ∷ c ∷ [] else if nat_le 32 c && nat_le c 126 then c ∷ [] else codes "\\u00" ++ hex_digit (c / 16) ∷ hex_digit (c % 16) ∷ []
+escaped c = if c == double_quote || c == backslash then backslash ∷ c ∷ [] else if nat_le space c && nat_le c tilde then c ∷ [] else codes "\\u00" ++ hex_digit (c / 16) ∷ hex_digit (c % 16) ∷ []
 
 -- what stands before the token
 abbrev pub form_head : Form → ℕ → ℕ → List ℕ → List ℕ

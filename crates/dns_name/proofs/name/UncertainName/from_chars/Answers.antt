@@ -1,7 +1,8 @@
 use Rattle.std.proofs.Common.{sym, subst, refl}
 use Rattle.std.specs.Iterator.{Yields}
 use Rattle.std.proofs.lemmas.Result.{err_from_is_err_and}
-use Rattle.dns_name.proofs.Taking.{Taken, taken_none, taken_octet, taken_dot, refused_text, refused_symbol, refused_dot, refused_first, read_root, read_end, dot_spelled, empty_labels, not_open, open_some, some_labels, none_given, some_given}
+use Rattle.dns_name.proofs.Taking.{Taken, taken_none, taken_octet, taken_dot, refused_text, refused_symbol, refused_dot, refused_first, read_root, read_end, dot_spelled, empty_labels, not_open}
+use Rattle.dns_name.proofs.Taking.{open_some, some_labels, none_given, some_given}
 use Rattle.dns_name.proofs.name.UncertainName.from_chars.Goals as goal
 
 pub loop-builder-init : goal.loop-builder-init

@@ -46,7 +46,11 @@ loop-label-init c = record { seeks = seeks_first _ _ (labelled_same _ _ c.rest-1
 
 pub loop-label-preserved : goal.loop-label-preserved
 loop-label-preserved c =
-    record { seeks = rw c.len.ensures.value (seeks_more _ _ _ (label_octets c.in-Some.label) _ c.loop-label.invariant.seeks c.in-Some.ensures.steps (some_left _ _ c.as_slice.ensures c.if-is_empty.ensures)); same = c.loop-label.invariant.same }
+    record {
+      seeks = rw c.len.ensures.value
+          (seeks_more _ _ _ (label_octets c.in-Some.label) _ c.loop-label.invariant.seeks c.in-Some.ensures.steps (some_left _ _ c.as_slice.ensures c.if-is_empty.ensures));
+      same = c.loop-label.invariant.same;
+    }
 
 pub returns-clause-steps : goal.returns-clause-steps
 returns-clause-steps c = let e = c.loop-label.invariant.seeks.some c.in_default.ensures.steps.0 in (sym c.self.view_is ∙ e, ap (λ x. x.labelled.0) c.loop-label.invariant.same ∙ e)

@@ -1,0 +1,36 @@
+-- The characters of zone text by name, as code points, which are their octets too.
+use Rattle.std.specs.Prelude.{ℕ}
+
+abbrev pub tab : ℕ
+tab = 9
+
+abbrev pub line_feed : ℕ
+line_feed = 10
+
+abbrev pub carriage_return : ℕ
+carriage_return = 13
+
+abbrev pub space : ℕ
+space = 32
+
+abbrev pub double_quote : ℕ
+double_quote = 34
+
+abbrev pub open_parenthesis : ℕ
+open_parenthesis = 40
+
+abbrev pub close_parenthesis : ℕ
+close_parenthesis = 41
+
+abbrev pub dot : ℕ
+dot = 46
+
+abbrev pub semicolon : ℕ
+semicolon = 59
+
+abbrev pub backslash : ℕ
+backslash = 92
+
+-- the last printable character
+abbrev pub tilde : ℕ
+tilde = 126
