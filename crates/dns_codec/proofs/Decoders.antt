@@ -1,5 +1,6 @@
 -- Texts that are read by a decoder of any encoding, push by push, up to the first error.
-use Rattle.std.proofs.Common.{◌≡◌, ℕ, ◌+◌, ◌≤◌, ◌⊎◌, max, Bool, true, false, List, [], ◌∷◌, ◌++◌, length, refl, sym, ap, subst, ◌∙◌, arith, Option, Some, None, Result, Ok, Err, inl, inr, append-nil, length-append}
+use Rattle.std.proofs.Common.{◌≡◌, ℕ, ◌+◌, ◌≤◌, ◌⊎◌, max, Bool, true, false, List, [], ◌∷◌, ◌++◌, length, refl, sym, ap, subst, ◌∙◌, arith, Option, Some, None, Result, Ok, Err, inl, inr}
+use Rattle.std.proofs.Common.{append-nil, length-append}
 use Rattle.std.specs.Prelude.{if◌then◌else◌}
 use Rattle.std.proofs.lemmas.List.{nil_from_length}
 use Rattle.std.proofs.Math.Nat.{le-max_left}
@@ -158,7 +159,8 @@ refuses b known sure most text rest d c j r e at push answers is = elim (one_pus
   | inr refused ↦
       let same : Err refused.error ≡ Err e = sym (answers ∙ ap answer refused.stored_is) ∙ is in
       let f : refused.error ≡ e = cc same in
-      let first = first_here (char_error b refused.room) text rest c refused.error (no_cause b known text d.octets d.group.pieces d.group.padding at.read refused.room refused.holds) refused.cause_is in
+      let first = first_here (char_error b refused.room) text rest c refused.error (no_cause b known text d.octets d.group.pieces d.group.padding at.read refused.room refused.holds)
+          refused.cause_is in
       record { room = refused.room; is_room = refused.is_room; refused = refusal_first b refused.room (text ++ c ∷ rest) refused.error first ∙ ap Some f }
 ]
 

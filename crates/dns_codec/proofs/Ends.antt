@@ -21,7 +21,8 @@ use Rattle.dns_codec.proofs.Wholes.{whole-nil, Name-length}
 
 -- why the text is refused at its end, and its value where it isn't
 pub record Ended (b : Base) (text octets pieces : List ℕ) (padding : Padding) : Type 0 where
-  pub refusal_is : (room : ℕ) → length octets ≤ room → refusal b room text ≡ (if may_end_in b pieces padding then short_buf_if room (length octets + length (whole b.width pieces)) else Some ShortInput)
+  pub refusal_is : (room : ℕ) → length octets ≤ room
+      → refusal b room text ≡ (if may_end_in b pieces padding then short_buf_if room (length octets + length (whole b.width pieces)) else Some ShortInput)
   pub decodes : may_end_in b pieces padding ≡ true → Decodes b text (octets ++ whole b.width pieces)
 
 pub where_it_ends : (ends : Bool) (x : Option DecodeError) → ends ≡ true → (if ends then x else Some ShortInput) ≡ x

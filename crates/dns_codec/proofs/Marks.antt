@@ -1,5 +1,6 @@
 -- Why a character is refused, by what stands before it.
-use Rattle.std.proofs.Common.{◌≡◌, ℕ, zero, suc, ◌+◌, ◌-◌, ◌*◌, ◌/◌, ◌%◌, ◌==◌, ◌≤◌, true, false, nat_lt, List, [], ◌∷◌, ◌++◌, length, replicate, refl, sym, ap, ◌∙◌, arith, Option, Some, None, inl, inr, append_assoc, length-append}
+use Rattle.std.proofs.Common.{◌≡◌, ℕ, zero, suc, ◌+◌, ◌-◌, ◌*◌, ◌/◌, ◌%◌, ◌==◌, ◌≤◌, true, false, nat_lt, List, [], ◌∷◌, ◌++◌, length, replicate, refl, sym, ap, ◌∙◌, arith, Option, Some, None}
+use Rattle.std.proofs.Common.{inl, inr, append_assoc, length-append}
 use Rattle.std.specs.Prelude.{nat_le, ◌&&◌, if◌then◌else◌}
 use Rattle.std.specs.List.{count_by}
 use Rattle.std.proofs.lemmas.Bool.{cases_Bool, eqb-true, eq-eqb, ne_eqb}
@@ -86,7 +87,8 @@ mark_two room front fs named two = mark_open room 2 front fs named two
 pub mark_three : (room : ℕ) (front fs : List ℕ) → Name base64 front fs → length front % 4 ≡ 3 → char_error base64 room front 61 ≡ short_buf_if room (length front * 6 / 8)
 mark_three room front fs named three = mark_open room 3 front fs named three ∙ ap (short_buf_if room) (octet_count-chars base64 (inr (inr refl)) front fs named)
 
-pub mark_half : (room c : ℕ) (front : List ℕ) (o : Option ℕ) → value base64 c ≡ o → pad_count base64 front ≡ 1 → length front % 4 ≡ 3 → char_error base64 room front c ≡ char_error_padded base64 room front c o
+pub mark_half : (room c : ℕ) (front : List ℕ) (o : Option ℕ) → value base64 c ≡ o → pad_count base64 front ≡ 1 → length front % 4 ≡ 3
+    → char_error base64 room front c ≡ char_error_padded base64 room front c o
 mark_half room c front o is one three = let test = ne_eqb (pad_count base64 front) 0 (omega arith) in rw (test, three, is) refl
 
 pub mark_done : (room c : ℕ) (front : List ℕ) (m : ℕ) → pad_count base64 front ≡ suc m → length front % 4 ≡ 0 → char_error base64 room front c ≡ Some TrailingInput

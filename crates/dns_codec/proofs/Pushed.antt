@@ -1,5 +1,6 @@
 -- Lists of pushes to a decoder of any encoding, and its end.
-use Rattle.std.proofs.Common.{◌≡◌, ℕ, ◌+◌, ◌*◌, ◌/◌, ◌%◌, ◌==◌, ◌≤◌, ◌-◌, ◌&&◌, max, Bool, true, false, nat_lt, if◌then◌else◌, is_none, is_some, List, [], ◌∷◌, ◌++◌, length, reverse, refl, sym, ap, ◌∙◌, arith, Option, Some, None, IsSome, IsErr, Result, Ok, Err, ◌⊎◌, inl, inr, subst, length-append, append_assoc, append-nil}
+use Rattle.std.proofs.Common.{◌≡◌, ℕ, ◌+◌, ◌*◌, ◌/◌, ◌%◌, ◌==◌, ◌≤◌, ◌-◌, ◌&&◌, max, Bool, true, false, nat_lt, if◌then◌else◌, is_none, is_some, List, [], ◌∷◌, ◌++◌, length, reverse, refl, sym}
+use Rattle.std.proofs.Common.{ap, ◌∙◌, arith, Option, Some, None, IsSome, IsErr, Result, Ok, Err, ◌⊎◌, inl, inr, subst, length-append, append_assoc, append-nil}
 use Rattle.std.specs.Prelude.{nat_le}
 use Rattle.std.specs.List.{find}
 use Rattle.std.proofs.lemmas.Bool.{cases_Bool, eqb-true, eqb-false}

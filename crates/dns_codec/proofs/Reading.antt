@@ -1,5 +1,6 @@
 -- Characters of a text, one after another.
-use Rattle.std.proofs.Common.{◌≡◌, ℕ, suc, ◌<◌, ◌≤◌, List, [], ◌∷◌, ◌++◌, length, take, drop, map, get_or, refl, sym, ap, ◌∙◌, arith, Option, Some, None, drop-cons, Result, Ok, Err, IsOk, IfOk, IfErr, MatchResult}
+use Rattle.std.proofs.Common.{◌≡◌, ℕ, suc, ◌<◌, ◌≤◌, List, [], ◌∷◌, ◌++◌, length, take, drop, map, get_or, refl, sym, ap, ◌∙◌, arith, Option, Some, None, drop-cons, Result, Ok, Err, IsOk, IfOk}
+use Rattle.std.proofs.Common.{IfErr, MatchResult}
 use Rattle.std.proofs.lemmas.List.{take-append-drop}
 use Rattle.dns_codec.specs.Base.{Base}
 use Rattle.dns_codec.specs.Grammar.{Decodes}
@@ -44,7 +45,8 @@ clauses b refusal sure most text shown (Err e) reads is =
     (tt, λ octets d le. absurd (never_refused refusal sure most text octets e (λ room. reads octets room d) le is), is)
 
 -- what the result is, from what it is of lists
-pub finished : (b : Base) (refusal : ℕ → List ℕ → Option DecodeError) (sure most : ℕ) (text : List ℕ) {T : Type 0} (shown : T → List ℕ) (r : Result T DecodeError) (P : Result (List ℕ) DecodeError → Type 0)
+pub finished : (b : Base) (refusal : ℕ → List ℕ → Option DecodeError) (sure most : ℕ) (text : List ℕ) {T : Type 0} (shown : T → List ℕ) (r : Result T DecodeError) (P : Result (List ℕ) DecodeError
+    → Type 0)
     → ((s : Result (List ℕ) DecodeError) → P s → Decoded b refusal sure most text s)
     → MatchResult r (λ o. P (Ok (shown o))) (λ e. P (Err e))
     → MatchResult r (λ o. Decoded b refusal sure most text (Ok (shown o))) (λ e. Decoded b refusal sure most text (Err e))

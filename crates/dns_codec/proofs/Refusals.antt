@@ -1,5 +1,6 @@
 -- The refusal of a text, and the grammar.
-use Rattle.std.proofs.Common.{◌≡◌, ℕ, ◌+◌, ◌≤◌, nat_lt, Bool, true, false, List, [], ◌∷◌, ◌++◌, length, refl, sym, ap, ◌∙◌, arith, Option, Some, None, inl, inr, append_assoc, append-nil, length-append}
+use Rattle.std.proofs.Common.{◌≡◌, ℕ, ◌+◌, ◌≤◌, nat_lt, Bool, true, false, List, [], ◌∷◌, ◌++◌, length, refl, sym, ap, ◌∙◌, arith, Option, Some, None, inl, inr, append_assoc, append-nil}
+use Rattle.std.proofs.Common.{length-append}
 use Rattle.std.specs.Prelude.{if◌then◌else◌}
 use Rattle.std.proofs.lemmas.Bool.{cases_Bool, ltb-false}
 use Rattle.dns_codec.specs.Bits.{whole}
@@ -91,7 +92,8 @@ module _ (b : Base) (known : IsEncoding b) (room wide : ℕ) (e : DecodeError) w
       let s : Step = step_from b ps p c (value b c) in
       let next = stepped b known text os ps p c at in
       let both = both_none (short_buf_if wide (length os + length s.octets)) s.error (sym (next.cause_is wide wider) ∙ unrefused_next b known wide text os ps cs p c at wider none) in
-      let here : char_error b room text c ≡ short_buf_if room (length os + length s.octets) = next.cause_is room le ∙ ap (or_else (short_buf_if room (length os + length s.octets))) both.1 ∙ or_else_none _ in
+      let here : char_error b room text c ≡ short_buf_if room (length os + length s.octets) =
+          next.cause_is room le ∙ ap (or_else (short_buf_if room (length os + length s.octets))) both.1 ∙ or_else_none _ in
       elim (cases_error (short_buf_if room (length os + length s.octets))) [
         | inl fits ↦ wants_from (text ++ c ∷ []) cs (os ++ s.octets) s.group.pieces s.group.padding (next.goes_on both.1)
             (rw length-append (want_fits room _ fits)) (rw length-append (want_fits wide _ both.0)) (rw append_assoc none) (rw append_assoc is)

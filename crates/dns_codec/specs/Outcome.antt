@@ -1,6 +1,7 @@
 -- What becomes of a text, as a function of the text and of the octets that there is room for. It looks at the text
 -- alone: nothing here speaks of groups that are open, of padding that was seen or of errors that are stored.
-use Rattle.std.specs.Prelude.{◌≡◌, ℕ, ◌+◌, ◌-◌, ◌*◌, ◌/◌, ◌%◌, ◌==◌, ◌&&◌, Bool, nat_lt, nat_le, if◌then◌else◌, is_some, is_none, List, [], ◌∷◌, ◌++◌, length, reverse, find, count_by, Option, Some, None, Result, Ok, Err}
+use Rattle.std.specs.Prelude.{◌≡◌, ℕ, ◌+◌, ◌-◌, ◌*◌, ◌/◌, ◌%◌, ◌==◌, ◌&&◌, Bool, nat_lt, nat_le, if◌then◌else◌, is_some, is_none, List, [], ◌∷◌, ◌++◌, length, reverse, find, count_by, Option}
+use Rattle.std.specs.Prelude.{Some, None, Result, Ok, Err}
 use Rattle.dns_codec.specs.Base.{Base, value}
 use Rattle.dns_codec.specs.Grammar.{Decodes, may_end}
 use Rattle.dns_codec.specs.Errors.{or_else}
@@ -95,7 +96,8 @@ Outcome b text e (Ok octets) = (e ≡ None) × Decodes b text octets
 Outcome b text e (Err f) = e ≡ Some f
 
 -- for some room that the builder may have, the error that is stored and the result at the end are as said
-pub record IsPushed (b : Base) (error_of refusal : ℕ → List ℕ → Option DecodeError) (sure most : ℕ) (text : List ℕ) (error : Option DecodeError) (result_is : Result (List ℕ) DecodeError) : Type 0 where
+pub record IsPushed (b : Base) (error_of refusal : ℕ → List ℕ → Option DecodeError) (sure most : ℕ) (text : List ℕ) (error : Option DecodeError) (result_is : Result (List ℕ) DecodeError) : Type 0
+    where
   pub room : ℕ
   pub is_room : IsRoom sure most room
   pub stored_is : error ≡ error_of room text

@@ -1,6 +1,6 @@
 //! The three encodings, by their numbers and rules.
 ghost use Rattle.std.specs.Prelude.{◌≡◌, ℕ, List, ◌<◌, ◌^◌, nat_lt, length, IfSome};
-ghost use Rattle.dns_codec.specs.Base.{Base, IsShape, IsTable, IsEncoding, value};
+ghost use Rattle.dns_codec.specs.Base.{Base, IsShape, IsStride, IsTable, IsEncoding, value};
 ghost use Rattle.dns_codec.specs.Grammar.{may_end};
 
 use crate::read::{VALUES16, VALUES32HEX, VALUES64};
@@ -34,11 +34,16 @@ pub trait Encoding {
     /// The octets of a whole group.
     const OCTETS: usize;
 
+    /// How many octets are written at a time: whole characters.
+    const STRIDE: usize;
+
     ghost BITS: { ℕ };
 
     ghost CHARS: { ℕ };
 
     ghost OCTETS: { ℕ };
+
+    ghost STRIDE: { ℕ };
 
     ghost base: { Base };
 
@@ -68,6 +73,8 @@ pub trait Encoding {
         ensures incomplete { result.incomplete.now ≡ base.incomplete };
 
     ghost shape: { IsShape base BITS CHARS OCTETS };
+
+    ghost stride: { IsStride BITS STRIDE };
 
     ghost values_are: { IsTable base table };
 
@@ -104,6 +111,8 @@ impl Encoding for Base16 {
 
     const OCTETS: usize = 1;
 
+    const STRIDE: usize = 4;
+
     ghost use Rattle.dns_codec.specs.Base.{base16};
     ghost use Rattle.dns_codec.specs.Tables.{table16};
     ghost use Rattle.dns_codec.specs.declared.read.TheConstants.{VALUES16};
@@ -114,6 +123,8 @@ impl Encoding for Base16 {
     ghost CHARS = { 2 };
 
     ghost OCTETS = { 1 };
+
+    ghost STRIDE = { 4 };
 
     ghost base = { base16 };
 
@@ -145,6 +156,8 @@ impl Encoding for Base16 {
 
     ghost shape = { Prim.search (arith, rules) };
 
+    ghost stride = { Prim.search (arith, rules) };
+
     ghost values_are = { table16 };
 
     ghost known = { inl refl };
@@ -161,6 +174,8 @@ impl Encoding for Base32Hex {
 
     const OCTETS: usize = 5;
 
+    const STRIDE: usize = 5;
+
     ghost use Rattle.dns_codec.specs.Base.{base32hex};
     ghost use Rattle.dns_codec.specs.Tables.{table32};
     ghost use Rattle.dns_codec.specs.declared.read.TheConstants.{VALUES32HEX};
@@ -171,6 +186,8 @@ impl Encoding for Base32Hex {
     ghost CHARS = { 8 };
 
     ghost OCTETS = { 5 };
+
+    ghost STRIDE = { 5 };
 
     ghost base = { base32hex };
 
@@ -202,6 +219,8 @@ impl Encoding for Base32Hex {
 
     ghost shape = { Prim.search (arith, rules) };
 
+    ghost stride = { Prim.search (arith, rules) };
+
     ghost values_are = { table32 };
 
     ghost known = { inr (inl refl) };
@@ -218,6 +237,8 @@ impl Encoding for Base64 {
 
     const OCTETS: usize = 3;
 
+    const STRIDE: usize = 3;
+
     ghost use Rattle.dns_codec.specs.Base.{base64};
     ghost use Rattle.dns_codec.specs.Tables.{table64};
     ghost use Rattle.dns_codec.specs.declared.read.TheConstants.{VALUES64};
@@ -228,6 +249,8 @@ impl Encoding for Base64 {
     ghost CHARS = { 4 };
 
     ghost OCTETS = { 3 };
+
+    ghost STRIDE = { 3 };
 
     ghost base = { base64 };
 
@@ -258,6 +281,8 @@ impl Encoding for Base64 {
     }
 
     ghost shape = { Prim.search (arith, rules) };
+
+    ghost stride = { Prim.search (arith, rules) };
 
     ghost values_are = { table64 };
 

@@ -14,7 +14,7 @@ use Rattle.dns_codec.proofs.decoder.decode.Goals as goal
 pub loop-c-init : goal.loop-c-init
 loop-c-init g c =
     let same : c.into_iter-c-iterator.result.rest.now ≡ c.append_groups-rest.result.now = cc in
-    let new = c.empty-decoder.ensures in
+    let new = c.over-decoder.ensures in
     let view = c.decoder.view_is in
     let rest = c.append_groups-rest.result.now in
     let taken = g.B.AsOctets.octets c.append_groups-rest.new.builder in
@@ -30,7 +30,8 @@ pub loop-c-preserved : goal.loop-c-preserved
 loop-c-preserved g c = (
   c.loop-c.invariant.0,
   c.loop-c.invariant.1,
-  rw (← append_assoc) (takes g.K.Encoding.base g.met.K.Encoding.known g.B.OctetsBuilder.sure g.B.OctetsBuilder.most (c.loop-c.invariant.0 ++ c.loop-c.yielded) c.loop-c.decoder c.in-Some.c c.push.new.self c.push.result c.in_ok-push.field-0 c.loop-c.invariant.2 c.push.ensures.pushes c.push.ensures.answers c.in_ok-push.was),
+  rw (← append_assoc) (takes g.K.Encoding.base g.met.K.Encoding.known g.B.OctetsBuilder.sure g.B.OctetsBuilder.most (c.loop-c.invariant.0
+      ++ c.loop-c.yielded) c.loop-c.decoder c.in-Some.c c.push.new.self c.push.result c.in_ok-push.field-0 c.loop-c.invariant.2 c.push.ensures.pushes c.push.ensures.answers c.in_ok-push.was),
 )
 
 pub returns-in_err-push : goal.returns-in_err-push
@@ -44,8 +45,10 @@ returns-in_err-push g c =
     let turn = YieldsList-turn text c.loop-c.yielded _ c.loop-c.yielded_by _ _ c.in-Some.c c.in-Some.is c.next.ensures.steps in
     let here = after_front (chars c.args.s.now) c.loop-c.invariant.0 (chars rest) c.loop-c.yielded _ c.in-Some.c split (text_here (chars rest) c.loop-c.yielded c.in-Some.c so_far turn) in
     let p = err_from_is_err_and c.from_residual.result c.from_residual.ensures.1 in
-    let k = clauses g.K.Encoding.base (refusal g.K.Encoding.base) g.B.OctetsBuilder.sure g.B.OctetsBuilder.most (chars c.args.s.now) g.B.Octets.AsOctets.octets c.from_residual.result (λ octets room d le. (reads g.K.Encoding.base known (chars c.args.s.now) octets room d le).0)
-    (rw (p.1, p.2) (rw here (refuses g.K.Encoding.base known g.B.OctetsBuilder.sure g.B.OctetsBuilder.most (c.loop-c.invariant.0 ++ c.loop-c.yielded) _ c.loop-c.decoder c.in-Some.c c.push.new.self c.push.result _ c.loop-c.invariant.2 c.push.ensures.pushes c.push.ensures.answers c.in_err-push.was))) in
+    let k = clauses g.K.Encoding.base (refusal g.K.Encoding.base) g.B.OctetsBuilder.sure g.B.OctetsBuilder.most (chars c.args.s.now) g.B.Octets.AsOctets.octets c.from_residual.result
+        (λ octets room d le. (reads g.K.Encoding.base known (chars c.args.s.now) octets room d le).0)
+    (rw (p.1, p.2) (rw here (refuses g.K.Encoding.base known g.B.OctetsBuilder.sure g.B.OctetsBuilder.most (c.loop-c.invariant.0
+        ++ c.loop-c.yielded) _ c.loop-c.decoder c.in-Some.c c.push.new.self c.push.result _ c.loop-c.invariant.2 c.push.ensures.pushes c.push.ensures.answers c.in_err-push.was))) in
     record { value = k.0; succeeds = k.1; refused = k.2 }
 
 pub returns : goal.returns
@@ -58,7 +61,8 @@ returns g c =
     let done = YieldsList-end text c.loop-c.yielded _ c.loop-c.yielded_by _ _ c.in-None.is c.next.ensures.steps in
     let all = after_all (chars c.args.s.now) c.loop-c.invariant.0 (chars rest) c.loop-c.yielded split (sym (map-same c.loop-c.yielded) ∙ done.0) in
     let stands = rw all at c.loop-c.invariant.2 in
-    let k = clauses g.K.Encoding.base (refusal g.K.Encoding.base) g.B.OctetsBuilder.sure g.B.OctetsBuilder.most (chars c.args.s.now) g.B.Octets.AsOctets.octets c.finalize.result (λ octets room d le. (reads g.K.Encoding.base known (chars c.args.s.now) octets room d le).0)
+    let k = clauses g.K.Encoding.base (refusal g.K.Encoding.base) g.B.OctetsBuilder.sure g.B.OctetsBuilder.most (chars c.args.s.now) g.B.Octets.AsOctets.octets c.finalize.result
+        (λ octets room d le. (reads g.K.Encoding.base known (chars c.args.s.now) octets room d le).0)
     (finished g.K.Encoding.base (refusal g.K.Encoding.base) g.B.OctetsBuilder.sure g.B.OctetsBuilder.most (chars c.args.s.now) g.B.Octets.AsOctets.octets c.finalize.result
     (Ends g.K.Encoding.base g.B.OctetsBuilder.sure g.B.OctetsBuilder.most c.loop-c.decoder)
     (λ s end. ends g.K.Encoding.base known g.B.OctetsBuilder.sure g.B.OctetsBuilder.most (chars c.args.s.now) c.loop-c.decoder s stands end) c.finalize.ensures) in
