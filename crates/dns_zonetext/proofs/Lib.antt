@@ -4,4 +4,5 @@ pub mod Givens
 pub mod Layouts
 pub mod Lines
 pub mod Once
+pub mod Opened
 pub mod Order

@@ -1,10 +1,11 @@
 -- Octets that are zone text, and the faults of others.
-use Rattle.std.specs.Prelude.{⊤, ◌≡◌, ◌≤◌, ℕ, List, length, take, Option, None, IfSome, encode_utf8_all}
+use Rattle.std.specs.Prelude.{⊤, ◌≡◌, ◌≤◌, ℕ, List, length, take, Option, None, IsSomeAnd, encode_utf8_all}
+use Rattle.dns_split.specs.Opening.{IsOpener}
 use Rattle.dns_split.specs.Pieces.{IsFault, IsOctetPieces, moved_fault, place_of}
 use Rattle.dns_split.specs.declared.pieces.Piece.{Piece}
 use Rattle.dns_split.specs.declared.pieces.Fault.{Fault}
 use Rattle.dns_split.specs.declared.pieces.Wrong.{Wrong}
-use Rattle.dns_split.specs.declared.pieces.Wrong.TheVariants.{OpenQuote}
+use Rattle.dns_split.specs.declared.pieces.Wrong.TheVariants.{OpenParenthesis, OpenQuote}
 use Rattle.dns_split.specs.declared.position.Position.{Position}
 use Rattle.dns_zonetext.specs.declared.check.Found.{Found}
 use Rattle.dns_zonetext.specs.declared.tokens.Stop.{Stop}
@@ -20,9 +21,10 @@ pub record IsOctetFault (octets : List ℕ) (f : Fault) : Type 0 where
   pub within : f.at ≤ length octets
   pub is : IsFault (encode_utf8_all octets) (moved_fault (place_of octets) f)
 
--- the position of what a quoted text was opened by
+-- the position of what a quoted text was opened by, or of the outermost parenthesis that is left open
 abbrev pub IsOpened : List ℕ → ℕ → Wrong → Option Position → Type 0
-IsOpened octets lines (OpenQuote i) o = IfSome o (λ p. IsAt lines (take i octets) p)
+IsOpened octets lines (OpenQuote i) o = IsSomeAnd o (λ p. IsAt lines (take i octets) p)
+IsOpened octets lines OpenParenthesis o = (i : ℕ) × IsOpener (encode_utf8_all octets) (place_of octets i) × IsSomeAnd o (λ p. IsAt lines (take i octets) p)
 IsOpened octets lines _ o = o ≡ None
 
 -- the fault, and its positions

@@ -3,6 +3,7 @@ ghost use Rattle.std.specs.Prelude.{◌+◌, ◌<◌, ◌^◌, length, IfOk, IfE
 ghost use Rattle.dns_zonetext.specs.Found.{IsFound, IsOctetFault, IsOpened, IsZone};
 
 use crate::place::position_after;
+use dns_split::opening::outermost_open_of_octets;
 use dns_split::pieces::{Fault, Pieces, Wrong};
 use dns_split::position::Position;
 
@@ -12,18 +13,20 @@ pub struct Found {
     pub fault: Fault,
     /// Where the fault is.
     pub position: Position,
-    /// Where the quoted text was opened that is not closed.
+    /// Where the quoted text, or the outermost of the parentheses, was opened that is not closed.
     pub opened: Option<Position>,
 }
 
 /// Where what is left open was opened.
-fn opened(octets: &[u8], lines_before: usize, wrong: Wrong) -> Option<Position>
-    requires { lines_before + length octets.now + 2 < 2 ^ 64 }
-    ensures { IsOpened octets.now lines_before wrong result }
+fn opened(octets: &[u8], lines_before: usize, fault: Fault) -> Option<Position>
+    requires room { lines_before + length octets.now + 2 < 2 ^ 64 }
+    requires fault { IsOctetFault octets.now fault }
+    ensures { IsOpened octets.now lines_before fault.wrong result }
 {
-    match wrong {
-        Wrong::OpenQuote(start) => match octets.get(..start) {
-            Some(before) => Some(position_after(lines_before, before)),
+    match fault.wrong {
+        Wrong::OpenQuote(start) => Some(position_after(lines_before, &octets[..start])),
+        Wrong::OpenParenthesis => match outermost_open_of_octets(octets) {
+            Some(start) => Some(position_after(lines_before, &octets[..start])),
             None => None,
         },
         _ => None,
@@ -39,7 +42,7 @@ pub fn locate(octets: &[u8], lines_before: usize, fault: Fault) -> Found
     Found {
         fault,
         position: position_after(lines_before, &octets[..fault.at]),
-        opened: opened(octets, lines_before, fault.wrong),
+        opened: opened(octets, lines_before, fault),
     }
 }
 

@@ -29,7 +29,7 @@ fn checks_zones(rt: HostRuntime) {
 // Columns count characters: `é` is one, of two octets.
 #[test]
 fn names_faults(rt: HostRuntime) {
-    let rows: [(&[u8], usize, Wrong, Position, Option<Position>); 7] = [
+    let rows: [(&[u8], usize, Wrong, Position, Option<Position>); 8] = [
         (b"a\nb\n)", 4, Wrong::Closing, at(3, 1), None),
         ("é\\".as_bytes(), 3, Wrong::BadEscape, at(1, 3), None),
         (
@@ -48,7 +48,14 @@ fn names_faults(rt: HostRuntime) {
         ),
         (b"\xE9 )", 2, Wrong::Closing, at(1, 3), None),
         (b"a\rb", 2, Wrong::LoneReturn, at(1, 3), None),
-        (b"(a\n", 3, Wrong::OpenParenthesis, at(2, 1), None),
+        (b"(a\n", 3, Wrong::OpenParenthesis, at(2, 1), Some(at(1, 1))),
+        (
+            b"\xE9 (a\n(\xFF ;)\n",
+            11,
+            Wrong::OpenParenthesis,
+            at(3, 1),
+            Some(at(1, 3)),
+        ),
     ];
     for (octets, place, wrong, position, opened) in rows {
         let fault = Fault { at: place, wrong };
