@@ -20,6 +20,17 @@ pub mod plain {
     use crate::symbols::plain::Symbol;
     use std::fmt;
 
+    /// A decimal number, a symbol at a time.
+    pub fn number(text: &str) -> Option<u32> {
+        let mut chars = text.chars();
+        let mut value = 0u32;
+        while let Some(symbol) = Symbol::next(&mut chars).ok()? {
+            let digit = symbol.char()?.to_digit(10)?;
+            value = value.checked_mul(10)?.checked_add(digit)?;
+        }
+        Some(value)
+    }
+
     /// The wire form of an absolute or a relative name.
     pub fn read(text: &str) -> Option<Vec<u8>> {
         if text == "." {
@@ -196,7 +207,7 @@ pub fn add(rows: &mut Rows) {
                 move || unsafe { call(text.as_ptr(), text.len()) },
                 move || {
                     let text = std::str::from_utf8(text).expect("text");
-                    let number = |line: &str| line.parse::<u32>().expect("a number") as usize;
+                    let number = |line: &str| plain::number(line).expect("a number") as usize;
                     text.lines().map(number).sum()
                 },
             )
