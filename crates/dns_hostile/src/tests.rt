@@ -8,6 +8,7 @@ mod heap;
 mod layouts;
 mod names;
 mod programs;
+mod rests;
 mod scanning;
 mod splitting;
 mod texts;
