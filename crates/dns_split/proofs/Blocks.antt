@@ -1,9 +1,9 @@
 -- What octets give that more octets follow.
-use Rattle.std.proofs.Common.{◌≡◌, ℕ, suc, ◌+◌, ◌<◌, Bool, true, false, cond, ◌==◌, nat_lt, List, [], ◌∷◌, ◌++◌, length, take, drop, refl, sym, ap, ◌∙◌, subst, arith, append-nil}
+use Rattle.std.proofs.Common.{◌≡◌, ℕ, suc, ◌+◌, ◌<◌, Bool, true, false, cond, ◌==◌, nat_lt, List, [], ◌∷◌, ◌++◌, length, take, drop, refl, sym, ap, ◌∙◌, subst, arith, append-nil, append_assoc}
 use Rattle.std.proofs.Common.{length-append}
 use Rattle.std.specs.Prelude.{⊤, Option, Some, None, map, Result, Ok, Err}
 use Rattle.std.proofs.lemmas.Bool.{and_parts, and_from}
-use Rattle.std.proofs.lemmas.List.{take-append-drop}
+use Rattle.std.proofs.lemmas.List.{take-append-drop, map-append}
 use Rattle.std.proofs.Math.Nat.{zero-add}
 use Rattle.std.proofs.Math.Seq.{take-append_seam}
 use Rattle.dns_split.specs.declared.reader.Mode.{Mode}
@@ -12,10 +12,12 @@ use Rattle.dns_split.specs.declared.reader.Act.{Act}
 use Rattle.dns_split.specs.declared.reader.Act.TheVariants.{Add, BeginToken, EndToken, EndEntry, FinishToken}
 use Rattle.dns_split.specs.declared.reader.Move.{Move}
 use Rattle.dns_split.specs.declared.pieces.Piece.{Piece}
-use Rattle.dns_split.specs.declared.pieces.Piece.TheVariants.{End as EndAt}
+use Rattle.dns_split.specs.declared.pieces.Piece.TheVariants.{Word as WordAt, Quote as QuoteAt, Comment as CommentAt, End as EndAt}
 use Rattle.dns_split.specs.declared.pieces.Fault.{Fault}
+use Rattle.dns_split.specs.declared.pieces.Wrong.{Wrong}
+use Rattle.dns_split.specs.declared.pieces.Wrong.TheVariants.{Closing as Late, OpenParenthesis, OpenQuote, LoneReturn, BadEscape}
 use Rattle.dns_split.specs.Reader.{step, may_end}
-use Rattle.dns_split.specs.Pieces.{word_at, end_at, later, IsGiven, AreOctets}
+use Rattle.dns_split.specs.Pieces.{word_at, quote_at, comment_at, end_at, moved_piece, moved_wrong, moved_fault, moved, later, IsGiven, AreOctets}
 use Rattle.dns_split.specs.Run.{open_piece, goes_on, before, closed, finished, start_after, first_blank, blank_after, fault, wrong_at, wrong_at_end, run}
 use Rattle.dns_split.proofs.Complete.{Some_same}
 use Rattle.dns_split.proofs.PieceSteps.{run_step, run_stop, entry_home}
@@ -261,6 +263,10 @@ front_octets : (xs ys : List ℕ) → AreOctets (xs ++ ys) → AreOctets xs
 front_octets [] ys h = refl
 front_octets (x ∷ xs) ys h = let p = and_parts (nat_lt x 256) _ h in and_from _ _ p.0 (front_octets xs ys p.1)
 
+back_octets : (xs ys : List ℕ) → AreOctets (xs ++ ys) → AreOctets ys
+back_octets [] ys h = h
+back_octets (x ∷ xs) ys h = back_octets xs ys (and_parts (nat_lt x 256) _ h).1
+
 pub entries_stay : (octets rest : List ℕ) (found : List Piece) (at : ℕ) (blank : Bool) (left alone : List (Result Piece Fault)) → AreOctets octets → AreOctets rest
     → IsGiven octets (map Ok found ++ Ok (end_at at blank) ∷ left) → 0 < length left → IsGiven rest alone
     → IsGiven (take at octets ++ rest) (map Ok found ++ Ok (end_at at blank) ∷ later at alone)
@@ -285,3 +291,89 @@ faults_stay octets more found f o r given before =
     subst (IsGiven (octets ++ more))
     (ap (λ t. run Outside 0 0 0 t (octets ++ more)) same ∙ stays octets more Outside 0 0 0 (first_blank octets) f here (omega (arith, before)) ∙ sym is)
     (run_given (octets ++ more) (both_octets octets more o r))
+
+-- a place further on, twice
+twice : (a b i : ℕ) → a + (b + i) ≡ a + b + i
+twice a b i = omega arith
+
+piece_later : (a b : ℕ) (p : Piece) → moved_piece (λ i. a + i) (moved_piece (λ i. b + i) p) ≡ moved_piece (λ i. a + b + i) p
+piece_later a b (WordAt p) = ap (λ s. word_at s (a + (b + p.end))) (twice a b p.start) ∙ ap (word_at (a + b + p.start)) (twice a b p.end)
+piece_later a b (QuoteAt p) = ap (λ s. quote_at s (a + (b + p.end))) (twice a b p.start) ∙ ap (quote_at (a + b + p.start)) (twice a b p.end)
+piece_later a b (CommentAt p) = ap (λ s. comment_at s (a + (b + p.end))) (twice a b p.start) ∙ ap (comment_at (a + b + p.start)) (twice a b p.end)
+piece_later a b (EndAt p) = ap (λ s. end_at s p.begins_blank) (twice a b p.at)
+
+wrong_later : (a b : ℕ) (w : Wrong) → moved_wrong (λ i. a + i) (moved_wrong (λ i. b + i) w) ≡ moved_wrong (λ i. a + b + i) w
+wrong_later a b (OpenQuote i) = ap OpenQuote (twice a b i)
+wrong_later a b Late = refl
+wrong_later a b OpenParenthesis = refl
+wrong_later a b LoneReturn = refl
+wrong_later a b BadEscape = refl
+
+abbrev fault_at : ℕ → Wrong → Fault
+fault_at i w = record { at = i; wrong = w }
+
+pub later_later : (a b : ℕ) (given : List (Result Piece Fault)) → later a (later b given) ≡ later (a + b) given
+later_later a b [] = refl
+later_later a b (Ok p ∷ given) = ap (λ q. Ok q ∷ later a (later b given)) (piece_later a b p) ∙ ap (λ g. Ok (moved_piece (λ i. a + b + i) p) ∷ g) (later_later a b given)
+later_later a b (Err f ∷ given) =
+    ap (λ i. Err (fault_at i (moved_wrong (λ i. a + i) (moved_wrong (λ i. b + i) f.wrong))) ∷ later a (later b given)) (twice a b f.at)
+    ∙ ap (λ w. Err (fault_at (a + b + f.at) w) ∷ later a (later b given)) (wrong_later a b f.wrong)
+    ∙ ap (λ g. Err (moved_fault (λ i. a + b + i) f) ∷ g) (later_later a b given)
+
+-- what was given of all octets, where these are left, whatever follows them
+abbrev pub GivenSoFar : List ℕ → List ℕ → List (Result Piece Fault) → ℕ → Type 0
+GivenSoFar all left front base = (y : List ℕ) (alone : List (Result Piece Fault)) → AreOctets y → IsGiven (left ++ y) alone → IsGiven (all ++ y) (front ++ later base alone)
+
+-- a block more is left
+pub block_read : (all left block : List ℕ) (front : List (Result Piece Fault)) (base : ℕ) → AreOctets block → GivenSoFar all left front base → GivenSoFar (all ++ block) (left ++ block) front base
+block_read all left block front base o g y alone r given =
+    subst (λ l. IsGiven l (front ++ later base alone)) (sym (append_assoc all block y))
+    (g (block ++ y) alone (both_octets block y o r) (subst (λ l. IsGiven l alone) (append_assoc left block y) given))
+
+-- entries that have ended are given
+pub entries_given : (all left : List ℕ) (front : List (Result Piece Fault)) (base : ℕ) (found : List Piece) (at : ℕ) (blank : Bool) (more : List (Result Piece Fault)) → AreOctets left
+    → GivenSoFar all left front base → IsGiven left (map Ok found ++ Ok (end_at at blank) ∷ more) → 0 < length more
+    → GivenSoFar all (drop at left) (front ++ later base (map Ok found ++ Ok (end_at at blank) ∷ [])) (base + at)
+entries_given all left front base found at blank more o g given some y alone r then =
+    let rest : List ℕ = drop at left ++ y in
+    let both : AreOctets rest = both_octets (drop at left) y (back_octets (take at left) (drop at left) (subst AreOctets (sym (take-append-drop at left)) o)) r in
+    let stay = entries_stay left rest found at blank more alone o both given some then in
+    let shape : take at left ++ rest ≡ left ++ y = sym (append_assoc (take at left) (drop at left) y) ∙ ap (λ l. l ++ y) (take-append-drop at left) in
+    let ends : List (Result Piece Fault) = map Ok found ++ Ok (end_at at blank) ∷ [] in
+    let list : map Ok found ++ Ok (end_at at blank) ∷ later at alone ≡ ends ++ later at alone = sym (append_assoc (map Ok found) (Ok (end_at at blank) ∷ []) (later at alone)) in
+    subst (IsGiven (all ++ y))
+    (ap (λ l. front ++ later base l) list ∙ ap (λ l. front ++ l) (map-append (moved (λ i. base + i)) ends (later at alone) ∙ ap (λ l. later base ends ++ l) (later_later base at alone))
+    ∙ sym (append_assoc front (later base ends) (later (base + at) alone)))
+    (g y (map Ok found ++ Ok (end_at at blank) ∷ later at alone) r (subst (λ l. IsGiven l (map Ok found ++ Ok (end_at at blank) ∷ later at alone)) shape stay))
+
+piece_still : (p : Piece) → moved_piece (λ i. i) p ≡ p
+piece_still (WordAt p) = refl
+piece_still (QuoteAt p) = refl
+piece_still (CommentAt p) = refl
+piece_still (EndAt p) = refl
+
+wrong_still : (w : Wrong) → moved_wrong (λ i. i) w ≡ w
+wrong_still (OpenQuote i) = refl
+wrong_still Late = refl
+wrong_still OpenParenthesis = refl
+wrong_still LoneReturn = refl
+wrong_still BadEscape = refl
+
+all_still : (given : List (Result Piece Fault)) → map (moved (λ i. i)) given ≡ given
+all_still [] = refl
+all_still (Ok p ∷ given) = ap (λ q. Ok q ∷ map (moved (λ i. i)) given) (piece_still p) ∙ ap (λ g. Ok p ∷ g) (all_still given)
+all_still (Err f ∷ given) = ap (λ w. Err (fault_at f.at w) ∷ map (moved (λ i. i)) given) (wrong_still f.wrong) ∙ ap (λ g. Err f ∷ g) (all_still given)
+
+later_zero : (given : List (Result Piece Fault)) → later 0 given ≡ given
+later_zero given =
+    let same : (λ (i : ℕ). 0 + i) ≡ (λ (i : ℕ). i) = λ k. λ i. zero-add i k in
+    ap (λ (f : ℕ → ℕ). map (moved f) given) same ∙ all_still given
+
+-- before the first block
+pub nothing_given : GivenSoFar [] [] [] 0
+nothing_given y alone r given = subst (IsGiven y) (sym (later_zero alone)) given
+
+-- a fault that no more octets mend
+pub fault_given : (all left : List ℕ) (front : List (Result Piece Fault)) (base : ℕ) (found : List Piece) (f : Fault) (y : List ℕ) → AreOctets left → AreOctets y → GivenSoFar all left front base
+    → IsGiven left (map Ok found ++ Err f ∷ []) → f.at < length left → IsGiven (all ++ y) (front ++ later base (map Ok found ++ Err f ∷ []))
+fault_given all left front base found f y o r g given before = g y (map Ok found ++ Err f ∷ []) r (faults_stay left y found f o r given before)

@@ -1,11 +1,11 @@
 -- Octets are read in one way.
-use Rattle.std.proofs.Common.{◌≡◌, ℕ, zero, suc, ◌+◌, ◌-◌, ◌<◌, ◌≤◌, true, cond, ◌==◌, nat_lt, List, [], ◌∷◌, ◌++◌, length, take, drop, refl, sym, ap, ◌∙◌, subst, arith, append_assoc}
+use Rattle.std.proofs.Common.{◌≡◌, ℕ, zero, suc, ◌+◌, ◌-◌, ◌<◌, ◌≤◌, true, cond, ◌==◌, nat_lt, List, [], ◌∷◌, ◌++◌, length, take, drop, refl, sym, ap, ◌∙◌, subst, arith, append_assoc, get_or, ◌^◌}
 use Rattle.std.proofs.Common.{length-append, length-take-le, take_all, inl, inr}
 use Rattle.std.specs.Prelude.{⊤, map, Result, Ok, Err, encode_utf8, encode_utf8_all}
 use Rattle.std.specs.List.{AllByRecursion, flat_map}
 use Rattle.dns_symbol.specs.Symbol.{bytes}
 use lib.Utf8.{scalars, low_scalar}
-use Rattle.std.proofs.lemmas.Bool.{ne_eqb, cond-false, cases_lt, and_parts, and_from, ltb-true}
+use Rattle.std.proofs.lemmas.Bool.{ne_eqb, cond-false, cases_lt, and_parts, and_from, ltb-true, lt-ltb}
 use Rattle.std.proofs.lemmas.Str.{length-encode, len_utf8_bounds}
 use Rattle.dns_split.specs.declared.reader.Mode.TheVariants.{Outside}
 use Rattle.dns_split.specs.declared.pieces.Piece.{Piece}
@@ -31,6 +31,10 @@ octet_scalars (x ∷ octets) h =
     let p = and_parts (nat_lt x 256) _ h in
     let small : x < 256 = ltb-true x 256 p.0 in
     and_from _ _ (low_scalar x (omega arith)) (octet_scalars octets p.1)
+
+pub are_octets : (l : List ℕ) → ((i : ℕ) → get_or l i 0 < 2 ^ 8) → AreOctets l
+are_octets [] h = refl
+are_octets (x ∷ l) h = and_from _ _ (lt-ltb x 256 (omega (arith, h 0))) (are_octets l (λ i. h (suc i)))
 
 -- a quoted text that is open begins before the fault
 picked : (text : List ℕ) (first last : List Piece) (p : Piece) → AllByRecursion (IsSpelled text) (map Ok (first ++ p ∷ last)) → IsSpelled text (Ok p)
