@@ -34,7 +34,8 @@ hex_text octets tokens texts = ap concat (one_text (hex octets) (encoded base16 
 pub base64_text : (octets : List ℕ) (tokens : List Token) → AreTexts (base64_octets octets ∷ []) tokens [] → concat tokens ≡ encoded base64 octets
 base64_text octets tokens texts = ap concat (one_text (base64_octets octets) (encoded base64 octets) (λ t e. e) tokens texts) ∙ append-nil (encoded base64 octets)
 
-module _ {S O E : Type 0} (next : S → Option Token → S → Type 0) (cause : E → Cause) (value : O → List ℕ) (sure : ℕ) (make : List ℕ → Value) (octets : List ℕ) (past : List Value) (tokens : List Token) (new : S) where
+module _ {S O E : Type 0} (next : S → Option Token → S → Type 0) (cause : E → Cause) (value : O → List ℕ) (sure : ℕ) (make : List ℕ → Value)
+    (octets : List ℕ) (past : List Value) (tokens : List Token) (new : S) where
   pub some_rest : (o : O) (r : Result (List ℕ) E) → 0 < length octets → GivesWhere cause value sure octets (Ok o) → LeavesOf {V = O} {E = E} next tokens (Ok o) new
       → (0 < length (value o) → IsOkAnd r (λ s. s ≡ value o)) → ReadsBack next cause sure (λ s. make s ∷ []) (make octets ∷ []) (past ++ make octets ∷ []) [] r new
   some_rest o r some gives leaves made =

@@ -56,8 +56,10 @@ module _ {S E : Type 0} (next : S → Option Token → S → Type 0) (cause : E 
   abbrev Where : Type 0 → Type 0
   Where answered = AllZip HasOctets tokens strings → All (λ s. length s ≤ 255) strings → answered
 
-  pub strings_given : {A : Type 0} (v : Vec (List ℕ) A) (r : Result (List (List ℕ)) E) → AreValues (strings_of strings) → 0 < length (strings_of strings) → AreTexts (strings_of strings) tokens [] → Where ((v.items ≡ strings) ⊎ ⊥)
-      → LeavesOf {V = Vec (List ℕ) A} {E = E} next tokens (Ok v) new → (0 < length v.items → IsOkAnd r (λ s. s ≡ v.items)) → ReadsBack next cause sure strings_of (strings_of strings) (past ++ strings_of strings) [] r new
+  pub strings_given : {A : Type 0} (v : Vec (List ℕ) A) (r : Result (List (List ℕ)) E) → AreValues (strings_of strings) → 0 < length (strings_of strings) → AreTexts (strings_of strings) tokens []
+      → Where ((v.items ≡ strings) ⊎ ⊥)
+      → LeavesOf {V = Vec (List ℕ) A} {E = E} next tokens (Ok v) new → (0 < length v.items → IsOkAnd r (λ s. s ≡ v.items))
+      → ReadsBack next cause sure strings_of (strings_of strings) (past ++ strings_of strings) [] r new
   strings_given {A} v r valid some texts whole leaves made =
       let is : v.items ≡ strings = ⊎_elim (λ e. e) (λ e. absurd e) (whole (texts_read strings tokens valid texts) (short_each strings valid)) in
       inl (by r is (made (subst (λ (l : List (List ℕ)). 0 < length l) (sym is) (some_strings strings some))), subst (StandsBefore next new) (leaves.3 refl) leaves.4)

@@ -1,5 +1,6 @@
 -- What is read of the texts of fields is their values.
-use Rattle.std.proofs.Common.{ℕ, ◌+◌, ◌≡◌, ◌<◌, ◌≤◌, ◌^◌, Bool, List, [], ◌∷◌, ◌++◌, length, length-append, map, min, refl, sym, ap, subst, ◌∙◌, arith, zero-add, inl, inr, ⊎_elim, None, Result, Ok, Err}
+use Rattle.std.proofs.Common.{ℕ, ◌+◌, ◌≡◌, ◌<◌, ◌≤◌, ◌^◌, Bool, List, [], ◌∷◌, ◌++◌, length, length-append, map, min}
+use Rattle.std.proofs.Common.{refl, sym, ap, subst, ◌∙◌, arith, zero-add, inl, inr, ⊎_elim, None, Result, Ok, Err}
 use Rattle.std.specs.Prelude.{All, MatchResult, encode_utf8_all}
 use Rattle.std.specs.List.{concat}
 use Rattle.std.specs.Fmt.{decimal}
@@ -31,7 +32,8 @@ use Rattle.dns_record.specs.Values.{Value, number8, number16, number32, name, st
 
 -- ---- numbers
 
-number_back : (sure : ℕ) (make : ℕ → Value) (limit v : ℕ) (t : Token) (ts others rest : List Token) (r : Result ℕ Cause) → v ≤ limit → v < 2 ^ 32 → t ≡ decimal v → ts ≡ others → ReadsFirst (NumberReads limit) (t ∷ ts) r rest
+number_back : (sure : ℕ) (make : ℕ → Value) (limit v : ℕ) (t : Token) (ts others rest : List Token) (r : Result ℕ Cause)
+    → v ≤ limit → v < 2 ^ 32 → t ≡ decimal v → ts ≡ others → ReadsFirst (NumberReads limit) (t ∷ ts) r rest
     → FieldBack sure (λ n. make n ∷ []) (make v ∷ []) others r rest
 number_back sure make limit v t ts others rest r small fits text end reads =
     let is = decimal_read limit v (omega (arith, fits)) small in
@@ -75,7 +77,8 @@ joined_each [] = refl
 joined_each (o ∷ os) = ap (λ l. o ∷ l) (joined_each os)
 
 -- a fault at a symbol that gives its octet: there was no room for it
-fault_short : (sure most : ℕ) (front rest : List Symbol) (octets : List ℕ) (parts : List (List ℕ)) (count : ℕ) (why : Cause) → map octet_of (front ++ rest) ≡ map Ok octets → map octet_given front ≡ map Ok parts
+fault_short : (sure most : ℕ) (front rest : List Symbol) (octets : List ℕ) (parts : List (List ℕ)) (count : ℕ) (why : Cause)
+    → map octet_of (front ++ rest) ≡ map Ok octets → map octet_given front ≡ map Ok parts
     → IsFault octet_given sure most (count + length (concat parts)) rest None why → sure < count + length octets
 fault_short sure most [] [] octets parts count why is gives fault = absurd fault
 fault_short sure most [] (x ∷ xs) [] parts count why is gives fault = cc
@@ -167,7 +170,8 @@ pub may_after : (sure : ℕ) (a b : List Value) → SomeMayLack sure b → SomeM
 may_after sure [] b h = h
 may_after sure (x ∷ xs) b h = inr (may_after sure xs b h)
 
-module _ (sure : ℕ) {A B : Type 0} (a_values : A → List Value) (b_values : B → List Value) (a_reads : List Token → Result A Cause → List Token → Type 0) (b_reads : List Token → Result B Cause → List Token → Type 0)
+module _ (sure : ℕ) {A B : Type 0} (a_values : A → List Value) (b_values : B → List Value) (a_reads : List Token → Result A Cause → List Token → Type 0)
+    (b_reads : List Token → Result B Cause → List Token → Type 0)
     (a_back : (x : A) (tokens others rest : List Token) (r : Result A Cause) → AreValues (a_values x) → AreTexts (a_values x) tokens others → a_reads tokens r rest
     → FieldBack sure a_values (a_values x) others r rest)
     (b_back : (x : B) (tokens others rest : List Token) (r : Result B Cause) → AreValues (b_values x) → AreTexts (b_values x) tokens others → b_reads tokens r rest
@@ -213,7 +217,8 @@ module _ (O : Type 0) {E : Type 0} (cause : E → Cause) (sure most : ℕ) where
   abbrev Reads : Token → Result (List (List ℕ)) E → Type 0
   Reads = ReadsToken O cause sure most
 
-  name_given : (labels : List (List ℕ)) (q : Result (List (List ℕ)) E) (r : Result (List (List ℕ)) Cause) (others rest : List Token) → rest ≡ others → GivesName cause sure labels q → r ≡ by_cause cause q
+  name_given : (labels : List (List ℕ)) (q : Result (List (List ℕ)) E) (r : Result (List (List ℕ)) Cause) (others rest : List Token)
+      → rest ≡ others → GivesName cause sure labels q → r ≡ by_cause cause q
       → FieldBack sure (λ n. name n ∷ []) (name labels ∷ []) others r rest
   name_given labels (Ok n) (Ok m) others rest end (inl g) is = let a : n ≡ labels = cc g in let b : m ≡ n = cc is in inl (ap (λ l. name l ∷ []) (b ∙ a), end)
   name_given labels (Ok n) (Err why) others rest end (inl g) is = cc

@@ -1,10 +1,10 @@
 -- What is scanned of a record's text.
-use Rattle.std.specs.Prelude.{ℕ, List, ◌≡◌, ◌⊎◌, Option, Result, IsOkAnd}
+use Rattle.std.specs.Prelude.{ℕ, List, ◌≡◌, ◌++◌, ◌⊎◌, Option, Result, IsOkAnd}
 use Rattle.dns_symbol.specs.Cause.{Cause, IsCause, short_buf}
 use Rattle.dns_scan.specs.Stands.{StandsBefore}
 use Rattle.dns_scan.specs.Tokens.{Token}
 use Rattle.dns_iter.specs.Name.{invalid_name}
-use Rattle.dns_record.specs.Values.{Value, SomeMayLack}
+use Rattle.dns_record.specs.Values.{Value, AreTexts, AreValues, SomeMayLack}
 
 -- lack of room or memory, which a name calls "invalid domain name"
 abbrev pub Lacks : {T E : Type 0} → (E → Cause) → Result T E → Type 0
@@ -17,3 +17,20 @@ ReadsBack next cause sure values wanted all others r new = (IsOkAnd r (λ y. val
 -- the same, of what is read of a list of tokens
 abbrev pub FieldBack : {T : Type 0} → ℕ → (T → List Value) → List Value → List Token → Result T Cause → List Token → Type 0
 FieldBack sure values wanted others r rest = (IsOkAnd r (λ y. values y ≡ wanted) × (rest ≡ others)) ⊎ (Lacks (λ why. why) r × SomeMayLack sure wanted)
+
+-- a call that takes the texts of a value's fields and leaves the tokens after them, where other fields of the record were before
+pub record TakesFields {S T E : Type 0} (next : S → Option Token → S → Type 0) (cause : E → Cause) (sure : ℕ) (values : T → List Value) (old : S) (r : Result T E) (new : S) : Type 0 where
+  pub back : (x : T) (past : List Value) (tokens others : List Token) → AreValues (values x) → AreTexts (values x) tokens others → StandsBefore next old tokens
+      → ReadsBack next cause sure values (values x) (past ++ values x) others r new
+  -- the same, where the texts of more fields follow, which are left
+  pub before : (x : T) (past more : List Value) (tokens others : List Token) → AreValues (values x ++ more) → AreTexts (values x ++ more) tokens others → StandsBefore next old tokens
+      → (middle : List Token) × AreValues more × AreTexts more middle others
+      × ReadsBack next cause sure values (values x) (past ++ (values x ++ more)) middle r new
+
+-- the fields of three values in a row, and of five
+abbrev pub three_values : {A B C : Type 0} → (A → List Value) → (B → List Value) → (C → List Value) → A × B × C → List Value
+three_values a b c x = a x.0 ++ (b x.1 ++ c x.2)
+
+abbrev pub five_values : {A B C D E : Type 0} → (A → List Value) → (B → List Value) → (C → List Value) → (D → List Value)
+    → (E → List Value) → A × B × C × D × E → List Value
+five_values a b c d e x = a x.0 ++ (b x.1 ++ (c x.2 ++ (d x.3 ++ e x.4)))

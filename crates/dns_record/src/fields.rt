@@ -2,12 +2,11 @@
 ghost use Rattle.std.specs.Prelude.{◌≡◌, List, [], ◌∷◌, ◌++◌, OnOk, Result, min, encode_utf8_all};
 ghost use Rattle.dns_charstr.specs.Printed.{quoted_text};
 ghost use Rattle.dns_symbol.specs.Cause.{Cause};
-ghost use Rattle.dns_scan.specs.Stands.{StandsBefore};
 ghost use Rattle.dns_scan.specs.Tokens.{Token};
 ghost use Rattle.dns_zone.specs.Layout.{token};
 ghost use Rattle.dns_entry.specs.Field.{field_text, text_octets};
 ghost use Rattle.dns_record.specs.FieldLaws.{number8_back, number16_back, number32_back, string_back, both_back, name_read};
-ghost use Rattle.dns_record.specs.ReadsBack.{FieldBack, ReadsBack};
+ghost use Rattle.dns_record.specs.ReadsBack.{FieldBack, TakesFields, five_values, three_values};
 ghost use Rattle.dns_record.specs.Values.{Value, number8, number16, number32, name, string, AreValues, AreTexts};
 
 use dns_charstr::charstr::CharStr;
@@ -131,12 +130,51 @@ where
 pub fn scan_fields<S: Scanner, T: Field<S>>(scanner: &mut S) -> Result<T, S::Error>
     requires { S.can_scan scanner.old }
     ensures ready { S.can_scan scanner.new }
-    ensures back { (x : T) (past : List Value) (tokens others : List Token) → AreValues (T.values x) → AreTexts (T.values x) tokens others → StandsBefore S.next_token scanner.old tokens
-        → ReadsBack S.next_token S.Error.cause S.OctetsBuilder.sure T.values (T.values x) (past ++ T.values x) others result scanner.new }
-    ensures before { (x : T) (past more : List Value) (tokens others : List Token) → AreValues (T.values x ++ more) → AreTexts (T.values x ++ more) tokens others → StandsBefore S.next_token scanner.old tokens
-        → (middle : List Token) × AreValues more × AreTexts more middle others × ReadsBack S.next_token S.Error.cause S.OctetsBuilder.sure T.values (T.values x) (past ++ (T.values x ++ more)) middle result scanner.new }
+    ensures fields { TakesFields S.next_token S.Error.cause S.OctetsBuilder.sure T.values scanner.old result scanner.new }
 {
     T::scan(scanner)
+}
+
+/// Takes the texts of three values in a row, as [`scan_fields`] does those of one.
+pub fn scan_three<S: Scanner, A, B, C>(scanner: &mut S) -> Result<(A, B, C), S::Error>
+where
+    A: Field<S> + Drop,
+    B: Field<S> + Drop,
+    C: Field<S>,
+    requires { S.can_scan scanner.old }
+    ensures ready { S.can_scan scanner.new }
+    ensures fields { TakesFields S.next_token S.Error.cause S.OctetsBuilder.sure (three_values A.values B.values C.values) scanner.old result scanner.new }
+{
+    match scan_fields::<S, (A, (B, C))>(scanner) {
+        Ok((a, others)) => {
+            let (b, c) = others;
+            Ok((a, b, c))
+        }
+        Err(error) => Err(error),
+    }
+}
+
+/// Takes the texts of five values in a row, as [`scan_fields`] does those of one.
+pub fn scan_five<S: Scanner, A, B, C, D, E>(scanner: &mut S) -> Result<(A, B, C, D, E), S::Error>
+where
+    A: Field<S> + Drop,
+    B: Field<S> + Drop,
+    C: Field<S> + Drop,
+    D: Field<S> + Drop,
+    E: Field<S>,
+    requires { S.can_scan scanner.old }
+    ensures ready { S.can_scan scanner.new }
+    ensures fields { TakesFields S.next_token S.Error.cause S.OctetsBuilder.sure (five_values A.values B.values C.values D.values E.values) scanner.old result scanner.new }
+{
+    match scan_fields::<S, (A, (B, (C, (D, E))))>(scanner) {
+        Ok((a, others)) => {
+            let (b, others) = others;
+            let (c, others) = others;
+            let (d, e) = others;
+            Ok((a, b, c, d, e))
+        }
+        Err(error) => Err(error),
+    }
 }
 
 /// Prints a character string as one token, between double quotes.

@@ -4,7 +4,7 @@ ghost use Rattle.dns_record.specs.Pieces.{steps_of};
 ghost use Rattle.dns_records.specs.Pieces.{caa_pieces};
 
 use dns_text::charstr::CharStr;
-use dns_text::record::{FieldValue, RecordData, scan_fields, write_unquoted};
+use dns_text::record::{FieldValue, RecordData, scan_three, write_unquoted};
 use dns_text::scan::{EntryScanner, ScannerError, TokenText};
 use dns_text::wire::{AsOctets, AsOctetsMut, EmptyBuilder, FreezeBuilder, FromBuilder, Truncate};
 use dns_text::zonefile_fmt::{self, FormatWriter, Formatter, ZonefileFmt};
@@ -48,12 +48,8 @@ where
         _alloc: A,
         scanner: &mut EntryScanner<'a, T, Octets, E>,
     ) -> Result<Self, E> {
-        let (flags, tag) = match scan_fields::<_, (u8, CharStr<Octets>)>(scanner) {
-            Ok(fields) => fields,
-            Err(error) => return Err(error),
-        };
-        match scan_fields(scanner) {
-            Ok(value) => Ok(Caa { flags, tag, value }),
+        match scan_three(scanner) {
+            Ok((flags, tag, value)) => Ok(Caa { flags, tag, value }),
             Err(error) => Err(error),
         }
     }

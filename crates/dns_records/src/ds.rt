@@ -4,7 +4,7 @@ ghost use Rattle.dns_record.specs.Pieces.{steps_of};
 ghost use Rattle.dns_records.specs.Pieces.{ds_pieces};
 
 use dns_text::base16;
-use dns_text::record::{FieldValue, RecordData, SomeOctets, hex_rest, scan_fields};
+use dns_text::record::{FieldValue, RecordData, SomeOctets, hex_rest, scan_three};
 use dns_text::scan::{EntryScanner, ScannerError, TokenText};
 use dns_text::wire::{AsOctets, AsOctetsMut, EmptyBuilder, FreezeBuilder, FromBuilder, Truncate};
 use dns_text::zonefile_fmt::{self, FormatWriter, Formatter, ZonefileFmt};
@@ -52,12 +52,8 @@ where
         _alloc: A,
         scanner: &mut EntryScanner<'a, T, Octets, E>,
     ) -> Result<Self, E> {
-        let (key_tag, algorithm) = match scan_fields::<_, (u16, u8)>(scanner) {
+        let (key_tag, algorithm, digest_type) = match scan_three::<_, u16, u8, u8>(scanner) {
             Ok(numbers) => numbers,
-            Err(error) => return Err(error),
-        };
-        let digest_type = match scan_fields::<_, u8>(scanner) {
-            Ok(number) => number,
             Err(error) => return Err(error),
         };
         match hex_rest(scanner) {

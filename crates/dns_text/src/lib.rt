@@ -38,7 +38,9 @@ pub mod wire {
 
 /// Record data between zone text and values.
 pub mod record {
-    pub use dns_record::fields::{Field, FieldValue, scan_fields, write_unquoted};
+    pub use dns_record::fields::{
+        Field, FieldValue, scan_fields, scan_five, scan_three, write_quoted, write_unquoted,
+    };
     pub use dns_record::record::{RecordData, record_reads_back, scan_record};
     pub use dns_record::several::{SomeOctets, Strings, base64_rest, hex_rest, strings_rest};
 }

@@ -10,7 +10,8 @@ pub returns : goal.returns
 returns g c =
     let x = c.args.value.now in
     let ps = g.R.RecordData.pieces x in
-    let found = record_entry ps (g.R.ZonefileFmt.document x) (string_bytes c.in-Ok.text) (entries_of c.in-Ok-split.entries.items) (g.met.R.RecordData.shown x) c.known.ensures.0 (g.met.R.RecordData.laid_out x) c.in-Ok.ensures.meaning
+    let found = record_entry ps (g.R.ZonefileFmt.document x) (string_bytes c.in-Ok.text) (entries_of c.in-Ok-split.entries.items)
+    (g.met.R.RecordData.shown x) c.known.ensures.0 (g.met.R.RecordData.laid_out x) c.in-Ok.ensures.meaning
     (subst (λ (t : List ℕ). Splits t (entries_of c.in-Ok-split.entries.items)) c.as_str.ensures.value c.in-Ok-split.ensures.exact) in
     let first = first_of c.in-Ok-split.entries.items c.in-Some.tokens.now c.in-Some.field-0-1.now (tokens_of ps) (sym c.deref.ensures.value ∙ c.in-Some.ensures.cases.0) found in
     c.scan_record.ensures.back x (held_of ps) c.known.ensures (pieces_texts ps)

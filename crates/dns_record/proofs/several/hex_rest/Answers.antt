@@ -12,5 +12,6 @@ returns-in-Ok-clause-back g c = λ octets past tokens is texts stands.
 
 pub returns-in-Err-clause-back : goal.returns-in-Err-clause-back
 returns-in-Err-clause-back g c = λ octets past tokens is texts stands.
-    no_rest g.S.Scanner.next_token g.S.Error.ScannerError.cause g.S.Octets.AsOctets.octets g.S.OctetsBuilder.OctetsBuilder.sure (λ o. hex o) octets past tokens _ {T = List ℕ} (λ o. hex o ∷ []) (hex octets ∷ []) _ (λ less. less)
+    no_rest g.S.Scanner.next_token g.S.Error.ScannerError.cause g.S.Octets.AsOctets.octets g.S.OctetsBuilder.OctetsBuilder.sure (λ o. hex o)
+    octets past tokens _ {T = List ℕ} (λ o. hex o ∷ []) (hex octets ∷ []) _ (λ less. less)
     (c.in-Err.ensures.back octets tokens (recursion_from_All (λ o. o < 256) octets is.0.0) stands (hex_text octets tokens texts))

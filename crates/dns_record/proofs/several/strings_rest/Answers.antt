@@ -8,4 +8,5 @@ returns-in-Ok-clause-back g c = λ strings past tokens is texts stands.
 
 pub returns-in-Err-clause-back : goal.returns-in-Err-clause-back
 returns-in-Err-clause-back g c = λ strings past tokens is texts stands.
-    strings_lack g.S.Scanner.next_token g.S.Error.ScannerError.cause g.S.OctetsBuilder.OctetsBuilder.sure strings past tokens _ c.in-Err.error is.0 is.1 texts (c.in-Err.ensures.whole tokens strings stands)
+    strings_lack g.S.Scanner.next_token g.S.Error.ScannerError.cause g.S.OctetsBuilder.OctetsBuilder.sure strings past tokens _ c.in-Err.error is.0 is.1 texts
+    (c.in-Err.ensures.whole tokens strings stands)
