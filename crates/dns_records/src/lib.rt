@@ -4,6 +4,7 @@
 pub mod caa;
 pub mod ds;
 pub mod mx;
+pub mod soa;
 #[cfg(test)]
 mod tests;
 pub mod txt;

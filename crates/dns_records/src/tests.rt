@@ -2,6 +2,7 @@
 use crate::caa::Caa;
 use crate::ds::Ds;
 use crate::mx::Mx;
+use crate::soa::Soa;
 use crate::txt::Txt;
 use dns_text::charstr::CharStr;
 use dns_text::document::split;
@@ -41,10 +42,25 @@ fn prints<R>(
 where
     R: RecordData<Vec<u8>, Global> + Drop,
 {
+    prints_rows::<R>(rt, alloc, text, simple, tabbed, simple)
+}
+
+/// The same, of a record that has rows of its own in the multiline layout.
+fn prints_rows<R>(
+    rt: &impl Abort,
+    alloc: Global,
+    text: &str,
+    simple: &str,
+    tabbed: &str,
+    multiline: &str,
+) -> Result<(), Fail>
+where
+    R: RecordData<Vec<u8>, Global> + Drop,
+{
     let record: R = scanned(alloc, text).expect(rt, "record data");
     prints_as(rt, alloc, &record, DisplayKind::Simple, simple)?;
     prints_as(rt, alloc, &record, DisplayKind::Tabbed, tabbed)?;
-    prints_as(rt, alloc, &record, DisplayKind::Multiline, simple)?;
+    prints_as(rt, alloc, &record, DisplayKind::Multiline, multiline)?;
     reads_back(rt, alloc, &record, DisplayKind::Simple, simple)?;
     reads_back(rt, alloc, &record, DisplayKind::Tabbed, simple)?;
     reads_back(rt, alloc, &record, DisplayKind::Multiline, simple)
@@ -115,6 +131,47 @@ fn mx(rt: HostRuntime) -> Result<(), Fail> {
         dot,
         simple,
         "65535\tAction\\046domains.ISI.EDU.",
+    )
+}
+
+// The SOA of RFC 1035 section 5.3, with the origin written out.
+const SOA: &str = "VENERA.ISI.EDU. Action\\.domains.ISI.EDU. (
+                                 20     ; SERIAL
+                                 7200   ; REFRESH
+                                 600    ; RETRY
+                                 3600000; EXPIRE
+                                 60)    ; MINIMUM";
+
+const SOA_ROWS: &str = "VENERA.ISI.EDU. Action\\046domains.ISI.EDU. ( 20\t; serial
+                                             7200\t; refresh
+                                             600\t; retry
+                                             3600000\t; expire
+                                             60\t; minimum
+                                             )";
+
+#[test]
+fn soa(rt: HostRuntime) -> Result<(), Fail> {
+    let alloc = rt.alloc();
+    prints_rows::<Soa<Vec<u8>>>(
+        &rt,
+        alloc,
+        SOA,
+        "VENERA.ISI.EDU. Action\\046domains.ISI.EDU. 20 7200 600 3600000 60",
+        "VENERA.ISI.EDU.\tAction\\046domains.ISI.EDU.\t20 7200 600 3600000 60",
+        SOA_ROWS,
+    )?;
+    prints_rows::<Soa<Vec<u8>>>(
+        &rt,
+        alloc,
+        ". . 4294967295 0 1 2 4294967295",
+        ". . 4294967295 0 1 2 4294967295",
+        ".\t.\t4294967295 0 1 2 4294967295",
+        ". . ( 4294967295\t; serial
+      0\t; refresh
+      1\t; retry
+      2\t; expire
+      4294967295\t; minimum
+      )",
     )
 }
 
@@ -200,6 +257,17 @@ fn refused_texts(rt: HostRuntime) -> Result<(), Fail> {
     refuses::<Mx<Vec<u8>>>(&rt, alloc, "x a.", "expected decimal number")?;
     refuses::<Mx<Vec<u8>>>(&rt, alloc, "10", "unexpected end of entry")?;
     refuses::<Mx<Vec<u8>>>(&rt, alloc, "10 a..b.", "invalid domain name")?;
+    refuses::<Soa<Vec<u8>>>(&rt, alloc, "a. b. 1 2 3 4 5 6", "trailing data")?;
+    refuses::<Soa<Vec<u8>>>(&rt, alloc, "a. b. 1 2 x 4 5", "expected decimal number")?;
+    refuses::<Soa<Vec<u8>>>(
+        &rt,
+        alloc,
+        "a. b. 4294967296 2 3 4 5",
+        "decimal number overflow",
+    )?;
+    refuses::<Soa<Vec<u8>>>(&rt, alloc, "a. b..c. 1 2 3 4 5", "invalid domain name")?;
+    refuses::<Soa<Vec<u8>>>(&rt, alloc, "a. b. 1 2 3 4", "unexpected end of entry")?;
+    refuses::<Soa<Vec<u8>>>(&rt, alloc, "a.", "unexpected end of entry")?;
     refuses::<Ds<Vec<u8>>>(&rt, alloc, "1 2 3", "unexpected end of entry")?;
     refuses::<Ds<Vec<u8>>>(&rt, alloc, "1 256 3 AB", "decimal number overflow")?;
     refuses::<Ds<Vec<u8>>>(&rt, alloc, "1 2 3 AB G0", "expected hex digits")?;
@@ -210,6 +278,19 @@ fn refused_texts(rt: HostRuntime) -> Result<(), Fail> {
 /// Octets in memory of which one call is refused.
 type Hostile<'a> = Vec<u8, &'a Refusing<Global>>;
 
+/// Whether memory was refused, and the error says so.
+fn lacked(
+    rt: &impl Abort,
+    alloc: Global,
+    heap: &Refusing<Global>,
+    why: StrError,
+) -> Result<(), Fail> {
+    assert!(rt; heap.has_refused());
+    let told = format!(in alloc; "{why}")?;
+    assert!(rt; told.as_str() == "short buffer" || told.as_str() == "invalid domain name");
+    Ok(())
+}
+
 // Whichever growth is refused, the text is the same record or lacks memory.
 #[test]
 fn growths_of_mx_refused(rt: HostRuntime) -> Result<(), Fail> {
@@ -218,13 +299,7 @@ fn growths_of_mx_refused(rt: HostRuntime) -> Result<(), Fail> {
         let heap = Refusing::new(alloc, nth);
         match scanned::<Mx<Hostile<'_>>, _>(&heap, "10 a.example.") {
             Ok(mx) => assert_eq!(&rt; mx.preference, 10),
-            Err(why) => {
-                assert!(&rt; heap.has_refused());
-                let told = format!(in alloc; "{why}")?;
-                assert!(&rt;
-                    told.as_str() == "short buffer" || told.as_str() == "invalid domain name"
-                );
-            }
+            Err(why) => lacked(&rt, alloc, &heap, why)?,
         }
         if !heap.has_refused() {
             assert!(&rt; nth > 4);
@@ -242,10 +317,61 @@ fn growths_of_txt_refused(rt: HostRuntime) -> Result<(), Fail> {
         let heap = Refusing::new(alloc, nth);
         match scanned::<Txt<Hostile<'_>, &Refusing<Global>>, _>(&heap, "a \"b c\" d") {
             Ok(txt) => assert_eq!(&rt; txt.strings.as_slice().len(), 3),
-            Err(why) => {
-                assert!(&rt; heap.has_refused());
-                assert_eq!(&rt; format!(in alloc; "{why}")?.as_str(), "short buffer");
-            }
+            Err(why) => lacked(&rt, alloc, &heap, why)?,
+        }
+        if !heap.has_refused() {
+            assert!(&rt; nth > 4);
+            return Ok(());
+        }
+    }
+    assert!(&rt; false);
+    Ok(())
+}
+
+#[test]
+fn growths_of_ds_refused(rt: HostRuntime) -> Result<(), Fail> {
+    let alloc = rt.alloc();
+    for nth in 1..100 {
+        let heap = Refusing::new(alloc, nth);
+        match scanned::<Ds<Hostile<'_>>, _>(&heap, "60485 5 1 2BB183AF 5F225881") {
+            Ok(ds) => assert_eq!(&rt; ds.digest.as_slice().len(), 8),
+            Err(why) => lacked(&rt, alloc, &heap, why)?,
+        }
+        if !heap.has_refused() {
+            assert!(&rt; nth > 4);
+            return Ok(());
+        }
+    }
+    assert!(&rt; false);
+    Ok(())
+}
+
+#[test]
+fn growths_of_caa_refused(rt: HostRuntime) -> Result<(), Fail> {
+    let alloc = rt.alloc();
+    for nth in 1..100 {
+        let heap = Refusing::new(alloc, nth);
+        match scanned::<Caa<Hostile<'_>>, _>(&heap, "0 issue \"ca1.example.net\"") {
+            Ok(caa) => assert_eq!(&rt; caa.value.as_slice().len(), 15),
+            Err(why) => lacked(&rt, alloc, &heap, why)?,
+        }
+        if !heap.has_refused() {
+            assert!(&rt; nth > 4);
+            return Ok(());
+        }
+    }
+    assert!(&rt; false);
+    Ok(())
+}
+
+#[test]
+fn growths_of_soa_refused(rt: HostRuntime) -> Result<(), Fail> {
+    let alloc = rt.alloc();
+    for nth in 1..100 {
+        let heap = Refusing::new(alloc, nth);
+        match scanned::<Soa<Hostile<'_>>, _>(&heap, SOA) {
+            Ok(soa) => assert_eq!(&rt; soa.minimum.as_secs(), 60),
+            Err(why) => lacked(&rt, alloc, &heap, why)?,
         }
         if !heap.has_refused() {
             assert!(&rt; nth > 4);
