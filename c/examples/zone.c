@@ -76,7 +76,7 @@ static int print_strings(const struct dns_token *tokens, size_t count) {
 }
 
 int main(void) {
-    struct dns_cursor cursor = {0, 0, 0};
+    struct dns_cursor cursor = {0, 0, 0, 0};
     struct dns_token *tokens = NULL;
     size_t room = 0;
     int failed = 0;

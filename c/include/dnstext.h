@@ -70,14 +70,15 @@ uint32_t dns_charstr_print_unquoted(const uint8_t *octets, size_t octets_len, ui
 
 /* ---- Names (RFC 1035 sections 3.1 and 5.1): at most 255 octets.
  *
- * A name's octets are its wire form: each label's length and its octets, and the root last where the
- * name is absolute. No octets are the relative name of no labels.
+ * A name's octets are its wire form: each label's length and its octets, and the root last where
+ * the name is absolute. No octets are the relative name of no labels.
  *
- * Reading takes the labels between plain dots. No text is the relative name of no labels, and a dot
- * alone the root; another name is absolute where a plain dot ends it. Symbols are handled in order: what
- * is no symbol is refused first, then a plain dot after no octet, an escaped opening bracket that begins
- * a label, a symbol without an octet, more than 254 octets before the root, more than 63 in a label.
- * `is_absolute` is not NULL; it is 1 or 0 after DNS_OK and DNS_NO_ROOM, and else stays as it was. */
+ * Reading takes the labels between plain dots. No text is the relative name of no labels, and a
+ * dot alone the root; another name is absolute where a plain dot ends it. Symbols are handled in
+ * order: what is no symbol is refused first, then a plain dot after no octet, an escaped opening
+ * bracket that begins a label, a symbol without an octet, more than 254 octets before the root,
+ * more than 63 in a label. `is_absolute` is not NULL; it is 1 or 0 after DNS_OK and DNS_NO_ROOM,
+ * and else stays as it was. */
 uint32_t dns_name_read(const uint8_t *text, size_t text_len, uint8_t *name, size_t name_len,
                        size_t *is_absolute, struct dns_outcome *outcome);
 /* The labels joined by dots, without a dot at the end; the root alone is one dot. Labels escape the
@@ -90,16 +91,17 @@ uint32_t dns_name_print(const uint8_t *name, size_t name_len, uint8_t *text, siz
 uint32_t dns_name_print_dotted(const uint8_t *name, size_t name_len, uint8_t *text, size_t text_len,
                                struct dns_outcome *outcome);
 /* As zone text has it: letters, digits, '-', '_' and '*' stand plain, and every other octet by its
- * decimal value, with a dot at the end of an absolute name. So a name of one label or more is one word. */
+ * decimal value, with a dot at the end of an absolute name. So a name of one label or more is one
+ * word. */
 uint32_t dns_name_print_zone(const uint8_t *name, size_t name_len, uint8_t *text, size_t text_len,
                              struct dns_outcome *outcome);
 
 /* ---- Decimal numbers: a token's plain digits. No text is 0.
  *
- * A greatest number of 255, 65535, UINT32_MAX or UINT64_MAX reads one of 8, 16, 32 or 64 bits. Symbols
- * are handled in order: what is no symbol is refused first, then any symbol after a number of which ten
- * times are too great, then one that is no plain digit, then a digit that makes the number too great. After
- * a fault the number stays as it was. The length is 0. */
+ * A greatest number of 255, 65535, UINT32_MAX or UINT64_MAX reads one of 8, 16, 32 or 64 bits.
+ * Symbols are handled in order: what is no symbol is refused first, then any symbol after a number
+ * of which ten times are too great, then one that is no plain digit, then a digit that makes the
+ * number too great. `number` is not NULL; after a fault it stays as it was. The length is 0. */
 uint32_t dns_number_read(const uint8_t *text, size_t text_len, uint64_t greatest, uint64_t *number,
                          struct dns_outcome *outcome);
 
@@ -130,11 +132,12 @@ struct dns_token {
     size_t is_quoted; /* 1 for a quoted text, which has its double quotes; 0 for a word */
 };
 
-/* At first all three are 0. */
+/* At first all four are 0. */
 struct dns_cursor {
     size_t at;           /* where the next entry begins */
     size_t begins_blank; /* 1 where the entry given last began with a blank */
     size_t is_done;      /* 1 once nothing is left */
+    size_t opened;       /* after DNS_OPEN_QUOTE, where the double quote stands that is not closed */
 };
 
 /* Gives the places of the next entry's tokens, and moves the cursor on. The length is the number of

@@ -111,7 +111,8 @@ static void names(void) {
     NAMED("", "", 0);
     NAMED(".", "\0", 1);
     NAMED("Action\\.domains", "\16Action.domains", 0);
-    NAMED("Donald\\032E\\.\\032Eastlake\\0323rd.example.", "\26Donald E. Eastlake 3rd\7example\0", 1);
+    NAMED("Donald\\032E\\.\\032Eastlake\\0323rd.example.",
+          "\26Donald E. Eastlake 3rd\7example\0", 1);
     UNNAMED("..a", DNS_EMPTY_LABEL, 0);
     UNNAMED("a..b", DNS_EMPTY_LABEL, 2);
     UNNAMED("a.\\[b", DNS_BINARY_LABEL, 2);
@@ -229,11 +230,12 @@ static void lengths(void) {
 static void wrong(const uint8_t *text, size_t length, uint32_t status, size_t place, size_t tokens,
                   int line) {
     struct dns_token memory[4];
-    struct dns_cursor cursor = {0, 0, 0};
+    struct dns_cursor cursor = {0, 0, 0, 0};
     struct dns_outcome outcome = {7, 7};
     expect(dns_entry_next(text, length, &cursor, memory, 4, &outcome) == status, "status", line);
     expect(outcome.place == place && outcome.length == tokens, "place and length", line);
     expect(cursor.is_done == 1, "cursor", line);
+    expect(cursor.opened == (status == DNS_OPEN_QUOTE ? 2 : 0), "where it was opened", line);
     expect(dns_entry_next(text, length, &cursor, memory, 4, &outcome) == DNS_END, "end", line);
     expect(outcome.place == 0 && outcome.length == 0, "place and length of the end", line);
 }
@@ -243,7 +245,7 @@ static void entries(void) {
     static const char whole[] = " one ( \"two\"\n; comment\n) three\n\nlast";
     const struct dns_token none = {9, 9, 9};
     struct dns_token tokens[4] = {{9, 9, 9}, {9, 9, 9}, {9, 9, 9}, {9, 9, 9}};
-    struct dns_cursor cursor = {0, 0, 0}, past = {3, 0, 0};
+    struct dns_cursor cursor = {0, 0, 0, 0}, past = {3, 0, 0, 0};
     struct dns_outcome outcome = {7, 7};
     EXPECT(dns_entry_next(BYTES(whole), &cursor, NULL, 0, &outcome) == DNS_NO_ROOM);
     EXPECT(outcome.length == 3 && cursor.at == 0 && cursor.is_done == 0);

@@ -44,7 +44,7 @@ int main(void) {
     size_t *ends = (size_t *)malloc(LINES * sizeof *ends);
     uint8_t *blanks = (uint8_t *)malloc(LINES);
     struct dns_token tokens[16];
-    struct dns_cursor cursor = {0, 0, 0};
+    struct dns_cursor cursor = {0, 0, 0, 0};
     struct dns_outcome outcome;
     size_t line, at = 0, i;
     text = (uint8_t *)malloc(ROOM);

@@ -2,6 +2,7 @@ mod Leading
 mod Lengths
 mod NameText
 mod NumberText
+mod Row
 mod ToldTexts
 mod Walks
 mod Written

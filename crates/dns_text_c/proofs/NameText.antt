@@ -1,15 +1,14 @@
 -- A name's text that has been read in part, and the answers that it has.
-use Rattle.std.proofs.Common.{◌≡◌, ℕ, ◌+◌, ◌<◌, ◌≤◌, true, false, List, [], ◌∷◌, ◌++◌, length, take, drop, refl, sym, ap, subst, ◌∙◌, arith, append_assoc, append-nil, inl, inr, Some, Result, Ok, Err}
+use Rattle.std.proofs.Common.{◌≡◌, ℕ, ◌<◌, ◌≤◌, true, false, List, [], ◌∷◌, ◌++◌, length, take, drop, refl, sym, ap, subst, ◌∙◌, arith, append_assoc, append-nil, inl, inr, Some, Result, Ok, Err}
 use Rattle.std.specs.Prelude.{encode_utf8_all, IsOk}
 use Rattle.std.proofs.lemmas.List.{length-drop}
 use Rattle.std.specs.List.{flat_map}
-use Rattle.arrayvec.specs.ArrayVec.{ArrayVec}
-use Rattle.dns_symbol.specs.Symbol.{bytes, octet_of}
+use Rattle.dns_symbol.specs.Symbol.{bytes}
 use Rattle.dns_symbol.specs.Index.{ReadsAt}
 use Rattle.dns_symbol.specs.declared.symbol.Symbol.{Symbol}
 use Rattle.dns_symbol.specs.declared.symbol.SymbolOctetsError.{SymbolOctetsError}
 use Rattle.dns_symbol.specs.declared.symbol.SymbolOctetsError.TheVariants.{BadUtf8 as NoUtf8, BadEscape as NoEscape, ShortInput as Short}
-use Rattle.dns_wire.specs.Building.{Naming, all_labels, closed, ended, no_labels, with_octet, AnswersRoot}
+use Rattle.dns_wire.specs.Building.{Naming, all_labels, closed, no_labels, with_octet, AnswersRoot}
 use Rattle.dns_wire.specs.Wire.{wire_length}
 use Rattle.dns_wire.specs.declared.error.PushError.{PushError}
 use Rattle.dns_wire.specs.declared.error.PushError.TheVariants.{LongLabel as NoLabel, LongName, ShortBuf}
@@ -18,7 +17,7 @@ use Rattle.dns_name.specs.ReadingSteps.{GivesOctet}
 use Rattle.dns_name.specs.declared.name.UncertainName.{UncertainName}
 use Rattle.dns_name.specs.declared.name.UncertainName.TheVariants.{Absolute, Relative}
 use Rattle.dns_name.proofs.Naming.{named_none, named_octet, named_dot, named_on, named_nothing, dot_bytes}
-use Rattle.dns_name.proofs.Taking.{dot_spelled, empty_labels, not_open, open_some}
+use Rattle.dns_name.proofs.Taking.{dot_spelled}
 use Rattle.dns_text_c.specs.Names.{TakesSymbol, NameStops, ReadsNameText}
 use Rattle.dns_text_c.specs.Strings.{refusal_of}
 use Rattle.dns_text_c.specs.Told.{IsGiven}
@@ -57,7 +56,8 @@ dot_stands text place after x next dot = next.0.spelled ∙ ap (λ t. t ++ drop 
 pub named_ended : (text : List ℕ) (b : Naming) (place after : ℕ) (x : Symbol) → HasNamed text b.labels b.current (drop place text)
     → ReadsAt text place (Ok (Some (x, after))) → is_dot x ≡ true → 0 < length b.current → HasNamed text (all_labels b) [] (drop after text)
 named_ended text b place after x h next dot some =
-    subst (λ t. HasNamed t (all_labels b) [] (drop after text)) (goes_on text (flat_map bytes h.symbols) (46 ∷ []) (drop place text) (drop after text) h.spelled (dot_stands text place after x next dot))
+    subst (λ t. HasNamed t (all_labels b) [] (drop after text))
+    (goes_on text (flat_map bytes h.symbols) (46 ∷ []) (drop place text) (drop after text) h.spelled (dot_stands text place after x next dot))
     (named_on (flat_map bytes h.symbols ++ 46 ∷ []) (all_labels b) [] [] (drop after text) (named_dot (flat_map bytes h.symbols) b.labels b.current (alone _ _ _ _ h) some))
 
 -- where nothing was named, all is left

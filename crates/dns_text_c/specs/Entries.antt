@@ -1,7 +1,8 @@
 -- The tokens of an entry, and what the call that gives them says.
 use Rattle.std.specs.Prelude.{◌≡◌, ◌≢◌, ℕ, ◌<◌, ◌≤◌, Bool, true, false, List, [], ◌∷◌, length, min, Result, Ok, Err}
 use Rattle.dns_octets.specs.Octets.{greatest_length}
-use Rattle.dns_split.specs.Pieces.{ReadsOctetsFrom}
+use Rattle.dns_split.specs.Pieces.{EachWithin, ReadsOctetsFrom}
+use Rattle.dns_split.specs.declared.pieces.EndOfEntry.{EndOfEntry}
 use Rattle.dns_split.specs.declared.pieces.Piece.{Piece}
 use Rattle.dns_split.specs.declared.pieces.Piece.TheVariants.{Word as WordAt, Quote as QuoteAt, Comment as CommentAt, End as EndAt}
 use Rattle.dns_split.specs.declared.pieces.Fault.{Fault as TextFault}
@@ -33,6 +34,14 @@ refusal_of_wrong (NotQuoted at) = OpenQuote
 refusal_of_wrong NoFeed = LoneReturn
 refusal_of_wrong NoEscape = BadEscape
 
+-- the place of the double quote that is not closed, if that is wrong
+abbrev pub opened_by : Wrong → ℕ → ℕ
+opened_by (NotQuoted at) otherwise = at
+opened_by NoneOpen otherwise = otherwise
+opened_by NotClosed otherwise = otherwise
+opened_by NoFeed otherwise = otherwise
+opened_by NoEscape otherwise = otherwise
+
 abbrev pub token_at : ℕ → ℕ → ℕ → TokenAt
 token_at s e quoted = record { start = s; end = e; is_quoted = quoted }
 
@@ -53,6 +62,26 @@ stop_of (Ok (CommentAt p) ∷ given) = stop_of given
 stop_of (Ok (EndAt e) ∷ given) = End e (is_nothing given)
 stop_of (Err f ∷ given) = Fault f
 stop_of [] = Nothing
+
+-- a token before those of the first entry
+abbrev pub with_first : TokenAt → List (List TokenAt) → List (List TokenAt)
+with_first t [] = (t ∷ []) ∷ []
+with_first t (ts ∷ more) = (t ∷ ts) ∷ more
+
+-- the words and quoted texts of pieces, cut where entries end
+abbrev pub entries_of : List Piece → List (List TokenAt)
+entries_of [] = []
+entries_of (WordAt p ∷ ps) = with_first (token_at p.start p.end 0) (entries_of ps)
+entries_of (QuoteAt p ∷ ps) = with_first (token_at p.start p.end 1) (entries_of ps)
+entries_of (CommentAt p ∷ ps) = entries_of ps
+entries_of (EndAt e ∷ ps) = [] ∷ entries_of ps
+
+-- entries in a row from a place on: each is the first of what is read there, and is known as the last or not; the next one begins where it ends
+abbrev pub InARow : List ℕ → ℕ → List (List TokenAt) → Type 0
+InARow text at [] = ⊥
+InARow text at (tokens ∷ more) =
+    (given : List (Result Piece TextFault)) × (e : EndOfEntry) × ReadsOctetsFrom text at given × (tokens_of given ≡ tokens) × (stop_of given ≡ End e (is_nothing more))
+    × (more ≢ [] → InARow text e.at more)
 
 -- what was taken of the pieces
 abbrev pub Steps : List (Result Piece TextFault) → Step → List (Result Piece TextFault) → Type 0
@@ -80,10 +109,10 @@ pub record IsEntry (given : List (Result Piece TextFault)) (old : List TokenAt) 
 abbrev pub GivesEntry : ℕ → Stop → ℕ → ℕ → Cursor → Cursor → Outcome → Type 0
 GivesEntry count (End e last) room status old new outcome =
     (outcome ≡ record { length = count; place = 0 })
-    × (count ≤ room → (status ≡ 0) × (new ≡ record { at = e.at; begins_blank = bit e.begins_blank; is_done = bit last }))
+    × (count ≤ room → (status ≡ 0) × (new ≡ record { at = e.at; begins_blank = bit e.begins_blank; is_done = bit last; opened = old.opened }))
     × (room < count → (status ≡ number_of NoRoom) × (new ≡ old))
 GivesEntry count (Fault f) room status old new outcome =
-    (outcome ≡ record { length = count; place = f.at }) × (status ≡ number_of (refusal_of_wrong f.wrong)) × (new ≡ record old { is_done = 1 })
+    (outcome ≡ record { length = count; place = f.at }) × (status ≡ number_of (refusal_of_wrong f.wrong)) × (new ≡ record old { is_done = 1; opened = opened_by f.wrong old.opened })
 GivesEntry count Nothing room status old new outcome =
     (outcome ≡ record { length = count; place = 0 }) × (status ≡ 1) × (new ≡ record old { is_done = 1 })
 
@@ -91,6 +120,7 @@ GivesEntry count Nothing room status old new outcome =
 pub record ReadsEntry (text : List ℕ) (old new : Cursor) (before after : List TokenAt) (status : ℕ) (outcome : Outcome) : Type 0 where
   pub given : List (Result Piece TextFault)
   pub reads : ReadsOctetsFrom text old.at given
+  pub within : EachWithin (length text) given
   pub count : ℕ
   pub stop : Stop
   pub entry : IsEntry given before count stop after

@@ -25,7 +25,7 @@ use Rattle.dns_text_c.specs.declared.names.Form.TheVariants.{Label, Zone}
 use Rattle.dns_text_c.specs.declared.outcome.Outcome.{Outcome}
 use Rattle.dns_text_c.specs.declared.outcome.Fault.{Fault}
 use Rattle.dns_text_c.specs.declared.outcome.Refusal.{Refusal}
-use Rattle.dns_text_c.specs.declared.outcome.Refusal.TheVariants.{BadEscape, ShortInput, BadUtf8, BadSymbol, TooLong, EmptyLabel, LongLabel, BinaryLabel, BadLabel, Pointer, TrailingOctets}
+use Rattle.dns_text_c.specs.declared.outcome.Refusal.TheVariants.{ShortInput, BadSymbol, TooLong, EmptyLabel, LongLabel, BinaryLabel, BadLabel, Pointer, TrailingOctets}
 
 -- what taking a symbol other than a plain dot answers, and what the builder then holds
 abbrev pub TakesSymbol : Naming → Symbol → Result (Unit {0}) Refusal → Naming → Type 0

@@ -13,6 +13,7 @@ pub mod codecs;
 #[cfg(test)]
 mod encoding_tests;
 pub mod encodings;
+pub mod laws;
 #[cfg(test)]
 mod name_tests;
 pub mod names;

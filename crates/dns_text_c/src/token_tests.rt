@@ -11,6 +11,7 @@ const FIRST: Cursor = Cursor {
     at: 0,
     begins_blank: 0,
     is_done: 0,
+    opened: 5,
 };
 
 const NONE: Token = Token {
@@ -60,7 +61,8 @@ fn gives_entries(rt: HostRuntime) {
         Cursor {
             at: 16,
             begins_blank: 1,
-            is_done: 0
+            is_done: 0,
+            opened: 5,
         }
     );
     assert_eq!(rt;
@@ -72,7 +74,8 @@ fn gives_entries(rt: HostRuntime) {
         Cursor {
             at: 17,
             begins_blank: 0,
-            is_done: 0
+            is_done: 0,
+            opened: 5,
         }
     );
     assert_eq!(rt;
@@ -92,7 +95,8 @@ fn gives_entries(rt: HostRuntime) {
         Cursor {
             at: 18,
             begins_blank: 0,
-            is_done: 1
+            is_done: 1,
+            opened: 5,
         }
     );
     assert_eq!(rt;
@@ -106,6 +110,28 @@ fn gives_entries(rt: HostRuntime) {
             place: 0
         }
     );
+}
+
+#[test]
+fn tells_where_a_quote_was_opened(rt: HostRuntime) {
+    let mut cursor = FIRST;
+    let mut outcome = NOTHING;
+    let open = number_of(Refusal::OpenQuote);
+    let text = b"a\nb \"c\nd";
+    assert_eq!(rt;
+        dns_entry_next(text, &mut cursor, &mut [], &mut outcome),
+        number_of(Refusal::NoRoom)
+    );
+    assert_eq!(rt;
+        dns_entry_next(text, &mut cursor, &mut [NONE], &mut outcome),
+        OK
+    );
+    assert_eq!(rt; cursor.opened, 5);
+    assert_eq!(rt;
+        dns_entry_next(text, &mut cursor, &mut [], &mut outcome),
+        open
+    );
+    assert_eq!(rt; (outcome.place, cursor.opened, cursor.is_done), (6, 4, 1));
 }
 
 // The status, the tokens before the fault and its place.

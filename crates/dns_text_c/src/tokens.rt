@@ -2,10 +2,10 @@
 //!
 //! An octet of 0x80 or more counts as a character of its own, so that comments needn't be UTF-8.
 ghost use Rattle.std.specs.Prelude.{◌≡◌, ◌<◌, ◌≤◌, ◌^◌, ℕ, List, Result, length, slice_set};
-ghost use Rattle.dns_split.specs.Pieces.{ReadsOctetsFrom};
+ghost use Rattle.dns_split.specs.Pieces.{ReadsOctetsFrom, EachWithin};
 ghost use Rattle.dns_split.specs.declared.pieces.Piece.{Piece};
 ghost use Rattle.dns_split.specs.declared.pieces.Fault.{Fault as TextFault};
-ghost use Rattle.dns_text_c.specs.Entries.{bit, refusal_of_wrong, Steps, IsEntry, GivesEntry, NextEntry};
+ghost use Rattle.dns_text_c.specs.Entries.{bit, refusal_of_wrong, opened_by, Steps, IsEntry, GivesEntry, NextEntry};
 
 use crate::outcome::{END, Fault, OK, Outcome, Refusal, number_of, refuse};
 use dns_split::pieces::{EndOfEntry, Fault as TextFault, Piece, Pieces, Wrong};
@@ -31,6 +31,8 @@ pub struct Cursor {
     pub begins_blank: usize,
     /// 1 once nothing is left. It is 0 at first.
     pub is_done: usize,
+    /// Where the double quote stands that isn't closed, after that fault; else it stays as it was.
+    pub opened: usize,
 }
 
 /// How an entry stops.
@@ -69,6 +71,16 @@ fn refusal_of_wrong(wrong: Wrong) -> Refusal
         Wrong::OpenQuote(_) => Refusal::OpenQuote,
         Wrong::LoneReturn => Refusal::LoneReturn,
         Wrong::BadEscape => Refusal::BadEscape,
+    }
+}
+
+/// Where the double quote stands that isn't closed, if that is wrong.
+fn opened_by(wrong: Wrong, otherwise: usize) -> usize
+    ensures { result ≡ opened_by wrong otherwise }
+{
+    match wrong {
+        Wrong::OpenQuote(at) => at,
+        _ => otherwise,
     }
 }
 
@@ -117,7 +129,7 @@ pub(crate) struct Entry {
 /// Puts the tokens of the entry at a place into a slice, as many as fit.
 fn read_entry(text: &[u8], at: usize, tokens: &mut [Token]) -> Entry
     requires { at ≤ length text.now }
-    ensures { (given : List (Result Piece TextFault)) × ReadsOctetsFrom text.now at given × IsEntry given tokens.old result.count result.stop tokens.new }
+    ensures { (given : List (Result Piece TextFault)) × ReadsOctetsFrom text.now at given × EachWithin (length text.now) given × IsEntry given tokens.old result.count result.stop tokens.new }
 {
     let mut pieces = Pieces::of_octets_starting_at(text, at);
     let mut count: usize = 0;
@@ -148,11 +160,13 @@ fn tell_stop(entry: Entry, room: usize, cursor: &mut Cursor, outcome: &mut Outco
                 at: end.at,
                 begins_blank: bit(end.begins_blank),
                 is_done: bit(is_last),
+                opened: cursor.opened,
             };
             OK
         }
         Stop::Fault(fault) => {
             cursor.is_done = 1;
+            cursor.opened = opened_by(fault.wrong, cursor.opened);
             outcome.place = fault.at;
             number_of(refusal_of_wrong(fault.wrong))
         }

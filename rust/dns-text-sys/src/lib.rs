@@ -44,13 +44,14 @@ pub struct dns_token {
     pub is_quoted: usize,
 }
 
-/// Where a zone text is read on. At first all three are 0.
+/// Where a zone text is read on. At first all four are 0.
 #[repr(C)]
 #[derive(Clone, Copy, Debug, Default, PartialEq, Eq)]
 pub struct dns_cursor {
     pub at: usize,
     pub begins_blank: usize,
     pub is_done: usize,
+    pub opened: usize,
 }
 
 /// A call that reads octets and gives others.

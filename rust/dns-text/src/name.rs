@@ -13,8 +13,8 @@ use std::fmt;
 /// A name, absolute or relative: at most 255 octets in wire form (RFC 1035 section 3.1).
 ///
 /// It prints its labels joined by dots, with a dot at the end where it is absolute.
-/// [`without_dot`](Name::without_dot) leaves that dot out, and [`zone_text`](Name::zone_text) prints
-/// it for zone text.
+/// [`without_dot`](Name::without_dot) leaves that dot out, and [`zone_text`](Name::zone_text)
+/// prints it for zone text.
 ///
 /// ```
 /// use dns_text::Name;
@@ -112,9 +112,10 @@ impl Name {
         self.printed(dns_name_print)
     }
 
-    /// The name as zone text has it: letters, digits, `-`, `_` and `*` stand plain, and every other
-    /// octet by its decimal value. So a name of one label or more is one word, in which every reader
-    /// of zone text sees that name. The relative name of no labels prints nothing, which is no word.
+    /// The name as zone text has it: letters, digits, `-`, `_` and `*` stand plain, and every
+    /// other octet by its decimal value. So a name of one label or more is one word, in which every
+    /// reader of zone text sees that name. The relative name of no labels prints nothing, which is
+    /// no word.
     pub fn zone_text(&self) -> String {
         self.printed(dns_name_print_zone)
     }

@@ -35,6 +35,8 @@ pub struct Fault {
     pub kind: FaultKind,
     /// The octets of the longest beginning that can still be completed.
     pub place: usize,
+    /// Where the double quote stands that isn't closed, of [`FaultKind::OpenQuote`].
+    pub opened: Option<usize>,
 }
 
 /// What keeps a text from going on.
@@ -121,8 +123,12 @@ impl<'t> Places<'t> {
                 DNS_END => return None,
                 status => {
                     let kind = FaultKind::of(status);
-                    let place = outcome.place;
-                    return Some(Err(Fault { kind, place }));
+                    let opened = self.cursor.opened;
+                    return Some(Err(Fault {
+                        kind,
+                        place: outcome.place,
+                        opened: (kind == FaultKind::OpenQuote).then_some(opened),
+                    }));
                 }
             }
         }

@@ -123,6 +123,10 @@ fn zone_texts() {
     assert_eq!(refused(b"a \"b\n"), (FaultKind::OpenQuote, 4));
     assert_eq!(refused(b"a \rb"), (FaultKind::LoneReturn, 3));
     assert_eq!(refused(br"a b\256"), (FaultKind::BadEscape, 6));
+    let opened = |text: &[u8]| entries(text).last().unwrap().unwrap_err().opened;
+    assert_eq!(opened(b"a\nb \"c\nd"), Some(4));
+    assert_eq!(opened(b"a \"b"), Some(2));
+    assert_eq!(opened(b"a ( b"), None);
     let long = [b"a ".repeat(100), b")".to_vec()].concat();
     let mut found = tokens(&long);
     assert_eq!(

@@ -1,5 +1,4 @@
 use Rattle.std.proofs.Common.{refl, Ok, Err}
-use Rattle.dns_text_c.proofs.NameText.{given_as}
 use Rattle.dns_text_c.proofs.names.print_octets.Goals as goal
 
 pub returns-in-Ok : goal.returns-in-Ok
