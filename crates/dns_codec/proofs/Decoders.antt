@@ -160,7 +160,7 @@ refuses b known sure most text rest d c j r e at push answers is = elim (one_pus
       let same : Err refused.error ≡ Err e = sym (answers ∙ ap answer refused.stored_is) ∙ is in
       let f : refused.error ≡ e = cc same in
       let first = first_here (char_error b refused.room) text rest c refused.error (no_cause b known text d.octets d.group.pieces d.group.padding at.read refused.room refused.holds)
-          refused.cause_is in
+      refused.cause_is in
       record { room = refused.room; is_room = refused.is_room; refused = refusal_first b refused.room (text ++ c ∷ rest) refused.error first ∙ ap Some f }
 ]
 

@@ -93,7 +93,7 @@ module _ (b : Base) (known : IsEncoding b) (room wide : ℕ) (e : DecodeError) w
       let next = stepped b known text os ps p c at in
       let both = both_none (short_buf_if wide (length os + length s.octets)) s.error (sym (next.cause_is wide wider) ∙ unrefused_next b known wide text os ps cs p c at wider none) in
       let here : char_error b room text c ≡ short_buf_if room (length os + length s.octets) =
-          next.cause_is room le ∙ ap (or_else (short_buf_if room (length os + length s.octets))) both.1 ∙ or_else_none _ in
+      next.cause_is room le ∙ ap (or_else (short_buf_if room (length os + length s.octets))) both.1 ∙ or_else_none _ in
       elim (cases_error (short_buf_if room (length os + length s.octets))) [
         | inl fits ↦ wants_from (text ++ c ∷ []) cs (os ++ s.octets) s.group.pieces s.group.padding (next.goes_on both.1)
             (rw length-append (want_fits room _ fits)) (rw length-append (want_fits wide _ both.0)) (rw append_assoc none) (rw append_assoc is)

@@ -97,11 +97,11 @@ Outcome b text e (Err f) = e ≡ Some f
 
 -- for some room that the builder may have, the error that is stored and the result at the end are as said
 pub record IsPushed (b : Base) (error_of refusal : ℕ → List ℕ → Option DecodeError) (sure most : ℕ) (text : List ℕ) (error : Option DecodeError) (result_is : Result (List ℕ) DecodeError) : Type 0
-    where
-  pub room : ℕ
-  pub is_room : IsRoom sure most room
-  pub stored_is : error ≡ error_of room text
-  pub outcome : Outcome b text (refusal room text) result_is
+  where
+    pub room : ℕ
+    pub is_room : IsRoom sure most room
+    pub stored_is : error ≡ error_of room text
+    pub outcome : Outcome b text (refusal room text) result_is
 
 -- for some room that the builder may have, the error is the text's
 pub record IsRefusedBy (refusal : ℕ → List ℕ → Option DecodeError) (sure most : ℕ) (text : List ℕ) (error : DecodeError) : Type 0 where

@@ -172,7 +172,7 @@ module _ (m : Mode) (d s at : ℕ) (b : Bool) (c : ℕ) (bs : List ℕ) (v : Mov
     goes = λ y.
         let home = entry_home m d c v e a in
         run_step m d s at b c y v e ∙ ap
-            (λ w. before (closed m v.mode v.act s at) (before (finished w s (at + 1) b) (run v.mode v.depth (start_after m v.mode w s at) (at + 1) (blank_after w b y) y))) a
+        (λ w. before (closed m v.mode v.act s at) (before (finished w s (at + 1) b) (run v.mode v.depth (start_after m v.mode w s at) (at + 1) (blank_after w b y) y))) a
         ∙ back (Ok (end_at (at + 1) b) ∷ run v.mode v.depth (at + 1) (at + 1) (first_blank y) y)
         ∙ ap (λ z. map Ok found ++ Ok (end_at (at + 1) b) ∷ run z v.depth (at + 1) (at + 1) (first_blank y) y) home.0
         ∙ ap (λ z. map Ok found ++ Ok (end_at (at + 1) b) ∷ run Outside z (at + 1) (at + 1) (first_blank y) y) home.1
@@ -274,7 +274,7 @@ entries_stay octets rest found at blank left alone o r given some then =
     let is = given_run octets (map Ok found ++ Ok (end_at at blank) ∷ left) o given in
     let all : AreOctets (take at octets ++ rest) = both_octets (take at octets) rest (front_octets (take at octets) (drop at octets) (subst AreOctets (sym (take-append-drop at octets)) o)) r in
     subst (IsGiven (take at octets ++ rest)) (front_read octets rest found at blank left (sym is) some
-        ∙ ap (λ l. map Ok found ++ Ok (end_at at blank) ∷ later at l) (sym (given_run rest alone r then)))
+    ∙ ap (λ l. map Ok found ++ Ok (end_at at blank) ∷ later at l) (sym (given_run rest alone r then)))
     (run_given (take at octets ++ rest) all)
 
 -- and so is a fault before the end

@@ -189,7 +189,7 @@ no_start s at n i w (p ∷ first) l e = cc
 ends_open : (m : Mode) (d s n i : ℕ) (x : Bool) (w : List ℕ) (first : List Piece) (l : List (Result Piece Fault)) → run m d s n x (34 ∷ w) ≡ map Ok first ++ Ok (quote_at i (n + 1)) ∷ l → Ends m s i
 ends_open Outside d s n i x w first l e =
     elim (none_here (n + 1) i first _ l
-        (subst (Past (n + 1)) (sym (run_step Outside d s n x 34 w _ refl)) (open_past Outside s n (n + 1) _ (run_past w Quoted d n (n + 1) x (n + 1) (omega arith)))) e) [ ]
+    (subst (Past (n + 1)) (sym (run_step Outside d s n x 34 w _ refl)) (open_past Outside s n (n + 1) _ (run_past w Quoted d n (n + 1) x (n + 1) (omega arith)))) e) [ ]
 ends_open Comment d s n i x w first l e =
     elim (none_here (n + 1) i first _ l (subst (Past (n + 1)) (sym (run_step Comment d s n x 34 w _ refl)) (run_past w Comment d s (n + 1) x (n + 1) (omega arith))) e) [ ]
 ends_open Return d s n i x w first l e = elim (no_start s n (n + 1) i LoneReturn first l e) [ ]

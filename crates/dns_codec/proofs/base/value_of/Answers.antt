@@ -11,12 +11,12 @@ pub returns-then-value-BITS-clause-value : goal.returns-then-value-BITS-clause-v
 returns-then-value-BITS-clause-value g c =
     let small : g.K.Encoding.base.width < 8 = let narrow = rw g.met.K.Encoding.shape.bits_are at g.met.K.Encoding.shape.narrow in omega arith in
     let low : slice_index g.K.Encoding.table c.args.c < 2 ^ g.K.Encoding.base.width =
-        rw c.values-values.ensures at (rw (c.BITS.ensures, g.met.K.Encoding.shape.bits_are, one_shl g.K.Encoding.base.width 8 small) at c.if-value-BITS.true) in
+    rw c.values-values.ensures at (rw (c.BITS.ensures, g.met.K.Encoding.shape.bits_are, one_shl g.K.Encoding.base.width 8 small) at c.if-value-BITS.true) in
     rw c.values-values.ensures (sym (value_low g.K.Encoding.base g.K.Encoding.table g.met.K.Encoding.values_are c.args.c (let ascii = c.if-code-gt127.false in omega arith) low))
 
 pub returns-else-value-BITS-clause-value : goal.returns-else-value-BITS-clause-value
 returns-else-value-BITS-clause-value g c =
     let small : g.K.Encoding.base.width < 8 = let narrow = rw g.met.K.Encoding.shape.bits_are at g.met.K.Encoding.shape.narrow in omega arith in
     let high : 2 ^ g.K.Encoding.base.width ≤ slice_index g.K.Encoding.table c.args.c =
-        rw c.values-values.ensures at (rw (c.BITS.ensures, g.met.K.Encoding.shape.bits_are, one_shl g.K.Encoding.base.width 8 small) at c.if-value-BITS.false) in
+    rw c.values-values.ensures at (rw (c.BITS.ensures, g.met.K.Encoding.shape.bits_are, one_shl g.K.Encoding.base.width 8 small) at c.if-value-BITS.false) in
     sym (value_high g.K.Encoding.base g.K.Encoding.table g.met.K.Encoding.values_are c.args.c (let ascii = c.if-code-gt127.false in omega arith) high)

@@ -46,9 +46,9 @@ returns-in_err-push g c =
     let here = after_front (chars c.args.s.now) c.loop-c.invariant.0 (chars rest) c.loop-c.yielded _ c.in-Some.c split (text_here (chars rest) c.loop-c.yielded c.in-Some.c so_far turn) in
     let p = err_from_is_err_and c.from_residual.result c.from_residual.ensures.1 in
     let k = clauses g.K.Encoding.base (refusal g.K.Encoding.base) g.B.OctetsBuilder.sure g.B.OctetsBuilder.most (chars c.args.s.now) g.B.Octets.AsOctets.octets c.from_residual.result
-        (λ octets room d le. (reads g.K.Encoding.base known (chars c.args.s.now) octets room d le).0)
+    (λ octets room d le. (reads g.K.Encoding.base known (chars c.args.s.now) octets room d le).0)
     (rw (p.1, p.2) (rw here (refuses g.K.Encoding.base known g.B.OctetsBuilder.sure g.B.OctetsBuilder.most (c.loop-c.invariant.0
-        ++ c.loop-c.yielded) _ c.loop-c.decoder c.in-Some.c c.push.new.self c.push.result _ c.loop-c.invariant.2 c.push.ensures.pushes c.push.ensures.answers c.in_err-push.was))) in
+    ++ c.loop-c.yielded) _ c.loop-c.decoder c.in-Some.c c.push.new.self c.push.result _ c.loop-c.invariant.2 c.push.ensures.pushes c.push.ensures.answers c.in_err-push.was))) in
     record { value = k.0; succeeds = k.1; refused = k.2 }
 
 pub returns : goal.returns
@@ -62,7 +62,7 @@ returns g c =
     let all = after_all (chars c.args.s.now) c.loop-c.invariant.0 (chars rest) c.loop-c.yielded split (sym (map-same c.loop-c.yielded) ∙ done.0) in
     let stands = rw all at c.loop-c.invariant.2 in
     let k = clauses g.K.Encoding.base (refusal g.K.Encoding.base) g.B.OctetsBuilder.sure g.B.OctetsBuilder.most (chars c.args.s.now) g.B.Octets.AsOctets.octets c.finalize.result
-        (λ octets room d le. (reads g.K.Encoding.base known (chars c.args.s.now) octets room d le).0)
+    (λ octets room d le. (reads g.K.Encoding.base known (chars c.args.s.now) octets room d le).0)
     (finished g.K.Encoding.base (refusal g.K.Encoding.base) g.B.OctetsBuilder.sure g.B.OctetsBuilder.most (chars c.args.s.now) g.B.Octets.AsOctets.octets c.finalize.result
     (Ends g.K.Encoding.base g.B.OctetsBuilder.sure g.B.OctetsBuilder.most c.loop-c.decoder)
     (λ s end. ends g.K.Encoding.base known g.B.OctetsBuilder.sure g.B.OctetsBuilder.most (chars c.args.s.now) c.loop-c.decoder s stands end) c.finalize.ensures) in

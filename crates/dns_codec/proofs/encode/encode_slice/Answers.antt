@@ -30,8 +30,8 @@ pub returns : goal.returns
 returns g c =
     let marks = c.as_bytes-padding.ensures.value in
     let is : encoded g.K.Encoding.base c.args.octets.now ≡ map (slice_index g.K.Encoding.base.alphabet) (pieces g.K.Encoding.BITS c.args.octets.now) ++ c.as_bytes-padding.result.now =
-        rw marks c.padding_of.ensures in
+    rw marks c.padding_of.ensures in
     let block = c.put_block-end.ensures in
     written_parts _ g.K.Encoding.base.alphabet (pieces g.K.Encoding.BITS c.args.octets.now) c.as_bytes-padding.result.now c.args.text.now c.put_block-end.new.text c.put_octets.new.text
-        c.put_block-end.result c.put_octets.result is
+    c.put_block-end.result c.put_octets.result is
     block.len block.text block.rest c.put_octets.ensures.len c.put_octets.ensures.text c.put_octets.ensures.rest

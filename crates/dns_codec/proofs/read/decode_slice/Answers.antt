@@ -13,7 +13,7 @@ returns-then-not-rules-clause-read g c =
     let unit = unit_one b known (sym c.rules.ensures.is_padded ∙ c.if-not-rules.true) in
     let ends = may_end_of b (length c.args.text.now) (numbers b known).some (rw (c.CHARS-size.ensures, g.met.K.Encoding.shape.chars_are) at (sym c.may_end.ensures ∙ c.if-not-may_end.false)) in
     plain_read b g.K.Encoding.table g.met.K.Encoding.values_are (numbers b known).below unit c.args.text.now c.read_text.new.octets c.read_text.result (λ k. let fits = c.type_inv.text k in
-        omega arith) ends (rw g.met.K.Encoding.shape.bits_are at c.read_text.ensures.read)
+    omega arith) ends (rw g.met.K.Encoding.shape.bits_are at c.read_text.ensures.read)
 
 pub returns-then-not-rules-clause-refused : goal.returns-then-not-rules-clause-refused
 returns-then-not-rules-clause-refused g c =
@@ -21,7 +21,7 @@ returns-then-not-rules-clause-refused g c =
     let known = g.met.K.Encoding.known in
     let unit = unit_one b known (sym c.rules.ensures.is_padded ∙ c.if-not-rules.true) in
     plain_refused b g.K.Encoding.table g.met.K.Encoding.values_are (numbers b known).below unit c.args.text.now _ c.read_text.result (λ k. let fits = c.type_inv.text k in
-        omega arith) (rw g.met.K.Encoding.shape.bits_are at c.read_text.ensures.refused)
+    omega arith) (rw g.met.K.Encoding.shape.bits_are at c.read_text.ensures.refused)
 
 pub returns-then-text-size-ne0-clause-refused : goal.returns-then-text-size-ne0-clause-refused
 returns-then-text-size-ne0-clause-refused g c = λ v d.
@@ -39,7 +39,7 @@ returns-clause-read g c =
     let m = c.pad_count.ensures in
     let even : length c.args.text.now % 4 ≡ 0 = let h = rw four at c.if-text-size-ne0.false in omega arith in
     is_read b is g.K.Encoding.BITS g.K.Encoding.table g.met.K.Encoding.shape.bits_are g.met.K.Encoding.values_are c.args.text.now c.pad_count.result m.few m.within m.marks m.most (λ k. let fits =
-        c.type_inv.text k in omega arith)
+    c.type_inv.text k in omega arith)
     c.read_text-2.result c.read_text-2.new.octets even c.read_text-2.ensures.read
 
 pub returns-clause-refused : goal.returns-clause-refused
@@ -48,5 +48,5 @@ returns-clause-refused g c =
     let is = is_base64 b g.met.K.Encoding.known (sym c.rules.ensures.is_padded ∙ c.if-not-rules.false) in
     let m = c.pad_count.ensures in
     is_refused b is g.K.Encoding.BITS g.K.Encoding.table g.met.K.Encoding.shape.bits_are g.met.K.Encoding.values_are c.args.text.now c.pad_count.result m.few m.within m.marks m.most
-        (λ k. let fits = c.type_inv.text k in omega arith)
+    (λ k. let fits = c.type_inv.text k in omega arith)
     c.read_text-2.result _ c.read_text-2.ensures.refused
