@@ -1,11 +1,12 @@
 -- One more octet, and the column.
 use Rattle.std.proofs.Common.{◌≡◌, ℕ, ◌+◌, ◌≤◌, ◌<◌, true, false, ◌==◌, not, List, [], ◌∷◌, ◌++◌, length, take, drop, ◌-◌, get_or, sym, ap, ◌∙◌, arith, append_assoc, cond}
+use Rattle.dns_split.specs.declared.position.Position.{Position}
 use Rattle.std.specs.Prelude.{reverse}
 use Rattle.std.specs.List.{count_by, take_while}
 use Rattle.std.proofs.lemmas.List.{take_more, reverse-append, take-append-drop, length-take-le}
 use Rattle.std.proofs.Math.Seq.{take-append-add}
-use Rattle.std.proofs.lemmas.List.Sums.{take_while-cons, sum_by-cons}
-use Rattle.dns_zonetext.specs.Place.{begins_character, column_of, last_line}
+use Rattle.std.proofs.lemmas.List.Sums.{take_while-cons, sum_by-append, sum_by-cons}
+use Rattle.dns_zonetext.specs.Place.{begins_character, column_of, feeds, last_line, IsAt}
 
 last_more : (l : List ℕ) (c : ℕ) → last_line (l ++ c ∷ []) ≡ cond (not (c == 10)) (c ∷ last_line l) []
 last_more l c = ap (take_while (λ c. not (c == 10))) (reverse-append l (c ∷ [])) ∙ take_while-cons (λ c. not (c == 10)) c (reverse l)
@@ -38,3 +39,7 @@ taken xs i j h k =
     let short : length (take i xs) ≡ i = length-take-le i xs (omega arith) in
     let n : j ≡ length (take i xs) + (j - i) = omega (arith, short, h) in
     ap (take j) (sym (take-append-drop i xs)) ∙ ap (λ m. take m (take i xs ++ drop i xs)) n ∙ take-append-add (take i xs) (drop i xs) (j - i)
+
+-- the position after more octets
+pub position_on : (before xs : List ℕ) (from p : Position) → IsAt 0 before from → p.line ≡ from.line + feeds xs → p.column ≡ column_of (before ++ xs) → IsAt 0 (before ++ xs) p
+position_on before xs from p at line column = (omega (arith, line, at.0, sum_by-append (λ x. cond (x == 10) 1 0) before xs), column)

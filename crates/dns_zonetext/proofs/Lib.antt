@@ -1,8 +1,12 @@
+pub mod After
 pub mod Columns
 pub mod Comparing
+pub mod Cuts
 pub mod Givens
+pub mod Holding
 pub mod Layouts
 pub mod Lines
 pub mod Once
 pub mod Opened
 pub mod Order
+pub mod Passing

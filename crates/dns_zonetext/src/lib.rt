@@ -1,12 +1,16 @@
 //! What the commands of `zonetext` do over zone files, of octets.
 //!
 //! - [`check::check`] answers whether octets are zone text, or the first fault with its position.
+//! - [`blocks::Checker`] answers the same of octets that come in blocks, and holds few of them.
 //! - [`tokens::tokens`] writes a row for each token, with its position.
 //!
 //! Octets need not be UTF-8: each counts as a character of the grammar, so that a comment in
 //! another encoding refuses no zone.
 #![tactic(auto)]
 
+#[cfg(test)]
+mod block_tests;
+pub mod blocks;
 pub mod check;
 pub mod diff;
 #[cfg(test)]

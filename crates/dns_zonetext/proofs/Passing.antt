@@ -1,0 +1,125 @@
+-- Pieces that the cursor gave, and what is left of them.
+use Rattle.std.proofs.Common.{◌≡◌, ℕ, suc, ◌+◌, ◌<◌, ◌≤◌, Bool, false, List, [], ◌∷◌, ◌++◌, length, refl, sym, ap, ◌∙◌, subst, arith, inl, inr, append-nil, append_assoc, length-append}
+use Rattle.std.specs.Prelude.{◌⊎◌, ◌↔◌, IsTrue, map, Result, Ok, Err}
+use Rattle.std.proofs.lemmas.Bool.{cases_lt}
+use Rattle.std.proofs.lemmas.List.{map-append}
+use Rattle.dns_split.specs.declared.pieces.Piece.{Piece}
+use Rattle.dns_split.specs.declared.pieces.Piece.TheVariants.{Word as WordAt, Quote as QuoteAt, Comment as CommentAt, End as EndAt}
+use Rattle.dns_split.specs.declared.pieces.Fault.{Fault}
+use Rattle.dns_split.specs.Pieces.{IsGiven, EachWithin, end_at}
+use Rattle.dns_zonetext.specs.Blocks.{IsCut}
+use Rattle.dns_zonetext.proofs.Order.{InOrder, in_order}
+
+-- these were given, and those are left
+pub record Passed (given left : List (Result Piece Fault)) : Type 0 where
+  pub found : List Piece
+  pub is : given ≡ map Ok found ++ left
+
+pub none_passed : (given : List (Result Piece Fault)) → Passed given given
+none_passed given = record { found = []; is = refl }
+
+pub one_passed : (given left now : List (Result Piece Fault)) (p : Piece) → now ≡ Ok p ∷ left → Passed given now → Passed given left
+one_passed given left now p e x = record {
+  found = x.found ++ p ∷ [];
+  is = x.is ∙ ap (λ l. map Ok x.found ++ l) e ∙ sym (append_assoc (map Ok x.found) (Ok p ∷ []) left) ∙ ap (λ l. l ++ left) (sym (map-append Ok x.found (p ∷ [])));
+}
+
+none_after : (n : ℕ) (found : List Piece) (f : Fault) (rest : List (Result Piece Fault)) → InOrder n (map Ok found ++ Err f ∷ rest) → rest ≡ []
+none_after n [] f rest o = o
+none_after n (WordAt p ∷ found) f rest o = none_after p.start found f rest o.1
+none_after n (QuoteAt p ∷ found) f rest o = none_after p.start found f rest o.1
+none_after n (CommentAt p ∷ found) f rest o = none_after n found f rest o
+none_after n (EndAt p ∷ found) f rest o = none_after n found f rest o
+
+-- a fault comes last
+pub fault_passed : (octets : List ℕ) (given left now : List (Result Piece Fault)) (f : Fault) → IsGiven octets given → now ≡ Err f ∷ left → (x : Passed given now)
+    → IsGiven octets (map Ok x.found ++ Err f ∷ [])
+fault_passed octets given left now f g e x =
+    let is : given ≡ map Ok x.found ++ Err f ∷ left = x.is ∙ ap (λ l. map Ok x.found ++ l) e in
+    let over : left ≡ [] = none_after 0 x.found f left (subst (InOrder 0) is (in_order octets given g.0 g.1)) in
+    subst (IsGiven octets) (is ∙ ap (λ l. map Ok x.found ++ Err f ∷ l) over) g
+
+pub all_passed : (octets : List ℕ) (given now : List (Result Piece Fault)) → IsGiven octets given → now ≡ [] → (x : Passed given now) → IsGiven octets (map Ok x.found)
+all_passed octets given now g e x = subst (IsGiven octets) (x.is ∙ ap (λ l. map Ok x.found ++ l) e ∙ append-nil (map Ok x.found)) g
+
+-- an entry's end was given, before this many more
+pub record Ended (given left : List (Result Piece Fault)) (at : ℕ) : Type 0 where
+  pub found : List Piece
+  pub blank : Bool
+  pub more : List Piece
+  pub is : given ≡ map Ok found ++ Ok (end_at at blank) ∷ (map Ok more ++ left)
+
+pub ended_before : (given left now : List (Result Piece Fault)) (p : Piece) (at : ℕ) → now ≡ Ok p ∷ left → Ended given now at → Ended given left at
+ended_before given left now p at e x = record {
+  found = x.found;
+  blank = x.blank;
+  more = x.more ++ p ∷ [];
+  is = x.is ∙ ap (λ l. map Ok x.found ++ Ok (end_at at x.blank) ∷ (map Ok x.more ++ l)) e
+      ∙ ap (λ l. map Ok x.found ++ Ok (end_at at x.blank) ∷ l) (sym (append_assoc (map Ok x.more) (Ok p ∷ []) left) ∙ ap (λ l. l ++ left) (sym (map-append Ok x.more (p ∷ []))));
+}
+
+pub ended_here : (given left now : List (Result Piece Fault)) (at : ℕ) (blank : Bool) → now ≡ Ok (end_at at blank) ∷ left → Passed given now → Ended given left at
+ended_here given left now at blank e x = record { found = x.found; blank = blank; more = []; is = x.is ∙ ap (λ l. map Ok x.found ++ l) e }
+
+within_after : (n : ℕ) (xs : List Piece) (given : List (Result Piece Fault)) → EachWithin n (map Ok xs ++ given) → EachWithin n given
+within_after n [] given w = w
+within_after n (x ∷ xs) given w = within_after n xs given w.1
+
+oks_length : (xs : List Piece) → length (map {B = Result Piece Fault} Ok xs) ≡ length xs
+oks_length [] = refl
+oks_length (x ∷ xs) = ap suc (oks_length xs)
+
+-- it is a cut where something follows
+pub ended_cut : (octets : List ℕ) (given left : List (Result Piece Fault)) (at : ℕ) → IsGiven octets given → (x : Ended given left at) → 0 < length x.more + length left
+    → (at ≤ length octets) × IsCut octets at
+ended_cut octets given left at g x some =
+    let here = subst (IsGiven octets) x.is g in (
+      (within_after (length octets) x.found _ here.1).0,
+      (x.found, x.blank, map Ok x.more ++ left, here, omega (arith, some, length-append (map Ok x.more) left, oks_length x.more)),
+    )
+
+-- an entry's end was given, and more after it
+abbrev pub EndedBefore : List (Result Piece Fault) → List (Result Piece Fault) → ℕ → Type 0
+EndedBefore given left at = (x : Ended given left at) × (0 < length x.more)
+
+pub end_then_more : (given left now : List (Result Piece Fault)) (p : Piece) (at : ℕ) → now ≡ Ok p ∷ left → Ended given now at → EndedBefore given left at
+unfolding ended_before
+end_then_more given left now p at e x =
+    let n : 0 < length (x.more ++ p ∷ []) = omega (arith, length-append x.more (p ∷ [])) in
+    (ended_before given left now p at e x, n)
+
+-- the last entry's end, and the one before it, where there are any
+abbrev pub LastEnd : List (Result Piece Fault) → List (Result Piece Fault) → ℕ → Type 0
+LastEnd given left at = (at ≡ 0) ⊎ Ended given left at
+
+abbrev pub EndBefore : List (Result Piece Fault) → List (Result Piece Fault) → ℕ → Type 0
+EndBefore given left at = (at ≡ 0) ⊎ EndedBefore given left at
+
+pub last_on : (given left now : List (Result Piece Fault)) (p : Piece) (at : ℕ) → now ≡ Ok p ∷ left → LastEnd given now at → EndBefore given left at
+last_on given left now p at e (inl z) = inl z
+last_on given left now p at e (inr x) = inr (end_then_more given left now p at e x)
+
+pub end_on : (given left now : List (Result Piece Fault)) (p : Piece) (at : ℕ) → now ≡ Ok p ∷ left → LastEnd given now at → LastEnd given left at
+end_on given left now p at e (inl z) = inl z
+end_on given left now p at e (inr x) = inr (ended_before given left now p at e x)
+
+pub before_on : (given left now : List (Result Piece Fault)) (p : Piece) (at : ℕ) → now ≡ Ok p ∷ left → EndBefore given now at → EndBefore given left at
+before_on given left now p at e (inl z) = inl z
+before_on given left now p at e (inr x) = inr (end_then_more given left now p at e x.0)
+
+none_or : (octets : List ℕ) (at : ℕ) → at ≡ 0 → at ≤ length octets
+none_or octets at z = omega (arith, z)
+
+pub cut_or_none : (octets : List ℕ) (given left : List (Result Piece Fault)) (at : ℕ) → IsGiven octets given → 0 < length left → LastEnd given left at → (at ≤ length octets) × ((at ≡ 0) ⊎ IsCut octets at)
+cut_or_none octets given left at g some (inl z) = (none_or octets at z, inl z)
+cut_or_none octets given left at g some (inr x) = let c = ended_cut octets given left at g x (omega (arith, some)) in (c.0, inr c.1)
+
+pub cut_before : (octets : List ℕ) (given left : List (Result Piece Fault)) (at : ℕ) → IsGiven octets given → EndBefore given left at → (at ≤ length octets) × ((at ≡ 0) ⊎ IsCut octets at)
+cut_before octets given left at g (inl z) = (none_or octets at z, inl z)
+cut_before octets given left at g (inr x) = let c = ended_cut octets given left at g x.0 (omega (arith, x.1)) in (c.0, inr c.1)
+
+pub before_end : (at n : ℕ) (b : Bool) → (IsTrue b ↔ (n ≤ at)) → b ≡ false → at < n
+before_end at n b h e = elim (cases_lt at n) [
+  | inl less ↦ less
+  | inr most ↦ let t : IsTrue false = subst IsTrue e (h.1 most) in cc
+]

@@ -1,0 +1,60 @@
+-- Octets that come in blocks.
+use Rattle.std.specs.Prelude.{◌≡◌, ℕ, ◌+◌, ◌<◌, ◌≤◌, ◌^◌, ◌⊎◌, Bool, false, List, [], ◌∷◌, ◌++◌, length, take, map, Option, Some, None, Result, Ok, Err, IsSomeAnd, encode_utf8_all}
+use Rattle.dns_split.specs.Opening.{IsOpener}
+use Rattle.dns_split.specs.Pieces.{AreOctets, IsGiven, end_at, place_of}
+use Rattle.dns_split.specs.declared.pieces.Piece.{Piece}
+use Rattle.dns_split.specs.declared.pieces.Fault.{Fault}
+use Rattle.dns_split.specs.declared.pieces.Wrong.{Wrong}
+use Rattle.dns_split.specs.declared.pieces.Wrong.TheVariants.{OpenParenthesis, OpenQuote}
+use Rattle.dns_split.specs.declared.position.Position.{Position}
+use Rattle.dns_zonetext.specs.declared.blocks.Halt.{Halt}
+use Rattle.dns_zonetext.specs.declared.blocks.Halt.TheVariants.{Wrong as WrongHalt, OutOfMemory, TooLong}
+use Rattle.dns_zonetext.specs.declared.check.Found.{Found}
+use Rattle.dns_zonetext.specs.Found.{IsFound}
+use Rattle.dns_zonetext.specs.Held.{Held}
+use Rattle.dns_zonetext.specs.Place.{IsAt}
+
+-- no octets, or zone text whose last entry has none
+abbrev pub EndsEntry : List ℕ → Type 0
+EndsEntry octets = (octets ≡ []) ⊎ ((found : List Piece) × (blank : Bool) × IsGiven octets (map Ok found ++ Ok (end_at (length octets) blank) ∷ Ok (end_at (length octets) false) ∷ []))
+
+-- of all octets that were added these are held: those before them ended with an entry's end, and were let go
+pub record Holds (all : List ℕ) (h : Held) : Type 0 where
+  pub before : List ℕ
+  pub is : all ≡ before ++ h.octets
+  pub octets : AreOctets before
+  pub ended : EndsEntry before
+  pub at : h.place.at ≡ length before
+  pub position : IsAt 0 before h.place.position
+
+-- a block was added; or all octets with it have this fault, whatever follows; or nothing changed
+abbrev pub Adds : {U : Type 0} → Held → Held → List ℕ → Result U Halt → Type 0
+Adds old new block (Ok u) = (all : List ℕ) → Holds all old → Holds (all ++ block) new
+Adds old new block (Err (WrongHalt f)) = (all : List ℕ) → Holds all old → Holds (all ++ block) new × ((more : List ℕ) → AreOctets more → IsFound ((all ++ block) ++ more) 0 f)
+Adds old new block (Err OutOfMemory) = new ≡ old
+Adds old new block (Err TooLong) = (new ≡ old) × (2 ^ 64 ≤ old.place.at + length old.octets + length block + 2)
+
+-- the same octets, of which fewer are held; or this is their fault, whatever follows
+abbrev pub LetsGo : {U : Type 0} → Held → Held → Result U Found → Type 0
+LetsGo old new (Ok u) = (all : List ℕ) → Holds all old → Holds all new
+LetsGo old new (Err f) = (new ≡ old) × ((all more : List ℕ) → Holds all old → AreOctets more → IsFound (all ++ more) 0 f)
+
+-- an entry ends here that is not the last
+abbrev pub IsCut : List ℕ → ℕ → Type 0
+IsCut octets at = (found : List Piece) × (blank : Bool) × (more : List (Result Piece Fault)) × IsGiven octets (map Ok found ++ Ok (end_at at blank) ∷ more) × (0 < length more)
+
+-- what octets give up to here stays whatever follows; or their fault does
+abbrev pub Settled : List ℕ → Result ℕ Fault → Type 0
+Settled octets (Ok at) = (at ≤ length octets) × ((at ≡ 0) ⊎ IsCut octets at)
+Settled octets (Err f) = (found : List Piece) × IsGiven octets (map Ok found ++ Err f ∷ []) × (f.at < length octets)
+
+-- octets have this fault after their pieces, or none
+abbrev pub EndsWith : List ℕ → Option Fault → Type 0
+EndsWith octets None = (found : List Piece) × IsGiven octets (map Ok found)
+EndsWith octets (Some f) = (found : List Piece) × IsGiven octets (map Ok found ++ Err f ∷ [])
+
+-- the position of what is left open in octets that follow others
+abbrev pub IsOpenedAfter : List ℕ → List ℕ → Wrong → Option Position → Type 0
+IsOpenedAfter before octets (OpenQuote i) o = (i ≤ length octets) × IsSomeAnd o (λ p. IsAt 0 (before ++ take i octets) p)
+IsOpenedAfter before octets OpenParenthesis o = (i : ℕ) × (i ≤ length octets) × IsOpener (encode_utf8_all octets) (place_of octets i) × IsSomeAnd o (λ p. IsAt 0 (before ++ take i octets) p)
+IsOpenedAfter before octets _ o = o ≡ None

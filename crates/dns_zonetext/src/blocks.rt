@@ -1,0 +1,226 @@
+//! Whether octets are zone text that come in blocks.
+ghost use Rattle.std.specs.Prelude.{◌≡◌, ◌+◌, ◌++◌, ◌<◌, ◌≤◌, ◌^◌, ℕ, [], List, length, take};
+ghost use Rattle.std.specs.Prelude.{IfOk, IfErr};
+ghost use Rattle.dns_split.specs.Pieces.{AreOctets, moved_fault};
+ghost use Rattle.dns_split.specs.declared.pieces.Wrong.TheVariants.{OpenQuote};
+ghost use Rattle.dns_zonetext.specs.Blocks.{Adds, EndsWith, Holds, IsOpenedAfter, LetsGo};
+ghost use Rattle.dns_zonetext.specs.Blocks.{Settled};
+ghost use Rattle.dns_zonetext.specs.Found.{IsFound, IsOctetFault, IsZone};
+ghost use Rattle.dns_zonetext.specs.Place.{IsAt};
+
+use crate::check::Found;
+use crate::place::{Place, advance};
+use dns_split::opening::outermost_open_of_octets;
+use dns_split::pieces::{Fault, Piece, Pieces, Wrong};
+use dns_split::position::Position;
+use std::alloc::{AllocError, Allocator};
+use std::marker::Model;
+
+/// Why no more octets are taken.
+#[derive(Clone, Copy, Debug, PartialEq, Eq)]
+pub enum Halt {
+    /// The octets are not zone text.
+    Wrong(Found),
+    /// There was not enough memory.
+    OutOfMemory,
+    /// There would be more octets than can be counted.
+    TooLong,
+}
+
+impl From<AllocError> for Halt {
+    ghost use Rattle.dns_zonetext.specs.declared.blocks.Halt.TheVariants.{OutOfMemory};
+
+    ghost from_gives = { λ _ e. e ≡ OutOfMemory };
+
+    fn from(_error: AllocError) -> Halt {
+        Halt::OutOfMemory
+    }
+}
+
+/// Where the last entry ends that is the same whatever follows the octets, or 0; or the fault
+/// that they have whatever follows.
+fn settled(octets: &[u8]) -> Result<usize, Fault>
+    ensures octets { AreOctets octets.now }
+    ensures settled { Settled octets.now result }
+{
+    let mut before = 0;
+    let mut last = 0;
+    for piece in Pieces::of_octets(octets) {
+        match piece {
+            Ok(Piece::End(end)) => {
+                before = last;
+                last = end.at;
+            }
+            Ok(_) => {}
+            Err(fault) => {
+                return if fault.needs_more(octets) {
+                    Ok(last)
+                } else {
+                    Err(fault)
+                };
+            }
+        }
+    }
+    Ok(before)
+}
+
+/// The fault of octets, if they have one.
+fn fault_of(octets: &[u8]) -> Option<Fault>
+    ensures octets { AreOctets octets.now }
+    ensures fault { EndsWith octets.now result }
+{
+    for piece in Pieces::of_octets(octets) {
+        match piece {
+            Ok(_) => {}
+            Err(fault) => return Some(fault),
+        }
+    }
+    None
+}
+
+/// Where what is left open was opened, in octets that begin at a place.
+fn opened_after(place: Place, octets: &[u8], fault: Fault) -> Option<Position>
+    requires room { place.at + length octets.now + 2 < 2 ^ 64 }
+    requires line { place.position.line ≤ place.at + 1 }
+    requires column { place.position.column ≤ place.at + 1 }
+    requires fault { IsOctetFault octets.now fault }
+    ensures { (before : List ℕ) → IsAt 0 before place.position
+        → IsOpenedAfter before octets.now fault.wrong result }
+{
+    match fault.wrong {
+        Wrong::OpenQuote(start) => Some(advance(place.position, &octets[..start])),
+        Wrong::OpenParenthesis => match outermost_open_of_octets(octets) {
+            Some(start) => Some(advance(place.position, &octets[..start])),
+            None => None,
+        },
+        _ => None,
+    }
+}
+
+/// A fault so much further on.
+fn moved(fault: Fault, by: usize) -> Fault
+    requires at { by + fault.at < 2 ^ 64 }
+    requires quote { (i : ℕ) → fault.wrong ≡ OpenQuote i → by + i < 2 ^ 64 }
+    ensures { result ≡ moved_fault (λ i. by + i) fault }
+{
+    let wrong = match fault.wrong {
+        Wrong::OpenQuote(start) => Wrong::OpenQuote(by + start),
+        other => other,
+    };
+    Fault {
+        at: by + fault.at,
+        wrong,
+    }
+}
+
+/// The fault of octets that begin at a place, with its positions.
+fn locate_after(place: Place, octets: &[u8], fault: Fault) -> Found
+    requires room { place.at + length octets.now + 2 < 2 ^ 64 }
+    requires line { place.position.line ≤ place.at + 1 }
+    requires column { place.position.column ≤ place.at + 1 }
+    requires fault { IsOctetFault octets.now fault }
+    ensures fault { result.fault ≡ moved_fault (λ i. place.at + i) fault }
+    ensures position { (before : List ℕ) → IsAt 0 before place.position
+        → IsAt 0 (before ++ take fault.at octets.now) result.position }
+    ensures opened { (before : List ℕ) → IsAt 0 before place.position
+        → IsOpenedAfter before octets.now fault.wrong result.opened }
+{
+    Found {
+        fault: moved(fault, place.at),
+        position: advance(place.position, &octets[..fault.at]),
+        opened: opened_after(place, octets, fault),
+    }
+}
+
+/// Octets that are added block by block.
+///
+/// Those of entries that have ended are let go, so that what is held is as long as the longest
+/// entry, twice over at most, and a block.
+#[derive(Drop)]
+pub struct Checker<A: Allocator> {
+    held: Vec<u8, A>,
+    place: Place,
+    /// As many octets are held before they are read.
+    enough: usize,
+}
+
+impl<A: Allocator> Model for Checker<A> {
+    ghost use Rattle.std.specs.Prelude.{◌+◌, ◌<◌, ◌≤◌, ◌^◌, length};
+    ghost use Rattle.dns_zonetext.specs.Held.{Held};
+
+    ghost Value = { Held };
+
+    ghost view = { λ c. record { octets = c.held.items; place = c.place } };
+
+    ghost invariant = { λ c. (c.place.at + length c.held.items + 2 < 2 ^ 64)
+        × (c.place.position.line ≤ c.place.at + 1) × (c.place.position.column ≤ c.place.at + 1) };
+}
+
+impl<A: Allocator> Checker<A> {
+    /// No octets.
+    pub fn new(alloc: A) -> Checker<A>
+        ensures { Holds [] result }
+    {
+        Checker {
+            held: Vec::new(alloc),
+            place: Place {
+                at: 0,
+                position: Position { line: 1, column: 1 },
+            },
+            enough: 0,
+        }
+    }
+
+    /// Adds octets after those that were added before.
+    ///
+    /// A fault is answered once it is known, whatever octets follow, and at the end by
+    /// [`Checker::finish`]. The octets are added then too, but not where memory was lacking.
+    pub fn add(&mut self, block: &[u8]) -> Result<(), Halt>
+        ensures { Adds self.old self.new block.now result }
+    {
+        let room = usize::MAX - 2 - self.place.at - self.held.len();
+        if block.len() > room {
+            return Err(Halt::TooLong);
+        }
+        self.held.extend_from_slice(block)?;
+        if self.held.len() < self.enough {
+            return Ok(());
+        }
+        match self.let_go() {
+            Ok(()) => Ok(()),
+            Err(found) => Err(Halt::Wrong(found)),
+        }
+    }
+
+    /// Lets the octets go of entries that have ended, whatever follows.
+    fn let_go(&mut self) -> Result<(), Found>
+        ensures { LetsGo self.old self.new result }
+    {
+        let held = self.held.as_slice();
+        let cut = match settled(held) {
+            Ok(cut) => cut,
+            Err(fault) => return Err(locate_after(self.place, held, fault)),
+        };
+        self.place = Place {
+            at: self.place.at + cut,
+            position: advance(self.place.position, &held[..cut]),
+        };
+        let left = held.len() - cut;
+        self.held.rotate_left(cut);
+        self.held.truncate(left);
+        self.enough = left.saturating_add(left);
+        Ok(())
+    }
+
+    /// Whether all octets that were added are zone text, or the first fault.
+    pub fn finish(&self) -> Result<(), Found>
+        ensures well { (all : List ℕ) → Holds all self.now → IfOk result (λ _. IsZone all) }
+        ensures bad { (all : List ℕ) → Holds all self.now → IfErr result (IsFound all 0) }
+    {
+        let held = self.held.as_slice();
+        match fault_of(held) {
+            Some(fault) => Err(locate_after(self.place, held, fault)),
+            None => Ok(()),
+        }
+    }
+}
