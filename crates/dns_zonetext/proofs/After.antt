@@ -1,5 +1,6 @@
 -- Faults and openers of octets that follow the end of an entry.
-use Rattle.std.proofs.Common.{◌≡◌, ℕ, ◌+◌, ◌<◌, ◌≤◌, Bool, false, List, [], ◌∷◌, ◌++◌, length, take, drop, refl, sym, ap, ◌∙◌, subst, arith, inl, inr, append-nil, append_assoc, length-append, length-drop, take_all}
+use Rattle.std.proofs.Common.{◌≡◌, ℕ, ◌+◌, ◌<◌, ◌≤◌, Bool, false, List, [], ◌∷◌, ◌++◌, length, take, drop, refl, sym, ap, ◌∙◌, subst, arith, inl, inr}
+use Rattle.std.proofs.Common.{append-nil, append_assoc, length-append, length-drop, take_all}
 use Rattle.std.specs.Prelude.{Option, map, Ok, IsSomeAnd, encode_utf8_all}
 use Rattle.std.proofs.lemmas.List.{map-append, take-append-le}
 use Rattle.std.proofs.lemmas.Bool.{cases_lt}
@@ -136,7 +137,8 @@ ends_line text xs j s t p =
     }
 
 -- an entry's end is a line's end
-entry_line : (octets : List ℕ) (found : List Piece) (blank : Bool) → IsGiven octets (map Ok found ++ Ok (end_at (length octets) blank) ∷ Ok (end_at (length octets) false) ∷ []) → EndsLine (encode_utf8_all octets)
+entry_line : (octets : List ℕ) (found : List Piece) (blank : Bool) → IsGiven octets (map Ok found ++ Ok (end_at (length octets) blank) ∷ Ok (end_at (length octets) false) ∷ [])
+    → EndsLine (encode_utf8_all octets)
 entry_line octets found blank given =
     let n : ℕ = length octets in
     let g : ℕ → ℕ = place_of octets in
@@ -165,7 +167,8 @@ opener_on before octets i (inr e) o =
     ap encode_utf8_all (take-append-add before octets i) ∙ encodes-append before (take i octets) in
     let at : length x + length l + place_of octets i ≡ place_of (before ++ octets) (length before + i) =
     omega (arith, ap length front, length-append (encode_utf8_all before) (encode_utf8_all (take i octets)), ap length line.is, length-append x l) in
-    subst (IsOpener (encode_utf8_all (before ++ octets))) at (subst (λ k. IsOpener k (length x + length l + place_of octets i)) all (opener_joined x text line.has_cr line.found (place_of octets i) line.splits o))
+    subst (IsOpener (encode_utf8_all (before ++ octets))) at
+    (subst (λ k. IsOpener k (length x + length l + place_of octets i)) all (opener_joined x text line.has_cr line.found (place_of octets i) line.splits o))
 
 -- a parenthesis is left open at the end alone
 open_last : (octets : List ℕ) (f : Fault) → IsOctetFault octets f → f.wrong ≡ OpenParenthesis → length octets ≤ f.at
@@ -193,10 +196,12 @@ found_on before octets more f r e within fault is position opened = record {
     place : (i : ℕ) → i ≤ length octets → take (length before + i) (before ++ (octets ++ more)) ≡ before ++ take i octets
     place i h = take-append-add before (octets ++ more) i ∙ ap (λ l. before ++ l) (take-append-le i octets more h)
 
-    at_place : (i : ℕ) (o : Option Position) → i ≤ length octets → IsSomeAnd o (λ p. IsAt 0 (before ++ take i octets) p) → IsSomeAnd o (λ p. IsAt 0 (take (length before + i) (before ++ (octets ++ more))) p)
+    at_place : (i : ℕ) (o : Option Position) → i ≤ length octets → IsSomeAnd o (λ p. IsAt 0 (before ++ take i octets) p)
+        → IsSomeAnd o (λ p. IsAt 0 (take (length before + i) (before ++ (octets ++ more))) p)
     at_place i o h s = subst (λ l. IsSomeAnd o (λ p. IsAt 0 l p)) (sym (place i h)) s
 
-    left_open : f.wrong ≡ OpenParenthesis → (i : ℕ) → IsOpener (encode_utf8_all octets) (place_of octets i) → IsOpener (encode_utf8_all (before ++ (octets ++ more))) (place_of (before ++ (octets ++ more)) (length before + i))
+    left_open : f.wrong ≡ OpenParenthesis → (i : ℕ) → IsOpener (encode_utf8_all octets) (place_of octets i)
+        → IsOpener (encode_utf8_all (before ++ (octets ++ more))) (place_of (before ++ (octets ++ more)) (length before + i))
     left_open w i o =
         let last = open_last (before ++ (octets ++ more)) (moved_fault (λ i. length before + i) f) fault (ap (moved_wrong (λ i. length before + i)) w) in
         let none : more ≡ [] = nothing more (omega (arith, last, within, length-append before (octets ++ more), length-append octets more)) in

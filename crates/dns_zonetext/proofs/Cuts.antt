@@ -1,5 +1,6 @@
 -- Octets that follow the end of an entry.
-use Rattle.std.proofs.Common.{◌≡◌, ℕ, ◌+◌, ◌<◌, ◌≤◌, Bool, false, List, [], ◌∷◌, ◌++◌, length, take, drop, refl, sym, ap, ◌∙◌, subst, arith, inl, inr, append-nil, append_assoc, length-append, length-take-le, take_all}
+use Rattle.std.proofs.Common.{◌≡◌, ℕ, ◌+◌, ◌<◌, ◌≤◌, Bool, false, List, [], ◌∷◌, ◌++◌, length, take, drop, refl, sym, ap, ◌∙◌, subst, arith, inl, inr}
+use Rattle.std.proofs.Common.{append-nil, append_assoc, length-append, length-take-le, take_all}
 use Rattle.std.specs.Prelude.{option_map, map, Result, Ok, Err}
 use Rattle.std.proofs.lemmas.List.{take-append-drop, map-append}
 use Rattle.dns_split.specs.declared.pieces.Piece.{Piece}
@@ -57,7 +58,8 @@ read_on before octets alone b o (inr e) g =
     record {
       front = found ++ end_at (length before) blank ∷ [];
       is = subst (λ l. IsGiven (before ++ octets) l)
-          (sym (append_assoc (map Ok found) (Ok (end_at (length before) blank) ∷ []) (later (length before) alone)) ∙ ap (λ l. l ++ later (length before) alone) (sym (map-append Ok found (end_at (length before) blank ∷ []))))
+          (sym (append_assoc (map Ok found) (Ok (end_at (length before) blank) ∷ []) (later (length before) alone))
+          ∙ ap (λ l. l ++ later (length before) alone) (sym (map-append Ok found (end_at (length before) blank ∷ []))))
           (subst (λ l. IsGiven (l ++ octets) (map Ok found ++ Ok (end_at (length before) blank) ∷ later (length before) alone)) all stay);
     }
 

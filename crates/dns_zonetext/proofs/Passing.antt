@@ -110,7 +110,8 @@ before_on given left now p at e (inr x) = inr (end_then_more given left now p at
 none_or : (octets : List ℕ) (at : ℕ) → at ≡ 0 → at ≤ length octets
 none_or octets at z = omega (arith, z)
 
-pub cut_or_none : (octets : List ℕ) (given left : List (Result Piece Fault)) (at : ℕ) → IsGiven octets given → 0 < length left → LastEnd given left at → (at ≤ length octets) × ((at ≡ 0) ⊎ IsCut octets at)
+pub cut_or_none : (octets : List ℕ) (given left : List (Result Piece Fault)) (at : ℕ) → IsGiven octets given → 0 < length left → LastEnd given left at
+    → (at ≤ length octets) × ((at ≡ 0) ⊎ IsCut octets at)
 cut_or_none octets given left at g some (inl z) = (none_or octets at z, inl z)
 cut_or_none octets given left at g some (inr x) = let c = ended_cut octets given left at g x (omega (arith, some)) in (c.0, inr c.1)
 
