@@ -1,12 +1,18 @@
 //! What each command does with files.
 use dns_split::pieces::Wrong;
+use dns_zonetext::blocks::{Checker, Halt};
 use dns_zonetext::check::Found;
 use dns_zonetext::diff::{Comparison, diff};
+use dns_zonetext::layout;
 use dns_zonetext::layout::Gap;
 use dns_zonetext::tokens::{Form, Stop, tokens};
-use dns_zonetext::{check, layout};
+use std::alloc::Global;
+use std::fs::File;
 use std::io::{ErrorKind, Read, Write};
 use std::{fs, io};
+
+/// The octets that are read at a time.
+const BLOCK: usize = 64 * 1024;
 
 /// A file's octets, or those of standard input; or nothing, where it said that it can't be read.
 fn read(rt: &HostRuntime, file: &str) -> io::Result<Option<Vec<u8>>> {
@@ -71,14 +77,60 @@ fn finish(rt: &HostRuntime, file: &str, out: &[u8], answer: Result<(), Stop>) ->
     }
 }
 
+/// Adds what a reader gives, block by block, until it ends or no more is taken.
+fn add_blocks<R: Read>(
+    reader: &mut R,
+    checker: &mut Checker<Global>,
+    block: &mut [u8],
+) -> io::Result<Result<(), Halt>> {
+    for _ in 0..u64::MAX {
+        match reader.read(block) {
+            Ok(0) => return Ok(Ok(())),
+            Ok(count) => {
+                if let Err(halt) = checker.add(&block[..count]) {
+                    return Ok(Err(halt));
+                }
+            }
+            Err(error) if error.kind() == ErrorKind::Interrupted => {}
+            Err(error) => return Err(error),
+        }
+    }
+    Ok(Err(Halt::TooLong))
+}
+
+/// Checks what a reader gives, and holds no more of it than the longest entry and a block.
+fn check_blocks<R: Read>(alloc: Global, reader: &mut R) -> io::Result<Result<(), Halt>> {
+    let mut checker = Checker::new(alloc);
+    let mut block = vec![in alloc; 0; BLOCK]?;
+    let added = add_blocks(reader, &mut checker, block.as_mut_slice())?;
+    if added.is_err() {
+        return Ok(added);
+    }
+    match checker.finish() {
+        Ok(()) => Ok(Ok(())),
+        Err(found) => Ok(Err(Halt::Wrong(found))),
+    }
+}
+
+/// The same of a file, or of standard input.
+fn check_in_blocks(rt: &HostRuntime, file: &str) -> io::Result<Result<(), Halt>> {
+    if file == "-" {
+        return check_blocks(rt.alloc(), &mut rt.stdin());
+    }
+    check_blocks(rt.alloc(), &mut File::open(rt, file)?)
+}
+
 /// Says where a file is no zone text.
 pub fn check_file(rt: &HostRuntime, file: &str) -> io::Result<u8> {
-    let Some(octets) = read(rt, file)? else {
-        return Ok(2);
-    };
-    match check::check(octets.as_slice(), 0) {
-        Ok(()) => Ok(0),
-        Err(found) => report(rt, file, found),
+    match check_in_blocks(rt, file) {
+        Ok(Ok(())) => Ok(0),
+        Ok(Err(Halt::Wrong(found))) => report(rt, file, found),
+        Ok(Err(Halt::OutOfMemory)) => Err(io::Error::from(ErrorKind::OutOfMemory)),
+        Ok(Err(Halt::TooLong)) => Err(io::Error::from(ErrorKind::FileTooLarge)),
+        Err(error) => {
+            eprintln!(rt; "zonetext: {file}: {error}")?;
+            Ok(2)
+        }
     }
 }
 
