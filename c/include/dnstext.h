@@ -137,7 +137,8 @@ struct dns_cursor {
     size_t at;           /* where the next entry begins */
     size_t begins_blank; /* 1 where the entry given last began with a blank */
     size_t is_done;      /* 1 once nothing is left */
-    size_t opened;       /* after DNS_OPEN_QUOTE, where the double quote stands that is not closed */
+    size_t opened;       /* where what is not closed was opened: after DNS_OPEN_QUOTE the double quote,
+                            after DNS_OPEN_PARENTHESIS the outermost parenthesis */
 };
 
 /* Gives the places of the next entry's tokens, and moves the cursor on. The length is the number of

@@ -235,7 +235,8 @@ static void wrong(const uint8_t *text, size_t length, uint32_t status, size_t pl
     expect(dns_entry_next(text, length, &cursor, memory, 4, &outcome) == status, "status", line);
     expect(outcome.place == place && outcome.length == tokens, "place and length", line);
     expect(cursor.is_done == 1, "cursor", line);
-    expect(cursor.opened == (status == DNS_OPEN_QUOTE ? 2 : 0), "where it was opened", line);
+    expect(cursor.opened == (status == DNS_OPEN_QUOTE || status == DNS_OPEN_PARENTHESIS ? 2 : 0),
+           "where it was opened", line);
     expect(dns_entry_next(text, length, &cursor, memory, 4, &outcome) == DNS_END, "end", line);
     expect(outcome.place == 0 && outcome.length == 0, "place and length of the end", line);
 }
@@ -243,9 +244,10 @@ static void wrong(const uint8_t *text, size_t length, uint32_t status, size_t pl
 
 static void entries(void) {
     static const char whole[] = " one ( \"two\"\n; comment\n) three\n\nlast";
+    static const char open[] = "\351\n\351 (b) ( c (d";
     const struct dns_token none = {9, 9, 9};
     struct dns_token tokens[4] = {{9, 9, 9}, {9, 9, 9}, {9, 9, 9}, {9, 9, 9}};
-    struct dns_cursor cursor = {0, 0, 0, 0}, past = {3, 0, 0, 0};
+    struct dns_cursor cursor = {0, 0, 0, 0}, past = {3, 0, 0, 0}, next = {0, 0, 0, 0};
     struct dns_outcome outcome = {7, 7};
     EXPECT(dns_entry_next(BYTES(whole), &cursor, NULL, 0, &outcome) == DNS_NO_ROOM);
     EXPECT(outcome.length == 3 && cursor.at == 0 && cursor.is_done == 0);
@@ -267,6 +269,9 @@ static void entries(void) {
     EXPECT(dns_entry_next(BYTES(whole), &cursor, tokens, 4, &outcome) == DNS_END);
     EXPECT(dns_entry_next(BYTES("ab"), &past, tokens, 4, &outcome) == DNS_BAD_CURSOR);
     EXPECT(past.at == 3 && past.is_done == 0 && outcome.place == 0);
+    EXPECT(dns_entry_next(BYTES(open), &next, tokens, 4, &outcome) == DNS_OK && next.at == 2);
+    EXPECT(dns_entry_next(BYTES(open), &next, tokens, 4, &outcome) == DNS_OPEN_PARENTHESIS);
+    EXPECT(next.opened == 8 && outcome.place == 14 && outcome.length == 3);
     WRONG("a b)", DNS_CLOSING, 3, 1);
     WRONG("a ( b", DNS_OPEN_PARENTHESIS, 5, 1);
     WRONG("a \"b\n", DNS_OPEN_QUOTE, 4, 1);

@@ -1,4 +1,5 @@
 mod Leading
+mod LeftOpen
 mod Lengths
 mod NameText
 mod NumberText

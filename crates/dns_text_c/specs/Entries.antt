@@ -1,7 +1,8 @@
 -- The tokens of an entry, and what the call that gives them says.
-use Rattle.std.specs.Prelude.{◌≡◌, ◌≢◌, ℕ, ◌<◌, ◌≤◌, Bool, true, false, List, [], ◌∷◌, length, min, Result, Ok, Err}
+use Rattle.std.specs.Prelude.{⊤, ◌≡◌, ◌≢◌, ℕ, ◌+◌, ◌<◌, ◌≤◌, Bool, true, false, List, [], ◌∷◌, length, drop, min, encode_utf8_all, Result, Ok, Err}
 use Rattle.dns_octets.specs.Octets.{greatest_length}
-use Rattle.dns_split.specs.Pieces.{EachWithin, ReadsOctetsFrom}
+use Rattle.dns_split.specs.Opening.{IsOpener, IsLeftOpen}
+use Rattle.dns_split.specs.Pieces.{EachWithin, ReadsOctetsFrom, place_of}
 use Rattle.dns_split.specs.declared.pieces.EndOfEntry.{EndOfEntry}
 use Rattle.dns_split.specs.declared.pieces.Piece.{Piece}
 use Rattle.dns_split.specs.declared.pieces.Piece.TheVariants.{Word as WordAt, Quote as QuoteAt, Comment as CommentAt, End as EndAt}
@@ -34,13 +35,19 @@ refusal_of_wrong (NotQuoted at) = OpenQuote
 refusal_of_wrong NoFeed = LoneReturn
 refusal_of_wrong NoEscape = BadEscape
 
--- the place of the double quote that is not closed, if that is wrong
-abbrev pub opened_by : Wrong → ℕ → ℕ
-opened_by (NotQuoted at) otherwise = at
-opened_by NoneOpen otherwise = otherwise
-opened_by NotClosed otherwise = otherwise
-opened_by NoFeed otherwise = otherwise
-opened_by NoEscape otherwise = otherwise
+-- where what is not closed was opened: the double quote, or the outermost parenthesis among the octets from a place on; else it stays as it was
+abbrev pub Opens : List ℕ → ℕ → Wrong → ℕ → ℕ → Type 0
+Opens text at (NotQuoted i) old new = new ≡ i
+Opens text at NotClosed old new = (i : ℕ) × (new ≡ at + i) × (new < length text) × IsOpener (encode_utf8_all (drop at text)) (place_of (drop at text) i)
+Opens text at NoneOpen old new = new ≡ old
+Opens text at NoFeed old new = new ≡ old
+Opens text at NoEscape old new = new ≡ old
+
+-- where parentheses are what is wrong, they are left open by the octets from a place on
+abbrev pub LeavesOpen : List ℕ → ℕ → Stop → Type 0
+LeavesOpen text at (End e last) = ⊤
+LeavesOpen text at (Fault f) = f.wrong ≡ NotClosed → IsLeftOpen (encode_utf8_all (drop at text))
+LeavesOpen text at Nothing = ⊤
 
 abbrev pub token_at : ℕ → ℕ → ℕ → TokenAt
 token_at s e quoted = record { start = s; end = e; is_quoted = quoted }
@@ -106,14 +113,15 @@ pub record IsEntry (given : List (Result Piece TextFault)) (old : List TokenAt) 
   pub stop_is : stop ≡ stop_of given
 
 -- what is said of an entry of so many tokens where there is room for some, and where the cursor goes
-abbrev pub GivesEntry : ℕ → Stop → ℕ → ℕ → Cursor → Cursor → Outcome → Type 0
-GivesEntry count (End e last) room status old new outcome =
+abbrev pub GivesEntry : List ℕ → ℕ → Stop → ℕ → ℕ → Cursor → Cursor → Outcome → Type 0
+GivesEntry text count (End e last) room status old new outcome =
     (outcome ≡ record { length = count; place = 0 })
     × (count ≤ room → (status ≡ 0) × (new ≡ record { at = e.at; begins_blank = bit e.begins_blank; is_done = bit last; opened = old.opened }))
     × (room < count → (status ≡ number_of NoRoom) × (new ≡ old))
-GivesEntry count (Fault f) room status old new outcome =
-    (outcome ≡ record { length = count; place = f.at }) × (status ≡ number_of (refusal_of_wrong f.wrong)) × (new ≡ record old { is_done = 1; opened = opened_by f.wrong old.opened })
-GivesEntry count Nothing room status old new outcome =
+GivesEntry text count (Fault f) room status old new outcome =
+    (outcome ≡ record { length = count; place = f.at }) × (status ≡ number_of (refusal_of_wrong f.wrong))
+    × (new ≡ record old { is_done = 1; opened = new.opened }) × Opens text old.at f.wrong old.opened new.opened
+GivesEntry text count Nothing room status old new outcome =
     (outcome ≡ record { length = count; place = 0 }) × (status ≡ 1) × (new ≡ record old { is_done = 1 })
 
 -- the entry at a place is read, and what is said of it
@@ -124,7 +132,7 @@ pub record ReadsEntry (text : List ℕ) (old new : Cursor) (before after : List 
   pub count : ℕ
   pub stop : Stop
   pub entry : IsEntry given before count stop after
-  pub told : GivesEntry count stop (length before) status old new outcome
+  pub told : GivesEntry text count stop (length before) status old new outcome
 
 -- a text that is done has no entry; a cursor past the end is refused; and else the entry that begins there is given
 pub record NextEntry (text : List ℕ) (old new : Cursor) (before after : List TokenAt) (status : ℕ) (outcome : Outcome) : Type 0 where

@@ -134,6 +134,26 @@ fn tells_where_a_quote_was_opened(rt: HostRuntime) {
     assert_eq!(rt; (outcome.place, cursor.opened, cursor.is_done), (6, 4, 1));
 }
 
+#[test]
+fn tells_where_a_parenthesis_was_opened(rt: HostRuntime) {
+    let mut cursor = FIRST;
+    let mut outcome = NOTHING;
+    let text = b"\xE9\n\xE9 (b) ( c (d) \"(\" ; (\n";
+    assert_eq!(rt;
+        dns_entry_next(text, &mut cursor, &mut [NONE], &mut outcome),
+        OK
+    );
+    assert_eq!(rt; (cursor.at, cursor.opened), (2, 5));
+    assert_eq!(rt;
+        dns_entry_next(text, &mut cursor, &mut [], &mut outcome),
+        number_of(Refusal::OpenParenthesis)
+    );
+    assert_eq!(rt;
+        (outcome.length, outcome.place, cursor.opened, cursor.is_done),
+        (5, 24, 8, 1)
+    );
+}
+
 // The status, the tokens before the fault and its place.
 fn refused(text: &[u8]) -> (u32, usize, usize) {
     let mut cursor = FIRST;

@@ -1,13 +1,16 @@
 //! Zone text, entry by entry (RFC 1035 section 5.1).
 //!
 //! An octet of 0x80 or more counts as a character of its own, so that comments needn't be UTF-8.
-ghost use Rattle.std.specs.Prelude.{◌≡◌, ◌<◌, ◌≤◌, ◌^◌, ℕ, List, Result, length, slice_set};
+ghost use Rattle.std.specs.Prelude.{◌≡◌, ◌<◌, ◌≤◌, ◌^◌, ℕ, List, Result, drop, encode_utf8_all, length, slice_set};
+ghost use Rattle.dns_split.specs.Opening.{IsLeftOpen};
 ghost use Rattle.dns_split.specs.Pieces.{ReadsOctetsFrom, EachWithin};
 ghost use Rattle.dns_split.specs.declared.pieces.Piece.{Piece};
 ghost use Rattle.dns_split.specs.declared.pieces.Fault.{Fault as TextFault};
-ghost use Rattle.dns_text_c.specs.Entries.{bit, refusal_of_wrong, opened_by, Steps, IsEntry, GivesEntry, NextEntry};
+ghost use Rattle.dns_split.specs.declared.pieces.Wrong.TheVariants.{OpenParenthesis};
+ghost use Rattle.dns_text_c.specs.Entries.{bit, refusal_of_wrong, LeavesOpen, Opens, Steps, IsEntry, GivesEntry, NextEntry};
 
 use crate::outcome::{END, Fault, OK, Outcome, Refusal, number_of, refuse};
+use dns_split::opening::outermost_open_of_octets;
 use dns_split::pieces::{EndOfEntry, Fault as TextFault, Piece, Pieces, Wrong};
 
 /// A token of zone text: the octets from `start` to before `end`.
@@ -31,7 +34,8 @@ pub struct Cursor {
     pub begins_blank: usize,
     /// 1 once nothing is left. It is 0 at first.
     pub is_done: usize,
-    /// Where the double quote stands that isn't closed, after that fault; else it stays as it was.
+    /// Where the double quote stands that isn't closed, or the outermost parenthesis, after these
+    /// faults; else it stays as it was.
     pub opened: usize,
 }
 
@@ -74,13 +78,19 @@ fn refusal_of_wrong(wrong: Wrong) -> Refusal
     }
 }
 
-/// Where the double quote stands that isn't closed, if that is wrong.
-fn opened_by(wrong: Wrong, otherwise: usize) -> usize
-    ensures { result ≡ opened_by wrong otherwise }
+/// Where what isn't closed was opened, in the octets from `at` on, if that is wrong.
+fn opened_by(text: &[u8], at: usize, wrong: Wrong, otherwise: usize) -> usize
+    requires within { at ≤ length text.now }
+    requires open { wrong ≡ OpenParenthesis → IsLeftOpen (encode_utf8_all (drop at text.now)) }
+    ensures { Opens text.now at wrong otherwise result }
 {
     match wrong {
-        Wrong::OpenQuote(at) => at,
-        _ => otherwise,
+        Wrong::OpenQuote(place) => place,
+        Wrong::OpenParenthesis => match outermost_open_of_octets(&text[at..]) {
+            Some(place) => at + place,
+            None => otherwise,
+        },
+        Wrong::Closing | Wrong::LoneReturn | Wrong::BadEscape => otherwise,
     }
 }
 
@@ -129,7 +139,8 @@ pub(crate) struct Entry {
 /// Puts the tokens of the entry at a place into a slice, as many as fit.
 fn read_entry(text: &[u8], at: usize, tokens: &mut [Token]) -> Entry
     requires { at ≤ length text.now }
-    ensures { (given : List (Result Piece TextFault)) × ReadsOctetsFrom text.now at given × EachWithin (length text.now) given × IsEntry given tokens.old result.count result.stop tokens.new }
+    ensures entry { (given : List (Result Piece TextFault)) × ReadsOctetsFrom text.now at given × EachWithin (length text.now) given × IsEntry given tokens.old result.count result.stop tokens.new }
+    ensures open { LeavesOpen text.now at result.stop }
 {
     let mut pieces = Pieces::of_octets_starting_at(text, at);
     let mut count: usize = 0;
@@ -146,8 +157,16 @@ fn read_entry(text: &[u8], at: usize, tokens: &mut [Token]) -> Entry
 }
 
 /// Tells how an entry stopped, and moves the cursor on.
-fn tell_stop(entry: Entry, room: usize, cursor: &mut Cursor, outcome: &mut Outcome) -> u32
-    ensures { GivesEntry entry.count entry.stop room result cursor.old cursor.new outcome.new }
+fn tell_stop(
+    text: &[u8],
+    entry: Entry,
+    room: usize,
+    cursor: &mut Cursor,
+    outcome: &mut Outcome,
+) -> u32
+    requires within { cursor.old.at ≤ length text.now }
+    requires open { LeavesOpen text.now cursor.old.at entry.stop }
+    ensures { GivesEntry text.now entry.count entry.stop room result cursor.old cursor.new outcome.new }
 {
     *outcome = Outcome {
         length: entry.count,
@@ -166,7 +185,7 @@ fn tell_stop(entry: Entry, room: usize, cursor: &mut Cursor, outcome: &mut Outco
         }
         Stop::Fault(fault) => {
             cursor.is_done = 1;
-            cursor.opened = opened_by(fault.wrong, cursor.opened);
+            cursor.opened = opened_by(text, cursor.at, fault.wrong, cursor.opened);
             outcome.place = fault.at;
             number_of(refusal_of_wrong(fault.wrong))
         }
@@ -206,5 +225,5 @@ pub extern "C" fn dns_entry_next(
         return refuse(fault, outcome);
     }
     let entry = read_entry(text, cursor.at, tokens);
-    tell_stop(entry, tokens.len(), cursor, outcome)
+    tell_stop(text, entry, tokens.len(), cursor, outcome)
 }

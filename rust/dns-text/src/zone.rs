@@ -35,7 +35,8 @@ pub struct Fault {
     pub kind: FaultKind,
     /// The octets of the longest beginning that can still be completed.
     pub place: usize,
-    /// Where the double quote stands that isn't closed, of [`FaultKind::OpenQuote`].
+    /// Where the double quote stands that isn't closed, of [`FaultKind::OpenQuote`], or the
+    /// outermost parenthesis, of [`FaultKind::OpenParenthesis`].
     pub opened: Option<usize>,
 }
 
@@ -65,6 +66,11 @@ impl FaultKind {
             DNS_LONE_RETURN => FaultKind::LoneReturn,
             status => unreachable!("status {status} of a zone text"),
         }
+    }
+
+    /// Whether something isn't closed.
+    fn is_open(self) -> bool {
+        matches!(self, FaultKind::OpenParenthesis | FaultKind::OpenQuote)
     }
 }
 
@@ -123,11 +129,10 @@ impl<'t> Places<'t> {
                 DNS_END => return None,
                 status => {
                     let kind = FaultKind::of(status);
-                    let opened = self.cursor.opened;
                     return Some(Err(Fault {
                         kind,
                         place: outcome.place,
-                        opened: (kind == FaultKind::OpenQuote).then_some(opened),
+                        opened: kind.is_open().then_some(self.cursor.opened),
                     }));
                 }
             }
@@ -161,6 +166,7 @@ pub struct Entry<'t> {
 /// assert_eq!(found.next().unwrap()?.tokens[2].text, b"192.0.2.1");
 /// let fault = found.next().unwrap().unwrap_err();
 /// assert_eq!((fault.kind, fault.place), (FaultKind::OpenParenthesis, 23));
+/// assert_eq!(fault.opened, Some(22));
 /// assert!(found.next().is_none());
 /// # Ok::<(), dns_text::Fault>(())
 /// ```

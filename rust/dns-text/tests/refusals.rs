@@ -126,7 +126,9 @@ fn zone_texts() {
     let opened = |text: &[u8]| entries(text).last().unwrap().unwrap_err().opened;
     assert_eq!(opened(b"a\nb \"c\nd"), Some(4));
     assert_eq!(opened(b"a \"b"), Some(2));
-    assert_eq!(opened(b"a ( b"), None);
+    assert_eq!(opened(b"a ( b"), Some(2));
+    assert_eq!(opened(b"\xE9\n\xE9 (b) ( c (d"), Some(8));
+    assert_eq!(opened(b"a )"), None);
     let long = [b"a ".repeat(100), b")".to_vec()].concat();
     let mut found = tokens(&long);
     assert_eq!(

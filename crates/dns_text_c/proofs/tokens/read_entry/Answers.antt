@@ -1,4 +1,5 @@
-use Rattle.std.proofs.Common.{◌++◌, ◌∷◌, [], ap, ◌∙◌}
+use Rattle.std.proofs.Common.{◌++◌, ◌∷◌, [], ap, sym, ◌∙◌}
+use Rattle.dns_text_c.proofs.LeftOpen.{leaves_open}
 use Rattle.dns_text_c.proofs.Written.{one_more, put_more, count_more}
 use Rattle.dns_text_c.specs.Entries.{tokens_of}
 use Rattle.dns_text_c.proofs.tokens.read_entry.Goals as goal
@@ -14,3 +15,8 @@ loop-token-preserved-in-Token c =
       count_more i.0 c.loop-token.count c.saturating_add-count.result t i.3 c.saturating_add-count.ensures,
       c.put_token.ensures.put ∙ put_more i.0 c.args.tokens.now c.loop-token.tokens c.loop-token.count t i.4 i.3 c.put_token.ensures.few,
     )
+
+pub returns-in-Stop-clause-open : goal.returns-in-Stop-clause-open
+returns-in-Stop-clause-open c =
+    let s = rw c.in-Stop.is at c.next_step.ensures in
+    leaves_open c.args.text.now c.args.at _ c.in-Stop.stop c.of_octets_starting_at-pieces.ensures.reads (sym s.1 ∙ sym c.loop-token.invariant.2)
