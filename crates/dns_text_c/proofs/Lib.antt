@@ -1,3 +1,5 @@
+mod Begun
+mod InCalls
 mod Leading
 mod LeftOpen
 mod Lengths

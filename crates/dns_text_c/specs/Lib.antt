@@ -1,3 +1,4 @@
+pub mod Calls
 pub mod Codecs
 pub mod Entries
 pub mod Names

@@ -1,12 +1,28 @@
 //! Laws on what the functions give.
 //! Each function's contract is the law; calling one does nothing.
-ghost use Rattle.std.specs.Prelude.{ℕ, List, length, map, Result, Ok};
-ghost use Rattle.dns_split.specs.Pieces.{IsOctetPieces, EachWithin};
+ghost use Rattle.std.specs.Prelude.{◌≡◌, ℕ, List, encode_utf8_all, length, map, Result, Ok};
+ghost use Rattle.dns_split.specs.Opening.{IsOpener};
+ghost use Rattle.dns_split.specs.Pieces.{AreOctets, IsGiven, IsOctetPieces, EachWithin, place_of};
 ghost use Rattle.dns_split.specs.declared.pieces.Piece.{Piece};
+ghost use Rattle.dns_split.specs.declared.pieces.Fault.{Fault};
+ghost use Rattle.dns_text_c.specs.Calls.{ToldEntry, Calls, told_entries, last_status};
 ghost use Rattle.dns_text_c.specs.Entries.{entries_of, InARow};
+ghost use Rattle.dns_text_c.specs.Told.{number_of};
+ghost use Rattle.dns_text_c.specs.declared.outcome.Refusal.TheVariants.{OpenParenthesis};
+ghost use Rattle.dns_text_c.specs.declared.tokens.Cursor.{Cursor};
 
 /// A text of the grammar is read entry by entry: in a row from its start on, its entries have just
 /// the tokens of its pieces, cut where entries end, and the last one is known as such.
 pub fn entries_in_a_row()
     ensures { (text : List ℕ) (found : List Piece) → IsOctetPieces text found → EachWithin (length text) (map Ok found) → InARow text 0 (entries_of found) }
+{}
+
+/// Calls for the next entry, one after another from a text's start until the text is done, each
+/// with room for its tokens, tell just what the text gives: the words and quoted texts of its
+/// entries, and its fault. What it gives is one list (`octets_are_read_one_way` of `dns_split`).
+pub fn calls_tell_all()
+    ensures entries { (text : List ℕ) (given : List (Result Piece Fault)) (first last : Cursor) (entries : List ToldEntry) → AreOctets text → IsGiven text given → first.at ≡ 0
+        → first.is_done ≡ 0 → Calls text first entries last → entries ≡ told_entries given }
+    ensures opened { (text : List ℕ) (first last : Cursor) (entries : List ToldEntry) → AreOctets text → first.at ≡ 0 → first.is_done ≡ 0 → Calls text first entries last
+        → last_status entries ≡ number_of OpenParenthesis → IsOpener (encode_utf8_all text) (place_of text last.opened) }
 {}

@@ -1,0 +1,57 @@
+-- Calls for the entries of a text, one after another.
+use Rattle.std.specs.Prelude.{◌≡◌, ◌≢◌, ℕ, ◌<◌, ◌≤◌, List, [], ◌∷◌, length, take, Result, Ok, Err}
+use Rattle.dns_octets.specs.Octets.{greatest_length}
+use Rattle.dns_split.specs.declared.pieces.Piece.{Piece}
+use Rattle.dns_split.specs.declared.pieces.Piece.TheVariants.{Word as WordAt, Quote as QuoteAt, Comment as CommentAt, End as EndAt}
+use Rattle.dns_split.specs.declared.pieces.Fault.{Fault as TextFault}
+use Rattle.dns_text_c.specs.Entries.{NextEntry, refusal_of_wrong, token_at}
+use Rattle.dns_text_c.specs.Told.{number_of}
+use Rattle.dns_text_c.specs.declared.outcome.Outcome.{Outcome}
+use Rattle.dns_text_c.specs.declared.tokens.Token.{Token as TokenAt}
+use Rattle.dns_text_c.specs.declared.tokens.Cursor.{Cursor}
+
+-- what a call tells of an entry: its tokens, a status, and the place of a fault
+pub record ToldEntry : Type 0 where
+  pub tokens : List TokenAt
+  pub status : ℕ
+  pub place : ℕ
+
+abbrev pub told : List TokenAt → ℕ → ℕ → ToldEntry
+told ts s p = record { tokens = ts; status = s; place = p }
+
+-- a token before those of the first entry
+abbrev pub with_token : TokenAt → List ToldEntry → List ToldEntry
+with_token t [] = []
+with_token t (e ∷ es) = told (t ∷ e.tokens) e.status e.place ∷ es
+
+-- the words and quoted texts of what a text gives, cut where entries end; the last entry has the fault, if there is one
+abbrev pub told_entries : List (Result Piece TextFault) → List ToldEntry
+told_entries [] = []
+told_entries (Ok (WordAt p) ∷ given) = with_token (token_at p.start p.end 0) (told_entries given)
+told_entries (Ok (QuoteAt p) ∷ given) = with_token (token_at p.start p.end 1) (told_entries given)
+told_entries (Ok (CommentAt p) ∷ given) = told_entries given
+told_entries (Ok (EndAt e) ∷ given) = told [] 0 0 ∷ told_entries given
+told_entries (Err f ∷ given) = told [] (number_of (refusal_of_wrong f.wrong)) f.at ∷ []
+
+-- a call that found an entry and had room for all of its tokens, and what it told
+pub record Tells (text : List ℕ) (old new : Cursor) (entry : ToldEntry) : Type 0 where
+  pub before : List TokenAt
+  pub after : List TokenAt
+  pub outcome : Outcome
+  pub answers : NextEntry text old new before after entry.status outcome
+  pub some : entry.status ≢ 1
+  pub slice : length before < greatest_length
+  pub fits : outcome.length ≤ length before
+  pub tokens : entry.tokens ≡ take outcome.length after
+  pub place : entry.place ≡ outcome.place
+
+-- such calls one after another, each from where the one before left the cursor, until the text is done; and where the cursor is then
+abbrev pub Calls : List ℕ → Cursor → List ToldEntry → Cursor → Type 0
+Calls text cursor [] last = (cursor.is_done ≢ 0) × (cursor ≡ last)
+Calls text cursor (entry ∷ more) last = (new : Cursor) × Tells text cursor new entry × Calls text new more last
+
+-- the status of the last one
+abbrev pub last_status : List ToldEntry → ℕ
+last_status [] = 0
+last_status (entry ∷ []) = entry.status
+last_status (entry ∷ next ∷ more) = last_status (next ∷ more)
