@@ -1,5 +1,6 @@
 -- Where an entry begins that is not the first: after a line's end, before which the text splits.
-use Rattle.std.proofs.Common.{◌≡◌, ◌<◌, ◌≤◌, ◌+◌, ℕ, zero, suc, Bool, true, false, ◌&&◌, List, [], ◌∷◌, ◌++◌, length, take, drop, refl, sym, ap, subst, ◌∙◌, arith, append-nil, append_assoc, length-append, take_all, inl, inr, ◌⊎◌, Result, Ok, Err}
+use Rattle.std.proofs.Common.{◌≡◌, ◌<◌, ◌≤◌, ◌+◌, ℕ, zero, suc, Bool, true, false, ◌&&◌, List, [], ◌∷◌, ◌++◌, length, take, drop, refl, sym, ap, subst, ◌∙◌, arith}
+use Rattle.std.proofs.Common.{append-nil, append_assoc, length-append, take_all, inl, inr, ◌⊎◌, Result, Ok, Err}
 use Rattle.std.specs.Prelude.{Some, None, map, encode_utf8_all}
 use Rattle.std.specs.List.{flat_map}
 use Rattle.std.proofs.lemmas.Bool.{and_parts, and_from}
@@ -53,9 +54,11 @@ LineLast ls = (at d : ℕ) (b : Bool) (found more : List Piece) (k : ℕ) (t : B
 
 line_last : (ls : List Lexeme) → LineLast ls
 line_last [] at d b found more k t n is some far = absurd (omega (arith, ap length is, length-append found (end_at k t ∷ more), some))
-line_last (Open ∷ ls) at d b found more k t n is some far = one_before Open ls d (suc d) (λ m. refl) (line_last ls (at + length (bytes Open)) (suc d) b found more k t n is some (further Open ls at k far))
+line_last (Open ∷ ls) at d b found more k t n is some far =
+    one_before Open ls d (suc d) (λ m. refl) (line_last ls (at + length (bytes Open)) (suc d) b found more k t n is some (further Open ls at k far))
 line_last (Close ∷ ls) at zero b found more k t n is some far = cc
-line_last (Close ∷ ls) at (suc d) b found more k t n is some far = one_before Close ls (suc d) d (λ m. refl) (line_last ls (at + length (bytes Close)) d b found more k t n is some (further Close ls at k far))
+line_last (Close ∷ ls) at (suc d) b found more k t n is some far =
+    one_before Close ls (suc d) d (λ m. refl) (line_last ls (at + length (bytes Close)) d b found more k t n is some (further Close ls at k far))
 line_last (Line r ∷ ls) at zero b [] more k t n is some far =
     let here : at + length (bytes (Line r)) ≡ k = ap place_in is in
     record { front = []; has_cr = r; back = ls; is = refl; nested = refl; none = none_of (flat_map bytes ls) (omega (arith, here, further (Line r) ls at k far)) }
@@ -63,7 +66,8 @@ line_last (Line r ∷ ls) at zero b (x ∷ found) more k t n is some far =
     one_before (Line r) ls zero zero (λ m. refl) (line_last ls (at + length (bytes (Line r))) zero _ found more k t n (ap tail_of is) some (further (Line r) ls at k far))
 line_last (Line r ∷ ls) at (suc d) b found more k t n is some far =
     one_before (Line r) ls (suc d) (suc d) (λ m. refl) (line_last ls (at + length (bytes (Line r))) (suc d) b found more k t n is some (further (Line r) ls at k far))
-line_last (Blank c ∷ ls) at d b found more k t n is some far = one_before (Blank c) ls d d (λ m. refl) (line_last ls (at + length (bytes (Blank c))) d b found more k t n is some (further (Blank c) ls at k far))
+line_last (Blank c ∷ ls) at d b found more k t n is some far =
+    one_before (Blank c) ls d d (λ m. refl) (line_last ls (at + length (bytes (Blank c))) d b found more k t n is some (further (Blank c) ls at k far))
 line_last (Note cs ∷ ls) at d b [] more k t n is some far = cc
 line_last (Note cs ∷ ls) at d b (x ∷ found) more k t n is some far =
     one_before (Note cs) ls d d (λ m. refl) (line_last ls (at + length (bytes (Note cs))) d b found more k t n (ap tail_of is) some (further (Note cs) ls at k far))

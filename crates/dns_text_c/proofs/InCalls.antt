@@ -5,15 +5,20 @@ use Rattle.std.proofs.lemmas.Bool.{and_parts}
 use Rattle.std.proofs.lemmas.List.{length-drop, take-append-drop}
 use Rattle.dns_octets.specs.Octets.{greatest_length}
 use Rattle.dns_split.specs.Opening.{IsOpener}
-use Rattle.dns_split.specs.Pieces.{AreOctets, EachWithin, IsGiven, ReadsOctetsFrom, end_at, later, moved_fault, place_of}
+use Rattle.dns_split.specs.Pieces.{AreOctets, EachWithin, IsGiven, ReadsOctetsFrom, between, cut, end_at, later, moved, moved_fault, moved_piece, place_of}
 use Rattle.dns_split.specs.declared.pieces.Fault.{Fault as TextFault}
 use Rattle.dns_split.specs.declared.pieces.Piece.{Piece}
 use Rattle.dns_split.specs.declared.pieces.Piece.TheVariants.{Word as WordAt, Quote as QuoteAt, Comment as CommentAt, End as EndAt}
+use Rattle.dns_split.specs.Splitting.{Entries, Splits, with_token as with_octets}
+use Rattle.dns_split.proofs.Agree.{octets_have_pieces}
 use Rattle.dns_split.proofs.Blocks.{entries_stay, later_later, nothing_given}
-use Rattle.dns_split.proofs.OctetsOnce.{given_once, run_given}
+use Rattle.dns_split.proofs.OctetsOnce.{given_once, octet_scalars, run_given}
+use Rattle.dns_split.proofs.PieceParts.{each_within}
+use Rattle.dns_split.proofs.PieceSplit.{split_pieces}
+use Rattle.dns_split.proofs.PieceWhole.{pieces_run}
 use Rattle.dns_split.specs.declared.pieces.Wrong.{Wrong}
 use Rattle.dns_split.specs.declared.pieces.Wrong.TheVariants.{Closing as NoneOpen, OpenParenthesis as NotClosed, OpenQuote as NotQuoted, LoneReturn as NoFeed, BadEscape as NoEscape}
-use Rattle.dns_text_c.specs.Calls.{ToldEntry, told, with_token, told_entries, Tells, Calls, last_status}
+use Rattle.dns_text_c.specs.Calls.{ToldEntry, told, with_token, told_entries, Tells, Calls, last_status, octets_of}
 use Rattle.dns_text_c.specs.Entries.{bit, counted, is_nothing, refusal_of_wrong, stop_of, token_at, tokens_of, written_over_start, GivesEntry, Opens, ReadsEntry}
 use Rattle.dns_text_c.specs.declared.outcome.Refusal.TheVariants.{OpenParenthesis}
 use Rattle.dns_text_c.proofs.Begun.{Begins, begins_next, ends_with_line, opener_of_text}
@@ -265,6 +270,24 @@ module _ (text : List ℕ) (o : AreOctets text) (last : Cursor) where
 later_zero : (text : List ℕ) (given : Given) → AreOctets text → IsGiven text given → later 0 given ≡ given
 later_zero text given o g = sym (given_once text given (later 0 given) g (nothing_given text given o g))
 
+-- the tokens of pieces are the text between their places
+token_octets : (text : List ℕ) (t : TokenAt) (es : List ToldEntry) → map (octets_of text) (with_token t es) ≡ with_octets (between text t.start t.end) (map (octets_of text) es)
+token_octets text t [] = refl
+token_octets text t (e ∷ es) = refl
+
+told_cut : (text : List ℕ) (found : List Piece) → map (octets_of text) (told_entries (map Ok found)) ≡ cut text found
+told_cut text [] = refl
+told_cut text (WordAt p ∷ found) =
+    token_octets text (token_at p.start p.end 0) (told_entries (map Ok found)) ∙ ap (with_octets (between text p.start p.end)) (told_cut text found)
+told_cut text (QuoteAt p ∷ found) =
+    token_octets text (token_at p.start p.end 1) (told_entries (map Ok found)) ∙ ap (with_octets (between text p.start p.end)) (told_cut text found)
+told_cut text (CommentAt p ∷ found) = told_cut text found
+told_cut text (EndAt p ∷ found) = ap (λ l. [] ∷ l) (told_cut text found)
+
+map_ok : (f : ℕ → ℕ) (found : List Piece) → map (moved f) (map Ok found) ≡ map Ok (map (moved_piece f) found)
+map_ok f [] = refl
+map_ok f (p ∷ found) = ap (λ l. Ok (moved_piece f p) ∷ l) (map_ok f found)
+
 module _ (text : List ℕ) (cursor last : Cursor) (entries : List ToldEntry) (o : AreOctets text) (start : cursor.at ≡ 0) (going : cursor.is_done ≡ 0) (calls : Calls text cursor entries last) where
   from_start : (given : Given) → IsGiven text given → (entries ≡ told_entries (later cursor.at given)) × Opened text o last entries cursor.at
   from_start given g = right text o last entries cursor given (omega (arith, start)) (subst (λ n. IsGiven (drop n text) given) (sym start) g) going calls
@@ -272,6 +295,15 @@ module _ (text : List ℕ) (cursor last : Cursor) (entries : List ToldEntry) (o 
   -- calls from the start of a text tell all that it gives
   pub tell_all : (given : Given) → IsGiven text given → entries ≡ told_entries given
   tell_all given g = (from_start given g).0 ∙ ap (λ n. told_entries (later n given)) start ∙ ap told_entries (later_zero text given o g)
+
+  -- so they tell the entries of a text that splits
+  pub tell_entries : (e : Entries) → Splits text e → map (octets_of text) entries ≡ e
+  tell_entries e s =
+      let p = split_pieces text e s in
+      let octets = octets_have_pieces text (octet_scalars text o) p.0 p.1 in
+      let within = subst (EachWithin (length text)) (pieces_run text p.0 p.1) (each_within text _) in
+      let is : map (moved (place_of text)) (map Ok p.0) ≡ map Ok (map (moved_piece (place_of text)) p.0) = map_ok (place_of text) p.0 in
+      ap (map (octets_of text)) (tell_all (map Ok p.0) (inl (record { found = map (moved_piece (place_of text)) p.0; is = is; placed = octets }), within)) ∙ told_cut text p.0 ∙ p.2
 
   -- and where the outermost parenthesis stands that is left open
   pub tell_opener : last_status entries ≡ number_of OpenParenthesis → IsOpener (encode_utf8_all text) (place_of text last.opened)

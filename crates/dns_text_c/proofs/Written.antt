@@ -28,7 +28,8 @@ module _ {A : Type 0} where
   set_counted xs n x few =
       ⊎_elim
       (λ less. let same : counted n ≡ n = omega (arith, less) in ap (λ m. slice_set xs m x) same)
-      (λ more. let same : counted n ≡ greatest_length = omega (arith, more) in ap (λ m. slice_set xs m x) same ∙ set_out xs greatest_length x (omega (arith, few)) ∙ sym (set_out xs n x (omega (arith, few, more))))
+      (λ more. let same : counted n ≡ greatest_length = omega (arith, more) in ap (λ m. slice_set xs m x) same ∙ set_out xs greatest_length x (omega (arith, few))
+      ∙ sym (set_out xs n x (omega (arith, few, more))))
       (cases_lt n (2 ^ 64))
 
   pub put_more : (xs old before : List A) (count : ℕ) (x : A) → before ≡ written_over_start xs old → count ≡ counted (length xs) → length before < 2 ^ 64

@@ -1,6 +1,7 @@
 -- Calls for the entries of a text, one after another.
-use Rattle.std.specs.Prelude.{◌≡◌, ◌≢◌, ℕ, ◌<◌, ◌≤◌, List, [], ◌∷◌, length, take, Result, Ok, Err}
+use Rattle.std.specs.Prelude.{◌≡◌, ◌≢◌, ℕ, ◌<◌, ◌≤◌, List, [], ◌∷◌, length, map, take, Result, Ok, Err}
 use Rattle.dns_octets.specs.Octets.{greatest_length}
+use Rattle.dns_split.specs.Pieces.{between}
 use Rattle.dns_split.specs.declared.pieces.Piece.{Piece}
 use Rattle.dns_split.specs.declared.pieces.Piece.TheVariants.{Word as WordAt, Quote as QuoteAt, Comment as CommentAt, End as EndAt}
 use Rattle.dns_split.specs.declared.pieces.Fault.{Fault as TextFault}
@@ -21,7 +22,7 @@ told ts s p = record { tokens = ts; status = s; place = p }
 
 -- a token before those of the first entry
 abbrev pub with_token : TokenAt → List ToldEntry → List ToldEntry
-with_token t [] = []
+with_token t [] = told (t ∷ []) 0 0 ∷ []
 with_token t (e ∷ es) = told (t ∷ e.tokens) e.status e.place ∷ es
 
 -- the words and quoted texts of what a text gives, cut where entries end; the last entry has the fault, if there is one
@@ -55,3 +56,7 @@ abbrev pub last_status : List ToldEntry → ℕ
 last_status [] = 0
 last_status (entry ∷ []) = entry.status
 last_status (entry ∷ next ∷ more) = last_status (next ∷ more)
+
+-- the octets of each of its tokens
+abbrev pub octets_of : List ℕ → ToldEntry → List (List ℕ)
+octets_of text entry = map (λ t. between text t.start t.end) entry.tokens

@@ -3,9 +3,10 @@
 ghost use Rattle.std.specs.Prelude.{◌≡◌, ℕ, List, encode_utf8_all, length, map, Result, Ok};
 ghost use Rattle.dns_split.specs.Opening.{IsOpener};
 ghost use Rattle.dns_split.specs.Pieces.{AreOctets, IsGiven, IsOctetPieces, EachWithin, place_of};
+ghost use Rattle.dns_split.specs.Splitting.{Entries, Splits};
 ghost use Rattle.dns_split.specs.declared.pieces.Piece.{Piece};
 ghost use Rattle.dns_split.specs.declared.pieces.Fault.{Fault};
-ghost use Rattle.dns_text_c.specs.Calls.{ToldEntry, Calls, told_entries, last_status};
+ghost use Rattle.dns_text_c.specs.Calls.{ToldEntry, Calls, told_entries, octets_of, last_status};
 ghost use Rattle.dns_text_c.specs.Entries.{entries_of, InARow};
 ghost use Rattle.dns_text_c.specs.Told.{number_of};
 ghost use Rattle.dns_text_c.specs.declared.outcome.Refusal.TheVariants.{OpenParenthesis};
@@ -20,9 +21,12 @@ pub fn entries_in_a_row()
 /// Calls for the next entry, one after another from a text's start until the text is done, each
 /// with room for its tokens, tell just what the text gives: the words and quoted texts of its
 /// entries, and its fault. What it gives is one list (`octets_are_read_one_way` of `dns_split`).
+/// Of a text that splits the tokens' octets are its entries.
 pub fn calls_tell_all()
     ensures entries { (text : List ℕ) (given : List (Result Piece Fault)) (first last : Cursor) (entries : List ToldEntry) → AreOctets text → IsGiven text given → first.at ≡ 0
         → first.is_done ≡ 0 → Calls text first entries last → entries ≡ told_entries given }
+    ensures tokens { (text : List ℕ) (found : Entries) (first last : Cursor) (entries : List ToldEntry) → AreOctets text → Splits text found → first.at ≡ 0
+        → first.is_done ≡ 0 → Calls text first entries last → map (octets_of text) entries ≡ found }
     ensures opened { (text : List ℕ) (first last : Cursor) (entries : List ToldEntry) → AreOctets text → first.at ≡ 0 → first.is_done ≡ 0 → Calls text first entries last
         → last_status entries ≡ number_of OpenParenthesis → IsOpener (encode_utf8_all text) (place_of text last.opened) }
 {}
