@@ -16,6 +16,7 @@ use Rattle.dns_split.specs.declared.pieces.Piece.{Piece}
 use Rattle.dns_split.specs.declared.pieces.Piece.TheVariants.{End as EndAt}
 use Rattle.dns_split.proofs.Blocks.{entries_stay, first_fault}
 use Rattle.dns_split.proofs.FaultJoins.{opener_joined}
+use Rattle.dns_split.proofs.PieceGiven.{first_of, tail_of as given_tail}
 use Rattle.dns_split.proofs.Joins.{join_bytes, last_before, split_joined}
 
 abbrev Given : Type 0
@@ -102,20 +103,12 @@ before_line text found more k t p some far =
     )
 
 -- pieces among what is given
-abbrev rest_of : Given → Given
-rest_of [] = []
-rest_of (x ∷ xs) = xs
-
-abbrev piece_of : Piece → Given → Piece
-piece_of q (Ok p ∷ given) = p
-piece_of q _ = q
-
 found_split : (g : ℕ → ℕ) (front : List Piece) (e : ℕ) (b : Bool) (rest : Given) (found : List Piece) → map (moved g) (map Ok front ++ Ok (end_at e b) ∷ rest) ≡ map Ok found
     → (first : List Piece) × (more : List Piece) × (found ≡ first ++ end_at (g e) b ∷ more) × (length more ≡ length rest)
 found_split g [] e b rest [] h = cc
-found_split g [] e b rest (q ∷ found) h = ([], found, ap (λ p. p ∷ found) (sym (ap (piece_of q) h)), sym (length-map found _) ∙ ap length (sym (ap rest_of h)) ∙ length-map rest _)
+found_split g [] e b rest (q ∷ found) h = ([], found, ap (λ p. p ∷ found) (sym (ap (first_of q) h)), sym (length-map found _) ∙ ap length (sym (ap given_tail h)) ∙ length-map rest _)
 found_split g (p ∷ front) e b rest [] h = cc
-found_split g (p ∷ front) e b rest (q ∷ found) h = let r = found_split g front e b rest found (ap rest_of h) in (q ∷ r.0, r.1, ap (λ l. q ∷ l) r.2, r.3)
+found_split g (p ∷ front) e b rest (q ∷ found) h = let r = found_split g front e b rest found (ap given_tail h) in (q ∷ r.0, r.1, ap (λ l. q ∷ l) r.2, r.3)
 
 no_fault : (g : ℕ → ℕ) (front : List Piece) (p q : Piece) → first_fault (map (moved g) (map Ok front ++ Ok p ∷ Ok q ∷ [])) ≡ None
 no_fault g [] p q = refl

@@ -13,6 +13,7 @@ use Rattle.dns_split.specs.Splitting.{Entries, Splits, with_token as with_octets
 use Rattle.dns_split.proofs.Agree.{octets_have_pieces}
 use Rattle.dns_split.proofs.Blocks.{entries_stay, later_later, nothing_given}
 use Rattle.dns_split.proofs.OctetsOnce.{given_once, octet_scalars, run_given}
+use Rattle.dns_split.proofs.PieceGiven.{tail_of}
 use Rattle.dns_split.proofs.PieceParts.{each_within}
 use Rattle.dns_split.proofs.PieceSplit.{split_pieces}
 use Rattle.dns_split.proofs.PieceWhole.{pieces_run}
@@ -21,6 +22,7 @@ use Rattle.dns_split.specs.declared.pieces.Wrong.TheVariants.{Closing as NoneOpe
 use Rattle.dns_text_c.specs.Calls.{ToldEntry, told, with_token, told_entries, Tells, Calls, last_status, octets_of}
 use Rattle.dns_text_c.specs.Entries.{bit, counted, is_nothing, refusal_of_wrong, stop_of, token_at, tokens_of, written_over_start, GivesEntry, Opens, ReadsEntry}
 use Rattle.dns_text_c.specs.declared.outcome.Refusal.TheVariants.{OpenParenthesis}
+use Rattle.dns_text_c.proofs.Row.{map_ok}
 use Rattle.dns_text_c.proofs.Begun.{Begins, begins_next, ends_with_line, opener_of_text}
 use Rattle.dns_text_c.specs.Told.{number_of}
 use Rattle.dns_text_c.specs.declared.outcome.Outcome.{Outcome}
@@ -32,13 +34,9 @@ use Rattle.dns_text_c.specs.declared.tokens.Token.{Token as TokenAt}
 abbrev Given : Type 0
 Given = List (Result Piece TextFault)
 
-abbrev rest_of : Given → Given
-rest_of [] = []
-rest_of (x ∷ xs) = xs
-
 cancel : (xs l m : Given) → xs ++ l ≡ xs ++ m → l ≡ m
 cancel [] l m e = e
-cancel (x ∷ xs) l m e = cancel xs l m (ap rest_of e)
+cancel (x ∷ xs) l m e = cancel xs l m (ap tail_of e)
 
 drop_octets : (n : ℕ) (octets : List ℕ) → AreOctets octets → AreOctets (drop n octets)
 drop_octets zero octets h = h
@@ -74,7 +72,7 @@ follows octets alone next left front end blank o is some g h =
     let here = subst (IsGiven octets) is g in
     let stay = entries_stay octets (drop end octets) front end blank left next o (drop_octets end octets o) here some h in
     let there = subst (λ l. IsGiven l (map Ok front ++ Ok (end_at end blank) ∷ later end next)) (take-append-drop end octets) stay in
-    ap rest_of (cancel (map Ok front) (Ok (end_at end blank) ∷ left) (Ok (end_at end blank) ∷ later end next)
+    ap tail_of (cancel (map Ok front) (Ok (end_at end blank) ∷ left) (Ok (end_at end blank) ∷ later end next)
     (given_once octets (map Ok front ++ Ok (end_at end blank) ∷ left) (map Ok front ++ Ok (end_at end blank) ∷ later end next) here there))
 
 -- the first entry ends, or a fault stops it
@@ -283,10 +281,6 @@ told_cut text (QuoteAt p ∷ found) =
     token_octets text (token_at p.start p.end 1) (told_entries (map Ok found)) ∙ ap (with_octets (between text p.start p.end)) (told_cut text found)
 told_cut text (CommentAt p ∷ found) = told_cut text found
 told_cut text (EndAt p ∷ found) = ap (λ l. [] ∷ l) (told_cut text found)
-
-map_ok : (f : ℕ → ℕ) (found : List Piece) → map (moved f) (map Ok found) ≡ map Ok (map (moved_piece f) found)
-map_ok f [] = refl
-map_ok f (p ∷ found) = ap (λ l. Ok (moved_piece f p) ∷ l) (map_ok f found)
 
 module _ (text : List ℕ) (cursor last : Cursor) (entries : List ToldEntry) (o : AreOctets text) (start : cursor.at ≡ 0) (going : cursor.is_done ≡ 0) (calls : Calls text cursor entries last) where
   from_start : (given : Given) → IsGiven text given → (entries ≡ told_entries (later cursor.at given)) × Opened text o last entries cursor.at

@@ -9,13 +9,10 @@ use Rattle.dns_split.specs.declared.pieces.Piece.{Piece}
 use Rattle.dns_split.specs.declared.pieces.Piece.TheVariants.{Word as WordAt, Quote as QuoteAt, Comment as CommentAt, End as EndAt}
 use Rattle.dns_split.specs.declared.pieces.Wrong.{Wrong}
 use Rattle.dns_split.specs.declared.pieces.Wrong.TheVariants.{Closing, OpenParenthesis, OpenQuote, LoneReturn, BadEscape}
+use Rattle.dns_split.proofs.PieceGiven.{tail_of}
 use Rattle.dns_text_c.specs.Entries.{stop_of, LeavesOpen}
 use Rattle.dns_text_c.specs.declared.tokens.Stop.{Stop}
 use Rattle.dns_text_c.specs.declared.tokens.Stop.TheVariants.{End, Fault, Nothing}
-
-abbrev rest_of : List (Result Piece TextFault) → List (Result Piece TextFault)
-rest_of [] = []
-rest_of (x ∷ xs) = xs
 
 abbrev fault_of : TextFault → List (Result Piece TextFault) → TextFault
 fault_of f (Err e ∷ given) = e
@@ -37,11 +34,11 @@ open_back g BadEscape e = cc
 no_fault : (g : ℕ → ℕ) (at : ℕ) (alone : List (Result Piece TextFault)) (found : List Piece) (f : TextFault) → map (moved g) alone ≡ map Ok found → stop_of (later at alone) ≡ Fault f → ⊥
 no_fault g at [] found f e s = cc
 no_fault g at (Ok (WordAt p) ∷ alone) [] f e s = cc
-no_fault g at (Ok (WordAt p) ∷ alone) (q ∷ found) f e s = no_fault g at alone found f (ap rest_of e) s
+no_fault g at (Ok (WordAt p) ∷ alone) (q ∷ found) f e s = no_fault g at alone found f (ap tail_of e) s
 no_fault g at (Ok (QuoteAt p) ∷ alone) [] f e s = cc
-no_fault g at (Ok (QuoteAt p) ∷ alone) (q ∷ found) f e s = no_fault g at alone found f (ap rest_of e) s
+no_fault g at (Ok (QuoteAt p) ∷ alone) (q ∷ found) f e s = no_fault g at alone found f (ap tail_of e) s
 no_fault g at (Ok (CommentAt p) ∷ alone) [] f e s = cc
-no_fault g at (Ok (CommentAt p) ∷ alone) (q ∷ found) f e s = no_fault g at alone found f (ap rest_of e) s
+no_fault g at (Ok (CommentAt p) ∷ alone) (q ∷ found) f e s = no_fault g at alone found f (ap tail_of e) s
 no_fault g at (Ok (EndAt p) ∷ alone) found f e s = cc
 no_fault g at (Err k ∷ alone) [] f e s = cc
 no_fault g at (Err k ∷ alone) (q ∷ found) f e s = cc
@@ -52,11 +49,11 @@ same_wrong : (g : ℕ → ℕ) (at : ℕ) (alone : List (Result Piece TextFault)
 same_wrong g at [] [] fault f e s w = cc
 same_wrong g at [] (q ∷ found) fault f e s w = cc
 same_wrong g at (Ok (WordAt p) ∷ alone) [] fault f e s w = cc
-same_wrong g at (Ok (WordAt p) ∷ alone) (q ∷ found) fault f e s w = same_wrong g at alone found fault f (ap rest_of e) s w
+same_wrong g at (Ok (WordAt p) ∷ alone) (q ∷ found) fault f e s w = same_wrong g at alone found fault f (ap tail_of e) s w
 same_wrong g at (Ok (QuoteAt p) ∷ alone) [] fault f e s w = cc
-same_wrong g at (Ok (QuoteAt p) ∷ alone) (q ∷ found) fault f e s w = same_wrong g at alone found fault f (ap rest_of e) s w
+same_wrong g at (Ok (QuoteAt p) ∷ alone) (q ∷ found) fault f e s w = same_wrong g at alone found fault f (ap tail_of e) s w
 same_wrong g at (Ok (CommentAt p) ∷ alone) [] fault f e s w = cc
-same_wrong g at (Ok (CommentAt p) ∷ alone) (q ∷ found) fault f e s w = same_wrong g at alone found fault f (ap rest_of e) s w
+same_wrong g at (Ok (CommentAt p) ∷ alone) (q ∷ found) fault f e s w = same_wrong g at alone found fault f (ap tail_of e) s w
 same_wrong g at (Ok (EndAt p) ∷ alone) found fault f e s w = cc
 same_wrong g at (Err k ∷ alone) [] fault f e s w =
     let here : moved_fault (λ i. at + i) k ≡ f = ap (stopped_by f) s in

@@ -108,7 +108,7 @@ twice a b (p ∷ ps) = (λ i. one p i ∷ twice a b ps i)
     one (CommentAt p) = (λ i. CommentAt (record { start = sum p.start i; end = sum p.end i }))
     one (EndAt e) = (λ i. EndAt (record { at = sum e.at i; begins_blank = e.begins_blank }))
 
-map_ok : (f : ℕ → ℕ) (ps : List Piece) → map (moved f) (map Ok ps) ≡ map Ok (map (moved_piece f) ps)
+pub map_ok : (f : ℕ → ℕ) (ps : List Piece) → map (moved f) (map Ok ps) ≡ map Ok (map (moved_piece f) ps)
 map_ok f [] = refl
 map_ok f (p ∷ ps) = ap (λ l. Ok (moved_piece f p) ∷ l) (map_ok f ps)
 

@@ -6,4 +6,7 @@ use Rattle.dns_text_c.proofs.Lengths.{known16}
 use Rattle.dns_text_c.proofs.codecs.dns_base16_read.Goals as goal
 
 pub returns : goal.returns
-returns c = told base16 known16 c.args.text.now c.args.octets.now c.decode_slice-read.new.octets c.decode_slice-read.result _ _ c.tell_read.result c.tell_read.new.outcome (omega arith) (omega arith) (grind (arith, common_steps)) (grind (arith, common_steps)) c.decode_slice-read.ensures.read c.decode_slice-read.ensures.refused c.tell_read.ensures.some c.tell_read.ensures.none
+returns c =
+    told base16 known16 c.args.text.now c.args.octets.now c.decode_slice-read.new.octets c.decode_slice-read.result _ _ c.tell_read.result c.tell_read.new.outcome
+    (omega arith) (omega arith) (grind (arith, common_steps)) (grind (arith, common_steps)) c.decode_slice-read.ensures.read c.decode_slice-read.ensures.refused
+    c.tell_read.ensures.some c.tell_read.ensures.none

@@ -10,7 +10,8 @@ returns-then-len-eq-MOST c =
 pub returns-in_default-into_octet : goal.returns-in_default-into_octet
 returns-in_default-into_octet c =
     let found = rw c.in-Some.is at c.in_ok-symbol.ensures.reads in
-    (c.loop-symbol.octets.items, c.loop-symbol.invariant.read, ((c.in-Some.symbol, c.in-Some.after), c.in_default-into_octet.field-0, found, omega arith, sym c.into_octet.ensures ∙ c.in_default-into_octet.is))
+    let same = sym c.into_octet.ensures ∙ c.in_default-into_octet.is in
+    (c.loop-symbol.octets.items, c.loop-symbol.invariant.read, ((c.in-Some.symbol, c.in-Some.after), c.in_default-into_octet.field-0, found, omega arith, same))
 
 pub loop-symbol-preserved : goal.loop-symbol-preserved
 loop-symbol-preserved c =
