@@ -1,5 +1,5 @@
 /* Prints the strings of each TXT record of a zone text on standard input, one a line, and the line and
- * column of a fault on standard error. */
+ * column of a fault on standard error, and of where what is not closed was opened. */
 #include <dnstext.h>
 #include <stdio.h>
 #include <stdlib.h>
@@ -33,9 +33,7 @@ static int is_txt(struct dns_token token) {
     return token.end - token.start == 3 && !token.is_quoted && memcmp(text + token.start, "TXT", 3) == 0;
 }
 
-static int fail(uint32_t status, size_t place) {
-    struct dns_outcome outcome;
-    uint8_t why[64];
+static void tell(size_t place, const char *what, size_t length) {
     size_t line = 1, column = 1, i;
     for (i = 0; i < place; i++) {
         column++;
@@ -44,9 +42,14 @@ static int fail(uint32_t status, size_t place) {
             column = 1;
         }
     }
+    fprintf(stderr, "%lu:%lu: %.*s\n", (unsigned long)line, (unsigned long)column, (int)length, what);
+}
+
+static int fail(uint32_t status, size_t place) {
+    struct dns_outcome outcome;
+    uint8_t why[64];
     dns_status_text(status, why, sizeof why, &outcome);
-    fprintf(stderr, "%lu:%lu: %.*s\n", (unsigned long)line, (unsigned long)column,
-            (int)outcome.length, (const char *)why);
+    tell(place, (const char *)why, outcome.length);
     return 1;
 }
 
@@ -93,6 +96,8 @@ int main(void) {
             tokens = (struct dns_token *)grown(tokens, room * sizeof *tokens);
         } else {
             failed = fail(status, outcome.place);
+            if (status == DNS_OPEN_QUOTE || status == DNS_OPEN_PARENTHESIS)
+                tell(cursor.opened, "opened here", 11);
         }
     }
     free(tokens);
