@@ -80,7 +80,7 @@ module _ (sure most : ℕ) where
       let whole : tokens ≡ front.front ++ first.0 ∷ rest = front.whole ∙ ap (λ l. front.front ++ l) first.1 in
       let cut = cut_at sure most front.front first.0 rest strings (subst (λ (l : List Token). AllZip HasOctets l strings) whole read) short in
       (string_fault sure most first.0 cut.1 0 why cut.3 cut.4 (inl first.2)).0)
-      (λ k. k.0)
+      (λ k. k.1)
       h.3
 
   -- the last tokens are left
@@ -91,7 +91,7 @@ module _ (sure most : ℕ) where
       (λ k.
       let first = first_refused h.1 rest why k.0 k.1 in
       (front.front ++ first.0 ∷ [], front.whole ∙ ap (λ l. front.front ++ l) first.1 ∙ sym (append_assoc front.front (first.0 ∷ []) rest)))
-      (λ k. (front.front, front.whole ∙ ap (λ l. front.front ++ l) (sym k.1)))
+      (λ k. (front.front, front.whole ∙ ap (λ l. front.front ++ l) (sym k.2)))
       h.3
 
   -- the same of an answer, whose list is read by `items`

@@ -27,6 +27,11 @@ pub when_none : (P : Type 0) (Q : Token → Type 0) (ts : List Token) (o : Optio
 when_none P Q [] o is h p = p
 when_none P Q (t ∷ ts) o is h p = let z : t ∷ ts ≡ [] = none_left (t ∷ ts) o is h in cc
 
+-- a list with one more at its end has some
+pub ends_with_one : {V : Type 0} (values : List V) (v : V) → values ++ v ∷ [] ≢ []
+ends_with_one [] v e = cc
+ends_with_one (w ∷ ws) v e = cc
+
 module _ {V : Type 0} (reads : List Token → Result V Cause → List Token → Type 0) where
   -- one more at the end
   pub some_more : (tokens : List Token) (values : List V) (middle after : List Token) (v : V) → ReadsSome reads tokens values middle → middle ≢ [] → reads middle (Ok v) after

@@ -54,7 +54,7 @@ ReadsSome reads tokens (v ∷ vs) rest = (middle : List Token) × (tokens ≢ []
 abbrev pub ReadsRest : {V : Type 0} → (List Token → Result V Cause → List Token → Type 0) → List Token → Result (List V) Cause → List Token → Type 0
 ReadsRest reads tokens (Ok values) rest = ReadsSome reads tokens values [] × (rest ≡ [])
 ReadsRest {V} reads tokens (Err why) rest =
-    (values : List V) × (middle : List Token) × ReadsSome reads tokens values middle × (((middle ≢ []) × reads middle (Err why) rest) ⊎ ((why ≡ short_buf) × (rest ≡ middle)))
+    (values : List V) × (middle : List Token) × ReadsSome reads tokens values middle × (((middle ≢ []) × reads middle (Err why) rest) ⊎ ((values ≢ []) × (why ≡ short_buf) × (rest ≡ middle)))
 
 -- a reading has one answer of given tokens, and leaves the same
 abbrev pub ReadsInOneWay : {V : Type 0} → (List Token → Result V Cause → List Token → Type 0) → Type 0

@@ -1,7 +1,9 @@
-use Rattle.std.proofs.Common.{[], refl, sym, subst, inl, inr}
+use Rattle.std.proofs.Common.{ℕ, ◌≡◌, ◌+◌, [], ◌∷◌, length, refl, sym, ap, ◌∙◌, arith, subst, inl, inr}
+use Rattle.std.proofs.lemmas.List.{length-append}
+use Rattle.std.specs.Prelude.{◌≢◌}
 use Rattle.dns_scan.specs.Reads.{ReadsSome}
 use Rattle.dns_scan.specs.Stands.{StandsBefore}
-use Rattle.dns_scan.proofs.TokensLeft.{peeked, none_left, some_left, some_more}
+use Rattle.dns_scan.proofs.TokensLeft.{peeked, none_left, some_left, some_more, ends_with_one}
 use Rattle.dns_scan.proofs.rest.scan_rest.Goals as goal
 
 pub returns-then-not-continues-clause-reads : goal.returns-then-not-continues-clause-reads
@@ -20,7 +22,7 @@ returns-in-Err-push-clause-reads g c = λ tokens stands.
     let some = some_left at.0 peek.0 left.0 peek.2 in
     let took = c.in-Ok.ensures.reads at.0 left.1 in
     let more = some_more g.T.Scan.scan_reads tokens c.loop-turn.values.items at.0 took.0 c.in-Ok.value at.1 some took.1 in
-    (took.0, (_, took.0, more, inr (c.short_buf.ensures, refl)), took.2)
+    (took.0, (_, took.0, more, inr (ends_with_one c.loop-turn.values.items c.in-Ok.value, c.short_buf.ensures, refl)), took.2)
 
 pub returns-in-Err-clause-reads : goal.returns-in-Err-clause-reads
 returns-in-Err-clause-reads g c = λ tokens stands.
@@ -34,6 +36,7 @@ returns-in-Err-clause-reads g c = λ tokens stands.
 pub loop-turn-preserved : goal.loop-turn-preserved
 loop-turn-preserved g c = record {
   ready = c.in-Ok.ensures.ready;
+  counted = ap length c.in-Ok-push.ensures.items ∙ length-append c.loop-turn.values.items (c.in-Ok.value ∷ []) ∙ ap (λ n. n + 1) c.loop-turn.invariant.counted;
   reads = λ tokens stands.
       let at = c.loop-turn.invariant.reads tokens stands in
       let peek = c.if-not-continues.ensures.peeks in
@@ -43,3 +46,9 @@ loop-turn-preserved g c = record {
       let more = some_more g.T.Scan.scan_reads tokens c.loop-turn.values.items at.0 took.0 c.in-Ok.value at.1 some took.1 in
       (took.0, subst (λ l. ReadsSome g.T.Scan.scan_reads tokens l took.0) (sym c.in-Ok-push.ensures.items) more, took.2);
 }
+
+pub returns-clause-reads : goal.returns-clause-reads
+returns-clause-reads g c = λ tokens stands.
+    let at = c.loop-turn.invariant.reads tokens stands in
+    let some : c.loop-turn.values.items ≢ [] = λ none. let z : c.loop-turn._turn ≡ 0 = sym c.loop-turn.invariant.counted ∙ ap length none in omega arith in
+    (at.0, (c.loop-turn.values.items, at.0, at.1, inr (some, c.short_buf.ensures, refl)), at.2)
