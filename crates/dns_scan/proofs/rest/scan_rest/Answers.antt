@@ -51,4 +51,4 @@ pub returns-clause-reads : goal.returns-clause-reads
 returns-clause-reads g c = λ tokens stands.
     let at = c.loop-turn.invariant.reads tokens stands in
     let some : c.loop-turn.values.items ≢ [] = λ none. let z : c.loop-turn._turn ≡ 0 = sym c.loop-turn.invariant.counted ∙ ap length none in omega arith in
-    (at.0, (c.loop-turn.values.items, at.0, at.1, inr (some, c.short_buf.ensures, refl)), at.2)
+    (at.0, (c.loop-turn.values.items, at.0, at.1, inr (some, c.short_buf-2.ensures, refl)), at.2)
