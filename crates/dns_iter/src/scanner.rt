@@ -9,7 +9,7 @@ ghost use Rattle.dns_iter.specs.Name.{ReadsToken};
 ghost use Rattle.dns_iter.specs.Ahead.{IsReady, Fills, TakesAhead, tokens_left};
 
 use crate::name::token_name;
-use crate::take::{Converting, IntoStrings, TakeToken};
+use crate::take::{Converting, IntoStrings, TakeToken, Through};
 use crate::token::{
     each_symbol, token_ascii, token_charstr, token_converted, token_octets, token_text,
 };
@@ -208,7 +208,7 @@ where
         F: FnMut(Symbol) -> Result<(), E>,
     {
         match self.take() {
-            Some(token) => each_symbol::<Symbol, F, E>(token, op),
+            Some(token) => each_symbol::<Symbol, F, (), E>(token, op, &mut ()),
             None => Err(E::end_of_entry()),
         }
     }
@@ -232,12 +232,15 @@ where
         convert: C,
     ) -> Result<Octets, E> {
         let mut into = Converting {
-            convert,
-            builder: <Octets::Builder as EmptyBuilder>::empty(self.alloc),
+            through: Through { convert },
+            built: <Octets::Builder as EmptyBuilder>::empty(self.alloc),
         };
         match self.each_token(&mut into) {
-            Ok(()) => match into.take_tail::<EntrySymbol, E>() {
-                Ok(()) => Ok(into.builder.freeze()),
+            Ok(()) => match into
+                .through
+                .take_tail::<EntrySymbol, Octets::Builder, E>(&mut into.built)
+            {
+                Ok(()) => Ok(into.built.freeze()),
                 Err(error) => Err(error),
             },
             Err(error) => Err(error),

@@ -1,5 +1,5 @@
 //! What the symbols of a token are handed to.
-ghost use Rattle.std.specs.Prelude.{◌≡◌, ℕ, Result, ⊤};
+ghost use Rattle.std.specs.Prelude.{◌≡◌, ◌≤◌, ◌-◌, ◌++◌, ℕ, IsOk, OnErr, OnOk, Result, length, ⊤};
 ghost use Rattle.dns_symbol.specs.declared.symbol.Symbol.{Symbol as PlainSymbol};
 ghost use Rattle.dns_symbol.specs.declared.symbol.EntrySymbol.TheVariants.{Symbol as Of};
 ghost use Rattle.dns_scan.specs.Entries.{AsksToken, ConvertInEntry, ConvertStep, ConvertTail, StringStep};
@@ -8,7 +8,7 @@ ghost use Rattle.dns_scan.specs.Tokens.{Token};
 
 use crate::token::each_symbol;
 use dns_charstr::charstr::CharStrBuilder;
-use dns_octets::{EmptyBuilder, OctetsBuilder};
+use dns_octets::{EmptyBuilder, OctetsBuilder, ShortBuf};
 use dns_scan::{ConvertSymbols, ScannerError};
 use dns_symbol::symbol::{EntrySymbol, Symbol};
 
@@ -36,18 +36,20 @@ impl OfSymbol for EntrySymbol {
     }
 }
 
-/// What the symbols of a token are handed to, one by one.
-pub(crate) trait TakeSymbol<Sym, E> {
+/// What the symbols of a token are handed to, one by one, beside what is built of them.
+///
+/// The two are apart, so that the compiler keeps the one in registers while the other grows.
+pub(crate) trait TakeSymbol<Sym, E, B> {
     // Whether it may be called.
     ghost can_take: { Self → Type 0 };
 
-    // The state before, the symbol, the answer, and the state after.
-    ghost step: { Self → Sym → Result (Unit {0}) E → Self → Type 0 };
+    // The states before, the symbol, the answer, and the states after.
+    ghost step: { Self × B → Sym → Result (Unit {0}) E → Self × B → Type 0 };
 
-    fn take_symbol(&mut self, symbol: Sym) -> Result<(), E>
+    fn take_symbol(&mut self, built: &mut B, symbol: Sym) -> Result<(), E>
         requires { can_take self.old }
         ensures ready { can_take self.new }
-        ensures takes { step self.old symbol result self.new };
+        ensures takes { step (self.old, built.old) symbol result (self.new, built.new) };
 }
 
 /// What the tokens of an entry are handed to, one by one.
@@ -64,15 +66,16 @@ pub(crate) trait TakeToken<E> {
         ensures takes { step self.old token.now result self.new };
 }
 
-impl<F, Sym, E> TakeSymbol<Sym, E> for F
+/// A call builds nothing.
+impl<F, Sym, E> TakeSymbol<Sym, E, ()> for F
 where
     F: FnMut(Sym) -> Result<(), E>,
 {
     ghost can_take = { λ f. F.IsAlwaysCallable f };
 
-    ghost step = { λ f x r g. F.step f x r g };
+    ghost step = { λ p x r q. F.step p.0 x r q.0 };
 
-    fn take_symbol(&mut self, symbol: Sym) -> Result<(), E> {
+    fn take_symbol(&mut self, _built: &mut (), symbol: Sym) -> Result<(), E> {
         self(symbol)
     }
 }
@@ -86,7 +89,7 @@ where
     ghost step = { AsksToken E.cause (λ f x r g. F.step f x r g) };
 
     fn take_token(&mut self, token: &str) -> Result<(), E> {
-        match each_symbol::<EntrySymbol, F, E>(token, self) {
+        match each_symbol::<EntrySymbol, F, (), E>(token, self, &mut ()) {
             Ok(()) => self(EntrySymbol::EndOfToken),
             Err(error) => Err(error),
         }
@@ -95,18 +98,16 @@ where
 
 /// A symbol's octet goes into the builder.
 #[derive(Drop)]
-pub(crate) struct IntoOctets<B> {
-    pub builder: B,
-}
+pub(crate) struct AsOctet;
 
-impl<B: OctetsBuilder, E: ScannerError> TakeSymbol<Symbol, E> for IntoOctets<B> {
+impl<B: OctetsBuilder, E: ScannerError> TakeSymbol<Symbol, E, B> for AsOctet {
     ghost can_take = { λ _. ⊤ };
 
-    ghost step = { λ f x r g. GivesStep E.cause B.sure B.most octet_given (B.octets f.builder) x r (B.octets g.builder) };
+    ghost step = { λ p x r q. GivesStep E.cause B.sure B.most octet_given (B.octets p.1) x r (B.octets q.1) };
 
-    fn take_symbol(&mut self, symbol: Symbol) -> Result<(), E> {
+    fn take_symbol(&mut self, built: &mut B, symbol: Symbol) -> Result<(), E> {
         match symbol.into_octet() {
-            Ok(octet) => match self.builder.append_slice(&[octet]) {
+            Ok(octet) => match built.append_slice(&[octet]) {
                 Ok(()) => Ok(()),
                 Err(_) => Err(E::short_buf()),
             },
@@ -117,21 +118,19 @@ impl<B: OctetsBuilder, E: ScannerError> TakeSymbol<Symbol, E> for IntoOctets<B> 
 
 /// A symbol's character goes into the builder, as UTF-8.
 #[derive(Drop)]
-pub(crate) struct IntoText<B> {
-    pub builder: B,
-}
+pub(crate) struct AsText;
 
-impl<B: OctetsBuilder, E: ScannerError> TakeSymbol<Symbol, E> for IntoText<B> {
+impl<B: OctetsBuilder, E: ScannerError> TakeSymbol<Symbol, E, B> for AsText {
     ghost can_take = { λ _. ⊤ };
 
-    ghost step = { λ f x r g. GivesStep E.cause B.sure B.most text_given (B.octets f.builder) x r (B.octets g.builder) };
+    ghost step = { λ p x r q. GivesStep E.cause B.sure B.most text_given (B.octets p.1) x r (B.octets q.1) };
 
-    fn take_symbol(&mut self, symbol: Symbol) -> Result<(), E> {
+    fn take_symbol(&mut self, built: &mut B, symbol: Symbol) -> Result<(), E> {
         match symbol.into_char() {
             Ok(c) => {
                 let mut buffer = [0; 4];
                 let text = c.encode_utf8(&mut buffer);
-                match self.builder.append_slice(text.as_bytes()) {
+                match built.append_slice(text.as_bytes()) {
                     Ok(()) => Ok(()),
                     Err(_) => Err(E::short_buf()),
                 }
@@ -141,62 +140,90 @@ impl<B: OctetsBuilder, E: ScannerError> TakeSymbol<Symbol, E> for IntoText<B> {
     }
 }
 
-/// A symbol goes through the converter into the builder.
-#[derive(Drop)]
-pub(crate) struct Converting<C, B> {
-    pub convert: C,
-    pub builder: B,
+// Appends octets. Where they are those of a whole group of an encoding, their number is a constant,
+// so that they are stored and not copied by a call.
+#[inline(always)]
+fn append_few<B: OctetsBuilder>(builder: &mut B, octets: &[u8]) -> Result<(), ShortBuf>
+    ensures ok { OnOk result (B.octets builder.new ≡ B.octets builder.old ++ octets.now) }
+    ensures err { OnErr result (B.octets builder.new ≡ B.octets builder.old) }
+    ensures fits { length octets.now ≤ B.sure - length (B.octets builder.old) → IsOk result }
+    ensures within { OnOk result (length (B.octets builder.new) ≤ B.most) }
+{
+    match octets {
+        [one] => builder.append_slice(&[*one]),
+        [a, b, c] => builder.append_slice(&[*a, *b, *c]),
+        [a, b, c, d, e] => builder.append_slice(&[*a, *b, *c, *d, *e]),
+        _ => builder.append_slice(octets),
+    }
 }
 
 // Appends the octets that a converter made, if it made any.
+#[inline(always)]
 fn append<B: OctetsBuilder, E: ScannerError>(builder: &mut B, octets: &[u8]) -> Result<(), E>
     ensures { Adds E.cause B.sure B.most (Ok octets.now) (B.octets builder.old) result (B.octets builder.new) }
 {
     if octets.is_empty() {
         return Ok(());
     }
-    match builder.append_slice(octets) {
+    match append_few(builder, octets) {
         Ok(()) => Ok(()),
-        Err(_) => Err(E::short_buf()),
+        Err(ShortBuf) => Err(E::short_buf()),
     }
 }
 
-impl<C, B: OctetsBuilder> Converting<C, B> {
+/// A symbol goes through the converter into the builder.
+#[derive(Drop)]
+pub(crate) struct Through<C> {
+    pub convert: C,
+}
+
+impl<C> Through<C> {
     /// The converter's tail goes into the builder.
-    pub(crate) fn take_tail<Sym, E: ScannerError>(&mut self) -> Result<(), E>
+    pub(crate) fn take_tail<Sym, B: OctetsBuilder, E: ScannerError>(
+        &mut self,
+        built: &mut B,
+    ) -> Result<(), E>
     where
         C: ConvertSymbols<Sym, E>,
-        ensures { ConvertTail E.cause B.sure B.most C.tail (self.old.convert, B.octets self.old.builder) result (self.new.convert, B.octets self.new.builder) }
+        ensures { ConvertTail E.cause B.sure B.most C.tail (self.old.convert, B.octets built.old) result (self.new.convert, B.octets built.new) }
     {
         match self.convert.take_tail() {
-            Ok(()) => append(&mut self.builder, self.convert.lent()),
+            Ok(()) => append(built, self.convert.lent()),
             Err(error) => Err(error),
         }
     }
 }
 
-impl<Sym, C: ConvertSymbols<Sym, E>, B: OctetsBuilder, E: ScannerError> TakeSymbol<Sym, E>
-    for Converting<C, B> {
+impl<Sym, C: ConvertSymbols<Sym, E>, B: OctetsBuilder, E: ScannerError> TakeSymbol<Sym, E, B>
+    for Through<C> {
     ghost can_take = { λ _. ⊤ };
 
-    ghost step = { λ f x r g. ConvertStep E.cause B.sure B.most C.takes (f.convert, B.octets f.builder) x r (g.convert, B.octets g.builder) };
+    ghost step = { λ p x r q. ConvertStep E.cause B.sure B.most C.takes (p.0.convert, B.octets p.1) x r (q.0.convert, B.octets q.1) };
 
-    fn take_symbol(&mut self, symbol: Sym) -> Result<(), E> {
+    #[inline(always)]
+    fn take_symbol(&mut self, built: &mut B, symbol: Sym) -> Result<(), E> {
         match self.convert.take_symbol(symbol) {
-            Ok(()) => append(&mut self.builder, self.convert.lent()),
+            Ok(()) => append(built, self.convert.lent()),
             Err(error) => Err(error),
         }
     }
+}
+
+/// The symbols of a token go through the converter into the builder.
+#[derive(Drop)]
+pub(crate) struct Converting<C, B> {
+    pub through: Through<C>,
+    pub built: B,
 }
 
 impl<C: ConvertSymbols<EntrySymbol, E>, B: OctetsBuilder, E: ScannerError> TakeToken<E>
     for Converting<C, B> {
     ghost can_take = { λ _. ⊤ };
 
-    ghost step = { λ f t r g. ConvertInEntry E.cause B.sure B.most C.takes (f.convert, B.octets f.builder) t r (g.convert, B.octets g.builder) };
+    ghost step = { λ f t r g. ConvertInEntry E.cause B.sure B.most C.takes (f.through.convert, B.octets f.built) t r (g.through.convert, B.octets g.built) };
 
     fn take_token(&mut self, token: &str) -> Result<(), E> {
-        each_symbol::<EntrySymbol, Converting<C, B>, E>(token, self)
+        each_symbol::<EntrySymbol, Through<C>, B, E>(token, &mut self.through, &mut self.built)
     }
 }
 
@@ -213,14 +240,12 @@ impl<B: EmptyBuilder + Drop, E: ScannerError> TakeToken<E> for IntoStrings<B> {
     ghost step = { λ f t r g. StringStep E.cause B.sure B.most (B.octets f.builder) t r (B.octets g.builder) };
 
     fn take_token(&mut self, token: &str) -> Result<(), E> {
-        let mut into = IntoOctets {
-            builder: CharStrBuilder::<B>::new(self.alloc),
-        };
-        match each_symbol::<Symbol, _, E>(token, &mut into) {
+        let mut built = CharStrBuilder::<B>::new(self.alloc);
+        match each_symbol::<Symbol, _, _, E>(token, &mut AsOctet, &mut built) {
             Ok(()) => {
-                let len = into.builder.len() as u8;
+                let len = built.len() as u8;
                 match self.builder.append_slice(&[len]) {
-                    Ok(()) => match self.builder.append_slice(into.builder.as_slice()) {
+                    Ok(()) => match self.builder.append_slice(built.as_slice()) {
                         Ok(()) => Ok(()),
                         Err(_) => Err(E::short_buf()),
                     },

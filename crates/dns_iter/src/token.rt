@@ -8,7 +8,7 @@ ghost use Rattle.dns_scan.specs.Asks.{AsksSymbols, Builds};
 ghost use Rattle.dns_scan.specs.Entries.{AsciiText, Converts, ConvertToken};
 ghost use Rattle.dns_scan.specs.Steps.{GivesStep, octet_given, text_given};
 
-use crate::take::{Converting, IntoOctets, IntoText, OfSymbol, TakeSymbol};
+use crate::take::{AsOctet, AsText, OfSymbol, TakeSymbol, Through};
 use dns_charstr::charstr::{CharStr, CharStrBuilder};
 use dns_octets::{EmptyBuilder, FreezeBuilder, Str};
 use dns_scan::{ConvertSymbols, ScannerError};
@@ -25,19 +25,20 @@ fn escape_text(error: SymbolOctetsError) -> &'static str
 }
 
 /// Hands over each symbol of a token.
-pub(crate) fn each_symbol<Sym: OfSymbol, T: TakeSymbol<Sym, E>, E: ScannerError>(
+pub(crate) fn each_symbol<Sym: OfSymbol, T: TakeSymbol<Sym, E, B>, B, E: ScannerError>(
     token: &str,
     take: &mut T,
+    built: &mut B,
 ) -> Result<(), E>
     requires { T.can_take take.old }
     ensures ready { T.can_take take.new }
-    ensures asks { AsksSymbols E.cause (λ f x r g. T.step f (Sym.of x) r g) token.now take.old result take.new }
+    ensures asks { AsksSymbols E.cause (λ p x r q. T.step p (Sym.of x) r q) token.now (take.old, built.old) result (take.new, built.new) }
 {
     let text = token.as_bytes();
     let mut pos = 0;
     loop {
         match Symbol::from_slice_index(text, pos) {
-            Ok(Some((symbol, next))) => match take.take_symbol(Sym::of_symbol(symbol)) {
+            Ok(Some((symbol, next))) => match take.take_symbol(built, Sym::of_symbol(symbol)) {
                 Ok(()) => pos = next,
                 Err(error) => return Err(error),
             },
@@ -54,11 +55,9 @@ pub(crate) fn token_octets<B: EmptyBuilder + FreezeBuilder + Drop, E: ScannerErr
 ) -> Result<B::Octets, E>
     ensures builds { Builds E.cause (GivesStep E.cause B.sure B.most octet_given) B.Octets.octets token.now result }
 {
-    let mut into = IntoOctets {
-        builder: B::empty(alloc),
-    };
-    match each_symbol::<Symbol, _, E>(token, &mut into) {
-        Ok(()) => Ok(into.builder.freeze()),
+    let mut built = B::empty(alloc);
+    match each_symbol::<Symbol, _, _, E>(token, &mut AsOctet, &mut built) {
+        Ok(()) => Ok(built.freeze()),
         Err(error) => Err(error),
     }
 }
@@ -70,11 +69,9 @@ pub(crate) fn token_charstr<B: EmptyBuilder + FreezeBuilder + Drop, E: ScannerEr
 ) -> Result<CharStr<B::Octets>, E>
     ensures builds { Builds E.cause (GivesStep E.cause (min B.sure 255) (min B.most 255) octet_given) (λ s. s) token.now result }
 {
-    let mut into = IntoOctets {
-        builder: CharStrBuilder::<B>::new(alloc),
-    };
-    match each_symbol::<Symbol, _, E>(token, &mut into) {
-        Ok(()) => Ok(into.builder.finish()),
+    let mut built = CharStrBuilder::<B>::new(alloc);
+    match each_symbol::<Symbol, _, _, E>(token, &mut AsOctet, &mut built) {
+        Ok(()) => Ok(built.finish()),
         Err(error) => Err(error),
     }
 }
@@ -88,11 +85,9 @@ where
     B::Octets: Drop,
     ensures builds { Builds E.cause (GivesStep E.cause B.sure B.most text_given) (λ s. s) token.now result }
 {
-    let mut into = IntoText {
-        builder: B::empty(alloc),
-    };
-    match each_symbol::<Symbol, _, E>(token, &mut into) {
-        Ok(()) => match Str::from_utf8(into.builder.freeze()) {
+    let mut built = B::empty(alloc);
+    match each_symbol::<Symbol, _, _, E>(token, &mut AsText, &mut built) {
+        Ok(()) => match Str::from_utf8(built.freeze()) {
             Ok(text) => Ok(text),
             // Characters in UTF-8 are UTF-8, so this never is.
             Err(_) => Err(E::custom("bad symbol")),
@@ -111,11 +106,9 @@ pub(crate) fn token_ascii<
     requires { F.IsAlwaysCallable op }
     ensures answers { AsciiText E.cause B.sure B.most (λ s r. FnOnceReturnsAt F.FnOnce op s r) token.now result }
 {
-    let mut into = IntoText {
-        builder: B::empty(alloc),
-    };
-    match each_symbol::<Symbol, _, E>(token, &mut into) {
-        Ok(()) => match std::str::from_utf8(into.builder.as_slice()) {
+    let mut built = B::empty(alloc);
+    match each_symbol::<Symbol, _, _, E>(token, &mut AsText, &mut built) {
+        Ok(()) => match std::str::from_utf8(built.as_slice()) {
             Ok(text) => {
                 if !text.is_ascii() {
                     return Err(E::custom("non-ASCII characters"));
@@ -137,13 +130,11 @@ pub(crate) fn token_converted<
 >(token: &str, convert: C, alloc: B::Alloc) -> Result<B::Octets, E>
     ensures converts { Converts E.cause B.sure B.most C.tail B.Octets.octets (λ p a q. ConvertToken E.cause B.sure B.most C.takes p token.now a q) convert result }
 {
-    let mut into = Converting {
-        convert,
-        builder: B::empty(alloc),
-    };
-    match each_symbol::<Symbol, _, E>(token, &mut into) {
-        Ok(()) => match into.take_tail::<Symbol, E>() {
-            Ok(()) => Ok(into.builder.freeze()),
+    let mut through = Through { convert };
+    let mut built = B::empty(alloc);
+    match each_symbol::<Symbol, _, _, E>(token, &mut through, &mut built) {
+        Ok(()) => match through.take_tail::<Symbol, B, E>(&mut built) {
+            Ok(()) => Ok(built.freeze()),
             Err(error) => Err(error),
         },
         Err(error) => Err(error),

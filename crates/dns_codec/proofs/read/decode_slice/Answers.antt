@@ -1,6 +1,5 @@
-use Rattle.std.proofs.Common.{◌≡◌, ◌%◌, ◌<◌, ℕ, false, nat_lt, sym, ap, ◌∙◌, arith, length, slice_index, true}
+use Rattle.std.proofs.Common.{◌≡◌, ◌%◌, sym, ap, ◌∙◌, arith, length}
 use Rattle.dns_codec.specs.Base.{Base}
-use Rattle.dns_codec.specs.Grammar.{may_end}
 use Rattle.dns_codec.proofs.Known.{unit_one, is_base64}
 use Rattle.dns_codec.proofs.Numbers.{numbers}
 use Rattle.dns_codec.proofs.SliceTexts.{plain_read, plain_refused, padded_uneven, is_read, is_refused, may_end_of}
