@@ -24,6 +24,7 @@ pub mod PieceSplit
 pub mod PieceSteps
 pub mod PieceWhole
 pub mod Positions
+pub mod PlainWords
 pub mod Refused
 pub mod SettledOnce
 pub mod Skips

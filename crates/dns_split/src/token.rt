@@ -7,6 +7,7 @@ ghost use Rattle.dns_symbol.specs.Symbol.{bytes};
 ghost use Rattle.dns_symbol.specs.Text.{SymbolsOf};
 
 use crate::reader::{Act, Mode, step};
+use crate::skip::{Class, skip_class};
 
 /// How far a token has come.
 #[derive(Clone, Copy)]
@@ -37,6 +38,17 @@ fn is_at_end(place: Place, mode: Mode) -> bool
     matches!((place, mode), (Place::Inside | Place::Done, Mode::Outside))
 }
 
+/// Whether the octets of a text are some, and each may stand in a word as it is: no escape, no
+/// blank, nothing that the grammar looks for.
+#[inline(always)]
+fn is_plain_word(text: &str) -> bool
+    ensures { IsTrue result → IsToken text.now }
+{
+    let octets = text.as_bytes();
+    let end = skip_class(Class::Word, octets, 0);
+    0 < end && end == octets.len()
+}
+
 /// Whether a text is a token: a word, or a quoted text with its double quotes.
 ///
 /// A word is one symbol or more: escapes, and plain characters other than the space, the tab,
@@ -45,6 +57,9 @@ fn is_at_end(place: Place, mode: Mode) -> bool
 pub fn is_token(text: &str) -> bool
     ensures { IsTrue result ↔ IsToken text.now }
 {
+    if is_plain_word(text) {
+        return true;
+    }
     let mut place = Place::Fresh;
     let mut mode = Mode::Outside;
     for c in text.chars() {
