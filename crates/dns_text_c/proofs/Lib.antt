@@ -7,5 +7,4 @@ mod NameText
 mod NumberText
 mod Row
 mod ToldTexts
-mod Walks
 mod Written

@@ -1,5 +1,5 @@
 -- A name's text that has been read in part, and the answers that it has.
-use Rattle.std.proofs.Common.{◌≡◌, ℕ, ◌<◌, ◌≤◌, true, false, List, [], ◌∷◌, ◌++◌, length, take, drop, refl, sym, ap, subst, ◌∙◌, arith, append_assoc, append-nil, inl, inr, Some, Result, Ok, Err}
+use Rattle.std.proofs.Common.{◌≡◌, ℕ, ◌<◌, ◌≤◌, true, false, List, [], ◌∷◌, ◌++◌, length, drop, refl, sym, ap, subst, ◌∙◌, arith, append_assoc, append-nil, inl, inr, Some, Result, Ok, Err}
 use Rattle.std.specs.Prelude.{encode_utf8_all, IsOk}
 use Rattle.std.proofs.lemmas.List.{length-drop}
 use Rattle.std.specs.List.{flat_map}
@@ -134,7 +134,3 @@ given_as octets want old new status outcome is g = subst (λ o. IsGiven o old st
 -- octets are left
 pub some_left : (text : List ℕ) (after : ℕ) → after ≤ length text → (after ≡ length text → ⊥) → drop after text ≡ [] → ⊥
 some_left text after le not e = omega (arith, le, not, ap length e, length-drop after text)
-
--- characters that are none
-pub put_none : (text want : List ℕ) (end : ℕ) → end ≡ 0 → take end text ≡ want → want ≡ []
-put_none text want end e is = sym is ∙ ap (λ n. take n text) e

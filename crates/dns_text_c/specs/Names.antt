@@ -1,5 +1,5 @@
 -- What reading and printing a name answers.
-use Rattle.std.specs.Prelude.{◌≡◌, ◌≢◌, ℕ, ◌<◌, ◌≤◌, Bool, true, false, List, [], ◌∷◌, ◌++◌, length, drop, Some, Result, Ok, Err, encode_utf8_all}
+use Rattle.std.specs.Prelude.{◌≡◌, ◌≢◌, ℕ, ◌<◌, ◌≤◌, Bool, false, List, [], ◌∷◌, ◌++◌, length, drop, Some, Result, Ok, Err, encode_utf8_all}
 use Rattle.std.specs.Borrow.{Bor}
 use Rattle.arrayvec.specs.ArrayVec.{ArrayVec}
 use Rattle.dns_symbol.specs.Symbol.{octet_of}
@@ -8,9 +8,8 @@ use Rattle.dns_symbol.specs.declared.symbol.Symbol.{Symbol}
 use Rattle.dns_symbol.specs.declared.symbol.BadSymbol.{BadSymbol as WhyNone}
 use Rattle.dns_symbol.specs.declared.symbol.SymbolOctetsError.{SymbolOctetsError}
 use Rattle.dns_wire.specs.Building.{Naming, all_labels, closed, with_octet}
-use Rattle.dns_wire.specs.Printed.{dotted_by, undotted_by, label_text}
+use Rattle.dns_wire.specs.Form.{name_text}
 use Rattle.dns_wire.specs.Wire.{wire, wire_length}
-use Rattle.dns_wire.specs.ZoneText.{zone_label}
 use Rattle.dns_name.specs.Reading.{HasNamed, ReadsAs, bracket, is_dot}
 use Rattle.dns_name.specs.ReadingSteps.{GivesOctet}
 use Rattle.dns_name.specs.Uncertain.{labels_of, is_absolute, MakesUncertain}
@@ -20,8 +19,7 @@ use Rattle.dns_name.specs.declared.name.error.UncertainDnameError.TheVariants.{B
 use Rattle.dns_text_c.specs.Entries.{bit}
 use Rattle.dns_text_c.specs.Strings.{refusal_of}
 use Rattle.dns_text_c.specs.Told.{IsGiven, IsRefused}
-use Rattle.dns_text_c.specs.declared.names.Form.{Form}
-use Rattle.dns_text_c.specs.declared.names.Form.TheVariants.{Label, Zone}
+use Rattle.dns_wire.specs.declared.display.Form.{Form}
 use Rattle.dns_text_c.specs.declared.outcome.Outcome.{Outcome}
 use Rattle.dns_text_c.specs.declared.outcome.Fault.{Fault}
 use Rattle.dns_text_c.specs.declared.outcome.Refusal.{Refusal}
@@ -71,22 +69,7 @@ abbrev pub GivesName : NameAnswer → List ℕ → ℕ → ℕ → List ℕ → 
 GivesName (Ok name) old was status new is outcome = IsGiven (wire (labels_of name)) old status new outcome × (is ≡ bit (is_absolute name))
 GivesName (Err fault) old was status new is outcome = IsRefused fault status outcome × (new ≡ old) × (is ≡ was)
 
--- the characters of a label in a form
-abbrev pub form_text : Form → List ℕ → List ℕ
-form_text Label = label_text
-form_text Zone = zone_label
-
--- with a dot before them, but for the first label of a name
-abbrev pub next_text : Form → Bool → List ℕ → List ℕ
-next_text form true label = form_text form label
-next_text form false label = 46 ∷ form_text form label
-
--- the characters of labels, whose root at the end has its dot or not
-abbrev pub name_text : Form → Bool → List (List ℕ) → List ℕ
-name_text form true = dotted_by (form_text form)
-name_text form false = undotted_by (form_text form)
-
--- the bytes of these
+-- the bytes of the text of labels
 abbrev pub labels_text : Form → Bool → List (List ℕ) → List ℕ
 labels_text form dot labels = encode_utf8_all (name_text form dot labels)
 

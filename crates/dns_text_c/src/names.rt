@@ -2,16 +2,14 @@
 //!
 //! A name's octets are its wire form (RFC 1035 section 3.1): each label's length and its octets,
 //! and the root last where the name is absolute. No octets are the relative name of no labels.
-ghost use Rattle.std.specs.Prelude.{◌≡◌, ◌≢◌, ◌≤◌, ◌<◌, ◌+◌, ◌*◌, ◌↔◌, ◌++◌, [], ◌∷◌, length, take, IsTrue, encode_utf8_all};
-ghost use Rattle.std.specs.Str.{IsAscii};
-ghost use Rattle.dns_symbol.specs.Symbol.{spell};
+ghost use Rattle.std.specs.Prelude.{◌≡◌, ◌≢◌, ◌≤◌, ◌++◌, [], ◌∷◌, encode_utf8_all};
 ghost use Rattle.dns_wire.specs.Building.{all_labels};
-ghost use Rattle.dns_wire.specs.Printed.{is_label_escape, joined_by, dotted_text, undotted_text};
-ghost use Rattle.dns_wire.specs.Wire.{wire_length, EndsInRoot};
-ghost use Rattle.dns_wire.specs.ZoneText.{zone_label, zone_symbol, zone_text};
+ghost use Rattle.dns_wire.specs.Printed.{dotted_text, undotted_text};
+ghost use Rattle.dns_wire.specs.Wire.{wire_length};
+ghost use Rattle.dns_wire.specs.ZoneText.{zone_text};
 ghost use Rattle.dns_name.specs.Reading.{is_dot};
 ghost use Rattle.dns_name.specs.declared.name.UncertainName.TheVariants.{Absolute, Relative};
-ghost use Rattle.dns_text_c.specs.Names.{TakesSymbol, NameAnswer, ReadsNameText, GivesName, form_text, next_text, labels_text, refusal_of_octets, PrintsOctetsOf, PrintsName};
+ghost use Rattle.dns_text_c.specs.Names.{TakesSymbol, NameAnswer, ReadsNameText, GivesName, labels_text, refusal_of_octets, PrintsOctetsOf, PrintsName};
 ghost use Rattle.dns_text_c.specs.Told.{IsGiven};
 
 use crate::outcome::{Fault, Outcome, Refusal, give, refuse};
@@ -19,9 +17,8 @@ use crate::strings::symbol_at;
 use crate::tokens::bit;
 use arrayvec::ArrayVec;
 use dns_name::name::{UncertainDnameError, UncertainName};
-use dns_symbol::form::{self, put_decimal, put_octets};
 use dns_symbol::symbol::Symbol;
-use dns_wire::{NameBuilder, NameIter, PushError};
+use dns_wire::{Form, NameBuilder, NameIter, PushError, labels_in};
 
 /// The most octets of a name.
 const MOST: usize = 255;
@@ -125,104 +122,6 @@ pub extern "C" fn dns_name_read(
     }
 }
 
-/// The form of a label: it escapes the space, the dot and the backslash.
-struct InLabel;
-
-impl form::Form for InLabel {
-    ghost is_escape = { is_label_escape };
-
-    fn is_escape(octet: u8) -> bool {
-        matches!(octet, b' ' | b'.' | b'\\')
-    }
-}
-
-/// How a name's labels are printed.
-#[derive(Clone, Copy)]
-pub(crate) enum Form {
-    /// The space, the dot and the backslash are escaped.
-    Label,
-    /// All but letters, digits, `-`, `_` and `*` is escaped.
-    Zone,
-}
-
-/// Puts the characters of an octet in zone text into a text at a place, and answers the place after
-/// them: a letter, a digit, `-`, `_` or `*` alone, another octet by its decimal value.
-fn put_zone_octet(octet: u8, text: &mut [u8], at: usize) -> usize
-    requires room { at + 4 ≤ length text.old }
-    ensures text { take result text.new ≡ take at text.old ++ spell (zone_symbol octet) }
-    ensures fits { result ≤ at + 4 }
-{
-    match octet {
-        b'A'..=b'Z' | b'a'..=b'z' | b'0'..=b'9' | b'-' | b'_' | b'*' => {
-            text[at] = octet;
-            at + 1
-        }
-        _ => put_decimal(octet, text, at),
-    }
-}
-
-/// Puts the characters of octets in zone text into a text at a place.
-fn put_zone_octets(octets: &[u8], text: &mut [u8], at: usize) -> usize
-    requires room { at + 4 * length octets.now ≤ length text.old }
-    ensures text { take result text.new ≡ take at text.old ++ zone_label octets.now }
-    ensures fits { result ≤ at + 4 * length octets.now }
-    ensures ascii { IsAscii (zone_label octets.now) }
-{
-    let mut end = at;
-    for octet in octets {
-        end = put_zone_octet(*octet, text, end);
-    }
-    end
-}
-
-/// Puts the characters of a label into a text at a place, and answers the place after them.
-fn put_label(label: &[u8], form: Form, text: &mut [u8], at: usize) -> usize
-    requires room { at + 4 * length label.now ≤ length text.old }
-    ensures text { take result text.new ≡ take at text.old ++ form_text form label.now }
-    ensures fits { result ≤ at + 4 * length label.now }
-    ensures ascii { IsAscii (form_text form label.now) }
-{
-    match form {
-        Form::Label => put_octets::<InLabel>(label, text, at),
-        Form::Zone => put_zone_octets(label, text, at),
-    }
-}
-
-/// Puts a dot, but before the first label, and the characters of a label into a text at a place.
-fn put_next(label: &[u8], form: Form, first: bool, text: &mut [u8], at: usize) -> usize
-    requires room { at + 4 * length label.now + 1 ≤ length text.old }
-    ensures text { take result text.new ≡ take at text.old ++ next_text form first label.now }
-    ensures fits { result ≤ at + 4 * length label.now + 1 }
-    ensures ascii { IsAscii (form_text form label.now) }
-{
-    if first {
-        return put_label(label, form, text, at);
-    }
-    text[at] = b'.';
-    put_label(label, form, text, at + 1)
-}
-
-/// Puts the characters of labels joined by dots at the start of a text. Answers how many they are,
-/// and whether the last label is the root.
-fn put_labels(labels: NameIter<'_>, form: Form, text: &mut [u8]) -> (usize, bool)
-    requires room { 4 * wire_length labels ≤ length text.old }
-    ensures text { take result.0 text.new ≡ joined_by (form_text form) labels.entry }
-    ensures fits { result.0 ≤ length text.new }
-    ensures ascii { IsAscii (joined_by (form_text form) labels.entry) }
-    ensures root { IsTrue result.1 ↔ EndsInRoot labels.entry }
-{
-    let mut rest = labels;
-    let mut end = 0;
-    let mut first = true;
-    let mut root = false;
-    while let Some(label) = rest.next() {
-        end = put_next(label.as_slice(), form, first, text, end);
-        first = false;
-        root = label.is_root();
-    }
-    (end, root)
-}
-
 /// Gives the text of labels; `dot` tells whether one stands before a root at their end.
 fn give_text(
     labels: NameIter<'_>,
@@ -235,17 +134,8 @@ fn give_text(
     ensures { IsGiven (labels_text form dot labels.entry) text.old result text.new outcome.new }
 {
     let mut made = [0; TEXT];
-    let (end, root) = put_labels(labels, form, &mut made);
-    if !root {
-        return give(&made[..end], text, outcome);
-    }
-    if end == 0 {
-        return give(b".", text, outcome);
-    }
-    if dot {
-        return give(&made[..end], text, outcome);
-    }
-    give(&made[..end - 1], text, outcome)
+    let shown = labels_in(labels, form, dot, &mut made);
+    give(shown.as_bytes(), text, outcome)
 }
 
 /// Why octets are no name.

@@ -58,7 +58,7 @@ walk_start form labels = record {
   room = omega arith;
 }
 
-dot_ascii : IsAscii (46 ∷ [])
+pub dot_ascii : IsAscii (46 ∷ [])
 dot_ascii = IsAscii-from_all (46 ∷ []) (Prim.grind (arith, common_steps))
 
 next_ascii : (form : Form) (first : Bool) (label : List ℕ) → IsAscii (form_text form label) → IsAscii (next_text form first label)
@@ -186,6 +186,10 @@ cut_text form dot labels text end no_dot is fits some root =
 
 pub cut_ascii : (text : List ℕ) (end : ℕ) → IsAscii (take end text) → IsAscii (take (end - 1) text)
 cut_ascii text end h = rw (← take-take (end - 1) end text (omega arith)) (IsAscii-take (take end text) (end - 1) h)
+
+-- characters that are none
+pub put_none : (text want : List ℕ) (end : ℕ) → end ≡ 0 → take end text ≡ want → want ≡ []
+put_none text want end e is = sym is ∙ ap (λ n. take n text) e
 
 -- ASCII as bytes
 pub as_bytes : (shown put want : List ℕ) → shown ≡ put → put ≡ want → IsAscii put → shown ≡ encode_utf8_all want

@@ -65,12 +65,12 @@ fn put_zone_octets(octets: &[u8], text: &mut [u8], at: usize) -> usize
     end
 }
 
-// How a name's labels are printed.
+/// How the labels of a name are printed.
 #[derive(Clone, Copy)]
-enum Form {
-    // The space, the dot and the backslash are escaped.
+pub enum Form {
+    /// The space, the dot and the backslash are escaped by a backslash.
     Label,
-    // All but letters, digits, `-`, `_` and `*` is escaped.
+    /// All but letters, digits, `-`, `_` and `*` is escaped by its decimal value.
     Zone,
 }
 
@@ -123,29 +123,23 @@ fn put_labels(labels: NameIter<'_>, form: Form, text: &mut [u8]) -> (usize, bool
     (end, root)
 }
 
-// Prints labels joined by dots, which are first put into a text; `dot` tells whether one stands
-// before a root at their end. The root alone is one dot.
-fn write_labels<W: fmt::Write>(
-    labels: NameIter<'_>,
-    form: Form,
-    dot: bool,
-    text: &mut [u8],
-    f: &mut fmt::Formatter<W>,
-) -> fmt::Result
+/// The text of labels joined by dots, which is put into `text`; `dot` tells whether a dot stands
+/// before a root at their end. The root alone is one dot.
+pub fn labels_in<'t>(labels: NameIter<'_>, form: Form, dot: bool, text: &'t mut [u8]) -> &'t str
     requires room { 4 * wire_length labels ≤ length text.old }
-    ensures { WritesOnOk W.write_str_gives f.old result (encode_utf8_all (name_text form dot labels.entry)) f.new }
+    ensures { result.now ≡ encode_utf8_all (name_text form dot labels.entry) }
 {
     let (end, root) = put_labels(labels, form, text);
     if !root {
-        return f.write_str(ascii_text(&text[..end]));
+        return ascii_text(&text[..end]);
     }
     if end == 0 {
-        return f.write_str(".");
+        return ".";
     }
     if dot {
-        return f.write_str(ascii_text(&text[..end]));
+        return ascii_text(&text[..end]);
     }
-    f.write_str(ascii_text(&text[..end - 1]))
+    ascii_text(&text[..end - 1])
 }
 
 // Prints a name's labels joined by dots; `dot` tells whether one stands before a root at their end.
@@ -166,10 +160,10 @@ fn write_name<N: ToLabelIter, W: fmt::Write>(
     };
     if len <= 64 {
         let mut text = [0; 256];
-        return write_labels(labels, form, dot, &mut text, f);
+        return f.write_str(labels_in(labels, form, dot, &mut text));
     }
     let mut text = [0; 1020];
-    write_labels(labels, form, dot, &mut text, f)
+    f.write_str(labels_in(labels, form, dot, &mut text))
 }
 
 impl fmt::Display for Label<'_> {

@@ -28,7 +28,7 @@ pub mod relative;
 pub mod split;
 pub mod to_label_iter;
 
-pub use display::{DisplayWithDot, DisplayWithoutDot, ZoneName};
+pub use display::{DisplayWithDot, DisplayWithoutDot, Form, ZoneName, labels_in};
 pub use dns_octets::{
     AsOctets, AsOctetsMut, CanonicalOrd, Compose, EmptyBuilder, FreezeBuilder, FromBuilder,
     IntoBuilder, OctetsBuilder, OctetsFrom, ParseError, Parser, ShortBuf, Str, Truncate, Ttl,
