@@ -9,7 +9,7 @@ ghost use Rattle.dns_iter.specs.Name.{ReadsToken};
 ghost use Rattle.dns_iter.specs.Ahead.{IsReady, Fills, TakesAhead, tokens_left};
 
 use crate::name::token_name;
-use crate::take::{Converting, IntoStrings, TakeToken, Through};
+use crate::take::{AsString, TakeToken, Through};
 use crate::token::{
     each_symbol, token_ascii, token_charstr, token_converted, token_octets, token_text,
 };
@@ -155,15 +155,15 @@ where
     Octets::Builder: EmptyBuilder,
 {
     // Hands over each token that is left.
-    fn each_token<T: TakeToken<E>>(&mut self, take: &mut T) -> Result<(), E>
+    fn each_token<T: TakeToken<E, B>, B>(&mut self, take: &mut T, built: &mut B) -> Result<(), E>
         requires ready { IsReady Iter.can_next Iter.remaining self.old.iter self.old.ahead }
         requires can { T.can_take take.old }
         ensures ready { IsReady Iter.can_next Iter.remaining self.new.iter self.new.ahead }
         ensures can { T.can_take take.new }
-        ensures takes { ScansEntry (token_next Iter.next_gives) T.step self.old take.old result self.new take.new }
+        ensures takes { ScansEntry (token_next Iter.next_gives) T.step self.old (take.old, built.old) result self.new (take.new, built.new) }
     {
         while let Some(token) = self.take() {
-            match take.take_token(token) {
+            match take.take_token(built, token) {
                 Ok(()) => {}
                 Err(error) => return Err(error),
             }
@@ -217,7 +217,7 @@ where
     where
         F: FnMut(EntrySymbol) -> Result<(), E>,
     {
-        self.each_token(op)
+        self.each_token(op, &mut ())
     }
 
     fn convert_token<C: ConvertSymbols<Symbol, E>>(&mut self, convert: C) -> Result<Octets, E> {
@@ -231,16 +231,11 @@ where
         &mut self,
         convert: C,
     ) -> Result<Octets, E> {
-        let mut into = Converting {
-            through: Through { convert },
-            built: <Octets::Builder as EmptyBuilder>::empty(self.alloc),
-        };
-        match self.each_token(&mut into) {
-            Ok(()) => match into
-                .through
-                .take_tail::<EntrySymbol, Octets::Builder, E>(&mut into.built)
-            {
-                Ok(()) => Ok(into.built.freeze()),
+        let mut through = Through { convert };
+        let mut built = <Octets::Builder as EmptyBuilder>::empty(self.alloc);
+        match self.each_token(&mut through, &mut built) {
+            Ok(()) => match through.take_tail::<EntrySymbol, Octets::Builder, E>(&mut built) {
+                Ok(()) => Ok(built.freeze()),
                 Err(error) => Err(error),
             },
             Err(error) => Err(error),
@@ -286,12 +281,10 @@ where
     }
 
     fn scan_charstr_entry(&mut self) -> Result<Octets, E> {
-        let mut into = IntoStrings {
-            builder: <Octets::Builder as EmptyBuilder>::empty(self.alloc),
-            alloc: self.alloc,
-        };
-        match self.each_token(&mut into) {
-            Ok(()) => Ok(into.builder.freeze()),
+        let mut strings = AsString::<Octets::Builder> { alloc: self.alloc };
+        let mut built = <Octets::Builder as EmptyBuilder>::empty(self.alloc);
+        match self.each_token(&mut strings, &mut built) {
+            Ok(()) => Ok(built.freeze()),
             Err(error) => Err(error),
         }
     }

@@ -52,18 +52,18 @@ pub(crate) trait TakeSymbol<Sym, E, B> {
         ensures takes { step (self.old, built.old) symbol result (self.new, built.new) };
 }
 
-/// What the tokens of an entry are handed to, one by one.
-pub(crate) trait TakeToken<E> {
+/// What the tokens of an entry are handed to, one by one, beside what is built of them.
+pub(crate) trait TakeToken<E, B> {
     // Whether it may be called.
     ghost can_take: { Self → Type 0 };
 
-    // The state before, the token, the answer, and the state after.
-    ghost step: { Self → Token → Result (Unit {0}) E → Self → Type 0 };
+    // The states before, the token, the answer, and the states after.
+    ghost step: { Self × B → Token → Result (Unit {0}) E → Self × B → Type 0 };
 
-    fn take_token(&mut self, token: &str) -> Result<(), E>
+    fn take_token(&mut self, built: &mut B, token: &str) -> Result<(), E>
         requires { can_take self.old }
         ensures ready { can_take self.new }
-        ensures takes { step self.old token.now result self.new };
+        ensures takes { step (self.old, built.old) token.now result (self.new, built.new) };
 }
 
 /// A call builds nothing.
@@ -80,16 +80,17 @@ where
     }
 }
 
-impl<F, E: ScannerError> TakeToken<E> for F
+/// A call builds nothing.
+impl<F, E: ScannerError> TakeToken<E, ()> for F
 where
     F: FnMut(EntrySymbol) -> Result<(), E>,
 {
     ghost can_take = { λ f. F.IsAlwaysCallable f };
 
-    ghost step = { AsksToken E.cause (λ f x r g. F.step f x r g) };
+    ghost step = { λ p t r q. AsksToken E.cause (λ f x a g. F.step f x a g) p.0 t r q.0 };
 
-    fn take_token(&mut self, token: &str) -> Result<(), E> {
-        match each_symbol::<EntrySymbol, F, (), E>(token, self, &mut ()) {
+    fn take_token(&mut self, built: &mut (), token: &str) -> Result<(), E> {
+        match each_symbol::<EntrySymbol, F, (), E>(token, self, built) {
             Ok(()) => self(EntrySymbol::EndOfToken),
             Err(error) => Err(error),
         }
@@ -210,42 +211,36 @@ impl<Sym, C: ConvertSymbols<Sym, E>, B: OctetsBuilder, E: ScannerError> TakeSymb
 }
 
 /// The symbols of a token go through the converter into the builder.
-#[derive(Drop)]
-pub(crate) struct Converting<C, B> {
-    pub through: Through<C>,
-    pub built: B,
-}
-
-impl<C: ConvertSymbols<EntrySymbol, E>, B: OctetsBuilder, E: ScannerError> TakeToken<E>
-    for Converting<C, B> {
+impl<C: ConvertSymbols<EntrySymbol, E>, B: OctetsBuilder, E: ScannerError> TakeToken<E, B>
+    for Through<C> {
     ghost can_take = { λ _. ⊤ };
 
-    ghost step = { λ f t r g. ConvertInEntry E.cause B.sure B.most C.takes (f.through.convert, B.octets f.built) t r (g.through.convert, B.octets g.built) };
+    ghost step = { λ p t r q. ConvertInEntry E.cause B.sure B.most C.takes (p.0.convert, B.octets p.1) t r (q.0.convert, B.octets q.1) };
 
-    fn take_token(&mut self, token: &str) -> Result<(), E> {
-        each_symbol::<EntrySymbol, Through<C>, B, E>(token, &mut self.through, &mut self.built)
+    fn take_token(&mut self, built: &mut B, token: &str) -> Result<(), E> {
+        each_symbol::<EntrySymbol, Through<C>, B, E>(token, self, built)
     }
 }
 
-/// A token's octets go into the builder as a character string: their count, and then they.
+/// A token's octets go into the builder as a character string: their count, and then they. The
+/// string is put together in a builder of its own, from the same allocator.
 #[derive(Drop)]
-pub(crate) struct IntoStrings<B: EmptyBuilder> {
-    pub builder: B,
+pub(crate) struct AsString<B: EmptyBuilder> {
     pub alloc: B::Alloc,
 }
 
-impl<B: EmptyBuilder + Drop, E: ScannerError> TakeToken<E> for IntoStrings<B> {
+impl<B: EmptyBuilder + Drop, E: ScannerError> TakeToken<E, B> for AsString<B> {
     ghost can_take = { λ _. ⊤ };
 
-    ghost step = { λ f t r g. StringStep E.cause B.sure B.most (B.octets f.builder) t r (B.octets g.builder) };
+    ghost step = { λ p t r q. StringStep E.cause B.sure B.most (B.octets p.1) t r (B.octets q.1) };
 
-    fn take_token(&mut self, token: &str) -> Result<(), E> {
-        let mut built = CharStrBuilder::<B>::new(self.alloc);
-        match each_symbol::<Symbol, _, _, E>(token, &mut AsOctet, &mut built) {
+    fn take_token(&mut self, built: &mut B, token: &str) -> Result<(), E> {
+        let mut string = CharStrBuilder::<B>::new(self.alloc);
+        match each_symbol::<Symbol, _, _, E>(token, &mut AsOctet, &mut string) {
             Ok(()) => {
-                let len = built.len() as u8;
-                match self.builder.append_slice(&[len]) {
-                    Ok(()) => match self.builder.append_slice(built.as_slice()) {
+                let len = string.len() as u8;
+                match built.append_slice(&[len]) {
+                    Ok(()) => match built.append_slice(string.as_slice()) {
                         Ok(()) => Ok(()),
                         Err(_) => Err(E::short_buf()),
                     },

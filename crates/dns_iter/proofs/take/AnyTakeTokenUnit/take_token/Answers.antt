@@ -1,6 +1,6 @@
 use Rattle.std.proofs.Common.{inl, inr, refl}
 use Rattle.dns_iter.proofs.Asking.{asks_view}
-use Rattle.dns_iter.proofs.take.AnyTakeToken.take_token.Goals as goal
+use Rattle.dns_iter.proofs.take.AnyTakeTokenUnit.take_token.Goals as goal
 
 pub returns-in-Ok-clause-takes : goal.returns-in-Ok-clause-takes
 returns-in-Ok-clause-takes g c =
