@@ -163,10 +163,14 @@ takes_all octets (x ∷ more) first last given g t =
 pub takes_from_entry : (octets : List ℕ) (at : ℕ) (given found : Given) (last : Standing) → AreOctets octets → IsGivenFrom octets at given → TakesAll octets (at_entry at) found last → found ≡ given
 takes_from_entry octets at given found last o g t = takes_all octets found (at_entry at) last given (left_entry octets at o given g) t
 
-pub takes_from_start : (octets : List ℕ) (given found : Given) (last : Standing) → AreOctets octets → IsGiven octets given → TakesAll octets (at_entry 0) found last → found ≡ given
-takes_from_start octets given found last o g =
+-- and at the start what all octets give
+pub given_left : (octets : List ℕ) (given : Given) → AreOctets octets → IsGiven octets given → IsLeft octets (at_entry 0) given
+given_left octets given o g =
     let is : given ≡ run Outside 0 0 0 (first_blank octets) octets = given_run octets given o g in
-    takes_from_entry octets 0 given found last o (given, g, is ∙ from_place octets 0 ∙ ap (later 0) (sym is))
+    left_entry octets 0 o given (given, g, is ∙ from_place octets 0 ∙ ap (later 0) (sym is))
+
+pub takes_from_start : (octets : List ℕ) (given found : Given) (last : Standing) → AreOctets octets → IsGiven octets given → TakesAll octets (at_entry 0) found last → found ≡ given
+takes_from_start octets given found last o g t = takes_all octets found (at_entry 0) last given (given_left octets given o g) t
 
 -- a step of the reader takes what is first
 then_began : (octets : List ℕ) (x : Result Piece Fault) (began : ℕ) → blank_then octets x (blank_at octets began) ≡ blank_at octets (began_after x began)
