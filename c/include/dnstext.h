@@ -36,7 +36,8 @@ enum dns_status {
     DNS_OPEN_PARENTHESIS = 10, /* the text ends inside parentheses */
     DNS_OPEN_QUOTE = 11,       /* the text or a line ends inside a quoted text */
     DNS_LONE_RETURN = 12,      /* a CR without its LF */
-    DNS_BAD_CURSOR = 13,       /* a cursor that stands past the end of the text */
+    DNS_BAD_CURSOR = 13,       /* a cursor or a standing past the end of the text, or a standing with more
+                                  parentheses open than octets before it */
     DNS_EMPTY_LABEL = 14,      /* a plain dot after no octet of a label */
     DNS_LONG_LABEL = 15,       /* more than 63 octets in a label */
     DNS_BINARY_LABEL = 16,     /* a label that begins with an escaped opening bracket (RFC 2673) */
@@ -147,6 +148,38 @@ struct dns_cursor {
  * text is done. Once nothing is left the answer is DNS_END. */
 uint32_t dns_entry_next(const uint8_t *text, size_t text_len, struct dns_cursor *cursor,
                         struct dns_token *tokens, size_t tokens_len, struct dns_outcome *outcome);
+
+/* ---- Zone text, piece by piece: an entry of any length is read with no memory for its tokens.
+ *
+ * A standing holds all that is kept between two calls. It may be copied, stored and gone back to. */
+enum dns_piece_kind {
+    DNS_WORD = 0,
+    DNS_QUOTED = 1,   /* a quoted text, which has its double quotes */
+    DNS_COMMENT = 2,  /* a comment with its semicolon, without the line's end */
+    DNS_ENTRY_END = 3 /* the end of an entry: no octets, where the next entry begins */
+};
+
+struct dns_piece {
+    size_t kind;
+    size_t start;        /* the octets of the text from here .. */
+    size_t end;          /* .. to before here */
+    size_t begins_blank; /* 1 where the piece's entry begins with a blank */
+};
+
+/* At first all four are 0; or `at` and `began` are both where an entry begins. */
+struct dns_standing {
+    size_t at;      /* where the text is read on, with no piece begun */
+    size_t depth;   /* how many parentheses are open */
+    size_t began;   /* where the entry begins that is open */
+    size_t is_done; /* 1 once nothing is left */
+};
+
+/* Gives the next piece, and moves the standing on. The last piece is an end. A fault is told with its
+ * place, after the pieces before it, and then the text is done; where what is not closed was opened,
+ * dns_entry_next tells from `began`, with no room. Once nothing is left the answer is DNS_END. The piece
+ * is written with DNS_OK alone, and the length is 0. With DNS_BAD_CURSOR the standing stays. */
+uint32_t dns_tokens_next(const uint8_t *text, size_t text_len, struct dns_standing *standing,
+                         struct dns_piece *piece, struct dns_outcome *outcome);
 
 /* ---- The text of a status, also of an unknown one. */
 uint32_t dns_status_text(uint32_t status, uint8_t *text, size_t text_len,

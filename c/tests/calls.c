@@ -279,6 +279,78 @@ static void entries(void) {
     WRONG("a b\\256", DNS_BAD_ESCAPE, 6, 1);
 }
 
+static void next(const uint8_t *text, size_t length, struct dns_standing *standing, uint32_t status,
+                 size_t place, struct dns_piece wanted, int line) {
+    struct dns_piece piece = {9, 9, 9, 9};
+    struct dns_outcome outcome = {7, 7};
+    expect(dns_tokens_next(text, length, standing, &piece, &outcome) == status, "status", line);
+    expect(outcome.length == 0 && outcome.place == place, "length and place", line);
+    expect(memcmp(&piece, &wanted, sizeof piece) == 0, "piece", line);
+}
+
+static const struct dns_piece no_piece = {9, 9, 9, 9};
+
+static void piece(const uint8_t *text, size_t length, struct dns_standing *standing, size_t kind,
+                  size_t start, size_t end, size_t begins_blank, int line) {
+    struct dns_piece wanted;
+    wanted.kind = kind;
+    wanted.start = start;
+    wanted.end = end;
+    wanted.begins_blank = begins_blank;
+    next(text, length, standing, DNS_OK, 0, wanted, line);
+}
+#define PIECE(text, standing, kind, start, end, blank) \
+    piece(BYTES(text), standing, kind, start, end, blank, __LINE__)
+#define NO_PIECE(text, standing, status, place) \
+    next(BYTES(text), standing, status, place, no_piece, __LINE__)
+
+static void wrong_piece(const uint8_t *text, size_t length, uint32_t status, size_t place, int line) {
+    struct dns_standing standing = {0, 0, 0, 0};
+    struct dns_cursor cursor = {0, 0, 0, 0};
+    struct dns_outcome outcome;
+    piece(text, length, &standing, DNS_WORD, 0, 1, 0, line);
+    next(text, length, &standing, status, place, no_piece, line);
+    expect(standing.is_done == 1 && standing.began == 0, "standing", line);
+    next(text, length, &standing, DNS_END, 0, no_piece, line);
+    cursor.at = standing.began;
+    expect(dns_entry_next(text, length, &cursor, NULL, 0, &outcome) == status, "entry", line);
+    expect(cursor.opened == (status == DNS_OPEN_QUOTE || status == DNS_OPEN_PARENTHESIS ? 2 : 0),
+           "where it was opened", line);
+}
+#define WRONG_PIECE(text, status, place) wrong_piece(BYTES(text), status, place, __LINE__)
+
+static void pieces(void) {
+    static const char whole[] = " a (b ;c\n\"d\") \351\n\ne";
+    struct dns_standing standing = {0, 0, 0, 0}, inside, past = {3, 0, 0, 0}, deep = {1, 2, 0, 0};
+    struct dns_standing empty = {0, 0, 0, 0};
+    PIECE(whole, &standing, DNS_WORD, 1, 2, 1);
+    PIECE(whole, &standing, DNS_WORD, 4, 5, 1);
+    EXPECT(standing.depth == 1 && standing.began == 0);
+    inside = standing;
+    PIECE(whole, &standing, DNS_COMMENT, 6, 8, 1);
+    PIECE(whole, &standing, DNS_QUOTED, 9, 12, 1);
+    PIECE(whole, &standing, DNS_WORD, 14, 15, 1);
+    PIECE(whole, &standing, DNS_ENTRY_END, 16, 16, 1);
+    EXPECT(standing.at == 16 && standing.began == 16 && standing.depth == 0);
+    PIECE(whole, &standing, DNS_ENTRY_END, 17, 17, 0);
+    PIECE(whole, &standing, DNS_WORD, 17, 18, 0);
+    EXPECT(standing.is_done == 0);
+    PIECE(whole, &standing, DNS_ENTRY_END, 18, 18, 0);
+    EXPECT(standing.is_done == 1);
+    NO_PIECE(whole, &standing, DNS_END, 0);
+    PIECE(whole, &inside, DNS_COMMENT, 6, 8, 1);
+    piece(NULL, 0, &empty, DNS_ENTRY_END, 0, 0, 0, __LINE__);
+    NO_PIECE("ab", &past, DNS_BAD_CURSOR, 0);
+    EXPECT(past.at == 3 && past.is_done == 0);
+    NO_PIECE("ab", &deep, DNS_BAD_CURSOR, 0);
+    EXPECT(deep.at == 1 && deep.depth == 2 && deep.is_done == 0);
+    WRONG_PIECE("a b)", DNS_CLOSING, 3);
+    WRONG_PIECE("a ( b", DNS_OPEN_PARENTHESIS, 5);
+    WRONG_PIECE("a \"b\n", DNS_OPEN_QUOTE, 4);
+    WRONG_PIECE("a \rb", DNS_LONE_RETURN, 3);
+    WRONG_PIECE("a b\\256", DNS_BAD_ESCAPE, 6);
+}
+
 static void texts(void) {
     uint8_t memory[64];
     struct dns_outcome outcome;
@@ -301,6 +373,7 @@ int main(void) {
     encodings();
     lengths();
     entries();
+    pieces();
     texts();
     return failures != 0;
 }

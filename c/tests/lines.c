@@ -40,6 +40,31 @@ static void fail(const char *what, size_t line) {
     exit(1);
 }
 
+/* The text piece by piece: the tokens, and each line's end with its flag. */
+static void read_pieces(const size_t *ends, const uint8_t *blanks) {
+    struct dns_standing standing = {0, 0, 0, 0};
+    struct dns_piece piece = {0, 0, 0, 0};
+    struct dns_outcome outcome;
+    size_t line = 0, at = 0;
+    while (dns_tokens_next(text, length, &standing, &piece, &outcome) == DNS_OK) {
+        if (line == LINES || piece.begins_blank != blanks[line])
+            fail("another flag", line);
+        if (piece.kind == DNS_ENTRY_END) {
+            if (at != ends[line])
+                fail("another number of tokens", line);
+            line++;
+        } else if (piece.kind != DNS_COMMENT) {
+            if (at == count || piece.start != known[at].start || piece.end != known[at].end)
+                fail("another piece", line);
+            if (piece.kind != known[at].is_quoted)
+                fail("another kind", line);
+            at++;
+        }
+    }
+    if (!standing.is_done || line != LINES || at != count)
+        fail("another number of pieces", line);
+}
+
 int main(void) {
     size_t *ends = (size_t *)malloc(LINES * sizeof *ends);
     uint8_t *blanks = (uint8_t *)malloc(LINES);
@@ -84,6 +109,7 @@ int main(void) {
     }
     if (dns_entry_next(text, length, &cursor, tokens, 16, &outcome) != DNS_END)
         fail("more entries", line);
+    read_pieces(ends, blanks);
     /* The text of the same tokens that is UTF-8 splits into as many entries. */
     for (i = 0; i < length; i++)
         if (text[i] == 0xE9)

@@ -255,7 +255,7 @@ front_read octets y found i x left e h =
     ap (λ l. Read (l ++ y)) front ∙ ap (λ t. run Outside 0 0 0 t (p.front ++ y)) blank ∙ p.goes y
     ∙ ap (λ l. map Ok found ++ Ok (end_at i x) ∷ l) (from_place y i)
 
-both_octets : (xs ys : List ℕ) → AreOctets xs → AreOctets ys → AreOctets (xs ++ ys)
+pub both_octets : (xs ys : List ℕ) → AreOctets xs → AreOctets ys → AreOctets (xs ++ ys)
 both_octets [] ys h k = k
 both_octets (x ∷ xs) ys h k = let p = and_parts (nat_lt x 256) _ h in and_from _ _ p.0 (both_octets xs ys p.1 k)
 
@@ -263,7 +263,7 @@ front_octets : (xs ys : List ℕ) → AreOctets (xs ++ ys) → AreOctets xs
 front_octets [] ys h = refl
 front_octets (x ∷ xs) ys h = let p = and_parts (nat_lt x 256) _ h in and_from _ _ p.0 (front_octets xs ys p.1)
 
-back_octets : (xs ys : List ℕ) → AreOctets (xs ++ ys) → AreOctets ys
+pub back_octets : (xs ys : List ℕ) → AreOctets (xs ++ ys) → AreOctets ys
 back_octets [] ys h = h
 back_octets (x ∷ xs) ys h = back_octets xs ys (and_parts (nat_lt x 256) _ h).1
 

@@ -29,6 +29,7 @@ pub mod Refused
 pub mod SettledOnce
 pub mod Skips
 pub mod Sound
+pub mod Standings
 pub mod Steps
 pub mod Tight
 pub mod Tokens

@@ -183,10 +183,10 @@ same_later n s at = elim (cases_Bool (s == at)) [
     no : (s == at) ≡ true → (s == at) ≡ false → ⊥
     no h k = cc
 
-abbrev Later : ℕ → List ℕ → Type 0
+abbrev pub Later : ℕ → List ℕ → Type 0
 Later n bs = (m : Mode) (d s at : ℕ) (b : Bool) → s ≤ at → run m d (n + s) (n + at) b bs ≡ later n (run m d s at b bs)
 
-later_run : (n : ℕ) (bs : List ℕ) → Later n bs
+pub later_run : (n : ℕ) (bs : List ℕ) → Later n bs
 later_run n [] m d s at b h = end_moved (λ i. n + i) (may_end m d) m s at b (same_later n s at)
 later_run n (c ∷ bs) m d s at b h = go (step m d c) refl (later_run n bs)
   where

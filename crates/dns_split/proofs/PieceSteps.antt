@@ -16,7 +16,8 @@ use Rattle.dns_split.specs.declared.pieces.Piece.{Piece}
 use Rattle.dns_split.specs.declared.pieces.Fault.{Fault}
 use Rattle.dns_symbol.specs.Symbol.{is_digit}
 use Rattle.dns_split.specs.Reader.{kind, home, move_to, step, outside_step, quoted_step, comment_step, return_step, line_end}
-use Rattle.dns_split.specs.Run.{before, closed, finished, start_after, first_blank, blank_after, fault, wrong_at, run}
+use Rattle.dns_split.specs.Pieces.{word_at}
+use Rattle.dns_split.specs.Run.{before, closed, finished, start_after, first_blank, blank_after, blank_then, fault, goes_on, open_piece, wrong_at, run}
 use Rattle.dns_split.proofs.Complete.{Some_same}
 
 -- what a step gives and leaves
@@ -264,3 +265,31 @@ turn_finished text m d s at b c p v h e g k f =
     let home : is_home v.mode v.depth v.act ≡ true = ap comes_home (sym g) ∙ step_home m d c in
     turn text m d s at b c v h e g ∙ ap (λ o. before o (before (finished v.act s (at + 1) b) left)) k ∙ ap (λ o. before o left) f
     ∙ ap (λ l. Ok p ∷ l) (after_finished m v.mode v.act v.depth s at b rest p home f)
+
+-- the flag after a piece that ends before an octet, and after one that ends with it
+word_then : (text : List ℕ) (t : Bool) (s at : ℕ) (b : Bool) (p : Piece) → cond t None (Some (word_at s at)) ≡ Some p → blank_then text (Ok p) b ≡ b
+word_then text true s at b p e = cc
+word_then text false s at b p e = ap (λ q. blank_then text (Ok q) b) (sym (Some_same e))
+
+open_then : (text : List ℕ) (m : Mode) (s at : ℕ) (b : Bool) (p : Piece) → open_piece m s at ≡ Some p → blank_then text (Ok p) b ≡ b
+open_then text Comment s at b p e = ap (λ q. blank_then text (Ok q) b) (sym (Some_same e))
+open_then text Outside s at b p e = word_then text (s == at) s at b p e
+open_then text Quoted s at b p e = word_then text (s == at) s at b p e
+open_then text Return s at b p e = word_then text (s == at) s at b p e
+open_then text (Escape q) s at b p e = word_then text (s == at) s at b p e
+open_then text (OneDigit q n) s at b p e = word_then text (s == at) s at b p e
+open_then text (TwoDigits q n) s at b p e = word_then text (s == at) s at b p e
+
+pub closed_then : (text : List ℕ) (m n : Mode) (a : Act) (s at : ℕ) (b : Bool) (p : Piece) → closed m n a s at ≡ Some p → b ≡ blank_then text (Ok p) b
+closed_then text m n a s at b p e = go (goes_on m n a) e
+  where
+    go : (t : Bool) → cond t None (open_piece m s at) ≡ Some p → b ≡ blank_then text (Ok p) b
+    go true h = cc
+    go false h = sym (open_then text m s at b p h)
+
+pub finished_then : (text : List ℕ) (a : Act) (s e : ℕ) (b : Bool) (p : Piece) → finished a s e b ≡ Some p → blank_after a b (drop e text) ≡ blank_then text (Ok p) b
+finished_then text FinishToken s e b p h = ap (λ q. blank_then text (Ok q) b) (Some_same h)
+finished_then text EndEntry s e b p h = ap (λ q. blank_then text (Ok q) b) (Some_same h)
+finished_then text EndToken s e b p h = cc
+finished_then text Add s e b p h = cc
+finished_then text BeginToken s e b p h = cc

@@ -56,7 +56,7 @@ pub still_between : (m : Mode) (k : Class) → ((c : ℕ) → is_in k c ≡ true
 still_between m k still text i j o w all = subst (λ e. SameRun m text i e) (omega arith) (still_run m k still text i (j - i) (omega (arith, o, w)) (λ n from to. all n from (omega (arith, o, to))))
 
 -- an octet before and after which nothing is open
-moved_on : (c d n i : ℕ) (b : Bool) (bs : List ℕ) → step Outside d c ≡ move_to Outside n EndToken → run Outside d i i b (c ∷ bs) ≡ run Outside n (i + 1) (i + 1) b bs
+pub moved_on : (c d n i : ℕ) (b : Bool) (bs : List ℕ) → step Outside d c ≡ move_to Outside n EndToken → run Outside d i i b (c ∷ bs) ≡ run Outside n (i + 1) (i + 1) b bs
 moved_on c d n i b bs h = run_step Outside d i i b c bs _ h ∙ ap (λ o. before o (run Outside n (i + 1) (i + 1) b bs)) (cond-true _ _ _ (eq-eqb i i refl))
 
 blank_step : (c d : ℕ) → is_in Blank c ≡ true → step Outside d c ≡ move_to Outside d EndToken
@@ -218,6 +218,7 @@ comment_given text p b e w is o v all ends = record {
   on = omega (arith, o);
   within = v;
   same = opened Comment 59 opens_comment text p.at w is p.depth b ∙ still_between Comment Note note_still text (p.at + 1) e o v all p.depth p.at b ∙ ends p.at b;
+  blank = refl;
 }
 
 pub quote_given : (text : List ℕ) (p : Place) (b : Bool) (e : ℕ) → p.at < length text → get_or text p.at 0 ≡ 34 → p.at + 1 ≤ e → e < length text → SameRun Quoted text (p.at + 1) e
@@ -226,6 +227,7 @@ quote_given text p b e w is o v same ends = record {
   on = omega (arith, o);
   within = omega (arith, v);
   same = opened Quoted 34 opens_quote text p.at w is p.depth b ∙ same p.depth p.at b ∙ ap (run Quoted p.depth p.at e b) (at_drop text e v ∙ ap (λ c. c ∷ drop (e + 1) text) ends);
+  blank = refl;
 }
 
 pub word_given : (text : List ℕ) (p : Place) (b : Bool) (e at : ℕ) → p.at < e → SameRun Outside text p.at e → EndsWord text p.depth e at
@@ -234,4 +236,5 @@ word_given text p b e at o same ends = record {
   on = omega (arith, o, ends.on);
   within = ends.within;
   same = same p.depth p.at b ∙ ends.same p.at b o;
+  blank = refl;
 }

@@ -9,5 +9,6 @@ pub mod Rows
 pub mod Run
 pub mod Skip
 pub mod Splitting
+pub mod Standing
 pub mod Token
 pub mod Viable

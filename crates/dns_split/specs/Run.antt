@@ -7,6 +7,7 @@ use Rattle.dns_split.specs.declared.reader.Act.{Act}
 use Rattle.dns_split.specs.declared.reader.Act.TheVariants.{EndToken, EndEntry, Add, BeginToken, FinishToken}
 use Rattle.dns_split.specs.declared.reader.Move.{Move}
 use Rattle.dns_split.specs.declared.pieces.Piece.{Piece}
+use Rattle.dns_split.specs.declared.pieces.Piece.TheVariants.{End as EndAt}
 use Rattle.dns_split.specs.declared.pieces.Fault.{Fault}
 use Rattle.dns_split.specs.declared.pieces.Given.{Given}
 use Rattle.dns_split.specs.declared.pieces.Stepped.{Stepped}
@@ -146,14 +147,21 @@ pub record EndsWord (text : List ℕ) (d e at : ℕ) : Type 0 where
 abbrev pub EndsComment : List ℕ → ℕ → ℕ → Type 0
 EndsComment text d e = (s : ℕ) (b : Bool) → run Comment d s e b (drop e text) ≡ Ok (comment_at s e) ∷ run Outside d e e b (drop e text)
 
+-- whether the entry that is open after a piece began with a blank
+abbrev pub blank_then : List ℕ → Result Piece Fault → Bool → Bool
+blank_then text (Ok (EndAt e)) b = first_blank (drop e.at text)
+blank_then text _ b = b
+
 -- the reader gives a piece, and then stands with nothing open
 pub record Gives (text : List ℕ) (p : Place) (b : Bool) (g : Given) : Type 0 where
   pub on : p.at ≤ g.at
   pub within : g.at ≤ length text
   pub same : run Outside p.depth p.at p.at b (drop p.at text) ≡ Ok g.piece ∷ run Outside p.depth g.at g.at g.begins_blank (drop g.at text)
+  pub blank : g.begins_blank ≡ blank_then text (Ok g.piece) b
 
 -- the reader gives a piece or a fault, and then stands with nothing open or is done
 pub record Steps (text : List ℕ) (p : Place) (b : Bool) (t : Stepped) : Type 0 where
   pub within : t.place.at ≤ length text
   pub deep : t.place.depth ≤ t.place.at
   pub same : run Outside p.depth p.at p.at b (drop p.at text) ≡ t.given ∷ (if t.is_done then [] else run Outside t.place.depth t.place.at t.place.at t.begins_blank (drop t.place.at text))
+  pub blank : t.is_done ≡ false → t.begins_blank ≡ blank_then text t.given b

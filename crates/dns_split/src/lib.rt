@@ -5,6 +5,8 @@
 //! - [`pieces::Pieces`] gives the words, quoted texts, comments and ends of entries of a text one
 //!   by one, with their places and without memory, or the fault; it can be started again at any
 //!   entry, and reads octets that need not be UTF-8.
+//! - [`standing::next_of_octets`] gives them one by one too, from a place that the caller keeps as
+//!   plain numbers.
 //! - [`pieces::Fault::needs_more`] tells the faults past which more octets may go on, and
 //!   [`opening::outermost_open`] finds the parenthesis that was left open.
 //! - [`position::line_and_column`] tells a place as people count it.
@@ -33,6 +35,9 @@ pub mod position;
 mod reader;
 mod skip;
 pub mod splitting;
+pub mod standing;
+#[cfg(test)]
+mod standing_tests;
 #[cfg(test)]
 mod tests;
 pub mod token;

@@ -191,7 +191,7 @@ fn start_after(mode: Mode, next: Mode, act: Act, start: usize, at: usize) -> usi
 
 /// Whether the octets from `at` on begin with a blank.
 #[inline(always)]
-fn first_blank(octets: &[u8], at: usize) -> bool
+pub(crate) fn first_blank(octets: &[u8], at: usize) -> bool
     ensures { result ≡ first_blank (drop at octets.now) }
 {
     match octets.get(at) {
@@ -346,11 +346,11 @@ fn piece_here(octets: &[u8], place: Place, begins_blank: bool) -> Option<Given>
 
 /// A piece or a fault, and where the reader then stands with nothing open, unless that was last.
 #[derive(Clone, Copy)]
-struct Stepped {
-    given: Result<Piece, Fault>,
-    place: Place,
-    begins_blank: bool,
-    is_done: bool,
+pub(crate) struct Stepped {
+    pub(crate) given: Result<Piece, Fault>,
+    pub(crate) place: Place,
+    pub(crate) begins_blank: bool,
+    pub(crate) is_done: bool,
 }
 
 /// What is given next, found by a step of the reader for each octet.
@@ -424,6 +424,28 @@ fn by_steps(octets: &[u8], place: Place, begins_blank: bool) -> Stepped
     }
 }
 
+/// What is given next, from where the reader stands with nothing open.
+#[inline(always)]
+pub(crate) fn step_on(octets: &[u8], here: Place, begins_blank: bool) -> Stepped
+    requires within { here.at ≤ length octets.now }
+    requires deep { here.depth ≤ here.at }
+    ensures { Steps octets.now here begins_blank result }
+{
+    let place = past_all(octets, here);
+    match piece_here(octets, place, begins_blank) {
+        Some(given) => Stepped {
+            given: Ok(given.piece),
+            place: Place {
+                depth: place.depth,
+                at: given.at,
+            },
+            begins_blank: given.begins_blank,
+            is_done: false,
+        },
+        None => by_steps(octets, place, begins_blank),
+    }
+}
+
 /// The pieces of a zone text that are left.
 #[derive(Drop)]
 pub struct Pieces<'t> {
@@ -463,19 +485,11 @@ impl<'t> Iterator for Pieces<'t> {
         if self.is_done {
             return None;
         }
-        let octets = self.octets;
         let here = Place {
             depth: self.depth,
             at: self.at,
         };
-        let place = past_all(octets, here);
-        if let Some(given) = piece_here(octets, place, self.begins_blank) {
-            self.depth = place.depth;
-            self.at = given.at;
-            self.begins_blank = given.begins_blank;
-            return Some(Ok(given.piece));
-        }
-        let stepped = by_steps(octets, place, self.begins_blank);
+        let stepped = step_on(self.octets, here, self.begins_blank);
         self.depth = stepped.place.depth;
         self.at = stepped.place.at;
         self.begins_blank = stepped.begins_blank;

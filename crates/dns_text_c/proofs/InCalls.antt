@@ -282,6 +282,15 @@ told_cut text (QuoteAt p ∷ found) =
 told_cut text (CommentAt p ∷ found) = told_cut text found
 told_cut text (EndAt p ∷ found) = ap (λ l. [] ∷ l) (told_cut text found)
 
+-- a text that splits gives pieces that are cut into its entries
+pub split_given : (text : List ℕ) (e : Entries) → AreOctets text → Splits text e → (found : List Piece) × IsGiven text (map Ok found) × (cut text found ≡ e)
+split_given text e o s =
+    let p = split_pieces text e s in
+    let octets = octets_have_pieces text (octet_scalars text o) p.0 p.1 in
+    let within = subst (EachWithin (length text)) (pieces_run text p.0 p.1) (each_within text _) in
+    let is : map (moved (place_of text)) (map Ok p.0) ≡ map Ok (map (moved_piece (place_of text)) p.0) = map_ok (place_of text) p.0 in
+    (p.0, (inl (record { found = map (moved_piece (place_of text)) p.0; is = is; placed = octets }), within), p.2)
+
 module _ (text : List ℕ) (cursor last : Cursor) (entries : List ToldEntry) (o : AreOctets text) (start : cursor.at ≡ 0) (going : cursor.is_done ≡ 0) (calls : Calls text cursor entries last) where
   from_start : (given : Given) → IsGiven text given → (entries ≡ told_entries (later cursor.at given)) × Opened text o last entries cursor.at
   from_start given g = right text o last entries cursor given (omega (arith, start)) (subst (λ n. IsGiven (drop n text) given) (sym start) g) going calls
@@ -293,11 +302,8 @@ module _ (text : List ℕ) (cursor last : Cursor) (entries : List ToldEntry) (o 
   -- so they tell the entries of a text that splits
   pub tell_entries : (e : Entries) → Splits text e → map (octets_of text) entries ≡ e
   tell_entries e s =
-      let p = split_pieces text e s in
-      let octets = octets_have_pieces text (octet_scalars text o) p.0 p.1 in
-      let within = subst (EachWithin (length text)) (pieces_run text p.0 p.1) (each_within text _) in
-      let is : map (moved (place_of text)) (map Ok p.0) ≡ map Ok (map (moved_piece (place_of text)) p.0) = map_ok (place_of text) p.0 in
-      ap (map (octets_of text)) (tell_all (map Ok p.0) (inl (record { found = map (moved_piece (place_of text)) p.0; is = is; placed = octets }), within)) ∙ told_cut text p.0 ∙ p.2
+      let p = split_given text e o s in
+      ap (map (octets_of text)) (tell_all (map Ok p.0) p.1) ∙ told_cut text p.0 ∙ p.2
 
   -- and where the outermost parenthesis stands that is left open
   pub tell_opener : last_status entries ≡ number_of OpenParenthesis → IsOpener (encode_utf8_all text) (place_of text last.opened)

@@ -5,6 +5,7 @@ mod LeftOpen
 mod Lengths
 mod NameText
 mod NumberText
+mod PieceCalls
 mod Row
 mod ToldTexts
 mod Written

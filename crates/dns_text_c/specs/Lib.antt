@@ -3,6 +3,7 @@ pub mod Codecs
 pub mod Entries
 pub mod Names
 pub mod Numbers
+pub mod Pieces
 pub mod Status
 pub mod Strings
 pub mod Told

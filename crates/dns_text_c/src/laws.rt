@@ -8,8 +8,10 @@ ghost use Rattle.dns_split.specs.declared.pieces.Piece.{Piece};
 ghost use Rattle.dns_split.specs.declared.pieces.Fault.{Fault};
 ghost use Rattle.dns_text_c.specs.Calls.{ToldEntry, Calls, told_entries, octets_of, last_status};
 ghost use Rattle.dns_text_c.specs.Entries.{entries_of, InARow};
+ghost use Rattle.dns_text_c.specs.Pieces.{PieceCalls, ToldPiece, told_from, entries_told};
 ghost use Rattle.dns_text_c.specs.Told.{number_of};
 ghost use Rattle.dns_text_c.specs.declared.outcome.Refusal.TheVariants.{OpenParenthesis};
+ghost use Rattle.dns_text_c.specs.declared.pieces.Standing.{Standing};
 ghost use Rattle.dns_text_c.specs.declared.tokens.Cursor.{Cursor};
 
 /// A text of the grammar is read entry by entry: in a row from its start on, its entries have just
@@ -29,4 +31,14 @@ pub fn calls_tell_all()
         → first.is_done ≡ 0 → Calls text first entries last → map (octets_of text) entries ≡ found }
     ensures opened { (text : List ℕ) (first last : Cursor) (entries : List ToldEntry) → AreOctets text → first.at ≡ 0 → first.is_done ≡ 0 → Calls text first entries last
         → last_status entries ≡ number_of OpenParenthesis → IsOpener (encode_utf8_all text) (place_of text last.opened) }
+{}
+
+/// Calls for the next piece, one after another from a text's start until the text is done, tell
+/// just the pieces that the text gives, and its fault. Of a text that splits the octets of its
+/// words and quoted texts, cut where entries end, are its entries.
+pub fn piece_calls_tell_all()
+    ensures pieces { (text : List ℕ) (given : List (Result Piece Fault)) (first last : Standing) (told : List ToldPiece) → AreOctets text → IsGiven text given → first.at ≡ 0
+        → first.depth ≡ 0 → first.began ≡ 0 → first.is_done ≡ 0 → PieceCalls text first told last → told ≡ told_from text 0 given }
+    ensures tokens { (text : List ℕ) (found : Entries) (first last : Standing) (told : List ToldPiece) → AreOctets text → Splits text found → first.at ≡ 0
+        → first.depth ≡ 0 → first.began ≡ 0 → first.is_done ≡ 0 → PieceCalls text first told last → entries_told text told ≡ found }
 {}

@@ -21,6 +21,9 @@ pub mod names;
 mod number_tests;
 pub mod numbers;
 pub mod outcome;
+#[cfg(test)]
+mod piece_tests;
+pub mod pieces;
 pub mod status;
 #[cfg(test)]
 mod string_tests;

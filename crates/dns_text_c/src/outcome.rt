@@ -37,7 +37,8 @@ pub enum Refusal {
     OpenQuote,
     /// A CR without its LF.
     LoneReturn,
-    /// A cursor that stands past the end of the text.
+    /// A cursor that stands past the end of the text, or with more parentheses open than octets
+    /// before it.
     BadCursor,
     /// A plain dot after no octet of a label.
     EmptyLabel,

@@ -66,7 +66,7 @@ pub(crate) fn bit(is_so: bool) -> usize
 }
 
 /// The refusal of what is wrong in a text.
-fn refusal_of_wrong(wrong: Wrong) -> Refusal
+pub(crate) fn refusal_of_wrong(wrong: Wrong) -> Refusal
     ensures { result ≡ refusal_of_wrong wrong }
 {
     match wrong {

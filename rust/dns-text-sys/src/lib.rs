@@ -54,6 +54,31 @@ pub struct dns_cursor {
     pub opened: usize,
 }
 
+pub const DNS_WORD: usize = 0;
+pub const DNS_QUOTED: usize = 1;
+pub const DNS_COMMENT: usize = 2;
+pub const DNS_ENTRY_END: usize = 3;
+
+/// A piece of zone text: the octets from `start` to before `end`.
+#[repr(C)]
+#[derive(Clone, Copy, Debug, Default, PartialEq, Eq)]
+pub struct dns_piece {
+    pub kind: usize,
+    pub start: usize,
+    pub end: usize,
+    pub begins_blank: usize,
+}
+
+/// Where a zone text is read on, with no piece begun. At first all four are 0.
+#[repr(C)]
+#[derive(Clone, Copy, Debug, Default, PartialEq, Eq)]
+pub struct dns_standing {
+    pub at: usize,
+    pub depth: usize,
+    pub began: usize,
+    pub is_done: usize,
+}
+
 /// A call that reads octets and gives others.
 pub type dns_call = unsafe extern "C" fn(*const u8, usize, *mut u8, usize, *mut dns_outcome) -> u32;
 
@@ -170,6 +195,13 @@ extern "C" {
         cursor: *mut dns_cursor,
         tokens: *mut dns_token,
         tokens_len: usize,
+        outcome: *mut dns_outcome,
+    ) -> u32;
+    pub fn dns_tokens_next(
+        text: *const u8,
+        text_len: usize,
+        standing: *mut dns_standing,
+        piece: *mut dns_piece,
         outcome: *mut dns_outcome,
     ) -> u32;
     pub fn dns_status_text(

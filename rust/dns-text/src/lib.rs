@@ -18,10 +18,12 @@ mod char_str;
 pub mod codec;
 mod name;
 mod number;
+mod pieces;
 mod status;
 mod zone;
 
 pub use char_str::{CharStr, LongString, ReadError, ReadErrorKind};
 pub use name::{Name, NameError, NameErrorKind, NameOctetsError};
 pub use number::{number, NumberError, NumberErrorKind};
+pub use pieces::{pieces, Piece, PieceKind, Pieces};
 pub use zone::{entries, tokens, Entries, Entry, Fault, FaultKind, Token, Tokens};

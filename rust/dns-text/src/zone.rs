@@ -57,7 +57,7 @@ pub enum FaultKind {
 }
 
 impl FaultKind {
-    fn of(status: u32) -> FaultKind {
+    pub(crate) fn of(status: u32) -> FaultKind {
         match status {
             DNS_BAD_ESCAPE => FaultKind::BadEscape,
             DNS_CLOSING => FaultKind::Closing,
@@ -69,7 +69,7 @@ impl FaultKind {
     }
 
     /// Whether something isn't closed.
-    fn is_open(self) -> bool {
+    pub(crate) fn is_open(self) -> bool {
         matches!(self, FaultKind::OpenParenthesis | FaultKind::OpenQuote)
     }
 }

@@ -1,5 +1,5 @@
 //! A zone text of 200,000 lines, written from tokens that are known, gives just these tokens.
-use dns_text::{entries, tokens};
+use dns_text::{entries, pieces, tokens, PieceKind};
 
 const LINES: usize = 200_000;
 const WORDS: [&str; 8] = [
@@ -99,9 +99,36 @@ fn lines_give_their_tokens() {
 }
 
 #[test]
+fn lines_give_their_pieces() {
+    let (known, text) = zone();
+    let mut lines = known.iter();
+    let mut line = lines.next();
+    let mut wanted = line.unwrap().1.iter();
+    for piece in pieces(&text) {
+        let piece = piece.unwrap();
+        assert_eq!(piece.begins_blank, line.unwrap().0);
+        assert_eq!(&text[piece.start..][..piece.text.len()], piece.text);
+        match piece.kind {
+            PieceKind::Word | PieceKind::Quoted => {
+                assert_eq!(piece.text, wanted.next().unwrap().as_bytes());
+                assert_eq!(piece.kind == PieceKind::Quoted, piece.text[0] == b'"');
+            }
+            PieceKind::Comment => assert_eq!(piece.text[0], b';'),
+            PieceKind::EntryEnd => {
+                assert!(wanted.next().is_none());
+                line = lines.next();
+                wanted = line.map(|entry| entry.1.iter()).unwrap_or_default();
+            }
+        }
+    }
+    assert!(line.is_none());
+}
+
+#[test]
 fn long_entries_are_given_whole() {
     let text = b"a \"b\" ".repeat(50_000);
     let entry = entries(&text).next().unwrap().unwrap();
     assert_eq!(entry.tokens.len(), 100_000);
     assert_eq!(tokens(&text).count(), 100_000);
+    assert_eq!(pieces(&text).count(), 100_001);
 }

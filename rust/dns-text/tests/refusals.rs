@@ -1,8 +1,8 @@
 //! Each refusal, and what comes before it.
 use dns_text::codec::{BadEncoding, BASE16, BASE32HEX, BASE64};
 use dns_text::{
-    entries, number, tokens, CharStr, FaultKind, LongString, Name, NameErrorKind, NameOctetsError,
-    NumberErrorKind, ReadErrorKind,
+    entries, number, pieces, tokens, CharStr, FaultKind, LongString, Name, NameErrorKind,
+    NameOctetsError, NumberErrorKind, ReadErrorKind,
 };
 
 #[test]
@@ -116,6 +116,7 @@ fn encodings() {
 fn zone_texts() {
     let refused = |text: &[u8]| {
         let fault = entries(text).last().unwrap().unwrap_err();
+        assert_eq!(pieces(text).last().unwrap().unwrap_err(), fault);
         (fault.kind, fault.place)
     };
     assert_eq!(refused(b"a\na b)"), (FaultKind::Closing, 5));
@@ -123,7 +124,11 @@ fn zone_texts() {
     assert_eq!(refused(b"a \"b\n"), (FaultKind::OpenQuote, 4));
     assert_eq!(refused(b"a \rb"), (FaultKind::LoneReturn, 3));
     assert_eq!(refused(br"a b\256"), (FaultKind::BadEscape, 6));
-    let opened = |text: &[u8]| entries(text).last().unwrap().unwrap_err().opened;
+    let opened = |text: &[u8]| {
+        let fault = entries(text).last().unwrap().unwrap_err();
+        assert_eq!(pieces(text).last().unwrap().unwrap_err(), fault);
+        fault.opened
+    };
     assert_eq!(opened(b"a\nb \"c\nd"), Some(4));
     assert_eq!(opened(b"a \"b"), Some(2));
     assert_eq!(opened(b"a ( b"), Some(2));

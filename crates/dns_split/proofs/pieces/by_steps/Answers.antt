@@ -3,7 +3,7 @@ use Rattle.std.specs.Prelude.{Ok}
 use Rattle.dns_split.specs.declared.reader.Mode.TheVariants.{Outside}
 use Rattle.dns_split.specs.Run.{run}
 use Rattle.dns_split.proofs.Steps.{step_depth}
-use Rattle.dns_split.proofs.PieceSteps.{turn_closed, turn_finished, turn_on}
+use Rattle.dns_split.proofs.PieceSteps.{closed_then, finished_then, turn_closed, turn_finished, turn_on}
 use Rattle.dns_split.proofs.pieces.by_steps.Goals as goal
 
 pub returns-in-Some-closed : goal.returns-in-Some-closed
@@ -14,7 +14,12 @@ returns-in-Some-closed c =
     let t =
     turn_closed c.args.octets.now c.loop-at.mode c.loop-at.depth c.loop-at.start c.loop-at.at c.args.begins_blank _ c.in-Some-closed.piece c.in-Some.next
     (omega (arith, c.loop-at-test.true)) c.from.ensures went ends in
-    record { within = omega (arith, c.loop-at-test.true); deep = inv.deep; same = sym inv.left ∙ t }
+    record {
+      within = omega (arith, c.loop-at-test.true);
+      deep = inv.deep;
+      same = sym inv.left ∙ t;
+      blank = λ _. closed_then c.args.octets.now c.loop-at.mode _ _ c.loop-at.start c.loop-at.at c.args.begins_blank _ ends;
+    }
 
 pub returns-in-Some-finished : goal.returns-in-Some-finished
 returns-in-Some-finished c =
@@ -30,6 +35,7 @@ returns-in-Some-finished c =
       within = omega (arith, c.loop-at-test.true);
       deep = omega (arith, d, inv.deep);
       same = sym inv.left ∙ t ∙ ap (λ x. Ok c.in-Some-finished.piece ∷ run Outside v.depth after after x (drop after octets)) (sym c.blank_after.ensures);
+      blank = λ _. c.blank_after.ensures ∙ finished_then octets v.act c.loop-at.start after c.args.begins_blank _ (sym c.finished.ensures ∙ c.in-Some-finished.is);
     }
 
 pub loop-at-preserved : goal.loop-at-preserved

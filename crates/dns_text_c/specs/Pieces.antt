@@ -1,0 +1,86 @@
+-- The pieces of a zone text as a caller gets them, one by one.
+use Rattle.std.specs.Prelude.{◌≡◌, ◌≢◌, ℕ, ◌<◌, ◌≤◌, ◌⊎◌, ◌==◌, if◌then◌else◌, Bool, not, List, [], ◌∷◌, length, Some, Result, Ok, Err}
+use Rattle.dns_split.specs.Pieces.{IsWithin, between}
+use Rattle.dns_split.specs.Splitting.{Entries, with_token}
+use Rattle.dns_split.specs.Standing.{Takes, began_after, blank_at}
+use Rattle.dns_split.specs.declared.pieces.Piece.{Piece as TextPiece}
+use Rattle.dns_split.specs.declared.pieces.Piece.TheVariants.{Word as WordAt, Quote as QuoteAt, Comment as CommentAt, End as EndAt}
+use Rattle.dns_split.specs.declared.pieces.Fault.{Fault as TextFault}
+use Rattle.dns_split.specs.declared.standing.Standing.{Standing as TextStanding}
+use Rattle.dns_text_c.specs.Entries.{bit, refusal_of_wrong}
+use Rattle.dns_text_c.specs.Told.{number_of, IsRefused}
+use Rattle.dns_text_c.specs.declared.outcome.Outcome.{Outcome}
+use Rattle.dns_text_c.specs.declared.outcome.Refusal.TheVariants.{BadCursor}
+use Rattle.dns_text_c.specs.declared.pieces.Piece.{Piece}
+use Rattle.dns_text_c.specs.declared.pieces.Standing.{Standing}
+
+-- any number but 0 says that nothing is left
+abbrev pub standing_of : Standing → TextStanding
+standing_of s = record { at = s.at; depth = s.depth; began = s.began; is_done = not (s.is_done == 0) }
+
+abbrev pub cursor_of : TextStanding → Standing
+cursor_of s = record { at = s.at; depth = s.depth; began = s.began; is_done = bit s.is_done }
+
+abbrev pub piece_at : ℕ → ℕ → ℕ → Bool → Piece
+piece_at kind s e b = record { kind = kind; start = s; end = e; begins_blank = bit b }
+
+-- a piece of an entry that begins with a blank or doesn't, with the number of its kind
+abbrev pub piece_of : TextPiece → Bool → Piece
+piece_of (WordAt p) b = piece_at 0 p.start p.end b
+piece_of (QuoteAt p) b = piece_at 1 p.start p.end b
+piece_of (CommentAt p) b = piece_at 2 p.start p.end b
+piece_of (EndAt e) b = piece_at 3 e.at e.at e.begins_blank
+
+-- the piece is written, or the fault is told and nothing is written
+abbrev pub TellsPiece : Result TextPiece TextFault → Bool → Piece → Piece → ℕ → Outcome → Type 0
+TellsPiece (Ok p) b before after status outcome = (status ≡ 0) × (outcome ≡ record { length = 0; place = 0 }) × (after ≡ piece_of p b)
+TellsPiece (Err f) b before after status outcome = (status ≡ number_of (refusal_of_wrong f.wrong)) × (outcome ≡ record { length = 0; place = f.at }) × (after ≡ before)
+
+-- the first of what is left is taken, and told
+pub record ReadsPiece (text : List ℕ) (old new : Standing) (before after : Piece) (status : ℕ) (outcome : Outcome) : Type 0 where
+  pub given : Result TextPiece TextFault
+  pub takes : Takes text (standing_of old) (Some given) (standing_of new)
+  pub within : IsWithin (length text) given
+  pub told : TellsPiece given (blank_at text old.began) before after status outcome
+  pub began : new.began ≡ began_after given old.began
+  pub stands : (new.at ≤ length text) × (new.depth ≤ new.at) × (new.is_done ≤ 1)
+
+-- a text that is done has no piece; a standing past the end, or with more parentheses open than there are octets before it, is refused; and else the next piece is given
+pub record NextPiece (text : List ℕ) (old new : Standing) (before after : Piece) (status : ℕ) (outcome : Outcome) : Type 0 where
+  pub done : old.is_done ≢ 0 → (status ≡ 1) × (outcome ≡ record { length = 0; place = 0 }) × (new ≡ old) × (after ≡ before)
+  pub past : old.is_done ≡ 0 → (length text < old.at) ⊎ (old.at < old.depth) → IsRefused (record { refusal = BadCursor; place = 0 }) status outcome × (new ≡ old) × (after ≡ before)
+  pub reads : old.is_done ≡ 0 → old.at ≤ length text → old.depth ≤ old.at → ReadsPiece text old new before after status outcome
+
+-- what a call tells: a piece, or a status and the place of a fault
+abbrev pub ToldPiece : Type 0
+ToldPiece = Result Piece (ℕ × ℕ)
+
+abbrev pub told_piece : Bool → Result TextPiece TextFault → ToldPiece
+told_piece b (Ok p) = Ok (piece_of p b)
+told_piece b (Err f) = Err (number_of (refusal_of_wrong f.wrong), f.at)
+
+-- all that is told of what is given, where an entry is open that began at a place
+abbrev pub told_from : List ℕ → ℕ → List (Result TextPiece TextFault) → List ToldPiece
+told_from text began [] = []
+told_from text began (x ∷ given) = told_piece (blank_at text began) x ∷ told_from text (began_after x began) given
+
+-- a call that found something, and what it told
+abbrev pub TellsNext : List ℕ → Standing → Standing → ToldPiece → Type 0
+TellsNext text old new (Ok piece) = (before : Piece) × (outcome : Outcome) × NextPiece text old new before piece 0 outcome
+TellsNext text old new (Err told) =
+    (before : Piece) × (after : Piece) × (n : ℕ) × (told.0 ≢ 0) × (told.0 ≢ 1) × NextPiece text old new before after told.0 (record { length = n; place = told.1 })
+
+-- such calls one after another, each from where the one before left the standing, until the text is done
+abbrev pub PieceCalls : List ℕ → Standing → List ToldPiece → Standing → Type 0
+PieceCalls text standing [] last = (standing.is_done ≢ 0) × (standing ≡ last)
+PieceCalls text standing (told ∷ more) last = (new : Standing) × TellsNext text standing new told × PieceCalls text new more last
+
+-- the octets of a piece that is a word or a quoted text before the entries that follow; the end of an entry begins one
+abbrev pub entry_told : List ℕ → Piece → Entries → Entries
+entry_told text p found = if p.kind == 3 then [] ∷ found else (if p.kind == 2 then found else with_token (between text p.start p.end) found)
+
+-- the words and quoted texts that are told, cut where entries end
+abbrev pub entries_told : List ℕ → List ToldPiece → Entries
+entries_told text [] = []
+entries_told text (Ok p ∷ told) = entry_told text p (entries_told text told)
+entries_told text (Err f ∷ told) = entries_told text told

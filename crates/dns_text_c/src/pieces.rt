@@ -1,0 +1,147 @@
+//! Zone text, piece by piece and with no memory (RFC 1035 section 5.1).
+//!
+//! An octet of 0x80 or more counts as a character of its own, so that comments needn't be UTF-8.
+ghost use Rattle.std.specs.Prelude.{◌≡◌};
+ghost use Rattle.dns_text_c.specs.Pieces.{NextPiece, TellsPiece, cursor_of, piece_of, standing_of};
+
+use crate::outcome::{END, Fault, OK, Outcome, Refusal, number_of, refuse};
+use crate::tokens::{bit, refusal_of_wrong};
+use dns_split::pieces::{Fault as TextFault, Piece as TextPiece};
+use dns_split::standing::{Standing as TextStanding, next_of_octets};
+
+/// A piece of zone text: the octets from `start` to before `end`.
+#[repr(C)]
+#[derive(Clone, Copy, Debug, PartialEq, Eq)]
+pub struct Piece {
+    /// 0 for a word, 1 for a quoted text with its double quotes, 2 for a comment with its
+    /// semicolon, and 3 for the end of an entry, which has no octets and stands where the next
+    /// entry begins.
+    pub kind: usize,
+    pub start: usize,
+    pub end: usize,
+    /// 1 where the piece's entry begins with a blank: such a record takes the owner of the one
+    /// before.
+    pub begins_blank: usize,
+}
+
+/// Where a zone text is read on, with no piece begun.
+#[repr(C)]
+#[derive(Clone, Copy, Debug, PartialEq, Eq)]
+pub struct Standing {
+    /// How many octets stand before it. It is 0 at first.
+    pub at: usize,
+    /// How many parentheses are open. It is 0 at first.
+    pub depth: usize,
+    /// Where the entry begins that is open. It is 0 at first.
+    pub began: usize,
+    /// 1 once nothing is left. It is 0 at first.
+    pub is_done: usize,
+}
+
+/// The standing that a caller passed.
+fn standing_of(cursor: Standing) -> TextStanding
+    ensures { result ≡ standing_of cursor }
+{
+    TextStanding {
+        at: cursor.at,
+        depth: cursor.depth,
+        began: cursor.began,
+        is_done: cursor.is_done != 0,
+    }
+}
+
+/// The standing that a caller gets.
+fn cursor_of(standing: TextStanding) -> Standing
+    ensures { result ≡ cursor_of standing }
+{
+    Standing {
+        at: standing.at,
+        depth: standing.depth,
+        began: standing.began,
+        is_done: bit(standing.is_done),
+    }
+}
+
+/// The piece that a caller gets, of an entry that begins with a blank or doesn't.
+fn piece_of(piece: TextPiece, begins_blank: bool) -> Piece
+    ensures { result ≡ piece_of piece begins_blank }
+{
+    let (kind, start, end, begins_blank) = match piece {
+        TextPiece::Word(span) => (0, span.start, span.end, begins_blank),
+        TextPiece::Quote(span) => (1, span.start, span.end, begins_blank),
+        TextPiece::Comment(span) => (2, span.start, span.end, begins_blank),
+        TextPiece::End(end) => (3, end.at, end.at, end.begins_blank),
+    };
+    Piece {
+        kind,
+        start,
+        end,
+        begins_blank: bit(begins_blank),
+    }
+}
+
+/// Tells of a piece or a fault.
+fn tell_piece(
+    given: Result<TextPiece, TextFault>,
+    begins_blank: bool,
+    piece: &mut Piece,
+    outcome: &mut Outcome,
+) -> u32
+    ensures { TellsPiece given begins_blank piece.old piece.new result outcome.new }
+{
+    match given {
+        Ok(found) => {
+            *piece = piece_of(found, begins_blank);
+            *outcome = Outcome {
+                length: 0,
+                place: 0,
+            };
+            OK
+        }
+        Err(fault) => {
+            *outcome = Outcome {
+                length: 0,
+                place: fault.at,
+            };
+            number_of(refusal_of_wrong(fault.wrong))
+        }
+    }
+}
+
+/// Gives the next piece of a zone text, and moves the standing on.
+///
+/// A fault is told with its place, after the pieces before it, and then the text is done. Once
+/// nothing is left the status is [`END`]. A standing past the end of the text, or with more
+/// parentheses open than octets before it, is refused and stays. The piece is written with the
+/// status [`OK`] alone.
+#[unsafe(no_mangle)]
+pub extern "C" fn dns_tokens_next(
+    text: &[u8],
+    standing: &mut Standing,
+    piece: &mut Piece,
+    outcome: &mut Outcome,
+) -> u32
+    ensures { NextPiece text.now standing.old standing.new piece.old piece.new result outcome.new }
+{
+    *outcome = Outcome {
+        length: 0,
+        place: 0,
+    };
+    if standing.is_done != 0 {
+        return END;
+    }
+    if standing.at > text.len() || standing.depth > standing.at {
+        let fault = Fault {
+            refusal: Refusal::BadCursor,
+            place: 0,
+        };
+        return refuse(fault, outcome);
+    }
+    let mut there = standing_of(*standing);
+    let begins_blank = there.begins_blank(text);
+    let Some(given) = next_of_octets(text, &mut there) else {
+        return END;
+    };
+    *standing = cursor_of(there);
+    tell_piece(given, begins_blank, piece, outcome)
+}

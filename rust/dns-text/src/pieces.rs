@@ -1,0 +1,146 @@
+//! Zone text, piece by piece and with no memory.
+use crate::zone::{Fault, FaultKind};
+use dns_text_sys::{
+    dns_cursor, dns_entry_next, dns_outcome, dns_piece, dns_standing, dns_tokens_next, DNS_COMMENT,
+    DNS_END, DNS_ENTRY_END, DNS_OK, DNS_QUOTED, DNS_WORD,
+};
+use std::iter::FusedIterator;
+use std::ptr;
+
+/// What a piece of zone text is.
+#[derive(Clone, Copy, Debug, PartialEq, Eq)]
+pub enum PieceKind {
+    Word,
+    /// A quoted text with its double quotes.
+    Quoted,
+    /// A comment with its semicolon, without the line's end.
+    Comment,
+    /// The end of an entry: no octets, where the next entry begins.
+    EntryEnd,
+}
+
+impl PieceKind {
+    fn of(kind: usize) -> PieceKind {
+        match kind {
+            DNS_WORD => PieceKind::Word,
+            DNS_QUOTED => PieceKind::Quoted,
+            DNS_COMMENT => PieceKind::Comment,
+            DNS_ENTRY_END => PieceKind::EntryEnd,
+            kind => unreachable!("a piece of kind {kind}"),
+        }
+    }
+}
+
+/// A piece of zone text.
+#[derive(Clone, Copy, Debug, PartialEq, Eq)]
+pub struct Piece<'t> {
+    pub kind: PieceKind,
+    /// Where it begins in the text.
+    pub start: usize,
+    /// The piece as it is spelled.
+    pub text: &'t [u8],
+    /// Whether its entry begins with a blank: such a record takes the owner of the one before.
+    pub begins_blank: bool,
+}
+
+/// The pieces of a zone text, in order, up to a fault: words, quoted texts, comments and ends of
+/// entries, of which the last piece is one. None is copied, and no memory is taken, however long
+/// an entry is.
+///
+/// An octet of 0x80 or more counts as a character of its own.
+///
+/// ```
+/// use dns_text::{pieces, PieceKind};
+///
+/// let mut found = pieces(b"www A 192.0.2.1 ; home\n  TXT (");
+/// let words: Vec<_> = found.by_ref().take(3).map(|piece| piece.unwrap().text).collect();
+/// assert_eq!(words, [b"www".as_slice(), b"A", b"192.0.2.1"]);
+/// assert_eq!(found.next().unwrap()?.text, b"; home");
+/// let end = found.next().unwrap()?;
+/// assert_eq!((end.kind, end.start), (PieceKind::EntryEnd, 23));
+/// assert!(found.next().unwrap()?.begins_blank);
+/// let fault = found.next().unwrap().unwrap_err();
+/// assert_eq!((fault.place, fault.opened), (30, Some(29)));
+/// assert!(found.next().is_none());
+/// # Ok::<(), dns_text::Fault>(())
+/// ```
+pub fn pieces(text: &[u8]) -> Pieces<'_> {
+    Pieces {
+        text,
+        standing: dns_standing::default(),
+    }
+}
+
+/// The pieces of a zone text; see [`pieces`].
+///
+/// It holds the text and four numbers, so that a copy goes back to where it was made.
+#[derive(Clone, Debug)]
+pub struct Pieces<'t> {
+    text: &'t [u8],
+    standing: dns_standing,
+}
+
+impl<'t> Pieces<'t> {
+    fn piece(&self, piece: dns_piece) -> Piece<'t> {
+        Piece {
+            kind: PieceKind::of(piece.kind),
+            start: piece.start,
+            text: &self.text[piece.start..piece.end],
+            begins_blank: piece.begins_blank != 0,
+        }
+    }
+
+    /// Where what is not closed was opened, in the entry that is open.
+    fn opened(&self) -> usize {
+        let mut cursor = dns_cursor {
+            at: self.standing.began,
+            ..dns_cursor::default()
+        };
+        let mut outcome = dns_outcome::default();
+        // SAFETY: the text is as long as is said, and there is no room for tokens.
+        unsafe {
+            dns_entry_next(
+                self.text.as_ptr(),
+                self.text.len(),
+                &mut cursor,
+                ptr::null_mut(),
+                0,
+                &mut outcome,
+            )
+        };
+        cursor.opened
+    }
+}
+
+impl<'t> Iterator for Pieces<'t> {
+    type Item = Result<Piece<'t>, Fault>;
+
+    fn next(&mut self) -> Option<Result<Piece<'t>, Fault>> {
+        let mut piece = dns_piece::default();
+        let mut outcome = dns_outcome::default();
+        // SAFETY: the text is as long as is said, and the call keeps to it.
+        let status = unsafe {
+            dns_tokens_next(
+                self.text.as_ptr(),
+                self.text.len(),
+                &mut self.standing,
+                &mut piece,
+                &mut outcome,
+            )
+        };
+        match status {
+            DNS_OK => Some(Ok(self.piece(piece))),
+            DNS_END => None,
+            status => {
+                let kind = FaultKind::of(status);
+                Some(Err(Fault {
+                    kind,
+                    place: outcome.place,
+                    opened: kind.is_open().then(|| self.opened()),
+                }))
+            }
+        }
+    }
+}
+
+impl FusedIterator for Pieces<'_> {}
