@@ -6,3 +6,4 @@ pub mod Held
 pub mod Layout
 pub mod Place
 pub mod Tokens
+pub mod Writing
