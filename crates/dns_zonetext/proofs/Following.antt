@@ -34,7 +34,7 @@ between_front : (before x : List ℕ) (s e : ℕ) → s ≤ e → e ≤ length b
 between_front before x s e h k =
     ap (take (e - s)) (drop-append-le s before x (omega arith)) ∙ take-append-le (e - s) (drop s before) x (omega (arith, length-drop s before))
 
-between_back : (before x : List ℕ) (s e : ℕ) → between (before ++ x) (length before + s) (length before + e) ≡ between x s e
+pub between_back : (before x : List ℕ) (s e : ℕ) → between (before ++ x) (length before + s) (length before + e) ≡ between x s e
 between_back before x s e =
     let n : length before + e - (length before + s) ≡ e - s = omega arith in
     ap (λ l. take (length before + e - (length before + s)) l) (drop-append-add before x s) ∙ ap (λ m. take m (drop s x)) n

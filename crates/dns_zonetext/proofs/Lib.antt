@@ -13,4 +13,5 @@ pub mod Once
 pub mod Opened
 pub mod Order
 pub mod Passing
+pub mod Together
 pub mod Written

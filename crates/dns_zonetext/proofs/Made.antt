@@ -37,17 +37,17 @@ zone_not_bad octets es f h bad =
     let found = map (moved_piece (place_of octets)) h.0 in
     bad.is.bad.splits_not (cut text found) (pieces_split text found h.1)
 
-zone_none : (octets : List ℕ) (es : List Part) (given : List (Result Piece Fault)) → HasEntries octets es → IsGiven octets given → first_fault given ≡ None
+pub zone_none : (octets : List ℕ) (es : List Part) (given : List (Result Piece Fault)) → HasEntries octets es → IsGiven octets given → first_fault given ≡ None
 zone_none octets es given h g = go (first_fault given) refl
   where
     go : (o : Option Fault) → first_fault given ≡ o → first_fault given ≡ None
     go None none = none
     go (Some f) some = absurd (zone_not_bad octets es f h (fault_of octets given f g.0 g.1 some))
 
-zone_is : (octets : List ℕ) (es : List Part) (given : List (Result Piece Fault)) → HasEntries octets es → IsGiven octets given → es ≡ parts octets (pieces_in given)
+pub zone_is : (octets : List ℕ) (es : List Part) (given : List (Result Piece Fault)) → HasEntries octets es → IsGiven octets given → es ≡ parts octets (pieces_in given)
 zone_is octets es given h g = entries_once octets es (parts octets (pieces_in given)) h (pieces_in given, whole_of octets given g.0 (zone_none octets es given h g), refl)
 
-given_zone : (octets : List ℕ) (found : List Piece) → IsGiven octets (map Ok found) → HasEntries octets (parts octets (pieces_in (map Ok found)))
+pub given_zone : (octets : List ℕ) (found : List Piece) → IsGiven octets (map Ok found) → HasEntries octets (parts octets (pieces_in (map Ok found)))
 given_zone octets found g = (pieces_in (map Ok found), whole_of octets (map Ok found) g.0 (first_of_oks found), refl)
 
 -- and some part
@@ -114,6 +114,11 @@ ends_join front ended n at e (inr k) =
       ),
     )
 
+pub pieces_moved : (g : ℕ → ℕ) (given : List (Result Piece Fault)) → pieces_in (map (moved g) given) ≡ map (moved_piece g) (pieces_in given)
+pieces_moved g [] = refl
+pieces_moved g (Ok p ∷ given) = ap (λ l. moved_piece g p ∷ l) (pieces_moved g given)
+pieces_moved g (Err f ∷ given) = pieces_moved g given
+
 lines_zone : (before x written more : List ℕ) (gap : Gap) (es : List Part) → AreOctets before → AreOctets x → EndsEntry before → HasLines before gap written → HasEntries x es
     → more ≡ laid_out gap false es → HasLines (before ++ x) gap (written ++ more)
 lines_zone before x written more gap es b o e w h k =
@@ -136,11 +141,6 @@ lines_zone before x written more gap es b o e w h k =
       ap (λ l. l ++ more) own ∙ ap (λ l. laid_out gap false (parts before r.front ++ Ends false ∷ []) ++ l) k
           ∙ lines_joined gap before r.front es r.ended (some_part x es h) ∙ ap (laid_out gap false) (sym shape),
     )
-  where
-    pieces_moved : (g : ℕ → ℕ) (given : List (Result Piece Fault)) → pieces_in (map (moved g) given) ≡ map (moved_piece g) (pieces_in given)
-    pieces_moved g [] = refl
-    pieces_moved g (Ok p ∷ given) = ap (λ l. moved_piece g p ∷ l) (pieces_moved g given)
-    pieces_moved g (Err f ∷ given) = pieces_moved g given
 
 lines_bad : (before x written more : List ℕ) (gap : Gap) (at : ℕ) (f : FaultAfter x at) → AreOctets before → AreOctets x → EndsEntry before → HasLines before gap written
     → more ≡ laid_out gap false (parts x f.ended ++ Ends false ∷ []) → HasLines (before ++ x) gap (written ++ more)

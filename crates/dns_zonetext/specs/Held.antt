@@ -10,3 +10,8 @@ pub record Held : Type 0 where
 pub record Writing : Type 0 where
   pub output : Output
   pub held : Held
+
+-- of two texts
+pub record Both : Type 0 where
+  pub first : Held
+  pub second : Held

@@ -1,5 +1,6 @@
 pub mod Blocks
 pub mod Compare
+pub mod Comparing
 pub mod Entries
 pub mod Found
 pub mod Held

@@ -37,6 +37,14 @@ impl From<AllocError> for Halt {
     }
 }
 
+/// Octets as they are: each is below 256.
+fn as_octets(octets: &[u8]) -> &[u8]
+    ensures same { result.now ≡ octets.now }
+    ensures octets { AreOctets octets.now }
+{
+    octets
+}
+
 /// Where the last entry ends that is the same whatever follows the octets, or 0; or the fault
 /// that they have whatever follows.
 fn settled(octets: &[u8]) -> Result<usize, Fault>
@@ -173,9 +181,11 @@ impl<A: Allocator> Checker<A> {
 
     /// The octets that are held.
     pub(crate) fn held(&self) -> &[u8]
-        ensures { result.now ≡ self.now.octets }
+        ensures held { result.now ≡ self.now.octets }
+        ensures octets { AreOctets self.now.octets }
+        ensures room { length self.now.octets + 2 < 2 ^ 64 }
     {
-        self.held.as_slice()
+        as_octets(self.held.as_slice())
     }
 
     /// How many lines end before them.

@@ -6,6 +6,7 @@
 //! - [`layout::lay_out`] writes a line for each entry.
 //! - [`writer::Writer`] writes either of octets that come in blocks.
 //! - [`diff::diff`] compares the entries of two texts.
+//! - [`comparer::Comparer`] compares those of two texts that come in blocks.
 //!
 //! Octets need not be UTF-8: each counts as a character of the grammar, so that a comment in
 //! another encoding refuses no zone.
@@ -15,6 +16,9 @@
 mod block_tests;
 pub mod blocks;
 pub mod check;
+pub mod comparer;
+#[cfg(test)]
+mod comparer_tests;
 pub mod diff;
 #[cfg(test)]
 mod entry_tests;

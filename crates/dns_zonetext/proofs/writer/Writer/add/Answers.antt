@@ -30,7 +30,7 @@ returns-in_default-clause-written g c = λ all written x.
     let held = c.in_ok-take.ensures in
     let here = wrote_more all block written output c.self.inside.checker c.take.new.self (subst (Wrote all written) (sym c.self.view_is) x) held.0 held.1 in
     let m = c.in_default.ensures.made in
-    let made = subst (λ l. Makes output (take c.in-Ok.cut l) c.lines_before-lines.result m.0) c.held.ensures m.2 in (
+    let made = subst (λ l. Makes output (take c.in-Ok.cut l) c.lines_before-lines.result m.0) c.held.ensures.held m.2 in (
       m.0,
       m.1,
       wrote_on _ written m.0 output c.take.new.self c.release.new.self c.in-Ok.cut c.lines_before-lines.result here c.in-Ok.ensures.octets c.in-Ok.ensures.settled
@@ -52,7 +52,7 @@ returns-in_default-write-clause-written g c = λ all written x.
     let here = wrote_more all block written output c.self.inside.checker c.take.new.self (subst (Wrote all written) (sym c.self.view_is) x) held.0 held.1 in
     let m = c.in_default-write.ensures.made in
     let s = c.in-Err.ensures.settled in
-    let made = subst (λ l. Makes output l c.lines_before-lines.result m.0) c.held-held.ensures m.2 in (
+    let made = subst (λ l. Makes output l c.lines_before-lines.result m.0) c.held-held.ensures.held m.2 in (
       m.0,
       m.1,
       λ rest o.

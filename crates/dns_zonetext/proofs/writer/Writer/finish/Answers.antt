@@ -14,8 +14,8 @@ returns-in-Ok-clause-written g c = λ all written x.
     let h = c.self.inside.checker in
     let output = c.self.inside.output in
     let m = c.in_ok-write.ensures.made in
-    let o = subst AreOctets c.held.ensures c.write.ensures.octets in
-    let made = subst (λ l. Makes output l c.lines_before-lines.result m.0) c.held.ensures m.2 in
+    let o = subst AreOctets c.held.ensures.held c.write.ensures.octets in
+    let made = subst (λ l. Makes output l c.lines_before-lines.result m.0) c.held.ensures.held m.2 in
     let here = wrote_rest all written m.0 output h c.lines_before-lines.result (subst (Wrote all written) (sym c.self.view_is) x) o c.lines_before-lines.ensures.lines made in
     (m.0, m.1, subst (λ (w : Writing). Makes w.output all 0 (written ++ m.0)) c.self.view_is here)
 
@@ -24,7 +24,7 @@ returns-in-Err-clause-written g c = λ all written x.
     let h = c.self.inside.checker in
     let output = c.self.inside.output in
     let m = c.in_ok-write.ensures.made in
-    let o = subst AreOctets c.held.ensures c.write.ensures.octets in
-    let made = subst (λ l. Makes output l c.lines_before-lines.result m.0) c.held.ensures m.2 in
+    let o = subst AreOctets c.held.ensures.held c.write.ensures.octets in
+    let made = subst (λ l. Makes output l c.lines_before-lines.result m.0) c.held.ensures.held m.2 in
     let here = wrote_rest all written m.0 output h c.lines_before-lines.result (subst (Wrote all written) (sym c.self.view_is) x) o c.lines_before-lines.ensures.lines made in
     (m.0, m.1, subst (λ (w : Writing). Makes w.output all 0 (written ++ m.0)) c.self.view_is here)
