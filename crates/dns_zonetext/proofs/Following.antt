@@ -1,33 +1,26 @@
 -- Rows and lines of octets that follow the end of an entry.
-use Rattle.std.proofs.Common.{◌≡◌, ℕ, ◌+◌, ◌-◌, ◌<◌, ◌≤◌, Bool, true, false, List, [], ◌∷◌, ◌++◌, length, take, drop, refl, sym, ap, ◌∙◌, subst, arith, inl, inr}
-use Rattle.std.proofs.Common.{append-nil, append_assoc, length-append, length-drop, length-take-le}
-use Rattle.std.specs.Prelude.{◌⊎◌, ◌||◌, ◌&&◌, not, Option, Some, None, option_map, map, Result, Ok, Err, codes, encode_utf8_all}
+use Rattle.std.proofs.Common.{◌≡◌, ℕ, ◌+◌, ◌-◌, ◌<◌, ◌≤◌, Bool, true, false, List, [], ◌∷◌, ◌++◌, length, take, drop, refl, sym, ap, ◌∙◌, arith, inl, inr}
+use Rattle.std.proofs.Common.{append-nil, append_assoc, length-drop}
+use Rattle.std.specs.Prelude.{◌||◌, ◌&&◌, not, map, Result, Ok, Err, codes}
 use Rattle.std.specs.List.{flat_map}
 use Rattle.std.proofs.lemmas.Grind.{flat_map-append}
-use Rattle.std.proofs.lemmas.List.{map-append, take-append-le, take-append-drop, drop-append-le}
+use Rattle.std.proofs.lemmas.List.{take-append-le, drop-append-le}
 use Rattle.std.proofs.Math.Seq.{take-append-add, drop-append-add}
 use Rattle.dns_split.specs.declared.pieces.Piece.{Piece}
 use Rattle.dns_split.specs.declared.pieces.Piece.TheVariants.{Word as WordAt, Quote as QuoteAt, Comment as CommentAt, End as EndAt}
 use Rattle.dns_split.specs.declared.pieces.Fault.{Fault}
-use Rattle.dns_split.specs.Pieces.{AreOctets, EachWithin, IsGiven, between, cut, end_at, later, moved, moved_fault, moved_piece, place_of}
-use Rattle.dns_split.proofs.Blocks.{faults_stay}
+use Rattle.dns_split.specs.Pieces.{AreOctets, EachWithin, between, end_at, later, moved_piece}
 use Rattle.dns_split.proofs.OctetsOnce.{given_once}
-use Rattle.dns_split.proofs.PieceSplit.{pieces_split}
 use Rattle.dns_zonetext.specs.declared.layout.Gap.{Gap}
 use Rattle.dns_zonetext.specs.declared.tokens.Form.{Form}
-use Rattle.dns_zonetext.specs.declared.writer.Output.{Output}
-use Rattle.dns_zonetext.specs.declared.writer.Output.TheVariants.{Rows, Lines}
 use Rattle.dns_zonetext.specs.Blocks.{EndsEntry}
-use Rattle.dns_zonetext.specs.Entries.{Part, Token, Ends, HasEntries, parts}
+use Rattle.dns_zonetext.specs.Entries.{Part, Token, Ends, parts}
 use Rattle.dns_zonetext.specs.Layout.{feed_before, gap_if, laid_out, leads}
 use Rattle.dns_zonetext.specs.Place.{column_of, feeds}
 use Rattle.dns_zonetext.specs.Tokens.{Appended, row, row_at, row_of}
-use Rattle.dns_zonetext.specs.Writing.{EndsAt, FaultAfter, HasLines, LinesBefore, Makes, has_end}
-use Rattle.dns_zonetext.proofs.Comparing.{parts_append, pieces_after}
-use Rattle.dns_zonetext.proofs.Cuts.{EndedFront, ReadOn, cut_given, fault_after, first_on, none_given, read_on}
+use Rattle.dns_zonetext.proofs.Comparing.{parts_append}
+use Rattle.dns_zonetext.proofs.Cuts.{EndedFront, read_on}
 use Rattle.dns_zonetext.proofs.Feeds.{EndsFeed, column_after, ends_feed, feeds_after}
-use Rattle.dns_zonetext.proofs.Givens.{fault_of, first_fault, first_of_oks, moved_oks, pieces_in, whole_of}
-use Rattle.dns_zonetext.proofs.Once.{entries_once}
 
 -- between places of octets that come first, and of octets that follow
 between_front : (before x : List ℕ) (s e : ℕ) → s ≤ e → e ≤ length before → between (before ++ x) s e ≡ between before s e

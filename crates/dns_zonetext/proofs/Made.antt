@@ -1,7 +1,7 @@
 -- What is made of octets that follow the end of an entry, and of octets with a fault that stays.
-use Rattle.std.proofs.Common.{◌≡◌, ℕ, zero, suc, ◌+◌, ◌<◌, ◌≤◌, Bool, true, false, List, [], ◌∷◌, ◌++◌, length, take, drop, refl, sym, ap, ◌∙◌, subst, arith, inl, inr}
+use Rattle.std.proofs.Common.{◌≡◌, ℕ, zero, suc, ◌+◌, ◌<◌, Bool, true, false, List, [], ◌∷◌, ◌++◌, length, take, drop, refl, sym, ap, ◌∙◌, subst, arith, inl, inr}
 use Rattle.std.proofs.Common.{append-nil, append_assoc, length-append, take_all}
-use Rattle.std.specs.Prelude.{◌⊎◌, Option, Some, None, option_map, map, Result, Ok, Err, encode_utf8_all}
+use Rattle.std.specs.Prelude.{Option, Some, None, option_map, map, Result, Ok, Err, encode_utf8_all}
 use Rattle.std.specs.List.{flat_map}
 use Rattle.std.proofs.lemmas.Grind.{flat_map-append}
 use Rattle.std.proofs.lemmas.List.{map-append, take-append-drop}
@@ -9,7 +9,7 @@ use Rattle.dns_split.specs.declared.pieces.Piece.{Piece}
 use Rattle.dns_split.specs.declared.pieces.Piece.TheVariants.{Word as WordAt, Quote as QuoteAt, Comment as CommentAt, End as EndAt}
 use Rattle.dns_split.specs.declared.pieces.Fault.{Fault}
 use Rattle.dns_split.specs.Lexeme.{Lexeme, Blank, Line, Open, Close, Note, Word, Quote}
-use Rattle.dns_split.specs.Pieces.{AreOctets, EachWithin, IsGiven, IsPieces, begins_blank, cut, end_at, later, moved, moved_fault, moved_piece, pieces, place_of}
+use Rattle.dns_split.specs.Pieces.{AreOctets, EachWithin, IsGiven, begins_blank, cut, end_at, later, moved, moved_fault, moved_piece, pieces, place_of}
 use Rattle.dns_split.proofs.Blocks.{faults_stay}
 use Rattle.dns_split.proofs.OctetsOnce.{given_once, run_given}
 use Rattle.dns_split.proofs.PieceSplit.{pieces_split}
@@ -23,7 +23,7 @@ use Rattle.dns_zonetext.specs.Found.{IsOctetFault}
 use Rattle.dns_zonetext.specs.Layout.{laid_out}
 use Rattle.dns_zonetext.specs.Place.{feeds}
 use Rattle.dns_zonetext.specs.Tokens.{Appended, row_of}
-use Rattle.dns_zonetext.specs.Writing.{EndsAt, FaultAfter, HasLines, LinesBefore, Makes, Until, has_end}
+use Rattle.dns_zonetext.specs.Writing.{EndsAt, FaultAfter, HasLines, Makes, Until, has_end}
 use Rattle.dns_zonetext.proofs.Comparing.{parts_append, pieces_after}
 use Rattle.dns_zonetext.proofs.Cuts.{EndedFront, cut_given, fault_after, first_on, none_given, read_on}
 use Rattle.dns_zonetext.proofs.Following.{lines_joined, parts_back, parts_front, rows_follow, rows_front}

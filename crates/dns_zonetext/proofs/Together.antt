@@ -1,5 +1,5 @@
 -- Two texts whose entries are the same so far.
-use Rattle.std.proofs.Common.{◌≡◌, ℕ, ◌+◌, ◌-◌, ◌<◌, ◌≤◌, Bool, false, List, [], ◌∷◌, ◌++◌, length, take, drop, refl, sym, ap, ◌∙◌, subst, arith, inl, inr, append_assoc, length-append, ◌==◌, cond}
+use Rattle.std.proofs.Common.{◌≡◌, ℕ, ◌+◌, ◌-◌, ◌<◌, ◌≤◌, false, List, [], ◌∷◌, ◌++◌, length, take, refl, sym, ap, ◌∙◌, subst, arith, inl, inr, append_assoc, length-append, ◌==◌, cond}
 use Rattle.std.specs.Prelude.{Option, Some, None, option_map, map, Result, Ok, Err}
 use Rattle.std.proofs.lemmas.List.{append_cancel_right, map-append}
 use Rattle.std.proofs.lemmas.List.Sums.{count_by-le-length, sum_by-take-le}
@@ -10,21 +10,20 @@ use Rattle.dns_split.specs.declared.pieces.Fault.{Fault}
 use Rattle.dns_split.specs.declared.position.Position.{Position}
 use Rattle.dns_split.specs.Pieces.{AreOctets, IsGiven, end_at, later, moved, moved_fault, moved_piece}
 use Rattle.dns_split.proofs.OctetsOnce.{run_given}
-use Rattle.dns_zonetext.specs.declared.check.Found.{Found}
-use Rattle.dns_zonetext.specs.declared.diff.Comparison.TheVariants.{Same, Differ}
+use Rattle.dns_zonetext.specs.declared.diff.Comparison.TheVariants.{Differ}
 use Rattle.dns_zonetext.specs.Blocks.{EndsEntry, Holds, Releases, Settled}
 use Rattle.dns_zonetext.specs.Compare.{ComesNext, Compares, DifferAt, GoesOn, part, start_of}
 use Rattle.dns_zonetext.specs.Comparing.{Compared, EndTwice}
 use Rattle.dns_zonetext.specs.Entries.{Part, Token, Ends, HasEntries, parts}
-use Rattle.dns_zonetext.specs.Found.{IsFound, IsOctetFault, IsZone}
+use Rattle.dns_zonetext.specs.Found.{IsOctetFault, IsZone}
 use Rattle.dns_zonetext.specs.Held.{Both, Held}
 use Rattle.dns_zonetext.specs.Place.{IsAt, column_of, feeds}
 use Rattle.dns_zonetext.proofs.Comparing.{no_common, parts_append, pieces_after}
 use Rattle.dns_zonetext.proofs.Cuts.{ReadOn, first_on, none_given, read_on, take_octets}
 use Rattle.dns_zonetext.proofs.Feeds.{column_after, ends_feed, feeds_after}
 use Rattle.dns_zonetext.proofs.Following.{between_back, parts_back, parts_front}
-use Rattle.dns_zonetext.proofs.Givens.{all_ok, fault_of, first_fault, moved_oks, pieces_in, whole_of}
-use Rattle.dns_zonetext.proofs.Holding.{added, let_go}
+use Rattle.dns_zonetext.proofs.Givens.{fault_of, first_fault, moved_oks, pieces_in, whole_of}
+use Rattle.dns_zonetext.proofs.Holding.{let_go}
 use Rattle.dns_zonetext.proofs.Made.{given_zone, pieces_moved, zone_is, zone_none, zone_not_bad}
 
 abbrev last : List Part

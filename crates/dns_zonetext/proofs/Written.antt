@@ -1,12 +1,12 @@
 -- What was written of all octets.
-use Rattle.std.proofs.Common.{◌≡◌, ℕ, ◌+◌, ◌-◌, ◌<◌, List, [], ◌∷◌, ◌++◌, length, take, drop, refl, sym, ap, ◌∙◌, subst, arith, append_assoc, length-append}
+use Rattle.std.proofs.Common.{◌≡◌, ℕ, ◌+◌, ◌-◌, List, [], ◌∷◌, ◌++◌, length, take, sym, ap, ◌∙◌, subst, arith, append_assoc, length-append}
 use Rattle.std.specs.Prelude.{map, Result, Ok, Err}
 use Rattle.std.proofs.lemmas.List.{map-append}
 use Rattle.dns_split.specs.declared.pieces.Piece.{Piece}
 use Rattle.dns_split.specs.declared.pieces.Fault.{Fault}
 use Rattle.dns_split.specs.Pieces.{AreOctets, IsGiven, later, moved, moved_fault, moved_piece}
 use Rattle.dns_zonetext.specs.declared.writer.Output.{Output}
-use Rattle.dns_zonetext.specs.Blocks.{Holds, Releases, Settled}
+use Rattle.dns_zonetext.specs.Blocks.{Releases, Settled}
 use Rattle.dns_zonetext.specs.Held.{Held, Writing}
 use Rattle.dns_zonetext.specs.Place.{IsAt, feeds}
 use Rattle.dns_zonetext.specs.Writing.{Makes, Wrote}

@@ -1,6 +1,7 @@
 -- Two zone texts that come in blocks, and are compared.
-use Rattle.std.specs.Prelude.{ℕ, ◌<◌, ◌⊎◌, List, map, Ok, ◌≡◌, length}
-use Rattle.dns_zonetext.specs.Blocks.{Holds, IsCut}
+use Rattle.std.specs.Prelude.{ℕ, ◌<◌, ◌⊎◌, List, Err, ◌≡◌}
+use Rattle.dns_split.specs.declared.pieces.Fault.{Fault}
+use Rattle.dns_zonetext.specs.Blocks.{Holds, IsCut, Settled}
 use Rattle.dns_zonetext.specs.Entries.{Part, HasEntries}
 use Rattle.dns_zonetext.specs.Held.{Both}
 
@@ -15,3 +16,7 @@ pub record Compared (one other : List ℕ) (c : Both) : Type 0 where
 -- two entries end, and something follows
 abbrev pub EndTwice : List ℕ → Type 0
 EndTwice octets = (at : ℕ) × (later : ℕ) × (at < later) × IsCut octets later × ((at ≡ 0) ⊎ IsCut octets at)
+
+-- or there is a fault that stays
+abbrev pub Suffices : List ℕ → Type 0
+Suffices octets = EndTwice octets ⊎ ((f : Fault) × Settled octets (Err f))

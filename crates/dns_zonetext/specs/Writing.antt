@@ -1,5 +1,5 @@
 -- What is written of octets that come in blocks.
-use Rattle.std.specs.Prelude.{⊤, ◌≡◌, ℕ, ◌⊎◌, Bool, true, false, List, [], ◌∷◌, ◌++◌, length, take, map, Result, Ok, Err, ◌≤◌}
+use Rattle.std.specs.Prelude.{⊤, ◌≡◌, ℕ, ◌⊎◌, Bool, true, false, List, [], ◌∷◌, ◌++◌, length, map, Result, Ok, Err}
 use Rattle.dns_split.specs.Pieces.{AreOctets, IsGiven, end_at}
 use Rattle.dns_split.specs.declared.pieces.Piece.{Piece}
 use Rattle.dns_split.specs.declared.pieces.Piece.TheVariants.{Word as WordAt, Quote as QuoteAt, Comment as CommentAt, End as EndAt}
@@ -12,7 +12,7 @@ use Rattle.dns_zonetext.specs.declared.writer.Output.TheVariants.{Rows, Lines}
 use Rattle.dns_zonetext.specs.Blocks.{Holds}
 use Rattle.dns_zonetext.specs.Entries.{Part, Ends, HasEntries, parts}
 use Rattle.dns_zonetext.specs.Found.{IsFound}
-use Rattle.dns_zonetext.specs.Held.{Held, Writing}
+use Rattle.dns_zonetext.specs.Held.{Writing}
 use Rattle.dns_zonetext.specs.Layout.{laid_out}
 use Rattle.dns_zonetext.specs.Tokens.{Appended}
 

@@ -3,7 +3,7 @@ ghost use Rattle.std.specs.Prelude.{◌≡◌, ◌+◌, ◌-◌, ◌<◌, ◌^�
 ghost use Rattle.dns_split.specs.Pieces.{AreOctets};
 ghost use Rattle.dns_zonetext.specs.Blocks.{Settled, Takes};
 ghost use Rattle.dns_zonetext.specs.Compare.{Compares};
-ghost use Rattle.dns_zonetext.specs.Comparing.{Compared, EndTwice};
+ghost use Rattle.dns_zonetext.specs.Comparing.{Compared, Suffices};
 
 use crate::blocks::{Checker, Halt};
 use crate::diff::{Comparison, diff};
@@ -106,21 +106,31 @@ impl<A: Allocator + Copy> Comparer<A> {
         self.second.take(block)
     }
 
-    /// Whether the first may have less than two entries that have ended: then more of it is needed
-    /// to compare.
+    /// Whether more of the first may be needed to compare: not where two entries have ended that
+    /// are held, and not where there is a fault that stays whatever follows.
     pub fn wants_first(&self) -> bool
-        ensures { result ≡ false → EndTwice self.now.first.octets }
+        ensures { result ≡ false → Suffices self.now.first.octets }
     {
-        let held = self.first.held();
-        cut_after(held, 2) <= cut_after(held, 1)
+        match self.first.settle() {
+            Ok(_) => {
+                let held = self.first.held();
+                cut_after(held, 2) <= cut_after(held, 1)
+            }
+            Err(_) => false,
+        }
     }
 
     /// The same of the second.
     pub fn wants_second(&self) -> bool
-        ensures { result ≡ false → EndTwice self.now.second.octets }
+        ensures { result ≡ false → Suffices self.now.second.octets }
     {
-        let held = self.second.held();
-        cut_after(held, 2) <= cut_after(held, 1)
+        match self.second.settle() {
+            Ok(_) => {
+                let held = self.second.held();
+                cut_after(held, 2) <= cut_after(held, 1)
+            }
+            Err(_) => false,
+        }
     }
 
     /// Lets the entries go that have ended in both, if they are the same.

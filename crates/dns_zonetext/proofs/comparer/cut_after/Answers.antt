@@ -1,5 +1,5 @@
 use Rattle.std.proofs.Common.{◌≡◌, ◌<◌, ◌∷◌, sym, ap, ◌∙◌, subst, length, inl, inr, arith, refl}
-use Rattle.std.specs.Prelude.{Ok, Err}
+use Rattle.std.specs.Prelude.{Ok}
 use Rattle.dns_split.specs.declared.pieces.Piece.TheVariants.{End as EndAt}
 use Rattle.dns_split.specs.Pieces.{IsGiven}
 use Rattle.dns_split.proofs.OctetsOnce.{are_octets}

@@ -3,7 +3,6 @@ use Rattle.dns_zonetext.specs.Compare.{DifferAt}
 use Rattle.dns_zonetext.specs.Comparing.{Compared}
 use Rattle.dns_zonetext.specs.Entries.{HasEntries}
 use Rattle.dns_zonetext.specs.Found.{IsFound}
-use Rattle.dns_zonetext.specs.Held.{Both}
 use Rattle.dns_zonetext.proofs.Together.{both, compared_differ, compared_same, still_well}
 use Rattle.dns_zonetext.proofs.comparer.Comparer.finish.Goals as goal
 

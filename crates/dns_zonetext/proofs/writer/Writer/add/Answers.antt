@@ -1,4 +1,4 @@
-use Rattle.std.proofs.Common.{◌++◌, ◌∙◌, append-nil, append_assoc, sym, subst, take}
+use Rattle.std.proofs.Common.{◌++◌, append-nil, sym, subst, take}
 use Rattle.std.specs.Prelude.{[]}
 use Rattle.dns_zonetext.specs.Blocks.{Holds}
 use Rattle.dns_zonetext.specs.Held.{Writing}
