@@ -137,7 +137,7 @@ ends_line text xs j s t p =
     }
 
 -- an entry's end is a line's end
-entry_line : (octets : List ℕ) (found : List Piece) (blank : Bool) → IsGiven octets (map Ok found ++ Ok (end_at (length octets) blank) ∷ Ok (end_at (length octets) false) ∷ [])
+pub entry_line : (octets : List ℕ) (found : List Piece) (blank : Bool) → IsGiven octets (map Ok found ++ Ok (end_at (length octets) blank) ∷ Ok (end_at (length octets) false) ∷ [])
     → EndsLine (encode_utf8_all octets)
 entry_line octets found blank given =
     let n : ℕ = length octets in

@@ -1,7 +1,7 @@
 -- Octets that follow the end of an entry.
 use Rattle.std.proofs.Common.{◌≡◌, ℕ, ◌+◌, ◌<◌, ◌≤◌, Bool, false, List, [], ◌∷◌, ◌++◌, length, take, drop, refl, sym, ap, ◌∙◌, subst, arith, inl, inr}
 use Rattle.std.proofs.Common.{append-nil, append_assoc, length-append, length-take-le, take_all}
-use Rattle.std.specs.Prelude.{option_map, map, Result, Ok, Err}
+use Rattle.std.specs.Prelude.{◌⊎◌, option_map, map, Result, Ok, Err}
 use Rattle.std.proofs.lemmas.List.{take-append-drop, map-append}
 use Rattle.dns_split.specs.declared.pieces.Piece.{Piece}
 use Rattle.dns_split.specs.declared.pieces.Fault.{Fault}
@@ -30,11 +30,11 @@ pub take_octets : (n : ℕ) (xs : List ℕ) → AreOctets xs → AreOctets (take
 take_octets n xs h = front_octets (take n xs) (drop n xs) (subst AreOctets (sym (take-append-drop n xs)) h)
 
 -- no octets are an entry without any
-none_given : IsGiven [] (Ok (end_at 0 false) ∷ [])
+pub none_given : IsGiven [] (Ok (end_at 0 false) ∷ [])
 none_given = run_given [] refl
 
 -- the octets up to a cut are zone text, and the last entry has none
-cut_given : (octets : List ℕ) (found : List Piece) (at : ℕ) (blank : Bool) (more : List (Result Piece Fault)) → AreOctets octets
+pub cut_given : (octets : List ℕ) (found : List Piece) (at : ℕ) (blank : Bool) (more : List (Result Piece Fault)) → AreOctets octets
     → IsGiven octets (map Ok found ++ Ok (end_at at blank) ∷ more) → 0 < length more → IsGiven (take at octets) (map Ok found ++ Ok (end_at at blank) ∷ Ok (end_at at false) ∷ [])
 cut_given octets found at blank more o g some =
     let stay = entries_stay octets [] found at blank more (Ok (end_at 0 false) ∷ []) o refl g some none_given in
@@ -42,14 +42,25 @@ cut_given octets found at blank more o g some =
     subst (λ l. IsGiven l (map Ok found ++ Ok (end_at at blank) ∷ Ok (end_at at false) ∷ [])) (append-nil (take at octets))
     (subst (λ n. IsGiven (take at octets ++ []) (map Ok found ++ Ok (end_at at blank) ∷ Ok (end_at n false) ∷ [])) here stay)
 
+-- no pieces, or the last is an entry's end
+abbrev pub EndedFront : List Piece → Type 0
+EndedFront front = (front ≡ []) ⊎ ((first : List Piece) × (at : ℕ) × (blank : Bool) × (front ≡ first ++ end_at at blank ∷ []))
+
 -- what follows the end of an entry is read by itself
 pub record ReadOn (before octets : List ℕ) (alone : List (Result Piece Fault)) : Type 0 where
   pub front : List Piece
+  pub own : IsGiven before (map Ok front ++ Ok (end_at (length before) false) ∷ [])
+  pub ended : EndedFront front
   pub is : IsGiven (before ++ octets) (map Ok front ++ later (length before) alone)
 
 pub read_on : (before octets : List ℕ) (alone : List (Result Piece Fault)) → AreOctets before → AreOctets octets → EndsEntry before → IsGiven octets alone → ReadOn before octets alone
 read_on before octets alone b o (inl none) g =
-    record { front = []; is = subst (λ l. IsGiven (l ++ octets) (later (length l) alone)) (sym none) (nothing_given octets alone o g) }
+    record {
+      front = [];
+      own = subst (λ l. IsGiven l (Ok (end_at (length l) false) ∷ [])) (sym none) none_given;
+      ended = inl refl;
+      is = subst (λ l. IsGiven (l ++ octets) (later (length l) alone)) (sym none) (nothing_given octets alone o g);
+    }
 read_on before octets alone b o (inr e) g =
     let found : List Piece = e.0 in
     let blank : Bool = e.1 in
@@ -57,6 +68,10 @@ read_on before octets alone b o (inr e) g =
     let all : take (length before) before ≡ before = take_all (length before) before (omega arith) in
     record {
       front = found ++ end_at (length before) blank ∷ [];
+      own = subst (IsGiven before)
+          (sym (append_assoc (map Ok found) (Ok (end_at (length before) blank) ∷ []) (Ok (end_at (length before) false) ∷ []))
+          ∙ ap (λ l. l ++ Ok (end_at (length before) false) ∷ []) (sym (map-append Ok found (end_at (length before) blank ∷ [])))) e.2;
+      ended = inr (found, length before, blank, refl);
       is = subst (λ l. IsGiven (before ++ octets) l)
           (sym (append_assoc (map Ok found) (Ok (end_at (length before) blank) ∷ []) (later (length before) alone))
           ∙ ap (λ l. l ++ later (length before) alone) (sym (map-append Ok found (end_at (length before) blank ∷ []))))

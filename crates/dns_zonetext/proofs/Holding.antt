@@ -46,7 +46,7 @@ pub ended_well : (all : List ℕ) (h : Held) → Holds all h → AreOctets h.oct
 ended_well all h x o e = subst IsZone (sym x.is) (zone_on x.before h.octets e.0 x.octets o x.ended e.1)
 
 -- one more block
-pub added : (all block : List ℕ) (old new : Held) → Holds all old → new.octets ≡ old.octets ++ block → new.place ≡ old.place → Holds (all ++ block) new
+unfoldable pub added : (all block : List ℕ) (old new : Held) → Holds all old → new.octets ≡ old.octets ++ block → new.place ≡ old.place → Holds (all ++ block) new
 added all block old new x is place = record {
   before = x.before;
   is = ap (λ l. l ++ block) x.is ∙ append_assoc x.before old.octets block ∙ ap (λ l. x.before ++ l) (sym is);
@@ -56,14 +56,14 @@ added all block old new x is place = record {
   position = subst (λ p. IsAt 0 x.before p.position) (sym place) x.position;
 }
 
-ended_at : (before octets : List ℕ) (cut : ℕ) → AreOctets before → AreOctets octets → EndsEntry before → Settled octets (Ok cut) → EndsEntry (before ++ take cut octets)
+pub ended_at : (before octets : List ℕ) (cut : ℕ) → AreOctets before → AreOctets octets → EndsEntry before → Settled octets (Ok cut) → EndsEntry (before ++ take cut octets)
 ended_at before octets cut b o e s = elim s.1 [
   | inl none ↦ subst (λ n. EndsEntry (before ++ take n octets)) (sym none) (subst EndsEntry (sym (append-nil before)) e)
   | inr c ↦ ended_on before octets cut b o e s.0 c
 ]
 
 -- octets are let go
-pub let_go : (all : List ℕ) (old new : Held) (cut : ℕ) → Holds all old → AreOctets old.octets → Settled old.octets (Ok cut) → new.octets ≡ drop cut old.octets → new.place.at ≡ old.place.at + cut
+unfoldable pub let_go : (all : List ℕ) (old new : Held) (cut : ℕ) → Holds all old → AreOctets old.octets → Settled old.octets (Ok cut) → new.octets ≡ drop cut old.octets → new.place.at ≡ old.place.at + cut
     → ((before : List ℕ) → IsAt 0 before old.place.position → IsAt 0 (before ++ take cut old.octets) new.place.position) → Holds all new
 let_go all old new cut x o s is at position = record {
   before = x.before ++ take cut old.octets;

@@ -2,11 +2,16 @@ pub mod After
 pub mod Columns
 pub mod Comparing
 pub mod Cuts
+pub mod Feeds
+pub mod Following
 pub mod Givens
 pub mod Holding
 pub mod Layouts
 pub mod Lines
+pub mod Made
 pub mod Once
 pub mod Opened
 pub mod Order
 pub mod Passing
+pub mod Together
+pub mod Written

@@ -8,6 +8,7 @@ use Rattle.dns_split.specs.declared.pieces.Piece.TheVariants.{Word as WordAt, Qu
 use Rattle.dns_split.specs.declared.pieces.Fault.{Fault}
 use Rattle.dns_split.specs.Pieces.{IsGiven, EachWithin, end_at}
 use Rattle.dns_zonetext.specs.Blocks.{IsCut}
+use Rattle.dns_zonetext.specs.Writing.{EndsAt, FaultAfter, has_end}
 use Rattle.dns_zonetext.proofs.Order.{InOrder, in_order}
 
 -- these were given, and those are left
@@ -124,3 +125,80 @@ before_end at n b h e = elim (cases_lt at n) [
   | inl less ↦ less
   | inr most ↦ let t : IsTrue false = subst IsTrue e (h.1 most) in cc
 ]
+
+-- what was given, up to the last entry's end and after it
+pub record Parted (given left : List (Result Piece Fault)) (at : ℕ) : Type 0 where
+  pub ended : List Piece
+  pub last : List Piece
+  pub is : given ≡ map Ok ended ++ (map Ok last ++ left)
+  pub ends : EndsAt ended at
+  pub none : has_end last ≡ false
+
+pub none_parted : (given : List (Result Piece Fault)) → Parted given given 0
+none_parted given = record { ended = []; last = []; is = refl; ends = inl (refl, refl); none = refl }
+
+one_more : (last : List Piece) (p : Piece) → has_end last ≡ false → has_end (p ∷ []) ≡ false → has_end (last ++ p ∷ []) ≡ false
+one_more [] p h k = k
+one_more (WordAt x ∷ last) p h k = one_more last p h k
+one_more (QuoteAt x ∷ last) p h k = one_more last p h k
+one_more (CommentAt x ∷ last) p h k = one_more last p h k
+one_more (EndAt x ∷ last) p h k = h
+
+pub parted_on : (given left now : List (Result Piece Fault)) (p : Piece) (at : ℕ) → now ≡ Ok p ∷ left → has_end (p ∷ []) ≡ false → Parted given now at → Parted given left at
+parted_on given left now p at e h x = record {
+  ended = x.ended;
+  last = x.last ++ p ∷ [];
+  is = x.is ∙ ap (λ l. map Ok x.ended ++ (map Ok x.last ++ l)) e
+      ∙ ap (λ l. map Ok x.ended ++ l) (sym (append_assoc (map Ok x.last) (Ok p ∷ []) left) ∙ ap (λ l. l ++ left) (sym (map-append Ok x.last (p ∷ []))));
+  ends = x.ends;
+  none = one_more x.last p x.none h;
+}
+
+pub parted_here : (given left now : List (Result Piece Fault)) (at there : ℕ) (blank : Bool) → now ≡ Ok (end_at there blank) ∷ left → Parted given now at → Parted given left there
+parted_here given left now at there blank e x =
+    let end : List Piece = end_at there blank ∷ [] in
+    let first : List Piece = x.ended ++ x.last in
+    record {
+      ended = first ++ end;
+      last = [];
+      is = x.is ∙ ap (λ l. map Ok x.ended ++ (map Ok x.last ++ l)) e ∙ sym (append_assoc (map Ok x.ended) (map Ok x.last) (Ok (end_at there blank) ∷ left))
+          ∙ ap (λ l. l ++ Ok (end_at there blank) ∷ left) (sym (map-append Ok x.ended x.last)) ∙ sym (append_assoc (map Ok first) (map Ok end) left)
+          ∙ ap (λ l. l ++ left) (sym (map-append Ok first end));
+      ends = inr (first, blank, refl);
+      none = refl;
+    }
+
+pub parted_bad : (octets : List ℕ) (given left now : List (Result Piece Fault)) (f : Fault) (at : ℕ) → IsGiven octets given → now ≡ Err f ∷ left → Parted given now at → FaultAfter octets at
+parted_bad octets given left now f at g e x =
+    let passed : Passed given now = record {
+      found = x.ended ++ x.last;
+      is = x.is ∙ sym (append_assoc (map Ok x.ended) (map Ok x.last) now) ∙ ap (λ l. l ++ now) (sym (map-append Ok x.ended x.last));
+    } in
+    let here : IsGiven octets (map Ok (x.ended ++ x.last) ++ Err f ∷ []) = fault_passed octets given left now f g e passed in
+    record {
+      ended = x.ended;
+      last = x.last;
+      fault = f;
+      given = subst (IsGiven octets) (ap (λ l. l ++ Err f ∷ []) (map-append Ok x.ended x.last) ∙ append_assoc (map Ok x.ended) (map Ok x.last) (Err f ∷ [])) here;
+      ends = x.ends;
+      none = x.none;
+    }
+
+pub ends_within : (octets : List ℕ) (at : ℕ) → FaultAfter octets at → at ≤ length octets
+ends_within octets at f = go f.ends
+  where
+    go : EndsAt f.ended at → at ≤ length octets
+    go (inl z) = omega (arith, z.1)
+    go (inr k) =
+        let tail : List (Result Piece Fault) = map Ok f.last ++ Err f.fault ∷ [] in
+        let shape : map Ok f.ended ++ tail ≡ map Ok k.0 ++ Ok (end_at at k.1) ∷ tail =
+        ap (λ l. map Ok l ++ tail) k.2 ∙ ap (λ l. l ++ tail) (map-append Ok k.0 (end_at at k.1 ∷ [])) ∙ append_assoc (map Ok k.0) (Ok (end_at at k.1) ∷ []) tail in
+        (within_after (length octets) k.0 _ (subst (EachWithin (length octets)) shape f.given.1)).0
+
+pub all_parted : (octets : List ℕ) (given now : List (Result Piece Fault)) (at : ℕ) → IsGiven octets given → now ≡ [] → Parted given now at
+    → (found : List Piece) × IsGiven octets (map Ok found) × (length octets ≡ length octets)
+all_parted octets given now at g e x = (
+  x.ended ++ x.last,
+  subst (IsGiven octets) (x.is ∙ ap (λ l. map Ok x.ended ++ (map Ok x.last ++ l)) e ∙ ap (λ l. map Ok x.ended ++ l) (append-nil (map Ok x.last)) ∙ sym (map-append Ok x.ended x.last)) g,
+  refl,
+)

@@ -1,5 +1,5 @@
 -- Octets that come in blocks.
-use Rattle.std.specs.Prelude.{◌≡◌, ℕ, ◌+◌, ◌<◌, ◌≤◌, ◌^◌, ◌⊎◌, Bool, false, List, [], ◌∷◌, ◌++◌, length, take, map, Option, Some, None, Result, Ok, Err, IsSomeAnd, encode_utf8_all}
+use Rattle.std.specs.Prelude.{◌≡◌, ℕ, ◌+◌, ◌<◌, ◌≤◌, ◌^◌, ◌⊎◌, Bool, false, List, [], ◌∷◌, ◌++◌, length, take, drop, map, Option, Some, None, Result, Ok, Err, IsSomeAnd, encode_utf8_all}
 use Rattle.dns_split.specs.Opening.{IsOpener}
 use Rattle.dns_split.specs.Pieces.{AreOctets, IsGiven, end_at, place_of}
 use Rattle.dns_split.specs.declared.pieces.Piece.{Piece}
@@ -13,6 +13,7 @@ use Rattle.dns_zonetext.specs.declared.check.Found.{Found}
 use Rattle.dns_zonetext.specs.Found.{IsFound}
 use Rattle.dns_zonetext.specs.Held.{Held}
 use Rattle.dns_zonetext.specs.Place.{IsAt}
+use Rattle.dns_zonetext.specs.declared.place.Place.{Place}
 
 -- no octets, or zone text whose last entry has none
 abbrev pub EndsEntry : List ℕ → Type 0
@@ -34,10 +35,22 @@ Adds old new block (Err (WrongHalt f)) = (all : List ℕ) → Holds all old → 
 Adds old new block (Err OutOfMemory) = new ≡ old
 Adds old new block (Err TooLong) = (new ≡ old) × (2 ^ 64 ≤ old.place.at + length old.octets + length block + 2)
 
--- the same octets, of which fewer are held; or this is their fault, whatever follows
-abbrev pub LetsGo : {U : Type 0} → Held → Held → Result U Found → Type 0
-LetsGo old new (Ok u) = (all : List ℕ) → Holds all old → Holds all new
-LetsGo old new (Err f) = (new ≡ old) × ((all more : List ℕ) → Holds all old → AreOctets more → IsFound (all ++ more) 0 f)
+-- these octets are held, from this place on
+abbrev pub IsHeld : List ℕ → Place → Held → Type 0
+IsHeld octets place h = (h.octets ≡ octets) × (h.place ≡ place)
+
+-- a block is held too, or nothing changed
+abbrev pub Takes : {U : Type 0} → Held → Held → List ℕ → Result U Halt → Type 0
+Takes old new block (Ok u) = IsHeld (old.octets ++ block) old.place new
+Takes old new block (Err (WrongHalt f)) = ⊥
+Takes old new block (Err OutOfMemory) = new ≡ old
+Takes old new block (Err TooLong) = (new ≡ old) × (2 ^ 64 ≤ old.place.at + length old.octets + length block + 2)
+
+-- the first octets are no longer held
+pub record Releases (old new : Held) (cut : ℕ) : Type 0 where
+  pub octets : new.octets ≡ drop cut old.octets
+  pub at : new.place.at ≡ old.place.at + cut
+  pub position : (before : List ℕ) → IsAt 0 before old.place.position → IsAt 0 (before ++ take cut old.octets) new.place.position
 
 -- an entry ends here that is not the last
 abbrev pub IsCut : List ℕ → ℕ → Type 0
@@ -47,6 +60,11 @@ IsCut octets at = (found : List Piece) × (blank : Bool) × (more : List (Result
 abbrev pub Settled : List ℕ → Result ℕ Fault → Type 0
 Settled octets (Ok at) = (at ≤ length octets) × ((at ≡ 0) ⊎ IsCut octets at)
 Settled octets (Err f) = (found : List Piece) × IsGiven octets (map Ok found ++ Err f ∷ []) × (f.at < length octets)
+
+-- what is held can be cut here; or all octets have this fault, whatever follows
+abbrev pub Settles : Held → Result ℕ Found → Type 0
+Settles h (Ok at) = Settled h.octets (Ok at)
+Settles h (Err f) = (e : Fault) × Settled h.octets (Err e) × ((all more : List ℕ) → Holds all h → AreOctets more → IsFound (all ++ more) 0 f)
 
 -- octets have this fault after their pieces, or none
 abbrev pub EndsWith : List ℕ → Option Fault → Type 0

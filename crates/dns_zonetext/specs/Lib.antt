@@ -1,8 +1,10 @@
 pub mod Blocks
 pub mod Compare
+pub mod Comparing
 pub mod Entries
 pub mod Found
 pub mod Held
 pub mod Layout
 pub mod Place
 pub mod Tokens
+pub mod Writing

@@ -3,7 +3,7 @@ use Rattle.std.specs.Prelude.{⊤, ◌≡◌, ℕ, ◌+◌, ◌-◌, ◌/◌, �
 use Rattle.std.specs.List.{flat_map}
 use Rattle.std.specs.Fmt.{decimal}
 use Rattle.dns_symbol.specs.Characters.{space, double_quote, backslash, tilde}
-use Rattle.dns_split.specs.Pieces.{ReadsOctets, between}
+use Rattle.dns_split.specs.Pieces.{IsGiven, between}
 use Rattle.dns_split.specs.declared.pieces.Piece.{Piece}
 use Rattle.dns_split.specs.declared.pieces.Piece.TheVariants.{Word as WordAt, Quote as QuoteAt}
 use Rattle.dns_split.specs.declared.pieces.Fault.{Fault}
@@ -43,7 +43,7 @@ row_of octets lines form _ = []
 
 -- unless memory was lacking, the rows of what is read were appended
 abbrev pub Appended : List ℕ → ℕ → Form → List ℕ → List ℕ → Type 0
-Appended octets lines form old new = (given : List (Result Piece Fault)) × ReadsOctets octets given × (new ≡ old ++ flat_map (row_of octets lines form) given)
+Appended octets lines form old new = (given : List (Result Piece Fault)) × IsGiven octets given × (new ≡ old ++ flat_map (row_of octets lines form) given)
 
 abbrev pub HasRows : {U : Type 0} → List ℕ → ℕ → Form → List ℕ → List ℕ → Result U Stop → Type 0
 HasRows octets lines form old new (Ok u) = Appended octets lines form old new

@@ -1,10 +1,10 @@
 //! Whether octets are zone text that come in blocks.
-ghost use Rattle.std.specs.Prelude.{◌≡◌, ◌+◌, ◌++◌, ◌<◌, ◌≤◌, ◌^◌, ℕ, [], List, length, take};
+ghost use Rattle.std.specs.Prelude.{◌≡◌, ◌+◌, ◌-◌, ◌++◌, ◌<◌, ◌≤◌, ◌^◌, ℕ, [], List, length, take};
 ghost use Rattle.std.specs.Prelude.{IfOk, IfErr};
 ghost use Rattle.dns_split.specs.Pieces.{AreOctets, moved_fault};
 ghost use Rattle.dns_split.specs.declared.pieces.Wrong.TheVariants.{OpenQuote};
-ghost use Rattle.dns_zonetext.specs.Blocks.{Adds, EndsWith, Holds, IsOpenedAfter, LetsGo};
-ghost use Rattle.dns_zonetext.specs.Blocks.{Settled};
+ghost use Rattle.dns_zonetext.specs.Blocks.{Adds, EndsWith, Holds, IsHeld, IsOpenedAfter};
+ghost use Rattle.dns_zonetext.specs.Blocks.{Releases, Settled, Settles, Takes};
 ghost use Rattle.dns_zonetext.specs.Found.{IsFound, IsOctetFault, IsZone};
 ghost use Rattle.dns_zonetext.specs.Place.{IsAt};
 
@@ -35,6 +35,14 @@ impl From<AllocError> for Halt {
     fn from(_error: AllocError) -> Halt {
         Halt::OutOfMemory
     }
+}
+
+/// Octets as they are: each is below 256.
+fn as_octets(octets: &[u8]) -> &[u8]
+    ensures same { result.now ≡ octets.now }
+    ensures octets { AreOctets octets.now }
+{
+    octets
 }
 
 /// Where the last entry ends that is the same whatever follows the octets, or 0; or the fault
@@ -171,36 +179,60 @@ impl<A: Allocator> Checker<A> {
         }
     }
 
-    /// Adds octets after those that were added before.
-    ///
-    /// A fault is answered once it is known, whatever octets follow, and at the end by
-    /// [`Checker::finish`]. The octets are added then too, but not where memory was lacking.
-    pub fn add(&mut self, block: &[u8]) -> Result<(), Halt>
-        ensures { Adds self.old self.new block.now result }
+    /// The octets that are held.
+    pub(crate) fn held(&self) -> &[u8]
+        ensures held { result.now ≡ self.now.octets }
+        ensures octets { AreOctets self.now.octets }
+        ensures room { length self.now.octets + 2 < 2 ^ 64 }
+    {
+        as_octets(self.held.as_slice())
+    }
+
+    /// How many lines end before them.
+    pub(crate) fn lines_before(&self) -> usize
+        ensures lines { result ≡ self.now.place.position.line - 1 }
+        ensures room { result + length self.now.octets + 2 < 2 ^ 64 }
+    {
+        self.place.position.line.saturating_sub(1)
+    }
+
+    /// Adds octets, and answers whether so many are held that they are worth reading.
+    pub(crate) fn take(&mut self, block: &[u8]) -> Result<bool, Halt>
+        ensures { Takes self.old self.new block.now result }
     {
         let room = usize::MAX - 2 - self.place.at - self.held.len();
         if block.len() > room {
             return Err(Halt::TooLong);
         }
         self.held.extend_from_slice(block)?;
-        if self.held.len() < self.enough {
-            return Ok(());
-        }
-        match self.let_go() {
-            Ok(()) => Ok(()),
-            Err(found) => Err(Halt::Wrong(found)),
+        Ok(self.held.len() >= self.enough)
+    }
+
+    /// Takes the last octets back, so that so many are held.
+    pub(crate) fn forget(&mut self, count: usize)
+        ensures { IsHeld (take count self.old.octets) self.old.place self.new }
+    {
+        self.held.truncate(count);
+    }
+
+    /// Where what is held can be cut, or the fault that all octets have, whatever follows.
+    pub(crate) fn settle(&self) -> Result<usize, Found>
+        ensures octets { AreOctets self.now.octets }
+        ensures settled { Settles self.now result }
+    {
+        let held = self.held.as_slice();
+        match settled(held) {
+            Ok(cut) => Ok(cut),
+            Err(fault) => Err(locate_after(self.place, held, fault)),
         }
     }
 
-    /// Lets the octets go of entries that have ended, whatever follows.
-    fn let_go(&mut self) -> Result<(), Found>
-        ensures { LetsGo self.old self.new result }
+    /// Lets the first octets go.
+    pub(crate) fn release(&mut self, cut: usize)
+        requires { cut ≤ length self.now.octets }
+        ensures { Releases self.old self.new cut }
     {
         let held = self.held.as_slice();
-        let cut = match settled(held) {
-            Ok(cut) => cut,
-            Err(fault) => return Err(locate_after(self.place, held, fault)),
-        };
         self.place = Place {
             at: self.place.at + cut,
             position: advance(self.place.position, &held[..cut]),
@@ -209,7 +241,25 @@ impl<A: Allocator> Checker<A> {
         self.held.rotate_left(cut);
         self.held.truncate(left);
         self.enough = left.saturating_add(left);
-        Ok(())
+    }
+
+    /// Adds octets after those that were added before.
+    ///
+    /// A fault is answered once it is known, whatever octets follow, and at the end by
+    /// [`Checker::finish`]. The octets are added then too, but not where memory was lacking.
+    pub fn add(&mut self, block: &[u8]) -> Result<(), Halt>
+        ensures { Adds self.old self.new block.now result }
+    {
+        if !self.take(block)? {
+            return Ok(());
+        }
+        match self.settle() {
+            Ok(cut) => {
+                self.release(cut);
+                Ok(())
+            }
+            Err(found) => Err(Halt::Wrong(found)),
+        }
     }
 
     /// Whether all octets that were added are zone text, or the first fault.

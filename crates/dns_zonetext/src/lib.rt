@@ -3,6 +3,10 @@
 //! - [`check::check`] answers whether octets are zone text, or the first fault with its position.
 //! - [`blocks::Checker`] answers the same of octets that come in blocks, and holds few of them.
 //! - [`tokens::tokens`] writes a row for each token, with its position.
+//! - [`layout::lay_out`] writes a line for each entry.
+//! - [`writer::Writer`] writes either of octets that come in blocks.
+//! - [`diff::diff`] compares the entries of two texts.
+//! - [`comparer::Comparer`] compares those of two texts that come in blocks.
 //!
 //! Octets need not be UTF-8: each counts as a character of the grammar, so that a comment in
 //! another encoding refuses no zone.
@@ -12,6 +16,9 @@
 mod block_tests;
 pub mod blocks;
 pub mod check;
+pub mod comparer;
+#[cfg(test)]
+mod comparer_tests;
 pub mod diff;
 #[cfg(test)]
 mod entry_tests;
@@ -21,3 +28,6 @@ pub mod place;
 #[cfg(test)]
 mod tests;
 pub mod tokens;
+pub mod writer;
+#[cfg(test)]
+mod writer_tests;

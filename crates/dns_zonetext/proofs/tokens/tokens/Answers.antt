@@ -1,7 +1,7 @@
 use Rattle.std.proofs.Common.{◌≡◌, ◌++◌, ◌∷◌, [], length, refl, sym, ap, ◌∙◌, subst, arith, append-nil}
 use Rattle.std.specs.Prelude.{Some, None, Err}
 use Rattle.std.specs.List.{flat_map}
-use Rattle.dns_split.specs.Pieces.{ReadsOctets, EachWithin}
+use Rattle.dns_split.specs.Pieces.{ReadsOctets, EachWithin, IsGiven}
 use Rattle.dns_zonetext.specs.Tokens.{row_of}
 use Rattle.dns_zonetext.proofs.Givens.{first_fault, pieces_in, whole_of, fault_of}
 use Rattle.dns_zonetext.proofs.Order.{InOrder, in_order}
@@ -40,7 +40,7 @@ returns-in-Err-clause-rows g c =
     let left : flat_map (row_of octets c.args.lines_before c.args.form) c.loop-piece.piece-iterator ≡ [] =
     ap (flat_map (row_of octets c.args.lines_before c.args.form)) (now ∙ ap (λ l. Err c.in-Err.fault ∷ l) over) in (
       c.into_iter-piece-iterator.result,
-      subst (ReadsOctets octets) (sym same) c.of_octets-piece-items.ensures.reads,
+      subst (IsGiven octets) (sym same) (c.of_octets-piece-items.ensures.reads, c.of_octets-piece-items.ensures.within),
       sym (append-nil c.loop-piece.out.items) ∙ ap (λ l. c.loop-piece.out.items ++ l) (sym left) ∙ inv.rows,
     )
 

@@ -1,0 +1,61 @@
+use Rattle.std.proofs.Common.{◌++◌, append-nil, sym, subst, take}
+use Rattle.std.specs.Prelude.{[]}
+use Rattle.dns_zonetext.specs.Blocks.{Holds}
+use Rattle.dns_zonetext.specs.Held.{Writing}
+use Rattle.dns_zonetext.specs.Writing.{Makes, Wrote}
+use Rattle.dns_zonetext.proofs.Holding.{added, let_go}
+use Rattle.dns_zonetext.proofs.Written.{writing, wrote_bad, wrote_more, wrote_on}
+use Rattle.dns_zonetext.proofs.writer.Writer.add.Goals as goal
+
+pub returns-then-not-branch-clause-written : goal.returns-then-not-branch-clause-written
+returns-then-not-branch-clause-written g c = λ all written x.
+    let block = c.args.block.now in
+    let output = c.self.inside.output in
+    let held = c.in_ok-take.ensures in
+    let here = wrote_more all block written output c.self.inside.checker c.take.new.self (subst (Wrote all written) (sym c.self.view_is) x) held.0 held.1 in
+    ([], sym (append-nil c.args.out.now.items), subst (λ l. Wrote (all ++ block) l (writing output c.take.new.self)) (sym (append-nil written)) here)
+
+pub returns-in_default-clause-told : goal.returns-in_default-clause-told
+returns-in_default-clause-told g c = λ all h.
+    let block = c.args.block.now in
+    let held = c.in_ok-take.ensures in
+    let here = added all block c.self.inside.checker c.take.new.self (subst (λ (w : Writing). Holds all w.held) (sym c.self.view_is) h) held.0 held.1 in
+    let gone = c.release.ensures in
+    let_go _ c.take.new.self c.release.new.self c.in-Ok.cut here c.in-Ok.ensures.octets c.in-Ok.ensures.settled gone.octets gone.at gone.position
+
+pub returns-in_default-clause-written : goal.returns-in_default-clause-written
+returns-in_default-clause-written g c = λ all written x.
+    let block = c.args.block.now in
+    let output = c.self.inside.output in
+    let held = c.in_ok-take.ensures in
+    let here = wrote_more all block written output c.self.inside.checker c.take.new.self (subst (Wrote all written) (sym c.self.view_is) x) held.0 held.1 in
+    let m = c.in_default.ensures.made in
+    let made = subst (λ l. Makes output (take c.in-Ok.cut l) c.lines_before-lines.result m.0) c.held.ensures.held m.2 in (
+      m.0,
+      m.1,
+      wrote_on _ written m.0 output c.take.new.self c.release.new.self c.in-Ok.cut c.lines_before-lines.result here c.in-Ok.ensures.octets c.in-Ok.ensures.settled
+          c.lines_before-lines.ensures.lines made c.release.ensures,
+    )
+
+pub returns-in_default-write-clause-told : goal.returns-in_default-write-clause-told
+returns-in_default-write-clause-told g c = λ all h.
+    let block = c.args.block.now in
+    let held = c.in_ok-take.ensures in
+    let here = added all block c.self.inside.checker c.take.new.self (subst (λ (w : Writing). Holds all w.held) (sym c.self.view_is) h) held.0 held.1 in
+    (here, λ more o. c.in-Err.ensures.settled.2 _ more here o)
+
+pub returns-in_default-write-clause-written : goal.returns-in_default-write-clause-written
+returns-in_default-write-clause-written g c = λ all written x.
+    let block = c.args.block.now in
+    let output = c.self.inside.output in
+    let held = c.in_ok-take.ensures in
+    let here = wrote_more all block written output c.self.inside.checker c.take.new.self (subst (Wrote all written) (sym c.self.view_is) x) held.0 held.1 in
+    let m = c.in_default-write.ensures.made in
+    let s = c.in-Err.ensures.settled in
+    let made = subst (λ l. Makes output l c.lines_before-lines.result m.0) c.held-held.ensures.held m.2 in (
+      m.0,
+      m.1,
+      λ rest o.
+          subst (λ (w : Writing). Makes w.output ((all ++ block) ++ rest) 0 (written ++ m.0)) c.self.view_is
+          (wrote_bad _ written m.0 rest output c.take.new.self c.lines_before-lines.result s.0 here c.in-Err.ensures.octets o c.lines_before-lines.ensures.lines s.1 made),
+    )
