@@ -1,5 +1,5 @@
-/* Lists the tokens of a zone text on standard input, one a line after the number of its entry, with no
- * memory but the text's. */
+/* Lists the tokens of a zone text on standard input, one a line after the number of its entry, with
+ * no memory but the text's. */
 #include <dnstext.h>
 #include <stdio.h>
 
@@ -14,7 +14,8 @@ int main(void) {
     uint32_t status;
     while ((status = dns_tokens_next(text, length, &standing, &piece, &outcome)) == DNS_OK) {
         if (piece.kind == DNS_WORD || piece.kind == DNS_QUOTED)
-            printf("%lu %.*s\n", entry, (int)(piece.end - piece.start), (const char *)text + piece.start);
+            printf("%lu %.*s\n", entry, (int)(piece.end - piece.start),
+                   (const char *)text + piece.start);
         if (piece.kind == DNS_ENTRY_END)
             entry++;
     }

@@ -304,7 +304,8 @@ static void piece(const uint8_t *text, size_t length, struct dns_standing *stand
 #define NO_PIECE(text, standing, status, place) \
     next(BYTES(text), standing, status, place, no_piece, __LINE__)
 
-static void wrong_piece(const uint8_t *text, size_t length, uint32_t status, size_t place, int line) {
+static void wrong_piece(const uint8_t *text, size_t length, uint32_t status, size_t place,
+                        int line) {
     struct dns_standing standing = {0, 0, 0, 0};
     struct dns_cursor cursor = {0, 0, 0, 0};
     struct dns_outcome outcome;

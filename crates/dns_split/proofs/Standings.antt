@@ -35,11 +35,14 @@ span_back n i = omega arith
 
 one_back : (n : ℕ) (x : Result Piece Fault) → moved (λ i. i - n) (moved (λ i. n + i) x) ≡ x
 one_back n (Ok (WordAt p)) = ap (λ s. Ok (WordAt (record { start = s; end = (n + p.end) - n }))) (span_back n p.start) ∙ ap (λ e. Ok (WordAt (record { start = p.start; end = e }))) (span_back n p.end)
-one_back n (Ok (QuoteAt p)) = ap (λ s. Ok (QuoteAt (record { start = s; end = (n + p.end) - n }))) (span_back n p.start) ∙ ap (λ e. Ok (QuoteAt (record { start = p.start; end = e }))) (span_back n p.end)
+one_back n (Ok (QuoteAt p)) =
+    ap (λ s. Ok (QuoteAt (record { start = s; end = (n + p.end) - n }))) (span_back n p.start) ∙ ap (λ e. Ok (QuoteAt (record { start = p.start; end = e }))) (span_back n p.end)
 one_back n (Ok (CommentAt p)) =
     ap (λ s. Ok (CommentAt (record { start = s; end = (n + p.end) - n }))) (span_back n p.start) ∙ ap (λ e. Ok (CommentAt (record { start = p.start; end = e }))) (span_back n p.end)
 one_back n (Ok (EndAt p)) = ap (λ e. Ok (EndAt (record { at = e; begins_blank = p.begins_blank }))) (span_back n p.at)
-one_back n (Err f) = ap (λ e. Err (record { at = e; wrong = moved_wrong (λ i. i - n) (moved_wrong (λ i. n + i) f.wrong) })) (span_back n f.at) ∙ ap (λ w. Err (record { at = f.at; wrong = w })) (wrong_back n f.wrong)
+one_back n (Err f) =
+    ap (λ e. Err (record { at = e; wrong = moved_wrong (λ i. i - n) (moved_wrong (λ i. n + i) f.wrong) })) (span_back n f.at)
+    ∙ ap (λ w. Err (record { at = f.at; wrong = w })) (wrong_back n f.wrong)
 
 back : (n : ℕ) (l : Given) → map (moved (λ i. i - n)) (later n l) ≡ l
 back n [] = refl
@@ -96,7 +99,9 @@ module _ (octets : List ℕ) (s : Standing) where
           (run_given (front ++ drop s.at octets) (both_octets front (drop s.at octets) (entered_octets (blank_at octets s.began) s.depth) rest_octets))
 
       further : run Outside s.depth s.at s.at (blank_at octets s.began) (drop s.at octets) ≡ later s.at (run Outside s.depth 0 0 (blank_at octets s.began) (drop s.at octets))
-      further = ap (λ i. run Outside s.depth i i (blank_at octets s.began) (drop s.at octets)) (omega arith) ∙ later_run s.at (drop s.at octets) Outside s.depth 0 0 (blank_at octets s.began) (omega arith)
+      further =
+          ap (λ i. run Outside s.depth i i (blank_at octets s.began) (drop s.at octets)) (omega arith)
+          ∙ later_run s.at (drop s.at octets) Outside s.depth 0 0 (blank_at octets s.began) (omega arith)
 
       go : (t : Bool) → LeftIf t octets s (cond t [] (run Outside s.depth s.at s.at (blank_at octets s.began) (drop s.at octets)))
       go true = refl
@@ -183,11 +188,13 @@ then_began octets (Err f) began = refl
 abbrev pub stood : Stepped → ℕ → Standing
 stood t began = record { at = t.place.at; depth = t.place.depth; began = began_after t.given began; is_done = t.is_done }
 
-module _ (octets : List ℕ) (s : Standing) (t : Stepped) (o : AreOctets octets) (going : s.is_done ≡ false) (steps : Steps octets (record { depth = s.depth; at = s.at }) (blank_at octets s.began) t) where
+module _ (octets : List ℕ) (s : Standing) (t : Stepped) (o : AreOctets octets) (going : s.is_done ≡ false)
+    (steps : Steps octets (record { depth = s.depth; at = s.at }) (blank_at octets s.began) t) where
   abbrev new : Standing
   new = stood t s.began
 
-  flag : (d : Bool) → t.is_done ≡ d → cond d [] (run Outside t.place.depth t.place.at t.place.at t.begins_blank (drop t.place.at octets)) ≡ cond d [] (run Outside t.place.depth t.place.at t.place.at (blank_at octets new.began) (drop t.place.at octets))
+  flag : (d : Bool) → t.is_done ≡ d → cond d [] (run Outside t.place.depth t.place.at t.place.at t.begins_blank (drop t.place.at octets))
+      ≡ cond d [] (run Outside t.place.depth t.place.at t.place.at (blank_at octets new.began) (drop t.place.at octets))
   flag true e = refl
   flag false e = ap (λ x. run Outside t.place.depth t.place.at t.place.at x (drop t.place.at octets)) (steps.blank e ∙ then_began octets t.given s.began)
 

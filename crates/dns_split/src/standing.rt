@@ -2,9 +2,11 @@
 //!
 //! Pieces borrow their octets for as long as they last; a [`Standing`] borrows nothing, so that it
 //! can be passed to another language, written down, and gone back to.
-ghost use Rattle.std.specs.Prelude.{◌≡◌, ◌≤◌, ◌↔◌, ℕ, List, Result, IfSome, IsSome, length, true, false, None};
+ghost use Rattle.std.specs.Prelude.{◌≡◌, ◌≤◌, ◌↔◌, ℕ, List, Result, IfSome, IsSome, length};
+ghost use Rattle.std.specs.Prelude.{true, false, None};
 ghost use Rattle.dns_split.specs.Pieces.{AreOctets, EachWithin, IsGiven, IsWithin, next_blank};
-ghost use Rattle.dns_split.specs.Standing.{IsGivenFrom, IsLeft, Takes, TakesAll, at_entry, began_after, blank_at};
+ghost use Rattle.dns_split.specs.Standing.{IsGivenFrom, IsLeft, Takes, TakesAll};
+ghost use Rattle.dns_split.specs.Standing.{at_entry, began_after, blank_at};
 ghost use Rattle.dns_split.specs.declared.pieces.Piece.{Piece};
 ghost use Rattle.dns_split.specs.declared.pieces.Fault.{Fault};
 ghost use Rattle.dns_split.specs.declared.standing.Standing.{Standing};
