@@ -104,7 +104,8 @@ fn texts_are_written_in_blocks(rt: HostRuntime) {
         first,
         second,
         output: Output::Rows(Form::Plain),
-        wanted: "1:1\tword\ta\n1:4\tword\tb\n2:2\tword\tc\n2:5\tword\td\n3:1\tword\te\n4:1\tquoted\t\"f\"\n",
+        wanted: "1:1\tword\ta\n1:4\tword\tb\n2:2\tword\tc\n2:5\tword\td\n3:1\tword\te\n\
+            4:1\tquoted\t\"f\"\n",
     };
     assert!(&rt; keeps(rt.alloc(), &rows, 5));
 }
