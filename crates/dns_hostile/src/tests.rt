@@ -12,6 +12,7 @@ mod rests;
 mod scanning;
 mod splitting;
 mod texts;
+mod zonetexts;
 
 /// Memory of which one call is refused.
 type Heap = Refusing<Global>;

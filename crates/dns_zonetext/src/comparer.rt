@@ -135,7 +135,8 @@ impl<A: Allocator + Copy> Comparer<A> {
 
     /// Lets the entries go that have ended in both, if they are the same.
     pub fn let_go(&mut self)
-        ensures { (first second : List ℕ) → Compared first second self.old → Compared first second self.new }
+        ensures { (first second : List ℕ) → Compared first second self.old
+            → Compared first second self.new }
     {
         let ours = self.first.held();
         let theirs = self.second.held();
@@ -150,7 +151,8 @@ impl<A: Allocator + Copy> Comparer<A> {
 
     /// How the octets compare that were added.
     pub fn finish(&self) -> Comparison
-        ensures { (first second : List ℕ) → Compared first second self.now → Compares first second result }
+        ensures { (first second : List ℕ) → Compared first second self.now
+            → Compares first second result }
     {
         match diff(self.first.held(), self.second.held()) {
             Comparison::Same => Comparison::Same,

@@ -52,7 +52,8 @@ fn write_lines<A: Allocator>(
     out: &mut Vec<u8, A>,
 ) -> Result<(), Halt>
     requires { lines_before + length octets.now + 2 < 2 ^ 64 }
-    ensures lines { OnOk result ((more : List ℕ) × (out.new.items ≡ out.old.items ++ more) × HasLines octets.now gap more) }
+    ensures lines { OnOk result ((more : List ℕ) × (out.new.items ≡ out.old.items ++ more)
+        × HasLines octets.now gap more) }
     ensures short { IfErr result (λ h. h ≡ OutOfMemory) }
 {
     let until = until_fault(octets);
@@ -72,7 +73,8 @@ fn write_rows<A: Allocator + Copy>(
     out: &mut Vec<u8, A>,
 ) -> Result<(), Halt>
     requires { lines_before + length octets.now + 2 < 2 ^ 64 }
-    ensures rows { OnOk result (MadeAfter (Rows form) octets.now lines_before out.old.items out.new.items) }
+    ensures rows { OnOk result
+        (MadeAfter (Rows form) octets.now lines_before out.old.items out.new.items) }
     ensures short { IfErr result (λ h. h ≡ OutOfMemory) }
 {
     match tokens(alloc, octets, lines_before, form, out) {
@@ -92,7 +94,8 @@ fn write<A: Allocator + Copy>(
 ) -> Result<(), Halt>
     requires { lines_before + length octets.now + 2 < 2 ^ 64 }
     ensures octets { AreOctets octets.now }
-    ensures made { OnOk result (MadeAfter output octets.now lines_before out.old.items out.new.items) }
+    ensures made { OnOk result
+        (MadeAfter output octets.now lines_before out.old.items out.new.items) }
     ensures short { IfErr result (λ h. h ≡ OutOfMemory) }
 {
     match output {

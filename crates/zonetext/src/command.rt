@@ -3,6 +3,7 @@ use crate::files;
 use clap::{Arg, ArgAction, ArgMatches, Command, Error};
 use dns_zonetext::layout::Gap;
 use dns_zonetext::tokens::Form;
+use dns_zonetext::writer::Output;
 use std::alloc::{AllocError, Global};
 use std::io;
 
@@ -11,7 +12,8 @@ fn over_files<'a>(alloc: Global, name: &'a str, about: &'a str) -> Result<Comman
     let file = Arg::new(alloc, "FILE")
         .action(ArgAction::Append)
         .help("a zone file, or - for standard input");
-    Command::new(alloc, name).about(about).arg(file)
+    let quiet = flag(alloc, "quiet", "say nothing of how far reading has come");
+    Command::new(alloc, name).about(about).arg(file)?.arg(quiet)
 }
 
 /// An option without a value.
@@ -42,10 +44,12 @@ fn command_line<'a>(alloc: Global) -> Result<Command<'a>, AllocError> {
         .required(true)
         .action(ArgAction::Set)
         .help("another");
+    let quiet = flag(alloc, "quiet", "say nothing of how far reading has come");
     let diff = Command::new(alloc, "diff")
         .about("Say where the entries of two files differ first")
         .arg(first)?
-        .arg(second)?;
+        .arg(second)?
+        .arg(quiet)?;
     Command::new(alloc, "zonetext")
         .version("0.2.0")
         .about("Checks, lists, lays out and compares DNS zone files")
@@ -76,7 +80,7 @@ pub fn run(rt: &HostRuntime, alloc: Global, words: &[&str]) -> io::Result<u8> {
     if name == "diff" {
         let first = inner.get_str("A").unwrap_or("-");
         let second = inner.get_str("B").unwrap_or("-");
-        return files::compare(rt, first, second);
+        return files::compare(rt, first, second, inner.get_flag("quiet"));
     }
     let names = match inner.get_strs("FILE") {
         Some(names) => names,
@@ -94,21 +98,22 @@ pub fn run(rt: &HostRuntime, alloc: Global, words: &[&str]) -> io::Result<u8> {
 
 /// Runs a command that takes one file at a time.
 fn over_file(rt: &HostRuntime, name: &str, inner: &ArgMatches, file: &str) -> io::Result<u8> {
+    let is_quiet = inner.get_flag("quiet");
     if name == "tokens" {
         let form = if inner.get_flag("json") {
             Form::Json
         } else {
             Form::Plain
         };
-        files::list(rt, file, form)
+        files::print(rt, file, is_quiet, Output::Rows(form))
     } else if name == "fmt" {
         let gap = if inner.get_flag("tabbed") {
             Gap::Tab
         } else {
             Gap::Space
         };
-        files::lay_out(rt, file, gap)
+        files::print(rt, file, is_quiet, Output::Lines(gap))
     } else {
-        files::check_file(rt, file)
+        files::check_file(rt, file, is_quiet)
     }
 }

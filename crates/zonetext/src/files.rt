@@ -1,38 +1,14 @@
 //! What each command does with files.
+use crate::blocks::{Ended, Printer, Take, go_through_file};
+use crate::pair::{Which, compare_files};
+use crate::progress::Progress;
 use dns_split::pieces::Wrong;
 use dns_zonetext::blocks::{Checker, Halt};
 use dns_zonetext::check::Found;
-use dns_zonetext::diff::{Comparison, diff};
-use dns_zonetext::layout;
-use dns_zonetext::layout::Gap;
-use dns_zonetext::tokens::{Form, Stop, tokens};
-use std::alloc::Global;
-use std::fs::File;
-use std::io::{ErrorKind, Read, Write};
-use std::{fs, io};
-
-/// The octets that are read at a time.
-const BLOCK: usize = 64 * 1024;
-
-/// A file's octets, or those of standard input; or nothing, where it said that it can't be read.
-fn read(rt: &HostRuntime, file: &str) -> io::Result<Option<Vec<u8>>> {
-    let answer = if file == "-" {
-        let mut octets = Vec::new(rt.alloc());
-        match rt.stdin().read_to_end(&mut octets) {
-            Ok(_) => Ok(octets),
-            Err(error) => Err(error),
-        }
-    } else {
-        fs::read(rt, file)
-    };
-    match answer {
-        Ok(octets) => Ok(Some(octets)),
-        Err(error) => {
-            eprintln!(rt; "zonetext: {file}: {error}")?;
-            Ok(None)
-        }
-    }
-}
+use dns_zonetext::diff::Comparison;
+use dns_zonetext::writer::Output;
+use std::io;
+use std::io::{ErrorKind, Write};
 
 fn reason(wrong: Wrong) -> &'static str {
     match wrong {
@@ -58,122 +34,61 @@ fn report(rt: &HostRuntime, file: &str, found: Found) -> io::Result<u8> {
     Ok(1)
 }
 
-/// Writes to standard output. The status is 1 where a pipe is closed, and nothing is said.
-fn write(rt: &HostRuntime, out: &[u8]) -> io::Result<u8> {
-    match rt.stdout().write_all(out) {
-        Ok(()) => Ok(0),
-        Err(error) if error.kind() == ErrorKind::BrokenPipe => Ok(1),
-        Err(error) => Err(error),
-    }
-}
-
-/// Writes what was made, and says why it ended early.
-fn finish(rt: &HostRuntime, file: &str, out: &[u8], answer: Result<(), Stop>) -> io::Result<u8> {
-    let status = write(rt, out)?;
+/// Says why a file was not gone through to its end, and answers the exit status.
+fn conclude(rt: &HostRuntime, file: &str, answer: Result<(), Ended>) -> io::Result<u8> {
     match answer {
-        Ok(()) => Ok(status),
-        Err(Stop::Wrong(found)) => report(rt, file, found),
-        Err(Stop::OutOfMemory) => Err(io::Error::from(ErrorKind::OutOfMemory)),
-    }
-}
-
-/// Adds what a reader gives, block by block, until it ends or no more is taken.
-fn add_blocks<R: Read>(
-    reader: &mut R,
-    checker: &mut Checker<Global>,
-    block: &mut [u8],
-) -> io::Result<Result<(), Halt>> {
-    for _ in 0..u64::MAX {
-        match reader.read(block) {
-            Ok(0) => return Ok(Ok(())),
-            Ok(count) => {
-                if let Err(halt) = checker.add(&block[..count]) {
-                    return Ok(Err(halt));
-                }
-            }
-            Err(error) if error.kind() == ErrorKind::Interrupted => {}
-            Err(error) => return Err(error),
-        }
-    }
-    Ok(Err(Halt::TooLong))
-}
-
-/// Checks what a reader gives, and holds no more of it than the longest entry and a block.
-fn check_blocks<R: Read>(alloc: Global, reader: &mut R) -> io::Result<Result<(), Halt>> {
-    let mut checker = Checker::new(alloc);
-    let mut block = vec![in alloc; 0; BLOCK]?;
-    let added = add_blocks(reader, &mut checker, block.as_mut_slice())?;
-    if added.is_err() {
-        return Ok(added);
-    }
-    match checker.finish() {
-        Ok(()) => Ok(Ok(())),
-        Err(found) => Ok(Err(Halt::Wrong(found))),
-    }
-}
-
-/// The same of a file, or of standard input.
-fn check_in_blocks(rt: &HostRuntime, file: &str) -> io::Result<Result<(), Halt>> {
-    if file == "-" {
-        return check_blocks(rt.alloc(), &mut rt.stdin());
-    }
-    check_blocks(rt.alloc(), &mut File::open(rt, file)?)
-}
-
-/// Says where a file is no zone text.
-pub fn check_file(rt: &HostRuntime, file: &str) -> io::Result<u8> {
-    match check_in_blocks(rt, file) {
-        Ok(Ok(())) => Ok(0),
-        Ok(Err(Halt::Wrong(found))) => report(rt, file, found),
-        Ok(Err(Halt::OutOfMemory)) => Err(io::Error::from(ErrorKind::OutOfMemory)),
-        Ok(Err(Halt::TooLong)) => Err(io::Error::from(ErrorKind::FileTooLarge)),
-        Err(error) => {
+        Ok(()) => Ok(0),
+        Err(Ended::Halt(Halt::Wrong(found))) => report(rt, file, found),
+        Err(Ended::Halt(Halt::OutOfMemory)) => Err(io::Error::from(ErrorKind::OutOfMemory)),
+        Err(Ended::Halt(Halt::TooLong)) => Err(io::Error::from(ErrorKind::FileTooLarge)),
+        Err(Ended::Read(error)) => {
             eprintln!(rt; "zonetext: {file}: {error}")?;
             Ok(2)
         }
+        Err(Ended::Write(error)) if error.kind() == ErrorKind::BrokenPipe => Ok(1),
+        Err(Ended::Write(error)) => Err(error),
     }
 }
 
-/// Writes a line for each token of a file.
-pub fn list(rt: &HostRuntime, file: &str, form: Form) -> io::Result<u8> {
-    let Some(octets) = read(rt, file)? else {
-        return Ok(2);
-    };
-    let mut out = Vec::new(rt.alloc());
-    let answer = tokens(rt.alloc(), octets.as_slice(), 0, form, &mut out);
-    finish(rt, file, out.as_slice(), answer)
+/// Gives a file to what takes its blocks, and answers the exit status.
+fn run<T: Take>(rt: &HostRuntime, file: &str, is_quiet: bool, taker: &mut T) -> io::Result<u8> {
+    let mut progress = Progress::new(rt, file, is_quiet)?;
+    let answer = go_through_file(rt, file, taker, &mut progress);
+    progress.clear()?;
+    conclude(rt, file, answer)
 }
 
-/// Writes each entry of a file as a line.
-pub fn lay_out(rt: &HostRuntime, file: &str, gap: Gap) -> io::Result<u8> {
-    let Some(octets) = read(rt, file)? else {
-        return Ok(2);
-    };
-    let mut out = Vec::new(rt.alloc());
-    match layout::lay_out(octets.as_slice(), 0, gap, &mut out) {
-        Ok(()) => write(rt, out.as_slice()),
-        stopped => finish(rt, file, &[], stopped),
-    }
+/// Says where a file is no zone text.
+pub fn check_file(rt: &HostRuntime, file: &str, is_quiet: bool) -> io::Result<u8> {
+    run(rt, file, is_quiet, &mut Checker::new(rt.alloc()))
+}
+
+/// Writes a row for each token of a file, or a line for each entry.
+pub fn print(rt: &HostRuntime, file: &str, is_quiet: bool, output: Output) -> io::Result<u8> {
+    run(rt, file, is_quiet, &mut Printer::new(rt, output))
 }
 
 /// Says where the entries of two files differ first.
-pub fn compare(rt: &HostRuntime, first: &str, second: &str) -> io::Result<u8> {
-    let Some(ours) = read(rt, first)? else {
-        return Ok(2);
-    };
-    let Some(theirs) = read(rt, second)? else {
-        return Ok(2);
-    };
-    match diff(ours.as_slice(), theirs.as_slice()) {
-        Comparison::Same => Ok(0),
-        Comparison::Differ(one, other) => {
+pub fn compare(rt: &HostRuntime, first: &str, second: &str, is_quiet: bool) -> io::Result<u8> {
+    let mut progress = Progress::new(rt, first, is_quiet)?;
+    let answer = compare_files(rt, first, second, &mut progress);
+    progress.clear()?;
+    match answer {
+        Ok(Comparison::Same) => Ok(0),
+        Ok(Comparison::Differ(one, other)) => {
             let (line, column) = (one.line, one.column);
-            println!(rt; "{first}:{line}:{column}: differs")?;
-            let (line, column) = (other.line, other.column);
-            println!(rt; "{second}:{line}:{column}: differs")?;
-            Ok(1)
+            let (row, along) = (other.line, other.column);
+            let text = format!(in rt.alloc();
+                "{first}:{line}:{column}: differs\n{second}:{row}:{along}: differs\n"
+            )?;
+            match rt.stdout().write_all(text.as_bytes()) {
+                Err(error) if error.kind() != ErrorKind::BrokenPipe => Err(error),
+                _ => Ok(1),
+            }
         }
-        Comparison::FirstWrong(found) => report(rt, first, found),
-        Comparison::SecondWrong(found) => report(rt, second, found),
+        Ok(Comparison::FirstWrong(found)) => report(rt, first, found),
+        Ok(Comparison::SecondWrong(found)) => report(rt, second, found),
+        Err((Which::First, ended)) => conclude(rt, first, Err(ended)),
+        Err((Which::Second, ended)) => conclude(rt, second, Err(ended)),
     }
 }

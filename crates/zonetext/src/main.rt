@@ -1,8 +1,11 @@
 //! The program `zonetext`: it checks, lists, lays out and compares zone files.
 #![tactic(auto)]
 
+mod blocks;
 mod command;
 mod files;
+mod pair;
+mod progress;
 
 use std::process::ExitCode;
 use std::{env, io};

@@ -20,14 +20,16 @@ pub loop-piece-preserved-in-Ok-Word : goal.loop-piece-preserved-in-Ok-Word
 loop-piece-preserved-in-Ok-Word c =
     let rest = c.next.new.self in
     let p = c.in-Ok-Word.field-0-0 in
-    let now : c.loop-piece.piece-iterator ≡ Ok (WordAt p) ∷ rest = c.in-Some.ensures.steps ∙ ap (λ x. x ∷ rest) c.in-Ok-Word.is ∙ ap (λ x. Ok x ∷ rest) (rw c.in-Ok-Word.is at c.in-Ok-Word.field-0-is) in
+    let now : c.loop-piece.piece-iterator ≡ Ok (WordAt p) ∷ rest = c.in-Some.ensures.steps ∙ ap (λ x. x ∷ rest) c.in-Ok-Word.is
+    ∙ ap (λ x. Ok x ∷ rest) (rw c.in-Ok-Word.is at c.in-Ok-Word.field-0-is) in
     parted_on c.into_iter-piece-iterator.result rest c.loop-piece.piece-iterator (WordAt p) c.loop-piece.last now refl c.loop-piece.invariant
 
 pub loop-piece-preserved-in-Ok-Quote : goal.loop-piece-preserved-in-Ok-Quote
 loop-piece-preserved-in-Ok-Quote c =
     let rest = c.next.new.self in
     let p = c.in-Ok-Quote.field-0-0 in
-    let now : c.loop-piece.piece-iterator ≡ Ok (QuoteAt p) ∷ rest = c.in-Some.ensures.steps ∙ ap (λ x. x ∷ rest) c.in-Ok-Quote.is ∙ ap (λ x. Ok x ∷ rest) (rw c.in-Ok-Quote.is at c.in-Ok-Quote.field-0-is) in
+    let now : c.loop-piece.piece-iterator ≡ Ok (QuoteAt p) ∷ rest = c.in-Some.ensures.steps ∙ ap (λ x. x ∷ rest) c.in-Ok-Quote.is
+    ∙ ap (λ x. Ok x ∷ rest) (rw c.in-Ok-Quote.is at c.in-Ok-Quote.field-0-is) in
     parted_on c.into_iter-piece-iterator.result rest c.loop-piece.piece-iterator (QuoteAt p) c.loop-piece.last now refl c.loop-piece.invariant
 
 pub loop-piece-preserved : goal.loop-piece-preserved

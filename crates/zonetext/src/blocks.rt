@@ -1,0 +1,142 @@
+//! Files that are read block by block.
+use crate::progress::Progress;
+use dns_zonetext::blocks::{Checker, Halt};
+use dns_zonetext::writer::{Output, Writer};
+use std::alloc::Global;
+use std::fs::File;
+use std::io;
+use std::io::{ErrorKind, Read, Write};
+
+/// The octets that are read at a time.
+pub const BLOCK: usize = 64 * 1024;
+
+/// Why a file was not gone through to its end.
+#[derive(Drop)]
+pub enum Ended {
+    /// No more octets are taken.
+    Halt(Halt),
+    /// The file can't be read.
+    Read(io::Error),
+    /// Standard output, or the terminal, takes no more.
+    Write(io::Error),
+}
+
+/// What takes the blocks of a file.
+pub trait Take {
+    /// Takes a block.
+    fn take(&mut self, block: &[u8]) -> Result<(), Ended>;
+    /// Takes the file's end.
+    fn end(&mut self) -> Result<(), Ended>;
+}
+
+impl Take for Checker<Global> {
+    fn take(&mut self, block: &[u8]) -> Result<(), Ended> {
+        match self.add(block) {
+            Ok(()) => Ok(()),
+            Err(halt) => Err(Ended::Halt(halt)),
+        }
+    }
+
+    fn end(&mut self) -> Result<(), Ended> {
+        match self.finish() {
+            Ok(()) => Ok(()),
+            Err(found) => Err(Ended::Halt(Halt::Wrong(found))),
+        }
+    }
+}
+
+/// Writes to standard output what a writer makes.
+#[derive(Drop)]
+pub struct Printer<'a> {
+    rt: &'a HostRuntime,
+    writer: Writer<Global>,
+    out: Vec<u8>,
+}
+
+impl<'a> Printer<'a> {
+    /// Before the first block.
+    pub fn new(rt: &'a HostRuntime, output: Output) -> Printer<'a> {
+        Printer {
+            rt,
+            writer: Writer::new(rt.alloc(), output),
+            out: Vec::new(rt.alloc()),
+        }
+    }
+
+    /// Writes what was made, unless memory was lacking, and answers what was answered.
+    fn print(&mut self, answer: Result<(), Halt>) -> Result<(), Ended> {
+        if answer != Err(Halt::OutOfMemory) {
+            if let Err(error) = self.rt.stdout().write_all(self.out.as_slice()) {
+                return Err(Ended::Write(error));
+            }
+        }
+        self.out.truncate(0);
+        match answer {
+            Ok(()) => Ok(()),
+            Err(halt) => Err(Ended::Halt(halt)),
+        }
+    }
+}
+
+impl<'a> Take for Printer<'a> {
+    fn take(&mut self, block: &[u8]) -> Result<(), Ended> {
+        let answer = self.writer.add(block, &mut self.out);
+        self.print(answer)
+    }
+
+    fn end(&mut self) -> Result<(), Ended> {
+        let answer = self.writer.finish(&mut self.out);
+        self.print(answer)
+    }
+}
+
+/// Reads a block, again where a signal came between.
+pub fn read_block<R: Read>(reader: &mut R, block: &mut [u8]) -> io::Result<usize> {
+    for _ in 0..u64::MAX {
+        match reader.read(block) {
+            Err(error) if error.kind() == ErrorKind::Interrupted => {}
+            answer => return answer,
+        }
+    }
+    Err(io::Error::from(ErrorKind::Interrupted))
+}
+
+/// Gives what a reader has to what takes blocks.
+fn go_through<R: Read, T: Take>(
+    reader: &mut R,
+    taker: &mut T,
+    block: &mut [u8],
+    progress: &mut Progress,
+) -> Result<(), Ended> {
+    for _ in 0..u64::MAX {
+        let count = match read_block(reader, block) {
+            Ok(0) => return taker.end(),
+            Ok(count) => count.min(block.len()),
+            Err(error) => return Err(Ended::Read(error)),
+        };
+        taker.take(&block[..count])?;
+        if let Err(error) = progress.read(count) {
+            return Err(Ended::Write(error));
+        }
+    }
+    Err(Ended::Halt(Halt::TooLong))
+}
+
+/// Gives a file's octets, or those of standard input, to what takes blocks.
+pub fn go_through_file<T: Take>(
+    rt: &HostRuntime,
+    file: &str,
+    taker: &mut T,
+    progress: &mut Progress,
+) -> Result<(), Ended> {
+    let Ok(mut block) = vec![in rt.alloc(); 0; BLOCK] else {
+        return Err(Ended::Halt(Halt::OutOfMemory));
+    };
+    if file == "-" {
+        return go_through(&mut rt.stdin(), taker, block.as_mut_slice(), progress);
+    }
+    match File::open(rt, file) {
+        Ok(mut reader) => go_through(&mut reader, taker, block.as_mut_slice(), progress),
+        Err(error) => Err(Ended::Read(error)),
+    }
+}
