@@ -3,7 +3,8 @@ use Rattle.std.specs.Prelude.{◌≡◌, ℕ, ◌<◌, ◌≤◌, List, length, 
 use Rattle.dns_text_c.specs.declared.outcome.Outcome.{Outcome}
 use Rattle.dns_text_c.specs.declared.outcome.Fault.{Fault}
 use Rattle.dns_text_c.specs.declared.outcome.Refusal.{Refusal}
-use Rattle.dns_text_c.specs.declared.outcome.Refusal.TheVariants.{NoRoom, BadEscape, ShortInput, BadUtf8, BadSymbol, TooLong, BadEncoding, Closing, OpenParenthesis, OpenQuote, LoneReturn, BadCursor, EmptyLabel, LongLabel, BinaryLabel, BadLabel, Pointer, TrailingOctets, NoDigit, TooGreat}
+use Rattle.dns_text_c.specs.declared.outcome.Refusal.TheVariants.{NoRoom, BadEscape, ShortInput, BadUtf8, BadSymbol, TooLong, BadEncoding, Closing, OpenParenthesis, OpenQuote}
+use Rattle.dns_text_c.specs.declared.outcome.Refusal.TheVariants.{LoneReturn, BadCursor, EmptyLabel, LongLabel, BinaryLabel, BadLabel, Pointer, TrailingOctets, NoDigit, TooGreat}
 
 -- the status of each refusal, as the header has it
 abbrev pub number_of : Refusal → ℕ

@@ -12,4 +12,5 @@ returns-then-end-gt0 c = λ h.
     let octets : List ℕ = c.as_bytes-octets.result.now in
     let all : c.skip_class-end.result ≡ length octets = eqb-true _ _ h in
     let some : 0 < length octets = omega (arith, all) in
-    subst IsToken c.as_bytes-octets.ensures.value (plain_word octets (subst IsUtf8 (sym c.as_bytes-octets.ensures.value) c.utf8.text) some (subst (λ n. EachIn Word octets 0 n) all c.skip_class-end.ensures.each))
+    subst IsToken c.as_bytes-octets.ensures.value
+    (plain_word octets (subst IsUtf8 (sym c.as_bytes-octets.ensures.value) c.utf8.text) some (subst (λ n. EachIn Word octets 0 n) all c.skip_class-end.ensures.each))
