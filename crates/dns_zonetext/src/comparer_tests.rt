@@ -1,5 +1,3 @@
-ghost use Rattle.std.specs.Prelude.{◌<◌};
-
 use crate::blocks::Halt;
 use crate::comparer::Comparer;
 use crate::diff::{Comparison, diff};
@@ -18,25 +16,22 @@ fn in_blocks<A: Allocator + Copy>(
     first: &[u8],
     second: &[u8],
     size: usize,
-) -> Result<Comparison, Halt>
-    requires { 0 < size }
-{
+) -> Result<Comparison, Halt> {
     let mut comparer = Comparer::new(alloc);
-    let mut ours = first.chunks(size);
-    let mut theirs = second.chunks(size);
+    let (mut ours, mut theirs) = (first, second);
     for _ in 0..u64::MAX {
         let mut is_done = true;
-        if comparer.wants_first() {
-            if let Some(block) = ours.next() {
-                comparer.add_first(block)?;
-                is_done = false;
-            }
+        if comparer.wants_first() && !ours.is_empty() {
+            let (block, rest) = ours.split_at(size.min(ours.len()));
+            comparer.add_first(block)?;
+            ours = rest;
+            is_done = false;
         }
-        if comparer.wants_second() {
-            if let Some(block) = theirs.next() {
-                comparer.add_second(block)?;
-                is_done = false;
-            }
+        if comparer.wants_second() && !theirs.is_empty() {
+            let (block, rest) = theirs.split_at(size.min(theirs.len()));
+            comparer.add_second(block)?;
+            theirs = rest;
+            is_done = false;
         }
         if is_done {
             break;
