@@ -61,19 +61,21 @@ fn prints_each_octet(rt: HostRuntime) -> Result<(), Fail> {
     Ok(())
 }
 
+// A text, and how its name is printed.
+const ROWS: [(&str, &str); 7] = [
+    (".", "."),
+    ("", ""),
+    (r"\@", r"\064"),
+    ("_443._tcp.example.", "_443._tcp.example."),
+    ("*.Example", "*.Example"),
+    (r"a\.b.c\;d\(.", r"a\046b.c\059d\040."),
+    (r#"\"\ \000\255."#, r"\034\032\000\255."),
+];
+
 #[test]
 fn prints_rows(rt: HostRuntime) -> Result<(), Fail> {
     let alloc = rt.alloc();
-    let rows: [(&str, &str); 7] = [
-        (".", "."),
-        ("", ""),
-        (r"\@", r"\064"),
-        ("_443._tcp.example.", "_443._tcp.example."),
-        ("*.Example", "*.Example"),
-        (r"a\.b.c\;d\(.", r"a\046b.c\059d\040."),
-        (r#"\"\ \000\255."#, r"\034\032\000\255."),
-    ];
-    for (text, printed) in rows {
+    for &(text, printed) in &ROWS {
         let Ok(name) = Vector::from_str(alloc, text) else {
             assert!(rt; false, "{text}");
             return Ok(());
