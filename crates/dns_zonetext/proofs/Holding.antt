@@ -63,7 +63,8 @@ ended_at before octets cut b o e s = elim s.1 [
 ]
 
 -- octets are let go
-unfoldable pub let_go : (all : List ℕ) (old new : Held) (cut : ℕ) → Holds all old → AreOctets old.octets → Settled old.octets (Ok cut) → new.octets ≡ drop cut old.octets → new.place.at ≡ old.place.at + cut
+unfoldable pub let_go : (all : List ℕ) (old new : Held) (cut : ℕ) → Holds all old → AreOctets old.octets → Settled old.octets (Ok cut)
+    → new.octets ≡ drop cut old.octets → new.place.at ≡ old.place.at + cut
     → ((before : List ℕ) → IsAt 0 before old.place.position → IsAt 0 (before ++ take cut old.octets) new.place.position) → Holds all new
 let_go all old new cut x o s is at position = record {
   before = x.before ++ take cut old.octets;
