@@ -291,61 +291,93 @@ fn lacked(
     Ok(())
 }
 
-/// Refuses one growth after another, until none is left: the answer is the same record, or lack of
-/// memory.
-fn growths_are_refused<F: Fn(&Refusing<Global>) -> Result<bool, StrError>>(
-    rt: &impl Abort,
-    alloc: Global,
-    is_same: F,
-) -> Result<(), Fail>
-    requires { F.IsAlwaysCallable is_same }
-{
+// Whichever growth is refused, the text is the same record or lacks memory.
+#[test]
+fn growths_of_mx_refused(rt: HostRuntime) -> Result<(), Fail> {
+    let alloc = rt.alloc();
     for nth in 1..100 {
         let heap = Refusing::new(alloc, nth);
-        match is_same(&heap) {
-            Ok(same) => assert!(rt; same),
-            Err(why) => lacked(rt, alloc, &heap, why)?,
+        match scanned::<Mx<Hostile<'_>>, _>(&heap, "10 a.example.") {
+            Ok(mx) => assert_eq!(&rt; mx.preference, 10),
+            Err(why) => lacked(&rt, alloc, &heap, why)?,
         }
         if !heap.has_refused() {
-            assert!(rt; nth > 4);
+            assert!(&rt; nth > 4);
             return Ok(());
         }
     }
-    assert!(rt; false);
+    assert!(&rt; false);
     Ok(())
 }
 
-fn is_the_mx(heap: &Refusing<Global>) -> Result<bool, StrError> {
-    let mx: Mx<Hostile<'_>> = scanned(heap, "10 a.example.")?;
-    Ok(mx.preference == 10)
-}
-
-fn is_the_txt(heap: &Refusing<Global>) -> Result<bool, StrError> {
-    let txt: Txt<Hostile<'_>, &Refusing<Global>> = scanned(heap, "a \"b c\" d")?;
-    Ok(txt.strings.as_slice().len() == 3)
-}
-
-fn is_the_ds(heap: &Refusing<Global>) -> Result<bool, StrError> {
-    let ds: Ds<Hostile<'_>> = scanned(heap, "60485 5 1 2BB183AF 5F225881")?;
-    Ok(ds.digest.as_slice().len() == 8)
-}
-
-fn is_the_caa(heap: &Refusing<Global>) -> Result<bool, StrError> {
-    let caa: Caa<Hostile<'_>> = scanned(heap, "0 issue \"ca1.example.net\"")?;
-    Ok(caa.value.as_slice().len() == 15)
-}
-
-fn is_the_soa(heap: &Refusing<Global>) -> Result<bool, StrError> {
-    let soa: Soa<Hostile<'_>> = scanned(heap, SOA)?;
-    Ok(soa.minimum.as_secs() == 60)
+#[test]
+fn growths_of_txt_refused(rt: HostRuntime) -> Result<(), Fail> {
+    let alloc = rt.alloc();
+    for nth in 1..100 {
+        let heap = Refusing::new(alloc, nth);
+        match scanned::<Txt<Hostile<'_>, &Refusing<Global>>, _>(&heap, "a \"b c\" d") {
+            Ok(txt) => assert_eq!(&rt; txt.strings.as_slice().len(), 3),
+            Err(why) => lacked(&rt, alloc, &heap, why)?,
+        }
+        if !heap.has_refused() {
+            assert!(&rt; nth > 4);
+            return Ok(());
+        }
+    }
+    assert!(&rt; false);
+    Ok(())
 }
 
 #[test]
-fn growths_of_each_record_are_refused(rt: HostRuntime) -> Result<(), Fail> {
+fn growths_of_ds_refused(rt: HostRuntime) -> Result<(), Fail> {
     let alloc = rt.alloc();
-    growths_are_refused(&rt, alloc, is_the_mx)?;
-    growths_are_refused(&rt, alloc, is_the_txt)?;
-    growths_are_refused(&rt, alloc, is_the_ds)?;
-    growths_are_refused(&rt, alloc, is_the_caa)?;
-    growths_are_refused(&rt, alloc, is_the_soa)
+    for nth in 1..100 {
+        let heap = Refusing::new(alloc, nth);
+        match scanned::<Ds<Hostile<'_>>, _>(&heap, "60485 5 1 2BB183AF 5F225881") {
+            Ok(ds) => assert_eq!(&rt; ds.digest.as_slice().len(), 8),
+            Err(why) => lacked(&rt, alloc, &heap, why)?,
+        }
+        if !heap.has_refused() {
+            assert!(&rt; nth > 4);
+            return Ok(());
+        }
+    }
+    assert!(&rt; false);
+    Ok(())
+}
+
+#[test]
+fn growths_of_caa_refused(rt: HostRuntime) -> Result<(), Fail> {
+    let alloc = rt.alloc();
+    for nth in 1..100 {
+        let heap = Refusing::new(alloc, nth);
+        match scanned::<Caa<Hostile<'_>>, _>(&heap, "0 issue \"ca1.example.net\"") {
+            Ok(caa) => assert_eq!(&rt; caa.value.as_slice().len(), 15),
+            Err(why) => lacked(&rt, alloc, &heap, why)?,
+        }
+        if !heap.has_refused() {
+            assert!(&rt; nth > 4);
+            return Ok(());
+        }
+    }
+    assert!(&rt; false);
+    Ok(())
+}
+
+#[test]
+fn growths_of_soa_refused(rt: HostRuntime) -> Result<(), Fail> {
+    let alloc = rt.alloc();
+    for nth in 1..100 {
+        let heap = Refusing::new(alloc, nth);
+        match scanned::<Soa<Hostile<'_>>, _>(&heap, SOA) {
+            Ok(soa) => assert_eq!(&rt; soa.minimum.as_secs(), 60),
+            Err(why) => lacked(&rt, alloc, &heap, why)?,
+        }
+        if !heap.has_refused() {
+            assert!(&rt; nth > 4);
+            return Ok(());
+        }
+    }
+    assert!(&rt; false);
+    Ok(())
 }
