@@ -75,6 +75,7 @@ where
 
     ghost step = { λ p x r q. F.step p.0 x r q.0 };
 
+    #[inline(always)]
     fn take_symbol(&mut self, _built: &mut (), symbol: Sym) -> Result<(), E> {
         self(symbol)
     }
