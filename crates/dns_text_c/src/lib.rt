@@ -7,27 +7,15 @@
 //! [`dns_text_split`](encodings::dns_text_split).
 #![tactic(auto)]
 
-#[cfg(test)]
-mod codec_tests;
 pub mod codecs;
-#[cfg(test)]
-mod encoding_tests;
 pub mod encodings;
 pub mod laws;
-#[cfg(test)]
-mod name_tests;
 pub mod names;
-#[cfg(test)]
-mod number_tests;
 pub mod numbers;
 pub mod outcome;
-#[cfg(test)]
-mod piece_tests;
 pub mod pieces;
 pub mod status;
-#[cfg(test)]
-mod string_tests;
 pub mod strings;
 #[cfg(test)]
-mod token_tests;
+mod tests;
 pub mod tokens;
