@@ -40,7 +40,7 @@ static void gives(call f, const uint8_t *from, size_t from_len, const uint8_t *m
                   int line) {
     uint8_t memory[1100];
     size_t room, i;
-    for (room = 0; room <= length + 2; room++) {
+    for (room = 0; room <= length + 15; room++) {
         struct dns_outcome outcome = {7, 7};
         uint32_t status;
         memset(memory, '-', sizeof memory);
@@ -56,8 +56,8 @@ static void gives(call f, const uint8_t *from, size_t from_len, const uint8_t *m
 /* A refusal, whatever the room, which leaves the memory as it was. */
 static void refuses(call f, const uint8_t *from, size_t from_len, uint32_t status, size_t place,
                     int line) {
-    static const size_t rooms[] = {0, 1, 4, 255, 600};
-    uint8_t memory[600];
+    static const size_t rooms[] = {0, 1, 4, 255, 1023};
+    uint8_t memory[1023];
     size_t at, i;
     for (at = 0; at < sizeof rooms / sizeof *rooms; at++) {
         struct dns_outcome outcome = {7, 7};
