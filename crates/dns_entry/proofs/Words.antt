@@ -1,7 +1,7 @@
 -- The token of a field is one, so a line is a well-formed document.
 use Rattle.std.proofs.Common.{◌≡◌, ℕ, zero, suc, ◌<◌, ◌-◌, ◌%◌, ◌^◌, Bool, true, List, [], ◌∷◌, ◌++◌, length, map, All, refl, sym, ap, ◌∙◌, arith, replicate, inl, inr}
 use Rattle.std.specs.Prelude.{encode_utf8_all, slice_index, nat_lt, ◌&&◌}
-use Rattle.std.specs.List.{list_all, flat_map}
+use Rattle.std.specs.List.{AllByRecursion, list_all, flat_map}
 use Rattle.std.specs.Fmt.{decimal}
 use Rattle.std.proofs.lemmas.Bool.{and_parts}
 use Rattle.std.proofs.lemmas.Bool.Decides.{nat_tests}
@@ -22,9 +22,9 @@ use Rattle.dns_codec.proofs.RoundTrip.{encoded16-decodes, encoded64-decodes}
 use Rattle.dns_codec.proofs.Unique.{one_value, no_mark16, no_mark64}
 use Rattle.dns_split.specs.Token.{IsWord, IsToken}
 use Rattle.dns_zone.specs.Layout.{end}
-use Rattle.dns_zone.specs.Documents.{IsWellFormed}
+use Rattle.dns_zone.specs.Documents.{IsProper, IsWellFormed}
 use Rattle.dns_entry.specs.Field.{Content, number, hex_octets, base64_octets, text_octets, IsContent, IsPrintable, field_text}
-use Rattle.dns_entry.specs.Line.{AreContents, IsLine, field_step, line_document}
+use Rattle.dns_entry.specs.Line.{AreContents, IsLine, field_step, line_document, line_nests}
 
 -- an ASCII character that stands for itself in a word
 abbrev pub is_word_char : ℕ → Bool
@@ -122,9 +122,9 @@ field_token (base64_octets os) is can = inl (base64_word os is can)
 field_token (text_octets []) is can = inr (record { symbols = []; valid = refl; spelled = refl })
 field_token (text_octets (o ∷ os)) is can = inl (text_word o os is.0)
 
-tokens_formed : (fields : List Content) → AreContents fields → IsLine fields → IsWellFormed 1 (map field_step fields ++ end ∷ [])
-tokens_formed [] is line = tt
-tokens_formed (field ∷ fields) is line = (field_token field is.0 line.0, tokens_formed fields is.1 line.1)
+tokens_proper : (fields : List Content) → AreContents fields → IsLine fields → AllByRecursion IsProper (map field_step fields ++ end ∷ [])
+tokens_proper [] is line = (tt, tt)
+tokens_proper (field ∷ fields) is line = (field_token field is.0 line.0, tokens_proper fields is.1 line.1)
 
-pub line_formed : (fields : List Content) → AreContents fields → IsLine fields → IsWellFormed 0 (line_document fields)
-line_formed fields is line = tokens_formed fields is line
+pub line_formed : (fields : List Content) → AreContents fields → IsLine fields → IsWellFormed (line_document fields)
+line_formed fields is line = (line_nests fields, (tt, tokens_proper fields is line))

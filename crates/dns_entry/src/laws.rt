@@ -50,5 +50,5 @@ pub fn field_texts_are_tokens()
 
 /// The document of every line is well-formed.
 pub fn lines_are_well_formed()
-    ensures { (fields : List Content) → AreContents fields → IsLine fields → IsWellFormed 0 (line_document fields) }
+    ensures { (fields : List Content) → AreContents fields → IsLine fields → IsWellFormed (line_document fields) }
 {}

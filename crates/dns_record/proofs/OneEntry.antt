@@ -11,9 +11,9 @@ use Rattle.dns_record.proofs.Pieces.{pieces_entry, pieces_formed, tokens_of}
 
 -- what such a text splits into
 pub record_entry : (ps : List Piece) (document : List Step) (text : List ℕ) (found : Entries) → document ≡ steps_of ps → AreValues (values_of ps) → IsLaidOut ps
-    → (IsWellFormed 0 document → SplitsOnlyInto text (document_entries document)) → Splits text found → found ≡ tokens_of ps ∷ []
+    → (IsWellFormed document → SplitsOnlyInto text (document_entries document)) → Splits text found → found ≡ tokens_of ps ∷ []
 record_entry ps document text found is valid laid only splits =
-    let formed = subst (IsWellFormed 0) (sym is) (pieces_formed 0 ps valid laid) in
+    let formed = subst IsWellFormed (sym is) (pieces_formed ps valid laid) in
     (only formed found).0 splits ∙ ap document_entries is ∙ pieces_entry ps
 
 pub first_of : {A : Type 0} (es : List (Vec (String A) A)) (x : Vec (String A) A) (rest : List (Vec (String A) A)) (ts : List (List ℕ)) → es ≡ x ∷ rest → entries_of es ≡ ts ∷ [] → texts x.items ≡ ts

@@ -1,8 +1,8 @@
 -- The document of pieces: it is well-formed, and one entry whose tokens hold the texts of the values.
-use Rattle.std.proofs.Common.{ℕ, zero, suc, ◌≡◌, ◌<◌, Bool, true, false, List, [], ◌∷◌, ◌++◌, map, refl, sym, ap, ◌∙◌, arith, inl, inr}
+use Rattle.std.proofs.Common.{ℕ, ◌≡◌, ◌<◌, Bool, true, false, List, [], ◌∷◌, ◌++◌, map, refl, sym, ap, ◌∙◌, arith, inl, inr}
 use Rattle.std.specs.Prelude.{All, encode_utf8_all, if◌then◌else◌}
 use Rattle.std.specs.Fmt.{decimal}
-use Rattle.std.specs.List.{list_all}
+use Rattle.std.specs.List.{list_all, AllByRecursion}
 use Rattle.std.proofs.lemmas.Bool.{and_parts}
 use Rattle.std.proofs.lemmas.Bool.Decides.{nat_tests}
 use Rattle.std.proofs.lemmas.Str.{encode_ascii}
@@ -21,14 +21,14 @@ use Rattle.dns_split.specs.Splitting.{with_token}
 use Rattle.dns_split.specs.Token.{IsToken, IsQuote}
 use Rattle.dns_scan.specs.Octets.{quoted_token, unquoted_token}
 use Rattle.dns_scan.specs.Tokens.{Token}
-use Rattle.dns_zone.specs.Documents.{IsWellFormed, IsComment}
-use Rattle.dns_zone.specs.Nesting.{from_none_test}
+use Rattle.dns_zone.specs.Documents.{IsWellFormed, IsComment, IsProper}
+use Rattle.dns_zone.specs.Nesting.{is_nested}
 use Rattle.dns_zone_laws.specs.Entries.{document_entries}
 use Rattle.dns_wire.specs.Wire.{EndsInRoot}
 use Rattle.dns_wire.specs.ZoneText.{zone_text}
 use Rattle.dns_zone_laws.proofs.ZoneNames.{zone_word}
 use Rattle.dns_iter.specs.Contents.{IsContent, AreContents}
-use Rattle.dns_record.specs.Pieces.{Piece, field, unquoted, note, opens, closes, value_token, steps_of, values_of, is_note_ascii, is_laid_out}
+use Rattle.dns_record.specs.Pieces.{Piece, field, unquoted, note, opens, closes, value_token, steps_of, values_of, is_note_ascii, is_plain, IsLaidOut}
 use Rattle.dns_record.specs.Values.{Value, number8, number16, number32, name, hex, base64_octets, string, listed, IsValue, IsText, AreValues, AreTexts}
 
 -- ---- tokens and comments
@@ -124,18 +124,16 @@ note_comment text h = record { characters = text; plain = note_plain text h; spe
 
 -- ---- the document
 
-pub pieces_formed : (n : ℕ) (ps : List Piece) → AreValues (values_of ps) → is_laid_out n ps ≡ true → IsWellFormed n (steps_of ps)
-pieces_formed zero [] is laid = tt
-pieces_formed (suc n) [] is laid = let no = from_none_test (suc n) laid in absurd (omega (arith, no))
-pieces_formed n (opens ∷ ps) is laid = pieces_formed (suc n) ps is laid
-pieces_formed zero (closes ∷ ps) is laid = cc
-pieces_formed (suc n) (closes ∷ ps) is laid = pieces_formed n ps is laid
-pieces_formed zero (note text ∷ ps) is laid = let parts = and_parts (list_all is_note_ascii text) (is_laid_out zero ps) laid in (note_comment text parts.0, pieces_formed zero ps is parts.1)
-pieces_formed (suc n) (note text ∷ ps) is laid = let parts = and_parts (list_all is_note_ascii text) (is_laid_out (suc n) ps) laid in (note_comment text parts.0, pieces_formed (suc n) ps is parts.1)
-pieces_formed zero (field v ∷ ps) is laid = (is_token (value_token v) (held v) (value_content v is.0), pieces_formed zero ps is.1 laid)
-pieces_formed (suc n) (field v ∷ ps) is laid = (is_token (value_token v) (held v) (value_content v is.0), pieces_formed (suc n) ps is.1 laid)
-pieces_formed zero (unquoted os ∷ ps) is laid = (is_token (field_text (text_octets os)) (unquoted_token os) (unquoted_content os is.0.0), pieces_formed zero ps is.1 laid)
-pieces_formed (suc n) (unquoted os ∷ ps) is laid = (is_token (field_text (text_octets os)) (unquoted_token os) (unquoted_content os is.0.0), pieces_formed (suc n) ps is.1 laid)
+pieces_proper : (ps : List Piece) → AreValues (values_of ps) → list_all is_plain ps ≡ true → AllByRecursion IsProper (steps_of ps)
+pieces_proper [] is plain = tt
+pieces_proper (opens ∷ ps) is plain = (tt, pieces_proper ps is plain)
+pieces_proper (closes ∷ ps) is plain = (tt, pieces_proper ps is plain)
+pieces_proper (note text ∷ ps) is plain = let parts = and_parts (list_all is_note_ascii text) (list_all is_plain ps) plain in (note_comment text parts.0, pieces_proper ps is parts.1)
+pieces_proper (field v ∷ ps) is plain = (is_token (value_token v) (held v) (value_content v is.0), pieces_proper ps is.1 plain)
+pieces_proper (unquoted os ∷ ps) is plain = (is_token (field_text (text_octets os)) (unquoted_token os) (unquoted_content os is.0.0), pieces_proper ps is.1 plain)
+
+pub pieces_formed : (ps : List Piece) → AreValues (values_of ps) → IsLaidOut ps → IsWellFormed (steps_of ps)
+pieces_formed ps is laid = let parts = and_parts (is_nested 0 (steps_of ps)) (list_all is_plain ps) laid in (parts.0, pieces_proper ps is parts.1)
 
 -- the tokens, and what they hold
 pub tokens_of : List Piece → List Token

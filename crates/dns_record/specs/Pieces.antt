@@ -1,5 +1,5 @@
 -- The pieces of a record's text: fields, and how the multiline layout sets them.
-use Rattle.std.specs.Prelude.{ℕ, zero, suc, ◌≡◌, ◌==◌, ◌&&◌, Bool, true, false, List, [], ◌∷◌, map, nat_le, encode_utf8_all}
+use Rattle.std.specs.Prelude.{ℕ, ◌≡◌, ◌&&◌, Bool, true, List, [], ◌∷◌, map, nat_le, encode_utf8_all}
 use Rattle.std.specs.Fmt.{decimal}
 use Rattle.std.specs.List.{list_all}
 use Rattle.dns_symbol.specs.Characters.{space, tilde}
@@ -7,6 +7,7 @@ use Rattle.dns_codec.specs.Base.{base16, base64, encoded}
 use Rattle.dns_charstr.specs.Printed.{quoted_text}
 use Rattle.dns_entry.specs.Field.{field_text, text_octets}
 use Rattle.dns_zone.specs.Layout.{Step, token, begin, end, comment}
+use Rattle.dns_zone.specs.Nesting.{is_nested}
 use Rattle.dns_wire.specs.ZoneText.{zone_text}
 use Rattle.dns_record.specs.Values.{Value, number8, number16, number32, name, hex, base64_octets, string, listed}
 
@@ -53,15 +54,14 @@ values_of (closes ∷ ps) = values_of ps
 abbrev pub is_note_ascii : ℕ → Bool
 is_note_ascii c = nat_le space c && nat_le c tilde
 
--- where so many blocks are open before: blocks nest and close, and notes are printable ASCII
-abbrev pub is_laid_out : (open_blocks : ℕ) → List Piece → Bool
-is_laid_out n [] = n == 0
-is_laid_out n (opens ∷ ps) = is_laid_out (suc n) ps
-is_laid_out zero (closes ∷ ps) = false
-is_laid_out (suc n) (closes ∷ ps) = is_laid_out n ps
-is_laid_out n (note text ∷ ps) = list_all is_note_ascii text && is_laid_out n ps
-is_laid_out n (field v ∷ ps) = is_laid_out n ps
-is_laid_out n (unquoted octets ∷ ps) = is_laid_out n ps
+-- a note of printable ASCII, or any other piece
+abbrev pub is_plain : Piece → Bool
+is_plain (note text) = list_all is_note_ascii text
+is_plain (field v) = true
+is_plain (unquoted octets) = true
+is_plain opens = true
+is_plain closes = true
 
+-- blocks nest and close, and notes are printable ASCII
 abbrev pub IsLaidOut : List Piece → Type 0
-IsLaidOut ps = is_laid_out 0 ps ≡ true
+IsLaidOut ps = (is_nested 0 (steps_of ps) && list_all is_plain ps) ≡ true

@@ -4,6 +4,7 @@ pub mod TabbedSteps
 pub mod MultilineSteps
 pub mod Prints
 pub mod Comments
+pub mod Nested
 pub mod Scanned
 pub mod Written
 pub mod Lines

@@ -1,9 +1,10 @@
 -- The loop that writes the items of a document.
-use Rattle.std.proofs.Common.{◌≡◌, ℕ, ◌+◌, ◌<◌, true, List, [], ◌∷◌, ◌++◌, refl, ap, subst, ◌∙◌, arith}
+use Rattle.std.proofs.Common.{◌≡◌, ℕ, ◌+◌, ◌<◌, true, List, [], ◌∷◌, ◌++◌, refl, ap, ◌∙◌, arith}
 use Rattle.std.proofs.lemmas.Fn.{FoldsTo-push}
 use Rattle.std.specs.List.{FoldsTo}
 use Rattle.dns_zone.specs.Layout.{Step, token, begin, end, comment, newline}
-use Rattle.dns_zone.specs.Nesting.{is_nested, IsNested, has_line, Fits, both_parts, from_some_test, from_none_test}
+use Rattle.dns_zone.specs.Nesting.{is_nested, IsNested, has_line, Fits, from_none_test}
+use Rattle.dns_zone.proofs.Nested.{nested_rest, nested_end, nested_newline}
 use Rattle.dns_zone.specs.Writers.{Steps, Runs, opened}
 
 -- the writing of a document has come to `rest`, with `inner` blocks of its own open
@@ -20,19 +21,6 @@ has_line_more begin xs h = h
 has_line_more end xs h = h
 has_line_more (comment bs) xs h = h
 has_line_more newline xs h = refl
-
-nested_rest : (n : ℕ) (x : Step) (xs : List Step) → is_nested n (x ∷ xs) ≡ true → is_nested (opened x n) xs ≡ true
-nested_rest n (token bs) xs p = p
-nested_rest n (comment bs) xs p = p
-nested_rest n begin xs p = p
-nested_rest n end xs p = (both_parts _ _ p).1
-nested_rest n newline xs p = (both_parts _ _ p).1
-
-nested_end : (n : ℕ) (x : Step) (xs : List Step) → is_nested n (x ∷ xs) ≡ true → x ≡ end → 0 < n
-nested_end n x xs p e = from_some_test n (both_parts _ _ (subst (λ (y : Step). is_nested n (y ∷ xs) ≡ true) e p)).0
-
-nested_newline : (n : ℕ) (x : Step) (xs : List Step) → is_nested n (x ∷ xs) ≡ true → x ≡ newline → n ≡ 0
-nested_newline n x xs p e = from_none_test n (both_parts _ _ (subst (λ (y : Step). is_nested n (y ∷ xs) ≡ true) e p)).0
 
 opened_from : (x : Step) (n d : ℕ) → (x ≡ end → 0 < d) → opened x (n + d) ≡ n + opened x d
 opened_from (token bs) n d h = refl

@@ -1,9 +1,10 @@
 -- Documents: the steps of a list of items, and which lists are well-formed.
-use Rattle.std.specs.Prelude.{◌≡◌, ◌<◌, ℕ, zero, suc, true, ◌⊎◌, List, [], ◌∷◌, ◌++◌, length, map, codes, encode_utf8_all, ⊤}
-use Rattle.std.specs.List.{list_all}
+use Rattle.std.specs.Prelude.{◌≡◌, ◌<◌, ℕ, true, ◌⊎◌, List, [], ◌∷◌, ◌++◌, length, map, codes, encode_utf8_all, ⊤}
+use Rattle.std.specs.List.{list_all, AllByRecursion}
 use Rattle.std.specs.Fmt.{decimal}
 use Rattle.std.specs.String.{string_bytes}
 use Rattle.dns_zone.specs.Layout.{Step, token, begin, end, comment, newline, depth}
+use Rattle.dns_zone.specs.Nesting.{IsNested}
 use Rattle.dns_split.specs.Lexeme.{is_note_char}
 use Rattle.dns_split.specs.Token.{IsToken}
 use Rattle.dns_zone.specs.declared.document.Item.{Item}
@@ -29,26 +30,17 @@ pub record IsComment (text : List ℕ) : Type 0 where
   pub plain : list_all is_note_char characters ≡ true
   pub spelled : encode_utf8_all characters ≡ text
 
--- Where `open_blocks` blocks are open before: each token and comment is one, each end has its begin, line ends stand outside blocks,
--- and all blocks are closed at the end.
-abbrev pub IsWellFormed : (open_blocks : ℕ) → List Step → Type 0
-IsWellFormed n (begin ∷ xs) = IsWellFormed (suc n) xs
-IsWellFormed zero (end ∷ xs) = ⊥
-IsWellFormed (suc n) (end ∷ xs) = IsWellFormed n xs
-IsWellFormed n (token text ∷ xs) = IsToken text × IsWellFormed n xs
-IsWellFormed n (comment text ∷ xs) = IsComment text × IsWellFormed n xs
-IsWellFormed zero (newline ∷ xs) = IsWellFormed zero xs
-IsWellFormed (suc n) (newline ∷ xs) = ⊥
-IsWellFormed zero [] = ⊤
-IsWellFormed (suc n) [] = ⊥
+-- a token is a word or a quoted text, and a comment has no LF and no CR; other steps are proper as they stand
+abbrev pub IsProper : Step → Type 0
+IsProper (token text) = IsToken text
+IsProper (comment text) = IsComment text
+IsProper begin = ⊤
+IsProper end = ⊤
+IsProper newline = ⊤
 
--- a step that has no fault where `open_blocks` blocks are open before
-abbrev pub IsFine : (open_blocks : ℕ) → Step → Type 0
-IsFine n (token text) = IsToken text
-IsFine n (comment text) = IsComment text
-IsFine n begin = ⊤
-IsFine n end = 0 < n
-IsFine n newline = n ≡ 0
+-- blocks nest and close, line ends stand outside them, and each token and comment is one
+abbrev pub IsWellFormed : List Step → Type 0
+IsWellFormed xs = IsNested xs × AllByRecursion IsProper xs
 
 -- what is wrong with a step, after the steps of `past`; its place is how many they are
 abbrev pub IsFault : List Step → Step → DocumentError → Type 0
@@ -58,10 +50,14 @@ IsFault past begin e = ⊥
 IsFault past end e = (e ≡ EndWithoutBegin (length past)) × (depth past ≡ 0)
 IsFault past newline e = (e ≡ LineInBlock (length past)) × (0 < depth past)
 
+-- nothing is wrong with a step
+abbrev pub IsFine : List Step → Step → Type 0
+IsFine past x = (e : DocumentError) → ¬ IsFault past x e
+
 -- the first fault after the steps of `past`: the next step's, or, where it has none, the first one after it; a block left open comes last
 abbrev pub IsFirstFault : List Step → List Step → DocumentError → Type 0
 IsFirstFault past [] e = (e ≡ OpenBlock) × (0 < depth past)
-IsFirstFault past (x ∷ xs) e = IsFault past x e ⊎ (((f : DocumentError) → ¬ IsFault past x f) × IsFirstFault (x ∷ past) xs e)
+IsFirstFault past (x ∷ xs) e = IsFault past x e ⊎ (IsFine past x × IsFirstFault (x ∷ past) xs e)
 
 -- what an error prints
 abbrev pub fault_text : DocumentError → List ℕ

@@ -53,8 +53,8 @@ from_some_test n h = grind (arith, nat_tests)
 pub from_none_test : (n : ℕ) → (n == 0) ≡ true → n ≡ 0
 from_none_test n h = grind (arith, nat_tests)
 
-none_test : (m n : ℕ) → (n == 0) ≡ true → m ≡ n → (m == 0) ≡ true
-none_test m n p e = rw e p
+pub none_test : (n : ℕ) → n ≡ 0 → (n == 0) ≡ true
+none_test n h = grind (arith, nat_tests)
 
 -- one document after another
 pub nested_append : (n : ℕ) (xs ys : List Step) → is_nested n xs ≡ true → IsNested ys → is_nested n (xs ++ ys) ≡ true
@@ -66,7 +66,7 @@ nested_append n (end ∷ xs) ys p q = let r = both_parts _ _ p in both_true _ _ 
 nested_append n (newline ∷ xs) ys p q = let r = both_parts _ _ p in both_true _ _ r.0 (nested_append n xs ys r.1 q)
 
 nested_before_end : (n : ℕ) (xs : List Step) → is_nested n xs ≡ true → has_line xs ≡ false → is_nested (n + 1) (xs ++ end ∷ []) ≡ true
-nested_before_end n [] p q = both_true _ _ (some_test (n + 1) (omega arith)) (none_test (n + 1 - 1) n p (omega arith))
+nested_before_end n [] p q = both_true _ _ (some_test (n + 1) (omega arith)) (none_test (n + 1 - 1) (omega (arith, from_none_test n p)))
 nested_before_end n (token bs ∷ xs) p q = nested_before_end n xs p q
 nested_before_end n (comment bs ∷ xs) p q = nested_before_end n xs p q
 nested_before_end n (begin ∷ xs) p q = nested_before_end (n + 1) xs p q

@@ -76,16 +76,16 @@ end_without_begin = inl (refl, refl)
 open_block : IsFirstFault [] (begin ∷ []) OpenBlock
 open_block = inr (λ f p. p, (refl, omega arith))
 
-quoted_token : IsWellFormed 0 (token (codes "\"a b\"") ∷ [])
+quoted_token : IsWellFormed (token (codes "\"a b\"") ∷ [])
 unfolding encode
-quoted_token = (inr (record { symbols = Char 97 ∷ Char 32 ∷ Char 98 ∷ []; valid = refl; spelled = refl }), tt)
+quoted_token = (refl, (inr (record { symbols = Char 97 ∷ Char 32 ∷ Char 98 ∷ []; valid = refl; spelled = refl }), tt))
 
-empty_quoted_token : IsWellFormed 0 (token (codes "\"\"") ∷ [])
-empty_quoted_token = (inr (record { symbols = []; valid = refl; spelled = refl }), tt)
+empty_quoted_token : IsWellFormed (token (codes "\"\"") ∷ [])
+empty_quoted_token = (refl, (inr (record { symbols = []; valid = refl; spelled = refl }), tt))
 
-escaped_semicolon : IsWellFormed 0 (token (codes "a\\;b") ∷ [])
+escaped_semicolon : IsWellFormed (token (codes "a\\;b") ∷ [])
 unfolding encode
-escaped_semicolon = (inl (record { symbols = Char 97 ∷ SimpleEscape 59 ∷ Char 98 ∷ []; some = omega arith; valid = refl; spelled = refl }), tt)
+escaped_semicolon = (refl, (inl (record { symbols = Char 97 ∷ SimpleEscape 59 ∷ Char 98 ∷ []; some = omega arith; valid = refl; spelled = refl }), tt))
 
 -- a flag as a word
 abbrev pub flag_text : Bool → List ℕ

@@ -1,7 +1,7 @@
 //! Lists of tokens, block marks, comments and line ends, and which of them are documents.
 ghost use Rattle.std.specs.Prelude.{◌≡◌, ℕ, ◌<◌, List, [], ◌∷◌, Some, IsTrue, IfNone, IfSome, IfOk, IfErr, IsOk, OnOk, length, ◌↔◌};
 ghost use Rattle.dns_zone.specs.Layout.{Step, token, begin, end, comment, newline, depth};
-ghost use Rattle.dns_zone.specs.Documents.{step_of, steps_of, IsComment, IsFine, IsFault, IsFirstFault, IsWellFormed, fault_text};
+ghost use Rattle.dns_zone.specs.Documents.{step_of, steps_of, IsComment, IsProper, IsFault, IsFirstFault, IsWellFormed, fault_text};
 ghost use Rattle.dns_zone.specs.Writers.{Steps, opened};
 
 use crate::tokens::ZoneTokens;
@@ -66,7 +66,9 @@ fn is_comment(text: &str) -> bool
 
 /// What is wrong with the item at a place, where `blocks` blocks are open before it.
 fn fault<A: Allocator>(item: &Item<A>, place: usize, blocks: usize) -> Option<DocumentError>
-    ensures fine { IfNone result (IsFine blocks (step_of item.now)) }
+    ensures proper { IfNone result (IsProper (step_of item.now)) }
+    ensures end { IfNone result (step_of item.now ≡ end → 0 < blocks) }
+    ensures newline { IfNone result (step_of item.now ≡ newline → blocks ≡ 0) }
     ensures fault { IfSome result (λ e. (past : List Step) → length past ≡ place → depth past ≡ blocks → IsFault past (step_of item.now) e) }
 {
     match item {
@@ -108,7 +110,7 @@ fn blocks_after<A: Allocator>(item: &Item<A>, blocks: usize) -> usize
 
 /// What is wrong first with a list of items.
 pub(crate) fn first_fault<A: Allocator>(items: &[Item<A>]) -> Option<DocumentError>
-    ensures fine { IfNone result (IsWellFormed 0 (steps_of items.now)) }
+    ensures fine { IfNone result (IsWellFormed (steps_of items.now)) }
     ensures fault { IfSome result (λ e. IsFirstFault [] (steps_of items.now) e) }
 {
     let mut blocks: usize = 0;
@@ -129,7 +131,7 @@ pub(crate) fn first_fault<A: Allocator>(items: &[Item<A>]) -> Option<DocumentErr
 #[derive(Debug, Drop)]
 pub struct Document<A: Allocator = Global> {
     pub(crate) items: Vec<Item<A>, A>,
-    ghost well_formed: { ∥ IsWellFormed 0 (steps_of items.items) ∥₁ },
+    ghost well_formed: { ∥ IsWellFormed (steps_of items.items) ∥₁ },
 }
 
 impl<A: Allocator> Document<A> {
@@ -140,7 +142,7 @@ impl<A: Allocator> Document<A> {
         items: Vec<Item<A>, A>,
     ) -> std::result::Result<Document<A>, (DocumentError, Vec<Item<A>, A>)>
         ensures ok { IfOk result (λ d. document_steps d ≡ steps_of items.items) }
-        ensures accepts { IsOk result ↔ IsWellFormed 0 (steps_of items.items) }
+        ensures accepts { IsOk result ↔ IsWellFormed (steps_of items.items) }
         ensures err { IfErr result (λ e. IsFirstFault [] (steps_of items.items) e.0 × (e.1 ≡ items)) }
     {
         match first_fault(&items) {
@@ -168,7 +170,7 @@ impl<A: Allocator> ZonefileFmt for Document<A> {
 impl<A: Allocator> ZoneTokens for Document<A> {
     ghost use Rattle.dns_zone.specs.DocumentSteps.{document_steps};
 
-    ghost holds = { λ d. IsWellFormed 0 (document_steps d) };
+    ghost holds = { λ d. IsWellFormed (document_steps d) };
 
     fn known(&self) {
         let _fault = first_fault(&self.items);

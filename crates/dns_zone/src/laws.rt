@@ -12,14 +12,14 @@ use crate::zonefile_fmt::{FormatWriter, MultiLineWriter};
 
 /// Every document is well-formed.
 pub fn documents_are_well_formed(document: &Document)
-    ensures { IsWellFormed 0 (document_steps document.now) }
+    ensures { IsWellFormed (document_steps document.now) }
 {
     document.known();
 }
 
 /// A list of items is well-formed exactly if it has no first fault.
 pub fn well_formed_without_fault(items: &[Item])
-    ensures { IsWellFormed 0 (steps_of items.now) ↔ ((e : DocumentError) → ¬ IsFirstFault [] (steps_of items.now) e) }
+    ensures { IsWellFormed (steps_of items.now) ↔ ((e : DocumentError) → ¬ IsFirstFault [] (steps_of items.now) e) }
 {
     let _fault = first_fault(items);
 }

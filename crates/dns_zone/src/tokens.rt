@@ -43,7 +43,7 @@ pub trait ZoneTokens: ZonefileFmt {
     fn known(&self)
         ensures { holds self.now };
 
-    ghost formed: { (x : Self) → holds x → IsWellFormed 0 (Self.document x) };
+    ghost formed: { (x : Self) → holds x → IsWellFormed (Self.document x) };
 }
 
 impl<T: ZoneTokens> ZoneTokens for &T {

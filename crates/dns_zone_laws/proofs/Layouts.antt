@@ -1,7 +1,7 @@
 -- Each layout of a well-formed document splits into its entries.
 use Rattle.std.proofs.Common.{◌&&◌, ◌≡◌, ℕ, zero, suc, ◌<◌, Bool, true, false, List, [], ◌∷◌, ◌++◌, replicate, refl, sym, ap, ◌∙◌, subst, arith, append_assoc}
 use Rattle.std.specs.Prelude.{if◌then◌else◌, ◌||◌, ◌==◌}
-use Rattle.std.specs.List.{flat_map}
+use Rattle.std.specs.List.{flat_map, AllByRecursion}
 use Rattle.std.proofs.lemmas.Bool.{and_from}
 use lib.Utf8.{encode}
 use Rattle.dns_split.proofs.Tight.{tight_all}
@@ -9,7 +9,9 @@ use Rattle.dns_split.specs.Splitting.{BeginsNoBlank, is_tight, is_outside, Split
 use Rattle.dns_split.specs.Lexeme.{Lexeme, Blank, Line, Open, Close, Note, Word, Quote, bytes}
 use Rattle.dns_zone.specs.Layout.{Step, token, begin, end, comment, newline, layout, pieces, depth, is_line_start, is_block_start, simple_piece, tabbed_piece, multiline_piece, is_shown}
 use Rattle.dns_zone.specs.Layout.{is_row_start, indent}
-use Rattle.dns_zone.specs.Documents.{IsComment, IsWellFormed}
+use Rattle.dns_zone.specs.Documents.{IsComment, IsProper, IsWellFormed}
+use Rattle.dns_zone.specs.Nesting.{is_nested, from_none_test}
+use Rattle.dns_zone.proofs.Nested.{nested_end, nested_in, nested_newline, nested_out}
 use Rattle.dns_zone_laws.specs.Entries.{document_entries}
 use Rattle.dns_split.proofs.Tokens.{is_token_lexeme, token_one}
 use Rattle.dns_split.specs.Token.{IsToken}
@@ -142,18 +144,15 @@ flat_token false false d t text e i r = (
   token_tight false d (token_one i).lexeme r.0.ls (token_one i).is_one ∙ r.2,
 )
 
-flat_laid : (sep : List Step → Bool) (steps past : List Step) (d : ℕ) → IsWellFormed d steps → LaidFrom (is_line_start past) 0 (pieces (flat sep) past steps) (document_entries steps)
+flat_laid : (sep : List Step → Bool) (steps past : List Step) → AllByRecursion IsProper steps → LaidFrom (is_line_start past) 0 (pieces (flat sep) past steps) (document_entries steps)
 unfolding with_line
-flat_laid sep [] past zero w = (record { ls = []; spelled = refl; valid = refl; nested = refl; cut = refl }, λ _. refl, refl)
-flat_laid sep [] past (suc d) w = absurd w
-flat_laid sep (token t ∷ steps) past d w = flat_token (is_line_start past) (sep past) 0 t (pieces (flat sep) (token t ∷ past) steps) (document_entries steps) w.0
-    (flat_laid sep steps (token t ∷ past) d w.1)
-flat_laid sep (newline ∷ steps) past zero w = let r = flat_laid sep steps (newline ∷ past) zero w in (with_line _ _ r.0, λ _. refl, r.2)
-flat_laid sep (newline ∷ steps) past (suc d) w = absurd w
-flat_laid sep (begin ∷ steps) past d w = flat_laid sep steps (begin ∷ past) (suc d) w
-flat_laid sep (end ∷ steps) past zero w = absurd w
-flat_laid sep (end ∷ steps) past (suc d) w = flat_laid sep steps (end ∷ past) d w
-flat_laid sep (comment t ∷ steps) past d w = flat_laid sep steps (comment t ∷ past) d w.1
+flat_laid sep [] past p = (record { ls = []; spelled = refl; valid = refl; nested = refl; cut = refl }, λ _. refl, refl)
+flat_laid sep (token t ∷ steps) past p = flat_token (is_line_start past) (sep past) 0 t (pieces (flat sep) (token t ∷ past) steps) (document_entries steps) p.0
+    (flat_laid sep steps (token t ∷ past) p.1)
+flat_laid sep (newline ∷ steps) past p = let r = flat_laid sep steps (newline ∷ past) p.1 in (with_line _ _ r.0, λ _. refl, r.2)
+flat_laid sep (begin ∷ steps) past p = flat_laid sep steps (begin ∷ past) p.1
+flat_laid sep (end ∷ steps) past p = flat_laid sep steps (end ∷ past) p.1
+flat_laid sep (comment t ∷ steps) past p = flat_laid sep steps (comment t ∷ past) p.1
 
 layout_same : (p q : List Step → Step → List ℕ) → ((past : List Step) (step : Step) → p past step ≡ q past step) → (steps past : List Step) → pieces p past steps ≡ pieces q past steps
 layout_same p q h [] past = refl
@@ -180,22 +179,22 @@ tabbed_flat past (comment t) = refl
 pub laid_tight : (text : List ℕ) (e : Entries) → LaidFrom true 0 text e → BeginsNoBlank text
 laid_tight text e r = tight_all text r.0.ls r.0.spelled r.0.valid r.0.nested r.2
 
-simple_laid : (steps : List Step) → IsWellFormed 0 steps → LaidFrom true 0 (layout simple_piece steps) (document_entries steps)
-simple_laid steps w = subst (λ x. LaidFrom true 0 x (document_entries steps)) (layout_same (flat (λ _. false)) simple_piece simple_flat steps []) (flat_laid (λ _. false) steps [] 0 w)
+simple_laid : (steps : List Step) → IsWellFormed steps → LaidFrom true 0 (layout simple_piece steps) (document_entries steps)
+simple_laid steps w = subst (λ x. LaidFrom true 0 x (document_entries steps)) (layout_same (flat (λ _. false)) simple_piece simple_flat steps []) (flat_laid (λ _. false) steps [] w.1)
 
-tabbed_laid : (steps : List Step) → IsWellFormed 0 steps → LaidFrom true 0 (layout tabbed_piece steps) (document_entries steps)
-tabbed_laid steps w = subst (λ x. LaidFrom true 0 x (document_entries steps)) (layout_same (flat is_tab) tabbed_piece tabbed_flat steps []) (flat_laid is_tab steps [] 0 w)
+tabbed_laid : (steps : List Step) → IsWellFormed steps → LaidFrom true 0 (layout tabbed_piece steps) (document_entries steps)
+tabbed_laid steps w = subst (λ x. LaidFrom true 0 x (document_entries steps)) (layout_same (flat is_tab) tabbed_piece tabbed_flat steps []) (flat_laid is_tab steps [] w.1)
 
-pub simple_splits : (steps : List Step) → IsWellFormed 0 steps → Splits (layout simple_piece steps) (document_entries steps)
+pub simple_splits : (steps : List Step) → IsWellFormed steps → Splits (layout simple_piece steps) (document_entries steps)
 simple_splits steps w = laid_splits _ _ (simple_laid steps w).0
 
-pub tabbed_splits : (steps : List Step) → IsWellFormed 0 steps → Splits (layout tabbed_piece steps) (document_entries steps)
+pub tabbed_splits : (steps : List Step) → IsWellFormed steps → Splits (layout tabbed_piece steps) (document_entries steps)
 tabbed_splits steps w = laid_splits _ _ (tabbed_laid steps w).0
 
-pub simple_tight : (steps : List Step) → IsWellFormed 0 steps → BeginsNoBlank (layout simple_piece steps)
+pub simple_tight : (steps : List Step) → IsWellFormed steps → BeginsNoBlank (layout simple_piece steps)
 simple_tight steps w = laid_tight _ _ (simple_laid steps w)
 
-pub tabbed_tight : (steps : List Step) → IsWellFormed 0 steps → BeginsNoBlank (layout tabbed_piece steps)
+pub tabbed_tight : (steps : List Step) → IsWellFormed steps → BeginsNoBlank (layout tabbed_piece steps)
 tabbed_tight steps w = laid_tight _ _ (tabbed_laid steps w)
 
 with_blanks : (d n : ℕ) (text : List ℕ) (e : Entries) → Laid d text e → Laid d (replicate n 32 ++ text) e
@@ -245,61 +244,62 @@ maybe_note true start n (suc d) t text e i inside r = (
   inner start d i.characters ((with_blanks (suc d) n text e r.0).ls) (blanks_tight (suc d) n text e r.0 ∙ r.2),
 )
 
-multiline_laid : (steps past : List Step) (d : ℕ) → IsWellFormed d steps → (is_shown past ≡ true → 0 < d) → LaidFrom (is_row_start past) d (pieces multiline_piece past steps) (document_entries steps)
+multiline_laid : (steps past : List Step) (d : ℕ) → is_nested d steps ≡ true → AllByRecursion IsProper steps → (is_shown past ≡ true → 0 < d)
+    → LaidFrom (is_row_start past) d (pieces multiline_piece past steps) (document_entries steps)
 unfolding with_line with_opening with_closing
-multiline_laid [] past zero w s = (record { ls = []; spelled = refl; valid = refl; nested = refl; cut = refl }, λ _. refl, refl)
-multiline_laid [] past (suc d) w s = absurd w
-multiline_laid (token t ∷ steps) past d w s = spaced_word (is_row_start past) d t (pieces multiline_piece (token t ∷ past) steps) (document_entries steps) w.0
-    (multiline_laid steps (token t ∷ past) d w.1 s)
-multiline_laid (newline ∷ steps) past zero w s = let r = multiline_laid steps (newline ∷ past) zero w s in (with_line _ _ r.0, λ _. refl, r.2)
-multiline_laid (newline ∷ steps) past (suc d) w s = absurd w
-multiline_laid (begin ∷ steps) past d w s =
-    let r = multiline_laid steps (begin ∷ past) (suc d) w (λ _. omega arith) in
+multiline_laid [] past zero w p s = (record { ls = []; spelled = refl; valid = refl; nested = refl; cut = refl }, λ _. refl, refl)
+multiline_laid [] past (suc d) w p s = let none = from_none_test (suc d) w in absurd (omega (arith, none))
+multiline_laid (token t ∷ steps) past d w p s = spaced_word (is_row_start past) d t (pieces multiline_piece (token t ∷ past) steps) (document_entries steps) p.0
+    (multiline_laid steps (token t ∷ past) d w p.1 s)
+multiline_laid (newline ∷ steps) past zero w p s = let r = multiline_laid steps (newline ∷ past) zero w p.1 s in (with_line _ _ r.0, λ _. refl, r.2)
+multiline_laid (newline ∷ steps) past (suc d) w p s = let none = nested_newline (suc d) newline steps w refl in absurd (omega (arith, none))
+multiline_laid (begin ∷ steps) past d w p s =
+    let r = multiline_laid steps (begin ∷ past) (suc d) (nested_in d steps w) p.1 (λ _. omega arith) in
     spaced_mark (is_row_start past) d 40 (pieces multiline_piece (begin ∷ past) steps) (document_entries steps) (with_opening d _ _ r.0) refl (λ _. r.2)
-multiline_laid (end ∷ steps) past zero w s = absurd w
-multiline_laid (end ∷ steps) past (suc d) w s =
-    let r = multiline_laid steps (end ∷ past) d w (λ h. cc) in
+multiline_laid (end ∷ steps) past zero w p s = let some = nested_end zero end steps w refl in absurd (omega (arith, some))
+multiline_laid (end ∷ steps) past (suc d) w p s =
+    let r = multiline_laid steps (end ∷ past) d (nested_out d steps w) p.1 (λ h. cc) in
     spaced_mark (is_row_start past) (suc d) 41 (pieces multiline_piece (end ∷ past) steps) (document_entries steps) (with_closing d _ _ r.0) refl (λ _. r.2)
-multiline_laid (comment t ∷ steps) past d w s = maybe_note (is_shown past) (is_row_start past) (indent past) d t (pieces multiline_piece (comment t ∷ past) steps)
-    (document_entries steps) w.0 s (multiline_laid steps (comment t ∷ past) d w.1 s)
+multiline_laid (comment t ∷ steps) past d w p s = maybe_note (is_shown past) (is_row_start past) (indent past) d t (pieces multiline_piece (comment t ∷ past) steps)
+    (document_entries steps) p.0 s (multiline_laid steps (comment t ∷ past) d w p.1 s)
 
-pub multiline_splits : (steps : List Step) → IsWellFormed 0 steps → Splits (layout multiline_piece steps) (document_entries steps)
-multiline_splits steps w = laid_splits _ _ (multiline_laid steps [] 0 w (λ h. cc)).0
+pub multiline_splits : (steps : List Step) → IsWellFormed steps → Splits (layout multiline_piece steps) (document_entries steps)
+multiline_splits steps w = laid_splits _ _ (multiline_laid steps [] 0 w.0 w.1 (λ h. cc)).0
 
-pub multiline_tight : (steps : List Step) → IsWellFormed 0 steps → BeginsNoBlank (layout multiline_piece steps)
-multiline_tight steps w = laid_tight _ _ (multiline_laid steps [] 0 w (λ h. cc))
+pub multiline_tight : (steps : List Step) → IsWellFormed steps → BeginsNoBlank (layout multiline_piece steps)
+multiline_tight steps w = laid_tight _ _ (multiline_laid steps [] 0 w.0 w.1 (λ h. cc))
 
 -- each layout, by its kind
-pub printed_splits : (kind : DisplayKind) (steps : List Step) → IsWellFormed 0 steps → Splits (printed kind steps) (document_entries steps)
+pub printed_splits : (kind : DisplayKind) (steps : List Step) → IsWellFormed steps → Splits (printed kind steps) (document_entries steps)
 printed_splits Simple steps w = simple_splits steps w
 printed_splits Tabbed steps w = tabbed_splits steps w
 printed_splits Multiline steps w = multiline_splits steps w
 
-pub printed_tight : (kind : DisplayKind) (steps : List Step) → IsWellFormed 0 steps → BeginsNoBlank (printed kind steps)
+pub printed_tight : (kind : DisplayKind) (steps : List Step) → IsWellFormed steps → BeginsNoBlank (printed kind steps)
 printed_tight Simple steps w = simple_tight steps w
 printed_tight Tabbed steps w = tabbed_tight steps w
 printed_tight Multiline steps w = multiline_tight steps w
 
 -- it splits into the document's entries and nothing else
-pub printed_only : (kind : DisplayKind) (steps : List Step) (e : Entries) → IsWellFormed 0 steps
+pub printed_only : (kind : DisplayKind) (steps : List Step) (e : Entries) → IsWellFormed steps
     → (Splits (printed kind steps) e → e ≡ document_entries steps) × (e ≡ document_entries steps → Splits (printed kind steps) e)
 printed_only kind steps e w = (λ s. one_way _ _ _ s (printed_splits kind steps w), λ is. subst (Splits (printed kind steps)) (sym is) (printed_splits kind steps w))
 
 -- so does a text that is the layout
-pub text_only : (kind : DisplayKind) (steps : List Step) (text : List ℕ) → text ≡ printed kind steps → (e : Entries) → IsWellFormed 0 steps
+pub text_only : (kind : DisplayKind) (steps : List Step) (text : List ℕ) → text ≡ printed kind steps → (e : Entries) → IsWellFormed steps
     → (Splits text e → e ≡ document_entries steps) × (e ≡ document_entries steps → Splits text e)
 text_only kind steps text is e w = subst (λ t. (Splits t e → e ≡ document_entries steps) × (e ≡ document_entries steps → Splits t e)) (sym is) (printed_only kind steps e w)
 
 -- and no line of it begins with a blank
-pub text_tight : (kind : DisplayKind) (steps : List Step) (text : List ℕ) → text ≡ printed kind steps → IsWellFormed 0 steps → BeginsNoBlank text
+pub text_tight : (kind : DisplayKind) (steps : List Step) (text : List ℕ) → text ≡ printed kind steps → IsWellFormed steps → BeginsNoBlank text
 text_tight kind steps text is w = subst BeginsNoBlank (sym is) (printed_tight kind steps w)
 
 -- a text that is the layout is never bad
-pub never_bad : (kind : DisplayKind) (steps : List Step) (text : List ℕ) (i : ℕ) → text ≡ printed kind steps → IsWellFormed 0 steps → IsBad text i → ⊥
+pub never_bad : (kind : DisplayKind) (steps : List Step) (text : List ℕ) (i : ℕ) → text ≡ printed kind steps → IsWellFormed steps → IsBad text i → ⊥
 never_bad kind steps text i is w bad = bad.splits_not (document_entries steps) ((text_only kind steps text is (document_entries steps) w).1 refl)
 
 -- what splitting it can refuse
-pub refusal : (A : Type 0) (kind : DisplayKind) (steps : List Step) (text : List ℕ) → text ≡ printed kind steps → IsWellFormed 0 steps → (e : SplitError)
+pub refusal : (A : Type 0) (kind : DisplayKind) (steps : List Step) (text : List ℕ) → text ≡ printed kind steps → IsWellFormed steps → (e : SplitError)
     → Answers {A = A} (Err e) text → IsRefusal steps (Split e)
 refusal A kind steps text is w ShortBuf h = tt
 refusal A kind steps text is w (BadText i) h = absurd (never_bad kind steps text i is w h)

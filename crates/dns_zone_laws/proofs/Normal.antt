@@ -48,14 +48,14 @@ are_entries d (Quote ss ∷ ls) v =
     let p = and_parts (is_lexeme (Quote ss) && true) (are_lexemes ls) v in
     more_token (bytes (Quote ss)) (entries d ls) (one_token (record { lexeme = Quote ss; is_one = refl; valid = (and_parts (is_lexeme (Quote ss)) true p.0).0; spelled = refl })) (are_entries d ls p.1)
 
-formed_tokens : (ts : List (List ℕ)) (steps : List Step) → AreTokens ts → IsWellFormed 0 steps → IsWellFormed 0 (tokens ts ++ steps)
+formed_tokens : (ts : List (List ℕ)) (steps : List Step) → AreTokens ts → IsWellFormed steps → IsWellFormed (tokens ts ++ steps)
 formed_tokens [] steps a w = w
-formed_tokens (t ∷ ts) steps a w = (a.0, formed_tokens ts steps a.1 w)
+formed_tokens (t ∷ ts) steps a w = let more = formed_tokens ts steps a.1 w in (more.0, (a.0, more.1))
 
-formed : (e : Entries) → AreEntries e → IsWellFormed 0 (document_of e)
-formed [] a = tt
-formed (ts ∷ []) a = subst (IsWellFormed 0) (append-nil (tokens ts)) (formed_tokens ts [] a tt)
-formed (ts ∷ us ∷ es) a = formed_tokens ts (newline ∷ document_of (us ∷ es)) a.0 (formed (us ∷ es) a.1)
+formed : (e : Entries) → AreEntries e → IsWellFormed (document_of e)
+formed [] a = (refl, tt)
+formed (ts ∷ []) a = subst IsWellFormed (append-nil (tokens ts)) (formed_tokens ts [] a (refl, tt))
+formed (ts ∷ us ∷ es) a = let more = formed (us ∷ es) a.1 in formed_tokens ts (newline ∷ document_of (us ∷ es)) a.0 (more.0, (tt, more.1))
 
 -- tokens before a document join its first entry
 abbrev join : List (List ℕ) → Entries → Entries
@@ -79,7 +79,7 @@ pub split_entries : (text : List ℕ) (e : Entries) → Splits text e → AreEnt
 split_entries text e s = subst AreEntries s.cut (are_entries 0 s.lexemes s.valid)
 
 -- the tokens of such entries are a well-formed document
-pub normal_formed : (text : List ℕ) (e : Entries) → Splits text e → IsWellFormed 0 (document_of e)
+pub normal_formed : (text : List ℕ) (e : Entries) → Splits text e → IsWellFormed (document_of e)
 normal_formed text e s = formed e (split_entries text e s)
 
 -- its simple layout splits alike

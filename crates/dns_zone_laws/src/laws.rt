@@ -22,20 +22,20 @@ use std::fmt;
 
 /// Each layout of a well-formed document splits into its entries, and into nothing else.
 pub fn layouts_split()
-    ensures { (kind : DisplayKind) (steps : List Step) → IsWellFormed 0 steps
+    ensures { (kind : DisplayKind) (steps : List Step) → IsWellFormed steps
         → SplitsOnlyInto (printed kind steps) (document_entries steps) }
 {}
 
 /// No layout of a well-formed document begins a line with a blank, but inside parentheses.
 pub fn layouts_begin_no_blank()
-    ensures { (kind : DisplayKind) (steps : List Step) → IsWellFormed 0 steps
+    ensures { (kind : DisplayKind) (steps : List Step) → IsWellFormed steps
         → BeginsNoBlank (printed kind steps) }
 {}
 
 /// The entries of a text are a well-formed document, whose simple layout splits into them again;
 /// it has the same bytes exactly for the same entries.
 pub fn normal_form()
-    ensures formed { (text : List ℕ) (e : Entries) → Splits text e → IsWellFormed 0 (document_of e) }
+    ensures formed { (text : List ℕ) (e : Entries) → Splits text e → IsWellFormed (document_of e) }
     ensures alike { (text : List ℕ) (e : Entries) → Splits text e → Splits (normal_text e) e }
     ensures same { (text other : List ℕ) (e f : Entries) → Splits text e → Splits other f
         → ((e ≡ f) ↔ (normal_text e ≡ normal_text f)) }
@@ -49,9 +49,9 @@ pub fn values_split<A: Allocator, T: ZonefileFmt>(
     kind: DisplayKind,
 ) -> Result<String<A>, AllocError>
     ensures text { IfOk result (λ s. string_bytes s ≡ printed kind (T.document value.now)) }
-    ensures meaning { IfOk result (λ s. IsWellFormed 0 (T.document value.now)
+    ensures meaning { IfOk result (λ s. IsWellFormed (T.document value.now)
         → SplitsOnlyInto (string_bytes s) (document_entries (T.document value.now))) }
-    ensures tight { IfOk result (λ s. IsWellFormed 0 (T.document value.now) → BeginsNoBlank (string_bytes s)) }
+    ensures tight { IfOk result (λ s. IsWellFormed (T.document value.now) → BeginsNoBlank (string_bytes s)) }
 {
     value.display_zonefile(kind).to_string(alloc)
 }
@@ -120,7 +120,7 @@ pub fn items_split<A: Allocator + Copy>(
     items: Vec<Item<A>, A>,
     kind: DisplayKind,
 ) -> Result<(String<A>, Vec<Vec<String<A>, A>, A>), Refusal>
-    ensures formed { IsOk result → IsWellFormed 0 (steps_of items.items) }
+    ensures formed { IsOk result → IsWellFormed (steps_of items.items) }
     ensures text { IfOk result (λ r. string_bytes r.0 ≡ printed kind (steps_of items.items)) }
     ensures meaning { IfOk result (λ r. SplitsOnlyInto (string_bytes r.0) (document_entries (steps_of items.items))) }
     ensures tight { IfOk result (λ r. BeginsNoBlank (string_bytes r.0)) }

@@ -15,12 +15,12 @@ returns-in-Err-NoMemory-clause-silent g c = λ is. inr (codes "short buffer", in
 
 pub returns-in-Ok-from_items-clause-refused : goal.returns-in-Ok-from_items-clause-refused
 returns-in-Ok-from_items-clause-refused g c = λ is.
-    let formed : IsWellFormed 0 (steps_of c.in-Ok.items.items) = search rules in
+    let formed : IsWellFormed (steps_of c.in-Ok.items.items) = search rules in
     (codes "write failed", inr (inl (steps_of c.in-Ok.items.items, c.in-Ok.ensures.items, formed, refl)), c.refuse-in-Err-write.ensures.wrote is)
 
 pub returns-in-Ok-from_items-clause-silent : goal.returns-in-Ok-from_items-clause-silent
 returns-in-Ok-from_items-clause-silent g c = λ is.
-    let formed : IsWellFormed 0 (steps_of c.in-Ok.items.items) = search rules in
+    let formed : IsWellFormed (steps_of c.in-Ok.items.items) = search rules in
     inr (codes "write failed", inr (inl (steps_of c.in-Ok.items.items, c.in-Ok.ensures.items, formed, refl)))
 
 pub returns-clause-silent : goal.returns-clause-silent

@@ -9,7 +9,7 @@ pub loop-place-preserved : goal.loop-place-preserved
 loop-place-preserved g c =
     let h : c.loop-place.place < length c.args.items.now = omega arith in
     let rest = rest_more c.args.items.now c.loop-place.place c.index-items-place.result h c.index-items-place.is in
-    rw (c.blocks_after-blocks.ensures) (scanned_more _ _ _ _ _ (rw rest at c.loop-place.invariant) c.in_default.ensures.fine)
+    rw (c.blocks_after-blocks.ensures) (scanned_more _ _ _ _ _ (rw rest at c.loop-place.invariant) c.in_default.ensures.proper c.in_default.ensures.end c.in_default.ensures.newline)
 
 pub returns-in-Some-clause-fault : goal.returns-in-Some-clause-fault
 returns-in-Some-clause-fault g c =
