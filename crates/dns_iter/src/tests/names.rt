@@ -1,81 +1,93 @@
 //! Names out of tokens.
 use super::*;
 use dns_name::name::UncertainName;
-use dns_octets::FromBuilder;
-use dns_wire::Name;
 
-// The octets of the first token as a name, or the refusal. The token is taken.
-fn first_name(alloc: Global, token: &str, want: Result<&[u8], &str>) -> bool {
+const INVALID: &str = "invalid domain name";
+
+// The first token is read as a name of these octets, or refused. It is taken.
+fn name_is(rt: &impl Abort, alloc: Global, token: &str, wanted: Result<&[u8], &str>) {
     let tokens = [token, "x"];
-    let mut scanner: IterScanner<_, Vec<u8>> = IterScanner::new(alloc, tokens.iter().copied());
-    is_name(scanner.scan_name(), want) && scanner.scan_name().is_ok() && scanner.is_exhausted()
+    let mut scanner = scanner_of(alloc, &tokens);
+    octets_are(rt, scanner.scan_name(), wanted);
+    octets_are(rt, scanner.scan_name(), Ok(b"\x01x\x00"));
+    answers(rt, scanner.is_exhausted(), true);
 }
 
-// Whether this name was scanned, or the refusal has that text.
-fn is_name<O: AsOctets + Drop>(
-    answer: Result<Name<O>, StrError>,
-    want: Result<&[u8], &str>,
-) -> bool {
-    match answer {
-        Ok(name) => want == Ok(name.as_slice()),
-        Err(error) => want == Err(error.as_str()),
+const NAMES: [(&str, &[u8]); 5] = [
+    ("www.example.com", b"\x03www\x07example\x03com\x00"),
+    ("www.example.com.", b"\x03www\x07example\x03com\x00"),
+    (".", b"\x00"),
+    (r"w\119w.", b"\x03www\x00"),
+    (r"a\.b", b"\x03a.b\x00"),
+];
+
+#[test]
+fn names_are_read(rt: HostRuntime) {
+    for &(token, octets) in &NAMES {
+        name_is(&rt, rt.alloc(), token, Ok(octets));
+    }
+}
+
+const NO_NAMES: [(&str, &str); 8] = [
+    ("", INVALID),
+    ("www..com", INVALID),
+    (".com", INVALID),
+    ("..", INVALID),
+    (r"www.\[322].com", INVALID),
+    ("www.eüample.com", INVALID),
+    (r"w\01", "unexpected end of input"),
+    (r"www.\892example.com", "illegal escape sequence"),
+];
+
+#[test]
+fn other_texts_are_refused(rt: HostRuntime) {
+    for &(token, refusal) in &NO_NAMES {
+        name_is(&rt, rt.alloc(), token, Err(refusal));
     }
 }
 
 #[test]
-fn names_are_read_or_refused(rt: HostRuntime) {
+fn the_longest_name_is_read(rt: HostRuntime) {
     let alloc = rt.alloc();
-    let invalid = Err("invalid domain name");
-    let cases: [(&str, Result<&[u8], &str>); 13] = [
-        ("www.example.com", Ok(b"\x03www\x07example\x03com\x00")),
-        ("www.example.com.", Ok(b"\x03www\x07example\x03com\x00")),
-        (".", Ok(b"\x00")),
-        (r"w\119w.", Ok(b"\x03www\x00")),
-        (r"a\.b", Ok(b"\x03a.b\x00")),
-        ("", invalid),
-        ("www..com", invalid),
-        (".com", invalid),
-        ("..", invalid),
-        (r"www.\[322].com", invalid),
-        ("www.eüample.com", invalid),
-        (r"w\01", Err("unexpected end of input")),
-        (r"www.\892example.com", Err("illegal escape sequence")),
-    ];
-    for (token, want) in cases {
-        assert!(rt; first_name(alloc, token, want), "at {token}");
-    }
+    let labels = "four.".repeat(alloc, 50).expect(&rt, "memory");
+    let octets = "\x04four".repeat(alloc, 50).expect(&rt, "memory");
+    let longest = format!(in alloc; "{labels}com").expect(&rt, "memory");
+    let wire = format!(in alloc; "{octets}\x03com\0").expect(&rt, "memory");
+    name_is(&rt, alloc, longest.as_str(), Ok(wire.as_bytes()));
 }
 
 #[test]
-fn long_names_are_refused(rt: HostRuntime) -> Result<(), AllocError> {
+fn long_names_are_refused(rt: HostRuntime) {
     let alloc = rt.alloc();
-    let labels = "four.".repeat(alloc, 50)?;
-    let octets = "\x04four".repeat(alloc, 50)?;
-    let longest = format!(in alloc; "{labels}com")?;
-    let longer = format!(in alloc; "{labels}coma")?;
-    let wire = format!(in alloc; "{octets}\x03com\0")?;
-    assert!(rt; first_name(alloc, longest.as_str(), Ok(wire.as_bytes())));
-    assert!(rt; first_name(alloc, longer.as_str(), Err("invalid domain name")));
-    let label = "a".repeat(alloc, 64)?;
-    assert!(rt; first_name(alloc, label.as_str(), Err("invalid domain name")));
-    Ok(())
+    let labels = "four.".repeat(alloc, 50).expect(&rt, "memory");
+    let longer = format!(in alloc; "{labels}coma").expect(&rt, "memory");
+    name_is(&rt, alloc, longer.as_str(), Err(INVALID));
+    let label = "a".repeat(alloc, 64).expect(&rt, "memory");
+    name_is(&rt, alloc, label.as_str(), Err(INVALID));
 }
 
+// The name without its last dot and with it.
 #[test]
 fn the_root_needs_room(rt: HostRuntime) {
-    let invalid = Err("invalid domain name");
-    let tokens = ["com", "com."];
-    let mut scanner: IterScanner<_, ArrayVec<u8, 4>> = IterScanner::new((), tokens.iter().copied());
-    assert!(rt; is_name(scanner.scan_name(), invalid));
-    assert!(rt; is_name(scanner.scan_name(), invalid));
-    let mut scanner: IterScanner<_, ArrayVec<u8, 5>> = IterScanner::new((), tokens.iter().copied());
-    assert!(rt; is_name(scanner.scan_name(), Ok(b"\x03com\x00".as_slice())));
-    assert!(rt; is_name(scanner.scan_name(), Ok(b"\x03com\x00".as_slice())));
+    let mut scanner = short_scanner::<4>(&["com", "com."]);
+    octets_are(&rt, scanner.scan_name(), Err(INVALID));
+    octets_are(&rt, scanner.scan_name(), Err(INVALID));
+}
+
+#[test]
+fn the_root_is_read_where_it_fits(rt: HostRuntime) {
+    let mut scanner = short_scanner::<5>(&["com", "com."]);
+    octets_are(&rt, scanner.scan_name(), Ok(b"\x03com\x00"));
+    octets_are(&rt, scanner.scan_name(), Ok(b"\x03com\x00"));
+}
+
+// An absolute name was scanned.
+fn is_absolute(rt: &impl Abort, answer: Result<UncertainName<Vec<u8>>, StrError>) {
+    assert!(rt; matches!(&answer, Ok(name) if name.is_absolute()));
 }
 
 #[test]
 fn uncertain_names_are_absolute(rt: HostRuntime) {
-    let tokens = ["com"];
-    let mut scanner: IterScanner<_, Vec<u8>> = IterScanner::new(rt.alloc(), tokens.iter().copied());
-    assert!(rt; UncertainName::scan(&mut scanner).is_ok_and(|name| name.is_absolute()));
+    let mut scanner = scanner_of(rt.alloc(), &["com"]);
+    is_absolute(&rt, UncertainName::scan(&mut scanner));
 }

@@ -1,88 +1,75 @@
 //! Numbers out of tokens.
 use super::*;
 
-// What the tokens are scanned as, one after the other, as numbers of 8 bits.
-fn first_number(alloc: Global, token: &str, want: Result<u8, &str>) -> bool {
+const OVERFLOW: &str = "decimal number overflow";
+
+const NO_NUMBER: &str = "expected decimal number";
+
+// A token is scanned as this number of 8 bits, or refused.
+fn number_is(rt: &impl Abort, alloc: Global, token: &str, wanted: Result<u8, &str>) {
     let tokens = [token];
-    let mut scanner: IterScanner<_, Vec<u8>> = IterScanner::new(alloc, tokens.iter().copied());
-    let answer: Result<u8, StrError> = u8::scan(&mut scanner);
-    match answer {
-        Ok(value) => want == Ok(value),
-        Err(error) => want == Err(error.as_str()),
+    let mut scanner = scanner_of(alloc, &tokens);
+    value_is(rt, u8::scan(&mut scanner), wanted);
+}
+
+const NUMBERS: [(&str, u8); 5] = [("0", 0), ("12", 12), ("255", 255), ("", 0), ("007", 7)];
+
+#[test]
+fn numbers_are_read(rt: HostRuntime) {
+    for &(token, number) in &NUMBERS {
+        number_is(&rt, rt.alloc(), token, Ok(number));
     }
 }
 
+const NO_NUMBERS: [(&str, &str); 8] = [
+    ("256", OVERFLOW),
+    ("4030002", OVERFLOW),
+    ("26x", OVERFLOW),
+    ("25x", NO_NUMBER),
+    ("\\050", NO_NUMBER),
+    ("²", NO_NUMBER),
+    ("１", NO_NUMBER),
+    ("\u{212a}", NO_NUMBER),
+];
+
 #[test]
-fn numbers_are_read_or_refused(rt: HostRuntime) {
-    let alloc = rt.alloc();
-    let overflow = Err("decimal number overflow");
-    let no_number = Err("expected decimal number");
-    let cases: [(&str, Result<u8, &str>); 13] = [
-        ("0", Ok(0)),
-        ("12", Ok(12)),
-        ("255", Ok(255)),
-        ("256", overflow),
-        ("4030002", overflow),
-        ("", Ok(0)),
-        ("007", Ok(7)),
-        ("26x", overflow),
-        ("25x", no_number),
-        ("\\050", no_number),
-        ("²", no_number),
-        ("１", no_number),
-        ("\u{212a}", no_number),
-    ];
-    for (token, want) in cases {
-        assert!(rt; first_number(alloc, token, want), "at {token}");
+fn other_texts_are_refused(rt: HostRuntime) {
+    for &(token, refusal) in &NO_NUMBERS {
+        number_is(&rt, rt.alloc(), token, Err(refusal));
     }
 }
 
 #[test]
 fn a_refused_number_is_taken(rt: HostRuntime) {
-    let tokens = ["1", "x", "2"];
-    let mut scanner: IterScanner<_, Vec<u8>> = IterScanner::new(rt.alloc(), tokens.iter().copied());
-    let wants = [
-        Ok(1),
-        Err("expected decimal number"),
-        Ok(2),
-        Err("unexpected end of entry"),
-    ];
-    for want in wants {
-        let answer: Result<u8, StrError> = u8::scan(&mut scanner);
-        let same = match answer {
-            Ok(value) => want == Ok(value),
-            Err(error) => want == Err(error.as_str()),
-        };
-        assert!(rt; same, "at {want:?}");
-    }
+    let mut scanner = scanner_of(rt.alloc(), &["1", "x", "2"]);
+    value_is(&rt, u8::scan(&mut scanner), Ok(1));
+    value_is(&rt, u8::scan(&mut scanner), Err(NO_NUMBER));
+    value_is(&rt, u8::scan(&mut scanner), Ok(2));
+    value_is(&rt, u8::scan(&mut scanner), Err("unexpected end of entry"));
 }
 
-// Whether the next token is scanned as the value.
-fn is_next<S: Scanner, T: Scan<S> + PartialEq + Drop>(scanner: &mut S, want: T) -> bool
-    requires { S.can_scan scanner.old }
-    ensures { S.can_scan scanner.new }
-{
-    match T::scan(scanner) {
-        Ok(value) => value == want,
-        Err(_) => false,
-    }
+const WIDE: [&str; 6] = [
+    "65535",
+    "4294967295",
+    "18446744073709551615",
+    "340282366920938463463374607431768211455",
+    "4294967295",
+    "12",
+];
+
+// A time to live was scanned.
+fn ttl_is(rt: &impl Abort, answer: &Result<Ttl, StrError>, wanted: Ttl) {
+    assert!(rt; matches!(answer, Ok(ttl) if *ttl == wanted));
 }
 
 #[test]
 fn wide_numbers_are_read(rt: HostRuntime) {
-    let tokens = [
-        "65535",
-        "4294967295",
-        "18446744073709551615",
-        "340282366920938463463374607431768211455",
-        "4294967295",
-        "12",
-    ];
-    let mut scanner: IterScanner<_, Vec<u8>> = IterScanner::new(rt.alloc(), tokens.iter().copied());
-    assert!(rt; is_next(&mut scanner, u16::MAX));
-    assert!(rt; is_next(&mut scanner, u32::MAX));
-    assert!(rt; is_next(&mut scanner, u64::MAX));
-    assert!(rt; is_next(&mut scanner, u128::MAX));
-    assert!(rt; is_next(&mut scanner, Ttl::from_secs(u32::MAX)));
-    assert!(rt; is_next(&mut scanner, (12u8, ())));
+    let mut scanner = scanner_of(rt.alloc(), &WIDE);
+    value_is(&rt, u16::scan(&mut scanner), Ok(u16::MAX));
+    value_is(&rt, u32::scan(&mut scanner), Ok(u32::MAX));
+    value_is(&rt, u64::scan(&mut scanner), Ok(u64::MAX));
+    value_is(&rt, u128::scan(&mut scanner), Ok(u128::MAX));
+    ttl_is(&rt, &Ttl::scan(&mut scanner), Ttl::from_secs(u32::MAX));
+    let pair: Result<(u8, ()), StrError> = Scan::scan(&mut scanner);
+    value_is(&rt, pair, Ok((12, ())));
 }

@@ -7,8 +7,8 @@ use dns_scan::expect_end;
 fn trailing_data_is_refused(rt: HostRuntime) {
     let tokens = ["1", "2"];
     let mut scanner: EntryScanner<'_, _, Vec<u8>> = entry_scanner(rt.alloc(), &tokens, false);
-    assert!(rt; u8::scan(&mut scanner).is_ok_and(|number| number == 1));
-    assert!(rt; expect_end(&mut scanner).is_err_and(|error| error.as_str() == "trailing data"));
-    assert!(rt; u8::scan(&mut scanner).is_ok_and(|number| number == 2));
-    assert!(rt; expect_end(&mut scanner).is_ok());
+    value_is(&rt, u8::scan(&mut scanner), Ok(1));
+    value_is(&rt, expect_end(&mut scanner), Err("trailing data"));
+    value_is(&rt, u8::scan(&mut scanner), Ok(2));
+    value_is(&rt, expect_end(&mut scanner), Ok(()));
 }

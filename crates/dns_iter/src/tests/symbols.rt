@@ -3,14 +3,15 @@ use super::*;
 
 // How often a closure is called that refuses its call of that number, and the answer.
 fn calls(
+    rt: &impl Abort,
     alloc: Global,
     tokens: &[&str],
     refused: usize,
-    want: Result<(), &str>,
+    wanted: Result<(), &str>,
     count: usize,
     left: bool,
-) -> bool {
-    let mut scanner: IterScanner<_, Vec<u8>> = IterScanner::new(alloc, tokens.iter().copied());
+) {
+    let mut scanner = scanner_of(alloc, tokens);
     let mut called = 0;
     let mut op = |_symbol: Symbol| -> Result<(), StrError> {
         called = usize::saturating_add(called, 1);
@@ -19,42 +20,34 @@ fn calls(
         }
         Ok(())
     };
-    let same = match scanner.scan_symbols(&mut op) {
-        Ok(()) => want == Ok(()),
-        Err(error) => want == Err(error.as_str()),
-    };
-    same && called == count && scanner.continues() == left
+    value_is(rt, scanner.scan_symbols(&mut op), wanted);
+    assert_eq!(rt; called, count);
+    answers(rt, scanner.continues(), left);
 }
 
 #[test]
 fn symbols_are_handed_over(rt: HostRuntime) {
     let alloc = rt.alloc();
-    assert!(rt; calls(alloc, &["ab\\2", "c"], 2, Err("enough"), 2, true));
-    assert!(rt;
-        calls(
-            alloc,
-            &["ab\\2", "c"],
-            9,
-            Err("unexpected end of input"),
-            2,
-            true
-        )
-    );
-    assert!(rt; calls(alloc, &["ab"], 9, Ok(()), 2, false));
-    assert!(rt; calls(alloc, &[], 9, Err("unexpected end of entry"), 0, false));
+    let cut = Err("unexpected end of input");
+    let none = Err("unexpected end of entry");
+    calls(&rt, alloc, &["ab\\2", "c"], 2, Err("enough"), 2, true);
+    calls(&rt, alloc, &["ab\\2", "c"], 9, cut, 2, true);
+    calls(&rt, alloc, &["ab"], 9, Ok(()), 2, false);
+    calls(&rt, alloc, &[], 9, none, 0, false);
 }
 
 // The same of an entry, with the ends of tokens.
 fn entry_calls(
+    rt: &impl Abort,
     alloc: Global,
     tokens: &[&str],
     refuses_ends: bool,
-    want: Result<(), &str>,
+    wanted: Result<(), &str>,
     symbols: usize,
     ends: usize,
     left: bool,
-) -> bool {
-    let mut scanner: IterScanner<_, Vec<u8>> = IterScanner::new(alloc, tokens.iter().copied());
+) {
+    let mut scanner = scanner_of(alloc, tokens);
     let mut seen = 0;
     let mut ended = 0;
     let mut op = |symbol: EntrySymbol| -> Result<(), StrError> {
@@ -68,35 +61,24 @@ fn entry_calls(
         }
         Ok(())
     };
-    let same = match scanner.scan_entry_symbols(&mut op) {
-        Ok(()) => want == Ok(()),
-        Err(error) => want == Err(error.as_str()),
-    };
-    same && seen == symbols && ended == ends && scanner.continues() == left
+    value_is(rt, scanner.scan_entry_symbols(&mut op), wanted);
+    assert_eq!(rt; (seen, ended), (symbols, ends));
+    answers(rt, scanner.continues(), left);
 }
 
 #[test]
 fn entries_are_handed_over(rt: HostRuntime) {
     let alloc = rt.alloc();
-    assert!(rt; entry_calls(alloc, &["ab", ""], false, Ok(()), 2, 2, false));
-    assert!(rt; entry_calls(alloc, &[], false, Ok(()), 0, 0, false));
-    assert!(rt; entry_calls(alloc, &["a", "b"], true, Err("no more"), 1, 1, true));
-    assert!(rt;
-        entry_calls(
-            alloc,
-            &["a\\2", "b"],
-            false,
-            Err("unexpected end of input"),
-            1,
-            0,
-            true
-        )
-    );
+    let cut = Err("unexpected end of input");
+    entry_calls(&rt, alloc, &["ab", ""], false, Ok(()), 2, 2, false);
+    entry_calls(&rt, alloc, &[], false, Ok(()), 0, 0, false);
+    entry_calls(&rt, alloc, &["a", "b"], true, Err("no more"), 1, 1, true);
+    entry_calls(&rt, alloc, &["a\\2", "b"], false, cut, 1, 0, true);
 }
 
 // The symbols and ends that are handed over, in order: 1 and 2 for a and b, 3 for an end.
 fn order_of(tokens: &[&str]) -> u32 {
-    let mut scanner: IterScanner<_, ArrayVec<u8, 1>> = IterScanner::new((), tokens.iter().copied());
+    let mut scanner = short_scanner::<1>(tokens);
     let mut order = 0;
     let mut op = |symbol: EntrySymbol| -> Result<(), StrError> {
         let next = match symbol {
@@ -120,16 +102,16 @@ fn symbols_and_ends_are_in_order(rt: HostRuntime) {
     assert_eq!(rt; order_of(&["b", "", "a"]), 23313);
 }
 
+// The error's text.
+fn text_is(rt: &impl Abort, error: StrError, text: &str) {
+    assert_eq!(rt; error.as_str(), text);
+}
+
 #[test]
 fn errors_have_texts(rt: HostRuntime) {
-    let cases: [(StrError, &str); 5] = [
-        (StrError::custom("any text"), "any text"),
-        (StrError::end_of_entry(), "unexpected end of entry"),
-        (StrError::short_buf(), "short buffer"),
-        (StrError::trailing_tokens(), "trailing data"),
-        (StrError::from(ShortBuf), "short buffer"),
-    ];
-    for (error, text) in cases {
-        assert_eq!(rt; error.as_str(), text);
-    }
+    text_is(&rt, StrError::custom("any text"), "any text");
+    text_is(&rt, StrError::end_of_entry(), "unexpected end of entry");
+    text_is(&rt, StrError::short_buf(), "short buffer");
+    text_is(&rt, StrError::trailing_tokens(), "trailing data");
+    text_is(&rt, StrError::from(ShortBuf), "short buffer");
 }
