@@ -1,7 +1,8 @@
 //! Calls whose growths are refused, one after the other.
 use dns_octets::AsOctets;
 use refusing_heap::Refusing;
-use std::alloc::Global;
+use std::alloc::{AllocError, Global};
+use std::process::Abort;
 
 mod encodings;
 mod heap;
@@ -68,6 +69,11 @@ fn keeps<C: Call>(alloc: Global, call: &C, least: u64) -> bool {
     }
 }
 
+/// Something holds of a row, and was found with memory that wasn't refused.
+fn holds(rt: &impl Abort, found: Result<bool, AllocError>, row: &str) {
+    assert!(rt; matches!(found, Ok(true)), "at {row}");
+}
+
 /// Compares an answer with the ample one and with lack of memory.
 fn answered<O: AsOctets + Drop, E: PartialEq + Copy>(
     answer: Result<O, E>,
@@ -79,6 +85,15 @@ fn answered<O: AsOctets + Drop, E: PartialEq + Copy>(
         (Ok(_), Err(_)) => Err(Missed::Wrong),
         (Err(error), Ok(_)) => told_refusal(false, error == short),
         (Err(error), Err(want)) => told_refusal(error == want, error == short),
+    }
+}
+
+/// What two calls came to, one after the other.
+fn both(first: Told, second: Told) -> Told {
+    match (first, second) {
+        (Err(Missed::Wrong), _) => Err(Missed::Wrong),
+        (Err(Missed::Short), Ok(())) => Err(Missed::Short),
+        (_, second) => second,
     }
 }
 

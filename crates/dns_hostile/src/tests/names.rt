@@ -1,12 +1,11 @@
 //! Names out of texts and out of other names.
-use super::{Call, Heap, Hostile, Missed, Told, answered, keeps};
+use super::{Call, Heap, Hostile, Missed, Told, answered, both, holds, keeps};
 use dns_name::chain::Chain;
 use dns_name::name::{FromStrError, UncertainName};
 use dns_octets::{OctetsFrom, ShortBuf};
 use dns_symbol::symbol::SymbolCharsError;
 use dns_wire::{FlattenInto, Name, PushError, RelativeName};
-use std::alloc::Global;
-use std::test::Fail;
+use std::alloc::{AllocError, Global};
 
 /// A name is read out of a text.
 #[derive(Drop)]
@@ -43,23 +42,35 @@ fn short_names_are_read(rt: HostRuntime) {
     }
 }
 
+/// Whether a name of as many octets as one has at most is read.
+fn is_longest_read(alloc: Global) -> Result<bool, AllocError> {
+    let longest = format!(in alloc; "{}com.", "four.".repeat(alloc, 50)?)?;
+    let wire = format!(in alloc; "{}\x03com\0", "\x04four".repeat(alloc, 50)?)?;
+    Ok(is_read(alloc, longest.as_str(), Ok(wire.as_bytes()), 3))
+}
+
+/// Whether a long name with this end is refused.
+fn is_end_refused(alloc: Global, end: &str, error: FromStrError) -> Result<bool, AllocError> {
+    let text = format!(in alloc; "{}{end}", "four.".repeat(alloc, 50)?)?;
+    Ok(is_read(alloc, text.as_str(), Err(error), 3))
+}
+
 #[test]
-fn long_names_are_read(rt: HostRuntime) -> Result<(), Fail> {
+fn long_names_are_read(rt: HostRuntime) {
     let alloc = rt.alloc();
-    let labels = "four.".repeat(alloc, 50)?;
-    let octets = "\x04four".repeat(alloc, 50)?;
-    let longest = format!(in alloc; "{labels}com.")?;
-    let wire = format!(in alloc; "{octets}\x03com\0")?;
-    assert!(rt; is_read(alloc, longest.as_str(), Ok(wire.as_bytes()), 3));
-    for (end, error) in [
-        ("coma", FromStrError::LongName),
-        ("co\\1", SymbolCharsError::ShortInput.into()),
-        ("com..", FromStrError::EmptyLabel),
-    ] {
-        let text = format!(in alloc; "{labels}{end}")?;
-        assert!(rt; is_read(alloc, text.as_str(), Err(error), 3), "at {text}");
-    }
-    Ok(())
+    holds(&rt, is_longest_read(alloc), "longest");
+    holds(
+        &rt,
+        is_end_refused(alloc, "coma", FromStrError::LongName),
+        "coma",
+    );
+    let short = SymbolCharsError::ShortInput.into();
+    holds(&rt, is_end_refused(alloc, "co\\1", short), "co\\1");
+    holds(
+        &rt,
+        is_end_refused(alloc, "com..", FromStrError::EmptyLabel),
+        "com..",
+    );
 }
 
 /// A relative name is made absolute, its octets in as much room as they need, and again as one that
@@ -85,9 +96,12 @@ impl Call for MakesAbsolute<'_> {
     fn call(&self, heap: &Heap) -> Told {
         let short = PushError::ShortBuf;
         let name = relative(heap, self.relative)?;
-        answered(name.into_absolute(), Ok(self.absolute), short)?;
+        let first = answered(name.into_absolute(), Ok(self.absolute), short);
         let name = UncertainName::relative(relative(heap, self.relative)?);
-        answered(name.into_absolute(), Ok(self.absolute), short)
+        both(
+            first,
+            answered(name.into_absolute(), Ok(self.absolute), short),
+        )
     }
 }
 
@@ -113,8 +127,8 @@ struct MakesRoot;
 impl Call for MakesRoot {
     fn call(&self, heap: &Heap) -> Told {
         let root = Ok(b"\x00".as_slice());
-        answered(UncertainName::root_vec(heap), root, ShortBuf)?;
-        answered(Name::<Hostile>::root(heap), root, ShortBuf)
+        let first = answered(UncertainName::root_vec(heap), root, ShortBuf);
+        both(first, answered(Name::<Hostile>::root(heap), root, ShortBuf))
     }
 }
 
@@ -136,18 +150,19 @@ impl Call for Flattens<'_> {
         };
         let whole = Name::from_octets(self.whole).unwrap_or(Name::root_ref());
         let copy: Result<Name<Hostile>, ShortBuf> = chain.try_flatten_into(heap);
-        answered(copy, Ok(self.whole), ShortBuf)?;
+        let first = answered(copy, Ok(self.whole), ShortBuf);
         let copy: Result<Name<Hostile>, ShortBuf> = (&whole).try_flatten_into(heap);
-        answered(copy, Ok(self.whole), ShortBuf)?;
+        let second = answered(copy, Ok(self.whole), ShortBuf);
         let copy: Result<Name<Hostile>, ShortBuf> = whole.try_flatten_into(heap);
-        answered(copy, Ok(self.whole), ShortBuf)
+        both(
+            both(first, second),
+            answered(copy, Ok(self.whole), ShortBuf),
+        )
     }
 }
 
-#[test]
-fn names_are_made(rt: HostRuntime) -> Result<(), Fail> {
-    let alloc = rt.alloc();
-    assert!(rt; keeps(alloc, &MakesRoot, 2));
+/// Whether a chain of a long name and a short one is copied.
+fn is_flattened(alloc: Global) -> Result<bool, AllocError> {
     let left = "\x04four".repeat(alloc, 50)?;
     let whole = format!(in alloc; "{left}\x03com\0")?;
     let call = Flattens {
@@ -155,6 +170,11 @@ fn names_are_made(rt: HostRuntime) -> Result<(), Fail> {
         right: b"\x03com\x00",
         whole: whole.as_bytes(),
     };
-    assert!(rt; keeps(alloc, &call, 3));
-    Ok(())
+    Ok(keeps(alloc, &call, 3))
+}
+
+#[test]
+fn names_are_made(rt: HostRuntime) {
+    assert!(rt; keeps(rt.alloc(), &MakesRoot, 2));
+    holds(&rt, is_flattened(rt.alloc()), "flattened");
 }
