@@ -1,12 +1,14 @@
 //! Each call of a scanner.
-use super::{Call, Heap, Hostile, Missed, Told, keeps, told_ample, told_refusal};
+use super::{Call, Heap, Hostile, Missed, Told, holds, keeps, told_ample, told_refusal};
 use dns_codec::{base16, base32, base64};
 use dns_iter::{IterScanner, StrError};
 use dns_octets::AsOctets;
+use dns_octets::str::Str;
 use dns_scan::{ConvertSymbols, Scanner};
 use dns_symbol::symbol::{EntrySymbol, Symbol};
 use std::alloc::{AllocError, Global};
 use std::iter;
+use std::process::Abort;
 
 const SHORT: &str = "short buffer";
 
@@ -34,101 +36,141 @@ fn refused(error: StrError, ample: Result<&[u8], &'static str>, short: &str) -> 
     }
 }
 
-/// What a token is read as.
+/// What tokens are read as. Any lack of memory for a name is an invalid name.
 #[derive(Clone, Copy)]
 enum Reading {
     Octets,
     Charstr,
     Text,
     Ascii,
+    Name,
+    Strings,
 }
 
-/// A token is read.
+/// Tokens are read.
 #[derive(Drop)]
 struct Scans<'t, 'o> {
     reading: Reading,
-    token: &'t str,
+    tokens: &'t [&'t str],
     ample: Result<&'o [u8], &'static str>,
 }
 
 impl Call for Scans<'_, '_> {
     fn call(&self, heap: &Heap) -> Told {
-        let tokens = iter::once(self.token);
+        let tokens = self.tokens.iter().copied();
         let mut scanner: IterScanner<_, Hostile> = IterScanner::new(heap, tokens);
         match self.reading {
             Reading::Octets => scanned(scanner.scan_octets(), self.ample, SHORT),
             Reading::Charstr => scanned(scanner.scan_charstr(), self.ample, SHORT),
-            Reading::Text => match scanner.scan_string() {
-                Ok(text) => scanned(Ok(text.into_octets()), self.ample, SHORT),
-                Err(error) => refused(error, self.ample, SHORT),
-            },
-            Reading::Ascii => {
-                let answer = scanner.scan_ascii_str(|text| Ok(text.len()));
-                match (answer, self.ample) {
-                    (Ok(len), Ok(want)) => told_ample(len == want.len()),
-                    (Ok(_), Err(_)) => Err(Missed::Wrong),
-                    (Err(error), _) => refused(error, self.ample, SHORT),
-                }
-            }
+            Reading::Text => text(scanner.scan_string(), self.ample),
+            Reading::Ascii => ascii(scanner.scan_ascii_str(|text| Ok(text.len())), self.ample),
+            Reading::Name => scanned(scanner.scan_name(), self.ample, INVALID),
+            Reading::Strings => scanned(scanner.scan_charstr_entry(), self.ample, SHORT),
         }
     }
 }
 
-/// Whether a token is read as these octets, or refused.
+/// What a text came to.
+fn text(answer: Result<Str<Hostile>, StrError>, ample: Result<&[u8], &'static str>) -> Told {
+    match answer {
+        Ok(text) => scanned(Ok(text.into_octets()), ample, SHORT),
+        Err(error) => refused(error, ample, SHORT),
+    }
+}
+
+/// What a text of so many ASCII characters came to.
+fn ascii(answer: Result<usize, StrError>, ample: Result<&[u8], &'static str>) -> Told {
+    match (answer, ample) {
+        (Ok(len), Ok(want)) => told_ample(len == want.len()),
+        (Ok(_), Err(_)) => Err(Missed::Wrong),
+        (Err(error), _) => refused(error, ample, SHORT),
+    }
+}
+
+/// Whether tokens are read as these octets, or refused.
 fn is_read(
     alloc: Global,
     reading: Reading,
-    token: &str,
+    tokens: &[&str],
     ample: Result<&[u8], &'static str>,
     least: u64,
 ) -> bool {
     let call = Scans {
         reading,
-        token,
+        tokens,
         ample,
     };
     keeps(alloc, &call, least)
 }
 
-#[test]
-fn tokens_are_read(rt: HostRuntime) -> Result<(), AllocError> {
-    let alloc = rt.alloc();
-    let longest = "a".repeat(alloc, 255)?;
-    let long = "a".repeat(alloc, 5000)?;
-    for (reading, word) in [
-        (Reading::Octets, &long),
-        (Reading::Charstr, &longest),
-        (Reading::Text, &long),
-        (Reading::Ascii, &long),
-    ] {
-        assert!(rt; is_read(alloc, reading, word.as_str(), Ok(word.as_bytes()), 3));
-        assert!(rt; is_read(alloc, reading, "", Ok(b""), 0));
-    }
-    Ok(())
+/// Whether a token of so many octets is read, and one of none with no memory.
+fn is_word_read(alloc: Global, reading: Reading, len: usize) -> Result<bool, AllocError> {
+    let word = "a".repeat(alloc, len)?;
+    let tokens = [word.as_str()];
+    let is_word = is_read(alloc, reading, &tokens, Ok(word.as_bytes()), 3);
+    Ok(is_word && is_read(alloc, reading, &[""], Ok(b""), 0))
 }
 
 #[test]
-fn bad_tokens_are_refused(rt: HostRuntime) -> Result<(), AllocError> {
-    let alloc = rt.alloc();
+fn tokens_are_read(rt: HostRuntime) {
+    holds(
+        &rt,
+        is_word_read(rt.alloc(), Reading::Octets, 5000),
+        "octets",
+    );
+    holds(
+        &rt,
+        is_word_read(rt.alloc(), Reading::Charstr, 255),
+        "charstr",
+    );
+    holds(&rt, is_word_read(rt.alloc(), Reading::Text, 5000), "text");
+    holds(&rt, is_word_read(rt.alloc(), Reading::Ascii, 5000), "ASCII");
+}
+
+/// The end of a token, and why it is refused.
+type End = (&'static str, &'static str);
+
+const OCTETS_ENDS: [End; 2] = [("ö", "bad symbol"), ("\\2", "unexpected end of input")];
+
+const CHARSTR_ENDS: [End; 4] = [
+    ("a", "short buffer"),
+    ("aö", "short buffer"),
+    ("ö", "bad symbol"),
+    ("\\", "unexpected end of input"),
+];
+
+const TEXT_ENDS: [End; 1] = [("\\200", "bad symbol")];
+
+const ASCII_ENDS: [End; 2] = [
+    ("\\256", "illegal escape sequence"),
+    ("ö", "non-ASCII characters"),
+];
+
+/// Whether a long token with this end is refused.
+fn is_end_refused(
+    alloc: Global,
+    reading: Reading,
+    end: &str,
+    refusal: &'static str,
+) -> Result<bool, AllocError> {
     let longest = "a".repeat(alloc, 255)?;
-    for (reading, end, refusal) in [
-        (Reading::Octets, "ö", "bad symbol"),
-        (Reading::Octets, "\\2", "unexpected end of input"),
-        (Reading::Charstr, "a", "short buffer"),
-        (Reading::Charstr, "aö", "short buffer"),
-        (Reading::Charstr, "ö", "bad symbol"),
-        (Reading::Charstr, "\\", "unexpected end of input"),
-        (Reading::Text, "\\200", "bad symbol"),
-        (Reading::Ascii, "\\256", "illegal escape sequence"),
-        (Reading::Ascii, "ö", "non-ASCII characters"),
-    ] {
-        let token = format!(in alloc; "{longest}{end}")?;
-        assert!(rt;
-            is_read(alloc, reading, token.as_str(), Err(refusal), 3),
-            "at {token}"
-        );
+    let token = format!(in alloc; "{longest}{end}")?;
+    Ok(is_read(alloc, reading, &[token.as_str()], Err(refusal), 3))
+}
+
+/// A long token is refused with each of these ends.
+fn ends_refused(rt: &impl Abort, alloc: Global, reading: Reading, ends: &[End]) {
+    for &(end, refusal) in ends {
+        holds(rt, is_end_refused(alloc, reading, end, refusal), end);
     }
-    Ok(())
+}
+
+#[test]
+fn bad_tokens_are_refused(rt: HostRuntime) {
+    ends_refused(&rt, rt.alloc(), Reading::Octets, &OCTETS_ENDS);
+    ends_refused(&rt, rt.alloc(), Reading::Charstr, &CHARSTR_ENDS);
+    ends_refused(&rt, rt.alloc(), Reading::Text, &TEXT_ENDS);
+    ends_refused(&rt, rt.alloc(), Reading::Ascii, &ASCII_ENDS);
 }
 
 /// A converter.
@@ -139,234 +181,200 @@ enum Base {
     Base64,
 }
 
-/// A token is converted.
+/// A token is converted, or all tokens are.
 #[derive(Drop)]
-struct ConvertsToken<'t, 'o> {
+struct Converts<'t, 'o> {
     base: Base,
-    token: &'t str,
-    ample: Result<&'o [u8], &'static str>,
-}
-
-/// What a token came to that is converted.
-fn token_by<C: ConvertSymbols<Symbol, StrError>>(
-    heap: &Heap,
-    call: &ConvertsToken,
-    convert: C,
-) -> Told {
-    let tokens = iter::once(call.token);
-    let mut scanner: IterScanner<_, Hostile> = IterScanner::new(heap, tokens);
-    scanned(scanner.convert_token(convert), call.ample, SHORT)
-}
-
-impl Call for ConvertsToken<'_, '_> {
-    fn call(&self, heap: &Heap) -> Told {
-        match self.base {
-            Base::Hex => token_by(heap, self, base16::SymbolConverter::new()),
-            Base::Base32hex => token_by(heap, self, base32::SymbolConverter::new()),
-            Base::Base64 => token_by(heap, self, base64::SymbolConverter::new()),
-        }
-    }
-}
-
-/// All tokens are converted.
-#[derive(Drop)]
-struct ConvertsEntry<'t, 'o> {
-    base: Base,
+    is_entry: bool,
     tokens: &'t [&'t str],
     ample: Result<&'o [u8], &'static str>,
 }
 
-/// What all tokens came to that are converted.
-fn entry_by<C: ConvertSymbols<EntrySymbol, StrError>>(
+/// What tokens came to that are converted.
+fn converted_by<C: ConvertSymbols<Symbol, StrError> + ConvertSymbols<EntrySymbol, StrError>>(
     heap: &Heap,
-    call: &ConvertsEntry,
+    call: &Converts,
     convert: C,
 ) -> Told {
     let tokens = call.tokens.iter().copied();
     let mut scanner: IterScanner<_, Hostile> = IterScanner::new(heap, tokens);
-    scanned(scanner.convert_entry(convert), call.ample, SHORT)
+    let answer = if call.is_entry {
+        scanner.convert_entry(convert)
+    } else {
+        scanner.convert_token(convert)
+    };
+    scanned(answer, call.ample, SHORT)
 }
 
-impl Call for ConvertsEntry<'_, '_> {
+impl Call for Converts<'_, '_> {
     fn call(&self, heap: &Heap) -> Told {
         match self.base {
-            Base::Hex => entry_by(heap, self, base16::SymbolConverter::new()),
-            Base::Base32hex => entry_by(heap, self, base32::SymbolConverter::new()),
-            Base::Base64 => entry_by(heap, self, base64::SymbolConverter::new()),
+            Base::Hex => converted_by(heap, self, base16::SymbolConverter::new()),
+            Base::Base32hex => converted_by(heap, self, base32::SymbolConverter::new()),
+            Base::Base64 => converted_by(heap, self, base64::SymbolConverter::new()),
         }
     }
 }
 
 /// Octets whose encoding has whole groups alone, that encoding, and the refusal of `é` in it.
-const UNITS: [(Base, &[u8], &str, &'static str); 3] = [
-    (Base::Hex, b"foobar", "666F6F626172", "expected hex digits"),
-    (
-        Base::Base32hex,
-        b"fooba",
-        "CPNMUOJ1",
-        "illegal Base 32 data",
-    ),
-    (Base::Base64, b"foobar", "Zm9vYmFy", "illegal Base 64 data"),
-];
+type Unit = (&'static [u8], &'static str, &'static str);
 
-/// Whether a token is converted into these octets, or refused.
+const HEX: Unit = (b"foobar", "666F6F626172", "expected hex digits");
+
+const BASE32HEX: Unit = (b"fooba", "CPNMUOJ1", "illegal Base 32 data");
+
+const BASE64: Unit = (b"foobar", "Zm9vYmFy", "illegal Base 64 data");
+
+/// Whether tokens are converted into these octets, or refused.
 fn is_converted(
     alloc: Global,
-    base: Base,
-    token: &str,
-    ample: Result<&[u8], &'static str>,
-    least: u64,
-) -> bool {
-    keeps(alloc, &ConvertsToken { base, token, ample }, least)
-}
-
-#[test]
-fn tokens_are_converted(rt: HostRuntime) -> Result<(), AllocError> {
-    let alloc = rt.alloc();
-    for (base, unit, unit_text, refusal) in UNITS {
-        let octets = unit.repeat(alloc, 400)?;
-        let text = unit_text.repeat(alloc, 400)?;
-        let bad = format!(in alloc; "{text}é")?;
-        assert!(rt;
-            is_converted(alloc, base, text.as_str(), Ok(&octets), 3),
-            "at {unit_text}"
-        );
-        assert!(rt;
-            is_converted(alloc, base, bad.as_str(), Err(refusal), 3),
-            "at {refusal}"
-        );
-        assert!(rt; is_converted(alloc, base, "", Ok(b""), 0));
-    }
-    Ok(())
-}
-
-/// Whether all tokens are converted into these octets, or refused.
-fn are_converted(
-    alloc: Global,
-    base: Base,
+    way: (Base, bool),
     tokens: &[&str],
     ample: Result<&[u8], &'static str>,
     least: u64,
 ) -> bool {
-    let call = ConvertsEntry {
-        base,
+    let call = Converts {
+        base: way.0,
+        is_entry: way.1,
         tokens,
         ample,
     };
     keeps(alloc, &call, least)
 }
 
-#[test]
-fn entries_are_converted(rt: HostRuntime) -> Result<(), AllocError> {
-    let alloc = rt.alloc();
-    for (base, unit, unit_text, refusal) in UNITS {
-        let octets = unit.repeat(alloc, 400)?;
-        let mut tokens = [unit_text].repeat(alloc, 400)?;
-        assert!(rt;
-            are_converted(alloc, base, &tokens, Ok(&octets), 3),
-            "at {unit_text}"
-        );
-        tokens.push("é")?;
-        assert!(rt;
-            are_converted(alloc, base, &tokens, Err(refusal), 3),
-            "at {refusal}"
-        );
-        assert!(rt; are_converted(alloc, base, &[], Ok(b""), 0));
-    }
-    Ok(())
-}
-
-/// All tokens are read as character strings.
-#[derive(Drop)]
-struct ScansStrings<'t, 'o> {
-    tokens: &'t [&'t str],
-    ample: Result<&'o [u8], &'static str>,
-}
-
-impl Call for ScansStrings<'_, '_> {
-    fn call(&self, heap: &Heap) -> Told {
-        let tokens = self.tokens.iter().copied();
-        let mut scanner: IterScanner<_, Hostile> = IterScanner::new(heap, tokens);
-        scanned(scanner.scan_charstr_entry(), self.ample, SHORT)
-    }
-}
-
-/// Whether all tokens are read as these wire forms, or refused.
-fn are_read(
-    alloc: Global,
-    tokens: &[&str],
-    ample: Result<&[u8], &'static str>,
-    least: u64,
-) -> bool {
-    keeps(alloc, &ScansStrings { tokens, ample }, least)
+/// Whether a token of many units is converted, refused with `é` after them, and one of none is
+/// converted.
+fn is_token_converted(alloc: Global, base: Base, unit: Unit) -> Result<bool, AllocError> {
+    let octets = unit.0.repeat(alloc, 400)?;
+    let text = unit.1.repeat(alloc, 400)?;
+    let bad = format!(in alloc; "{text}é")?;
+    let way = (base, false);
+    Ok(
+        is_converted(alloc, way, &[text.as_str()], Ok(&octets), 3)
+            && is_converted(alloc, way, &[bad.as_str()], Err(unit.2), 3)
+            && is_converted(alloc, way, &[""], Ok(b""), 0),
+    )
 }
 
 #[test]
-fn entries_of_strings_are_read(rt: HostRuntime) -> Result<(), AllocError> {
-    let alloc = rt.alloc();
+fn tokens_are_converted(rt: HostRuntime) {
+    holds(&rt, is_token_converted(rt.alloc(), Base::Hex, HEX), "hex");
+    holds(
+        &rt,
+        is_token_converted(rt.alloc(), Base::Base32hex, BASE32HEX),
+        "base32hex",
+    );
+    holds(
+        &rt,
+        is_token_converted(rt.alloc(), Base::Base64, BASE64),
+        "base64",
+    );
+}
+
+/// Whether many tokens of a unit are converted, refused with `é` after them, and none are
+/// converted.
+fn is_entry_converted(alloc: Global, base: Base, unit: Unit) -> Result<bool, AllocError> {
+    let octets = unit.0.repeat(alloc, 400)?;
+    let mut tokens = [unit.1].repeat(alloc, 400)?;
+    let way = (base, true);
+    let is_whole = is_converted(alloc, way, &tokens, Ok(&octets), 3);
+    tokens.push("é")?;
+    Ok(
+        is_whole
+            && is_converted(alloc, way, &tokens, Err(unit.2), 3)
+            && is_converted(alloc, way, &[], Ok(b""), 0),
+    )
+}
+
+#[test]
+fn entries_are_converted(rt: HostRuntime) {
+    holds(&rt, is_entry_converted(rt.alloc(), Base::Hex, HEX), "hex");
+    holds(
+        &rt,
+        is_entry_converted(rt.alloc(), Base::Base32hex, BASE32HEX),
+        "base32hex",
+    );
+    holds(
+        &rt,
+        is_entry_converted(rt.alloc(), Base::Base64, BASE64),
+        "base64",
+    );
+}
+
+/// Tokens, what they are read as, and how many calls meet a refused growth at least.
+type Row = (
+    &'static [&'static str],
+    Result<&'static [u8], &'static str>,
+    u64,
+);
+
+/// Each row is read so.
+fn rows_are_read(rt: &impl Abort, alloc: Global, reading: Reading, rows: &[Row]) {
+    for &(tokens, ample, least) in rows {
+        let is_read = is_read(alloc, reading, tokens, ample, least);
+        assert!(rt; is_read, "at {tokens:?}");
+    }
+}
+
+const STRINGS: [Row; 3] = [
+    (
+        &["foobarfoo", "ba", "r"],
+        Ok(b"\x09foobarfoo\x02ba\x01r"),
+        4,
+    ),
+    (&["ab", "c", "\\2"], Err("unexpected end of input"), 3),
+    (&[], Ok(b""), 0),
+];
+
+/// Whether many strings of as many octets as one has at most are read.
+fn are_many_read(alloc: Global) -> Result<bool, AllocError> {
     let longest = "a".repeat(alloc, 255)?;
-    let longer = "a".repeat(alloc, 256)?;
     let mut octets = b"\xff".to_vec(alloc)?;
     octets.extend_from_slice(longest.as_bytes())?;
     let many = octets.repeat(alloc, 40)?;
     let tokens = [longest.as_str()].repeat(alloc, 40)?;
-    assert!(rt; are_read(alloc, &tokens, Ok(&many), 100));
-    assert!(rt; are_read(alloc, &[longer.as_str()], Err("short buffer"), 3));
-    let few = ["foobarfoo", "ba", "r"];
-    assert!(rt; are_read(alloc, &few, Ok(b"\x09foobarfoo\x02ba\x01r"), 4));
-    assert!(rt;
-        are_read(
-            alloc,
-            &["ab", "c", "\\2"],
-            Err("unexpected end of input"),
-            3
-        )
-    );
-    assert!(rt; are_read(alloc, &[], Ok(b""), 0));
-    Ok(())
+    Ok(is_read(alloc, Reading::Strings, &tokens, Ok(&many), 100))
 }
 
-/// A token is read as a name. Any lack of memory is an invalid name.
-#[derive(Drop)]
-struct ScansName<'t, 'o> {
-    token: &'t str,
-    ample: Result<&'o [u8], &'static str>,
-}
-
-impl Call for ScansName<'_, '_> {
-    fn call(&self, heap: &Heap) -> Told {
-        let tokens = iter::once(self.token);
-        let mut scanner: IterScanner<_, Hostile> = IterScanner::new(heap, tokens);
-        scanned(scanner.scan_name(), self.ample, INVALID)
-    }
-}
-
-/// Whether a token is read as the name of these octets, or refused.
-fn is_name(alloc: Global, token: &str, ample: Result<&[u8], &'static str>, least: u64) -> bool {
-    keeps(alloc, &ScansName { token, ample }, least)
+/// Whether a string of more octets is refused.
+fn is_longer_refused(alloc: Global) -> Result<bool, AllocError> {
+    let longer = "a".repeat(alloc, 256)?;
+    let tokens = [longer.as_str()];
+    Ok(is_read(alloc, Reading::Strings, &tokens, Err("short buffer"), 3))
 }
 
 #[test]
-fn names_are_read(rt: HostRuntime) -> Result<(), AllocError> {
-    let alloc = rt.alloc();
-    let invalid = Err(INVALID);
-    let rows: [(&str, Result<&[u8], &str>, u64); 6] = [
-        ("www.example.com.", Ok(b"\x03www\x07example\x03com\x00"), 2),
-        ("sevenx7", Ok(b"\x07sevenx7\x00"), 2),
-        (".", Ok(b"\x00"), 1),
-        ("", invalid, 0),
-        ("www..com", invalid, 1),
-        ("www.com\\1", Err("unexpected end of input"), 1),
-    ];
-    for (token, ample, least) in rows {
-        assert!(rt; is_name(alloc, token, ample, least), "at {token}");
-    }
-    let labels = "four.".repeat(alloc, 50)?;
-    let octets = "\x04four".repeat(alloc, 50)?;
-    let longest = format!(in alloc; "{labels}com")?;
-    let wire = format!(in alloc; "{octets}\x03com\0")?;
-    assert!(rt; is_name(alloc, longest.as_str(), Ok(wire.as_bytes()), 4));
-    Ok(())
+fn entries_of_strings_are_read(rt: HostRuntime) {
+    holds(&rt, are_many_read(rt.alloc()), "many");
+    holds(&rt, is_longer_refused(rt.alloc()), "longer");
+    rows_are_read(&rt, rt.alloc(), Reading::Strings, &STRINGS);
+}
+
+const NAMES: [Row; 6] = [
+    (
+        &["www.example.com."],
+        Ok(b"\x03www\x07example\x03com\x00"),
+        2,
+    ),
+    (&["sevenx7"], Ok(b"\x07sevenx7\x00"), 2),
+    (&["."], Ok(b"\x00"), 1),
+    (&[""], Err(INVALID), 0),
+    (&["www..com"], Err(INVALID), 1),
+    (&["www.com\\1"], Err("unexpected end of input"), 1),
+];
+
+/// Whether a name of as many octets as one has at most is read.
+fn is_longest_read(alloc: Global) -> Result<bool, AllocError> {
+    let longest = format!(in alloc; "{}com", "four.".repeat(alloc, 50)?)?;
+    let wire = format!(in alloc; "{}\x03com\0", "\x04four".repeat(alloc, 50)?)?;
+    let tokens = [longest.as_str()];
+    Ok(is_read(alloc, Reading::Name, &tokens, Ok(wire.as_bytes()), 4))
+}
+
+#[test]
+fn names_are_read(rt: HostRuntime) {
+    rows_are_read(&rt, rt.alloc(), Reading::Name, &NAMES);
+    holds(&rt, is_longest_read(rt.alloc()), "longest");
 }
 
 /// All calls that take no memory.
@@ -378,47 +386,55 @@ struct TakesNone<'t> {
 
 impl Call for TakesNone<'_> {
     fn call(&self, heap: &Heap) -> Told {
-        match counted(heap, self.tokens) {
-            Ok(count) => told_ample(count == self.count),
-            Err(_) => Err(Missed::Wrong),
-        }
+        let tokens = self.tokens.iter().copied();
+        let mut scanner: IterScanner<_, Hostile> = IterScanner::new(heap, tokens);
+        let is_empty = is_empty(scanner.octets_builder());
+        let is_refused = scanner.scan_svcb_octets().is_err();
+        let mut count = markers(scanner.scan_opt_unknown_marker());
+        let mut op = |_symbol: Symbol| -> Result<(), StrError> {
+            count = usize::saturating_add(count, 1);
+            Ok(())
+        };
+        let token = scanner.scan_symbols(&mut op).is_ok();
+        let mut op = |_symbol: EntrySymbol| -> Result<(), StrError> {
+            count = usize::saturating_add(count, 1);
+            Ok(())
+        };
+        let rest = scanner.scan_entry_symbols(&mut op).is_ok();
+        let are_taken = is_empty & is_refused & token & rest;
+        told_ample(are_taken & (count == self.count))
     }
 }
 
-/// How many octets a new builder has and the form of service parameters, how many markers stand
-/// first, how many symbols the next token has, and how many the others have with their ends.
-fn counted(heap: &Heap, tokens: &[&str]) -> Result<usize, StrError> {
-    let mut scanner: IterScanner<_, Hostile> = IterScanner::new(heap, tokens.iter().copied());
-    let mut count = scanner.octets_builder()?.len();
-    if let Ok(octets) = scanner.scan_svcb_octets() {
-        count = octets.len();
+/// Whether a new builder has no octets.
+fn is_empty(built: Result<Vec<u8, &Heap>, StrError>) -> bool {
+    match built {
+        Ok(octets) => octets.is_empty(),
+        Err(_) => false,
     }
-    if scanner.scan_opt_unknown_marker()? {
-        count = usize::saturating_add(count, 1);
-    }
-    let mut op = |_symbol: Symbol| -> Result<(), StrError> {
-        count = usize::saturating_add(count, 1);
-        Ok(())
-    };
-    scanner.scan_symbols(&mut op)?;
-    let mut op = |_symbol: EntrySymbol| -> Result<(), StrError> {
-        count = usize::saturating_add(count, 1);
-        Ok(())
-    };
-    scanner.scan_entry_symbols(&mut op)?;
-    Ok(count)
 }
 
-#[test]
-fn some_calls_take_no_memory(rt: HostRuntime) -> Result<(), AllocError> {
-    let alloc = rt.alloc();
+/// How many markers stood first.
+fn markers(found: Result<bool, StrError>) -> usize {
+    match found {
+        Ok(true) => 1,
+        _ => 0,
+    }
+}
+
+/// Whether these calls take no memory and hand over as many symbols and ends as there are.
+fn is_none_taken(alloc: Global) -> Result<bool, AllocError> {
     let tokens = ["\\#", "\\097b"].repeat(alloc, 500)?;
     let call = TakesNone {
         tokens: tokens.as_slice(),
         count: 1 + 2 + 499 * (2 + 3),
     };
-    assert!(rt; keeps(alloc, &call, 0));
-    Ok(())
+    Ok(keeps(alloc, &call, 0))
+}
+
+#[test]
+fn some_calls_take_no_memory(rt: HostRuntime) {
+    holds(&rt, is_none_taken(rt.alloc()), "none");
 }
 
 #[test]
