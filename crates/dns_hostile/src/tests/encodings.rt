@@ -1,8 +1,9 @@
 //! Base 16, base32hex and base 64, in both directions.
-use super::{Call, Heap, Hostile, Missed, Told, answered, keeps, told_ample};
+use super::{Call, Heap, Hostile, Missed, Told, answered, holds, keeps, told_ample};
 use dns_codec::base64::DecodeError;
 use dns_codec::{base16, base32, base64};
 use std::alloc::{AllocError, Global};
+use std::process::Abort;
 
 /// An encoding, or another call of it.
 #[derive(Clone, Copy)]
@@ -56,12 +57,13 @@ impl Call for Decodes<'_, '_> {
 }
 
 /// Octets whose encoding has whole groups alone, and that encoding.
-const UNITS: [(Base, &[u8], &str); 4] = [
-    (Base::Hex, b"foobar", "666F6F626172"),
-    (Base::HexVec, b"foobar", "666F6F626172"),
-    (Base::Base32hex, b"fooba", "CPNMUOJ1"),
-    (Base::Base64, b"foobar", "Zm9vYmFy"),
-];
+type Unit = (&'static [u8], &'static str);
+
+const HEX: Unit = (b"foobar", "666F6F626172");
+
+const BASE32HEX: Unit = (b"fooba", "CPNMUOJ1");
+
+const BASE64: Unit = (b"foobar", "Zm9vYmFy");
 
 /// How often they stand in a row: within one block of those in which octets are encoded, in
 /// several, and in many.
@@ -78,39 +80,55 @@ fn is_decoded(alloc: Global, base: Base, text: &str, ample: Result<&[u8], Decode
     keeps(alloc, &Decodes { base, text, ample }, 1)
 }
 
-#[test]
-fn octets_are_encoded_and_decoded(rt: HostRuntime) -> Result<(), AllocError> {
-    let alloc = rt.alloc();
-    for (base, unit, unit_text) in UNITS {
-        for times in TIMES {
-            let octets = unit.repeat(alloc, times)?;
-            let text = unit_text.repeat(alloc, times)?;
-            assert!(rt;
-                is_coded(alloc, base, &octets, text.as_str()),
-                "{times} of {unit_text}"
-            );
-        }
+/// Whether so many units are encoded and decoded.
+fn are_coded(alloc: Global, base: Base, unit: Unit, times: usize) -> Result<bool, AllocError> {
+    let octets = unit.0.repeat(alloc, times)?;
+    let text = unit.1.repeat(alloc, times)?;
+    Ok(is_coded(alloc, base, &octets, text.as_str()))
+}
+
+/// Each number of units is encoded and decoded.
+fn all_coded(rt: &impl Abort, alloc: Global, base: Base, unit: Unit) {
+    for &times in &TIMES {
+        holds(rt, are_coded(alloc, base, unit, times), unit.1);
     }
-    Ok(())
 }
 
 #[test]
-fn bad_texts_are_refused(rt: HostRuntime) -> Result<(), AllocError> {
-    let alloc = rt.alloc();
-    for (base, _unit, unit_text) in UNITS {
-        for times in TIMES {
-            let text = unit_text.repeat(alloc, times)?;
-            for (end, error) in [
-                ("é", DecodeError::IllegalChar('é')),
-                ("0", DecodeError::ShortInput),
-            ] {
-                let bad = format!(in alloc; "{text}{end}")?;
-                assert!(rt;
-                    is_decoded(alloc, base, bad.as_str(), Err(error)),
-                    "at {bad}"
-                );
-            }
-        }
+fn octets_are_encoded_and_decoded(rt: HostRuntime) {
+    all_coded(&rt, rt.alloc(), Base::Hex, HEX);
+    all_coded(&rt, rt.alloc(), Base::HexVec, HEX);
+    all_coded(&rt, rt.alloc(), Base::Base32hex, BASE32HEX);
+    all_coded(&rt, rt.alloc(), Base::Base64, BASE64);
+}
+
+/// Whether the text of so many units is refused with ends that are wrong.
+fn are_bad_refused(
+    alloc: Global,
+    base: Base,
+    unit: Unit,
+    times: usize,
+) -> Result<bool, AllocError> {
+    let foreign = format!(in alloc; "{}é", unit.1.repeat(alloc, times)?)?;
+    let short = format!(in alloc; "{}0", unit.1.repeat(alloc, times)?)?;
+    let illegal = Err(DecodeError::IllegalChar('é'));
+    Ok(
+        is_decoded(alloc, base, foreign.as_str(), illegal)
+            && is_decoded(alloc, base, short.as_str(), Err(DecodeError::ShortInput)),
+    )
+}
+
+/// Texts of each number of units are refused with ends that are wrong.
+fn all_bad_refused(rt: &impl Abort, alloc: Global, base: Base, unit: Unit) {
+    for &times in &TIMES {
+        holds(rt, are_bad_refused(alloc, base, unit, times), unit.1);
     }
-    Ok(())
+}
+
+#[test]
+fn bad_texts_are_refused(rt: HostRuntime) {
+    all_bad_refused(&rt, rt.alloc(), Base::Hex, HEX);
+    all_bad_refused(&rt, rt.alloc(), Base::HexVec, HEX);
+    all_bad_refused(&rt, rt.alloc(), Base::Base32hex, BASE32HEX);
+    all_bad_refused(&rt, rt.alloc(), Base::Base64, BASE64);
 }

@@ -1,10 +1,10 @@
 //! Character strings out of texts, copies of octets, and room that is set aside.
-use super::{Call, Heap, Hostile, Told, answered, keeps};
+use super::{Call, Heap, Hostile, Told, answered, both, holds, keeps};
 use dns_charstr::charstr::{CharStr, CharStrBuilder, FromStrError, PresentationError};
 use dns_octets::{EmptyBuilder, OctetsFrom, ShortBuf};
 use dns_symbol::symbol::{BadSymbol, SymbolCharsError};
 use dns_zone::document::{Document, DocumentError, Item};
-use std::alloc::Global;
+use std::alloc::{AllocError, Global};
 use std::test::Fail;
 
 /// A character string is read out of a text.
@@ -26,35 +26,48 @@ fn is_read(alloc: Global, text: &str, ample: Result<&[u8], FromStrError>, least:
     keeps(alloc, &Reads { text, ample }, least)
 }
 
-#[test]
-fn strings_are_read(rt: HostRuntime) -> Result<(), Fail> {
-    let alloc = rt.alloc();
+/// Whether the longest string is read, of this form of each octet.
+fn is_longest_read(alloc: Global, form: &str) -> Result<bool, AllocError> {
     let longest = "a".repeat(alloc, 255)?;
-    let escaped = "\\097".repeat(alloc, 255)?;
-    for text in [&longest, &escaped] {
-        assert!(rt;
-            is_read(alloc, text.as_str(), Ok(longest.as_bytes()), 3),
-            "at {text}"
-        );
-    }
-    let long = "a".repeat(alloc, 256)?;
-    let bad = format!(in alloc; "{escaped}ö")?;
-    let cut = format!(in alloc; "{escaped}\\2")?;
-    let foreign = "aaaaaaaaaaaaaaaaö".to_string(alloc)?;
+    let text = form.repeat(alloc, 255)?;
+    Ok(is_read(alloc, text.as_str(), Ok(longest.as_bytes()), 3))
+}
+
+/// Whether this form of an octet, so often, with an end is refused.
+fn is_long_refused(
+    alloc: Global,
+    form: (&str, usize, &str),
+    error: FromStrError,
+) -> Result<bool, AllocError> {
+    let text = format!(in alloc; "{}{}", form.0.repeat(alloc, form.1)?, form.2)?;
+    Ok(is_read(alloc, text.as_str(), Err(error), 3))
+}
+
+#[test]
+fn strings_are_read(rt: HostRuntime) {
+    let alloc = rt.alloc();
+    holds(&rt, is_longest_read(alloc, "a"), "plain");
+    holds(&rt, is_longest_read(alloc, "\\097"), "escaped");
     let too_long = FromStrError::Presentation(PresentationError::LongString);
-    for (text, error, least) in [
-        (&long, too_long, 3),
-        (&bad, too_long, 3),
-        (&cut, SymbolCharsError::ShortInput.into(), 3),
-        (&foreign, BadSymbol::NonAscii.into(), 2),
-    ] {
-        assert!(rt;
-            is_read(alloc, text.as_str(), Err(error), least),
-            "at {text}"
-        );
-    }
+    holds(
+        &rt,
+        is_long_refused(alloc, ("a", 256, ""), too_long),
+        "long",
+    );
+    holds(
+        &rt,
+        is_long_refused(alloc, ("\\097", 255, "ö"), too_long),
+        "bad",
+    );
+    let short = SymbolCharsError::ShortInput.into();
+    holds(
+        &rt,
+        is_long_refused(alloc, ("\\097", 255, "\\2"), short),
+        "cut",
+    );
+    let foreign = Err(BadSymbol::NonAscii.into());
+    assert!(rt; is_read(alloc, "aaaaaaaaaaaaaaaaö", foreign, 2));
     assert!(rt; is_read(alloc, "", Ok(b""), 0));
-    Ok(())
 }
 
 /// Octets are copied, also as a character string, and room is set aside for as many.
@@ -64,15 +77,25 @@ struct Copies<'a>(&'a [u8]);
 impl Call for Copies<'_> {
     fn call(&self, heap: &Heap) -> Told {
         let copy: Result<Hostile, ShortBuf> = OctetsFrom::try_octets_from(heap, self.0);
-        answered(copy, Ok(self.0), ShortBuf)?;
-        if let Ok(string) = CharStr::from_slice(self.0) {
-            let copy = CharStr::<Hostile>::try_octets_from(heap, string);
-            answered(copy, Ok(self.0), ShortBuf)?;
-        }
+        let first = both(answered(copy, Ok(self.0), ShortBuf), copied(heap, self.0));
         let room: Result<Hostile, ShortBuf> = EmptyBuilder::with_capacity(heap, self.0.len());
-        answered(room, Ok(b"".as_slice()), ShortBuf)?;
+        let second = answered(room, Ok(b"".as_slice()), ShortBuf);
         let room = CharStrBuilder::vec_with_capacity(heap, self.0.len());
-        answered(room, Ok(b"".as_slice()), ShortBuf)
+        both(
+            both(first, second),
+            answered(room, Ok(b"".as_slice()), ShortBuf),
+        )
+    }
+}
+
+/// What octets came to that are copied as a character string, if they are one.
+fn copied(heap: &Heap, octets: &[u8]) -> Told {
+    match CharStr::from_slice(octets) {
+        Ok(string) => {
+            let copy = CharStr::<Hostile>::try_octets_from(heap, string);
+            answered(copy, Ok(octets), ShortBuf)
+        }
+        Err(_) => Ok(()),
     }
 }
 
