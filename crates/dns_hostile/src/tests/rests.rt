@@ -1,5 +1,5 @@
 //! What is left of an entry, and the entries that the cursor gives.
-use super::{Call, Heap, Missed, Told, keeps, told_ample, told_refusal};
+use super::{Call, Heap, Hostile, Told, keeps, told_ample, told_refusal};
 use dns_charstr::charstr::CharStr;
 use dns_codec::base16;
 use dns_iter::{EntryScanner, StrError, TokenText, entry_scanner};
@@ -18,7 +18,36 @@ const ENTRIES: [&[&[u8]]; 3] = [&[b"a", b"b c"], &[], &[b"e", b"f"]];
 fn told(is_ample: Result<bool, StrError>) -> Told {
     match is_ample {
         Ok(is_ample) => told_ample(is_ample),
-        Err(error) => told_refusal(false, error.as_str() == SHORT),
+        Err(error) => refused(error),
+    }
+}
+
+/// What a refusal came to.
+fn refused(error: StrError) -> Told {
+    told_refusal(false, error.as_str() == SHORT)
+}
+
+/// What numbers came to.
+fn told_numbers(found: Result<Vec<u16, &Heap>, StrError>, wanted: &[u16]) -> Told {
+    match found {
+        Ok(found) => told_ample(found.as_slice() == wanted),
+        Err(error) => refused(error),
+    }
+}
+
+/// What character strings came to.
+fn told_strings(found: Result<Vec<CharStr<Hostile>, &Heap>, StrError>, wanted: &[&[u8]]) -> Told {
+    match found {
+        Ok(found) => told_ample(are_strings(&found, wanted)),
+        Err(error) => refused(error),
+    }
+}
+
+/// What octets came to.
+fn told_octets(found: Result<Hostile, StrError>, wanted: &[u8]) -> Told {
+    match found {
+        Ok(found) => told_ample(found.as_slice() == wanted),
+        Err(error) => refused(error),
     }
 }
 
@@ -80,7 +109,11 @@ fn are_entries<A: Allocator + Copy>(
             Ok(Piece::Comment(_)) => {}
             Ok(Piece::End(end)) => {
                 let found = strings(alloc, &tokens, end.begins_blank)?;
-                if !left.next().is_some_and(|want| are_strings(&found, want)) {
+                let is_wanted = match left.next() {
+                    Some(want) => are_strings(&found, want),
+                    None => false,
+                };
+                if !is_wanted {
                     return Ok(false);
                 }
                 tokens.clear();
@@ -109,13 +142,11 @@ struct ReadsRest<'t, 'o> {
 impl Call for ReadsRest<'_, '_> {
     fn call(&self, heap: &Heap) -> Told {
         let tokens = self.tokens;
-        told(match self.ample {
-            Rest::Numbers(want) => numbers(heap, tokens).map(|found| found.as_slice() == want),
-            Rest::Strings(want) => strings(heap, tokens, true).map(|found| are_strings(
-                &found, want,
-            )),
-            Rest::Hex(want) => octets(heap, tokens).map(|found| found.as_slice() == want),
-        })
+        match self.ample {
+            Rest::Numbers(want) => told_numbers(numbers(heap, tokens), want),
+            Rest::Strings(want) => told_strings(strings(heap, tokens, true), want),
+            Rest::Hex(want) => told_octets(octets(heap, tokens), want),
+        }
     }
 }
 
