@@ -1,5 +1,7 @@
 use crate::pieces::{EndOfEntry, Fault, Piece, Span, Wrong};
 use crate::standing::{Standing, next_of_octets};
+use std::fmt;
+use std::process::Abort;
 
 const TEXT: &[u8] = b" a (b ;c\n\"d\") \xE9\n\ne";
 
@@ -23,34 +25,72 @@ fn next(octets: &[u8], standing: &mut Standing) -> Option<Result<Piece, Fault>> 
     next_of_octets(octets, standing)
 }
 
+/// The next piece is the wanted one.
+fn gives(
+    rt: &impl Abort,
+    octets: &[u8],
+    standing: &mut Standing,
+    wanted: Option<Result<Piece, Fault>>,
+) {
+    assert_eq!(rt; next(octets, standing), wanted);
+}
+
+fn gives_word(rt: &impl Abort, octets: &[u8], standing: &mut Standing, start: usize, end: usize) {
+    gives(rt, octets, standing, word(start, end));
+}
+
+fn gives_end(rt: &impl Abort, octets: &[u8], standing: &mut Standing, at: usize, blank: bool) {
+    gives(rt, octets, standing, end(at, blank));
+}
+
+/// A value is the wanted one.
+fn equal<T: PartialEq + fmt::Debug + Copy>(rt: &impl Abort, found: T, wanted: T) {
+    assert_eq!(rt; found, wanted);
+}
+
+/// After the first two words, where one parenthesis is open.
+fn inside(rt: &impl Abort) -> Standing {
+    let mut standing = Standing::at_entry(0);
+    equal(rt, standing.begins_blank(TEXT), true);
+    gives_word(rt, TEXT, &mut standing, 1, 2);
+    gives_word(rt, TEXT, &mut standing, 4, 5);
+    equal(rt, (standing.depth, standing.began), (1, 0));
+    standing
+}
+
+/// The comment and the quoted text after these words.
+fn gives_comment_and_quote(rt: &impl Abort, standing: &mut Standing) {
+    let comment = Some(Ok(Piece::Comment(Span { start: 6, end: 8 })));
+    gives(rt, TEXT, standing, comment);
+    let quote = Some(Ok(Piece::Quote(Span { start: 9, end: 12 })));
+    gives(rt, TEXT, standing, quote);
+}
+
+/// The second entry and the third, and then nothing.
+fn gives_the_last_entries(rt: &impl Abort, standing: &mut Standing) {
+    equal(rt, standing.begins_blank(TEXT), false);
+    gives_end(rt, TEXT, standing, 17, false);
+    gives_word(rt, TEXT, standing, 17, 18);
+    gives_end(rt, TEXT, standing, 18, false);
+    equal(rt, standing.is_done, true);
+    let done = *standing;
+    gives(rt, TEXT, standing, None);
+    equal(rt, *standing, done);
+}
+
 #[test]
 fn gives_the_pieces(rt: HostRuntime) {
-    let mut standing = Standing::at_entry(0);
-    assert_eq!(rt; standing.begins_blank(TEXT), true);
-    assert_eq!(rt; next(TEXT, &mut standing), word(1, 2));
-    assert_eq!(rt; next(TEXT, &mut standing), word(4, 5));
-    assert_eq!(rt; (standing.depth, standing.began), (1, 0));
-    let inside = standing;
-    let comment = Some(Ok(Piece::Comment(Span { start: 6, end: 8 })));
-    let quote = Some(Ok(Piece::Quote(Span { start: 9, end: 12 })));
-    assert_eq!(rt; next(TEXT, &mut standing), comment);
-    assert_eq!(rt; next(TEXT, &mut standing), quote);
-    assert_eq!(rt; next(TEXT, &mut standing), word(14, 15));
-    assert_eq!(rt; standing.depth, 0);
-    assert_eq!(rt; standing.begins_blank(TEXT), true);
-    assert_eq!(rt; next(TEXT, &mut standing), end(16, true));
-    assert_eq!(rt; standing, Standing::at_entry(16));
-    assert_eq!(rt; standing.begins_blank(TEXT), false);
-    assert_eq!(rt; next(TEXT, &mut standing), end(17, false));
-    assert_eq!(rt; next(TEXT, &mut standing), word(17, 18));
-    assert_eq!(rt; next(TEXT, &mut standing), end(18, false));
-    assert_eq!(rt; standing.is_done, true);
-    let done = standing;
-    assert_eq!(rt; next(TEXT, &mut standing), None);
-    assert_eq!(rt; standing, done);
+    let inside = inside(&rt);
+    let mut standing = inside;
+    gives_comment_and_quote(&rt, &mut standing);
+    gives_word(&rt, TEXT, &mut standing, 14, 15);
+    equal(&rt, standing.depth, 0);
+    equal(&rt, standing.begins_blank(TEXT), true);
+    gives_end(&rt, TEXT, &mut standing, 16, true);
+    equal(&rt, standing, Standing::at_entry(16));
+    gives_the_last_entries(&rt, &mut standing);
     standing = inside;
-    assert_eq!(rt; next(TEXT, &mut standing), comment);
-    assert_eq!(rt; next(TEXT, &mut standing), quote);
+    gives_comment_and_quote(&rt, &mut standing);
 }
 
 #[test]
@@ -62,11 +102,11 @@ fn reads_on_from_any_standing(rt: HostRuntime) {
         began: 2,
         is_done: false,
     };
-    assert_eq!(rt; next(TEXT, &mut outside), end(9, true));
+    gives_end(&rt, TEXT, &mut outside, 9, true);
     // a closing parenthesis wants one that is open
     let mut closing = Standing::at_entry(12);
-    assert_eq!(rt; next(TEXT, &mut closing), fault(12, Wrong::Closing));
-    assert_eq!(rt; closing.is_done, true);
+    gives(&rt, TEXT, &mut closing, fault(12, Wrong::Closing));
+    equal(&rt, closing.is_done, true);
     // and one more is open than is closed
     let mut deep = Standing {
         at: 12,
@@ -74,8 +114,8 @@ fn reads_on_from_any_standing(rt: HostRuntime) {
         began: 12,
         is_done: false,
     };
-    assert_eq!(rt; next(TEXT, &mut deep), word(14, 15));
-    assert_eq!(rt; next(TEXT, &mut deep), fault(18, Wrong::OpenParenthesis));
+    gives_word(&rt, TEXT, &mut deep, 14, 15);
+    gives(&rt, TEXT, &mut deep, fault(18, Wrong::OpenParenthesis));
     // an entry's beginning may lie beyond the octets, and then no blank is there
     let mut beyond = Standing {
         at: 18,
@@ -83,28 +123,32 @@ fn reads_on_from_any_standing(rt: HostRuntime) {
         began: 99,
         is_done: false,
     };
-    assert_eq!(rt; next(TEXT, &mut beyond), end(18, false));
+    gives_end(&rt, TEXT, &mut beyond, 18, false);
 }
 
 #[test]
 fn tells_faults(rt: HostRuntime) {
     let mut standing = Standing::at_entry(0);
-    assert_eq!(rt; next(b"a (b", &mut standing), word(0, 1));
-    assert_eq!(rt;
-        next(b"a (b", &mut standing),
-        fault(4, Wrong::OpenParenthesis)
-    );
-    assert_eq!(rt; next(b"a (b", &mut standing), None);
-    standing = Standing::at_entry(0);
-    assert_eq!(rt; next(b"a\n \"b", &mut standing), word(0, 1));
-    assert_eq!(rt; next(b"a\n \"b", &mut standing), end(2, false));
-    assert_eq!(rt;
-        next(b"a\n \"b", &mut standing),
-        fault(5, Wrong::OpenQuote(3))
-    );
-    assert_eq!(rt; (standing.began, standing.is_done), (2, true));
-    assert_eq!(rt; next(b"a\n \"b", &mut standing), None);
-    standing = Standing::at_entry(0);
-    assert_eq!(rt; next(b"", &mut standing), end(0, false));
-    assert_eq!(rt; next(b"", &mut standing), None);
+    gives_word(&rt, b"a (b", &mut standing, 0, 1);
+    let open = fault(4, Wrong::OpenParenthesis);
+    gives(&rt, b"a (b", &mut standing, open);
+    gives(&rt, b"a (b", &mut standing, None);
+}
+
+#[test]
+fn tells_faults_of_later_entries(rt: HostRuntime) {
+    let text = b"a\n \"b";
+    let mut standing = Standing::at_entry(0);
+    gives_word(&rt, text, &mut standing, 0, 1);
+    gives_end(&rt, text, &mut standing, 2, false);
+    gives(&rt, text, &mut standing, fault(5, Wrong::OpenQuote(3)));
+    equal(&rt, (standing.began, standing.is_done), (2, true));
+    gives(&rt, text, &mut standing, None);
+}
+
+#[test]
+fn ends_where_there_are_no_octets(rt: HostRuntime) {
+    let mut standing = Standing::at_entry(0);
+    gives_end(&rt, b"", &mut standing, 0, false);
+    gives(&rt, b"", &mut standing, None);
 }
