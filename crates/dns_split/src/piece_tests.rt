@@ -1,3 +1,4 @@
+use crate::cursor_tests::{last_fault, same};
 use crate::opening::{outermost_open, outermost_open_of_octets};
 use crate::pieces::{EndOfEntry, Fault, Piece, Pieces, Span, Wrong};
 use crate::position::{Position, line_and_column, line_and_column_of_octets};
@@ -21,12 +22,7 @@ fn end(at: usize, begins_blank: bool) -> Result<Piece, Fault> {
 }
 
 fn check(rt: &impl Abort, pieces: Pieces, wanted: &[Result<Piece, Fault>]) {
-    let mut count = 0;
-    for piece in pieces {
-        assert!(rt; wanted.get(count) == Some(&piece));
-        count += 1;
-    }
-    assert_eq!(rt; count, wanted.len());
+    assert!(rt; same(wanted, pieces));
 }
 
 #[test]
@@ -59,48 +55,30 @@ fn gives_pieces(rt: HostRuntime) {
     check(&rt, Pieces::of_octets(&octets), &wanted);
 }
 
+const FAULTS: [(&str, usize, Wrong); 12] = [
+    ("a)", 1, Wrong::Closing),
+    ("(a", 2, Wrong::OpenParenthesis),
+    ("(;a", 3, Wrong::OpenParenthesis),
+    ("\"a", 2, Wrong::OpenQuote(0)),
+    ("é \"a\n", 5, Wrong::OpenQuote(3)),
+    ("a\r", 2, Wrong::LoneReturn),
+    ("(a\r", 3, Wrong::LoneReturn),
+    ("(\"a", 3, Wrong::OpenQuote(1)),
+    ("(\\", 2, Wrong::BadEscape),
+    ("\\3", 1, Wrong::BadEscape),
+    ("\"\\26\"", 3, Wrong::BadEscape),
+    ("a\\", 2, Wrong::BadEscape),
+];
+
+/// The last that a text gives is this fault.
+fn ends_in_fault(rt: &impl Abort, text: &str, at: usize, wrong: Wrong) {
+    assert!(rt; last_fault(text) == Some(Fault { at, wrong }), "{text}");
+}
+
 #[test]
 fn gives_a_fault_last(rt: HostRuntime) {
-    for (text, at, wrong) in [
-        ("a)", 1, Wrong::Closing),
-        ("(a", 2, Wrong::OpenParenthesis),
-        ("(;a", 3, Wrong::OpenParenthesis),
-        ("\"a", 2, Wrong::OpenQuote(0)),
-        ("é \"a\n", 5, Wrong::OpenQuote(3)),
-        ("a\r", 2, Wrong::LoneReturn),
-        ("(a\r", 3, Wrong::LoneReturn),
-        ("(\"a", 3, Wrong::OpenQuote(1)),
-        ("(\\", 2, Wrong::BadEscape),
-        ("\\3", 1, Wrong::BadEscape),
-        ("\"\\26\"", 3, Wrong::BadEscape),
-        ("a\\", 2, Wrong::BadEscape),
-    ] {
-        let mut last = None;
-        for piece in Pieces::new(text) {
-            last = Some(piece);
-        }
-        assert!(&rt; last == Some(Err(Fault { at, wrong })));
-    }
-    for (text, opened) in [
-        ("a (b ( c", Some(2)),
-        ("(a)\n(;)", Some(4)),
-        ("(a)", None),
-        ("a)", None),
-        ("(\"x", None),
-        ("(x\r", Some(0)),
-    ] {
-        assert!(&rt; outermost_open(text) == opened);
-    }
-    let rows: [(&[u8], Option<usize>); 6] = [
-        (b"a (b ( c", Some(2)),
-        (&[0xE9, b'(', 0xFF], Some(1)),
-        (&[b'(', b'"', 0x80], None),
-        (&[b';', 0xFF, b'('], None),
-        (&[b'(', 0x80, b')'], None),
-        (&[b'(', b'\\', 0x80], None),
-    ];
-    for (octets, opened) in rows {
-        assert!(&rt; outermost_open_of_octets(octets) == opened);
+    for &(text, at, wrong) in &FAULTS {
+        ends_in_fault(&rt, text, at, wrong);
     }
     let wrong = Wrong::OpenParenthesis;
     check(
@@ -110,24 +88,93 @@ fn gives_a_fault_last(rt: HostRuntime) {
     );
 }
 
+const OPEN_TEXTS: [(&str, Option<usize>); 6] = [
+    ("a (b ( c", Some(2)),
+    ("(a)\n(;)", Some(4)),
+    ("(a)", None),
+    ("a)", None),
+    ("(\"x", None),
+    ("(x\r", Some(0)),
+];
+
+const OPEN_OCTETS: [(&[u8], Option<usize>); 6] = [
+    (b"a (b ( c", Some(2)),
+    (&[0xE9, b'(', 0xFF], Some(1)),
+    (&[b'(', b'"', 0x80], None),
+    (&[b';', 0xFF, b'('], None),
+    (&[b'(', 0x80, b')'], None),
+    (&[b'(', b'\\', 0x80], None),
+];
+
+fn opened(rt: &impl Abort, found: Option<usize>, wanted: Option<usize>) {
+    assert_eq!(rt; found, wanted);
+}
+
 #[test]
-fn tells_blanks_positions_and_contents(rt: HostRuntime) {
-    let mut pieces = Pieces::new(" a\nb");
-    assert!(&rt; pieces.begins_blank());
-    assert!(&rt; pieces.next() == Some(word(1, 2)) && pieces.begins_blank());
-    assert!(&rt; pieces.next() == Some(end(3, true)) && !pieces.begins_blank());
-    for (at, line, column, octets) in [(0, 1, 1, 1), (3, 1, 3, 4), (4, 2, 1, 1), (6, 2, 2, 3)] {
-        let text = "aé\nèb";
-        assert!(&rt; line_and_column(text, at) == Position { line, column });
-        let column = octets;
-        assert!(&rt; line_and_column_of_octets(text.as_bytes(), at) == Position { line, column });
+fn finds_what_is_left_open(rt: HostRuntime) {
+    for &(text, wanted) in &OPEN_TEXTS {
+        opened(&rt, outermost_open(text), wanted);
     }
-    for (token, wanted) in [
-        ("\"a b\"", "a b"),
-        ("\"\"", ""),
-        ("ab", "ab"),
-        ("\\\"", "\\\""),
-    ] {
-        assert_eq!(&rt; content(token), wanted);
+    for &(octets, wanted) in &OPEN_OCTETS {
+        opened(&rt, outermost_open_of_octets(octets), wanted);
+    }
+}
+
+/// Whether the entry that the cursor is in begins with a blank.
+fn begins_blank(rt: &impl Abort, pieces: &Pieces, wanted: bool) {
+    assert_eq!(rt; pieces.begins_blank(), wanted);
+}
+
+fn gives(rt: &impl Abort, pieces: &mut Pieces, wanted: Result<Piece, Fault>) {
+    assert!(rt; pieces.next() == Some(wanted));
+}
+
+#[test]
+fn tells_blanks(rt: HostRuntime) {
+    let mut pieces = Pieces::new(" a\nb");
+    begins_blank(&rt, &pieces, true);
+    gives(&rt, &mut pieces, word(1, 2));
+    begins_blank(&rt, &pieces, true);
+    gives(&rt, &mut pieces, end(3, true));
+    begins_blank(&rt, &pieces, false);
+}
+
+// A place with its line, its column in characters and its column in octets.
+const PLACES: [(usize, usize, usize, usize); 4] = [
+    (0, 1, 1, 1),
+    (3, 1, 3, 4),
+    (4, 2, 1, 1),
+    (6, 2, 2, 3),
+];
+
+fn stands_at(rt: &impl Abort, found: Position, line: usize, column: usize) {
+    assert!(rt; found == Position { line, column });
+}
+
+#[test]
+fn tells_positions(rt: HostRuntime) {
+    let text = "aé\nèb";
+    for &(at, line, column, octets) in &PLACES {
+        stands_at(&rt, line_and_column(text, at), line, column);
+        let found = line_and_column_of_octets(text.as_bytes(), at);
+        stands_at(&rt, found, line, octets);
+    }
+}
+
+const CONTENTS: [(&str, &str); 4] = [
+    ("\"a b\"", "a b"),
+    ("\"\"", ""),
+    ("ab", "ab"),
+    ("\\\"", "\\\""),
+];
+
+fn content_is(rt: &impl Abort, token: &str, wanted: &str) {
+    assert_eq!(rt; content(token), wanted);
+}
+
+#[test]
+fn tells_contents(rt: HostRuntime) {
+    for &(token, wanted) in &CONTENTS {
+        content_is(&rt, token, wanted);
     }
 }
