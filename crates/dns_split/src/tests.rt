@@ -1,3 +1,4 @@
+use crate::cursor_tests::{is_more_than, text_of};
 use crate::pieces::{Piece, Pieces};
 use crate::splitting::{SplitError, split};
 use crate::token::is_token;
@@ -6,249 +7,329 @@ use std::alloc::{AllocError, Allocator, Global};
 use std::process::Abort;
 use std::test::Fail;
 
+fn push_token(out: &mut String, token: &str) -> Result<(), AllocError> {
+    out.push_str(token)?;
+    out.push('|')
+}
+
+fn push_entry<A: Allocator>(out: &mut String, entry: &[String<A>]) -> Result<(), AllocError> {
+    for token in entry {
+        push_token(out, token.as_str())?;
+    }
+    out.push('/')
+}
+
 /// The entries, with a bar after each token and a slash after each entry, or the error.
 fn told<A: Allocator>(
     alloc: Global,
     answer: &Result<Vec<Vec<String<A>, A>, A>, SplitError>,
-) -> Result<String, Fail> {
-    let mut out = String::new(alloc);
+) -> Result<String, AllocError> {
     match answer {
         Ok(entries) => {
+            let mut out = String::new(alloc);
             for entry in entries {
-                for token in entry {
-                    out.push_str(token.as_str())?;
-                    out.push('|')?;
-                }
-                out.push('/')?;
+                push_entry(&mut out, entry)?;
             }
+            Ok(out)
         }
-        Err(error) => out = error.to_string(alloc)?,
+        Err(error) => Ok(error.to_string(alloc)?),
     }
-    Ok(out)
 }
 
-fn shown(alloc: Global, text: &str) -> Result<String, Fail> {
+fn shown(alloc: Global, text: &str) -> Result<String, AllocError> {
     told(alloc, &split(alloc, text))
 }
 
-fn push_token(out: &mut String, token: Option<&str>) -> Result<(), AllocError> {
-    out.push_str(token.unwrap_or("no part"))?;
-    out.push('|')
+/// The text of a piece with the bar or the slash that goes after it.
+fn push_piece(out: &mut String, text: &str, piece: Piece) -> Result<(), AllocError> {
+    match piece {
+        Piece::Word(part) | Piece::Quote(part) => {
+            push_token(out, text.get(part.start..part.end).unwrap_or("no part"))
+        }
+        Piece::Comment(_) => Ok(()),
+        Piece::End(_) => out.push('/'),
+    }
 }
 
 /// The same through the cursor.
-fn shown_by_pieces(alloc: Global, text: &str) -> Result<String, Fail> {
+fn shown_by_pieces(alloc: Global, text: &str) -> Result<String, AllocError> {
     let mut out = String::new(alloc);
     for piece in Pieces::new(text) {
         match piece {
-            Ok(Piece::Word(part)) => push_token(&mut out, text.get(part.start..part.end))?,
-            Ok(Piece::Quote(part)) => push_token(&mut out, text.get(part.start..part.end))?,
-            Ok(Piece::Comment(_)) => {}
-            Ok(Piece::End(_)) => out.push('/')?,
+            Ok(piece) => push_piece(&mut out, text, piece)?,
             Err(fault) => return Ok(SplitError::BadText(fault.at).to_string(alloc)?),
         }
     }
     Ok(out)
 }
 
-fn check(rt: &impl Abort, alloc: Global, rows: &[(&str, &str)]) -> Result<(), Fail> {
-    for (text, wanted) in rows {
-        let got = shown(alloc, text)?;
-        assert_eq!(rt; got.as_str(), *wanted);
-        let got = shown_by_pieces(alloc, text)?;
-        assert_eq!(rt; got.as_str(), *wanted);
+/// A text that was made is the wanted one.
+fn text_is(rt: &impl Abort, made: &Result<String, AllocError>, wanted: &str) {
+    assert!(rt;
+        matches!(made, Ok(made) if made.as_str() == wanted),
+        "{wanted}"
+    );
+}
+
+fn check(rt: &impl Abort, alloc: Global, rows: &[(&str, &str)]) {
+    for &(text, wanted) in rows {
+        text_is(rt, &shown(alloc, text), wanted);
+        text_is(rt, &shown_by_pieces(alloc, text), wanted);
     }
-    Ok(())
+}
+
+const SPLIT_TEXTS: [(&str, &str); 7] = [
+    ("", "/"),
+    ("a\"b c\"", "a|\"b c\"|/"),
+    (";x\ny", "/y|/"),
+    ("a;b c", "a|/"),
+    ("(a\n\tb)", "a|b|/"),
+    ("\\(a\\)", "\\(a\\)|/"),
+    ("a\r\nb", "a|/b|/"),
+];
+
+#[test]
+fn splits(rt: HostRuntime) {
+    check(&rt, rt.alloc(), &SPLIT_TEXTS);
+}
+
+const REFUSED_TEXTS: [(&str, &str); 8] = [
+    ("a)", "bad text at 1"),
+    ("(a", "bad text at 2"),
+    ("\"a", "bad text at 2"),
+    ("\\3", "bad text at 1"),
+    ("\\26", "bad text at 2"),
+    (";x\ry", "bad text at 3"),
+    ("é\\", "bad text at 3"),
+    ("\"a\n", "bad text at 2"),
+];
+
+#[test]
+fn refuses(rt: HostRuntime) {
+    check(&rt, rt.alloc(), &REFUSED_TEXTS);
+}
+
+const SPELLINGS: [(&str, &str); 12] = [
+    ("\n", "//"),
+    ("\n\n", "///"),
+    (" a\t b ", "a|b|/"),
+    ("\"\"\"\"", "\"\"|\"\"|/"),
+    ("\"a\"b\"c\"", "\"a\"|b|\"c\"|/"),
+    ("\"a;(b)\\\"\"", "\"a;(b)\\\"\"|/"),
+    ("\\000\\255\\032", "\\000\\255\\032|/"),
+    ("a;b)\nc", "a|/c|/"),
+    ("a ( b ( c ; x )\r\n ) d )\ne", "a|b|c|d|/e|/"),
+    ("(\n)\n(\n)", "//"),
+    ("é😀\u{0}", "é😀\u{0}|/"),
+    ("a;b\r\nc", "a|/c|/"),
+];
+
+#[test]
+fn keeps_entries_and_spellings(rt: HostRuntime) {
+    check(&rt, rt.alloc(), &SPELLINGS);
+}
+
+const FAULTS: [(&str, &str); 12] = [
+    (")", "bad text at 0"),
+    ("a\nb\n)", "bad text at 4"),
+    ("((\n", "bad text at 3"),
+    ("a\r", "bad text at 2"),
+    ("a\rb", "bad text at 2"),
+    ("\\", "bad text at 1"),
+    ("\\é", "bad text at 1"),
+    ("\\2a", "bad text at 2"),
+    ("\\255\\256", "bad text at 7"),
+    ("\"a\\", "bad text at 3"),
+    ("(\"\\2", "bad text at 4"),
+    ("\"é\r", "bad text at 3"),
+];
+
+#[test]
+fn names_the_place(rt: HostRuntime) {
+    check(&rt, rt.alloc(), &FAULTS);
+}
+
+const TOKENS: [&str; 8] = [
+    "a",
+    "a\\(b\\050",
+    "é",
+    "\\255",
+    "\"\"",
+    "\"a b\"",
+    "\"a ;(\\\"b\"",
+    "\"\\032\"",
+];
+
+const NO_TOKENS: [&str; 17] = [
+    "", " ", "a b", "a;b", "a(b", "a\"b\"", "\"a\"b\"", "\"a\"b", "\"a", "\"", "\\999", "\\2",
+    "a\\", "\"a\n\"", "\"a\r\"", "a\n", "(a)",
+];
+
+fn token_is(rt: &impl Abort, text: &str, wanted: bool) {
+    assert_eq!(rt; is_token(text), wanted, "{text}");
 }
 
 #[test]
-fn splits(rt: HostRuntime) -> Result<(), Fail> {
-    let rows = [
-        ("", "/"),
-        ("a\"b c\"", "a|\"b c\"|/"),
-        (";x\ny", "/y|/"),
-        ("a;b c", "a|/"),
-        ("(a\n\tb)", "a|b|/"),
-        ("\\(a\\)", "\\(a\\)|/"),
-        ("a\r\nb", "a|/b|/"),
-    ];
-    check(&rt, rt.alloc(), &rows)
-}
-
-#[test]
-fn refuses(rt: HostRuntime) -> Result<(), Fail> {
-    let rows = [
-        ("a)", "bad text at 1"),
-        ("(a", "bad text at 2"),
-        ("\"a", "bad text at 2"),
-        ("\\3", "bad text at 1"),
-        ("\\26", "bad text at 2"),
-        (";x\ry", "bad text at 3"),
-        ("é\\", "bad text at 3"),
-        ("\"a\n", "bad text at 2"),
-    ];
-    check(&rt, rt.alloc(), &rows)
-}
-
-#[test]
-fn keeps_entries_and_spellings(rt: HostRuntime) -> Result<(), Fail> {
-    let rows = [
-        ("\n", "//"),
-        ("\n\n", "///"),
-        (" a\t b ", "a|b|/"),
-        ("\"\"\"\"", "\"\"|\"\"|/"),
-        ("\"a\"b\"c\"", "\"a\"|b|\"c\"|/"),
-        ("\"a;(b)\\\"\"", "\"a;(b)\\\"\"|/"),
-        ("\\000\\255\\032", "\\000\\255\\032|/"),
-        ("a;b)\nc", "a|/c|/"),
-        ("a ( b ( c ; x )\r\n ) d )\ne", "a|b|c|d|/e|/"),
-        ("(\n)\n(\n)", "//"),
-        ("é😀\u{0}", "é😀\u{0}|/"),
-        ("a;b\r\nc", "a|/c|/"),
-    ];
-    check(&rt, rt.alloc(), &rows)
-}
-
-#[test]
-fn names_the_place(rt: HostRuntime) -> Result<(), Fail> {
-    let rows = [
-        (")", "bad text at 0"),
-        ("a\nb\n)", "bad text at 4"),
-        ("((\n", "bad text at 3"),
-        ("a\r", "bad text at 2"),
-        ("a\rb", "bad text at 2"),
-        ("\\", "bad text at 1"),
-        ("\\é", "bad text at 1"),
-        ("\\2a", "bad text at 2"),
-        ("\\255\\256", "bad text at 7"),
-        ("\"a\\", "bad text at 3"),
-        ("(\"\\2", "bad text at 4"),
-        ("\"é\r", "bad text at 3"),
-    ];
-    check(&rt, rt.alloc(), &rows)
-}
-
-#[test]
-fn tells_tokens(rt: HostRuntime) -> Result<(), Fail> {
-    for text in [
-        "a",
-        "a\\(b\\050",
-        "é",
-        "\\255",
-        "\"\"",
-        "\"a b\"",
-        "\"a ;(\\\"b\"",
-        "\"\\032\"",
-    ] {
-        assert!(&rt; is_token(text));
+fn tells_tokens(rt: HostRuntime) {
+    for text in &TOKENS {
+        token_is(&rt, text, true);
     }
-    for text in [
-        "", " ", "a b", "a;b", "a(b", "a\"b\"", "\"a\"b\"", "\"a\"b", "\"a", "\"", "\\999", "\\2",
-        "a\\", "\"a\n\"", "\"a\r\"", "a\n", "(a)",
-    ] {
-        assert!(&rt; !is_token(text));
+    for text in &NO_TOKENS {
+        token_is(&rt, text, false);
     }
-    Ok(())
+}
+
+/// The text of a refusal.
+fn refusal(alloc: Global, error: SplitError) -> Result<String, AllocError> {
+    Ok(error.to_string(alloc)?)
 }
 
 #[test]
-fn tells_refusals(rt: HostRuntime) -> Result<(), Fail> {
-    let text = SplitError::ShortBuf.to_string(rt.alloc())?;
-    assert_eq!(&rt; text.as_str(), "buffer size exceeded");
-    Ok(())
+fn tells_refusals(rt: HostRuntime) {
+    let text = refusal(rt.alloc(), SplitError::ShortBuf);
+    text_is(&rt, &text, "buffer size exceeded");
 }
+
+/// Whether a growth is refused; the answer is then the ample one or want of memory, and else the
+/// ample one.
+fn is_refused(rt: &impl Abort, alloc: Global, text: &str, ample: &str, nth: u64) -> bool {
+    let heap = Refusing::new(alloc, nth);
+    let answer = split(&heap, text);
+    let is_short = matches!(answer, Err(SplitError::ShortBuf));
+    let told = told(alloc, &answer);
+    let is_ample = matches!(&told, Ok(told) if told.as_str() == ample);
+    let is_refused = heap.has_refused();
+    assert!(rt; is_ample || is_refused && is_short);
+    is_refused
+}
+
+/// How many growths are refused in turn, until none is.
+fn refusals(rt: &impl Abort, alloc: Global, text: &str, ample: &str) -> u64 {
+    let mut refusals = 0;
+    for nth in 1..200 {
+        if !is_refused(rt, alloc, text, ample, nth) {
+            break;
+        }
+        refusals = nth;
+    }
+    refusals
+}
+
+fn is_between(rt: &impl Abort, count: u64, least: u64, limit: u64) {
+    assert!(rt; least <= count && count < limit);
+}
+
+const GROWING_TEXTS: [(&str, u64); 3] = [
+    ("a ( b ( c ; x )\r\n ) d )\ne \"f g\"", 5),
+    ("a\nb )", 3),
+    ("", 1),
+];
 
 // The entries, or want of memory, whichever growth is refused.
 #[test]
 fn splits_where_a_growth_is_refused(rt: HostRuntime) -> Result<(), Fail> {
     let alloc = rt.alloc();
-    for (text, least) in [
-        ("a ( b ( c ; x )\r\n ) d )\ne \"f g\"", 5),
-        ("a\nb )", 3),
-        ("", 1),
-    ] {
+    for &(text, least) in &GROWING_TEXTS {
         let ample = shown(alloc, text)?;
-        let mut refusals = 0;
-        for nth in 1..200 {
-            let heap = Refusing::new(alloc, nth);
-            let answer = split(&heap, text);
-            let got = told(alloc, &answer)?;
-            if !heap.has_refused() {
-                assert_eq!(&rt; got.as_str(), ample.as_str());
-                break;
-            }
-            let short = matches!(answer, Err(SplitError::ShortBuf));
-            assert!(&rt; short || got.as_str() == ample.as_str());
-            refusals = nth;
-        }
-        assert!(&rt; least <= refusals && refusals < 199);
+        let refusals = refusals(&rt, alloc, text, ample.as_str());
+        is_between(&rt, refusals, least, 199);
     }
     Ok(())
 }
 
+fn does_split(alloc: Global, text: &str) -> bool {
+    split(alloc, text).is_ok()
+}
+
+/// What one text shows and then another.
+fn shown_in_turn(alloc: Global, first: &str, second: &str) -> Result<String, AllocError> {
+    let mut shown_first = shown(alloc, first)?;
+    shown_first.push_str(shown(alloc, second)?.as_str())?;
+    Ok(shown_first)
+}
+
+/// What two texts show that a line's end joins.
+fn shown_joined(alloc: Global, first: &str, second: &str) -> Result<String, AllocError> {
+    let joined = format!(in alloc; "{first}\n{second}")?;
+    shown(alloc, joined.as_str())
+}
+
+/// In how many places the text can be cut and joined again.
+fn joints(rt: &impl Abort, alloc: Global, text: &str) -> Result<usize, AllocError> {
+    let mut joints: usize = 0;
+    for at in 0..=text.len() {
+        if !text.is_char_boundary(at) {
+            continue;
+        }
+        let (first, second) = (&text[..at], &text[at..]);
+        if does_split(alloc, first) && does_split(alloc, second) {
+            let wanted = shown_in_turn(alloc, first, second)?;
+            text_is(rt, &shown_joined(alloc, first, second), wanted.as_str());
+            joints = joints.saturating_add(1);
+        }
+    }
+    Ok(joints)
+}
+
+const JOINED_TEXTS: [&str; 2] = [
+    "a ( b ( c ; x )\r\n ) d )\ne \"f g\"\n\n;k\n z",
+    "é \"\"\n(\n)\n",
+];
+
 // A text cut in every place of a row and joined again.
 #[test]
 fn joins_what_was_cut(rt: HostRuntime) -> Result<(), Fail> {
-    let alloc = rt.alloc();
-    for text in [
-        "a ( b ( c ; x )\r\n ) d )\ne \"f g\"\n\n;k\n z",
-        "é \"\"\n(\n)\n",
-    ] {
-        let mut joints: usize = 0;
-        for at in 0..=text.len() {
-            if !text.is_char_boundary(at) {
-                continue;
-            }
-            let (first, second) = (&text[..at], &text[at..]);
-            if split(alloc, first).is_err() || split(alloc, second).is_err() {
-                continue;
-            }
-            let joined = format!(in alloc; "{first}\n{second}")?;
-            let got = shown(alloc, joined.as_str())?;
-            let mut wanted = shown(alloc, first)?;
-            wanted.push_str(shown(alloc, second)?.as_str())?;
-            assert_eq!(&rt; got.as_str(), wanted.as_str());
-            joints = joints.saturating_add(1);
-        }
-        assert!(&rt; joints > 4);
+    for text in &JOINED_TEXTS {
+        is_more_than(&rt, joints(&rt, rt.alloc(), text)?, 4);
     }
     Ok(())
 }
+
+/// How many tokens there are, each of so many octets.
+fn count_tokens(rt: &impl Abort, entries: &[Vec<String>], octets: usize) -> usize {
+    let mut count: usize = 0;
+    for entry in entries {
+        for token in entry {
+            count = count.saturating_add(1);
+            assert!(rt; token.len() == octets);
+        }
+    }
+    count
+}
+
+/// The entries of a text that splits, and the tokens of each.
+fn splits_into(rt: &impl Abort, alloc: Global, text: &str, entries: usize, tokens: usize) {
+    let octets = if tokens == 1 { text.len() } else { 9 };
+    let found = split(alloc, text);
+    let is_wanted = match &found {
+        Ok(found) => found.len() == entries && count_tokens(rt, found, octets) == tokens,
+        Err(_) => false,
+    };
+    assert!(rt; is_wanted);
+}
+
+const LARGE_TEXTS: [(&str, &str, usize, &str, usize, usize); 12] = [
+    ("", "a", 100_000, "", 1, 1),
+    ("", "é", 50_000, "", 1, 1),
+    ("", "\\032", 25_000, "", 1, 1),
+    ("\"", ";", 100_000, "\"", 1, 1),
+    (";", "(", 100_000, "\n", 2, 0),
+    ("", " ", 100_000, "", 1, 0),
+    ("", "\n", 100_000, "", 100_001, 0),
+    ("", "\r\n", 50_000, "", 50_001, 0),
+    ("", "()", 50_000, "", 1, 0),
+    ("(", "\n", 100_000, ")", 1, 0),
+    ("", "abcdefghi ", 10_000, "", 1, 10_000),
+    ("", "abcdefghi\n", 10_000, "", 10_001, 10_000),
+];
 
 // 100,000 octets: the entries and the tokens of each.
 #[test]
 fn splits_large_texts(rt: HostRuntime) -> Result<(), Fail> {
     let alloc = rt.alloc();
-    for (head, part, times, tail, entries, tokens) in [
-        ("", "a", 100_000, "", 1, 1),
-        ("", "é", 50_000, "", 1, 1),
-        ("", "\\032", 25_000, "", 1, 1),
-        ("\"", ";", 100_000, "\"", 1, 1),
-        (";", "(", 100_000, "\n", 2, 0),
-        ("", " ", 100_000, "", 1, 0),
-        ("", "\n", 100_000, "", 100_001, 0),
-        ("", "\r\n", 50_000, "", 50_001, 0),
-        ("", "()", 50_000, "", 1, 0),
-        ("(", "\n", 100_000, ")", 1, 0),
-        ("", "abcdefghi ", 10_000, "", 1, 10_000),
-        ("", "abcdefghi\n", 10_000, "", 10_001, 10_000),
-    ] {
-        let mut text = String::new(alloc);
-        text.push_str(head)?;
-        for _ in 0..times {
-            text.push_str(part)?;
-        }
-        text.push_str(tail)?;
-        let found = split(alloc, text.as_str())?;
-        assert_eq!(&rt; found.len(), entries);
-        let mut count: usize = 0;
-        for entry in &found {
-            for token in entry {
-                count = count.saturating_add(1);
-                assert!(&rt; token.len() == if tokens == 1 { text.len() } else { 9 });
-            }
-        }
-        assert_eq!(&rt; count, tokens);
+    for &(head, part, times, tail, entries, tokens) in &LARGE_TEXTS {
+        let text = text_of(alloc, head, part, times, tail)?;
+        splits_into(&rt, alloc, text.as_str(), entries, tokens);
     }
     Ok(())
 }
