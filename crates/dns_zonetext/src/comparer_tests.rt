@@ -3,7 +3,7 @@ use crate::comparer::Comparer;
 use crate::diff::{Comparison, diff};
 use dns_split::position::Position;
 use refusing_heap::Refusing;
-use std::alloc::Allocator;
+use std::alloc::{Allocator, Global};
 use std::process::Abort;
 
 fn at(line: usize, column: usize) -> Position {
@@ -41,6 +41,20 @@ fn in_blocks<A: Allocator + Copy>(
     Ok(comparer.finish())
 }
 
+/// Blocks of each length below a limit compare as wanted.
+fn compares(
+    rt: &impl Abort,
+    alloc: Global,
+    first: &[u8],
+    second: &[u8],
+    limit: usize,
+    wanted: Comparison,
+) {
+    for size in 1..limit {
+        assert!(rt; in_blocks(alloc, first, second, size) == Ok(wanted));
+    }
+}
+
 #[test]
 fn compares_in_blocks(rt: HostRuntime) {
     let rows: [(&str, &str, Comparison); 10] = [
@@ -74,9 +88,7 @@ fn compares_in_blocks(rt: HostRuntime) {
     for (first, second, wanted) in rows {
         let (first, second) = (first.as_bytes(), second.as_bytes());
         assert!(&rt; diff(first, second) == wanted);
-        for size in 1..20 {
-            assert!(&rt; in_blocks(rt.alloc(), first, second, size) == Ok(wanted));
-        }
+        compares(&rt, rt.alloc(), first, second, 20, wanted);
     }
 }
 
@@ -91,9 +103,7 @@ fn compares_faults_in_blocks(rt: HostRuntime) {
     ];
     for (first, second) in rows {
         let wanted = diff(first, second);
-        for size in 1..12 {
-            assert!(&rt; in_blocks(rt.alloc(), first, second, size) == Ok(wanted));
-        }
+        compares(&rt, rt.alloc(), first, second, 12, wanted);
     }
 }
 
