@@ -1,5 +1,6 @@
 pub mod Error
 pub mod Lends
+pub mod Limits
 pub mod Order
 pub mod Printed
 pub mod Reading

@@ -7,6 +7,7 @@ use Rattle.dns_symbol.specs.declared.symbol.SymbolCharsError.{SymbolCharsError}
 use Rattle.dns_charstr.specs.declared.charstr.error.PresentationError.TheVariants.{LongString, SymbolChars, BadSymbol}
 use Rattle.dns_charstr.specs.declared.charstr.error.FromStrError.{FromStrError}
 use Rattle.dns_charstr.specs.declared.charstr.error.FromStrError.TheVariants.{Presentation, ShortBuf}
+use Rattle.dns_charstr.specs.Limits.{max_string}
 
 -- the text is all symbols, and these are their octets
 pub record HasOctets (text octets : List ℕ) : Type 0 where
@@ -30,13 +31,13 @@ pub record GoesOn (text octets : List ℕ) (x : Symbol) : Type 0 where
 
 -- what reading a text answers, where `sure` octets surely fit and `most` ever do: its octets, or the first refusal, with the octets before it
 abbrev pub ReadsText : ℕ → ℕ → List ℕ → Result (List ℕ) FromStrError → Type 0
-ReadsText sure most text (Ok octets) = HasOctets text octets × (length octets ≤ 255) × (length octets ≤ most)
+ReadsText sure most text (Ok octets) = HasOctets text octets × (length octets ≤ max_string) × (length octets ≤ most)
 ReadsText sure most text (Err (Presentation (SymbolChars e))) =
-    (octets : List ℕ) × BreaksOff text octets e × (length octets ≤ 255) × (length octets ≤ most)
+    (octets : List ℕ) × BreaksOff text octets e × (length octets ≤ max_string) × (length octets ≤ most)
 ReadsText sure most text (Err (Presentation LongString)) =
-    (octets : List ℕ) × (x : Symbol) × GoesOn text octets x × (length octets ≡ 255) × (length octets ≤ most)
+    (octets : List ℕ) × (x : Symbol) × GoesOn text octets x × (length octets ≡ max_string) × (length octets ≤ most)
 ReadsText sure most text (Err (Presentation (BadSymbol e))) =
-    (octets : List ℕ) × (x : Symbol) × GoesOn text octets x × (length octets < 255) × (length octets ≤ most) × (octet_of x ≡ Err e)
+    (octets : List ℕ) × (x : Symbol) × GoesOn text octets x × (length octets < max_string) × (length octets ≤ most) × (octet_of x ≡ Err e)
 ReadsText sure most text (Err ShortBuf) =
-    (octets : List ℕ) × (x : Symbol) × (octet : ℕ) × GoesOn text octets x × (length octets < 255) × (length octets ≤ most) × (octet_of x ≡ Ok octet)
+    (octets : List ℕ) × (x : Symbol) × (octet : ℕ) × GoesOn text octets x × (length octets < max_string) × (length octets ≤ most) × (octet_of x ≡ Ok octet)
     × (sure ≤ length octets)

@@ -1,5 +1,6 @@
 //! Character strings: at most 255 octets (RFC 1035 section 3.3).
 ghost use Rattle.std.specs.Prelude.{◌≡◌, ◌≤◌, ◌<◌, ◌↔◌, List, [], ℕ, length, All, IsTrue, IfOk, IsOk, Ok};
+ghost use Rattle.dns_charstr.specs.Limits.{max_string};
 
 mod builder;
 mod compare;
@@ -33,7 +34,7 @@ impl<Octs: AsOctets> Model for CharStr<Octs> {
 
     ghost view = { λ s. Octs.octets s.octets };
 
-    ghost invariant = { λ s. length (Octs.octets s.octets) ≤ 255 };
+    ghost invariant = { λ s. length (Octs.octets s.octets) ≤ max_string };
 }
 
 impl CharStr<&[u8]> {
@@ -49,7 +50,7 @@ impl CharStr<&[u8]> {
 
     /// The character string of these octets, of which there may be at most 255.
     pub fn from_slice(slice: &[u8]) -> Result<CharStr<&[u8]>, CharStrError>
-        ensures ok { IsOk result ↔ (length slice.now ≤ 255) }
+        ensures ok { IsOk result ↔ (length slice.now ≤ max_string) }
         ensures value { IfOk result (λ s. s ≡ slice.now) }
     {
         CharStr::from_octets(slice)
@@ -74,10 +75,10 @@ impl<Octs: AsOctets> CharStr<Octs> {
     pub fn from_octets(octets: Octs) -> Result<Self, CharStrError>
     where
         Octs: Drop,
-        ensures ok { IsOk result ↔ (length (Octs.octets octets) ≤ 255) }
+        ensures ok { IsOk result ↔ (length (Octs.octets octets) ≤ max_string) }
         ensures value { IfOk result (λ s. s ≡ Octs.octets octets) }
     {
-        if octets.as_slice().len() > 255 {
+        if octets.as_slice().len() > CharStr::MAX_LEN {
             return Err(CharStrError);
         }
         Ok(CharStr { octets })
@@ -86,7 +87,7 @@ impl<Octs: AsOctets> CharStr<Octs> {
     /// The octets themselves.
     pub fn into_octets(self) -> Octs
         ensures value { Octs.octets result ≡ self }
-        ensures short { length self ≤ 255 }
+        ensures short { length self ≤ max_string }
     {
         self.octets
     }
@@ -94,7 +95,7 @@ impl<Octs: AsOctets> CharStr<Octs> {
     /// The octets.
     pub fn as_slice(&self) -> &[u8]
         ensures value { result.now ≡ self.now }
-        ensures short { length self.now ≤ 255 }
+        ensures short { length self.now ≤ max_string }
         ensures bytes { All (λ b. b < 256) self.now }
     {
         self.octets.as_slice()
@@ -103,7 +104,7 @@ impl<Octs: AsOctets> CharStr<Octs> {
     /// How many octets there are: 255 at most.
     pub fn len(&self) -> usize
         ensures value { result ≡ length self.now }
-        ensures short { result ≤ 255 }
+        ensures short { result ≤ max_string }
     {
         self.as_slice().len()
     }
@@ -174,7 +175,7 @@ impl<Octs: AsOctetsMut> CharStr<Octs> {
     pub fn as_slice_mut(&mut self) -> &mut [u8]
         ensures* writes_back { sem 𝓛 (lends_octets Octs.row Octs.AsOctets self.entry result) }
         ensures value { result.now ≡ self.old }
-        ensures short { length self.old ≤ 255 }
+        ensures short { length self.old ≤ max_string }
     {
         self.octets.as_slice_mut()
     }
@@ -206,7 +207,7 @@ impl<Octs: AsOctets> CharStr<Octs> {
         <Octs as FromBuilder>::Builder: EmptyBuilder + FreezeBuilder<Octets = Octs> + Drop,
         ensures reads { ReadsText Octs.Builder.sure Octs.Builder.most text.now result }
         ensures succeeds { (octets : List ℕ) → HasOctets text.now octets → length octets ≤ Octs.Builder.sure
-            → length octets ≤ 255 → result ≡ Ok octets }
+            → length octets ≤ max_string → result ≡ Ok octets }
     {
         Self::read_symbols(alloc, text)
     }

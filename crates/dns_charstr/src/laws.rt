@@ -12,6 +12,7 @@ ghost use Rattle.dns_octets.specs.Lowered.{lowered, same_lowered, lowered_order,
 ghost use Rattle.dns_charstr.specs.Order.{wire_order};
 ghost use Rattle.dns_charstr.specs.declared.charstr.error.FromStrError.{FromStrError};
 ghost use Rattle.dns_charstr.specs.declared.charstr.error.FromStrError.TheVariants.{ShortBuf};
+ghost use Rattle.dns_charstr.specs.Limits.{max_string};
 
 /// The plain text of octets is read as these octets.
 pub fn plain_text_reads_back(octets: &[u8])
@@ -52,7 +53,7 @@ pub fn unquoted_text_is_a_word(octets: &[u8])
 pub fn texts_have_one_reading(text: &str)
     ensures octets { (xs ys : List ℕ) → HasOctets text.now xs → HasOctets text.now ys → xs ≡ ys }
     ensures whole { (sure most : ℕ) (octets : List ℕ) (r : Result (List ℕ) FromStrError) → ReadsText sure most text.now r
-        → HasOctets text.now octets → length octets ≤ 255 → (r ≡ Ok octets) ⊎ ((r ≡ Err ShortBuf) × (sure < length octets)) }
+        → HasOctets text.now octets → length octets ≤ max_string → (r ≡ Ok octets) ⊎ ((r ≡ Err ShortBuf) × (sure < length octets)) }
     ensures answer { (room : ℕ) (q r : Result (List ℕ) FromStrError) → ReadsText room room text.now q → ReadsText room room text.now r → q ≡ r }
 {
     let _text = text;

@@ -23,13 +23,13 @@ use Rattle.dns_codec.proofs.Marks.{refusal_first}
 use Rattle.dns_codec.proofs.Numbers.{numbers}
 use Rattle.dns_codec.proofs.Reading.{Decoded}
 use Rattle.dns_codec.proofs.Steps.{IsRead, no_cause, stepped}
-use Rattle.dns_codec.proofs.Wholes.{Name-length}
+use Rattle.dns_codec.proofs.Wholes.{HaveValues-length}
 
 -- what a decoder holds after a text, where no error is stored
 pub record Stands (b : Base) (sure most : ℕ) (text : List ℕ) (d : DecoderState) : Type 0 where
   pub quiet : d.error ≡ None
   pub held : length d.octets ≤ max sure most
-  pub read : IsRead b text d.octets d.group.pieces d.group.padding
+  pub read : IsRead b text d.octets d.group.digits d.group.padding
 
 -- what stands after a character that was refused
 pub record Refuses (b : Base) (sure most : ℕ) (text : List ℕ) (c : ℕ) (d j : DecoderState) : Type 0 where
@@ -50,14 +50,14 @@ pub one_push : (b : Base) → IsEncoding b → (sure most : ℕ) (text : List �
 one_push b known sure most text d c j at push =
     let s : Step = step b d.group c in
     let t : Takes sure most d.octets s j = subst (λ (x : Option DecodeError). PushesAfter b sure most x d c j) at.quiet push in
-    let next = stepped b known text d.octets d.group.pieces d.group.padding c at.read in
+    let next = stepped b known text d.octets d.group.digits d.group.padding c at.read in
     elim (appends_cases sure most s.octets d.octets j.octets s.error j.error t.appends at.held) [
       | inl all ↦ elim (cases_error s.error) [
         | inl none ↦ inl (record {
           quiet = all.0 ∙ none;
           held = all.2;
-          read = subst (λ (g : Group). IsRead b (text ++ c ∷ []) j.octets g.pieces g.padding) (sym t.group)
-              (subst (λ (os : List ℕ). IsRead b (text ++ c ∷ []) os s.group.pieces s.group.padding) (sym all.1) (next.goes_on none));
+          read = subst (λ (g : Group). IsRead b (text ++ c ∷ []) j.octets g.digits g.padding) (sym t.group)
+              (subst (λ (os : List ℕ). IsRead b (text ++ c ∷ []) os s.group.digits s.group.padding) (sym all.1) (next.goes_on none));
         })
         | inr some ↦ let sum = ap length all.1 ∙ length-append d.octets s.octets in inr (record {
           error = some.0;
@@ -96,23 +96,23 @@ some_short false e other is = is
 pub decoded : (b : Base) → IsEncoding b → (sure most : ℕ) (text : List ℕ) (d : DecoderState) (r : Result (List ℕ) DecodeError) → Stands b sure most text d → Ends b sure most d r
     → (room : ℕ) × IsRoom sure most room × (length d.octets ≤ room) × Outcome b text (refusal b room text) r
 decoded b known sure most text d (Ok octets) at end =
-    let e = ended b known text d.octets d.group.pieces d.group.padding at.read in
+    let e = ended b known text d.octets d.group.digits d.group.padding at.read in
     let ends = no_short (is_complete b d.group) (sym (ends_by b.ends_first (short b d.group) d.error at.quiet) ∙ end.0) in
-    elim (appends_cases sure most (whole b.width d.group.pieces) d.octets octets None None end.1 at.held) [
+    elim (appends_cases sure most (whole b.width d.group.digits) d.octets octets None None end.1 at.held) [
       | inr no_room ↦ let bad = no_room.0 in cc bad
       | inl all ↦
           let room : ℕ = max sure most in
-          let fits : length d.octets + length (whole b.width d.group.pieces) ≤ room = omega (arith, all.2, ap length all.1, length-append d.octets (whole b.width d.group.pieces)) in
+          let fits : length d.octets + length (whole b.width d.group.digits) ≤ room = omega (arith, all.2, ap length all.1, length-append d.octets (whole b.width d.group.digits)) in
           (room, any_room sure most, at.held, (e.refusal_is room at.held ∙ where_it_ends _ _ ends ∙ want_enough room _ fits, subst (Decodes b text) (sym all.1) (e.decodes ends)))
     ]
 decoded b known sure most text d (Err f) at (inl end) =
-    let e = ended b known text d.octets d.group.pieces d.group.padding at.read in
+    let e = ended b known text d.octets d.group.digits d.group.padding at.read in
     let room : ℕ = max sure most in
     (room, any_room sure most, at.held, e.refusal_is room at.held ∙ some_short (is_complete b d.group) f _ (sym (ends_by b.ends_first (short b d.group) d.error at.quiet) ∙ end))
 decoded b known sure most text d (Err f) at (inr end) =
-    let e = ended b known text d.octets d.group.pieces d.group.padding at.read in
+    let e = ended b known text d.octets d.group.digits d.group.padding at.read in
     let ends = no_short (is_complete b d.group) (sym (ends_by b.ends_first (short b d.group) d.error at.quiet) ∙ end.0) in
-    elim (appends_cases sure most (whole b.width d.group.pieces) d.octets end.1.0 None (Some f) end.1.1 at.held) [
+    elim (appends_cases sure most (whole b.width d.group.digits) d.octets end.1.0 None (Some f) end.1.1 at.held) [
       | inl all ↦ let bad = all.0 in cc bad
       | inr no_room ↦
           let room : ℕ = length end.1.0 in
@@ -125,17 +125,17 @@ decoded b known sure most text d (Err f) at (inr end) =
 pub starts : (b : Base) → IsEncoding b → (sure most : ℕ) (text rest new : List ℕ) (d : DecoderState) → IsNew d → (at : ReadsFront b most text d.octets rest new)
     → Stands b sure most (at.front ++ []) (record { octets = new; group = d.group; error = d.error })
 starts b known sure most text rest new d is at =
-    let len : length at.pieces ≡ length at.front = sym (Name-length b at.front at.pieces at.named) in
-    let made : new ≡ whole b.width at.pieces = at.appended ∙ rw is.0 refl in
+    let len : length at.digits ≡ length at.front = sym (HaveValues-length b at.front at.digits at.valued) in
+    let made : new ≡ whole b.width at.digits = at.appended ∙ rw is.0 refl in
     record {
       quiet = is.2;
-      held = held_within sure most (length at.front) new at.held (λ none. ap length (made ∙ ap (whole b.width) (nil_from_length at.pieces (len ∙ none))) ∙ whole_none b.width);
-      read = subst (λ (g : Group). IsRead b (at.front ++ []) new g.pieces g.padding) (sym is.1) (rw append-nil (record {
+      held = held_within sure most (length at.front) new at.held (λ none. ap length (made ∙ ap (whole b.width) (nil_from_length at.digits (len ∙ none))) ∙ whole_none b.width);
+      read = subst (λ (g : Group). IsRead b (at.front ++ []) new g.digits g.padding) (sym is.1) (rw append-nil (record {
         chars = at.front;
-        front = at.pieces;
+        front = at.digits;
         count = 0;
         spelled = sym (append-nil at.front);
-        named = rw append-nil at.named;
+        valued = rw append-nil at.valued;
         made = made;
         counts = (refl, (numbers b known).some, at.closed);
       }));
@@ -159,7 +159,7 @@ refuses b known sure most text rest d c j r e at push answers is = elim (one_pus
   | inr refused ↦
       let same : Err refused.error ≡ Err e = sym (answers ∙ ap answer refused.stored_is) ∙ is in
       let f : refused.error ≡ e = cc same in
-      let first = first_here (char_error b refused.room) text rest c refused.error (no_cause b known text d.octets d.group.pieces d.group.padding at.read refused.room refused.holds)
+      let first = first_here (char_error b refused.room) text rest c refused.error (no_cause b known text d.octets d.group.digits d.group.padding at.read refused.room refused.holds)
       refused.cause_is in
       record { room = refused.room; is_room = refused.is_room; refused = refusal_first b refused.room (text ++ c ∷ rest) refused.error first ∙ ap Some f }
 ]

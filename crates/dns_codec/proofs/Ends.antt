@@ -7,31 +7,31 @@ use Rattle.std.proofs.lemmas.List.{length-take-le, length-drop, take-append-drop
 use Rattle.dns_codec.specs.Bits.{whole}
 use Rattle.dns_codec.specs.Base.{Base, base64, IsEncoding}
 use Rattle.dns_codec.specs.Errors.{or_else}
-use Rattle.dns_codec.specs.Grammar.{Name, Decodes, may_end}
+use Rattle.dns_codec.specs.Grammar.{HaveValues, Decodes, may_end}
 use Rattle.dns_codec.specs.Group.{may_end_in}
 use Rattle.dns_codec.specs.Outcome.{short_buf_if, octet_count, may_stop, text_end_error, refusal}
 use Rattle.dns_codec.specs.declared.base64.DecodeError.{DecodeError}
 use Rattle.dns_codec.specs.declared.base64.DecodeError.TheVariants.{ShortInput}
 use Rattle.dns_codec.specs.declared.base64.Padding.{Padding}
-use Rattle.dns_codec.specs.declared.base64.Padding.TheVariants.{Absent, Half, Done}
+use Rattle.dns_codec.specs.declared.base64.Padding.TheVariants.{Absent, One, Complete}
 use Rattle.dns_codec.proofs.Numbers.{IsPlain, numbers, kinds}
 use Rattle.dns_codec.proofs.RoundTrip.{last64}
 use Rattle.dns_codec.proofs.Steps.{CountsOf, IsRead, lengths, plain_text, due_is, no_cause, closed_octets}
-use Rattle.dns_codec.proofs.Wholes.{whole-nil, Name-length}
+use Rattle.dns_codec.proofs.Wholes.{whole-nil, HaveValues-length}
 
 -- why the text is refused at its end, and its value where it isn't
-pub record Ended (b : Base) (text octets pieces : List ℕ) (padding : Padding) : Type 0 where
+pub record Ended (b : Base) (text octets digits : List ℕ) (padding : Padding) : Type 0 where
   pub refusal_is : (room : ℕ) → length octets ≤ room
-      → refusal b room text ≡ (if may_end_in b pieces padding then short_buf_if room (length octets + length (whole b.width pieces)) else Some ShortInput)
-  pub decodes : may_end_in b pieces padding ≡ true → Decodes b text (octets ++ whole b.width pieces)
+      → refusal b room text ≡ (if may_end_in b digits padding then short_buf_if room (length octets + length (whole b.width digits)) else Some ShortInput)
+  pub decodes : may_end_in b digits padding ≡ true → Decodes b text (octets ++ whole b.width digits)
 
 pub where_it_ends : (ends : Bool) (x : Option DecodeError) → ends ≡ true → (if ends then x else Some ShortInput) ≡ x
 where_it_ends ends x is = rw is refl
 
 -- whether the text may end there, and its value if so
-record Stop (b : Base) (text octets pieces : List ℕ) (padding : Padding) : Type 0 where
-  same : may_stop b (length text) ≡ may_end_in b pieces padding
-  decodes : may_end_in b pieces padding ≡ true → Decodes b text (octets ++ whole b.width pieces)
+record Stop (b : Base) (text octets digits : List ℕ) (padding : Padding) : Type 0 where
+  same : may_stop b (length text) ≡ may_end_in b digits padding
+  decodes : may_end_in b digits padding ≡ true → Decodes b text (octets ++ whole b.width digits)
 
 stop_plain : (b : Base) → IsEncoding b → IsPlain b → (text os ps : List ℕ) → IsRead b text os ps Absent → Stop b text os ps Absent
 stop_plain b known plain text os ps at =
@@ -46,28 +46,28 @@ stop_plain b known plain text os ps at =
       same = rw plain.unpadded (sym ends_same);
       decodes = λ ends. record {
         chars = text;
-        pieces = at.front ++ ps;
-        named = rw (← all) at at.named;
+        digits = at.front ++ ps;
+        valued = rw (← all) at at.valued;
         count = sym ends_same ∙ rw plain.unpadded at ends;
         spelled = rw (plain.no_marks (length text)) (sym (append-nil text));
-        value_is = closed_octets b known os at.front ps at.chars at.made at.counts.2 at.named;
+        value_is = closed_octets b known os at.front ps at.chars at.made at.counts.2 at.valued;
       };
     }
 
 -- ---- base 64
 
 whole_groups : (ps : List ℕ) (m f n : ℕ) (p : Padding) → CountsOf base64 p (length ps) m f → n ≡ f + length ps + m → (n % 4 == 0) ≡ may_end_in base64 ps p
-whole_groups ps m f n Half c is = let one = c.1 in let two = c.2 in let four = c.3 in ne_eqb (n % 4) 0 (omega arith)
+whole_groups ps m f n One c is = let one = c.1 in let two = c.2 in let four = c.3 in ne_eqb (n % 4) 0 (omega arith)
 whole_groups ps m f n Absent c is = let zero = c.0 in let few = c.1 in let four = c.2 in elim (cases_Bool (length ps == 0)) [
   | inl none ↦ let e : length ps ≡ 0 = eqb-true (length ps) 0 none in rw none (eq-eqb (n % 4) 0 (omega arith))
   | inr some ↦ let d : length ps ≡ 0 → ⊥ = eqb-false (length ps) 0 some in rw some (ne_eqb (n % 4) 0 (omega arith))
 ]
-whole_groups ps m f n Done c is = let none = c.1 in let all = c.4 in rw (eq-eqb (length ps) 0 none) (eq-eqb (n % 4) 0 (omega arith))
+whole_groups ps m f n Complete c is = let none = c.1 in let all = c.4 in rw (eq-eqb (length ps) 0 none) (eq-eqb (n % 4) 0 (omega arith))
 
 closing : (ps : List ℕ) (m f : ℕ) (p : Padding) → CountsOf base64 p (length ps) m f → may_end_in base64 ps p ≡ true → (length ps ≡ 0) × (f % 4 ≡ 1 → ⊥) × ((4 - f % 4) % 4 ≡ m)
-closing ps m f Half c ends = cc ends
+closing ps m f One c ends = cc ends
 closing ps m f Absent c ends = let zero = c.0 in let four = c.2 in (eqb-true (length ps) 0 ends, λ one. omega arith, omega arith)
-closing ps m f Done c ends = let some = c.2 in let few = c.3 in let all = c.4 in (c.1, λ one. omega arith, omega arith)
+closing ps m f Complete c ends = let some = c.2 in let few = c.3 in let all = c.4 in (c.1, λ one. omega arith, omega arith)
 
 stop64 : (text os ps : List ℕ) (p : Padding) → IsRead base64 text os ps p → Stop base64 text os ps p
 stop64 text os ps p at =
@@ -80,8 +80,8 @@ stop64 text os ps p at =
           let long : length at.chars ≡ length at.front = omega (arith, n.chars_are, k.0) in
           record {
             chars = at.chars;
-            pieces = at.front;
-            named = rw (empty, append-nil) at at.named;
+            digits = at.front;
+            valued = rw (empty, append-nil) at at.valued;
             count = last64 (length at.chars % 4) (omega arith) (rw long k.1);
             spelled = rw (long, k.2) at.spelled;
             value_is = rw (empty, whole-nil, append-nil) at.made;
@@ -93,8 +93,8 @@ stop_padded b same = rw same stop64
 
 stop : (b : Base) → IsEncoding b → (text os ps : List ℕ) (p : Padding) → IsRead b text os ps p → Stop b text os ps p
 stop b known text os ps Absent at = elim (kinds b known) [ inl plain ↦ stop_plain b known plain text os ps at | inr same ↦ stop_padded b same text os ps Absent at ]
-stop b known text os ps Half at = stop_padded b at.counts.0 text os ps Half at
-stop b known text os ps Done at = stop_padded b at.counts.0 text os ps Done at
+stop b known text os ps One at = stop_padded b at.counts.0 text os ps One at
+stop b known text os ps Complete at = stop_padded b at.counts.0 text os ps Complete at
 
 pub ended : (b : Base) → IsEncoding b → (text os ps : List ℕ) (p : Padding) → IsRead b text os ps p → Ended b text os ps p
 ended b known text os ps p at =
@@ -111,57 +111,57 @@ ended b known text os ps p at =
 
 pub record ReadOf (b : Base) (text octets : List ℕ) : Type 0 where
   pub made : List ℕ
-  pub pieces : List ℕ
+  pub digits : List ℕ
   pub padding : Padding
-  pub read : IsRead b text made pieces padding
-  pub ends : may_end_in b pieces padding ≡ true
-  pub value_is : octets ≡ made ++ whole b.width pieces
+  pub read : IsRead b text made digits padding
+  pub ends : may_end_in b digits padding ≡ true
+  pub value_is : octets ≡ made ++ whole b.width digits
 
 read_plain : (b : Base) → IsEncoding b → IsPlain b → (text octets : List ℕ) → Decodes b text octets → ReadOf b text octets
 read_plain b known plain text octets d =
     let n = numbers b known in
-    let len = Name-length b d.chars d.pieces d.named in
-    let count : ℕ = length d.pieces in
+    let len = HaveValues-length b d.chars d.digits d.valued in
+    let count : ℕ = length d.digits in
     let m : ℕ = count - count % b.group in
     let rest = n.rest count in
-    let front : length (take m d.pieces) ≡ m = length-take-le m d.pieces (omega arith) in
-    let back : length (drop m d.pieces) ≡ count % b.group = length-drop m d.pieces ∙ omega (arith, rest.1) in
-    let parts : take m d.pieces ++ drop m d.pieces ≡ d.pieces = take-append-drop m d.pieces in
-    let closed : length (take m d.pieces) % b.group ≡ 0 = rw front rest.0 in
-    let same : length (drop m d.pieces) % b.group ≡ length d.chars % b.group =
-    n.place (length (drop m d.pieces)) 0 (length (drop m d.pieces)) (omega arith) n.none (rw back rest.2) ∙ back ∙ ap (λ k. k % b.group) (sym len) in
-    let named : Name b d.chars (take m d.pieces ++ drop m d.pieces) = rw parts d.named in
+    let front : length (take m d.digits) ≡ m = length-take-le m d.digits (omega arith) in
+    let back : length (drop m d.digits) ≡ count % b.group = length-drop m d.digits ∙ omega (arith, rest.1) in
+    let parts : take m d.digits ++ drop m d.digits ≡ d.digits = take-append-drop m d.digits in
+    let closed : length (take m d.digits) % b.group ≡ 0 = rw front rest.0 in
+    let same : length (drop m d.digits) % b.group ≡ length d.chars % b.group =
+    n.place (length (drop m d.digits)) 0 (length (drop m d.digits)) (omega arith) n.none (rw back rest.2) ∙ back ∙ ap (λ k. k % b.group) (sym len) in
+    let valued : HaveValues b d.chars (take m d.digits ++ drop m d.digits) = rw parts d.valued in
     record {
-      made = whole b.width (take m d.pieces);
-      pieces = drop m d.pieces;
+      made = whole b.width (take m d.digits);
+      digits = drop m d.digits;
       padding = Absent;
       read = record {
         chars = d.chars;
-        front = take m d.pieces;
+        front = take m d.digits;
         count = 0;
         spelled = d.spelled ∙ rw (plain.no_marks (length d.chars)) refl;
-        named = named;
+        valued = valued;
         made = refl;
         counts = (refl, rw back rest.2, closed);
       };
       ends = rw plain.unpadded (ap (λ k. list_any (λ r. r == k) b.lasts) same ∙ d.count);
-      value_is = d.value_is ∙ ap (whole b.width) (sym parts) ∙ sym (closed_octets b known _ (take m d.pieces) (drop m d.pieces) d.chars refl closed named);
+      value_is = d.value_is ∙ ap (whole b.width) (sym parts) ∙ sym (closed_octets b known _ (take m d.digits) (drop m d.digits) d.chars refl closed valued);
     }
 
 read64 : (text octets : List ℕ) → Decodes base64 text octets → ReadOf base64 text octets
 read64 text octets d =
-    let len = Name-length base64 d.chars d.pieces d.named in
-    let named : Name base64 d.chars (d.pieces ++ []) = rw append-nil d.named in
-    let value : octets ≡ whole 6 d.pieces ++ whole 6 [] = d.value_is ∙ rw (whole-nil, append-nil) refl in
+    let len = HaveValues-length base64 d.chars d.digits d.valued in
+    let valued : HaveValues base64 d.chars (d.digits ++ []) = rw append-nil d.valued in
+    let value : octets ≡ whole 6 d.digits ++ whole 6 [] = d.value_is ∙ rw (whole-nil, append-nil) refl in
     elim (cases_Bool (length d.chars % 4 == 0)) [
       | inl closed ↦
           let zero : length d.chars % 4 ≡ 0 = eqb-true (length d.chars % 4) 0 closed in
-          let four : length d.pieces % 4 ≡ 0 = omega arith in
+          let four : length d.digits % 4 ≡ 0 = omega arith in
           record {
-            made = whole 6 d.pieces;
-            pieces = [];
+            made = whole 6 d.digits;
+            digits = [];
             padding = Absent;
-            read = record { chars = d.chars; front = d.pieces; count = 0; spelled = rw zero at d.spelled; named = named; made = refl; counts = (refl, omega arith, four) };
+            read = record { chars = d.chars; front = d.digits; count = 0; spelled = rw zero at d.spelled; valued = valued; made = refl; counts = (refl, omega arith, four) };
             ends = refl;
             value_is = value;
           }
@@ -169,15 +169,15 @@ read64 text octets d =
           let some : length d.chars % 4 ≡ 0 → ⊥ = eqb-false (length d.chars % 4) 0 more in
           let two : length d.chars % 4 ≡ 1 → ⊥ = λ one. let bad : false ≡ true = rw one at d.count in cc bad in
           record {
-            made = whole 6 d.pieces;
-            pieces = [];
-            padding = Done;
+            made = whole 6 d.digits;
+            digits = [];
+            padding = Complete;
             read = record {
               chars = d.chars;
-              front = d.pieces;
+              front = d.digits;
               count = (4 - length d.chars % 4) % 4;
               spelled = d.spelled;
-              named = named;
+              valued = valued;
               made = refl;
               counts = (refl, refl, omega arith, omega arith, omega arith);
             };

@@ -7,7 +7,7 @@ use Rattle.dns_codec.specs.Group.{Group, step_from, step}
 use Rattle.dns_codec.specs.Decoding.{DecoderState, PushesAfter}
 use Rattle.dns_codec.specs.declared.base64.DecodeError.{DecodeError}
 use Rattle.dns_codec.specs.declared.base64.Padding.{Padding}
-use Rattle.dns_codec.specs.declared.base64.Padding.TheVariants.{Absent, Half, Done}
+use Rattle.dns_codec.specs.declared.base64.Padding.TheVariants.{Absent, One, Complete}
 
 pub unit_one : (b : Base) → IsEncoding b → nat_lt 1 b.unit ≡ false → b.unit ≡ 1
 unit_one b (inl is) none = ap (λ (x : Base). x.unit) is
@@ -27,11 +27,11 @@ module _ (b : Base) (unpadded : nat_lt 1 b.unit ≡ false) where
   absent_by ps Absent c None is =
       let none : (nat_lt 1 b.unit && nat_le 2 (length ps)) ≡ false = ap (λ (x : Bool). x && nat_le 2 (length ps)) unpadded in
       rw (and_right (c == 61) (nat_lt 1 b.unit && nat_le 2 (length ps)) none) refl
-  absent_by ps Half c o is = cc
-  absent_by ps Done c o is = cc
+  absent_by ps One c o is = cc
+  absent_by ps Complete c o is = cc
 
   absent_step : (g : Group) (c : ℕ) → g.padding ≡ Absent → (step b g c).group.padding ≡ Absent
-  absent_step g c is = absent_by g.pieces g.padding c (value b c) is
+  absent_step g c is = absent_by g.digits g.padding c (value b c) is
 
   pub stays_absent : (sure most : ℕ) (old new : DecoderState) (c : ℕ) (x : Option DecodeError) → old.group.padding ≡ Absent → PushesAfter b sure most x old c new → new.group.padding ≡ Absent
   stays_absent sure most old new c None absent push = ap (λ (g : Group). g.padding) push.group ∙ absent_step old.group c absent

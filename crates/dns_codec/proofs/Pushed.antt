@@ -7,7 +7,7 @@ use Rattle.std.proofs.lemmas.Bool.{cases_Bool, eqb-true, eqb-false}
 use Rattle.std.proofs.lemmas.List.{reverse-append}
 use Rattle.dns_codec.specs.Base.{Base, base16, base32hex, value, IsEncoding}
 use Rattle.dns_codec.specs.Errors.{or_else}
-use Rattle.dns_codec.specs.Grammar.{Name}
+use Rattle.dns_codec.specs.Grammar.{HaveValues}
 use Rattle.dns_codec.specs.Group.{Group, Step, refused, step_other, step_in, step_from, step}
 use Rattle.dns_codec.specs.Decoding.{DecoderState, IsNew, PushesAfter, Pushes, Runs, short, end_error, Ends}
 use Rattle.dns_codec.specs.Outcome.{short_buf_if, grouped, char_error, first_char_error, last_illegal, legal_count, stored_by, stored, refusal, pushed_refusal, Outcome, IsPushed}
@@ -15,17 +15,17 @@ use Rattle.dns_codec.specs.Room.{IsRoom}
 use Rattle.dns_codec.specs.declared.base64.DecodeError.{DecodeError}
 use Rattle.dns_codec.specs.declared.base64.DecodeError.TheVariants.{IllegalChar}
 use Rattle.dns_codec.specs.declared.base64.Padding.{Padding}
-use Rattle.dns_codec.specs.declared.base64.Padding.TheVariants.{Absent, Half, Done}
+use Rattle.dns_codec.specs.declared.base64.Padding.TheVariants.{Absent, One, Complete}
 use Rattle.dns_codec.proofs.Causes.{cases_error, want_enough, want_more, first_here, first_char_error-append, find_last, find_before, find_none_append, count_by-append}
 use Rattle.dns_codec.proofs.Decoders.{Stands, any_room, one_push, decoded}
 use Rattle.dns_codec.proofs.Marks.{legal, illegal}
 use Rattle.dns_codec.proofs.Numbers.{IsPlain, plain16, numbers, kinds, is_padded}
 use Rattle.dns_codec.proofs.Steps.{IsRead, lengths, plain_text, read_none, no_cause}
-use Rattle.dns_codec.proofs.Wholes.{Name-push}
+use Rattle.dns_codec.proofs.Wholes.{HaveValues-push}
 
 -- ---- steps of base 16 and base32hex
 
--- the error of a step, by the piece that its character names
+-- the error of a step, by the digit that its character names
 abbrev illegal_in : ℕ → Option ℕ → Option DecodeError
 illegal_in c None = Some (IllegalChar c)
 illegal_in c (Some v) = None
@@ -49,7 +49,7 @@ module _ (b : Base) (known : IsEncoding b) (plain : IsPlain b) where
 
   -- the characters of the alphabet are counted
   step_count : (text ps : List ℕ) (c : ℕ) (o : Option ℕ) → value b c ≡ o → length ps ≡ legal_count b text % b.group
-      → ((step_in b ps c o).group.padding ≡ Absent) × (length (step_in b ps c o).group.pieces ≡ legal_count b (text ++ c ∷ []) % b.group)
+      → ((step_in b ps c o).group.padding ≡ Absent) × (length (step_in b ps c o).group.digits ≡ legal_count b (text ++ c ∷ []) % b.group)
   step_count text ps c None is count =
       let same : legal_count b (text ++ c ∷ []) ≡ legal_count b text + 0 = count_by-append (λ c. is_some (value b c)) text (c ∷ []) ∙ rw is refl in
       let plus : legal_count b text + 0 ≡ legal_count b text = omega arith in
@@ -80,31 +80,31 @@ module _ (b : Base) (known : IsEncoding b) (plain : IsPlain b) where
       → j.error ≡ or_else (illegal_in c (value b c)) (Some e)
   later_error sure most d c j e absent is push =
       ap (λ (k : DecoderState). k.error) (later_push sure most d.error d c j e is push)
-      ∙ ap (λ (p : Padding). or_else (step_from b d.group.pieces p c (value b c)).error (Some e)) absent
-      ∙ ap (λ (x : Option DecodeError). or_else x (Some e)) (step_error d.group.pieces c (value b c))
+      ∙ ap (λ (p : Padding). or_else (step_from b d.group.digits p c (value b c)).error (Some e)) absent
+      ∙ ap (λ (x : Option DecodeError). or_else x (Some e)) (step_error d.group.digits c (value b c))
 
   push_group : (sure most : ℕ) (x : Option DecodeError) (d : DecoderState) (c : ℕ) (j : DecoderState) → PushesAfter b sure most x d c j → j.group ≡ (step b d.group c).group
   push_group sure most None d c j push = push.group
   push_group sure most (Some e) d c j push = ap (λ (k : DecoderState). k.group) (later_push sure most (Some e) d c j e refl push)
 
   push_count : (sure most : ℕ) (text : List ℕ) (d : DecoderState) (c : ℕ) (j : DecoderState) → Pushes b sure most d c j → d.group.padding ≡ Absent
-      → length d.group.pieces ≡ legal_count b text % b.group
-      → (j.group.padding ≡ Absent) × (length j.group.pieces ≡ legal_count b (text ++ c ∷ []) % b.group)
+      → length d.group.digits ≡ legal_count b text % b.group
+      → (j.group.padding ≡ Absent) × (length j.group.digits ≡ legal_count b (text ++ c ∷ []) % b.group)
   push_count sure most text d c j push absent count =
-      subst (λ (g : Group). (g.padding ≡ Absent) × (length g.pieces ≡ legal_count b (text ++ c ∷ []) % b.group)) (sym (push_group sure most d.error d c j push))
-      (subst (λ (p : Padding). let g = (step_from b d.group.pieces p c (value b c)).group in (g.padding ≡ Absent) × (length g.pieces ≡ legal_count b (text ++ c ∷ []) % b.group)) (sym absent)
-      (step_count text d.group.pieces c (value b c) refl count))
+      subst (λ (g : Group). (g.padding ≡ Absent) × (length g.digits ≡ legal_count b (text ++ c ∷ []) % b.group)) (sym (push_group sure most d.error d c j push))
+      (subst (λ (p : Padding). let g = (step_from b d.group.digits p c (value b c)).group in (g.padding ≡ Absent) × (length g.digits ≡ legal_count b (text ++ c ∷ []) % b.group)) (sym absent)
+      (step_count text d.group.digits c (value b c) refl count))
 
   -- ---- their texts
 
-  none_illegal : (text ps : List ℕ) → Name b text ps → last_illegal b text ≡ None
+  none_illegal : (text ps : List ℕ) → HaveValues b text ps → last_illegal b text ≡ None
   none_illegal [] ps n = refl
   none_illegal (c ∷ cs) [] n = absurd n
   none_illegal (c ∷ cs) (p ∷ ps) n =
       let alone : find (λ x. is_none (value b x)) (c ∷ []) ≡ None = rw n.0 refl in
       rw (reverse-append (c ∷ []) cs) (find_none_append (λ x. is_none (value b x)) (reverse cs) (c ∷ []) (none_illegal cs ps n.1) alone)
 
-  pub all_legal : (text ps : List ℕ) → Name b text ps → legal_count b text ≡ length text
+  pub all_legal : (text ps : List ℕ) → HaveValues b text ps → legal_count b text ≡ length text
   all_legal [] ps n = refl
   all_legal (c ∷ cs) [] n = absurd n
   all_legal (c ∷ cs) (p ∷ ps) n =
@@ -115,26 +115,26 @@ module _ (b : Base) (known : IsEncoding b) (plain : IsPlain b) where
   -- nothing is padded
   pub read_plain : (text os ps : List ℕ) (p : Padding) → IsRead b text os ps p → (p ≡ Absent) × IsRead b text os ps Absent
   read_plain text os ps Absent at = (refl, at)
-  read_plain text os ps Half at = let bad : true ≡ false = sym (is_padded b at.counts.0).0 ∙ plain.unpadded in cc bad
-  read_plain text os ps Done at = let bad : true ≡ false = sym (is_padded b at.counts.0).0 ∙ plain.unpadded in cc bad
+  read_plain text os ps One at = let bad : true ≡ false = sym (is_padded b at.counts.0).0 ∙ plain.unpadded in cc bad
+  read_plain text os ps Complete at = let bad : true ≡ false = sym (is_padded b at.counts.0).0 ∙ plain.unpadded in cc bad
 
-  pub text_named : (text os ps : List ℕ) → (at : IsRead b text os ps Absent) → Name b text (at.front ++ ps)
-  text_named text os ps at = rw (← plain_text b text os ps at) at at.named
+  pub text_valued : (text os ps : List ℕ) → (at : IsRead b text os ps Absent) → HaveValues b text (at.front ++ ps)
+  text_valued text os ps at = rw (← plain_text b text os ps at) at at.valued
 
   stored_last : (room : ℕ) (text : List ℕ) → stored b room text ≡ stored_by b room (length text) (last_illegal b text)
   stored_last room text = ap (λ (x : Bool). if x then first_char_error (char_error b room) [] text else stored_by b room (length text) (last_illegal b text)) plain.goes_on
 
-  pub legal_stored : (room : ℕ) (text ps : List ℕ) → Name b text ps → stored b room text ≡ short_buf_if room (grouped b (length text))
+  pub legal_stored : (room : ℕ) (text ps : List ℕ) → HaveValues b text ps → stored b room text ≡ short_buf_if room (grouped b (length text))
   legal_stored room text ps n = stored_last room text ∙ ap (stored_by b room (length text)) (none_illegal text ps n)
 
-  stored_now : (room : ℕ) (text ps : List ℕ) (c : ℕ) (e : DecodeError) (o : Option ℕ) → value b c ≡ o → Name b text ps → char_error b room text c ≡ Some e → stored b room (text ++ c ∷ []) ≡ Some e
-  stored_now room text ps c e None is named why =
+  stored_now : (room : ℕ) (text ps : List ℕ) (c : ℕ) (e : DecodeError) (o : Option ℕ) → value b c ≡ o → HaveValues b text ps → char_error b room text c ≡ Some e → stored b room (text ++ c ∷ []) ≡ Some e
+  stored_now room text ps c e None is valued why =
       let hit : is_none (value b c) ≡ true = rw is refl in
       stored_last room (text ++ c ∷ []) ∙ ap (stored_by b room (length (text ++ c ∷ []))) (find_last (λ x. is_none (value b x)) text c hit)
-      ∙ sym (illegal b known room text ps c named is (plain_test c (length text % b.group))) ∙ why
-  stored_now room text ps c e (Some v) is named why =
+      ∙ sym (illegal b known room text ps c valued is (plain_test c (length text % b.group))) ∙ why
+  stored_now room text ps c e (Some v) is valued why =
       let len = length-append text (c ∷ []) in
-      legal_stored room (text ++ c ∷ []) (ps ++ v ∷ []) (Name-push b text ps c v named is) ∙ ap (λ n. short_buf_if room (grouped b n)) len ∙ sym (legal b known room text ps c v named is) ∙ why
+      legal_stored room (text ++ c ∷ []) (ps ++ v ∷ []) (HaveValues-push b text ps c v valued is) ∙ ap (λ n. short_buf_if room (grouped b n)) len ∙ sym (legal b known room text ps c v valued is) ∙ why
 
   stored_more : (room : ℕ) (text : List ℕ) (c : ℕ) (e : DecodeError) (o : Option ℕ) → stored_by b room (length text) o ≡ Some e → stored_by b room (length (text ++ c ∷ [])) o ≡ Some e
   stored_more room text c e (Some d) held = held
@@ -227,7 +227,7 @@ stored_none b known text os ps p at room le = elim (kinds b known) [
       let n = lengths b text os ps Absent alone in
       let len : length text ≡ length alone.front + length ps = ap length (plain_text b text os ps alone) ∙ n.chars_are in
       let fits : grouped b (length text) ≡ length os = (numbers b known).grouped_at (length text) (length alone.front) (length ps) len alone.counts.2 alone.counts.1 ∙ sym n.octets_are in
-      legal_stored b known plain room text (alone.front ++ ps) (text_named b known plain text os ps alone) ∙ want_enough room (grouped b (length text)) (rw fits le)
+      legal_stored b known plain room text (alone.front ++ ps) (text_valued b known plain text os ps alone) ∙ want_enough room (grouped b (length text)) (rw fits le)
   | inr same ↦ stored_first b room text (is_padded b same).1 ∙ no_cause b known text os ps p at room le
 ]
 
@@ -236,7 +236,7 @@ stored_here : (b : Base) → IsEncoding b → (text os ps : List ℕ) (p : Paddi
 stored_here b known text os ps p c e at room le why = elim (kinds b known) [
   | inl plain ↦
       let alone = (read_plain b known plain text os ps p at).1 in
-      stored_now b known plain room text (alone.front ++ ps) c e (value b c) refl (text_named b known plain text os ps alone) why
+      stored_now b known plain room text (alone.front ++ ps) c e (value b c) refl (text_valued b known plain text os ps alone) why
   | inr same ↦ stored_first b room (text ++ c ∷ []) (is_padded b same).1 ∙ first_here (char_error b room) text [] c e (no_cause b known text os ps p at room le) why
 ]
 
@@ -248,14 +248,14 @@ pub record Reached (b : Base) (sure most : ℕ) (text : List ℕ) (d : DecoderSt
   pub is_room : IsRoom sure most room
   pub stored_is : d.error ≡ stored b room text
   pub stands : d.error ≡ None → Stands b sure most text d
-  pub counted : IsPlain b → (d.group.padding ≡ Absent) × (length d.group.pieces ≡ legal_count b text % b.group)
+  pub counted : IsPlain b → (d.group.padding ≡ Absent) × (length d.group.digits ≡ legal_count b text % b.group)
 
 stands_reached : (b : Base) → IsEncoding b → (sure most : ℕ) (text : List ℕ) (d : DecoderState) → Stands b sure most text d
-    → (IsPlain b → (d.group.padding ≡ Absent) × (length d.group.pieces ≡ legal_count b text % b.group)) → Reached b sure most text d
+    → (IsPlain b → (d.group.padding ≡ Absent) × (length d.group.digits ≡ legal_count b text % b.group)) → Reached b sure most text d
 stands_reached b known sure most text d at counted = record {
   room = max sure most;
   is_room = any_room sure most;
-  stored_is = at.quiet ∙ sym (stored_none b known text d.octets d.group.pieces d.group.padding at.read (max sure most) at.held);
+  stored_is = at.quiet ∙ sym (stored_none b known text d.octets d.group.digits d.group.padding at.read (max sure most) at.held);
   stands = λ none. at;
   counted = counted;
 }
@@ -281,7 +281,7 @@ stays b known sure most room text d c j e absent is held push = elim (kinds b kn
 reach_push : (b : Base) → IsEncoding b → (sure most : ℕ) (text : List ℕ) (d : DecoderState) (c : ℕ) (j : DecoderState) → Reached b sure most text d → Pushes b sure most d c j
     → Reached b sure most (text ++ c ∷ []) j
 reach_push b known sure most text d c j at push =
-    let counted : IsPlain b → (j.group.padding ≡ Absent) × (length j.group.pieces ≡ legal_count b (text ++ c ∷ []) % b.group) =
+    let counted : IsPlain b → (j.group.padding ≡ Absent) × (length j.group.digits ≡ legal_count b (text ++ c ∷ []) % b.group) =
     λ plain. push_count b known plain sure most text d c j push (at.counted plain).0 (at.counted plain).1 in
     elim (cases_error d.error) [
       | inl none ↦
@@ -291,7 +291,7 @@ reach_push b known sure most text d c j at push =
             | inr r ↦ record {
               room = r.room;
               is_room = r.is_room;
-              stored_is = r.stored_is ∙ sym (stored_here b known text d.octets d.group.pieces d.group.padding c r.error stands.read r.room r.holds r.cause_is);
+              stored_is = r.stored_is ∙ sym (stored_here b known text d.octets d.group.digits d.group.padding c r.error stands.read r.room r.holds r.cause_is);
               stands = λ quiet. let bad : Some r.error ≡ None = sym r.stored_is ∙ quiet in cc bad;
               counted = counted;
             }
@@ -319,9 +319,9 @@ new_reached b known sure most d new =
     (record {
       quiet = new.2;
       held = omega arith;
-      read = subst (λ (os : List ℕ). IsRead b [] os d.group.pieces d.group.padding) (sym new.0) (subst (λ (g : Group). IsRead b [] [] g.pieces g.padding) (sym new.1) (read_none b known));
+      read = subst (λ (os : List ℕ). IsRead b [] os d.group.digits d.group.padding) (sym new.0) (subst (λ (g : Group). IsRead b [] [] g.digits g.padding) (sym new.1) (read_none b known));
     })
-    (λ plain. (ap (λ (g : Group). g.padding) new.1, ap (λ (g : Group). length g.pieces) new.1 ∙ sym (numbers b known).none))
+    (λ plain. (ap (λ (g : Group). g.padding) new.1, ap (λ (g : Group). length g.digits) new.1 ∙ sym (numbers b known).none))
 
 -- ---- the end
 
@@ -331,7 +331,7 @@ same16 text os ps p at room le =
     let alone = (read_plain base16 known plain16 text os ps p at).1 in
     let n = lengths base16 text os ps Absent alone in
     let len : length text ≡ length alone.front + length ps = ap length (plain_text base16 text os ps alone) ∙ n.chars_are in
-    let legal = all_legal base16 known plain16 text (alone.front ++ ps) (text_named base16 known plain16 text os ps alone) in
+    let legal = all_legal base16 known plain16 text (alone.front ++ ps) (text_valued base16 known plain16 text os ps alone) in
     let first = no_cause base16 known text os ps p at room le in
     let made = n.octets_are in
     let closed = alone.counts.2 in
@@ -358,24 +358,24 @@ same_refusal b (inl is) = rw is same16
 same_refusal b (inr (inl is)) = rw is same32
 same_refusal b (inr (inr is)) = rw is (λ text os ps p at room le. refl)
 
-stored_end16 : (room : ℕ) (text : List ℕ) (k : DecoderState) (e : DecodeError) → k.group.padding ≡ Absent → length k.group.pieces ≡ legal_count base16 text % 2 → k.error ≡ Some e
+stored_end16 : (room : ℕ) (text : List ℕ) (k : DecoderState) (e : DecodeError) → k.group.padding ≡ Absent → length k.group.digits ≡ legal_count base16 text % 2 → k.error ≡ Some e
     → stored base16 room text ≡ Some e
     → pushed_refusal base16 room text ≡ end_error base16 k
 stored_end16 room text k e absent count is held = elim (cases_Bool (legal_count base16 text % 2 == 0)) [
   | inl even ↦
       let zero : legal_count base16 text % 2 ≡ 0 = eqb-true (legal_count base16 text % 2) 0 even in
-      let size : length k.group.pieces ≡ 0 = count ∙ zero in
+      let size : length k.group.digits ≡ 0 = count ∙ zero in
       rw (zero, absent, size, is) held
   | inr odd ↦
       let other : legal_count base16 text % 2 ≡ 0 → ⊥ = eqb-false (legal_count base16 text % 2) 0 odd in
       let one : legal_count base16 text % 2 ≡ 1 = omega arith in
-      let size : length k.group.pieces ≡ 1 = count ∙ one in
+      let size : length k.group.digits ≡ 1 = count ∙ one in
       rw (one, absent, size) refl
 ]
 
 -- the end of a text that left an error
 stored_end : (b : Base) → IsEncoding b → (room : ℕ) (text : List ℕ) (k : DecoderState) (e : DecodeError)
-    → (IsPlain b → (k.group.padding ≡ Absent) × (length k.group.pieces ≡ legal_count b text % b.group)) → k.error ≡ Some e
+    → (IsPlain b → (k.group.padding ≡ Absent) × (length k.group.digits ≡ legal_count b text % b.group)) → k.error ≡ Some e
     → stored b room text ≡ Some e → pushed_refusal b room text ≡ end_error b k
 stored_end b (inl is) = rw is (λ room text k e counted some held.
     let c = counted plain16 in
@@ -394,8 +394,8 @@ pushed b known sure most h k text r new run end =
           record {
             room = o.0;
             is_room = o.1;
-            stored_is = none ∙ sym (stored_none b known text k.octets k.group.pieces k.group.padding stands.read o.0 o.2);
-            outcome = subst (λ (x : Option DecodeError). Outcome b text x r) (sym (same_refusal b known text k.octets k.group.pieces k.group.padding stands.read o.0 o.2)) o.3;
+            stored_is = none ∙ sym (stored_none b known text k.octets k.group.digits k.group.padding stands.read o.0 o.2);
+            outcome = subst (λ (x : Option DecodeError). Outcome b text x r) (sym (same_refusal b known text k.octets k.group.digits k.group.padding stands.read o.0 o.2)) o.3;
           }
       | inr some ↦ record {
         room = at.room;

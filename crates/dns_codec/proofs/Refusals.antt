@@ -6,7 +6,7 @@ use Rattle.std.proofs.lemmas.Bool.{cases_Bool, ltb-false}
 use Rattle.dns_codec.specs.Bits.{whole}
 use Rattle.dns_codec.specs.Base.{Base, base16, base32hex, value, IsEncoding}
 use Rattle.dns_codec.specs.Errors.{or_else}
-use Rattle.dns_codec.specs.Grammar.{Name, Decodes, may_end}
+use Rattle.dns_codec.specs.Grammar.{HaveValues, Decodes, may_end}
 use Rattle.dns_codec.specs.Group.{Step, step_from, may_end_in}
 use Rattle.dns_codec.specs.Outcome.{short_buf_if, char_error, legal_count, stored, refusal, pushed_refusal}
 use Rattle.dns_codec.specs.declared.base64.DecodeError.{DecodeError}
@@ -24,11 +24,11 @@ use Rattle.dns_codec.proofs.Steps.{IsRead, read_none, no_cause, stepped}
 pub reads : (b : Base) → IsEncoding b → (text octets : List ℕ) (room : ℕ) → Decodes b text octets → length octets ≤ room → (refusal b room text ≡ None) × (pushed_refusal b room text ≡ None)
 reads b known text octets room d le =
     let r = read_of b known text octets d in
-    let sum : length r.made + length (whole b.width r.pieces) ≡ length octets = sym (ap length r.value_is ∙ length-append r.made (whole b.width r.pieces)) in
+    let sum : length r.made + length (whole b.width r.digits) ≡ length octets = sym (ap length r.value_is ∙ length-append r.made (whole b.width r.digits)) in
     let fits : length r.made ≤ room = omega arith in
     let is : refusal b room text ≡ None =
-    (ended b known text r.made r.pieces r.padding r.read).refusal_is room fits ∙ where_it_ends _ _ r.ends ∙ want_enough room _ (rw sum le) in
-    (is, same_refusal b known text r.made r.pieces r.padding r.read room fits ∙ is)
+    (ended b known text r.made r.digits r.padding r.read).refusal_is room fits ∙ where_it_ends _ _ r.ends ∙ want_enough room _ (rw sum le) in
+    (is, same_refusal b known text r.made r.digits r.padding r.read room fits ∙ is)
 
 -- ---- and only such a text isn't
 
@@ -67,7 +67,7 @@ module _ (b : Base) (known : IsEncoding b) (room : ℕ) where
       let s : Step = step_from b ps p c (value b c) in
       let next = stepped b known text os ps p c at in
       let both = both_none (short_buf_if room (length os + length s.octets)) s.error (sym (next.cause_is room le) ∙ unrefused_next text os ps cs p c at le e) in
-      rw append_assoc at (unrefused_from (text ++ c ∷ []) cs (os ++ s.octets) s.group.pieces s.group.padding (next.goes_on both.1) (rw length-append (want_fits room _ both.0)) (rw append_assoc e))
+      rw append_assoc at (unrefused_from (text ++ c ∷ []) cs (os ++ s.octets) s.group.digits s.group.padding (next.goes_on both.1) (rw length-append (want_fits room _ both.0)) (rw append_assoc e))
 
 pub unrefused : (b : Base) → IsEncoding b → (text : List ℕ) (room : ℕ) → refusal b room text ≡ None → (octets : List ℕ) × Decodes b text octets × (length octets ≤ room)
 unrefused b known text room e = unrefused_from b known room [] text [] [] Absent (read_none b known) (omega arith) e
@@ -95,7 +95,7 @@ module _ (b : Base) (known : IsEncoding b) (room wide : ℕ) (e : DecodeError) w
       let here : char_error b room text c ≡ short_buf_if room (length os + length s.octets) =
       next.cause_is room le ∙ ap (or_else (short_buf_if room (length os + length s.octets))) both.1 ∙ or_else_none _ in
       elim (cases_error (short_buf_if room (length os + length s.octets))) [
-        | inl fits ↦ wants_from (text ++ c ∷ []) cs (os ++ s.octets) s.group.pieces s.group.padding (next.goes_on both.1)
+        | inl fits ↦ wants_from (text ++ c ∷ []) cs (os ++ s.octets) s.group.digits s.group.padding (next.goes_on both.1)
             (rw length-append (want_fits room _ fits)) (rw length-append (want_fits wide _ both.0)) (rw append_assoc none) (rw append_assoc is)
         | inr short ↦
             let first = first_here (char_error b room) text cs c short.0 (no_cause b known text os ps p at room le) (here ∙ short.1) in
@@ -105,20 +105,20 @@ module _ (b : Base) (known : IsEncoding b) (room wide : ℕ) (e : DecodeError) w
       ]
 
 -- in base 16 and base32hex, a text of the grammar is characters of the alphabet, as many as whole octets need
-decodes_named : (b : Base) → IsPlain b → (text octets : List ℕ) → Decodes b text octets → (ps : List ℕ) × Name b text ps × (may_end b (length text) ≡ true)
-decodes_named b plain text octets d =
+decodes_valued : (b : Base) → IsPlain b → (text octets : List ℕ) → Decodes b text octets → (ps : List ℕ) × HaveValues b text ps × (may_end b (length text) ≡ true)
+decodes_valued b plain text octets d =
     let all : text ≡ d.chars = d.spelled ∙ rw (plain.no_marks (length d.chars)) (append-nil d.chars) in
-    (d.pieces, rw all d.named, rw all d.count)
+    (d.digits, rw all d.valued, rw all d.count)
 
 pushed_wants16 : (text octets : List ℕ) (room : ℕ) (e : DecodeError) → Decodes base16 text octets → pushed_refusal base16 room text ≡ Some e → e ≡ ShortBuf
 pushed_wants16 text octets room e d is =
-    let n = decodes_named base16 plain16 text octets d in
+    let n = decodes_valued base16 plain16 text octets d in
     let ends : may_end base16 (legal_count base16 text) ≡ true = rw (all_legal base16 (inl refl) plain16 text n.0 n.1) n.2 in
     want_is room _ e (sym (legal_stored base16 (inl refl) plain16 room text n.0 n.1) ∙ rw ends at is)
 
 pushed_wants32 : (text octets : List ℕ) (room : ℕ) (e : DecodeError) → Decodes base32hex text octets → pushed_refusal base32hex room text ≡ Some e → e ≡ ShortBuf
 pushed_wants32 text octets room e d is =
-    let n = decodes_named base32hex plain32 text octets d in
+    let n = decodes_valued base32hex plain32 text octets d in
     elim (cases_error (stored base32hex room text)) [
       | inl enough ↦ want_is room _ e (rw (enough, n.2) at is)
       | inr some ↦

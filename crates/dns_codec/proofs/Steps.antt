@@ -7,33 +7,33 @@ use Rattle.std.proofs.lemmas.List.{length-replicate}
 use Rattle.dns_codec.specs.Bits.{whole}
 use Rattle.dns_codec.specs.Base.{Base, base64, value, IsEncoding}
 use Rattle.dns_codec.specs.Errors.{or_else}
-use Rattle.dns_codec.specs.Grammar.{Name}
-use Rattle.dns_codec.specs.Group.{Step, step_piece, step_other, step_half, step_from}
+use Rattle.dns_codec.specs.Grammar.{HaveValues}
+use Rattle.dns_codec.specs.Group.{Step, step_digit, step_other, step_after_one, step_from}
 use Rattle.dns_codec.specs.Outcome.{short_buf_if, grouped, pad_count, octet_count, char_error, first_char_error}
 use Rattle.dns_codec.specs.declared.base64.DecodeError.{DecodeError}
 use Rattle.dns_codec.specs.declared.base64.DecodeError.TheVariants.{IllegalChar, TrailingInput}
 use Rattle.dns_codec.specs.declared.base64.Padding.{Padding}
-use Rattle.dns_codec.specs.declared.base64.Padding.TheVariants.{Absent, Half, Done}
+use Rattle.dns_codec.specs.declared.base64.Padding.TheVariants.{Absent, One, Complete}
 use Rattle.dns_codec.proofs.Causes.{cases_value, or_else_none, want_enough}
-use Rattle.dns_codec.proofs.Marks.{marks-spelled, legal, illegal, chars_none, mark_two, mark_three, mark_half, mark_done, half_none, one_none, two_none}
+use Rattle.dns_codec.proofs.Marks.{marks-spelled, legal, illegal, chars_none, mark_two, mark_three, mark_one, mark_complete, after_one_none, one_none, two_none}
 use Rattle.dns_codec.proofs.Numbers.{numbers, kinds, is_padded}
-use Rattle.dns_codec.proofs.Wholes.{length-whole, whole-nil, whole-append, Name-below, Name-push, Name-length, below_front}
+use Rattle.dns_codec.proofs.Wholes.{length-whole, whole-nil, whole-append, HaveValues-below, HaveValues-push, HaveValues-length, below_front}
 
--- how many pieces are open, how many `=` came, and how many pieces stand in front
+-- how many digits are open, how many `=` came, and how many digits stand in front
 abbrev pub CountsOf : Base → Padding → ℕ → ℕ → ℕ → Type 0
 CountsOf b Absent g m f = (m ≡ 0) × (g < b.group) × (f % b.group ≡ 0)
-CountsOf b Half g m f = (b ≡ base64) × (m ≡ 1) × (g ≡ 2) × (f % b.group ≡ 0)
-CountsOf b Done g m f = (b ≡ base64) × (g ≡ 0) × (1 ≤ m) × (m ≤ 2) × (f % 4 + m ≡ 4)
+CountsOf b One g m f = (b ≡ base64) × (m ≡ 1) × (g ≡ 2) × (f % b.group ≡ 0)
+CountsOf b Complete g m f = (b ≡ base64) × (g ≡ 0) × (1 ≤ m) × (m ≤ 2) × (f % 4 + m ≡ 4)
 
 -- the octets that a text without a cause has made, and the group that is open after it
-pub record IsRead (b : Base) (text octets pieces : List ℕ) (padding : Padding) : Type 0 where
+pub record IsRead (b : Base) (text octets digits : List ℕ) (padding : Padding) : Type 0 where
   pub chars : List ℕ
   pub front : List ℕ
   pub count : ℕ
   pub spelled : text ≡ chars ++ replicate count 61
-  pub named : Name b chars (front ++ pieces)
+  pub valued : HaveValues b chars (front ++ digits)
   pub made : octets ≡ whole b.width front
-  pub counts : CountsOf b padding (length pieces) count (length front)
+  pub counts : CountsOf b padding (length digits) count (length front)
 
 pub read_none : (b : Base) → IsEncoding b → IsRead b [] [] [] Absent
 read_none b known = record {
@@ -41,7 +41,7 @@ read_none b known = record {
   front = [];
   count = 0;
   spelled = refl;
-  named = tt;
+  valued = tt;
   made = sym (whole-nil b.width);
   counts = (refl, (numbers b known).some, (numbers b known).none);
 }
@@ -54,7 +54,7 @@ pub record Lengths (b : Base) (text octets chars : List ℕ) (g m f : ℕ) : Typ
 
 pub lengths : (b : Base) (text os ps : List ℕ) (p : Padding) → (at : IsRead b text os ps p) → Lengths b text os at.chars (length ps) at.count (length at.front)
 lengths b text os ps p at =
-    let len : length at.chars ≡ length at.front + length ps = Name-length b at.chars (at.front ++ ps) at.named ∙ length-append at.front ps in
+    let len : length at.chars ≡ length at.front + length ps = HaveValues-length b at.chars (at.front ++ ps) at.valued ∙ length-append at.front ps in
     let sum : length text ≡ length at.chars + at.count = ap length at.spelled ∙ (length-append at.chars (replicate at.count 61) ∙ ap (λ n. length at.chars + n) (length-replicate at.count 61)) in
     record { text_is = omega arith; chars_are = len; octets_are = ap length at.made ∙ length-whole b.width at.front }
 
@@ -64,14 +64,14 @@ plain_text b text os ps at = let none = at.counts.0 in rw (none, append-nil) at 
 
 pub marked : (b : Base) → IsEncoding b → (text os ps : List ℕ) (p : Padding) → (at : IsRead b text os ps p) → pad_count b text ≡ at.count
 marked b known text os ps p at = elim (cases_Bool (nat_lt 1 b.unit)) [
-  | inl padded ↦ ap (pad_count b) at.spelled ∙ marks-spelled b known at.chars (at.front ++ ps) at.count at.named padded
+  | inl padded ↦ ap (pad_count b) at.spelled ∙ marks-spelled b known at.chars (at.front ++ ps) at.count at.valued padded
   | inr plain ↦ rw plain (sym (none p at.counts plain))
 ]
   where
     none : (p : Padding) → CountsOf b p (length ps) at.count (length at.front) → nat_lt 1 b.unit ≡ false → at.count ≡ 0
     none Absent c plain = c.0
-    none Half c plain = let bad : true ≡ false = sym (is_padded b c.0).0 ∙ plain in cc bad
-    none Done c plain = let bad : true ≡ false = sym (is_padded b c.0).0 ∙ plain in cc bad
+    none One c plain = let bad : true ≡ false = sym (is_padded b c.0).0 ∙ plain in cc bad
+    none Complete c plain = let bad : true ≡ false = sym (is_padded b c.0).0 ∙ plain in cc bad
 
 -- the whole octets of its characters
 pub due_is : (b : Base) → IsEncoding b → (text os ps : List ℕ) (p : Padding) → IsRead b text os ps p → (octet_count b text ≡ length os + length (whole b.width ps))
@@ -82,27 +82,27 @@ due_is b known text os ps p at =
   where
     sum : (p : Padding) → CountsOf b p (length ps) at.count (length at.front) → length at.front * b.width / 8 + length ps * b.width / 8 ≡ (length at.front + length ps) * b.width / 8
     sum Absent c = (numbers b known).sum (length at.front) (length ps) c.2
-    sum Half c = (numbers b known).sum (length at.front) (length ps) c.3
-    sum Done c =
+    sum One c = (numbers b known).sum (length at.front) (length ps) c.3
+    sum Complete c =
         let e : length at.front + 0 ≡ length at.front = omega arith in
         let none : 0 * b.width / 8 ≡ 0 = omega arith in
         rw (c.1, e, none) (omega arith)
 
 -- ---- a text that is read has no cause
 
-half64_none : (text os ps : List ℕ) → IsRead base64 text os ps Half → (room : ℕ) → length os ≤ room → first_char_error (char_error base64 room) [] text ≡ None
+half64_none : (text os ps : List ℕ) → IsRead base64 text os ps One → (room : ℕ) → length os ≤ room → first_char_error (char_error base64 room) [] text ≡ None
 half64_none text os ps at room le =
-    let n = lengths base64 text os ps Half at in
+    let n = lengths base64 text os ps One at in
     let long = n.chars_are in
     let made = n.octets_are in
     let two = at.counts.2 in
     let four = at.counts.3 in
     let spelled : text ≡ at.chars ++ 61 ∷ [] = rw at.counts.1 at at.spelled in
-    rw spelled (half_none room at.chars (at.front ++ ps) at.named (omega arith) (omega arith))
+    rw spelled (after_one_none room at.chars (at.front ++ ps) at.valued (omega arith) (omega arith))
 
-done64_none : (text os ps : List ℕ) → IsRead base64 text os ps Done → (room : ℕ) → length os ≤ room → first_char_error (char_error base64 room) [] text ≡ None
+done64_none : (text os ps : List ℕ) → IsRead base64 text os ps Complete → (room : ℕ) → length os ≤ room → first_char_error (char_error base64 room) [] text ≡ None
 done64_none text os ps at room le =
-    let n = lengths base64 text os ps Done at in
+    let n = lengths base64 text os ps Complete at in
     let long = n.chars_are in
     let made = n.octets_are in
     let none = at.counts.1 in
@@ -112,18 +112,18 @@ done64_none text os ps at room le =
       | inl single ↦
           let one : at.count ≡ 1 = eqb-true at.count 1 single in
           let spelled : text ≡ at.chars ++ 61 ∷ [] = rw one at at.spelled in
-          rw spelled (one_none room at.chars (at.front ++ ps) at.named (omega arith) (omega arith))
+          rw spelled (one_none room at.chars (at.front ++ ps) at.valued (omega arith) (omega arith))
       | inr double ↦
           let other : at.count ≡ 1 → ⊥ = eqb-false at.count 1 double in
           let some = at.counts.2 in
           let two : at.count ≡ 2 = omega arith in
           let spelled : text ≡ at.chars ++ 61 ∷ 61 ∷ [] = rw two at at.spelled in
-          rw spelled (two_none room at.chars (at.front ++ ps) at.named (omega arith) (omega arith))
+          rw spelled (two_none room at.chars (at.front ++ ps) at.valued (omega arith) (omega arith))
     ]
 
-padded_none : (b : Base) → b ≡ base64 → (text os ps : List ℕ) (p : Padding) → (p ≡ Half) ⊎ (p ≡ Done) → IsRead b text os ps p → (room : ℕ) → length os ≤ room
+padded_none : (b : Base) → b ≡ base64 → (text os ps : List ℕ) (p : Padding) → (p ≡ One) ⊎ (p ≡ Complete) → IsRead b text os ps p → (room : ℕ) → length os ≤ room
     → first_char_error (char_error b room) [] text ≡ None
-padded_none b same = rw same (λ text os ps p which. elim which [ inl half ↦ rw half (half64_none text os ps) | inr done ↦ rw done (done64_none text os ps) ])
+padded_none b same = rw same (λ text os ps p which. elim which [ inl after_one ↦ rw after_one (half64_none text os ps) | inr done ↦ rw done (done64_none text os ps) ])
 
 pub no_cause : (b : Base) → IsEncoding b → (text os ps : List ℕ) (p : Padding) → IsRead b text os ps p → (room : ℕ) → length os ≤ room → first_char_error (char_error b room) [] text ≡ None
 no_cause b known text os ps Absent at room le =
@@ -132,9 +132,9 @@ no_cause b known text os ps Absent at room le =
     let same = (numbers b known).grouped_at (length text) (length at.front) (length ps) (ap length plain ∙ n.chars_are) at.counts.2 at.counts.1 in
     let fits : grouped b (length text) ≤ room = rw (same, ← n.octets_are) le in
     let z : 0 + length text ≡ length text = omega arith in
-    chars_none b known room [] text [] (at.front ++ ps) tt (rw (← plain) at at.named) (rw z fits)
-no_cause b known text os ps Half at room le = padded_none b at.counts.0 text os ps Half (inl refl) at room le
-no_cause b known text os ps Done at room le = padded_none b at.counts.0 text os ps Done (inr refl) at room le
+    chars_none b known room [] text [] (at.front ++ ps) tt (rw (← plain) at at.valued) (rw z fits)
+no_cause b known text os ps One at room le = padded_none b at.counts.0 text os ps One (inl refl) at room le
+no_cause b known text os ps Complete at room le = padded_none b at.counts.0 text os ps Complete (inr refl) at room le
 
 -- ---- one more character
 
@@ -142,14 +142,14 @@ no_cause b known text os ps Done at room le = padded_none b at.counts.0 text os 
 -- text is read with it
 pub record Stepped (b : Base) (text octets : List ℕ) (c : ℕ) (s : Step) : Type 0 where
   pub cause_is : (room : ℕ) → length octets ≤ room → char_error b room text c ≡ or_else (short_buf_if room (length octets + length s.octets)) s.error
-  pub goes_on : s.error ≡ None → IsRead b (text ++ c ∷ []) (octets ++ s.octets) s.group.pieces s.group.padding
+  pub goes_on : s.error ≡ None → IsRead b (text ++ c ∷ []) (octets ++ s.octets) s.group.digits s.group.padding
 
 -- a group that is closed: its octets follow those of the front
-pub closed_octets : (b : Base) → IsEncoding b → (os front g chars : List ℕ) → os ≡ whole b.width front → length front % b.group ≡ 0 → Name b chars (front ++ g)
+pub closed_octets : (b : Base) → IsEncoding b → (os front g chars : List ℕ) → os ≡ whole b.width front → length front % b.group ≡ 0 → HaveValues b chars (front ++ g)
     → os ++ whole b.width g ≡ whole b.width (front ++ g)
-closed_octets b known os front g chars made whole_groups named =
+closed_octets b known os front g chars made whole_groups valued =
     let n = numbers b known in
-    rw made (sym (whole-append b.width front g (n.bits (length front) whole_groups) (below_front (2 ^ b.width) front g (Name-below b n.below chars (front ++ g) named))))
+    rw made (sym (whole-append b.width front g (n.bits (length front) whole_groups) (below_front (2 ^ b.width) front g (HaveValues-below b n.below chars (front ++ g) valued))))
 
 -- refused, whatever the room
 at_once : (b : Base) (text os : List ℕ) (c : ℕ) (s : Step) (e : DecodeError) → s.octets ≡ [] → s.error ≡ Some e → ((room : ℕ) → char_error b room text c ≡ Some e) → Stepped b text os c s
@@ -160,12 +160,12 @@ at_once b text os c s e nothing is why =
       goes_on = λ none. let bad : Some e ≡ None = sym is ∙ none in cc bad;
     }
 
-piece : (b : Base) → IsEncoding b → (text os ps : List ℕ) (c v : ℕ) → value b c ≡ Some v → IsRead b text os ps Absent → Stepped b text os c (step_piece b ps v)
-piece b known text os ps c v is at =
+digit : (b : Base) → IsEncoding b → (text os ps : List ℕ) (c v : ℕ) → value b c ≡ Some v → IsRead b text os ps Absent → Stepped b text os c (step_digit b ps v)
+digit b known text os ps c v is at =
     let n = numbers b known in
     let plain = plain_text b text os ps at in
-    let text_named : Name b text (at.front ++ ps) = rw (← plain) at at.named in
-    let named : Name b (text ++ c ∷ []) (at.front ++ (ps ++ v ∷ [])) = rw append_assoc at (Name-push b text (at.front ++ ps) c v text_named is) in
+    let text_valued : HaveValues b text (at.front ++ ps) = rw (← plain) at at.valued in
+    let valued : HaveValues b (text ++ c ∷ []) (at.front ++ (ps ++ v ∷ [])) = rw append_assoc at (HaveValues-push b text (at.front ++ ps) c v text_valued is) in
     let len : length text ≡ length at.front + length ps = ap length plain ∙ (lengths b text os ps Absent at).chars_are in
     let made = (lengths b text os ps Absent at).octets_are in
     let few = at.counts.1 in
@@ -182,14 +182,14 @@ piece b known text os ps c v is at =
           let sum : length os + length (whole b.width (ps ++ v ∷ [])) ≡ grouped b (length text + 1) =
           rw (made, length-whole) (n.sum (length at.front) (length (ps ++ v ∷ [])) closed ∙ ap (λ k. k * b.width / 8) (sym all)) ∙ sym same in
           rw last (record {
-            cause_is = λ room le. legal b known room text (at.front ++ ps) c v text_named is ∙ sym (or_else_none _ ∙ ap (short_buf_if room) sum);
+            cause_is = λ room le. legal b known room text (at.front ++ ps) c v text_valued is ∙ sym (or_else_none _ ∙ ap (short_buf_if room) sum);
             goes_on = λ none. record {
               chars = text ++ c ∷ [];
               front = at.front ++ (ps ++ v ∷ []);
               count = 0;
               spelled = sym (append-nil (text ++ c ∷ []));
-              named = rw append-nil named;
-              made = closed_octets b known os at.front (ps ++ v ∷ []) (text ++ c ∷ []) at.made closed named;
+              valued = rw append-nil valued;
+              made = closed_octets b known os at.front (ps ++ v ∷ []) (text ++ c ∷ []) at.made closed valued;
               counts = (refl, n.some, on);
             };
           })
@@ -198,13 +198,13 @@ piece b known text os ps c v is at =
           let long : length text + 1 ≡ length at.front + (length ps + 1) = omega arith in
           let same : grouped b (length text + 1) ≡ length os = n.grouped_at (length text + 1) (length at.front) (length ps + 1) long closed (omega arith) ∙ sym made in
           rw more (record {
-            cause_is = λ room le. legal b known room text (at.front ++ ps) c v text_named is ∙ want_enough room _ (rw same le) ∙ sym (or_else_none _ ∙ want_enough room (length os + 0) (omega arith));
+            cause_is = λ room le. legal b known room text (at.front ++ ps) c v text_valued is ∙ want_enough room _ (rw same le) ∙ sym (or_else_none _ ∙ want_enough room (length os + 0) (omega arith));
             goes_on = λ none. record {
               chars = text ++ c ∷ [];
               front = at.front;
               count = 0;
               spelled = sym (append-nil (text ++ c ∷ []));
-              named = named;
+              valued = valued;
               made = append-nil os ∙ at.made;
               counts = (refl, omega arith, closed);
             };
@@ -222,7 +222,7 @@ mark text os ps some at =
     let long = n.text_is in
     let made = n.octets_are in
     let plain = plain_text base64 text os ps at in
-    let text_named : Name base64 text (at.front ++ ps) = rw (← plain) at at.named in
+    let text_valued : HaveValues base64 text (at.front ++ ps) = rw (← plain) at at.valued in
     let one : text ++ 61 ∷ [] ≡ at.chars ++ replicate 1 61 = rw (← plain) refl in
     let allowed : nat_le 2 (length ps) ≡ true = le-leb 2 (length ps) some in
     elim (cases_Bool (length ps + 1 == 4)) [
@@ -231,27 +231,27 @@ mark text os ps some at =
           let group = length-whole 6 ps in
           let sum : length text * 6 / 8 ≡ length os + length (whole 6 ps) = omega arith in
           rw (allowed, last) (record {
-            cause_is = λ room le. mark_three room text (at.front ++ ps) text_named (omega arith) ∙ sym (or_else_none _ ∙ ap (short_buf_if room) (sym sum));
+            cause_is = λ room le. mark_three room text (at.front ++ ps) text_valued (omega arith) ∙ sym (or_else_none _ ∙ ap (short_buf_if room) (sym sum));
             goes_on = λ e. record {
               chars = at.chars;
               front = at.front ++ ps;
               count = 1;
               spelled = one;
-              named = rw append-nil at.named;
-              made = closed_octets base64 known os at.front ps at.chars at.made closed at.named;
+              valued = rw append-nil at.valued;
+              made = closed_octets base64 known os at.front ps at.chars at.made closed at.valued;
               counts = (refl, refl, omega arith, omega arith, omega (arith, length-append at.front ps));
             };
           })
       | inr more ↦
           let other : length ps + 1 ≡ 4 → ⊥ = eqb-false (length ps + 1) 4 more in
           rw (allowed, more) (record {
-            cause_is = λ room le. mark_two room text (at.front ++ ps) text_named (omega arith) ∙ sym (or_else_none _ ∙ want_enough room (length os + 0) (omega arith));
+            cause_is = λ room le. mark_two room text (at.front ++ ps) text_valued (omega arith) ∙ sym (or_else_none _ ∙ want_enough room (length os + 0) (omega arith));
             goes_on = λ e. record {
               chars = at.chars;
               front = at.front;
               count = 1;
               spelled = one;
-              named = at.named;
+              valued = at.valued;
               made = append-nil os ∙ at.made;
               counts = (refl, refl, omega arith, closed);
             };
@@ -275,60 +275,60 @@ other b known text os ps c is at =
             | inl plain ↦ let bad : true ≡ false = sym places.0 ∙ plain.unpadded in cc bad
             | inr same ↦ mark_of b same text os ps c (eqb-true c 61 parts.0) (leb-true 2 (length ps) places.1) at
           ]
-      | inr miss ↦ rw miss (at_once b text os c _ (IllegalChar c) refl refl (λ room. illegal b known room text (at.front ++ ps) c (rw (← plain) at at.named) is (rw place miss)))
+      | inr miss ↦ rw miss (at_once b text os c _ (IllegalChar c) refl refl (λ room. illegal b known room text (at.front ++ ps) c (rw (← plain) at at.valued) is (rw place miss)))
     ]
 
 -- after `xx=`
-half : (text os ps : List ℕ) (c : ℕ) (o : Option ℕ) → value base64 c ≡ o → IsRead base64 text os ps Half → Stepped base64 text os c (step_half base64 ps c o)
-half text os ps c o is at = by o is
+after_one : (text os ps : List ℕ) (c : ℕ) (o : Option ℕ) → value base64 c ≡ o → IsRead base64 text os ps One → Stepped base64 text os c (step_after_one base64 ps c o)
+after_one text os ps c o is at = by o is
   where
     one : pad_count base64 text ≡ 1
-    one = marked base64 (inr (inr refl)) text os ps Half at ∙ at.counts.1
+    one = marked base64 (inr (inr refl)) text os ps One at ∙ at.counts.1
 
     place : length text % 4 ≡ 3
-    place = omega (arith, (lengths base64 text os ps Half at).text_is, at.counts.1, at.counts.2, at.counts.3)
+    place = omega (arith, (lengths base64 text os ps One at).text_is, at.counts.1, at.counts.2, at.counts.3)
 
     sum : length os + length (whole 6 ps) ≡ octet_count base64 text
-    sum = sym (due_is base64 (inr (inr refl)) text os ps Half at)
+    sum = sym (due_is base64 (inr (inr refl)) text os ps One at)
 
-    by : (o : Option ℕ) → value base64 c ≡ o → Stepped base64 text os c (step_half base64 ps c o)
-    by (Some v) is = record { cause_is = λ room le. mark_half room c text (Some v) is one place ∙ rw sum refl; goes_on = λ bad. cc bad }
+    by : (o : Option ℕ) → value base64 c ≡ o → Stepped base64 text os c (step_after_one base64 ps c o)
+    by (Some v) is = record { cause_is = λ room le. mark_one room c text (Some v) is one place ∙ rw sum refl; goes_on = λ bad. cc bad }
     by None is = elim (cases_Bool (c == 61)) [
       | inl mark ↦
           let equals : c ≡ 61 = eqb-true c 61 mark in
           let single = at.counts.1 in
           let spelled : text ≡ at.chars ++ 61 ∷ [] = rw single at at.spelled in
           rw mark (record {
-            cause_is = λ room le. mark_half room c text None is one place ∙ rw (mark, sum) (sym (or_else_none _));
+            cause_is = λ room le. mark_one room c text None is one place ∙ rw (mark, sum) (sym (or_else_none _));
             goes_on = λ e. record {
               chars = at.chars;
               front = at.front ++ ps;
               count = 2;
               spelled = rw (spelled, equals, append_assoc) refl;
-              named = rw append-nil at.named;
-              made = closed_octets base64 (inr (inr refl)) os at.front ps at.chars at.made at.counts.3 at.named;
+              valued = rw append-nil at.valued;
+              made = closed_octets base64 (inr (inr refl)) os at.front ps at.chars at.made at.counts.3 at.valued;
               counts = (refl, refl, omega arith, omega arith, omega (arith, length-append at.front ps, at.counts.2, at.counts.3));
             };
           })
-      | inr other ↦ rw other (at_once base64 text os c _ (IllegalChar c) refl refl (λ room. mark_half room c text None is one place ∙ rw other refl))
+      | inr other ↦ rw other (at_once base64 text os c _ (IllegalChar c) refl refl (λ room. mark_one room c text None is one place ∙ rw other refl))
     ]
 
-done : (text os ps : List ℕ) (c : ℕ) → IsRead base64 text os ps Done → Stepped base64 text os c (step_from base64 ps Done c (value base64 c))
+done : (text os ps : List ℕ) (c : ℕ) → IsRead base64 text os ps Complete → Stepped base64 text os c (step_from base64 ps Complete c (value base64 c))
 done text os ps c at =
-    let long = (lengths base64 text os ps Done at).text_is in
+    let long = (lengths base64 text os ps Complete at).text_is in
     let none = at.counts.1 in
     let some = at.counts.2 in
     let all = at.counts.4 in
-    let count : pad_count base64 text ≡ suc (at.count - 1) = marked base64 (inr (inr refl)) text os ps Done at ∙ omega arith in
-    at_once base64 text os c _ TrailingInput refl refl (λ room. mark_done room c text (at.count - 1) count (omega arith))
+    let count : pad_count base64 text ≡ suc (at.count - 1) = marked base64 (inr (inr refl)) text os ps Complete at ∙ omega arith in
+    at_once base64 text os c _ TrailingInput refl refl (λ room. mark_complete room c text (at.count - 1) count (omega arith))
 
-padded : (b : Base) → b ≡ base64 → (text os ps : List ℕ) (p : Padding) (c : ℕ) → (p ≡ Half) ⊎ (p ≡ Done) → IsRead b text os ps p → Stepped b text os c (step_from b ps p c (value b c))
-padded b same = rw same (λ text os ps p c which. elim which [ inl is ↦ rw is (half text os ps c (value base64 c) refl) | inr is ↦ rw is (done text os ps c) ])
+padded : (b : Base) → b ≡ base64 → (text os ps : List ℕ) (p : Padding) (c : ℕ) → (p ≡ One) ⊎ (p ≡ Complete) → IsRead b text os ps p → Stepped b text os c (step_from b ps p c (value b c))
+padded b same = rw same (λ text os ps p c which. elim which [ inl is ↦ rw is (after_one text os ps c (value base64 c) refl) | inr is ↦ rw is (done text os ps c) ])
 
 pub stepped : (b : Base) → IsEncoding b → (text os ps : List ℕ) (p : Padding) (c : ℕ) → IsRead b text os ps p → Stepped b text os c (step_from b ps p c (value b c))
 stepped b known text os ps Absent c at = elim (cases_value (value b c)) [
   | inl none ↦ rw none (other b known text os ps c none at)
-  | inr some ↦ rw some.1 (piece b known text os ps c some.0 some.1 at)
+  | inr some ↦ rw some.1 (digit b known text os ps c some.0 some.1 at)
 ]
-stepped b known text os ps Half c at = padded b at.counts.0 text os ps Half c (inl refl) at
-stepped b known text os ps Done c at = padded b at.counts.0 text os ps Done c (inr refl) at
+stepped b known text os ps One c at = padded b at.counts.0 text os ps One c (inl refl) at
+stepped b known text os ps Complete c at = padded b at.counts.0 text os ps Complete c (inr refl) at

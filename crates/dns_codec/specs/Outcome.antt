@@ -27,7 +27,7 @@ octet_count b text = (length text - pad_count b text) * b.width / 8
 
 -- ---- reading a text to the first character that is refused
 
--- why a character is refused, or the piece that it names, after a text without `=`
+-- why a character is refused, or its digit, after a text without `=`
 abbrev pub char_error_open : Base → ℕ → List ℕ → ℕ → Option ℕ → Option DecodeError
 char_error_open b room front c (Some v) = short_buf_if room (grouped b (length front + 1))
 char_error_open b room front c None =

@@ -55,7 +55,7 @@ pub trait Encoding {
 
     /// The characters, by their values.
     fn alphabet() -> &'static [u8]
-        ensures names { result.now ≡ base.alphabet }
+        ensures characters { result.now ≡ base.alphabet }
         ensures len { length result.now ≡ 2 ^ BITS };
 
     /// Whether a text may end after `count` characters of a group.
@@ -85,7 +85,7 @@ pub trait Encoding {
 #[inline(always)]
 pub(crate) fn value_of<K: Encoding>(c: char) -> Option<u8>
     ensures value { result ≡ value K.base c }
-    ensures piece { IfSome result (λ v. v < 2 ^ K.base.width) }
+    ensures digit { IfSome result (λ v. v < 2 ^ K.base.width) }
 {
     let values = K::values();
     let code = c as u32;

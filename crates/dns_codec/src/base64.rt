@@ -64,9 +64,9 @@ pub enum Padding {
     /// None.
     Absent,
     /// The first of two.
-    Half,
+    One,
     /// All: the group is closed, and nothing may follow it.
-    Done,
+    Complete,
 }
 
 /// Reads base 64, one character after another.

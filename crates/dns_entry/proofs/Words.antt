@@ -15,8 +15,8 @@ use Rattle.dns_symbol.specs.declared.symbol.Symbol.TheVariants.{Char}
 use Rattle.dns_symbol.specs.Symbol.{bytes, is_word_symbol}
 use Rattle.dns_symbol.specs.Printed.{text_of, is_unquoted_escape}
 use Rattle.dns_charstr.proofs.ReadBack.{is_a_word}
-use Rattle.dns_codec.specs.Bits.{bits, joined, cut, whole, pieces}
-use Rattle.dns_codec.specs.Base.{Base, base16, base64, name, padded, encoded}
+use Rattle.dns_codec.specs.Bits.{bits, joined, cut, whole, digits}
+use Rattle.dns_codec.specs.Base.{Base, base16, base64, digit_char, padded, encoded}
 use Rattle.dns_codec.specs.Grammar.{Decodes}
 use Rattle.dns_codec.proofs.RoundTrip.{encoded16-decodes, encoded64-decodes}
 use Rattle.dns_codec.proofs.Unique.{one_value, no_mark16, no_mark64}
@@ -57,14 +57,14 @@ plain_word text some all = record {
 
 -- ---- encodings
 
-name_all : (t : ℕ → Bool) (xs : List ℕ) (k : ℕ) → list_all t xs ≡ true → t 0 ≡ true → t (slice_index xs k) ≡ true
-name_all t [] k all zero_too = zero_too
-name_all t (x ∷ xs) zero all zero_too = (and_parts (t x) (list_all t xs) all).0
-name_all t (x ∷ xs) (suc k) all zero_too = name_all t xs k (and_parts (t x) (list_all t xs) all).1 zero_too
+character_all : (t : ℕ → Bool) (xs : List ℕ) (k : ℕ) → list_all t xs ≡ true → t 0 ≡ true → t (slice_index xs k) ≡ true
+character_all t [] k all zero_too = zero_too
+character_all t (x ∷ xs) zero all zero_too = (and_parts (t x) (list_all t xs) all).0
+character_all t (x ∷ xs) (suc k) all zero_too = character_all t xs k (and_parts (t x) (list_all t xs) all).1 zero_too
 
-names_all : (t : ℕ → Bool) (names ps rest : List ℕ) → list_all t names ≡ true → t 0 ≡ true → list_all t rest ≡ true → list_all t (map (slice_index names) ps ++ rest) ≡ true
-names_all t names [] rest all zero_too others = others
-names_all t names (p ∷ ps) rest all zero_too others = rw (name_all t names p all zero_too, names_all t names ps rest all zero_too others) refl
+characters_all : (t : ℕ → Bool) (characters ps rest : List ℕ) → list_all t characters ≡ true → t 0 ≡ true → list_all t rest ≡ true → list_all t (map (slice_index characters) ps ++ rest) ≡ true
+characters_all t characters [] rest all zero_too others = others
+characters_all t characters (p ∷ ps) rest all zero_too others = rw (character_all t characters p all zero_too, characters_all t characters ps rest all zero_too others) refl
 
 marks_all : (t : ℕ → Bool) → t 61 ≡ true → (n : ℕ) → list_all t (replicate n 61) ≡ true
 marks_all t mark zero = refl
@@ -72,8 +72,8 @@ marks_all t mark (suc n) = rw (mark, marks_all t mark n) refl
 
 -- what holds of an alphabet, and of the padding, holds of each character of a text
 pub encoded_all : (t : ℕ → Bool) (b : Base) (octets : List ℕ) → list_all t b.alphabet ≡ true → t 0 ≡ true → t 61 ≡ true → list_all t (encoded b octets) ≡ true
-unfolding encoded padded name
-encoded_all t b octets all zero_too mark = names_all t b.alphabet (pieces b.width octets) _ all zero_too (marks_all t mark ((b.unit - length (map (name b) (pieces b.width octets)) % b.unit) % b.unit))
+unfolding encoded padded digit_char
+encoded_all t b octets all zero_too mark = characters_all t b.alphabet (digits b.width octets) _ all zero_too (marks_all t mark ((b.unit - length (map (digit_char b) (digits b.width octets)) % b.unit) % b.unit))
 
 -- octets that have a text of no characters are none
 some_text : (b : Base) (text octets : List ℕ) → ((none xs ys : List ℕ) → Decodes b none xs → Decodes b none ys → xs ≡ ys) → Decodes b [] [] → Decodes b text octets → 0 < length octets
@@ -83,11 +83,11 @@ some_text b (c ∷ cs) octets once empty is some = omega arith
 
 none16 : Decodes base16 [] []
 unfolding bits joined cut whole
-none16 = record { chars = []; pieces = []; named = tt; count = refl; spelled = refl; value_is = refl }
+none16 = record { chars = []; digits = []; valued = tt; count = refl; spelled = refl; value_is = refl }
 
 none64 : Decodes base64 [] []
 unfolding bits joined cut whole
-none64 = record { chars = []; pieces = []; named = tt; count = refl; spelled = refl; value_is = refl }
+none64 = record { chars = []; digits = []; valued = tt; count = refl; spelled = refl; value_is = refl }
 
 pub hex_word : (octets : List ℕ) → All (λ o. o < 256) octets → 0 < length octets → IsWord (encoded base16 octets)
 hex_word octets all some =

@@ -6,6 +6,7 @@ use Rattle.dns_codec.specs.Base.{base16, base64, encoded}
 use Rattle.dns_symbol.specs.Printed.{text_of, is_unquoted_escape}
 use Rattle.dns_entry.specs.declared.entry.Field.{Field}
 use Rattle.dns_entry.specs.declared.entry.Field.TheVariants.{Number, Hex, Base64, Text}
+use Rattle.dns_charstr.specs.Limits.{max_string}
 
 -- what a field holds: a number, or octets and how they are printed
 pub data Content : Type 0 where
@@ -28,7 +29,7 @@ abbrev pub IsContent : Content → Type 0
 IsContent (number n) = n < 2 ^ 32
 IsContent (hex_octets os) = All (λ o. o < 256) os
 IsContent (base64_octets os) = All (λ o. o < 256) os
-IsContent (text_octets os) = All (λ o. o < 256) os × (length os ≤ 255)
+IsContent (text_octets os) = All (λ o. o < 256) os × (length os ≤ max_string)
 
 -- what can be a token: an encoding of no octets has no text, and can't be one
 abbrev pub IsPrintable : Content → Type 0

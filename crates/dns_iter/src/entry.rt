@@ -22,7 +22,7 @@ ghost use Rattle.dns_split.specs.Answer.{entries_of};
 ghost use Rattle.dns_split.specs.Splitting.{Entries, Splits};
 ghost use Rattle.dns_split.specs.Token.{IsToken};
 ghost use Rattle.dns_scan.specs.Join.{IsSymbols};
-ghost use Rattle.dns_scan.specs.Stands.{StandsBefore};
+ghost use Rattle.dns_scan.specs.Stands.{HasTokens};
 ghost use Rattle.dns_scan.specs.Tokens.{Token};
 ghost use Rattle.dns_iter.specs.Contents.{AreContents, HoldsAt, HoldsOnly};
 
@@ -118,7 +118,7 @@ where
     Octets::Builder: EmptyBuilder + AsOctetsMut + Truncate + FreezeBuilder<Octets = Octets> + Drop,
     ensures ready { ⟦<EntryScanner<'a, T, Octets, E> as Scanner>⟧.can_scan result }
     ensures stands { (contents : List (List ℕ)) → AreContents (map T.text tokens.now) contents
-        → StandsBefore (⟦<EntryScanner<'a, T, Octets, E> as Scanner>⟧.next_token) result contents }
+        → HasTokens (⟦<EntryScanner<'a, T, Octets, E> as Scanner>⟧.next_token) result contents }
     ensures spaced { ⟦<EntryScanner<'a, T, Octets, E> as Scanner>⟧.is_spaced result ≡ spaced }
 {
     IterScanner::spaced(alloc, Contents::new(tokens), spaced)
@@ -140,11 +140,11 @@ where
     ensures none { IsNone result ↔ (length entries.now ≤ place) }
     ensures ready { IfSome result (λ s. ⟦<EntryScanner<'a, String<A>, Octets, E> as Scanner>⟧.can_scan s) }
     ensures stands { (contents : List Token) → HoldsAt (entries_of entries.now) place contents
-        → IsSomeAnd result (λ s. StandsBefore (⟦<EntryScanner<'a, String<A>, Octets, E> as Scanner>⟧.next_token) s contents) }
+        → IsSomeAnd result (λ s. HasTokens (⟦<EntryScanner<'a, String<A>, Octets, E> as Scanner>⟧.next_token) s contents) }
     ensures splits { (text : List ℕ) (found : Entries) (contents : List Token) → Splits text (entries_of entries.now) → Splits text found → HoldsAt found place contents
-        → IsSomeAnd result (λ s. StandsBefore (⟦<EntryScanner<'a, String<A>, Octets, E> as Scanner>⟧.next_token) s contents) }
+        → IsSomeAnd result (λ s. HasTokens (⟦<EntryScanner<'a, String<A>, Octets, E> as Scanner>⟧.next_token) s contents) }
     ensures holds { (text : List ℕ) → Splits text (entries_of entries.now) → IfSome result (λ s. (contents : List Token) × HoldsOnly (entries_of entries.now) place contents
-        × StandsBefore (⟦<EntryScanner<'a, String<A>, Octets, E> as Scanner>⟧.next_token) s contents) }
+        × HasTokens (⟦<EntryScanner<'a, String<A>, Octets, E> as Scanner>⟧.next_token) s contents) }
     ensures spaced { IfSome result (λ s. ⟦<EntryScanner<'a, String<A>, Octets, E> as Scanner>⟧.is_spaced s ≡ false) }
 {
     let tokens = entries.get(place)?;

@@ -3,8 +3,9 @@ ghost use Rattle.std.specs.Prelude.{◌≡◌, ◌≤◌, List, ℕ, ◌∷◌, 
 ghost use Rattle.std.specs.List.{AllZip, flat_map};
 ghost use Rattle.dns_charstr.specs.Reading.{HasOctets};
 ghost use Rattle.dns_charstr.specs.Wire.{wire_of};
-ghost use Rattle.dns_scan.specs.Stands.{StandsBefore};
+ghost use Rattle.dns_scan.specs.Stands.{HasTokens};
 ghost use Rattle.dns_scan.specs.Tokens.{Token};
+ghost use Rattle.dns_charstr.specs.Limits.{max_string};
 
 use crate::entry::{EntryScanner, TokenText};
 use arrayvec::ArrayVec;
@@ -18,8 +19,8 @@ pub fn fitting_strings_are_answered<'a, T: TokenText, E: ScannerError, const N: 
 ) -> Result<CharStr<ArrayVec<u8, N>>, E>
     requires { ⟦<EntryScanner<'a, T, ArrayVec<u8, N>, E> as Scanner>⟧.can_scan scanner.old }
     ensures ready { ⟦<EntryScanner<'a, T, ArrayVec<u8, N>, E> as Scanner>⟧.can_scan scanner.new }
-    ensures fits { (token : Token) (others : List Token) (octets : List ℕ) → StandsBefore (⟦<EntryScanner<'a, T, ArrayVec<u8, N>, E> as Scanner>⟧.next_token) scanner.old (token ∷ others)
-        → HasOctets token octets → length octets ≤ N → length octets ≤ 255 → IsOkAnd result (λ s. s ≡ octets) }
+    ensures fits { (token : Token) (others : List Token) (octets : List ℕ) → HasTokens (⟦<EntryScanner<'a, T, ArrayVec<u8, N>, E> as Scanner>⟧.next_token) scanner.old (token ∷ others)
+        → HasOctets token octets → length octets ≤ N → length octets ≤ max_string → IsOkAnd result (λ s. s ≡ octets) }
 {
     character_strings_are_scanned_back(scanner)
 }
@@ -30,8 +31,8 @@ pub fn fitting_entries_are_answered<'a, T: TokenText, E: ScannerError, const N: 
 ) -> Result<ArrayVec<u8, N>, E>
     requires { ⟦<EntryScanner<'a, T, ArrayVec<u8, N>, E> as Scanner>⟧.can_scan scanner.old }
     ensures ready { ⟦<EntryScanner<'a, T, ArrayVec<u8, N>, E> as Scanner>⟧.can_scan scanner.new }
-    ensures fits { (tokens : List Token) (strings : List (List ℕ)) → StandsBefore (⟦<EntryScanner<'a, T, ArrayVec<u8, N>, E> as Scanner>⟧.next_token) scanner.old tokens
-        → AllZip HasOctets tokens strings → All (λ s. length s ≤ 255) strings → length (flat_map wire_of strings) ≤ N
+    ensures fits { (tokens : List Token) (strings : List (List ℕ)) → HasTokens (⟦<EntryScanner<'a, T, ArrayVec<u8, N>, E> as Scanner>⟧.next_token) scanner.old tokens
+        → AllZip HasOctets tokens strings → All (λ s. length s ≤ max_string) strings → length (flat_map wire_of strings) ≤ N
         → IsOkAnd result (λ o. o.items ≡ flat_map wire_of strings) }
 {
     string_entries_are_scanned_back(scanner)

@@ -2,7 +2,7 @@
 ghost use Rattle.std.specs.Prelude.{◌≡◌, ℕ, List, [], Option, Some, None, Bool, true, false, ⊤, OnSome, ◌<◌, ◌≤◌, ◌↔◌, IsTrue, option_map, is_none};
 ghost use Rattle.std.specs.Iterator.{IsFinite, AlwaysYields};
 ghost use Rattle.dns_scan.specs.Entries.{ScansEntry};
-ghost use Rattle.dns_scan.specs.Stands.{StandsBefore};
+ghost use Rattle.dns_scan.specs.Stands.{HasTokens};
 ghost use Rattle.dns_scan.specs.Tokens.{Token, Peeks};
 ghost use Rattle.dns_iter.specs.TokenNext.{token_next, spaced_after};
 ghost use Rattle.dns_iter.specs.Name.{ReadsToken};
@@ -56,7 +56,7 @@ where
         requires can { Iter.can_next iter }
         requires ends { IsFinite (Iter.remaining iter) }
         ensures ready { ⟦<Self as Scanner>⟧.can_scan result }
-        ensures stands { (ts : List Token) → AlwaysYields Iter.next_gives (λ t. t.now) iter ts → StandsBefore (⟦<Self as Scanner>⟧.next_token) result ts }
+        ensures stands { (ts : List Token) → AlwaysYields Iter.next_gives (λ t. t.now) iter ts → HasTokens (⟦<Self as Scanner>⟧.next_token) result ts }
         ensures spaced { ⟦<Self as Scanner>⟧.is_spaced result ≡ false }
     {
         IterScanner::spaced(alloc, iter, false)
@@ -68,7 +68,7 @@ where
         requires can { Iter.can_next iter }
         requires ends { IsFinite (Iter.remaining iter) }
         ensures ready { ⟦<Self as Scanner>⟧.can_scan result }
-        ensures stands { (ts : List Token) → AlwaysYields Iter.next_gives (λ t. t.now) iter ts → StandsBefore (⟦<Self as Scanner>⟧.next_token) result ts }
+        ensures stands { (ts : List Token) → AlwaysYields Iter.next_gives (λ t. t.now) iter ts → HasTokens (⟦<Self as Scanner>⟧.next_token) result ts }
         ensures spaced { ⟦<Self as Scanner>⟧.is_spaced result ≡ spaced }
     {
         IterScanner {

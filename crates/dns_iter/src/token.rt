@@ -4,9 +4,10 @@ ghost use Rattle.dns_symbol.specs.declared.symbol.SymbolCharsError.{SymbolCharsE
 ghost use Rattle.dns_symbol.specs.Symbol.{chars_error_text};
 ghost use Rattle.dns_symbol.specs.Text.{as_octets_error};
 ghost use Rattle.std.specs.Fn.{FnOnceReturnsAt};
-ghost use Rattle.dns_scan.specs.Asks.{AsksSymbols, Builds};
+ghost use Rattle.dns_scan.specs.Asks.{CallsEachSymbol, Builds};
 ghost use Rattle.dns_scan.specs.Entries.{AsciiText, Converts, ConvertToken};
 ghost use Rattle.dns_scan.specs.Steps.{GivesStep, octet_given, text_given};
+ghost use Rattle.dns_charstr.specs.Limits.{max_string};
 
 use crate::take::{AsOctet, AsText, OfSymbol, TakeSymbol, Through};
 use dns_charstr::charstr::{CharStr, CharStrBuilder};
@@ -33,7 +34,7 @@ pub(crate) fn each_symbol<Sym: OfSymbol, T: TakeSymbol<Sym, E, B>, B, E: Scanner
 ) -> Result<(), E>
     requires { T.can_take take.old }
     ensures ready { T.can_take take.new }
-    ensures asks { AsksSymbols E.cause (λ p x r q. T.step p (Sym.of x) r q) token.now (take.old, built.old) result (take.new, built.new) }
+    ensures asks { CallsEachSymbol E.cause (λ p x r q. T.step p (Sym.of x) r q) token.now (take.old, built.old) result (take.new, built.new) }
 {
     let text = token.as_bytes();
     let mut pos = 0;
@@ -68,7 +69,7 @@ pub(crate) fn token_charstr<B: EmptyBuilder + FreezeBuilder + Drop, E: ScannerEr
     token: &str,
     alloc: B::Alloc,
 ) -> Result<CharStr<B::Octets>, E>
-    ensures builds { Builds E.cause (GivesStep E.cause (min B.sure 255) (min B.most 255) octet_given) (λ s. s) token.now result }
+    ensures builds { Builds E.cause (GivesStep E.cause (min B.sure max_string) (min B.most max_string) octet_given) (λ s. s) token.now result }
 {
     let mut built = CharStrBuilder::<B>::new(alloc);
     match each_symbol::<Symbol, _, _, E>(token, &mut AsOctet, &mut built) {

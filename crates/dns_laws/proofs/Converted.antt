@@ -46,7 +46,7 @@ joined built (Err text) c go same = refl
 -- a run over symbols, in both ways of saying it
 pub base_run : (b : Base) (xs : List Symbol) (g : Group) (s : Bool) (built : List ℕ) → converted (codec_of b) (g, s) built xs None ≡ onto built (converts (convert b) (convert_tail b) g s xs)
 base_run b [] g s built = ended built _
-base_run b (x ∷ xs) g s built = joined built _ _ _ (λ o. base_run b xs (convert b g s x).group (convert b g s x).spoiled (built ++ o))
+base_run b (x ∷ xs) g s built = joined built _ _ _ (λ o. base_run b xs (convert b g s x).group (convert b g s x).failed (built ++ o))
 
 -- where the run agrees with decoding, a text of the grammar gives its octets
 pub by_agreement : (b : Base) (text octets : List ℕ) (refusal : Option DecodeError) (c : Result (List ℕ) (List ℕ))

@@ -20,7 +20,7 @@ use Rattle.dns_symbol.specs.Cause.{Cause}
 use Rattle.dns_scan.specs.Numbers.{by_cause, greatest}
 use Rattle.dns_scan.specs.Octets.{GivesWhere, unquoted_token}
 use Rattle.dns_scan.specs.Reads.{NumberReads, ReadsFirst}
-use Rattle.dns_scan.specs.Stands.{StandsBefore}
+use Rattle.dns_scan.specs.Stands.{HasTokens}
 use Rattle.dns_scan.specs.Tokens.{Token}
 use Rattle.dns_scan.proofs.Decimal.{decimal_read}
 use Rattle.dns_scan.proofs.Once.{numbers_once}
@@ -127,9 +127,9 @@ module _ {S O E : Type 0} (next : S → Option Token → S → Type 0) (cause : 
   text_back os (Err e) short (inr h) = inr (h.0, omega (arith, h.1, short))
 
   -- a field's token, and what was scanned before others
-  module _ (text : Token) (others : List Token) (stands : StandsBefore next old (text ∷ others)) where
+  module _ (text : Token) (others : List Token) (stands : HasTokens next old (text ∷ others)) where
     pub number_field : (new : S) (field : Content) (r : Result ℕ E) → IsContent field → kind_of field ≡ Number → IsScannedOf (field_text field) text
-        → ((tokens : List Token) → StandsBefore next old tokens → (rest : List Token) × ReadsFirst (NumberReads (greatest 32)) tokens (by_cause cause r) rest × StandsBefore next new rest)
+        → ((tokens : List Token) → HasTokens next old tokens → (rest : List Token) × ReadsFirst (NumberReads (greatest 32)) tokens (by_cause cause r) rest × HasTokens next new rest)
         → GivesField cause octets sure field (as_number r)
     number_field new (number n) r is kind scanned reads =
         let same = scanned_word (decimal n) text (number_word n is) scanned in
@@ -140,11 +140,11 @@ module _ {S O E : Type 0} (next : S → Option Token → S → Type 0) (cause : 
     number_field new (text_octets os) r is kind scanned reads = cc
 
     -- those before which the scanner stands, as the field prints
-    stands_at : (token : Token) → text ≡ token → StandsBefore next old (token ∷ others)
-    stands_at token same = subst (λ t. StandsBefore next old (t ∷ others)) same stands
+    stands_at : (token : Token) → text ≡ token → HasTokens next old (token ∷ others)
+    stands_at token same = subst (λ t. HasTokens next old (t ∷ others)) same stands
 
     pub hex_field : (field : Content) (r : Result O E) → IsContent field → IsPrintable field → kind_of field ≡ Hex → IsScannedOf (field_text field) text
-        → ((os : List ℕ) (ts : List Token) → AllByRecursion (λ o. o < 256) os → StandsBefore next old (encoded base16 os ∷ ts) → GivesWhere cause octets sure os r)
+        → ((os : List ℕ) (ts : List Token) → AllByRecursion (λ o. o < 256) os → HasTokens next old (encoded base16 os ∷ ts) → GivesWhere cause octets sure os r)
         → GivesField cause octets sure field (as_octets r)
     hex_field (hex_octets os) r is can kind scanned back =
         octets_back os r (back os others (recursion_from_All (λ o. o < 256) os is) (stands_at (encoded base16 os) (scanned_word (encoded base16 os) text (hex_word os is can) scanned)))
@@ -153,7 +153,7 @@ module _ {S O E : Type 0} (next : S → Option Token → S → Type 0) (cause : 
     hex_field (text_octets os) r is can kind scanned back = cc
 
     pub base64_field : (field : Content) (r : Result O E) → IsContent field → IsPrintable field → kind_of field ≡ Base64 → IsScannedOf (field_text field) text
-        → ((os : List ℕ) (ts : List Token) → AllByRecursion (λ o. o < 256) os → StandsBefore next old (encoded base64 os ∷ ts) → GivesWhere cause octets sure os r)
+        → ((os : List ℕ) (ts : List Token) → AllByRecursion (λ o. o < 256) os → HasTokens next old (encoded base64 os ∷ ts) → GivesWhere cause octets sure os r)
         → GivesField cause octets sure field (as_octets r)
     base64_field (base64_octets os) r is can kind scanned back =
         octets_back os r (back os others (recursion_from_All (λ o. o < 256) os is) (stands_at (encoded base64 os) (scanned_word (encoded base64 os) text (base64_word os is can) scanned)))
@@ -162,7 +162,7 @@ module _ {S O E : Type 0} (next : S → Option Token → S → Type 0) (cause : 
     base64_field (text_octets os) r is can kind scanned back = cc
 
     pub text_field : (field : Content) (r : Result (List ℕ) E) → IsContent field → kind_of field ≡ Text → IsScannedOf (field_text field) text
-        → ((os : List ℕ) (ts : List Token) → All (λ o. o < 256) os → StandsBefore next old (unquoted_token os ∷ ts) → GivesWhere cause (λ o. o) (min sure 255) os r)
+        → ((os : List ℕ) (ts : List Token) → All (λ o. o < 256) os → HasTokens next old (unquoted_token os ∷ ts) → GivesWhere cause (λ o. o) (min sure 255) os r)
         → GivesField cause octets sure field (as_text r)
     text_field (text_octets []) r is kind scanned back = text_back [] r is.1 (back [] others is.0 (stands_at [] (scanned_quotes text scanned)))
     text_field (text_octets (o ∷ os)) r is kind scanned back =

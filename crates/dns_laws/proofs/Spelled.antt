@@ -184,7 +184,7 @@ refuses : (a : Result (List ℕ) (List ℕ)) (text o : List ℕ) → a ≡ Err t
 refuses a text o e is = cc
 
 abbrev char_step : Base → Group → Option ℕ → Result (List ℕ) (List ℕ) × (Group × Bool)
-char_step b g o = ((convert_char b g o).answer, ((convert_char b g o).group, (convert_char b g o).spoiled))
+char_step b g o = ((convert_char b g o).answer, ((convert_char b g o).group, (convert_char b g o).failed))
 
 pub base_same : (b : Base) (held : Group × Bool) (x : Symbol) (c : ℕ) → char_in x ≡ Some c → (codec_of b).step held x ≡ (codec_of b).step held (Char c)
 base_same b (g, true) x c e = refl

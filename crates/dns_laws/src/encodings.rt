@@ -4,7 +4,7 @@ ghost use Rattle.std.specs.List.{AllByRecursion};
 ghost use Rattle.dns_codec.specs.Base.{Base, IsEncoding as IsBase, base16, base32hex, base64, encoded};
 ghost use Rattle.dns_symbol.specs.Cause.{Cause};
 ghost use Rattle.dns_scan.specs.Octets.{GivesWhere};
-ghost use Rattle.dns_scan.specs.Stands.{StandsBefore};
+ghost use Rattle.dns_scan.specs.Stands.{HasTokens};
 ghost use Rattle.dns_scan.specs.Tokens.{Token};
 ghost use Rattle.dns_program.specs.Codecs.{AnswersConverted, ConvertsTo, IsEncoding, codec_of, hex_codec, base32hex_codec, base64_codec};
 
@@ -23,14 +23,14 @@ pub fn encoding_is_scanned_back<K: Encoding, S: Scanner>(
 ) -> Result<S::Octets, S::Error>
     requires { S.can_scan scanner.old }
     ensures ready { S.can_scan scanner.new }
-    ensures back { (octets : List ℕ) (others : List Token) → AllByRecursion (λ o. o < 256) octets → StandsBefore S.next_token scanner.old (encoded K.base octets ∷ others)
+    ensures back { (octets : List ℕ) (others : List Token) → AllByRecursion (λ o. o < 256) octets → HasTokens S.next_token scanner.old (encoded K.base octets ∷ others)
         → GivesWhere S.Error.cause S.Octets.octets S.OctetsBuilder.sure octets result }
-    ensures whole { (token : Token) (others : List Token) (octets : List ℕ) → StandsBefore S.next_token scanner.old (token ∷ others)
+    ensures whole { (token : Token) (others : List Token) (octets : List ℕ) → HasTokens S.next_token scanner.old (token ∷ others)
         → IsEncoding K.base token octets → GivesWhere S.Error.cause S.Octets.octets S.OctetsBuilder.sure octets result }
-    ensures answer { (token : Token) (others : List Token) → StandsBefore S.next_token scanner.old (token ∷ others)
+    ensures answer { (token : Token) (others : List Token) → HasTokens S.next_token scanner.old (token ∷ others)
         → AnswersConverted (codec_of K.base) S.Error.cause S.Octets.octets S.OctetsBuilder.sure S.OctetsBuilder.most token result }
-    ensures only { (token : Token) (others : List Token) → StandsBefore S.next_token scanner.old (token ∷ others) → IfOk result (λ o. IsEncoding K.base token (S.Octets.octets o)) }
-    ensures rest { (token : Token) (others : List Token) → StandsBefore S.next_token scanner.old (token ∷ others) → StandsBefore S.next_token scanner.new others }
+    ensures only { (token : Token) (others : List Token) → HasTokens S.next_token scanner.old (token ∷ others) → IfOk result (λ o. IsEncoding K.base token (S.Octets.octets o)) }
+    ensures rest { (token : Token) (others : List Token) → HasTokens S.next_token scanner.old (token ∷ others) → HasTokens S.next_token scanner.new others }
 {
     scanner.convert_token(Converter::<K>::new())
 }
@@ -44,14 +44,14 @@ pub fn encoding_is_scanned_back<K: Encoding, S: Scanner>(
 pub fn hex_is_scanned_back<S: Scanner>(scanner: &mut S) -> Result<S::Octets, S::Error>
     requires { S.can_scan scanner.old }
     ensures ready { S.can_scan scanner.new }
-    ensures back { (octets : List ℕ) (others : List Token) → AllByRecursion (λ o. o < 256) octets → StandsBefore S.next_token scanner.old (encoded base16 octets ∷ others)
+    ensures back { (octets : List ℕ) (others : List Token) → AllByRecursion (λ o. o < 256) octets → HasTokens S.next_token scanner.old (encoded base16 octets ∷ others)
         → GivesWhere S.Error.cause S.Octets.octets S.OctetsBuilder.sure octets result }
-    ensures whole { (token : Token) (others : List Token) (octets : List ℕ) → StandsBefore S.next_token scanner.old (token ∷ others)
+    ensures whole { (token : Token) (others : List Token) (octets : List ℕ) → HasTokens S.next_token scanner.old (token ∷ others)
         → IsEncoding base16 token octets → GivesWhere S.Error.cause S.Octets.octets S.OctetsBuilder.sure octets result }
-    ensures answer { (token : Token) (others : List Token) → StandsBefore S.next_token scanner.old (token ∷ others)
+    ensures answer { (token : Token) (others : List Token) → HasTokens S.next_token scanner.old (token ∷ others)
         → AnswersConverted hex_codec S.Error.cause S.Octets.octets S.OctetsBuilder.sure S.OctetsBuilder.most token result }
-    ensures only { (token : Token) (others : List Token) → StandsBefore S.next_token scanner.old (token ∷ others) → IfOk result (λ o. IsEncoding base16 token (S.Octets.octets o)) }
-    ensures rest { (token : Token) (others : List Token) → StandsBefore S.next_token scanner.old (token ∷ others) → StandsBefore S.next_token scanner.new others }
+    ensures only { (token : Token) (others : List Token) → HasTokens S.next_token scanner.old (token ∷ others) → IfOk result (λ o. IsEncoding base16 token (S.Octets.octets o)) }
+    ensures rest { (token : Token) (others : List Token) → HasTokens S.next_token scanner.old (token ∷ others) → HasTokens S.next_token scanner.new others }
 {
     encoding_is_scanned_back::<Base16, S>(scanner)
 }
@@ -61,14 +61,14 @@ pub fn hex_is_scanned_back<S: Scanner>(scanner: &mut S) -> Result<S::Octets, S::
 pub fn base32hex_is_scanned_back<S: Scanner>(scanner: &mut S) -> Result<S::Octets, S::Error>
     requires { S.can_scan scanner.old }
     ensures ready { S.can_scan scanner.new }
-    ensures back { (octets : List ℕ) (others : List Token) → AllByRecursion (λ o. o < 256) octets → StandsBefore S.next_token scanner.old (encoded base32hex octets ∷ others)
+    ensures back { (octets : List ℕ) (others : List Token) → AllByRecursion (λ o. o < 256) octets → HasTokens S.next_token scanner.old (encoded base32hex octets ∷ others)
         → GivesWhere S.Error.cause S.Octets.octets S.OctetsBuilder.sure octets result }
-    ensures whole { (token : Token) (others : List Token) (octets : List ℕ) → StandsBefore S.next_token scanner.old (token ∷ others)
+    ensures whole { (token : Token) (others : List Token) (octets : List ℕ) → HasTokens S.next_token scanner.old (token ∷ others)
         → IsEncoding base32hex token octets → GivesWhere S.Error.cause S.Octets.octets S.OctetsBuilder.sure octets result }
-    ensures answer { (token : Token) (others : List Token) → StandsBefore S.next_token scanner.old (token ∷ others)
+    ensures answer { (token : Token) (others : List Token) → HasTokens S.next_token scanner.old (token ∷ others)
         → AnswersConverted base32hex_codec S.Error.cause S.Octets.octets S.OctetsBuilder.sure S.OctetsBuilder.most token result }
-    ensures only { (token : Token) (others : List Token) → StandsBefore S.next_token scanner.old (token ∷ others) → IfOk result (λ o. IsEncoding base32hex token (S.Octets.octets o)) }
-    ensures rest { (token : Token) (others : List Token) → StandsBefore S.next_token scanner.old (token ∷ others) → StandsBefore S.next_token scanner.new others }
+    ensures only { (token : Token) (others : List Token) → HasTokens S.next_token scanner.old (token ∷ others) → IfOk result (λ o. IsEncoding base32hex token (S.Octets.octets o)) }
+    ensures rest { (token : Token) (others : List Token) → HasTokens S.next_token scanner.old (token ∷ others) → HasTokens S.next_token scanner.new others }
 {
     encoding_is_scanned_back::<Base32Hex, S>(scanner)
 }
@@ -79,14 +79,14 @@ pub fn base32hex_is_scanned_back<S: Scanner>(scanner: &mut S) -> Result<S::Octet
 pub fn base64_is_scanned_back<S: Scanner>(scanner: &mut S) -> Result<S::Octets, S::Error>
     requires { S.can_scan scanner.old }
     ensures ready { S.can_scan scanner.new }
-    ensures back { (octets : List ℕ) (others : List Token) → AllByRecursion (λ o. o < 256) octets → StandsBefore S.next_token scanner.old (encoded base64 octets ∷ others)
+    ensures back { (octets : List ℕ) (others : List Token) → AllByRecursion (λ o. o < 256) octets → HasTokens S.next_token scanner.old (encoded base64 octets ∷ others)
         → GivesWhere S.Error.cause S.Octets.octets S.OctetsBuilder.sure octets result }
-    ensures whole { (token : Token) (others : List Token) (octets : List ℕ) → StandsBefore S.next_token scanner.old (token ∷ others)
+    ensures whole { (token : Token) (others : List Token) (octets : List ℕ) → HasTokens S.next_token scanner.old (token ∷ others)
         → IsEncoding base64 token octets → GivesWhere S.Error.cause S.Octets.octets S.OctetsBuilder.sure octets result }
-    ensures answer { (token : Token) (others : List Token) → StandsBefore S.next_token scanner.old (token ∷ others)
+    ensures answer { (token : Token) (others : List Token) → HasTokens S.next_token scanner.old (token ∷ others)
         → AnswersConverted base64_codec S.Error.cause S.Octets.octets S.OctetsBuilder.sure S.OctetsBuilder.most token result }
-    ensures only { (token : Token) (others : List Token) → StandsBefore S.next_token scanner.old (token ∷ others) → IfOk result (λ o. IsEncoding base64 token (S.Octets.octets o)) }
-    ensures rest { (token : Token) (others : List Token) → StandsBefore S.next_token scanner.old (token ∷ others) → StandsBefore S.next_token scanner.new others }
+    ensures only { (token : Token) (others : List Token) → HasTokens S.next_token scanner.old (token ∷ others) → IfOk result (λ o. IsEncoding base64 token (S.Octets.octets o)) }
+    ensures rest { (token : Token) (others : List Token) → HasTokens S.next_token scanner.old (token ∷ others) → HasTokens S.next_token scanner.new others }
 {
     encoding_is_scanned_back::<Base64, S>(scanner)
 }

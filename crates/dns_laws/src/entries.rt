@@ -4,7 +4,7 @@ ghost use Rattle.std.specs.List.{AllByRecursion, concat};
 ghost use Rattle.dns_codec.specs.Base.{base16, base32hex, base64, encoded};
 ghost use Rattle.dns_scan.specs.Join.{IsJoin, IsSymbols, LeavesOf};
 ghost use Rattle.dns_scan.specs.Octets.{GivesWhere};
-ghost use Rattle.dns_scan.specs.Stands.{StandsBefore};
+ghost use Rattle.dns_scan.specs.Stands.{HasTokens};
 ghost use Rattle.dns_scan.specs.Tokens.{Token};
 ghost use Rattle.dns_program.specs.Codecs.{AnswersConverted, IsEncoding, codec_of, hex_codec, base32hex_codec, base64_codec};
 
@@ -21,14 +21,14 @@ pub fn entry_is_scanned_back<K: Encoding, S: Scanner>(
 ) -> Result<S::Octets, S::Error>
     requires { S.can_scan scanner.old }
     ensures ready { S.can_scan scanner.new }
-    ensures back { (octets : List ℕ) (tokens : List Token) → AllByRecursion (λ o. o < 256) octets → StandsBefore S.next_token scanner.old tokens
+    ensures back { (octets : List ℕ) (tokens : List Token) → AllByRecursion (λ o. o < 256) octets → HasTokens S.next_token scanner.old tokens
         → concat tokens ≡ encoded K.base octets → GivesWhere S.Error.cause S.Octets.octets S.OctetsBuilder.sure octets result }
-    ensures whole { (tokens : List Token) (octets : List ℕ) → StandsBefore S.next_token scanner.old tokens → AllByRecursion IsSymbols tokens
+    ensures whole { (tokens : List Token) (octets : List ℕ) → HasTokens S.next_token scanner.old tokens → AllByRecursion IsSymbols tokens
         → IsEncoding K.base (concat tokens) octets → GivesWhere S.Error.cause S.Octets.octets S.OctetsBuilder.sure octets result }
-    ensures answer { (tokens : List Token) (text : List ℕ) → StandsBefore S.next_token scanner.old tokens → IsJoin tokens text
+    ensures answer { (tokens : List Token) (text : List ℕ) → HasTokens S.next_token scanner.old tokens → IsJoin tokens text
         → AnswersConverted (codec_of K.base) S.Error.cause S.Octets.octets S.OctetsBuilder.sure S.OctetsBuilder.most text result }
-    ensures only { (tokens : List Token) → StandsBefore S.next_token scanner.old tokens → IfOk result (λ o. IsEncoding K.base (concat tokens) (S.Octets.octets o)) }
-    ensures rest { (tokens : List Token) → StandsBefore S.next_token scanner.old tokens → LeavesOf S.next_token tokens result scanner.new }
+    ensures only { (tokens : List Token) → HasTokens S.next_token scanner.old tokens → IfOk result (λ o. IsEncoding K.base (concat tokens) (S.Octets.octets o)) }
+    ensures rest { (tokens : List Token) → HasTokens S.next_token scanner.old tokens → LeavesOf S.next_token tokens result scanner.new }
 {
     entries_convert_as_their_join(scanner, Converter::<K>::new())
 }
@@ -39,14 +39,14 @@ pub fn entry_is_scanned_back<K: Encoding, S: Scanner>(
 pub fn hex_entry_is_scanned_back<S: Scanner>(scanner: &mut S) -> Result<S::Octets, S::Error>
     requires { S.can_scan scanner.old }
     ensures ready { S.can_scan scanner.new }
-    ensures back { (octets : List ℕ) (tokens : List Token) → AllByRecursion (λ o. o < 256) octets → StandsBefore S.next_token scanner.old tokens
+    ensures back { (octets : List ℕ) (tokens : List Token) → AllByRecursion (λ o. o < 256) octets → HasTokens S.next_token scanner.old tokens
         → concat tokens ≡ encoded base16 octets → GivesWhere S.Error.cause S.Octets.octets S.OctetsBuilder.sure octets result }
-    ensures whole { (tokens : List Token) (octets : List ℕ) → StandsBefore S.next_token scanner.old tokens → AllByRecursion IsSymbols tokens
+    ensures whole { (tokens : List Token) (octets : List ℕ) → HasTokens S.next_token scanner.old tokens → AllByRecursion IsSymbols tokens
         → IsEncoding base16 (concat tokens) octets → GivesWhere S.Error.cause S.Octets.octets S.OctetsBuilder.sure octets result }
-    ensures answer { (tokens : List Token) (text : List ℕ) → StandsBefore S.next_token scanner.old tokens → IsJoin tokens text
+    ensures answer { (tokens : List Token) (text : List ℕ) → HasTokens S.next_token scanner.old tokens → IsJoin tokens text
         → AnswersConverted hex_codec S.Error.cause S.Octets.octets S.OctetsBuilder.sure S.OctetsBuilder.most text result }
-    ensures only { (tokens : List Token) → StandsBefore S.next_token scanner.old tokens → IfOk result (λ o. IsEncoding base16 (concat tokens) (S.Octets.octets o)) }
-    ensures rest { (tokens : List Token) → StandsBefore S.next_token scanner.old tokens → LeavesOf S.next_token tokens result scanner.new }
+    ensures only { (tokens : List Token) → HasTokens S.next_token scanner.old tokens → IfOk result (λ o. IsEncoding base16 (concat tokens) (S.Octets.octets o)) }
+    ensures rest { (tokens : List Token) → HasTokens S.next_token scanner.old tokens → LeavesOf S.next_token tokens result scanner.new }
 {
     entry_is_scanned_back::<Base16, S>(scanner)
 }
@@ -55,14 +55,14 @@ pub fn hex_entry_is_scanned_back<S: Scanner>(scanner: &mut S) -> Result<S::Octet
 pub fn base32hex_entry_is_scanned_back<S: Scanner>(scanner: &mut S) -> Result<S::Octets, S::Error>
     requires { S.can_scan scanner.old }
     ensures ready { S.can_scan scanner.new }
-    ensures back { (octets : List ℕ) (tokens : List Token) → AllByRecursion (λ o. o < 256) octets → StandsBefore S.next_token scanner.old tokens
+    ensures back { (octets : List ℕ) (tokens : List Token) → AllByRecursion (λ o. o < 256) octets → HasTokens S.next_token scanner.old tokens
         → concat tokens ≡ encoded base32hex octets → GivesWhere S.Error.cause S.Octets.octets S.OctetsBuilder.sure octets result }
-    ensures whole { (tokens : List Token) (octets : List ℕ) → StandsBefore S.next_token scanner.old tokens → AllByRecursion IsSymbols tokens
+    ensures whole { (tokens : List Token) (octets : List ℕ) → HasTokens S.next_token scanner.old tokens → AllByRecursion IsSymbols tokens
         → IsEncoding base32hex (concat tokens) octets → GivesWhere S.Error.cause S.Octets.octets S.OctetsBuilder.sure octets result }
-    ensures answer { (tokens : List Token) (text : List ℕ) → StandsBefore S.next_token scanner.old tokens → IsJoin tokens text
+    ensures answer { (tokens : List Token) (text : List ℕ) → HasTokens S.next_token scanner.old tokens → IsJoin tokens text
         → AnswersConverted base32hex_codec S.Error.cause S.Octets.octets S.OctetsBuilder.sure S.OctetsBuilder.most text result }
-    ensures only { (tokens : List Token) → StandsBefore S.next_token scanner.old tokens → IfOk result (λ o. IsEncoding base32hex (concat tokens) (S.Octets.octets o)) }
-    ensures rest { (tokens : List Token) → StandsBefore S.next_token scanner.old tokens → LeavesOf S.next_token tokens result scanner.new }
+    ensures only { (tokens : List Token) → HasTokens S.next_token scanner.old tokens → IfOk result (λ o. IsEncoding base32hex (concat tokens) (S.Octets.octets o)) }
+    ensures rest { (tokens : List Token) → HasTokens S.next_token scanner.old tokens → LeavesOf S.next_token tokens result scanner.new }
 {
     entry_is_scanned_back::<Base32Hex, S>(scanner)
 }
@@ -71,14 +71,14 @@ pub fn base32hex_entry_is_scanned_back<S: Scanner>(scanner: &mut S) -> Result<S:
 pub fn base64_entry_is_scanned_back<S: Scanner>(scanner: &mut S) -> Result<S::Octets, S::Error>
     requires { S.can_scan scanner.old }
     ensures ready { S.can_scan scanner.new }
-    ensures back { (octets : List ℕ) (tokens : List Token) → AllByRecursion (λ o. o < 256) octets → StandsBefore S.next_token scanner.old tokens
+    ensures back { (octets : List ℕ) (tokens : List Token) → AllByRecursion (λ o. o < 256) octets → HasTokens S.next_token scanner.old tokens
         → concat tokens ≡ encoded base64 octets → GivesWhere S.Error.cause S.Octets.octets S.OctetsBuilder.sure octets result }
-    ensures whole { (tokens : List Token) (octets : List ℕ) → StandsBefore S.next_token scanner.old tokens → AllByRecursion IsSymbols tokens
+    ensures whole { (tokens : List Token) (octets : List ℕ) → HasTokens S.next_token scanner.old tokens → AllByRecursion IsSymbols tokens
         → IsEncoding base64 (concat tokens) octets → GivesWhere S.Error.cause S.Octets.octets S.OctetsBuilder.sure octets result }
-    ensures answer { (tokens : List Token) (text : List ℕ) → StandsBefore S.next_token scanner.old tokens → IsJoin tokens text
+    ensures answer { (tokens : List Token) (text : List ℕ) → HasTokens S.next_token scanner.old tokens → IsJoin tokens text
         → AnswersConverted base64_codec S.Error.cause S.Octets.octets S.OctetsBuilder.sure S.OctetsBuilder.most text result }
-    ensures only { (tokens : List Token) → StandsBefore S.next_token scanner.old tokens → IfOk result (λ o. IsEncoding base64 (concat tokens) (S.Octets.octets o)) }
-    ensures rest { (tokens : List Token) → StandsBefore S.next_token scanner.old tokens → LeavesOf S.next_token tokens result scanner.new }
+    ensures only { (tokens : List Token) → HasTokens S.next_token scanner.old tokens → IfOk result (λ o. IsEncoding base64 (concat tokens) (S.Octets.octets o)) }
+    ensures rest { (tokens : List Token) → HasTokens S.next_token scanner.old tokens → LeavesOf S.next_token tokens result scanner.new }
 {
     entry_is_scanned_back::<Base64, S>(scanner)
 }

@@ -4,7 +4,7 @@ use Rattle.dns_symbol.specs.declared.symbol.Symbol.{Symbol}
 use Rattle.dns_symbol.specs.declared.symbol.SymbolCharsError.TheVariants.{ShortInput}
 use Rattle.dns_symbol.specs.Text.{SymbolsOf}
 use Rattle.dns_symbol.proofs.Escapes.{escape_short}
-use Rattle.dns_scan.specs.Asks.{AsksSymbols, Builds}
+use Rattle.dns_scan.specs.Asks.{CallsEachSymbol, Builds}
 use Rattle.dns_symbol.specs.Cause.{Cause, custom_text}
 use Rattle.dns_scan.specs.Entries.{ScansEntry}
 use Rattle.dns_scan.specs.Tokens.{Token}
@@ -23,7 +23,7 @@ cut_read = record {
 
 module _ {E : Type 0} (cause : E → Cause) (e : E) (is : cause e ≡ custom_text (codes "unexpected end of input")) where
   -- no symbol is handed over
-  pub cut_asks : {F : Type 0} (step : F → Symbol → Result (Unit {0}) E → F → Type 0) (f : F) → AsksSymbols cause step cut_token f (Err e) f
+  pub cut_asks : {F : Type 0} (step : F → Symbol → Result (Unit {0}) E → F → Type 0) (f : F) → CallsEachSymbol cause step cut_token f (Err e) f
   cut_asks step f = record { symbols = []; error = Some ShortInput; read = cut_read; asked = (refl, is) }
 
   pub cut_builds : {O : Type 0} (step : List ℕ → Symbol → Result (Unit {0}) E → List ℕ → Type 0) (octets : O → List ℕ) → Builds cause step octets cut_token (Err e)

@@ -9,10 +9,10 @@ use Rattle.dns_symbol.proofs.Escapes.{escape_short}
 use Rattle.dns_name.specs.Reading.{Names, ReadsAs, ReadsName}
 use Rattle.dns_name.specs.declared.name.UncertainName.TheVariants.{Absolute, Relative}
 use Rattle.dns_name.specs.declared.name.error.FromStrError.TheVariants.{Symbol, BinaryLabel, EmptyLabel}
-use Rattle.dns_name.proofs.Naming.{named_none, piece_none}
+use Rattle.dns_name.proofs.Naming.{named_none, spelling_none}
 
 names_none : Names [] [] []
-names_none = record { pieces = []; last = []; joined = refl; finished = tt; opened = piece_none; some = All-nil (λ label. 0 < length label); fits = omega arith }
+names_none = record { spellings = []; last = []; joined = refl; finished = tt; opened = spelling_none; some = All-nil (λ label. 0 < length label); fits = omega arith }
 
 module _ (O : Type 0) where
   pub no_text : ReadsAs {O = O} [] (Relative [])
@@ -32,7 +32,7 @@ module _ (O : Type 0) where
       readable = refl;
       spelled = refl;
       names = record {
-        pieces = (Char 119 ∷ []) ∷ [];
+        spellings = (Char 119 ∷ []) ∷ [];
         last = Char 99 ∷ [];
         joined = refl;
         finished = (record { octets_are = refl; no_dot = refl; no_binary = λ more e. cc; short = omega arith }, tt);
@@ -55,11 +55,11 @@ module _ (O : Type 0) where
       readable = refl;
       spelled = refl;
       names = record {
-        pieces = (Char 119 ∷ DecimalEscape 119 ∷ Char 119 ∷ []) ∷ [];
+        spellings = (Char 119 ∷ DecimalEscape 119 ∷ Char 119 ∷ []) ∷ [];
         last = [];
         joined = refl;
         finished = (record { octets_are = refl; no_dot = refl; no_binary = λ more e. cc; short = omega arith }, tt);
-        opened = piece_none;
+        opened = spelling_none;
         some = All-cons (λ label. 0 < length label) (codes "www") [] (omega arith) (All-nil (λ label. 0 < length label));
         fits = omega arith;
       };
@@ -79,7 +79,7 @@ module _ (O : Type 0) where
       readable = refl;
       spelled = refl;
       names = record {
-        pieces = [];
+        spellings = [];
         last = Char 97 ∷ SimpleEscape 46 ∷ Char 98 ∷ [];
         joined = refl;
         finished = tt;
@@ -124,7 +124,7 @@ module _ (O : Type 0) where
       readable = refl;
       spelled = refl;
       names = record {
-        pieces = [];
+        spellings = [];
         last = Char 119 ∷ [];
         joined = refl;
         finished = tt;

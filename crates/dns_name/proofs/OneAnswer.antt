@@ -134,7 +134,7 @@ named_stop room text labels current rest next h fits is stuck = record {
   readable = h.readable;
   spelled = h.spelled;
   run = names_run h.symbols labels current h.names;
-  within = (h.names.fits, fits, (zip_short h.names.pieces labels h.names.finished, h.names.opened.short));
+  within = (h.names.fits, fits, (zip_short h.names.spellings labels h.names.finished, h.names.opened.short));
   is_next = is;
   stuck = stuck;
 }

@@ -13,7 +13,7 @@ use Rattle.dns_symbol.specs.declared.symbol.BadSymbol.{BadSymbol}
 use Rattle.dns_symbol.proofs.Unique.{bytes_same, bytes_some}
 use Rattle.dns_wire.specs.Wire.{wire_length}
 use Rattle.dns_wire.specs.Building.{closed}
-use Rattle.dns_name.specs.Reading.{is_dot, bracket, IsPiece, HasNamed, HasNamedBefore, HasNamedNext, ReadsName}
+use Rattle.dns_name.specs.Reading.{is_dot, bracket, SpellsLabel, HasNamed, HasNamedBefore, HasNamedNext, ReadsName}
 use Rattle.dns_name.specs.declared.name.error.FromStrError.{FromStrError}
 use Rattle.dns_name.specs.declared.name.error.FromStrError.TheVariants.{Symbol as NoSymbol, BadOctet, BinaryLabel, EmptyLabel, LongLabel, LongName, ShortBuf}
 use Rattle.dns_name.proofs.Naming.{dot_bytes}
@@ -33,7 +33,7 @@ front_symbols (x ∷ xs) (y ∷ ys) rest p q h =
     let s = sym e.0 in
     (f.0, (λ i. s i ∷ f.1 i), f.2, f.3)
 
-pub zip_short : (ps : List (List Symbol)) (ls : List (List ℕ)) → AllZip IsPiece ps ls → All (λ label. length label ≤ 63) ls
+pub zip_short : (ps : List (List Symbol)) (ls : List (List ℕ)) → AllZip SpellsLabel ps ls → All (λ label. length label ≤ 63) ls
 zip_short [] [] h = λ k d lt. absurd (omega arith)
 zip_short [] (l ∷ ls) h = absurd h
 zip_short (p ∷ ps) [] h = absurd h
@@ -48,7 +48,7 @@ module _ (text : List ℕ) (labels : List (List ℕ)) (current : List ℕ) (whol
   end = (labels, current)
 
   short : Short end
-  short = (zip_short whole.names.pieces labels whole.names.finished, whole.names.opened.short)
+  short = (zip_short whole.names.spellings labels whole.names.finished, whole.names.opened.short)
 
   -- what stands after a front of it
   pub goes_on : (front : List (List ℕ)) (last rest : List ℕ) → HasNamed text front last rest

@@ -19,7 +19,7 @@ use Rattle.dns_wire.specs.ZoneText.{is_zone_plain, zone_symbol, zone_text}
 use Rattle.dns_wire.proofs.Wires.{Bytes, labels_bytes, wire_length_append}
 use Rattle.dns_wire.proofs.Texts.{dotted_joined}
 use Rattle.dns_name.specs.Uncertain.{labels_of, IsUncertain}
-use Rattle.dns_name.specs.Reading.{is_dot, bracket, IsPiece, dotted, HasNamed, ReadsAs}
+use Rattle.dns_name.specs.Reading.{is_dot, bracket, SpellsLabel, dotted, HasNamed, ReadsAs}
 use Rattle.dns_name.specs.declared.name.UncertainName.{UncertainName}
 use Rattle.dns_name.specs.declared.name.UncertainName.TheVariants.{Absolute, Relative}
 use Rattle.dns_name.proofs.Naming.{dot_bytes, named_none}
@@ -122,63 +122,63 @@ module _ (symbol : ℕ → Symbol) (form : IsLabelForm symbol) where
   abbrev text_by : List ℕ → List ℕ
   text_by = flat_map (λ o. spell (symbol o))
 
-  abbrev piece_of : List ℕ → List Symbol
-  piece_of = map symbol
+  abbrev spelling_of : List ℕ → List Symbol
+  spelling_of = map symbol
 
-  piece_octets : (label : List ℕ) → map octet_of (piece_of label) ≡ map Ok label
-  piece_octets [] = refl
-  piece_octets (o ∷ os) = λ i. form.stands o i ∷ piece_octets os i
+  spelling_octets : (label : List ℕ) → map octet_of (spelling_of label) ≡ map Ok label
+  spelling_octets [] = refl
+  spelling_octets (o ∷ os) = λ i. form.stands o i ∷ spelling_octets os i
 
-  piece_dots : (label : List ℕ) → list_all (λ x. not (is_dot x)) (piece_of label) ≡ true
-  piece_dots [] = refl
-  piece_dots (o ∷ os) = rw (form.no_dot o, piece_dots os) refl
+  spelling_dots : (label : List ℕ) → list_all (λ x. not (is_dot x)) (spelling_of label) ≡ true
+  spelling_dots [] = refl
+  spelling_dots (o ∷ os) = rw (form.no_dot o, spelling_dots os) refl
 
-  piece_bracket : (label : List ℕ) (more : List Symbol) → piece_of label ≡ bracket ∷ more → ⊥
-  piece_bracket [] more h = cc
-  piece_bracket (o ∷ os) more h = form.no_bracket o (cc h)
+  spelling_bracket : (label : List ℕ) (more : List Symbol) → spelling_of label ≡ bracket ∷ more → ⊥
+  spelling_bracket [] more h = cc
+  spelling_bracket (o ∷ os) more h = form.no_bracket o (cc h)
 
-  piece_readable : (label : List ℕ) → Bytes label → list_all is_readable (piece_of label) ≡ true
-  piece_readable [] h = refl
-  piece_readable (o ∷ os) h = rw (form.readable o (All-head (λ b. b < 256) o os h), piece_readable os (All-tail (λ b. b < 256) o os h)) refl
+  spelling_readable : (label : List ℕ) → Bytes label → list_all is_readable (spelling_of label) ≡ true
+  spelling_readable [] h = refl
+  spelling_readable (o ∷ os) h = rw (form.readable o (All-head (λ b. b < 256) o os h), spelling_readable os (All-tail (λ b. b < 256) o os h)) refl
 
-  piece_bytes : (label : List ℕ) → encode_utf8_all (text_by label) ≡ flat_map bytes (piece_of label)
-  piece_bytes [] = refl
-  piece_bytes (o ∷ os) = encodes-append (spell (symbol o)) (text_by os) ∙ ap (λ t. bytes (symbol o) ++ t) (piece_bytes os)
+  spelling_bytes : (label : List ℕ) → encode_utf8_all (text_by label) ≡ flat_map bytes (spelling_of label)
+  spelling_bytes [] = refl
+  spelling_bytes (o ∷ os) = encodes-append (spell (symbol o)) (text_by os) ∙ ap (λ t. bytes (symbol o) ++ t) (spelling_bytes os)
 
-  printed_piece : (label : List ℕ) → length label ≤ 63 → IsPiece (piece_of label) label
-  printed_piece label h = record { octets_are = piece_octets label; no_dot = piece_dots label; no_binary = piece_bracket label; short = h }
+  printed_spelling : (label : List ℕ) → length label ≤ 63 → SpellsLabel (spelling_of label) label
+  printed_spelling label h = record { octets_are = spelling_octets label; no_dot = spelling_dots label; no_binary = spelling_bracket label; short = h }
 
-  printed_zip : (labels : List (List ℕ)) → All (λ label. length label ≤ 63) labels → AllZip IsPiece (map piece_of labels) labels
+  printed_zip : (labels : List (List ℕ)) → All (λ label. length label ≤ 63) labels → AllZip SpellsLabel (map spelling_of labels) labels
   printed_zip [] h = tt
   printed_zip (l ∷ ls) h =
-      (printed_piece l (All-head (λ label. length label ≤ 63) l ls h), printed_zip ls (All-tail (λ label. length label ≤ 63) l ls h))
+      (printed_spelling l (All-head (λ label. length label ≤ 63) l ls h), printed_zip ls (All-tail (λ label. length label ≤ 63) l ls h))
 
   -- labels before a last one
   abbrev symbols_of : List (List ℕ) → List ℕ → List Symbol
-  symbols_of front last = dotted (map piece_of front) ++ piece_of last
+  symbols_of front last = dotted (map spelling_of front) ++ spelling_of last
 
   readable_of : (front : List (List ℕ)) (last : List ℕ) → All Bytes front → Bytes last → list_all is_readable (symbols_of front last) ≡ true
-  readable_of [] last h k = piece_readable last k
+  readable_of [] last h k = spelling_readable last k
   readable_of (l ∷ ls) last h k =
-      let a = piece_readable l (All-head Bytes l ls h) in
+      let a = spelling_readable l (All-head Bytes l ls h) in
       let b = readable_of ls last (All-tail Bytes l ls h) k in
-      ap (list_all is_readable) (append_assoc (piece_of l ++ Char 46 ∷ []) (dotted (map piece_of ls)) (piece_of last)
-      ∙ append_assoc (piece_of l) (Char 46 ∷ []) (symbols_of ls last))
-      ∙ list_all-append is_readable (piece_of l) (Char 46 ∷ symbols_of ls last) ∙ rw (a, b) refl
+      ap (list_all is_readable) (append_assoc (spelling_of l ++ Char 46 ∷ []) (dotted (map spelling_of ls)) (spelling_of last)
+      ∙ append_assoc (spelling_of l) (Char 46 ∷ []) (symbols_of ls last))
+      ∙ list_all-append is_readable (spelling_of l) (Char 46 ∷ symbols_of ls last) ∙ rw (a, b) refl
 
   joined_cons : (label : List ℕ) (labels : List (List ℕ)) (last : List ℕ) → joined_by text_by (label ∷ (labels ++ last ∷ [])) ≡ text_by label ++ 46 ∷ joined_by text_by (labels ++ last ∷ [])
   joined_cons label [] last = refl
   joined_cons label (l ∷ ls) last = refl
 
   spelled_of : (front : List (List ℕ)) (last : List ℕ) → encode_utf8_all (joined_by text_by (front ++ last ∷ [])) ≡ flat_map bytes (symbols_of front last)
-  spelled_of [] last = piece_bytes last
+  spelled_of [] last = spelling_bytes last
   spelled_of (l ∷ ls) last =
       ap encode_utf8_all (joined_cons l ls last) ∙ encodes-append (text_by l) (46 ∷ joined_by text_by (ls ++ last ∷ []))
-      ∙ (λ i. piece_bytes l i ++ encodes-append (46 ∷ []) (joined_by text_by (ls ++ last ∷ [])) i)
-      ∙ ap (λ t. flat_map bytes (piece_of l) ++ (bytes (Char 46) ++ t)) (spelled_of ls last)
-      ∙ sym (flat_map-append bytes (piece_of l) (Char 46 ∷ symbols_of ls last))
-      ∙ ap (flat_map bytes) (sym (append_assoc (piece_of l ++ Char 46 ∷ []) (dotted (map piece_of ls)) (piece_of last)
-      ∙ append_assoc (piece_of l) (Char 46 ∷ []) (symbols_of ls last)))
+      ∙ (λ i. spelling_bytes l i ++ encodes-append (46 ∷ []) (joined_by text_by (ls ++ last ∷ [])) i)
+      ∙ ap (λ t. flat_map bytes (spelling_of l) ++ (bytes (Char 46) ++ t)) (spelled_of ls last)
+      ∙ sym (flat_map-append bytes (spelling_of l) (Char 46 ∷ symbols_of ls last))
+      ∙ ap (flat_map bytes) (sym (append_assoc (spelling_of l ++ Char 46 ∷ []) (dotted (map spelling_of ls)) (spelling_of last)
+      ∙ append_assoc (spelling_of l) (Char 46 ∷ []) (symbols_of ls last)))
 
   printed_named : (front : List (List ℕ)) (last : List ℕ) → All (λ label. 0 < length label) front → All (λ label. length label ≤ 63) front → length last ≤ 63
       → All Bytes front → Bytes last → wire_length (front ++ closed last) ≤ 254 → HasNamed (encode_utf8_all (joined_by text_by (front ++ last ∷ []))) front last []
@@ -187,11 +187,11 @@ module _ (symbol : ℕ → Symbol) (form : IsLabelForm symbol) where
     readable = readable_of front last h k;
     spelled = spelled_of front last ∙ sym (append-nil (flat_map bytes (symbols_of front last)));
     names = record {
-      pieces = map piece_of front;
-      last = piece_of last;
+      spellings = map spelling_of front;
+      last = spelling_of last;
       joined = refl;
       finished = printed_zip front short;
-      opened = printed_piece last few;
+      opened = printed_spelling last few;
       some = some;
       fits = fits;
     };

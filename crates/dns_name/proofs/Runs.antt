@@ -12,7 +12,7 @@ use Rattle.dns_symbol.specs.declared.symbol.BadSymbol.{BadSymbol}
 use Rattle.dns_wire.specs.Wire.{wire_length}
 use Rattle.dns_wire.specs.Building.{closed}
 use Rattle.dns_wire.proofs.Wires.{wire_length_append, All-front}
-use Rattle.dns_name.specs.Reading.{is_dot, bracket, IsPiece, dotted, Names}
+use Rattle.dns_name.specs.Reading.{is_dot, bracket, SpellsLabel, dotted, Names}
 
 -- finished labels, and the open one's octets
 abbrev pub State : Type 0
@@ -57,20 +57,20 @@ runs_same (x ∷ xs) s t u p q =
     runs_same xs p.0 t u p.2 (subst (λ v. Runs v xs u) (steps_same s q.0 p.0 x q.1 p.1) q.2)
 
 -- the symbols of a label, from the octets that are there already
-piece_runs : (piece : List Symbol) (label : List ℕ) (labels : List (List ℕ)) (before : List ℕ) → map octet_of piece ≡ map Ok label
-    → list_all (λ x. not (is_dot x)) piece ≡ true → (before ≡ [] → (more : List Symbol) → piece ≡ bracket ∷ more → ⊥)
-    → Runs (labels, before) piece (labels, before ++ label)
-piece_runs [] [] labels before are no_dot first = ap (λ c. (labels, c)) (sym (append-nil before))
-piece_runs [] (o ∷ os) labels before are no_dot first = absurd cc
-piece_runs (x ∷ xs) [] labels before are no_dot first = absurd cc
-piece_runs (x ∷ xs) (o ∷ os) labels before are no_dot first =
+spelling_runs : (spelling : List Symbol) (label : List ℕ) (labels : List (List ℕ)) (before : List ℕ) → map octet_of spelling ≡ map Ok label
+    → list_all (λ x. not (is_dot x)) spelling ≡ true → (before ≡ [] → (more : List Symbol) → spelling ≡ bracket ∷ more → ⊥)
+    → Runs (labels, before) spelling (labels, before ++ label)
+spelling_runs [] [] labels before are no_dot first = ap (λ c. (labels, c)) (sym (append-nil before))
+spelling_runs [] (o ∷ os) labels before are no_dot first = absurd cc
+spelling_runs (x ∷ xs) [] labels before are no_dot first = absurd cc
+spelling_runs (x ∷ xs) (o ∷ os) labels before are no_dot first =
     let p = and_parts (not (is_dot x)) (list_all (λ x. not (is_dot x)) xs) no_dot in
     let e : octet_of x ≡ Ok o = cc in
     let more : map octet_of xs ≡ map Ok os = cc in (
       (labels, before ++ o ∷ []),
       inr (not_true (is_dot x) p.0, (o, e, (λ none is. first none xs (ap (λ y. y ∷ xs) is)), refl)),
       subst (λ c. Runs (labels, before ++ o ∷ []) xs (labels, c)) (append_assoc before (o ∷ []) os)
-          (piece_runs xs os labels (before ++ o ∷ []) more p.1 (λ none. absurd (some_after before o none))),
+          (spelling_runs xs os labels (before ++ o ∷ []) more p.1 (λ none. absurd (some_after before o none))),
     )
   where
     not_true : (b : Bool) → not b ≡ true → b ≡ false
@@ -82,15 +82,15 @@ piece_runs (x ∷ xs) (o ∷ os) labels before are no_dot first =
     some_after (y ∷ ys) o h = cc
 
 -- a label's symbols and the dot after them
-ended_runs : (piece : List Symbol) (label : List ℕ) (labels : List (List ℕ)) → IsPiece piece label → 0 < length label
-    → Runs (labels, []) (piece ++ Char 46 ∷ []) (labels ++ label ∷ [], [])
-ended_runs piece label labels p some =
-    runs_join piece (Char 46 ∷ []) (labels, []) (labels, label) (labels ++ label ∷ [], [])
-    (piece_runs piece label labels [] p.octets_are p.no_dot (λ none. p.no_binary))
+ended_runs : (spelling : List Symbol) (label : List ℕ) (labels : List (List ℕ)) → SpellsLabel spelling label → 0 < length label
+    → Runs (labels, []) (spelling ++ Char 46 ∷ []) (labels ++ label ∷ [], [])
+ended_runs spelling label labels p some =
+    runs_join spelling (Char 46 ∷ []) (labels, []) (labels, label) (labels ++ label ∷ [], [])
+    (spelling_runs spelling label labels [] p.octets_are p.no_dot (λ none. p.no_binary))
     ((labels ++ label ∷ [], []), inl (refl, (some, refl)), refl)
 
-finished_runs : (pieces : List (List Symbol)) (labels before : List (List ℕ)) → AllZip IsPiece pieces labels → All (λ label. 0 < length label) labels
-    → Runs (before, []) (dotted pieces) (before ++ labels, [])
+finished_runs : (spellings : List (List Symbol)) (labels before : List (List ℕ)) → AllZip SpellsLabel spellings labels → All (λ label. 0 < length label) labels
+    → Runs (before, []) (dotted spellings) (before ++ labels, [])
 finished_runs [] [] before zip some = ap (λ l. (l, [])) (sym (append-nil before))
 finished_runs [] (l ∷ ls) before zip some = absurd zip
 finished_runs (p ∷ ps) [] before zip some = absurd zip
@@ -104,9 +104,9 @@ finished_runs (p ∷ ps) (l ∷ ls) before zip some =
 pub names_run : (symbols : List Symbol) (labels : List (List ℕ)) (current : List ℕ) → Names symbols labels current → Runs ([], []) symbols (labels, current)
 names_run symbols labels current n =
     subst (λ x. Runs ([], []) x (labels, current)) (sym n.joined)
-    (runs_join (dotted n.pieces) n.last ([], []) (labels, []) (labels, current)
-    (finished_runs n.pieces labels [] n.finished n.some)
-    (piece_runs n.last current labels [] n.opened.octets_are n.opened.no_dot (λ none. n.opened.no_binary)))
+    (runs_join (dotted n.spellings) n.last ([], []) (labels, []) (labels, current)
+    (finished_runs n.spellings labels [] n.finished n.some)
+    (spelling_runs n.last current labels [] n.opened.octets_are n.opened.no_dot (λ none. n.opened.no_binary)))
 
 -- the octets, and the room of each label
 abbrev pub size_of : State → ℕ

@@ -15,6 +15,7 @@ use Rattle.dns_name.specs.declared.name.UncertainName.{UncertainName}
 use Rattle.dns_name.specs.declared.name.UncertainName.TheVariants.{Absolute, Relative}
 use Rattle.dns_name.specs.declared.name.error.FromStrError.{FromStrError}
 use Rattle.dns_name.specs.declared.name.error.FromStrError.TheVariants.{Symbol as NoSymbol, BadOctet, BinaryLabel, EmptyLabel, LongLabel, LongName, ShortBuf}
+use Rattle.dns_wire.specs.Limits.{max_label, max_relative}
 
 -- a plain dot
 abbrev pub is_dot : Symbol → Bool
@@ -27,26 +28,26 @@ abbrev pub bracket : Symbol
 bracket = SimpleEscape 91
 
 -- the symbols of a label: none is a plain dot, the first is no bracket, and their octets are at most 63
-pub record IsPiece (piece : List Symbol) (label : List ℕ) : Type 0 where
-  pub octets_are : map octet_of piece ≡ map Ok label
-  pub no_dot : list_all (λ x. not (is_dot x)) piece ≡ true
-  pub no_binary : (more : List Symbol) → piece ≡ bracket ∷ more → ⊥
-  pub short : length label ≤ 63
+pub record SpellsLabel (spelling : List Symbol) (label : List ℕ) : Type 0 where
+  pub octets_are : map octet_of spelling ≡ map Ok label
+  pub no_dot : list_all (λ x. not (is_dot x)) spelling ≡ true
+  pub no_binary : (more : List Symbol) → spelling ≡ bracket ∷ more → ⊥
+  pub short : length label ≤ max_label
 
--- pieces, with a plain dot after each
+-- spellings, with a plain dot after each
 abbrev pub dotted : List (List Symbol) → List Symbol
-dotted = flat_map (λ piece. piece ++ Char dot ∷ [])
+dotted = flat_map (λ spelling. spelling ++ Char dot ∷ [])
 
--- the symbols are the pieces of finished labels, a plain dot after each, and the piece of the open label; no finished label is empty, and
+-- the symbols are the spellings of finished labels, a plain dot after each, and the spelling of the open label; no finished label is empty, and
 -- all have at most 254 octets
 pub record Names (symbols : List Symbol) (labels : List (List ℕ)) (current : List ℕ) : Type 0 where
-  pub pieces : List (List Symbol)
+  pub spellings : List (List Symbol)
   pub last : List Symbol
-  pub joined : symbols ≡ dotted pieces ++ last
-  pub finished : AllZip IsPiece pieces labels
-  pub opened : IsPiece last current
+  pub joined : symbols ≡ dotted spellings ++ last
+  pub finished : AllZip SpellsLabel spellings labels
+  pub opened : SpellsLabel last current
   pub some : All (λ label. 0 < length label) labels
-  pub fits : wire_length (labels ++ closed current) ≤ 254
+  pub fits : wire_length (labels ++ closed current) ≤ max_relative
 
 -- the text begins with symbols that name these labels and the open one, and leaves the rest
 pub record HasNamed (text : List ℕ) (labels : List (List ℕ)) (current rest : List ℕ) : Type 0 where
@@ -92,13 +93,13 @@ module _ {O : Type 0} where
       × (wire_length (labels ++ closed current) ≤ most)
   ReadsName sure most text (Err LongName) =
       (labels : List (List ℕ)) × (current : List ℕ) × (octet : ℕ) × HasNamedNext text labels current octet
-      × (254 < wire_length (labels ++ closed (current ++ octet ∷ []))) × (wire_length (labels ++ closed current) ≤ most)
+      × (max_relative < wire_length (labels ++ closed (current ++ octet ∷ []))) × (wire_length (labels ++ closed current) ≤ most)
   ReadsName sure most text (Err LongLabel) =
       (labels : List (List ℕ)) × (current : List ℕ) × (octet : ℕ) × HasNamedNext text labels current octet
-      × (wire_length (labels ++ closed (current ++ octet ∷ [])) ≤ 254) × (length current ≡ 63) × (wire_length (labels ++ closed current) ≤ most)
+      × (wire_length (labels ++ closed (current ++ octet ∷ [])) ≤ max_relative) × (length current ≡ max_label) × (wire_length (labels ++ closed current) ≤ most)
   ReadsName sure most text (Err ShortBuf) =
       ((labels : List (List ℕ)) × (current : List ℕ) × (octet : ℕ) × HasNamedNext text labels current octet
-      × (wire_length (labels ++ closed (current ++ octet ∷ [])) ≤ 254) × (length current < 63) × (wire_length (labels ++ closed current) ≤ most)
+      × (wire_length (labels ++ closed (current ++ octet ∷ [])) ≤ max_relative) × (length current < max_label) × (wire_length (labels ++ closed current) ≤ most)
       × (sure < wire_length (labels ++ closed (current ++ octet ∷ []))))
       ⊎ (((text ≡ dot ∷ []) × (sure < 1))
       ⊎ ((labels : List (List ℕ)) × HasNamed text labels [] [] × (labels ≢ []) × (wire_length labels ≤ most) × (sure < wire_length labels + 1)))

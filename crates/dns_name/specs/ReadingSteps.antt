@@ -10,6 +10,7 @@ use Rattle.dns_name.specs.declared.name.UncertainName.{UncertainName}
 use Rattle.dns_name.specs.declared.name.UncertainName.TheVariants.{Absolute, Relative}
 use Rattle.dns_name.specs.declared.name.error.FromStrError.{FromStrError}
 use Rattle.dns_name.specs.declared.name.error.FromStrError.TheVariants.{Symbol as NoSymbol, BadOctet, BinaryLabel, EmptyLabel, LongLabel, LongName, ShortBuf}
+use Rattle.dns_wire.specs.Limits.{max_label, max_relative}
 
 -- the symbol stands for the octet, and may stand next
 abbrev pub GivesOctet : Naming → Symbol → ℕ → Type 0
@@ -18,15 +19,15 @@ GivesOctet b x octet = (octet_of x ≡ Ok octet) × (b.current ≡ [] → x ≢ 
 -- what taking a symbol other than a plain dot answers, and what the builder then holds
 abbrev pub TakesSymbol : ℕ → ℕ → Naming → Symbol → Result (Unit {0}) FromStrError → Naming → Type 0
 TakesSymbol sure most b x (Ok _) new =
-    (octet : ℕ) × GivesOctet b x octet × (new ≡ with_octet b octet) × (wire_length (all_labels (with_octet b octet)) ≤ 254)
-    × (length b.current < 63) × (wire_length (all_labels (with_octet b octet)) ≤ most)
+    (octet : ℕ) × GivesOctet b x octet × (new ≡ with_octet b octet) × (wire_length (all_labels (with_octet b octet)) ≤ max_relative)
+    × (length b.current < max_label) × (wire_length (all_labels (with_octet b octet)) ≤ most)
 TakesSymbol sure most b x (Err BinaryLabel) new = (b.current ≡ []) × (x ≡ bracket)
 TakesSymbol sure most b x (Err BadOctet) new = (e : BadSymbol) × (octet_of x ≡ Err e)
-TakesSymbol sure most b x (Err LongName) new = (octet : ℕ) × GivesOctet b x octet × (254 < wire_length (all_labels (with_octet b octet)))
+TakesSymbol sure most b x (Err LongName) new = (octet : ℕ) × GivesOctet b x octet × (max_relative < wire_length (all_labels (with_octet b octet)))
 TakesSymbol sure most b x (Err LongLabel) new =
-    (octet : ℕ) × GivesOctet b x octet × (wire_length (all_labels (with_octet b octet)) ≤ 254) × (63 ≤ length b.current)
+    (octet : ℕ) × GivesOctet b x octet × (wire_length (all_labels (with_octet b octet)) ≤ max_relative) × (max_label ≤ length b.current)
 TakesSymbol sure most b x (Err ShortBuf) new =
-    (octet : ℕ) × GivesOctet b x octet × (wire_length (all_labels (with_octet b octet)) ≤ 254) × (length b.current < 63)
+    (octet : ℕ) × GivesOctet b x octet × (wire_length (all_labels (with_octet b octet)) ≤ max_relative) × (length b.current < max_label)
     × (sure < wire_length (all_labels (with_octet b octet)))
 TakesSymbol sure most b x (Err EmptyLabel) new = ⊥
 TakesSymbol sure most b x (Err (NoSymbol e)) new = ⊥

@@ -18,6 +18,7 @@ use Rattle.dns_name.specs.declared.name.UncertainName.{UncertainName}
 use Rattle.dns_name.specs.declared.name.UncertainName.TheVariants.{Absolute, Relative}
 use Rattle.dns_name.specs.declared.name.error.UncertainDnameError.{UncertainDnameError}
 use Rattle.dns_name.specs.declared.name.error.UncertainDnameError.TheVariants.{BadLabel, CompressedName, LongName, TrailingData, ShortInput}
+use Rattle.dns_wire.specs.Limits.{max_name, max_relative}
 
 module _ {O : Type 0} where
   -- its labels, of either kind
@@ -39,7 +40,7 @@ module _ {O : Type 0} where
   -- what holds of each name of its kind
   abbrev pub IsUncertain : UncertainName O → Type 0
   IsUncertain (Absolute name) = IsName name × EndsInRoot name
-  IsUncertain (Relative name) = IsName name × HasNoRoot name × (wire_length name ≤ 254)
+  IsUncertain (Relative name) = IsName name × HasNoRoot name × (wire_length name ≤ max_relative)
 
   pub is_name_of : (n : UncertainName O) → IsUncertain n → IsName (labels_of n)
   is_name_of (Absolute name) h = h.0
@@ -50,7 +51,7 @@ module _ {O : Type 0} where
   labels_after (Absolute name) right = name
   labels_after (Relative name) right = name ++ right
 
-  pub after_name : (n : UncertainName O) (right : List (List ℕ)) → IsUncertain n → IsName right → wire_length (labels_after n right) ≤ 255 → IsName (labels_after n right)
+  pub after_name : (n : UncertainName O) (right : List (List ℕ)) → IsUncertain n → IsName right → wire_length (labels_after n right) ≤ max_name → IsName (labels_after n right)
   after_name (Absolute name) right h r fits = h.0
   after_name (Relative name) right h r fits = chain_name name right h.0 h.1 r fits
 
@@ -91,8 +92,8 @@ module _ {O : Type 0} where
   -- what making a name from octets answers where they are few enough, by their count, the labels and the rest
   abbrev pub AnswersUncertain : ℕ → List (List ℕ) → List ℕ → Result (UncertainName O) UncertainDnameError → Type 0
   AnswersUncertain count labels rest (Ok (Absolute name)) = (rest ≡ 0 ∷ []) × (name ≡ labels ++ [] ∷ [])
-  AnswersUncertain count labels rest (Ok (Relative name)) = (count ≤ 254) × (rest ≡ []) × (labels ≢ []) × (name ≡ labels)
-  AnswersUncertain count labels rest (Err LongName) = (254 < count) × (rest ≡ [])
+  AnswersUncertain count labels rest (Ok (Relative name)) = (count ≤ max_relative) × (rest ≡ []) × (labels ≢ []) × (name ≡ labels)
+  AnswersUncertain count labels rest (Err LongName) = (max_relative < count) × (rest ≡ [])
   AnswersUncertain count labels rest (Err TrailingData) = IsRootAndMore rest
   AnswersUncertain count labels rest (Err ShortInput) = IsCut rest × (rest ≡ [] → labels ≡ [])
   AnswersUncertain count labels rest (Err (BadLabel e)) = RefusesLabel (BadType e) rest
@@ -101,5 +102,5 @@ module _ {O : Type 0} where
   -- more than 255 octets are too long; else the octets in their one way decide
   abbrev pub MakesUncertain : List ℕ → Result (UncertainName O) UncertainDnameError → Type 0
   MakesUncertain octets result =
-      ((255 < length octets) × (result ≡ Err LongName))
-      ⊎ ((length octets ≤ 255) × ((labels : List (List ℕ)) × (rest : List ℕ) × Splits octets labels rest × AnswersUncertain (length octets) labels rest result))
+      ((max_name < length octets) × (result ≡ Err LongName))
+      ⊎ ((length octets ≤ max_name) × ((labels : List (List ℕ)) × (rest : List ℕ) × Splits octets labels rest × AnswersUncertain (length octets) labels rest result))

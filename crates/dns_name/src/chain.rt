@@ -1,10 +1,13 @@
 //! Names one after another.
 ghost use Rattle.std.specs.Prelude.{◌≤◌, ◌++◌, Some, codes};
 ghost use Rattle.dns_wire.specs.Wire.{wire_length};
+ghost use Rattle.dns_wire.specs.Limits.{max_name};
 
 use dns_octets::{EmptyBuilder, FromBuilder, OctetsBuilder, ShortBuf};
 use dns_scan::Scanner;
-use dns_wire::{DisplayWithoutDot, FlattenInto, Label, Name, ToLabelIter, ToName, ToRelativeName};
+use dns_wire::{
+    DisplayWithoutDot, FlattenInto, Label, MAX_NAME, Name, ToLabelIter, ToName, ToRelativeName,
+};
 use std::alloc::AllocError;
 use std::error::Error;
 use std::fmt;
@@ -35,7 +38,7 @@ impl Error for LongChainError {}
 pub struct Chain<L: ToRelativeName, R: ToLabelIter> {
     left: L,
     right: R,
-    ghost fits: { wire_length (L.labels left ++ R.labels right) ≤ 255 },
+    ghost fits: { wire_length (L.labels left ++ R.labels right) ≤ max_name },
 }
 
 impl<L: ToRelativeName, R: ToLabelIter> Chain<L, R> {
@@ -51,10 +54,10 @@ impl<L: ToRelativeName, R: ToLabelIter> Chain<L, R> {
     where
         L: Drop,
         R: Drop,
-        ensures ok { IsOk result ↔ (wire_length (L.labels left) + wire_length (R.labels right) ≤ 255) }
+        ensures ok { IsOk result ↔ (wire_length (L.labels left) + wire_length (R.labels right) ≤ max_name) }
         ensures value { IfOk result (λ c. (left_of c ≡ left) × (right_of c ≡ right)) }
     {
-        if left.compose_len() > 255 - right.compose_len() {
+        if left.compose_len() > MAX_NAME as u16 - right.compose_len() {
             return Err(LongChainError);
         }
         Ok(Chain { left, right })
@@ -66,7 +69,7 @@ impl<L: ToRelativeName, R: ToLabelIter> Chain<L, R> {
     where
         L: Drop,
         R: ToRelativeName + Drop,
-        ensures ok { IsOk result ↔ (wire_length (L.labels (left_of self) ++ R.labels (right_of self)) + wire_length (T.labels other) ≤ 255) }
+        ensures ok { IsOk result ↔ (wire_length (L.labels (left_of self) ++ R.labels (right_of self)) + wire_length (T.labels other) ≤ max_name) }
         ensures value { IfOk result (λ c. (left_of c ≡ self) × (right_of c ≡ other)) }
     {
         Chain::new(self, other)

@@ -1,10 +1,12 @@
 //! Names that are absolute or relative.
+ghost use Rattle.dns_wire.specs.Limits.{max_name};
+
 use crate::chain::{LongChainError, UncertainChain};
 use dns_octets::{
     AsOctets, EmptyBuilder, FreezeBuilder, FromBuilder, IntoBuilder, OctetsBuilder, ShortBuf,
 };
 use dns_wire::split::{Rest, rest_of};
-use dns_wire::{Name, NameIter, PushError, RelativeName, SplitLabelError, ToLabelIter};
+use dns_wire::{MAX_NAME, Name, NameIter, PushError, RelativeName, SplitLabelError, ToLabelIter};
 use std::alloc::{AllocError, Allocator};
 
 mod display;
@@ -119,7 +121,7 @@ impl<Octets: AsOctets> UncertainName<Octets> {
         ensures { MakesUncertain (Octets.octets octets) result }
     {
         let slice = octets.as_slice();
-        if slice.len() > 255 {
+        if slice.len() > MAX_NAME {
             return Err(UncertainDnameError::LongName);
         }
         match rest_of(slice) {
@@ -269,7 +271,7 @@ impl<Octets: AsOctets> UncertainName<Octets> {
     ) -> Result<UncertainChain<Octets, S>, LongChainError>
     where
         Octets: Drop,
-        ensures ok { IsOk result ↔ (wire_length (labels_after self (S.labels suffix)) ≤ 255) }
+        ensures ok { IsOk result ↔ (wire_length (labels_after self (S.labels suffix)) ≤ max_name) }
         ensures value { IfOk result (λ c. (first_of c ≡ self) × (second_of c ≡ suffix)) }
     {
         UncertainChain::new(self, suffix)

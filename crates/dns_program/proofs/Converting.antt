@@ -216,18 +216,18 @@ module _ {E : Type 0} (cause : E → Cause) (sure most : ℕ) where
 
   -- the converters
   pub base_converts : (b : Base) (t : Token) (start : ConverterState) (r : Result (List ℕ) E) → start ≡ new_converter
-      → Converts cause sure most (λ s r after. Makes cause (convert_tail b s.group s.spoiled) r after) (λ s. s)
-      (λ p a q. ConvertToken cause sure most (λ s x r after. Makes cause (convert b s.group s.spoiled x) r after) p t a q) start r
+      → Converts cause sure most (λ s r after. Makes cause (convert_tail b s.group s.failed) r after) (λ s. s)
+      (λ p a q. ConvertToken cause sure most (λ s x r after. Makes cause (convert b s.group s.failed x) r after) p t a q) start r
       → MatchResult r (λ o. ConvertsTo (codec_of b) t (Ok o)) (λ e. ConvertsTo (codec_of b) t (Err (cause e)) ⊎ (cause e ≡ short_buf))
   base_converts b t start r new h =
-      converts_to (codec_of b) (λ s x r after. Makes cause (convert b s.group s.spoiled x) r after) (λ s r after. Makes cause (convert_tail b s.group s.spoiled) r after)
-      (λ h. (h.group, h.spoiled)) (λ h x r k t. (t.answers, λ i. (t.group i, t.spoiled i))) (λ h r k t. t.answers) t start r (ap (λ (h : ConverterState). (h.group, h.spoiled)) new) h
+      converts_to (codec_of b) (λ s x r after. Makes cause (convert b s.group s.failed x) r after) (λ s r after. Makes cause (convert_tail b s.group s.failed) r after)
+      (λ h. (h.group, h.failed)) (λ h x r k t. (t.answers, λ i. (t.group i, t.failed i))) (λ h r k t. t.answers) t start r (ap (λ (h : ConverterState). (h.group, h.failed)) new) h
 
   -- the same, with what is made before the answer
   pub base_answer : (b : Base) {O : Type 0} (octets : O → List ℕ) (t : Token) (start : ConverterState) (r : Result O E) → start ≡ new_converter
-      → Converts cause sure most (λ s r after. Makes cause (convert_tail b s.group s.spoiled) r after) octets
-      (λ p a q. ConvertToken cause sure most (λ s x r after. Makes cause (convert b s.group s.spoiled x) r after) p t a q) start r
+      → Converts cause sure most (λ s r after. Makes cause (convert_tail b s.group s.failed) r after) octets
+      (λ p a q. ConvertToken cause sure most (λ s x r after. Makes cause (convert b s.group s.failed x) r after) p t a q) start r
       → AnswersConverted (codec_of b) cause octets sure most t r
   base_answer b octets t start r new h =
-      converted_answer (codec_of b) (λ s x r after. Makes cause (convert b s.group s.spoiled x) r after) (λ s r after. Makes cause (convert_tail b s.group s.spoiled) r after)
-      (λ h. (h.group, h.spoiled)) (λ h x r k t. (t.answers, λ i. (t.group i, t.spoiled i))) (λ h r k t. t.answers) octets t start r (ap (λ (h : ConverterState). (h.group, h.spoiled)) new) h
+      converted_answer (codec_of b) (λ s x r after. Makes cause (convert b s.group s.failed x) r after) (λ s r after. Makes cause (convert_tail b s.group s.failed) r after)
+      (λ h. (h.group, h.failed)) (λ h x r k t. (t.answers, λ i. (t.group i, t.failed i))) (λ h r k t. t.answers) octets t start r (ap (λ (h : ConverterState). (h.group, h.failed)) new) h

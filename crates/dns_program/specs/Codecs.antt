@@ -72,7 +72,7 @@ abbrev pub codec_of : Base → Codec
 codec_of b = record {
   Held = Group × Bool;
   start = (fresh, false);
-  step = λ held x. ((convert b held.0 held.1 x).answer, ((convert b held.0 held.1 x).group, (convert b held.0 held.1 x).spoiled));
+  step = λ held x. ((convert b held.0 held.1 x).answer, ((convert b held.0 held.1 x).group, (convert b held.0 held.1 x).failed));
   tail = λ held. (convert_tail b held.0 held.1).answer;
 }
 

@@ -49,8 +49,8 @@ abbrev pub AsksFields : List (List ℕ) → List Asked → Type 0
 AsksFields words asked = words ≡ map field_word asked
 
 -- the words `line KIND FIELD..`
-abbrev pub AsksLine : List (List ℕ) → DisplayKind → List (List ℕ) → Type 0
-AsksLine words kind fields = words ≡ codes "line" ∷ layout_name kind ∷ fields
+abbrev pub IsLineCommand : List (List ℕ) → DisplayKind → List (List ℕ) → Type 0
+IsLineCommand words kind fields = words ≡ codes "line" ∷ layout_name kind ∷ fields
 
 -- the token is what a field of that kind holds
 abbrev pub Holds : FieldKind → Token → Content → Type 0

@@ -40,8 +40,8 @@ kind_name Base64 = codes "base64"
 kind_name Name = codes "name"
 
 -- the words `scan KIND TOKEN..`
-abbrev pub AsksScan : List (List ℕ) → ScanKind → List Token → Type 0
-AsksScan words kind tokens = words ≡ codes "scan" ∷ kind_name kind ∷ tokens
+abbrev pub IsScanCommand : List (List ℕ) → ScanKind → List Token → Type 0
+IsScanCommand words kind tokens = words ≡ codes "scan" ∷ kind_name kind ∷ tokens
 
 -- the text of a refusal
 abbrev pub cause_text : Cause → List ℕ

@@ -17,7 +17,7 @@ escaped = record {
   read = record { rest = []; readable = refl; spelled = refl; ends = refl };
   text = codes "CaFE";
   chars = refl;
-  decodes = record { chars = codes "CaFE"; pieces = 12 ∷ 10 ∷ 15 ∷ 14 ∷ []; named = (refl, (refl, (refl, (refl, tt)))); count = refl; spelled = refl; value_is = refl };
+  decodes = record { chars = codes "CaFE"; digits = 12 ∷ 10 ∷ 15 ∷ 14 ∷ []; valued = (refl, (refl, (refl, (refl, tt)))); count = refl; spelled = refl; value_is = refl };
 }
 
 -- a decimal escape has no character

@@ -2,11 +2,11 @@
 ghost use Rattle.std.specs.Prelude.{◌≡◌, ◌⊎◌, ℕ, List, [], ◌∷◌, ◌++◌, Ok, Err, Option, MatchOption, MatchResult, IsTrue, ◌↔◌, codes, map, IfOk, IfSome, drop, ◌≤◌};
 ghost use Rattle.std.specs.Fmt.{WritesInCalls};
 ghost use Rattle.dns_scan.specs.Entries.{Converts, ConvertToken};
-ghost use Rattle.dns_scan.specs.Stands.{StandsBefore};
+ghost use Rattle.dns_scan.specs.Stands.{HasTokens};
 ghost use Rattle.dns_scan.specs.Tokens.{Token};
 ghost use Rattle.dns_iter.specs.Name.{ReadsNames};
 ghost use Rattle.dns_program.specs.Program.{kind_name, LineBy, LineWritten, LinesWritten, OctetsLine, NumberPrints, NumberRefused, ScanPrinted, ScanRefused, refusal_line, usage_line, texts};
-ghost use Rattle.dns_program.specs.Run.{AsksNothing, RunPrinted, RunRefused};
+ghost use Rattle.dns_program.specs.Run.{IsUnknownCommand, RunPrinted, RunRefused};
 
 use crate::line::run_line;
 use crate::print::{layout_kind, run_print};
@@ -113,9 +113,9 @@ fn print_number<S: Scanner, O: fmt::Write>(
 ) -> Result<(), Stop<S::Error>>
     requires { S.can_scan scanner.old }
     ensures ready { S.can_scan scanner.new }
-    ensures line { (token : Token) (others : List Token) → StandsBefore S.next_token scanner.old (token ∷ others)
+    ensures line { (token : Token) (others : List Token) → HasTokens S.next_token scanner.old (token ∷ others)
         → LineBy S.Error.cause O.write_str_gives (NumberPrints limit) (NumberRefused limit) token out.old result out.new }
-    ensures rest { (token : Token) (others : List Token) → StandsBefore S.next_token scanner.old (token ∷ others) → StandsBefore S.next_token scanner.new others }
+    ensures rest { (token : Token) (others : List Token) → HasTokens S.next_token scanner.old (token ∷ others) → HasTokens S.next_token scanner.new others }
 {
     let value = match scan_number(scanner, limit) {
         Ok(value) => value,
@@ -136,9 +136,9 @@ where
     S::Octets: Drop,
     requires { S.can_scan scanner.old }
     ensures ready { S.can_scan scanner.new }
-    ensures line { (token : Token) (others : List Token) → StandsBefore S.next_token scanner.old (token ∷ others)
+    ensures line { (token : Token) (others : List Token) → HasTokens S.next_token scanner.old (token ∷ others)
         → LineWritten S.Error.cause O.write_str_gives ScanKind.Charstr token out.old result out.new }
-    ensures rest { (token : Token) (others : List Token) → StandsBefore S.next_token scanner.old (token ∷ others) → StandsBefore S.next_token scanner.new others }
+    ensures rest { (token : Token) (others : List Token) → HasTokens S.next_token scanner.old (token ∷ others) → HasTokens S.next_token scanner.new others }
 {
     let string = match scanner.scan_charstr() {
         Ok(string) => string,
@@ -160,11 +160,11 @@ where
     S::Octets: Drop,
     requires { S.can_scan scanner.old }
     ensures ready { S.can_scan scanner.new }
-    ensures line { (token : Token) (others : List Token) → StandsBefore S.next_token scanner.old (token ∷ others)
+    ensures line { (token : Token) (others : List Token) → HasTokens S.next_token scanner.old (token ∷ others)
         → OctetsLine O.write_str_gives
         (Converts S.Error.cause S.OctetsBuilder.sure S.OctetsBuilder.most C.tail (λ s. s) (λ p a q. ConvertToken S.Error.cause S.OctetsBuilder.sure S.OctetsBuilder.most C.takes p token a q) convert)
         out.old result out.new }
-    ensures rest { (token : Token) (others : List Token) → StandsBefore S.next_token scanner.old (token ∷ others) → StandsBefore S.next_token scanner.new others }
+    ensures rest { (token : Token) (others : List Token) → HasTokens S.next_token scanner.old (token ∷ others) → HasTokens S.next_token scanner.new others }
 {
     let octets = match scanner.convert_token(convert) {
         Ok(octets) => octets,
@@ -184,9 +184,9 @@ fn print_name<A: Allocator, S: Scanner<Name = Name<Vec<u8, A>>>, O: fmt::Write>(
     requires ready { S.can_scan scanner.old }
     requires names { ReadsNames S.Error.cause S.reads_name }
     ensures ready { S.can_scan scanner.new }
-    ensures line { (token : Token) (others : List Token) → StandsBefore S.next_token scanner.old (token ∷ others)
+    ensures line { (token : Token) (others : List Token) → HasTokens S.next_token scanner.old (token ∷ others)
         → LineWritten S.Error.cause O.write_str_gives ScanKind.Name token out.old result out.new }
-    ensures rest { (token : Token) (others : List Token) → StandsBefore S.next_token scanner.old (token ∷ others) → StandsBefore S.next_token scanner.new others }
+    ensures rest { (token : Token) (others : List Token) → HasTokens S.next_token scanner.old (token ∷ others) → HasTokens S.next_token scanner.new others }
 {
     let name = match UncertainName::scan(scanner) {
         Ok(name) => name,
@@ -209,9 +209,9 @@ where
     requires ready { S.can_scan scanner.old }
     requires names { ReadsNames S.Error.cause S.reads_name }
     ensures ready { S.can_scan scanner.new }
-    ensures line { (token : Token) (others : List Token) → StandsBefore S.next_token scanner.old (token ∷ others)
+    ensures line { (token : Token) (others : List Token) → HasTokens S.next_token scanner.old (token ∷ others)
         → LineWritten S.Error.cause O.write_str_gives kind token out.old result out.new }
-    ensures rest { (token : Token) (others : List Token) → StandsBefore S.next_token scanner.old (token ∷ others) → StandsBefore S.next_token scanner.new others }
+    ensures rest { (token : Token) (others : List Token) → HasTokens S.next_token scanner.old (token ∷ others) → HasTokens S.next_token scanner.new others }
 {
     match kind {
         ScanKind::U8 => print_number(scanner, u8::MAX as u128, out),
@@ -238,7 +238,7 @@ where
     S::Octets: Drop,
     requires ready { S.can_scan scanner.old }
     requires names { ReadsNames S.Error.cause S.reads_name }
-    requires stands { StandsBefore S.next_token scanner.old (texts tokens.now) }
+    requires stands { HasTokens S.next_token scanner.old (texts tokens.now) }
     ensures { LinesWritten S.Error.cause O.write_str_gives kind (texts tokens.now) out.old result out.new }
 {
     for _token in tokens {
@@ -310,8 +310,8 @@ pub fn run<A: Allocator + Copy, O: fmt::Write, E: fmt::Write>(
     ensures printed { result ≡ 0 → RunPrinted O.write_str_gives (texts words.now) out.old out.new × (err.new ≡ err.old) }
     ensures refused { result ≡ 1 → (reason : List ℕ) × RunRefused O.write_str_gives (texts words.now) out.old out.new reason
         × WritesInCalls E.write_str_gives err.old (refusal_line reason) err.new }
-    ensures usage { result ≡ 2 → AsksNothing (texts words.now) × (out.new ≡ out.old) × WritesInCalls E.write_str_gives err.old usage_line err.new }
-    ensures silent { result ≡ 3 → (AsksNothing (texts words.now) × (out.new ≡ out.old))
+    ensures usage { result ≡ 2 → IsUnknownCommand (texts words.now) × (out.new ≡ out.old) × WritesInCalls E.write_str_gives err.old usage_line err.new }
+    ensures silent { result ≡ 3 → (IsUnknownCommand (texts words.now) × (out.new ≡ out.old))
         ⊎ ((reason : List ℕ) × RunRefused O.write_str_gives (texts words.now) out.old out.new reason) }
     ensures status { result ≤ 3 }
 {

@@ -3,7 +3,7 @@ use Rattle.std.proofs.Common.{ℕ, ◌≡◌, ◌<◌, List, [], ◌∷◌, ◌+
 use Rattle.std.specs.Prelude.{IsOkAnd}
 use Rattle.dns_symbol.specs.Cause.{Cause}
 use Rattle.dns_scan.specs.Numbers.{by_cause}
-use Rattle.dns_scan.specs.Stands.{StandsBefore}
+use Rattle.dns_scan.specs.Stands.{HasTokens}
 use Rattle.dns_scan.specs.Tokens.{Token}
 use Rattle.dns_record.specs.FieldLaws.{may_after}
 use Rattle.dns_record.specs.ReadsBack.{FieldBack, ReadsBack}
@@ -15,9 +15,9 @@ use Rattle.dns_record.specs.Values.{Value, hex, base64_octets, IsText, AreTexts,
 
 module _ {S T E : Type 0} (next : S → Option Token → S → Type 0) (cause : E → Cause) (sure : ℕ) (values : T → List Value) (wanted : List Value) (others rest : List Token) (new : S) where
   -- where these are some of all fields
-  pub scanned_back : (all : List Value) → (SomeMayLack sure wanted → SomeMayLack sure all) → (r : Result T E) → FieldBack sure values wanted others (by_cause cause r) rest → StandsBefore next new rest
+  pub scanned_back : (all : List Value) → (SomeMayLack sure wanted → SomeMayLack sure all) → (r : Result T E) → FieldBack sure values wanted others (by_cause cause r) rest → HasTokens next new rest
       → ReadsBack next cause sure values wanted all others r new
-  scanned_back all among (Ok x) (inl h) stands = inl (h.0, subst (StandsBefore next new) h.1 stands)
+  scanned_back all among (Ok x) (inl h) stands = inl (h.0, subst (HasTokens next new) h.1 stands)
   scanned_back all among (Ok x) (inr h) stands = absurd (⊎_elim (λ e. e) (λ e. e) h.0)
   scanned_back all among (Err e) (inl h) stands = absurd h.0
   scanned_back all among (Err e) (inr h) stands = inr (h.0, among h.1)
@@ -40,7 +40,7 @@ module _ {S O E : Type 0} (next : S → Option Token → S → Type 0) (cause : 
       → (0 < length (value o) → IsOkAnd r (λ s. s ≡ value o)) → ReadsBack next cause sure (λ s. make s ∷ []) (make octets ∷ []) (past ++ make octets ∷ []) [] r new
   some_rest o r some gives leaves made =
       let is : value o ≡ octets = ⊎_elim (λ e. e) (λ e. absurd e.0) gives in
-      inl (by r is (made (omega (arith, some, ap length is))), subst (StandsBefore next new) (leaves.3 refl) leaves.4)
+      inl (by r is (made (omega (arith, some, ap length is))), subst (HasTokens next new) (leaves.3 refl) leaves.4)
     where
       by : (r : Result (List ℕ) E) → value o ≡ octets → IsOkAnd r (λ s. s ≡ value o) → IsOkAnd r (λ s. make s ∷ [] ≡ make octets ∷ [])
       by (Ok s) is e = ap (λ l. make l ∷ []) (e ∙ is)

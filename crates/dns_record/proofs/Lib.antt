@@ -1,4 +1,4 @@
 pub mod FieldsBack
 pub mod OneEntry
-pub mod Pieces
+pub mod Parts
 pub mod StringsBack

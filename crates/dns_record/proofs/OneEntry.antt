@@ -5,16 +5,16 @@ use Rattle.dns_split.specs.Splitting.{Entries, Splits, SplitsOnlyInto}
 use Rattle.dns_zone.specs.Documents.{IsWellFormed}
 use Rattle.dns_zone.specs.Layout.{Step}
 use Rattle.dns_zone_laws.specs.Entries.{document_entries}
-use Rattle.dns_record.specs.Pieces.{Piece, IsLaidOut, steps_of, values_of}
+use Rattle.dns_record.specs.Parts.{Part, IsLaidOut, steps_of, values_of}
 use Rattle.dns_record.specs.Values.{AreValues}
-use Rattle.dns_record.proofs.Pieces.{pieces_entry, pieces_formed, tokens_of}
+use Rattle.dns_record.proofs.Parts.{parts_entry, parts_formed, tokens_of}
 
 -- what such a text splits into
-pub record_entry : (ps : List Piece) (document : List Step) (text : List ℕ) (found : Entries) → document ≡ steps_of ps → AreValues (values_of ps) → IsLaidOut ps
+pub record_entry : (ps : List Part) (document : List Step) (text : List ℕ) (found : Entries) → document ≡ steps_of ps → AreValues (values_of ps) → IsLaidOut ps
     → (IsWellFormed document → SplitsOnlyInto text (document_entries document)) → Splits text found → found ≡ tokens_of ps ∷ []
 record_entry ps document text found is valid laid only splits =
-    let formed = subst IsWellFormed (sym is) (pieces_formed ps valid laid) in
-    (only formed found).0 splits ∙ ap document_entries is ∙ pieces_entry ps
+    let formed = subst IsWellFormed (sym is) (parts_formed ps valid laid) in
+    (only formed found).0 splits ∙ ap document_entries is ∙ parts_entry ps
 
 pub first_of : {A : Type 0} (es : List (Vec (String A) A)) (x : Vec (String A) A) (rest : List (Vec (String A) A)) (ts : List (List ℕ)) → es ≡ x ∷ rest → entries_of es ≡ ts ∷ [] → texts x.items ≡ ts
 first_of es x rest ts is e = let f : entries_of (x ∷ rest) ≡ ts ∷ [] = ap entries_of (sym is) ∙ e in cc

@@ -8,7 +8,7 @@ use Rattle.dns_charstr.proofs.ReadBack.{reads_back}
 use Rattle.dns_symbol.specs.Cause.{Cause, short_buf}
 use Rattle.dns_scan.specs.Join.{LeavesOf}
 use Rattle.dns_scan.specs.Octets.{IsPrinted}
-use Rattle.dns_scan.specs.Stands.{StandsBefore, stands_takes}
+use Rattle.dns_scan.specs.Stands.{HasTokens, stands_takes}
 use Rattle.dns_scan.specs.Tokens.{Token, Peeks}
 use Rattle.dns_scan.proofs.TokensLeft.{none_left}
 use Rattle.dns_symbol.specs.Printed.{is_quoted_escape, is_unquoted_escape}
@@ -32,7 +32,7 @@ some_values [] h = h
 some_values (x ∷ xs) h = omega arith
 
 -- where nothing was seen, nothing is left
-pub none_stands : {S : Type 0} (next : S → Option Token → S → Type 0) (u v : S) (o : Option Token) (ts : List Token) → Peeks next u v o → false ≡ is_some o → StandsBefore next v ts → ts ≡ []
+pub none_stands : {S : Type 0} (next : S → Option Token → S → Type 0) (u v : S) (o : Option Token) (ts : List Token) → Peeks next u v o → false ≡ is_some o → HasTokens next v ts → ts ≡ []
 none_stands next u v o ts p none stands = none_left ts o (stands_takes next v ts o p.shown.0 stands p.shown.1).0 none
 
 -- ---- all that is left
@@ -62,7 +62,7 @@ module _ {S E : Type 0} (next : S → Option Token → S → Type 0) (cause : E 
       → ReadsBack next cause sure strings_of (strings_of strings) (past ++ strings_of strings) [] r new
   strings_given {A} v r valid some texts whole leaves made =
       let is : v.items ≡ strings = ⊎_elim (λ e. e) (λ e. absurd e) (whole (texts_read strings tokens valid texts) (short_each strings valid)) in
-      inl (by r is (made (subst (λ (l : List (List ℕ)). 0 < length l) (sym is) (some_strings strings some))), subst (StandsBefore next new) (leaves.3 refl) leaves.4)
+      inl (by r is (made (subst (λ (l : List (List ℕ)). 0 < length l) (sym is) (some_strings strings some))), subst (HasTokens next new) (leaves.3 refl) leaves.4)
     where
       by : (r : Result (List (List ℕ)) E) → v.items ≡ strings → IsOkAnd r (λ s. s ≡ v.items) → IsOkAnd r (λ s. strings_of s ≡ strings_of strings)
       by (Ok s) is e = ap strings_of (e ∙ is)

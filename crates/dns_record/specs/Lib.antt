@@ -1,5 +1,5 @@
 pub mod FieldLaws
-pub mod Pieces
+pub mod Parts
 pub mod ReadsBack
 pub mod Several
 pub mod Values

@@ -1,18 +1,18 @@
--- A list of character strings: its pieces, its values and its document.
+-- A list of character strings: its parts, its values and its document.
 use Rattle.std.specs.Prelude.{ℕ, List, [], ◌∷◌, ◌≡◌, ◌<◌, ◌≤◌, refl, map, length, All, encode_utf8_all}
 use Rattle.std.proofs.Common.{ap}
 use Rattle.dns_charstr.specs.Printed.{quoted_text}
 use Rattle.dns_zone.specs.Layout.{Step, token}
 use Rattle.dns_zone.specs.Nesting.{IsNested}
-use Rattle.dns_record.specs.Pieces.{Piece, field, IsLaidOut, steps_of, values_of}
+use Rattle.dns_record.specs.Parts.{Part, field, IsLaidOut, steps_of, values_of}
 use Rattle.dns_record.specs.Values.{Value, listed}
 
 -- each between double quotes
-abbrev pub string_pieces : List (List ℕ) → List Piece
-string_pieces = map (λ s. field (listed s))
+abbrev pub string_parts : List (List ℕ) → List Part
+string_parts = map (λ s. field (listed s))
 
 abbrev pub strings_of : List (List ℕ) → List Value
-strings_of xs = values_of (string_pieces xs)
+strings_of xs = values_of (string_parts xs)
 
 abbrev pub string_steps : List (List ℕ) → List Step
 string_steps = map (λ s. token (encode_utf8_all (quoted_text s)))
@@ -21,11 +21,11 @@ string_steps = map (λ s. token (encode_utf8_all (quoted_text s)))
 abbrev pub IsString : List ℕ → Type 0
 IsString s = All (λ o. o < 256) s × (length s ≤ 255)
 
-pub strings_shown : (xs : List (List ℕ)) → string_steps xs ≡ steps_of (string_pieces xs)
+pub strings_shown : (xs : List (List ℕ)) → string_steps xs ≡ steps_of (string_parts xs)
 strings_shown [] = refl
 strings_shown (x ∷ xs) = ap (λ l. token (encode_utf8_all (quoted_text x)) ∷ l) (strings_shown xs)
 
-pub strings_laid_out : (xs : List (List ℕ)) → IsLaidOut (string_pieces xs)
+pub strings_laid_out : (xs : List (List ℕ)) → IsLaidOut (string_parts xs)
 strings_laid_out [] = refl
 strings_laid_out (x ∷ xs) = strings_laid_out xs
 

@@ -8,6 +8,7 @@ ghost use Rattle.dns_entry.specs.Field.{field_text, text_octets};
 ghost use Rattle.dns_record.specs.FieldLaws.{number8_back, number16_back, number32_back, string_back, both_back, name_read};
 ghost use Rattle.dns_record.specs.ReadsBack.{FieldBack, TakesFields, five_values, three_values};
 ghost use Rattle.dns_record.specs.Values.{Value, number8, number16, number32, name, string, AreValues, AreTexts};
+ghost use Rattle.dns_charstr.specs.Limits.{max_string};
 
 use dns_charstr::charstr::CharStr;
 use dns_iter::IterScanner;
@@ -108,7 +109,7 @@ impl<S: Scanner> Field<S> for Ttl {
 }
 
 impl<S: Scanner> Field<S> for CharStr<S::Octets> {
-    ghost back = { string_back S.OctetsBuilder.sure (min S.OctetsBuilder.most 255) };
+    ghost back = { string_back S.OctetsBuilder.sure (min S.OctetsBuilder.most max_string) };
 }
 
 impl<S: Scanner, A: Field<S> + Drop, B: Field<S>> Field<S> for (A, B) {

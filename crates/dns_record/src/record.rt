@@ -1,9 +1,9 @@
 //! Record data: values that print as the tokens of one entry, and are scanned back from them.
 ghost use Rattle.std.specs.Prelude.{◌≡◌, ◌⊎◌, List, [], IfSome, IsOk, IsOkAnd};
 ghost use Rattle.dns_split.specs.Answer.{texts};
-ghost use Rattle.dns_scan.specs.Stands.{StandsBefore};
+ghost use Rattle.dns_scan.specs.Stands.{HasTokens};
 ghost use Rattle.dns_scan.specs.Tokens.{Token};
-ghost use Rattle.dns_record.specs.Pieces.{Piece, IsLaidOut, steps_of, values_of};
+ghost use Rattle.dns_record.specs.Parts.{Part, IsLaidOut, steps_of, values_of};
 ghost use Rattle.dns_record.specs.ReadsBack.{Lacks, ReadsBack};
 ghost use Rattle.dns_record.specs.Values.{AreFields, AreTexts, SomeMayLack};
 
@@ -17,19 +17,19 @@ use std::alloc::Allocator;
 
 /// The data of a record over these octets, and over memory from `A` where it holds a list.
 ///
-/// It states the pieces of its text, prints them as one entry, and is scanned from what the tokens
+/// It states the parts of its text, prints them as one entry, and is scanned from what the tokens
 /// of an entry hold.
 pub trait RecordData<Octets: FromBuilder + Drop, A: Allocator + Copy>: ZonefileFmt
 where
     Octets::Builder: EmptyBuilder + AsOctetsMut + Truncate + FreezeBuilder<Octets = Octets> + Drop,
 {
-    // The pieces of the text.
-    ghost pieces: { Self → List Piece };
+    // The parts of the text.
+    ghost parts: { Self → List Part };
 
     /// States that there is a field and that each can be printed, which always holds, and does
     /// nothing else.
     fn known(&self)
-        ensures { AreFields (values_of (pieces self.now)) };
+        ensures { AreFields (values_of (parts self.now)) };
 
     /// Takes the tokens of the data.
     fn scan_data<'a, T: TokenText, E: ScannerError>(
@@ -38,15 +38,15 @@ where
     ) -> Result<Self, E>
         requires { ⟦<EntryScanner<'a, T, Octets, E> as Scanner>⟧.can_scan scanner.old }
         ensures ready { ⟦<EntryScanner<'a, T, Octets, E> as Scanner>⟧.can_scan scanner.new }
-        ensures back { (x : Self) (tokens : List Token) → AreFields (values_of (pieces x)) → AreTexts (values_of (pieces x)) tokens []
-            → StandsBefore (⟦<EntryScanner<'a, T, Octets, E> as Scanner>⟧.next_token) scanner.old tokens
-            → ReadsBack (⟦<EntryScanner<'a, T, Octets, E> as Scanner>⟧.next_token) E.cause Octets.Builder.sure (λ y. values_of (pieces y)) (values_of (pieces x)) (values_of (pieces x)) [] result scanner.new };
+        ensures back { (x : Self) (tokens : List Token) → AreFields (values_of (parts x)) → AreTexts (values_of (parts x)) tokens []
+            → HasTokens (⟦<EntryScanner<'a, T, Octets, E> as Scanner>⟧.next_token) scanner.old tokens
+            → ReadsBack (⟦<EntryScanner<'a, T, Octets, E> as Scanner>⟧.next_token) E.cause Octets.Builder.sure (λ y. values_of (parts y)) (values_of (parts x)) (values_of (parts x)) [] result scanner.new };
 
-    // The document is that of the pieces.
-    ghost shown: { (x : Self) → Self.document x ≡ steps_of (pieces x) };
+    // The document is that of the parts.
+    ghost shown: { (x : Self) → Self.document x ≡ steps_of (parts x) };
 
     // Blocks nest, and notes are printable ASCII.
-    ghost laid_out: { (x : Self) → IsLaidOut (pieces x) };
+    ghost laid_out: { (x : Self) → IsLaidOut (parts x) };
 }
 
 /// Takes the data and the end of the entry: a token that is left is refused.
@@ -63,10 +63,10 @@ where
     R: RecordData<Octets, A> + Drop,
     requires { ⟦<EntryScanner<'a, T, Octets, E> as Scanner>⟧.can_scan scanner.old }
     ensures ready { ⟦<EntryScanner<'a, T, Octets, E> as Scanner>⟧.can_scan scanner.new }
-    ensures back { (x : R) (tokens : List Token) → AreFields (values_of (R.pieces x)) → AreTexts (values_of (R.pieces x)) tokens []
-        → StandsBefore (⟦<EntryScanner<'a, T, Octets, E> as Scanner>⟧.next_token) scanner.old tokens
-        → IsOkAnd result (λ y. values_of (R.pieces y) ≡ values_of (R.pieces x)) ⊎ (Lacks E.cause result × SomeMayLack Octets.Builder.sure (values_of (R.pieces x))) }
-    ensures all { (tokens : List Token) → StandsBefore (⟦<EntryScanner<'a, T, Octets, E> as Scanner>⟧.next_token) scanner.new tokens → IsOk result → tokens ≡ [] }
+    ensures back { (x : R) (tokens : List Token) → AreFields (values_of (R.parts x)) → AreTexts (values_of (R.parts x)) tokens []
+        → HasTokens (⟦<EntryScanner<'a, T, Octets, E> as Scanner>⟧.next_token) scanner.old tokens
+        → IsOkAnd result (λ y. values_of (R.parts y) ≡ values_of (R.parts x)) ⊎ (Lacks E.cause result × SomeMayLack Octets.Builder.sure (values_of (R.parts x))) }
+    ensures all { (tokens : List Token) → HasTokens (⟦<EntryScanner<'a, T, Octets, E> as Scanner>⟧.next_token) scanner.new tokens → IsOk result → tokens ≡ [] }
 {
     match R::scan_data(alloc, scanner) {
         Ok(data) => {
@@ -90,7 +90,7 @@ pub fn record_reads_back<R, Octets: FromBuilder + Drop, A: Allocator + Copy, E: 
 where
     Octets::Builder: EmptyBuilder + AsOctetsMut + Truncate + FreezeBuilder<Octets = Octets> + Drop,
     R: RecordData<Octets, A> + Drop,
-    ensures { IsOkAnd result (λ y. values_of (R.pieces y) ≡ values_of (R.pieces value.now)) ⊎ Lacks E.cause result }
+    ensures { IsOkAnd result (λ y. values_of (R.parts y) ≡ values_of (R.parts value.now)) ⊎ Lacks E.cause result }
 {
     match record_reads_back_in_room(alloc, octets_alloc, value, kind) {
         Some(read) => read,
@@ -115,8 +115,8 @@ pub fn record_reads_back_in_room<
 where
     Octets::Builder: EmptyBuilder + AsOctetsMut + Truncate + FreezeBuilder<Octets = Octets> + Drop,
     R: RecordData<Octets, A> + Drop,
-    ensures { IfSome result (λ r. IsOkAnd r (λ y. values_of (R.pieces y) ≡ values_of (R.pieces value.now))
-        ⊎ (Lacks E.cause r × SomeMayLack Octets.Builder.sure (values_of (R.pieces value.now)))) }
+    ensures { IfSome result (λ r. IsOkAnd r (λ y. values_of (R.parts y) ≡ values_of (R.parts value.now))
+        ⊎ (Lacks E.cause r × SomeMayLack Octets.Builder.sure (values_of (R.parts value.now)))) }
 {
     value.known();
     let Ok(text) = values_split(alloc, value, kind) else {

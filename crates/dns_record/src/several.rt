@@ -1,6 +1,6 @@
 //! Fields that are all that is left of an entry.
 ghost use Rattle.std.specs.Prelude.{◌≡◌, ◌↔◌, ◌<◌, List, ℕ, [], ◌∷◌, ◌++◌, length, map, All, IfOk, IfErr, IsOk, IsOkAnd, OnOk};
-ghost use Rattle.dns_scan.specs.Stands.{StandsBefore};
+ghost use Rattle.dns_scan.specs.Stands.{HasTokens};
 ghost use Rattle.dns_scan.specs.Tokens.{Token};
 ghost use Rattle.dns_zone.specs.Writers.{Runs};
 ghost use Rattle.dns_record.specs.ReadsBack.{ReadsBack};
@@ -63,7 +63,7 @@ where
     S::Octets: Drop,
     requires { S.can_scan scanner.old }
     ensures ready { S.can_scan scanner.new }
-    ensures back { (octets : List ℕ) (past : List Value) (tokens : List Token) → AreValues (hex octets ∷ []) → AreTexts (hex octets ∷ []) tokens [] → StandsBefore S.next_token scanner.old tokens
+    ensures back { (octets : List ℕ) (past : List Value) (tokens : List Token) → AreValues (hex octets ∷ []) → AreTexts (hex octets ∷ []) tokens [] → HasTokens S.next_token scanner.old tokens
         → ReadsBack S.next_token S.Error.cause S.OctetsBuilder.sure (λ o. hex o ∷ []) (hex octets ∷ []) (past ++ hex octets ∷ []) [] result scanner.new }
 {
     match hex_entry_is_scanned_back(scanner) {
@@ -80,7 +80,7 @@ where
     S::Octets: Drop,
     requires { S.can_scan scanner.old }
     ensures ready { S.can_scan scanner.new }
-    ensures back { (octets : List ℕ) (past : List Value) (tokens : List Token) → AreValues (base64_octets octets ∷ []) → AreTexts (base64_octets octets ∷ []) tokens [] → StandsBefore S.next_token scanner.old tokens
+    ensures back { (octets : List ℕ) (past : List Value) (tokens : List Token) → AreValues (base64_octets octets ∷ []) → AreTexts (base64_octets octets ∷ []) tokens [] → HasTokens S.next_token scanner.old tokens
         → ReadsBack S.next_token S.Error.cause S.OctetsBuilder.sure (λ o. base64_octets o ∷ []) (base64_octets octets ∷ []) (past ++ base64_octets octets ∷ []) [] result scanner.new }
 {
     match base64_entry_is_scanned_back(scanner) {
@@ -193,7 +193,7 @@ where
     S::Octets: Drop,
     requires { S.can_scan scanner.old }
     ensures ready { S.can_scan scanner.new }
-    ensures back { (strings : List (List ℕ)) (past : List Value) (tokens : List Token) → AreFields (strings_of strings) → AreTexts (strings_of strings) tokens [] → StandsBefore S.next_token scanner.old tokens
+    ensures back { (strings : List (List ℕ)) (past : List Value) (tokens : List Token) → AreFields (strings_of strings) → AreTexts (strings_of strings) tokens [] → HasTokens S.next_token scanner.old tokens
         → ReadsBack S.next_token S.Error.cause S.OctetsBuilder.sure strings_of (strings_of strings) (past ++ strings_of strings) [] result scanner.new }
 {
     match dns_scan::strings_rest(alloc, scanner) {

@@ -1,7 +1,7 @@
 //! CAA (RFC 8659 section 4).
 ghost use Rattle.std.specs.Prelude.{refl};
-ghost use Rattle.dns_record.specs.Pieces.{steps_of};
-ghost use Rattle.dns_records.specs.Pieces.{caa_pieces};
+ghost use Rattle.dns_record.specs.Parts.{steps_of};
+ghost use Rattle.dns_records.specs.Parts.{caa_parts};
 
 use dns_text::charstr::CharStr;
 use dns_text::record::{FieldValue, RecordData, scan_three, write_unquoted};
@@ -19,7 +19,7 @@ pub struct Caa<Octets: AsOctets> {
 }
 
 impl<Octets: AsOctets> ZonefileFmt for Caa<Octets> {
-    ghost document = { λ x. steps_of (caa_pieces x) };
+    ghost document = { λ x. steps_of (caa_parts x) };
 
     ghost nested = { λ _. refl };
 
@@ -36,7 +36,7 @@ impl<Octets: FromBuilder + Drop, A: Allocator + Copy> RecordData<Octets, A> for 
 where
     Octets::Builder: EmptyBuilder + AsOctetsMut + Truncate + FreezeBuilder<Octets = Octets> + Drop,
 {
-    ghost pieces = { caa_pieces };
+    ghost parts = { caa_parts };
 
     fn known(&self) {
         self.flags.known();

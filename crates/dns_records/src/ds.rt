@@ -1,7 +1,7 @@
 //! DS (RFC 4034 section 5).
 ghost use Rattle.std.specs.Prelude.{refl};
-ghost use Rattle.dns_record.specs.Pieces.{steps_of};
-ghost use Rattle.dns_records.specs.Pieces.{ds_pieces};
+ghost use Rattle.dns_record.specs.Parts.{steps_of};
+ghost use Rattle.dns_records.specs.Parts.{ds_parts};
 
 use dns_text::base16;
 use dns_text::record::{FieldValue, RecordData, SomeOctets, hex_rest, scan_three};
@@ -20,7 +20,7 @@ pub struct Ds<Octets: AsOctets> {
 }
 
 impl<Octets: AsOctets> ZonefileFmt for Ds<Octets> {
-    ghost document = { λ x. steps_of (ds_pieces x) };
+    ghost document = { λ x. steps_of (ds_parts x) };
 
     ghost nested = { λ _. refl };
 
@@ -39,7 +39,7 @@ impl<Octets: FromBuilder + Drop, A: Allocator + Copy> RecordData<Octets, A> for 
 where
     Octets::Builder: EmptyBuilder + AsOctetsMut + Truncate + FreezeBuilder<Octets = Octets> + Drop,
 {
-    ghost pieces = { ds_pieces };
+    ghost parts = { ds_parts };
 
     fn known(&self) {
         self.key_tag.known();

@@ -1,7 +1,7 @@
 //! MX (RFC 1035 section 3.3.9).
 ghost use Rattle.std.specs.Prelude.{refl};
-ghost use Rattle.dns_record.specs.Pieces.{steps_of};
-ghost use Rattle.dns_records.specs.Pieces.{mx_pieces};
+ghost use Rattle.dns_record.specs.Parts.{steps_of};
+ghost use Rattle.dns_records.specs.Parts.{mx_parts};
 
 use dns_text::record::{FieldValue, RecordData, scan_fields};
 use dns_text::scan::{EntryScanner, ScannerError, TokenText};
@@ -19,7 +19,7 @@ pub struct Mx<Octets: AsOctets> {
 }
 
 impl<Octets: AsOctets> ZonefileFmt for Mx<Octets> {
-    ghost document = { λ x. steps_of (mx_pieces x) };
+    ghost document = { λ x. steps_of (mx_parts x) };
 
     ghost nested = { λ _. refl };
 
@@ -36,7 +36,7 @@ impl<Octets: FromBuilder + Drop, A: Allocator + Copy> RecordData<Octets, A> for 
 where
     Octets::Builder: EmptyBuilder + AsOctetsMut + Truncate + FreezeBuilder<Octets = Octets> + Drop,
 {
-    ghost pieces = { mx_pieces };
+    ghost parts = { mx_parts };
 
     fn known(&self) {
         self.preference.known();

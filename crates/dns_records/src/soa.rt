@@ -1,8 +1,8 @@
 //! SOA (RFC 1035 section 3.3.13).
 ghost use Rattle.std.specs.Prelude.{refl};
-ghost use Rattle.dns_record.specs.Pieces.{steps_of};
+ghost use Rattle.dns_record.specs.Parts.{steps_of};
 ghost use Rattle.dns_record.specs.ReadsBack.{TakesFields};
-ghost use Rattle.dns_records.specs.Pieces.{soa_numbers, soa_number_values, soa_pieces, soa_times};
+ghost use Rattle.dns_records.specs.Parts.{soa_numbers, soa_number_values, soa_parts, soa_times};
 
 use dns_text::record::{FieldValue, RecordData, scan_fields, scan_five};
 use dns_text::scan::{EntryScanner, Scanner, ScannerError, TokenText};
@@ -27,7 +27,7 @@ pub struct Soa<Octets: AsOctets> {
 }
 
 impl<Octets: AsOctets> ZonefileFmt for Soa<Octets> {
-    ghost document = { λ x. steps_of (soa_pieces x) };
+    ghost document = { λ x. steps_of (soa_parts x) };
 
     ghost nested = { λ _. refl };
 
@@ -94,7 +94,7 @@ impl<Octets: FromBuilder + Drop, A: Allocator + Copy> RecordData<Octets, A> for 
 where
     Octets::Builder: EmptyBuilder + AsOctetsMut + Truncate + FreezeBuilder<Octets = Octets> + Drop,
 {
-    ghost pieces = { soa_pieces };
+    ghost parts = { soa_parts };
 
     fn known(&self) {
         self.mname.known();

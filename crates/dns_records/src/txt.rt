@@ -1,6 +1,6 @@
 //! TXT (RFC 1035 section 3.3.14).
 ghost use Rattle.dns_record.specs.Several.{string_steps, strings_laid_out, strings_nested, strings_shown};
-ghost use Rattle.dns_records.specs.Pieces.{txt_pieces};
+ghost use Rattle.dns_records.specs.Parts.{txt_parts};
 
 use dns_text::record::{RecordData, Strings, strings_rest};
 use dns_text::scan::{EntryScanner, ScannerError, TokenText};
@@ -28,7 +28,7 @@ impl<Octets: FromBuilder + Drop, A: Allocator + Copy> RecordData<Octets, A> for 
 where
     Octets::Builder: EmptyBuilder + AsOctetsMut + Truncate + FreezeBuilder<Octets = Octets> + Drop,
 {
-    ghost pieces = { txt_pieces };
+    ghost parts = { txt_parts };
 
     fn known(&self) {
         self.strings.known();

@@ -7,11 +7,11 @@ use Rattle.dns_symbol.specs.declared.symbol.EntrySymbol.{EntrySymbol}
 use Rattle.dns_symbol.specs.declared.symbol.EntrySymbol.TheVariants.{EndOfToken, Symbol as Of}
 use Rattle.dns_symbol.specs.Text.{SymbolsOf}
 use Rattle.dns_symbol.proofs.Unique.{symbols_same}
-use Rattle.dns_scan.specs.Asks.{AsksSymbols, CallsEach, Ends}
+use Rattle.dns_scan.specs.Asks.{CallsEachSymbol, CallsEach, Ends}
 use Rattle.dns_symbol.specs.Cause.{Cause}
 use Rattle.dns_scan.specs.Entries.{AsksToken, ScansEntry}
 use Rattle.dns_scan.specs.Join.{CallsTokens, handed_over}
-use Rattle.dns_scan.specs.Stands.{StandsBefore}
+use Rattle.dns_scan.specs.Stands.{HasTokens}
 use Rattle.dns_scan.specs.Tokens.{Token}
 use Rattle.dns_scan.proofs.InTurn.{in_turn}
 use Rattle.dns_scan.proofs.Whole.{not_err}
@@ -31,7 +31,7 @@ module _ {F E : Type 0} (cause : E → Cause) (step : F → EntrySymbol → Resu
   calls_stop [] ys f r g is a = absurd (not_err r a.1 is)
   calls_stop (x ∷ xs) ys f r g is a = ⊎_elim (λ k. inl (k.0, k.1, calls_stop xs ys k.0 r g is k.2)) (λ k. inr k) a
 
-  calls_of : (t : Token) (xs : List Symbol) (f : F) (r : Result (Unit {0}) E) (g : F) → SymbolsOf t xs None → AsksSymbols cause (λ p x q s. step p (Of x) q s) t f r g
+  calls_of : (t : Token) (xs : List Symbol) (f : F) (r : Result (Unit {0}) E) (g : F) → SymbolsOf t xs None → CallsEachSymbol cause (λ p x q s. step p (Of x) q s) t f r g
       → CallsEach (λ p x q s. step p (Of x) q s) xs (Ends cause None) f r g
   calls_of t xs f r g read a =
       let same = symbols_same t a.symbols xs a.error None a.read read in
@@ -57,7 +57,7 @@ module _ {F E : Type 0} (cause : E → Cause) (step : F → EntrySymbol → Resu
       h)
 
   pub handed_whole : {S : Type 0} (next : S → Option Token → S → Type 0) (old : S) (f : F) (r : Result (Unit {0}) E) (new : S) (g : F) → ScansEntry next (AsksToken cause step) old f r new g
-      → (tokens : List Token) (lists : List (List Symbol)) → StandsBefore next old tokens → AllZip (λ t xs. SymbolsOf t xs None) tokens lists → CallsEach step (flat_map handed_over lists) Well f r g
+      → (tokens : List Token) (lists : List (List Symbol)) → HasTokens next old tokens → AllZip (λ t xs. SymbolsOf t xs None) tokens lists → CallsEach step (flat_map handed_over lists) Well f r g
   handed_whole next old f r new g h tokens lists stands read =
       let turn = in_turn next (AsksToken cause step) old f r new g h tokens stands in
       calls_all tokens lists f r turn.0 g read turn.1

@@ -3,12 +3,12 @@ use Rattle.std.proofs.Common.{List, [], ◌∷◌, ◌++◌, ◌≡◌, refl, sy
 use Rattle.std.specs.Prelude.{IsErr, IsOk, MatchResult}
 use Rattle.dns_scan.specs.Entries.{TakesEach, ScansEntry}
 use Rattle.dns_scan.specs.Join.{CallsTokens, LeavesOf}
-use Rattle.dns_scan.specs.Stands.{StandsBefore, stands_takes}
+use Rattle.dns_scan.specs.Stands.{HasTokens, stands_takes}
 use Rattle.dns_scan.specs.Tokens.{Token}
 
 module _ {S F E : Type 0} (next : S → Option Token → S → Type 0) (call : F → Token → Result (Unit {0}) E → F → Type 0) where
-  takes_in_turn : (ts : List Token) (s : S) (f : F) (r : Result (Unit {0}) E) (u : S) (g : F) → TakesEach next call ts s f r u g → (tokens : List Token) → StandsBefore next s tokens
-      → (rest : List Token) × CallsTokens call tokens f r rest g × StandsBefore next u rest
+  takes_in_turn : (ts : List Token) (s : S) (f : F) (r : Result (Unit {0}) E) (u : S) (g : F) → TakesEach next call ts s f r u g → (tokens : List Token) → HasTokens next s tokens
+      → (rest : List Token) × CallsTokens call tokens f r rest g × HasTokens next u rest
   takes_in_turn [] s f r u g h [] stands = let took = stands_takes next s [] None u stands h.0 in ([], (h.2, refl, h.1), took.1)
   takes_in_turn [] s f r u g h (x ∷ xs) stands = let took = (stands_takes next s (x ∷ xs) None u stands h.0).0 in cc took
   takes_in_turn (t ∷ ts) s f r u g h [] stands = let took = (stands_takes next s [] (Some t) h.0 stands h.1).0 in cc took
@@ -17,11 +17,11 @@ module _ {S F E : Type 0} (next : S → Option Token → S → Type 0) (call : F
       let same : t ≡ x = let is = took.0 in cc is in
       ⊎_elim
       (λ k. let more = takes_in_turn ts h.0 k.0 r u g k.2 xs took.1 in (more.0, inl (k.0, subst (λ a. call f a (Ok tt) k.0) same k.1, more.1), more.2))
-      (λ k. (xs, inr (k.0, subst (λ a. call f a r g) same k.1, refl), subst (λ v. StandsBefore next v xs) (sym k.2) took.1))
+      (λ k. (xs, inr (k.0, subst (λ a. call f a r g) same k.1, refl), subst (λ v. HasTokens next v xs) (sym k.2) took.1))
       h.2
 
-  pub in_turn : (old : S) (f : F) (r : Result (Unit {0}) E) (new : S) (g : F) → ScansEntry next call old f r new g → (tokens : List Token) → StandsBefore next old tokens
-      → (rest : List Token) × CallsTokens call tokens f r rest g × StandsBefore next new rest
+  pub in_turn : (old : S) (f : F) (r : Result (Unit {0}) E) (new : S) (g : F) → ScansEntry next call old f r new g → (tokens : List Token) → HasTokens next old tokens
+      → (rest : List Token) × CallsTokens call tokens f r rest g × HasTokens next new rest
   in_turn old f r new g h = takes_in_turn h.tokens old f r new g h.taken
 
 pub err_not_ok : {V E : Type 0} (r : Result V E) → IsErr r → IsOk r → ⊥
@@ -41,7 +41,7 @@ module _ {F E : Type 0} (call : F → Token → Result (Unit {0}) E → F → Ty
 
   pub leaves : {S V : Type 0} (next : S → Option Token → S → Type 0) (old : S) (f : F) (a : Result (Unit {0}) E) (new : S) (g : F)
       → ScansEntry next call old f a new g → (r : Result V E) → (IsOk r → IsOk a)
-      → (tokens : List Token) → StandsBefore next old tokens → LeavesOf next tokens r new
+      → (tokens : List Token) → HasTokens next old tokens → LeavesOf next tokens r new
   leaves next old f a new g h r ok tokens stands =
       let turn = in_turn next call old f a new g h tokens stands in
       let left = left_of tokens f a turn.0 g turn.1 in

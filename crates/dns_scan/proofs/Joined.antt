@@ -12,11 +12,11 @@ use Rattle.dns_symbol.specs.declared.symbol.EntrySymbol.{EntrySymbol}
 use Rattle.dns_symbol.specs.declared.symbol.SymbolCharsError.{SymbolCharsError}
 use Rattle.dns_symbol.proofs.Texts.{symbols_exist}
 use Rattle.dns_symbol.proofs.Unique.{symbols_same}
-use Rattle.dns_scan.specs.Asks.{AsksSymbols, CallsEach, Ends}
+use Rattle.dns_scan.specs.Asks.{CallsEachSymbol, CallsEach, Ends}
 use Rattle.dns_symbol.specs.Cause.{Cause}
 use Rattle.dns_scan.specs.Entries.{Converts, ConvertsEntry, ConvertInEntry}
 use Rattle.dns_scan.specs.Join.{CallsTokens, HasBadEscape, IsJoin, IsSymbols, LeavesOf}
-use Rattle.dns_scan.specs.Stands.{StandsBefore}
+use Rattle.dns_scan.specs.Stands.{HasTokens}
 use Rattle.dns_scan.specs.Tokens.{Token}
 use Rattle.dns_scan.proofs.InTurn.{in_turn, leaves, ok_before}
 use Rattle.dns_scan.proofs.Whole.{not_err}
@@ -100,12 +100,12 @@ module _ {F E : Type 0} (cause : E → Cause) (step : F → Symbol → Result (U
       (λ k. absurd (not_err {E = E} (Ok tt) refl k.0))
       a
 
-  one_end : (t : Token) (f g : F) → AsksSymbols cause step t f (Ok tt) g → IsSymbols t
+  one_end : (t : Token) (f g : F) → CallsEachSymbol cause step t f (Ok tt) g → IsSymbols t
   one_end t f g a = (a.symbols, subst (λ e. SymbolsOf t a.symbols e) (calls_end a.symbols a.error f g a.asked) a.read)
 
   -- the calls for each token in turn are the calls for their join
   pub asks_join : (tokens : List Token) (text : List ℕ) (f : F) (r : Result (Unit {0}) E) (rest : List Token) (g : F)
-      → CallsTokens (λ p t q s. AsksSymbols cause step t p q s) tokens f r rest g → IsJoin tokens text → AsksSymbols cause step text f r g
+      → CallsTokens (λ p t q s. CallsEachSymbol cause step t p q s) tokens f r rest g → IsJoin tokens text → CallsEachSymbol cause step text f r g
   asks_join [] text f r rest g h j = record { symbols = []; error = None; read = record { rest = []; readable = refl; spelled = j; ends = refl }; asked = (h.2, h.0) }
   asks_join (t ∷ ts) text f r rest g h j =
       ⊎_elim
@@ -115,11 +115,11 @@ module _ {F E : Type 0} (cause : E → Cause) (step : F → Symbol → Result (U
       h)
       (λ k. ⊎_elim
       (λ p. absurd (broken k.0 p.0 p.1))
-      (λ p. subst (λ l. AsksSymbols cause step l f r g) (sym k.1) p.1)
+      (λ p. subst (λ l. CallsEachSymbol cause step l f r g) (sym k.1) p.1)
       h)
       j
     where
-      went : (more : List ℕ) → text ≡ t ++ more → (m : F) → AsksSymbols cause step t f (Ok tt) m → AsksSymbols cause step more m r g → AsksSymbols cause step text f r g
+      went : (more : List ℕ) → text ≡ t ++ more → (m : F) → CallsEachSymbol cause step t f (Ok tt) m → CallsEachSymbol cause step more m r g → CallsEachSymbol cause step text f r g
       went more is m a b =
           let none = calls_end a.symbols a.error f m a.asked in
           let read : SymbolsOf t a.symbols None = subst (λ e. SymbolsOf t a.symbols e) none a.read in
@@ -131,7 +131,7 @@ module _ {F E : Type 0} (cause : E → Cause) (step : F → Symbol → Result (U
             asked = calls_join a.symbols b.symbols b.error f m g r asked b.asked;
           }
 
-      stopped : IsSymbols t → (more : List ℕ) → IsJoin ts more → text ≡ t ++ more → IsErr r → AsksSymbols cause step t f r g → AsksSymbols cause step text f r g
+      stopped : IsSymbols t → (more : List ℕ) → IsJoin ts more → text ≡ t ++ more → IsErr r → CallsEachSymbol cause step t f r g → CallsEachSymbol cause step text f r g
       stopped has more join is err a =
           let later = join_reads ts more join in
           let same = symbols_same t a.symbols has.0 a.error None a.read has.1 in
@@ -144,12 +144,12 @@ module _ {F E : Type 0} (cause : E → Cause) (step : F → Symbol → Result (U
             asked = calls_stop a.symbols later.0 later.1 f g r err asked;
           }
 
-      broken : HasBadEscape t → (m : F) → AsksSymbols cause step t f (Ok tt) m → ⊥
+      broken : HasBadEscape t → (m : F) → CallsEachSymbol cause step t f (Ok tt) m → ⊥
       broken b m a = not_bad t (one_end t f m a) b
 
   -- where all went well, every token is symbols
   pub all_symbols : (tokens : List Token) (f : F) (rest : List Token) (g : F)
-      → CallsTokens (λ p t q s. AsksSymbols cause step t p q s) tokens f (Ok tt) rest g → AllByRecursion IsSymbols tokens
+      → CallsTokens (λ p t q s. CallsEachSymbol cause step t p q s) tokens f (Ok tt) rest g → AllByRecursion IsSymbols tokens
   all_symbols [] f rest g h = tt
   all_symbols (t ∷ ts) f rest g h =
       ⊎_elim
@@ -160,22 +160,22 @@ module _ {F E : Type 0} (cause : E → Cause) (step : F → Symbol → Result (U
 module _ {S C O E : Type 0} (next : S → Option Token → S → Type 0) (cause : E → Cause) (sure most : ℕ) (takes : C → EntrySymbol → Result (List ℕ) E → C → Type 0)
     (tail : C → Result (List ℕ) E → C → Type 0) (octets : O → List ℕ) (old : S) (convert : C) (r : Result O E) (new : S)
     (h : ConvertsEntry next cause sure most takes tail octets old convert r new) where
-  pub converts_in_turn : (tokens : List Token) → StandsBefore next old tokens
-      → (rest : List Token) × Converts cause sure most tail octets (λ p a q. CallsTokens (ConvertInEntry cause sure most takes) tokens p a rest q) convert r × StandsBefore next new rest
+  pub converts_in_turn : (tokens : List Token) → HasTokens next old tokens
+      → (rest : List Token) × Converts cause sure most tail octets (λ p a q. CallsTokens (ConvertInEntry cause sure most takes) tokens p a rest q) convert r × HasTokens next new rest
   converts_in_turn tokens stands =
       let turn = in_turn next (ConvertInEntry cause sure most takes) old (convert, []) h.converts.answer new h.converts.state h.converts.ran tokens stands in
       (turn.0, record { answer = h.converts.answer; state = h.converts.state; ran = turn.1; gives = h.converts.gives }, turn.2)
 
-  pub converts_join : (tokens : List Token) (text : List ℕ) → StandsBefore next old tokens → IsJoin tokens text
+  pub converts_join : (tokens : List Token) (text : List ℕ) → HasTokens next old tokens → IsJoin tokens text
       → Converts cause sure most tail octets (λ p a q. ConvertInEntry cause sure most takes p text a q) convert r
   converts_join tokens text stands join =
       let turn = converts_in_turn tokens stands in
       record { answer = turn.1.answer; state = turn.1.state; ran = asks_join cause _ tokens text (convert, []) turn.1.answer turn.0 turn.1.state turn.1.ran join; gives = turn.1.gives }
 
-  pub converts_leaves : (tokens : List Token) → StandsBefore next old tokens → LeavesOf next tokens r new
+  pub converts_leaves : (tokens : List Token) → HasTokens next old tokens → LeavesOf next tokens r new
   converts_leaves = leaves (ConvertInEntry cause sure most takes) next old (convert, []) h.converts.answer new h.converts.state h.converts.ran r (ok_before _ h.converts.answer r h.converts.gives)
 
-  pub converts_symbols : (tokens : List Token) → StandsBefore next old tokens → IfOk r (λ _. AllByRecursion IsSymbols tokens)
+  pub converts_symbols : (tokens : List Token) → HasTokens next old tokens → IfOk r (λ _. AllByRecursion IsSymbols tokens)
   converts_symbols tokens stands = by r h.converts.answer refl (λ is. ok_before _ h.converts.answer r h.converts.gives is)
     where
       whole : h.converts.answer ≡ Ok tt → AllByRecursion IsSymbols tokens

@@ -8,7 +8,7 @@ use Rattle.std.specs.Prelude.{IsErr, MatchOption, IfOk}
 use Rattle.dns_symbol.specs.declared.symbol.Symbol.{Symbol}
 use Rattle.dns_symbol.specs.declared.symbol.SymbolCharsError.{SymbolCharsError}
 use Rattle.dns_symbol.specs.Cause.{Cause, end_of_entry, IsCause}
-use Rattle.dns_scan.specs.Asks.{AsksSymbols, CallsEach, Ends, ScansSymbols}
+use Rattle.dns_scan.specs.Asks.{CallsEachSymbol, CallsEach, Ends, ScansSymbols}
 use Rattle.dns_scan.specs.Tokens.{Token, ScansToken}
 use Rattle.dns_scan.specs.Numbers.{digit_of, value_of, IsNumber, ReadsNumber, ScannedNumber, AddsDigit, by_cause}
 
@@ -172,7 +172,7 @@ module _ (limit : ℕ) where
       calls_kept (x ∷ xs) Last f r h i (inr k) = let now = acts f x r h i k.1 in (now.0, inr (k.0, now.1))
 
       -- what a closure from 0 on read of a token
-      pub asks_number : (t : Token) (f : F) (u : Result (Unit {0}) E) (h : F) → I f → view f ≡ 0 → AsksSymbols cause step t f u h → I h × ScannedNumber cause limit t (left u (view h))
+      pub asks_number : (t : Token) (f : F) (u : Result (Unit {0}) E) (h : F) → I f → view f ≡ 0 → CallsEachSymbol cause step t f u h → I h × ScannedNumber cause limit t (left u (view h))
       asks_number t f u h i z asks =
           let kept = calls_kept asks.symbols (Ends cause asks.error) f u h i asks.asked in
           let from : CallsEach (AddsDigit cause limit) asks.symbols (Ends cause asks.error) 0 u (view h) =
@@ -187,7 +187,7 @@ module _ {S E F : Type 0} {next : S → Option Token → S → Type 0} {cause : 
       → keeps f h × ScansToken next cause (ScannedNumber cause limit) s (Ok (view h)) t
   number_after_ok k i z acts = by k.token k.taken k.answer
     where
-      by : (o : Option Token) → next s o t → MatchOption o (IsCause {V = Unit {0}} cause (Ok tt) end_of_entry × (h ≡ f)) (λ t. AsksSymbols cause step t f (Ok tt) h)
+      by : (o : Option Token) → next s o t → MatchOption o (IsCause {V = Unit {0}} cause (Ok tt) end_of_entry × (h ≡ f)) (λ t. CallsEachSymbol cause step t f (Ok tt) h)
           → keeps f h × ScansToken next cause (ScannedNumber cause limit) s (Ok (view h)) t
       by None taken a = absurd a.0
       by (Some x) taken a =
@@ -199,7 +199,7 @@ module _ {S E F : Type 0} {next : S → Option Token → S → Type 0} {cause : 
       → ScansToken next cause (ScannedNumber cause limit) s (Err e) t
   number_after_err e k i z acts = by k.token k.taken k.answer
     where
-      by : (o : Option Token) → next s o t → MatchOption o (IsCause {V = Unit {0}} cause (Err e) end_of_entry × (h ≡ f)) (λ t. AsksSymbols cause step t f (Err e) h)
+      by : (o : Option Token) → next s o t → MatchOption o (IsCause {V = Unit {0}} cause (Err e) end_of_entry × (h ≡ f)) (λ t. CallsEachSymbol cause step t f (Err e) h)
           → ScansToken next cause (ScannedNumber cause limit) s (Err e) t
       by None taken a = record { token = None; taken = taken; answer = a.0 }
       by (Some x) taken a =

@@ -12,7 +12,7 @@ use Rattle.dns_symbol.specs.Cause.{Cause, short_buf, IsCause}
 use Rattle.dns_scan.specs.Entries.{BuildsEntry, StringStep}
 use Rattle.dns_scan.specs.Join.{CallsTokens, LeavesOf}
 use Rattle.dns_scan.specs.Reads.{OctetsRead}
-use Rattle.dns_scan.specs.Stands.{StandsBefore}
+use Rattle.dns_scan.specs.Stands.{HasTokens}
 use Rattle.dns_scan.specs.Steps.{GivesStep, octet_given}
 use Rattle.dns_scan.specs.Strings.{AnswersStrings, IsStringFault}
 use Rattle.dns_scan.specs.Tokens.{Token}
@@ -125,7 +125,7 @@ module _ {E : Type 0} (cause : E → Cause) (sure most : ℕ) where
       }
 
   module _ {S O : Type 0} (next : S → Option Token → S → Type 0) (octets : O → List ℕ) (old : S) (r : Result O E) (new : S) (h : BuildsEntry next (StringStep cause sure most) octets old r new) where
-    pub strings_answer : (tokens : List Token) → StandsBefore next old tokens → (rest : List Token) × AnswersStrings sure most cause octets tokens r rest × StandsBefore next new rest
+    pub strings_answer : (tokens : List Token) → HasTokens next old tokens → (rest : List Token) × AnswersStrings sure most cause octets tokens r rest × HasTokens next new rest
     strings_answer tokens stands =
         let turn = in_turn next (StringStep cause sure most) old [] h.answer new h.built h.taken tokens stands in
         (turn.0, by turn.0 h.answer r h.gives (run tokens [] h.answer turn.0 h.built (omega arith) turn.1), turn.2)
@@ -149,5 +149,5 @@ module _ {E : Type 0} (cause : E → Cause) (sure most : ℕ) where
                   (subst (λ x. IsStringFault sure most (0 + length (wires k.strings)) k.token (cause x)) same k.fault);
             }
 
-    pub strings_leave : (tokens : List Token) → StandsBefore next old tokens → LeavesOf next tokens r new
+    pub strings_leave : (tokens : List Token) → HasTokens next old tokens → LeavesOf next tokens r new
     strings_leave = leaves (StringStep cause sure most) next old [] h.answer new h.built h.taken r (ok_before _ h.answer r h.gives)

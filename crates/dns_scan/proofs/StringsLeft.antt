@@ -11,7 +11,7 @@ use Rattle.dns_charstr.specs.Reading.{HasOctets}
 use Rattle.dns_symbol.specs.Cause.{Cause, short_buf, IsCause}
 use Rattle.dns_scan.specs.Join.{LeavesOf}
 use Rattle.dns_scan.specs.Reads.{OctetsRead, ReadsFirst, ReadsSome, ReadsRest}
-use Rattle.dns_scan.specs.Stands.{StandsBefore}
+use Rattle.dns_scan.specs.Stands.{HasTokens}
 use Rattle.dns_scan.specs.Steps.{octet_given, bad_or}
 use Rattle.dns_scan.specs.Tokens.{Token}
 use Rattle.dns_scan.proofs.OneEntry.{strings_same, string_fault, cut_at}
@@ -107,6 +107,6 @@ module _ (sure most : ℕ) where
     left_whole (Ok v) h strings read short = inl (strings_same tokens (items v) strings (rest_only tokens rest (items v) h).0 read)
     left_whole (Err e) h strings read short = inr (rest_refused tokens rest strings (cause e) read short h)
 
-    pub left_leaves : {S : Type 0} (next : S → Option Token → S → Type 0) (new : S) (r : Result W E) → Left r → StandsBefore next new rest → LeavesOf next tokens r new
+    pub left_leaves : {S : Type 0} (next : S → Option Token → S → Type 0) (new : S) (r : Result W E) → Left r → HasTokens next new rest → LeavesOf next tokens r new
     left_leaves next new (Ok v) h stands = (tokens, rest, sym (append-nil tokens) ∙ ap (λ l. tokens ++ l) (sym h.1), (λ ok. h.1), stands)
     left_leaves next new (Err e) h stands = let front = rest_leaves tokens rest (cause e) h in (front.0, rest, front.1, (λ ok. cc), stands)

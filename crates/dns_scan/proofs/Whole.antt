@@ -16,7 +16,7 @@ use Rattle.dns_scan.specs.Asks.{Builds, CallsEach, Ends}
 use Rattle.dns_scan.specs.Steps.{GivesStep, Appends, octet_given, bad_or}
 use Rattle.dns_charstr.specs.Reading.{HasOctets}
 use Rattle.dns_scan.specs.Octets.{GivesWhere}
-use Rattle.dns_scan.specs.Stands.{StandsBefore, stands_takes}
+use Rattle.dns_scan.specs.Stands.{HasTokens, stands_takes}
 
 pub not_err : {E : Type 0} (u : Result (Unit {0}) E) → u ≡ Ok tt → IsErr u → ⊥
 not_err (Ok v) e h = cc
@@ -109,7 +109,7 @@ module _ {E : Type 0} (cause : E → Cause) (sure most : ℕ) where
 
 -- what a token call answers of the token that the scanner stands before
 pub of_first : {S V E : Type 0} (next : S → Option Token → S → Type 0) (cause : E → Cause) (answers : Token → Result V E → Type 0)
-    (old : S) (r : Result V E) (new : S) (t : Token) (ts : List Token) → StandsBefore next old (t ∷ ts) → ScansToken next cause answers old r new → answers t r × StandsBefore next new ts
+    (old : S) (r : Result V E) (new : S) (t : Token) (ts : List Token) → HasTokens next old (t ∷ ts) → ScansToken next cause answers old r new → answers t r × HasTokens next new ts
 of_first next cause answers old r new t ts stands scans =
     let took = stands_takes next old (t ∷ ts) scans.token new stands scans.taken in
     let answered : answers t r = subst (λ o. MatchOption o (IsCause cause r end_of_entry) (λ t. answers t r)) took.0 scans.answer in
@@ -118,19 +118,19 @@ of_first next cause answers old r new t ts stands scans =
 -- a call for the octets of one token, which the scanner stands before
 module _ {S O E : Type 0} (next : S → Option Token → S → Type 0) (cause : E → Cause) (sure most : ℕ) (octets : O → List ℕ)
     (old : S) (r : Result O E) (new : S) (scans : ScansToken next cause (Builds cause (GivesStep cause sure most octet_given) octets) old r new) where
-  pub scans_whole : (t : Token) (ts : List Token) (os : List ℕ) → StandsBefore next old (t ∷ ts) → HasOctets t os → GivesWhere cause octets sure os r
+  pub scans_whole : (t : Token) (ts : List Token) (os : List ℕ) → HasTokens next old (t ∷ ts) → HasOctets t os → GivesWhere cause octets sure os r
   scans_whole t ts os stands has = builds_whole cause sure most octets t r (of_first next cause _ old r new t ts stands scans).0 has.symbols os has.read has.octets_are
 
-  pub scans_printed : (f : ℕ → Bool) → IsForm f → (os : List ℕ) (ts : List Token) → All (λ o. o < 256) os → StandsBefore next old (encode_utf8_all (text_of f os) ∷ ts)
+  pub scans_printed : (f : ℕ → Bool) → IsForm f → (os : List ℕ) (ts : List Token) → All (λ o. o < 256) os → HasTokens next old (encode_utf8_all (text_of f os) ∷ ts)
       → GivesWhere cause octets sure os r
   scans_printed f form os ts bytes stands =
       scans_whole (encode_utf8_all (text_of f os)) ts os stands (record { symbols = map (symbol_of f) os; read = printed_symbols f form os bytes; octets_are = printed_octets f os })
 
-  pub scans_only : (t : Token) (ts : List Token) (symbols : List Symbol) (error : Option SymbolCharsError) → StandsBefore next old (t ∷ ts) → SymbolsOf t symbols error
+  pub scans_only : (t : Token) (ts : List Token) (symbols : List Symbol) (error : Option SymbolCharsError) → HasTokens next old (t ∷ ts) → SymbolsOf t symbols error
       → IfOk r (λ x. (error ≡ None) × (map octet_of symbols ≡ map Ok (octets x)) × (length (octets x) ≤ most))
   scans_only t ts symbols error stands read = builds_only cause sure most octets t r (of_first next cause _ old r new t ts stands scans).0 symbols error read
 
-  pub scans_rest : (t : Token) (ts : List Token) → StandsBefore next old (t ∷ ts) → StandsBefore next new ts
+  pub scans_rest : (t : Token) (ts : List Token) → HasTokens next old (t ∷ ts) → HasTokens next new ts
   scans_rest t ts stands = (of_first next cause _ old r new t ts stands scans).1
 
 -- as many symbols as octets

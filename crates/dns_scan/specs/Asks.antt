@@ -19,7 +19,7 @@ Ends cause None r = r ≡ Ok tt
 Ends cause (Some e) r = IsCause cause r (custom_text (chars_error_text e))
 
 -- f was asked for the symbols of a token in turn: its first refusal, else the text's error, else Ok
-pub record AsksSymbols {F E : Type 0} (cause : E → Cause) (step : F → Symbol → Result (Unit {0}) E → F → Type 0)
+pub record CallsEachSymbol {F E : Type 0} (cause : E → Cause) (step : F → Symbol → Result (Unit {0}) E → F → Type 0)
     (token : Token) (f : F) (r : Result (Unit {0}) E) (g : F) : Type 0 where
   pub symbols : List Symbol
   pub error : Option SymbolCharsError
@@ -31,12 +31,12 @@ pub record ScansSymbols {S F E : Type 0} (next : S → Option Token → S → Ty
     (old : S) (f : F) (r : Result (Unit {0}) E) (new : S) (g : F) : Type 0 where
   pub token : Option Token
   pub taken : next old token new
-  pub answer : MatchOption token (IsCause cause r end_of_entry × (g ≡ f)) (λ t. AsksSymbols cause step t f r g)
+  pub answer : MatchOption token (IsCause cause r end_of_entry × (g ≡ f)) (λ t. CallsEachSymbol cause step t f r g)
 
 -- the octets that were put together of a token's symbols, where all were taken; else the refusal
 pub record Builds {O E : Type 0} (cause : E → Cause) (step : List ℕ → Symbol → Result (Unit {0}) E → List ℕ → Type 0) (octets : O → List ℕ)
     (token : Token) (r : Result O E) : Type 0 where
   pub answer : Result (Unit {0}) E
   pub built : List ℕ
-  pub asks : AsksSymbols cause step token [] answer built
+  pub asks : CallsEachSymbol cause step token [] answer built
   pub gives : MatchResult answer (λ _. IsOkAnd r (λ x. octets x ≡ built)) (λ e. r ≡ Err e)

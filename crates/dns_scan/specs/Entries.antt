@@ -7,8 +7,9 @@ use Rattle.dns_symbol.specs.declared.symbol.EntrySymbol.TheVariants.{EndOfToken,
 use Rattle.dns_charstr.specs.Wire.{wire_of}
 use Rattle.dns_symbol.specs.Cause.{Cause, custom_text, short_buf, IsCause}
 use Rattle.dns_scan.specs.Tokens.{Token}
-use Rattle.dns_scan.specs.Asks.{AsksSymbols}
+use Rattle.dns_scan.specs.Asks.{CallsEachSymbol}
 use Rattle.dns_scan.specs.Steps.{Adds, GivesStep, octet_given, text_given}
+use Rattle.dns_charstr.specs.Limits.{max_string}
 
 -- each token in turn is taken and handed to a call, until one is refused: that one is the last taken, and without a refusal none is left
 module _ {S F E : Type 0} (next : S → Option Token → S → Type 0) (call : F → Token → Result (Unit {0}) E → F → Type 0) where
@@ -25,8 +26,8 @@ pub record ScansEntry {S F E : Type 0} (next : S → Option Token → S → Type
 -- the symbols of a token and then its end, until one is refused
 abbrev pub AsksToken : {F E : Type 0} → (E → Cause) → (F → EntrySymbol → Result (Unit {0}) E → F → Type 0) → F → Token → Result (Unit {0}) E → F → Type 0
 AsksToken {F} {E} cause step f t r g =
-    ((h : F) × AsksSymbols cause (λ p x q s. step p (Of x) q s) t f (Ok tt) h × step h EndOfToken r g)
-    ⊎ (IsErr r × AsksSymbols cause (λ p x q s. step p (Of x) q s) t f r g)
+    ((h : F) × CallsEachSymbol cause (λ p x q s. step p (Of x) q s) t f (Ok tt) h × step h EndOfToken r g)
+    ⊎ (IsErr r × CallsEachSymbol cause (λ p x q s. step p (Of x) q s) t f r g)
 
 -- a converter and the octets built so far, in a builder of a type in which `sure` octets surely fit and that holds `most` at most
 module _ {E : Type 0} (cause : E → Cause) (sure most : ℕ) where
@@ -40,11 +41,11 @@ module _ {E : Type 0} (cause : E → Cause) (sure most : ℕ) where
 
   -- the symbols of a token
   abbrev pub ConvertToken : {C : Type 0} → (C → Symbol → Result (List ℕ) E → C → Type 0) → C × List ℕ → Token → Result (Unit {0}) E → C × List ℕ → Type 0
-  ConvertToken takes p t r q = AsksSymbols cause (ConvertStep takes) t p r q
+  ConvertToken takes p t r q = CallsEachSymbol cause (ConvertStep takes) t p r q
 
   -- the symbols of a token of an entry; its end is not handed over
   abbrev pub ConvertInEntry : {C : Type 0} → (C → EntrySymbol → Result (List ℕ) E → C → Type 0) → C × List ℕ → Token → Result (Unit {0}) E → C × List ℕ → Type 0
-  ConvertInEntry takes p t r q = AsksSymbols cause (λ p x a s. ConvertStep takes p (Of x) a s) t p r q
+  ConvertInEntry takes p t r q = CallsEachSymbol cause (λ p x a s. ConvertStep takes p (Of x) a s) t p r q
 
   -- a run from a converter and no octets, then the tail where none refused, and the octets in all; or the first refusal
   pub record Converts {C O : Type 0} (tail : C → Result (List ℕ) E → C → Type 0) (octets : O → List ℕ) (run : C × List ℕ → Result (Unit {0}) E → C × List ℕ → Type 0)
@@ -60,7 +61,7 @@ module _ {E : Type 0} (cause : E → Cause) (sure most : ℕ) where
   pub record StringStep (b : List ℕ) (t : Token) (r : Result (Unit {0}) E) (c : List ℕ) : Type 0 where
     pub answer : Result (Unit {0}) E
     pub built : List ℕ
-    pub asks : AsksSymbols cause (GivesStep cause (min sure 255) (min most 255) octet_given) t [] answer built
+    pub asks : CallsEachSymbol cause (GivesStep cause (min sure max_string) (min most max_string) octet_given) t [] answer built
     pub gives : MatchResult answer
         (λ _. ((r ≡ Ok tt) × (c ≡ b ++ wire_of built) × (length c ≤ most)) ⊎ (IsCause cause r short_buf × (sure < length b + length (wire_of built))))
         (λ e. (r ≡ Err e) × (c ≡ b))
@@ -69,7 +70,7 @@ module _ {E : Type 0} (cause : E → Cause) (sure most : ℕ) where
   pub record AsciiText {V : Type 0} (returns : List ℕ → Result V E → Type 0) (t : Token) (r : Result V E) : Type 0 where
     pub answer : Result (Unit {0}) E
     pub built : List ℕ
-    pub asks : AsksSymbols cause (GivesStep cause sure most text_given) t [] answer built
+    pub asks : CallsEachSymbol cause (GivesStep cause sure most text_given) t [] answer built
     pub gives : MatchResult answer
         (λ _. (IsAscii built × returns built r) ⊎ (IsNotAscii built × IsCause cause r (custom_text (codes "non-ASCII characters"))))
         (λ e. r ≡ Err e)

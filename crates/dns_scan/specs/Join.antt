@@ -7,7 +7,7 @@ use Rattle.dns_symbol.specs.declared.symbol.EntrySymbol.{EntrySymbol}
 use Rattle.dns_symbol.specs.declared.symbol.EntrySymbol.TheVariants.{EndOfToken, Symbol as Of}
 use Rattle.dns_symbol.specs.Cause.{Cause}
 use Rattle.dns_scan.specs.Entries.{Converts, ConvertInEntry}
-use Rattle.dns_scan.specs.Stands.{StandsBefore}
+use Rattle.dns_scan.specs.Stands.{HasTokens}
 use Rattle.dns_scan.specs.Tokens.{Token}
 
 -- each token in turn by a call, until one is refused: then the tokens after that one are left, and else none
@@ -35,7 +35,7 @@ IsJoin (t ∷ ts) text = (IsSymbols t × ((more : List ℕ) × IsJoin ts more ×
 
 -- what a call over an entry leaves of its tokens: the last ones, and none where all went well
 abbrev pub LeavesOf : {S V E : Type 0} → (S → Option Token → S → Type 0) → List Token → Result V E → S → Type 0
-LeavesOf next tokens r new = (front : List Token) × (rest : List Token) × (tokens ≡ front ++ rest) × (IsOk r → rest ≡ []) × StandsBefore next new rest
+LeavesOf next tokens r new = (front : List Token) × (rest : List Token) × (tokens ≡ front ++ rest) × (IsOk r → rest ≡ []) × HasTokens next new rest
 
 -- a converter's run over all tokens, and the tokens that are left
 abbrev pub ConvertsTokens : {C O E : Type 0} → (E → Cause) → ℕ → ℕ → (C → EntrySymbol → Result (List ℕ) E → C → Type 0) → (C → Result (List ℕ) E → C → Type 0) → (O → List ℕ)

@@ -13,22 +13,22 @@ others_of (t ∷ ts) = ts
 
 module _ {S : Type 0} (next : S → Option Token → S → Type 0) where
   -- the next n calls that ask for a token take those of the list in turn, and none after its end
-  abbrev pub StandsFor : ℕ → S → List Token → Type 0
-  StandsFor zero s ts = ⊤
-  StandsFor (suc n) s ts = (o : Option Token) (u : S) → next s o u → (o ≡ first_of ts) × StandsFor n u (others_of ts)
+  abbrev pub GivesTokens : ℕ → S → List Token → Type 0
+  GivesTokens zero s ts = ⊤
+  GivesTokens (suc n) s ts = (o : Option Token) (u : S) → next s o u → (o ≡ first_of ts) × GivesTokens n u (others_of ts)
 
   -- the tokens before which s stands
-  pub record StandsBefore (s : S) (ts : List Token) : Type 0 where
-    pub calls : (n : ℕ) → StandsFor n s ts
+  pub record HasTokens (s : S) (ts : List Token) : Type 0 where
+    pub calls : (n : ℕ) → GivesTokens n s ts
 
   -- a call that asks for a token takes the first one, and stands before the others
-  pub stands_takes : (s : S) (ts : List Token) (o : Option Token) (u : S) → StandsBefore s ts → next s o u → (o ≡ first_of ts) × StandsBefore u (others_of ts)
+  pub stands_takes : (s : S) (ts : List Token) (o : Option Token) (u : S) → HasTokens s ts → next s o u → (o ≡ first_of ts) × HasTokens u (others_of ts)
   stands_takes s ts o u h k = ((h.calls 1 o u k).0, record { calls = λ n. (h.calls (suc n) o u k).1 })
 
-  same_for : (n : ℕ) (s u : S) (ts : List Token) → TakesNothing next s u → StandsFor n s ts → StandsFor n u ts
+  same_for : (n : ℕ) (s u : S) (ts : List Token) → TakesNothing next s u → GivesTokens n s ts → GivesTokens n u ts
   same_for zero s u ts h k = tt
   same_for (suc n) s u ts h k = λ o v q. k o v (h o v q)
 
   -- one that takes none stands before the same tokens
-  pub stands_same : (s u : S) (ts : List Token) → StandsBefore s ts → TakesNothing next s u → StandsBefore u ts
+  pub stands_same : (s u : S) (ts : List Token) → HasTokens s ts → TakesNothing next s u → HasTokens u ts
   stands_same s u ts h k = record { calls = λ n. same_for n s u ts k (h.calls n) }

@@ -6,12 +6,13 @@ use Rattle.dns_charstr.specs.Wire.{wire_of}
 use Rattle.dns_symbol.specs.Cause.{Cause, short_buf}
 use Rattle.dns_scan.specs.Reads.{OctetsRead}
 use Rattle.dns_scan.specs.Tokens.{Token}
+use Rattle.dns_charstr.specs.Limits.{max_string}
 
 -- the octets are the wire forms, one after the other, of the character strings that the tokens are
 pub record AreStrings (tokens : List Token) (octets : List ℕ) : Type 0 where
   pub strings : List (List ℕ)
   pub read : AllZip HasOctets tokens strings
-  pub short : All (λ s. length s ≤ 255) strings
+  pub short : All (λ s. length s ≤ max_string) strings
   pub joined : octets ≡ flat_map wire_of strings
 
 -- a builder of a type in which `sure` octets surely fit, and which never holds more than `most`
@@ -19,8 +20,8 @@ module _ (sure most : ℕ) where
   -- why a token is refused once `count` octets stand: it is no character string, or its wire form finds no room
   abbrev pub IsStringFault : ℕ → Token → Cause → Type 0
   IsStringFault count token why =
-      OctetsRead (min sure 255) (min most 255) token (Err why)
-      ⊎ ((octets : List ℕ) × OctetsRead (min sure 255) (min most 255) token (Ok octets) × (why ≡ short_buf) × (sure < count + length (wire_of octets)))
+      OctetsRead (min sure max_string) (min most max_string) token (Err why)
+      ⊎ ((octets : List ℕ) × OctetsRead (min sure max_string) (min most max_string) token (Ok octets) × (why ≡ short_buf) × (sure < count + length (wire_of octets)))
 
   -- the first token that is refused, and the tokens after it; those before it are character strings, and their wire forms fit
   pub record FirstStringFault (tokens : List Token) (why : Cause) (rest : List Token) : Type 0 where

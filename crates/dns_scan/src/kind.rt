@@ -2,7 +2,7 @@
 ghost use Rattle.std.specs.Prelude.{List};
 ghost use Rattle.dns_scan.specs.Kinds.{KindReads};
 ghost use Rattle.dns_scan.specs.Numbers.{by_cause};
-ghost use Rattle.dns_scan.specs.Stands.{StandsBefore};
+ghost use Rattle.dns_scan.specs.Stands.{HasTokens};
 ghost use Rattle.dns_scan.specs.Tokens.{Token};
 
 use crate::scan::Scan;
@@ -64,8 +64,8 @@ impl Kind {
     pub fn scan<S: Scanner, T: Scan<S>>(self, scanner: &mut S) -> Result<Scanned<T>, S::Error>
         requires { S.can_scan scanner.old }
         ensures ready { S.can_scan scanner.new }
-        ensures reads { (tokens : List Token) → StandsBefore S.next_token scanner.old tokens
-            → (rest : List Token) × KindReads T.scan_reads self tokens (by_cause S.Error.cause result) rest × StandsBefore S.next_token scanner.new rest }
+        ensures reads { (tokens : List Token) → HasTokens S.next_token scanner.old tokens
+            → (rest : List Token) × KindReads T.scan_reads self tokens (by_cause S.Error.cause result) rest × HasTokens S.next_token scanner.new rest }
     {
         match self {
             Kind::U8 => match u8::scan(scanner) {

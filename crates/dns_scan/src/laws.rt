@@ -18,9 +18,10 @@ ghost use Rattle.dns_scan.specs.Numbers.{IsNumber};
 ghost use Rattle.dns_scan.specs.Octets.{GivesWhere, IsPrinted, unquoted_token, quoted_token};
 ghost use Rattle.dns_scan.specs.Reads.{NumberReads, OctetsRead, ReadInOneWay, ReadsBoth, ReadsEach, ReadsFirst, ReadsInOneWay, ReadsInTurn};
 ghost use Rattle.dns_scan.specs.Steps.{octet_given};
-ghost use Rattle.dns_scan.specs.Stands.{StandsBefore};
+ghost use Rattle.dns_scan.specs.Stands.{HasTokens};
 ghost use Rattle.dns_scan.specs.Strings.{AnswersStrings};
 ghost use Rattle.dns_scan.specs.Tokens.{Token};
+ghost use Rattle.dns_charstr.specs.Limits.{max_string};
 
 use crate::kind::{Kind, Scanned};
 use crate::scan::Scan;
@@ -40,17 +41,17 @@ pub fn character_strings_are_scanned_back<S: Scanner>(
 ) -> Result<CharStr<S::Octets>, S::Error>
     requires { S.can_scan scanner.old }
     ensures ready { S.can_scan scanner.new }
-    ensures whole { (token : Token) (others : List Token) (octets : List ℕ) → StandsBefore S.next_token scanner.old (token ∷ others)
-        → HasOctets token octets → GivesWhere S.Error.cause (λ s. s) (min S.OctetsBuilder.sure 255) octets result }
-    ensures unquoted { (octets : List ℕ) (others : List Token) → All (λ o. o < 256) octets → StandsBefore S.next_token scanner.old (unquoted_token octets ∷ others)
-        → GivesWhere S.Error.cause (λ s. s) (min S.OctetsBuilder.sure 255) octets result }
-    ensures quoted { (octets : List ℕ) (others : List Token) → All (λ o. o < 256) octets → StandsBefore S.next_token scanner.old (quoted_token octets ∷ others)
-        → GivesWhere S.Error.cause (λ s. s) (min S.OctetsBuilder.sure 255) octets result }
-    ensures answer { (token : Token) (others : List Token) (symbols : List PlainSymbol) (error : Option SymbolCharsError) → StandsBefore S.next_token scanner.old (token ∷ others)
-        → SymbolsOf token symbols error → AnswersGiven octet_given (min S.OctetsBuilder.sure 255) (min S.OctetsBuilder.most 255) S.Error.cause (λ s. s) symbols error result }
-    ensures only { (token : Token) (others : List Token) (symbols : List PlainSymbol) (error : Option SymbolCharsError) → StandsBefore S.next_token scanner.old (token ∷ others)
-        → SymbolsOf token symbols error → IfOk result (λ s. (error ≡ None) × (map octet_of symbols ≡ map Ok s) × (length symbols ≤ 255)) }
-    ensures rest { (token : Token) (others : List Token) → StandsBefore S.next_token scanner.old (token ∷ others) → StandsBefore S.next_token scanner.new others }
+    ensures whole { (token : Token) (others : List Token) (octets : List ℕ) → HasTokens S.next_token scanner.old (token ∷ others)
+        → HasOctets token octets → GivesWhere S.Error.cause (λ s. s) (min S.OctetsBuilder.sure max_string) octets result }
+    ensures unquoted { (octets : List ℕ) (others : List Token) → All (λ o. o < 256) octets → HasTokens S.next_token scanner.old (unquoted_token octets ∷ others)
+        → GivesWhere S.Error.cause (λ s. s) (min S.OctetsBuilder.sure max_string) octets result }
+    ensures quoted { (octets : List ℕ) (others : List Token) → All (λ o. o < 256) octets → HasTokens S.next_token scanner.old (quoted_token octets ∷ others)
+        → GivesWhere S.Error.cause (λ s. s) (min S.OctetsBuilder.sure max_string) octets result }
+    ensures answer { (token : Token) (others : List Token) (symbols : List PlainSymbol) (error : Option SymbolCharsError) → HasTokens S.next_token scanner.old (token ∷ others)
+        → SymbolsOf token symbols error → AnswersGiven octet_given (min S.OctetsBuilder.sure max_string) (min S.OctetsBuilder.most max_string) S.Error.cause (λ s. s) symbols error result }
+    ensures only { (token : Token) (others : List Token) (symbols : List PlainSymbol) (error : Option SymbolCharsError) → HasTokens S.next_token scanner.old (token ∷ others)
+        → SymbolsOf token symbols error → IfOk result (λ s. (error ≡ None) × (map octet_of symbols ≡ map Ok s) × (length symbols ≤ max_string)) }
+    ensures rest { (token : Token) (others : List Token) → HasTokens S.next_token scanner.old (token ∷ others) → HasTokens S.next_token scanner.new others }
 {
     scanner.scan_charstr()
 }
@@ -87,9 +88,9 @@ pub fn scans_in_turn<S: Scanner, T: Scan<S>, F: FnMut(T)>(
     requires callable { F.IsAlwaysCallable give.old }
     ensures ready { S.can_scan scanner.new }
     ensures callable { F.IsAlwaysCallable give.new }
-    ensures reads { (tokens : List Token) → StandsBefore S.next_token scanner.old tokens
+    ensures reads { (tokens : List Token) → HasTokens S.next_token scanner.old tokens
         → (values : List T) × (refusal : Option Cause) × (rest : List Token) × ReadsEach T.scan_reads count tokens values refusal rest
-        × FoldsTo (λ f v g. F.step f v tt g) give.old values give.new × StandsBefore S.next_token scanner.new rest
+        × FoldsTo (λ f v g. F.step f v tt g) give.old values give.new × HasTokens S.next_token scanner.new rest
         × MatchResult result (λ _. refusal ≡ None) (λ e. refusal ≡ Some (S.Error.cause e)) }
 {
     for _turn in 0..count {
@@ -112,10 +113,10 @@ pub fn kinds_in_turn<S: Scanner, T: Scan<S>, F: FnMut(Scanned<T>)>(
     requires callable { F.IsAlwaysCallable give.old }
     ensures ready { S.can_scan scanner.new }
     ensures callable { F.IsAlwaysCallable give.new }
-    ensures reads { (tokens : List Token) → StandsBefore S.next_token scanner.old tokens
+    ensures reads { (tokens : List Token) → HasTokens S.next_token scanner.old tokens
         → (values : List (Scanned T)) × (refusal : Option Cause) × (rest : List Token)
         × ReadsInTurn (KindReads T.scan_reads) kinds.now tokens values refusal rest
-        × FoldsTo (λ f v g. F.step f v tt g) give.old values give.new × StandsBefore S.next_token scanner.new rest
+        × FoldsTo (λ f v g. F.step f v tt g) give.old values give.new × HasTokens S.next_token scanner.new rest
         × MatchResult result (λ _. refusal ≡ None) (λ e. refusal ≡ Some (S.Error.cause e)) }
 {
     for kind in kinds {
@@ -148,11 +149,11 @@ where
     requires callable { F.IsAlwaysCallable op.old }
     ensures ready { S.can_scan scanner.new }
     ensures callable { F.IsAlwaysCallable op.new }
-    ensures asks { (tokens : List Token) → StandsBefore S.next_token scanner.old tokens
-        → (rest : List Token) × CallsTokens (AsksToken S.Error.cause (λ f x r g. F.step f x r g)) tokens op.old result rest op.new × StandsBefore S.next_token scanner.new rest }
-    ensures whole { (tokens : List Token) (lists : List (List PlainSymbol)) → StandsBefore S.next_token scanner.old tokens → AllZip (λ token symbols. SymbolsOf token symbols None) tokens lists
+    ensures asks { (tokens : List Token) → HasTokens S.next_token scanner.old tokens
+        → (rest : List Token) × CallsTokens (AsksToken S.Error.cause (λ f x r g. F.step f x r g)) tokens op.old result rest op.new × HasTokens S.next_token scanner.new rest }
+    ensures whole { (tokens : List Token) (lists : List (List PlainSymbol)) → HasTokens S.next_token scanner.old tokens → AllZip (λ token symbols. SymbolsOf token symbols None) tokens lists
         → CallsEach (λ f x r g. F.step f x r g) (flat_map handed_over lists) (λ r. r ≡ Ok tt) op.old result op.new }
-    ensures rest { (tokens : List Token) → StandsBefore S.next_token scanner.old tokens → LeavesOf S.next_token tokens result scanner.new }
+    ensures rest { (tokens : List Token) → HasTokens S.next_token scanner.old tokens → LeavesOf S.next_token tokens result scanner.new }
 {
     scanner.scan_entry_symbols(op)
 }
@@ -169,14 +170,14 @@ pub fn entries_convert_as_their_join<S: Scanner, C: ConvertSymbols<EntrySymbol, 
 ) -> Result<S::Octets, S::Error>
     requires { S.can_scan scanner.old }
     ensures ready { S.can_scan scanner.new }
-    ensures converts { (tokens : List Token) → StandsBefore S.next_token scanner.old tokens
+    ensures converts { (tokens : List Token) → HasTokens S.next_token scanner.old tokens
         → (rest : List Token) × ConvertsTokens S.Error.cause S.OctetsBuilder.sure S.OctetsBuilder.most C.takes C.tail S.Octets.octets tokens convert result rest
-        × StandsBefore S.next_token scanner.new rest }
-    ensures join { (tokens : List Token) (text : List ℕ) → StandsBefore S.next_token scanner.old tokens → IsJoin tokens text
+        × HasTokens S.next_token scanner.new rest }
+    ensures join { (tokens : List Token) (text : List ℕ) → HasTokens S.next_token scanner.old tokens → IsJoin tokens text
         → Converts S.Error.cause S.OctetsBuilder.sure S.OctetsBuilder.most C.tail S.Octets.octets
         (λ p a q. ConvertInEntry S.Error.cause S.OctetsBuilder.sure S.OctetsBuilder.most C.takes p text a q) convert result }
-    ensures symbols { (tokens : List Token) → StandsBefore S.next_token scanner.old tokens → IfOk result (λ _. AllByRecursion IsSymbols tokens) }
-    ensures rest { (tokens : List Token) → StandsBefore S.next_token scanner.old tokens → LeavesOf S.next_token tokens result scanner.new }
+    ensures symbols { (tokens : List Token) → HasTokens S.next_token scanner.old tokens → IfOk result (λ _. AllByRecursion IsSymbols tokens) }
+    ensures rest { (tokens : List Token) → HasTokens S.next_token scanner.old tokens → LeavesOf S.next_token tokens result scanner.new }
 {
     scanner.convert_entry(convert)
 }
@@ -197,13 +198,13 @@ pub fn texts_have_one_join()
 pub fn string_entries_are_scanned_back<S: Scanner>(scanner: &mut S) -> Result<S::Octets, S::Error>
     requires { S.can_scan scanner.old }
     ensures ready { S.can_scan scanner.new }
-    ensures whole { (tokens : List Token) (strings : List (List ℕ)) → StandsBefore S.next_token scanner.old tokens → AllZip HasOctets tokens strings
-        → All (λ s. length s ≤ 255) strings → GivesWhere S.Error.cause S.Octets.octets S.OctetsBuilder.sure (flat_map wire_of strings) result }
-    ensures printed { (tokens : List Token) (strings : List (List ℕ)) → StandsBefore S.next_token scanner.old tokens → AllZip IsPrinted tokens strings
-        → All (All (λ o. o < 256)) strings → All (λ s. length s ≤ 255) strings → GivesWhere S.Error.cause S.Octets.octets S.OctetsBuilder.sure (flat_map wire_of strings) result }
-    ensures answer { (tokens : List Token) → StandsBefore S.next_token scanner.old tokens
-        → (rest : List Token) × AnswersStrings S.OctetsBuilder.sure S.OctetsBuilder.most S.Error.cause S.Octets.octets tokens result rest × StandsBefore S.next_token scanner.new rest }
-    ensures rest { (tokens : List Token) → StandsBefore S.next_token scanner.old tokens → LeavesOf S.next_token tokens result scanner.new }
+    ensures whole { (tokens : List Token) (strings : List (List ℕ)) → HasTokens S.next_token scanner.old tokens → AllZip HasOctets tokens strings
+        → All (λ s. length s ≤ max_string) strings → GivesWhere S.Error.cause S.Octets.octets S.OctetsBuilder.sure (flat_map wire_of strings) result }
+    ensures printed { (tokens : List Token) (strings : List (List ℕ)) → HasTokens S.next_token scanner.old tokens → AllZip IsPrinted tokens strings
+        → All (All (λ o. o < 256)) strings → All (λ s. length s ≤ max_string) strings → GivesWhere S.Error.cause S.Octets.octets S.OctetsBuilder.sure (flat_map wire_of strings) result }
+    ensures answer { (tokens : List Token) → HasTokens S.next_token scanner.old tokens
+        → (rest : List Token) × AnswersStrings S.OctetsBuilder.sure S.OctetsBuilder.most S.Error.cause S.Octets.octets tokens result rest × HasTokens S.next_token scanner.new rest }
+    ensures rest { (tokens : List Token) → HasTokens S.next_token scanner.old tokens → LeavesOf S.next_token tokens result scanner.new }
 {
     scanner.scan_charstr_entry()
 }

@@ -5,8 +5,9 @@ ghost use Rattle.dns_charstr.specs.Reading.{HasOctets};
 ghost use Rattle.dns_symbol.specs.Cause.{IsCause, short_buf, trailing_tokens};
 ghost use Rattle.dns_scan.specs.Join.{ConvertsTokens, LeavesOf};
 ghost use Rattle.dns_scan.specs.Reads.{ReadsRest};
-ghost use Rattle.dns_scan.specs.Stands.{StandsBefore, first_of};
+ghost use Rattle.dns_scan.specs.Stands.{HasTokens, first_of};
 ghost use Rattle.dns_scan.specs.Tokens.{Peeks, Token};
+ghost use Rattle.dns_charstr.specs.Limits.{max_string};
 
 use crate::laws::entries_convert_as_their_join;
 use crate::scan::Scan;
@@ -22,8 +23,8 @@ pub fn expect_end<S: Scanner>(scanner: &mut S) -> Result<(), S::Error>
     requires { S.can_scan scanner.old }
     ensures ready { S.can_scan scanner.new }
     ensures peeks { (o : Option Token) × Peeks S.next_token scanner.old scanner.new o × MatchOption o (result ≡ Ok tt) (λ _. IsCause S.Error.cause result trailing_tokens) }
-    ensures stands { (tokens : List Token) → StandsBefore S.next_token scanner.old tokens
-        → StandsBefore S.next_token scanner.new tokens × MatchOption (first_of tokens) (result ≡ Ok tt) (λ _. IsCause S.Error.cause result trailing_tokens) }
+    ensures stands { (tokens : List Token) → HasTokens S.next_token scanner.old tokens
+        → HasTokens S.next_token scanner.new tokens × MatchOption (first_of tokens) (result ≡ Ok tt) (λ _. IsCause S.Error.cause result trailing_tokens) }
 {
     if scanner.continues() {
         return Err(S::Error::trailing_tokens());
@@ -42,9 +43,9 @@ pub fn scan_rest<A: Allocator, S: Scanner, T: Scan<S> + Drop>(
 ) -> Result<Vec<T, A>, S::Error>
     requires { S.can_scan scanner.old }
     ensures ready { S.can_scan scanner.new }
-    ensures reads { (tokens : List Token) → StandsBefore S.next_token scanner.old tokens
+    ensures reads { (tokens : List Token) → HasTokens S.next_token scanner.old tokens
         → (rest : List Token) × MatchResult result (λ v. ReadsRest T.scan_reads tokens (Ok v.items) rest) (λ e. ReadsRest T.scan_reads tokens (Err (S.Error.cause e)) rest)
-        × StandsBefore S.next_token scanner.new rest }
+        × HasTokens S.next_token scanner.new rest }
 {
     let mut values = Vec::new(alloc);
     for _turn in 0..u64::MAX {
@@ -102,10 +103,10 @@ where
     S::Octets: Drop,
     requires { S.can_scan scanner.old }
     ensures ready { S.can_scan scanner.new }
-    ensures only { (tokens : List Token) → StandsBefore S.next_token scanner.old tokens → IfOk result (λ v. AllZip HasOctets tokens v.items × All (λ s. length s ≤ 255) v.items) }
-    ensures whole { (tokens : List Token) (strings : List (List ℕ)) → StandsBefore S.next_token scanner.old tokens → AllZip HasOctets tokens strings
-        → All (λ s. length s ≤ 255) strings → IsOkAnd result (λ v. v.items ≡ strings) ⊎ IsCause S.Error.cause result short_buf }
-    ensures rest { (tokens : List Token) → StandsBefore S.next_token scanner.old tokens → LeavesOf S.next_token tokens result scanner.new }
+    ensures only { (tokens : List Token) → HasTokens S.next_token scanner.old tokens → IfOk result (λ v. AllZip HasOctets tokens v.items × All (λ s. length s ≤ max_string) v.items) }
+    ensures whole { (tokens : List Token) (strings : List (List ℕ)) → HasTokens S.next_token scanner.old tokens → AllZip HasOctets tokens strings
+        → All (λ s. length s ≤ max_string) strings → IsOkAnd result (λ v. v.items ≡ strings) ⊎ IsCause S.Error.cause result short_buf }
+    ensures rest { (tokens : List Token) → HasTokens S.next_token scanner.old tokens → LeavesOf S.next_token tokens result scanner.new }
 {
     scan_rest(alloc, scanner)
 }

@@ -3,8 +3,9 @@ ghost use Rattle.std.specs.Prelude.{◌≡◌, List, Result, Ok, min};
 ghost use Rattle.dns_symbol.specs.Cause.{Cause};
 ghost use Rattle.dns_scan.specs.Numbers.{by_cause, greatest};
 ghost use Rattle.dns_scan.specs.Reads.{ReadsFirst, NameReads, NumberReads, OctetsRead, ReadsBoth};
-ghost use Rattle.dns_scan.specs.Stands.{StandsBefore};
+ghost use Rattle.dns_scan.specs.Stands.{HasTokens};
 ghost use Rattle.dns_scan.specs.Tokens.{Token};
+ghost use Rattle.dns_charstr.specs.Limits.{max_string};
 
 use crate::number::scan_number;
 use crate::scanner::Scanner;
@@ -21,8 +22,8 @@ pub trait Scan<S: Scanner>: Sized {
     fn scan(scanner: &mut S) -> Result<Self, S::Error>
         requires { S.can_scan scanner.old }
         ensures ready { S.can_scan scanner.new }
-        ensures reads { (tokens : List Token) → StandsBefore S.next_token scanner.old tokens
-            → (rest : List Token) × scan_reads tokens (by_cause S.Error.cause result) rest × StandsBefore S.next_token scanner.new rest };
+        ensures reads { (tokens : List Token) → HasTokens S.next_token scanner.old tokens
+            → (rest : List Token) × scan_reads tokens (by_cause S.Error.cause result) rest × HasTokens S.next_token scanner.new rest };
 }
 
 /// A decimal number. The empty token is 0.
@@ -81,7 +82,7 @@ impl<S: Scanner> Scan<S> for Ttl {
 
 /// A character string, as [`Scanner::scan_charstr`] takes it.
 impl<S: Scanner> Scan<S> for CharStr<S::Octets> {
-    ghost scan_reads = { ReadsFirst (OctetsRead (min S.OctetsBuilder.sure 255) (min S.OctetsBuilder.most 255)) };
+    ghost scan_reads = { ReadsFirst (OctetsRead (min S.OctetsBuilder.sure max_string) (min S.OctetsBuilder.most max_string)) };
 
     fn scan(scanner: &mut S) -> Result<Self, S::Error> {
         scanner.scan_charstr()

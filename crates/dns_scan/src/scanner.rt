@@ -6,6 +6,7 @@ ghost use Rattle.dns_symbol.specs.Cause.{custom_text, IsCause};
 ghost use Rattle.dns_scan.specs.Entries.{AsciiText, AsksToken, BuildsEntry, Converts, ConvertsEntry, ConvertToken, ScansEntry, StringStep};
 ghost use Rattle.dns_scan.specs.Steps.{GivesStep, octet_given, text_given};
 ghost use Rattle.dns_scan.specs.Tokens.{Token, TakesNothing, Peeks, ScansToken, MarkerCall};
+ghost use Rattle.dns_charstr.specs.Limits.{max_string};
 
 use dns_charstr::charstr::CharStr;
 use dns_octets::str::Str;
@@ -144,7 +145,7 @@ pub trait Scanner {
         requires { can_scan self.old }
         ensures ready { can_scan self.new }
         ensures scans { ScansToken next_token Self.Error.cause
-            (Builds Self.Error.cause (GivesStep Self.Error.cause (min Self.OctetsBuilder.sure 255) (min Self.OctetsBuilder.most 255) octet_given) (λ s. s)) self.old result self.new };
+            (Builds Self.Error.cause (GivesStep Self.Error.cause (min Self.OctetsBuilder.sure max_string) (min Self.OctetsBuilder.most max_string) octet_given) (λ s. s)) self.old result self.new };
 
     /// Takes a token as a text. A symbol that is no character, as a decimal escape, is a "bad
     /// symbol".

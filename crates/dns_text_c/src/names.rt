@@ -11,6 +11,7 @@ ghost use Rattle.dns_name.specs.Reading.{is_dot};
 ghost use Rattle.dns_name.specs.declared.name.UncertainName.TheVariants.{Absolute, Relative};
 ghost use Rattle.dns_text_c.specs.Names.{TakesSymbol, NameAnswer, ReadsNameText, GivesName, labels_text, refusal_of_octets, PrintsOctetsOf, PrintsName};
 ghost use Rattle.dns_text_c.specs.Told.{IsGiven};
+ghost use Rattle.dns_wire.specs.Limits.{max_name, max_relative};
 
 use crate::outcome::{Fault, Outcome, Refusal, give, refuse};
 use crate::strings::symbol_at;
@@ -53,7 +54,7 @@ fn push_symbol(builder: &mut NameBuilder<ArrayVec<u8, MOST>>, symbol: Symbol) ->
 
 /// The labels with the root after them.
 fn absolute(builder: NameBuilder<ArrayVec<u8, MOST>>) -> UncertainName<ArrayVec<u8, MOST>>
-    requires { wire_length (all_labels builder) ≤ 254 }
+    requires { wire_length (all_labels builder) ≤ max_relative }
     ensures { result ≡ Absolute (all_labels builder ++ [] ∷ []) }
 {
     UncertainName::Absolute(builder.into_name().unwrap())
@@ -61,7 +62,7 @@ fn absolute(builder: NameBuilder<ArrayVec<u8, MOST>>) -> UncertainName<ArrayVec<
 
 /// The name of a text: a plain dot last makes it absolute.
 fn finish(builder: NameBuilder<ArrayVec<u8, MOST>>) -> UncertainName<ArrayVec<u8, MOST>>
-    requires { wire_length (all_labels builder) ≤ 254 }
+    requires { wire_length (all_labels builder) ≤ max_relative }
     ensures relative { (builder.current ≡ [] → builder.labels ≡ []) → result ≡ Relative (all_labels builder) }
     ensures absolute { builder.current ≡ [] → builder.labels ≢ [] → result ≡ Absolute (all_labels builder ++ [] ∷ []) }
 {
@@ -130,7 +131,7 @@ fn give_text(
     text: &mut [u8],
     outcome: &mut Outcome,
 ) -> u32
-    requires { wire_length labels ≤ 255 }
+    requires { wire_length labels ≤ max_name }
     ensures { IsGiven (labels_text form dot labels.entry) text.old result text.new outcome.new }
 {
     let mut made = [0; TEXT];

@@ -8,6 +8,7 @@ ghost use Rattle.dns_charstr.specs.Printed.{quoted_text};
 ghost use Rattle.dns_text_c.specs.Told.{IsTold};
 ghost use Rattle.dns_text_c.specs.Strings.{ReadsString, PrintsString, octets_of, escape_of, refusal_of, string_text};
 ghost use Rattle.dns_text_c.specs.declared.outcome.Fault.{Fault};
+ghost use Rattle.dns_charstr.specs.Limits.{max_string};
 
 use crate::outcome::{Fault, Outcome, Refusal, give, refuse};
 use arrayvec::ArrayVec;
@@ -75,7 +76,7 @@ fn put_octets(form: Form, octets: &[u8], text: &mut ArrayVec<u8, TEXT>)
 
 /// The text of a character string in a form.
 fn text_in(form: Form, octets: &[u8]) -> ArrayVec<u8, TEXT>
-    requires { length octets.now ≤ 255 }
+    requires { length octets.now ≤ max_string }
     ensures { result.items ≡ string_text form octets.now }
 {
     let mut text = ArrayVec::new();

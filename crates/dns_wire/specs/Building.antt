@@ -3,6 +3,7 @@ use Rattle.std.specs.Prelude.{◌≡◌, ℕ, zero, suc, slice_set, ◌-◌, ◌
 use Rattle.dns_wire.specs.Wire.{wire_length}
 use Rattle.dns_wire.specs.declared.error.PushError.{PushError}
 use Rattle.dns_wire.specs.declared.error.PushError.TheVariants.{LongLabel, LongName, ShortBuf}
+use Rattle.dns_wire.specs.Limits.{max_label, max_relative}
 
 -- the finished labels, and the octets of the open one (none where none is open)
 pub record Naming : Type 0 where
@@ -37,10 +38,10 @@ with_label b label = record { labels = all_labels b ++ label ∷ []; current = [
 -- what adding to a name without its root answers, where it would then have `all` octets and the label that grows `label`; `sure` octets
 -- surely fit, and `most` ever do
 abbrev pub AnswersGrowth : ℕ → ℕ → ℕ → ℕ → Result (Unit {0}) PushError → Type 0
-AnswersGrowth all label sure most (Ok _) = (all ≤ 254) × (label ≤ 63) × (all ≤ most)
-AnswersGrowth all label sure most (Err LongName) = 254 < all
-AnswersGrowth all label sure most (Err LongLabel) = (all ≤ 254) × (63 < label)
-AnswersGrowth all label sure most (Err ShortBuf) = (all ≤ 254) × (label ≤ 63) × (sure < all)
+AnswersGrowth all label sure most (Ok _) = (all ≤ max_relative) × (label ≤ max_label) × (all ≤ most)
+AnswersGrowth all label sure most (Err LongName) = max_relative < all
+AnswersGrowth all label sure most (Err LongLabel) = (all ≤ max_relative) × (max_label < label)
+AnswersGrowth all label sure most (Err ShortBuf) = (all ≤ max_relative) × (label ≤ max_label) × (sure < all)
 
 -- what adding the root after labels answers
 abbrev pub AnswersRoot : List (List ℕ) → ℕ → ℕ → Result (List (List ℕ)) PushError → Type 0

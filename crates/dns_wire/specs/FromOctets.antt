@@ -7,6 +7,7 @@ use Rattle.dns_wire.specs.declared.split.Rest.{Rest}
 use Rattle.dns_wire.specs.declared.split.Rest.TheVariants.{End, Root, RootAndMore, Refused}
 use Rattle.dns_wire.specs.declared.error.NameError.{NameError}
 use Rattle.dns_wire.specs.declared.error.NameError.TheVariants.{BadLabel, CompressedName, LongName, TrailingData, ShortInput, Relative, Absolute}
+use Rattle.dns_wire.specs.Limits.{max_name, max_relative}
 
 -- no whole label other than the root begins the octets
 abbrev pub BeginsNoLabel : List ℕ → Type 0
@@ -54,13 +55,13 @@ AnswersRelative labels rest (Err Relative) = ⊥
 -- too many octets are a long name; otherwise the labels and the rest, in which octets split in one way, decide
 abbrev pub MakesName : List ℕ → Result (List (List ℕ)) NameError → Type 0
 MakesName octets result =
-    ((255 < length octets) × (result ≡ Err LongName))
-    ⊎ ((length octets ≤ 255) × ((labels : List (List ℕ)) × (rest : List ℕ) × Splits octets labels rest × AnswersName labels rest result))
+    ((max_name < length octets) × (result ≡ Err LongName))
+    ⊎ ((length octets ≤ max_name) × ((labels : List (List ℕ)) × (rest : List ℕ) × Splits octets labels rest × AnswersName labels rest result))
 
 abbrev pub MakesRelative : List ℕ → Result (List (List ℕ)) NameError → Type 0
 MakesRelative octets result =
-    ((254 < length octets) × (result ≡ Err LongName))
-    ⊎ ((length octets ≤ 254) × ((labels : List (List ℕ)) × (rest : List ℕ) × Splits octets labels rest × AnswersRelative labels rest result))
+    ((max_relative < length octets) × (result ≡ Err LongName))
+    ⊎ ((length octets ≤ max_relative) × ((labels : List (List ℕ)) × (rest : List ℕ) × Splits octets labels rest × AnswersRelative labels rest result))
 
 -- the octets split into labels and a rest of this kind
 abbrev pub HasRest : List ℕ → Rest → Type 0

@@ -1,13 +1,17 @@
 //! Labels (RFC 1035 section 2.3.1).
 ghost use Rattle.std.specs.Prelude.{length, ◌≤◌};
+ghost use Rattle.dns_wire.specs.Limits.{max_label};
 
 use crate::error::{LabelTypeError, LongLabelError, SplitLabelError};
+
+/// The most octets of a label, without its length octet (RFC 1035 section 2.3.4).
+pub const MAX_LABEL: usize = 63;
 
 /// A label: at most 63 octets. The label of none is the root.
 #[derive(Clone, Copy)]
 pub struct Label<'a> {
     octets: &'a [u8],
-    ghost short: { length octets.now ≤ 63 },
+    ghost short: { length octets.now ≤ max_label },
 }
 
 impl<'a> Label<'a> {
@@ -18,10 +22,10 @@ impl<'a> Label<'a> {
 
     /// The label of these octets, or [`LongLabelError`] above 63.
     pub fn from_slice(octets: &'a [u8]) -> Result<Self, LongLabelError>
-        ensures ok { IsOk result ↔ (length octets.now ≤ 63) }
+        ensures ok { IsOk result ↔ (length octets.now ≤ max_label) }
         ensures value { IfOk result (λ l. label_octets l ≡ octets.now) }
     {
-        if octets.len() > 63 {
+        if octets.len() > MAX_LABEL {
             return Err(LongLabelError);
         }
         Ok(Label { octets })
@@ -59,7 +63,7 @@ impl<'a> Label<'a> {
     /// The octets of the label, without its length octet.
     pub fn as_slice(&self) -> &'a [u8]
         ensures value { result.now ≡ label_octets self.now }
-        ensures short { length result.now ≤ 63 }
+        ensures short { length result.now ≤ max_label }
     {
         self.octets
     }
@@ -67,7 +71,7 @@ impl<'a> Label<'a> {
     /// How many octets the label has.
     pub fn len(&self) -> usize
         ensures value { result ≡ length (label_octets self.now) }
-        ensures short { result ≤ 63 }
+        ensures short { result ≤ max_label }
     {
         self.octets.len()
     }

@@ -35,9 +35,9 @@ pub use dns_octets::{
 };
 pub use error::{LabelTypeError, LongLabelError, NameError, PushError, SplitLabelError};
 pub use flatten::FlattenInto;
-pub use label::Label;
-pub use name::Name;
+pub use label::{Label, MAX_LABEL};
+pub use name::{MAX_NAME, Name};
 pub use name_builder::NameBuilder;
 pub use name_iter::NameIter;
-pub use relative::RelativeName;
+pub use relative::{MAX_RELATIVE, RelativeName};
 pub use to_label_iter::{ToLabelIter, ToName, ToRelativeName};

@@ -1,5 +1,6 @@
 //! Absolute names.
 ghost use Rattle.dns_wire.specs.Labelled.{Labelled, Labelled-prop};
+ghost use Rattle.dns_wire.specs.Limits.{max_name};
 
 use crate::error::{NameError, SplitLabelError};
 use crate::label::Label;
@@ -9,6 +10,9 @@ use crate::to_label_iter::{ToLabelIter, ToName};
 use dns_octets::{AsOctets, EmptyBuilder, FreezeBuilder, FromBuilder, OctetsBuilder, ShortBuf};
 use std::alloc::AllocError;
 use std::marker::Model;
+
+/// The most octets of a name in wire form (RFC 1035 section 2.3.4).
+pub const MAX_NAME: usize = 255;
 
 /// A name that ends in the root label, of at most 255 octets in wire form (RFC 1035 section 2.3.4).
 #[derive(Drop)]
@@ -56,7 +60,7 @@ impl<Octets: AsOctets> Name<Octets> {
         ensures { MakesName (Octets.octets octets) result }
     {
         let slice = octets.as_slice();
-        if slice.len() > 255 {
+        if slice.len() > MAX_NAME {
             return Err(NameError::LongName);
         }
         match rest_of(slice) {
@@ -132,7 +136,7 @@ impl<Octets: AsOctets> Name<Octets> {
     /// How many octets the wire form has, from 1 to 255.
     pub fn len(&self) -> usize
         ensures value { result ≡ wire_length self.now }
-        ensures few { result ≤ 255 }
+        ensures few { result ≤ max_name }
     {
         let octets = self.as_slice();
         octets.len()

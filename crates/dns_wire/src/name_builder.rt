@@ -3,10 +3,12 @@ ghost use Rattle.std.specs.Prelude.{ℕ, ◌≡◌, ◌<◌, ◌≤◌, ◌+◌,
 ghost use Rattle.dns_wire.specs.Wire.{wire_label};
 ghost use Rattle.dns_wire.specs.Building.{AnswersGrowth, needed, grown};
 ghost use Rattle.dns_wire.specs.Opened.{Opened, Opened-prop};
+ghost use Rattle.dns_wire.specs.Limits.{max_label, max_relative};
 
 use crate::error::PushError;
+use crate::label::MAX_LABEL;
 use crate::name::Name;
-use crate::relative::RelativeName;
+use crate::relative::{MAX_RELATIVE, RelativeName};
 use arrayvec::ArrayVec;
 use dns_octets::{AsOctets, AsOctetsMut, EmptyBuilder, FreezeBuilder, OctetsBuilder, ShortBuf};
 use std::marker::Model;
@@ -17,7 +19,7 @@ fn lengthen<B: OctetsBuilder + AsOctetsMut>(
     count: usize,
     octet: u8,
 ) -> Result<(), ShortBuf>
-    requires few { count < 63 }
+    requires few { count < max_label }
     requires place { count < length (B.octets inner.old) }
     ensures ok { OnOk result (B.octets inner.new ≡ slice_set (B.octets inner.old ++ octet ∷ []) (length (B.octets inner.old) - count - 1) (count + 1)) }
     ensures err { OnErr result (B.octets inner.new ≡ B.octets inner.old) }
@@ -37,7 +39,7 @@ fn grow<B: OctetsBuilder + AsOctetsMut>(
     count: usize,
     octet: u8,
 ) -> Result<(), PushError>
-    requires few { count ≤ 63 }
+    requires few { count ≤ max_label }
     requires place { 0 < count → count < length (B.octets inner.old) }
     ensures answers { AnswersGrowth (length (B.octets inner.old) + needed count) (count + 1) B.sure B.most result }
     ensures ok { OnOk result (B.octets inner.new ≡ grown (B.octets inner.old) count octet) }
@@ -45,17 +47,17 @@ fn grow<B: OctetsBuilder + AsOctetsMut>(
 {
     let len = inner.as_slice().len();
     if count == 0 {
-        if len > 252 {
+        if len > MAX_RELATIVE - 2 {
             return Err(PushError::LongName);
         }
         return inner
             .append_slice(&[1, octet])
             .map_err(|_| PushError::ShortBuf);
     }
-    if len > 253 {
+    if len >= MAX_RELATIVE {
         return Err(PushError::LongName);
     }
-    if count == 63 {
+    if count == MAX_LABEL {
         return Err(PushError::LongLabel);
     }
     lengthen(inner, count, octet).map_err(|_| PushError::ShortBuf)
@@ -63,7 +65,7 @@ fn grow<B: OctetsBuilder + AsOctetsMut>(
 
 // The label's length octet and its octets.
 fn wire_label(label: &[u8]) -> ArrayVec<u8, 64>
-    requires { length label.now ≤ 63 }
+    requires { length label.now ≤ max_label }
     ensures { result.items ≡ wire_label label.now }
 {
     let mut octets = ArrayVec::new();
@@ -79,10 +81,10 @@ fn append_whole<B: OctetsBuilder>(inner: &mut B, label: &[u8]) -> Result<(), Pus
     ensures err { OnErr result (B.octets inner.new ≡ B.octets inner.old) }
 {
     let len = inner.as_slice().len();
-    if len > 253 || label.len() > 253 - len {
+    if len >= MAX_RELATIVE || label.len() >= MAX_RELATIVE - len {
         return Err(PushError::LongName);
     }
-    if label.len() > 63 {
+    if label.len() > MAX_LABEL {
         return Err(PushError::LongLabel);
     }
     let octets = wire_label(label);
@@ -103,12 +105,13 @@ impl<B: OctetsBuilder> Model for NameBuilder<B> {
     ghost use Rattle.std.specs.Prelude.{ℕ, ◌≤◌, ◌<◌, ◌++◌, All, length};
     ghost use Rattle.dns_wire.specs.Building.{Naming, closed};
     ghost use Rattle.dns_wire.specs.Wire.{IsPlain, wire_length};
+    ghost use Rattle.dns_wire.specs.Limits.{max_relative};
 
     ghost Value = { Naming };
 
     ghost view = { λ b. record { labels = b.opened.0.0; current = b.opened.0.1 } };
 
-    ghost invariant = { λ b. All IsPlain (b.opened.0.0 ++ closed b.opened.0.1) × (wire_length (b.opened.0.0 ++ closed b.opened.0.1) ≤ 254) };
+    ghost invariant = { λ b. All IsPlain (b.opened.0.0 ++ closed b.opened.0.1) × (wire_length (b.opened.0.0 ++ closed b.opened.0.1) ≤ max_relative) };
 }
 
 impl<B: OctetsBuilder> NameBuilder<B> {

@@ -2,6 +2,7 @@
 ghost use Rattle.std.specs.Prelude.{◌≡◌, ◌<◌, List, [], ℕ, length, slice_index_or};
 ghost use Rattle.dns_wire.specs.Label.{label_octets};
 ghost use Rattle.dns_wire.specs.Labelled.{Labelled, Labelled-prop};
+ghost use Rattle.dns_wire.specs.Limits.{max_label};
 
 use crate::label::Label;
 use std::alloc::AllocError;
@@ -17,12 +18,13 @@ pub struct NameIter<'a> {
 
 impl<'a> Model for NameIter<'a> {
     ghost use Rattle.std.specs.Prelude.{◌≤◌, List, ℕ, length, All};
+    ghost use Rattle.dns_wire.specs.Limits.{max_label};
 
     ghost Value = { List (List ℕ) };
 
     ghost view = { λ s. s.labelled.0 };
 
-    ghost invariant = { λ s. All (λ label. length label ≤ 63) s.labelled.0 };
+    ghost invariant = { λ s. All (λ label. length label ≤ max_label) s.labelled.0 };
 }
 
 impl<'a> NameIter<'a> {

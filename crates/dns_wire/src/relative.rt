@@ -1,5 +1,6 @@
 //! Relative names.
 ghost use Rattle.dns_wire.specs.Labelled.{Labelled, Labelled-prop};
+ghost use Rattle.dns_wire.specs.Limits.{max_relative};
 
 use crate::error::{NameError, PushError, SplitLabelError};
 use crate::label::Label;
@@ -13,6 +14,9 @@ use dns_octets::{
 use std::alloc::AllocError;
 use std::marker::Model;
 
+/// The most octets of a relative name in wire form, which leaves one for the root.
+pub const MAX_RELATIVE: usize = 254;
+
 /// A name without the root label, of at most 254 octets in wire form: there is room for the root.
 #[derive(Drop)]
 pub struct RelativeName<Octets: AsOctets> {
@@ -23,12 +27,13 @@ pub struct RelativeName<Octets: AsOctets> {
 impl<Octets: AsOctets> Model for RelativeName<Octets> {
     ghost use Rattle.std.specs.Prelude.{List, ℕ, ◌≤◌};
     ghost use Rattle.dns_wire.specs.Wire.{IsName, HasNoRoot, wire_length};
+    ghost use Rattle.dns_wire.specs.Limits.{max_relative};
 
     ghost Value = { List (List ℕ) };
 
     ghost view = { λ n. n.labelled.0 };
 
-    ghost invariant = { λ n. IsName n.labelled.0 × HasNoRoot n.labelled.0 × (wire_length n.labelled.0 ≤ 254) };
+    ghost invariant = { λ n. IsName n.labelled.0 × HasNoRoot n.labelled.0 × (wire_length n.labelled.0 ≤ max_relative) };
 }
 
 impl RelativeName<&[u8]> {
@@ -58,7 +63,7 @@ impl<Octets: AsOctets> RelativeName<Octets> {
         ensures { MakesRelative (Octets.octets octets) result }
     {
         let slice = octets.as_slice();
-        if slice.len() > 254 {
+        if slice.len() > MAX_RELATIVE {
             return Err(NameError::LongName);
         }
         match rest_of(slice) {
@@ -96,7 +101,7 @@ impl<Octets: AsOctets> RelativeName<Octets> {
         ensures len { length result.now ≡ wire_length self.now }
         ensures is_name { IsName self.now }
         ensures relative { HasNoRoot self.now }
-        ensures fits { wire_length self.now ≤ 254 }
+        ensures fits { wire_length self.now ≤ max_relative }
     {
         self.octets.as_slice()
     }
@@ -104,7 +109,7 @@ impl<Octets: AsOctets> RelativeName<Octets> {
     /// How many octets the wire form has, from 0 to 254.
     pub fn len(&self) -> usize
         ensures value { result ≡ wire_length self.now }
-        ensures few { result ≤ 254 }
+        ensures few { result ≤ max_relative }
     {
         let octets = self.as_slice();
         octets.len()
@@ -115,7 +120,7 @@ impl<Octets: AsOctets> RelativeName<Octets> {
         ensures value { result ≡ self.now }
         ensures is_name { IsName self.now }
         ensures relative { HasNoRoot self.now }
-        ensures fits { wire_length self.now ≤ 254 }
+        ensures fits { wire_length self.now ≤ max_relative }
     {
         NameIter {
             octets: self.octets.as_slice(),
@@ -168,7 +173,7 @@ impl<Octets: AsOctets> ToLabelIter for RelativeName<Octets> {
 
     ghost labels = { λ n. n };
 
-    ghost holds = { λ n. IsName n × HasNoRoot n × (wire_length n ≤ 254) };
+    ghost holds = { λ n. IsName n × HasNoRoot n × (wire_length n ≤ max_relative) };
 
     #[tactic(auto, using(crate::proofs::Wires::name_count))]
     fn label_count(&self) -> usize {

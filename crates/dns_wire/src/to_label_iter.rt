@@ -2,6 +2,7 @@
 ghost use Rattle.std.specs.Prelude.{◌≡◌, ℕ, ◌-◌, ◌<◌, ◌≤◌, List, [], ◌++◌, length, slice_index_or, OnOk, OnErr, IsOk};
 ghost use Rattle.dns_wire.specs.Label.{label_octets};
 ghost use Rattle.dns_wire.specs.Wire.{wire, wire_length, IsName, EndsInRoot, HasNoRoot};
+ghost use Rattle.dns_wire.specs.Limits.{max_name};
 
 use crate::label::Label;
 use dns_octets::{OctetsBuilder, ShortBuf};
@@ -18,7 +19,7 @@ pub trait ToLabelIter {
     /// How many labels there are.
     fn label_count(&self) -> usize
         ensures value { result ≡ length (labels self.now) }
-        ensures few { result ≤ 255 }
+        ensures few { result ≤ max_name }
         ensures holds { holds self.now };
 
     /// The label at a place, from 0, below the count.

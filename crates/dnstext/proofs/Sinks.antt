@@ -5,7 +5,7 @@ use Rattle.std.specs.Fmt.{WritesInCalls}
 use Rattle.std.specs.Io.KnownBytes.{Appends, Keeps}
 use Rattle.std.proofs.lemmas.Fmt.{contents_after_writes}
 use Rattle.dns_program.specs.Program.{refusal_line}
-use Rattle.dns_program.specs.Run.{AsksNothing, RunPrinted, RunRefused}
+use Rattle.dns_program.specs.Run.{IsUnknownCommand, RunPrinted, RunRefused}
 use Rattle.dnstext.specs.Streams.{Grows, Printed, Refused, Ran}
 use Rattle.dnstext.specs.declared.streams.TextSink.{TextSink}
 
@@ -111,9 +111,9 @@ module _ {O : Type 0} (contents : O → Option (List ℕ)) where
   ran_on words s t e v (suc (suc n)) line g small a b = absurd (omega arith)
 
   pub silent_on : (words : List (List ℕ)) (s t e : TextSink O) (v : O) (status : ℕ) → GivenBack s t e v → status ≤ 3
-      → (status ≡ 0 → RunPrinted Took words s t) → (status ≡ 1 → (reason : List ℕ) × RunRefused Took words s t reason) → (status ≡ 2 → AsksNothing words × (t ≡ s))
-      → (status ≡ 3 → (AsksNothing words × (t ≡ s)) ⊎ ((reason : List ℕ) × RunRefused Took words s t reason))
-      → (AsksNothing words × Keeps (contents s.writer.now) (contents v)) ⊎ ((line : List ℕ) × Ran words (contents s.writer.now) (contents v) line)
+      → (status ≡ 0 → RunPrinted Took words s t) → (status ≡ 1 → (reason : List ℕ) × RunRefused Took words s t reason) → (status ≡ 2 → IsUnknownCommand words × (t ≡ s))
+      → (status ≡ 3 → (IsUnknownCommand words × (t ≡ s)) ⊎ ((reason : List ℕ) × RunRefused Took words s t reason))
+      → (IsUnknownCommand words × Keeps (contents s.writer.now) (contents v)) ⊎ ((line : List ℕ) × Ran words (contents s.writer.now) (contents v) line)
   silent_on words s t e v status g small a b asks d =
       let refused : (reason : List ℕ) → RunRefused Took words s t reason → (line : List ℕ) × Ran words (contents s.writer.now) (contents v) line =
       λ reason r. (refusal_line reason, inr (reason, refused_on words s t e v reason g r, refl)) in

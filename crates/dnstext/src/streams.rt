@@ -2,7 +2,7 @@
 ghost use Rattle.std.specs.Prelude.{◌≡◌, ◌⊎◌, ◌≤◌, ℕ, List, []};
 ghost use Rattle.std.specs.Io.KnownBytes.{Appends, Keeps};
 ghost use Rattle.dns_program.specs.Program.{refusal_line, usage_line, texts};
-ghost use Rattle.dns_program.specs.Run.{AsksNothing};
+ghost use Rattle.dns_program.specs.Run.{IsUnknownCommand};
 ghost use Rattle.dnstext.specs.Streams.{Printed, Ran, Told};
 
 use arrayvec::ArrayString;
@@ -84,9 +84,9 @@ pub fn run<A: Allocator + Copy, O: Write, E: Write>(
     ensures printed { result ≡ 0 → Printed (texts words.now) (O.contents out.old) (O.contents out.new) × Keeps (E.contents err.old) (E.contents err.new) }
     ensures refused { result ≡ 1 → (lines : List ℕ) × Told (texts words.now) (O.contents out.old) (O.contents out.new) lines
         × Appends (E.contents err.old) (E.contents err.new) lines }
-    ensures usage { result ≡ 2 → AsksNothing (texts words.now) × Keeps (O.contents out.old) (O.contents out.new)
+    ensures usage { result ≡ 2 → IsUnknownCommand (texts words.now) × Keeps (O.contents out.old) (O.contents out.new)
         × Appends (E.contents err.old) (E.contents err.new) usage_line }
-    ensures silent { result ≡ 3 → (AsksNothing (texts words.now) × Keeps (O.contents out.old) (O.contents out.new))
+    ensures silent { result ≡ 3 → (IsUnknownCommand (texts words.now) × Keeps (O.contents out.old) (O.contents out.new))
         ⊎ ((line : List ℕ) × Ran (texts words.now) (O.contents out.old) (O.contents out.new) line) }
     ensures status { result ≤ 3 }
 {

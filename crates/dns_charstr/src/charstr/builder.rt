@@ -1,6 +1,7 @@
 //! Character strings that are being built.
 ghost use Rattle.std.specs.Prelude.{◌≡◌, ◌≤◌, ◌<◌, ◌↔◌, List, [], ℕ, length, min, All, IsTrue, IfOk, IsOk, refl};
 ghost use Rattle.dns_octets.specs.Octets.{written_over};
+ghost use Rattle.dns_charstr.specs.Limits.{max_string};
 
 use crate::charstr::{CharStr, CharStrError};
 use dns_octets::{
@@ -20,7 +21,7 @@ impl<B: OctetsBuilder> Model for CharStrBuilder<B> {
 
     ghost view = { λ b. B.octets b.inner };
 
-    ghost invariant = { λ b. length (B.octets b.inner) ≤ 255 };
+    ghost invariant = { λ b. length (B.octets b.inner) ≤ max_string };
 }
 
 impl<B: OctetsBuilder> CharStrBuilder<B> {
@@ -52,10 +53,10 @@ impl<B: OctetsBuilder> CharStrBuilder<B> {
     pub fn from_builder(inner: B) -> Result<Self, CharStrError>
     where
         B: Drop,
-        ensures ok { IsOk result ↔ (length (B.octets inner) ≤ 255) }
+        ensures ok { IsOk result ↔ (length (B.octets inner) ≤ max_string) }
         ensures value { IfOk result (λ b. b ≡ B.octets inner) }
     {
-        if inner.as_slice().len() > 255 {
+        if inner.as_slice().len() > CharStr::MAX_LEN {
             return Err(CharStrError);
         }
         Ok(CharStrBuilder { inner })
@@ -79,7 +80,7 @@ impl<B: OctetsBuilder> CharStrBuilder<B> {
     /// The octets so far.
     pub fn as_slice(&self) -> &[u8]
         ensures value { result.now ≡ self.now }
-        ensures short { length self.now ≤ 255 }
+        ensures short { length self.now ≤ max_string }
         ensures bytes { All (λ b. b < 256) self.now }
     {
         self.inner.as_slice()
@@ -88,7 +89,7 @@ impl<B: OctetsBuilder> CharStrBuilder<B> {
     /// How many octets there are so far: 255 at most.
     pub fn len(&self) -> usize
         ensures value { result ≡ length self.now }
-        ensures short { result ≤ 255 }
+        ensures short { result ≤ max_string }
     {
         self.as_slice().len()
     }
@@ -136,7 +137,7 @@ impl<B: OctetsBuilder + AsOctetsMut> CharStrBuilder<B> {
     pub fn as_slice_mut(&mut self) -> &mut [u8]
         ensures* writes_back { sem 𝓛 (lends_built B.row B.AsOctets B.sure B.most self.entry result) }
         ensures value { result.now ≡ self.old }
-        ensures short { length self.old ≤ 255 }
+        ensures short { length self.old ≤ max_string }
     {
         self.inner.as_slice_mut()
     }
@@ -152,12 +153,12 @@ impl<B: OctetsBuilder> AsOctets for CharStrBuilder<B> {
 
 /// Appends only while there are at most 255 octets.
 impl<B: OctetsBuilder> OctetsBuilder for CharStrBuilder<B> {
-    ghost sure = { min B.sure 255 };
+    ghost sure = { min B.sure max_string };
 
-    ghost most = { min B.most 255 };
+    ghost most = { min B.most max_string };
 
     fn append_slice(&mut self, slice: &[u8]) -> Result<(), ShortBuf> {
-        if slice.len() > 255 - self.len() {
+        if slice.len() > CharStr::MAX_LEN - self.len() {
             return Err(ShortBuf);
         }
         self.inner.append_slice(slice)

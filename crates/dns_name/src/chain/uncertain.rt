@@ -2,12 +2,13 @@
 ghost use Rattle.std.specs.Prelude.{◌≤◌};
 ghost use Rattle.dns_wire.specs.Wire.{wire_length};
 ghost use Rattle.dns_name.specs.Uncertain.{labels_after};
+ghost use Rattle.dns_wire.specs.Limits.{max_name};
 
 use crate::chain::{Chain, DisplayWithDot, LongChainError, UncertainChainIter};
 use crate::name::UncertainName;
 use dns_octets::{AsOctets, OctetsBuilder, ShortBuf};
 use dns_scan::Scanner;
-use dns_wire::{DisplayWithoutDot, Label, ToLabelIter, ToName};
+use dns_wire::{DisplayWithoutDot, Label, MAX_NAME, ToLabelIter, ToName};
 use std::alloc::AllocError;
 use std::fmt;
 
@@ -16,7 +17,7 @@ use std::fmt;
 pub struct UncertainChain<Octets: AsOctets, R: ToLabelIter> {
     left: UncertainName<Octets>,
     right: R,
-    ghost fits: { wire_length (labels_after left (R.labels right)) ≤ 255 },
+    ghost fits: { wire_length (labels_after left (R.labels right)) ≤ max_name },
 }
 
 impl<Octets: AsOctets, R: ToLabelIter> UncertainChain<Octets, R> {
@@ -30,10 +31,10 @@ impl<Octets: AsOctets, R: ToLabelIter> UncertainChain<Octets, R> {
     where
         Octets: Drop,
         R: Drop,
-        ensures ok { IsOk result ↔ (wire_length (labels_after left (R.labels right)) ≤ 255) }
+        ensures ok { IsOk result ↔ (wire_length (labels_after left (R.labels right)) ≤ max_name) }
         ensures value { IfOk result (λ c. (first_of c ≡ left) × (second_of c ≡ right)) }
     {
-        let room = 255 - left.compose_len();
+        let room = MAX_NAME as u16 - left.compose_len();
         if left.is_relative() && right.compose_len() > room {
             return Err(LongChainError);
         }

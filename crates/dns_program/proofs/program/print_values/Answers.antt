@@ -1,5 +1,5 @@
 use Rattle.std.proofs.Common.{subst, sym, ap, Ok, Err}
-use Rattle.dns_scan.specs.Stands.{StandsBefore}
+use Rattle.dns_scan.specs.Stands.{HasTokens}
 use Rattle.dns_program.specs.Program.{LinesWritten, texts}
 use Rattle.dns_program.proofs.Printing.{drop_at, drop_all, lines_more, lines_none, lines_stop}
 use Rattle.dns_program.proofs.program.print_values.Goals as goal
@@ -8,7 +8,7 @@ pub returns-in-Err : goal.returns-in-Err
 returns-in-Err g c =
     let at = drop_at c.args.tokens.now c.loop-token._token-index c.loop-token-test.true in
     let first = ap texts at.1 in
-    let stands = subst (λ ts. StandsBefore g.S.Scanner.next_token c.loop-token.scanner ts) first c.loop-token.invariant.stands in
+    let stands = subst (λ ts. HasTokens g.S.Scanner.next_token c.loop-token.scanner ts) first c.loop-token.invariant.stands in
     c.loop-token.invariant.lines (Err c.in-Err.stop) c.print_value.new.out
     (subst (λ ts. LinesWritten g.S.Error.ScannerError.cause g.O.Write.write_str_gives c.args.kind ts c.loop-token.out (Err c.in-Err.stop) c.print_value.new.out) (sym first)
     (lines_stop g.S.Error.ScannerError.cause g.O.Write.write_str_gives c.args.kind _ _ _ _ c.in-Err.stop (c.in-Err.ensures.line _ _ stands)))
@@ -17,7 +17,7 @@ pub loop-token-preserved : goal.loop-token-preserved
 loop-token-preserved g c =
     let at = drop_at c.args.tokens.now c.loop-token._token-index c.loop-token-test.true in
     let first = ap texts at.1 in
-    let stands = subst (λ ts. StandsBefore g.S.Scanner.next_token c.loop-token.scanner ts) first c.loop-token.invariant.stands in
+    let stands = subst (λ ts. HasTokens g.S.Scanner.next_token c.loop-token.scanner ts) first c.loop-token.invariant.stands in
     record {
       ready = c.print_value.ensures.ready;
       stands = c.print_value.ensures.rest _ _ stands;

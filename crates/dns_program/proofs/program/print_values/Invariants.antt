@@ -1,5 +1,5 @@
 use Rattle.std.proofs.Common.{drop}
-use Rattle.dns_scan.specs.Stands.{StandsBefore}
+use Rattle.dns_scan.specs.Stands.{HasTokens}
 use Rattle.dns_program.specs.Program.{LinesWritten, texts}
 use Rattle.dns_program.proofs.program.print_values.Given as goal
 
@@ -7,7 +7,7 @@ use Rattle.dns_program.proofs.program.print_values.Given as goal
 abbrev pub invariant-loop-token : goal.invariant-loop-token
 invariant-loop-token g l = record {
   ready : g.S.Scanner.can_scan l.scanner;
-  stands : StandsBefore g.S.Scanner.next_token l.scanner (texts (drop l._token-index l.tokens));
+  stands : HasTokens g.S.Scanner.next_token l.scanner (texts (drop l._token-index l.tokens));
   lines : (r : _) (p : _) → LinesWritten g.S.Error.ScannerError.cause g.O.Write.write_str_gives l.kind (texts (drop l._token-index l.tokens)) l.out r p
       → LinesWritten g.S.Error.ScannerError.cause g.O.Write.write_str_gives l.kind (texts l.tokens) l.fn.out r p;
 }

@@ -1,13 +1,13 @@
 use Rattle.std.proofs.Common.{rules, inl, inr, ⊎_elim}
-use Rattle.dns_program.specs.EntryLine.{AsksFields, AsksLine}
-use Rattle.dns_program.specs.Print.{AsksItems, AsksPrint}
-use Rattle.dns_program.specs.Program.{texts, AsksScan}
-use Rattle.dns_program.specs.Run.{AsksNothing}
+use Rattle.dns_program.specs.EntryLine.{AsksFields, IsLineCommand}
+use Rattle.dns_program.specs.Print.{AsksItems, IsPrintCommand}
+use Rattle.dns_program.specs.Program.{texts, IsScanCommand}
+use Rattle.dns_program.specs.Run.{IsUnknownCommand}
 use Rattle.dns_program.proofs.program.run.Goals as goal
 
 pub returns-in-Some-scan_kind-clause-silent : goal.returns-in-Some-scan_kind-clause-silent
 returns-in-Some-scan_kind-clause-silent g c = λ is.
-    let asks : AsksScan (texts c.args.words.now) c.in-Some-scan_kind.kind (texts c.in-Some-split_first.others.now) = search rules in
+    let asks : IsScanCommand (texts c.args.words.now) c.in-Some-scan_kind.kind (texts c.in-Some-split_first.others.now) = search rules in
     let refused = c.run_scan.ensures.silent is in
     inr (refused.0, inl (c.in-Some-scan_kind.kind, texts c.in-Some-split_first.others.now, asks, refused.1))
 
@@ -25,9 +25,9 @@ returns-in-Some-layout_kind-clause-usage g c = λ is.
 
 pub returns-in-Some-layout_kind-clause-silent : goal.returns-in-Some-layout_kind-clause-silent
 returns-in-Some-layout_kind-clause-silent g c = λ is.
-    let asks : AsksPrint (texts c.args.words.now) c.in-Some-layout_kind.kind (texts c.in-Some-split_first.others.now) = search rules in
+    let asks : IsPrintCommand (texts c.args.words.now) c.in-Some-layout_kind.kind (texts c.in-Some-split_first.others.now) = search rules in
     ⊎_elim
-    (λ k. let none : AsksNothing (texts c.args.words.now) = record {
+    (λ k. let none : IsUnknownCommand (texts c.args.words.now) = record {
       scan = λ kind tokens e. search rules;
       print = λ kind steps e. let items : AsksItems (texts c.in-Some-split_first.others.now) steps = search rules in k.0 steps items;
       line = λ kind asked e. search rules;
@@ -37,9 +37,9 @@ returns-in-Some-layout_kind-clause-silent g c = λ is.
 
 pub returns-in-Some-layout_kind-2-clause-silent : goal.returns-in-Some-layout_kind-2-clause-silent
 returns-in-Some-layout_kind-2-clause-silent g c = λ is.
-    let asks : AsksLine (texts c.args.words.now) c.in-Some-layout_kind-2.kind (texts c.in-Some-split_first.others.now) = search rules in
+    let asks : IsLineCommand (texts c.args.words.now) c.in-Some-layout_kind-2.kind (texts c.in-Some-split_first.others.now) = search rules in
     ⊎_elim
-    (λ k. let none : AsksNothing (texts c.args.words.now) = record {
+    (λ k. let none : IsUnknownCommand (texts c.args.words.now) = record {
       scan = λ kind tokens e. search rules;
       print = λ kind steps e. search rules;
       line = λ kind asked e. let fields : AsksFields (texts c.in-Some-split_first.others.now) asked = search rules in k.0 asked fields;

@@ -2,7 +2,7 @@ use Rattle.std.proofs.Common.{ℕ, ◌≡◌, ◌+◌, [], ◌∷◌, length, re
 use Rattle.std.proofs.lemmas.List.{length-append}
 use Rattle.std.specs.Prelude.{◌≢◌}
 use Rattle.dns_scan.specs.Reads.{ReadsSome}
-use Rattle.dns_scan.specs.Stands.{StandsBefore}
+use Rattle.dns_scan.specs.Stands.{HasTokens}
 use Rattle.dns_scan.proofs.TokensLeft.{peeked, none_left, some_left, some_more, ends_with_one}
 use Rattle.dns_scan.proofs.rest.scan_rest.Goals as goal
 
@@ -12,7 +12,7 @@ returns-then-not-continues-clause-reads g c = λ tokens stands.
     let peek = c.if-not-continues.ensures.peeks in
     let left = peeked g.S.Scanner.next_token _ _ peek.0 at.0 at.2 peek.1 in
     let none = none_left at.0 peek.0 left.0 peek.2 in
-    ([], (subst (λ m. ReadsSome g.T.Scan.scan_reads tokens c.loop-turn.values.items m) none at.1, refl), subst (λ m. StandsBefore g.S.Scanner.next_token c.continues.new.self m) none left.1)
+    ([], (subst (λ m. ReadsSome g.T.Scan.scan_reads tokens c.loop-turn.values.items m) none at.1, refl), subst (λ m. HasTokens g.S.Scanner.next_token c.continues.new.self m) none left.1)
 
 pub returns-in-Err-push-clause-reads : goal.returns-in-Err-push-clause-reads
 returns-in-Err-push-clause-reads g c = λ tokens stands.

@@ -1,8 +1,8 @@
 use Rattle.std.proofs.Common.{[], ◌∷◌, ◌++◌, inl}
-use Rattle.dns_record.specs.Pieces.{values_of}
+use Rattle.dns_record.specs.Parts.{values_of}
 use Rattle.dns_record.specs.Values.{name}
 use Rattle.dns_record.proofs.FieldsBack.{lacked, went}
-use Rattle.dns_records.specs.Pieces.{soa_numbers}
+use Rattle.dns_records.specs.Parts.{soa_numbers}
 use Rattle.dns_records.proofs.soa.SoaRecordData.scan_data.Goals as goal
 
 pub returns-clause-back : goal.returns-clause-back

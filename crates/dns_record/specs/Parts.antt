@@ -1,4 +1,4 @@
--- The pieces of a record's text: fields, and how the multiline layout sets them.
+-- The parts of a record's text: fields, and how the multiline layout sets them.
 use Rattle.std.specs.Prelude.{ℕ, ◌≡◌, ◌&&◌, Bool, true, List, [], ◌∷◌, map, nat_le, encode_utf8_all}
 use Rattle.std.specs.Fmt.{decimal}
 use Rattle.std.specs.List.{list_all}
@@ -12,12 +12,12 @@ use Rattle.dns_wire.specs.ZoneText.{zone_text}
 use Rattle.dns_record.specs.Values.{Value, number8, number16, number32, name, hex, base64_octets, string, listed}
 
 -- a field, a character string that needs no double quotes, a note on what stands before it, or a parenthesis of a block
-pub data Piece : Type 0 where
-  field : Value → Piece
-  unquoted : List ℕ → Piece
-  note : List ℕ → Piece
-  opens : Piece
-  closes : Piece
+pub data Part : Type 0 where
+  field : Value → Part
+  unquoted : List ℕ → Part
+  note : List ℕ → Part
+  opens : Part
+  closes : Part
 
 -- the token of a value: a character string stands between double quotes
 abbrev pub value_token : Value → List ℕ
@@ -30,19 +30,19 @@ value_token (base64_octets octets) = encoded base64 octets
 value_token (string octets) = encode_utf8_all (quoted_text octets)
 value_token (listed octets) = encode_utf8_all (quoted_text octets)
 
-abbrev pub step_of : Piece → Step
+abbrev pub step_of : Part → Step
 step_of (field v) = token (value_token v)
 step_of (unquoted octets) = token (field_text (text_octets octets))
 step_of (note text) = comment text
 step_of opens = begin
 step_of closes = end
 
--- the document of pieces
-abbrev pub steps_of : List Piece → List Step
+-- the document of parts
+abbrev pub steps_of : List Part → List Step
 steps_of = map step_of
 
--- the values that pieces show
-abbrev pub values_of : List Piece → List Value
+-- the values that parts show
+abbrev pub values_of : List Part → List Value
 values_of [] = []
 values_of (field v ∷ ps) = v ∷ values_of ps
 values_of (unquoted octets ∷ ps) = string octets ∷ values_of ps
@@ -54,8 +54,8 @@ values_of (closes ∷ ps) = values_of ps
 abbrev pub is_note_ascii : ℕ → Bool
 is_note_ascii c = nat_le space c && nat_le c tilde
 
--- a note of printable ASCII, or any other piece
-abbrev pub is_plain : Piece → Bool
+-- a note of printable ASCII, or any other part
+abbrev pub is_plain : Part → Bool
 is_plain (note text) = list_all is_note_ascii text
 is_plain (field v) = true
 is_plain (unquoted octets) = true
@@ -63,5 +63,5 @@ is_plain opens = true
 is_plain closes = true
 
 -- blocks nest and close, and notes are printable ASCII
-abbrev pub IsLaidOut : List Piece → Type 0
+abbrev pub IsLaidOut : List Part → Type 0
 IsLaidOut ps = (is_nested 0 (steps_of ps) && list_all is_plain ps) ≡ true

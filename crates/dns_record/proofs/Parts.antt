@@ -1,4 +1,4 @@
--- The document of pieces: it is well-formed, and one entry whose tokens hold the texts of the values.
+-- The document of parts: it is well-formed, and one entry whose tokens hold the texts of the values.
 use Rattle.std.proofs.Common.{ℕ, ◌≡◌, ◌<◌, Bool, true, false, List, [], ◌∷◌, ◌++◌, map, refl, sym, ap, ◌∙◌, arith, inl, inr}
 use Rattle.std.specs.Prelude.{All, encode_utf8_all, if◌then◌else◌}
 use Rattle.std.specs.Fmt.{decimal}
@@ -28,7 +28,7 @@ use Rattle.dns_wire.specs.Wire.{EndsInRoot}
 use Rattle.dns_wire.specs.ZoneText.{zone_text}
 use Rattle.dns_zone_laws.proofs.ZoneNames.{zone_word}
 use Rattle.dns_iter.specs.Contents.{IsContent, AreContents}
-use Rattle.dns_record.specs.Pieces.{Piece, field, unquoted, note, opens, closes, value_token, steps_of, values_of, is_note_ascii, is_plain, IsLaidOut}
+use Rattle.dns_record.specs.Parts.{Part, field, unquoted, note, opens, closes, value_token, steps_of, values_of, is_note_ascii, is_plain, IsLaidOut}
 use Rattle.dns_record.specs.Values.{Value, number8, number16, number32, name, hex, base64_octets, string, listed, IsValue, IsText, AreValues, AreTexts}
 
 -- ---- tokens and comments
@@ -124,19 +124,19 @@ note_comment text h = record { characters = text; plain = note_plain text h; spe
 
 -- ---- the document
 
-pieces_proper : (ps : List Piece) → AreValues (values_of ps) → list_all is_plain ps ≡ true → AllByRecursion IsProper (steps_of ps)
-pieces_proper [] is plain = tt
-pieces_proper (opens ∷ ps) is plain = (tt, pieces_proper ps is plain)
-pieces_proper (closes ∷ ps) is plain = (tt, pieces_proper ps is plain)
-pieces_proper (note text ∷ ps) is plain = let parts = and_parts (list_all is_note_ascii text) (list_all is_plain ps) plain in (note_comment text parts.0, pieces_proper ps is parts.1)
-pieces_proper (field v ∷ ps) is plain = (is_token (value_token v) (held v) (value_content v is.0), pieces_proper ps is.1 plain)
-pieces_proper (unquoted os ∷ ps) is plain = (is_token (field_text (text_octets os)) (unquoted_token os) (unquoted_content os is.0.0), pieces_proper ps is.1 plain)
+parts_proper : (ps : List Part) → AreValues (values_of ps) → list_all is_plain ps ≡ true → AllByRecursion IsProper (steps_of ps)
+parts_proper [] is plain = tt
+parts_proper (opens ∷ ps) is plain = (tt, parts_proper ps is plain)
+parts_proper (closes ∷ ps) is plain = (tt, parts_proper ps is plain)
+parts_proper (note text ∷ ps) is plain = let parts = and_parts (list_all is_note_ascii text) (list_all is_plain ps) plain in (note_comment text parts.0, parts_proper ps is parts.1)
+parts_proper (field v ∷ ps) is plain = (is_token (value_token v) (held v) (value_content v is.0), parts_proper ps is.1 plain)
+parts_proper (unquoted os ∷ ps) is plain = (is_token (field_text (text_octets os)) (unquoted_token os) (unquoted_content os is.0.0), parts_proper ps is.1 plain)
 
-pub pieces_formed : (ps : List Piece) → AreValues (values_of ps) → IsLaidOut ps → IsWellFormed (steps_of ps)
-pieces_formed ps is laid = let parts = and_parts (is_nested 0 (steps_of ps)) (list_all is_plain ps) laid in (parts.0, pieces_proper ps is parts.1)
+pub parts_formed : (ps : List Part) → AreValues (values_of ps) → IsLaidOut ps → IsWellFormed (steps_of ps)
+parts_formed ps is laid = let parts = and_parts (is_nested 0 (steps_of ps)) (list_all is_plain ps) laid in (parts.0, parts_proper ps is parts.1)
 
 -- the tokens, and what they hold
-pub tokens_of : List Piece → List Token
+pub tokens_of : List Part → List Token
 tokens_of [] = []
 tokens_of (field v ∷ ps) = value_token v ∷ tokens_of ps
 tokens_of (unquoted os ∷ ps) = field_text (text_octets os) ∷ tokens_of ps
@@ -144,7 +144,7 @@ tokens_of (note text ∷ ps) = tokens_of ps
 tokens_of (opens ∷ ps) = tokens_of ps
 tokens_of (closes ∷ ps) = tokens_of ps
 
-pub held_of : List Piece → List Token
+pub held_of : List Part → List Token
 held_of [] = []
 held_of (field v ∷ ps) = held v ∷ held_of ps
 held_of (unquoted os ∷ ps) = unquoted_token os ∷ held_of ps
@@ -152,29 +152,29 @@ held_of (note text ∷ ps) = held_of ps
 held_of (opens ∷ ps) = held_of ps
 held_of (closes ∷ ps) = held_of ps
 
-pub pieces_entry : (ps : List Piece) → document_entries (steps_of ps) ≡ tokens_of ps ∷ []
+pub parts_entry : (ps : List Part) → document_entries (steps_of ps) ≡ tokens_of ps ∷ []
 unfolding tokens_of
-pieces_entry [] = refl
-pieces_entry (field v ∷ ps) = ap (with_token (value_token v)) (pieces_entry ps)
-pieces_entry (unquoted os ∷ ps) = ap (with_token (field_text (text_octets os))) (pieces_entry ps)
-pieces_entry (note text ∷ ps) = pieces_entry ps
-pieces_entry (opens ∷ ps) = pieces_entry ps
-pieces_entry (closes ∷ ps) = pieces_entry ps
+parts_entry [] = refl
+parts_entry (field v ∷ ps) = ap (with_token (value_token v)) (parts_entry ps)
+parts_entry (unquoted os ∷ ps) = ap (with_token (field_text (text_octets os))) (parts_entry ps)
+parts_entry (note text ∷ ps) = parts_entry ps
+parts_entry (opens ∷ ps) = parts_entry ps
+parts_entry (closes ∷ ps) = parts_entry ps
 
-pub pieces_contents : (ps : List Piece) → AreValues (values_of ps) → AreContents (tokens_of ps) (held_of ps)
+pub parts_contents : (ps : List Part) → AreValues (values_of ps) → AreContents (tokens_of ps) (held_of ps)
 unfolding tokens_of held_of
-pieces_contents [] is = tt
-pieces_contents (field v ∷ ps) is = (value_content v is.0, pieces_contents ps is.1)
-pieces_contents (unquoted os ∷ ps) is = (unquoted_content os is.0.0, pieces_contents ps is.1)
-pieces_contents (note text ∷ ps) is = pieces_contents ps is
-pieces_contents (opens ∷ ps) is = pieces_contents ps is
-pieces_contents (closes ∷ ps) is = pieces_contents ps is
+parts_contents [] is = tt
+parts_contents (field v ∷ ps) is = (value_content v is.0, parts_contents ps is.1)
+parts_contents (unquoted os ∷ ps) is = (unquoted_content os is.0.0, parts_contents ps is.1)
+parts_contents (note text ∷ ps) is = parts_contents ps is
+parts_contents (opens ∷ ps) is = parts_contents ps is
+parts_contents (closes ∷ ps) is = parts_contents ps is
 
-pub pieces_texts : (ps : List Piece) → AreTexts (values_of ps) (held_of ps) []
+pub parts_texts : (ps : List Part) → AreTexts (values_of ps) (held_of ps) []
 unfolding held_of
-pieces_texts [] = refl
-pieces_texts (field v ∷ ps) = (value_text v, pieces_texts ps)
-pieces_texts (unquoted os ∷ ps) = (inl refl, pieces_texts ps)
-pieces_texts (note text ∷ ps) = pieces_texts ps
-pieces_texts (opens ∷ ps) = pieces_texts ps
-pieces_texts (closes ∷ ps) = pieces_texts ps
+parts_texts [] = refl
+parts_texts (field v ∷ ps) = (value_text v, parts_texts ps)
+parts_texts (unquoted os ∷ ps) = (inl refl, parts_texts ps)
+parts_texts (note text ∷ ps) = parts_texts ps
+parts_texts (opens ∷ ps) = parts_texts ps
+parts_texts (closes ∷ ps) = parts_texts ps
