@@ -26,3 +26,4 @@ pub mod Conversions
 pub mod Pushed
 pub mod Refusals
 pub mod Each
+pub mod Halves
