@@ -4,13 +4,14 @@ use Rattle.std.specs.List.{list_all}
 use Rattle.std.specs.Str.{chars, IsUtf8}
 use Rattle.std.proofs.lemmas.Str.{encodes-chars, scalars-chars, chars_from_encodes}
 use lib.Utf8.{scalars}
+use Rattle.dns_symbol.specs.Characters.{carriage_return, line_feed}
 use Rattle.dns_split.specs.Lexeme.{is_note_char}
 use Rattle.dns_zone.specs.Documents.{IsComment}
 use Rattle.dns_zone.specs.Nesting.{both_true, both_parts}
 
 -- neither LF nor CR
 abbrev pub is_in_line : ℕ → Bool
-is_in_line c = not (c == 10 || c == 13)
+is_in_line c = not (c == line_feed || c == carriage_return)
 
 plain_chars : (cs : List ℕ) → scalars cs ≡ true → list_all is_in_line cs ≡ true → list_all is_note_char cs ≡ true
 plain_chars [] p q = refl

@@ -3,14 +3,15 @@ use Rattle.std.proofs.Common.{◌≡◌, ℕ, ◌+◌, List, [], ◌∷◌, ◌+
 use Rattle.std.specs.List.{FoldsTo, concat}
 use Rattle.std.specs.Fmt.{WritesInCalls}
 use Rattle.std.proofs.Output.{writes_in_calls_append, writes_in_calls_nil, writes_in_calls_single}
-use Rattle.dns_zone.specs.Layout.{token, comment, is_shown, indent, row, word, shown_comment}
+use Rattle.dns_symbol.specs.Characters.{line_feed, space}
+use Rattle.dns_zone.specs.Layout.{token, comment, comment_mark, is_shown, indent, row, word, shown_comment}
 use Rattle.dns_zone.specs.Multiline.{MultilineStep, Counts}
 use Rattle.dns_zone.specs.declared.zonefile_fmt.multiline.MultiLineWriter.{MultiLineWriter}
 use Rattle.dns_zone.specs.declared.zonefile_fmt.multiline.Line.{Line}
 
 -- what stands before a word
-abbrev pub space : Bool → List ℕ
-space first = cond first [] (32 ∷ [])
+abbrev pub gap : Bool → List ℕ
+gap first = cond first [] (space ∷ [])
 
 -- some calls that are counted
 pub record Counted {W : Type 0} (took : W → List ℕ → W → Type 0) (w : Line W) (bs : List ℕ) (v : Line W) : Type 0 where
@@ -21,7 +22,7 @@ pub record Counted {W : Type 0} (took : W → List ℕ → W → Type 0) (w : Li
 pub record SpaceWritten {W : Type 0} (took : W → List ℕ → W → Type 0) (s t : MultiLineWriter W) : Type 0 where
   pub blocks : t.blocks ≡ s.blocks
   pub block_indent : t.block_indent ≡ s.block_indent
-  pub line : Counted took s.line (space s.first) t.line
+  pub line : Counted took s.line (gap s.first) t.line
 
 shown_at : (b : Bool) (m n : ℕ) → cond b (Some m) None ≡ Some n → (b ≡ true) × (m ≡ n)
 shown_at true m n e = (refl, cc)
@@ -50,8 +51,8 @@ module _ {W : Type 0} (took : W → List ℕ → W → Type 0) where
   pub multiline_token : (s t : MultiLineWriter W) (v : Line W) (bs : List ℕ) → SpaceWritten took s t → WritesInCalls (Counts took) t.line bs v
       → MultilineStep took s (token bs) (record { first = false; blocks = t.blocks; block_indent = t.block_indent; line = v })
   multiline_token s t v bs p q past h =
-      let all : Counted took s.line (space s.first ++ bs) v = counted_append s.line (space s.first) t.line bs v p.line (counted t.line bs v q) in
-      let word_is : space s.first ++ bs ≡ word past bs = ap (λ (b : Bool). space b ++ bs) h.first in
+      let all : Counted took s.line (gap s.first ++ bs) v = counted_append s.line (gap s.first) t.line bs v p.line (counted t.line bs v q) in
+      let word_is : gap s.first ++ bs ≡ word past bs = ap (λ (b : Bool). gap b ++ bs) h.first in
       record {
         next = record {
           first = refl;
@@ -63,13 +64,13 @@ module _ {W : Type 0} (took : W → List ℕ → W → Type 0) where
       }
 
   pub multiline_comment : (s : MultiLineWriter W) (n : ℕ) (a b d e : W) (bs : List ℕ) → s.block_indent ≡ Some n
-      → took s.line.writer (9 ∷ 59 ∷ 32 ∷ []) a → WritesInCalls took a bs b → took b (10 ∷ []) d → WritesInCalls took d (replicate n 32) e
+      → took s.line.writer comment_mark a → WritesInCalls took a bs b → took b (line_feed ∷ []) d → WritesInCalls took d (replicate n space) e
       → MultilineStep took s (comment bs) (record { first = true; blocks = s.blocks; block_indent = s.block_indent; line = record { column = n; writer = e } })
   multiline_comment s n a b d e bs is p q r t past h =
       let at = shown_at (is_shown past) (indent past) n (sym h.block_indent ∙ is) in
-      let end_of_row : WritesInCalls took b (10 ∷ replicate n 32) e = writes_in_calls_append took _ (10 ∷ []) d _ e (writes_in_calls_single took _ _ _ r) t in
+      let end_of_row : WritesInCalls took b (line_feed ∷ replicate n space) e = writes_in_calls_append took _ (line_feed ∷ []) d _ e (writes_in_calls_single took _ _ _ r) t in
       let all : WritesInCalls took s.line.writer (shown_comment n bs) e =
-      writes_in_calls_append took _ (9 ∷ 59 ∷ 32 ∷ []) a _ e (writes_in_calls_single took _ _ _ p) (writes_in_calls_append took _ bs b _ e q end_of_row) in
+      writes_in_calls_append took _ comment_mark a _ e (writes_in_calls_single took _ _ _ p) (writes_in_calls_append took _ bs b _ e q end_of_row) in
       record {
         next = record {
           first = rw at.0 refl;

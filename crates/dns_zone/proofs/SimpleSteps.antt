@@ -2,6 +2,7 @@
 use Rattle.std.proofs.Common.{◌≡◌, ℕ, List, [], ◌∷◌, false, cond, refl, ◌∙◌}
 use Rattle.std.specs.Fmt.{WritesInCalls}
 use Rattle.std.proofs.Output.{writes_in_calls_append}
+use Rattle.dns_symbol.specs.Characters.{space}
 use Rattle.dns_zone.specs.Layout.{token}
 use Rattle.dns_zone.specs.Simple.{SimpleStep}
 use Rattle.dns_zone.specs.declared.zonefile_fmt.simple.SimpleWriter.{SimpleWriter}
@@ -9,7 +10,7 @@ use Rattle.dns_zone.specs.declared.zonefile_fmt.simple.SimpleWriter.{SimpleWrite
 -- t is s after the space that stands before a token
 pub record SpaceWritten {W : Type 0} (took : W → List ℕ → W → Type 0) (s t : SimpleWriter W) : Type 0 where
   pub blocks : t.blocks ≡ s.blocks
-  pub wrote : WritesInCalls took s.writer (cond s.first [] (32 ∷ [])) t.writer
+  pub wrote : WritesInCalls took s.writer (cond s.first [] (space ∷ [])) t.writer
 
 module _ {W : Type 0} (took : W → List ℕ → W → Type 0) where
   pub simple_token : (s t : SimpleWriter W) (v : W) (bs : List ℕ) → SpaceWritten took s t → WritesInCalls took t.writer bs v

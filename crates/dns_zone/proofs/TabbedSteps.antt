@@ -2,13 +2,14 @@
 use Rattle.std.proofs.Common.{◌≡◌, ℕ, ◌<◌, ◌==◌, ◌||◌, List, [], ◌∷◌, Bool, false, cond, zero, suc, refl, ◌∙◌, arith}
 use Rattle.std.specs.Fmt.{WritesInCalls}
 use Rattle.std.proofs.Output.{writes_in_calls_append}
+use Rattle.dns_symbol.specs.Characters.{space, tab}
 use Rattle.dns_zone.specs.Layout.{token, tabbed_gap}
 use Rattle.dns_zone.specs.Tabbed.{TabbedStep}
 use Rattle.dns_zone.specs.declared.zonefile_fmt.tabbed.TabbedWriter.{TabbedWriter}
 
 -- what stands before a token, by what the writer holds
 abbrev pub held_gap : {W : Type 0} → TabbedWriter W → List ℕ
-held_gap s = cond s.first [] (cond (s.blocks == 0 || s.first_block) (9 ∷ []) (32 ∷ []))
+held_gap s = cond s.first [] (cond (s.blocks == 0 || s.first_block) (tab ∷ []) (space ∷ []))
 
 -- t is s after the gap before a token
 pub record GapWritten {W : Type 0} (took : W → List ℕ → W → Type 0) (s t : TabbedWriter W) : Type 0 where
@@ -21,7 +22,7 @@ same_gap zero a b h = refl
 same_gap (suc d) a b h = rw (h (omega arith)) refl
 
 gap_is : (f g : Bool) (n d : ℕ) (a b : Bool) → f ≡ g → n ≡ d → (0 < d → a ≡ b)
-    → cond {A = List ℕ} f [] (cond (n == 0 || a) (9 ∷ []) (32 ∷ [])) ≡ cond {A = List ℕ} g [] (cond (d == 0 || b) (9 ∷ []) (32 ∷ []))
+    → cond {A = List ℕ} f [] (cond (n == 0 || a) (tab ∷ []) (space ∷ [])) ≡ cond {A = List ℕ} g [] (cond (d == 0 || b) (tab ∷ []) (space ∷ []))
 gap_is f g n d a b e i h = rw (e, i, same_gap d a b h) refl
 
 module _ {W : Type 0} (took : W → List ℕ → W → Type 0) where

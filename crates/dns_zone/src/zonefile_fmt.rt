@@ -16,6 +16,19 @@ use std::fmt;
 use std::fmt::Display;
 pub use tabbed::TabbedWriter;
 
+// What stands between words, at a line's end, around a block and before a comment.
+const SPACE: &str = " ";
+
+const TAB: &str = "\t";
+
+const LINE_FEED: &str = "\n";
+
+const OPEN_PARENTHESIS: &str = "(";
+
+const CLOSE_PARENTHESIS: &str = ")";
+
+const COMMENT_MARK: &str = "\t; ";
+
 /// Nothing more can be printed: the sink refused, or a count of the writer would pass the greatest `usize`.
 #[derive(Clone, Copy, Debug)]
 pub struct Error;

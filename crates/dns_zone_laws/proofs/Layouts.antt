@@ -1,14 +1,15 @@
 -- Each layout of a well-formed document splits into its entries.
 use Rattle.std.proofs.Common.{◌&&◌, ◌≡◌, ℕ, zero, suc, ◌<◌, Bool, true, false, List, [], ◌∷◌, ◌++◌, replicate, refl, sym, ap, ◌∙◌, subst, arith, append_assoc}
-use Rattle.std.specs.Prelude.{if◌then◌else◌, ◌||◌, ◌==◌}
-use Rattle.std.specs.List.{flat_map, AllByRecursion}
+use Rattle.std.specs.Prelude.{if◌then◌else◌, ◌||◌, ◌==◌, not}
+use Rattle.std.specs.List.{flat_map, list_any, AllByRecursion}
 use Rattle.std.proofs.lemmas.Bool.{and_from}
 use lib.Utf8.{encode}
+use Rattle.dns_symbol.specs.Characters.{tab, line_feed, space, open_parenthesis, close_parenthesis, semicolon}
 use Rattle.dns_split.proofs.Tight.{tight_all}
 use Rattle.dns_split.specs.Splitting.{BeginsNoBlank, is_tight, is_outside, Splits, may_precede, are_lexemes, nests, with_token, entries, Entries}
 use Rattle.dns_split.specs.Lexeme.{Lexeme, Blank, Line, Open, Close, Note, Word, Quote, bytes}
 use Rattle.dns_zone.specs.Layout.{Step, token, begin, end, comment, newline, layout, pieces, depth, is_line_start, is_block_start, simple_piece, tabbed_piece, multiline_piece, is_shown}
-use Rattle.dns_zone.specs.Layout.{is_row_start, indent}
+use Rattle.dns_zone.specs.Layout.{is_row_start, is_word, since, ends_row, indent}
 use Rattle.dns_zone.specs.Documents.{IsComment, IsProper, IsWellFormed}
 use Rattle.dns_zone.specs.Nesting.{is_nested, from_none_test}
 use Rattle.dns_zone.proofs.Nested.{nested_end, nested_in, nested_newline, nested_out}
@@ -85,35 +86,35 @@ with_one d t text e token_is l n = let i = token_one token_is in record {
 }
 
 -- a blank before
-with_blank : (d : ℕ) (tab : Bool) (text : List ℕ) (e : Entries) → Laid d text e → Laid d ((if tab then 9 else 32) ∷ text) e
+with_blank : (d : ℕ) (wide : Bool) (text : List ℕ) (e : Entries) → Laid d text e → Laid d ((if wide then tab else space) ∷ text) e
 unfolding encode
-with_blank d true text e l = record { ls = Blank true ∷ l.ls; spelled = ap (λ x. 9 ∷ x) l.spelled; valid = l.valid; nested = l.nested; cut = l.cut }
-with_blank d false text e l = record { ls = Blank false ∷ l.ls; spelled = ap (λ x. 32 ∷ x) l.spelled; valid = l.valid; nested = l.nested; cut = l.cut }
+with_blank d true text e l = record { ls = Blank true ∷ l.ls; spelled = ap (λ x. tab ∷ x) l.spelled; valid = l.valid; nested = l.nested; cut = l.cut }
+with_blank d false text e l = record { ls = Blank false ∷ l.ls; spelled = ap (λ x. space ∷ x) l.spelled; valid = l.valid; nested = l.nested; cut = l.cut }
 
 -- a line's end before, outside parentheses and in them
-with_line : (text : List ℕ) (e : Entries) → Laid zero text e → Laid zero (10 ∷ text) ([] ∷ e)
+with_line : (text : List ℕ) (e : Entries) → Laid zero text e → Laid zero (line_feed ∷ text) ([] ∷ e)
 unfolding encode
-with_line text e l = record { ls = Line false ∷ l.ls; spelled = ap (λ x. 10 ∷ x) l.spelled; valid = l.valid; nested = l.nested; cut = ap (λ x. [] ∷ x) l.cut }
+with_line text e l = record { ls = Line false ∷ l.ls; spelled = ap (λ x. line_feed ∷ x) l.spelled; valid = l.valid; nested = l.nested; cut = ap (λ x. [] ∷ x) l.cut }
 
-with_inner_line : (d : ℕ) (text : List ℕ) (e : Entries) → Laid (suc d) text e → Laid (suc d) (10 ∷ text) e
+with_inner_line : (d : ℕ) (text : List ℕ) (e : Entries) → Laid (suc d) text e → Laid (suc d) (line_feed ∷ text) e
 unfolding encode
-with_inner_line d text e l = record { ls = Line false ∷ l.ls; spelled = ap (λ x. 10 ∷ x) l.spelled; valid = l.valid; nested = l.nested; cut = l.cut }
+with_inner_line d text e l = record { ls = Line false ∷ l.ls; spelled = ap (λ x. line_feed ∷ x) l.spelled; valid = l.valid; nested = l.nested; cut = l.cut }
 
-with_opening : (d : ℕ) (text : List ℕ) (e : Entries) → Laid (suc d) text e → Laid d (40 ∷ text) e
+with_opening : (d : ℕ) (text : List ℕ) (e : Entries) → Laid (suc d) text e → Laid d (open_parenthesis ∷ text) e
 unfolding encode
-with_opening d text e l = record { ls = Open ∷ l.ls; spelled = ap (λ x. 40 ∷ x) l.spelled; valid = l.valid; nested = l.nested; cut = l.cut }
+with_opening d text e l = record { ls = Open ∷ l.ls; spelled = ap (λ x. open_parenthesis ∷ x) l.spelled; valid = l.valid; nested = l.nested; cut = l.cut }
 
-with_closing : (d : ℕ) (text : List ℕ) (e : Entries) → Laid d text e → Laid (suc d) (41 ∷ text) e
+with_closing : (d : ℕ) (text : List ℕ) (e : Entries) → Laid d text e → Laid (suc d) (close_parenthesis ∷ text) e
 unfolding encode
-with_closing d text e l = record { ls = Close ∷ l.ls; spelled = ap (λ x. 41 ∷ x) l.spelled; valid = l.valid; nested = l.nested; cut = l.cut }
+with_closing d text e l = record { ls = Close ∷ l.ls; spelled = ap (λ x. close_parenthesis ∷ x) l.spelled; valid = l.valid; nested = l.nested; cut = l.cut }
 
 pub laid_splits : (text : List ℕ) (e : Entries) → Laid 0 text e → Splits text e
 laid_splits text e l = record { lexemes = l.ls; spelled = l.spelled; valid = l.valid; nested = l.nested; cut = l.cut }
 
 -- the layouts without parentheses, where sep says whether a tab stands before a token
 abbrev pub flat : (List Step → Bool) → List Step → Step → List ℕ
-flat sep past (token t) = (if is_line_start past then [] else (if sep past then 9 ∷ [] else 32 ∷ [])) ++ t
-flat sep past newline = 10 ∷ []
+flat sep past (token t) = (if is_line_start past then [] else (if sep past then tab ∷ [] else space ∷ [])) ++ t
+flat sep past newline = line_feed ∷ []
 flat sep past _ = []
 
 -- laid, no word comes first unless a line begins here, and no blank where one begins outside parentheses
@@ -129,8 +130,8 @@ token_tight b d Open ls o = cc
 token_tight b d Close ls o = cc
 token_tight b d (Note _) ls o = cc
 
-flat_token : (fresh tab : Bool) (d : ℕ) (t text : List ℕ) (e : Entries) → IsToken t → LaidFrom false d text e
-    → LaidFrom fresh d ((if fresh then [] else (if tab then 9 ∷ [] else 32 ∷ [])) ++ t ++ text) (with_token t e)
+flat_token : (fresh wide : Bool) (d : ℕ) (t text : List ℕ) (e : Entries) → IsToken t → LaidFrom false d text e
+    → LaidFrom fresh d ((if fresh then [] else (if wide then tab ∷ [] else space ∷ [])) ++ t ++ text) (with_token t e)
 unfolding with_blank with_one
 flat_token true tab d t text e i r = (with_one d t text e i r.0 (r.1 refl), λ no_start. cc, token_tight (is_outside d) d (token_one i).lexeme r.0.ls (token_one i).is_one ∙ r.2)
 flat_token false true d t text e i r = (
@@ -197,9 +198,9 @@ simple_tight steps w = laid_tight _ _ (simple_laid steps w)
 pub tabbed_tight : (steps : List Step) → IsWellFormed steps → BeginsNoBlank (layout tabbed_piece steps)
 tabbed_tight steps w = laid_tight _ _ (tabbed_laid steps w)
 
-with_blanks : (d n : ℕ) (text : List ℕ) (e : Entries) → Laid d text e → Laid d (replicate n 32 ++ text) e
+with_blanks : (d n : ℕ) (text : List ℕ) (e : Entries) → Laid d text e → Laid d (replicate n space ++ text) e
 with_blanks d zero text e l = l
-with_blanks d (suc n) text e l = with_blank d false (replicate n 32 ++ text) e (with_blanks d n text e l)
+with_blanks d (suc n) text e l = with_blank d false (replicate n space ++ text) e (with_blanks d n text e l)
 
 blanks_tight : (d n : ℕ) (text : List ℕ) (e : Entries) (l : Laid d text e) → is_tight false d (with_blanks d n text e l).ls ≡ is_tight false d l.ls
 unfolding with_blanks with_blank
@@ -207,42 +208,50 @@ blanks_tight d zero text e l = refl
 blanks_tight d (suc n) text e l = blanks_tight d n text e l
 
 -- a shown comment before, in parentheses
-with_note : (d : ℕ) (t text all : List ℕ) (e : Entries) → IsComment t → t ++ 10 ∷ text ≡ all → Laid (suc d) text e → Laid (suc d) (9 ∷ 59 ∷ 32 ∷ all) e
+with_note : (d : ℕ) (t text all : List ℕ) (e : Entries) → IsComment t → t ++ line_feed ∷ text ≡ all → Laid (suc d) text e → Laid (suc d) (tab ∷ semicolon ∷ space ∷ all) e
 unfolding encode
 with_note d t text all e i same l = record {
-  ls = Blank true ∷ Note (32 ∷ i.characters) ∷ Line false ∷ l.ls;
-  spelled = ap (λ x. 9 ∷ 59 ∷ 32 ∷ (x ++ 10 ∷ flat_map bytes l.ls)) i.spelled ∙ ap (λ x. 9 ∷ 59 ∷ 32 ∷ (t ++ 10 ∷ x)) l.spelled ∙ ap (λ x. 9 ∷ 59 ∷ 32 ∷ x) same;
+  ls = Blank true ∷ Note (space ∷ i.characters) ∷ Line false ∷ l.ls;
+  spelled = ap (λ x. tab ∷ semicolon ∷ space ∷ (x ++ line_feed ∷ flat_map bytes l.ls)) i.spelled ∙ ap (λ x. tab ∷ semicolon ∷ space ∷ (t ++ line_feed ∷ x)) l.spelled ∙ ap (λ x. tab ∷ semicolon ∷ space ∷ x) same;
   valid = and_from _ _ (and_from _ _ i.plain refl) l.valid;
   nested = l.nested;
   cut = l.cut;
 }
 
 -- a word of the multiline layout
-spaced_word : (start : Bool) (d : ℕ) (t text : List ℕ) (e : Entries) → IsToken t → LaidFrom false d text e → LaidFrom start d ((if start then [] else 32 ∷ []) ++ t ++ text) (with_token t e)
+spaced_word : (start : Bool) (d : ℕ) (t text : List ℕ) (e : Entries) → IsToken t → LaidFrom false d text e → LaidFrom start d ((if start then [] else space ∷ []) ++ t ++ text) (with_token t e)
 spaced_word start d t text e i r = flat_token start false d t text e i r
 
 -- a mark of the multiline layout
 spaced_mark : (start : Bool) (d c : ℕ) (text : List ℕ) (e : Entries) → (l : Laid d (c ∷ text) e) → no_word l.ls ≡ true → ((b : Bool) → is_tight b d l.ls ≡ true)
-    → LaidFrom start d ((if start then [] else 32 ∷ []) ++ c ∷ [] ++ text) e
+    → LaidFrom start d ((if start then [] else space ∷ []) ++ c ∷ [] ++ text) e
 unfolding with_blank
 spaced_mark true d c text e l n b = (l, λ _. n, b (is_outside d))
 spaced_mark false d c text e l n b = (with_blank d false (c ∷ text) e l, λ _. refl, b false)
 
 inner : (start : Bool) (d : ℕ) (cs : List ℕ) (ls : List Lexeme) → is_tight false (suc d) ls ≡ true
-    → is_tight (start && is_outside (suc d)) (suc d) (Blank true ∷ Note (32 ∷ cs) ∷ Line false ∷ ls) ≡ true
+    → is_tight (start && is_outside (suc d)) (suc d) (Blank true ∷ Note (space ∷ cs) ∷ Line false ∷ ls) ≡ true
 inner true d cs ls h = h
 inner false d cs ls h = h
 
 maybe_note : (shown start : Bool) (n d : ℕ) (t text : List ℕ) (e : Entries) → IsComment t → (shown ≡ true → 0 < d) → LaidFrom (shown || start) d text e
-    → LaidFrom start d ((if shown then 9 ∷ 59 ∷ 32 ∷ (t ++ 10 ∷ replicate n 32) else []) ++ text) e
+    → LaidFrom start d ((if shown then tab ∷ semicolon ∷ space ∷ (t ++ line_feed ∷ replicate n space) else []) ++ text) e
 unfolding with_note
 maybe_note false start n d t text e i inside r = r
 maybe_note true start n zero t text e i inside r = absurd (omega (arith, inside refl))
 maybe_note true start n (suc d) t text e i inside r = (
-  with_note d t (replicate n 32 ++ text) _ e i (sym (append_assoc t (10 ∷ replicate n 32) text)) (with_blanks (suc d) n text e r.0),
+  with_note d t (replicate n space ++ text) _ e i (sym (append_assoc t (line_feed ∷ replicate n space) text)) (with_blanks (suc d) n text e r.0),
   λ _. refl,
   inner start d i.characters ((with_blanks (suc d) n text e r.0).ls) (blanks_tight (suc d) n text e r.0 ∙ r.2),
 )
+
+-- after a comment a row starts where the comment is shown, or where one had no word yet
+start_after_comment : (past : List Step) (t : List ℕ) → is_row_start (comment t ∷ past) ≡ (is_shown past || is_row_start past)
+start_after_comment past t = by (is_shown past) (since ends_row past)
+  where
+    by : (shown : Bool) (row : List Step) → not (list_any is_word (if shown then [] else comment t ∷ row)) ≡ (shown || not (list_any is_word row))
+    by true row = refl
+    by false row = refl
 
 multiline_laid : (steps past : List Step) (d : ℕ) → is_nested d steps ≡ true → AllByRecursion IsProper steps → (is_shown past ≡ true → 0 < d)
     → LaidFrom (is_row_start past) d (pieces multiline_piece past steps) (document_entries steps)
@@ -255,13 +264,14 @@ multiline_laid (newline ∷ steps) past zero w p s = let r = multiline_laid step
 multiline_laid (newline ∷ steps) past (suc d) w p s = let none = nested_newline (suc d) newline steps w refl in absurd (omega (arith, none))
 multiline_laid (begin ∷ steps) past d w p s =
     let r = multiline_laid steps (begin ∷ past) (suc d) (nested_in d steps w) p.1 (λ _. omega arith) in
-    spaced_mark (is_row_start past) d 40 (pieces multiline_piece (begin ∷ past) steps) (document_entries steps) (with_opening d _ _ r.0) refl (λ _. r.2)
+    spaced_mark (is_row_start past) d open_parenthesis (pieces multiline_piece (begin ∷ past) steps) (document_entries steps) (with_opening d _ _ r.0) refl (λ _. r.2)
 multiline_laid (end ∷ steps) past zero w p s = let some = nested_end zero end steps w refl in absurd (omega (arith, some))
 multiline_laid (end ∷ steps) past (suc d) w p s =
     let r = multiline_laid steps (end ∷ past) d (nested_out d steps w) p.1 (λ h. cc) in
-    spaced_mark (is_row_start past) (suc d) 41 (pieces multiline_piece (end ∷ past) steps) (document_entries steps) (with_closing d _ _ r.0) refl (λ _. r.2)
+    spaced_mark (is_row_start past) (suc d) close_parenthesis (pieces multiline_piece (end ∷ past) steps) (document_entries steps) (with_closing d _ _ r.0) refl (λ _. r.2)
 multiline_laid (comment t ∷ steps) past d w p s = maybe_note (is_shown past) (is_row_start past) (indent past) d t (pieces multiline_piece (comment t ∷ past) steps)
-    (document_entries steps) p.0 s (multiline_laid steps (comment t ∷ past) d w p.1 s)
+    (document_entries steps) p.0 s
+    (subst (λ b. LaidFrom b d (pieces multiline_piece (comment t ∷ past) steps) (document_entries steps)) (start_after_comment past t) (multiline_laid steps (comment t ∷ past) d w p.1 s))
 
 pub multiline_splits : (steps : List Step) → IsWellFormed steps → Splits (layout multiline_piece steps) (document_entries steps)
 multiline_splits steps w = laid_splits _ _ (multiline_laid steps [] 0 w.0 w.1 (λ h. cc)).0

@@ -1,11 +1,15 @@
 //! The multiline layout.
 ghost use Rattle.std.specs.Prelude.{◌≡◌, ◌<◌, ℕ, List, [], ◌∷◌, false, IsOk, OnOk, IfSome, replicate};
 ghost use Rattle.std.specs.Fmt.{WritesInCalls};
+ghost use Rattle.dns_symbol.specs.Characters.{space};
 ghost use Rattle.dns_zone.specs.Layout.{Step, begin, comment, is_shown, line_width};
 ghost use Rattle.dns_zone.specs.Multiline.{MultilineStands, MultilineStep, IndentFits, Counts, WritesLine, multiline_sink, multiline_blocks};
 ghost use Rattle.dns_zone.specs.Writers.{Steps};
 
-use crate::zonefile_fmt::{Error, FormatWriter, Result};
+use crate::zonefile_fmt::{
+    CLOSE_PARENTHESIS, COMMENT_MARK, Error, FormatWriter, LINE_FEED, OPEN_PARENTHESIS, Result,
+    SPACE,
+};
 use std::fmt;
 use std::fmt::{Display, Write};
 
@@ -88,7 +92,7 @@ const SPACES: &str = "                                                          
 
 // Writes that many spaces, a slice of them at a time.
 fn write_spaces<W: fmt::Write>(writer: &mut W, count: usize) -> fmt::Result
-    ensures { OnOk result (WritesInCalls W.write_str_gives writer.old (replicate count 32) writer.new) }
+    ensures { OnOk result (WritesInCalls W.write_str_gives writer.old (replicate count space) writer.new) }
 {
     for _slice in 0..count / SPACES.len() {
         writer.write_str(SPACES)?;
@@ -103,7 +107,7 @@ impl<W: fmt::Write> FormatWriter for MultiLineWriter<W> {
 
     fn fmt_token<T: Display + Drop>(&mut self, text: T) -> Result {
         if !self.first {
-            self.line.write_str(" ")?;
+            self.line.write_str(SPACE)?;
         }
         self.first = false;
         self.line.write(text)?;
@@ -118,7 +122,7 @@ impl<W: fmt::Write> FormatWriter for MultiLineWriter<W> {
         let Some(blocks) = self.blocks.checked_add(1) else {
             return Err(Error);
         };
-        self.fmt_token("(")?;
+        self.fmt_token(OPEN_PARENTHESIS)?;
         let Some(indent) = self.line.column.checked_add(1) else {
             return Err(Error);
         };
@@ -128,7 +132,7 @@ impl<W: fmt::Write> FormatWriter for MultiLineWriter<W> {
     }
 
     fn end_block(&mut self) -> Result {
-        self.fmt_token(")")?;
+        self.fmt_token(CLOSE_PARENTHESIS)?;
         self.block_indent = None;
         self.blocks -= 1;
         Ok(())
@@ -142,9 +146,9 @@ impl<W: fmt::Write> FormatWriter for MultiLineWriter<W> {
         ensures hidden { (past : List Step) → MultilineStands self.old past → is_shown past ≡ false → IsOk result }
     {
         if let Some(indent) = self.block_indent {
-            self.line.writer.write_str("\t; ")?;
+            self.line.writer.write_str(COMMENT_MARK)?;
             self.line.writer.write(text)?;
-            self.line.writer.write_str("\n")?;
+            self.line.writer.write_str(LINE_FEED)?;
             write_spaces(&mut self.line.writer, indent)?;
             self.line.column = indent;
             self.first = true;
@@ -153,7 +157,7 @@ impl<W: fmt::Write> FormatWriter for MultiLineWriter<W> {
     }
 
     fn newline(&mut self) -> Result {
-        self.line.writer.write_str("\n")?;
+        self.line.writer.write_str(LINE_FEED)?;
         self.line.column = 0;
         self.first = true;
         Ok(())

@@ -4,7 +4,7 @@ ghost use Rattle.dns_zone.specs.Layout.{begin, end, comment};
 ghost use Rattle.dns_zone.specs.Writers.{Steps};
 ghost use Rattle.dns_zone.specs.Simple.{SimpleStands, SimpleStep, simple_sink, simple_blocks};
 
-use crate::zonefile_fmt::{Error, FormatWriter, Result};
+use crate::zonefile_fmt::{Error, FormatWriter, LINE_FEED, Result, SPACE};
 use std::fmt;
 use std::fmt::{Display, Write};
 
@@ -46,7 +46,7 @@ impl<W: fmt::Write> FormatWriter for SimpleWriter<W> {
 
     fn fmt_token<T: Display + Drop>(&mut self, text: T) -> Result {
         if !self.first {
-            self.writer.write_str(" ")?;
+            self.writer.write_str(SPACE)?;
         }
         self.first = false;
         self.writer.write(text)?;
@@ -85,7 +85,7 @@ impl<W: fmt::Write> FormatWriter for SimpleWriter<W> {
     }
 
     fn newline(&mut self) -> Result {
-        self.writer.write_str("\n")?;
+        self.writer.write_str(LINE_FEED)?;
         self.first = true;
         Ok(())
     }

@@ -1,10 +1,11 @@
 //! The tabbed layout.
 ghost use Rattle.std.specs.Prelude.{◌≡◌, ◌<◌, ◌↔◌, ℕ, List, [], ◌∷◌, if◌then◌else◌, IsOk, OnOk, IfSome};
+ghost use Rattle.dns_symbol.specs.Characters.{tab, space};
 ghost use Rattle.dns_zone.specs.Layout.{begin, end, comment};
 ghost use Rattle.dns_zone.specs.Writers.{Steps};
 ghost use Rattle.dns_zone.specs.Tabbed.{TabbedStands, TabbedStep, tabbed_sink, tabbed_blocks};
 
-use crate::zonefile_fmt::{Error, FormatWriter, Result};
+use crate::zonefile_fmt::{Error, FormatWriter, LINE_FEED, Result, SPACE, TAB};
 use std::fmt;
 use std::fmt::{Display, Write};
 
@@ -46,9 +47,9 @@ impl<W> TabbedWriter<W> {
 
 /// What stands between two tokens.
 fn gap(is_wide: bool) -> &'static str
-    ensures { result.now ≡ (if is_wide then 9 ∷ [] else 32 ∷ []) }
+    ensures { result.now ≡ (if is_wide then tab ∷ [] else space ∷ []) }
 {
-    if is_wide { "\t" } else { " " }
+    if is_wide { TAB } else { SPACE }
 }
 
 impl<W: fmt::Write> FormatWriter for TabbedWriter<W> {
@@ -102,7 +103,7 @@ impl<W: fmt::Write> FormatWriter for TabbedWriter<W> {
     }
 
     fn newline(&mut self) -> Result {
-        self.writer.write_str("\n")?;
+        self.writer.write_str(LINE_FEED)?;
         self.first = true;
         Ok(())
     }

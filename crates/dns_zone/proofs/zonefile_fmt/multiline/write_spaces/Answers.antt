@@ -1,4 +1,4 @@
-use Rattle.std.proofs.Common.{◌≡◌, ◌+◌, ◌*◌, ◌/◌, ◌%◌, ◌-◌, ◌<◌, ◌≤◌, ℕ, List, ◌++◌, refl, ◌∙◌, ap, arith, replicate, Result, Ok, Err}
+use Rattle.std.proofs.Common.{◌≡◌, ◌+◌, ◌*◌, ◌/◌, ◌%◌, ◌-◌, ◌<◌, ◌≤◌, ℕ, ◌++◌, refl, ◌∙◌, ap, arith, replicate, Result, Ok, Err}
 use Rattle.std.specs.Prelude.{IsOk, OnOk}
 use Rattle.std.specs.List.{slice_range}
 use Rattle.std.specs.Str.{IsAscii, IsCharBoundary}
