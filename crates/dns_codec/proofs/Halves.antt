@@ -1,5 +1,6 @@
 -- The two characters of an octet in base 16, side by side.
-use Rattle.std.proofs.Common.{◌≡◌, ℕ, ◌+◌, ◌*◌, ◌/◌, ◌%◌, ◌<◌, ◌==◌, ◌&&◌, inl, inr, List, [], ◌∷◌, ◌++◌, length, take, drop, map, get_or, refl, sym, ap, ◌∙◌, arith, append_assoc, slice_index, slice_set}
+use Rattle.std.proofs.Common.{◌≡◌, ℕ, ◌+◌, ◌*◌, ◌/◌, ◌%◌, ◌<◌, ◌==◌, ◌&&◌, inl, inr, List, [], ◌∷◌, ◌++◌}
+use Rattle.std.proofs.Common.{length, take, drop, map, get_or, refl, sym, ap, ◌∙◌, arith, append_assoc, slice_index, slice_set}
 use Rattle.std.proofs.lemmas.Bool.{and_parts, eqb-true}
 use Rattle.std.proofs.lemmas.List.{take_more, take_more_set, map-append, drop-set-lt, length-set, take-append-drop}
 use Rattle.dns_codec.specs.Bits.{low_digits, digits}
@@ -30,7 +31,8 @@ pair_at : (pairs : List ℕ) (o : ℕ) → IsPairs pairs → o < 256
     → (slice_index pairs (2 * o) ≡ slice_index base16.alphabet (o / 16)) × (slice_index pairs (2 * o + 1) ≡ slice_index base16.alphabet (o % 16))
 unfolding IsPairs
 pair_at pairs o all low =
-    let both = and_parts _ _ (all_below_at (λ x. (slice_index pairs (2 * x) == slice_index base16.alphabet (x / 16)) && (slice_index pairs (2 * x + 1) == slice_index base16.alphabet (x % 16))) 256 o all low) in
+    let test = all_below_at (λ x. (slice_index pairs (2 * x) == slice_index base16.alphabet (x / 16)) && (slice_index pairs (2 * x + 1) == slice_index base16.alphabet (x % 16))) 256 o all low in
+    let both = and_parts _ _ test in
     (eqb-true _ _ both.0, eqb-true _ _ both.1)
 
 pub pair_step : (at place : ℕ) (pairs octets first text : List ℕ) → IsPairs pairs → ((k : ℕ) → get_or octets k 0 < 256) → place < length octets → at + 2 * place + 1 < length text

@@ -65,7 +65,8 @@ module _ (b : Base) (known : IsEncoding b) where
       → char_error b room front c ≡ Some (IllegalChar c)
   illegal room front fs c valued is test = open_cause room front fs c None valued is ∙ rw test refl
 
-  pub chars_none : (room : ℕ) (front cs fs ps : List ℕ) → HaveValues b front fs → HaveValues b cs ps → grouped b (length front + length cs) ≤ room → first_char_error (char_error b room) front cs ≡ None
+  pub chars_none : (room : ℕ) (front cs fs ps : List ℕ) → HaveValues b front fs → HaveValues b cs ps → grouped b (length front + length cs) ≤ room
+      → first_char_error (char_error b room) front cs ≡ None
   chars_none room front [] fs ps before n le = refl
   chars_none room front (c ∷ cs) fs [] before n le = absurd n
   chars_none room front (c ∷ cs) fs (p ∷ ps) before n le =

@@ -127,7 +127,8 @@ module _ (b : Base) (known : IsEncoding b) (plain : IsPlain b) where
   pub legal_stored : (room : ℕ) (text ps : List ℕ) → HaveValues b text ps → stored b room text ≡ short_buf_if room (grouped b (length text))
   legal_stored room text ps n = stored_last room text ∙ ap (stored_by b room (length text)) (none_illegal text ps n)
 
-  stored_now : (room : ℕ) (text ps : List ℕ) (c : ℕ) (e : DecodeError) (o : Option ℕ) → value b c ≡ o → HaveValues b text ps → char_error b room text c ≡ Some e → stored b room (text ++ c ∷ []) ≡ Some e
+  stored_now : (room : ℕ) (text ps : List ℕ) (c : ℕ) (e : DecodeError) (o : Option ℕ) → value b c ≡ o → HaveValues b text ps → char_error b room text c ≡ Some e
+      → stored b room (text ++ c ∷ []) ≡ Some e
   stored_now room text ps c e None is valued why =
       let hit : is_none (value b c) ≡ true = rw is refl in
       stored_last room (text ++ c ∷ []) ∙ ap (stored_by b room (length (text ++ c ∷ []))) (find_last (λ x. is_none (value b x)) text c hit)

@@ -64,8 +64,8 @@ pub fn only_grammar_is_read()
 {}
 
 /// A decoder that failed once keeps failing. The octets stay, and so does the error, unless a later
-/// illegal character takes its place. Where the first error is kept, nothing changes any more. A new
-/// decoder has seen no padding, and in an encoding without padding that stays so.
+/// illegal character takes its place. Where the first error is kept, nothing changes any more. A
+/// new decoder has seen no padding, and in an encoding without padding that stays so.
 pub fn failure_is_kept()
     ensures pushes { (b : Base) (sure most : ℕ) (old new : DecoderState) (c : ℕ) → IsSome old.error → Pushes b sure most old c new
         → (new.octets ≡ old.octets) × IsSome new.error × (b.keeps_first ≡ true → new ≡ old) }

@@ -73,7 +73,8 @@ marks_all t mark (suc n) = rw (mark, marks_all t mark n) refl
 -- what holds of an alphabet, and of the padding, holds of each character of a text
 pub encoded_all : (t : ℕ → Bool) (b : Base) (octets : List ℕ) → list_all t b.alphabet ≡ true → t 0 ≡ true → t 61 ≡ true → list_all t (encoded b octets) ≡ true
 unfolding encoded padded digit_char
-encoded_all t b octets all zero_too mark = characters_all t b.alphabet (digits b.width octets) _ all zero_too (marks_all t mark ((b.unit - length (map (digit_char b) (digits b.width octets)) % b.unit) % b.unit))
+encoded_all t b octets all zero_too mark =
+    characters_all t b.alphabet (digits b.width octets) _ all zero_too (marks_all t mark ((b.unit - length (map (digit_char b) (digits b.width octets)) % b.unit) % b.unit))
 
 -- octets that have a text of no characters are none
 some_text : (b : Base) (text octets : List ℕ) → ((none xs ys : List ℕ) → Decodes b none xs → Decodes b none ys → xs ≡ ys) → Decodes b [] [] → Decodes b text octets → 0 < length octets

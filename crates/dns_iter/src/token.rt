@@ -25,7 +25,8 @@ fn escape_text(error: SymbolOctetsError) -> &'static str
     }
 }
 
-/// Hands over each symbol of a token. In line, since out of line a token of a number costs a third more.
+/// Hands over each symbol of a token. In line, since out of line a token of a number costs a third
+/// more.
 #[inline(always)]
 pub(crate) fn each_symbol<Sym: OfSymbol, T: TakeSymbol<Sym, E, B>, B, E: ScannerError>(
     token: &str,

@@ -13,9 +13,9 @@ use dns_codec::converter::Converter;
 use dns_scan::Scanner;
 use dns_scan::laws::entries_convert_as_their_join;
 
-/// The text of octets in an encoding, cut into tokens anyhow, is scanned back to these octets, where
-/// there is room. So are all tokens whose join is a text of the encoding; others are refused as
-/// their join is as one token.
+/// The text of octets in an encoding, cut into tokens anyhow, is scanned back to these octets,
+/// where there is room. So are all tokens whose join is a text of the encoding; others are refused
+/// as their join is as one token.
 pub fn entry_is_scanned_back<K: Encoding, S: Scanner>(
     scanner: &mut S,
 ) -> Result<S::Octets, S::Error>

@@ -263,8 +263,9 @@ impl<Octets: AsOctets> UncertainName<Octets> {
         }
     }
 
-    /// The chain of this name and another one. On a relative name it is [`LongChainError`] where both
-    /// together have more than 255 octets. An absolute name is the whole chain, whatever follows it.
+    /// The chain of this name and another one. On a relative name it is [`LongChainError`] where
+    /// both together have more than 255 octets. An absolute name is the whole chain, whatever
+    /// follows it.
     pub fn chain<S: ToLabelIter + Drop>(
         self,
         suffix: S,

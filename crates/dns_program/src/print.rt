@@ -83,10 +83,12 @@ fn read_items<A: Allocator + Copy>(alloc: A, words: &[&str]) -> Result<Vec<Item<
     Ok(items)
 }
 
-/// Prints the document that the words ask for in a layout, with a line end, and answers the exit status.
+/// Prints the document that the words ask for in a layout, with a line end, and answers the exit
+/// status.
 ///
-/// Status 0 says that all went well, and 1 that the items are no document, that no memory was found, or that `out` refused;
-/// the reason then stands on `err`. Status 2 is for a word that is no item, and 3 says that `err` refused.
+/// Status 0 says that all went well, and 1 that the items are no document, that no memory was
+/// found, or that `out` refused; the reason then stands on `err`. Status 2 is for a word that is no
+/// item, and 3 says that `err` refused.
 pub(crate) fn run_print<A: Allocator + Copy, O: fmt::Write, E: fmt::Write>(
     alloc: A,
     kind: DisplayKind,

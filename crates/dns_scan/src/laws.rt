@@ -56,8 +56,8 @@ pub fn character_strings_are_scanned_back<S: Scanner>(
     scanner.scan_charstr()
 }
 
-/// Over a builder whose room is known, as an array's, symbols are answered in one way, whatever each
-/// gives. So is a token that is read as octets, and so are the tokens of an entry that are put
+/// Over a builder whose room is known, as an array's, symbols are answered in one way, whatever
+/// each gives. So is a token that is read as octets, and so are the tokens of an entry that are put
 /// together as character strings, with the tokens that are left.
 pub fn octets_are_answered_in_one_way()
     ensures symbols { (given : PlainSymbol → Result (List ℕ) (List ℕ)) (room : ℕ) (symbols : List PlainSymbol) (error : Option SymbolCharsError) (q r : Result (List ℕ) Cause)

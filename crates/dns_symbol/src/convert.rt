@@ -14,7 +14,8 @@ pub trait ConvertSymbols<Sym, Error>: Drop {
     // The state before, the symbol, the octets made or the refusal, and the state after.
     ghost takes: { Self → Sym → Result (List ℕ) Error → Self → Type 0 };
 
-    // The state before, the octets made or the refusal once all symbols are taken, and the state after.
+    // The state before, the octets made or the refusal once all symbols are taken, and the state
+    // after.
     ghost tail: { Self → Result (List ℕ) Error → Self → Type 0 };
 
     /// Takes a symbol, or refuses it.

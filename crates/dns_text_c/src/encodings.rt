@@ -1,8 +1,8 @@
 //! The encodings of RFC 4648, and splitting: answers that are a length alone.
 //!
-//! Those of the encodings read one slice, write at the start of the other, and answer how many octets
-//! they wrote, never more than it holds. The greatest `usize` says that the text is refused or the
-//! output is too short.
+//! Those of the encodings read one slice, write at the start of the other, and answer how many
+//! octets they wrote, never more than it holds. The greatest `usize` says that the text is refused
+//! or the output is too short.
 ghost use Rattle.std.specs.Prelude.{◌≡◌, ◌≢◌, ℕ, List, ◌<◌, ◌≤◌, ◌-◌, ◌^◌, length, take, drop};
 ghost use Rattle.dns_codec.specs.Base.{base16, base32hex, base64, encoded};
 ghost use Rattle.dns_codec.specs.Grammar.{Decodes};

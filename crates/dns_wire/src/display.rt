@@ -213,8 +213,8 @@ impl<N: ToLabelIter> fmt::Display for DisplayWithDot<'_, N> {
 ///
 /// Letters, digits, `-`, `_` and `*` stand plain, and every other octet by its decimal value, as
 /// `\DDD`. So a name of one label or more is one word, in which every reader of zone text sees that
-/// name. A relative name of no labels prints nothing, the only text that reads as it: `@` would read
-/// as a label of that one character.
+/// name. A relative name of no labels prints nothing, the only text that reads as it: `@` would
+/// read as a label of that one character.
 #[derive(Drop)]
 pub struct ZoneName<'a, N: ToLabelIter> {
     name: &'a N,

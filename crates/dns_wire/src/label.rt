@@ -34,8 +34,8 @@ impl<'a> Label<'a> {
     /// The label that begins the octets in wire form, and the octets after it.
     ///
     /// A lead octet of 0 to 0x3F is the label's length. One of 0x40 to 0xBF is
-    /// [`SplitLabelError::BadType`], a greater one a [`SplitLabelError::Pointer`] by its low six bits
-    /// and the next octet. Too few octets are [`SplitLabelError::ShortInput`].
+    /// [`SplitLabelError::BadType`], a greater one a [`SplitLabelError::Pointer`] by its low six
+    /// bits and the next octet. Too few octets are [`SplitLabelError::ShortInput`].
     pub fn split_from(octets: &'a [u8]) -> Result<(Label<'a>, &'a [u8]), SplitLabelError>
         ensures { MatchResult result (λ p. octets.now ≡ wire_label (label_octets p.0) ++ p.1.now) (λ e. RefusesLabel e octets.now) }
     {

@@ -33,7 +33,8 @@ fn lengthen<B: OctetsBuilder + AsOctetsMut>(
     Ok(())
 }
 
-// Adds an octet to the label of `count` octets that ends the octets, or a label of it where `count` is 0.
+// Adds an octet to the label of `count` octets that ends the octets, or a label of it where `count`
+// is 0.
 fn grow<B: OctetsBuilder + AsOctetsMut>(
     inner: &mut B,
     count: usize,
@@ -147,8 +148,8 @@ impl<B: OctetsBuilder> NameBuilder<B> {
 
     /// Adds an octet to the open label, which is opened first where none is.
     ///
-    /// It is refused by [`PushError::LongName`] where the name would have more than 254 octets, then
-    /// by [`PushError::LongLabel`] where the label would have more than 63, then by
+    /// It is refused by [`PushError::LongName`] where the name would have more than 254 octets,
+    /// then by [`PushError::LongLabel`] where the label would have more than 63, then by
     /// [`PushError::ShortBuf`]. A refusal changes nothing.
     pub fn push(&mut self, octet: u8) -> Result<(), PushError>
     where

@@ -127,7 +127,8 @@ pub(crate) fn first_fault<A: Allocator>(items: &[Item<A>]) -> Option<DocumentErr
     }
 }
 
-/// A well-formed list of items: tokens and comments that are such, blocks that nest and close, and line ends outside them.
+/// A well-formed list of items: tokens and comments that are such, blocks that nest and close, and
+/// line ends outside them.
 #[derive(Debug, Drop)]
 pub struct Document<A: Allocator = Global> {
     pub(crate) items: Vec<Item<A>, A>,
@@ -137,7 +138,8 @@ pub struct Document<A: Allocator = Global> {
 impl<A: Allocator> Document<A> {
     ghost use Rattle.dns_zone.specs.DocumentSteps.{document_steps};
 
-    /// Takes exactly the well-formed lists, and no memory. Another list comes back with its first fault.
+    /// Takes exactly the well-formed lists, and no memory. Another list comes back with its first
+    /// fault.
     pub fn from_items(
         items: Vec<Item<A>, A>,
     ) -> std::result::Result<Document<A>, (DocumentError, Vec<Item<A>, A>)>

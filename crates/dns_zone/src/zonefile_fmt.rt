@@ -29,7 +29,8 @@ const CLOSE_PARENTHESIS: &str = ")";
 
 const COMMENT_MARK: &str = "\t; ";
 
-/// Nothing more can be printed: the sink refused, or a count of the writer would pass the greatest `usize`.
+/// Nothing more can be printed: the sink refused, or a count of the writer would pass the greatest
+/// `usize`.
 #[derive(Clone, Copy, Debug)]
 pub struct Error;
 
@@ -46,7 +47,8 @@ impl From<fmt::Error> for Error {
 pub enum DisplayKind {
     /// Each entry on one line, its tokens apart by a space; no comments.
     Simple,
-    /// Each entry on one line, its tokens apart by a tab outside blocks and by a space in them; no comments.
+    /// Each entry on one line, its tokens apart by a tab outside blocks and by a space in them; no
+    /// comments.
     Tabbed,
     /// Blocks in parentheses, with a line end after each comment in them (RFC 1035, section 5.1).
     Multiline,
@@ -61,13 +63,14 @@ pub struct ZoneFileDisplay<'a, T> {
 
 /// A value that prints as zone text.
 ///
-/// It states its document: the list of steps that its `fmt` takes, one for each token, block mark, comment and line end.
-/// Its blocks nest, and line ends stand outside them.
+/// It states its document: the list of steps that its `fmt` takes, one for each token, block mark,
+/// comment and line end. Its blocks nest, and line ends stand outside them.
 pub trait ZonefileFmt {
     /// The steps that the value prints.
     ghost document: { Self → List Step };
 
-    /// Prints the value's document on a writer. On a writer with an open block the document has no line end.
+    /// Prints the value's document on a writer. On a writer with an open block the document has no
+    /// line end.
     fn fmt<F: FormatWriter>(&self, p: &mut F) -> Result
         requires { Fits (document self.now) (F.blocks p.old) }
         ensures { OnOk result (Runs F.blocks F.step_gives p.old (document self.now) p.new) };
@@ -98,7 +101,8 @@ impl<T: ZonefileFmt> ZonefileFmt for &T {
 
 /// What prints the steps of documents, one by one.
 ///
-/// A token or a comment is a step where its `Display` states its text. After an [`Error`] nothing is promised of the writer.
+/// A token or a comment is a step where its `Display` states its text. After an [`Error`] nothing
+/// is promised of the writer.
 pub trait FormatWriter: Sized {
     /// The number of open blocks.
     ghost blocks: { Self → ℕ };

@@ -212,7 +212,8 @@ with_note : (d : ℕ) (t text all : List ℕ) (e : Entries) → IsComment t → 
 unfolding encode
 with_note d t text all e i same l = record {
   ls = Blank true ∷ Note (space ∷ i.characters) ∷ Line false ∷ l.ls;
-  spelled = ap (λ x. tab ∷ semicolon ∷ space ∷ (x ++ line_feed ∷ flat_map bytes l.ls)) i.spelled ∙ ap (λ x. tab ∷ semicolon ∷ space ∷ (t ++ line_feed ∷ x)) l.spelled ∙ ap (λ x. tab ∷ semicolon ∷ space ∷ x) same;
+  spelled = ap (λ x. tab ∷ semicolon ∷ space ∷ (x ++ line_feed ∷ flat_map bytes l.ls)) i.spelled ∙ ap (λ x. tab ∷ semicolon ∷ space ∷ (t ++ line_feed ∷ x)) l.spelled
+      ∙ ap (λ x. tab ∷ semicolon ∷ space ∷ x) same;
   valid = and_from _ _ (and_from _ _ i.plain refl) l.valid;
   nested = l.nested;
   cut = l.cut;

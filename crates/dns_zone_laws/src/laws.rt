@@ -56,8 +56,8 @@ pub fn values_split<A: Allocator, T: ZonefileFmt>(
     value.display_zonefile(kind).to_string(alloc)
 }
 
-/// The text of every value whose document is always well-formed splits into that document's entries,
-/// and into nothing else; no line of it begins with a blank, but inside parentheses.
+/// The text of every value whose document is always well-formed splits into that document's
+/// entries, and into nothing else; no line of it begins with a blank, but inside parentheses.
 pub fn zone_tokens_split<A: Allocator, T: ZoneTokens>(
     alloc: A,
     value: &T,

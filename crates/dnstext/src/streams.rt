@@ -39,7 +39,8 @@ impl<W: Write> fmt::Write for TextSink<'_, W> {
 }
 
 impl<W: Write> TextSink<'_, W> {
-    /// Lets the writer hand on what it still holds. Whether it refuses that, and refused nothing before.
+    /// Lets the writer hand on what it still holds. Whether it refuses that, and refused nothing
+    /// before.
     fn refuses_the_end(&mut self) -> bool
         ensures loan { self.new.writer.ghost_name ≡ self.old.writer.ghost_name }
         ensures kept { Keeps (W.contents self.old.writer.now) (W.contents self.new.writer.now) }
@@ -73,8 +74,8 @@ pub fn refuse_usage<E: Write>(err: &mut E) -> u8
 /// Runs the program on the words after its name, and answers its exit status.
 ///
 /// What is printed goes to `out` as it is made, and `out` is flushed before anything is written to
-/// `err`. Where `out` refuses, the status is 1 and the line `refused: write failed` stands on `err`,
-/// after the line of an earlier refusal. Where `err` refuses, the status is 3.
+/// `err`. Where `out` refuses, the status is 1 and the line `refused: write failed` stands on
+/// `err`, after the line of an earlier refusal. Where `err` refuses, the status is 3.
 pub fn run<A: Allocator + Copy, O: Write, E: Write>(
     alloc: A,
     words: &[&str],

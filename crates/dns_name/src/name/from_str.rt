@@ -76,8 +76,8 @@ impl<Octets: AsOctets> UncertainName<Octets> {
     /// [`FromStrError::EmptyLabel`], also as the first of several characters. An escaped opening
     /// bracket that begins a label is [`FromStrError::BinaryLabel`]. A symbol without an octet is
     /// [`FromStrError::BadOctet`]. More than 254 octets before the root are
-    /// [`FromStrError::LongName`], more than 63 in a label [`FromStrError::LongLabel`]. Want of room
-    /// comes last.
+    /// [`FromStrError::LongName`], more than 63 in a label [`FromStrError::LongLabel`]. Want of
+    /// room comes last.
     pub fn from_chars<C: Iterator<Item = char> + Drop>(
         alloc: <Octets::Builder as EmptyBuilder>::Alloc,
         chars: C,

@@ -17,7 +17,8 @@ fn print_simple<T: ZonefileFmt, W: fmt::Write>(value: &T, sink: &mut W) -> fmt::
 {
     let mut writer = SimpleWriter::new(sink);
     let result = value.fmt(&mut writer);
-    // No effect at run time: the proof reads what the sink holds from the reference that comes back.
+    // No effect at run time: the proof reads what the sink holds from the reference that comes
+    // back.
     writer.into_inner();
     match result {
         Ok(()) => Ok(()),

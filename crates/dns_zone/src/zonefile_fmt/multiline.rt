@@ -13,12 +13,14 @@ use crate::zonefile_fmt::{
 use std::fmt;
 use std::fmt::{Display, Write};
 
-/// Prints block marks as the words `(` and `)`, with a space before each word but the first of a line.
+/// Prints block marks as the words `(` and `)`, with a space before each word but the first of a
+/// line.
 ///
-/// A comment is shown only where the last block mark before it is a begin: a tab, `; `, its text, a line end,
-/// and as many spaces as bytes stand on the line up to and with that `(`, and one more.
+/// A comment is shown only where the last block mark before it is a begin: a tab, `; `, its text, a
+/// line end, and as many spaces as bytes stand on the line up to and with that `(`, and one more.
 ///
-/// Text that is written to the writer itself, by its `fmt::Write`, is counted on the line and is no step of a document.
+/// Text that is written to the writer itself, by its `fmt::Write`, is counted on the line and is no
+/// step of a document.
 #[derive(Drop)]
 pub struct MultiLineWriter<W> {
     /// The line has no word yet.

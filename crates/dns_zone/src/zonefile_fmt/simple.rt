@@ -8,7 +8,8 @@ use crate::zonefile_fmt::{Error, FormatWriter, LINE_FEED, Result, SPACE};
 use std::fmt;
 use std::fmt::{Display, Write};
 
-/// Prints each entry on one line, its tokens apart by a space. Block marks and comments print nothing.
+/// Prints each entry on one line, its tokens apart by a space. Block marks and comments print
+/// nothing.
 #[derive(Drop)]
 pub struct SimpleWriter<W> {
     /// The line has no token yet.
