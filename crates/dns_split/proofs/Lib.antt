@@ -24,7 +24,6 @@ pub mod PieceSplit
 pub mod PieceSteps
 pub mod PieceWhole
 pub mod Positions
-pub mod PlainWords
 pub mod Refused
 pub mod SettledOnce
 pub mod Skips

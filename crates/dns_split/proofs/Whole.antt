@@ -1,158 +1,27 @@
--- A text is a token exactly if the reader finds it whole.
-use Rattle.std.proofs.Common.{IsUtf8, ◌≡◌, cond, ◌==◌, ℕ, zero, suc, ◌+◌, ◌*◌, ◌/◌, ◌%◌, ◌<◌, ◌≤◌, Bool, true, false, List, [], ◌∷◌, ◌++◌, length, refl, sym, ap, ◌∙◌, subst, arith, append_assoc}
-use Rattle.std.proofs.Common.{append-nil, length-append}
-use Rattle.std.specs.Prelude.{map, if◌then◌else◌, Option, Some, None, option_map, option_and_then, unwrap_or, encode_utf8, encode_utf8_all}
-use Rattle.std.specs.List.{flat_map, list_all}
-use Rattle.std.proofs.lemmas.Bool.{and_parts, and_from, eqb-true, eq-eqb, ne_eqb, both_ways}
-use Rattle.std.proofs.lemmas.Str.{encodes-append, encodes_same, length-encode, len_utf8_bounds}
-use lib.Utf8.{scalars}
-use Rattle.dns_symbol.specs.declared.symbol.Symbol.{Symbol}
-use Rattle.dns_symbol.specs.declared.symbol.Symbol.TheVariants.{Char, SimpleEscape, DecimalEscape}
-use Rattle.dns_split.specs.declared.reader.Mode.{Mode}
-use Rattle.dns_split.specs.declared.reader.Mode.TheVariants.{Outside, Quoted, Escape, OneDigit, TwoDigits}
-use Rattle.dns_split.specs.declared.reader.Act.{Act}
-use Rattle.dns_split.specs.declared.reader.Act.TheVariants.{EndToken, EndEntry, Add, BeginToken, FinishToken}
-use Rattle.dns_split.specs.declared.reader.Move.{Move}
-use Rattle.dns_split.specs.declared.token.Place.{Place}
-use Rattle.dns_split.specs.declared.token.Place.TheVariants.{Fresh, Inside, Done}
-use Rattle.dns_split.specs.Lexeme.{Lexeme, Blank, Line, Open, Close, Note, Word, Quote, characters, bytes, is_lexeme}
+-- A text is a token exactly if it splits into itself alone, and if its first piece is all of it.
+use Rattle.std.proofs.Common.{◌≡◌, ◌↔◌, IsTrue, ℕ, zero, suc, ◌+◌, ◌-◌, ◌<◌, ◌≤◌, Bool, true, false, ◌&&◌, ◌==◌, List, [], ◌∷◌, length, take, drop, refl, sym, ap, ◌∙◌, subst, arith}
+use Rattle.std.proofs.Common.{append-nil, length-append, get_or, IsUtf8, inl, inr}
+use Rattle.std.specs.Prelude.{map, if◌then◌else◌, Option, Some, None, Result, Ok, Err, encode_utf8, encode_utf8_all}
+use Rattle.std.specs.Iterator.{YieldsFirst}
+use Rattle.std.specs.List.{flat_map, list_all, AllByRecursion}
+use Rattle.std.proofs.Math.Seq.{take-length}
+use Rattle.std.proofs.lemmas.Bool.{and_parts, and_from, eqb-true, eq-eqb, ne_eqb, cond-false}
+use Rattle.std.proofs.lemmas.List.{drop_all}
+use Rattle.std.proofs.lemmas.Str.{length-encode, len_utf8_bounds}
+use Rattle.dns_split.specs.declared.reader.Mode.TheVariants.{Outside, Quoted}
+use Rattle.dns_split.specs.declared.pieces.Piece.{Piece}
+use Rattle.dns_split.specs.declared.pieces.Piece.TheVariants.{Word as WordAt, Quote as QuoteAt, Comment as CommentAt, End as EndAt}
+use Rattle.dns_split.specs.declared.pieces.Fault.{Fault}
+use Rattle.dns_split.specs.Lexeme.{Lexeme, Blank, Line, Open, Close, Note, Word, Quote, bytes, is_lexeme}
+use Rattle.dns_split.specs.Pieces.{word_at, end_at, spans_all, pieces, IsPieces, IsSpelled, Reads, between}
+use Rattle.dns_split.specs.Run.{SameRun, before, first_blank, run}
 use Rattle.dns_split.specs.Splitting.{Splits, are_lexemes, with_token, entries, Entries}
-use Rattle.dns_symbol.specs.Symbol.{spell, is_word_symbol}
-use Rattle.dns_split.specs.Reader.{home, step, move_to, read, with_open, after}
-use Rattle.dns_split.specs.Token.{IsToken}
+use Rattle.dns_split.specs.Token.{IsWord, IsQuote, IsToken}
+use Rattle.dns_split.proofs.Entries.{given_spelled}
+use Rattle.dns_split.proofs.PieceFaults.{reads}
+use Rattle.dns_split.proofs.SettledOnce.{read_once}
+use Rattle.dns_split.proofs.Skips.{quote_given}
 use Rattle.dns_split.proofs.Tokens.{is_token_lexeme, IsOne, one_token, token_one}
-use Rattle.dns_split.specs.Place.{next_place, is_at_end}
-use Rattle.dns_split.proofs.Complete.{view, allowed, char_step, escape_step, simple_step, first_step, second_step, third_step, simple_readable, decimal_small, with_open_some, Some_same}
-use Rattle.dns_split.proofs.Sound.{read_splits}
-use Rattle.dns_split.proofs.Viable.{begin_same}
-use Rattle.dns_split.specs.declared.reader.Within.{Within}
-use Rattle.dns_split.specs.declared.reader.Within.TheVariants.{InWord, InQuote}
-
--- what follows completes the token
-abbrev pub is_whole : Place → Mode → List ℕ → Bool
-is_whole p m [] = is_at_end p m
-is_whole p m (c ∷ cs) = unwrap_or (option_and_then (λ (v : Move). cond (v.depth == 0) (option_map (λ (q : Place). is_whole q v.mode cs) (next_place p v.act)) None) (step m 0 c)) false
-
--- a step that adds
-add_whole : (p : Place) (m m' : Mode) (c : ℕ) (cs : List ℕ) → next_place p Add ≡ Some Inside → step m 0 c ≡ move_to m' 0 Add → is_whole p m (c ∷ cs) ≡ is_whole Inside m' cs
-add_whole p m m' c cs n h = rw (h, n)
-
-symbol_whole : (q : Within) (p : Place) (cs : List ℕ) (s : Symbol) → next_place p Add ≡ Some Inside → allowed q s ≡ true → is_whole p (home q) (spell s ++ cs) ≡ is_whole Inside (home q) cs
-symbol_whole q p cs (Char c) n h = add_whole p (home q) (home q) c cs n (char_step q 0 c (view c) h)
-symbol_whole q p cs (SimpleEscape o) n h =
-    add_whole p (home q) (Escape q) 92 (o ∷ cs) n (escape_step q 0)
-    ∙ add_whole Inside (Escape q) (home q) o cs refl (simple_step q 0 o (simple_readable q o h))
-symbol_whole q p cs (DecimalEscape o) n h =
-    let small : o < 256 = decimal_small q o h in
-    let a : ℕ = o / 100 in
-    let b : ℕ = o / 10 % 10 in
-    let e : ℕ = o % 10 in
-    add_whole p (home q) (Escape q) 92 ((48 + a) ∷ (48 + b) ∷ (48 + e) ∷ cs) n (escape_step q 0)
-    ∙ add_whole Inside (Escape q) (OneDigit q a) (48 + a) ((48 + b) ∷ (48 + e) ∷ cs) refl (first_step q 0 a (omega arith))
-    ∙ add_whole Inside (OneDigit q a) (TwoDigits q (10 * a + b)) (48 + b) ((48 + e) ∷ cs) refl (second_step q 0 a b (omega arith) (omega arith))
-    ∙ add_whole Inside (TwoDigits q (10 * a + b)) (home q) (48 + e) cs refl (third_step q 0 (10 * a + b) e (omega arith) (omega arith))
-
-symbols_whole : (q : Within) (cs : List ℕ) (ss : List Symbol) → list_all (allowed q) ss ≡ true → is_whole Inside (home q) (flat_map spell ss ++ cs) ≡ is_whole Inside (home q) cs
-symbols_whole q cs [] h = refl
-symbols_whole q cs (s ∷ ss) h =
-    let p = and_parts (allowed q s) (list_all (allowed q) ss) h in
-    ap (is_whole Inside (home q)) (append_assoc (spell s) (flat_map spell ss) cs) ∙ symbol_whole q Inside (flat_map spell ss ++ cs) s refl p.0 ∙ symbols_whole q cs ss p.1
-
-lexeme_whole : (l : Lexeme) → is_token_lexeme l ≡ true → is_lexeme l ≡ true → is_whole Fresh Outside (characters l) ≡ true
-lexeme_whole (Word s ss) o v =
-    let p = and_parts (is_word_symbol s) (list_all is_word_symbol ss) v in
-    symbol_whole InWord Fresh (flat_map spell ss) s refl p.0 ∙ ap (is_whole Inside Outside) (sym (append-nil (flat_map spell ss))) ∙ symbols_whole InWord [] ss p.1
-lexeme_whole (Quote ss) o v = symbols_whole InQuote (34 ∷ []) ss v
-lexeme_whole (Blank _) o v = cc
-lexeme_whole (Line _) o v = cc
-lexeme_whole Open o v = cc
-lexeme_whole Close o v = cc
-lexeme_whole (Note _) o v = cc
-
--- a token is whole
-pub token_whole : (text cs : List ℕ) → encode_utf8_all cs ≡ text → IsToken text → is_whole Fresh Outside cs ≡ true
-token_whole text cs is t =
-    let one = token_one t in
-    let same : cs ≡ characters one.lexeme = encodes_same cs (characters one.lexeme) (is ∙ sym one.spelled) in
-    rw same (lexeme_whole one.lexeme one.is_one one.valid)
-
-unwrap_true : (x : Option Bool) → unwrap_or x false ≡ true → x ≡ Some true
-unwrap_true None h = cc
-unwrap_true (Some b) h = ap Some h
-
-done_end : (m : Mode) (cs : List ℕ) → is_whole Done m cs ≡ true → (cs ≡ []) × (m ≡ Outside)
-done_end Outside [] h = (refl, refl)
-done_end Quoted [] h = cc
-done_end Mode.Comment [] h = cc
-done_end Mode.Return [] h = cc
-done_end (Escape q) [] h = cc
-done_end (OneDigit q n) [] h = cc
-done_end (TwoDigits q n) [] h = cc
-done_end m (c ∷ cs) h = go (step m 0 c) h
-  where
-    none : (b : Bool) → unwrap_or (cond b None None) false ≡ true → (c ∷ cs ≡ []) × (m ≡ Outside)
-    none true h = cc
-    none false h = cc
-
-    go : (o : Option Move) → unwrap_or (option_and_then (λ (v : Move). cond (v.depth == 0) (option_map (λ (q : Place). is_whole q v.mode cs) (next_place Done v.act)) None) o) false ≡ true
-        → (c ∷ cs ≡ []) × (m ≡ Outside)
-    go None h = cc
-    go (Some v) h = none (v.depth == 0) h
-
--- what is whole is read as one token
-abbrev Reads : List ℕ → Type 0
-Reads cs = (p : Place) (m : Mode) (t : List ℕ) → is_whole p m cs ≡ true → (p ≡ Fresh → t ≡ []) → read m 0 t cs ≡ Some (with_open (t ++ encode_utf8_all cs) ([] ∷ []))
-
-by_act : (c : ℕ) (cs : List ℕ) → Reads cs → (p : Place) (a : Act) (m : Mode) (t : List ℕ) → option_map (λ (q : Place). is_whole q m cs) (next_place p a) ≡ Some true → (p ≡ Fresh → t ≡ [])
-    → after a c t (λ u. read m 0 u cs) ≡ Some (with_open (t ++ (encode_utf8 c ++ encode_utf8_all cs)) ([] ∷ []))
-by_act c cs ih Inside Add m t h f = ih Inside m (t ++ encode_utf8 c) (Some_same h) (λ e. cc) ∙ ap (λ u. Some (with_open u ([] ∷ []))) (append_assoc t (encode_utf8 c) (encode_utf8_all cs))
-by_act c cs ih Fresh Add m t h f = ih Inside m (t ++ encode_utf8 c) (Some_same h) (λ e. cc) ∙ ap (λ u. Some (with_open u ([] ∷ []))) (append_assoc t (encode_utf8 c) (encode_utf8_all cs))
-by_act c cs ih Fresh BeginToken m t h f =
-    let none : t ≡ [] = f refl in
-    rw none (ap (option_map (with_open [])) (ih Inside m (encode_utf8 c) (Some_same h) (λ e. cc)))
-by_act c cs ih Inside FinishToken m t h f =
-    let e = done_end m cs (Some_same h) in
-    ap (λ n. option_map (with_open (t ++ encode_utf8 c)) (read n 0 [] cs)) e.1
-    ∙ ap (λ l. option_map (with_open (t ++ encode_utf8 c)) (read Outside 0 [] l)) e.0
-    ∙ ap (λ u. Some (with_open (t ++ u) ([] ∷ []))) (sym (append-nil (encode_utf8 c)) ∙ ap (λ l. encode_utf8 c ++ encode_utf8_all l) (sym e.0))
-by_act c cs ih Fresh EndToken m t h f = cc
-by_act c cs ih Fresh EndEntry m t h f = cc
-by_act c cs ih Fresh FinishToken m t h f = cc
-by_act c cs ih Inside EndToken m t h f = cc
-by_act c cs ih Inside EndEntry m t h f = cc
-by_act c cs ih Inside BeginToken m t h f = cc
-by_act c cs ih Done a m t h f = cc
-
-by_move : (c : ℕ) (cs : List ℕ) → Reads cs → (p : Place) (o : Option Move) (t : List ℕ)
-    → unwrap_or (option_and_then (λ (v : Move). cond (v.depth == 0) (option_map (λ (q : Place). is_whole q v.mode cs) (next_place p v.act)) None) o) false ≡ true → (p ≡ Fresh → t ≡ [])
-    → option_and_then (λ (v : Move). after v.act c t (λ u. read v.mode v.depth u cs)) o ≡ Some (with_open (t ++ (encode_utf8 c ++ encode_utf8_all cs)) ([] ∷ []))
-by_move c cs ih p None t h f = cc
-by_move c cs ih p (Some v) t h f =
-    let g = guarded (v.depth == 0) (option_map (λ (q : Place). is_whole q v.mode cs) (next_place p v.act)) (unwrap_true _ h) in
-    let zero_depth : v.depth ≡ 0 = eqb-true v.depth 0 g.0 in
-    ap (λ n. after v.act c t (λ u. read v.mode n u cs)) zero_depth ∙ by_act c cs ih p v.act v.mode t g.1 f
-  where
-    guarded : (b : Bool) (x : Option Bool) → cond b x None ≡ Some true → (b ≡ true) × (x ≡ Some true)
-    guarded true x h = (refl, h)
-    guarded false x h = cc
-
-whole_reads : (cs : List ℕ) → Reads cs
-whole_reads [] Inside Outside t h f = ap (λ u. Some (with_open u ([] ∷ []))) (sym (append-nil t))
-whole_reads [] Done Outside t h f = ap (λ u. Some (with_open u ([] ∷ []))) (sym (append-nil t))
-whole_reads [] Fresh m t h f = cc
-whole_reads [] Inside Quoted t h f = cc
-whole_reads [] Inside Mode.Comment t h f = cc
-whole_reads [] Inside Mode.Return t h f = cc
-whole_reads [] Inside (Escape q) t h f = cc
-whole_reads [] Inside (OneDigit q n) t h f = cc
-whole_reads [] Inside (TwoDigits q n) t h f = cc
-whole_reads [] Done Quoted t h f = cc
-whole_reads [] Done Mode.Comment t h f = cc
-whole_reads [] Done Mode.Return t h f = cc
-whole_reads [] Done (Escape q) t h f = cc
-whole_reads [] Done (OneDigit q n) t h f = cc
-whole_reads [] Done (TwoDigits q n) t h f = cc
-whole_reads (c ∷ cs) p m t h f = by_move c cs (whole_reads cs) p (step m 0 c) t h f
 
 -- the bytes of some entries' tokens
 abbrev weight_of : List (List ℕ) → ℕ
@@ -248,42 +117,96 @@ token_itself t i = go (token_one i).lexeme (token_one i).is_one (token_one i).va
     go Close o v e = cc
     go (Note _) o v e = cc
 
--- what is whole is a token
-pub whole_token : (text cs : List ℕ) → encode_utf8_all cs ≡ text → scalars cs ≡ true → is_whole Fresh Outside cs ≡ true → IsToken text
-whole_token text [] is ok h = cc
-whole_token text (c ∷ cs) is ok h =
-    let t : List ℕ = encode_utf8_all (c ∷ cs) in
-    let r : read Outside 0 [] (c ∷ cs) ≡ Some ((t ∷ []) ∷ []) = whole_reads (c ∷ cs) Fresh Outside [] h (λ _. refl) ∙ ap Some (with_open_some t ([] ∷ []) (some_bytes c cs)) in
-    subst IsToken is (itself_token t (read_splits (c ∷ cs) ((t ∷ []) ∷ []) ok r))
+abbrev first : {A : Type 0} → List A → Option A
+first [] = None
+first (x ∷ xs) = Some x
 
--- a text at whose character c the reader gives up is no token
-pub refused : (text ys rest : List ℕ) (c : ℕ) (p : Place) (m : Mode) → IsUtf8 text → encode_utf8_all ys ++ (encode_utf8 c ++ rest) ≡ text
-    → ((cs : List ℕ) → is_whole p m cs ≡ is_whole Fresh Outside (ys ++ cs)) → ((zs : List ℕ) → is_whole p m (c ∷ zs) ≡ false) → IsToken text → ⊥
-refused text ys rest c p m u e kept fails t =
-    let front : encode_utf8_all u.0 ≡ encode_utf8_all (ys ++ c ∷ []) ++ rest = u.1.1 ∙ sym e ∙ sym (append_assoc (encode_utf8_all ys) (encode_utf8 c) rest)
-    ∙ ap (λ l. l ++ rest) (ap (λ l. encode_utf8_all ys ++ l) (sym (append-nil (encode_utf8 c))) ∙ sym (encodes-append ys (c ∷ []))) in
-    let q = begin_same (ys ++ c ∷ []) u.0 rest front in
-    let whole : u.0 ≡ ys ++ c ∷ q.0 = q.1 ∙ append_assoc ys (c ∷ []) q.0 in
-    both_ways (is_whole p m (c ∷ q.0)) (fails q.0) (kept (c ∷ q.0) ∙ ap (is_whole Fresh Outside) (sym whole) ∙ token_whole text u.0 u.1.1 t)
+-- a token's pieces: itself, and the end
+lexeme_pieces : (l : Lexeme) → is_token_lexeme l ≡ true → is_lexeme l ≡ true → (t : List ℕ) → bytes l ≡ t
+    → (found : List Piece) × IsPieces t found × (spans_all (first (map Ok found)) (length t) ≡ true)
+lexeme_pieces (Word s ss) o v t e = (
+  pieces 0 0 false (Word s ss ∷ []),
+  record {
+    lexemes = Word s ss ∷ [];
+    spelled = append-nil (bytes (Word s ss)) ∙ e;
+    valid = and_from _ _ (and_from _ _ v refl) refl;
+    nested = refl;
+    placed = refl;
+  },
+  eq-eqb (0 + length (bytes (Word s ss))) (length t) (omega (arith, ap length e)),
+)
+lexeme_pieces (Quote ss) o v t e = (
+  pieces 0 0 false (Quote ss ∷ []),
+  record {
+    lexemes = Quote ss ∷ [];
+    spelled = append-nil (bytes (Quote ss)) ∙ e;
+    valid = and_from _ _ (and_from _ _ v refl) refl;
+    nested = refl;
+    placed = refl;
+  },
+  eq-eqb (0 + length (bytes (Quote ss))) (length t) (omega (arith, ap length e)),
+)
+lexeme_pieces (Blank _) o v t e = cc
+lexeme_pieces (Line _) o v t e = cc
+lexeme_pieces Open o v t e = cc
+lexeme_pieces Close o v t e = cc
+lexeme_pieces (Note _) o v t e = cc
 
-pub no_step : (p : Place) (m : Mode) (c : ℕ) (zs : List ℕ) → step m 0 c ≡ None → is_whole p m (c ∷ zs) ≡ false
-no_step p m c zs h = rw h
+between_all : (text : List ℕ) (s e : ℕ) → (s == 0 && e == length text) ≡ true → between text s e ≡ text
+between_all text s e h =
+    let p = and_parts (s == 0) (e == length text) h in
+    let start : s ≡ 0 = eqb-true s 0 p.0 in
+    let end : e - s ≡ length text = omega (arith, start, eqb-true e (length text) p.1) in
+    ap (λ i. take (e - s) (drop i text)) start ∙ ap (λ n. take n text) end ∙ take-length text
 
-pub too_deep : (p : Place) (m : Mode) (c : ℕ) (v : Move) (zs : List ℕ) → step m 0 c ≡ Some v → (v.depth ≡ 0 → ⊥) → is_whole p m (c ∷ zs) ≡ false
-too_deep p m c v zs h d = rw (h, ne_eqb v.depth 0 d)
+-- a text is a token exactly if its first piece is a word or a quoted text that is all of it
+all_token : (text : List ℕ) (given : List (Result Piece Fault)) → Reads text given → spans_all (first given) (length text) ≡ true → IsToken text
+all_token text given r a = go given (given_spelled text given r) a
+  where
+    go : (xs : List (Result Piece Fault)) → AllByRecursion (IsSpelled text) xs → spans_all (first xs) (length text) ≡ true → IsToken text
+    go (Ok (WordAt p) ∷ more) h a = inl (subst IsWord (between_all text p.start p.end a) h.0)
+    go (Ok (QuoteAt p) ∷ more) h a = inr (subst IsQuote (between_all text p.start p.end a) h.0)
+    go (Ok (CommentAt p) ∷ more) h a = cc
+    go (Ok (EndAt p) ∷ more) h a = cc
+    go (Err f ∷ more) h a = cc
+    go [] h a = cc
 
-pub no_place : (p : Place) (m : Mode) (c : ℕ) (v : Move) (zs : List ℕ) → step m 0 c ≡ Some v → v.depth ≡ 0 → next_place p v.act ≡ None → is_whole p m (c ∷ zs) ≡ false
-no_place p m c v zs h d n = rw (h, eq-eqb v.depth 0 d, n)
+token_all : (text : List ℕ) (given : List (Result Piece Fault)) → Reads text given → IsToken text → spans_all (first given) (length text) ≡ true
+token_all text given r t =
+    let one = token_one t in
+    let alone = lexeme_pieces one.lexeme one.is_one one.valid text one.spelled in
+    ap (λ l. spans_all (first l) (length text)) (read_once text given (map Ok alone.0) r (inl (record { found = alone.0; is = refl; placed = alone.1 }))) ∙ alone.2
 
-pub goes_on : (ys : List ℕ) (c : ℕ) (p q : Place) (m : Mode) (v : Move) (cs : List ℕ) → step m 0 c ≡ Some v → v.depth ≡ 0 → next_place p v.act ≡ Some q
-    → ((ds : List ℕ) → is_whole p m ds ≡ is_whole Fresh Outside (ys ++ ds)) → is_whole q v.mode cs ≡ is_whole Fresh Outside (ys ++ c ∷ [] ++ cs)
-goes_on ys c p q m v cs h d n kept =
-    let one : is_whole p m (c ∷ cs) ≡ is_whole q v.mode cs = rw (h, eq-eqb v.depth 0 d, n) in
-    sym one ∙ kept (c ∷ cs) ∙ ap (is_whole Fresh Outside) (sym (append_assoc ys (c ∷ []) cs))
+first_is : {A : Type 0} (given more : List A) (o : Option A) → YieldsFirst (λ s. s) given o more → o ≡ first given
+first_is given more None h = ap first (sym h.0)
+first_is given more (Some x) h = ap first (sym h)
 
-pub at_end : (text ys : List ℕ) (p : Place) (m : Mode) → IsUtf8 text → encode_utf8_all ys ≡ text → ((cs : List ℕ) → is_whole p m cs ≡ is_whole Fresh Outside (ys ++ cs))
-    → (is_at_end p m ≡ true → IsToken text) × (IsToken text → is_at_end p m ≡ true)
-at_end text ys p m u e kept =
-    let same : u.0 ≡ ys = encodes_same u.0 ys (u.1.1 ∙ sym e) in
-    let end : is_at_end p m ≡ is_whole Fresh Outside ys = kept [] ∙ ap (is_whole Fresh Outside) (append-nil ys) in
-    (λ h. whole_token text ys e (ap scalars (sym same) ∙ u.1.0) (sym end ∙ h), λ t. end ∙ token_whole text ys e t)
+-- the same of what the cursor yields first
+pub first_token : (text : List ℕ) (given more : List (Result Piece Fault)) (o : Option (Result Piece Fault)) (b : Bool) → Reads text given → YieldsFirst (λ s. s) given o more
+    → b ≡ spans_all o (length text) → IsTrue b ↔ IsToken text
+first_token text given more o b r y e =
+    let is : b ≡ spans_all (first given) (length text) = e ∙ ap (λ x. spans_all x (length text)) (first_is given more o y) in (
+      λ h. all_token text given r (sym is ∙ h),
+      λ t. is ∙ token_all text given r t,
+    )
+
+-- a text at whose end the word that begins it still goes on
+pub word_reaches : (text : List ℕ) → IsUtf8 text → 0 < length text → SameRun Outside text 0 (length text) → IsToken text
+word_reaches text u some same =
+    let given = same 0 0 b ∙ ap (run Outside 0 0 n b) (drop_all n text (omega arith)) ∙ word in
+    all_token text (run Outside 0 0 0 b text) (reads text u) (ap (λ l. spans_all (first l) n) given ∙ eq-eqb n n refl)
+  where
+    n : ℕ
+    n = length text
+
+    b : Bool
+    b = first_blank text
+
+    word : run Outside 0 0 n b [] ≡ Ok (word_at 0 n) ∷ Ok (end_at n b) ∷ []
+    word = ap (λ o. before o (Ok (end_at n b) ∷ [])) (cond-false _ _ _ (ne_eqb 0 n (λ e. omega (arith, e, some))))
+
+-- a text whose last octet is the double quote that ends the quoted text that begins it
+pub quote_reaches : (text : List ℕ) → IsUtf8 text → (last : ℕ) → last + 1 ≡ length text → 1 ≤ last → get_or text 0 0 ≡ 34 → SameRun Quoted text 1 last → get_or text last 0 ≡ 34 → IsToken text
+quote_reaches text u last e o is same ends =
+    let g = quote_given text (record { depth = 0; at = 0 }) (first_blank text) last (omega (arith, e)) is o (omega (arith, e)) same ends in
+    all_token text (run Outside 0 0 0 (first_blank text) text) (reads text u) (ap (λ l. spans_all (first l) (length text)) g.same ∙ eq-eqb (last + 1) (length text) e)

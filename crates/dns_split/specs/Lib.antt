@@ -2,7 +2,6 @@ pub mod Answer
 pub mod Lexeme
 pub mod Opening
 pub mod Pieces
-pub mod Place
 pub mod Position
 pub mod Reader
 pub mod Rows

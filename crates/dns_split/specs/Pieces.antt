@@ -1,5 +1,5 @@
 -- The pieces of a zone text with their places: words, quoted texts, comments and ends of entries.
-use Rattle.std.specs.Prelude.{⊤, ◌≡◌, ◌≤◌, ℕ, zero, suc, ◌+◌, ◌-◌, ◌⊎◌, Bool, true, false, nat_lt, List, [], ◌∷◌, ◌++◌, length, take, drop, map, Option, Some, None, Result, Ok, Err}
+use Rattle.std.specs.Prelude.{⊤, ◌≡◌, ◌≤◌, ℕ, zero, suc, ◌+◌, ◌-◌, ◌⊎◌, Bool, true, false, ◌&&◌, ◌==◌, nat_lt, List, [], ◌∷◌, ◌++◌, length, take, drop, map, Option, Some, None, Result, Ok, Err}
 use Rattle.std.specs.Prelude.{encode_utf8, encode_utf8_all}
 use Rattle.std.specs.List.{flat_map, list_all}
 use lib.Utf8.{scalar}
@@ -53,6 +53,12 @@ pub record IsPieces (text : List ℕ) (found : List Piece) : Type 0 where
   pub valid : are_lexemes lexemes ≡ true
   pub nested : nests 0 lexemes ≡ true
   pub placed : pieces 0 0 (begins_blank lexemes) lexemes ≡ found
+
+-- what a text of so many octets gives first is a word or a quoted text, and all of it
+abbrev pub spans_all : Option (Result Piece Fault) → ℕ → Bool
+spans_all (Some (Ok (WordAt p))) n = p.start == 0 && p.end == n
+spans_all (Some (Ok (QuoteAt p))) n = p.start == 0 && p.end == n
+spans_all _ n = false
 
 -- places in order, of octets that many
 abbrev pub IsWithin : ℕ → Result Piece Fault → Type 0

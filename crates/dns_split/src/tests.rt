@@ -160,9 +160,9 @@ const TOKENS: [&str; 8] = [
     "\"\\032\"",
 ];
 
-const NO_TOKENS: [&str; 17] = [
+const NO_TOKENS: [&str; 19] = [
     "", " ", "a b", "a;b", "a(b", "a\"b\"", "\"a\"b\"", "\"a\"b", "\"a", "\"", "\\999", "\\2",
-    "a\\", "\"a\n\"", "\"a\r\"", "a\n", "(a)",
+    "a\\", "\"a\n\"", "\"a\r\"", "\"a\n", "a\n", "(a)", " a",
 ];
 
 fn token_is(rt: &impl Abort, text: &str, wanted: bool) {

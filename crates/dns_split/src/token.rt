@@ -1,52 +1,49 @@
 //! The token test.
 ghost use Rattle.std.specs.Prelude.{◌≡◌, IsTrue, ◌↔◌, None};
-ghost use Rattle.dns_split.specs.Place.{next_place, is_at_end};
+ghost use Rattle.dns_split.specs.Pieces.{spans_all};
 ghost use Rattle.dns_split.specs.Token.{IsToken, IsWord, IsQuote};
 ghost use Rattle.std.specs.List.{flat_map};
 ghost use Rattle.dns_symbol.specs.Symbol.{bytes};
 ghost use Rattle.dns_symbol.specs.Text.{SymbolsOf};
 
-use crate::reader::{Act, Mode, step};
-use crate::skip::{Class, skip_class};
+use crate::pieces::{Fault, Piece, Pieces};
+use crate::reader::Within;
+use crate::skip::token_end;
 
-/// How far a token has come.
-#[derive(Clone, Copy)]
-enum Place {
-    /// It has no characters yet.
-    Fresh,
-    Inside,
-    /// Its closing double quote was read.
-    Done,
-}
-
-/// The place after a character, or `None` where the text is no token.
-fn next_place(place: Place, act: Act) -> Option<Place>
-    ensures { result ≡ next_place place act }
-{
-    match (place, act) {
-        (Place::Fresh, Act::Add | Act::BeginToken) => Some(Place::Inside),
-        (Place::Inside, Act::Add) => Some(Place::Inside),
-        (Place::Inside, Act::FinishToken) => Some(Place::Done),
-        _ => None,
-    }
-}
-
-/// Whether a token may end here.
-fn is_at_end(place: Place, mode: Mode) -> bool
-    ensures { result ≡ is_at_end place mode }
-{
-    matches!((place, mode), (Place::Inside | Place::Done, Mode::Outside))
-}
-
-/// Whether the octets of a text are some, and each may stand in a word as it is: no escape, no
-/// blank, nothing that the grammar looks for.
+/// Whether the word or the quoted text that begins a text is found to end with it, where that
+/// takes no step of the reader.
 #[inline(always)]
-fn is_plain_word(text: &str) -> bool
+fn reaches_end(text: &str) -> bool
     ensures { IsTrue result → IsToken text.now }
 {
     let octets = text.as_bytes();
-    let end = skip_class(Class::Word, octets, 0);
-    0 < end && end == octets.len()
+    let end = octets.len();
+    if end == 0 {
+        return false;
+    }
+    if octets[0] != b'"' {
+        return token_end(Within::InWord, octets, 0) == end;
+    }
+    let last = token_end(Within::InQuote, octets, 1);
+    last + 1 == end && octets[last] == b'"'
+}
+
+/// Whether what a text of so many octets gives first is a word or a quoted text, and all of it.
+fn spans_all(first: Option<Result<Piece, Fault>>, length: usize) -> bool
+    ensures { result ≡ spans_all first length }
+{
+    match first {
+        Some(Ok(Piece::Word(span) | Piece::Quote(span))) => span.start == 0 && span.end == length,
+        _ => false,
+    }
+}
+
+/// Whether a text is a token, by the piece that it gives first.
+#[inline(never)]
+fn is_first_piece(text: &str) -> bool
+    ensures { IsTrue result ↔ IsToken text.now }
+{
+    spans_all(Pieces::new(text).next(), text.len())
 }
 
 /// Whether a text is a token: a word, or a quoted text with its double quotes.
@@ -57,25 +54,7 @@ fn is_plain_word(text: &str) -> bool
 pub fn is_token(text: &str) -> bool
     ensures { IsTrue result ↔ IsToken text.now }
 {
-    if is_plain_word(text) {
-        return true;
-    }
-    let mut place = Place::Fresh;
-    let mut mode = Mode::Outside;
-    for c in text.chars() {
-        let Some(next) = step(mode, 0, c) else {
-            return false;
-        };
-        if next.depth != 0 {
-            return false;
-        }
-        let Some(after) = next_place(place, next.act) else {
-            return false;
-        };
-        place = after;
-        mode = next.mode;
-    }
-    is_at_end(place, mode)
+    reaches_end(text) || is_first_piece(text)
 }
 
 /// What a token holds: the text between the double quotes of a quoted text, and a word itself.
