@@ -27,3 +27,4 @@ pub mod Pushed
 pub mod Refusals
 pub mod Each
 pub mod Halves
+pub mod Short

@@ -31,7 +31,7 @@ loop-c-preserved g c = (
   c.loop-c.invariant.0,
   c.loop-c.invariant.1,
   rw (← append_assoc) (takes g.K.Encoding.base g.met.K.Encoding.known g.B.OctetsBuilder.sure g.B.OctetsBuilder.most (c.loop-c.invariant.0
-      ++ c.loop-c.yielded) c.loop-c.decoder c.in-Some.c c.push.new.self c.push.result c.in_ok-push.field-0 c.loop-c.invariant.2 c.push.ensures.pushes c.push.ensures.answers c.in_ok-push.was),
+      ++ c.loop-c.yielded) c.loop-c.decoder c.in-Some-c.c c.push.new.self c.push.result c.in_ok-push.field-0 c.loop-c.invariant.2 c.push.ensures.pushes c.push.ensures.answers c.in_ok-push.was),
 )
 
 pub returns-in_err-push : goal.returns-in_err-push
@@ -42,13 +42,13 @@ returns-in_err-push g c =
     let split = rw same at c.loop-c.invariant.1 in
     let text = YieldsList-from_chars rest c.append_groups-rest.utf8 same in
     let so_far = YieldsList-so_far text c.loop-c.yielded _ c.loop-c.yielded_by in
-    let turn = YieldsList-turn text c.loop-c.yielded _ c.loop-c.yielded_by _ _ c.in-Some.c c.in-Some.is c.next.ensures.steps in
-    let here = after_front (chars c.args.s.now) c.loop-c.invariant.0 (chars rest) c.loop-c.yielded _ c.in-Some.c split (text_here (chars rest) c.loop-c.yielded c.in-Some.c so_far turn) in
+    let turn = YieldsList-turn text c.loop-c.yielded _ c.loop-c.yielded_by _ _ c.in-Some-c.c c.in-Some-c.is c.next.ensures.steps in
+    let here = after_front (chars c.args.s.now) c.loop-c.invariant.0 (chars rest) c.loop-c.yielded _ c.in-Some-c.c split (text_here (chars rest) c.loop-c.yielded c.in-Some-c.c so_far turn) in
     let p = err_from_is_err_and c.from_residual.result c.from_residual.ensures.1 in
     let k = clauses g.K.Encoding.base (refusal g.K.Encoding.base) g.B.OctetsBuilder.sure g.B.OctetsBuilder.most (chars c.args.s.now) g.B.Octets.AsOctets.octets c.from_residual.result
     (λ octets room d le. (reads g.K.Encoding.base known (chars c.args.s.now) octets room d le).0)
     (rw (p.1, p.2) (rw here (refuses g.K.Encoding.base known g.B.OctetsBuilder.sure g.B.OctetsBuilder.most (c.loop-c.invariant.0
-    ++ c.loop-c.yielded) _ c.loop-c.decoder c.in-Some.c c.push.new.self c.push.result _ c.loop-c.invariant.2 c.push.ensures.pushes c.push.ensures.answers c.in_err-push.was))) in
+    ++ c.loop-c.yielded) _ c.loop-c.decoder c.in-Some-c.c c.push.new.self c.push.result _ c.loop-c.invariant.2 c.push.ensures.pushes c.push.ensures.answers c.in_err-push.was))) in
     record { value = k.0; succeeds = k.1; refused = k.2 }
 
 pub returns : goal.returns
@@ -66,4 +66,11 @@ returns g c =
     (finished g.K.Encoding.base (refusal g.K.Encoding.base) g.B.OctetsBuilder.sure g.B.OctetsBuilder.most (chars c.args.s.now) g.B.Octets.AsOctets.octets c.finalize.result
     (Ends g.K.Encoding.base g.B.OctetsBuilder.sure g.B.OctetsBuilder.most c.loop-c.decoder)
     (λ s end. ends g.K.Encoding.base known g.B.OctetsBuilder.sure g.B.OctetsBuilder.most (chars c.args.s.now) c.loop-c.decoder s stands end) c.finalize.ensures) in
+    record { value = k.0; succeeds = k.1; refused = k.2 }
+
+pub returns-in-Some : goal.returns-in-Some
+returns-in-Some g c =
+    let known = g.met.K.Encoding.known in
+    let k = clauses g.K.Encoding.base (refusal g.K.Encoding.base) g.B.OctetsBuilder.sure g.B.OctetsBuilder.most (chars c.args.s.now) g.B.Octets.AsOctets.octets c.in-Some.result
+    (λ octets room d le. (reads g.K.Encoding.base known (chars c.args.s.now) octets room d le).0) c.in-Some.ensures in
     record { value = k.0; succeeds = k.1; refused = k.2 }
