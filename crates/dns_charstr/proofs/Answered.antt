@@ -1,8 +1,9 @@
 -- A text has one answer.
 use Rattle.std.proofs.Common.{◌≡◌, ℕ, suc, ◌<◌, ◌≤◌, List, [], ◌∷◌, ◌++◌, length, map, refl, sym, ap, ◌∙◌, arith, length-append, Some, None, Result, Ok, Err, inl, inr, ⊎_elim, ◌⊎◌}
+use Rattle.dns_octets.specs.Room.{Room}
 use Rattle.dns_symbol.specs.Symbol.{octet_of}
 use Rattle.dns_symbol.specs.declared.symbol.Symbol.{Symbol}
-use Rattle.dns_symbol.specs.declared.symbol.BadSymbol.{BadSymbol}
+use Rattle.dns_symbol.specs.declared.error.BadSymbol.{BadSymbol}
 use Rattle.dns_symbol.proofs.Unique.{symbols_same}
 use Rattle.dns_charstr.specs.Reading.{HasOctets, GoesOn, ReadsText}
 use Rattle.dns_charstr.specs.declared.charstr.error.FromStrError.{FromStrError}
@@ -49,20 +50,20 @@ octet_next text octets begun x whole part =
     octets_each part.front x part.others octets (sym (ap (map octet_of) same) ∙ whole.octets_are)
 
 -- a text whose symbols all have octets is read as these, or more octets than surely fit were needed
-pub read_or_short : (sure most : ℕ) (text octets : List ℕ) (r : Result (List ℕ) FromStrError) → ReadsText sure most text r → HasOctets text octets
-    → length octets ≤ 255 → (r ≡ Ok octets) ⊎ ((r ≡ Err ShortBuf) × (sure < length octets))
-read_or_short sure most text octets (Ok os) h whole short = inl (ap Ok (one_list text os octets h.0 whole))
-read_or_short sure most text octets (Err (Presentation (SymbolChars e))) h whole short =
+pub read_or_short : (room : Room) (text octets : List ℕ) (r : Result (List ℕ) FromStrError) → ReadsText room text r → HasOctets text octets
+    → length octets ≤ 255 → (r ≡ Ok octets) ⊎ ((r ≡ Err ShortBuf) × (room.fits < length octets))
+read_or_short room text octets (Ok os) h whole short = inl (ap Ok (one_list text os octets h.0 whole))
+read_or_short room text octets (Err (Presentation (SymbolChars e))) h whole short =
     let same : None ≡ Some e = (symbols_same text whole.symbols h.1.symbols None (Some e) whole.read h.1.read).1 in absurd (cc)
-read_or_short sure most text octets (Err (Presentation LongString)) h whole short =
+read_or_short room text octets (Err (Presentation LongString)) h whole short =
     absurd (omega (arith, count_before text octets h.0 h.1 whole h.2, h.3, short))
-read_or_short sure most text octets (Err (Presentation (Bad e))) h whole short =
+read_or_short room text octets (Err (Presentation (Bad e))) h whole short =
     let o = octet_next text octets h.0 h.1 whole h.2 in let has = o.1 in let none = h.5 in absurd (cc)
-read_or_short sure most text octets (Err ShortBuf) h whole short =
+read_or_short room text octets (Err ShortBuf) h whole short =
     inr (refl, omega (arith, count_before text octets h.0 h.1 whole h.3, h.7))
 
 -- so it is read where its octets surely fit
-pub whole_is_read : (sure most : ℕ) (text octets : List ℕ) (r : Result (List ℕ) FromStrError) → ReadsText sure most text r → HasOctets text octets
-    → length octets ≤ sure → length octets ≤ 255 → r ≡ Ok octets
-whole_is_read sure most text octets r h whole fits short =
-    ⊎_elim (λ is. is) (λ none. absurd (omega (arith, none.1, fits))) (read_or_short sure most text octets r h whole short)
+pub whole_is_read : (room : Room) (text octets : List ℕ) (r : Result (List ℕ) FromStrError) → ReadsText room text r → HasOctets text octets
+    → length octets ≤ room.fits → length octets ≤ 255 → r ≡ Ok octets
+whole_is_read room text octets r h whole fits short =
+    ⊎_elim (λ is. is) (λ none. absurd (omega (arith, none.1, fits))) (read_or_short room text octets r h whole short)

@@ -3,11 +3,12 @@ use Rattle.std.proofs.Common.{◌≡◌, ℕ, ◌+◌, ◌<◌, ◌≤◌, Bool,
 use Rattle.std.proofs.Common.{Result, Ok, Err}
 use Rattle.std.specs.Prelude.{◌==◌, nat_le}
 use Rattle.std.proofs.lemmas.Bool.Decides.{nat_tests}
+use Rattle.dns_octets.specs.Room.{exactly}
 use Rattle.dns_symbol.specs.Symbol.{octet_of}
 use Rattle.dns_symbol.specs.Text.{SymbolsOf}
 use Rattle.dns_symbol.specs.declared.symbol.Symbol.{Symbol}
-use Rattle.dns_symbol.specs.declared.symbol.SymbolCharsError.{SymbolCharsError}
-use Rattle.dns_symbol.specs.declared.symbol.BadSymbol.{BadSymbol}
+use Rattle.dns_symbol.specs.declared.error.SymbolCharsError.{SymbolCharsError}
+use Rattle.dns_symbol.specs.declared.error.BadSymbol.{BadSymbol}
 use Rattle.dns_symbol.proofs.Unique.{symbols_same}
 use Rattle.dns_charstr.specs.Reading.{ReadsText}
 use Rattle.dns_charstr.specs.declared.charstr.error.FromStrError.{FromStrError}
@@ -26,66 +27,66 @@ took false false (Ok o) more = more o
 
 -- the octets of some symbols after others, or the first refusal, where `room` octets fit
 abbrev answer : ℕ → List ℕ → List Symbol → Option SymbolCharsError → Answer
-answer room before [] None = Ok before
-answer room before [] (Some e) = Err (Presentation (SymbolChars e))
-answer room before (x ∷ xs) e = took (length before == 255) (nat_le room (length before)) (octet_of x) (λ o. answer room (before ++ o ∷ []) xs e)
+answer size before [] None = Ok before
+answer size before [] (Some e) = Err (Presentation (SymbolChars e))
+answer size before (x ∷ xs) e = took (length before == 255) (nat_le size (length before)) (octet_of x) (λ o. answer size (before ++ o ∷ []) xs e)
 
-module _ (room : ℕ) where
+module _ (size : ℕ) where
   -- a symbol whose octet fits
-  goes : (before : List ℕ) (x : Symbol) (o : ℕ) (xs : List Symbol) (e : Option SymbolCharsError) → octet_of x ≡ Ok o → length before < 255 → length before < room
-      → answer room before (x ∷ xs) e ≡ answer room (before ++ o ∷ []) xs e
+  goes : (before : List ℕ) (x : Symbol) (o : ℕ) (xs : List Symbol) (e : Option SymbolCharsError) → octet_of x ≡ Ok o → length before < 255 → length before < size
+      → answer size before (x ∷ xs) e ≡ answer size (before ++ o ∷ []) xs e
   goes before x o xs e is short fits =
       let a : (length before == 255) ≡ false = grind (arith, nat_tests) in
-      let b : nat_le room (length before) ≡ false = grind (arith, nat_tests) in
+      let b : nat_le size (length before) ≡ false = grind (arith, nat_tests) in
       rw (a, b, is) refl
 
   -- symbols whose octets fit
   ran : (front : List Symbol) (before os : List ℕ) (rest : List Symbol) (e : Option SymbolCharsError) → map octet_of front ≡ map Ok os
-      → length before + length os ≤ 255 → length before + length os ≤ room → answer room before (front ++ rest) e ≡ answer room (before ++ os) rest e
-  ran [] before [] rest e h short fits = ap (λ b. answer room b rest e) (sym (append-nil before))
+      → length before + length os ≤ 255 → length before + length os ≤ size → answer size before (front ++ rest) e ≡ answer size (before ++ os) rest e
+  ran [] before [] rest e h short fits = ap (λ b. answer size b rest e) (sym (append-nil before))
   ran [] before (o ∷ os) rest e h short fits = cc
   ran (x ∷ xs) before [] rest e h short fits = cc
   ran (x ∷ xs) before (o ∷ os) rest e h short fits =
       let first : octet_of x ≡ Ok o = cc h in
       let others : map octet_of xs ≡ map Ok os = cc h in
       let more : length (before ++ o ∷ []) + length os ≤ 255 = omega (arith, short, length-append before (o ∷ [])) in
-      let room_left : length (before ++ o ∷ []) + length os ≤ room = omega (arith, fits, length-append before (o ∷ [])) in
+      let room_left : length (before ++ o ∷ []) + length os ≤ size = omega (arith, fits, length-append before (o ∷ [])) in
       goes before x o (xs ++ rest) e first (omega (arith, short)) (omega (arith, fits))
       ∙ ran xs (before ++ o ∷ []) os rest e others more room_left
-      ∙ ap (λ b. answer room b rest e) (append_assoc before (o ∷ []) os)
+      ∙ ap (λ b. answer size b rest e) (append_assoc before (o ∷ []) os)
 
-  long_next : (before : List ℕ) (x : Symbol) (xs : List Symbol) (e : Option SymbolCharsError) → length before ≡ 255 → answer room before (x ∷ xs) e ≡ Err (Presentation LongString)
+  long_next : (before : List ℕ) (x : Symbol) (xs : List Symbol) (e : Option SymbolCharsError) → length before ≡ 255 → answer size before (x ∷ xs) e ≡ Err (Presentation LongString)
   long_next before x xs e full =
       let a : (length before == 255) ≡ true = grind (arith, nat_tests) in rw a refl
 
   bad_next : (before : List ℕ) (x : Symbol) (xs : List Symbol) (e : Option SymbolCharsError) (b : BadSymbol) → length before < 255 → octet_of x ≡ Err b
-      → answer room before (x ∷ xs) e ≡ Err (Presentation (Bad b))
+      → answer size before (x ∷ xs) e ≡ Err (Presentation (Bad b))
   bad_next before x xs e b short is =
       let a : (length before == 255) ≡ false = grind (arith, nat_tests) in rw (a, is) refl
 
-  none_fits : (before : List ℕ) (x : Symbol) (o : ℕ) (xs : List Symbol) (e : Option SymbolCharsError) → length before < 255 → octet_of x ≡ Ok o → room ≤ length before
-      → answer room before (x ∷ xs) e ≡ Err ShortBuf
+  none_fits : (before : List ℕ) (x : Symbol) (o : ℕ) (xs : List Symbol) (e : Option SymbolCharsError) → length before < 255 → octet_of x ≡ Ok o → size ≤ length before
+      → answer size before (x ∷ xs) e ≡ Err ShortBuf
   none_fits before x o xs e short is full =
       let a : (length before == 255) ≡ false = grind (arith, nat_tests) in
-      let b : nat_le room (length before) ≡ true = grind (arith, nat_tests) in
+      let b : nat_le size (length before) ≡ true = grind (arith, nat_tests) in
       rw (a, is, b) refl
 
   -- the answer to all symbols, by what stands after those whose octets fit
   after : (text : List ℕ) (symbols front rest : List Symbol) (error e : Option SymbolCharsError) (os : List ℕ) → SymbolsOf text symbols error
-      → SymbolsOf text (front ++ rest) e → map octet_of front ≡ map Ok os → length os ≤ 255 → length os ≤ room
-      → answer room [] symbols error ≡ answer room os rest e
+      → SymbolsOf text (front ++ rest) e → map octet_of front ≡ map Ok os → length os ≤ 255 → length os ≤ size
+      → answer size [] symbols error ≡ answer size os rest e
   after text symbols front rest error e os whole part are short fits =
       let same = symbols_same text symbols (front ++ rest) error e whole part in
-      (λ i. answer room [] (same.0 i) (same.1 i)) ∙ ran front [] os rest e are (omega (arith, short)) (omega (arith, fits))
+      (λ i. answer size [] (same.0 i) (same.1 i)) ∙ ran front [] os rest e are (omega (arith, short)) (omega (arith, fits))
 
   to_end : (text : List ℕ) (symbols front : List Symbol) (error e : Option SymbolCharsError) (os : List ℕ) → SymbolsOf text symbols error
-      → SymbolsOf text front e → map octet_of front ≡ map Ok os → length os ≤ 255 → length os ≤ room
-      → answer room [] symbols error ≡ answer room os [] e
+      → SymbolsOf text front e → map octet_of front ≡ map Ok os → length os ≤ 255 → length os ≤ size
+      → answer size [] symbols error ≡ answer size os [] e
   to_end text symbols front error e os whole part are short fits =
       after text symbols front [] error e os whole (rw (append-nil front) part) are short fits
 
   answers : (text : List ℕ) (symbols : List Symbol) (error : Option SymbolCharsError) → SymbolsOf text symbols error
-      → (r : Answer) → ReadsText room room text r → answer room [] symbols error ≡ r
+      → (r : Answer) → ReadsText (exactly size) text r → answer size [] symbols error ≡ r
   answers text symbols error whole (Ok os) h =
       to_end text symbols h.0.symbols error None os whole h.0.read h.0.octets_are h.1 h.2
   answers text symbols error whole (Err (Presentation (SymbolChars e))) h =
@@ -102,5 +103,5 @@ module _ (room : ℕ) where
 
   -- two answers are one
   pub one_answer : (text : List ℕ) (symbols : List Symbol) (error : Option SymbolCharsError) → SymbolsOf text symbols error
-      → (q r : Answer) → ReadsText room room text q → ReadsText room room text r → q ≡ r
+      → (q r : Answer) → ReadsText (exactly size) text q → ReadsText (exactly size) text r → q ≡ r
   one_answer text symbols error whole q r h k = sym (answers text symbols error whole q h) ∙ answers text symbols error whole r k

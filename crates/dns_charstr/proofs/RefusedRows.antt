@@ -2,16 +2,17 @@
 use Rattle.std.proofs.Common.{[], ◌∷◌, ◌++◌, replicate, arith, refl, None, Err}
 use Rattle.std.specs.Prelude.{codes}
 use Rattle.std.specs.Char.{encode_utf8}
+use Rattle.dns_octets.specs.Room.{exactly}
 use Rattle.dns_symbol.specs.declared.symbol.Symbol.TheVariants.{Char}
-use Rattle.dns_symbol.specs.declared.symbol.SymbolCharsError.TheVariants.{BadEscape, ShortInput}
-use Rattle.dns_symbol.specs.declared.symbol.BadSymbol.TheVariants.{NonAscii}
+use Rattle.dns_symbol.specs.declared.error.SymbolCharsError.TheVariants.{BadEscape, ShortInput}
+use Rattle.dns_symbol.specs.declared.error.BadSymbol.TheVariants.{NonAscii}
 use Rattle.dns_symbol.proofs.Escapes.{escape_short, escape_value}
 use Rattle.dns_charstr.specs.Reading.{ReadsText}
 use Rattle.dns_charstr.specs.declared.charstr.error.FromStrError.TheVariants.{Presentation}
 use Rattle.dns_charstr.specs.declared.charstr.error.PresentationError.TheVariants.{LongString, SymbolChars, BadSymbol}
 
 -- an escape that is cut off
-cut_off : ReadsText 255 255 (codes "ab\\2") (Err (Presentation (SymbolChars ShortInput)))
+cut_off : ReadsText (exactly 255) (codes "ab\\2") (Err (Presentation (SymbolChars ShortInput)))
 unfolding encode_utf8
 cut_off = (
   codes "ab",
@@ -30,7 +31,7 @@ cut_off = (
 )
 
 -- an escape of too great a value
-too_great : ReadsText 255 255 (codes "ab\\999") (Err (Presentation (SymbolChars BadEscape)))
+too_great : ReadsText (exactly 255) (codes "ab\\999") (Err (Presentation (SymbolChars BadEscape)))
 unfolding encode_utf8
 too_great = (
   codes "ab",
@@ -49,7 +50,7 @@ too_great = (
 )
 
 -- a character that is no octet
-no_octet : ReadsText 255 255 (0xC3 ∷ 0xB6 ∷ []) (Err (Presentation (BadSymbol NonAscii)))
+no_octet : ReadsText (exactly 255) (0xC3 ∷ 0xB6 ∷ []) (Err (Presentation (BadSymbol NonAscii)))
 unfolding encode_utf8
 no_octet = (
   [],
@@ -67,7 +68,7 @@ no_octet = (
 )
 
 -- the same after 255 octets
-no_octet_after_all : ReadsText 255 255 (replicate 255 97 ++ 0xC3 ∷ 0xB6 ∷ []) (Err (Presentation LongString))
+no_octet_after_all : ReadsText (exactly 255) (replicate 255 97 ++ 0xC3 ∷ 0xB6 ∷ []) (Err (Presentation LongString))
 unfolding encode_utf8
 no_octet_after_all = (
   replicate 255 97,

@@ -3,7 +3,7 @@ use Rattle.std.proofs.Common.{◌≡◌, ℕ, suc, ◌+◌, ◌≤◌, List, ◌
 use Rattle.std.specs.Prelude.{IsOk, OnOk, is_ok, if◌then◌else◌}
 use Rattle.std.proofs.lemmas.List.{length-take-le, drop-drop, take-append-drop}
 use Rattle.dns_octets.specs.Parsing.{Parsing, rest, gone_on}
-use Rattle.dns_octets.specs.declared.parser.ParseError.{ParseError}
+use Rattle.dns_octets.specs.declared.error.ParseError.{ParseError}
 use Rattle.dns_charstr.specs.Wire.{wire_of}
 
 -- past a length octet and as many octets as it says

@@ -9,7 +9,7 @@ use Rattle.dns_symbol.specs.Symbol.{bytes, spell, is_readable, octet_of}
 use Rattle.dns_symbol.specs.Index.{BeginsWith}
 use Rattle.dns_symbol.specs.Text.{SymbolsOf, EndsAs}
 use Rattle.dns_symbol.specs.declared.symbol.Symbol.{Symbol}
-use Rattle.dns_symbol.specs.declared.symbol.SymbolCharsError.{SymbolCharsError}
+use Rattle.dns_symbol.specs.declared.error.SymbolCharsError.{SymbolCharsError}
 use Rattle.dns_symbol.proofs.Texts.{symbols_exist, rest_utf8}
 use Rattle.dns_symbol.proofs.Unique.{symbols_more}
 use Rattle.dns_charstr.specs.Reading.{HasOctets, BreaksOff, GoesOn}

@@ -10,9 +10,9 @@ use Rattle.dns_symbol.specs.Index.{BeginsWith, BeginsNone, ReadsAt, octets_error
 use Rattle.dns_symbol.specs.Text.{EndsAs, chars_error, as_octets_error}
 use Rattle.dns_symbol.specs.Reading.{ReadsSymbol, at_place}
 use Rattle.dns_symbol.specs.declared.symbol.Symbol.{Symbol}
-use Rattle.dns_symbol.specs.declared.symbol.SymbolCharsError.{SymbolCharsError}
-use Rattle.dns_symbol.specs.declared.symbol.SymbolCharsError.TheVariants.{BadEscape, ShortInput}
-use Rattle.dns_symbol.specs.declared.symbol.SymbolOctetsError.{SymbolOctetsError}
+use Rattle.dns_symbol.specs.declared.error.SymbolCharsError.{SymbolCharsError}
+use Rattle.dns_symbol.specs.declared.error.SymbolCharsError.TheVariants.{BadEscape, ShortInput}
+use Rattle.dns_symbol.specs.declared.error.SymbolOctetsError.{SymbolOctetsError}
 use Rattle.dns_symbol.proofs.Agree.{Chars-Yields, agree}
 use Rattle.dns_symbol.proofs.Texts.{begins_or_none, same_error}
 

@@ -1,9 +1,10 @@
 -- Reading a character string from its text.
 use Rattle.std.specs.Prelude.{◌≡◌, ℕ, ◌<◌, ◌≤◌, List, ◌∷◌, ◌++◌, length, map, Option, Some, None, Result, Ok, Err}
+use Rattle.dns_octets.specs.Room.{Room}
 use Rattle.dns_symbol.specs.Symbol.{octet_of}
 use Rattle.dns_symbol.specs.Text.{SymbolsOf}
 use Rattle.dns_symbol.specs.declared.symbol.Symbol.{Symbol}
-use Rattle.dns_symbol.specs.declared.symbol.SymbolCharsError.{SymbolCharsError}
+use Rattle.dns_symbol.specs.declared.error.SymbolCharsError.{SymbolCharsError}
 use Rattle.dns_charstr.specs.declared.charstr.error.PresentationError.TheVariants.{LongString, SymbolChars, BadSymbol}
 use Rattle.dns_charstr.specs.declared.charstr.error.FromStrError.{FromStrError}
 use Rattle.dns_charstr.specs.declared.charstr.error.FromStrError.TheVariants.{Presentation, ShortBuf}
@@ -29,15 +30,15 @@ pub record GoesOn (text octets : List ℕ) (x : Symbol) : Type 0 where
   pub error : Option SymbolCharsError
   pub read : SymbolsOf text (front ++ x ∷ others) error
 
--- what reading a text answers, where `sure` octets surely fit and `most` ever do: its octets, or the first refusal, with the octets before it
-abbrev pub ReadsText : ℕ → ℕ → List ℕ → Result (List ℕ) FromStrError → Type 0
-ReadsText sure most text (Ok octets) = HasOctets text octets × (length octets ≤ max_string) × (length octets ≤ most)
-ReadsText sure most text (Err (Presentation (SymbolChars e))) =
-    (octets : List ℕ) × BreaksOff text octets e × (length octets ≤ max_string) × (length octets ≤ most)
-ReadsText sure most text (Err (Presentation LongString)) =
-    (octets : List ℕ) × (x : Symbol) × GoesOn text octets x × (length octets ≡ max_string) × (length octets ≤ most)
-ReadsText sure most text (Err (Presentation (BadSymbol e))) =
-    (octets : List ℕ) × (x : Symbol) × GoesOn text octets x × (length octets < max_string) × (length octets ≤ most) × (octet_of x ≡ Err e)
-ReadsText sure most text (Err ShortBuf) =
-    (octets : List ℕ) × (x : Symbol) × (octet : ℕ) × GoesOn text octets x × (length octets < max_string) × (length octets ≤ most) × (octet_of x ≡ Ok octet)
-    × (sure ≤ length octets)
+-- what reading a text answers, in a builder with that room: its octets, or the first refusal, with the octets before it
+abbrev pub ReadsText : Room → List ℕ → Result (List ℕ) FromStrError → Type 0
+ReadsText room text (Ok octets) = HasOctets text octets × (length octets ≤ max_string) × (length octets ≤ room.capacity)
+ReadsText room text (Err (Presentation (SymbolChars e))) =
+    (octets : List ℕ) × BreaksOff text octets e × (length octets ≤ max_string) × (length octets ≤ room.capacity)
+ReadsText room text (Err (Presentation LongString)) =
+    (octets : List ℕ) × (x : Symbol) × GoesOn text octets x × (length octets ≡ max_string) × (length octets ≤ room.capacity)
+ReadsText room text (Err (Presentation (BadSymbol e))) =
+    (octets : List ℕ) × (x : Symbol) × GoesOn text octets x × (length octets < max_string) × (length octets ≤ room.capacity) × (octet_of x ≡ Err e)
+ReadsText room text (Err ShortBuf) =
+    (octets : List ℕ) × (x : Symbol) × (octet : ℕ) × GoesOn text octets x × (length octets < max_string) × (length octets ≤ room.capacity) × (octet_of x ≡ Ok octet)
+    × (room.fits ≤ length octets)

@@ -1,5 +1,6 @@
 -- The wire form of a character string.
 use Rattle.std.specs.Prelude.{◌≡◌, ℕ, ◌+◌, ◌<◌, ◌≤◌, ◌⊎◌, List, [], ◌∷◌, ◌++◌, length}
+use Rattle.dns_octets.specs.Room.{Room}
 
 -- one octet for the length, then the octets
 abbrev pub wire_of : List ℕ → List ℕ
@@ -10,6 +11,6 @@ abbrev pub BeginsNone : List ℕ → Type 0
 BeginsNone front = (octets more : List ℕ) → front ≡ wire_of octets ++ more → ⊥
 
 -- what a refused append leaves: the octets as they were, if the length octet didn't surely fit; or these and the length octet, if the whole wire form didn't
-abbrev pub IsLeft : ℕ → ℕ → List ℕ → List ℕ → List ℕ → Type 0
-IsLeft sure most octets old new =
-    ((new ≡ old) × (sure ≤ length old)) ⊎ ((new ≡ old ++ length octets ∷ []) × (length new ≤ most) × (sure < length old + length (wire_of octets)))
+abbrev pub IsLeft : Room → List ℕ → List ℕ → List ℕ → Type 0
+IsLeft room octets old new =
+    ((new ≡ old) × (room.fits ≤ length old)) ⊎ ((new ≡ old ++ length octets ∷ []) × (length new ≤ room.capacity) × (room.fits < length old + length (wire_of octets)))

@@ -205,8 +205,8 @@ impl<Octs: AsOctets> CharStr<Octs> {
     where
         Octs: FromBuilder,
         <Octs as FromBuilder>::Builder: EmptyBuilder + FreezeBuilder<Octets = Octs> + Drop,
-        ensures reads { ReadsText Octs.Builder.sure Octs.Builder.most text.now result }
-        ensures succeeds { (octets : List ℕ) → HasOctets text.now octets → length octets ≤ Octs.Builder.sure
+        ensures reads { ReadsText Octs.Builder.room text.now result }
+        ensures succeeds { (octets : List ℕ) → HasOctets text.now octets → length octets ≤ Octs.Builder.room.fits
             → length octets ≤ max_string → result ≡ Ok octets }
     {
         Self::read_symbols(alloc, text)
@@ -219,7 +219,7 @@ impl<Octs: AsOctets> CharStr<Octs> {
     where
         Octs: FromBuilder,
         <Octs as FromBuilder>::Builder: EmptyBuilder + FreezeBuilder<Octets = Octs> + Drop,
-        ensures { ReadsText Octs.Builder.sure Octs.Builder.most text.now result }
+        ensures { ReadsText Octs.Builder.room text.now result }
     {
         let mut builder = CharStrBuilder::<<Octs as FromBuilder>::Builder>::new(alloc);
         let mut chars = text.chars();
@@ -258,9 +258,7 @@ impl<Octs: AsOctetsMut> AsOctetsMut for CharStr<Octs> {
 impl<S: AsOctets, Octs: OctetsFrom<S>> OctetsFrom<CharStr<S>> for CharStr<Octs> {
     type Alloc = <Octs as OctetsFrom<S>>::Alloc;
 
-    ghost takes = { Octs.takes };
-
-    ghost takes_at_most = { Octs.takes_at_most };
+    ghost room = { Octs.room };
 
     fn try_octets_from(alloc: Self::Alloc, source: CharStr<S>) -> Result<Self, ShortBuf> {
         Ok(CharStr {

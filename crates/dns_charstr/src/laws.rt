@@ -9,6 +9,7 @@ ghost use Rattle.dns_symbol.specs.declared.symbol.Symbol.{Symbol};
 ghost use Rattle.dns_charstr.specs.Printed.{quoted_text};
 ghost use Rattle.dns_charstr.specs.Reading.{HasOctets, ReadsText};
 ghost use Rattle.dns_octets.specs.Lowered.{lowered, same_lowered, lowered_order, hash_writes};
+ghost use Rattle.dns_octets.specs.Room.{Room, exactly};
 ghost use Rattle.dns_charstr.specs.Order.{wire_order};
 ghost use Rattle.dns_charstr.specs.declared.charstr.error.FromStrError.{FromStrError};
 ghost use Rattle.dns_charstr.specs.declared.charstr.error.FromStrError.TheVariants.{ShortBuf};
@@ -52,9 +53,9 @@ pub fn unquoted_text_is_a_word(octets: &[u8])
 /// are those that ever do, reading any text has one answer.
 pub fn texts_have_one_reading(text: &str)
     ensures octets { (xs ys : List ℕ) → HasOctets text.now xs → HasOctets text.now ys → xs ≡ ys }
-    ensures whole { (sure most : ℕ) (octets : List ℕ) (r : Result (List ℕ) FromStrError) → ReadsText sure most text.now r
-        → HasOctets text.now octets → length octets ≤ max_string → (r ≡ Ok octets) ⊎ ((r ≡ Err ShortBuf) × (sure < length octets)) }
-    ensures answer { (room : ℕ) (q r : Result (List ℕ) FromStrError) → ReadsText room room text.now q → ReadsText room room text.now r → q ≡ r }
+    ensures whole { (room : Room) (octets : List ℕ) (r : Result (List ℕ) FromStrError) → ReadsText room text.now r
+        → HasOctets text.now octets → length octets ≤ max_string → (r ≡ Ok octets) ⊎ ((r ≡ Err ShortBuf) × (room.fits < length octets)) }
+    ensures answer { (size : ℕ) (q r : Result (List ℕ) FromStrError) → ReadsText (exactly size) text.now q → ReadsText (exactly size) text.now r → q ≡ r }
 {
     let _text = text;
 }

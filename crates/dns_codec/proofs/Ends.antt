@@ -10,8 +10,8 @@ use Rattle.dns_codec.specs.Errors.{or_else}
 use Rattle.dns_codec.specs.Grammar.{HaveValues, Decodes, may_end}
 use Rattle.dns_codec.specs.Group.{may_end_in}
 use Rattle.dns_codec.specs.Outcome.{short_buf_if, octet_count, may_stop, text_end_error, refusal}
-use Rattle.dns_codec.specs.declared.base64.DecodeError.{DecodeError}
-use Rattle.dns_codec.specs.declared.base64.DecodeError.TheVariants.{ShortInput}
+use Rattle.dns_codec.specs.declared.error.DecodeError.{DecodeError}
+use Rattle.dns_codec.specs.declared.error.DecodeError.TheVariants.{ShortInput}
 use Rattle.dns_codec.specs.declared.base64.Padding.{Padding}
 use Rattle.dns_codec.specs.declared.base64.Padding.TheVariants.{Absent, One, Complete}
 use Rattle.dns_codec.proofs.Numbers.{IsPlain, numbers, kinds}
@@ -21,8 +21,8 @@ use Rattle.dns_codec.proofs.Wholes.{whole-nil, HaveValues-length}
 
 -- why the text is refused at its end, and its value where it isn't
 pub record Ended (b : Base) (text octets digits : List ℕ) (padding : Padding) : Type 0 where
-  pub refusal_is : (room : ℕ) → length octets ≤ room
-      → refusal b room text ≡ (if may_end_in b digits padding then short_buf_if room (length octets + length (whole b.width digits)) else Some ShortInput)
+  pub refusal_is : (limit : ℕ) → length octets ≤ limit
+      → refusal b limit text ≡ (if may_end_in b digits padding then short_buf_if limit (length octets + length (whole b.width digits)) else Some ShortInput)
   pub decodes : may_end_in b digits padding ≡ true → Decodes b text (octets ++ whole b.width digits)
 
 pub where_it_ends : (ends : Bool) (x : Option DecodeError) → ends ≡ true → (if ends then x else Some ShortInput) ≡ x
@@ -100,10 +100,10 @@ pub ended : (b : Base) → IsEncoding b → (text os ps : List ℕ) (p : Padding
 ended b known text os ps p at =
     let s = stop b known text os ps p at in
     record {
-      refusal_is = λ room le.
-          ap (λ (x : Option DecodeError). or_else x (text_end_error b room text)) (no_cause b known text os ps p at room le)
-          ∙ ap (λ (x : Bool). if x then short_buf_if room (octet_count b text) else Some ShortInput) s.same
-          ∙ ap (λ n. if may_end_in b ps p then short_buf_if room n else Some ShortInput) (due_is b known text os ps p at);
+      refusal_is = λ limit le.
+          ap (λ (x : Option DecodeError). or_else x (text_end_error b limit text)) (no_cause b known text os ps p at limit le)
+          ∙ ap (λ (x : Bool). if x then short_buf_if limit (octet_count b text) else Some ShortInput) s.same
+          ∙ ap (λ n. if may_end_in b ps p then short_buf_if limit n else Some ShortInput) (due_is b known text os ps p at);
       decodes = s.decodes;
     }
 

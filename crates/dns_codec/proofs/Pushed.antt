@@ -5,19 +5,20 @@ use Rattle.std.specs.Prelude.{nat_le}
 use Rattle.std.specs.List.{find}
 use Rattle.std.proofs.lemmas.Bool.{cases_Bool, eqb-true, eqb-false}
 use Rattle.std.proofs.lemmas.List.{reverse-append}
+use Rattle.dns_octets.specs.Room.{Room}
 use Rattle.dns_codec.specs.Base.{Base, base16, base32hex, value, IsEncoding}
 use Rattle.dns_codec.specs.Errors.{or_else}
 use Rattle.dns_codec.specs.Grammar.{HaveValues}
 use Rattle.dns_codec.specs.Group.{Group, Step, refused, step_other, step_in, step_from, step}
 use Rattle.dns_codec.specs.Decoding.{DecoderState, IsNew, PushesAfter, Pushes, Runs, short, end_error, Ends}
 use Rattle.dns_codec.specs.Outcome.{short_buf_if, grouped, char_error, first_char_error, last_illegal, legal_count, stored_by, stored, refusal, pushed_refusal, Outcome, IsPushed}
-use Rattle.dns_codec.specs.Room.{IsRoom}
-use Rattle.dns_codec.specs.declared.base64.DecodeError.{DecodeError}
-use Rattle.dns_codec.specs.declared.base64.DecodeError.TheVariants.{IllegalChar}
+use Rattle.dns_codec.specs.Limit.{IsLimit}
+use Rattle.dns_codec.specs.declared.error.DecodeError.{DecodeError}
+use Rattle.dns_codec.specs.declared.error.DecodeError.TheVariants.{IllegalChar}
 use Rattle.dns_codec.specs.declared.base64.Padding.{Padding}
 use Rattle.dns_codec.specs.declared.base64.Padding.TheVariants.{Absent, One, Complete}
 use Rattle.dns_codec.proofs.Causes.{cases_error, want_enough, want_more, first_here, first_char_error-append, find_last, find_before, find_none_append, count_by-append}
-use Rattle.dns_codec.proofs.Decoders.{Stands, any_room, one_push, decoded}
+use Rattle.dns_codec.proofs.Decoders.{Stands, any_limit, one_push, decoded}
 use Rattle.dns_codec.proofs.Marks.{legal, illegal}
 use Rattle.dns_codec.proofs.Numbers.{IsPlain, plain16, numbers, kinds, is_padded}
 use Rattle.dns_codec.proofs.Steps.{IsRead, lengths, plain_text, read_none, no_cause}
@@ -67,31 +68,31 @@ module _ (b : Base) (known : IsEncoding b) (plain : IsPlain b) where
       ]
 
   -- a push to a decoder that stored an error
-  later_push : (sure most : ℕ) (x : Option DecodeError) (d : DecoderState) (c : ℕ) (j : DecoderState) (e : DecodeError) → x ≡ Some e → PushesAfter b sure most x d c j
+  later_push : (room : Room) (x : Option DecodeError) (d : DecoderState) (c : ℕ) (j : DecoderState) (e : DecodeError) → x ≡ Some e → PushesAfter b room x d c j
       → j ≡ record { octets = d.octets; group = (step b d.group c).group; error = or_else (step b d.group c).error (Some e) }
-  later_push sure most None d c j e is push = cc is
-  later_push sure most (Some f) d c j e is push =
+  later_push room None d c j e is push = cc is
+  later_push room (Some f) d c j e is push =
       let same : f ≡ e = cc is in
       let s : Step = step b d.group c in
       subst (λ (g : DecodeError). j ≡ record { octets = d.octets; group = s.group; error = or_else s.error (Some g) }) same
       (subst (λ (x : Bool). j ≡ (if x then d else record { octets = d.octets; group = s.group; error = or_else s.error (Some f) })) plain.goes_on push)
 
-  later_error : (sure most : ℕ) (d : DecoderState) (c : ℕ) (j : DecoderState) (e : DecodeError) → d.group.padding ≡ Absent → d.error ≡ Some e → Pushes b sure most d c j
+  later_error : (room : Room) (d : DecoderState) (c : ℕ) (j : DecoderState) (e : DecodeError) → d.group.padding ≡ Absent → d.error ≡ Some e → Pushes b room d c j
       → j.error ≡ or_else (illegal_in c (value b c)) (Some e)
-  later_error sure most d c j e absent is push =
-      ap (λ (k : DecoderState). k.error) (later_push sure most d.error d c j e is push)
+  later_error room d c j e absent is push =
+      ap (λ (k : DecoderState). k.error) (later_push room d.error d c j e is push)
       ∙ ap (λ (p : Padding). or_else (step_from b d.group.digits p c (value b c)).error (Some e)) absent
       ∙ ap (λ (x : Option DecodeError). or_else x (Some e)) (step_error d.group.digits c (value b c))
 
-  push_group : (sure most : ℕ) (x : Option DecodeError) (d : DecoderState) (c : ℕ) (j : DecoderState) → PushesAfter b sure most x d c j → j.group ≡ (step b d.group c).group
-  push_group sure most None d c j push = push.group
-  push_group sure most (Some e) d c j push = ap (λ (k : DecoderState). k.group) (later_push sure most (Some e) d c j e refl push)
+  push_group : (room : Room) (x : Option DecodeError) (d : DecoderState) (c : ℕ) (j : DecoderState) → PushesAfter b room x d c j → j.group ≡ (step b d.group c).group
+  push_group room None d c j push = push.group
+  push_group room (Some e) d c j push = ap (λ (k : DecoderState). k.group) (later_push room (Some e) d c j e refl push)
 
-  push_count : (sure most : ℕ) (text : List ℕ) (d : DecoderState) (c : ℕ) (j : DecoderState) → Pushes b sure most d c j → d.group.padding ≡ Absent
+  push_count : (room : Room) (text : List ℕ) (d : DecoderState) (c : ℕ) (j : DecoderState) → Pushes b room d c j → d.group.padding ≡ Absent
       → length d.group.digits ≡ legal_count b text % b.group
       → (j.group.padding ≡ Absent) × (length j.group.digits ≡ legal_count b (text ++ c ∷ []) % b.group)
-  push_count sure most text d c j push absent count =
-      subst (λ (g : Group). (g.padding ≡ Absent) × (length g.digits ≡ legal_count b (text ++ c ∷ []) % b.group)) (sym (push_group sure most d.error d c j push))
+  push_count room text d c j push absent count =
+      subst (λ (g : Group). (g.padding ≡ Absent) × (length g.digits ≡ legal_count b (text ++ c ∷ []) % b.group)) (sym (push_group room d.error d c j push))
       (subst (λ (p : Padding). let g = (step_from b d.group.digits p c (value b c)).group in (g.padding ≡ Absent) × (length g.digits ≡ legal_count b (text ++ c ∷ []) % b.group)) (sym absent)
       (step_count text d.group.digits c (value b c) refl count))
 
@@ -121,37 +122,37 @@ module _ (b : Base) (known : IsEncoding b) (plain : IsPlain b) where
   pub text_valued : (text os ps : List ℕ) → (at : IsRead b text os ps Absent) → HaveValues b text (at.front ++ ps)
   text_valued text os ps at = rw (← plain_text b text os ps at) at at.valued
 
-  stored_last : (room : ℕ) (text : List ℕ) → stored b room text ≡ stored_by b room (length text) (last_illegal b text)
-  stored_last room text = ap (λ (x : Bool). if x then first_char_error (char_error b room) [] text else stored_by b room (length text) (last_illegal b text)) plain.goes_on
+  stored_last : (limit : ℕ) (text : List ℕ) → stored b limit text ≡ stored_by b limit (length text) (last_illegal b text)
+  stored_last limit text = ap (λ (x : Bool). if x then first_char_error (char_error b limit) [] text else stored_by b limit (length text) (last_illegal b text)) plain.goes_on
 
-  pub legal_stored : (room : ℕ) (text ps : List ℕ) → HaveValues b text ps → stored b room text ≡ short_buf_if room (grouped b (length text))
-  legal_stored room text ps n = stored_last room text ∙ ap (stored_by b room (length text)) (none_illegal text ps n)
+  pub legal_stored : (limit : ℕ) (text ps : List ℕ) → HaveValues b text ps → stored b limit text ≡ short_buf_if limit (grouped b (length text))
+  legal_stored limit text ps n = stored_last limit text ∙ ap (stored_by b limit (length text)) (none_illegal text ps n)
 
-  stored_now : (room : ℕ) (text ps : List ℕ) (c : ℕ) (e : DecodeError) (o : Option ℕ) → value b c ≡ o → HaveValues b text ps → char_error b room text c ≡ Some e
-      → stored b room (text ++ c ∷ []) ≡ Some e
-  stored_now room text ps c e None is valued why =
+  stored_now : (limit : ℕ) (text ps : List ℕ) (c : ℕ) (e : DecodeError) (o : Option ℕ) → value b c ≡ o → HaveValues b text ps → char_error b limit text c ≡ Some e
+      → stored b limit (text ++ c ∷ []) ≡ Some e
+  stored_now limit text ps c e None is valued why =
       let hit : is_none (value b c) ≡ true = rw is refl in
-      stored_last room (text ++ c ∷ []) ∙ ap (stored_by b room (length (text ++ c ∷ []))) (find_last (λ x. is_none (value b x)) text c hit)
-      ∙ sym (illegal b known room text ps c valued is (plain_test c (length text % b.group))) ∙ why
-  stored_now room text ps c e (Some v) is valued why =
+      stored_last limit (text ++ c ∷ []) ∙ ap (stored_by b limit (length (text ++ c ∷ []))) (find_last (λ x. is_none (value b x)) text c hit)
+      ∙ sym (illegal b known limit text ps c valued is (plain_test c (length text % b.group))) ∙ why
+  stored_now limit text ps c e (Some v) is valued why =
       let len = length-append text (c ∷ []) in
-      legal_stored room (text ++ c ∷ []) (ps ++ v ∷ []) (HaveValues-push b text ps c v valued is) ∙ ap (λ n. short_buf_if room (grouped b n)) len ∙ sym (legal b known room text ps c v valued is) ∙ why
+      legal_stored limit (text ++ c ∷ []) (ps ++ v ∷ []) (HaveValues-push b text ps c v valued is) ∙ ap (λ n. short_buf_if limit (grouped b n)) len ∙ sym (legal b known limit text ps c v valued is) ∙ why
 
-  stored_more : (room : ℕ) (text : List ℕ) (c : ℕ) (e : DecodeError) (o : Option ℕ) → stored_by b room (length text) o ≡ Some e → stored_by b room (length (text ++ c ∷ [])) o ≡ Some e
-  stored_more room text c e (Some d) held = held
-  stored_more room text c e None held =
+  stored_more : (limit : ℕ) (text : List ℕ) (c : ℕ) (e : DecodeError) (o : Option ℕ) → stored_by b limit (length text) o ≡ Some e → stored_by b limit (length (text ++ c ∷ [])) o ≡ Some e
+  stored_more limit text c e (Some d) held = held
+  stored_more limit text c e None held =
       let grows = (numbers b known).grouped_grows (length text) (length (text ++ c ∷ [])) (omega (arith, length-append text (c ∷ []))) in
-      want_more room (grouped b (length text)) (grouped b (length (text ++ c ∷ []))) e grows held
+      want_more limit (grouped b (length text)) (grouped b (length (text ++ c ∷ []))) e grows held
 
   -- a stored error stays, or a later illegal character takes its place
-  stored_later : (room : ℕ) (text : List ℕ) (c : ℕ) (e : DecodeError) (o : Option ℕ) → value b c ≡ o → stored b room text ≡ Some e → stored b room (text ++ c ∷ []) ≡ or_else (illegal_in c o) (Some e)
-  stored_later room text c e None is held =
+  stored_later : (limit : ℕ) (text : List ℕ) (c : ℕ) (e : DecodeError) (o : Option ℕ) → value b c ≡ o → stored b limit text ≡ Some e → stored b limit (text ++ c ∷ []) ≡ or_else (illegal_in c o) (Some e)
+  stored_later limit text c e None is held =
       let hit : is_none (value b c) ≡ true = rw is refl in
-      stored_last room (text ++ c ∷ []) ∙ ap (stored_by b room (length (text ++ c ∷ []))) (find_last (λ x. is_none (value b x)) text c hit)
-  stored_later room text c e (Some v) is held =
+      stored_last limit (text ++ c ∷ []) ∙ ap (stored_by b limit (length (text ++ c ∷ []))) (find_last (λ x. is_none (value b x)) text c hit)
+  stored_later limit text c e (Some v) is held =
       let miss : is_none (value b c) ≡ false = rw is refl in
-      stored_last room (text ++ c ∷ []) ∙ ap (stored_by b room (length (text ++ c ∷ []))) (find_before (λ x. is_none (value b x)) text c miss)
-      ∙ stored_more room text c e (last_illegal b text) (sym (stored_last room text) ∙ held)
+      stored_last limit (text ++ c ∷ []) ∙ ap (stored_by b limit (length (text ++ c ∷ []))) (find_before (λ x. is_none (value b x)) text c miss)
+      ∙ stored_more limit text c e (last_illegal b text) (sym (stored_last limit text) ∙ held)
 
 -- ---- a stored error stays
 
@@ -159,10 +160,10 @@ some_or : (x : Option DecodeError) (e : DecodeError) → IsSome (or_else x (Some
 some_or None e = refl
 some_or (Some f) e = refl
 
-kept_after : (b : Base) (sure most : ℕ) (x : Option DecodeError) (old new : DecoderState) (c : ℕ) → old.error ≡ x → IsSome x → PushesAfter b sure most x old c new
+kept_after : (b : Base) (room : Room) (x : Option DecodeError) (old new : DecoderState) (c : ℕ) → old.error ≡ x → IsSome x → PushesAfter b room x old c new
     → (new.octets ≡ old.octets) × IsSome new.error × (b.keeps_first ≡ true → new ≡ old)
-kept_after b sure most None old new c is some push = let bad = some in cc bad
-kept_after b sure most (Some e) old new c is some push =
+kept_after b room None old new c is some push = let bad = some in cc bad
+kept_after b room (Some e) old new c is some push =
     let s : Step = step b old.group c in
     let other : DecoderState = record { octets = old.octets; group = s.group; error = or_else s.error (Some e) } in
     elim (cases_Bool b.keeps_first) [
@@ -177,18 +178,18 @@ kept_after b sure most (Some e) old new c is some push =
           )
     ]
 
-pub kept : (b : Base) (sure most : ℕ) (old new : DecoderState) (c : ℕ) → IsSome old.error → Pushes b sure most old c new
+pub kept : (b : Base) (room : Room) (old new : DecoderState) (c : ℕ) → IsSome old.error → Pushes b room old c new
     → (new.octets ≡ old.octets) × IsSome new.error × (b.keeps_first ≡ true → new ≡ old)
-kept b sure most old new c some push = kept_after b sure most old.error old new c refl some push
+kept b room old new c some push = kept_after b room old.error old new c refl some push
 
-pub replaced : (b : Base) → IsEncoding b → (sure most : ℕ) (old new : DecoderState) (c : ℕ) → old.group.padding ≡ Absent → IsSome old.error → Pushes b sure most old c new
+pub replaced : (b : Base) → IsEncoding b → (room : Room) (old new : DecoderState) (c : ℕ) → old.group.padding ≡ Absent → IsSome old.error → Pushes b room old c new
     → (new.error ≡ old.error) ⊎ ((value b c ≡ None) × (new.error ≡ Some (IllegalChar c)))
-replaced b known sure most old new c absent some push = elim (kinds b known) [
+replaced b known room old new c absent some push = elim (kinds b known) [
   | inl plain ↦ elim (cases_error old.error) [
     | inl none ↦ let bad : IsSome {T = DecodeError} None = subst (λ (x : Option DecodeError). IsSome x) none some in cc bad
-    | inr is ↦ by (value b c) refl (later_error b known plain sure most old c new is.0 absent is.1 push) is.1
+    | inr is ↦ by (value b c) refl (later_error b known plain room old c new is.0 absent is.1 push) is.1
   ]
-  | inr same ↦ inl (ap (λ (d : DecoderState). d.error) ((kept b sure most old new c some push).2 (is_padded b same).1))
+  | inr same ↦ inl (ap (λ (d : DecoderState). d.error) ((kept b room old new c some push).2 (is_padded b same).1))
 ]
   where
     by : {e : DecodeError} (o : Option ℕ) → value b c ≡ o → new.error ≡ or_else (illegal_in c o) (Some e) → old.error ≡ Some e
@@ -211,112 +212,112 @@ end_some b k some is = elim (cases_Bool b.ends_first) [
   | inr later ↦ some_first k.error _ some (subst (λ (x : Bool). (if x then or_else (short b k.group) k.error else or_else k.error (short b k.group)) ≡ None) later is)
 ]
 
-pub end_kept : (b : Base) (sure most : ℕ) (k : DecoderState) (r : Result (List ℕ) DecodeError) → IsSome k.error → Ends b sure most k r → IsErr r
-end_kept b sure most k (Ok octets) some end = absurd (end_some b k some end.0)
-end_kept b sure most k (Err e) some end = refl
+pub end_kept : (b : Base) (room : Room) (k : DecoderState) (r : Result (List ℕ) DecodeError) → IsSome k.error → Ends b room k r → IsErr r
+end_kept b room k (Ok octets) some end = absurd (end_some b k some end.0)
+end_kept b room k (Err e) some end = refl
 
 -- ---- the error that is stored
 
 -- in base 64 it is the first
-stored_first : (b : Base) (room : ℕ) (text : List ℕ) → b.keeps_first ≡ true → stored b room text ≡ first_char_error (char_error b room) [] text
-stored_first b room text keeps = ap (λ (x : Bool). if x then first_char_error (char_error b room) [] text else stored_by b room (length text) (last_illegal b text)) keeps
+stored_first : (b : Base) (limit : ℕ) (text : List ℕ) → b.keeps_first ≡ true → stored b limit text ≡ first_char_error (char_error b limit) [] text
+stored_first b limit text keeps = ap (λ (x : Bool). if x then first_char_error (char_error b limit) [] text else stored_by b limit (length text) (last_illegal b text)) keeps
 
-pub stored_none : (b : Base) → IsEncoding b → (text os ps : List ℕ) (p : Padding) → IsRead b text os ps p → (room : ℕ) → length os ≤ room → stored b room text ≡ None
-stored_none b known text os ps p at room le = elim (kinds b known) [
+pub stored_none : (b : Base) → IsEncoding b → (text os ps : List ℕ) (p : Padding) → IsRead b text os ps p → (limit : ℕ) → length os ≤ limit → stored b limit text ≡ None
+stored_none b known text os ps p at limit le = elim (kinds b known) [
   | inl plain ↦
       let alone = (read_plain b known plain text os ps p at).1 in
       let n = lengths b text os ps Absent alone in
       let len : length text ≡ length alone.front + length ps = ap length (plain_text b text os ps alone) ∙ n.chars_are in
       let fits : grouped b (length text) ≡ length os = (numbers b known).grouped_at (length text) (length alone.front) (length ps) len alone.counts.2 alone.counts.1 ∙ sym n.octets_are in
-      legal_stored b known plain room text (alone.front ++ ps) (text_valued b known plain text os ps alone) ∙ want_enough room (grouped b (length text)) (rw fits le)
-  | inr same ↦ stored_first b room text (is_padded b same).1 ∙ no_cause b known text os ps p at room le
+      legal_stored b known plain limit text (alone.front ++ ps) (text_valued b known plain text os ps alone) ∙ want_enough limit (grouped b (length text)) (rw fits le)
+  | inr same ↦ stored_first b limit text (is_padded b same).1 ∙ no_cause b known text os ps p at limit le
 ]
 
-stored_here : (b : Base) → IsEncoding b → (text os ps : List ℕ) (p : Padding) (c : ℕ) (e : DecodeError) → IsRead b text os ps p → (room : ℕ) → length os ≤ room → char_error b room text c ≡ Some e
-    → stored b room (text ++ c ∷ []) ≡ Some e
-stored_here b known text os ps p c e at room le why = elim (kinds b known) [
+stored_here : (b : Base) → IsEncoding b → (text os ps : List ℕ) (p : Padding) (c : ℕ) (e : DecodeError) → IsRead b text os ps p → (limit : ℕ) → length os ≤ limit → char_error b limit text c ≡ Some e
+    → stored b limit (text ++ c ∷ []) ≡ Some e
+stored_here b known text os ps p c e at limit le why = elim (kinds b known) [
   | inl plain ↦
       let alone = (read_plain b known plain text os ps p at).1 in
-      stored_now b known plain room text (alone.front ++ ps) c e (value b c) refl (text_valued b known plain text os ps alone) why
-  | inr same ↦ stored_first b room (text ++ c ∷ []) (is_padded b same).1 ∙ first_here (char_error b room) text [] c e (no_cause b known text os ps p at room le) why
+      stored_now b known plain limit text (alone.front ++ ps) c e (value b c) refl (text_valued b known plain text os ps alone) why
+  | inr same ↦ stored_first b limit (text ++ c ∷ []) (is_padded b same).1 ∙ first_here (char_error b limit) text [] c e (no_cause b known text os ps p at limit le) why
 ]
 
 -- ---- lists of pushes
 
 -- what stands after a text that was pushed
-pub record Reached (b : Base) (sure most : ℕ) (text : List ℕ) (d : DecoderState) : Type 0 where
-  pub room : ℕ
-  pub is_room : IsRoom sure most room
-  pub stored_is : d.error ≡ stored b room text
-  pub stands : d.error ≡ None → Stands b sure most text d
+pub record Reached (b : Base) (room : Room) (text : List ℕ) (d : DecoderState) : Type 0 where
+  pub limit : ℕ
+  pub is_limit : IsLimit room limit
+  pub stored_is : d.error ≡ stored b limit text
+  pub stands : d.error ≡ None → Stands b room text d
   pub counted : IsPlain b → (d.group.padding ≡ Absent) × (length d.group.digits ≡ legal_count b text % b.group)
 
-stands_reached : (b : Base) → IsEncoding b → (sure most : ℕ) (text : List ℕ) (d : DecoderState) → Stands b sure most text d
-    → (IsPlain b → (d.group.padding ≡ Absent) × (length d.group.digits ≡ legal_count b text % b.group)) → Reached b sure most text d
-stands_reached b known sure most text d at counted = record {
-  room = max sure most;
-  is_room = any_room sure most;
-  stored_is = at.quiet ∙ sym (stored_none b known text d.octets d.group.digits d.group.padding at.read (max sure most) at.held);
+stands_reached : (b : Base) → IsEncoding b → (room : Room) (text : List ℕ) (d : DecoderState) → Stands b room text d
+    → (IsPlain b → (d.group.padding ≡ Absent) × (length d.group.digits ≡ legal_count b text % b.group)) → Reached b room text d
+stands_reached b known room text d at counted = record {
+  limit = max room.fits room.capacity;
+  is_limit = any_limit room;
+  stored_is = at.quiet ∙ sym (stored_none b known text d.octets d.group.digits d.group.padding at.read (max room.fits room.capacity) at.held);
   stands = λ none. at;
   counted = counted;
 }
 
 -- an error is stored, and one more character is pushed
-stays : (b : Base) → IsEncoding b → (sure most room : ℕ) (text : List ℕ) (d : DecoderState) (c : ℕ) (j : DecoderState) (e : DecodeError) → (IsPlain b → d.group.padding ≡ Absent)
-    → d.error ≡ Some e → stored b room text ≡ Some e
-    → Pushes b sure most d c j → (j.error ≡ stored b room (text ++ c ∷ [])) × IsSome j.error
-stays b known sure most room text d c j e absent is held push = elim (kinds b known) [
+stays : (b : Base) → IsEncoding b → (room : Room) (limit : ℕ) (text : List ℕ) (d : DecoderState) (c : ℕ) (j : DecoderState) (e : DecodeError) → (IsPlain b → d.group.padding ≡ Absent)
+    → d.error ≡ Some e → stored b limit text ≡ Some e
+    → Pushes b room d c j → (j.error ≡ stored b limit (text ++ c ∷ [])) × IsSome j.error
+stays b known room limit text d c j e absent is held push = elim (kinds b known) [
   | inl plain ↦
-      let now = later_error b known plain sure most d c j e (absent plain) is push in
-      let later = stored_later b known plain room text c e (value b c) refl held in
+      let now = later_error b known plain room d c j e (absent plain) is push in
+      let later = stored_later b known plain limit text c e (value b c) refl held in
       (now ∙ sym later, subst (λ (x : Option DecodeError). IsSome x) (sym now) (some_or (illegal_in c (value b c)) e))
   | inr same ↦
       let padded = is_padded b same in
-      let kept_is = kept b sure most d j c (subst (λ (x : Option DecodeError). IsSome x) (sym is) refl) push in
+      let kept_is = kept b room d j c (subst (λ (x : Option DecodeError). IsSome x) (sym is) refl) push in
       let now : j.error ≡ Some e = ap (λ (k : DecoderState). k.error) (kept_is.2 padded.1) ∙ is in
-      let first = sym (stored_first b room text padded.1) ∙ held in
-      let later = first_char_error-append (char_error b room) [] text (c ∷ []) ∙ ap (λ (x : Option DecodeError). or_else x (first_char_error (char_error b room) text (c ∷ []))) first in
-      (now ∙ sym (stored_first b room (text ++ c ∷ []) padded.1 ∙ later), kept_is.1)
+      let first = sym (stored_first b limit text padded.1) ∙ held in
+      let later = first_char_error-append (char_error b limit) [] text (c ∷ []) ∙ ap (λ (x : Option DecodeError). or_else x (first_char_error (char_error b limit) text (c ∷ []))) first in
+      (now ∙ sym (stored_first b limit (text ++ c ∷ []) padded.1 ∙ later), kept_is.1)
 ]
 
-reach_push : (b : Base) → IsEncoding b → (sure most : ℕ) (text : List ℕ) (d : DecoderState) (c : ℕ) (j : DecoderState) → Reached b sure most text d → Pushes b sure most d c j
-    → Reached b sure most (text ++ c ∷ []) j
-reach_push b known sure most text d c j at push =
+reach_push : (b : Base) → IsEncoding b → (room : Room) (text : List ℕ) (d : DecoderState) (c : ℕ) (j : DecoderState) → Reached b room text d → Pushes b room d c j
+    → Reached b room (text ++ c ∷ []) j
+reach_push b known room text d c j at push =
     let counted : IsPlain b → (j.group.padding ≡ Absent) × (length j.group.digits ≡ legal_count b (text ++ c ∷ []) % b.group) =
-    λ plain. push_count b known plain sure most text d c j push (at.counted plain).0 (at.counted plain).1 in
+    λ plain. push_count b known plain room text d c j push (at.counted plain).0 (at.counted plain).1 in
     elim (cases_error d.error) [
       | inl none ↦
           let stands = at.stands none in
-          elim (one_push b known sure most text d c j stands push) [
-            | inl next ↦ stands_reached b known sure most (text ++ c ∷ []) j next counted
+          elim (one_push b known room text d c j stands push) [
+            | inl next ↦ stands_reached b known room (text ++ c ∷ []) j next counted
             | inr r ↦ record {
-              room = r.room;
-              is_room = r.is_room;
-              stored_is = r.stored_is ∙ sym (stored_here b known text d.octets d.group.digits d.group.padding c r.error stands.read r.room r.holds r.cause_is);
+              limit = r.limit;
+              is_limit = r.is_limit;
+              stored_is = r.stored_is ∙ sym (stored_here b known text d.octets d.group.digits d.group.padding c r.error stands.read r.limit r.holds r.cause_is);
               stands = λ quiet. let bad : Some r.error ≡ None = sym r.stored_is ∙ quiet in cc bad;
               counted = counted;
             }
           ]
       | inr some ↦
-          let k = stays b known sure most at.room text d c j some.0 (λ plain. (at.counted plain).0) some.1 (sym at.stored_is ∙ some.1) push in
+          let k = stays b known room at.limit text d c j some.0 (λ plain. (at.counted plain).0) some.1 (sym at.stored_is ∙ some.1) push in
           record {
-            room = at.room;
-            is_room = at.is_room;
+            limit = at.limit;
+            is_limit = at.is_limit;
             stored_is = k.0;
             stands = λ quiet. let bad : IsSome {T = DecodeError} None = subst (λ (x : Option DecodeError). IsSome x) quiet k.1 in cc bad;
             counted = counted;
           }
     ]
 
-runs_reached : (b : Base) → IsEncoding b → (sure most : ℕ) (text cs : List ℕ) (d k : DecoderState) → Reached b sure most text d → Runs b sure most d cs k → Reached b sure most (text ++ cs) k
-runs_reached b known sure most text [] d k at run = rw (append-nil, run) at
-runs_reached b known sure most text (c ∷ cs) d k at run =
-    rw append_assoc at (runs_reached b known sure most (text ++ c ∷ []) cs run.0 k (reach_push b known sure most text d c run.0 at run.1) run.2)
+runs_reached : (b : Base) → IsEncoding b → (room : Room) (text cs : List ℕ) (d k : DecoderState) → Reached b room text d → Runs b room d cs k → Reached b room (text ++ cs) k
+runs_reached b known room text [] d k at run = rw (append-nil, run) at
+runs_reached b known room text (c ∷ cs) d k at run =
+    rw append_assoc at (runs_reached b known room (text ++ c ∷ []) cs run.0 k (reach_push b known room text d c run.0 at run.1) run.2)
 
-new_reached : (b : Base) → IsEncoding b → (sure most : ℕ) (d : DecoderState) → IsNew d → Reached b sure most [] d
-new_reached b known sure most d new =
+new_reached : (b : Base) → IsEncoding b → (room : Room) (d : DecoderState) → IsNew d → Reached b room [] d
+new_reached b known room d new =
     let none : length d.octets ≡ 0 = ap length new.0 in
-    stands_reached b known sure most [] d
+    stands_reached b known room [] d
     (record {
       quiet = new.2;
       held = omega arith;
@@ -326,43 +327,43 @@ new_reached b known sure most d new =
 
 -- ---- the end
 
-same16 : (text os ps : List ℕ) (p : Padding) → IsRead base16 text os ps p → (room : ℕ) → length os ≤ room → pushed_refusal base16 room text ≡ refusal base16 room text
-same16 text os ps p at room le =
+same16 : (text os ps : List ℕ) (p : Padding) → IsRead base16 text os ps p → (limit : ℕ) → length os ≤ limit → pushed_refusal base16 limit text ≡ refusal base16 limit text
+same16 text os ps p at limit le =
     let known : IsEncoding base16 = inl refl in
     let alone = (read_plain base16 known plain16 text os ps p at).1 in
     let n = lengths base16 text os ps Absent alone in
     let len : length text ≡ length alone.front + length ps = ap length (plain_text base16 text os ps alone) ∙ n.chars_are in
     let legal = all_legal base16 known plain16 text (alone.front ++ ps) (text_valued base16 known plain16 text os ps alone) in
-    let first = no_cause base16 known text os ps p at room le in
+    let first = no_cause base16 known text os ps p at limit le in
     let made = n.octets_are in
     let closed = alone.counts.2 in
     let few = alone.counts.1 in
     elim (cases_Bool (length text % 2 == 0)) [
       | inl even ↦
           let zero : length text % 2 ≡ 0 = eqb-true (length text % 2) 0 even in
-          let fits : (length text - 0) * 4 / 8 ≤ room = omega arith in
-          rw (legal, zero, first) (stored_none base16 known text os ps p at room le ∙ sym (want_enough room ((length text - 0) * 4 / 8) fits))
+          let fits : (length text - 0) * 4 / 8 ≤ limit = omega arith in
+          rw (legal, zero, first) (stored_none base16 known text os ps p at limit le ∙ sym (want_enough limit ((length text - 0) * 4 / 8) fits))
       | inr odd ↦
           let other : length text % 2 ≡ 0 → ⊥ = eqb-false (length text % 2) 0 odd in
           let one : length text % 2 ≡ 1 = omega arith in
           rw (legal, one, first) refl
     ]
 
-same32 : (text os ps : List ℕ) (p : Padding) → IsRead base32hex text os ps p → (room : ℕ) → length os ≤ room → pushed_refusal base32hex room text ≡ refusal base32hex room text
-same32 text os ps p at room le =
+same32 : (text os ps : List ℕ) (p : Padding) → IsRead base32hex text os ps p → (limit : ℕ) → length os ≤ limit → pushed_refusal base32hex limit text ≡ refusal base32hex limit text
+same32 text os ps p at limit le =
     let known : IsEncoding base32hex = inr (inl refl) in
-    rw (stored_none base32hex known text os ps p at room le, no_cause base32hex known text os ps p at room le) refl
+    rw (stored_none base32hex known text os ps p at limit le, no_cause base32hex known text os ps p at limit le) refl
 
 -- a text without a cause is refused in one way, whether all of it was pushed or not
-pub same_refusal : (b : Base) → IsEncoding b → (text os ps : List ℕ) (p : Padding) → IsRead b text os ps p → (room : ℕ) → length os ≤ room → pushed_refusal b room text ≡ refusal b room text
+pub same_refusal : (b : Base) → IsEncoding b → (text os ps : List ℕ) (p : Padding) → IsRead b text os ps p → (limit : ℕ) → length os ≤ limit → pushed_refusal b limit text ≡ refusal b limit text
 same_refusal b (inl is) = rw is same16
 same_refusal b (inr (inl is)) = rw is same32
-same_refusal b (inr (inr is)) = rw is (λ text os ps p at room le. refl)
+same_refusal b (inr (inr is)) = rw is (λ text os ps p at limit le. refl)
 
-stored_end16 : (room : ℕ) (text : List ℕ) (k : DecoderState) (e : DecodeError) → k.group.padding ≡ Absent → length k.group.digits ≡ legal_count base16 text % 2 → k.error ≡ Some e
-    → stored base16 room text ≡ Some e
-    → pushed_refusal base16 room text ≡ end_error base16 k
-stored_end16 room text k e absent count is held = elim (cases_Bool (legal_count base16 text % 2 == 0)) [
+stored_end16 : (limit : ℕ) (text : List ℕ) (k : DecoderState) (e : DecodeError) → k.group.padding ≡ Absent → length k.group.digits ≡ legal_count base16 text % 2 → k.error ≡ Some e
+    → stored base16 limit text ≡ Some e
+    → pushed_refusal base16 limit text ≡ end_error base16 k
+stored_end16 limit text k e absent count is held = elim (cases_Bool (legal_count base16 text % 2 == 0)) [
   | inl even ↦
       let zero : legal_count base16 text % 2 ≡ 0 = eqb-true (legal_count base16 text % 2) 0 even in
       let size : length k.group.digits ≡ 0 = count ∙ zero in
@@ -375,39 +376,39 @@ stored_end16 room text k e absent count is held = elim (cases_Bool (legal_count 
 ]
 
 -- the end of a text that left an error
-stored_end : (b : Base) → IsEncoding b → (room : ℕ) (text : List ℕ) (k : DecoderState) (e : DecodeError)
+stored_end : (b : Base) → IsEncoding b → (limit : ℕ) (text : List ℕ) (k : DecoderState) (e : DecodeError)
     → (IsPlain b → (k.group.padding ≡ Absent) × (length k.group.digits ≡ legal_count b text % b.group)) → k.error ≡ Some e
-    → stored b room text ≡ Some e → pushed_refusal b room text ≡ end_error b k
-stored_end b (inl is) = rw is (λ room text k e counted some held.
+    → stored b limit text ≡ Some e → pushed_refusal b limit text ≡ end_error b k
+stored_end b (inl is) = rw is (λ limit text k e counted some held.
     let c = counted plain16 in
-    stored_end16 room text k e c.0 c.1 some held)
-stored_end b (inr (inl is)) = rw is (λ room text k e counted some held. rw (held, some) refl)
-stored_end b (inr (inr is)) = rw is (λ room text k e counted some held. rw (held, some) refl)
+    stored_end16 limit text k e c.0 c.1 some held)
+stored_end b (inr (inl is)) = rw is (λ limit text k e counted some held. rw (held, some) refl)
+stored_end b (inr (inr is)) = rw is (λ limit text k e counted some held. rw (held, some) refl)
 
-pub pushed : (b : Base) → IsEncoding b → (sure most : ℕ) (h k : DecoderState) (text : List ℕ) (r : Result (List ℕ) DecodeError) → IsNew h → Runs b sure most h text k → Ends b sure most k r
-    → IsPushed b (stored b) (pushed_refusal b) sure most text k.error r
-pushed b known sure most h k text r new run end =
-    let at = runs_reached b known sure most [] text h k (new_reached b known sure most h new) run in
+pub pushed : (b : Base) → IsEncoding b → (room : Room) (h k : DecoderState) (text : List ℕ) (r : Result (List ℕ) DecodeError) → IsNew h → Runs b room h text k → Ends b room k r
+    → IsPushed b (stored b) (pushed_refusal b) room text k.error r
+pushed b known room h k text r new run end =
+    let at = runs_reached b known room [] text h k (new_reached b known room h new) run in
     elim (cases_error k.error) [
       | inl none ↦
           let stands = at.stands none in
-          let o = decoded b known sure most text k r stands end in
+          let o = decoded b known room text k r stands end in
           record {
-            room = o.0;
-            is_room = o.1;
+            limit = o.0;
+            is_limit = o.1;
             stored_is = none ∙ sym (stored_none b known text k.octets k.group.digits k.group.padding stands.read o.0 o.2);
             outcome = subst (λ (x : Option DecodeError). Outcome b text x r) (sym (same_refusal b known text k.octets k.group.digits k.group.padding stands.read o.0 o.2)) o.3;
           }
       | inr some ↦ record {
-        room = at.room;
-        is_room = at.is_room;
+        limit = at.limit;
+        is_limit = at.is_limit;
         stored_is = at.stored_is;
-        outcome = subst (λ (x : Option DecodeError). Outcome b text x r) (sym (stored_end b known at.room text k some.0 at.counted some.1 (sym at.stored_is ∙ some.1)))
+        outcome = subst (λ (x : Option DecodeError). Outcome b text x r) (sym (stored_end b known at.limit text k some.0 at.counted some.1 (sym at.stored_is ∙ some.1)))
             (by r end (subst (λ (x : Option DecodeError). IsSome x) (sym some.1) refl));
       }
     ]
   where
-    by : (r : Result (List ℕ) DecodeError) → Ends b sure most k r → IsSome k.error → Outcome b text (end_error b k) r
+    by : (r : Result (List ℕ) DecodeError) → Ends b room k r → IsSome k.error → Outcome b text (end_error b k) r
     by (Ok octets) end some = absurd (end_some b k some end.0)
     by (Err e) (inl is) some = is
     by (Err e) (inr end) some = absurd (end_some b k some end.0)

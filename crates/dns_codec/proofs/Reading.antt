@@ -2,10 +2,11 @@
 use Rattle.std.proofs.Common.{◌≡◌, ℕ, suc, ◌<◌, ◌≤◌, List, [], ◌∷◌, ◌++◌, length, take, drop, map, get_or, refl, sym, ap, ◌∙◌, arith, Option, Some, None, drop-cons, Result, Ok, Err, IsOk, IfOk}
 use Rattle.std.proofs.Common.{IfErr, MatchResult}
 use Rattle.std.proofs.lemmas.List.{take-append-drop}
+use Rattle.dns_octets.specs.Room.{Room}
 use Rattle.dns_codec.specs.Base.{Base}
 use Rattle.dns_codec.specs.Grammar.{Decodes}
 use Rattle.dns_codec.specs.Outcome.{IsRefusedBy}
-use Rattle.dns_codec.specs.declared.base64.DecodeError.{DecodeError}
+use Rattle.dns_codec.specs.declared.error.DecodeError.{DecodeError}
 
 pub map-same : (xs : List ℕ) → map (λ c. c) xs ≡ xs
 map-same [] = refl
@@ -22,33 +23,33 @@ text_here all before c so_far at =
     sym (take-append-drop n all) ∙ (ap (λ xs. xs ++ drop n all) (sym front) ∙ ap (λ xs. before ++ xs) back)
 
 -- what `decode` answers: the value of a text of the grammar, or the text's error
-abbrev pub Decoded : Base → (ℕ → List ℕ → Option DecodeError) → ℕ → ℕ → List ℕ → Result (List ℕ) DecodeError → Type 0
-Decoded b refusal sure most text (Ok octets) = Decodes b text octets
-Decoded b refusal sure most text (Err e) = IsRefusedBy refusal sure most text e
+abbrev pub Decoded : Base → (ℕ → List ℕ → Option DecodeError) → Room → List ℕ → Result (List ℕ) DecodeError → Type 0
+Decoded b refusal room text (Ok octets) = Decodes b text octets
+Decoded b refusal room text (Err e) = IsRefusedBy refusal room text e
 
 -- a text that is read wherever there is room isn't refused
-pub never_refused : (refusal : ℕ → List ℕ → Option DecodeError) (sure most : ℕ) (text octets : List ℕ) (e : DecodeError)
-    → ((room : ℕ) → length octets ≤ room → refusal room text ≡ None) → length octets ≤ sure → IsRefusedBy refusal sure most text e → ⊥
-never_refused refusal sure most text octets e reads le by =
-    let low = by.is_room.surely in
-    let none = reads by.room (omega arith) in
+pub never_refused : (refusal : ℕ → List ℕ → Option DecodeError) (room : Room) (text octets : List ℕ) (e : DecodeError)
+    → ((limit : ℕ) → length octets ≤ limit → refusal limit text ≡ None) → length octets ≤ room.fits → IsRefusedBy refusal room text e → ⊥
+never_refused refusal room text octets e reads le by =
+    let low = by.is_limit.surely in
+    let none = reads by.limit (omega arith) in
     let bad : None ≡ Some e = sym none ∙ by.refused in
     cc bad
 
 -- the clauses of `decode`, from what its result is
-pub clauses : (b : Base) (refusal : ℕ → List ℕ → Option DecodeError) (sure most : ℕ) (text : List ℕ) {T : Type 0} (shown : T → List ℕ) (r : Result T DecodeError)
-    → ((octets : List ℕ) (room : ℕ) → Decodes b text octets → length octets ≤ room → refusal room text ≡ None)
-    → MatchResult r (λ o. Decoded b refusal sure most text (Ok (shown o))) (λ e. Decoded b refusal sure most text (Err e))
-    → IfOk r (λ o. Decodes b text (shown o)) × ((octets : List ℕ) → Decodes b text octets → length octets ≤ sure → IsOk r) × IfErr r (λ e. IsRefusedBy refusal sure most text e)
-clauses b refusal sure most text shown (Ok o) reads is = (is, λ octets d le. refl, tt)
-clauses b refusal sure most text shown (Err e) reads is =
-    (tt, λ octets d le. absurd (never_refused refusal sure most text octets e (λ room. reads octets room d) le is), is)
+pub clauses : (b : Base) (refusal : ℕ → List ℕ → Option DecodeError) (room : Room) (text : List ℕ) {T : Type 0} (shown : T → List ℕ) (r : Result T DecodeError)
+    → ((octets : List ℕ) (limit : ℕ) → Decodes b text octets → length octets ≤ limit → refusal limit text ≡ None)
+    → MatchResult r (λ o. Decoded b refusal room text (Ok (shown o))) (λ e. Decoded b refusal room text (Err e))
+    → IfOk r (λ o. Decodes b text (shown o)) × ((octets : List ℕ) → Decodes b text octets → length octets ≤ room.fits → IsOk r) × IfErr r (λ e. IsRefusedBy refusal room text e)
+clauses b refusal room text shown (Ok o) reads is = (is, λ octets d le. refl, tt)
+clauses b refusal room text shown (Err e) reads is =
+    (tt, λ octets d le. absurd (never_refused refusal room text octets e (λ limit. reads octets limit d) le is), is)
 
 -- what the result is, from what it is of lists
-pub finished : (b : Base) (refusal : ℕ → List ℕ → Option DecodeError) (sure most : ℕ) (text : List ℕ) {T : Type 0} (shown : T → List ℕ) (r : Result T DecodeError) (P : Result (List ℕ) DecodeError
+pub finished : (b : Base) (refusal : ℕ → List ℕ → Option DecodeError) (room : Room) (text : List ℕ) {T : Type 0} (shown : T → List ℕ) (r : Result T DecodeError) (P : Result (List ℕ) DecodeError
     → Type 0)
-    → ((s : Result (List ℕ) DecodeError) → P s → Decoded b refusal sure most text s)
+    → ((s : Result (List ℕ) DecodeError) → P s → Decoded b refusal room text s)
     → MatchResult r (λ o. P (Ok (shown o))) (λ e. P (Err e))
-    → MatchResult r (λ o. Decoded b refusal sure most text (Ok (shown o))) (λ e. Decoded b refusal sure most text (Err e))
-finished b refusal sure most text shown (Ok o) P by end = by (Ok (shown o)) end
-finished b refusal sure most text shown (Err e) P by end = by (Err e) end
+    → MatchResult r (λ o. Decoded b refusal room text (Ok (shown o))) (λ e. Decoded b refusal room text (Err e))
+finished b refusal room text shown (Ok o) P by end = by (Ok (shown o)) end
+finished b refusal room text shown (Err e) P by end = by (Err e) end

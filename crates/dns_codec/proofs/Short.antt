@@ -5,10 +5,11 @@ use Rattle.std.proofs.Math.Nat.{le-max_left}
 use Rattle.std.proofs.lemmas.Bool.{cases_lt}
 use Rattle.std.proofs.lemmas.Str.{chars-IsAscii, IsAscii-append}
 use Rattle.std.proofs.lemmas.Str.Ascii.{IsAscii-nil}
+use Rattle.dns_octets.specs.Room.{Room}
 use Rattle.dns_codec.specs.Base.{Base, IsEncoding}
 use Rattle.dns_codec.specs.Grammar.{HaveValues, Decodes}
 use Rattle.dns_codec.specs.Outcome.{refusal, IsRefusedBy}
-use Rattle.dns_codec.specs.declared.base64.DecodeError.TheVariants.{ShortBuf}
+use Rattle.dns_codec.specs.declared.error.DecodeError.TheVariants.{ShortBuf}
 use Rattle.dns_codec.proofs.Alphabets.{value-past}
 use Rattle.dns_codec.proofs.Causes.{cases_error}
 use Rattle.dns_codec.proofs.Each.{once}
@@ -34,14 +35,14 @@ chars_decodes b known text octets d =
     rw (chars-IsAscii text ascii) d
 
 -- a text of the grammar is refused for lack of room where its octets needn't fit
-pub wants_room : (b : Base) → IsEncoding b → (sure most : ℕ) (text octets : List ℕ)
-    → Decodes b text octets → (length octets ≤ sure → ⊥) → IsRefusedBy (refusal b) sure most text ShortBuf
-wants_room b known sure most text octets d over = elim (cases_error (refusal b sure text)) [
+pub wants_room : (b : Base) → IsEncoding b → (room : Room) (text octets : List ℕ)
+    → Decodes b text octets → (length octets ≤ room.fits → ⊥) → IsRefusedBy (refusal b) room text ShortBuf
+wants_room b known room text octets d over = elim (cases_error (refusal b room.fits text)) [
   | inl none ↦
-      let read = unrefused b known text sure none in
+      let read = unrefused b known text room.fits none in
       let same : read.0 ≡ octets = once b known text read.0 octets read.1 d in
       absurd (over (rw same at read.2))
   | inr some ↦
-      let is : some.0 ≡ ShortBuf = (wants b known text octets sure some.0 d).0 some.1 in
-      record { room = sure; is_room = record { surely = omega arith; within = le-max_left sure most }; refused = some.1 ∙ ap Some is }
+      let is : some.0 ≡ ShortBuf = (wants b known text octets room.fits some.0 d).0 some.1 in
+      record { limit = room.fits; is_limit = record { surely = omega arith; within = le-max_left room.fits room.capacity }; refused = some.1 ∙ ap Some is }
 ]

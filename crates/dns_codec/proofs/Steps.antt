@@ -10,8 +10,8 @@ use Rattle.dns_codec.specs.Errors.{or_else}
 use Rattle.dns_codec.specs.Grammar.{HaveValues}
 use Rattle.dns_codec.specs.Group.{Step, step_digit, step_other, step_after_one, step_from}
 use Rattle.dns_codec.specs.Outcome.{short_buf_if, grouped, pad_count, octet_count, char_error, first_char_error}
-use Rattle.dns_codec.specs.declared.base64.DecodeError.{DecodeError}
-use Rattle.dns_codec.specs.declared.base64.DecodeError.TheVariants.{IllegalChar, TrailingInput}
+use Rattle.dns_codec.specs.declared.error.DecodeError.{DecodeError}
+use Rattle.dns_codec.specs.declared.error.DecodeError.TheVariants.{IllegalChar, TrailingInput}
 use Rattle.dns_codec.specs.declared.base64.Padding.{Padding}
 use Rattle.dns_codec.specs.declared.base64.Padding.TheVariants.{Absent, One, Complete}
 use Rattle.dns_codec.proofs.Causes.{cases_value, or_else_none, want_enough}
@@ -90,18 +90,18 @@ due_is b known text os ps p at =
 
 -- ---- a text that is read has no cause
 
-half64_none : (text os ps : List ℕ) → IsRead base64 text os ps One → (room : ℕ) → length os ≤ room → first_char_error (char_error base64 room) [] text ≡ None
-half64_none text os ps at room le =
+half64_none : (text os ps : List ℕ) → IsRead base64 text os ps One → (limit : ℕ) → length os ≤ limit → first_char_error (char_error base64 limit) [] text ≡ None
+half64_none text os ps at limit le =
     let n = lengths base64 text os ps One at in
     let long = n.chars_are in
     let made = n.octets_are in
     let two = at.counts.2 in
     let four = at.counts.3 in
     let spelled : text ≡ at.chars ++ 61 ∷ [] = rw at.counts.1 at at.spelled in
-    rw spelled (after_one_none room at.chars (at.front ++ ps) at.valued (omega arith) (omega arith))
+    rw spelled (after_one_none limit at.chars (at.front ++ ps) at.valued (omega arith) (omega arith))
 
-done64_none : (text os ps : List ℕ) → IsRead base64 text os ps Complete → (room : ℕ) → length os ≤ room → first_char_error (char_error base64 room) [] text ≡ None
-done64_none text os ps at room le =
+done64_none : (text os ps : List ℕ) → IsRead base64 text os ps Complete → (limit : ℕ) → length os ≤ limit → first_char_error (char_error base64 limit) [] text ≡ None
+done64_none text os ps at limit le =
     let n = lengths base64 text os ps Complete at in
     let long = n.chars_are in
     let made = n.octets_are in
@@ -112,36 +112,36 @@ done64_none text os ps at room le =
       | inl single ↦
           let one : at.count ≡ 1 = eqb-true at.count 1 single in
           let spelled : text ≡ at.chars ++ 61 ∷ [] = rw one at at.spelled in
-          rw spelled (one_none room at.chars (at.front ++ ps) at.valued (omega arith) (omega arith))
+          rw spelled (one_none limit at.chars (at.front ++ ps) at.valued (omega arith) (omega arith))
       | inr double ↦
           let other : at.count ≡ 1 → ⊥ = eqb-false at.count 1 double in
           let some = at.counts.2 in
           let two : at.count ≡ 2 = omega arith in
           let spelled : text ≡ at.chars ++ 61 ∷ 61 ∷ [] = rw two at at.spelled in
-          rw spelled (two_none room at.chars (at.front ++ ps) at.valued (omega arith) (omega arith))
+          rw spelled (two_none limit at.chars (at.front ++ ps) at.valued (omega arith) (omega arith))
     ]
 
-padded_none : (b : Base) → b ≡ base64 → (text os ps : List ℕ) (p : Padding) → (p ≡ One) ⊎ (p ≡ Complete) → IsRead b text os ps p → (room : ℕ) → length os ≤ room
-    → first_char_error (char_error b room) [] text ≡ None
+padded_none : (b : Base) → b ≡ base64 → (text os ps : List ℕ) (p : Padding) → (p ≡ One) ⊎ (p ≡ Complete) → IsRead b text os ps p → (limit : ℕ) → length os ≤ limit
+    → first_char_error (char_error b limit) [] text ≡ None
 padded_none b same = rw same (λ text os ps p which. elim which [ inl after_one ↦ rw after_one (half64_none text os ps) | inr done ↦ rw done (done64_none text os ps) ])
 
-pub no_cause : (b : Base) → IsEncoding b → (text os ps : List ℕ) (p : Padding) → IsRead b text os ps p → (room : ℕ) → length os ≤ room → first_char_error (char_error b room) [] text ≡ None
-no_cause b known text os ps Absent at room le =
+pub no_cause : (b : Base) → IsEncoding b → (text os ps : List ℕ) (p : Padding) → IsRead b text os ps p → (limit : ℕ) → length os ≤ limit → first_char_error (char_error b limit) [] text ≡ None
+no_cause b known text os ps Absent at limit le =
     let n = lengths b text os ps Absent at in
     let plain = plain_text b text os ps at in
     let same = (numbers b known).grouped_at (length text) (length at.front) (length ps) (ap length plain ∙ n.chars_are) at.counts.2 at.counts.1 in
-    let fits : grouped b (length text) ≤ room = rw (same, ← n.octets_are) le in
+    let fits : grouped b (length text) ≤ limit = rw (same, ← n.octets_are) le in
     let z : 0 + length text ≡ length text = omega arith in
-    chars_none b known room [] text [] (at.front ++ ps) tt (rw (← plain) at at.valued) (rw z fits)
-no_cause b known text os ps One at room le = padded_none b at.counts.0 text os ps One (inl refl) at room le
-no_cause b known text os ps Complete at room le = padded_none b at.counts.0 text os ps Complete (inr refl) at room le
+    chars_none b known limit [] text [] (at.front ++ ps) tt (rw (← plain) at at.valued) (rw z fits)
+no_cause b known text os ps One at limit le = padded_none b at.counts.0 text os ps One (inl refl) at limit le
+no_cause b known text os ps Complete at limit le = padded_none b at.counts.0 text os ps Complete (inr refl) at limit le
 
 -- ---- one more character
 
 -- the cause of a character is lack of room for the octets of its step, and then the step's error. Without an error the
 -- text is read with it
 pub record Stepped (b : Base) (text octets : List ℕ) (c : ℕ) (s : Step) : Type 0 where
-  pub cause_is : (room : ℕ) → length octets ≤ room → char_error b room text c ≡ or_else (short_buf_if room (length octets + length s.octets)) s.error
+  pub cause_is : (limit : ℕ) → length octets ≤ limit → char_error b limit text c ≡ or_else (short_buf_if limit (length octets + length s.octets)) s.error
   pub goes_on : s.error ≡ None → IsRead b (text ++ c ∷ []) (octets ++ s.octets) s.group.digits s.group.padding
 
 -- a group that is closed: its octets follow those of the front
@@ -152,11 +152,11 @@ closed_octets b known os front g chars made whole_groups valued =
     rw made (sym (whole-append b.width front g (n.bits (length front) whole_groups) (below_front (2 ^ b.width) front g (HaveValues-below b n.below chars (front ++ g) valued))))
 
 -- refused, whatever the room
-at_once : (b : Base) (text os : List ℕ) (c : ℕ) (s : Step) (e : DecodeError) → s.octets ≡ [] → s.error ≡ Some e → ((room : ℕ) → char_error b room text c ≡ Some e) → Stepped b text os c s
+at_once : (b : Base) (text os : List ℕ) (c : ℕ) (s : Step) (e : DecodeError) → s.octets ≡ [] → s.error ≡ Some e → ((limit : ℕ) → char_error b limit text c ≡ Some e) → Stepped b text os c s
 at_once b text os c s e nothing is why =
     let sum : length os + length s.octets ≡ length os = rw nothing (omega arith) in
     record {
-      cause_is = λ room le. why room ∙ rw (sum, want_enough room (length os) le, is) refl;
+      cause_is = λ limit le. why limit ∙ rw (sum, want_enough limit (length os) le, is) refl;
       goes_on = λ none. let bad : Some e ≡ None = sym is ∙ none in cc bad;
     }
 
@@ -182,7 +182,7 @@ digit b known text os ps c v is at =
           let sum : length os + length (whole b.width (ps ++ v ∷ [])) ≡ grouped b (length text + 1) =
           rw (made, length-whole) (n.sum (length at.front) (length (ps ++ v ∷ [])) closed ∙ ap (λ k. k * b.width / 8) (sym all)) ∙ sym same in
           rw last (record {
-            cause_is = λ room le. legal b known room text (at.front ++ ps) c v text_valued is ∙ sym (or_else_none _ ∙ ap (short_buf_if room) sum);
+            cause_is = λ limit le. legal b known limit text (at.front ++ ps) c v text_valued is ∙ sym (or_else_none _ ∙ ap (short_buf_if limit) sum);
             goes_on = λ none. record {
               chars = text ++ c ∷ [];
               front = at.front ++ (ps ++ v ∷ []);
@@ -198,7 +198,7 @@ digit b known text os ps c v is at =
           let long : length text + 1 ≡ length at.front + (length ps + 1) = omega arith in
           let same : grouped b (length text + 1) ≡ length os = n.grouped_at (length text + 1) (length at.front) (length ps + 1) long closed (omega arith) ∙ sym made in
           rw more (record {
-            cause_is = λ room le. legal b known room text (at.front ++ ps) c v text_valued is ∙ want_enough room _ (rw same le) ∙ sym (or_else_none _ ∙ want_enough room (length os + 0) (omega arith));
+            cause_is = λ limit le. legal b known limit text (at.front ++ ps) c v text_valued is ∙ want_enough limit _ (rw same le) ∙ sym (or_else_none _ ∙ want_enough limit (length os + 0) (omega arith));
             goes_on = λ none. record {
               chars = text ++ c ∷ [];
               front = at.front;
@@ -231,7 +231,7 @@ mark text os ps some at =
           let group = length-whole 6 ps in
           let sum : length text * 6 / 8 ≡ length os + length (whole 6 ps) = omega arith in
           rw (allowed, last) (record {
-            cause_is = λ room le. mark_three room text (at.front ++ ps) text_valued (omega arith) ∙ sym (or_else_none _ ∙ ap (short_buf_if room) (sym sum));
+            cause_is = λ limit le. mark_three limit text (at.front ++ ps) text_valued (omega arith) ∙ sym (or_else_none _ ∙ ap (short_buf_if limit) (sym sum));
             goes_on = λ e. record {
               chars = at.chars;
               front = at.front ++ ps;
@@ -245,7 +245,7 @@ mark text os ps some at =
       | inr more ↦
           let other : length ps + 1 ≡ 4 → ⊥ = eqb-false (length ps + 1) 4 more in
           rw (allowed, more) (record {
-            cause_is = λ room le. mark_two room text (at.front ++ ps) text_valued (omega arith) ∙ sym (or_else_none _ ∙ want_enough room (length os + 0) (omega arith));
+            cause_is = λ limit le. mark_two limit text (at.front ++ ps) text_valued (omega arith) ∙ sym (or_else_none _ ∙ want_enough limit (length os + 0) (omega arith));
             goes_on = λ e. record {
               chars = at.chars;
               front = at.front;
@@ -275,7 +275,7 @@ other b known text os ps c is at =
             | inl plain ↦ let bad : true ≡ false = sym places.0 ∙ plain.unpadded in cc bad
             | inr same ↦ mark_of b same text os ps c (eqb-true c 61 parts.0) (leb-true 2 (length ps) places.1) at
           ]
-      | inr miss ↦ rw miss (at_once b text os c _ (IllegalChar c) refl refl (λ room. illegal b known room text (at.front ++ ps) c (rw (← plain) at at.valued) is (rw place miss)))
+      | inr miss ↦ rw miss (at_once b text os c _ (IllegalChar c) refl refl (λ limit. illegal b known limit text (at.front ++ ps) c (rw (← plain) at at.valued) is (rw place miss)))
     ]
 
 -- after `xx=`
@@ -292,14 +292,14 @@ after_one text os ps c o is at = by o is
     sum = sym (due_is base64 (inr (inr refl)) text os ps One at)
 
     by : (o : Option ℕ) → value base64 c ≡ o → Stepped base64 text os c (step_after_one base64 ps c o)
-    by (Some v) is = record { cause_is = λ room le. mark_one room c text (Some v) is one place ∙ rw sum refl; goes_on = λ bad. cc bad }
+    by (Some v) is = record { cause_is = λ limit le. mark_one limit c text (Some v) is one place ∙ rw sum refl; goes_on = λ bad. cc bad }
     by None is = elim (cases_Bool (c == 61)) [
       | inl mark ↦
           let equals : c ≡ 61 = eqb-true c 61 mark in
           let single = at.counts.1 in
           let spelled : text ≡ at.chars ++ 61 ∷ [] = rw single at at.spelled in
           rw mark (record {
-            cause_is = λ room le. mark_one room c text None is one place ∙ rw (mark, sum) (sym (or_else_none _));
+            cause_is = λ limit le. mark_one limit c text None is one place ∙ rw (mark, sum) (sym (or_else_none _));
             goes_on = λ e. record {
               chars = at.chars;
               front = at.front ++ ps;
@@ -310,7 +310,7 @@ after_one text os ps c o is at = by o is
               counts = (refl, refl, omega arith, omega arith, omega (arith, length-append at.front ps, at.counts.2, at.counts.3));
             };
           })
-      | inr other ↦ rw other (at_once base64 text os c _ (IllegalChar c) refl refl (λ room. mark_one room c text None is one place ∙ rw other refl))
+      | inr other ↦ rw other (at_once base64 text os c _ (IllegalChar c) refl refl (λ limit. mark_one limit c text None is one place ∙ rw other refl))
     ]
 
 done : (text os ps : List ℕ) (c : ℕ) → IsRead base64 text os ps Complete → Stepped base64 text os c (step_from base64 ps Complete c (value base64 c))
@@ -320,7 +320,7 @@ done text os ps c at =
     let some = at.counts.2 in
     let all = at.counts.4 in
     let count : pad_count base64 text ≡ suc (at.count - 1) = marked base64 (inr (inr refl)) text os ps Complete at ∙ omega arith in
-    at_once base64 text os c _ TrailingInput refl refl (λ room. mark_complete room c text (at.count - 1) count (omega arith))
+    at_once base64 text os c _ TrailingInput refl refl (λ limit. mark_complete limit c text (at.count - 1) count (omega arith))
 
 padded : (b : Base) → b ≡ base64 → (text os ps : List ℕ) (p : Padding) (c : ℕ) → (p ≡ One) ⊎ (p ≡ Complete) → IsRead b text os ps p → Stepped b text os c (step_from b ps p c (value b c))
 padded b same = rw same (λ text os ps p c which. elim which [ inl is ↦ rw is (after_one text os ps c (value base64 c) refl) | inr is ↦ rw is (done text os ps c) ])

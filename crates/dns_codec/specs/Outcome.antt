@@ -2,16 +2,17 @@
 -- alone: nothing here speaks of groups that are open, of padding that was seen or of errors that are stored.
 use Rattle.std.specs.Prelude.{◌≡◌, ℕ, ◌+◌, ◌-◌, ◌*◌, ◌/◌, ◌%◌, ◌==◌, ◌&&◌, Bool, nat_lt, nat_le, if◌then◌else◌, is_some, is_none, List, [], ◌∷◌, ◌++◌, length, reverse, find, count_by, Option}
 use Rattle.std.specs.Prelude.{Some, None, Result, Ok, Err}
+use Rattle.dns_octets.specs.Room.{Room}
 use Rattle.dns_codec.specs.Base.{Base, value}
 use Rattle.dns_codec.specs.Grammar.{Decodes, may_end}
 use Rattle.dns_codec.specs.Errors.{or_else}
-use Rattle.dns_codec.specs.Room.{IsRoom}
-use Rattle.dns_codec.specs.declared.base64.DecodeError.{DecodeError}
-use Rattle.dns_codec.specs.declared.base64.DecodeError.TheVariants.{IllegalChar, TrailingInput, ShortInput, ShortBuf}
+use Rattle.dns_codec.specs.Limit.{IsLimit}
+use Rattle.dns_codec.specs.declared.error.DecodeError.{DecodeError}
+use Rattle.dns_codec.specs.declared.error.DecodeError.TheVariants.{IllegalChar, TrailingInput, ShortInput, ShortBuf}
 
 -- ShortBuf, if there is no room for so many octets
 abbrev pub short_buf_if : ℕ → ℕ → Option DecodeError
-short_buf_if room octets = if nat_lt room octets then Some ShortBuf else None
+short_buf_if limit octets = if nat_lt limit octets then Some ShortBuf else None
 
 -- the octets of the whole groups of so many characters
 abbrev pub grouped : Base → ℕ → ℕ
@@ -29,23 +30,23 @@ octet_count b text = (length text - pad_count b text) * b.width / 8
 
 -- why a character is refused, or its digit, after a text without `=`
 abbrev pub char_error_open : Base → ℕ → List ℕ → ℕ → Option ℕ → Option DecodeError
-char_error_open b room front c (Some v) = short_buf_if room (grouped b (length front + 1))
-char_error_open b room front c None =
+char_error_open b limit front c (Some v) = short_buf_if limit (grouped b (length front + 1))
+char_error_open b limit front c None =
     if (c == 61) && (nat_lt 1 b.unit && nat_le 2 (length front % b.group)) then
-    (if length front % b.group + 1 == b.group then short_buf_if room (octet_count b front) else None)
+    (if length front % b.group + 1 == b.group then short_buf_if limit (octet_count b front) else None)
     else Some (IllegalChar c)
 
 -- the same after `xx=`
 abbrev pub char_error_padded : Base → ℕ → List ℕ → ℕ → Option ℕ → Option DecodeError
-char_error_padded b room front c (Some v) = or_else (short_buf_if room (octet_count b front)) (Some TrailingInput)
-char_error_padded b room front c None = if c == 61 then short_buf_if room (octet_count b front) else Some (IllegalChar c)
+char_error_padded b limit front c (Some v) = or_else (short_buf_if limit (octet_count b front)) (Some TrailingInput)
+char_error_padded b limit front c None = if c == 61 then short_buf_if limit (octet_count b front) else Some (IllegalChar c)
 
 -- why a character is refused after those in front of it. After a padded group each is
 abbrev pub char_error : Base → ℕ → List ℕ → ℕ → Option DecodeError
-char_error b room front c =
-    if pad_count b front == 0 then char_error_open b room front c (value b c)
+char_error b limit front c =
+    if pad_count b front == 0 then char_error_open b limit front c (value b c)
     else if length front % b.unit == 0 then Some TrailingInput
-    else char_error_padded b room front c (value b c)
+    else char_error_padded b limit front c (value b c)
 
 -- the cause at the earliest character that has one. `front` is what stands before the text
 abbrev pub first_char_error : (List ℕ → ℕ → Option DecodeError) → List ℕ → List ℕ → Option DecodeError
@@ -58,11 +59,11 @@ may_stop b n = if nat_lt 1 b.unit then n % b.unit == 0 else may_end b n
 
 -- the error at the end of a text without a cause
 abbrev pub text_end_error : Base → ℕ → List ℕ → Option DecodeError
-text_end_error b room text = if may_stop b (length text) then short_buf_if room (octet_count b text) else Some ShortInput
+text_end_error b limit text = if may_stop b (length text) then short_buf_if limit (octet_count b text) else Some ShortInput
 
 -- why a text isn't decoded
 abbrev pub refusal : Base → ℕ → List ℕ → Option DecodeError
-refusal b room text = or_else (first_char_error (char_error b room) [] text) (text_end_error b room text)
+refusal b limit text = or_else (first_char_error (char_error b limit) [] text) (text_end_error b limit text)
 
 -- ---- pushing all of its characters
 
@@ -75,18 +76,18 @@ abbrev pub legal_count : Base → List ℕ → ℕ
 legal_count b text = count_by (λ c. is_some (value b c)) text
 
 abbrev pub stored_by : Base → ℕ → ℕ → Option ℕ → Option DecodeError
-stored_by b room n (Some c) = Some (IllegalChar c)
-stored_by b room n None = short_buf_if room (grouped b n)
+stored_by b limit n (Some c) = Some (IllegalChar c)
+stored_by b limit n None = short_buf_if limit (grouped b n)
 
 -- the error that is stored then: the first, if that is kept; or the last illegal character, else lack of room
 abbrev pub stored : Base → ℕ → List ℕ → Option DecodeError
-stored b room text = if b.keeps_first then first_char_error (char_error b room) [] text else stored_by b room (length text) (last_illegal b text)
+stored b limit text = if b.keeps_first then first_char_error (char_error b limit) [] text else stored_by b limit (length text) (last_illegal b text)
 
 -- why the decoder refuses the text at its end
 abbrev pub pushed_refusal : Base → ℕ → List ℕ → Option DecodeError
-pushed_refusal b room text =
-    if b.ends_first then (if may_end b (legal_count b text) then stored b room text else Some ShortInput)
-    else or_else (stored b room text) (text_end_error b room text)
+pushed_refusal b limit text =
+    if b.ends_first then (if may_end b (legal_count b text) then stored b limit text else Some ShortInput)
+    else or_else (stored b limit text) (text_end_error b limit text)
 
 -- ---- results
 
@@ -96,15 +97,15 @@ Outcome b text e (Ok octets) = (e ≡ None) × Decodes b text octets
 Outcome b text e (Err f) = e ≡ Some f
 
 -- for some room that the builder may have, the error that is stored and the result at the end are as said
-pub record IsPushed (b : Base) (error_of refusal : ℕ → List ℕ → Option DecodeError) (sure most : ℕ) (text : List ℕ) (error : Option DecodeError) (result_is : Result (List ℕ) DecodeError) : Type 0
+pub record IsPushed (b : Base) (error_of refusal : ℕ → List ℕ → Option DecodeError) (room : Room) (text : List ℕ) (error : Option DecodeError) (result_is : Result (List ℕ) DecodeError) : Type 0
   where
-    pub room : ℕ
-    pub is_room : IsRoom sure most room
-    pub stored_is : error ≡ error_of room text
-    pub outcome : Outcome b text (refusal room text) result_is
+    pub limit : ℕ
+    pub is_limit : IsLimit room limit
+    pub stored_is : error ≡ error_of limit text
+    pub outcome : Outcome b text (refusal limit text) result_is
 
 -- for some room that the builder may have, the error is the text's
-pub record IsRefusedBy (refusal : ℕ → List ℕ → Option DecodeError) (sure most : ℕ) (text : List ℕ) (error : DecodeError) : Type 0 where
-  pub room : ℕ
-  pub is_room : IsRoom sure most room
-  pub refused : refusal room text ≡ Some error
+pub record IsRefusedBy (refusal : ℕ → List ℕ → Option DecodeError) (room : Room) (text : List ℕ) (error : DecodeError) : Type 0 where
+  pub limit : ℕ
+  pub is_limit : IsLimit room limit
+  pub refused : refusal limit text ≡ Some error

@@ -7,6 +7,7 @@ ghost use Rattle.std.specs.Fmt.{WritesInCalls};
 ghost use Rattle.std.specs.String.{string_bytes};
 ghost use Rattle.dns_codec.specs.Base.{base16, encoded};
 ghost use Rattle.dns_octets.specs.Octets.{greatest_length};
+ghost use Rattle.dns_octets.specs.Room.{of_memory};
 ghost use Rattle.dns_codec.specs.Decoding.{IsNew};
 ghost use Rattle.dns_codec.specs.Grammar.{Decodes};
 ghost use Rattle.dns_codec.specs.Outcome.{refusal, IsRefusedBy};
@@ -55,8 +56,8 @@ pub fn decode<B: OctetsBuilder + EmptyBuilder + FreezeBuilder + Drop>(
     s: &str,
 ) -> Result<B::Octets, DecodeError>
     ensures value { IfOk result (λ o. Decodes base16 (chars s.now) (B.Octets.octets o)) }
-    ensures succeeds { (octets : List ℕ) → Decodes base16 (chars s.now) octets → length octets ≤ B.sure → IsOk result }
-    ensures refused { IfErr result (λ e. IsRefusedBy (refusal base16) B.sure B.most (chars s.now) e) }
+    ensures succeeds { (octets : List ℕ) → Decodes base16 (chars s.now) octets → length octets ≤ B.room.fits → IsOk result }
+    ensures refused { IfErr result (λ e. IsRefusedBy (refusal base16) B.room (chars s.now) e) }
 {
     decoder::decode::<B, Base16>(alloc, s)
 }
@@ -75,7 +76,7 @@ pub fn decode_slice(text: &[u8], octets: &mut [u8]) -> Option<usize>
 /// Reads a text of base 16 into a vector, as [`decode`] does.
 pub fn decode_vec<A: Allocator + Copy>(alloc: A, s: &str) -> Result<Vec<u8, A>, DecodeError>
     ensures value { IfOk result (λ octets. Decodes base16 (chars s.now) octets.items) }
-    ensures refused { IfErr result (λ e. IsRefusedBy (refusal base16) 0 greatest_length (chars s.now) e) }
+    ensures refused { IfErr result (λ e. IsRefusedBy (refusal base16) of_memory (chars s.now) e) }
 {
     decode::<Vec<u8, A>>(alloc, s)
 }

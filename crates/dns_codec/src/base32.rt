@@ -47,8 +47,8 @@ pub fn decode_hex<B: OctetsBuilder + EmptyBuilder + FreezeBuilder + Drop>(
     s: &str,
 ) -> Result<B::Octets, DecodeError>
     ensures value { IfOk result (λ o. Decodes base32hex (chars s.now) (B.Octets.octets o)) }
-    ensures succeeds { (octets : List ℕ) → Decodes base32hex (chars s.now) octets → length octets ≤ B.sure → IsOk result }
-    ensures refused { IfErr result (λ e. IsRefusedBy (refusal base32hex) B.sure B.most (chars s.now) e) }
+    ensures succeeds { (octets : List ℕ) → Decodes base32hex (chars s.now) octets → length octets ≤ B.room.fits → IsOk result }
+    ensures refused { IfErr result (λ e. IsRefusedBy (refusal base32hex) B.room (chars s.now) e) }
 {
     decoder::decode::<B, Base32Hex>(alloc, s)
 }

@@ -6,7 +6,6 @@ ghost use Rattle.std.specs.Str.{chars};
 ghost use Rattle.std.specs.Fmt.{WritesInCalls};
 ghost use Rattle.std.specs.String.{string_bytes};
 ghost use Rattle.dns_codec.specs.Base.{base64, encoded};
-ghost use Rattle.dns_codec.specs.Errors.{error_text};
 ghost use Rattle.dns_codec.specs.Decoding.{IsNew};
 ghost use Rattle.dns_codec.specs.Grammar.{Decodes};
 ghost use Rattle.dns_codec.specs.Outcome.{refusal, IsRefusedBy};
@@ -14,49 +13,11 @@ ghost use Rattle.dns_codec.specs.Shown.{shown};
 ghost use Rattle.dns_codec.specs.Written.{IsWritten};
 
 use crate::base::Base64;
+pub use crate::error::DecodeError;
 use crate::{converter, decoder, encode, read};
 use dns_octets::{EmptyBuilder, FreezeBuilder, OctetsBuilder, ShortBuf};
 use std::alloc::Allocator;
-use std::error::Error;
 use std::fmt;
-
-/// Why a text isn't decoded, in any of the three encodings.
-#[derive(Clone, Copy, Debug, PartialEq, Eq)]
-pub enum DecodeError {
-    /// A character that may not stand in its place.
-    IllegalChar(char),
-    /// Characters after the padding.
-    TrailingInput,
-    /// The text ends within a group.
-    ShortInput,
-    /// The builder refused an octet.
-    ShortBuf,
-}
-
-impl fmt::Display for DecodeError {
-    ghost output = { λ e. Some (error_text e) };
-
-    fn fmt<W: fmt::Write>(&self, f: &mut fmt::Formatter<W>) -> fmt::Result {
-        match self {
-            DecodeError::IllegalChar(c) => write!(f, "illegal character '{c}'"),
-            DecodeError::TrailingInput => write!(f, "trailing input"),
-            DecodeError::ShortInput => write!(f, "incomplete input"),
-            DecodeError::ShortBuf => write!(f, "buffer size exceeded"),
-        }
-    }
-}
-
-impl Error for DecodeError {}
-
-impl From<ShortBuf> for DecodeError {
-    ghost use Rattle.dns_codec.specs.declared.base64.DecodeError.TheVariants.{ShortBuf};
-
-    ghost from_gives = { λ _ e. e ≡ ShortBuf };
-
-    fn from(_error: ShortBuf) -> DecodeError {
-        DecodeError::ShortBuf
-    }
-}
 
 /// The `=` that were read of a group.
 #[derive(Clone, Copy, Debug, PartialEq, Eq)]
@@ -104,8 +65,8 @@ pub fn decode<B: OctetsBuilder + EmptyBuilder + FreezeBuilder + Drop>(
     s: &str,
 ) -> Result<B::Octets, DecodeError>
     ensures value { IfOk result (λ o. Decodes base64 (chars s.now) (B.Octets.octets o)) }
-    ensures succeeds { (octets : List ℕ) → Decodes base64 (chars s.now) octets → length octets ≤ B.sure → IsOk result }
-    ensures refused { IfErr result (λ e. IsRefusedBy (refusal base64) B.sure B.most (chars s.now) e) }
+    ensures succeeds { (octets : List ℕ) → Decodes base64 (chars s.now) octets → length octets ≤ B.room.fits → IsOk result }
+    ensures refused { IfErr result (λ e. IsRefusedBy (refusal base64) B.room (chars s.now) e) }
 {
     decoder::decode::<B, Base64>(alloc, s)
 }

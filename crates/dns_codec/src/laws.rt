@@ -1,11 +1,12 @@
 //! Laws of encoding and decoding, of each of the three encodings.
 //!
 //! They speak of the definitions alone: a text, the octets that it spells, and what decoders hold.
-//! `sure` octets surely fit into a decoder's builder, and it holds at most `most`.
+//! `room` is that of a decoder's builder.
 ghost use Rattle.std.specs.Prelude.{is_none, ◌≡◌, ℕ, ◌<◌, ◌≤◌, ◌⊎◌, ◌+◌, List, [], length, map, true, false, nat_lt, None, IsSome, IsErr, Option, Some, Result};
 ghost use Rattle.std.specs.Cmp.Lexicographic.{slice_cmp};
 ghost use Rattle.std.specs.List.{AllByRecursion, flat_map};
 ghost use Rattle.std.specs.Ordering.{nat_cmp};
+ghost use Rattle.dns_octets.specs.Room.{Room};
 ghost use Rattle.dns_symbol.specs.declared.symbol.Symbol.{Symbol};
 ghost use Rattle.dns_symbol.specs.declared.symbol.Symbol.TheVariants.{Char};
 ghost use Rattle.dns_codec.specs.Base.{Base, IsEncoding, value, encoded};
@@ -16,8 +17,8 @@ ghost use Rattle.dns_codec.specs.Group.{fresh};
 ghost use Rattle.dns_codec.specs.Grammar.{Decodes};
 ghost use Rattle.dns_codec.specs.Decoding.{DecoderState, IsNew, Pushes, Runs, Ends};
 ghost use Rattle.dns_codec.specs.Outcome.{char_error, first_char_error, stored, refusal, pushed_refusal, IsPushed};
-ghost use Rattle.dns_codec.specs.declared.base64.DecodeError.{DecodeError};
-ghost use Rattle.dns_codec.specs.declared.base64.DecodeError.TheVariants.{IllegalChar, ShortBuf};
+ghost use Rattle.dns_codec.specs.declared.error.DecodeError.{DecodeError};
+ghost use Rattle.dns_codec.specs.declared.error.DecodeError.TheVariants.{IllegalChar, ShortBuf};
 
 /// The text of octets is in the grammar, and its value is these octets.
 pub fn encoded_decodes()
@@ -38,56 +39,56 @@ pub fn encoded_order()
 /// What becomes of a list of characters that are pushed to a new decoder, and of its end: a
 /// function of the text and of the room that the builder turns out to have.
 pub fn pushes()
-    ensures { (b : Base) → IsEncoding b → (sure most : ℕ) (h k : DecoderState) (text : List ℕ) (r : Result (List ℕ) DecodeError)
-        → IsNew h → Runs b sure most h text k → Ends b sure most k r
-        → IsPushed b (stored b) (pushed_refusal b) sure most text k.error r }
+    ensures { (b : Base) → IsEncoding b → (room : Room) (h k : DecoderState) (text : List ℕ) (r : Result (List ℕ) DecodeError)
+        → IsNew h → Runs b room h text k → Ends b room k r
+        → IsPushed b (stored b) (pushed_refusal b) room text k.error r }
 {}
 
 /// A text of the grammar isn't refused where there is room for its octets, neither by `decode` nor
 /// by a decoder that it is pushed to.
 pub fn grammar_is_read()
-    ensures { (b : Base) → IsEncoding b → (text octets : List ℕ) (room : ℕ) → Decodes b text octets → length octets ≤ room
-        → (refusal b room text ≡ None) × (pushed_refusal b room text ≡ None) }
+    ensures { (b : Base) → IsEncoding b → (text octets : List ℕ) (limit : ℕ) → Decodes b text octets → length octets ≤ limit
+        → (refusal b limit text ≡ None) × (pushed_refusal b limit text ≡ None) }
 {}
 
 /// Where there is too little room, lack of room alone refuses a text of the grammar: `decode`
 /// answers no other error, and neither does a decoder that it is pushed to.
 pub fn grammar_wants_room()
-    ensures { (b : Base) → IsEncoding b → (text octets : List ℕ) (room : ℕ) (e : DecodeError) → Decodes b text octets
-        → (refusal b room text ≡ Some e → e ≡ ShortBuf) × (pushed_refusal b room text ≡ Some e → e ≡ ShortBuf) }
+    ensures { (b : Base) → IsEncoding b → (text octets : List ℕ) (limit : ℕ) (e : DecodeError) → Decodes b text octets
+        → (refusal b limit text ≡ Some e → e ≡ ShortBuf) × (pushed_refusal b limit text ≡ Some e → e ≡ ShortBuf) }
 {}
 
 /// And only such a text isn't refused: what `decode` doesn't refuse is a text of the grammar, and
 /// there is room for its octets.
 pub fn only_grammar_is_read()
-    ensures { (b : Base) → IsEncoding b → (text : List ℕ) (room : ℕ) → refusal b room text ≡ None → (octets : List ℕ) × Decodes b text octets × (length octets ≤ room) }
+    ensures { (b : Base) → IsEncoding b → (text : List ℕ) (limit : ℕ) → refusal b limit text ≡ None → (octets : List ℕ) × Decodes b text octets × (length octets ≤ limit) }
 {}
 
 /// A decoder that failed once keeps failing. The octets stay, and so does the error, unless a later
 /// illegal character takes its place. Where the first error is kept, nothing changes any more. A
 /// new decoder has seen no padding, and in an encoding without padding that stays so.
 pub fn failure_is_kept()
-    ensures pushes { (b : Base) (sure most : ℕ) (old new : DecoderState) (c : ℕ) → IsSome old.error → Pushes b sure most old c new
+    ensures pushes { (b : Base) (room : Room) (old new : DecoderState) (c : ℕ) → IsSome old.error → Pushes b room old c new
         → (new.octets ≡ old.octets) × IsSome new.error × (b.keeps_first ≡ true → new ≡ old) }
-    ensures replaced { (b : Base) → IsEncoding b → (sure most : ℕ) (old new : DecoderState) (c : ℕ) → old.group.padding ≡ fresh.padding → IsSome old.error → Pushes b sure most old c new
+    ensures replaced { (b : Base) → IsEncoding b → (room : Room) (old new : DecoderState) (c : ℕ) → old.group.padding ≡ fresh.padding → IsSome old.error → Pushes b room old c new
         → (new.error ≡ old.error) ⊎ ((value b c ≡ None) × (new.error ≡ Some (IllegalChar c))) }
-    ensures unpadded { (b : Base) → nat_lt 1 b.unit ≡ false → (sure most : ℕ) (old new : DecoderState) (c : ℕ) → old.group.padding ≡ fresh.padding → Pushes b sure most old c new
+    ensures unpadded { (b : Base) → nat_lt 1 b.unit ≡ false → (room : Room) (old new : DecoderState) (c : ℕ) → old.group.padding ≡ fresh.padding → Pushes b room old c new
         → new.group.padding ≡ fresh.padding }
-    ensures ends { (b : Base) (sure most : ℕ) (k : DecoderState) (r : Result (List ℕ) DecodeError) → IsSome k.error → Ends b sure most k r → IsErr r }
+    ensures ends { (b : Base) (room : Room) (k : DecoderState) (r : Result (List ℕ) DecodeError) → IsSome k.error → Ends b room k r → IsErr r }
 {}
 
 /// On a text without backslash a new converter with its tail gives the octets that decoding gives,
 /// and fails where decoding does, room aside.
 pub fn converters_decode()
-    ensures { (b : Base) → IsEncoding b → (text : List ℕ) (room : ℕ) → length text + 3 ≤ room
-        → Agrees b text (refusal b room text) (converted b (map Char text)) }
+    ensures { (b : Base) → IsEncoding b → (text : List ℕ) (limit : ℕ) → length text + 3 ≤ limit
+        → Agrees b text (refusal b limit text) (converted b (map Char text)) }
 {}
 
 /// On a text without backslash a new converter refuses a character exactly where decoding meets a
 /// cause: no character of a text is refused exactly if none has a cause, and so for each beginning.
 pub fn converters_stop()
-    ensures { (b : Base) → IsEncoding b → (text : List ℕ) (room : ℕ) → length text + 3 ≤ room
-        → takes_all_of b (map Char text) ≡ is_none (first_char_error (char_error b room) [] text) }
+    ensures { (b : Base) → IsEncoding b → (text : List ℕ) (limit : ℕ) → length text + 3 ≤ limit
+        → takes_all_of b (map Char text) ≡ is_none (first_char_error (char_error b limit) [] text) }
 {}
 
 /// The tokens of an entry convert as their join.

@@ -1,8 +1,8 @@
 -- What refusals of entry lines print.
 use Rattle.std.specs.Prelude.{ℕ, List, ◌++◌, codes}
 use Rattle.std.specs.Fmt.{decimal}
-use Rattle.dns_entry.specs.declared.entry.EntryError.{EntryError}
-use Rattle.dns_entry.specs.declared.entry.EntryError.TheVariants.{EmptyEncoding}
+use Rattle.dns_entry.specs.declared.error.EntryError.{EntryError}
+use Rattle.dns_entry.specs.declared.error.EntryError.TheVariants.{EmptyEncoding}
 
 -- the place that an error names
 abbrev pub place_of : EntryError → ℕ

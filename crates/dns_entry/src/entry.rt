@@ -3,13 +3,13 @@ ghost use Rattle.std.specs.Prelude.{◌≡◌, ◌↔◌, ◌+◌, IfNone, IfSom
 ghost use Rattle.dns_zone.specs.Layout.{Step, token};
 ghost use Rattle.dns_entry.specs.Field.{Content, content_of, contents_of, field_text, IsPrintable};
 ghost use Rattle.dns_entry.specs.Line.{IsFirstEmpty, IsLine, line_document, line_nests};
-ghost use Rattle.dns_entry.specs.EntryError.{place_of, error_text};
+ghost use Rattle.dns_entry.specs.EntryError.{place_of};
 
+pub use crate::error::EntryError;
 use dns_charstr::charstr::CharStr;
 use dns_codec::{base16, base64};
 use dns_zone::zonefile_fmt::{self, FormatWriter, Formatter, ZonefileFmt};
 use std::alloc::{Allocator, Global};
-use std::fmt;
 use std::marker::Model;
 
 /// A field of an entry, which prints as one token.
@@ -24,25 +24,6 @@ pub enum Field<A: Allocator = Global> {
     /// A character string in its unquoted form; `""` if it has no octets.
     Text(CharStr<Vec<u8, A>>),
 }
-
-/// Why fields are no line: by the field's place, which counts from 0.
-#[derive(Clone, Copy, Debug, PartialEq, Eq)]
-pub enum EntryError {
-    /// An encoding has no octets, so its text is no token. This is the first such field.
-    EmptyEncoding(usize),
-}
-
-impl fmt::Display for EntryError {
-    ghost output = { λ e. Some (error_text e) };
-
-    fn fmt<W: fmt::Write>(&self, f: &mut fmt::Formatter<W>) -> fmt::Result {
-        match self {
-            EntryError::EmptyEncoding(i) => write!(f, "empty encoding at {i}"),
-        }
-    }
-}
-
-impl std::error::Error for EntryError {}
 
 impl<A: Allocator> Field<A> {
     // Whether the field has no text that is a token.

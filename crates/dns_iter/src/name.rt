@@ -16,8 +16,8 @@ fn with_root<Octets: FromBuilder>(
 ) -> Option<Name<Octets>>
 where
     Octets::Builder: EmptyBuilder + Drop,
-    ensures some { IfSome result (λ n. (n ≡ name.now ++ [] ∷ []) × (wire_length n ≤ Octets.Builder.most)) }
-    ensures none { IfNone result (Octets.Builder.sure < wire_length name.now + 1) }
+    ensures some { IfSome result (λ n. (n ≡ name.now ++ [] ∷ []) × (wire_length n ≤ Octets.Builder.room.capacity)) }
+    ensures none { IfNone result (Octets.Builder.room.fits < wire_length name.now + 1) }
 {
     let _short = name.len();
     let root = Name::root_ref();
@@ -35,7 +35,7 @@ pub(crate) fn token_name<Octets: FromBuilder + Drop, E: ScannerError>(
 ) -> Result<Name<Octets>, E>
 where
     Octets::Builder: EmptyBuilder + AsOctetsMut + FreezeBuilder<Octets = Octets> + Drop,
-    ensures { ReadsToken Octets E.cause Octets.Builder.sure Octets.Builder.most token.now result }
+    ensures { ReadsToken Octets E.cause Octets.Builder.room token.now result }
 {
     let invalid = "invalid domain name";
     match UncertainName::from_str(alloc, token) {

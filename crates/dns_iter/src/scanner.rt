@@ -189,7 +189,7 @@ where
 
     ghost next_token = { token_next Iter.next_gives };
 
-    ghost reads_name = { λ t r. ReadsToken Octets E.cause Octets.Builder.sure Octets.Builder.most t r };
+    ghost reads_name = { λ t r. ReadsToken Octets E.cause Octets.Builder.room t r };
 
     ghost is_spaced = { λ s. s.spaced };
 

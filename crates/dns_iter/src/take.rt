@@ -105,7 +105,7 @@ pub(crate) struct AsOctet;
 impl<B: OctetsBuilder, E: ScannerError> TakeSymbol<Symbol, E, B> for AsOctet {
     ghost can_take = { λ _. ⊤ };
 
-    ghost step = { λ p x r q. GivesStep E.cause B.sure B.most octet_given (B.octets p.1) x r (B.octets q.1) };
+    ghost step = { λ p x r q. GivesStep E.cause B.room octet_given (B.octets p.1) x r (B.octets q.1) };
 
     fn take_symbol(&mut self, built: &mut B, symbol: Symbol) -> Result<(), E> {
         match symbol.into_octet() {
@@ -125,7 +125,7 @@ pub(crate) struct AsText;
 impl<B: OctetsBuilder, E: ScannerError> TakeSymbol<Symbol, E, B> for AsText {
     ghost can_take = { λ _. ⊤ };
 
-    ghost step = { λ p x r q. GivesStep E.cause B.sure B.most text_given (B.octets p.1) x r (B.octets q.1) };
+    ghost step = { λ p x r q. GivesStep E.cause B.room text_given (B.octets p.1) x r (B.octets q.1) };
 
     fn take_symbol(&mut self, built: &mut B, symbol: Symbol) -> Result<(), E> {
         match symbol.into_char() {
@@ -148,8 +148,8 @@ impl<B: OctetsBuilder, E: ScannerError> TakeSymbol<Symbol, E, B> for AsText {
 fn append_few<B: OctetsBuilder>(builder: &mut B, octets: &[u8]) -> Result<(), ShortBuf>
     ensures ok { OnOk result (B.octets builder.new ≡ B.octets builder.old ++ octets.now) }
     ensures err { OnErr result (B.octets builder.new ≡ B.octets builder.old) }
-    ensures fits { length octets.now ≤ B.sure - length (B.octets builder.old) → IsOk result }
-    ensures within { OnOk result (length (B.octets builder.new) ≤ B.most) }
+    ensures fits { length octets.now ≤ B.room.fits - length (B.octets builder.old) → IsOk result }
+    ensures within { OnOk result (length (B.octets builder.new) ≤ B.room.capacity) }
 {
     match octets {
         [one] => builder.append_slice(&[*one]),
@@ -162,7 +162,7 @@ fn append_few<B: OctetsBuilder>(builder: &mut B, octets: &[u8]) -> Result<(), Sh
 // Appends the octets that a converter made, if it made any.
 #[inline(always)]
 fn append<B: OctetsBuilder, E: ScannerError>(builder: &mut B, octets: &[u8]) -> Result<(), E>
-    ensures { Adds E.cause B.sure B.most (Ok octets.now) (B.octets builder.old) result (B.octets builder.new) }
+    ensures { Adds E.cause B.room (Ok octets.now) (B.octets builder.old) result (B.octets builder.new) }
 {
     if octets.is_empty() {
         return Ok(());
@@ -187,7 +187,7 @@ impl<C> Through<C> {
     ) -> Result<(), E>
     where
         C: ConvertSymbols<Sym, E>,
-        ensures { ConvertTail E.cause B.sure B.most C.tail (self.old.convert, B.octets built.old) result (self.new.convert, B.octets built.new) }
+        ensures { ConvertTail E.cause B.room C.tail (self.old.convert, B.octets built.old) result (self.new.convert, B.octets built.new) }
     {
         match self.convert.take_tail() {
             Ok(()) => append(built, self.convert.lent()),
@@ -200,7 +200,7 @@ impl<Sym, C: ConvertSymbols<Sym, E>, B: OctetsBuilder, E: ScannerError> TakeSymb
     for Through<C> {
     ghost can_take = { λ _. ⊤ };
 
-    ghost step = { λ p x r q. ConvertStep E.cause B.sure B.most C.takes (p.0.convert, B.octets p.1) x r (q.0.convert, B.octets q.1) };
+    ghost step = { λ p x r q. ConvertStep E.cause B.room C.takes (p.0.convert, B.octets p.1) x r (q.0.convert, B.octets q.1) };
 
     #[inline(always)]
     fn take_symbol(&mut self, built: &mut B, symbol: Sym) -> Result<(), E> {
@@ -216,7 +216,7 @@ impl<C: ConvertSymbols<EntrySymbol, E>, B: OctetsBuilder, E: ScannerError> TakeT
     for Through<C> {
     ghost can_take = { λ _. ⊤ };
 
-    ghost step = { λ p t r q. ConvertInEntry E.cause B.sure B.most C.takes (p.0.convert, B.octets p.1) t r (q.0.convert, B.octets q.1) };
+    ghost step = { λ p t r q. ConvertInEntry E.cause B.room C.takes (p.0.convert, B.octets p.1) t r (q.0.convert, B.octets q.1) };
 
     fn take_token(&mut self, built: &mut B, token: &str) -> Result<(), E> {
         each_symbol::<EntrySymbol, Through<C>, B, E>(token, self, built)
@@ -233,7 +233,7 @@ pub(crate) struct AsString<B: EmptyBuilder> {
 impl<B: EmptyBuilder + Drop, E: ScannerError> TakeToken<E, B> for AsString<B> {
     ghost can_take = { λ _. ⊤ };
 
-    ghost step = { λ p t r q. StringStep E.cause B.sure B.most (B.octets p.1) t r (B.octets q.1) };
+    ghost step = { λ p t r q. StringStep E.cause B.room (B.octets p.1) t r (B.octets q.1) };
 
     fn take_token(&mut self, built: &mut B, token: &str) -> Result<(), E> {
         let mut string = CharStrBuilder::<B>::new(self.alloc);

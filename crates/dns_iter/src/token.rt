@@ -1,6 +1,7 @@
 //! The symbols of a token.
 ghost use Rattle.std.specs.Prelude.{◌≡◌, ℕ, List, [], min};
-ghost use Rattle.dns_symbol.specs.declared.symbol.SymbolCharsError.{SymbolCharsError};
+ghost use Rattle.dns_octets.specs.Room.{within};
+ghost use Rattle.dns_symbol.specs.declared.error.SymbolCharsError.{SymbolCharsError};
 ghost use Rattle.dns_symbol.specs.Symbol.{chars_error_text};
 ghost use Rattle.dns_symbol.specs.Text.{as_octets_error};
 ghost use Rattle.std.specs.Fn.{FnOnceReturnsAt};
@@ -56,7 +57,7 @@ pub(crate) fn token_octets<B: EmptyBuilder + FreezeBuilder + Drop, E: ScannerErr
     token: &str,
     alloc: B::Alloc,
 ) -> Result<B::Octets, E>
-    ensures builds { Builds E.cause (GivesStep E.cause B.sure B.most octet_given) B.Octets.octets token.now result }
+    ensures builds { Builds E.cause (GivesStep E.cause B.room octet_given) B.Octets.octets token.now result }
 {
     let mut built = B::empty(alloc);
     match each_symbol::<Symbol, _, _, E>(token, &mut AsOctet, &mut built) {
@@ -70,7 +71,7 @@ pub(crate) fn token_charstr<B: EmptyBuilder + FreezeBuilder + Drop, E: ScannerEr
     token: &str,
     alloc: B::Alloc,
 ) -> Result<CharStr<B::Octets>, E>
-    ensures builds { Builds E.cause (GivesStep E.cause (min B.sure max_string) (min B.most max_string) octet_given) (λ s. s) token.now result }
+    ensures builds { Builds E.cause (GivesStep E.cause (within max_string B.room) octet_given) (λ s. s) token.now result }
 {
     let mut built = CharStrBuilder::<B>::new(alloc);
     match each_symbol::<Symbol, _, _, E>(token, &mut AsOctet, &mut built) {
@@ -86,7 +87,7 @@ pub(crate) fn token_text<B: EmptyBuilder + FreezeBuilder + Drop, E: ScannerError
 ) -> Result<Str<B::Octets>, E>
 where
     B::Octets: Drop,
-    ensures builds { Builds E.cause (GivesStep E.cause B.sure B.most text_given) (λ s. s) token.now result }
+    ensures builds { Builds E.cause (GivesStep E.cause B.room text_given) (λ s. s) token.now result }
 {
     let mut built = B::empty(alloc);
     match each_symbol::<Symbol, _, _, E>(token, &mut AsText, &mut built) {
@@ -107,7 +108,7 @@ pub(crate) fn token_ascii<
     F: FnOnce(&str) -> Result<T, E>,
 >(token: &str, alloc: B::Alloc, op: F) -> Result<T, E>
     requires { F.IsAlwaysCallable op }
-    ensures answers { AsciiText E.cause B.sure B.most (λ s r. FnOnceReturnsAt F.FnOnce op s r) token.now result }
+    ensures answers { AsciiText E.cause B.room (λ s r. FnOnceReturnsAt F.FnOnce op s r) token.now result }
 {
     let mut built = B::empty(alloc);
     match each_symbol::<Symbol, _, _, E>(token, &mut AsText, &mut built) {
@@ -131,7 +132,7 @@ pub(crate) fn token_converted<
     B: EmptyBuilder + FreezeBuilder + Drop,
     E: ScannerError,
 >(token: &str, convert: C, alloc: B::Alloc) -> Result<B::Octets, E>
-    ensures converts { Converts E.cause B.sure B.most C.tail B.Octets.octets (λ p a q. ConvertToken E.cause B.sure B.most C.takes p token.now a q) convert result }
+    ensures converts { Converts E.cause B.room C.tail B.Octets.octets (λ p a q. ConvertToken E.cause B.room C.takes p token.now a q) convert result }
 {
     let mut through = Through { convert };
     let mut built = B::empty(alloc);

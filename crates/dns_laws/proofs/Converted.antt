@@ -19,7 +19,7 @@ use Rattle.dns_codec.specs.Outcome.{refusal}
 use Rattle.dns_codec.proofs.Conversions.{agrees}
 use Rattle.dns_codec.proofs.Each.{once}
 use Rattle.dns_codec.proofs.Refusals.{reads}
-use Rattle.dns_codec.specs.declared.base64.DecodeError.{DecodeError}
+use Rattle.dns_codec.specs.declared.error.DecodeError.{DecodeError}
 use Rattle.dns_symbol.specs.Cause.{Cause, custom_text}
 use Rattle.dns_scan.specs.Tokens.{Token}
 use Rattle.dns_entry.proofs.Words.{ascii_bytes, encoded_all}
@@ -98,9 +98,9 @@ converts_plain codec text r all h =
 module _ (b : Base) (known : Known b) where
   pub base_text : (text octets : List ℕ) → Decodes b text octets → converted (codec_of b) (fresh, false) [] (plain_symbols text) None ≡ Ok octets
   base_text text octets d =
-      let room = length text + 3 + length octets in
-      base_run b (plain_symbols text) fresh false [] ∙ by_agreement b text octets (refusal b room text) _ (once b known text) d
-      (reads b known text octets room d (omega arith)).0 (agrees b known text room (omega arith))
+      let size = length text + 3 + length octets in
+      base_run b (plain_symbols text) fresh false [] ∙ by_agreement b text octets (refusal b size text) _ (once b known text) d
+      (reads b known text octets size d (omega arith)).0 (agrees b known text size (omega arith))
 
   pub base_only : (text octets : List ℕ) → converted (codec_of b) (fresh, false) [] (plain_symbols text) None ≡ Ok octets → Decodes b text octets
   base_only text octets e =

@@ -4,6 +4,7 @@ use Rattle.std.specs.Prelude.{IfOk}
 use Rattle.std.specs.List.{list_all, concat, AllByRecursion}
 use Rattle.std.proofs.lemmas.Bool.{and_parts}
 use Rattle.std.proofs.lemmas.List.Folds.{list_all-append}
+use Rattle.dns_octets.specs.Room.{Room}
 use Rattle.dns_symbol.specs.declared.symbol.Symbol.{Symbol}
 use Rattle.dns_symbol.specs.declared.symbol.Symbol.TheVariants.{Char}
 use Rattle.dns_codec.specs.Base.{Base, encoded}
@@ -34,17 +35,17 @@ module _ (codec : Codec) (same_step : (held : codec.Held) (x : Symbol) (c : ℕ)
     (needs_char : (held : codec.Held) (x : Symbol) (o : List ℕ) → char_in x ≡ None → (codec.step held x).0 ≡ Ok o → ⊥)
     (b : Base) (texts : (text octets : List ℕ) → Decodes b text octets → converted codec codec.start [] (plain_symbols text) None ≡ Ok octets)
     (only : (text octets : List ℕ) → converted codec codec.start [] (plain_symbols text) None ≡ Ok octets → Decodes b text octets)
-    {O E : Type 0} (cause : E → Cause) (value : O → List ℕ) (sure most : ℕ) (r : Result O E) (tokens : List Token)
-    (answer : (text : List ℕ) → IsJoin tokens text → AnswersConverted codec cause value sure most text r) where
-  pub entry_whole : (octets : List ℕ) → AllByRecursion IsSymbols tokens → IsEncoding b (concat tokens) octets → GivesWhere cause value sure octets r
+    {O E : Type 0} (cause : E → Cause) (value : O → List ℕ) (room : Room) (r : Result O E) (tokens : List Token)
+    (answer : (text : List ℕ) → IsJoin tokens text → AnswersConverted codec cause value room text r) where
+  pub entry_whole : (octets : List ℕ) → AllByRecursion IsSymbols tokens → IsEncoding b (concat tokens) octets → GivesWhere cause value room octets r
   entry_whole octets all is =
-      gives_value codec same_step needs_char b texts only cause value sure most (concat tokens) octets r is (answer (concat tokens) (whole_join tokens all))
+      gives_value codec same_step needs_char b texts only cause value room (concat tokens) octets r is (answer (concat tokens) (whole_join tokens all))
 
-  pub entry_back : (octets : List ℕ) → list_all is_plain b.alphabet ≡ true → IsEncoding b (encoded b octets) octets → concat tokens ≡ encoded b octets → GivesWhere cause value sure octets r
+  pub entry_back : (octets : List ℕ) → list_all is_plain b.alphabet ≡ true → IsEncoding b (encoded b octets) octets → concat tokens ≡ encoded b octets → GivesWhere cause value room octets r
   entry_back octets plain encoding is =
       entry_whole octets (plain_parts tokens (ap (list_all is_plain) is ∙ encoded_plain b octets plain)) (subst (λ (t : List ℕ). IsEncoding b t octets) (sym is) encoding)
 
   pub entry_only : IfOk r (λ _. AllByRecursion IsSymbols tokens) → IfOk r (λ x. IsEncoding b (concat tokens) (value x))
   entry_only symbols =
       if_ok (λ x. IsEncoding b (concat tokens) (value x)) r symbols
-      (λ all. gives_only codec same_step needs_char b texts only cause value sure most (concat tokens) r (answer (concat tokens) (whole_join tokens all)))
+      (λ all. gives_only codec same_step needs_char b texts only cause value room (concat tokens) r (answer (concat tokens) (whole_join tokens all)))

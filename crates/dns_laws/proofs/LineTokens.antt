@@ -5,6 +5,7 @@ use Rattle.std.specs.Fmt.{decimal}
 use Rattle.std.proofs.lemmas.Bool.{and_parts}
 use Rattle.std.proofs.lemmas.List.Elements.{recursion_from_All}
 use Rattle.std.proofs.lemmas.Str.{encode_ascii}
+use Rattle.dns_octets.specs.Room.{Room, within}
 use Rattle.dns_codec.specs.Base.{base16, base64, encoded}
 use Rattle.dns_symbol.specs.declared.symbol.Symbol.{Symbol}
 use Rattle.dns_symbol.specs.declared.symbol.Symbol.TheVariants.{Char}
@@ -12,8 +13,8 @@ use Rattle.dns_symbol.specs.Symbol.{bytes, is_readable, stands_in_word, is_word_
 use Rattle.dns_symbol.proofs.Unique.{bytes_same}
 use Rattle.std.specs.declared.alloc.Global.{Global}
 use Rattle.dns_split.specs.Answer.{Answers}
-use Rattle.dns_split.specs.declared.splitting.SplitError.{SplitError}
-use Rattle.dns_split.specs.declared.splitting.SplitError.TheVariants.{BadText, ShortBuf}
+use Rattle.dns_split.specs.declared.error.SplitError.{SplitError}
+use Rattle.dns_split.specs.declared.error.SplitError.TheVariants.{BadText, ShortBuf}
 use Rattle.dns_split.specs.Splitting.{Entries, Splits, SplitsOnlyInto, with_token}
 use Rattle.dns_split.specs.Token.{IsWord}
 use Rattle.dns_symbol.specs.Cause.{Cause}
@@ -113,14 +114,14 @@ abbrev pub as_text : {O E : Type 0} → Result (List ℕ) E → Result (Scanned 
 as_text (Ok o) = Ok (TextScanned o)
 as_text (Err e) = Err e
 
-module _ {S O E : Type 0} (next : S → Option Token → S → Type 0) (cause : E → Cause) (octets : O → List ℕ) (sure : ℕ) (old : S) where
-  octets_back : (os : List ℕ) (r : Result O E) → GivesWhere cause octets sure os r → GivesOctets cause octets sure os (as_octets r)
+module _ {S O E : Type 0} (next : S → Option Token → S → Type 0) (cause : E → Cause) (octets : O → List ℕ) (room : Room) (old : S) where
+  octets_back : (os : List ℕ) (r : Result O E) → GivesWhere cause octets room os r → GivesOctets cause octets room os (as_octets r)
   octets_back os (Ok o) (inl h) = inl (o, refl, h)
   octets_back os (Ok o) (inr h) = absurd h.0
   octets_back os (Err e) (inl h) = absurd h
   octets_back os (Err e) (inr h) = inr h
 
-  text_back : (os : List ℕ) (r : Result (List ℕ) E) → length os ≤ 255 → GivesWhere cause (λ o. o) (min sure 255) os r → GivesField cause octets sure (text_octets os) (as_text r)
+  text_back : (os : List ℕ) (r : Result (List ℕ) E) → length os ≤ 255 → GivesWhere cause (λ o. o) (within 255 room) os r → GivesField cause octets room (text_octets os) (as_text r)
   text_back os (Ok o) short (inl h) = inl (ap (λ l. Ok (TextScanned l)) h)
   text_back os (Ok o) short (inr h) = absurd h.0
   text_back os (Err e) short (inl h) = absurd h
@@ -130,7 +131,7 @@ module _ {S O E : Type 0} (next : S → Option Token → S → Type 0) (cause : 
   module _ (text : Token) (others : List Token) (stands : HasTokens next old (text ∷ others)) where
     pub number_field : (new : S) (field : Content) (r : Result ℕ E) → IsContent field → kind_of field ≡ Number → IsScannedOf (field_text field) text
         → ((tokens : List Token) → HasTokens next old tokens → (rest : List Token) × ReadsFirst (NumberReads (greatest 32)) tokens (by_cause cause r) rest × HasTokens next new rest)
-        → GivesField cause octets sure field (as_number r)
+        → GivesField cause octets room field (as_number r)
     number_field new (number n) r is kind scanned reads =
         let same = scanned_word (decimal n) text (number_word n is) scanned in
         let read = (reads (text ∷ others) stands).1.0 in
@@ -144,8 +145,8 @@ module _ {S O E : Type 0} (next : S → Option Token → S → Type 0) (cause : 
     stands_at token same = subst (λ t. HasTokens next old (t ∷ others)) same stands
 
     pub hex_field : (field : Content) (r : Result O E) → IsContent field → IsPrintable field → kind_of field ≡ Hex → IsScannedOf (field_text field) text
-        → ((os : List ℕ) (ts : List Token) → AllByRecursion (λ o. o < 256) os → HasTokens next old (encoded base16 os ∷ ts) → GivesWhere cause octets sure os r)
-        → GivesField cause octets sure field (as_octets r)
+        → ((os : List ℕ) (ts : List Token) → AllByRecursion (λ o. o < 256) os → HasTokens next old (encoded base16 os ∷ ts) → GivesWhere cause octets room os r)
+        → GivesField cause octets room field (as_octets r)
     hex_field (hex_octets os) r is can kind scanned back =
         octets_back os r (back os others (recursion_from_All (λ o. o < 256) os is) (stands_at (encoded base16 os) (scanned_word (encoded base16 os) text (hex_word os is can) scanned)))
     hex_field (number n) r is can kind scanned back = cc
@@ -153,8 +154,8 @@ module _ {S O E : Type 0} (next : S → Option Token → S → Type 0) (cause : 
     hex_field (text_octets os) r is can kind scanned back = cc
 
     pub base64_field : (field : Content) (r : Result O E) → IsContent field → IsPrintable field → kind_of field ≡ Base64 → IsScannedOf (field_text field) text
-        → ((os : List ℕ) (ts : List Token) → AllByRecursion (λ o. o < 256) os → HasTokens next old (encoded base64 os ∷ ts) → GivesWhere cause octets sure os r)
-        → GivesField cause octets sure field (as_octets r)
+        → ((os : List ℕ) (ts : List Token) → AllByRecursion (λ o. o < 256) os → HasTokens next old (encoded base64 os ∷ ts) → GivesWhere cause octets room os r)
+        → GivesField cause octets room field (as_octets r)
     base64_field (base64_octets os) r is can kind scanned back =
         octets_back os r (back os others (recursion_from_All (λ o. o < 256) os is) (stands_at (encoded base64 os) (scanned_word (encoded base64 os) text (base64_word os is can) scanned)))
     base64_field (number n) r is can kind scanned back = cc
@@ -162,8 +163,8 @@ module _ {S O E : Type 0} (next : S → Option Token → S → Type 0) (cause : 
     base64_field (text_octets os) r is can kind scanned back = cc
 
     pub text_field : (field : Content) (r : Result (List ℕ) E) → IsContent field → kind_of field ≡ Text → IsScannedOf (field_text field) text
-        → ((os : List ℕ) (ts : List Token) → All (λ o. o < 256) os → HasTokens next old (unquoted_token os ∷ ts) → GivesWhere cause (λ o. o) (min sure 255) os r)
-        → GivesField cause octets sure field (as_text r)
+        → ((os : List ℕ) (ts : List Token) → All (λ o. o < 256) os → HasTokens next old (unquoted_token os ∷ ts) → GivesWhere cause (λ o. o) (within 255 room) os r)
+        → GivesField cause octets room field (as_text r)
     text_field (text_octets []) r is kind scanned back = text_back [] r is.1 (back [] others is.0 (stands_at [] (scanned_quotes text scanned)))
     text_field (text_octets (o ∷ os)) r is kind scanned back =
         text_back (o ∷ os) r is.1 (back (o ∷ os) others is.0 (stands_at (unquoted_token (o ∷ os)) (scanned_word (unquoted_token (o ∷ os)) text (text_word o os is.0) scanned)))

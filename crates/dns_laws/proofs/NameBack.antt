@@ -2,6 +2,7 @@
 use Rattle.std.proofs.Common.{◌≡◌, ℕ, ◌<◌, ◌≤◌, Bool, true, false, List, [], ◌∷◌, ◌++◌, ⊎_elim, subst, refl, arith, inl, inr, Result, Ok, Err}
 use Rattle.std.specs.Prelude.{nat_lt}
 use Rattle.std.proofs.lemmas.Bool.Decides.{nat_tests}
+use Rattle.dns_octets.specs.Room.{Room}
 use Rattle.dns_wire.specs.Wire.{wire_length}
 use Rattle.dns_wire.proofs.Wires.{wire_length_append}
 use Rattle.dns_name.specs.Uncertain.{labels_of}
@@ -15,34 +16,38 @@ use Rattle.dns_name.specs.declared.name.error.FromStrError.TheVariants.{Symbol, 
 use Rattle.dns_name.proofs.WholeName.{whole_reads}
 use Rattle.dns_laws.specs.Names.{GivesName}
 
-module _ (O : Type 0) {E : Type 0} (cause : E → Cause) (sure most : ℕ) (token : List ℕ) (n : UncertainName O) (is : ReadsAs token n) where
+module _ (O : Type 0) {E : Type 0} (cause : E → Cause) (room : Room) (token : List ℕ) (n : UncertainName O) (is : ReadsAs token n) where
   -- the labels of the name that is read
   abbrev size : ℕ
   size = wire_length (labels_of n)
 
-  -- what is read where there is room for all of it
-  ample : (read : Result (UncertainName O) FromStrError) → ReadsName size most token read → read ≡ Ok n
-  ample read h = whole_reads token size most n read h is (omega arith)
+  -- the same room, in which it surely fits
+  abbrev enough : Room
+  enough = record room { fits = size }
 
-  refused : (e : FromStrError) → ReadsName {O = O} size most token (Err e) → ⊥
+  -- what is read where there is room for all of it
+  ample : (read : Result (UncertainName O) FromStrError) → ReadsName enough token read → read ≡ Ok n
+  ample read h = whole_reads token enough n read h is (omega arith)
+
+  refused : (e : FromStrError) → ReadsName {O = O} enough token (Err e) → ⊥
   refused e h = let z = ample (Err e) h in cc
 
-  tight : ReadsName {O = O} sure most token (Err ShortBuf) → size ≤ sure → ⊥
-  tight h fits = let z = whole_reads token sure most n (Err ShortBuf) h is fits in cc
+  tight : ReadsName {O = O} room token (Err ShortBuf) → size ≤ room.fits → ⊥
+  tight h fits = let z = whole_reads token room n (Err ShortBuf) h is fits in cc
 
-  short : ReadsName {O = O} sure most token (Err ShortBuf) → sure < size
-  short h = by (nat_lt sure size) refl
+  short : ReadsName {O = O} room token (Err ShortBuf) → room.fits < size
+  short h = by (nat_lt room.fits size) refl
     where
-      by : (b : Bool) → nat_lt sure size ≡ b → sure < size
-      by true e = let less : sure < size = grind (arith, nat_tests) in less
-      by false e = absurd (tight h (let fits : size ≤ sure = grind (arith, nat_tests) in fits))
+      by : (b : Bool) → nat_lt room.fits size ≡ b → room.fits < size
+      by true e = let less : room.fits < size = grind (arith, nat_tests) in less
+      by false e = absurd (tight h (let fits : size ≤ room.fits = grind (arith, nat_tests) in fits))
 
   -- any answer, from that of the name and that of a lack of room
-  answered : (r : Result (List (List ℕ)) E) (P : Type 0) → (AnswersName cause sure most (Ok n) r → P) → (sure < size → IsCause cause r invalid_name → P) → ReadsToken O cause sure most token r → P
+  answered : (r : Result (List (List ℕ)) E) (P : Type 0) → (AnswersName cause room (Ok n) r → P) → (room.fits < size → IsCause cause r invalid_name → P) → ReadsToken O cause room token r → P
   answered r P good lacks (read, h, a) = by read h a
     where
-      by : (read : Result (UncertainName O) FromStrError) → ReadsName sure most token read → AnswersName cause sure most read r → P
-      by (Ok m) h a = let same : m ≡ n = cc (ample (Ok m) h) in good (subst (λ x. AnswersName cause sure most (Ok x) r) same a)
+      by : (read : Result (UncertainName O) FromStrError) → ReadsName room token read → AnswersName cause room read r → P
+      by (Ok m) h a = let same : m ≡ n = cc (ample (Ok m) h) in good (subst (λ x. AnswersName cause room (Ok x) r) same a)
       by (Err (Symbol e)) h a = absurd (refused (Symbol e) h)
       by (Err BadOctet) h a = absurd (refused BadOctet h)
       by (Err BinaryLabel) h a = absurd (refused BinaryLabel h)
@@ -51,12 +56,12 @@ module _ (O : Type 0) {E : Type 0} (cause : E → Cause) (sure most : ℕ) (toke
       by (Err LongName) h a = absurd (refused LongName h)
       by (Err ShortBuf) h a = lacks (short h) a
 
-module _ (O : Type 0) {E : Type 0} (cause : E → Cause) (sure most : ℕ) (token : List ℕ) (name : List (List ℕ)) where
-  pub name_back : ReadsAs {O = O} token (Absolute name) → (r : Result (List (List ℕ)) E) → ReadsToken O cause sure most token r → GivesName cause sure name r
-  name_back is r = answered O cause sure most token (Absolute name) is r (GivesName cause sure name r) (λ a. inl a) (λ less a. inr (a, less))
+module _ (O : Type 0) {E : Type 0} (cause : E → Cause) (room : Room) (token : List ℕ) (name : List (List ℕ)) where
+  pub name_back : ReadsAs {O = O} token (Absolute name) → (r : Result (List (List ℕ)) E) → ReadsToken O cause room token r → GivesName cause room name r
+  name_back is r = answered O cause room token (Absolute name) is r (GivesName cause room name r) (λ a. inl a) (λ less a. inr (a, less))
 
   -- a relative name gets the root
-  pub relative_back : ReadsAs {O = O} token (Relative name) → (name ≡ [] → ⊥) → (r : Result (List (List ℕ)) E) → ReadsToken O cause sure most token r → GivesName cause sure (name ++ [] ∷ []) r
-  relative_back is some r = answered O cause sure most token (Relative name) is r (GivesName cause sure (name ++ [] ∷ []) r)
+  pub relative_back : ReadsAs {O = O} token (Relative name) → (name ≡ [] → ⊥) → (r : Result (List (List ℕ)) E) → ReadsToken O cause room token r → GivesName cause room (name ++ [] ∷ []) r
+  relative_back is some r = answered O cause room token (Relative name) is r (GivesName cause room (name ++ [] ∷ []) r)
       (λ a. ⊎_elim (λ none. absurd (some none.0)) (λ b. ⊎_elim (λ ok. inl ok.1) (λ lack. inr (lack.2, omega (arith, lack.1, wire_length_append name ([] ∷ [])))) b) a)
       (λ less a. inr (a, omega (arith, less, wire_length_append name ([] ∷ []))))

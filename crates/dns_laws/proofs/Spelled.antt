@@ -3,10 +3,11 @@ use Rattle.std.proofs.Common.{ℕ, ◌≡◌, ◌<◌, List, [], ◌∷◌, ◌+
 use Rattle.std.proofs.Common.{length, map, refl, sym, ap, subst, ◌∙◌, arith, append_assoc, ◌⊎◌, inl, inr, ⊎_elim, Option, Some, None, Result, Ok, Err, Bool, true, false}
 use Rattle.std.specs.Prelude.{IfOk}
 use Rattle.std.specs.List.{list_all, AllByRecursion}
+use Rattle.dns_octets.specs.Room.{Room, exactly}
 use Rattle.dns_symbol.specs.declared.symbol.Symbol.{Symbol}
-use Rattle.dns_symbol.specs.declared.symbol.BadSymbol.{BadSymbol}
+use Rattle.dns_symbol.specs.declared.error.BadSymbol.{BadSymbol}
 use Rattle.dns_symbol.specs.declared.symbol.Symbol.TheVariants.{Char}
-use Rattle.dns_symbol.specs.declared.symbol.SymbolCharsError.{SymbolCharsError}
+use Rattle.dns_symbol.specs.declared.error.SymbolCharsError.{SymbolCharsError}
 use Rattle.dns_symbol.specs.Symbol.{char_of}
 use Rattle.dns_symbol.specs.Text.{SymbolsOf}
 use Rattle.dns_symbol.proofs.Unique.{symbols_same}
@@ -72,18 +73,18 @@ module _ (codec : Codec) where
       made_once token built octets k (h.0, h.1, h.2, all_made codec.start [] h.0 h.1 octets h.3)
 
   -- where the room is known, answers are one
-  pub answers_once : (room : ℕ) (token : Token) (q r : Result (List ℕ) Cause) → AnswersConverted codec (λ why. why) (λ octets. octets) room room token q
-      → AnswersConverted codec (λ why. why) (λ octets. octets) room room token r → q ≡ r
-  answers_once room token (Ok a) (Ok b) h k = converts_once token (Ok a) (Ok b) h.2.0 k.2.0
-  answers_once room token (Ok a) (Err e) h k = ⊎_elim
+  pub answers_once : (size : ℕ) (token : Token) (q r : Result (List ℕ) Cause) → AnswersConverted codec (λ why. why) (λ octets. octets) (exactly size) token q
+      → AnswersConverted codec (λ why. why) (λ octets. octets) (exactly size) token r → q ≡ r
+  answers_once size token (Ok a) (Ok b) h k = converts_once token (Ok a) (Ok b) h.2.0 k.2.0
+  answers_once size token (Ok a) (Err e) h k = ⊎_elim
       (λ p. converts_once token (Ok a) (Err e) h.2.0 p.0)
       (λ p. absurd (omega (arith, h.2.1, p.1, ap length (made_once token h.0 k.0 h.1 k.1))))
       k.2
-  answers_once room token (Err d) (Ok b) h k = ⊎_elim
+  answers_once size token (Err d) (Ok b) h k = ⊎_elim
       (λ p. converts_once token (Err d) (Ok b) p.0 k.2.0)
       (λ p. absurd (omega (arith, k.2.1, p.1, ap length (made_once token h.0 k.0 h.1 k.1))))
       h.2
-  answers_once room token (Err d) (Err e) h k = ⊎_elim
+  answers_once size token (Err d) (Err e) h k = ⊎_elim
       (λ p. ⊎_elim
       (λ o. converts_once token (Err d) (Err e) p.0 o.0)
       (λ o. absurd (omega (arith, p.1, o.1, ap length (made_once token h.0 k.0 h.1 k.1))))
@@ -95,13 +96,13 @@ module _ (codec : Codec) where
       h.2
 
   -- a token that converts to octets gives them, room aside
-  pub gives_octets : {O E : Type 0} (cause : E → Cause) (value : O → List ℕ) (sure most : ℕ) (token : Token) (octets : List ℕ) (r : Result O E) → ConvertsTo codec token (Ok octets)
-      → AnswersConverted codec cause value sure most token r → GivesWhere cause value sure octets r
-  gives_octets cause value sure most token octets (Ok x) h k =
+  pub gives_octets : {O E : Type 0} (cause : E → Cause) (value : O → List ℕ) (room : Room) (token : Token) (octets : List ℕ) (r : Result O E) → ConvertsTo codec token (Ok octets)
+      → AnswersConverted codec cause value room token r → GivesWhere cause value room octets r
+  gives_octets cause value room token octets (Ok x) h k =
       let same = converts_once token (Ok (value x)) (Ok octets) k.2.0 h in
       let is : value x ≡ octets = cc same in
       inl is
-  gives_octets cause value sure most token octets (Err e) h k = ⊎_elim
+  gives_octets cause value room token octets (Err e) h k = ⊎_elim
       (λ p. absurd (no_octets (cause e) octets (converts_once token (Err (cause e)) (Ok octets) p.0 h)))
       (λ p. inr (p.0, omega (arith, p.1, ap length (octets_made token k.0 octets h k.1))))
       k.2
@@ -152,14 +153,14 @@ module _ (codec : Codec) where
       converts token octets h = (h.symbols, None, h.read, by_chars codec.start [] h.symbols h.text h.chars ∙ texts h.text octets h.decodes)
 
       -- what a scanner gives of a text of the encoding, and of any token
-      pub gives_value : {O E : Type 0} (cause : E → Cause) (value : O → List ℕ) (sure most : ℕ) (token : Token) (octets : List ℕ) (r : Result O E) → IsEncoding b token octets
-          → AnswersConverted codec cause value sure most token r → GivesWhere cause value sure octets r
-      gives_value cause value sure most token octets r h k = gives_octets cause value sure most token octets r (converts token octets h) k
+      pub gives_value : {O E : Type 0} (cause : E → Cause) (value : O → List ℕ) (room : Room) (token : Token) (octets : List ℕ) (r : Result O E) → IsEncoding b token octets
+          → AnswersConverted codec cause value room token r → GivesWhere cause value room octets r
+      gives_value cause value room token octets r h k = gives_octets cause value room token octets r (converts token octets h) k
 
-      pub gives_only : {O E : Type 0} (cause : E → Cause) (value : O → List ℕ) (sure most : ℕ) (token : Token) (r : Result O E) → AnswersConverted codec cause value sure most token r
+      pub gives_only : {O E : Type 0} (cause : E → Cause) (value : O → List ℕ) (room : Room) (token : Token) (r : Result O E) → AnswersConverted codec cause value room token r
           → IfOk r (λ x. IsEncoding b token (value x))
-      gives_only cause value sure most token (Ok x) k = spelled token (value x) k.2.0
-      gives_only cause value sure most token (Err e) k = tt
+      gives_only cause value room token (Ok x) k = spelled token (value x) k.2.0
+      gives_only cause value room token (Err e) k = tt
 
 -- the characters of plain symbols
 plain_chars : (text : List ℕ) → map char_of (plain_symbols text) ≡ map Ok text

@@ -1,5 +1,6 @@
 -- The tokens of an entry line, and what they are scanned as.
 use Rattle.std.specs.Prelude.{⊤, ◌≡◌, ◌<◌, ◌⊎◌, ℕ, List, [], ◌∷◌, ◌++◌, length, map, Result, Ok}
+use Rattle.dns_octets.specs.Room.{Room}
 use Rattle.dns_symbol.specs.Characters.{double_quote}
 use Rattle.dns_split.specs.Splitting.{Entries}
 use Rattle.dns_split.specs.Token.{IsWord}
@@ -8,7 +9,7 @@ use Rattle.dns_scan.specs.Tokens.{Token}
 use Rattle.dns_entry.specs.Field.{Content, number, hex_octets, base64_octets, text_octets, field_text}
 use Rattle.dns_entry.specs.Line.{IsFirstEmpty}
 use Rattle.dns_entry.specs.EntryError.{place_of}
-use Rattle.dns_split.specs.declared.splitting.SplitError.TheVariants.{BadText, ShortBuf}
+use Rattle.dns_split.specs.declared.error.SplitError.TheVariants.{BadText, ShortBuf}
 use Rattle.dns_laws.specs.declared.lines.Refusal.{Refusal}
 use Rattle.dns_laws.specs.declared.lines.Refusal.TheVariants.{Line, Split}
 use Rattle.dns_program.specs.declared.program.FieldKind.{FieldKind}
@@ -38,12 +39,12 @@ kind_of (base64_octets os) = Base64
 kind_of (text_octets os) = Text
 
 -- the answer has these octets, or is "short buffer" where they are more than surely fit
-abbrev pub GivesOctets : {O E : Type 0} → (E → Cause) → (O → List ℕ) → ℕ → List ℕ → Result (Scanned O) E → Type 0
-GivesOctets {O} cause octets sure os r = ((o : O) × (r ≡ Ok (Octets o)) × (octets o ≡ os)) ⊎ (IsCause cause r short_buf × (sure < length os))
+abbrev pub GivesOctets : {O E : Type 0} → (E → Cause) → (O → List ℕ) → Room → List ℕ → Result (Scanned O) E → Type 0
+GivesOctets {O} cause octets room os r = ((o : O) × (r ≡ Ok (Octets o)) × (octets o ≡ os)) ⊎ (IsCause cause r short_buf × (room.fits < length os))
 
 -- the answer is what the field holds, where its octets find room
-abbrev pub GivesField : {O E : Type 0} → (E → Cause) → (O → List ℕ) → ℕ → Content → Result (Scanned O) E → Type 0
-GivesField cause octets sure (number n) r = r ≡ Ok (NumberScanned n)
-GivesField cause octets sure (hex_octets os) r = GivesOctets cause octets sure os r
-GivesField cause octets sure (base64_octets os) r = GivesOctets cause octets sure os r
-GivesField cause octets sure (text_octets os) r = (r ≡ Ok (TextScanned os)) ⊎ (IsCause cause r short_buf × (sure < length os))
+abbrev pub GivesField : {O E : Type 0} → (E → Cause) → (O → List ℕ) → Room → Content → Result (Scanned O) E → Type 0
+GivesField cause octets room (number n) r = r ≡ Ok (NumberScanned n)
+GivesField cause octets room (hex_octets os) r = GivesOctets cause octets room os r
+GivesField cause octets room (base64_octets os) r = GivesOctets cause octets room os r
+GivesField cause octets room (text_octets os) r = (r ≡ Ok (TextScanned os)) ⊎ (IsCause cause r short_buf × (room.fits < length os))

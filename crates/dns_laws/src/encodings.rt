@@ -1,6 +1,7 @@
 //! Laws on encodings: what tokens convert to, and that a text is scanned back.
 ghost use Rattle.std.specs.Prelude.{◌≡◌, ◌↔◌, ℕ, ◌<◌, List, ◌∷◌, Ok, Result, IfOk};
 ghost use Rattle.std.specs.List.{AllByRecursion};
+ghost use Rattle.dns_octets.specs.Room.{exactly};
 ghost use Rattle.dns_codec.specs.Base.{Base, IsEncoding as IsBase, base16, base32hex, base64, encoded};
 ghost use Rattle.dns_symbol.specs.Cause.{Cause};
 ghost use Rattle.dns_scan.specs.Octets.{GivesWhere};
@@ -24,11 +25,11 @@ pub fn encoding_is_scanned_back<K: Encoding, S: Scanner>(
     requires { S.can_scan scanner.old }
     ensures ready { S.can_scan scanner.new }
     ensures back { (octets : List ℕ) (others : List Token) → AllByRecursion (λ o. o < 256) octets → HasTokens S.next_token scanner.old (encoded K.base octets ∷ others)
-        → GivesWhere S.Error.cause S.Octets.octets S.OctetsBuilder.sure octets result }
+        → GivesWhere S.Error.cause S.Octets.octets S.OctetsBuilder.room octets result }
     ensures whole { (token : Token) (others : List Token) (octets : List ℕ) → HasTokens S.next_token scanner.old (token ∷ others)
-        → IsEncoding K.base token octets → GivesWhere S.Error.cause S.Octets.octets S.OctetsBuilder.sure octets result }
+        → IsEncoding K.base token octets → GivesWhere S.Error.cause S.Octets.octets S.OctetsBuilder.room octets result }
     ensures answer { (token : Token) (others : List Token) → HasTokens S.next_token scanner.old (token ∷ others)
-        → AnswersConverted (codec_of K.base) S.Error.cause S.Octets.octets S.OctetsBuilder.sure S.OctetsBuilder.most token result }
+        → AnswersConverted (codec_of K.base) S.Error.cause S.Octets.octets S.OctetsBuilder.room token result }
     ensures only { (token : Token) (others : List Token) → HasTokens S.next_token scanner.old (token ∷ others) → IfOk result (λ o. IsEncoding K.base token (S.Octets.octets o)) }
     ensures rest { (token : Token) (others : List Token) → HasTokens S.next_token scanner.old (token ∷ others) → HasTokens S.next_token scanner.new others }
 {
@@ -45,11 +46,11 @@ pub fn hex_is_scanned_back<S: Scanner>(scanner: &mut S) -> Result<S::Octets, S::
     requires { S.can_scan scanner.old }
     ensures ready { S.can_scan scanner.new }
     ensures back { (octets : List ℕ) (others : List Token) → AllByRecursion (λ o. o < 256) octets → HasTokens S.next_token scanner.old (encoded base16 octets ∷ others)
-        → GivesWhere S.Error.cause S.Octets.octets S.OctetsBuilder.sure octets result }
+        → GivesWhere S.Error.cause S.Octets.octets S.OctetsBuilder.room octets result }
     ensures whole { (token : Token) (others : List Token) (octets : List ℕ) → HasTokens S.next_token scanner.old (token ∷ others)
-        → IsEncoding base16 token octets → GivesWhere S.Error.cause S.Octets.octets S.OctetsBuilder.sure octets result }
+        → IsEncoding base16 token octets → GivesWhere S.Error.cause S.Octets.octets S.OctetsBuilder.room octets result }
     ensures answer { (token : Token) (others : List Token) → HasTokens S.next_token scanner.old (token ∷ others)
-        → AnswersConverted hex_codec S.Error.cause S.Octets.octets S.OctetsBuilder.sure S.OctetsBuilder.most token result }
+        → AnswersConverted hex_codec S.Error.cause S.Octets.octets S.OctetsBuilder.room token result }
     ensures only { (token : Token) (others : List Token) → HasTokens S.next_token scanner.old (token ∷ others) → IfOk result (λ o. IsEncoding base16 token (S.Octets.octets o)) }
     ensures rest { (token : Token) (others : List Token) → HasTokens S.next_token scanner.old (token ∷ others) → HasTokens S.next_token scanner.new others }
 {
@@ -62,11 +63,11 @@ pub fn base32hex_is_scanned_back<S: Scanner>(scanner: &mut S) -> Result<S::Octet
     requires { S.can_scan scanner.old }
     ensures ready { S.can_scan scanner.new }
     ensures back { (octets : List ℕ) (others : List Token) → AllByRecursion (λ o. o < 256) octets → HasTokens S.next_token scanner.old (encoded base32hex octets ∷ others)
-        → GivesWhere S.Error.cause S.Octets.octets S.OctetsBuilder.sure octets result }
+        → GivesWhere S.Error.cause S.Octets.octets S.OctetsBuilder.room octets result }
     ensures whole { (token : Token) (others : List Token) (octets : List ℕ) → HasTokens S.next_token scanner.old (token ∷ others)
-        → IsEncoding base32hex token octets → GivesWhere S.Error.cause S.Octets.octets S.OctetsBuilder.sure octets result }
+        → IsEncoding base32hex token octets → GivesWhere S.Error.cause S.Octets.octets S.OctetsBuilder.room octets result }
     ensures answer { (token : Token) (others : List Token) → HasTokens S.next_token scanner.old (token ∷ others)
-        → AnswersConverted base32hex_codec S.Error.cause S.Octets.octets S.OctetsBuilder.sure S.OctetsBuilder.most token result }
+        → AnswersConverted base32hex_codec S.Error.cause S.Octets.octets S.OctetsBuilder.room token result }
     ensures only { (token : Token) (others : List Token) → HasTokens S.next_token scanner.old (token ∷ others) → IfOk result (λ o. IsEncoding base32hex token (S.Octets.octets o)) }
     ensures rest { (token : Token) (others : List Token) → HasTokens S.next_token scanner.old (token ∷ others) → HasTokens S.next_token scanner.new others }
 {
@@ -80,11 +81,11 @@ pub fn base64_is_scanned_back<S: Scanner>(scanner: &mut S) -> Result<S::Octets, 
     requires { S.can_scan scanner.old }
     ensures ready { S.can_scan scanner.new }
     ensures back { (octets : List ℕ) (others : List Token) → AllByRecursion (λ o. o < 256) octets → HasTokens S.next_token scanner.old (encoded base64 octets ∷ others)
-        → GivesWhere S.Error.cause S.Octets.octets S.OctetsBuilder.sure octets result }
+        → GivesWhere S.Error.cause S.Octets.octets S.OctetsBuilder.room octets result }
     ensures whole { (token : Token) (others : List Token) (octets : List ℕ) → HasTokens S.next_token scanner.old (token ∷ others)
-        → IsEncoding base64 token octets → GivesWhere S.Error.cause S.Octets.octets S.OctetsBuilder.sure octets result }
+        → IsEncoding base64 token octets → GivesWhere S.Error.cause S.Octets.octets S.OctetsBuilder.room octets result }
     ensures answer { (token : Token) (others : List Token) → HasTokens S.next_token scanner.old (token ∷ others)
-        → AnswersConverted base64_codec S.Error.cause S.Octets.octets S.OctetsBuilder.sure S.OctetsBuilder.most token result }
+        → AnswersConverted base64_codec S.Error.cause S.Octets.octets S.OctetsBuilder.room token result }
     ensures only { (token : Token) (others : List Token) → HasTokens S.next_token scanner.old (token ∷ others) → IfOk result (λ o. IsEncoding base64 token (S.Octets.octets o)) }
     ensures rest { (token : Token) (others : List Token) → HasTokens S.next_token scanner.old (token ∷ others) → HasTokens S.next_token scanner.new others }
 {
@@ -109,6 +110,6 @@ pub fn tokens_convert_to_one_thing()
 
 /// Over a builder whose room is known, as an array's, a token is answered in one way.
 pub fn encodings_are_answered_in_one_way()
-    ensures { (b : Base) (room : ℕ) (token : Token) (q r : Result (List ℕ) Cause) → AnswersConverted (codec_of b) (λ why. why) (λ s. s) room room token q
-        → AnswersConverted (codec_of b) (λ why. why) (λ s. s) room room token r → q ≡ r }
+    ensures { (b : Base) (size : ℕ) (token : Token) (q r : Result (List ℕ) Cause) → AnswersConverted (codec_of b) (λ why. why) (λ s. s) (exactly size) token q
+        → AnswersConverted (codec_of b) (λ why. why) (λ s. s) (exactly size) token r → q ≡ r }
 {}

@@ -22,11 +22,11 @@ pub fn entry_is_scanned_back<K: Encoding, S: Scanner>(
     requires { S.can_scan scanner.old }
     ensures ready { S.can_scan scanner.new }
     ensures back { (octets : List ℕ) (tokens : List Token) → AllByRecursion (λ o. o < 256) octets → HasTokens S.next_token scanner.old tokens
-        → concat tokens ≡ encoded K.base octets → GivesWhere S.Error.cause S.Octets.octets S.OctetsBuilder.sure octets result }
+        → concat tokens ≡ encoded K.base octets → GivesWhere S.Error.cause S.Octets.octets S.OctetsBuilder.room octets result }
     ensures whole { (tokens : List Token) (octets : List ℕ) → HasTokens S.next_token scanner.old tokens → AllByRecursion IsSymbols tokens
-        → IsEncoding K.base (concat tokens) octets → GivesWhere S.Error.cause S.Octets.octets S.OctetsBuilder.sure octets result }
+        → IsEncoding K.base (concat tokens) octets → GivesWhere S.Error.cause S.Octets.octets S.OctetsBuilder.room octets result }
     ensures answer { (tokens : List Token) (text : List ℕ) → HasTokens S.next_token scanner.old tokens → IsJoin tokens text
-        → AnswersConverted (codec_of K.base) S.Error.cause S.Octets.octets S.OctetsBuilder.sure S.OctetsBuilder.most text result }
+        → AnswersConverted (codec_of K.base) S.Error.cause S.Octets.octets S.OctetsBuilder.room text result }
     ensures only { (tokens : List Token) → HasTokens S.next_token scanner.old tokens → IfOk result (λ o. IsEncoding K.base (concat tokens) (S.Octets.octets o)) }
     ensures rest { (tokens : List Token) → HasTokens S.next_token scanner.old tokens → LeavesOf S.next_token tokens result scanner.new }
 {
@@ -40,11 +40,11 @@ pub fn hex_entry_is_scanned_back<S: Scanner>(scanner: &mut S) -> Result<S::Octet
     requires { S.can_scan scanner.old }
     ensures ready { S.can_scan scanner.new }
     ensures back { (octets : List ℕ) (tokens : List Token) → AllByRecursion (λ o. o < 256) octets → HasTokens S.next_token scanner.old tokens
-        → concat tokens ≡ encoded base16 octets → GivesWhere S.Error.cause S.Octets.octets S.OctetsBuilder.sure octets result }
+        → concat tokens ≡ encoded base16 octets → GivesWhere S.Error.cause S.Octets.octets S.OctetsBuilder.room octets result }
     ensures whole { (tokens : List Token) (octets : List ℕ) → HasTokens S.next_token scanner.old tokens → AllByRecursion IsSymbols tokens
-        → IsEncoding base16 (concat tokens) octets → GivesWhere S.Error.cause S.Octets.octets S.OctetsBuilder.sure octets result }
+        → IsEncoding base16 (concat tokens) octets → GivesWhere S.Error.cause S.Octets.octets S.OctetsBuilder.room octets result }
     ensures answer { (tokens : List Token) (text : List ℕ) → HasTokens S.next_token scanner.old tokens → IsJoin tokens text
-        → AnswersConverted hex_codec S.Error.cause S.Octets.octets S.OctetsBuilder.sure S.OctetsBuilder.most text result }
+        → AnswersConverted hex_codec S.Error.cause S.Octets.octets S.OctetsBuilder.room text result }
     ensures only { (tokens : List Token) → HasTokens S.next_token scanner.old tokens → IfOk result (λ o. IsEncoding base16 (concat tokens) (S.Octets.octets o)) }
     ensures rest { (tokens : List Token) → HasTokens S.next_token scanner.old tokens → LeavesOf S.next_token tokens result scanner.new }
 {
@@ -56,11 +56,11 @@ pub fn base32hex_entry_is_scanned_back<S: Scanner>(scanner: &mut S) -> Result<S:
     requires { S.can_scan scanner.old }
     ensures ready { S.can_scan scanner.new }
     ensures back { (octets : List ℕ) (tokens : List Token) → AllByRecursion (λ o. o < 256) octets → HasTokens S.next_token scanner.old tokens
-        → concat tokens ≡ encoded base32hex octets → GivesWhere S.Error.cause S.Octets.octets S.OctetsBuilder.sure octets result }
+        → concat tokens ≡ encoded base32hex octets → GivesWhere S.Error.cause S.Octets.octets S.OctetsBuilder.room octets result }
     ensures whole { (tokens : List Token) (octets : List ℕ) → HasTokens S.next_token scanner.old tokens → AllByRecursion IsSymbols tokens
-        → IsEncoding base32hex (concat tokens) octets → GivesWhere S.Error.cause S.Octets.octets S.OctetsBuilder.sure octets result }
+        → IsEncoding base32hex (concat tokens) octets → GivesWhere S.Error.cause S.Octets.octets S.OctetsBuilder.room octets result }
     ensures answer { (tokens : List Token) (text : List ℕ) → HasTokens S.next_token scanner.old tokens → IsJoin tokens text
-        → AnswersConverted base32hex_codec S.Error.cause S.Octets.octets S.OctetsBuilder.sure S.OctetsBuilder.most text result }
+        → AnswersConverted base32hex_codec S.Error.cause S.Octets.octets S.OctetsBuilder.room text result }
     ensures only { (tokens : List Token) → HasTokens S.next_token scanner.old tokens → IfOk result (λ o. IsEncoding base32hex (concat tokens) (S.Octets.octets o)) }
     ensures rest { (tokens : List Token) → HasTokens S.next_token scanner.old tokens → LeavesOf S.next_token tokens result scanner.new }
 {
@@ -72,11 +72,11 @@ pub fn base64_entry_is_scanned_back<S: Scanner>(scanner: &mut S) -> Result<S::Oc
     requires { S.can_scan scanner.old }
     ensures ready { S.can_scan scanner.new }
     ensures back { (octets : List ℕ) (tokens : List Token) → AllByRecursion (λ o. o < 256) octets → HasTokens S.next_token scanner.old tokens
-        → concat tokens ≡ encoded base64 octets → GivesWhere S.Error.cause S.Octets.octets S.OctetsBuilder.sure octets result }
+        → concat tokens ≡ encoded base64 octets → GivesWhere S.Error.cause S.Octets.octets S.OctetsBuilder.room octets result }
     ensures whole { (tokens : List Token) (octets : List ℕ) → HasTokens S.next_token scanner.old tokens → AllByRecursion IsSymbols tokens
-        → IsEncoding base64 (concat tokens) octets → GivesWhere S.Error.cause S.Octets.octets S.OctetsBuilder.sure octets result }
+        → IsEncoding base64 (concat tokens) octets → GivesWhere S.Error.cause S.Octets.octets S.OctetsBuilder.room octets result }
     ensures answer { (tokens : List Token) (text : List ℕ) → HasTokens S.next_token scanner.old tokens → IsJoin tokens text
-        → AnswersConverted base64_codec S.Error.cause S.Octets.octets S.OctetsBuilder.sure S.OctetsBuilder.most text result }
+        → AnswersConverted base64_codec S.Error.cause S.Octets.octets S.OctetsBuilder.room text result }
     ensures only { (tokens : List Token) → HasTokens S.next_token scanner.old tokens → IfOk result (λ o. IsEncoding base64 (concat tokens) (S.Octets.octets o)) }
     ensures rest { (tokens : List Token) → HasTokens S.next_token scanner.old tokens → LeavesOf S.next_token tokens result scanner.new }
 {

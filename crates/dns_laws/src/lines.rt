@@ -103,7 +103,7 @@ pub fn fields_are_scanned_back<S: Scanner>(
     requires { S.can_scan scanner.old }
     ensures ready { S.can_scan scanner.new }
     ensures back { (field : Content) (text : Token) (others : List Token) → IsContent field → IsPrintable field → kind_of field ≡ kind → IsScannedOf (field_text field) text
-        → HasTokens S.next_token scanner.old (text ∷ others) → GivesField S.Error.cause S.Octets.octets S.OctetsBuilder.sure field result }
+        → HasTokens S.next_token scanner.old (text ∷ others) → GivesField S.Error.cause S.Octets.octets S.OctetsBuilder.room field result }
     ensures rest { (token : Token) (others : List Token) → HasTokens S.next_token scanner.old (token ∷ others) → HasTokens S.next_token scanner.new others }
 {
     match kind {

@@ -29,15 +29,15 @@ where
     requires { ⟦<IterScanner<Iter, Octets, E> as Scanner>⟧.can_scan scanner.old }
     ensures ready { ⟦<IterScanner<Iter, Octets, E> as Scanner>⟧.can_scan scanner.new }
     ensures whole { (token : Token) (others : List Token) (name : List (List ℕ)) → HasTokens (⟦<IterScanner<Iter, Octets, E> as Scanner>⟧.next_token) scanner.old (token ∷ others)
-        → ReadsAs {O = Octets} token (Absolute name) → GivesName E.cause Octets.Builder.sure name result }
+        → ReadsAs {O = Octets} token (Absolute name) → GivesName E.cause Octets.Builder.room name result }
     ensures dotted { (name : List (List ℕ)) (others : List Token) → IsName name → EndsInRoot name → All (λ o. o < 256) (wire name)
-        → HasTokens (⟦<IterScanner<Iter, Octets, E> as Scanner>⟧.next_token) scanner.old (encode_utf8_all (dotted_text name) ∷ others) → GivesName E.cause Octets.Builder.sure name result }
+        → HasTokens (⟦<IterScanner<Iter, Octets, E> as Scanner>⟧.next_token) scanner.old (encode_utf8_all (dotted_text name) ∷ others) → GivesName E.cause Octets.Builder.room name result }
     ensures zone { (name : List (List ℕ)) (others : List Token) → IsName name → EndsInRoot name → All (λ o. o < 256) (wire name)
-        → HasTokens (⟦<IterScanner<Iter, Octets, E> as Scanner>⟧.next_token) scanner.old (zone_text name ∷ others) → GivesName E.cause Octets.Builder.sure name result }
+        → HasTokens (⟦<IterScanner<Iter, Octets, E> as Scanner>⟧.next_token) scanner.old (zone_text name ∷ others) → GivesName E.cause Octets.Builder.room name result }
     ensures relative { (token : Token) (others : List Token) (name : List (List ℕ)) → HasTokens (⟦<IterScanner<Iter, Octets, E> as Scanner>⟧.next_token) scanner.old (token ∷ others)
-        → ReadsAs {O = Octets} token (Relative name) → name ≢ [] → GivesName E.cause Octets.Builder.sure (name ++ [] ∷ []) result }
+        → ReadsAs {O = Octets} token (Relative name) → name ≢ [] → GivesName E.cause Octets.Builder.room (name ++ [] ∷ []) result }
     ensures relative_zone { (name : List (List ℕ)) (others : List Token) → IsUncertain {O = Octets} (Relative name) → name ≢ [] → All (λ o. o < 256) (wire name)
-        → HasTokens (⟦<IterScanner<Iter, Octets, E> as Scanner>⟧.next_token) scanner.old (zone_text name ∷ others) → GivesName E.cause Octets.Builder.sure (name ++ [] ∷ []) result }
+        → HasTokens (⟦<IterScanner<Iter, Octets, E> as Scanner>⟧.next_token) scanner.old (zone_text name ∷ others) → GivesName E.cause Octets.Builder.room (name ++ [] ∷ []) result }
     ensures rest { (token : Token) (others : List Token) → HasTokens (⟦<IterScanner<Iter, Octets, E> as Scanner>⟧.next_token) scanner.old (token ∷ others)
         → HasTokens (⟦<IterScanner<Iter, Octets, E> as Scanner>⟧.next_token) scanner.new others }
 {
@@ -57,14 +57,14 @@ where
     requires { ⟦<IterScanner<Iter, Octets, E> as Scanner>⟧.can_scan scanner.old }
     ensures ready { ⟦<IterScanner<Iter, Octets, E> as Scanner>⟧.can_scan scanner.new }
     ensures whole { (token : Token) (others : List Token) (name : List (List ℕ)) → HasTokens (⟦<IterScanner<Iter, Octets, E> as Scanner>⟧.next_token) scanner.old (token ∷ others)
-        → ReadsAs {O = Octets} token (Absolute name) → wire_length name ≤ Octets.Builder.sure → result ≡ Ok name }
+        → ReadsAs {O = Octets} token (Absolute name) → wire_length name ≤ Octets.Builder.room.fits → result ≡ Ok name }
     ensures zone { (name : List (List ℕ)) (others : List Token) → IsName name → EndsInRoot name → All (λ o. o < 256) (wire name)
-        → HasTokens (⟦<IterScanner<Iter, Octets, E> as Scanner>⟧.next_token) scanner.old (zone_text name ∷ others) → wire_length name ≤ Octets.Builder.sure → result ≡ Ok name }
+        → HasTokens (⟦<IterScanner<Iter, Octets, E> as Scanner>⟧.next_token) scanner.old (zone_text name ∷ others) → wire_length name ≤ Octets.Builder.room.fits → result ≡ Ok name }
     ensures relative { (token : Token) (others : List Token) (name : List (List ℕ)) → HasTokens (⟦<IterScanner<Iter, Octets, E> as Scanner>⟧.next_token) scanner.old (token ∷ others)
-        → ReadsAs {O = Octets} token (Relative name) → name ≢ [] → wire_length (name ++ [] ∷ []) ≤ Octets.Builder.sure → result ≡ Ok (name ++ [] ∷ []) }
+        → ReadsAs {O = Octets} token (Relative name) → name ≢ [] → wire_length (name ++ [] ∷ []) ≤ Octets.Builder.room.fits → result ≡ Ok (name ++ [] ∷ []) }
     ensures relative_zone { (name : List (List ℕ)) (others : List Token) → IsUncertain {O = Octets} (Relative name) → name ≢ [] → All (λ o. o < 256) (wire name)
         → HasTokens (⟦<IterScanner<Iter, Octets, E> as Scanner>⟧.next_token) scanner.old (zone_text name ∷ others)
-        → wire_length (name ++ [] ∷ []) ≤ Octets.Builder.sure → result ≡ Ok (name ++ [] ∷ []) }
+        → wire_length (name ++ [] ∷ []) ≤ Octets.Builder.room.fits → result ≡ Ok (name ++ [] ∷ []) }
 {
     names_are_scanned_back(scanner)
 }

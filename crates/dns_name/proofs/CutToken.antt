@@ -1,7 +1,7 @@
 -- A token that is a backslash alone, and calls that refuse it.
 use Rattle.std.proofs.Common.{ℕ, ◌≡◌, List, [], ◌∷◌, Some, Result, Err, refl, inr, arith, codes}
 use Rattle.dns_symbol.specs.declared.symbol.Symbol.{Symbol}
-use Rattle.dns_symbol.specs.declared.symbol.SymbolCharsError.TheVariants.{ShortInput}
+use Rattle.dns_symbol.specs.declared.error.SymbolCharsError.TheVariants.{ShortInput}
 use Rattle.dns_symbol.specs.Text.{SymbolsOf}
 use Rattle.dns_symbol.proofs.Escapes.{escape_short}
 use Rattle.dns_scan.specs.Asks.{CallsEachSymbol, Builds}

@@ -3,8 +3,9 @@ use Rattle.std.proofs.Common.{[], ◌∷◌, ◌<◌, length, arith, refl, inl, 
 use Rattle.std.specs.Prelude.{codes}
 use Rattle.std.specs.Char.{encode_utf8}
 use Rattle.std.proofs.lemmas.List.Elements.{All-cons, All-nil}
+use Rattle.dns_octets.specs.Room.{exactly}
 use Rattle.dns_symbol.specs.declared.symbol.Symbol.TheVariants.{Char, SimpleEscape, DecimalEscape}
-use Rattle.dns_symbol.specs.declared.symbol.SymbolCharsError.TheVariants.{ShortInput}
+use Rattle.dns_symbol.specs.declared.error.SymbolCharsError.TheVariants.{ShortInput}
 use Rattle.dns_symbol.proofs.Escapes.{escape_short}
 use Rattle.dns_name.specs.Reading.{Names, ReadsAs, ReadsName}
 use Rattle.dns_name.specs.declared.name.UncertainName.TheVariants.{Absolute, Relative}
@@ -93,7 +94,7 @@ module _ (O : Type 0) where
   )
 
   -- a dot after no octet of a label
-  two_dots : ReadsName {O = O} 255 255 (codes "..") (Err EmptyLabel)
+  two_dots : ReadsName {O = O} (exactly 255) (codes "..") (Err EmptyLabel)
   two_dots = (
     [],
     codes ".",
@@ -108,12 +109,12 @@ module _ (O : Type 0) where
   )
 
   -- a label that begins with an escaped bracket
-  binary_label : ReadsName {O = O} 255 255 (codes "\\[") (Err BinaryLabel)
+  binary_label : ReadsName {O = O} (exactly 255) (codes "\\[") (Err BinaryLabel)
   unfolding encode_utf8
   binary_label = ([], record { rest = []; named = record { symbols = []; readable = refl; spelled = refl; names = names_none }; readable = refl; no_dot = refl }, omega arith)
 
   -- an escape that is cut off, in a label
-  cut_escape : ReadsName {O = O} 255 255 (codes "w\\01") (Err (Symbol ShortInput))
+  cut_escape : ReadsName {O = O} (exactly 255) (codes "w\\01") (Err (Symbol ShortInput))
   unfolding encode_utf8
   cut_escape = (
     [],

@@ -5,11 +5,12 @@ use Rattle.std.specs.Prelude.{All}
 use Rattle.std.specs.List.{flat_map, list_all, AllZip}
 use Rattle.std.proofs.lemmas.List.Elements.{All-cons}
 use Rattle.std.proofs.lemmas.Bool.{and_parts}
+use Rattle.dns_octets.specs.Room.{Room}
 use Rattle.dns_symbol.specs.Symbol.{bytes, is_readable, octet_of}
 use Rattle.dns_symbol.specs.Text.{EndsAs}
 use Rattle.dns_symbol.specs.declared.symbol.Symbol.{Symbol}
 use Rattle.dns_symbol.specs.declared.symbol.Symbol.TheVariants.{Char}
-use Rattle.dns_symbol.specs.declared.symbol.BadSymbol.{BadSymbol}
+use Rattle.dns_symbol.specs.declared.error.BadSymbol.{BadSymbol}
 use Rattle.dns_symbol.proofs.Unique.{bytes_same, bytes_some}
 use Rattle.dns_wire.specs.Wire.{wire_length}
 use Rattle.dns_wire.specs.Building.{closed}
@@ -93,16 +94,16 @@ module _ (text : List ℕ) (labels : List (List ℕ)) (current : List ℕ) (whol
       n.1
 
   -- no refusal but lack of room
-  pub refused_whole : (O : Type 0) (sure most : ℕ) (e : FromStrError) → (text ≡ 46 ∷ [] → ⊥) → ReadsName {O = O} sure most text (Err e)
-      → (e ≡ ShortBuf) × ((sure < wire_length (labels ++ closed current)) ⊎ ((current ≡ []) × (labels ≡ [] → ⊥) × (sure < wire_length labels + 1)))
-  refused_whole O sure most (NoSymbol e) root r =
+  pub refused_whole : (O : Type 0) (room : Room) (e : FromStrError) → (text ≡ 46 ∷ [] → ⊥) → ReadsName {O = O} room text (Err e)
+      → (e ≡ ShortBuf) × ((room.fits < wire_length (labels ++ closed current)) ⊎ ((current ≡ []) × (labels ≡ [] → ⊥) × (room.fits < wire_length labels + 1)))
+  refused_whole O room (NoSymbol e) root r =
       let g = goes_on text labels current whole r.0 r.1 r.2 r.3 in absurd (by g.0 r.2 g.1 g.2 r.4)
     where
       by : (others : List Symbol) (rest : List ℕ) → rest ≡ flat_map bytes others → list_all is_readable others ≡ true → EndsAs rest (Some e) → ⊥
       by [] rest is readable ends = omega (arith, ends.0, ap length is)
       by (y ∷ ys) rest is readable ends =
           ends.1 y (flat_map bytes ys) (record { readable = (and_parts (is_readable y) (list_all is_readable ys) readable).0; spelled = is })
-  refused_whole O sure most EmptyLabel root r =
+  refused_whole O room EmptyLabel root r =
       let g = goes_on text labels current whole r.0 [] (46 ∷ r.1) r.2 in absurd (by g.0 g.1 g.2 g.3)
     where
       by : (others : List Symbol) → 46 ∷ r.1 ≡ flat_map bytes others → list_all is_readable others ≡ true → Runs (r.0, []) others (labels, current) → ⊥
@@ -111,17 +112,17 @@ module _ (text : List ℕ) (labels : List (List ℕ)) (current : List ℕ) (whol
           let a = (and_parts (is_readable y) (list_all is_readable ys) readable).0 in
           let same = bytes_same (Char 46) y r.1 (flat_map bytes ys) refl a (ap (λ l. l ++ r.1) dot_bytes ∙ is) in
           ⊎_elim (λ b. omega (arith, b.1.0)) (λ b. let e = ap is_dot same.0 ∙ b.0 in absurd cc) run.1
-  refused_whole O sure most BinaryLabel root r =
+  refused_whole O room BinaryLabel root r =
       let n = steps_on text labels current whole r.0 [] bracket r.1 in
       absurd (⊎_elim (λ a. let e = sym a.0 ∙ r.1.no_dot in absurd cc) (λ a. a.1.2 refl refl) n.1)
-  refused_whole O sure most BadOctet root r =
+  refused_whole O room BadOctet root r =
       let n = steps_on text labels current whole r.0 r.1 r.2 r.4 in
       absurd (⊎_elim (λ a. let e = sym a.0 ∙ r.4.no_dot in absurd cc) (λ a. let e = sym r.5 ∙ a.1.1 in absurd cc) n.1)
-  refused_whole O sure most LongName root r =
+  refused_whole O room LongName root r =
       let n = next_octet r.0 r.1 r.2 r.3 in absurd (omega (arith, n.0, r.4, whole.names.fits))
-  refused_whole O sure most LongLabel root r =
+  refused_whole O room LongLabel root r =
       let n = next_octet r.0 r.1 r.2 r.3 in absurd (omega (arith, n.1, r.5))
-  refused_whole O sure most ShortBuf root r = (
+  refused_whole O room ShortBuf root r = (
     refl,
     ⊎_elim
         (λ a. let n = next_octet a.0 a.1 a.2 a.3 in inl (omega (arith, n.0, a.7)))
@@ -129,7 +130,7 @@ module _ (text : List ℕ) (labels : List (List ℕ)) (current : List ℕ) (whol
         (λ a.
         let g = goes_on text labels current whole a.0 [] [] a.1 in
         let e = ends_here g.0 (a.0, []) g.1 g.3 in
-        inr (ap (λ s. s.1) (sym e), (λ none. a.2 (ap (λ s. s.0) e ∙ none)), subst (λ l. sure < wire_length l + 1) (ap (λ s. s.0) e) a.4)) b)
+        inr (ap (λ s. s.1) (sym e), (λ none. a.2 (ap (λ s. s.0) e ∙ none)), subst (λ l. room.fits < wire_length l + 1) (ap (λ s. s.0) e) a.4)) b)
         r,
   )
     where

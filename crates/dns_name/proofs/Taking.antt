@@ -5,13 +5,14 @@ use Rattle.std.specs.Prelude.{encode_utf8_all, IsTrue, is_some}
 use Rattle.std.specs.Iterator.{Yields}
 use Rattle.std.specs.Char.{encode_utf8}
 use Rattle.std.proofs.lemmas.Str.{encodes-append, length-encode, len_utf8_bounds}
+use Rattle.dns_octets.specs.Room.{Room}
 use Rattle.dns_symbol.specs.Symbol.{spell, bytes, is_readable}
 use Rattle.dns_symbol.specs.Text.{EndsAs}
 use Rattle.dns_symbol.specs.Reading.{ReadsSymbol}
 use Rattle.dns_symbol.specs.declared.symbol.Symbol.{Symbol}
 use Rattle.dns_symbol.specs.declared.symbol.Symbol.TheVariants.{Char, SimpleEscape, DecimalEscape}
-use Rattle.dns_symbol.specs.declared.symbol.SymbolCharsError.{SymbolCharsError}
-use Rattle.dns_symbol.specs.declared.symbol.SymbolCharsError.TheVariants.{BadEscape, ShortInput}
+use Rattle.dns_symbol.specs.declared.error.SymbolCharsError.{SymbolCharsError}
+use Rattle.dns_symbol.specs.declared.error.SymbolCharsError.TheVariants.{BadEscape, ShortInput}
 use Rattle.dns_symbol.proofs.Endings.{cut_ends, cut_ascii, refused_ends}
 use Rattle.std.proofs.lemmas.Bool.Decides.{nat_tests}
 use Rattle.dns_wire.specs.Wire.{wire_length}
@@ -31,16 +32,16 @@ module _ {S : Type 0} (steps : S → Option ℕ → S → Type 0) where
   joined (x ∷ xs) ys s t u p q = (p.0, p.1, joined xs ys p.0 t u p.2 q)
 
   -- what was taken on the way from s to t, and its name
-  pub record Taken (most : ℕ) (s t : S) (b : Naming) : Type 0 where
+  pub record Taken (room : Room) (s t : S) (b : Naming) : Type 0 where
     pub taken : List ℕ
     pub given : Yields steps s taken t
     pub named : HasNamed (encode_utf8_all taken) b.labels b.current []
-    pub within : wire_length (all_labels b) ≤ most
+    pub within : wire_length (all_labels b) ≤ room.capacity
 
-  module _ (most : ℕ) (s t u : S) (b : Naming) (h : Taken most s t b) where
+  module _ (room : Room) (s t u : S) (b : Naming) (h : Taken room s t b) where
     pub taken_octet : (x : Symbol) (octet : ℕ) → (is_readable x ≡ true) × Yields steps t (spell x) u → is_dot x ≡ false → GivesOctet b x octet
-        → wire_length (all_labels (with_octet b octet)) ≤ 254 → length b.current < 63 → wire_length (all_labels (with_octet b octet)) ≤ most
-        → Taken most s u (with_octet b octet)
+        → wire_length (all_labels (with_octet b octet)) ≤ 254 → length b.current < 63 → wire_length (all_labels (with_octet b octet)) ≤ room.capacity
+        → Taken room s u (with_octet b octet)
     taken_octet x octet read no_dot gives fits short within = record {
       taken = h.taken ++ spell x;
       given = joined h.taken (spell x) s t u h.given read.1;
@@ -52,12 +53,12 @@ module _ {S : Type 0} (steps : S → Option ℕ → S → Type 0) where
     encoded_dot : encode_utf8_all (h.taken ++ 46 ∷ []) ≡ encode_utf8_all h.taken ++ 46 ∷ []
     encoded_dot = encodes-append h.taken (46 ∷ []) ∙ ap (λ l. encode_utf8_all h.taken ++ l) dot_bytes
 
-    pub taken_dot : Yields steps t (46 ∷ []) u → 0 < length b.current → Taken most s u (ended b)
+    pub taken_dot : Yields steps t (46 ∷ []) u → 0 < length b.current → Taken room s u (ended b)
     taken_dot given some = record {
       taken = h.taken ++ 46 ∷ [];
       given = joined h.taken (46 ∷ []) s t u h.given given;
       named = subst (λ l. HasNamed l (all_labels b) [] []) (sym encoded_dot) (named_dot (encode_utf8_all h.taken) b.labels b.current h.named some);
-      within = subst (λ l. wire_length l ≤ most) (sym (append-nil (all_labels b))) h.within;
+      within = subst (λ l. wire_length l ≤ room.capacity) (sym (append-nil (all_labels b))) h.within;
     }
 
     -- what stands before a symbol that is refused
@@ -76,20 +77,20 @@ module _ {S : Type 0} (steps : S → Option ℕ → S → Type 0) where
     named_closed : (text rest : List ℕ) → b.current ≡ [] → HasNamed text b.labels b.current rest → HasNamed text b.labels [] rest
     named_closed text rest none named = subst (λ c. HasNamed text b.labels c rest) none named
 
-    within_closed : b.current ≡ [] → wire_length b.labels ≤ most
-    within_closed none = subst (λ l. wire_length l ≤ most) (ap (λ c. b.labels ++ closed c) none ∙ append-nil b.labels) h.within
+    within_closed : b.current ≡ [] → wire_length b.labels ≤ room.capacity
+    within_closed none = subst (λ l. wire_length l ≤ room.capacity) (ap (λ c. b.labels ++ closed c) none ∙ append-nil b.labels) h.within
 
     all_closed : b.current ≡ [] → all_labels b ≡ b.labels
     all_closed none = ap (λ c. b.labels ++ closed c) none ∙ append-nil b.labels
 
-    module _ (O : Type 0) (sure : ℕ) where
+    module _ (O : Type 0) where
       pub refused_symbol : (x : Symbol) (e : FromStrError) (new : Naming) → (is_readable x ≡ true) × Yields steps t (spell x) u → is_dot x ≡ false
-          → TakesSymbol sure most b x (Err e) new → ReadsChars {O = O} steps s sure most (Err e)
+          → TakesSymbol room b x (Err e) new → ReadsChars {O = O} steps s room (Err e)
       refused_symbol x e new read no_dot refuses =
           (h.taken ++ spell x, inr (u, joined h.taken (spell x) s t u h.given read.1, λ more. by e (before x more read.0 no_dot) refuses))
         where
-          by : {text : List ℕ} (e : FromStrError) → HasNamedBefore text b.labels b.current x → TakesSymbol sure most b x (Err e) new
-              → ReadsName {O = O} sure most text (Err e)
+          by : {text : List ℕ} (e : FromStrError) → HasNamedBefore text b.labels b.current x → TakesSymbol room b x (Err e) new
+              → ReadsName {O = O} room text (Err e)
           by {text} BinaryLabel f r =
               (b.labels, subst (λ y. HasNamedBefore text b.labels [] y) r.1 (subst (λ c. HasNamedBefore text b.labels c x) r.0 f), within_closed r.0)
           by BadOctet f r = (b.labels, b.current, x, r.0, f, r.1, h.within)
@@ -101,7 +102,7 @@ module _ {S : Type 0} (steps : S → Option ℕ → S → Type 0) where
           by (NoSymbol c) f r = absurd r
 
       -- where no symbol follows
-      pub refused_text : (e : SymbolCharsError) → ReadsSymbol steps t (Err e) u → ReadsChars {O = O} steps s sure most (Err (NoSymbol e))
+      pub refused_text : (e : SymbolCharsError) → ReadsSymbol steps t (Err e) u → ReadsChars {O = O} steps s room (Err (NoSymbol e))
       refused_text ShortInput r =
           let cut = r.0 in (
             h.taken ++ cut,
@@ -148,7 +149,7 @@ module _ {S : Type 0} (steps : S → Option ℕ → S → Type 0) where
           subst (λ l. HasNamed l b.labels [] (46 ∷ encode_utf8_all more)) (sym (dot_more more))
           (named_on (encode_utf8_all h.taken) b.labels [] [] (46 ∷ encode_utf8_all more) (named_closed _ _ none h.named))
 
-      pub refused_dot : Yields steps t (46 ∷ []) u → b.current ≡ [] → (b.labels ≡ [] → ⊥) → ReadsChars {O = O} steps s sure most (Err EmptyLabel)
+      pub refused_dot : Yields steps t (46 ∷ []) u → b.current ≡ [] → (b.labels ≡ [] → ⊥) → ReadsChars {O = O} steps s room (Err EmptyLabel)
       refused_dot given none some = (
         h.taken ++ 46 ∷ [],
         inr (
@@ -159,7 +160,7 @@ module _ {S : Type 0} (steps : S → Option ℕ → S → Type 0) where
       )
 
       pub refused_first : (c : ℕ) (v : S) → Yields steps t (46 ∷ []) u → steps u (Some c) v → b.current ≡ []
-          → ReadsChars {O = O} steps s sure most (Err EmptyLabel)
+          → ReadsChars {O = O} steps s room (Err EmptyLabel)
       refused_first c v given next none = (
         (h.taken ++ 46 ∷ []) ++ c ∷ [],
         inr (
@@ -181,7 +182,7 @@ module _ {S : Type 0} (steps : S → Option ℕ → S → Type 0) where
 
       -- a dot alone
       pub read_root : (v : S) (r : Result (UncertainName O) FromStrError) → Yields steps t (46 ∷ []) u → steps u None v → b.current ≡ [] → b.labels ≡ []
-          → MakesAbsolute sure most b r → ReadsChars {O = O} steps s sure most r
+          → MakesAbsolute room b r → ReadsChars {O = O} steps s room r
       read_root v r given end none nothing makes =
           (h.taken ++ 46 ∷ [], inl ((v, (u, joined h.taken (46 ∷ []) s t u h.given given, end)), by r makes))
         where
@@ -193,13 +194,13 @@ module _ {S : Type 0} (steps : S → Option ℕ → S → Type 0) where
               encoded_dot ∙ ap (λ l. l ++ 46 ∷ [])
               (named_nothing (encode_utf8_all h.taken) (subst (λ l. HasNamed (encode_utf8_all h.taken) l [] []) nothing (named_closed _ _ none h.named)))
 
-          by : (r : Result (UncertainName O) FromStrError) → MakesAbsolute sure most b r → ReadsName sure most (encode_utf8_all (h.taken ++ 46 ∷ [])) r
+          by : (r : Result (UncertainName O) FromStrError) → MakesAbsolute room b r → ReadsName room (encode_utf8_all (h.taken ++ 46 ∷ [])) r
           by (Ok (Absolute name)) m = (
             inl (text, m.0 ∙ ap (λ l. l ++ [] ∷ []) empty),
-            subst (λ l. wire_length l ≤ most) (sym (m.0 ∙ ap (λ l. l ++ [] ∷ []) empty)) (omega (arith, m.1)),
+            subst (λ l. wire_length l ≤ room.capacity) (sym (m.0 ∙ ap (λ l. l ++ [] ∷ []) empty)) (omega (arith, m.1)),
           )
           by (Ok (Relative name)) m = absurd m
-          by (Err ShortBuf) m = inr (inl (text, subst (λ l. sure < wire_length l + 1) empty m))
+          by (Err ShortBuf) m = inr (inl (text, subst (λ l. room.fits < wire_length l + 1) empty m))
           by (Err BinaryLabel) m = absurd m
           by (Err BadOctet) m = absurd m
           by (Err LongName) m = absurd m
@@ -208,13 +209,13 @@ module _ {S : Type 0} (steps : S → Option ℕ → S → Type 0) where
           by (Err (NoSymbol e)) m = absurd m
 
       -- the end
-      pub read_end : (r : Result (UncertainName O) FromStrError) → steps t None u → Finishes sure most b r → ReadsChars {O = O} steps s sure most r
+      pub read_end : (r : Result (UncertainName O) FromStrError) → steps t None u → Finishes room b r → ReadsChars {O = O} steps s room r
       read_end r last f = (
         h.taken,
         inl (
           (u, (t, h.given, last)),
           ⊎_elim
-              (λ p. subst (λ q. ReadsName sure most (encode_utf8_all h.taken) q) (sym p.1) (
+              (λ p. subst (λ q. ReadsName room (encode_utf8_all h.taken) q) (sym p.1) (
                 (
                   b.labels,
                   b.current,
@@ -222,22 +223,22 @@ module _ {S : Type 0} (steps : S → Option ℕ → S → Type 0) where
                   p.2,
                   λ none. named_nothing _ (subst (λ l. HasNamed (encode_utf8_all h.taken) l [] []) (p.3 none) (named_closed _ _ none h.named)),
                 ),
-                subst (λ l. wire_length l ≤ most) (sym p.2) h.within,
+                subst (λ l. wire_length l ≤ room.capacity) (sym p.2) h.within,
               ))
               (λ p. by r p.0 p.1 p.2) f,
         ),
       )
         where
-          by : (r : Result (UncertainName O) FromStrError) → b.current ≡ [] → (b.labels ≡ [] → ⊥) → MakesAbsolute sure most b r
-              → ReadsName sure most (encode_utf8_all h.taken) r
+          by : (r : Result (UncertainName O) FromStrError) → b.current ≡ [] → (b.labels ≡ [] → ⊥) → MakesAbsolute room b r
+              → ReadsName room (encode_utf8_all h.taken) r
           by (Ok (Absolute name)) none some m =
               let e : name ≡ b.labels ++ [] ∷ [] = m.0 ∙ ap (λ l. l ++ [] ∷ []) (all_closed none) in (
                 inr (b.labels, named_closed _ _ none h.named, some, e),
-                subst (λ l. wire_length l ≤ most) (sym m.0) (omega (arith, m.1, wire_length_append (all_labels b) ([] ∷ []))),
+                subst (λ l. wire_length l ≤ room.capacity) (sym m.0) (omega (arith, m.1, wire_length_append (all_labels b) ([] ∷ []))),
               )
           by (Ok (Relative name)) none some m = absurd m
           by (Err ShortBuf) none some m =
-              inr (inr (b.labels, named_closed _ _ none h.named, some, within_closed none, subst (λ l. sure < wire_length l + 1) (all_closed none) m))
+              inr (inr (b.labels, named_closed _ _ none h.named, some, within_closed none, subst (λ l. room.fits < wire_length l + 1) (all_closed none) m))
           by (Err BinaryLabel) none some m = absurd m
           by (Err BadOctet) none some m = absurd m
           by (Err LongName) none some m = absurd m
@@ -246,8 +247,8 @@ module _ {S : Type 0} (steps : S → Option ℕ → S → Type 0) where
           by (Err (NoSymbol e)) none some m = absurd m
 
 -- before anything was taken
-pub taken_none : {S : Type 0} (steps : S → Option ℕ → S → Type 0) (most : ℕ) (s : S) (b : Naming) → b ≡ no_labels → Taken steps most s s b
-taken_none steps most s b is = subst (λ n. Taken steps most s s n) (sym is) (record { taken = []; given = refl; named = named_none; within = omega arith })
+pub taken_none : {S : Type 0} (steps : S → Option ℕ → S → Type 0) (room : Room) (s : S) (b : Naming) → b ≡ no_labels → Taken steps room s s b
+taken_none steps room s b is = subst (λ n. Taken steps room s s n) (sym is) (record { taken = []; given = refl; named = named_none; within = omega arith })
 
 -- a plain dot is spelled by itself
 pub dot_spelled : (x : Symbol) → is_dot x ≡ true → spell x ≡ 46 ∷ []

@@ -2,6 +2,7 @@
 use Rattle.std.proofs.Common.{◌≡◌, ℕ, ◌<◌, ◌≤◌, ◌⊎◌, inl, inr, true, List, [], ◌∷◌, ◌++◌, length, refl, sym, ap, subst, ◌∙◌, arith, append_assoc, append-nil, length-append, Result, Ok, Err, ⊎_elim}
 use Rattle.std.specs.List.{flat_map, list_all}
 use Rattle.std.proofs.lemmas.Bool.{and_parts}
+use Rattle.dns_octets.specs.Room.{Room}
 use Rattle.dns_symbol.specs.Symbol.{bytes, is_readable}
 use Rattle.dns_symbol.specs.declared.symbol.Symbol.{Symbol}
 use Rattle.dns_symbol.specs.declared.symbol.Symbol.TheVariants.{Char}
@@ -37,18 +38,18 @@ root_next labels current x h =
     let same = bytes_same x (Char 46) h.rest [] h.readable refl (e ∙ sym (ap (λ l. l ++ []) dot_bytes)) in
     let f = sym (ap is_dot same.0) ∙ h.no_dot in cc
 
-root_refused : (O : Type 0) (sure most : ℕ) (e : FromStrError) → ReadsName {O = O} sure most (46 ∷ []) (Err e) → (e ≡ ShortBuf) × (sure < 1)
-root_refused O sure most (NoSymbol e) r =
+root_refused : (O : Type 0) (room : Room) (e : FromStrError) → ReadsName {O = O} room (46 ∷ []) (Err e) → (e ≡ ShortBuf) × (room.fits < 1)
+root_refused O room (NoSymbol e) r =
     let f = (root_front r.0 r.1 r.2 r.3).1 in
     absurd (r.4.1 (Char 46) [] (record { readable = refl; spelled = f ∙ sym (ap (λ l. l ++ []) dot_bytes) }))
-root_refused O sure most EmptyLabel r =
+root_refused O room EmptyLabel r =
     let f = root_front r.0 [] (46 ∷ r.1) r.2 in
     let g : r.1 ≡ [] = (let e = f.1 in cc) in absurd (r.3 f.0 g)
-root_refused O sure most BinaryLabel r = absurd (root_next r.0 [] _ r.1)
-root_refused O sure most BadOctet r = absurd (root_next r.0 r.1 r.2 r.4)
-root_refused O sure most LongName r = absurd (root_next r.0 r.1 r.3.0 r.3.1)
-root_refused O sure most LongLabel r = absurd (root_next r.0 r.1 r.3.0 r.3.1)
-root_refused O sure most ShortBuf r = (
+root_refused O room BinaryLabel r = absurd (root_next r.0 [] _ r.1)
+root_refused O room BadOctet r = absurd (root_next r.0 r.1 r.2 r.4)
+root_refused O room LongName r = absurd (root_next r.0 r.1 r.3.0 r.3.1)
+root_refused O room LongLabel r = absurd (root_next r.0 r.1 r.3.0 r.3.1)
+root_refused O room ShortBuf r = (
   refl,
   ⊎_elim (λ a. absurd (root_next a.0 a.1 a.3.0 a.3.1))
       (⊎_elim (λ a. a.1) (λ a. let f = (root_front a.0 [] [] a.1).1 in absurd cc)) r,
@@ -103,33 +104,33 @@ module _ {O : Type 0} (text : List ℕ) where
       let same : m ≡ n = a.3 ∙ ap (λ l. l ++ [] ∷ []) (sym e) ∙ sym b.3 in ap Absolute same) q)
       p
 
-  pub whole_reads : (sure most : ℕ) (name : UncertainName O) (r : Result (UncertainName O) FromStrError) → ReadsName sure most text r → ReadsAs text name
-      → wire_length (labels_of name) ≤ sure → r ≡ Ok name
-  whole_reads sure most name (Ok b) r is fits = ap Ok (one_name b name r.0 is)
-  whole_reads sure most (Relative n) (Err e) r is fits =
-      let f = refused_whole text is.0 is.1 is.2 O sure most e (no_root text is.0 is.1 is.2) r in
+  pub whole_reads : (room : Room) (name : UncertainName O) (r : Result (UncertainName O) FromStrError) → ReadsName room text r → ReadsAs text name
+      → wire_length (labels_of name) ≤ room.fits → r ≡ Ok name
+  whole_reads room name (Ok b) r is fits = ap Ok (one_name b name r.0 is)
+  whole_reads room (Relative n) (Err e) r is fits =
+      let f = refused_whole text is.0 is.1 is.2 O room e (no_root text is.0 is.1 is.2) r in
       absurd (⊎_elim
       (λ a. omega (arith, a, fits, ap wire_length is.3))
       (λ b. b.1 (named_empty is.0 is.1 (subst (λ t. HasNamed t is.0 is.1 []) (is.4 b.0) is.2))) f.1)
-  whole_reads sure most (Absolute n) (Err e) r is fits =
+  whole_reads room (Absolute n) (Err e) r is fits =
       absurd (⊎_elim
       (λ a.
-      let short = (root_refused O sure most e (subst (λ t. ReadsName {O = O} sure most t (Err e)) a.0 r)).1 in
+      let short = (root_refused O room e (subst (λ t. ReadsName {O = O} room t (Err e)) a.0 r)).1 in
       omega (arith, short, fits, ap wire_length a.1))
       (λ b.
-      let f = refused_whole text b.0 [] b.1 O sure most e (no_root text b.0 [] b.1) r in
+      let f = refused_whole text b.0 [] b.1 O room e (no_root text b.0 [] b.1) r in
       let n = wire_length_append b.0 ([] ∷ []) in
       ⊎_elim (λ a. omega (arith, a, fits, ap wire_length b.3, n, ap wire_length (append-nil b.0))) (λ a. omega (arith, a.2, fits, ap wire_length b.3, n)) f.1)
       is)
 
   -- whatever room there is
-  pub whole_or_short : (sure most : ℕ) (name : UncertainName O) (r : Result (UncertainName O) FromStrError) → ReadsName sure most text r → ReadsAs text name
+  pub whole_or_short : (room : Room) (name : UncertainName O) (r : Result (UncertainName O) FromStrError) → ReadsName room text r → ReadsAs text name
       → (r ≡ Ok name) ⊎ (r ≡ Err ShortBuf)
-  whole_or_short sure most name (Ok b) r is = inl (ap Ok (one_name b name r.0 is))
-  whole_or_short sure most (Relative n) (Err e) r is =
-      inr (ap Err (refused_whole text is.0 is.1 is.2 O sure most e (no_root text is.0 is.1 is.2) r).0)
-  whole_or_short sure most (Absolute n) (Err e) r is =
+  whole_or_short room name (Ok b) r is = inl (ap Ok (one_name b name r.0 is))
+  whole_or_short room (Relative n) (Err e) r is =
+      inr (ap Err (refused_whole text is.0 is.1 is.2 O room e (no_root text is.0 is.1 is.2) r).0)
+  whole_or_short room (Absolute n) (Err e) r is =
       inr (ap Err (⊎_elim
-      (λ a. (root_refused O sure most e (subst (λ t. ReadsName {O = O} sure most t (Err e)) a.0 r)).0)
-      (λ b. (refused_whole text b.0 [] b.1 O sure most e (no_root text b.0 [] b.1) r).0)
+      (λ a. (root_refused O room e (subst (λ t. ReadsName {O = O} room t (Err e)) a.0 r)).0)
+      (λ b. (refused_whole text b.0 [] b.1 O room e (no_root text b.0 [] b.1) r).0)
       is))

@@ -1,11 +1,12 @@
 -- Names made absolute.
 use Rattle.std.specs.Prelude.{◌≡◌, ℕ, List, Result, Ok}
+use Rattle.dns_octets.specs.Room.{Room}
 use Rattle.dns_wire.specs.Building.{AnswersRoot}
 use Rattle.dns_wire.specs.declared.error.PushError.{PushError}
 use Rattle.dns_name.specs.declared.name.UncertainName.{UncertainName}
 use Rattle.dns_name.specs.declared.name.UncertainName.TheVariants.{Absolute, Relative}
 
 -- an absolute name is itself; a relative one gets the root, where so many octets surely fit and so many ever do
-abbrev pub AnswersAbsolute : {O : Type 0} → UncertainName O → ℕ → ℕ → Result (List (List ℕ)) PushError → Type 0
-AnswersAbsolute (Absolute name) sure most result = result ≡ Ok name
-AnswersAbsolute (Relative name) sure most result = AnswersRoot name sure most result
+abbrev pub AnswersAbsolute : {O : Type 0} → UncertainName O → Room → Result (List (List ℕ)) PushError → Type 0
+AnswersAbsolute (Absolute name) room result = result ≡ Ok name
+AnswersAbsolute (Relative name) room result = AnswersRoot name room result

@@ -2,12 +2,13 @@
 use Rattle.std.specs.Prelude.{◌≡◌, ◌≢◌, ◌⊎◌, ℕ, ◌+◌, ◌<◌, ◌≤◌, Bool, true, false, ◌==◌, not, List, [], ◌∷◌, ◌++◌, length, map, All, Option, Some, Result, Ok, Err, encode_utf8_all}
 use Rattle.std.specs.List.{flat_map, list_all, AllZip}
 use Rattle.std.specs.Iterator.{Yields, Drains}
+use Rattle.dns_octets.specs.Room.{Room}
 use Rattle.dns_symbol.specs.Characters.{dot}
 use Rattle.dns_symbol.specs.Symbol.{bytes, is_readable, octet_of}
 use Rattle.dns_symbol.specs.Text.{EndsAs}
 use Rattle.dns_symbol.specs.declared.symbol.Symbol.{Symbol}
 use Rattle.dns_symbol.specs.declared.symbol.Symbol.TheVariants.{Char, SimpleEscape, DecimalEscape}
-use Rattle.dns_symbol.specs.declared.symbol.BadSymbol.{BadSymbol}
+use Rattle.dns_symbol.specs.declared.error.BadSymbol.{BadSymbol}
 use Rattle.dns_wire.specs.Wire.{wire_length}
 use Rattle.dns_wire.specs.Building.{closed}
 use Rattle.dns_name.specs.Uncertain.{labels_of}
@@ -77,36 +78,36 @@ module _ {O : Type 0} where
       ((text ≡ dot ∷ []) × (name ≡ [] ∷ []))
       ⊎ ((labels : List (List ℕ)) × HasNamed text labels [] [] × (labels ≢ []) × (name ≡ labels ++ [] ∷ []))
 
-  -- what reading a text answers, where `sure` octets surely fit and `most` ever do: its name, or the refusal of the earliest symbol, with the
+  -- what reading a text answers, in a builder with that room: its name, or the refusal of the earliest symbol, with the
   -- labels before it
-  abbrev pub ReadsName : ℕ → ℕ → List ℕ → Result (UncertainName O) FromStrError → Type 0
-  ReadsName sure most text (Ok name) = ReadsAs text name × (wire_length (labels_of name) ≤ most)
-  ReadsName sure most text (Err (NoSymbol e)) =
+  abbrev pub ReadsName : Room → List ℕ → Result (UncertainName O) FromStrError → Type 0
+  ReadsName room text (Ok name) = ReadsAs text name × (wire_length (labels_of name) ≤ room.capacity)
+  ReadsName room text (Err (NoSymbol e)) =
       (labels : List (List ℕ)) × (current : List ℕ) × (rest : List ℕ) × HasNamed text labels current rest × EndsAs rest (Some e)
-      × (wire_length (labels ++ closed current) ≤ most)
-  ReadsName sure most text (Err EmptyLabel) =
-      (labels : List (List ℕ)) × (rest : List ℕ) × HasNamed text labels [] (dot ∷ rest) × (labels ≡ [] → rest ≢ []) × (wire_length labels ≤ most)
-  ReadsName sure most text (Err BinaryLabel) =
-      (labels : List (List ℕ)) × HasNamedBefore text labels [] bracket × (wire_length labels ≤ most)
-  ReadsName sure most text (Err BadOctet) =
+      × (wire_length (labels ++ closed current) ≤ room.capacity)
+  ReadsName room text (Err EmptyLabel) =
+      (labels : List (List ℕ)) × (rest : List ℕ) × HasNamed text labels [] (dot ∷ rest) × (labels ≡ [] → rest ≢ []) × (wire_length labels ≤ room.capacity)
+  ReadsName room text (Err BinaryLabel) =
+      (labels : List (List ℕ)) × HasNamedBefore text labels [] bracket × (wire_length labels ≤ room.capacity)
+  ReadsName room text (Err BadOctet) =
       (labels : List (List ℕ)) × (current : List ℕ) × (x : Symbol) × (e : BadSymbol) × HasNamedBefore text labels current x × (octet_of x ≡ Err e)
-      × (wire_length (labels ++ closed current) ≤ most)
-  ReadsName sure most text (Err LongName) =
+      × (wire_length (labels ++ closed current) ≤ room.capacity)
+  ReadsName room text (Err LongName) =
       (labels : List (List ℕ)) × (current : List ℕ) × (octet : ℕ) × HasNamedNext text labels current octet
-      × (max_relative < wire_length (labels ++ closed (current ++ octet ∷ []))) × (wire_length (labels ++ closed current) ≤ most)
-  ReadsName sure most text (Err LongLabel) =
+      × (max_relative < wire_length (labels ++ closed (current ++ octet ∷ []))) × (wire_length (labels ++ closed current) ≤ room.capacity)
+  ReadsName room text (Err LongLabel) =
       (labels : List (List ℕ)) × (current : List ℕ) × (octet : ℕ) × HasNamedNext text labels current octet
-      × (wire_length (labels ++ closed (current ++ octet ∷ [])) ≤ max_relative) × (length current ≡ max_label) × (wire_length (labels ++ closed current) ≤ most)
-  ReadsName sure most text (Err ShortBuf) =
+      × (wire_length (labels ++ closed (current ++ octet ∷ [])) ≤ max_relative) × (length current ≡ max_label) × (wire_length (labels ++ closed current) ≤ room.capacity)
+  ReadsName room text (Err ShortBuf) =
       ((labels : List (List ℕ)) × (current : List ℕ) × (octet : ℕ) × HasNamedNext text labels current octet
-      × (wire_length (labels ++ closed (current ++ octet ∷ [])) ≤ max_relative) × (length current < max_label) × (wire_length (labels ++ closed current) ≤ most)
-      × (sure < wire_length (labels ++ closed (current ++ octet ∷ []))))
-      ⊎ (((text ≡ dot ∷ []) × (sure < 1))
-      ⊎ ((labels : List (List ℕ)) × HasNamed text labels [] [] × (labels ≢ []) × (wire_length labels ≤ most) × (sure < wire_length labels + 1)))
+      × (wire_length (labels ++ closed (current ++ octet ∷ [])) ≤ max_relative) × (length current < max_label) × (wire_length (labels ++ closed current) ≤ room.capacity)
+      × (room.fits < wire_length (labels ++ closed (current ++ octet ∷ []))))
+      ⊎ (((text ≡ dot ∷ []) × (room.fits < 1))
+      ⊎ ((labels : List (List ℕ)) × HasNamed text labels [] [] × (labels ≢ []) × (wire_length labels ≤ room.capacity) × (room.fits < wire_length labels + 1)))
 
   -- what reading the characters of a source answers: they were taken up to the end, and their text has this answer; or some were taken,
   -- and every text that begins with them has it
-  abbrev pub ReadsChars : {S : Type 0} → (S → Option ℕ → S → Type 0) → S → ℕ → ℕ → Result (UncertainName O) FromStrError → Type 0
-  ReadsChars {S} steps s sure most result = (taken : List ℕ) ×
-      ((Drains steps s taken × ReadsName sure most (encode_utf8_all taken) result)
-      ⊎ ((t : S) × Yields steps s taken t × ((more : List ℕ) → ReadsName sure most (encode_utf8_all (taken ++ more)) result)))
+  abbrev pub ReadsChars : {S : Type 0} → (S → Option ℕ → S → Type 0) → S → Room → Result (UncertainName O) FromStrError → Type 0
+  ReadsChars {S} steps s room result = (taken : List ℕ) ×
+      ((Drains steps s taken × ReadsName room (encode_utf8_all taken) result)
+      ⊎ ((t : S) × Yields steps s taken t × ((more : List ℕ) → ReadsName room (encode_utf8_all (taken ++ more)) result)))

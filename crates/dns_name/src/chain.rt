@@ -1,5 +1,5 @@
 //! Names one after another.
-ghost use Rattle.std.specs.Prelude.{◌≤◌, ◌++◌, Some, codes};
+ghost use Rattle.std.specs.Prelude.{◌≤◌, ◌++◌};
 ghost use Rattle.dns_wire.specs.Wire.{wire_length};
 ghost use Rattle.dns_wire.specs.Limits.{max_name};
 
@@ -9,29 +9,16 @@ use dns_wire::{
     DisplayWithoutDot, FlattenInto, Label, MAX_NAME, Name, ToLabelIter, ToName, ToRelativeName,
 };
 use std::alloc::AllocError;
-use std::error::Error;
 use std::fmt;
 
+mod error;
 mod iter;
 mod uncertain;
 
 pub use dns_wire::DisplayWithDot;
+pub use error::LongChainError;
 pub use iter::{ChainIter, UncertainChainIter};
 pub use uncertain::UncertainChain;
-
-/// Both names together have more than 255 octets.
-#[derive(Clone, Copy, Debug, PartialEq, Eq)]
-pub struct LongChainError;
-
-impl fmt::Display for LongChainError {
-    ghost output = { λ _. Some (codes "long domain name") };
-
-    fn fmt<W: fmt::Write>(&self, f: &mut fmt::Formatter<W>) -> fmt::Result {
-        write!(f, "long domain name")
-    }
-}
-
-impl Error for LongChainError {}
 
 /// A relative name and another name after it, of at most 255 octets together.
 #[derive(Drop)]
@@ -183,9 +170,7 @@ where
 {
     type Alloc = <T::Builder as EmptyBuilder>::Alloc;
 
-    ghost takes = { T.Builder.sure };
-
-    ghost takes_at_most = { T.Builder.most };
+    ghost room = { T.Builder.room };
 
     fn try_flatten_into(self, alloc: Self::Alloc) -> Result<Name<T>, ShortBuf> {
         Name::from_labels(alloc, &self)

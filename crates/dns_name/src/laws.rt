@@ -3,6 +3,7 @@ ghost use Rattle.std.specs.Prelude.{ℕ, ◌≡◌, ◌↔◌, ◌⊎◌, true, 
 ghost use Rattle.std.specs.Hash as fed;
 ghost use Rattle.std.specs.List.{flat_map};
 ghost use Rattle.dns_octets.specs.Lowered.{lowered};
+ghost use Rattle.dns_octets.specs.Room.{Room, exactly};
 ghost use Rattle.dns_wire.specs.Order.{lowered_wire};
 ghost use Rattle.dns_wire.specs.Printed.{dotted_text};
 ghost use Rattle.dns_wire.specs.ZoneText.{zone_text};
@@ -44,8 +45,8 @@ pub fn texts_have_one_name<Octets: AsOctets>(text: &str, name: &UncertainName<Oc
 /// Whatever room there is, a text that reads as a name is read as that name or refused for lack of
 /// room alone.
 pub fn names_are_read<Octets: AsOctets>(text: &str, name: &UncertainName<Octets>)
-    ensures { (sure most : ℕ) (answer : Result (UncertainName Octets) FromStrError)
-        → ReadsName sure most text.now answer → ReadsAs text.now name.now → (answer ≡ Ok name.now) ⊎ (answer ≡ Err ShortBuf) }
+    ensures { (room : Room) (answer : Result (UncertainName Octets) FromStrError)
+        → ReadsName room text.now answer → ReadsAs text.now name.now → (answer ≡ Ok name.now) ⊎ (answer ≡ Err ShortBuf) }
 {
     let _text = text;
     let _name = name;
@@ -53,8 +54,8 @@ pub fn names_are_read<Octets: AsOctets>(text: &str, name: &UncertainName<Octets>
 
 /// Where it is known how many octets fit, a text has one answer: one name, or one refusal.
 pub fn texts_have_one_answer<Octets: AsOctets>(text: &str)
-    ensures { (room : ℕ) (left right : Result (UncertainName Octets) FromStrError)
-        → ReadsName room room text.now left → ReadsName room room text.now right → left ≡ right }
+    ensures { (size : ℕ) (left right : Result (UncertainName Octets) FromStrError)
+        → ReadsName (exactly size) text.now left → ReadsName (exactly size) text.now right → left ≡ right }
 {
     let _text = text;
 }

@@ -92,8 +92,8 @@ impl<Octets: AsOctets> UncertainName<Octets> {
         Octets: FromBuilder,
         Octets::Builder: EmptyBuilder + Drop,
         ensures value { IfOk result (λ n. n ≡ Absolute ([] ∷ [])) }
-        ensures succeeds { 1 ≤ Octets.Builder.sure → IsOk result }
-        ensures within { IsOk result → 1 ≤ Octets.Builder.most }
+        ensures succeeds { 1 ≤ Octets.Builder.room.fits → IsOk result }
+        ensures within { IsOk result → 1 ≤ Octets.Builder.room.capacity }
     {
         Ok(UncertainName::Absolute(Name::root(alloc)?))
     }
@@ -209,7 +209,7 @@ impl<Octets: AsOctets> UncertainName<Octets> {
     where
         Octets: IntoBuilder,
         Octets::Builder: OctetsBuilder + FreezeBuilder<Octets = Octets> + Drop,
-        ensures { AnswersAbsolute self Octets.Builder.sure Octets.Builder.most result }
+        ensures { AnswersAbsolute self Octets.Builder.room result }
     {
         match self {
             UncertainName::Absolute(name) => Ok(name),

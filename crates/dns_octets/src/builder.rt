@@ -1,36 +1,28 @@
 //! Builders of octets.
 ghost use Rattle.std.specs.Prelude.{◌≡◌, ℕ, ◌+◌, ◌-◌, ◌≤◌, ◌↔◌, [], ◌++◌, length, take, Bool, true, false, IsTrue, IfOk, IsOk, OnOk, OnErr};
-ghost use Rattle.dns_octets.specs.Octets.{greatest_length};
+ghost use Rattle.dns_octets.specs.Room.{Room, exactly, of_memory};
 ghost use Rattle.arrayvec.specs.ArrayVec.{array_vec_len};
 
+pub use crate::error::ShortBuf;
 use crate::octets::AsOctets;
 use arrayvec::ArrayVec;
 use std::alloc::Allocator;
-use thiserror::Error;
-
-/// There was no room for the octets, or no memory.
-#[derive(Clone, Copy, Debug, PartialEq, Eq, Error)]
-#[error("buffer size exceeded")]
-pub struct ShortBuf;
 
 /// Octets that more octets can be appended to.
 ///
-/// Two numbers of octets belong to each such type: those that surely fit in all, and those that
-/// it ever holds. They are equal for a buffer of fixed size. A vector has 0 and the greatest
+/// Each such type has room for a number of octets that surely fit in all, and for a number that
+/// it holds at most. They are equal for a buffer of fixed size. A vector has 0 and the greatest
 /// `usize`, since it may find no memory.
 pub trait OctetsBuilder: AsOctets {
-    // How many octets surely fit, in all.
-    ghost sure: { ℕ };
-
-    // How many octets it ever holds.
-    ghost most: { ℕ };
+    // How many octets surely fit in all, and how many it holds at most.
+    ghost room: { Room };
 
     /// Appends all of the slice, or changes nothing.
     fn append_slice(&mut self, slice: &[u8]) -> Result<(), ShortBuf>
         ensures ok { OnOk result (Self.octets self.new ≡ Self.octets self.old ++ slice.now) }
         ensures err { OnErr result (Self.octets self.new ≡ Self.octets self.old) }
-        ensures fits { length slice.now ≤ sure - length (Self.octets self.old) → IsOk result }
-        ensures within { OnOk result (length (Self.octets self.new) ≤ most) };
+        ensures fits { length slice.now ≤ room.fits - length (Self.octets self.old) → IsOk result }
+        ensures within { OnOk result (length (Self.octets self.new) ≤ room.capacity) };
 }
 
 /// A builder that can be made with no octets in it.
@@ -89,9 +81,7 @@ pub trait Truncate: AsOctets {
 }
 
 impl<A: Allocator> OctetsBuilder for Vec<u8, A> {
-    ghost sure = { 0 };
-
-    ghost most = { greatest_length };
+    ghost room = { of_memory };
 
     fn append_slice(&mut self, slice: &[u8]) -> Result<(), ShortBuf> {
         self.extend_from_slice(slice).map_err(|_| ShortBuf)
@@ -99,9 +89,7 @@ impl<A: Allocator> OctetsBuilder for Vec<u8, A> {
 }
 
 impl<const N: usize> OctetsBuilder for ArrayVec<u8, N> {
-    ghost sure = { N };
-
-    ghost most = { N };
+    ghost room = { exactly N };
 
     fn append_slice(&mut self, slice: &[u8]) -> Result<(), ShortBuf>
         ensures ok { OnOk result (self.new.items ≡ self.old.items ++ slice.now) }
@@ -110,8 +98,8 @@ impl<const N: usize> OctetsBuilder for ArrayVec<u8, N> {
         ensures within { OnOk result (length self.new.items ≤ N) }
         ensures exact { IsOk result ↔ (array_vec_len self.old + length slice.now ≤ N) }
     {
-        let room = self.remaining_capacity();
-        if room < slice.len() {
+        let left = self.remaining_capacity();
+        if left < slice.len() {
             return Err(ShortBuf);
         }
         self.try_extend_from_slice(slice).map_err(|_| ShortBuf)

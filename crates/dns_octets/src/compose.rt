@@ -15,8 +15,8 @@ pub trait Compose {
     fn compose<Target: OctetsBuilder>(&self, target: &mut Target) -> Result<(), ShortBuf>
         ensures ok { OnOk result (Target.octets target.new ≡ Target.octets target.old ++ wire self.now) }
         ensures err { OnErr result ((count : ℕ) × (Target.octets target.new ≡ Target.octets target.old ++ take count (wire self.now))) }
-        ensures fits { length (wire self.now) ≤ Target.sure - length (Target.octets target.old) → IsOk result }
-        ensures within { OnOk result (length (Target.octets target.new) ≤ Target.most) };
+        ensures fits { length (wire self.now) ≤ Target.room.fits - length (Target.octets target.old) → IsOk result }
+        ensures within { OnOk result (length (Target.octets target.new) ≤ Target.room.capacity) };
 }
 
 impl Compose for u8 {
@@ -25,8 +25,8 @@ impl Compose for u8 {
     fn compose<Target: OctetsBuilder>(&self, target: &mut Target) -> Result<(), ShortBuf>
         ensures ok { OnOk result (Target.octets target.new ≡ Target.octets target.old ++ self.now ∷ []) }
         ensures err { OnErr result ((count : ℕ) × (Target.octets target.new ≡ Target.octets target.old ++ take count (self.now ∷ []))) }
-        ensures fits { 1 ≤ Target.sure - length (Target.octets target.old) → IsOk result }
-        ensures within { OnOk result (length (Target.octets target.new) ≤ Target.most) }
+        ensures fits { 1 ≤ Target.room.fits - length (Target.octets target.old) → IsOk result }
+        ensures within { OnOk result (length (Target.octets target.new) ≤ Target.room.capacity) }
         ensures unchanged { OnErr result (Target.octets target.new ≡ Target.octets target.old) }
     {
         target.append_slice(&[*self])

@@ -7,6 +7,7 @@
 
 pub mod builder;
 pub mod compose;
+pub mod error;
 pub mod lowered;
 pub mod octets;
 pub mod parser;
@@ -16,10 +17,11 @@ mod tests;
 pub mod ttl;
 
 pub use builder::{
-    EmptyBuilder, FreezeBuilder, FromBuilder, IntoBuilder, OctetsBuilder, ShortBuf, Truncate,
+    EmptyBuilder, FreezeBuilder, FromBuilder, IntoBuilder, OctetsBuilder, Truncate,
 };
 pub use compose::{CanonicalOrd, Compose};
+pub use error::{ParseError, ShortBuf};
 pub use octets::{AsOctets, AsOctetsMut, OctetsFrom};
-pub use parser::{ParseError, Parser};
+pub use parser::Parser;
 pub use str::Str;
 pub use ttl::Ttl;

@@ -2,7 +2,8 @@
 ghost use Rattle.std.specs.Prelude.{◌≡◌, ℕ, ◌<◌, ◌≤◌, ◌↔◌, List, length, All, IfOk, IsOk, refl};
 ghost use Rattle.std.specs.Borrow.{sem, Lends, Array, u8 as byte};
 ghost use Rattle.std.specs.Vec.{with_items};
-ghost use Rattle.dns_octets.specs.Octets.{greatest_length, written_over, written_through, refill_named};
+ghost use Rattle.dns_octets.specs.Octets.{written_over, written_through, refill_named};
+ghost use Rattle.dns_octets.specs.Room.{Room, exactly, of_memory};
 ghost use Rattle.arrayvec.specs.ArrayVec.{with_items as array_with_items};
 
 use crate::builder::{OctetsBuilder, ShortBuf};
@@ -38,17 +39,14 @@ pub trait OctetsFrom<S: AsOctets>: AsOctets + Sized {
     /// What is allocated from, or `()` where nothing is.
     type Alloc;
 
-    // How many octets surely fit.
-    ghost takes: { ℕ };
-
-    // How many octets it ever takes.
-    ghost takes_at_most: { ℕ };
+    // How many octets surely fit, and how many it takes at most.
+    ghost room: { Room };
 
     /// The same octets, or lack of room for them.
     fn try_octets_from(alloc: Self::Alloc, source: S) -> Result<Self, ShortBuf>
         ensures value { IfOk result (λ t. Self.octets t ≡ S.octets source) }
-        ensures succeeds { length (S.octets source) ≤ takes → IsOk result }
-        ensures within { IsOk result → length (S.octets source) ≤ takes_at_most };
+        ensures succeeds { length (S.octets source) ≤ room.fits → IsOk result }
+        ensures within { IsOk result → length (S.octets source) ≤ room.capacity };
 }
 
 // The slice as it is, and that it has bytes.
@@ -126,9 +124,7 @@ impl<const N: usize> AsOctetsMut for ArrayVec<u8, N> {
 impl<A: Allocator> OctetsFrom<&[u8]> for Vec<u8, A> {
     type Alloc = A;
 
-    ghost takes = { 0 };
-
-    ghost takes_at_most = { greatest_length };
+    ghost room = { of_memory };
 
     fn try_octets_from(alloc: A, source: &[u8]) -> Result<Self, ShortBuf> {
         let mut octets = Vec::new(alloc);
@@ -140,9 +136,7 @@ impl<A: Allocator> OctetsFrom<&[u8]> for Vec<u8, A> {
 impl<const N: usize> OctetsFrom<&[u8]> for ArrayVec<u8, N> {
     type Alloc = ();
 
-    ghost takes = { N };
-
-    ghost takes_at_most = { N };
+    ghost room = { exactly N };
 
     fn try_octets_from(_alloc: (), source: &[u8]) -> Result<Self, ShortBuf>
         ensures value { IfOk result (λ t. t.items ≡ source.now) }

@@ -2,16 +2,8 @@
 ghost use Rattle.std.specs.Prelude.{◌≡◌, ◌∷◌, ◌≤◌, ◌<◌, ◌↔◌, length, take, IsOk, IfOk, is_ok, if◌then◌else◌};
 ghost use Rattle.dns_octets.specs.Parsing.{Parsing, rest, gone_on};
 
+pub use crate::error::ParseError;
 use std::marker::Model;
-use thiserror::Error;
-
-/// Why octets can't be read.
-#[derive(Clone, Copy, Debug, PartialEq, Eq, Error)]
-pub enum ParseError {
-    /// Fewer octets are left than were asked for.
-    #[error("unexpected end of input")]
-    ShortInput,
-}
 
 /// A place among octets, before which everything has been read.
 ///

@@ -1,6 +1,7 @@
 -- Fields out of words and tokens.
 use Rattle.std.proofs.Common.{◌≡◌, ℕ, ◌+◌, ◌<◌, ◌≤◌, List, [], ◌∷◌, ◌++◌, map, drop, arith, refl, sym, ap, subst, ◌∙◌, append_assoc, append-nil, ◌⊎◌, inl, inr, Option, Some, None, Ok, Err, min}
 use Rattle.std.proofs.lemmas.List.{map-append}
+use Rattle.dns_octets.specs.Room.{Room, within}
 use Rattle.dns_symbol.specs.declared.symbol.Symbol.{Symbol}
 use Rattle.dns_symbol.specs.Text.{SymbolsOf}
 use Rattle.dns_scan.specs.Answers.{AllGiven}
@@ -26,19 +27,19 @@ pub number_held : {E : Type 0} (cause : E → Cause) (limit : ℕ) (t : Token) (
 number_held cause limit t v h = (h.symbols, subst (λ e. SymbolsOf t h.symbols e) h.reads.1 h.read, (v, h.reads.0, refl))
 
 -- octets that a token doesn't convert to
-pub octets_stop : (codec : Codec) (token : Token) (why : Cause) {most sure count : ℕ} → ((ConvertsTo codec token (Err why) × (count ≤ most)) ⊎ ((why ≡ short_buf) × (sure < count)))
+pub octets_stop : (codec : Codec) (token : Token) (why : Cause) {room : Room} {count : ℕ} → ((ConvertsTo codec token (Err why) × (count ≤ room.capacity)) ⊎ ((why ≡ short_buf) × (room.fits < count)))
     → Stops (OctetsRefused codec) token why
 octets_stop codec token why (inl h) = inl h.0
 octets_stop codec token why (inr h) = inr h.0
 
 -- a character string that was scanned
-pub text_held : {E : Type 0} (cause : E → Cause) (sure most : ℕ) (t : Token) (s : List ℕ)
-    → Builds cause (GivesStep cause (min sure 255) (min most 255) octet_given) (λ s. s) t (Ok s) → Holds Text t (text_octets s)
-text_held cause sure most t s h =
-    let read = builds_read cause octet_given (min sure 255) (min most 255) (λ s. s) t (Ok s) h in (
+pub text_held : {E : Type 0} (cause : E → Cause) (room : Room) (t : Token) (s : List ℕ)
+    → Builds cause (GivesStep cause (within 255 room) octet_given) (λ s. s) t (Ok s) → Holds Text t (text_octets s)
+text_held cause room t s h =
+    let read = builds_read cause octet_given (within 255 room) (λ s. s) t (Ok s) h in (
       read.0,
       subst (λ e. SymbolsOf t read.0 e) read.3.ends read.2,
-      (s, all_given_in octet_given (min sure 255) (min most 255) 255 (omega arith) read.0 None s (subst (λ e. AllGiven octet_given (min sure 255) (min most 255) read.0 e s) read.3.ends read.3), refl),
+      (s, all_given_in octet_given (within 255 room) 255 (omega arith) read.0 None s (subst (λ e. AllGiven octet_given (within 255 room) read.0 e s) read.3.ends read.3), refl),
     )
 
 -- ---- tokens

@@ -4,6 +4,7 @@ use Rattle.std.specs.Prelude.{Vec, encode_utf8_all}
 use Rattle.std.specs.Fmt.{WritesInCalls, decimal}
 use Rattle.std.proofs.Output.{writes_in_calls_append, writes_in_calls_nil}
 use Rattle.dns_octets.specs.Octets.{greatest_length}
+use Rattle.dns_octets.specs.Room.{Room, of_memory, within}
 use Rattle.dns_symbol.specs.Symbol.{chars_error_text}
 use Rattle.dns_symbol.specs.Text.{SymbolsOf}
 use Rattle.dns_wire.specs.Printed.{dotted_text}
@@ -34,52 +35,52 @@ recast P (Ok (Absolute name)) = Ok (Absolute name)
 recast P (Ok (Relative name)) = Ok (Relative name)
 recast P (Err e) = Err e
 
-recast_reads : {O : Type 0} (P : Type 0) (sure most : ℕ) (text : List ℕ) (read : Result (UncertainName O) FromStrError)
-    → ReadsName sure most text read → ReadsName sure most text (recast P read)
-recast_reads P sure most text (Ok (Absolute name)) h = h
-recast_reads P sure most text (Ok (Relative name)) h = h
-recast_reads P sure most text (Err (Symbol e)) h = h
-recast_reads P sure most text (Err BadOctet) h = h
-recast_reads P sure most text (Err BinaryLabel) h = h
-recast_reads P sure most text (Err EmptyLabel) h = h
-recast_reads P sure most text (Err LongLabel) h = h
-recast_reads P sure most text (Err LongName) h = h
-recast_reads P sure most text (Err ShortBuf) h = h
+recast_reads : {O : Type 0} (P : Type 0) (room : Room) (text : List ℕ) (read : Result (UncertainName O) FromStrError)
+    → ReadsName room text read → ReadsName room text (recast P read)
+recast_reads P room text (Ok (Absolute name)) h = h
+recast_reads P room text (Ok (Relative name)) h = h
+recast_reads P room text (Err (Symbol e)) h = h
+recast_reads P room text (Err BadOctet) h = h
+recast_reads P room text (Err BinaryLabel) h = h
+recast_reads P room text (Err EmptyLabel) h = h
+recast_reads P room text (Err LongLabel) h = h
+recast_reads P room text (Err LongName) h = h
+recast_reads P room text (Err ShortBuf) h = h
 
-recast_answers : {O : Type 0} (P : Type 0) (sure most : ℕ) (read : Result (UncertainName O) FromStrError) (r : Result (List (List ℕ)) Cause)
-    → AnswersName (λ why. why) sure most read r → AnswersName (λ why. why) sure most (recast P read) r
-recast_answers P sure most (Ok (Absolute name)) r h = h
-recast_answers P sure most (Ok (Relative name)) r h = h
-recast_answers P sure most (Err (Symbol e)) r h = h
-recast_answers P sure most (Err BadOctet) r h = h
-recast_answers P sure most (Err BinaryLabel) r h = h
-recast_answers P sure most (Err EmptyLabel) r h = h
-recast_answers P sure most (Err LongLabel) r h = h
-recast_answers P sure most (Err LongName) r h = h
-recast_answers P sure most (Err ShortBuf) r h = h
+recast_answers : {O : Type 0} (P : Type 0) (room : Room) (read : Result (UncertainName O) FromStrError) (r : Result (List (List ℕ)) Cause)
+    → AnswersName (λ why. why) room read r → AnswersName (λ why. why) room (recast P read) r
+recast_answers P room (Ok (Absolute name)) r h = h
+recast_answers P room (Ok (Relative name)) r h = h
+recast_answers P room (Err (Symbol e)) r h = h
+recast_answers P room (Err BadOctet) r h = h
+recast_answers P room (Err BinaryLabel) r h = h
+recast_answers P room (Err EmptyLabel) r h = h
+recast_answers P room (Err LongLabel) r h = h
+recast_answers P room (Err LongName) r h = h
+recast_answers P room (Err ShortBuf) r h = h
 
 module _ {E : Type 0} (cause : E → Cause) where
   -- a character string that was scanned prints as the token's value
-  pub charstr_prints : (sure most : ℕ) (t : Token) (s : List ℕ) → Builds cause (GivesStep cause (min sure 255) (min most 255) octet_given) (λ s. s) t (Ok s) → StringPrints t (unquoted_token s)
-  charstr_prints sure most t s h =
-      let read = builds_read cause octet_given (min sure 255) (min most 255) (λ s. s) t (Ok s) h in (
+  pub charstr_prints : (room : Room) (t : Token) (s : List ℕ) → Builds cause (GivesStep cause (within 255 room) octet_given) (λ s. s) t (Ok s) → StringPrints t (unquoted_token s)
+  charstr_prints room t s h =
+      let read = builds_read cause octet_given (within 255 room) (λ s. s) t (Ok s) h in (
         read.0,
         subst (λ e. SymbolsOf t read.0 e) read.3.ends read.2,
         (
           s,
-          all_given_in octet_given (min sure 255) (min most 255) 255 (omega arith) read.0 None s
-              (subst (λ e. AllGiven octet_given (min sure 255) (min most 255) read.0 e s) read.3.ends read.3),
+          all_given_in octet_given (within 255 room) 255 (omega arith) read.0 None s
+              (subst (λ e. AllGiven octet_given (within 255 room) read.0 e s) read.3.ends read.3),
           refl,
         ),
       )
 
-  pub charstr_stops : (sure most : ℕ) (t : Token) (e : E) → Builds cause (GivesStep cause (min sure 255) (min most 255) octet_given) (λ s. s) t (Err e) → Stops StringRefused t (cause e)
-  charstr_stops sure most t e h =
-      let read = builds_read cause octet_given (min sure 255) (min most 255) (λ s. s) t (Err e) h in
+  pub charstr_stops : (room : Room) (t : Token) (e : E) → Builds cause (GivesStep cause (within 255 room) octet_given) (λ s. s) t (Err e) → Stops StringRefused t (cause e)
+  charstr_stops room t e h =
+      let read = builds_read cause octet_given (within 255 room) (λ s. s) t (Err e) h in
       ⊎_elim
       (λ k. inl (read.0, read.1, read.2, k))
       (λ k. inr k)
-      (first_fault_in octet_given (min sure 255) (min most 255) 255 (omega arith) read.0 read.1 (cause e) read.3)
+      (first_fault_in octet_given (within 255 room) 255 (omega arith) read.0 read.1 (cause e) read.3)
 
   -- a number that was scanned prints as the token's value
   pub number_prints : (limit : ℕ) (t : Token) (v : ℕ) → ScannedNumber cause limit t (Ok v) → NumberPrints limit t (decimal v)
@@ -99,25 +100,25 @@ module _ {E : Type 0} (cause : E → Cause) where
   same_cause (Ok v) why h = absurd h
   same_cause (Err e) why h = h
 
-  answers_by_cause : {O : Type 0} (sure most : ℕ) (read : Result (UncertainName O) FromStrError) (r : Result (List (List ℕ)) E)
-      → AnswersName cause sure most read r → AnswersName (λ c. c) sure most read (by_cause cause r)
-  answers_by_cause sure most (Ok (Absolute name)) r h = ap (by_cause cause) h
-  answers_by_cause sure most (Ok (Relative name)) r h =
+  answers_by_cause : {O : Type 0} (room : Room) (read : Result (UncertainName O) FromStrError) (r : Result (List (List ℕ)) E)
+      → AnswersName cause room read r → AnswersName (λ c. c) room read (by_cause cause r)
+  answers_by_cause room (Ok (Absolute name)) r h = ap (by_cause cause) h
+  answers_by_cause room (Ok (Relative name)) r h =
       ⊎_elim
       (λ k. inl (k.0, same_cause r invalid_name k.1))
       (λ k. inr (⊎_elim (λ m. inl (m.0, ap (by_cause cause) m.1, m.2)) (λ m. inr (m.0, m.1, same_cause r invalid_name m.2)) k))
       h
-  answers_by_cause sure most (Err (Symbol e)) r h = same_cause r (custom_text (chars_error_text e)) h
-  answers_by_cause sure most (Err BadOctet) r h = same_cause r invalid_name h
-  answers_by_cause sure most (Err BinaryLabel) r h = same_cause r invalid_name h
-  answers_by_cause sure most (Err EmptyLabel) r h = same_cause r invalid_name h
-  answers_by_cause sure most (Err LongLabel) r h = same_cause r invalid_name h
-  answers_by_cause sure most (Err LongName) r h = same_cause r invalid_name h
-  answers_by_cause sure most (Err ShortBuf) r h = same_cause r invalid_name h
+  answers_by_cause room (Err (Symbol e)) r h = same_cause r (custom_text (chars_error_text e)) h
+  answers_by_cause room (Err BadOctet) r h = same_cause r invalid_name h
+  answers_by_cause room (Err BinaryLabel) r h = same_cause r invalid_name h
+  answers_by_cause room (Err EmptyLabel) r h = same_cause r invalid_name h
+  answers_by_cause room (Err LongLabel) r h = same_cause r invalid_name h
+  answers_by_cause room (Err LongName) r h = same_cause r invalid_name h
+  answers_by_cause room (Err ShortBuf) r h = same_cause r invalid_name h
 
-  pub reads_names : {A : Type 0} → ReadsNames cause (ReadsToken (Vec ℕ A) cause 0 greatest_length)
+  pub reads_names : {A : Type 0} → ReadsNames cause (ReadsToken (Vec ℕ A) cause of_memory)
   reads_names t r h =
-      (recast _ h.0, recast_reads _ 0 greatest_length t h.0 h.1, recast_answers _ 0 greatest_length h.0 (by_cause cause r) (answers_by_cause 0 greatest_length h.0 r h.2))
+      (recast _ h.0, recast_reads _ of_memory t h.0 h.1, recast_answers _ of_memory h.0 (by_cause cause r) (answers_by_cause of_memory h.0 r h.2))
 
   -- a line more, before the lines of others
   pub lines_more : {O : Type 0} (took : O → List ℕ → O → Type 0) (kind : ScanKind) (t : Token) (ts : List Token) (o m p : O) (r : Result (Unit {0}) (Stop E))

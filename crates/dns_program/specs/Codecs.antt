@@ -1,7 +1,8 @@
 -- What the converters make of a token.
 use Rattle.std.specs.Prelude.{ℕ, List, [], ◌∷◌, ◌++◌, ◌≡◌, ◌<◌, ◌≤◌, ◌⊎◌, length, map, Bool, false, Option, Some, None, Result, Ok, Err, MatchResult}
+use Rattle.dns_octets.specs.Room.{Room}
 use Rattle.dns_symbol.specs.declared.symbol.Symbol.{Symbol}
-use Rattle.dns_symbol.specs.declared.symbol.SymbolCharsError.{SymbolCharsError}
+use Rattle.dns_symbol.specs.declared.error.SymbolCharsError.{SymbolCharsError}
 use Rattle.dns_symbol.specs.Symbol.{chars_error_text, char_of}
 use Rattle.dns_symbol.specs.Text.{SymbolsOf}
 use Rattle.dns_codec.specs.Base.{Base, base16, base32hex, base64, encoded}
@@ -53,11 +54,11 @@ module _ (codec : Codec) where
   abbrev pub MadeOf : Token → List ℕ → Type 0
   MadeOf token octets = (symbols : List Symbol) × (error : Option SymbolCharsError) × SymbolsOf token symbols error × (octets ≡ made_of codec.start symbols error)
 
-  -- the answer is what the token converts to, where what is made of it fits, at most `most` octets; or "short buffer", where that is more than the `sure` octets that surely fit
-  abbrev pub AnswersConverted : {O E : Type 0} → (E → Cause) → (O → List ℕ) → ℕ → ℕ → Token → Result O E → Type 0
-  AnswersConverted cause value sure most token r = (built : List ℕ) × MadeOf token built × MatchResult r
-      (λ x. ConvertsTo token (Ok (value x)) × (length built ≤ most))
-      (λ e. (ConvertsTo token (Err (cause e)) × (length built ≤ most)) ⊎ ((cause e ≡ short_buf) × (sure < length built)))
+  -- the answer is what the token converts to, where what is made of it is within the room's capacity; or "short buffer", where that is more than surely fits
+  abbrev pub AnswersConverted : {O E : Type 0} → (E → Cause) → (O → List ℕ) → Room → Token → Result O E → Type 0
+  AnswersConverted cause value room token r = (built : List ℕ) × MadeOf token built × MatchResult r
+      (λ x. ConvertsTo token (Ok (value x)) × (length built ≤ room.capacity))
+      (λ e. (ConvertsTo token (Err (cause e)) × (length built ≤ room.capacity)) ⊎ ((cause e ≡ short_buf) × (room.fits < length built)))
 
   -- the token is octets in that encoding, which print in upper case hex
   abbrev pub OctetsPrint : Token → List ℕ → Type 0

@@ -1,6 +1,7 @@
 -- What the program's `line` asks for, writes and answers.
 use Rattle.std.specs.Prelude.{ℕ, List, [], ◌∷◌, ◌++◌, ◌≡◌, ◌≢◌, ◌⊎◌, Option, Some, None, Ok, codes, map}
 use Rattle.std.specs.Fmt.{WritesInCalls}
+use Rattle.dns_octets.specs.Room.{exactly}
 use Rattle.dns_symbol.specs.Characters.{line_feed}
 use Rattle.dns_symbol.specs.declared.symbol.Symbol.{Symbol}
 use Rattle.dns_symbol.specs.Text.{SymbolsOf}
@@ -14,7 +15,7 @@ use Rattle.dns_zone.specs.declared.zonefile_fmt.DisplayKind.{DisplayKind}
 use Rattle.dns_entry.specs.Field.{Content, number, hex_octets, base64_octets, text_octets}
 use Rattle.dns_entry.specs.Line.{IsFirstEmpty, IsLine, line_document}
 use Rattle.dns_entry.specs.EntryError.{place_of, error_text}
-use Rattle.dns_entry.specs.declared.entry.EntryError.{EntryError}
+use Rattle.dns_entry.specs.declared.error.EntryError.{EntryError}
 use Rattle.dns_program.specs.Codecs.{ConvertsTo, hex_codec, base64_codec}
 use Rattle.dns_program.specs.Print.{layout_name, NoMemory}
 use Rattle.dns_program.specs.Program.{IsRefused, cause_text}
@@ -57,7 +58,7 @@ abbrev pub Holds : FieldKind → Token → Content → Type 0
 Holds Number token c = (symbols : List Symbol) × SymbolsOf token symbols None × ((v : ℕ) × IsNumber (greatest 32) symbols v × (c ≡ number v))
 Holds Hex token c = (octets : List ℕ) × ConvertsTo hex_codec token (Ok octets) × (c ≡ hex_octets octets)
 Holds Base64 token c = (octets : List ℕ) × ConvertsTo base64_codec token (Ok octets) × (c ≡ base64_octets octets)
-Holds Text token c = (symbols : List Symbol) × SymbolsOf token symbols None × ((octets : List ℕ) × AllGiven octet_given 255 255 symbols None octets × (c ≡ text_octets octets))
+Holds Text token c = (symbols : List Symbol) × SymbolsOf token symbols None × ((octets : List ℕ) × AllGiven octet_given (exactly 255) symbols None octets × (c ≡ text_octets octets))
 
 -- the token is no such thing, or no memory was found for it, and that is the refusal
 abbrev pub NoField : FieldKind → Token → Cause → Type 0

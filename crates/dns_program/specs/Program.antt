@@ -2,9 +2,10 @@
 use Rattle.std.specs.Prelude.{ℕ, List, [], ◌∷◌, ◌++◌, ◌≡◌, ◌⊎◌, Option, Some, None, Result, Ok, Err, codes, map, encode_utf8_all}
 use Rattle.std.specs.Borrow.{Bor}
 use Rattle.std.specs.Fmt.{WritesInCalls, decimal}
+use Rattle.dns_octets.specs.Room.{exactly}
 use Rattle.dns_symbol.specs.Characters.{line_feed}
 use Rattle.dns_symbol.specs.declared.symbol.Symbol.{Symbol}
-use Rattle.dns_symbol.specs.declared.symbol.SymbolCharsError.{SymbolCharsError}
+use Rattle.dns_symbol.specs.declared.error.SymbolCharsError.{SymbolCharsError}
 use Rattle.dns_symbol.specs.Text.{SymbolsOf}
 use Rattle.dns_wire.specs.Printed.{dotted_text}
 use Rattle.dns_codec.specs.Base.{base16, encoded}
@@ -60,11 +61,11 @@ NumberRefused limit token why = (symbols : List Symbol) × (error : Option Symbo
 
 -- the token is a character string, which prints in its unquoted form
 abbrev pub StringPrints : Token → List ℕ → Type 0
-StringPrints token text = (symbols : List Symbol) × SymbolsOf token symbols None × ((octets : List ℕ) × AllGiven octet_given 255 255 symbols None octets × (text ≡ unquoted_token octets))
+StringPrints token text = (symbols : List Symbol) × SymbolsOf token symbols None × ((octets : List ℕ) × AllGiven octet_given (exactly 255) symbols None octets × (text ≡ unquoted_token octets))
 
 -- the token is no character string
 abbrev pub StringRefused : Token → Cause → Type 0
-StringRefused token why = (symbols : List Symbol) × (error : Option SymbolCharsError) × SymbolsOf token symbols error × FirstFault octet_given 255 255 symbols error why
+StringRefused token why = (symbols : List Symbol) × (error : Option SymbolCharsError) × SymbolsOf token symbols error × FirstFault octet_given (exactly 255) symbols error why
 
 -- the token is a name, absolute or made so, which prints with a dot at its end
 abbrev pub NamePrints : Token → List ℕ → Type 0

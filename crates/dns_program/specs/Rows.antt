@@ -2,7 +2,7 @@
 use Rattle.std.specs.Char.{encode_utf8}
 use Rattle.std.specs.Prelude.{false, ◌≡◌, [], ◌∷◌, Some, None, Err, codes, refl}
 use Rattle.dns_symbol.specs.declared.symbol.Symbol.TheVariants.{Char, SimpleEscape, DecimalEscape}
-use Rattle.dns_symbol.specs.declared.symbol.SymbolCharsError.TheVariants.{ShortInput}
+use Rattle.dns_symbol.specs.declared.error.SymbolCharsError.TheVariants.{ShortInput}
 use Rattle.dns_codec.specs.Bits.{bits, joined, cut, whole}
 use Rattle.dns_codec.specs.Group.{fresh}
 use Rattle.dns_codec.specs.Base.{base16, value}

@@ -162,7 +162,7 @@ where
     ensures ready { S.can_scan scanner.new }
     ensures line { (token : Token) (others : List Token) → HasTokens S.next_token scanner.old (token ∷ others)
         → OctetsLine O.write_str_gives
-        (Converts S.Error.cause S.OctetsBuilder.sure S.OctetsBuilder.most C.tail (λ s. s) (λ p a q. ConvertToken S.Error.cause S.OctetsBuilder.sure S.OctetsBuilder.most C.takes p token a q) convert)
+        (Converts S.Error.cause S.OctetsBuilder.room C.tail (λ s. s) (λ p a q. ConvertToken S.Error.cause S.OctetsBuilder.room C.takes p token a q) convert)
         out.old result out.new }
     ensures rest { (token : Token) (others : List Token) → HasTokens S.next_token scanner.old (token ∷ others) → HasTokens S.next_token scanner.new others }
 {

@@ -1,6 +1,7 @@
 -- What was read of a list of tokens, as what a scanner answered.
 use Rattle.std.proofs.Common.{ℕ, ◌≡◌, ◌<◌, List, [], ◌∷◌, ◌++◌, length, refl, append-nil, arith, ◌⊎◌, inl, inr, ⊎_elim, subst, ap, ◌∙◌, Option, Result, Ok, Err}
 use Rattle.std.specs.Prelude.{IsOkAnd}
+use Rattle.dns_octets.specs.Room.{Room}
 use Rattle.dns_symbol.specs.Cause.{Cause}
 use Rattle.dns_scan.specs.Numbers.{by_cause}
 use Rattle.dns_scan.specs.Stands.{HasTokens}
@@ -13,10 +14,10 @@ use Rattle.dns_scan.specs.Join.{LeavesOf}
 use Rattle.dns_scan.specs.Octets.{GivesWhere}
 use Rattle.dns_record.specs.Values.{Value, hex, base64_octets, IsText, AreTexts, MayLack, SomeMayLack}
 
-module _ {S T E : Type 0} (next : S → Option Token → S → Type 0) (cause : E → Cause) (sure : ℕ) (values : T → List Value) (wanted : List Value) (others rest : List Token) (new : S) where
+module _ {S T E : Type 0} (next : S → Option Token → S → Type 0) (cause : E → Cause) (room : Room) (values : T → List Value) (wanted : List Value) (others rest : List Token) (new : S) where
   -- where these are some of all fields
-  pub scanned_back : (all : List Value) → (SomeMayLack sure wanted → SomeMayLack sure all) → (r : Result T E) → FieldBack sure values wanted others (by_cause cause r) rest → HasTokens next new rest
-      → ReadsBack next cause sure values wanted all others r new
+  pub scanned_back : (all : List Value) → (SomeMayLack room wanted → SomeMayLack room all) → (r : Result T E) → FieldBack room values wanted others (by_cause cause r) rest → HasTokens next new rest
+      → ReadsBack next cause room values wanted all others r new
   scanned_back all among (Ok x) (inl h) stands = inl (h.0, subst (HasTokens next new) h.1 stands)
   scanned_back all among (Ok x) (inr h) stands = absurd (⊎_elim (λ e. e) (λ e. e) h.0)
   scanned_back all among (Err e) (inl h) stands = absurd h.0
@@ -34,10 +35,10 @@ hex_text octets tokens texts = ap concat (one_text (hex octets) (encoded base16 
 pub base64_text : (octets : List ℕ) (tokens : List Token) → AreTexts (base64_octets octets ∷ []) tokens [] → concat tokens ≡ encoded base64 octets
 base64_text octets tokens texts = ap concat (one_text (base64_octets octets) (encoded base64 octets) (λ t e. e) tokens texts) ∙ append-nil (encoded base64 octets)
 
-module _ {S O E : Type 0} (next : S → Option Token → S → Type 0) (cause : E → Cause) (value : O → List ℕ) (sure : ℕ) (make : List ℕ → Value)
+module _ {S O E : Type 0} (next : S → Option Token → S → Type 0) (cause : E → Cause) (value : O → List ℕ) (room : Room) (make : List ℕ → Value)
     (octets : List ℕ) (past : List Value) (tokens : List Token) (new : S) where
-  pub some_rest : (o : O) (r : Result (List ℕ) E) → 0 < length octets → GivesWhere cause value sure octets (Ok o) → LeavesOf {V = O} {E = E} next tokens (Ok o) new
-      → (0 < length (value o) → IsOkAnd r (λ s. s ≡ value o)) → ReadsBack next cause sure (λ s. make s ∷ []) (make octets ∷ []) (past ++ make octets ∷ []) [] r new
+  pub some_rest : (o : O) (r : Result (List ℕ) E) → 0 < length octets → GivesWhere cause value room octets (Ok o) → LeavesOf {V = O} {E = E} next tokens (Ok o) new
+      → (0 < length (value o) → IsOkAnd r (λ s. s ≡ value o)) → ReadsBack next cause room (λ s. make s ∷ []) (make octets ∷ []) (past ++ make octets ∷ []) [] r new
   some_rest o r some gives leaves made =
       let is : value o ≡ octets = ⊎_elim (λ e. e) (λ e. absurd e.0) gives in
       inl (by r is (made (omega (arith, some, ap length is))), subst (HasTokens next new) (leaves.3 refl) leaves.4)
@@ -47,9 +48,9 @@ module _ {S O E : Type 0} (next : S → Option Token → S → Type 0) (cause : 
       by (Err x) is e = e
 
   -- where such a field may lack room for its octets
-  pub no_rest : {T : Type 0} (values : T → List Value) (wanted : List Value) (e : E) → (sure < length octets → MayLack sure (make octets)) → GivesWhere cause value sure octets (Err e)
-      → ReadsBack {T = T} next cause sure values wanted (past ++ make octets ∷ []) [] (Err e) new
-  no_rest values wanted e may gives = ⊎_elim (λ is. absurd is) (λ lack. inr (inl lack.0, may_after sure past (make octets ∷ []) (inl (may lack.1)))) gives
+  pub no_rest : {T : Type 0} (values : T → List Value) (wanted : List Value) (e : E) → (room.fits < length octets → MayLack room (make octets)) → GivesWhere cause value room octets (Err e)
+      → ReadsBack {T = T} next cause room values wanted (past ++ make octets ∷ []) [] (Err e) new
+  no_rest values wanted e may gives = ⊎_elim (λ is. absurd is) (λ lack. inr (inl lack.0, may_after room past (make octets ∷ []) (inl (may lack.1)))) gives
 
 -- ---- fields, and then the last of them
 

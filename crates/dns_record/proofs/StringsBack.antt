@@ -3,6 +3,7 @@ use Rattle.std.proofs.Common.{ℕ, ◌≡◌, ◌<◌, ◌≤◌, true, false, L
 use Rattle.std.specs.Prelude.{is_some, All, IsOkAnd, ◌⊎◌}
 use Rattle.std.specs.List.{AllZip}
 use Rattle.std.proofs.lemmas.List.Elements.{All-cons, All-head, All-nil, All-tail}
+use Rattle.dns_octets.specs.Room.{Room}
 use Rattle.dns_charstr.specs.Reading.{HasOctets}
 use Rattle.dns_charstr.proofs.ReadBack.{reads_back}
 use Rattle.dns_symbol.specs.Cause.{Cause, short_buf}
@@ -51,7 +52,7 @@ texts_read [] (t ∷ ts) is texts = cc
 texts_read (x ∷ xs) [] is texts = absurd texts
 texts_read (x ∷ xs) (t ∷ ts) is texts = (has_octets t x is.0.0 texts.0, texts_read xs ts is.1 texts.1)
 
-module _ {S E : Type 0} (next : S → Option Token → S → Type 0) (cause : E → Cause) (sure : ℕ) (strings : List (List ℕ)) (past : List Value) (tokens : List Token) (new : S) where
+module _ {S E : Type 0} (next : S → Option Token → S → Type 0) (cause : E → Cause) (room : Room) (strings : List (List ℕ)) (past : List Value) (tokens : List Token) (new : S) where
   -- the texts are those of the strings, and so this is
   abbrev Where : Type 0 → Type 0
   Where answered = AllZip HasOctets tokens strings → All (λ s. length s ≤ 255) strings → answered
@@ -59,7 +60,7 @@ module _ {S E : Type 0} (next : S → Option Token → S → Type 0) (cause : E 
   pub strings_given : {A : Type 0} (v : Vec (List ℕ) A) (r : Result (List (List ℕ)) E) → AreValues (strings_of strings) → 0 < length (strings_of strings) → AreTexts (strings_of strings) tokens []
       → Where ((v.items ≡ strings) ⊎ ⊥)
       → LeavesOf {V = Vec (List ℕ) A} {E = E} next tokens (Ok v) new → (0 < length v.items → IsOkAnd r (λ s. s ≡ v.items))
-      → ReadsBack next cause sure strings_of (strings_of strings) (past ++ strings_of strings) [] r new
+      → ReadsBack next cause room strings_of (strings_of strings) (past ++ strings_of strings) [] r new
   strings_given {A} v r valid some texts whole leaves made =
       let is : v.items ≡ strings = ⊎_elim (λ e. e) (λ e. absurd e) (whole (texts_read strings tokens valid texts) (short_each strings valid)) in
       inl (by r is (made (subst (λ (l : List (List ℕ)). 0 < length l) (sym is) (some_strings strings some))), subst (HasTokens next new) (leaves.3 refl) leaves.4)
@@ -69,11 +70,11 @@ module _ {S E : Type 0} (next : S → Option Token → S → Type 0) (cause : E 
       by (Err x) is e = e
 
   -- a list may always lack memory
-  may_lack : (xs : List (List ℕ)) → 0 < length (strings_of xs) → SomeMayLack sure (strings_of xs)
+  may_lack : (xs : List (List ℕ)) → 0 < length (strings_of xs) → SomeMayLack room (strings_of xs)
   may_lack [] some = absurd (omega (arith, some))
   may_lack (x ∷ xs) some = inl tt
 
   pub strings_lack : (e : E) → AreValues (strings_of strings) → 0 < length (strings_of strings) → AreTexts (strings_of strings) tokens [] → Where (⊥ ⊎ (cause e ≡ short_buf))
-      → ReadsBack {T = List (List ℕ)} next cause sure strings_of (strings_of strings) (past ++ strings_of strings) [] (Err e) new
+      → ReadsBack {T = List (List ℕ)} next cause room strings_of (strings_of strings) (past ++ strings_of strings) [] (Err e) new
   strings_lack e valid some texts whole =
-      ⊎_elim (λ is. absurd is) (λ lack. inr (inl lack, may_after sure past (strings_of strings) (may_lack strings some))) (whole (texts_read strings tokens valid texts) (short_each strings valid))
+      ⊎_elim (λ is. absurd is) (λ lack. inr (inl lack, may_after room past (strings_of strings) (may_lack strings some))) (whole (texts_read strings tokens valid texts) (short_each strings valid))

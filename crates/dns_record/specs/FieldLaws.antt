@@ -4,7 +4,8 @@ use Rattle.std.proofs.Common.{refl, sym, ap, subst, ◌∙◌, arith, zero-add, 
 use Rattle.std.specs.Prelude.{All, MatchResult, encode_utf8_all}
 use Rattle.std.specs.List.{concat}
 use Rattle.std.specs.Fmt.{decimal}
-use Rattle.dns_symbol.specs.declared.symbol.BadSymbol.{BadSymbol}
+use Rattle.dns_octets.specs.Room.{Room, exactly, within}
+use Rattle.dns_symbol.specs.declared.error.BadSymbol.{BadSymbol}
 use Rattle.dns_symbol.specs.declared.symbol.Symbol.{Symbol}
 use Rattle.dns_symbol.specs.Symbol.{octet_of}
 use Rattle.dns_symbol.specs.Printed.{symbol_of, text_of, is_quoted_escape, is_unquoted_escape}
@@ -32,33 +33,33 @@ use Rattle.dns_record.specs.Values.{Value, number8, number16, number32, name, st
 
 -- ---- numbers
 
-number_back : (sure : ℕ) (make : ℕ → Value) (limit v : ℕ) (t : Token) (ts others rest : List Token) (r : Result ℕ Cause)
+number_back : (room : Room) (make : ℕ → Value) (limit v : ℕ) (t : Token) (ts others rest : List Token) (r : Result ℕ Cause)
     → v ≤ limit → v < 2 ^ 32 → t ≡ decimal v → ts ≡ others → ReadsFirst (NumberReads limit) (t ∷ ts) r rest
-    → FieldBack sure (λ n. make n ∷ []) (make v ∷ []) others r rest
-number_back sure make limit v t ts others rest r small fits text end reads =
+    → FieldBack room (λ n. make n ∷ []) (make v ∷ []) others r rest
+number_back room make limit v t ts others rest r small fits text end reads =
     let is = decimal_read limit v (omega (arith, fits)) small in
     let read = subst (λ (x : Token). NumberReads limit x r) text reads.0 in
     let same = numbers_once limit (decimal v) r (Ok v) read (record { symbols = is.0; error = None; read = is.1; reads = (is.2, λ i. None) }) in
     by r same
   where
-    by : (q : Result ℕ Cause) → q ≡ Ok v → FieldBack sure (λ n. make n ∷ []) (make v ∷ []) others q rest
+    by : (q : Result ℕ Cause) → q ≡ Ok v → FieldBack room (λ n. make n ∷ []) (make v ∷ []) others q rest
     by (Ok n) e = let value : n ≡ v = cc e in inl (ap (λ x. make x ∷ []) value, reads.1 ∙ end)
     by (Err why) e = cc
 
-pub number8_back : (sure v : ℕ) (tokens others rest : List Token) (r : Result ℕ Cause) → AreValues (number8 v ∷ []) → AreTexts (number8 v ∷ []) tokens others
-    → ReadsFirst (NumberReads (greatest 8)) tokens r rest → FieldBack sure (λ n. number8 n ∷ []) (number8 v ∷ []) others r rest
-number8_back sure v [] others rest r is texts reads = absurd texts
-number8_back sure v (t ∷ ts) others rest r is texts reads = number_back sure (λ n. number8 n) (greatest 8) v t ts others rest r (omega (arith, is.0)) (omega (arith, is.0)) texts.0 texts.1 reads
+pub number8_back : (room : Room) (v : ℕ) (tokens others rest : List Token) (r : Result ℕ Cause) → AreValues (number8 v ∷ []) → AreTexts (number8 v ∷ []) tokens others
+    → ReadsFirst (NumberReads (greatest 8)) tokens r rest → FieldBack room (λ n. number8 n ∷ []) (number8 v ∷ []) others r rest
+number8_back room v [] others rest r is texts reads = absurd texts
+number8_back room v (t ∷ ts) others rest r is texts reads = number_back room (λ n. number8 n) (greatest 8) v t ts others rest r (omega (arith, is.0)) (omega (arith, is.0)) texts.0 texts.1 reads
 
-pub number16_back : (sure v : ℕ) (tokens others rest : List Token) (r : Result ℕ Cause) → AreValues (number16 v ∷ []) → AreTexts (number16 v ∷ []) tokens others
-    → ReadsFirst (NumberReads (greatest 16)) tokens r rest → FieldBack sure (λ n. number16 n ∷ []) (number16 v ∷ []) others r rest
-number16_back sure v [] others rest r is texts reads = absurd texts
-number16_back sure v (t ∷ ts) others rest r is texts reads = number_back sure (λ n. number16 n) (greatest 16) v t ts others rest r (omega (arith, is.0)) (omega (arith, is.0)) texts.0 texts.1 reads
+pub number16_back : (room : Room) (v : ℕ) (tokens others rest : List Token) (r : Result ℕ Cause) → AreValues (number16 v ∷ []) → AreTexts (number16 v ∷ []) tokens others
+    → ReadsFirst (NumberReads (greatest 16)) tokens r rest → FieldBack room (λ n. number16 n ∷ []) (number16 v ∷ []) others r rest
+number16_back room v [] others rest r is texts reads = absurd texts
+number16_back room v (t ∷ ts) others rest r is texts reads = number_back room (λ n. number16 n) (greatest 16) v t ts others rest r (omega (arith, is.0)) (omega (arith, is.0)) texts.0 texts.1 reads
 
-pub number32_back : (sure v : ℕ) (tokens others rest : List Token) (r : Result ℕ Cause) → AreValues (number32 v ∷ []) → AreTexts (number32 v ∷ []) tokens others
-    → ReadsFirst (NumberReads (greatest 32)) tokens r rest → FieldBack sure (λ n. number32 n ∷ []) (number32 v ∷ []) others r rest
-number32_back sure v [] others rest r is texts reads = absurd texts
-number32_back sure v (t ∷ ts) others rest r is texts reads = number_back sure (λ n. number32 n) (greatest 32) v t ts others rest r (omega (arith, is.0)) (omega (arith, is.0)) texts.0 texts.1 reads
+pub number32_back : (room : Room) (v : ℕ) (tokens others rest : List Token) (r : Result ℕ Cause) → AreValues (number32 v ∷ []) → AreTexts (number32 v ∷ []) tokens others
+    → ReadsFirst (NumberReads (greatest 32)) tokens r rest → FieldBack room (λ n. number32 n ∷ []) (number32 v ∷ []) others r rest
+number32_back room v [] others rest r is texts reads = absurd texts
+number32_back room v (t ∷ ts) others rest r is texts reads = number_back room (λ n. number32 n) (greatest 32) v t ts others rest r (omega (arith, is.0)) (omega (arith, is.0)) texts.0 texts.1 reads
 
 -- ---- character strings
 
@@ -77,18 +78,18 @@ joined_each [] = refl
 joined_each (o ∷ os) = ap (λ l. o ∷ l) (joined_each os)
 
 -- a fault at a symbol that gives its octet: there was no room for it
-fault_short : (sure most : ℕ) (front rest : List Symbol) (octets : List ℕ) (parts : List (List ℕ)) (count : ℕ) (why : Cause)
+fault_short : (room : Room) (front rest : List Symbol) (octets : List ℕ) (parts : List (List ℕ)) (count : ℕ) (why : Cause)
     → map octet_of (front ++ rest) ≡ map Ok octets → map octet_given front ≡ map Ok parts
-    → IsFault octet_given sure most (count + length (concat parts)) rest None why → sure < count + length octets
-fault_short sure most [] [] octets parts count why is gives fault = absurd fault
-fault_short sure most [] (x ∷ xs) [] parts count why is gives fault = cc
-fault_short sure most [] (x ∷ xs) (o ∷ os) [] count why is gives fault =
+    → IsFault octet_given room (count + length (concat parts)) rest None why → room.fits < count + length octets
+fault_short room [] [] octets parts count why is gives fault = absurd fault
+fault_short room [] (x ∷ xs) [] parts count why is gives fault = cc
+fault_short room [] (x ∷ xs) (o ∷ os) [] count why is gives fault =
     let first : octet_of x ≡ Ok o = cc is in
-    omega (arith, (subst (λ (q : Result ℕ BadSymbol). MatchResult (bad_or (λ n. n ∷ []) q) (λ l. (sure < count + 0 + length l) × (why ≡ short_buf)) (λ text. why ≡ custom_text text)) first fault).0)
-fault_short sure most [] (x ∷ xs) (o ∷ os) (p ∷ ps) count why is gives fault = cc
-fault_short sure most (x ∷ xs) rest [] parts count why is gives fault = cc
-fault_short sure most (x ∷ xs) rest (o ∷ os) [] count why is gives fault = cc
-fault_short sure most (x ∷ xs) rest (o ∷ os) (p ∷ ps) count why is gives fault =
+    omega (arith, (subst (λ (q : Result ℕ BadSymbol). MatchResult (bad_or (λ n. n ∷ []) q) (λ l. (room.fits < count + 0 + length l) × (why ≡ short_buf)) (λ text. why ≡ custom_text text)) first fault).0)
+fault_short room [] (x ∷ xs) (o ∷ os) (p ∷ ps) count why is gives fault = cc
+fault_short room (x ∷ xs) rest [] parts count why is gives fault = cc
+fault_short room (x ∷ xs) rest (o ∷ os) [] count why is gives fault = cc
+fault_short room (x ∷ xs) rest (o ∷ os) (p ∷ ps) count why is gives fault =
     let first : octet_of x ≡ Ok o = cc is in
     let others : map octet_of (xs ++ rest) ≡ map Ok os = cc is in
     let given : octet_given x ≡ Ok p = cc gives in
@@ -96,57 +97,57 @@ fault_short sure most (x ∷ xs) rest (o ∷ os) (p ∷ ps) count why is gives f
     let part : p ≡ o ∷ [] = cc (sym given, ap (bad_or (λ n. n ∷ [])) first) in
     let size = ap length part in
     let sum = length-append p (concat ps) in
-    omega (arith, fault_short sure most xs rest os ps (count + 1) why others more (subst (λ n. IsFault octet_given sure most n rest None why) (omega arith) fault))
+    omega (arith, fault_short room xs rest os ps (count + 1) why others more (subst (λ n. IsFault octet_given room n rest None why) (omega arith) fault))
 
-module _ (sure most : ℕ) (octets : List ℕ) where
+module _ (room : Room) (octets : List ℕ) where
   -- room for all that may be held
-  abbrev room : ℕ
-  room = most + length octets
+  abbrev size : ℕ
+  size = room.capacity + length octets
 
-  given_all : (symbols : List Symbol) → map octet_of symbols ≡ map Ok octets → AllGiven octet_given room room symbols None octets
+  given_all : (symbols : List Symbol) → map octet_of symbols ≡ map Ok octets → AllGiven octet_given (exactly size) symbols None octets
   given_all symbols is = record { parts = map (λ o. o ∷ []) octets; gives = gives_each symbols octets is; joined = joined_each octets; ends = refl; fits = omega arith }
 
   answered : (others rest : List Token) (symbols : List Symbol) (r : Result (List ℕ) Cause) → map octet_of symbols ≡ map Ok octets → rest ≡ others
-      → AnswersGiven octet_given sure most (λ why. why) (λ s. s) symbols None r → FieldBack sure (λ s. string s ∷ []) (string octets ∷ []) others r rest
+      → AnswersGiven octet_given room (λ why. why) (λ s. s) symbols None r → FieldBack room (λ s. string s ∷ []) (string octets ∷ []) others r rest
   answered others rest symbols (Ok s) is end h =
-      let same = one_answer octet_given room symbols None (Ok s) (Ok octets) (all_given_in octet_given sure most room (omega arith) symbols None s h) (given_all symbols is) in
+      let same = one_answer octet_given size symbols None (Ok s) (Ok octets) (all_given_in octet_given room size (omega arith) symbols None s h) (given_all symbols is) in
       let value : s ≡ octets = cc same in
       inl (ap (λ x. string x ∷ []) value, end)
   answered others rest symbols (Err why) is end h =
       ⊎_elim
-      (λ fault. let same = one_answer octet_given room symbols None (Err why) (Ok octets) fault (given_all symbols is) in let z : ⊥ = cc same in absurd z)
+      (λ fault. let same = one_answer octet_given size symbols None (Err why) (Ok octets) fault (given_all symbols is) in let z : ⊥ = cc same in absurd z)
       (λ short. inr (
         inl short,
         inl (omega (
           arith,
-          fault_short sure most h.front h.rest octets h.parts 0 why (subst (λ l. map octet_of l ≡ map Ok octets) h.whole is) h.gives
-              (subst (λ n. IsFault octet_given sure most n h.rest None why) (sym (zero-add (length (concat h.parts)))) h.fault),
+          fault_short room h.front h.rest octets h.parts 0 why (subst (λ l. map octet_of l ≡ map Ok octets) h.whole is) h.gives
+              (subst (λ n. IsFault octet_given room n h.rest None why) (sym (zero-add (length (concat h.parts)))) h.fault),
         )),
       ))
-      (first_fault_in octet_given sure most room (omega arith) symbols None why h)
+      (first_fault_in octet_given room size (omega arith) symbols None why h)
 
   read_back : (f : ℕ → Bool) → IsForm f → All (λ o. o < 256) octets → (others rest : List Token) (r : Result (List ℕ) Cause) → rest ≡ others
-      → OctetsRead sure most (encode_utf8_all (text_of f octets)) r → FieldBack sure (λ s. string s ∷ []) (string octets ∷ []) others r rest
+      → OctetsRead room (encode_utf8_all (text_of f octets)) r → FieldBack room (λ s. string s ∷ []) (string octets ∷ []) others r rest
   read_back f form all others rest r end (symbols, error, read, answers) =
       let same = symbols_same (encode_utf8_all (text_of f octets)) symbols (map (symbol_of f) octets) error None read (printed_symbols f form octets all) in
       answered others rest (map (symbol_of f) octets) r (printed_octets f octets) end
-      (subst (λ e. AnswersGiven octet_given sure most (λ why. why) (λ s. s) (map (symbol_of f) octets) e r) same.1
-      (subst (λ ss. AnswersGiven octet_given sure most (λ why. why) (λ s. s) ss error r) same.0 answers))
+      (subst (λ e. AnswersGiven octet_given room (λ why. why) (λ s. s) (map (symbol_of f) octets) e r) same.1
+      (subst (λ ss. AnswersGiven octet_given room (λ why. why) (λ s. s) ss error r) same.0 answers))
 
   string_text : (t : Token) (ts others rest : List Token) (r : Result (List ℕ) Cause) → All (λ o. o < 256) octets → IsPrinted t octets → ts ≡ others
-      → ReadsFirst (OctetsRead sure most) (t ∷ ts) r rest → FieldBack sure (λ s. string s ∷ []) (string octets ∷ []) others r rest
+      → ReadsFirst (OctetsRead room) (t ∷ ts) r rest → FieldBack room (λ s. string s ∷ []) (string octets ∷ []) others r rest
   string_text t ts others rest r all (inl unquoted) end reads =
-      read_back is_unquoted_escape unquoted_form all others rest r (reads.1 ∙ end) (subst (λ (x : Token). OctetsRead sure most x r) unquoted reads.0)
+      read_back is_unquoted_escape unquoted_form all others rest r (reads.1 ∙ end) (subst (λ (x : Token). OctetsRead room x r) unquoted reads.0)
   string_text t ts others rest r all (inr quoted) end reads =
-      read_back is_quoted_escape quoted_form all others rest r (reads.1 ∙ end) (subst (λ (x : Token). OctetsRead sure most x r) quoted reads.0)
+      read_back is_quoted_escape quoted_form all others rest r (reads.1 ∙ end) (subst (λ (x : Token). OctetsRead room x r) quoted reads.0)
 
-pub string_back : (sure most : ℕ) (octets : List ℕ) (tokens others rest : List Token) (r : Result (List ℕ) Cause) → AreValues (string octets ∷ []) → AreTexts (string octets ∷ []) tokens others
-    → ReadsFirst (OctetsRead (min sure 255) most) tokens r rest → FieldBack sure (λ s. string s ∷ []) (string octets ∷ []) others r rest
-string_back sure most octets [] others rest r is texts reads = absurd texts
-string_back sure most octets (t ∷ ts) others rest r is texts reads =
-    ⊎_elim (λ a. inl a) (λ l. inr (l.0, in_room l.1)) (string_text (min sure 255) most octets t ts others rest r is.0.0 texts.0 texts.1 reads)
+pub string_back : (room : Room) (octets : List ℕ) (tokens others rest : List Token) (r : Result (List ℕ) Cause) → AreValues (string octets ∷ []) → AreTexts (string octets ∷ []) tokens others
+    → ReadsFirst (OctetsRead (within 255 room)) tokens r rest → FieldBack room (λ s. string s ∷ []) (string octets ∷ []) others r rest
+string_back room octets [] others rest r is texts reads = absurd texts
+string_back room octets (t ∷ ts) others rest r is texts reads =
+    ⊎_elim (λ a. inl a) (λ l. inr (l.0, in_room l.1)) (string_text (within 255 room) octets t ts others rest r is.0.0 texts.0 texts.1 reads)
   where
-    in_room : SomeMayLack (min sure 255) (string octets ∷ []) → SomeMayLack sure (string octets ∷ [])
+    in_room : SomeMayLack (within 255 room) (string octets ∷ []) → SomeMayLack room (string octets ∷ [])
     in_room (inl less) = inl (omega (arith, less, is.0.1))
     in_room (inr none) = absurd none
 
@@ -161,23 +162,23 @@ texts_parts [] b tokens others h = (tokens, refl, h)
 texts_parts (x ∷ xs) b [] others h = absurd h
 texts_parts (x ∷ xs) b (t ∷ ts) others h = let more = texts_parts xs b ts others h.1 in (more.0, (h.0, more.1), more.2)
 
-pub may_before : (sure : ℕ) (a b : List Value) → SomeMayLack sure a → SomeMayLack sure (a ++ b)
-may_before sure [] b h = absurd h
-may_before sure (x ∷ xs) b (inl h) = inl h
-may_before sure (x ∷ xs) b (inr h) = inr (may_before sure xs b h)
+pub may_before : (room : Room) (a b : List Value) → SomeMayLack room a → SomeMayLack room (a ++ b)
+may_before room [] b h = absurd h
+may_before room (x ∷ xs) b (inl h) = inl h
+may_before room (x ∷ xs) b (inr h) = inr (may_before room xs b h)
 
-pub may_after : (sure : ℕ) (a b : List Value) → SomeMayLack sure b → SomeMayLack sure (a ++ b)
-may_after sure [] b h = h
-may_after sure (x ∷ xs) b h = inr (may_after sure xs b h)
+pub may_after : (room : Room) (a b : List Value) → SomeMayLack room b → SomeMayLack room (a ++ b)
+may_after room [] b h = h
+may_after room (x ∷ xs) b h = inr (may_after room xs b h)
 
-module _ (sure : ℕ) {A B : Type 0} (a_values : A → List Value) (b_values : B → List Value) (a_reads : List Token → Result A Cause → List Token → Type 0)
+module _ (room : Room) {A B : Type 0} (a_values : A → List Value) (b_values : B → List Value) (a_reads : List Token → Result A Cause → List Token → Type 0)
     (b_reads : List Token → Result B Cause → List Token → Type 0)
     (a_back : (x : A) (tokens others rest : List Token) (r : Result A Cause) → AreValues (a_values x) → AreTexts (a_values x) tokens others → a_reads tokens r rest
-    → FieldBack sure a_values (a_values x) others r rest)
+    → FieldBack room a_values (a_values x) others r rest)
     (b_back : (x : B) (tokens others rest : List Token) (r : Result B Cause) → AreValues (b_values x) → AreTexts (b_values x) tokens others → b_reads tokens r rest
-    → FieldBack sure b_values (b_values x) others r rest) where
+    → FieldBack room b_values (b_values x) others r rest) where
   pub both_back : (x : A × B) (tokens others rest : List Token) (r : Result (A × B) Cause) → AreValues (a_values x.0 ++ b_values x.1) → AreTexts (a_values x.0 ++ b_values x.1) tokens others
-      → ReadsBoth a_reads b_reads tokens r rest → FieldBack sure (λ p. a_values p.0 ++ b_values p.1) (a_values x.0 ++ b_values x.1) others r rest
+      → ReadsBoth a_reads b_reads tokens r rest → FieldBack room (λ p. a_values p.0 ++ b_values p.1) (a_values x.0 ++ b_values x.1) others r rest
   both_back x tokens others rest r is texts reads = by r reads
     where
       valid : AreValues (a_values x.0) × AreValues (b_values x.1)
@@ -187,13 +188,13 @@ module _ (sure : ℕ) {A B : Type 0} (a_values : A → List Value) (b_values : B
       parts = texts_parts (a_values x.0) (b_values x.1) tokens others texts
 
       -- the second, after the first
-      second : (middle : List Token) (q : Result B Cause) → middle ≡ parts.0 → b_reads middle q rest → FieldBack sure b_values (b_values x.1) others q rest
+      second : (middle : List Token) (q : Result B Cause) → middle ≡ parts.0 → b_reads middle q rest → FieldBack room b_values (b_values x.1) others q rest
       second middle q same h = b_back x.1 middle others rest q valid.1 (subst (λ l. AreTexts (b_values x.1) l others) (sym same) parts.2) h
 
       lacks_not : {T M : Type 0} (v : T) → Lacks {E = Cause} (λ why. why) (Ok v) × M → ⊥
       lacks_not v l = ⊎_elim (λ e. e) (λ e. e) l.0
 
-      by : (q : Result (A × B) Cause) → ReadsBoth a_reads b_reads tokens q rest → FieldBack sure (λ p. a_values p.0 ++ b_values p.1) (a_values x.0 ++ b_values x.1) others q rest
+      by : (q : Result (A × B) Cause) → ReadsBoth a_reads b_reads tokens q rest → FieldBack room (λ p. a_values p.0 ++ b_values p.1) (a_values x.0 ++ b_values x.1) others q rest
       by (Ok p) h =
           ⊎_elim
           (λ one. ⊎_elim
@@ -203,23 +204,23 @@ module _ (sure : ℕ) {A B : Type 0} (a_values : A → List Value) (b_values : B
           (λ l. absurd (lacks_not p.0 l))
           (a_back x.0 tokens parts.0 h.0 (Ok p.0) valid.0 parts.1 h.1)
       by (Err why) (inl h) =
-          ⊎_elim (λ one. absurd one.0) (λ l. inr (l.0, may_before sure (a_values x.0) (b_values x.1) l.1)) (a_back x.0 tokens parts.0 rest (Err why) valid.0 parts.1 h)
+          ⊎_elim (λ one. absurd one.0) (λ l. inr (l.0, may_before room (a_values x.0) (b_values x.1) l.1)) (a_back x.0 tokens parts.0 rest (Err why) valid.0 parts.1 h)
       by (Err why) (inr h) =
           ⊎_elim
-          (λ one. ⊎_elim (λ two. absurd two.0) (λ l. inr (l.0, may_after sure (a_values x.0) (b_values x.1) l.1)) (second h.1 (Err why) one.1 h.3))
+          (λ one. ⊎_elim (λ two. absurd two.0) (λ l. inr (l.0, may_after room (a_values x.0) (b_values x.1) l.1)) (second h.1 (Err why) one.1 h.3))
           (λ l. absurd (lacks_not h.0 l))
           (a_back x.0 tokens parts.0 h.1 (Ok h.0) valid.0 parts.1 h.2)
 
 -- ---- names
 
-module _ (O : Type 0) {E : Type 0} (cause : E → Cause) (sure most : ℕ) where
+module _ (O : Type 0) {E : Type 0} (cause : E → Cause) (room : Room) where
   -- what an iterator's scanner reads of a token
   abbrev Reads : Token → Result (List (List ℕ)) E → Type 0
-  Reads = ReadsToken O cause sure most
+  Reads = ReadsToken O cause room
 
   name_given : (labels : List (List ℕ)) (q : Result (List (List ℕ)) E) (r : Result (List (List ℕ)) Cause) (others rest : List Token)
-      → rest ≡ others → GivesName cause sure labels q → r ≡ by_cause cause q
-      → FieldBack sure (λ n. name n ∷ []) (name labels ∷ []) others r rest
+      → rest ≡ others → GivesName cause room labels q → r ≡ by_cause cause q
+      → FieldBack room (λ n. name n ∷ []) (name labels ∷ []) others r rest
   name_given labels (Ok n) (Ok m) others rest end (inl g) is = let a : n ≡ labels = cc g in let b : m ≡ n = cc is in inl (ap (λ l. name l ∷ []) (b ∙ a), end)
   name_given labels (Ok n) (Err why) others rest end (inl g) is = cc
   name_given labels (Ok n) r others rest end (inr g) is = absurd g.0
@@ -228,9 +229,9 @@ module _ (O : Type 0) {E : Type 0} (cause : E → Cause) (sure most : ℕ) where
   name_given labels (Err e) (Err why) others rest end (inr g) is = let same : why ≡ cause e = cc is in inr (inr (same ∙ g.0), inl g.1)
 
   pub name_read : (labels : List (List ℕ)) (tokens others rest : List Token) (r : Result (List (List ℕ)) Cause) → AreValues (name labels ∷ []) → AreTexts (name labels ∷ []) tokens others
-      → ReadsFirst (NameReads cause Reads) tokens r rest → FieldBack sure (λ n. name n ∷ []) (name labels ∷ []) others r rest
+      → ReadsFirst (NameReads cause Reads) tokens r rest → FieldBack room (λ n. name n ∷ []) (name labels ∷ []) others r rest
   name_read labels [] others rest r is texts reads = absurd texts
   name_read labels (t ∷ ts) others rest r is texts reads =
       let text : ReadsAs {O = O} t (Absolute labels) = subst (λ (x : Token). ReadsAs {O = O} x (Absolute labels)) (sym texts.0) (zone_reads {O = O} (Absolute labels) (is.0.0, is.0.1) is.0.2) in
       let one = reads.0 in
-      name_given labels one.0 r others rest (reads.1 ∙ texts.1) (name_back O cause sure most t labels text one.0 one.1) one.2
+      name_given labels one.0 r others rest (reads.1 ∙ texts.1) (name_back O cause room t labels text one.0 one.1) one.2

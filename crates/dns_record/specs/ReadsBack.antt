@@ -1,5 +1,6 @@
 -- What is scanned of a record's text.
 use Rattle.std.specs.Prelude.{ℕ, List, ◌≡◌, ◌++◌, ◌⊎◌, Option, Result, IsOkAnd}
+use Rattle.dns_octets.specs.Room.{Room}
 use Rattle.dns_symbol.specs.Cause.{Cause, IsCause, short_buf}
 use Rattle.dns_scan.specs.Stands.{HasTokens}
 use Rattle.dns_scan.specs.Tokens.{Token}
@@ -11,21 +12,21 @@ abbrev pub Lacks : {T E : Type 0} → (E → Cause) → Result T E → Type 0
 Lacks cause r = IsCause cause r short_buf ⊎ IsCause cause r invalid_name
 
 -- what is scanned of the texts of the wanted values, where others follow them and these tokens are left: a value of the same fields; or lack of room or memory, where one of these fields may lack it
-abbrev pub ReadsBack : {S T E : Type 0} → (S → Option Token → S → Type 0) → (E → Cause) → ℕ → (T → List Value) → (wanted all : List Value) → List Token → Result T E → S → Type 0
-ReadsBack next cause sure values wanted all others r new = (IsOkAnd r (λ y. values y ≡ wanted) × HasTokens next new others) ⊎ (Lacks cause r × SomeMayLack sure all)
+abbrev pub ReadsBack : {S T E : Type 0} → (S → Option Token → S → Type 0) → (E → Cause) → Room → (T → List Value) → (wanted all : List Value) → List Token → Result T E → S → Type 0
+ReadsBack next cause room values wanted all others r new = (IsOkAnd r (λ y. values y ≡ wanted) × HasTokens next new others) ⊎ (Lacks cause r × SomeMayLack room all)
 
 -- the same, of what is read of a list of tokens
-abbrev pub FieldBack : {T : Type 0} → ℕ → (T → List Value) → List Value → List Token → Result T Cause → List Token → Type 0
-FieldBack sure values wanted others r rest = (IsOkAnd r (λ y. values y ≡ wanted) × (rest ≡ others)) ⊎ (Lacks (λ why. why) r × SomeMayLack sure wanted)
+abbrev pub FieldBack : {T : Type 0} → Room → (T → List Value) → List Value → List Token → Result T Cause → List Token → Type 0
+FieldBack room values wanted others r rest = (IsOkAnd r (λ y. values y ≡ wanted) × (rest ≡ others)) ⊎ (Lacks (λ why. why) r × SomeMayLack room wanted)
 
 -- a call that takes the texts of a value's fields and leaves the tokens after them, where other fields of the record were before
-pub record TakesFields {S T E : Type 0} (next : S → Option Token → S → Type 0) (cause : E → Cause) (sure : ℕ) (values : T → List Value) (old : S) (r : Result T E) (new : S) : Type 0 where
+pub record TakesFields {S T E : Type 0} (next : S → Option Token → S → Type 0) (cause : E → Cause) (room : Room) (values : T → List Value) (old : S) (r : Result T E) (new : S) : Type 0 where
   pub back : (x : T) (past : List Value) (tokens others : List Token) → AreValues (values x) → AreTexts (values x) tokens others → HasTokens next old tokens
-      → ReadsBack next cause sure values (values x) (past ++ values x) others r new
+      → ReadsBack next cause room values (values x) (past ++ values x) others r new
   -- the same, where the texts of more fields follow, which are left
   pub before : (x : T) (past more : List Value) (tokens others : List Token) → AreValues (values x ++ more) → AreTexts (values x ++ more) tokens others → HasTokens next old tokens
       → (middle : List Token) × AreValues more × AreTexts more middle others
-      × ReadsBack next cause sure values (values x) (past ++ (values x ++ more)) middle r new
+      × ReadsBack next cause room values (values x) (past ++ (values x ++ more)) middle r new
 
 -- the fields of three values in a row, and of five
 abbrev pub three_values : {A B C : Type 0} → (A → List Value) → (B → List Value) → (C → List Value) → A × B × C → List Value

@@ -2,6 +2,7 @@
 use Rattle.std.specs.Prelude.{ℕ, ◌≡◌, ◌⊎◌, ◌<◌, ◌≤◌, ◌^◌, List, [], ◌∷◌, length, All}
 use Rattle.std.specs.Fmt.{decimal}
 use Rattle.std.specs.List.{AllByRecursion}
+use Rattle.dns_octets.specs.Room.{Room}
 use Rattle.dns_codec.specs.Base.{base16, base64, encoded}
 use Rattle.dns_wire.specs.Wire.{wire, wire_length, IsName, EndsInRoot}
 use Rattle.dns_scan.specs.Octets.{IsPrinted}
@@ -54,18 +55,18 @@ AreTexts [] texts others = texts ≡ others
 AreTexts (v ∷ vs) [] others = ⊥
 AreTexts (v ∷ vs) (t ∷ ts) others = IsText v t × AreTexts vs ts others
 
--- such a field may lack room, where `sure` octets surely fit, or memory: it has more octets, or it stands in a list
-abbrev pub MayLack : (sure : ℕ) → Value → Type 0
-MayLack sure (number8 n) = ⊥
-MayLack sure (number16 n) = ⊥
-MayLack sure (number32 n) = ⊥
-MayLack sure (name labels) = sure < wire_length labels
-MayLack sure (hex octets) = sure < length octets
-MayLack sure (base64_octets octets) = sure < length octets
-MayLack sure (string octets) = sure < length octets
-MayLack sure (listed octets) = Unit {0}
+-- such a field may lack room or memory, in a builder with that room: it has more octets, or it stands in a list
+abbrev pub MayLack : Room → Value → Type 0
+MayLack room (number8 n) = ⊥
+MayLack room (number16 n) = ⊥
+MayLack room (number32 n) = ⊥
+MayLack room (name labels) = room.fits < wire_length labels
+MayLack room (hex octets) = room.fits < length octets
+MayLack room (base64_octets octets) = room.fits < length octets
+MayLack room (string octets) = room.fits < length octets
+MayLack room (listed octets) = Unit {0}
 
 -- some field may
-abbrev pub SomeMayLack : (sure : ℕ) → List Value → Type 0
-SomeMayLack sure [] = ⊥
-SomeMayLack sure (v ∷ vs) = MayLack sure v ⊎ SomeMayLack sure vs
+abbrev pub SomeMayLack : (room : Room) → List Value → Type 0
+SomeMayLack room [] = ⊥
+SomeMayLack room (v ∷ vs) = MayLack room v ⊎ SomeMayLack room vs

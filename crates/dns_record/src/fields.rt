@@ -8,7 +8,6 @@ ghost use Rattle.dns_entry.specs.Field.{field_text, text_octets};
 ghost use Rattle.dns_record.specs.FieldLaws.{number8_back, number16_back, number32_back, string_back, both_back, name_read};
 ghost use Rattle.dns_record.specs.ReadsBack.{FieldBack, TakesFields, five_values, three_values};
 ghost use Rattle.dns_record.specs.Values.{Value, number8, number16, number32, name, string, AreValues, AreTexts};
-ghost use Rattle.dns_charstr.specs.Limits.{max_string};
 
 use dns_charstr::charstr::CharStr;
 use dns_iter::IterScanner;
@@ -89,31 +88,31 @@ impl<A: FieldValue, B: FieldValue> FieldValue for (A, B) {
 pub trait Field<S: Scanner>: FieldValue + Scan<S> {
     // Whatever is read of the texts of its fields is the value, or there is no room for a field.
     ghost back: { (x : Self) (tokens others rest : List Token) (r : Result Self Cause) → AreValues (Self.values x) → AreTexts (Self.values x) tokens others
-        → Self.scan_reads tokens r rest → FieldBack S.OctetsBuilder.sure Self.values (Self.values x) others r rest };
+        → Self.scan_reads tokens r rest → FieldBack S.OctetsBuilder.room Self.values (Self.values x) others r rest };
 }
 
 impl<S: Scanner> Field<S> for u8 {
-    ghost back = { number8_back S.OctetsBuilder.sure };
+    ghost back = { number8_back S.OctetsBuilder.room };
 }
 
 impl<S: Scanner> Field<S> for u16 {
-    ghost back = { number16_back S.OctetsBuilder.sure };
+    ghost back = { number16_back S.OctetsBuilder.room };
 }
 
 impl<S: Scanner> Field<S> for u32 {
-    ghost back = { number32_back S.OctetsBuilder.sure };
+    ghost back = { number32_back S.OctetsBuilder.room };
 }
 
 impl<S: Scanner> Field<S> for Ttl {
-    ghost back = { number32_back S.OctetsBuilder.sure };
+    ghost back = { number32_back S.OctetsBuilder.room };
 }
 
 impl<S: Scanner> Field<S> for CharStr<S::Octets> {
-    ghost back = { string_back S.OctetsBuilder.sure (min S.OctetsBuilder.most max_string) };
+    ghost back = { string_back S.OctetsBuilder.room };
 }
 
 impl<S: Scanner, A: Field<S> + Drop, B: Field<S>> Field<S> for (A, B) {
-    ghost back = { both_back S.OctetsBuilder.sure A.values B.values A.scan_reads B.scan_reads A.back B.back };
+    ghost back = { both_back S.OctetsBuilder.room A.values B.values A.scan_reads B.scan_reads A.back B.back };
 }
 
 impl<'a, Iter: Iterator<Item = &'a str>, Octets: FromBuilder + Drop, E: ScannerError> Field<
@@ -122,7 +121,7 @@ impl<'a, Iter: Iterator<Item = &'a str>, Octets: FromBuilder + Drop, E: ScannerE
 where
     Octets::Builder: EmptyBuilder + AsOctetsMut + Truncate + FreezeBuilder<Octets = Octets> + Drop,
 {
-    ghost back = { name_read Octets E.cause Octets.Builder.sure Octets.Builder.most };
+    ghost back = { name_read Octets E.cause Octets.Builder.room };
 }
 
 /// Takes the texts of fields: they are scanned back to the same values, and the tokens after them
@@ -131,7 +130,7 @@ where
 pub fn scan_fields<S: Scanner, T: Field<S>>(scanner: &mut S) -> Result<T, S::Error>
     requires { S.can_scan scanner.old }
     ensures ready { S.can_scan scanner.new }
-    ensures fields { TakesFields S.next_token S.Error.cause S.OctetsBuilder.sure T.values scanner.old result scanner.new }
+    ensures fields { TakesFields S.next_token S.Error.cause S.OctetsBuilder.room T.values scanner.old result scanner.new }
 {
     T::scan(scanner)
 }
@@ -144,7 +143,7 @@ where
     C: Field<S>,
     requires { S.can_scan scanner.old }
     ensures ready { S.can_scan scanner.new }
-    ensures fields { TakesFields S.next_token S.Error.cause S.OctetsBuilder.sure (three_values A.values B.values C.values) scanner.old result scanner.new }
+    ensures fields { TakesFields S.next_token S.Error.cause S.OctetsBuilder.room (three_values A.values B.values C.values) scanner.old result scanner.new }
 {
     match scan_fields::<S, (A, (B, C))>(scanner) {
         Ok((a, others)) => {
@@ -165,7 +164,7 @@ where
     E: Field<S>,
     requires { S.can_scan scanner.old }
     ensures ready { S.can_scan scanner.new }
-    ensures fields { TakesFields S.next_token S.Error.cause S.OctetsBuilder.sure (five_values A.values B.values C.values D.values E.values) scanner.old result scanner.new }
+    ensures fields { TakesFields S.next_token S.Error.cause S.OctetsBuilder.room (five_values A.values B.values C.values D.values E.values) scanner.old result scanner.new }
 {
     match scan_fields::<S, (A, (B, (C, (D, E))))>(scanner) {
         Ok((a, others)) => {

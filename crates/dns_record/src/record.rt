@@ -40,7 +40,7 @@ where
         ensures ready { ⟦<EntryScanner<'a, T, Octets, E> as Scanner>⟧.can_scan scanner.new }
         ensures back { (x : Self) (tokens : List Token) → AreFields (values_of (parts x)) → AreTexts (values_of (parts x)) tokens []
             → HasTokens (⟦<EntryScanner<'a, T, Octets, E> as Scanner>⟧.next_token) scanner.old tokens
-            → ReadsBack (⟦<EntryScanner<'a, T, Octets, E> as Scanner>⟧.next_token) E.cause Octets.Builder.sure (λ y. values_of (parts y)) (values_of (parts x)) (values_of (parts x)) [] result scanner.new };
+            → ReadsBack (⟦<EntryScanner<'a, T, Octets, E> as Scanner>⟧.next_token) E.cause Octets.Builder.room (λ y. values_of (parts y)) (values_of (parts x)) (values_of (parts x)) [] result scanner.new };
 
     // The document is that of the parts.
     ghost shown: { (x : Self) → Self.document x ≡ steps_of (parts x) };
@@ -65,7 +65,7 @@ where
     ensures ready { ⟦<EntryScanner<'a, T, Octets, E> as Scanner>⟧.can_scan scanner.new }
     ensures back { (x : R) (tokens : List Token) → AreFields (values_of (R.parts x)) → AreTexts (values_of (R.parts x)) tokens []
         → HasTokens (⟦<EntryScanner<'a, T, Octets, E> as Scanner>⟧.next_token) scanner.old tokens
-        → IsOkAnd result (λ y. values_of (R.parts y) ≡ values_of (R.parts x)) ⊎ (Lacks E.cause result × SomeMayLack Octets.Builder.sure (values_of (R.parts x))) }
+        → IsOkAnd result (λ y. values_of (R.parts y) ≡ values_of (R.parts x)) ⊎ (Lacks E.cause result × SomeMayLack Octets.Builder.room (values_of (R.parts x))) }
     ensures all { (tokens : List Token) → HasTokens (⟦<EntryScanner<'a, T, Octets, E> as Scanner>⟧.next_token) scanner.new tokens → IsOk result → tokens ≡ [] }
 {
     match R::scan_data(alloc, scanner) {
@@ -116,7 +116,7 @@ where
     Octets::Builder: EmptyBuilder + AsOctetsMut + Truncate + FreezeBuilder<Octets = Octets> + Drop,
     R: RecordData<Octets, A> + Drop,
     ensures { IfSome result (λ r. IsOkAnd r (λ y. values_of (R.parts y) ≡ values_of (R.parts value.now))
-        ⊎ (Lacks E.cause r × SomeMayLack Octets.Builder.sure (values_of (R.parts value.now)))) }
+        ⊎ (Lacks E.cause r × SomeMayLack Octets.Builder.room (values_of (R.parts value.now)))) }
 {
     value.known();
     let Ok(text) = values_split(alloc, value, kind) else {

@@ -64,7 +64,7 @@ where
     requires { S.can_scan scanner.old }
     ensures ready { S.can_scan scanner.new }
     ensures back { (octets : List ℕ) (past : List Value) (tokens : List Token) → AreValues (hex octets ∷ []) → AreTexts (hex octets ∷ []) tokens [] → HasTokens S.next_token scanner.old tokens
-        → ReadsBack S.next_token S.Error.cause S.OctetsBuilder.sure (λ o. hex o ∷ []) (hex octets ∷ []) (past ++ hex octets ∷ []) [] result scanner.new }
+        → ReadsBack S.next_token S.Error.cause S.OctetsBuilder.room (λ o. hex o ∷ []) (hex octets ∷ []) (past ++ hex octets ∷ []) [] result scanner.new }
 {
     match hex_entry_is_scanned_back(scanner) {
         Ok(octets) => some_octets(octets),
@@ -81,7 +81,7 @@ where
     requires { S.can_scan scanner.old }
     ensures ready { S.can_scan scanner.new }
     ensures back { (octets : List ℕ) (past : List Value) (tokens : List Token) → AreValues (base64_octets octets ∷ []) → AreTexts (base64_octets octets ∷ []) tokens [] → HasTokens S.next_token scanner.old tokens
-        → ReadsBack S.next_token S.Error.cause S.OctetsBuilder.sure (λ o. base64_octets o ∷ []) (base64_octets octets ∷ []) (past ++ base64_octets octets ∷ []) [] result scanner.new }
+        → ReadsBack S.next_token S.Error.cause S.OctetsBuilder.room (λ o. base64_octets o ∷ []) (base64_octets octets ∷ []) (past ++ base64_octets octets ∷ []) [] result scanner.new }
 {
     match base64_entry_is_scanned_back(scanner) {
         Ok(octets) => some_octets(octets),
@@ -194,7 +194,7 @@ where
     requires { S.can_scan scanner.old }
     ensures ready { S.can_scan scanner.new }
     ensures back { (strings : List (List ℕ)) (past : List Value) (tokens : List Token) → AreFields (strings_of strings) → AreTexts (strings_of strings) tokens [] → HasTokens S.next_token scanner.old tokens
-        → ReadsBack S.next_token S.Error.cause S.OctetsBuilder.sure strings_of (strings_of strings) (past ++ strings_of strings) [] result scanner.new }
+        → ReadsBack S.next_token S.Error.cause S.OctetsBuilder.room strings_of (strings_of strings) (past ++ strings_of strings) [] result scanner.new }
 {
     match dns_scan::strings_rest(alloc, scanner) {
         Ok(strings) => some_strings(strings),

@@ -85,7 +85,7 @@ impl<Octets: AsOctets> ZonefileFmt for SoaTimes<'_, Octets> {
 fn scan_numbers<S: Scanner>(scanner: &mut S) -> Result<(u32, Ttl, Ttl, Ttl, Ttl), S::Error>
     requires { S.can_scan scanner.old }
     ensures ready { S.can_scan scanner.new }
-    ensures fields { TakesFields S.next_token S.Error.cause S.OctetsBuilder.sure soa_number_values scanner.old result scanner.new }
+    ensures fields { TakesFields S.next_token S.Error.cause S.OctetsBuilder.room soa_number_values scanner.old result scanner.new }
 {
     scan_five(scanner)
 }

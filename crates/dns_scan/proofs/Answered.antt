@@ -3,8 +3,9 @@ use Rattle.std.proofs.Common.{ℕ, ◌≡◌, ◌<◌, ◌≤◌, ◌+◌, List,
 use Rattle.std.proofs.Common.{length, map, refl, sym, ap, subst, ◌∙◌, arith, append_assoc, append-nil, zero-add, length-append, ◌⊎◌, inl, inr, ⊎_elim, Option, Some, None, Result, Ok, Err}
 use Rattle.std.specs.Prelude.{IsOkAnd, IsErr, MatchResult}
 use Rattle.std.specs.List.{concat}
+use Rattle.dns_octets.specs.Room.{Room, exactly}
 use Rattle.dns_symbol.specs.declared.symbol.Symbol.{Symbol}
-use Rattle.dns_symbol.specs.declared.symbol.SymbolCharsError.{SymbolCharsError}
+use Rattle.dns_symbol.specs.declared.error.SymbolCharsError.{SymbolCharsError}
 use Rattle.dns_symbol.specs.Text.{SymbolsOf}
 use Rattle.dns_symbol.proofs.Unique.{symbols_same}
 use Rattle.dns_symbol.specs.Cause.{Cause, custom_text, short_buf}
@@ -13,14 +14,14 @@ use Rattle.dns_scan.specs.Asks.{Builds, CallsEach, Ends}
 use Rattle.dns_scan.specs.Steps.{GivesStep, Appends}
 use Rattle.dns_scan.specs.Answers.{IsFault, FirstFault, AllGiven, AnswersGiven}
 
-module _ {E : Type 0} (cause : E → Cause) (given : Symbol → Result (List ℕ) (List ℕ)) (sure most : ℕ) where
+module _ {E : Type 0} (cause : E → Cause) (given : Symbol → Result (List ℕ) (List ℕ)) (room : Room) where
   -- all went well from b on
   record Went (symbols : List Symbol) (error : Option SymbolCharsError) (b c : List ℕ) : Type 0 where
     parts : List (List ℕ)
     gives : map given symbols ≡ map Ok parts
     joined : c ≡ b ++ concat parts
     ends : error ≡ None
-    fits : length c ≤ most
+    fits : length c ≤ room.capacity
 
   -- the first fault from b on
   record Stopped (symbols : List Symbol) (error : Option SymbolCharsError) (b : List ℕ) (why : Cause) : Type 0 where
@@ -29,25 +30,25 @@ module _ {E : Type 0} (cause : E → Cause) (given : Symbol → Result (List ℕ
     parts : List (List ℕ)
     whole : symbols ≡ front ++ rest
     gives : map given front ≡ map Ok parts
-    fits : length b + length (concat parts) ≤ most
-    fault : IsFault given sure most (length b + length (concat parts)) rest error why
+    fits : length b + length (concat parts) ≤ room.capacity
+    fault : IsFault given room (length b + length (concat parts)) rest error why
 
   -- a step that went well, and one that refused
-  stepped : (b c : List ℕ) (q : Result (List ℕ) (List ℕ)) → length b ≤ most → Appends cause sure most q b (Ok tt) c → (o : List ℕ) × (q ≡ Ok o) × (c ≡ b ++ o) × (length c ≤ most)
+  stepped : (b c : List ℕ) (q : Result (List ℕ) (List ℕ)) → length b ≤ room.capacity → Appends cause room q b (Ok tt) c → (o : List ℕ) × (q ≡ Ok o) × (c ≡ b ++ o) × (length c ≤ room.capacity)
   stepped b c (Ok o) small h = ⊎_elim (λ a. (o, refl, a.1, small_after o a.1 a.2)) (λ a. absurd a.0) h
     where
-      small_after : (o : List ℕ) → c ≡ b ++ o → (0 < length o → length c ≤ most) → length c ≤ most
+      small_after : (o : List ℕ) → c ≡ b ++ o → (0 < length o → length c ≤ room.capacity) → length c ≤ room.capacity
       small_after [] is fits = omega (arith, ap length is, length-append b [])
       small_after (x ∷ xs) is fits = fits (omega arith)
   stepped b c (Err text) small h = absurd h.0
 
-  refused : (b c : List ℕ) (e : E) (q : Result (List ℕ) (List ℕ)) → Appends cause sure most q b (Err e) c
-      → MatchResult q (λ o. (sure < length b + 0 + length o) × (cause e ≡ short_buf)) (λ text. cause e ≡ custom_text text)
+  refused : (b c : List ℕ) (e : E) (q : Result (List ℕ) (List ℕ)) → Appends cause room q b (Err e) c
+      → MatchResult q (λ o. (room.fits < length b + 0 + length o) × (cause e ≡ short_buf)) (λ text. cause e ≡ custom_text text)
   refused b c e (Ok o) h = ⊎_elim (λ a. let z = a.0 in cc) (λ a. (omega (arith, a.2), a.0)) h
   refused b c e (Err text) h = h.0
 
-  run_answer : (symbols : List Symbol) (error : Option SymbolCharsError) (b c : List ℕ) (u : Result (Unit {0}) E) → length b ≤ most
-      → CallsEach (GivesStep cause sure most given) symbols (Ends cause error) b u c
+  run_answer : (symbols : List Symbol) (error : Option SymbolCharsError) (b c : List ℕ) (u : Result (Unit {0}) E) → length b ≤ room.capacity
+      → CallsEach (GivesStep cause room given) symbols (Ends cause error) b u c
       → MatchResult u (λ _. Went symbols error b c) (λ e. Stopped symbols error b (cause e))
   run_answer [] None b c (Ok v) small h = record { parts = []; gives = refl; joined = h.0 ∙ sym (append-nil b); ends = refl; fits = omega (arith, ap length h.0) }
   run_answer [] None b c (Err e) small h = let z = h.1 in cc
@@ -59,7 +60,7 @@ module _ {E : Type 0} (cause : E → Cause) (given : Symbol → Result (List ℕ
       (λ k. stopped u k.0 k.1)
       h
     where
-      more : (u : Result (Unit {0}) E) (m : List ℕ) (one : (o : List ℕ) × (given x ≡ Ok o) × (m ≡ b ++ o) × (length m ≤ most))
+      more : (u : Result (Unit {0}) E) (m : List ℕ) (one : (o : List ℕ) × (given x ≡ Ok o) × (m ≡ b ++ o) × (length m ≤ room.capacity))
           → MatchResult u (λ _. Went xs error m c) (λ e. Stopped xs error m (cause e))
           → MatchResult u (λ _. Went (x ∷ xs) error b c) (λ e. Stopped (x ∷ xs) error b (cause e))
       more (Ok v) m one rest = record {
@@ -79,25 +80,25 @@ module _ {E : Type 0} (cause : E → Cause) (given : Symbol → Result (List ℕ
             whole = ap (λ l. x ∷ l) rest.whole;
             gives = λ i. one.1 i ∷ rest.gives i;
             fits = omega (arith, rest.fits, count);
-            fault = subst (λ n. IsFault given sure most n rest.rest error (cause e)) count rest.fault;
+            fault = subst (λ n. IsFault given room n rest.rest error (cause e)) count rest.fault;
           }
 
-      stopped : (u : Result (Unit {0}) E) → IsErr u → GivesStep cause sure most given b x u c → MatchResult u (λ _. Went (x ∷ xs) error b c) (λ e. Stopped (x ∷ xs) error b (cause e))
+      stopped : (u : Result (Unit {0}) E) → IsErr u → GivesStep cause room given b x u c → MatchResult u (λ _. Went (x ∷ xs) error b c) (λ e. Stopped (x ∷ xs) error b (cause e))
       stopped (Ok v) is k = cc
       stopped (Err e) is k = record { front = []; rest = x ∷ xs; parts = []; whole = refl; gives = refl; fits = omega arith; fault = refused b c e (given x) k }
 
   -- what was built of a token is the answer of its symbols
-  pub builds_answer : {O : Type 0} (octets : O → List ℕ) (t : Token) (r : Result O E) → Builds cause (GivesStep cause sure most given) octets t r
-      → (symbols : List Symbol) (error : Option SymbolCharsError) → SymbolsOf t symbols error → AnswersGiven given sure most cause octets symbols error r
+  pub builds_answer : {O : Type 0} (octets : O → List ℕ) (t : Token) (r : Result O E) → Builds cause (GivesStep cause room given) octets t r
+      → (symbols : List Symbol) (error : Option SymbolCharsError) → SymbolsOf t symbols error → AnswersGiven given room cause octets symbols error r
   builds_answer {O} octets t r h symbols error read =
       let same = symbols_same t h.asks.symbols symbols h.asks.error error h.asks.read read in
-      let ran : CallsEach (GivesStep cause sure most given) symbols (Ends cause error) [] h.answer h.built =
-      subst (λ ss. CallsEach (GivesStep cause sure most given) ss (Ends cause error) [] h.answer h.built) same.0
-      (subst (λ e. CallsEach (GivesStep cause sure most given) h.asks.symbols (Ends cause e) [] h.answer h.built) same.1 h.asks.asked) in
+      let ran : CallsEach (GivesStep cause room given) symbols (Ends cause error) [] h.answer h.built =
+      subst (λ ss. CallsEach (GivesStep cause room given) ss (Ends cause error) [] h.answer h.built) same.0
+      (subst (λ e. CallsEach (GivesStep cause room given) h.asks.symbols (Ends cause e) [] h.answer h.built) same.1 h.asks.asked) in
       by h.answer r h.gives (run_answer symbols error [] h.built h.answer (omega arith) ran)
     where
       by : (u : Result (Unit {0}) E) (r : Result O E) → MatchResult u (λ _. IsOkAnd r (λ x. octets x ≡ h.built)) (λ e. r ≡ Err e)
-          → MatchResult u (λ _. Went symbols error [] h.built) (λ e. Stopped symbols error [] (cause e)) → AnswersGiven given sure most cause octets symbols error r
+          → MatchResult u (λ _. Went symbols error [] h.built) (λ e. Stopped symbols error [] (cause e)) → AnswersGiven given room cause octets symbols error r
       by (Ok v) (Ok x) g k = record { parts = k.parts; gives = k.gives; joined = g ∙ k.joined; ends = k.ends; fits = omega (arith, ap length g, k.fits) }
       by (Ok v) (Err e) g k = absurd g
       by (Err f) (Ok x) g k = cc
@@ -110,34 +111,34 @@ module _ {E : Type 0} (cause : E → Cause) (given : Symbol → Result (List ℕ
             whole = k.whole;
             gives = k.gives;
             fits = omega (arith, k.fits);
-            fault = subst (λ n. IsFault given sure most n k.rest error (cause e)) (zero-add (length (concat k.parts)))
-                (subst (λ e. IsFault given sure most (0 + length (concat k.parts)) k.rest error (cause e)) same k.fault);
+            fault = subst (λ n. IsFault given room n k.rest error (cause e)) (zero-add (length (concat k.parts)))
+                (subst (λ e. IsFault given room (0 + length (concat k.parts)) k.rest error (cause e)) same k.fault);
           }
 
   -- the same, with the symbols that were read
-  pub builds_read : {O : Type 0} (octets : O → List ℕ) (t : Token) (r : Result O E) → Builds cause (GivesStep cause sure most given) octets t r
-      → (symbols : List Symbol) × (error : Option SymbolCharsError) × SymbolsOf t symbols error × AnswersGiven given sure most cause octets symbols error r
+  pub builds_read : {O : Type 0} (octets : O → List ℕ) (t : Token) (r : Result O E) → Builds cause (GivesStep cause room given) octets t r
+      → (symbols : List Symbol) × (error : Option SymbolCharsError) × SymbolsOf t symbols error × AnswersGiven given room cause octets symbols error r
   builds_read octets t r h = (h.asks.symbols, h.asks.error, h.asks.read, builds_answer octets t r h h.asks.symbols h.asks.error h.asks.read)
 
 -- where memory is found, a builder with less room for certain answers as one with all of it
-module _ (given : Symbol → Result (List ℕ) (List ℕ)) (sure most room : ℕ) (small : most ≤ room) (symbols : List Symbol) (error : Option SymbolCharsError) where
-  pub all_given_in : (octets : List ℕ) → AllGiven given sure most symbols error octets → AllGiven given room room symbols error octets
+module _ (given : Symbol → Result (List ℕ) (List ℕ)) (room : Room) (size : ℕ) (small : room.capacity ≤ size) (symbols : List Symbol) (error : Option SymbolCharsError) where
+  pub all_given_in : (octets : List ℕ) → AllGiven given room symbols error octets → AllGiven given (exactly size) symbols error octets
   all_given_in octets h = record { parts = h.parts; gives = h.gives; joined = h.joined; ends = h.ends; fits = omega (arith, small, h.fits) }
 
-  fault_in : (count : ℕ) (rest : List Symbol) (why : Cause) → IsFault given sure most count rest error why → IsFault given room room count rest error why ⊎ (why ≡ short_buf)
+  fault_in : (count : ℕ) (rest : List Symbol) (why : Cause) → IsFault given room count rest error why → IsFault given (exactly size) count rest error why ⊎ (why ≡ short_buf)
   fault_in count [] why h = inl (at_end error h)
     where
-      at_end : (e : Option SymbolCharsError) → IsFault given sure most count [] e why → IsFault given room room count [] e why
+      at_end : (e : Option SymbolCharsError) → IsFault given room count [] e why → IsFault given (exactly size) count [] e why
       at_end None k = k
       at_end (Some x) k = k
   fault_in count (x ∷ xs) why h = by (given x) h
     where
-      by : (q : Result (List ℕ) (List ℕ)) → MatchResult q (λ o. (sure < count + length o) × (why ≡ short_buf)) (λ text. why ≡ custom_text text)
-          → MatchResult q (λ o. (room < count + length o) × (why ≡ short_buf)) (λ text. why ≡ custom_text text) ⊎ (why ≡ short_buf)
+      by : (q : Result (List ℕ) (List ℕ)) → MatchResult q (λ o. (room.fits < count + length o) × (why ≡ short_buf)) (λ text. why ≡ custom_text text)
+          → MatchResult q (λ o. (size < count + length o) × (why ≡ short_buf)) (λ text. why ≡ custom_text text) ⊎ (why ≡ short_buf)
       by (Ok o) k = inr k.1
       by (Err text) k = inl k
 
-  pub first_fault_in : (why : Cause) → FirstFault given sure most symbols error why → FirstFault given room room symbols error why ⊎ (why ≡ short_buf)
+  pub first_fault_in : (why : Cause) → FirstFault given room symbols error why → FirstFault given (exactly size) symbols error why ⊎ (why ≡ short_buf)
   first_fault_in why h =
       ⊎_elim
       (λ k. inl (record { front = h.front; rest = h.rest; parts = h.parts; whole = h.whole; gives = h.gives; fits = omega (arith, small, h.fits); fault = k }))

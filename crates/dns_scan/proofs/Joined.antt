@@ -5,11 +5,12 @@ use Rattle.std.specs.List.{flat_map, concat, AllByRecursion}
 use Rattle.std.proofs.lemmas.Grind.{flat_map-append}
 use Rattle.std.proofs.lemmas.List.Elements.{All-head, All-tail}
 use Rattle.std.proofs.lemmas.List.Folds.{list_all-append}
+use Rattle.dns_octets.specs.Room.{Room}
 use Rattle.dns_symbol.specs.Symbol.{bytes, is_readable}
 use Rattle.dns_symbol.specs.Text.{SymbolsOf}
 use Rattle.dns_symbol.specs.declared.symbol.Symbol.{Symbol}
 use Rattle.dns_symbol.specs.declared.symbol.EntrySymbol.{EntrySymbol}
-use Rattle.dns_symbol.specs.declared.symbol.SymbolCharsError.{SymbolCharsError}
+use Rattle.dns_symbol.specs.declared.error.SymbolCharsError.{SymbolCharsError}
 use Rattle.dns_symbol.proofs.Texts.{symbols_exist}
 use Rattle.dns_symbol.proofs.Unique.{symbols_same}
 use Rattle.dns_scan.specs.Asks.{CallsEachSymbol, CallsEach, Ends}
@@ -157,31 +158,31 @@ module _ {F E : Type 0} (cause : E → Cause) (step : F → Symbol → Result (U
       (λ p. absurd (not_err {E = E} (Ok tt) refl p.0))
       h
 
-module _ {S C O E : Type 0} (next : S → Option Token → S → Type 0) (cause : E → Cause) (sure most : ℕ) (takes : C → EntrySymbol → Result (List ℕ) E → C → Type 0)
+module _ {S C O E : Type 0} (next : S → Option Token → S → Type 0) (cause : E → Cause) (room : Room) (takes : C → EntrySymbol → Result (List ℕ) E → C → Type 0)
     (tail : C → Result (List ℕ) E → C → Type 0) (octets : O → List ℕ) (old : S) (convert : C) (r : Result O E) (new : S)
-    (h : ConvertsEntry next cause sure most takes tail octets old convert r new) where
+    (h : ConvertsEntry next cause room takes tail octets old convert r new) where
   pub converts_in_turn : (tokens : List Token) → HasTokens next old tokens
-      → (rest : List Token) × Converts cause sure most tail octets (λ p a q. CallsTokens (ConvertInEntry cause sure most takes) tokens p a rest q) convert r × HasTokens next new rest
+      → (rest : List Token) × Converts cause room tail octets (λ p a q. CallsTokens (ConvertInEntry cause room takes) tokens p a rest q) convert r × HasTokens next new rest
   converts_in_turn tokens stands =
-      let turn = in_turn next (ConvertInEntry cause sure most takes) old (convert, []) h.converts.answer new h.converts.state h.converts.ran tokens stands in
+      let turn = in_turn next (ConvertInEntry cause room takes) old (convert, []) h.converts.answer new h.converts.state h.converts.ran tokens stands in
       (turn.0, record { answer = h.converts.answer; state = h.converts.state; ran = turn.1; gives = h.converts.gives }, turn.2)
 
   pub converts_join : (tokens : List Token) (text : List ℕ) → HasTokens next old tokens → IsJoin tokens text
-      → Converts cause sure most tail octets (λ p a q. ConvertInEntry cause sure most takes p text a q) convert r
+      → Converts cause room tail octets (λ p a q. ConvertInEntry cause room takes p text a q) convert r
   converts_join tokens text stands join =
       let turn = converts_in_turn tokens stands in
       record { answer = turn.1.answer; state = turn.1.state; ran = asks_join cause _ tokens text (convert, []) turn.1.answer turn.0 turn.1.state turn.1.ran join; gives = turn.1.gives }
 
   pub converts_leaves : (tokens : List Token) → HasTokens next old tokens → LeavesOf next tokens r new
-  converts_leaves = leaves (ConvertInEntry cause sure most takes) next old (convert, []) h.converts.answer new h.converts.state h.converts.ran r (ok_before _ h.converts.answer r h.converts.gives)
+  converts_leaves = leaves (ConvertInEntry cause room takes) next old (convert, []) h.converts.answer new h.converts.state h.converts.ran r (ok_before _ h.converts.answer r h.converts.gives)
 
   pub converts_symbols : (tokens : List Token) → HasTokens next old tokens → IfOk r (λ _. AllByRecursion IsSymbols tokens)
   converts_symbols tokens stands = by r h.converts.answer refl (λ is. ok_before _ h.converts.answer r h.converts.gives is)
     where
       whole : h.converts.answer ≡ Ok tt → AllByRecursion IsSymbols tokens
       whole is =
-          let turn = in_turn next (ConvertInEntry cause sure most takes) old (convert, []) h.converts.answer new h.converts.state h.converts.ran tokens stands in
-          all_symbols cause _ tokens (convert, []) turn.0 h.converts.state (subst (λ a. CallsTokens (ConvertInEntry cause sure most takes) tokens (convert, []) a turn.0 h.converts.state) is turn.1)
+          let turn = in_turn next (ConvertInEntry cause room takes) old (convert, []) h.converts.answer new h.converts.state h.converts.ran tokens stands in
+          all_symbols cause _ tokens (convert, []) turn.0 h.converts.state (subst (λ a. CallsTokens (ConvertInEntry cause room takes) tokens (convert, []) a turn.0 h.converts.state) is turn.1)
 
       by : (q : Result O E) (a : Result (Unit {0}) E) → h.converts.answer ≡ a → (IsOk q → IsOk h.converts.answer) → IfOk q (λ _. AllByRecursion IsSymbols tokens)
       by (Ok x) (Ok u) is ok = whole is

@@ -6,7 +6,7 @@ use Rattle.std.proofs.lemmas.Bool.{cases_lt}
 use Rattle.std.proofs.Math.Nat.{add-mul, mul_assoc}
 use Rattle.std.specs.Prelude.{IsErr, MatchOption, IfOk}
 use Rattle.dns_symbol.specs.declared.symbol.Symbol.{Symbol}
-use Rattle.dns_symbol.specs.declared.symbol.SymbolCharsError.{SymbolCharsError}
+use Rattle.dns_symbol.specs.declared.error.SymbolCharsError.{SymbolCharsError}
 use Rattle.dns_symbol.specs.Cause.{Cause, end_of_entry, IsCause}
 use Rattle.dns_scan.specs.Asks.{CallsEachSymbol, CallsEach, Ends, ScansSymbols}
 use Rattle.dns_scan.specs.Tokens.{Token, ScansToken}

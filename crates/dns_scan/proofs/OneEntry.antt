@@ -3,6 +3,7 @@ use Rattle.std.proofs.Common.{ℕ, ◌≡◌, ◌<◌, ◌≤◌, ◌+◌, List,
 use Rattle.std.specs.Prelude.{All, MatchResult}
 use Rattle.std.specs.List.{concat, AllZip}
 use Rattle.std.proofs.lemmas.List.Elements.{All-head, All-tail}
+use Rattle.dns_octets.specs.Room.{Room, exactly, within}
 use Rattle.dns_symbol.specs.declared.symbol.Symbol.{Symbol}
 use Rattle.dns_symbol.specs.Symbol.{octet_of}
 use Rattle.dns_symbol.specs.Printed.{symbol_of, is_unquoted_escape, is_quoted_escape}
@@ -36,7 +37,7 @@ given_ones (x ∷ xs) (o ∷ os) e =
     let others : map octet_of xs ≡ map Ok os = cc in
     λ i. bad_or (λ n. n ∷ []) (first i) ∷ given_ones xs os others i
 
-module _ (given : Symbol → Result (List ℕ) (List ℕ)) (sure most : ℕ) where
+module _ (given : Symbol → Result (List ℕ) (List ℕ)) (room : Room) where
   -- what the symbols after others give
   passed : (front rest : List Symbol) (before parts : List (List ℕ)) → map given front ≡ map Ok before → map given (front ++ rest) ≡ map Ok parts
       → (after : List (List ℕ)) × (map given rest ≡ map Ok after) × (length (concat parts) ≡ length (concat before) + length (concat after))
@@ -51,18 +52,18 @@ module _ (given : Symbol → Result (List ℕ) (List ℕ)) (sure most : ℕ) whe
       let more = passed xs rest bs ps (let others : map given xs ≡ map Ok bs = cc in others) (let others : map given (xs ++ rest) ≡ map Ok ps = cc in others) in
       (more.0, more.1, omega (arith, more.2, ap length same, length-append b (concat bs), length-append p (concat ps)))
 
-  no_room : (rest : List Symbol) (after : List (List ℕ)) (count : ℕ) (why : Cause) → map given rest ≡ map Ok after → IsFault given sure most count rest None why
-      → (why ≡ short_buf) × (sure < count + length (concat after))
+  no_room : (rest : List Symbol) (after : List (List ℕ)) (count : ℕ) (why : Cause) → map given rest ≡ map Ok after → IsFault given room count rest None why
+      → (why ≡ short_buf) × (room.fits < count + length (concat after))
   no_room [] after count why e h = absurd h
   no_room (x ∷ xs) [] count why e h = cc
   no_room (x ∷ xs) (o ∷ after) count why e h =
       let first : given x ≡ Ok o = cc in
-      let fault = subst (λ q. MatchResult q (λ o. (sure < count + length o) × (why ≡ short_buf)) (λ text. why ≡ custom_text text)) first h in
+      let fault = subst (λ q. MatchResult q (λ o. (room.fits < count + length o) × (why ≡ short_buf)) (λ text. why ≡ custom_text text)) first h in
       (fault.1, omega (arith, fault.0, length-append o (concat after)))
 
   -- where all symbols give octets, only room can be wanting
-  fault_given : (symbols : List Symbol) (parts : List (List ℕ)) (why : Cause) → map given symbols ≡ map Ok parts → FirstFault given sure most symbols None why
-      → (why ≡ short_buf) × (sure < length (concat parts))
+  fault_given : (symbols : List Symbol) (parts : List (List ℕ)) (why : Cause) → map given symbols ≡ map Ok parts → FirstFault given room symbols None why
+      → (why ≡ short_buf) × (room.fits < length (concat parts))
   fault_given symbols parts why e h =
       let split = passed h.front h.rest h.parts parts h.gives (ap (map given) (sym h.whole) ∙ e) in
       let short = no_room h.rest split.0 (length (concat h.parts)) why split.1 h.fault in
@@ -104,17 +105,17 @@ printed_read (t ∷ ts) (s ∷ ss) z b = (
     quoted : HasOctets (quoted_token s) s
     quoted = record { symbols = map (symbol_of is_quoted_escape) s; read = printed_symbols is_quoted_escape quoted_form s bytes; octets_are = printed_octets is_quoted_escape s }
 
-module _ (sure most : ℕ) where
+module _ (room : Room) where
   -- a character string is refused for want of room alone
-  pub string_fault : (t : Token) (o : List ℕ) (count : ℕ) (why : Cause) → HasOctets t o → Short o → IsStringFault sure most count t why → (why ≡ short_buf) × (sure < count + length (wire_of o))
+  pub string_fault : (t : Token) (o : List ℕ) (count : ℕ) (why : Cause) → HasOctets t o → Short o → IsStringFault room count t why → (why ≡ short_buf) × (room.fits < count + length (wire_of o))
   string_fault t o count why has short (inl h) =
       let same = symbols_same t h.0 has.symbols h.1 None h.2 has.read in
-      let fault : FirstFault octet_given (min sure 255) (min most 255) has.symbols None why =
-      subst (λ ss. FirstFault octet_given (min sure 255) (min most 255) ss None why) same.0 (subst (λ e. FirstFault octet_given (min sure 255) (min most 255) h.0 e why) same.1 h.3) in
-      let no = fault_given octet_given (min sure 255) (min most 255) has.symbols (ones o) why (given_ones has.symbols o has.octets_are) fault in
+      let fault : FirstFault octet_given (within 255 room) has.symbols None why =
+      subst (λ ss. FirstFault octet_given (within 255 room) ss None why) same.0 (subst (λ e. FirstFault octet_given (within 255 room) h.0 e why) same.1 h.3) in
+      let no = fault_given octet_given (within 255 room) has.symbols (ones o) why (given_ones has.symbols o has.octets_are) fault in
       (no.0, less (length (concat (ones o))) (ap length (concat_ones o)) no.1)
     where
-      less : (n : ℕ) → n ≡ length o → min sure 255 < n → sure < count + length (wire_of o)
+      less : (n : ℕ) → n ≡ length o → min room.fits 255 < n → room.fits < count + length (wire_of o)
       less n is k = omega (arith, is, k, short)
   string_fault t o count why has short (inr h) =
       let same = symbols_same t h.1.0 has.symbols h.1.1 None h.1.2 has.read in
@@ -136,7 +137,7 @@ module _ (sure most : ℕ) where
 
   -- tokens that are character strings are answered by their wire forms, or for want of room
   pub strings_whole : {O E : Type 0} (cause : E → Cause) (value : O → List ℕ) (tokens : List Token) (strings : List (List ℕ)) (r : Result O E) (rest : List Token)
-      → AllZip HasOctets tokens strings → All Short strings → AnswersStrings sure most cause value tokens r rest → GivesWhere cause value sure (wires strings) r
+      → AllZip HasOctets tokens strings → All Short strings → AnswersStrings room cause value tokens r rest → GivesWhere cause value room (wires strings) r
   strings_whole cause value tokens strings (Ok x) rest read short h = inl (h.0.joined ∙ ap wires (strings_same tokens h.0.strings strings h.0.read read))
   strings_whole cause value tokens strings (Err e) rest read short h =
       let cut = cut_at h.front h.token rest strings (subst (λ (l : List Token). AllZip HasOctets l strings) h.whole read) short in
@@ -145,37 +146,37 @@ module _ (sure most : ℕ) where
       inr (no.0, omega (arith, no.1, cut.5, ap length h.before.joined, ap (λ l. length (wires l)) same))
 
   pub strings_printed : {O E : Type 0} (cause : E → Cause) (value : O → List ℕ) (tokens : List Token) (strings : List (List ℕ)) (r : Result O E) (rest : List Token)
-      → AllZip IsPrinted tokens strings → All (All (λ o. o < 256)) strings → All Short strings → AnswersStrings sure most cause value tokens r rest → GivesWhere cause value sure (wires strings) r
+      → AllZip IsPrinted tokens strings → All (All (λ o. o < 256)) strings → All Short strings → AnswersStrings room cause value tokens r rest → GivesWhere cause value room (wires strings) r
   strings_printed cause value tokens strings r rest printed bytes short h = strings_whole cause value tokens strings r rest (printed_read tokens strings printed bytes) short h
 
 -- where the room is known, tokens are answered in one way
-module _ (room : ℕ) where
-  one_fault : (count : ℕ) (t : Token) (a b : Cause) → IsStringFault room room count t a → IsStringFault room room count t b → a ≡ b
-  one_fault count t a b (inl h) (inl k) = let same = one_reading (min room 255) t (Err a) (Err b) h k in cc
-  one_fault count t a b (inl h) (inr k) = let same = one_reading (min room 255) t (Err a) (Ok k.0) h k.1 in cc
-  one_fault count t a b (inr h) (inl k) = let same = one_reading (min room 255) t (Ok h.0) (Err b) h.1 k in cc
+module _ (size : ℕ) where
+  one_fault : (count : ℕ) (t : Token) (a b : Cause) → IsStringFault (exactly size) count t a → IsStringFault (exactly size) count t b → a ≡ b
+  one_fault count t a b (inl h) (inl k) = let same = one_reading (min size 255) t (Err a) (Err b) h k in cc
+  one_fault count t a b (inl h) (inr k) = let same = one_reading (min size 255) t (Err a) (Ok k.0) h k.1 in cc
+  one_fault count t a b (inr h) (inl k) = let same = one_reading (min size 255) t (Ok h.0) (Err b) h.1 k in cc
   one_fault count t a b (inr h) (inr k) = h.2 ∙ sym k.2
 
   -- a first refusal has no other before it
   first_of_two : (front back : List Token) (t u : Token) (rest others : List Token) (before between : List (List ℕ)) (count : ℕ) (a b : Cause) → front ++ t ∷ rest ≡ back ++ u ∷ others
-      → AllZip HasOctets front before → AllZip HasOctets back between → All Short before → All Short between → count + length (wires before) ≤ room → count + length (wires between) ≤ room
-      → IsStringFault room room (count + length (wires before)) t a → IsStringFault room room (count + length (wires between)) u b → (a ≡ b) × (rest ≡ others)
+      → AllZip HasOctets front before → AllZip HasOctets back between → All Short before → All Short between → count + length (wires before) ≤ size → count + length (wires between) ≤ size
+      → IsStringFault (exactly size) (count + length (wires before)) t a → IsStringFault (exactly size) (count + length (wires between)) u b → (a ≡ b) × (rest ≡ others)
   first_of_two [] [] t u rest others [] [] count a b e z y short small fits room_for h k =
       let same : t ≡ u = cc in
-      (one_fault (count + 0) u a b (subst (λ x. IsStringFault room room (count + 0) x a) same h) k, cc)
+      (one_fault (count + 0) u a b (subst (λ x. IsStringFault (exactly size) (count + 0) x a) same h) k, cc)
   first_of_two [] [] t u rest others (s ∷ ss) between count a b e z y short small fits room_for h k = absurd z
   first_of_two [] [] t u rest others [] (s ∷ ss) count a b e z y short small fits room_for h k = absurd y
   first_of_two [] (x ∷ xs) t u rest others (s ∷ ss) between count a b e z y short small fits room_for h k = absurd z
   first_of_two [] (x ∷ xs) t u rest others [] [] count a b e z y short small fits room_for h k = absurd y
   first_of_two [] (x ∷ xs) t u rest others [] (s ∷ ss) count a b e z y short small fits room_for h k =
       let same : x ≡ t = cc in
-      let no = string_fault room room t s (count + 0) a (subst (λ l. HasOctets l s) same y.0) (All-head Short s ss small) h in
+      let no = string_fault (exactly size) t s (count + 0) a (subst (λ l. HasOctets l s) same y.0) (All-head Short s ss small) h in
       absurd (omega (arith, no.1, room_for, length-append (wire_of s) (wires ss)))
   first_of_two (x ∷ xs) [] t u rest others [] between count a b e z y short small fits room_for h k = absurd z
   first_of_two (x ∷ xs) [] t u rest others (s ∷ ss) (o ∷ os) count a b e z y short small fits room_for h k = absurd y
   first_of_two (x ∷ xs) [] t u rest others (s ∷ ss) [] count a b e z y short small fits room_for h k =
       let same : x ≡ u = cc in
-      let no = string_fault room room u s (count + 0) b (subst (λ l. HasOctets l s) same z.0) (All-head Short s ss short) k in
+      let no = string_fault (exactly size) u s (count + 0) b (subst (λ l. HasOctets l s) same z.0) (All-head Short s ss short) k in
       absurd (omega (arith, no.1, fits, length-append (wire_of s) (wires ss)))
   first_of_two (x ∷ xs) (v ∷ vs) t u rest others [] between count a b e z y short small fits room_for h k = absurd z
   first_of_two (x ∷ xs) (v ∷ vs) t u rest others (s ∷ ss) [] count a b e z y short small fits room_for h k = absurd y
@@ -187,19 +188,19 @@ module _ (room : ℕ) where
       let count_k : count + length (wires (o ∷ os)) ≡ count + length (wire_of s) + length (wires os) = omega (arith, length-append (wire_of o) (wires os), ap length same) in
       first_of_two xs vs t u rest others ss os (count + length (wire_of s)) a b tails z.1 y.1 (All-tail Short s ss short) (All-tail Short o os small)
       (omega (arith, fits, count_h)) (omega (arith, room_for, count_k))
-      (subst (λ n. IsStringFault room room n t a) count_h h) (subst (λ n. IsStringFault room room n u b) count_k k)
+      (subst (λ n. IsStringFault (exactly size) n t a) count_h h) (subst (λ n. IsStringFault (exactly size) n u b) count_k k)
 
-  not_both : (tokens : List Token) (a : List ℕ) (e : Cause) (rest others : List Token) → AnswersStrings room room (λ why. why) (λ s. s) tokens (Ok a) rest
-      → AnswersStrings room room (λ why. why) (λ s. s) tokens (Err e) others → ⊥
+  not_both : (tokens : List Token) (a : List ℕ) (e : Cause) (rest others : List Token) → AnswersStrings (exactly size) (λ why. why) (λ s. s) tokens (Ok a) rest
+      → AnswersStrings (exactly size) (λ why. why) (λ s. s) tokens (Err e) others → ⊥
   not_both tokens a e rest others h k =
-      by (strings_whole room room (λ why. why) (λ s. s) tokens h.0.strings (Err e) others h.0.read h.0.short k)
+      by (strings_whole (exactly size) (λ why. why) (λ s. s) tokens h.0.strings (Err e) others h.0.read h.0.short k)
     where
-      by : GivesWhere {O = List ℕ} (λ why. why) (λ s. s) room (wires h.0.strings) (Err e) → ⊥
+      by : GivesWhere {O = List ℕ} (λ why. why) (λ s. s) (exactly size) (wires h.0.strings) (Err e) → ⊥
       by (inl is) = absurd is
       by (inr is) = omega (arith, is.1, h.1, ap length h.0.joined)
 
-  pub one_entry : (tokens : List Token) (q r : Result (List ℕ) Cause) (rest others : List Token) → AnswersStrings room room (λ why. why) (λ s. s) tokens q rest
-      → AnswersStrings room room (λ why. why) (λ s. s) tokens r others → (q ≡ r) × (rest ≡ others)
+  pub one_entry : (tokens : List Token) (q r : Result (List ℕ) Cause) (rest others : List Token) → AnswersStrings (exactly size) (λ why. why) (λ s. s) tokens q rest
+      → AnswersStrings (exactly size) (λ why. why) (λ s. s) tokens r others → (q ≡ r) × (rest ≡ others)
   one_entry tokens (Ok a) (Ok b) rest others h k =
       (ap (λ o. Ok o) (h.0.joined ∙ ap wires (strings_same tokens h.0.strings k.0.strings h.0.read k.0.read) ∙ sym k.0.joined), h.2 ∙ sym k.2)
   one_entry tokens (Ok a) (Err e) rest others h k = absurd (not_both tokens a e rest others h k)
@@ -207,6 +208,6 @@ module _ (room : ℕ) where
   one_entry tokens (Err d) (Err e) rest others h k =
       let same = first_of_two h.front k.front h.token k.token rest others h.before.strings k.before.strings 0 d e (sym h.whole ∙ k.whole) h.before.read k.before.read h.before.short k.before.short
       (omega (arith, h.within, ap length h.before.joined)) (omega (arith, k.within, ap length k.before.joined))
-      (subst (λ n. IsStringFault room room n h.token d) (omega (arith, ap length h.before.joined)) h.fault)
-      (subst (λ n. IsStringFault room room n k.token e) (omega (arith, ap length k.before.joined)) k.fault) in
+      (subst (λ n. IsStringFault (exactly size) n h.token d) (omega (arith, ap length h.before.joined)) h.fault)
+      (subst (λ n. IsStringFault (exactly size) n k.token e) (omega (arith, ap length k.before.joined)) k.fault) in
       (ap (λ w. Err w) same.0, same.1)

@@ -1,6 +1,7 @@
 -- What tokens are read as is a function of the tokens.
 use Rattle.std.proofs.Common.{ℕ, ◌≡◌, List, [], ◌∷◌, sym, ap, subst, ◌∙◌, inl, inr, Option, Some, None, Result, Ok, Err}
 use Rattle.std.specs.Prelude.{MatchOption}
+use Rattle.dns_octets.specs.Room.{exactly}
 use Rattle.dns_scan.specs.declared.kind.Kind.{Kind}
 use Rattle.dns_scan.specs.declared.kind.Kind.TheVariants.{U8, U16, U32, U64, U128, Ttl, Other}
 use Rattle.dns_symbol.specs.Cause.{Cause, end_of_entry}
@@ -22,8 +23,8 @@ first_once {V} reads once tokens q r rest others h k = (by (first_of tokens) h.0
 pub number_once : (limit : ℕ) → ReadsInOneWay (ReadsFirst (NumberReads limit))
 number_once limit = first_once (NumberReads limit) (numbers_once limit)
 
-pub string_once : (room : ℕ) → ReadsInOneWay (ReadsFirst (OctetsRead room room))
-string_once room = first_once (OctetsRead room room) (one_reading room)
+pub string_once : (size : ℕ) → ReadsInOneWay (ReadsFirst (OctetsRead (exactly size)))
+string_once size = first_once (OctetsRead (exactly size)) (one_reading size)
 
 as_once : {A V : Type 0} (make : A → V) (reads : List Token → Result A Cause → List Token → Type 0) → ReadsInOneWay reads → ReadsInOneWay (ReadsAs make reads)
 as_once make reads once tokens (Ok v) (Ok w) rest others h k =

@@ -1,8 +1,9 @@
 -- From what a call does to a scanner to what it reads of the tokens before it.
 use Rattle.std.proofs.Common.{ℕ, suc, ◌≡◌, ◌<◌, ◌+◌, List, [], ◌∷◌, length, drop, get_or, drop-cons, arith, ◌∙◌, refl, sym, ap, subst, inl, inr, Option, Some, None, Result, Ok, Err}
 use Rattle.std.specs.Prelude.{IsErrAnd, MatchOption}
+use Rattle.dns_octets.specs.Room.{Room}
 use Rattle.dns_symbol.specs.declared.symbol.Symbol.{Symbol}
-use Rattle.dns_symbol.specs.declared.symbol.SymbolCharsError.{SymbolCharsError}
+use Rattle.dns_symbol.specs.declared.error.SymbolCharsError.{SymbolCharsError}
 use Rattle.dns_scan.specs.Answers.{AnswersGiven}
 use Rattle.dns_scan.specs.Asks.{Builds}
 use Rattle.dns_symbol.specs.Cause.{Cause, end_of_entry, IsCause}
@@ -27,11 +28,11 @@ module _ {S V E : Type 0} (next : S → Option Token → S → Type 0) (cause : 
       by (Some t) r h = shows t r h
 
 module _ {E : Type 0} (cause : E → Cause) where
-  pub octets_show : (sure most : ℕ) (t : Token) (r : Result (List ℕ) E) → Builds cause (GivesStep cause sure most octet_given) (λ s. s) t r → OctetsRead sure most t (by_cause cause r)
-  octets_show sure most t r h = let read = builds_read cause octet_given sure most (λ s. s) t r h in (read.0, read.1, read.2, by r read.0 read.1 read.3)
+  pub octets_show : (room : Room) (t : Token) (r : Result (List ℕ) E) → Builds cause (GivesStep cause room octet_given) (λ s. s) t r → OctetsRead room t (by_cause cause r)
+  octets_show room t r h = let read = builds_read cause octet_given room (λ s. s) t r h in (read.0, read.1, read.2, by r read.0 read.1 read.3)
     where
-      by : (r : Result (List ℕ) E) (symbols : List Symbol) (error : Option SymbolCharsError) → AnswersGiven octet_given sure most cause (λ s. s) symbols error r
-          → AnswersGiven octet_given sure most (λ why. why) (λ s. s) symbols error (by_cause cause r)
+      by : (r : Result (List ℕ) E) (symbols : List Symbol) (error : Option SymbolCharsError) → AnswersGiven octet_given room cause (λ s. s) symbols error r
+          → AnswersGiven octet_given room (λ why. why) (λ s. s) symbols error (by_cause cause r)
       by (Ok v) symbols error k = k
       by (Err e) symbols error k = k
 
@@ -51,9 +52,9 @@ module _ {S E : Type 0} (next : S → Option Token → S → Type 0) (cause : E 
   number_refused limit old e (Err y) new same scans =
       number_first limit old (Err y) new (subst (λ (x : E). ScansToken next cause (ScannedNumber cause limit) old (Err x) new) (sym same) scans)
 
-  pub octets_first : (sure most : ℕ) (old : S) (r : Result (List ℕ) E) (new : S) → ScansToken next cause (Builds cause (GivesStep cause sure most octet_given) (λ s. s)) old r new
-      → (tokens : List Token) → HasTokens next old tokens → (rest : List Token) × ReadsFirst (OctetsRead sure most) tokens (by_cause cause r) rest × HasTokens next new rest
-  octets_first sure most = reads_first next cause (Builds cause (GivesStep cause sure most octet_given) (λ s. s)) (OctetsRead sure most) (octets_show cause sure most)
+  pub octets_first : (room : Room) (old : S) (r : Result (List ℕ) E) (new : S) → ScansToken next cause (Builds cause (GivesStep cause room octet_given) (λ s. s)) old r new
+      → (tokens : List Token) → HasTokens next old tokens → (rest : List Token) × ReadsFirst (OctetsRead room) tokens (by_cause cause r) rest × HasTokens next new rest
+  octets_first room = reads_first next cause (Builds cause (GivesStep cause room octet_given) (λ s. s)) (OctetsRead room) (octets_show cause room)
 
 -- readings in turn, from the first one on
 module _ {V : Type 0} (reads : List Token → Result V Cause → List Token → Type 0) where

@@ -3,8 +3,9 @@ use Rattle.std.proofs.Common.{ℕ, ◌≡◌, ◌≤◌, List, [], ◌∷◌, �
 use Rattle.std.specs.Prelude.{◌≢◌, All, IfOk, IsOkAnd, MatchResult}
 use Rattle.std.specs.List.{AllZip, concat}
 use Rattle.std.proofs.lemmas.List.Elements.{All-nil, All-cons}
+use Rattle.dns_octets.specs.Room.{Room, within}
 use Rattle.dns_symbol.specs.declared.symbol.Symbol.{Symbol}
-use Rattle.dns_symbol.specs.declared.symbol.BadSymbol.{BadSymbol}
+use Rattle.dns_symbol.specs.declared.error.BadSymbol.{BadSymbol}
 use Rattle.dns_symbol.specs.Symbol.{octet_of}
 use Rattle.dns_symbol.specs.Text.{SymbolsOf}
 use Rattle.dns_charstr.specs.Reading.{HasOctets}
@@ -31,11 +32,11 @@ octets_of (x ∷ xs) (p ∷ ps) e =
     by (Ok n) is f more = let one : n ∷ [] ≡ p = cc in subst (λ l. map octet_of (x ∷ xs) ≡ map Ok (l ++ concat ps)) one (λ i. is i ∷ more i)
     by (Err w) is f more = cc
 
-module _ (sure most : ℕ) where
+module _ (room : Room) where
   abbrev pub Reads : List Token → Result (List ℕ) Cause → List Token → Type 0
-  Reads = ReadsFirst (OctetsRead (min sure 255) (min most 255))
+  Reads = ReadsFirst (OctetsRead (within 255 room))
 
-  read_octets : (t : Token) (o : List ℕ) → OctetsRead (min sure 255) (min most 255) t (Ok o) → HasOctets t o × (length o ≤ 255)
+  read_octets : (t : Token) (o : List ℕ) → OctetsRead (within 255 room) t (Ok o) → HasOctets t o × (length o ≤ 255)
   read_octets t o h = (
     record {
       symbols = h.0;
@@ -61,7 +62,7 @@ module _ (sure most : ℕ) where
       record { front = t ∷ more.front; whole = ap (λ l. t ∷ l) more.whole; read = (one.0, more.read); short = All-cons Short v vs one.1 more.short }
 
   -- the first of what is left was refused
-  first_refused : (middle rest : List Token) (why : Cause) → middle ≢ [] → Reads middle (Err why) rest → (t : Token) × (middle ≡ t ∷ rest) × OctetsRead (min sure 255) (min most 255) t (Err why)
+  first_refused : (middle rest : List Token) (why : Cause) → middle ≢ [] → Reads middle (Err why) rest → (t : Token) × (middle ≡ t ∷ rest) × OctetsRead (within 255 room) t (Err why)
   first_refused [] rest why some h = absurd (some refl)
   first_refused (t ∷ ts) rest why some h = (t, ap (λ l. t ∷ l) (sym h.1), h.0)
 
@@ -78,8 +79,8 @@ module _ (sure most : ℕ) where
       (λ k.
       let first = first_refused h.1 rest why k.0 k.1 in
       let whole : tokens ≡ front.front ++ first.0 ∷ rest = front.whole ∙ ap (λ l. front.front ++ l) first.1 in
-      let cut = cut_at sure most front.front first.0 rest strings (subst (λ (l : List Token). AllZip HasOctets l strings) whole read) short in
-      (string_fault sure most first.0 cut.1 0 why cut.3 cut.4 (inl first.2)).0)
+      let cut = cut_at room front.front first.0 rest strings (subst (λ (l : List Token). AllZip HasOctets l strings) whole read) short in
+      (string_fault room first.0 cut.1 0 why cut.3 cut.4 (inl first.2)).0)
       (λ k. k.1)
       h.3
 

@@ -1,18 +1,19 @@
 -- What a call that puts octets together answers of the symbols of a token.
 use Rattle.std.specs.Prelude.{ℕ, List, [], ◌∷◌, ◌++◌, ◌+◌, ◌≡◌, ◌<◌, ◌≤◌, length, map, Option, Some, None, Result, Ok, MatchResult}
 use Rattle.std.specs.List.{concat}
+use Rattle.dns_octets.specs.Room.{Room}
 use Rattle.dns_symbol.specs.declared.symbol.Symbol.{Symbol}
-use Rattle.dns_symbol.specs.declared.symbol.SymbolCharsError.{SymbolCharsError}
+use Rattle.dns_symbol.specs.declared.error.SymbolCharsError.{SymbolCharsError}
 use Rattle.dns_symbol.specs.Symbol.{chars_error_text}
 use Rattle.dns_symbol.specs.Cause.{Cause, custom_text, short_buf}
 
--- what each symbol gives, where `sure` octets surely fit and `most` at most
-module _ (given : Symbol → Result (List ℕ) (List ℕ)) (sure most : ℕ) where
+-- what each symbol gives, in a builder with that room
+module _ (given : Symbol → Result (List ℕ) (List ℕ)) (room : Room) where
   -- what is refused once `count` octets stand: a symbol that gives none or whose octets find no room, or what follows the symbols
   abbrev pub IsFault : ℕ → List Symbol → Option SymbolCharsError → Cause → Type 0
   IsFault count [] None c = ⊥
   IsFault count [] (Some e) c = c ≡ custom_text (chars_error_text e)
-  IsFault count (x ∷ xs) error c = MatchResult (given x) (λ o. (sure < count + length o) × (c ≡ short_buf)) (λ text. c ≡ custom_text text)
+  IsFault count (x ∷ xs) error c = MatchResult (given x) (λ o. (room.fits < count + length o) × (c ≡ short_buf)) (λ text. c ≡ custom_text text)
 
   -- the first fault of a token: the symbols before it give octets, and those fit
   pub record FirstFault (symbols : List Symbol) (error : Option SymbolCharsError) (c : Cause) : Type 0 where
@@ -21,7 +22,7 @@ module _ (given : Symbol → Result (List ℕ) (List ℕ)) (sure most : ℕ) whe
     pub parts : List (List ℕ)
     pub whole : symbols ≡ front ++ rest
     pub gives : map given front ≡ map Ok parts
-    pub fits : length (concat parts) ≤ most
+    pub fits : length (concat parts) ≤ room.capacity
     pub fault : IsFault (length (concat parts)) rest error c
 
   -- the octets of all symbols joined, nothing else stands in the token, and they fit
@@ -30,7 +31,7 @@ module _ (given : Symbol → Result (List ℕ) (List ℕ)) (sure most : ℕ) whe
     pub gives : map given symbols ≡ map Ok parts
     pub joined : octets ≡ concat parts
     pub ends : error ≡ None
-    pub fits : length octets ≤ most
+    pub fits : length octets ≤ room.capacity
 
   -- the answer: all octets, or the first fault
   abbrev pub AnswersGiven : {O E : Type 0} → (E → Cause) → (O → List ℕ) → List Symbol → Option SymbolCharsError → Result O E → Type 0

@@ -1,6 +1,7 @@
 -- What the calls of a scanner do that convert tokens or take all that are left.
 use Rattle.std.specs.Prelude.{ℕ, List, [], ◌∷◌, ◌++◌, ◌+◌, ◌<◌, ◌≤◌, length, min, ◌≡◌, Option, Some, None, Result, Ok, Err, IsErr, IsOkAnd, MatchResult, ◌⊎◌, codes}
 use Rattle.std.specs.Str.{IsAscii, IsNotAscii}
+use Rattle.dns_octets.specs.Room.{Room, within}
 use Rattle.dns_symbol.specs.declared.symbol.Symbol.{Symbol}
 use Rattle.dns_symbol.specs.declared.symbol.EntrySymbol.{EntrySymbol}
 use Rattle.dns_symbol.specs.declared.symbol.EntrySymbol.TheVariants.{EndOfToken, Symbol as Of}
@@ -29,15 +30,15 @@ AsksToken {F} {E} cause step f t r g =
     ((h : F) × CallsEachSymbol cause (λ p x q s. step p (Of x) q s) t f (Ok tt) h × step h EndOfToken r g)
     ⊎ (IsErr r × CallsEachSymbol cause (λ p x q s. step p (Of x) q s) t f r g)
 
--- a converter and the octets built so far, in a builder of a type in which `sure` octets surely fit and that holds `most` at most
-module _ {E : Type 0} (cause : E → Cause) (sure most : ℕ) where
+-- a converter and the octets built so far, in a builder with that room
+module _ {E : Type 0} (cause : E → Cause) (room : Room) where
   -- one symbol
   abbrev pub ConvertStep : {C X : Type 0} → (C → X → Result (List ℕ) E → C → Type 0) → C × List ℕ → X → Result (Unit {0}) E → C × List ℕ → Type 0
-  ConvertStep takes p x r q = (made : Result (List ℕ) E) × takes p.0 x made q.0 × Adds cause sure most made p.1 r q.1
+  ConvertStep takes p x r q = (made : Result (List ℕ) E) × takes p.0 x made q.0 × Adds cause room made p.1 r q.1
 
   -- the tail
   abbrev pub ConvertTail : {C : Type 0} → (C → Result (List ℕ) E → C → Type 0) → C × List ℕ → Result (Unit {0}) E → C × List ℕ → Type 0
-  ConvertTail tail p r q = (made : Result (List ℕ) E) × tail p.0 made q.0 × Adds cause sure most made p.1 r q.1
+  ConvertTail tail p r q = (made : Result (List ℕ) E) × tail p.0 made q.0 × Adds cause room made p.1 r q.1
 
   -- the symbols of a token
   abbrev pub ConvertToken : {C : Type 0} → (C → Symbol → Result (List ℕ) E → C → Type 0) → C × List ℕ → Token → Result (Unit {0}) E → C × List ℕ → Type 0
@@ -61,16 +62,16 @@ module _ {E : Type 0} (cause : E → Cause) (sure most : ℕ) where
   pub record StringStep (b : List ℕ) (t : Token) (r : Result (Unit {0}) E) (c : List ℕ) : Type 0 where
     pub answer : Result (Unit {0}) E
     pub built : List ℕ
-    pub asks : CallsEachSymbol cause (GivesStep cause (min sure max_string) (min most max_string) octet_given) t [] answer built
+    pub asks : CallsEachSymbol cause (GivesStep cause (within max_string room) octet_given) t [] answer built
     pub gives : MatchResult answer
-        (λ _. ((r ≡ Ok tt) × (c ≡ b ++ wire_of built) × (length c ≤ most)) ⊎ (IsCause cause r short_buf × (sure < length b + length (wire_of built))))
+        (λ _. ((r ≡ Ok tt) × (c ≡ b ++ wire_of built) × (length c ≤ room.capacity)) ⊎ (IsCause cause r short_buf × (room.fits < length b + length (wire_of built))))
         (λ e. (r ≡ Err e) × (c ≡ b))
 
   -- a token's text, where it is ASCII, goes to a function, whose answer is the answer; else the refusal
   pub record AsciiText {V : Type 0} (returns : List ℕ → Result V E → Type 0) (t : Token) (r : Result V E) : Type 0 where
     pub answer : Result (Unit {0}) E
     pub built : List ℕ
-    pub asks : CallsEachSymbol cause (GivesStep cause sure most text_given) t [] answer built
+    pub asks : CallsEachSymbol cause (GivesStep cause room text_given) t [] answer built
     pub gives : MatchResult answer
         (λ _. (IsAscii built × returns built r) ⊎ (IsNotAscii built × IsCause cause r (custom_text (codes "non-ASCII characters"))))
         (λ e. r ≡ Err e)
@@ -84,6 +85,6 @@ pub record BuildsEntry {S O E : Type 0} (next : S → Option Token → S → Typ
   pub gives : MatchResult answer (λ _. IsOkAnd r (λ x. octets x ≡ built)) (λ e. r ≡ Err e)
 
 -- a converter's run over all tokens
-pub record ConvertsEntry {S C O E : Type 0} (next : S → Option Token → S → Type 0) (cause : E → Cause) (sure most : ℕ) (takes : C → EntrySymbol → Result (List ℕ) E → C → Type 0)
+pub record ConvertsEntry {S C O E : Type 0} (next : S → Option Token → S → Type 0) (cause : E → Cause) (room : Room) (takes : C → EntrySymbol → Result (List ℕ) E → C → Type 0)
     (tail : C → Result (List ℕ) E → C → Type 0) (octets : O → List ℕ) (old : S) (convert : C) (r : Result O E) (new : S) : Type 0 where
-  pub converts : Converts cause sure most tail octets (λ p a q. ScansEntry next (ConvertInEntry cause sure most takes) old p a new q) convert r
+  pub converts : Converts cause room tail octets (λ p a q. ScansEntry next (ConvertInEntry cause room takes) old p a new q) convert r

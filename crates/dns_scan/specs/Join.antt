@@ -1,8 +1,9 @@
 -- The tokens of an entry: each in turn, and all as one text.
 use Rattle.std.specs.Prelude.{ℕ, List, [], ◌∷◌, ◌++◌, ◌≡◌, ◌⊎◌, Option, Some, None, Result, Ok, IsErr, IsOk, map}
+use Rattle.dns_octets.specs.Room.{Room}
 use Rattle.dns_symbol.specs.Text.{SymbolsOf}
 use Rattle.dns_symbol.specs.declared.symbol.Symbol.{Symbol}
-use Rattle.dns_symbol.specs.declared.symbol.SymbolCharsError.{SymbolCharsError}
+use Rattle.dns_symbol.specs.declared.error.SymbolCharsError.{SymbolCharsError}
 use Rattle.dns_symbol.specs.declared.symbol.EntrySymbol.{EntrySymbol}
 use Rattle.dns_symbol.specs.declared.symbol.EntrySymbol.TheVariants.{EndOfToken, Symbol as Of}
 use Rattle.dns_symbol.specs.Cause.{Cause}
@@ -38,7 +39,7 @@ abbrev pub LeavesOf : {S V E : Type 0} → (S → Option Token → S → Type 0)
 LeavesOf next tokens r new = (front : List Token) × (rest : List Token) × (tokens ≡ front ++ rest) × (IsOk r → rest ≡ []) × HasTokens next new rest
 
 -- a converter's run over all tokens, and the tokens that are left
-abbrev pub ConvertsTokens : {C O E : Type 0} → (E → Cause) → ℕ → ℕ → (C → EntrySymbol → Result (List ℕ) E → C → Type 0) → (C → Result (List ℕ) E → C → Type 0) → (O → List ℕ)
+abbrev pub ConvertsTokens : {C O E : Type 0} → (E → Cause) → Room → (C → EntrySymbol → Result (List ℕ) E → C → Type 0) → (C → Result (List ℕ) E → C → Type 0) → (O → List ℕ)
     → List Token → C → Result O E → List Token → Type 0
-ConvertsTokens cause sure most takes tail octets tokens convert r rest =
-    Converts cause sure most tail octets (λ p a q. CallsTokens (ConvertInEntry cause sure most takes) tokens p a rest q) convert r
+ConvertsTokens cause room takes tail octets tokens convert r rest =
+    Converts cause room tail octets (λ p a q. CallsTokens (ConvertInEntry cause room takes) tokens p a rest q) convert r

@@ -1,8 +1,9 @@
 -- What is read of a list of tokens.
 use Rattle.std.specs.Prelude.{ℕ, List, [], ◌∷◌, ◌≡◌, ◌≢◌, Option, Some, None, Result, Ok, Err, MatchOption, ◌⊎◌}
 use Rattle.std.proofs.Common.{replicate}
+use Rattle.dns_octets.specs.Room.{Room}
 use Rattle.dns_symbol.specs.declared.symbol.Symbol.{Symbol}
-use Rattle.dns_symbol.specs.declared.symbol.SymbolCharsError.{SymbolCharsError}
+use Rattle.dns_symbol.specs.declared.error.SymbolCharsError.{SymbolCharsError}
 use Rattle.dns_symbol.specs.Text.{SymbolsOf}
 use Rattle.dns_scan.specs.Answers.{AnswersGiven}
 use Rattle.dns_symbol.specs.Cause.{Cause, end_of_entry, short_buf}
@@ -19,10 +20,10 @@ ReadsFirst reads tokens r rest = MatchOption (first_of tokens) (r ≡ Err end_of
 abbrev pub NumberReads : ℕ → Token → Result ℕ Cause → Type 0
 NumberReads limit = ScannedNumber (λ why. why) limit
 
--- a token that is read as octets, where `sure` octets surely fit and `most` at most
-abbrev pub OctetsRead : ℕ → ℕ → Token → Result (List ℕ) Cause → Type 0
-OctetsRead sure most token r =
-    (symbols : List Symbol) × (error : Option SymbolCharsError) × SymbolsOf token symbols error × AnswersGiven octet_given sure most (λ why. why) (λ s. s) symbols error r
+-- a token that is read as octets, in a builder with that room
+abbrev pub OctetsRead : Room → Token → Result (List ℕ) Cause → Type 0
+OctetsRead room token r =
+    (symbols : List Symbol) × (error : Option SymbolCharsError) × SymbolsOf token symbols error × AnswersGiven octet_given room (λ why. why) (λ s. s) symbols error r
 
 -- a token that a scanner reads as a name
 abbrev pub NameReads : {N E : Type 0} → (E → Cause) → (Token → Result N E → Type 0) → Token → Result N Cause → Type 0

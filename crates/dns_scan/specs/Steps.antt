@@ -1,7 +1,8 @@
 -- One symbol's octets, appended to those before.
 use Rattle.std.specs.Prelude.{ℕ, List, [], ◌∷◌, ◌++◌, ◌-◌, ◌<◌, ◌≤◌, ◌≡◌, length, Result, Ok, Err, ◌⊎◌, codes, encode_utf8}
+use Rattle.dns_octets.specs.Room.{Room}
 use Rattle.dns_symbol.specs.declared.symbol.Symbol.{Symbol}
-use Rattle.dns_symbol.specs.declared.symbol.BadSymbol.{BadSymbol}
+use Rattle.dns_symbol.specs.declared.error.BadSymbol.{BadSymbol}
 use Rattle.dns_symbol.specs.Symbol.{octet_of, char_of}
 use Rattle.dns_symbol.specs.Cause.{Cause, custom_text, short_buf, IsCause}
 
@@ -18,11 +19,11 @@ octet_given x = bad_or (λ o. o ∷ []) (octet_of x)
 abbrev pub text_given : Symbol → Result (List ℕ) (List ℕ)
 text_given x = bad_or encode_utf8 (char_of x)
 
--- a builder of a type in which `sure` octets surely fit, and which never holds more than `most`
-module _ {E : Type 0} (cause : E → Cause) (sure most : ℕ) where
-  -- these octets were appended to b and all are at most `most`; or there were more than surely still fit, and none was appended
+-- a builder with that room
+module _ {E : Type 0} (cause : E → Cause) (room : Room) where
+  -- these octets were appended to b and all are within its capacity; or there were more than surely still fit, and none was appended
   abbrev pub Grows : List ℕ → List ℕ → Result (Unit {0}) E → List ℕ → Type 0
-  Grows o b r c = ((r ≡ Ok tt) × (c ≡ b ++ o) × (0 < length o → length c ≤ most)) ⊎ (IsCause cause r short_buf × (c ≡ b) × (sure - length b < length o))
+  Grows o b r c = ((r ≡ Ok tt) × (c ≡ b ++ o) × (0 < length o → length c ≤ room.capacity)) ⊎ (IsCause cause r short_buf × (c ≡ b) × (room.fits - length b < length o))
 
   -- the octets of one symbol were appended, or there was the refusal with that text
   abbrev pub Appends : Result (List ℕ) (List ℕ) → List ℕ → Result (Unit {0}) E → List ℕ → Type 0

@@ -1,6 +1,7 @@
 -- What is answered of the tokens of an entry that are put together as character strings.
 use Rattle.std.specs.Prelude.{ℕ, List, ◌∷◌, ◌++◌, [], ◌+◌, ◌≡◌, ◌<◌, ◌≤◌, ◌⊎◌, length, min, All, Result, Ok, Err, MatchResult}
 use Rattle.std.specs.List.{AllZip, flat_map}
+use Rattle.dns_octets.specs.Room.{Room, within}
 use Rattle.dns_charstr.specs.Reading.{HasOctets}
 use Rattle.dns_charstr.specs.Wire.{wire_of}
 use Rattle.dns_symbol.specs.Cause.{Cause, short_buf}
@@ -15,13 +16,13 @@ pub record AreStrings (tokens : List Token) (octets : List ℕ) : Type 0 where
   pub short : All (λ s. length s ≤ max_string) strings
   pub joined : octets ≡ flat_map wire_of strings
 
--- a builder of a type in which `sure` octets surely fit, and which never holds more than `most`
-module _ (sure most : ℕ) where
+-- a builder with that room
+module _ (room : Room) where
   -- why a token is refused once `count` octets stand: it is no character string, or its wire form finds no room
   abbrev pub IsStringFault : ℕ → Token → Cause → Type 0
   IsStringFault count token why =
-      OctetsRead (min sure max_string) (min most max_string) token (Err why)
-      ⊎ ((octets : List ℕ) × OctetsRead (min sure max_string) (min most max_string) token (Ok octets) × (why ≡ short_buf) × (sure < count + length (wire_of octets)))
+      OctetsRead (within max_string room) token (Err why)
+      ⊎ ((octets : List ℕ) × OctetsRead (within max_string room) token (Ok octets) × (why ≡ short_buf) × (room.fits < count + length (wire_of octets)))
 
   -- the first token that is refused, and the tokens after it; those before it are character strings, and their wire forms fit
   pub record FirstStringFault (tokens : List Token) (why : Cause) (rest : List Token) : Type 0 where
@@ -30,10 +31,10 @@ module _ (sure most : ℕ) where
     pub octets : List ℕ
     pub whole : tokens ≡ front ++ token ∷ rest
     pub before : AreStrings front octets
-    pub within : length octets ≤ most
+    pub within : length octets ≤ room.capacity
     pub fault : IsStringFault (length octets) token why
 
   -- the answer and the tokens that are left: the wire forms of all, which fit, and no token; or the first refusal, and the tokens after that one
   abbrev pub AnswersStrings : {O E : Type 0} → (E → Cause) → (O → List ℕ) → List Token → Result O E → List Token → Type 0
   AnswersStrings cause value tokens r rest =
-      MatchResult r (λ x. AreStrings tokens (value x) × (length (value x) ≤ most) × (rest ≡ [])) (λ e. FirstStringFault tokens (cause e) rest)
+      MatchResult r (λ x. AreStrings tokens (value x) × (length (value x) ≤ room.capacity) × (rest ≡ [])) (λ e. FirstStringFault tokens (cause e) rest)

@@ -2,8 +2,9 @@
 ghost use Rattle.std.specs.Prelude.{◌≡◌, ℕ, ◌<◌, ◌≤◌, ◌^◌, List, ◌∷◌, Some, None, Ok, Option, Result, IfOk, MatchResult, map, length, min, All, IsUtf8};
 ghost use Rattle.std.specs.Fmt.{decimal};
 ghost use Rattle.std.specs.List.{AllByRecursion, AllZip, FoldsTo, concat, flat_map};
+ghost use Rattle.dns_octets.specs.Room.{exactly, within};
 ghost use Rattle.dns_symbol.specs.declared.symbol.Symbol.{Symbol as PlainSymbol};
-ghost use Rattle.dns_symbol.specs.declared.symbol.SymbolCharsError.{SymbolCharsError};
+ghost use Rattle.dns_symbol.specs.declared.error.SymbolCharsError.{SymbolCharsError};
 ghost use Rattle.dns_symbol.specs.Symbol.{octet_of};
 ghost use Rattle.dns_symbol.specs.Text.{SymbolsOf};
 ghost use Rattle.dns_charstr.specs.Reading.{HasOctets};
@@ -42,13 +43,13 @@ pub fn character_strings_are_scanned_back<S: Scanner>(
     requires { S.can_scan scanner.old }
     ensures ready { S.can_scan scanner.new }
     ensures whole { (token : Token) (others : List Token) (octets : List ℕ) → HasTokens S.next_token scanner.old (token ∷ others)
-        → HasOctets token octets → GivesWhere S.Error.cause (λ s. s) (min S.OctetsBuilder.sure max_string) octets result }
+        → HasOctets token octets → GivesWhere S.Error.cause (λ s. s) (within max_string S.OctetsBuilder.room) octets result }
     ensures unquoted { (octets : List ℕ) (others : List Token) → All (λ o. o < 256) octets → HasTokens S.next_token scanner.old (unquoted_token octets ∷ others)
-        → GivesWhere S.Error.cause (λ s. s) (min S.OctetsBuilder.sure max_string) octets result }
+        → GivesWhere S.Error.cause (λ s. s) (within max_string S.OctetsBuilder.room) octets result }
     ensures quoted { (octets : List ℕ) (others : List Token) → All (λ o. o < 256) octets → HasTokens S.next_token scanner.old (quoted_token octets ∷ others)
-        → GivesWhere S.Error.cause (λ s. s) (min S.OctetsBuilder.sure max_string) octets result }
+        → GivesWhere S.Error.cause (λ s. s) (within max_string S.OctetsBuilder.room) octets result }
     ensures answer { (token : Token) (others : List Token) (symbols : List PlainSymbol) (error : Option SymbolCharsError) → HasTokens S.next_token scanner.old (token ∷ others)
-        → SymbolsOf token symbols error → AnswersGiven octet_given (min S.OctetsBuilder.sure max_string) (min S.OctetsBuilder.most max_string) S.Error.cause (λ s. s) symbols error result }
+        → SymbolsOf token symbols error → AnswersGiven octet_given (within max_string S.OctetsBuilder.room) S.Error.cause (λ s. s) symbols error result }
     ensures only { (token : Token) (others : List Token) (symbols : List PlainSymbol) (error : Option SymbolCharsError) → HasTokens S.next_token scanner.old (token ∷ others)
         → SymbolsOf token symbols error → IfOk result (λ s. (error ≡ None) × (map octet_of symbols ≡ map Ok s) × (length symbols ≤ max_string)) }
     ensures rest { (token : Token) (others : List Token) → HasTokens S.next_token scanner.old (token ∷ others) → HasTokens S.next_token scanner.new others }
@@ -60,11 +61,11 @@ pub fn character_strings_are_scanned_back<S: Scanner>(
 /// each gives. So is a token that is read as octets, and so are the tokens of an entry that are put
 /// together as character strings, with the tokens that are left.
 pub fn octets_are_answered_in_one_way()
-    ensures symbols { (given : PlainSymbol → Result (List ℕ) (List ℕ)) (room : ℕ) (symbols : List PlainSymbol) (error : Option SymbolCharsError) (q r : Result (List ℕ) Cause)
-        → AnswersGiven given room room (λ why. why) (λ s. s) symbols error q → AnswersGiven given room room (λ why. why) (λ s. s) symbols error r → q ≡ r }
-    ensures token { (room : ℕ) (token : Token) (q r : Result (List ℕ) Cause) → OctetsRead room room token q → OctetsRead room room token r → q ≡ r }
-    ensures entry { (room : ℕ) (tokens : List Token) (q r : Result (List ℕ) Cause) (rest others : List Token) → AnswersStrings room room (λ why. why) (λ s. s) tokens q rest
-        → AnswersStrings room room (λ why. why) (λ s. s) tokens r others → (q ≡ r) × (rest ≡ others) }
+    ensures symbols { (given : PlainSymbol → Result (List ℕ) (List ℕ)) (size : ℕ) (symbols : List PlainSymbol) (error : Option SymbolCharsError) (q r : Result (List ℕ) Cause)
+        → AnswersGiven given (exactly size) (λ why. why) (λ s. s) symbols error q → AnswersGiven given (exactly size) (λ why. why) (λ s. s) symbols error r → q ≡ r }
+    ensures token { (size : ℕ) (token : Token) (q r : Result (List ℕ) Cause) → OctetsRead (exactly size) token q → OctetsRead (exactly size) token r → q ≡ r }
+    ensures entry { (size : ℕ) (tokens : List Token) (q r : Result (List ℕ) Cause) (rest others : List Token) → AnswersStrings (exactly size) (λ why. why) (λ s. s) tokens q rest
+        → AnswersStrings (exactly size) (λ why. why) (λ s. s) tokens r others → (q ≡ r) × (rest ≡ others) }
 {}
 
 /// A token is read as a number in one way, and the decimal text of a number as that number. A
@@ -133,7 +134,7 @@ pub fn kinds_in_turn<S: Scanner, T: Scan<S>, F: FnMut(Scanned<T>)>(
 /// of two types, it is for so many of one, for a list of kinds with one, and for pairs of both.
 pub fn scans_have_one_answer<S: Scanner, A: Scan<S> + Drop, B: Scan<S>>()
     ensures number { (limit : ℕ) → ReadsInOneWay (ReadsFirst (NumberReads limit)) }
-    ensures string { (room : ℕ) → ReadsInOneWay (ReadsFirst (OctetsRead room room)) }
+    ensures string { (size : ℕ) → ReadsInOneWay (ReadsFirst (OctetsRead (exactly size))) }
     ensures each { ReadsInOneWay A.scan_reads → (count : ℕ) → ReadInOneWay (ReadsEach A.scan_reads count) }
     ensures kinds { ReadsInOneWay A.scan_reads → (kinds : List Kind) → ReadInOneWay (ReadsInTurn (KindReads A.scan_reads) kinds) }
     ensures both { ReadsInOneWay A.scan_reads → ReadsInOneWay B.scan_reads → ReadsInOneWay (ReadsBoth A.scan_reads B.scan_reads) }
@@ -171,11 +172,11 @@ pub fn entries_convert_as_their_join<S: Scanner, C: ConvertSymbols<EntrySymbol, 
     requires { S.can_scan scanner.old }
     ensures ready { S.can_scan scanner.new }
     ensures converts { (tokens : List Token) → HasTokens S.next_token scanner.old tokens
-        → (rest : List Token) × ConvertsTokens S.Error.cause S.OctetsBuilder.sure S.OctetsBuilder.most C.takes C.tail S.Octets.octets tokens convert result rest
+        → (rest : List Token) × ConvertsTokens S.Error.cause S.OctetsBuilder.room C.takes C.tail S.Octets.octets tokens convert result rest
         × HasTokens S.next_token scanner.new rest }
     ensures join { (tokens : List Token) (text : List ℕ) → HasTokens S.next_token scanner.old tokens → IsJoin tokens text
-        → Converts S.Error.cause S.OctetsBuilder.sure S.OctetsBuilder.most C.tail S.Octets.octets
-        (λ p a q. ConvertInEntry S.Error.cause S.OctetsBuilder.sure S.OctetsBuilder.most C.takes p text a q) convert result }
+        → Converts S.Error.cause S.OctetsBuilder.room C.tail S.Octets.octets
+        (λ p a q. ConvertInEntry S.Error.cause S.OctetsBuilder.room C.takes p text a q) convert result }
     ensures symbols { (tokens : List Token) → HasTokens S.next_token scanner.old tokens → IfOk result (λ _. AllByRecursion IsSymbols tokens) }
     ensures rest { (tokens : List Token) → HasTokens S.next_token scanner.old tokens → LeavesOf S.next_token tokens result scanner.new }
 {
@@ -199,11 +200,11 @@ pub fn string_entries_are_scanned_back<S: Scanner>(scanner: &mut S) -> Result<S:
     requires { S.can_scan scanner.old }
     ensures ready { S.can_scan scanner.new }
     ensures whole { (tokens : List Token) (strings : List (List ℕ)) → HasTokens S.next_token scanner.old tokens → AllZip HasOctets tokens strings
-        → All (λ s. length s ≤ max_string) strings → GivesWhere S.Error.cause S.Octets.octets S.OctetsBuilder.sure (flat_map wire_of strings) result }
+        → All (λ s. length s ≤ max_string) strings → GivesWhere S.Error.cause S.Octets.octets S.OctetsBuilder.room (flat_map wire_of strings) result }
     ensures printed { (tokens : List Token) (strings : List (List ℕ)) → HasTokens S.next_token scanner.old tokens → AllZip IsPrinted tokens strings
-        → All (All (λ o. o < 256)) strings → All (λ s. length s ≤ max_string) strings → GivesWhere S.Error.cause S.Octets.octets S.OctetsBuilder.sure (flat_map wire_of strings) result }
+        → All (All (λ o. o < 256)) strings → All (λ s. length s ≤ max_string) strings → GivesWhere S.Error.cause S.Octets.octets S.OctetsBuilder.room (flat_map wire_of strings) result }
     ensures answer { (tokens : List Token) → HasTokens S.next_token scanner.old tokens
-        → (rest : List Token) × AnswersStrings S.OctetsBuilder.sure S.OctetsBuilder.most S.Error.cause S.Octets.octets tokens result rest × HasTokens S.next_token scanner.new rest }
+        → (rest : List Token) × AnswersStrings S.OctetsBuilder.room S.Error.cause S.Octets.octets tokens result rest × HasTokens S.next_token scanner.new rest }
     ensures rest { (tokens : List Token) → HasTokens S.next_token scanner.old tokens → LeavesOf S.next_token tokens result scanner.new }
 {
     scanner.scan_charstr_entry()

@@ -76,8 +76,8 @@ pub struct RestOf<C, O> {
 impl<S: Scanner, C: ConvertSymbols<EntrySymbol, S::Error> + Default> Scan<S>
     for RestOf<C, S::Octets> {
     ghost scan_reads = { λ tokens r rest. (convert : C) × C.is_default convert × MatchResult r
-        (λ x. ConvertsTokens S.Error.cause S.OctetsBuilder.sure S.OctetsBuilder.most C.takes C.tail S.Octets.octets tokens convert (Ok x.octets) rest)
-        (λ why. (e : S.Error) × (S.Error.cause e ≡ why) × ConvertsTokens S.Error.cause S.OctetsBuilder.sure S.OctetsBuilder.most C.takes C.tail S.Octets.octets tokens convert (Err e) rest) };
+        (λ x. ConvertsTokens S.Error.cause S.OctetsBuilder.room C.takes C.tail S.Octets.octets tokens convert (Ok x.octets) rest)
+        (λ why. (e : S.Error) × (S.Error.cause e ≡ why) × ConvertsTokens S.Error.cause S.OctetsBuilder.room C.takes C.tail S.Octets.octets tokens convert (Err e) rest) };
 
     fn scan(scanner: &mut S) -> Result<Self, S::Error> {
         match entries_convert_as_their_join(scanner, C::default()) {

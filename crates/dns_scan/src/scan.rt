@@ -1,5 +1,6 @@
 //! Values that can be scanned.
 ghost use Rattle.std.specs.Prelude.{◌≡◌, List, Result, Ok, min};
+ghost use Rattle.dns_octets.specs.Room.{within};
 ghost use Rattle.dns_symbol.specs.Cause.{Cause};
 ghost use Rattle.dns_scan.specs.Numbers.{by_cause, greatest};
 ghost use Rattle.dns_scan.specs.Reads.{ReadsFirst, NameReads, NumberReads, OctetsRead, ReadsBoth};
@@ -82,7 +83,7 @@ impl<S: Scanner> Scan<S> for Ttl {
 
 /// A character string, as [`Scanner::scan_charstr`] takes it.
 impl<S: Scanner> Scan<S> for CharStr<S::Octets> {
-    ghost scan_reads = { ReadsFirst (OctetsRead (min S.OctetsBuilder.sure max_string) (min S.OctetsBuilder.most max_string)) };
+    ghost scan_reads = { ReadsFirst (OctetsRead (within max_string S.OctetsBuilder.room)) };
 
     fn scan(scanner: &mut S) -> Result<Self, S::Error> {
         scanner.scan_charstr()

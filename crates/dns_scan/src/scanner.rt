@@ -1,5 +1,6 @@
 //! Scanners: where the tokens of an entry come from.
 ghost use Rattle.std.specs.Prelude.{◌≡◌, ℕ, List, [], Option, Some, None, Result, Bool, false, IsOkAnd, is_some, min, codes};
+ghost use Rattle.dns_octets.specs.Room.{within};
 ghost use Rattle.dns_scan.specs.Asks.{Builds, ScansSymbols};
 ghost use Rattle.std.specs.Fn.{FnOnceReturnsAt};
 ghost use Rattle.dns_symbol.specs.Cause.{custom_text, IsCause};
@@ -92,8 +93,8 @@ pub trait Scanner {
         requires { can_scan self.old }
         ensures ready { can_scan self.new }
         ensures scans { ScansToken next_token Self.Error.cause
-            (λ t r. Converts Self.Error.cause Self.OctetsBuilder.sure Self.OctetsBuilder.most C.tail Self.Octets.octets
-            (λ p a q. ConvertToken Self.Error.cause Self.OctetsBuilder.sure Self.OctetsBuilder.most C.takes p t a q) convert r) self.old result self.new };
+            (λ t r. Converts Self.Error.cause Self.OctetsBuilder.room C.tail Self.Octets.octets
+            (λ p a q. ConvertToken Self.Error.cause Self.OctetsBuilder.room C.takes p t a q) convert r) self.old result self.new };
 
     /// Takes all tokens through a converter, one after the other, and then asks for the converter's
     /// tail. The ends of tokens are not handed over.
@@ -103,14 +104,14 @@ pub trait Scanner {
     ) -> Result<Self::Octets, Self::Error>
         requires { can_scan self.old }
         ensures ready { can_scan self.new }
-        ensures scans { ConvertsEntry next_token Self.Error.cause Self.OctetsBuilder.sure Self.OctetsBuilder.most C.takes C.tail Self.Octets.octets self.old convert result self.new };
+        ensures scans { ConvertsEntry next_token Self.Error.cause Self.OctetsBuilder.room C.takes C.tail Self.Octets.octets self.old convert result self.new };
 
     /// Takes a token of octets. A symbol without octet is a "bad symbol".
     fn scan_octets(&mut self) -> Result<Self::Octets, Self::Error>
         requires { can_scan self.old }
         ensures ready { can_scan self.new }
         ensures scans { ScansToken next_token Self.Error.cause
-            (Builds Self.Error.cause (GivesStep Self.Error.cause Self.OctetsBuilder.sure Self.OctetsBuilder.most octet_given) Self.Octets.octets) self.old result self.new };
+            (Builds Self.Error.cause (GivesStep Self.Error.cause Self.OctetsBuilder.room octet_given) Self.Octets.octets) self.old result self.new };
 
     /// No scanner need know the form of service parameters: the call takes no token.
     fn scan_svcb_octets(&mut self) -> Result<Self::Octets, Self::Error>
@@ -131,7 +132,7 @@ pub trait Scanner {
         requires callable { F.IsAlwaysCallable op }
         ensures ready { can_scan self.new }
         ensures scans { ScansToken next_token Self.Error.cause
-            (AsciiText Self.Error.cause Self.OctetsBuilder.sure Self.OctetsBuilder.most (λ s r. FnOnceReturnsAt F.FnOnce op s r)) self.old result self.new };
+            (AsciiText Self.Error.cause Self.OctetsBuilder.room (λ s r. FnOnceReturnsAt F.FnOnce op s r)) self.old result self.new };
 
     /// Takes a token as an absolute name.
     fn scan_name(&mut self) -> Result<Self::Name, Self::Error>
@@ -145,7 +146,7 @@ pub trait Scanner {
         requires { can_scan self.old }
         ensures ready { can_scan self.new }
         ensures scans { ScansToken next_token Self.Error.cause
-            (Builds Self.Error.cause (GivesStep Self.Error.cause (min Self.OctetsBuilder.sure max_string) (min Self.OctetsBuilder.most max_string) octet_given) (λ s. s)) self.old result self.new };
+            (Builds Self.Error.cause (GivesStep Self.Error.cause (within max_string Self.OctetsBuilder.room) octet_given) (λ s. s)) self.old result self.new };
 
     /// Takes a token as a text. A symbol that is no character, as a decimal escape, is a "bad
     /// symbol".
@@ -153,14 +154,14 @@ pub trait Scanner {
         requires { can_scan self.old }
         ensures ready { can_scan self.new }
         ensures scans { ScansToken next_token Self.Error.cause
-            (Builds Self.Error.cause (GivesStep Self.Error.cause Self.OctetsBuilder.sure Self.OctetsBuilder.most text_given) (λ s. s)) self.old result self.new };
+            (Builds Self.Error.cause (GivesStep Self.Error.cause Self.OctetsBuilder.room text_given) (λ s. s)) self.old result self.new };
 
     /// Takes all tokens as character strings, and gives their wire forms one after the other (RFC
     /// 1035 section 3.3).
     fn scan_charstr_entry(&mut self) -> Result<Self::Octets, Self::Error>
         requires { can_scan self.old }
         ensures ready { can_scan self.new }
-        ensures scans { BuildsEntry next_token (StringStep Self.Error.cause Self.OctetsBuilder.sure Self.OctetsBuilder.most) Self.Octets.octets self.old result self.new };
+        ensures scans { BuildsEntry next_token (StringStep Self.Error.cause Self.OctetsBuilder.room) Self.Octets.octets self.old result self.new };
 
     /// Takes a token that is exactly `\#` and answers true, or takes none and answers false.
     fn scan_opt_unknown_marker(&mut self) -> Result<bool, Self::Error>

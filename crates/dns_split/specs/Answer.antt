@@ -1,7 +1,7 @@
 -- What `split` answers.
 use Rattle.std.specs.Prelude.{⊤, ℕ, List, ◌++◌, map, codes, Result, Ok, Err, Vec, String, string_bytes}
-use Rattle.dns_split.specs.declared.splitting.SplitError.{SplitError}
-use Rattle.dns_split.specs.declared.splitting.SplitError.TheVariants.{BadText, ShortBuf}
+use Rattle.dns_split.specs.declared.error.SplitError.{SplitError}
+use Rattle.dns_split.specs.declared.error.SplitError.TheVariants.{BadText, ShortBuf}
 use Rattle.std.specs.Fmt.{decimal}
 use Rattle.dns_split.specs.Splitting.{Entries, Splits}
 use Rattle.dns_split.specs.Viable.{IsBad}

@@ -26,6 +26,7 @@
 
 #[cfg(test)]
 mod cursor_tests;
+pub mod error;
 pub mod laws;
 pub mod opening;
 #[cfg(test)]

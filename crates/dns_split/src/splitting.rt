@@ -5,49 +5,10 @@ ghost use Rattle.dns_split.specs.Answer.{Answers, texts, entries_of};
 ghost use Rattle.dns_split.specs.Splitting.{SplitsOnlyInto};
 ghost use Rattle.dns_split.specs.Token.{IsToken};
 
+pub use crate::error::SplitError;
 use crate::pieces::{Piece, Pieces};
 use std::alloc::{AllocError, Allocator};
-use std::error::Error;
-use std::{fmt, mem};
-
-/// Why a text was not split.
-#[derive(Clone, Copy, Debug, PartialEq, Eq)]
-pub enum SplitError {
-    /// The text is not of the grammar.
-    ///
-    /// The number is the octets of its longest beginning that can still be completed: by the last
-    /// digits of an escape, a double quote, a line feed and closing parentheses, in this order
-    /// and each perhaps absent.
-    BadText(usize),
-
-    /// There was not enough memory.
-    ShortBuf,
-}
-
-impl fmt::Display for SplitError {
-    ghost use Rattle.dns_split.specs.Answer.{error_text};
-
-    ghost output = { λ e. Some (error_text e) };
-
-    fn fmt<W: fmt::Write>(&self, f: &mut fmt::Formatter<W>) -> fmt::Result {
-        match self {
-            SplitError::BadText(octets) => write!(f, "bad text at {octets}"),
-            SplitError::ShortBuf => write!(f, "buffer size exceeded"),
-        }
-    }
-}
-
-impl Error for SplitError {}
-
-impl From<AllocError> for SplitError {
-    ghost use Rattle.dns_split.specs.declared.splitting.SplitError.TheVariants.{ShortBuf};
-
-    ghost from_gives = { λ _ e. e ≡ ShortBuf };
-
-    fn from(_error: AllocError) -> SplitError {
-        SplitError::ShortBuf
-    }
-}
+use std::mem;
 
 /// Whole entries, and the tokens of another.
 #[derive(Drop)]

@@ -2,7 +2,7 @@
 use Rattle.std.proofs.Common.{◌≡◌, sym, Result, Ok, Err, subst}
 use Rattle.std.specs.Prelude.{IsErrAnd}
 use Rattle.dns_symbol.specs.Symbols.{Answers, answer_of}
-use Rattle.dns_symbol.specs.declared.symbol.SymbolCharsError.{SymbolCharsError}
+use Rattle.dns_symbol.specs.declared.error.SymbolCharsError.{SymbolCharsError}
 
 module _ {S T E : Type 0} (from : SymbolCharsError → E → Type 0) where
   -- the closure's error

@@ -7,8 +7,8 @@ use Rattle.dns_symbol.specs.Symbol.{spell, bytes, is_readable}
 use Rattle.dns_symbol.specs.Reading.{ReadsSymbol, AlwaysBegins}
 use Rattle.dns_symbol.specs.declared.symbol.Symbol.{Symbol}
 use Rattle.dns_symbol.specs.declared.symbol.Symbol.TheVariants.{Char, SimpleEscape, DecimalEscape}
-use Rattle.dns_symbol.specs.declared.symbol.SymbolCharsError.{SymbolCharsError}
-use Rattle.dns_symbol.specs.declared.symbol.SymbolCharsError.TheVariants.{BadEscape, ShortInput}
+use Rattle.dns_symbol.specs.declared.error.SymbolCharsError.{SymbolCharsError}
+use Rattle.dns_symbol.specs.declared.error.SymbolCharsError.TheVariants.{BadEscape, ShortInput}
 use Rattle.dns_symbol.proofs.Unique.{bytes_same}
 use Rattle.dns_symbol.proofs.Endings.{cut_ends, cut_ascii}
 

@@ -11,7 +11,7 @@ use Rattle.dns_symbol.specs.Symbol.{spell, is_digit}
 use Rattle.dns_symbol.specs.Index.{BeginsNone, is_cut_escape}
 use Rattle.dns_symbol.specs.Text.{EndsAs}
 use Rattle.dns_symbol.specs.Reading.{IsRefusedAt}
-use Rattle.dns_symbol.specs.declared.symbol.SymbolCharsError.TheVariants.{BadEscape, ShortInput}
+use Rattle.dns_symbol.specs.declared.error.SymbolCharsError.TheVariants.{BadEscape, ShortInput}
 use Rattle.dns_symbol.proofs.Escapes.{escape_short}
 
 -- a text of characters that begins with the bytes of some of them begins with these

@@ -8,9 +8,9 @@ use Rattle.dns_symbol.specs.Symbol.{spell, bytes, is_readable}
 use Rattle.dns_symbol.specs.Index.{BeginsWith, ReadsAt}
 use Rattle.dns_symbol.specs.Reading.{ReadsSymbol}
 use Rattle.dns_symbol.specs.declared.symbol.Symbol.{Symbol}
-use Rattle.dns_symbol.specs.declared.symbol.SymbolCharsError.{SymbolCharsError}
-use Rattle.dns_symbol.specs.declared.symbol.SymbolCharsError.TheVariants.{BadEscape, ShortInput}
-use Rattle.dns_symbol.specs.declared.symbol.SymbolOctetsError.{SymbolOctetsError}
+use Rattle.dns_symbol.specs.declared.error.SymbolCharsError.{SymbolCharsError}
+use Rattle.dns_symbol.specs.declared.error.SymbolCharsError.TheVariants.{BadEscape, ShortInput}
+use Rattle.dns_symbol.specs.declared.error.SymbolOctetsError.{SymbolOctetsError}
 use Rattle.dns_symbol.proofs.Unique.{same_one, bytes_same, bytes_some}
 use Rattle.dns_symbol.proofs.Endings.{cut_ends, cut_ascii}
 use Rattle.dns_symbol.proofs.Agree.{Chars-Yields, Chars-end, Chars-all, drop_front}

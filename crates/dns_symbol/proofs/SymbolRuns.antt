@@ -11,8 +11,8 @@ use Rattle.dns_symbol.specs.Symbol.{spell, bytes, is_readable}
 use Rattle.dns_symbol.specs.Text.{SymbolsOf, EndsAs}
 use Rattle.dns_symbol.specs.Symbols.{GivesSymbol, HasSymbols, answer_of, error_of}
 use Rattle.dns_symbol.specs.declared.symbol.Symbol.{Symbol}
-use Rattle.dns_symbol.specs.declared.symbol.SymbolCharsError.{SymbolCharsError}
-use Rattle.dns_symbol.specs.declared.symbol.SymbolCharsError.TheVariants.{BadEscape, ShortInput}
+use Rattle.dns_symbol.specs.declared.error.SymbolCharsError.{SymbolCharsError}
+use Rattle.dns_symbol.specs.declared.error.SymbolCharsError.TheVariants.{BadEscape, ShortInput}
 use Rattle.dns_symbol.proofs.Endings.{cut_ends, cut_ascii, refused_ends}
 use Rattle.dns_symbol.proofs.Agree.{Chars-Yields, Chars-all}
 use Rattle.dns_symbol.proofs.Texts.{rest_utf8}

@@ -6,9 +6,9 @@ use Rattle.dns_symbol.specs.Printed.{text_of, is_unquoted_escape, is_quoted_esca
 use Rattle.dns_symbol.specs.Index.{BeginsWith, octets_error}
 use Rattle.dns_symbol.specs.Text.{SymbolsOf, chars_error}
 use Rattle.dns_symbol.specs.declared.symbol.Symbol.TheVariants.{Char, SimpleEscape, DecimalEscape}
-use Rattle.dns_symbol.specs.declared.symbol.SymbolCharsError.TheVariants.{BadEscape as Bad, ShortInput as Short}
-use Rattle.dns_symbol.specs.declared.symbol.SymbolOctetsError.TheVariants.{BadUtf8, BadEscape, ShortInput}
-use Rattle.dns_symbol.specs.declared.symbol.BadSymbol.TheVariants.{NonAscii, NonUtf8, NonDigit, Escape}
+use Rattle.dns_symbol.specs.declared.error.SymbolCharsError.TheVariants.{BadEscape as Bad, ShortInput as Short}
+use Rattle.dns_symbol.specs.declared.error.SymbolOctetsError.TheVariants.{BadUtf8, BadEscape, ShortInput}
+use Rattle.dns_symbol.specs.declared.error.BadSymbol.TheVariants.{NonAscii, NonUtf8, NonDigit, Escape}
 
 -- ---- spellings
 

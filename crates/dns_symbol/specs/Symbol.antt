@@ -5,12 +5,12 @@ use lib.Utf8.{scalar}
 use Rattle.dns_symbol.specs.Characters.{tab, line_feed, carriage_return, space, double_quote, open_parenthesis, close_parenthesis, semicolon, backslash, tilde}
 use Rattle.dns_symbol.specs.declared.symbol.Symbol.{Symbol}
 use Rattle.dns_symbol.specs.declared.symbol.Symbol.TheVariants.{Char, SimpleEscape, DecimalEscape}
-use Rattle.dns_symbol.specs.declared.symbol.SymbolCharsError.{SymbolCharsError}
-use Rattle.dns_symbol.specs.declared.symbol.SymbolCharsError.TheVariants.{BadEscape, ShortInput}
-use Rattle.dns_symbol.specs.declared.symbol.SymbolOctetsError.{SymbolOctetsError}
-use Rattle.dns_symbol.specs.declared.symbol.SymbolOctetsError.TheVariants.{BadUtf8, BadEscape as Bad, ShortInput as Short}
-use Rattle.dns_symbol.specs.declared.symbol.BadSymbol.{BadSymbol}
-use Rattle.dns_symbol.specs.declared.symbol.BadSymbol.TheVariants.{NonAscii, NonUtf8, NonDigit, Escape}
+use Rattle.dns_symbol.specs.declared.error.SymbolCharsError.{SymbolCharsError}
+use Rattle.dns_symbol.specs.declared.error.SymbolCharsError.TheVariants.{BadEscape, ShortInput}
+use Rattle.dns_symbol.specs.declared.error.SymbolOctetsError.{SymbolOctetsError}
+use Rattle.dns_symbol.specs.declared.error.SymbolOctetsError.TheVariants.{BadUtf8, BadEscape as Bad, ShortInput as Short}
+use Rattle.dns_symbol.specs.declared.error.BadSymbol.{BadSymbol}
+use Rattle.dns_symbol.specs.declared.error.BadSymbol.TheVariants.{NonAscii, NonUtf8, NonDigit, Escape}
 
 -- a digit from 0 to 9
 abbrev pub is_digit : ℕ → Bool

@@ -6,8 +6,8 @@ use denote.Ref.{MutBor}
 use Rattle.dns_symbol.specs.Reading.{ReadsSymbol}
 use Rattle.dns_symbol.specs.Text.{SymbolsOf}
 use Rattle.dns_symbol.specs.declared.symbol.Symbol.{Symbol}
-use Rattle.dns_symbol.specs.declared.symbol.SymbolCharsError.{SymbolCharsError}
-use Rattle.dns_symbol.specs.declared.symbol.SymbolCharsError.TheVariants.{BadEscape, ShortInput}
+use Rattle.dns_symbol.specs.declared.error.SymbolCharsError.{SymbolCharsError}
+use Rattle.dns_symbol.specs.declared.error.SymbolCharsError.TheVariants.{BadEscape, ShortInput}
 
 -- the source may be asked; after an error there is none to ask
 abbrev pub CanGive : {S : Type 0} → (S → Type 0) → Result S SymbolCharsError → Type 0

@@ -1,7 +1,7 @@
 //! The symbols of an iterator over characters.
 ghost use Rattle.std.specs.Prelude.{◌≡◌, Result, IfOk, IsOk};
 ghost use Rattle.std.specs.Fn.{FnOnceTakesAtMut};
-ghost use Rattle.dns_symbol.specs.declared.symbol.SymbolCharsError.{SymbolCharsError};
+ghost use Rattle.dns_symbol.specs.declared.error.SymbolCharsError.{SymbolCharsError};
 ghost use Rattle.dns_symbol.specs.Symbols.{CanGive, GivesSymbol, count_of, answer_of, AnswersWith, IsCloneOf};
 
 use crate::symbol::{Symbol, SymbolCharsError};

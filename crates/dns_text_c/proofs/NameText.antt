@@ -3,11 +3,12 @@ use Rattle.std.proofs.Common.{◌≡◌, ℕ, ◌<◌, ◌≤◌, true, false, L
 use Rattle.std.specs.Prelude.{encode_utf8_all, IsOk}
 use Rattle.std.proofs.lemmas.List.{length-drop}
 use Rattle.std.specs.List.{flat_map}
+use Rattle.dns_octets.specs.Room.{exactly}
 use Rattle.dns_symbol.specs.Symbol.{bytes}
 use Rattle.dns_symbol.specs.Index.{ReadsAt}
 use Rattle.dns_symbol.specs.declared.symbol.Symbol.{Symbol}
-use Rattle.dns_symbol.specs.declared.symbol.SymbolOctetsError.{SymbolOctetsError}
-use Rattle.dns_symbol.specs.declared.symbol.SymbolOctetsError.TheVariants.{BadUtf8 as NoUtf8, BadEscape as NoEscape, ShortInput as Short}
+use Rattle.dns_symbol.specs.declared.error.SymbolOctetsError.{SymbolOctetsError}
+use Rattle.dns_symbol.specs.declared.error.SymbolOctetsError.TheVariants.{BadUtf8 as NoUtf8, BadEscape as NoEscape, ShortInput as Short}
 use Rattle.dns_wire.specs.Building.{Naming, all_labels, closed, no_labels, with_octet, AnswersRoot}
 use Rattle.dns_wire.specs.Wire.{wire_length}
 use Rattle.dns_wire.specs.declared.error.PushError.{PushError}
@@ -121,7 +122,7 @@ name_refused text b place fault h within r =
     subst (λ f. ReadsNameText text (Err f)) (sym r.2) (b.labels, b.current, h, within, no_symbol text b place r.0 r.1)
 
 -- there is room for the root
-pub root_fits : (labels : List (List ℕ)) (r : Result (List (List ℕ)) PushError) → wire_length labels ≤ 254 → AnswersRoot labels 255 255 r → IsOk r
+pub root_fits : (labels : List (List ℕ)) (r : Result (List (List ℕ)) PushError) → wire_length labels ≤ 254 → AnswersRoot labels (exactly 255) r → IsOk r
 root_fits labels (Ok name) h a = refl
 root_fits labels (Err LongName) h a = absurd a
 root_fits labels (Err NoLabel) h a = absurd a

@@ -6,7 +6,7 @@ use Rattle.std.proofs.lemmas.List.Folds.{list_all-append}
 use Rattle.dns_symbol.specs.Symbol.{bytes, is_readable}
 use Rattle.dns_symbol.specs.Index.{ReadsAt}
 use Rattle.dns_symbol.specs.declared.symbol.Symbol.{Symbol}
-use Rattle.dns_symbol.specs.declared.symbol.SymbolOctetsError.{SymbolOctetsError}
+use Rattle.dns_symbol.specs.declared.error.SymbolOctetsError.{SymbolOctetsError}
 use Rattle.dns_scan.specs.Numbers.{IsNumber}
 use Rattle.dns_scan.specs.Reads.{NumberReads}
 use Rattle.dns_scan.proofs.Numbers.{number_none, number_more}

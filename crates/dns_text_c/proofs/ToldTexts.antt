@@ -2,7 +2,7 @@
 use Rattle.std.proofs.Common.{◌≡◌, ◌≤◌, ◌<◌, ℕ, zero, suc, List, [], ◌∷◌, ◌++◌, length, take, drop, refl, sym, ap, subst, ◌∙◌, arith, Option, Some, None, Result, Ok, Err, inl, inr}
 use Rattle.std.specs.Prelude.{IfOk, IfErr, IfSome, IfNone}
 use Rattle.std.proofs.lemmas.Grind.{common_steps}
-use Rattle.dns_octets.specs.declared.builder.ShortBuf.{ShortBuf}
+use Rattle.dns_octets.specs.declared.error.ShortBuf.{ShortBuf}
 use Rattle.dns_codec.specs.Base.{Base, IsEncoding}
 use Rattle.dns_codec.specs.Grammar.{Decodes}
 use Rattle.dns_codec.specs.Outcome.{octet_count}

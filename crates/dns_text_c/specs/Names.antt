@@ -5,8 +5,8 @@ use Rattle.arrayvec.specs.ArrayVec.{ArrayVec}
 use Rattle.dns_symbol.specs.Symbol.{octet_of}
 use Rattle.dns_symbol.specs.Index.{ReadsAt}
 use Rattle.dns_symbol.specs.declared.symbol.Symbol.{Symbol}
-use Rattle.dns_symbol.specs.declared.symbol.BadSymbol.{BadSymbol as WhyNone}
-use Rattle.dns_symbol.specs.declared.symbol.SymbolOctetsError.{SymbolOctetsError}
+use Rattle.dns_symbol.specs.declared.error.BadSymbol.{BadSymbol as WhyNone}
+use Rattle.dns_symbol.specs.declared.error.SymbolOctetsError.{SymbolOctetsError}
 use Rattle.dns_wire.specs.Building.{Naming, all_labels, closed, with_octet}
 use Rattle.dns_wire.specs.Form.{name_text}
 use Rattle.dns_wire.specs.Wire.{wire, wire_length}

@@ -4,7 +4,7 @@ use Rattle.std.specs.List.{flat_map, list_all}
 use Rattle.dns_symbol.specs.Symbol.{bytes, is_readable}
 use Rattle.dns_symbol.specs.Index.{ReadsAt}
 use Rattle.dns_symbol.specs.declared.symbol.Symbol.{Symbol}
-use Rattle.dns_symbol.specs.declared.symbol.SymbolOctetsError.{SymbolOctetsError}
+use Rattle.dns_symbol.specs.declared.error.SymbolOctetsError.{SymbolOctetsError}
 use Rattle.dns_scan.specs.Numbers.{digit_of, IsNumber}
 use Rattle.dns_scan.specs.Reads.{NumberReads}
 use Rattle.dns_text_c.specs.Strings.{refusal_of}

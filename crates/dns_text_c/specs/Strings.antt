@@ -6,9 +6,9 @@ use Rattle.dns_symbol.specs.Symbol.{bytes, is_readable, octet_of}
 use Rattle.dns_symbol.specs.Index.{ReadsAt}
 use Rattle.dns_symbol.specs.Printed.{is_plain_escape, is_quoted_escape, is_unquoted_escape, text_of}
 use Rattle.dns_symbol.specs.declared.symbol.Symbol.{Symbol}
-use Rattle.dns_symbol.specs.declared.symbol.BadSymbol.{BadSymbol as WhyNone}
-use Rattle.dns_symbol.specs.declared.symbol.SymbolOctetsError.{SymbolOctetsError}
-use Rattle.dns_symbol.specs.declared.symbol.SymbolOctetsError.TheVariants.{BadUtf8 as NoUtf8, BadEscape as NoEscape, ShortInput as CutShort}
+use Rattle.dns_symbol.specs.declared.error.BadSymbol.{BadSymbol as WhyNone}
+use Rattle.dns_symbol.specs.declared.error.SymbolOctetsError.{SymbolOctetsError}
+use Rattle.dns_symbol.specs.declared.error.SymbolOctetsError.TheVariants.{BadUtf8 as NoUtf8, BadEscape as NoEscape, ShortInput as CutShort}
 use Rattle.dns_charstr.specs.Printed.{quoted_text}
 use Rattle.dns_charstr.specs.Reading.{HasOctets}
 use Rattle.dns_text_c.specs.Told.{IsGiven, IsRefused}

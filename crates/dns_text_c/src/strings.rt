@@ -2,7 +2,7 @@
 ghost use Rattle.std.specs.Prelude.{◌≡◌, ℕ, ◌*◌, ◌+◌, ◌≤◌, ◌<◌, ◌++◌, List, Result, Ok, Err, length, IfOk, IfErr, IfSome};
 ghost use Rattle.dns_symbol.specs.Symbol.{spell};
 ghost use Rattle.dns_symbol.specs.Index.{ReadsAt};
-ghost use Rattle.dns_symbol.specs.declared.symbol.SymbolOctetsError.{SymbolOctetsError};
+ghost use Rattle.dns_symbol.specs.declared.error.SymbolOctetsError.{SymbolOctetsError};
 ghost use Rattle.dns_symbol.specs.Printed.{is_plain_escape, is_unquoted_escape, symbol_of, text_of};
 ghost use Rattle.dns_charstr.specs.Printed.{quoted_text};
 ghost use Rattle.dns_text_c.specs.Told.{IsTold};

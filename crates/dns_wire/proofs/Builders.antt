@@ -3,6 +3,7 @@ use Rattle.std.proofs.Common.{◌≡◌, ℕ, ◌+◌, ◌≤◌, ◌<◌, List,
 use Rattle.std.proofs.lemmas.Grind.{common_steps}
 use Rattle.std.specs.Prelude.{All, slice_set}
 use Rattle.std.proofs.Math.Seq.{set-append_seam}
+use Rattle.dns_octets.specs.Room.{Room}
 use Rattle.dns_wire.specs.Wire.{wire, wire_label, wire_length, IsPlain, IsName, HasNoRoot, EndsInRoot}
 use Rattle.dns_wire.proofs.Wires.{IsName-plain, IsName-absolute, wire_append, length_wire, wire_length_append}
 use Rattle.std.proofs.lemmas.List.{get_or_append_left}
@@ -85,11 +86,11 @@ built_more labels current octet h fits short =
     let n = length_more current octet in
     (rw closed_more (All-push IsPlain labels (current ++ octet ∷ []) plain (omega arith, omega arith)), fits)
 
-pub growth_of : (b : Naming) (octets : List ℕ) (count octet sure most : ℕ) (r : Result (Unit {0}) PushError)
+pub growth_of : (b : Naming) (octets : List ℕ) (count octet : ℕ) (room : Room) (r : Result (Unit {0}) PushError)
     → octets ≡ wire (all_labels b) → length b.current ≡ count
-    → AnswersGrowth (length octets + needed count) (count + 1) sure most r
-    → AnswersGrowth (wire_length (all_labels (with_octet b octet))) (length b.current + 1) sure most r
-growth_of b octets count octet sure most r is n h = rw (more_length octets b.labels b.current octet is, n) h
+    → AnswersGrowth (length octets + needed count) (count + 1) room r
+    → AnswersGrowth (wire_length (all_labels (with_octet b octet))) (length b.current + 1) room r
+growth_of b octets count octet room r is n h = rw (more_length octets b.labels b.current octet is, n) h
 
 -- a whole label after the others
 pub whole_length : (octets : List ℕ) (labels : List (List ℕ)) (label : List ℕ) → octets ≡ wire labels
@@ -97,10 +98,10 @@ pub whole_length : (octets : List ℕ) (labels : List (List ℕ)) (label : List 
 whole_length octets labels label is =
     omega (arith, ap length is, length_wire labels, wire_length_append labels (label ∷ []))
 
-pub whole_of : (b : Naming) (octets label : List ℕ) (sure most : ℕ) (r : Result (Unit {0}) PushError) → octets ≡ wire (all_labels b)
-    → AnswersGrowth (length octets + (length label + 1)) (length label) sure most r
-    → AnswersGrowth (wire_length (all_labels (with_label b label))) (length label) sure most r
-whole_of b octets label sure most r is h =
+pub whole_of : (b : Naming) (octets label : List ℕ) (room : Room) (r : Result (Unit {0}) PushError) → octets ≡ wire (all_labels b)
+    → AnswersGrowth (length octets + (length label + 1)) (length label) room r
+    → AnswersGrowth (wire_length (all_labels (with_label b label))) (length label) room r
+whole_of b octets label room r is h =
     rw (append-nil (all_labels b ++ label ∷ []), whole_length octets (all_labels b) label is) h
 
 pub wire_whole : (octets : List ℕ) (labels : List (List ℕ)) (label : List ℕ) → octets ≡ wire labels

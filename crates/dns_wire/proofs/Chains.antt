@@ -30,7 +30,7 @@ pub composed_err : {T E : Type 0} (r : Result T E) (a b : List (List ℕ)) (old 
 composed_err r a b old new w = on_err r _ (w.0, w.1 ++ wire b, left_of_both a b w.0 w.1 w.2, w.3)
 
 -- where both fit, the second fits after the first
-pub second_fits : (a b : List (List ℕ)) (old now : List ℕ) (sure : ℕ) → now ≡ old ++ wire a → wire_length (a ++ b) ≤ sure - length old
-    → wire_length b ≤ sure - length now
-second_fits a b old now sure e h =
+pub second_fits : (a b : List (List ℕ)) (old now : List ℕ) (fits : ℕ) → now ≡ old ++ wire a → wire_length (a ++ b) ≤ fits - length old
+    → wire_length b ≤ fits - length now
+second_fits a b old now fits e h =
     omega (arith, wire_length_append a b, ap length e, length-append old (wire a), length_wire a)

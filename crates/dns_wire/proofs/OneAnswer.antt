@@ -100,12 +100,12 @@ relative_one labels (suc n ∷ more) (Err CompressedName) a =
     refusal_pointer (Err ShortInput) (Err CompressedName) (λ e. Err (BadLabel e)) (suc n) more a.0 a.1
 
 -- where the octets are few enough, their one way decides
-pub by_rest : {E : Type 0} (octets : List ℕ) (most : ℕ) (long : E) (answers : List (List ℕ) → List ℕ → E → Type 0) (answer : List (List ℕ) → List ℕ → E)
+pub by_rest : {E : Type 0} (octets : List ℕ) (limit : ℕ) (long : E) (answers : List (List ℕ) → List ℕ → E → Type 0) (answer : List (List ℕ) → List ℕ → E)
     → ((labels : List (List ℕ)) (rest : List ℕ) (r : E) → Splits octets labels rest → answers labels rest r → r ≡ answer labels rest)
-    → let Makes : E → Type 0 = (λ r. ((most < length octets) × (r ≡ long))
-    ⊎ ((length octets ≤ most) × ((labels : List (List ℕ)) × (rest : List ℕ) × Splits octets labels rest × answers labels rest r))) in
+    → let Makes : E → Type 0 = (λ r. ((limit < length octets) × (r ≡ long))
+    ⊎ ((length octets ≤ limit) × ((labels : List (List ℕ)) × (rest : List ℕ) × Splits octets labels rest × answers labels rest r))) in
     (r s : E) → Makes r → Makes s → r ≡ s
-by_rest octets most long answers answer one r s p q =
+by_rest octets limit long answers answer one r s p q =
     ⊎_elim
     (λ a. ⊎_elim (λ b. a.1 ∙ sym b.1) (λ b. absurd (omega (arith, a.0, b.0))) q)
     (λ a. ⊎_elim (λ b. absurd (omega (arith, a.0, b.0)))

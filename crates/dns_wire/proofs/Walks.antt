@@ -7,7 +7,7 @@ use Rattle.std.proofs.lemmas.List.Elements.{All-tail, All-head}
 use Rattle.std.proofs.lemmas.Grind.{common_steps}
 use Rattle.std.proofs.lemmas.Str.{IsAscii-append, IsAscii-take, encodes-IsAscii}
 use Rattle.std.proofs.lemmas.List.{length-take-le, take-take}
-use Rattle.dns_octets.specs.declared.builder.ShortBuf.{ShortBuf}
+use Rattle.dns_octets.specs.declared.error.ShortBuf.{ShortBuf}
 use Rattle.std.proofs.lemmas.Str.Ascii.{IsAscii-from_all, IsAscii-nil}
 use Rattle.std.proofs.Math.Seq.{take-append_seam}
 use Rattle.dns_symbol.specs.Symbol.{spell}

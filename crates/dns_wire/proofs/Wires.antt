@@ -102,8 +102,8 @@ pub is_root : IsName ([] ∷ []) × EndsInRoot ([] ∷ [])
 is_root = (IsName-absolute [] (λ k d h. absurd (omega arith)) (omega arith), ([], refl))
 
 -- where so many octets aren't taken for certain
-pub short_of : (sure len more : ℕ) → (more ≤ sure - len → IsTrue false) → sure < len + more
-short_of sure len more h = let g : more ≤ sure - len → ⊥ = (λ p. let e = h p in cc) in omega arith
+pub short_of : (fits len more : ℕ) → (more ≤ fits - len → IsTrue false) → fits < len + more
+short_of fits len more h = let g : more ≤ fits - len → ⊥ = (λ p. let e = h p in cc) in omega arith
 
 abbrev pub Bytes : List ℕ → Type 0
 Bytes label = All (λ b. b < 256) label

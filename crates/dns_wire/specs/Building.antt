@@ -1,5 +1,6 @@
 -- A name that is being built.
 use Rattle.std.specs.Prelude.{◌≡◌, ℕ, zero, suc, slice_set, ◌-◌, ◌+◌, ◌<◌, ◌≤◌, List, [], ◌∷◌, ◌++◌, length, Result, Ok, Err}
+use Rattle.dns_octets.specs.Room.{Room}
 use Rattle.dns_wire.specs.Wire.{wire_length}
 use Rattle.dns_wire.specs.declared.error.PushError.{PushError}
 use Rattle.dns_wire.specs.declared.error.PushError.TheVariants.{LongLabel, LongName, ShortBuf}
@@ -35,20 +36,20 @@ with_octet b octet = record { labels = b.labels; current = b.current ++ octet �
 abbrev pub with_label : Naming → List ℕ → Naming
 with_label b label = record { labels = all_labels b ++ label ∷ []; current = [] }
 
--- what adding to a name without its root answers, where it would then have `all` octets and the label that grows `label`; `sure` octets
--- surely fit, and `most` ever do
-abbrev pub AnswersGrowth : ℕ → ℕ → ℕ → ℕ → Result (Unit {0}) PushError → Type 0
-AnswersGrowth all label sure most (Ok _) = (all ≤ max_relative) × (label ≤ max_label) × (all ≤ most)
-AnswersGrowth all label sure most (Err LongName) = max_relative < all
-AnswersGrowth all label sure most (Err LongLabel) = (all ≤ max_relative) × (max_label < label)
-AnswersGrowth all label sure most (Err ShortBuf) = (all ≤ max_relative) × (label ≤ max_label) × (sure < all)
+-- what adding to a name without its root answers, where it would then have `all` octets and the label that grows `label`,
+-- in a builder with that room
+abbrev pub AnswersGrowth : ℕ → ℕ → Room → Result (Unit {0}) PushError → Type 0
+AnswersGrowth all label room (Ok _) = (all ≤ max_relative) × (label ≤ max_label) × (all ≤ room.capacity)
+AnswersGrowth all label room (Err LongName) = max_relative < all
+AnswersGrowth all label room (Err LongLabel) = (all ≤ max_relative) × (max_label < label)
+AnswersGrowth all label room (Err ShortBuf) = (all ≤ max_relative) × (label ≤ max_label) × (room.fits < all)
 
 -- what adding the root after labels answers
-abbrev pub AnswersRoot : List (List ℕ) → ℕ → ℕ → Result (List (List ℕ)) PushError → Type 0
-AnswersRoot labels sure most (Ok name) = (name ≡ labels ++ [] ∷ []) × (wire_length labels + 1 ≤ most)
-AnswersRoot labels sure most (Err LongName) = ⊥
-AnswersRoot labels sure most (Err LongLabel) = ⊥
-AnswersRoot labels sure most (Err ShortBuf) = sure < wire_length labels + 1
+abbrev pub AnswersRoot : List (List ℕ) → Room → Result (List (List ℕ)) PushError → Type 0
+AnswersRoot labels room (Ok name) = (name ≡ labels ++ [] ∷ []) × (wire_length labels + 1 ≤ room.capacity)
+AnswersRoot labels room (Err LongName) = ⊥
+AnswersRoot labels room (Err LongLabel) = ⊥
+AnswersRoot labels room (Err ShortBuf) = room.fits < wire_length labels + 1
 
 -- how many octets one more takes: a new label's length octet stands before it
 abbrev pub needed : ℕ → ℕ

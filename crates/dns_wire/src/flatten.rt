@@ -1,5 +1,6 @@
 //! Copying labels into a name over other octets.
 ghost use Rattle.std.specs.Prelude.{◌≡◌, ℕ, ◌≤◌, IsOk, IfOk};
+ghost use Rattle.dns_octets.specs.Room.{Room};
 ghost use Rattle.dns_wire.specs.Wire.{wire_length};
 
 use crate::name::Name;
@@ -11,17 +12,14 @@ pub trait FlattenInto<T: ToLabelIter>: ToLabelIter + Sized {
     /// What is allocated from, or `()` where nothing is.
     type Alloc;
 
-    // How many octets surely fit into the new name.
-    ghost takes: { ℕ };
-
-    // How many octets the new name ever has.
-    ghost takes_at_most: { ℕ };
+    // How many octets surely fit into the new name, and how many it has at most.
+    ghost room: { Room };
 
     /// A name with the same labels, or lack of room for its octets.
     fn try_flatten_into(self, alloc: Self::Alloc) -> Result<T, ShortBuf>
         ensures value { IfOk result (λ t. T.labels t ≡ Self.labels self) }
-        ensures succeeds { wire_length (Self.labels self) ≤ takes → IsOk result }
-        ensures within { IsOk result → wire_length (Self.labels self) ≤ takes_at_most };
+        ensures succeeds { wire_length (Self.labels self) ≤ room.fits → IsOk result }
+        ensures within { IsOk result → wire_length (Self.labels self) ≤ room.capacity };
 }
 
 impl<S: AsOctets + Drop, T: FromBuilder> FlattenInto<Name<T>> for Name<S>
@@ -30,9 +28,7 @@ where
 {
     type Alloc = <T::Builder as EmptyBuilder>::Alloc;
 
-    ghost takes = { T.Builder.sure };
-
-    ghost takes_at_most = { T.Builder.most };
+    ghost room = { T.Builder.room };
 
     fn try_flatten_into(self, alloc: Self::Alloc) -> Result<Name<T>, ShortBuf> {
         Name::from_labels(alloc, &self)
@@ -45,9 +41,7 @@ where
 {
     type Alloc = <T::Builder as EmptyBuilder>::Alloc;
 
-    ghost takes = { T.Builder.sure };
-
-    ghost takes_at_most = { T.Builder.most };
+    ghost room = { T.Builder.room };
 
     fn try_flatten_into(self, alloc: Self::Alloc) -> Result<Name<T>, ShortBuf> {
         Name::from_labels(alloc, self)

@@ -85,8 +85,8 @@ impl<Octets: AsOctets> Name<Octets> {
         Octets: FromBuilder,
         Octets::Builder: EmptyBuilder + Drop,
         ensures value { IfOk result (λ n. n ≡ [] ∷ []) }
-        ensures succeeds { 1 ≤ Octets.Builder.sure → IsOk result }
-        ensures within { IfOk result (λ n. wire_length n ≤ Octets.Builder.most) }
+        ensures succeeds { 1 ≤ Octets.Builder.room.fits → IsOk result }
+        ensures within { IfOk result (λ n. wire_length n ≤ Octets.Builder.room.capacity) }
     {
         let mut builder = <Octets::Builder as EmptyBuilder>::empty(alloc);
         builder.append_slice(&[0])?;
@@ -104,8 +104,8 @@ impl<Octets: AsOctets> Name<Octets> {
         Octets: FromBuilder,
         Octets::Builder: EmptyBuilder + Drop,
         ensures value { IfOk result (λ n. n ≡ N.labels name.now) }
-        ensures succeeds { wire_length (N.labels name.now) ≤ Octets.Builder.sure → IsOk result }
-        ensures within { IfOk result (λ n. wire_length n ≤ Octets.Builder.most) }
+        ensures succeeds { wire_length (N.labels name.now) ≤ Octets.Builder.room.fits → IsOk result }
+        ensures within { IfOk result (λ n. wire_length n ≤ Octets.Builder.room.capacity) }
     {
         let _known = name.compose_len();
         let mut builder = <Octets::Builder as EmptyBuilder>::empty(alloc);

@@ -23,8 +23,8 @@ fn lengthen<B: OctetsBuilder + AsOctetsMut>(
     requires place { count < length (B.octets inner.old) }
     ensures ok { OnOk result (B.octets inner.new ≡ slice_set (B.octets inner.old ++ octet ∷ []) (length (B.octets inner.old) - count - 1) (count + 1)) }
     ensures err { OnErr result (B.octets inner.new ≡ B.octets inner.old) }
-    ensures fits { 1 ≤ B.sure - length (B.octets inner.old) → IsOk result }
-    ensures within { OnOk result (length (B.octets inner.old) + 1 ≤ B.most) }
+    ensures fits { 1 ≤ B.room.fits - length (B.octets inner.old) → IsOk result }
+    ensures within { OnOk result (length (B.octets inner.old) + 1 ≤ B.room.capacity) }
 {
     let len = inner.as_slice().len();
     inner.append_slice(&[octet])?;
@@ -42,7 +42,7 @@ fn grow<B: OctetsBuilder + AsOctetsMut>(
 ) -> Result<(), PushError>
     requires few { count ≤ max_label }
     requires place { 0 < count → count < length (B.octets inner.old) }
-    ensures answers { AnswersGrowth (length (B.octets inner.old) + needed count) (count + 1) B.sure B.most result }
+    ensures answers { AnswersGrowth (length (B.octets inner.old) + needed count) (count + 1) B.room result }
     ensures ok { OnOk result (B.octets inner.new ≡ grown (B.octets inner.old) count octet) }
     ensures err { OnErr result (B.octets inner.new ≡ B.octets inner.old) }
 {
@@ -77,7 +77,7 @@ fn wire_label(label: &[u8]) -> ArrayVec<u8, 64>
 
 // Appends a whole label.
 fn append_whole<B: OctetsBuilder>(inner: &mut B, label: &[u8]) -> Result<(), PushError>
-    ensures answers { AnswersGrowth (length (B.octets inner.old) + (length label.now + 1)) (length label.now) B.sure B.most result }
+    ensures answers { AnswersGrowth (length (B.octets inner.old) + (length label.now + 1)) (length label.now) B.room result }
     ensures ok { OnOk result (B.octets inner.new ≡ B.octets inner.old ++ wire_label label.now) }
     ensures err { OnErr result (B.octets inner.new ≡ B.octets inner.old) }
 {
@@ -154,7 +154,7 @@ impl<B: OctetsBuilder> NameBuilder<B> {
     pub fn push(&mut self, octet: u8) -> Result<(), PushError>
     where
         B: AsOctetsMut,
-        ensures answers { AnswersGrowth (wire_length (all_labels (with_octet self.old octet))) (length self.old.current + 1) B.sure B.most result }
+        ensures answers { AnswersGrowth (wire_length (all_labels (with_octet self.old octet))) (length self.old.current + 1) B.room result }
         ensures ok { OnOk result (self.new ≡ with_octet self.old octet) }
         ensures err { OnErr result (self.new ≡ self.old) }
     {
@@ -178,7 +178,7 @@ impl<B: OctetsBuilder> NameBuilder<B> {
     /// of [`push`](Self::push), in the same order, and change nothing.
     pub fn append_label(&mut self, label: &[u8]) -> Result<(), PushError>
         requires { 0 < length label.now }
-        ensures answers { AnswersGrowth (wire_length (all_labels (with_label self.old label.now))) (length label.now) B.sure B.most result }
+        ensures answers { AnswersGrowth (wire_length (all_labels (with_label self.old label.now))) (length label.now) B.room result }
         ensures ok { OnOk result (self.new ≡ with_label self.old label.now) }
         ensures err { OnErr result (self.new ≡ self.old) }
     {
@@ -207,7 +207,7 @@ impl<B: OctetsBuilder> NameBuilder<B> {
     pub fn into_name(self) -> Result<Name<B::Octets>, PushError>
     where
         B: FreezeBuilder + Drop,
-        ensures { AnswersRoot (all_labels self) B.sure B.most result }
+        ensures { AnswersRoot (all_labels self) B.room result }
     {
         let mut inner = self.inner;
         match inner.append_slice(&[0]) {

@@ -132,7 +132,7 @@ impl<Octets: AsOctets> RelativeName<Octets> {
     where
         Octets: IntoBuilder,
         Octets::Builder: OctetsBuilder + FreezeBuilder<Octets = Octets> + Drop,
-        ensures { AnswersRoot self Octets.Builder.sure Octets.Builder.most result }
+        ensures { AnswersRoot self Octets.Builder.room result }
     {
         let mut builder = self.octets.into_builder();
         match builder.append_slice(&[0]) {

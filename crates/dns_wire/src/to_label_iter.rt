@@ -38,8 +38,8 @@ pub trait ToLabelIter {
         ensures ok { OnOk result (B.octets target.new ≡ B.octets target.old ++ wire (labels self.now)) }
         ensures err { OnErr result ((written : List ℕ) × (left : List ℕ) × (wire (labels self.now) ≡ written ++ left)
             × (B.octets target.new ≡ B.octets target.old ++ written)) }
-        ensures fits { wire_length (labels self.now) ≤ B.sure - length (B.octets target.old) → IsOk result }
-        ensures within { OnOk result (length (B.octets target.new) ≤ B.most) };
+        ensures fits { wire_length (labels self.now) ≤ B.room.fits - length (B.octets target.old) → IsOk result }
+        ensures within { OnOk result (length (B.octets target.new) ≤ B.room.capacity) };
 
     ghost is_name: { (x : Self) → holds x → IsName (labels x) };
 }

@@ -10,7 +10,7 @@ use Rattle.dns_zone.specs.Nesting.{is_nested, from_none_test}
 use Rattle.dns_zone.proofs.Nested.{nested_more, nested_rest, nested_end, nested_newline}
 use Rattle.dns_zone.specs.Writers.{opened}
 use Rattle.dns_zone.specs.declared.document.Item.{Item}
-use Rattle.dns_zone.specs.declared.document.DocumentError.{DocumentError}
+use Rattle.dns_zone.specs.declared.error.DocumentError.{DocumentError}
 
 pub depth_more : (x : Step) (past : List Step) → depth (x ∷ past) ≡ opened x (depth past)
 depth_more (token bs) past = refl

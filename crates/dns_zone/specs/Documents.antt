@@ -9,8 +9,8 @@ use Rattle.dns_split.specs.Lexeme.{is_note_char}
 use Rattle.dns_split.specs.Token.{IsToken}
 use Rattle.dns_zone.specs.declared.document.Item.{Item}
 use Rattle.dns_zone.specs.declared.document.Item.TheVariants.{Token, Begin, End, Comment, Newline}
-use Rattle.dns_zone.specs.declared.document.DocumentError.{DocumentError}
-use Rattle.dns_zone.specs.declared.document.DocumentError.TheVariants.{BadToken, BadComment, EndWithoutBegin, LineInBlock, OpenBlock}
+use Rattle.dns_zone.specs.declared.error.DocumentError.{DocumentError}
+use Rattle.dns_zone.specs.declared.error.DocumentError.TheVariants.{BadToken, BadComment, EndWithoutBegin, LineInBlock, OpenBlock}
 
 -- the step that an item is
 abbrev pub step_of : {A : Type 0} → Item A → Step

@@ -5,7 +5,7 @@ use Rattle.std.proofs.Common.{inl, inr, arith}
 use Rattle.dns_symbol.specs.declared.symbol.Symbol.TheVariants.{Char, SimpleEscape}
 use Rattle.dns_split.specs.Token.{IsToken}
 use Rattle.dns_zone.specs.Documents.{IsFirstFault, IsWellFormed}
-use Rattle.dns_zone.specs.declared.document.DocumentError.TheVariants.{EndWithoutBegin, LineInBlock, OpenBlock}
+use Rattle.dns_zone.specs.declared.error.DocumentError.TheVariants.{EndWithoutBegin, LineInBlock, OpenBlock}
 use Rattle.dns_zone.specs.Layout.{Step, token, begin, end, comment, newline, layout, simple_piece, tabbed_piece, multiline_piece}
 
 abbrev pub ds_steps : List Step

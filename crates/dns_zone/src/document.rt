@@ -1,15 +1,15 @@
 //! Lists of tokens, block marks, comments and line ends, and which of them are documents.
 ghost use Rattle.std.specs.Prelude.{◌≡◌, ℕ, ◌<◌, List, [], ◌∷◌, Some, IsTrue, IfNone, IfSome, IfOk, IfErr, IsOk, OnOk, length, ◌↔◌};
 ghost use Rattle.dns_zone.specs.Layout.{Step, token, begin, end, comment, newline, depth};
-ghost use Rattle.dns_zone.specs.Documents.{step_of, steps_of, IsComment, IsProper, IsFault, IsFirstFault, IsWellFormed, fault_text};
+ghost use Rattle.dns_zone.specs.Documents.{step_of, steps_of, IsComment, IsProper, IsFault, IsFirstFault, IsWellFormed};
 ghost use Rattle.dns_zone.specs.Writers.{Steps, opened};
 
+pub use crate::error::DocumentError;
 use crate::tokens::ZoneTokens;
 use crate::zonefile_fmt::{FormatWriter, Formatter, Result, ZonefileFmt};
 pub use dns_split::splitting::{SplitError, split};
 use dns_split::token::is_token;
 use std::alloc::{Allocator, Global};
-use std::fmt;
 
 /// What a document is made of.
 #[derive(Debug, PartialEq, Eq, Drop)]
@@ -25,37 +25,6 @@ pub enum Item<A: Allocator = Global> {
     /// A line end.
     Newline,
 }
-
-/// Why a list of items is no document: its first fault, by the item's place, which counts from 0.
-#[derive(Clone, Copy, Debug, PartialEq, Eq)]
-pub enum DocumentError {
-    /// A token is neither a word nor a quoted text.
-    BadToken(usize),
-    /// A comment has an LF or a CR.
-    BadComment(usize),
-    /// No block is open at an end.
-    EndWithoutBegin(usize),
-    /// A block is open at a line end.
-    LineInBlock(usize),
-    /// A block is open after the last item, and nothing else is wrong.
-    OpenBlock,
-}
-
-impl fmt::Display for DocumentError {
-    ghost output = { λ e. Some (fault_text e) };
-
-    fn fmt<W: fmt::Write>(&self, f: &mut fmt::Formatter<W>) -> fmt::Result {
-        match self {
-            DocumentError::BadToken(i) => write!(f, "bad token at {i}"),
-            DocumentError::BadComment(i) => write!(f, "bad comment at {i}"),
-            DocumentError::EndWithoutBegin(i) => write!(f, "end without begin at {i}"),
-            DocumentError::LineInBlock(i) => write!(f, "line end in block at {i}"),
-            DocumentError::OpenBlock => write!(f, "open block"),
-        }
-    }
-}
-
-impl std::error::Error for DocumentError {}
 
 /// Whether a text can be a comment: it has no LF and no CR.
 fn is_comment(text: &str) -> bool

@@ -110,6 +110,7 @@
 #![tactic(auto)]
 
 pub mod document;
+pub mod error;
 #[cfg(test)]
 mod example;
 pub mod laws;

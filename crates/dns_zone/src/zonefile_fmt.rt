@@ -10,6 +10,7 @@ mod multiline;
 mod simple;
 mod tabbed;
 
+pub use crate::error::Error;
 pub use multiline::MultiLineWriter;
 pub use simple::SimpleWriter;
 use std::fmt;
@@ -29,18 +30,7 @@ const CLOSE_PARENTHESIS: &str = ")";
 
 const COMMENT_MARK: &str = "\t; ";
 
-/// Nothing more can be printed: the sink refused, or a count of the writer would pass the greatest
-/// `usize`.
-#[derive(Clone, Copy, Debug)]
-pub struct Error;
-
 pub type Result = std::result::Result<(), Error>;
-
-impl From<fmt::Error> for Error {
-    fn from(_: fmt::Error) -> Error {
-        Error
-    }
-}
 
 /// A layout.
 #[derive(Drop)]

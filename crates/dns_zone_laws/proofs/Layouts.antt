@@ -18,8 +18,8 @@ use Rattle.dns_split.proofs.Tokens.{is_token_lexeme, token_one}
 use Rattle.dns_split.specs.Token.{IsToken}
 use Rattle.dns_split.specs.Viable.{IsBad}
 use Rattle.dns_split.specs.Answer.{Answers}
-use Rattle.dns_split.specs.declared.splitting.SplitError.{SplitError}
-use Rattle.dns_split.specs.declared.splitting.SplitError.TheVariants.{BadText, ShortBuf}
+use Rattle.dns_split.specs.declared.error.SplitError.{SplitError}
+use Rattle.dns_split.specs.declared.error.SplitError.TheVariants.{BadText, ShortBuf}
 use Rattle.dns_zone_laws.specs.Refusal.{IsRefusal}
 use Rattle.dns_zone_laws.specs.declared.laws.Refusal.TheVariants.{Split}
 use Rattle.std.specs.Prelude.{Err}

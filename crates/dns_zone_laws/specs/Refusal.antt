@@ -1,7 +1,7 @@
 -- Why a list of items is not printed and split.
 use Rattle.std.specs.Prelude.{⊤, ℕ, List, []}
 use Rattle.dns_split.specs.Answer.{error_text}
-use Rattle.dns_split.specs.declared.splitting.SplitError.TheVariants.{BadText, ShortBuf}
+use Rattle.dns_split.specs.declared.error.SplitError.TheVariants.{BadText, ShortBuf}
 use Rattle.dns_zone.specs.Layout.{Step}
 use Rattle.dns_zone.specs.Documents.{IsFirstFault, fault_text}
 use Rattle.dns_zone_laws.specs.declared.laws.Refusal.{Refusal}

@@ -101,7 +101,7 @@ impl fmt::Display for Refusal {
 impl Error for Refusal {}
 
 impl From<AllocError> for Refusal {
-    ghost use Rattle.dns_split.specs.declared.splitting.SplitError.TheVariants.{ShortBuf};
+    ghost use Rattle.dns_split.specs.declared.error.SplitError.TheVariants.{ShortBuf};
     ghost use Rattle.dns_zone_laws.specs.declared.laws.Refusal.TheVariants.{Split};
 
     ghost from_gives = { λ _ e. e ≡ Split ShortBuf };

@@ -1,6 +1,7 @@
 //! Character strings that are being built.
 ghost use Rattle.std.specs.Prelude.{◌≡◌, ◌≤◌, ◌<◌, ◌↔◌, List, [], ℕ, length, min, All, IsTrue, IfOk, IsOk, refl};
 ghost use Rattle.dns_octets.specs.Octets.{written_over};
+ghost use Rattle.dns_octets.specs.Room.{within};
 ghost use Rattle.dns_charstr.specs.Limits.{max_string};
 
 use crate::charstr::{CharStr, CharStrError};
@@ -135,7 +136,7 @@ impl<B: OctetsBuilder + AsOctetsMut> CharStrBuilder<B> {
 
     /// The octets so far, to be written over. Their count stays.
     pub fn as_slice_mut(&mut self) -> &mut [u8]
-        ensures* writes_back { sem 𝓛 (lends_built B.row B.AsOctets B.sure B.most self.entry result) }
+        ensures* writes_back { sem 𝓛 (lends_built B.row B.AsOctets B.room self.entry result) }
         ensures value { result.now ≡ self.old }
         ensures short { length self.old ≤ max_string }
     {
@@ -153,9 +154,7 @@ impl<B: OctetsBuilder> AsOctets for CharStrBuilder<B> {
 
 /// Appends only while there are at most 255 octets.
 impl<B: OctetsBuilder> OctetsBuilder for CharStrBuilder<B> {
-    ghost sure = { min B.sure max_string };
-
-    ghost most = { min B.most max_string };
+    ghost room = { within max_string B.room };
 
     fn append_slice(&mut self, slice: &[u8]) -> Result<(), ShortBuf> {
         if slice.len() > CharStr::MAX_LEN - self.len() {

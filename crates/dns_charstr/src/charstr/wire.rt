@@ -58,9 +58,9 @@ impl<Octs: AsOctets> CharStr<Octs> {
     /// Refused, the target is as it was, or has the length octet appended.
     pub fn compose<Target: OctetsBuilder>(&self, target: &mut Target) -> Result<(), ShortBuf>
         ensures ok { OnOk result (Target.octets target.new ≡ Target.octets target.old ++ wire_of self.now) }
-        ensures err { OnErr result (IsLeft Target.sure Target.most self.now (Target.octets target.old) (Target.octets target.new)) }
-        ensures fits { length (wire_of self.now) ≤ Target.sure - length (Target.octets target.old) → IsOk result }
-        ensures within { OnOk result (length (Target.octets target.new) ≤ Target.most) }
+        ensures err { OnErr result (IsLeft Target.room self.now (Target.octets target.old) (Target.octets target.new)) }
+        ensures fits { length (wire_of self.now) ≤ Target.room.fits - length (Target.octets target.old) → IsOk result }
+        ensures within { OnOk result (length (Target.octets target.new) ≤ Target.room.capacity) }
     {
         target.append_slice(&[self.len() as u8])?;
         target.append_slice(self.as_slice())

@@ -19,7 +19,7 @@ fn push_symbol<B: OctetsBuilder + AsOctetsMut>(
     builder: &mut NameBuilder<B>,
     symbol: Symbol,
 ) -> Result<(), FromStrError>
-    ensures { TakesSymbol B.sure B.most builder.old symbol result builder.new }
+    ensures { TakesSymbol B.room builder.old symbol result builder.new }
 {
     if symbol == Symbol::SimpleEscape(b'[') && !builder.in_label() {
         return Err(FromStrError::BinaryLabel);
@@ -37,7 +37,7 @@ fn push_symbol<B: OctetsBuilder + AsOctetsMut>(
 fn absolute<B: OctetsBuilder + FreezeBuilder + Drop>(
     builder: NameBuilder<B>,
 ) -> Result<UncertainName<B::Octets>, FromStrError>
-    ensures { MakesAbsolute B.sure B.most builder result }
+    ensures { MakesAbsolute B.room builder result }
 {
     match builder.into_name() {
         Ok(name) => Ok(UncertainName::Absolute(name)),
@@ -49,7 +49,7 @@ fn absolute<B: OctetsBuilder + FreezeBuilder + Drop>(
 fn finish<B: OctetsBuilder + FreezeBuilder + Drop>(
     builder: NameBuilder<B>,
 ) -> Result<UncertainName<B::Octets>, FromStrError>
-    ensures { Finishes B.sure B.most builder result }
+    ensures { Finishes B.room builder result }
 {
     if builder.in_label() || builder.is_empty() {
         return Ok(UncertainName::Relative(builder.finish()));
@@ -87,7 +87,7 @@ impl<Octets: AsOctets> UncertainName<Octets> {
         Octets::Builder: EmptyBuilder + AsOctetsMut + FreezeBuilder<Octets = Octets> + Drop,
         requires can_next { C.can_next chars }
         requires ends { IsFinite (C.remaining chars) }
-        ensures { ReadsChars C.next_gives chars Octets.Builder.sure Octets.Builder.most result }
+        ensures { ReadsChars C.next_gives chars Octets.Builder.room result }
     {
         let mut chars = chars;
         let mut builder = NameBuilder::<Octets::Builder>::new(alloc);
@@ -119,8 +119,8 @@ impl<Octets: AsOctets> UncertainName<Octets> {
     where
         Octets: FromBuilder,
         Octets::Builder: EmptyBuilder + AsOctetsMut + FreezeBuilder<Octets = Octets> + Drop,
-        ensures reads { ReadsName Octets.Builder.sure Octets.Builder.most text.now result }
-        ensures succeeds { (name : UncertainName Octets) → ReadsAs text.now name → wire_length (labels_of name) ≤ Octets.Builder.sure → result ≡ Ok name }
+        ensures reads { ReadsName Octets.Builder.room text.now result }
+        ensures succeeds { (name : UncertainName Octets) → ReadsAs text.now name → wire_length (labels_of name) ≤ Octets.Builder.room.fits → result ≡ Ok name }
     {
         Self::read_text(alloc, text)
     }
@@ -132,7 +132,7 @@ impl<Octets: AsOctets> UncertainName<Octets> {
     where
         Octets: FromBuilder,
         Octets::Builder: EmptyBuilder + AsOctetsMut + FreezeBuilder<Octets = Octets> + Drop,
-        ensures { ReadsName Octets.Builder.sure Octets.Builder.most text.now result }
+        ensures { ReadsName Octets.Builder.room text.now result }
     {
         Self::from_chars(alloc, text.chars())
     }

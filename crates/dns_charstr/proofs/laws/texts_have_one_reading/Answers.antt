@@ -8,9 +8,9 @@ pub returns-clause-octets : goal.returns-clause-octets
 returns-clause-octets c = λ xs ys h k. one_list c.args.text.now xs ys h k
 
 pub returns-clause-answer : goal.returns-clause-answer
-returns-clause-answer c = λ room q r h k.
+returns-clause-answer c = λ size q r h k.
     let whole = symbols_exist (length c.args.text.now) c.args.text.now (omega arith) c.utf8.text in
-    one_answer room c.args.text.now whole.0 whole.1 whole.2 q r h k
+    one_answer size c.args.text.now whole.0 whole.1 whole.2 q r h k
 
 pub returns-clause-whole : goal.returns-clause-whole
-returns-clause-whole c = λ sure most octets r read whole short. read_or_short sure most c.args.text.now octets r read whole short
+returns-clause-whole c = λ room octets r read whole short. read_or_short room c.args.text.now octets r read whole short

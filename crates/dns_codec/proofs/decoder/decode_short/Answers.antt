@@ -16,5 +16,5 @@ returns-in-Err g c =
     let known = g.met.K.Encoding.known in
     let octets = take c.in_ok-count.count c.decode_slice.new.octets in
     let decodes = rw c.as_bytes.ensures.value at c.in_ok-count.ensures.read.0 in
-    wants_room b known g.B.OctetsBuilder.sure g.B.OctetsBuilder.most (chars c.args.s.now) octets (chars_decodes b known c.args.s.now octets decodes)
+    wants_room b known g.B.OctetsBuilder.room (chars c.args.s.now) octets (chars_decodes b known c.args.s.now octets decodes)
     (λ fits. let none = ap length c.with_room-builder.ensures in let ok = c.in-Err.ensures.fits (omega (arith, none, fits)) in cc ok)

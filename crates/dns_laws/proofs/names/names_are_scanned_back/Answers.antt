@@ -9,7 +9,7 @@ use Rattle.dns_laws.proofs.names.names_are_scanned_back.Goals as goal
 
 pub returns-clause-whole : goal.returns-clause-whole
 returns-clause-whole g c = λ token others name stands is.
-    name_back _ g.E.ScannerError.cause _ _ token name is c.scan_name.result (of_first _ g.E.ScannerError.cause _ _ _ _ token others stands c.scan_name.ensures.scans).0
+    name_back _ g.E.ScannerError.cause _ token name is c.scan_name.result (of_first _ g.E.ScannerError.cause _ _ _ _ token others stands c.scan_name.ensures.scans).0
 
 pub returns-clause-dotted : goal.returns-clause-dotted
 returns-clause-dotted g c = λ name others is ends all stands.
@@ -20,7 +20,7 @@ returns-clause-zone g c = λ name others is ends all stands. returns-clause-whol
 
 pub returns-clause-relative : goal.returns-clause-relative
 returns-clause-relative g c = λ token others name stands is some.
-    relative_back _ g.E.ScannerError.cause _ _ token name is some c.scan_name.result (of_first _ g.E.ScannerError.cause _ _ _ _ token others stands c.scan_name.ensures.scans).0
+    relative_back _ g.E.ScannerError.cause _ token name is some c.scan_name.result (of_first _ g.E.ScannerError.cause _ _ _ _ token others stands c.scan_name.ensures.scans).0
 
 pub returns-clause-relative_zone : goal.returns-clause-relative_zone
 returns-clause-relative_zone g c = λ name others is some all stands.

@@ -5,7 +5,7 @@ use Rattle.dns_program.proofs.program.print_octets.Goals as goal
 
 pub returns-in-Err-clause-line : goal.returns-in-Err-clause-line
 returns-in-Err-clause-line g c = λ token others stands.
-    (converted_refusal g.S.Error.ScannerError.cause _ _ _ _ _ _ _ (of_first g.S.Scanner.next_token g.S.Error.ScannerError.cause _ _ _ _ token others stands c.in-Err.ensures.scans).0, refl)
+    (converted_refusal g.S.Error.ScannerError.cause _ _ _ _ _ _ (of_first g.S.Scanner.next_token g.S.Error.ScannerError.cause _ _ _ _ token others stands c.in-Err.ensures.scans).0, refl)
 
 pub returns-in-Err-clause-rest : goal.returns-in-Err-clause-rest
 returns-in-Err-clause-rest g c = λ token others stands. (of_first g.S.Scanner.next_token g.S.Error.ScannerError.cause _ _ _ _ token others stands c.convert_token.ensures.scans).1
@@ -13,7 +13,7 @@ returns-in-Err-clause-rest g c = λ token others stands. (of_first g.S.Scanner.n
 pub returns-in-Ok-write-clause-line : goal.returns-in-Ok-write-clause-line
 returns-in-Ok-write-clause-line g c = λ token others stands. (
   _,
-  converted_value g.S.Error.ScannerError.cause _ _ _ _ _ _ _ (of_first g.S.Scanner.next_token g.S.Error.ScannerError.cause _ _ _ _ token others stands c.in-Ok.ensures.scans).0,
+  converted_value g.S.Error.ScannerError.cause _ _ _ _ _ _ (of_first g.S.Scanner.next_token g.S.Error.ScannerError.cause _ _ _ _ token others stands c.in-Ok.ensures.scans).0,
   rw c.as_slice.ensures.value at (rw c.encode_display.ensures at c.in-Ok-write.ensures.writes),
 )
 
@@ -22,7 +22,7 @@ returns-in-Ok-write-clause-rest g c = λ token others stands. (of_first g.S.Scan
 
 pub returns-clause-line : goal.returns-clause-line
 returns-clause-line g c = λ token others stands.
-    (_, converted_value g.S.Error.ScannerError.cause _ _ _ _ _ _ _ (of_first g.S.Scanner.next_token g.S.Error.ScannerError.cause _ _ _ _ token others stands c.in-Ok.ensures.scans).0)
+    (_, converted_value g.S.Error.ScannerError.cause _ _ _ _ _ _ (of_first g.S.Scanner.next_token g.S.Error.ScannerError.cause _ _ _ _ token others stands c.in-Ok.ensures.scans).0)
 
 pub returns-clause-rest : goal.returns-clause-rest
 returns-clause-rest g c = λ token others stands. (of_first g.S.Scanner.next_token g.S.Error.ScannerError.cause _ _ _ _ token others stands c.convert_token.ensures.scans).1

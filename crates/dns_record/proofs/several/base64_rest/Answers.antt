@@ -7,12 +7,12 @@ use Rattle.dns_record.proofs.several.base64_rest.Goals as goal
 pub returns-in-Ok-clause-back : goal.returns-in-Ok-clause-back
 returns-in-Ok-clause-back g c = λ octets past tokens is texts stands.
     let given = c.in-Ok.ensures in
-    some_rest g.S.Scanner.next_token g.S.Error.ScannerError.cause g.S.Octets.AsOctets.octets g.S.OctetsBuilder.OctetsBuilder.sure (λ o. base64_octets o)
+    some_rest g.S.Scanner.next_token g.S.Error.ScannerError.cause g.S.Octets.AsOctets.octets g.S.OctetsBuilder.OctetsBuilder.room (λ o. base64_octets o)
     octets past tokens _ _ c.some_octets.result is.0.1
     (given.back octets tokens (recursion_from_All (λ o. o < 256) octets is.0.0) stands (base64_text octets tokens texts)) (given.rest tokens stands) c.some_octets.ensures
 
 pub returns-in-Err-clause-back : goal.returns-in-Err-clause-back
 returns-in-Err-clause-back g c = λ octets past tokens is texts stands.
-    no_rest g.S.Scanner.next_token g.S.Error.ScannerError.cause g.S.Octets.AsOctets.octets g.S.OctetsBuilder.OctetsBuilder.sure (λ o. base64_octets o)
+    no_rest g.S.Scanner.next_token g.S.Error.ScannerError.cause g.S.Octets.AsOctets.octets g.S.OctetsBuilder.OctetsBuilder.room (λ o. base64_octets o)
     octets past tokens _ {T = List ℕ} (λ o. base64_octets o ∷ []) (base64_octets octets ∷ []) _ (λ less. less)
     (c.in-Err.ensures.back octets tokens (recursion_from_All (λ o. o < 256) octets is.0.0) stands (base64_text octets tokens texts))

@@ -7,11 +7,11 @@ use Rattle.dns_record.proofs.several.hex_rest.Goals as goal
 pub returns-in-Ok-clause-back : goal.returns-in-Ok-clause-back
 returns-in-Ok-clause-back g c = λ octets past tokens is texts stands.
     let given = c.in-Ok.ensures in
-    some_rest g.S.Scanner.next_token g.S.Error.ScannerError.cause g.S.Octets.AsOctets.octets g.S.OctetsBuilder.OctetsBuilder.sure (λ o. hex o) octets past tokens _ _ c.some_octets.result is.0.1
+    some_rest g.S.Scanner.next_token g.S.Error.ScannerError.cause g.S.Octets.AsOctets.octets g.S.OctetsBuilder.OctetsBuilder.room (λ o. hex o) octets past tokens _ _ c.some_octets.result is.0.1
     (given.back octets tokens (recursion_from_All (λ o. o < 256) octets is.0.0) stands (hex_text octets tokens texts)) (given.rest tokens stands) c.some_octets.ensures
 
 pub returns-in-Err-clause-back : goal.returns-in-Err-clause-back
 returns-in-Err-clause-back g c = λ octets past tokens is texts stands.
-    no_rest g.S.Scanner.next_token g.S.Error.ScannerError.cause g.S.Octets.AsOctets.octets g.S.OctetsBuilder.OctetsBuilder.sure (λ o. hex o)
+    no_rest g.S.Scanner.next_token g.S.Error.ScannerError.cause g.S.Octets.AsOctets.octets g.S.OctetsBuilder.OctetsBuilder.room (λ o. hex o)
     octets past tokens _ {T = List ℕ} (λ o. hex o ∷ []) (hex octets ∷ []) _ (λ less. less)
     (c.in-Err.ensures.back octets tokens (recursion_from_All (λ o. o < 256) octets is.0.0) stands (hex_text octets tokens texts))

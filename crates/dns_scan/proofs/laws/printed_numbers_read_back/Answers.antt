@@ -1,7 +1,7 @@
 use Rattle.std.proofs.Common.{ℕ, ◌≡◌, arith, Option, None, Result, Ok, Err, List}
 use Rattle.std.specs.Prelude.{IfOk}
 use Rattle.dns_symbol.specs.declared.symbol.Symbol.{Symbol}
-use Rattle.dns_symbol.specs.declared.symbol.SymbolCharsError.{SymbolCharsError}
+use Rattle.dns_symbol.specs.declared.error.SymbolCharsError.{SymbolCharsError}
 use Rattle.dns_symbol.specs.Cause.{Cause}
 use Rattle.dns_scan.specs.Numbers.{IsNumber, ReadsNumber}
 use Rattle.dns_scan.proofs.Decimal.{decimal_read}

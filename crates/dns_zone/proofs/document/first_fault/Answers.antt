@@ -1,7 +1,7 @@
 use Rattle.std.proofs.Common.{◌≡◌, [], length, drop, ◌<◌, sym, ap, subst, refl, arith}
 use Rattle.std.proofs.lemmas.List.{drop_all}
 use Rattle.dns_zone.specs.Documents.{steps_of, IsFirstFault}
-use Rattle.dns_zone.specs.declared.document.DocumentError.TheVariants.{OpenBlock}
+use Rattle.dns_zone.specs.declared.error.DocumentError.TheVariants.{OpenBlock}
 use Rattle.dns_zone.proofs.Scanned.{scanned_more, scanned_fault, rest_more}
 use Rattle.dns_zone.proofs.document.first_fault.Goals as goal
 

@@ -7,7 +7,7 @@ abbrev pub invariant-loop-builder : goal.invariant-loop-builder
 invariant-loop-builder g l = record {
   read : HasRead l.text l.builder (chars_rest l.chars);
   short : length l.builder ≤ 255;
-  within : length l.builder ≤ g.Octs.Builder.OctetsBuilder.most;
+  within : length l.builder ≤ g.Octs.Builder.OctetsBuilder.room.capacity;
 }
 
 abbrev pub decreases-loop-builder : goal.decreases-loop-builder

@@ -4,7 +4,7 @@ use Rattle.dns_name.proofs.name.UncertainName.from_chars.Given as goal
 
 abbrev pub invariant-loop-builder : goal.invariant-loop-builder
 invariant-loop-builder g l = record {
-  read : Taken g.C.Iterator.next_gives g.Octets.Builder.OctetsBuilder.most l.fn.chars l.chars l.builder;
+  read : Taken g.C.Iterator.next_gives g.Octets.Builder.OctetsBuilder.room l.fn.chars l.chars l.builder;
   can : g.C.Iterator.can_next l.chars;
   finite : IsFinite (g.C.Iterator.remaining l.chars);
 }

@@ -7,13 +7,13 @@ use Rattle.dns_wire.proofs.name_builder.NameBuilder.append_label.Goals as goal
 pub returns-in-Err-clause-answers : goal.returns-in-Err-clause-answers
 returns-in-Err-clause-answers g c =
     let p = c.self.inside.opened in
-    whole_of c.args.self.now _ c.args.label.now g.B.OctetsBuilder.sure g.B.OctetsBuilder.most (Err c.in-Err.e)
+    whole_of c.args.self.now _ c.args.label.now g.B.OctetsBuilder.room (Err c.in-Err.e)
     (p.1.0 ∙ ap (λ (b : Naming). wire (all_labels b)) c.self.view_is) c.in-Err.ensures.answers
 
 pub returns-in-Ok-clause-answers : goal.returns-in-Ok-clause-answers
 returns-in-Ok-clause-answers g c =
     let p = c.self.inside.opened in
-    whole_of c.args.self.now _ c.args.label.now g.B.OctetsBuilder.sure g.B.OctetsBuilder.most (Ok tt)
+    whole_of c.args.self.now _ c.args.label.now g.B.OctetsBuilder.room (Ok tt)
     (p.1.0 ∙ ap (λ (b : Naming). wire (all_labels b)) c.self.view_is) c.in-Ok.ensures.answers
 
 pub invariant_of-self-inside : goal.invariant_of-self-inside
@@ -26,7 +26,7 @@ pub invariant_of-self : goal.invariant_of-self
 invariant_of-self g c =
     let p = c.self.inside.opened in
     let labels = p.0.0 ++ closed p.0.1 in
-    let answers = whole_of (as_naming p.0) _ c.args.label.now g.B.OctetsBuilder.sure g.B.OctetsBuilder.most (Ok tt) p.1.0 c.in-Ok.ensures.answers in
+    let answers = whole_of (as_naming p.0) _ c.args.label.now g.B.OctetsBuilder.room (Ok tt) p.1.0 c.in-Ok.ensures.answers in
     rw (opened_is _ _ c.self-1.given.0 (labels ++ c.args.label.now ∷ []) [] (c.in-Ok.ensures.ok ∙ wire_whole _ labels c.args.label.now p.1.0) refl)
     (built_whole labels c.args.label.now c.self.invariant.0 c.requires answers.1 answers.0)
 

@@ -9,14 +9,14 @@ pub returns-in-Err-clause-answers : goal.returns-in-Err-clause-answers
 returns-in-Err-clause-answers g c =
     let p = c.self.inside.opened in
     let v = c.self.view_is in
-    growth_of c.args.self.now _ _ c.args.octet g.B.OctetsBuilder.sure g.B.OctetsBuilder.most (Err c.in-Err.e) (p.1.0 ∙ ap (λ (b : Naming). wire (all_labels b)) v)
+    growth_of c.args.self.now _ _ c.args.octet g.B.OctetsBuilder.room (Err c.in-Err.e) (p.1.0 ∙ ap (λ (b : Naming). wire (all_labels b)) v)
     (ap (λ (b : Naming). length b.current) (sym v) ∙ p.1.1) c.in-Err.ensures.answers
 
 pub returns-in-Ok-clause-answers : goal.returns-in-Ok-clause-answers
 returns-in-Ok-clause-answers g c =
     let p = c.self.inside.opened in
     let v = c.self.view_is in
-    growth_of c.args.self.now _ _ c.args.octet g.B.OctetsBuilder.sure g.B.OctetsBuilder.most (Ok tt) (p.1.0 ∙ ap (λ (b : Naming). wire (all_labels b)) v)
+    growth_of c.args.self.now _ _ c.args.octet g.B.OctetsBuilder.room (Ok tt) (p.1.0 ∙ ap (λ (b : Naming). wire (all_labels b)) v)
     (ap (λ (b : Naming). length b.current) (sym v) ∙ p.1.1) c.in-Ok.ensures.answers
 
 pub invariant_of-self-inside : goal.invariant_of-self-inside

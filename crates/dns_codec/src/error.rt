@@ -1,0 +1,45 @@
+//! Why a text isn't decoded.
+ghost use Rattle.std.specs.Prelude.{◌≡◌, Some};
+ghost use Rattle.dns_codec.specs.Errors.{error_text};
+
+use dns_octets::ShortBuf;
+use std::error::Error;
+use std::fmt;
+
+/// Why a text isn't decoded, in any of the three encodings.
+#[derive(Clone, Copy, Debug, PartialEq, Eq)]
+pub enum DecodeError {
+    /// A character that may not stand in its place.
+    IllegalChar(char),
+    /// Characters after the padding.
+    TrailingInput,
+    /// The text ends within a group.
+    ShortInput,
+    /// The builder refused an octet.
+    ShortBuf,
+}
+
+impl fmt::Display for DecodeError {
+    ghost output = { λ e. Some (error_text e) };
+
+    fn fmt<W: fmt::Write>(&self, f: &mut fmt::Formatter<W>) -> fmt::Result {
+        match self {
+            DecodeError::IllegalChar(c) => write!(f, "illegal character '{c}'"),
+            DecodeError::TrailingInput => write!(f, "trailing input"),
+            DecodeError::ShortInput => write!(f, "incomplete input"),
+            DecodeError::ShortBuf => write!(f, "buffer size exceeded"),
+        }
+    }
+}
+
+impl Error for DecodeError {}
+
+impl From<ShortBuf> for DecodeError {
+    ghost use Rattle.dns_codec.specs.declared.error.DecodeError.TheVariants.{ShortBuf};
+
+    ghost from_gives = { λ _ e. e ≡ ShortBuf };
+
+    fn from(_error: ShortBuf) -> DecodeError {
+        DecodeError::ShortBuf
+    }
+}
