@@ -7,8 +7,6 @@ mod compare;
 mod display;
 mod error;
 mod iter;
-#[cfg(test)]
-mod tests;
 mod wire;
 
 pub use builder::CharStrBuilder;

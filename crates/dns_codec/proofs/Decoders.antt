@@ -66,7 +66,8 @@ one_push b known room text d c j at push =
           limit = max room.fits room.capacity;
           is_limit = any_limit room;
           holds = at.held;
-          cause_is = next.cause_is (max room.fits room.capacity) at.held ∙ ap (λ (x : Option DecodeError). or_else x s.error) (want_enough (max room.fits room.capacity) _ (omega (arith, all.2, sum))) ∙ some.1;
+          cause_is = next.cause_is (max room.fits room.capacity) at.held
+              ∙ ap (λ (x : Option DecodeError). or_else x s.error) (want_enough (max room.fits room.capacity) _ (omega (arith, all.2, sum))) ∙ some.1;
         })
       ]
       | inr no_room ↦ inr (record {

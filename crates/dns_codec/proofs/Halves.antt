@@ -37,7 +37,8 @@ pair_at pairs o all low =
 
 pub pair_step : (at place : ℕ) (pairs octets first text : List ℕ) → IsPairs pairs → ((k : ℕ) → get_or octets k 0 < 256) → place < length octets → at + 2 * place + 1 < length text
     → take (at + 2 * place) text ≡ take at first ++ map (slice_index base16.alphabet) (digits 4 (take place octets))
-    → take (at + 2 * (place + 1)) (slice_set (slice_set text (at + 2 * place) (slice_index pairs (2 * slice_index octets place))) (at + 2 * place + 1) (slice_index pairs (2 * slice_index octets place + 1)))
+    → take (at + 2 * (place + 1)) (slice_set (slice_set text (at + 2 * place) (slice_index pairs (2 * slice_index octets place))) (at + 2 * place + 1)
+    (slice_index pairs (2 * slice_index octets place + 1)))
     ≡ take at first ++ map (slice_index base16.alphabet) (digits 4 (take (place + 1) octets))
 pair_step at place pairs octets first text table bytes inside room before =
     let o : ℕ = slice_index octets place in

@@ -136,7 +136,8 @@ module _ (b : Base) (known : IsEncoding b) (plain : IsPlain b) where
       ∙ sym (illegal b known limit text ps c valued is (plain_test c (length text % b.group))) ∙ why
   stored_now limit text ps c e (Some v) is valued why =
       let len = length-append text (c ∷ []) in
-      legal_stored limit (text ++ c ∷ []) (ps ++ v ∷ []) (HaveValues-push b text ps c v valued is) ∙ ap (λ n. short_buf_if limit (grouped b n)) len ∙ sym (legal b known limit text ps c v valued is) ∙ why
+      legal_stored limit (text ++ c ∷ []) (ps ++ v ∷ []) (HaveValues-push b text ps c v valued is) ∙ ap (λ n. short_buf_if limit (grouped b n)) len
+      ∙ sym (legal b known limit text ps c v valued is) ∙ why
 
   stored_more : (limit : ℕ) (text : List ℕ) (c : ℕ) (e : DecodeError) (o : Option ℕ) → stored_by b limit (length text) o ≡ Some e → stored_by b limit (length (text ++ c ∷ [])) o ≡ Some e
   stored_more limit text c e (Some d) held = held
@@ -145,7 +146,8 @@ module _ (b : Base) (known : IsEncoding b) (plain : IsPlain b) where
       want_more limit (grouped b (length text)) (grouped b (length (text ++ c ∷ []))) e grows held
 
   -- a stored error stays, or a later illegal character takes its place
-  stored_later : (limit : ℕ) (text : List ℕ) (c : ℕ) (e : DecodeError) (o : Option ℕ) → value b c ≡ o → stored b limit text ≡ Some e → stored b limit (text ++ c ∷ []) ≡ or_else (illegal_in c o) (Some e)
+  stored_later : (limit : ℕ) (text : List ℕ) (c : ℕ) (e : DecodeError) (o : Option ℕ) → value b c ≡ o → stored b limit text ≡ Some e
+      → stored b limit (text ++ c ∷ []) ≡ or_else (illegal_in c o) (Some e)
   stored_later limit text c e None is held =
       let hit : is_none (value b c) ≡ true = rw is refl in
       stored_last limit (text ++ c ∷ []) ∙ ap (stored_by b limit (length (text ++ c ∷ []))) (find_last (λ x. is_none (value b x)) text c hit)

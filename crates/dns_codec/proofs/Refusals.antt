@@ -52,7 +52,8 @@ module _ (b : Base) (known : IsEncoding b) (limit : ℕ) where
   unrefused_next text os ps rest p c at le e = elim (cases_error (char_error b limit text c)) [
     | inl none ↦ none
     | inr some ↦
-        let bad : Some some.0 ≡ None = sym (refusal_first b limit (text ++ c ∷ rest) some.0 (first_here (char_error b limit) text rest c some.0 (no_cause b known text os ps p at limit le) some.1)) ∙ e in
+        let bad : Some some.0 ≡ None = sym (refusal_first b limit (text ++ c ∷ rest) some.0
+        (first_here (char_error b limit) text rest c some.0 (no_cause b known text os ps p at limit le) some.1)) ∙ e in
         cc bad
   ]
 

@@ -198,7 +198,8 @@ digit b known text os ps c v is at =
           let long : length text + 1 ≡ length at.front + (length ps + 1) = omega arith in
           let same : grouped b (length text + 1) ≡ length os = n.grouped_at (length text + 1) (length at.front) (length ps + 1) long closed (omega arith) ∙ sym made in
           rw more (record {
-            cause_is = λ limit le. legal b known limit text (at.front ++ ps) c v text_valued is ∙ want_enough limit _ (rw same le) ∙ sym (or_else_none _ ∙ want_enough limit (length os + 0) (omega arith));
+            cause_is = λ limit le. legal b known limit text (at.front ++ ps) c v text_valued is ∙ want_enough limit _ (rw same le)
+                ∙ sym (or_else_none _ ∙ want_enough limit (length os + 0) (omega arith));
             goes_on = λ none. record {
               chars = text ++ c ∷ [];
               front = at.front;

@@ -4,5 +4,3 @@
 pub mod entry;
 pub mod error;
 pub mod laws;
-#[cfg(test)]
-mod tests;

@@ -6,8 +6,6 @@ mod name;
 pub mod room;
 pub mod scanner;
 mod take;
-#[cfg(test)]
-mod tests;
 mod token;
 
 pub use dns_scan::StrError;

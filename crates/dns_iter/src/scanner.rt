@@ -163,10 +163,7 @@ where
         ensures takes { ScansEntry (token_next Iter.next_gives) T.step self.old (take.old, built.old) result self.new (take.new, built.new) }
     {
         while let Some(token) = self.take() {
-            match take.take_token(built, token) {
-                Ok(()) => {}
-                Err(error) => return Err(error),
-            }
+            take.take_token(built, token)?;
         }
         Ok(())
     }
@@ -233,13 +230,9 @@ where
     ) -> Result<Octets, E> {
         let mut through = Through { convert };
         let mut built = <Octets::Builder as EmptyBuilder>::empty(self.alloc);
-        match self.each_token(&mut through, &mut built) {
-            Ok(()) => match through.take_tail::<EntrySymbol, Octets::Builder, E>(&mut built) {
-                Ok(()) => Ok(built.freeze()),
-                Err(error) => Err(error),
-            },
-            Err(error) => Err(error),
-        }
+        self.each_token(&mut through, &mut built)?;
+        through.take_tail::<EntrySymbol, Octets::Builder, E>(&mut built)?;
+        Ok(built.freeze())
     }
 
     fn scan_octets(&mut self) -> Result<Octets, E> {
@@ -283,10 +276,8 @@ where
     fn scan_charstr_entry(&mut self) -> Result<Octets, E> {
         let mut strings = AsString::<Octets::Builder> { alloc: self.alloc };
         let mut built = <Octets::Builder as EmptyBuilder>::empty(self.alloc);
-        match self.each_token(&mut strings, &mut built) {
-            Ok(()) => Ok(built.freeze()),
-            Err(error) => Err(error),
-        }
+        self.each_token(&mut strings, &mut built)?;
+        Ok(built.freeze())
     }
 
     fn scan_opt_unknown_marker(&mut self) -> Result<bool, E> {

@@ -91,10 +91,8 @@ where
     ghost step = { λ p t r q. AsksToken E.cause (λ f x a g. F.step f x a g) p.0 t r q.0 };
 
     fn take_token(&mut self, built: &mut (), token: &str) -> Result<(), E> {
-        match each_symbol::<EntrySymbol, F, (), E>(token, self, built) {
-            Ok(()) => self(EntrySymbol::EndOfToken),
-            Err(error) => Err(error),
-        }
+        each_symbol::<EntrySymbol, F, (), E>(token, self, built)?;
+        self(EntrySymbol::EndOfToken)
     }
 }
 
@@ -189,10 +187,8 @@ impl<C> Through<C> {
         C: ConvertSymbols<Sym, E>,
         ensures { ConvertTail E.cause B.room C.tail (self.old.convert, B.octets built.old) result (self.new.convert, B.octets built.new) }
     {
-        match self.convert.take_tail() {
-            Ok(()) => append(built, self.convert.lent()),
-            Err(error) => Err(error),
-        }
+        self.convert.take_tail()?;
+        append(built, self.convert.lent())
     }
 }
 
@@ -204,10 +200,8 @@ impl<Sym, C: ConvertSymbols<Sym, E>, B: OctetsBuilder, E: ScannerError> TakeSymb
 
     #[inline(always)]
     fn take_symbol(&mut self, built: &mut B, symbol: Sym) -> Result<(), E> {
-        match self.convert.take_symbol(symbol) {
-            Ok(()) => append(built, self.convert.lent()),
-            Err(error) => Err(error),
-        }
+        self.convert.take_symbol(symbol)?;
+        append(built, self.convert.lent())
     }
 }
 
@@ -237,18 +231,14 @@ impl<B: EmptyBuilder + Drop, E: ScannerError> TakeToken<E, B> for AsString<B> {
 
     fn take_token(&mut self, built: &mut B, token: &str) -> Result<(), E> {
         let mut string = CharStrBuilder::<B>::new(self.alloc);
-        match each_symbol::<Symbol, _, _, E>(token, &mut AsOctet, &mut string) {
-            Ok(()) => {
-                let len = string.len() as u8;
-                match built.append_slice(&[len]) {
-                    Ok(()) => match built.append_slice(string.as_slice()) {
-                        Ok(()) => Ok(()),
-                        Err(_) => Err(E::short_buf()),
-                    },
-                    Err(_) => Err(E::short_buf()),
-                }
-            }
-            Err(error) => Err(error),
+        each_symbol::<Symbol, _, _, E>(token, &mut AsOctet, &mut string)?;
+        let len = string.len() as u8;
+        match built.append_slice(&[len]) {
+            Ok(()) => match built.append_slice(string.as_slice()) {
+                Ok(()) => Ok(()),
+                Err(_) => Err(E::short_buf()),
+            },
+            Err(_) => Err(E::short_buf()),
         }
     }
 }

@@ -42,10 +42,10 @@ pub(crate) fn each_symbol<Sym: OfSymbol, T: TakeSymbol<Sym, E, B>, B, E: Scanner
     let mut pos = 0;
     loop {
         match Symbol::from_slice_index(text, pos) {
-            Ok(Some((symbol, next))) => match take.take_symbol(built, Sym::of_symbol(symbol)) {
-                Ok(()) => pos = next,
-                Err(error) => return Err(error),
-            },
+            Ok(Some((symbol, next))) => {
+                take.take_symbol(built, Sym::of_symbol(symbol))?;
+                pos = next;
+            }
             Ok(None) => return Ok(()),
             Err(error) => return Err(E::custom(escape_text(error))),
         }
@@ -60,10 +60,8 @@ pub(crate) fn token_octets<B: EmptyBuilder + FreezeBuilder + Drop, E: ScannerErr
     ensures builds { Builds E.cause (GivesStep E.cause B.room octet_given) B.Octets.octets token.now result }
 {
     let mut built = B::empty(alloc);
-    match each_symbol::<Symbol, _, _, E>(token, &mut AsOctet, &mut built) {
-        Ok(()) => Ok(built.freeze()),
-        Err(error) => Err(error),
-    }
+    each_symbol::<Symbol, _, _, E>(token, &mut AsOctet, &mut built)?;
+    Ok(built.freeze())
 }
 
 /// The octets of a token's symbols, at most 255.
@@ -74,10 +72,8 @@ pub(crate) fn token_charstr<B: EmptyBuilder + FreezeBuilder + Drop, E: ScannerEr
     ensures builds { Builds E.cause (GivesStep E.cause (within max_string B.room) octet_given) (λ s. s) token.now result }
 {
     let mut built = CharStrBuilder::<B>::new(alloc);
-    match each_symbol::<Symbol, _, _, E>(token, &mut AsOctet, &mut built) {
-        Ok(()) => Ok(built.finish()),
-        Err(error) => Err(error),
-    }
+    each_symbol::<Symbol, _, _, E>(token, &mut AsOctet, &mut built)?;
+    Ok(built.finish())
 }
 
 /// The UTF-8 of a token's characters.
@@ -90,13 +86,11 @@ where
     ensures builds { Builds E.cause (GivesStep E.cause B.room text_given) (λ s. s) token.now result }
 {
     let mut built = B::empty(alloc);
-    match each_symbol::<Symbol, _, _, E>(token, &mut AsText, &mut built) {
-        Ok(()) => match Str::from_utf8(built.freeze()) {
-            Ok(text) => Ok(text),
-            // Characters in UTF-8 are UTF-8, so this never is.
-            Err(_) => Err(E::custom("bad symbol")),
-        },
-        Err(error) => Err(error),
+    each_symbol::<Symbol, _, _, E>(token, &mut AsText, &mut built)?;
+    match Str::from_utf8(built.freeze()) {
+        Ok(text) => Ok(text),
+        // Characters in UTF-8 are UTF-8, so this never is.
+        Err(_) => Err(E::custom("bad symbol")),
     }
 }
 
@@ -111,18 +105,16 @@ pub(crate) fn token_ascii<
     ensures answers { AsciiText E.cause B.room (λ s r. FnOnceReturnsAt F.FnOnce op s r) token.now result }
 {
     let mut built = B::empty(alloc);
-    match each_symbol::<Symbol, _, _, E>(token, &mut AsText, &mut built) {
-        Ok(()) => match std::str::from_utf8(built.as_slice()) {
-            Ok(text) => {
-                if !text.is_ascii() {
-                    return Err(E::custom("non-ASCII characters"));
-                }
-                op(text)
+    each_symbol::<Symbol, _, _, E>(token, &mut AsText, &mut built)?;
+    match std::str::from_utf8(built.as_slice()) {
+        Ok(text) => {
+            if !text.is_ascii() {
+                return Err(E::custom("non-ASCII characters"));
             }
-            // Characters in UTF-8 are UTF-8, so this never is.
-            Err(_) => Err(E::custom("non-ASCII characters")),
-        },
-        Err(error) => Err(error),
+            op(text)
+        }
+        // Characters in UTF-8 are UTF-8, so this never is.
+        Err(_) => Err(E::custom("non-ASCII characters")),
     }
 }
 
@@ -136,11 +128,7 @@ pub(crate) fn token_converted<
 {
     let mut through = Through { convert };
     let mut built = B::empty(alloc);
-    match each_symbol::<Symbol, _, _, E>(token, &mut through, &mut built) {
-        Ok(()) => match through.take_tail::<Symbol, B, E>(&mut built) {
-            Ok(()) => Ok(built.freeze()),
-            Err(error) => Err(error),
-        },
-        Err(error) => Err(error),
-    }
+    each_symbol::<Symbol, _, _, E>(token, &mut through, &mut built)?;
+    through.take_tail::<Symbol, B, E>(&mut built)?;
+    Ok(built.freeze())
 }

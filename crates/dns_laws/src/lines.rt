@@ -107,21 +107,9 @@ pub fn fields_are_scanned_back<S: Scanner>(
     ensures rest { (token : Token) (others : List Token) → HasTokens S.next_token scanner.old (token ∷ others) → HasTokens S.next_token scanner.new others }
 {
     match kind {
-        FieldKind::Number => match u32::scan(scanner) {
-            Ok(number) => Ok(Scanned::Number(number)),
-            Err(error) => Err(error),
-        },
-        FieldKind::Hex => match hex_is_scanned_back(scanner) {
-            Ok(octets) => Ok(Scanned::Octets(octets)),
-            Err(error) => Err(error),
-        },
-        FieldKind::Base64 => match base64_is_scanned_back(scanner) {
-            Ok(octets) => Ok(Scanned::Octets(octets)),
-            Err(error) => Err(error),
-        },
-        FieldKind::Text => match character_strings_are_scanned_back(scanner) {
-            Ok(string) => Ok(Scanned::Text(string)),
-            Err(error) => Err(error),
-        },
+        FieldKind::Number => Ok(Scanned::Number(u32::scan(scanner)?)),
+        FieldKind::Hex => Ok(Scanned::Octets(hex_is_scanned_back(scanner)?)),
+        FieldKind::Base64 => Ok(Scanned::Octets(base64_is_scanned_back(scanner)?)),
+        FieldKind::Text => Ok(Scanned::Text(character_strings_are_scanned_back(scanner)?)),
     }
 }

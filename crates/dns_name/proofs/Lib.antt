@@ -9,5 +9,4 @@ pub mod OneUncertain
 pub mod Printing
 pub mod TextRead
 pub mod Equal
-pub mod CutToken
 pub mod NameRows

@@ -18,5 +18,3 @@
 pub mod chain;
 pub mod laws;
 pub mod name;
-#[cfg(test)]
-mod tests;

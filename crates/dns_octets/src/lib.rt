@@ -12,13 +12,9 @@ pub mod lowered;
 pub mod octets;
 pub mod parser;
 pub mod str;
-#[cfg(test)]
-mod tests;
 pub mod ttl;
 
-pub use builder::{
-    EmptyBuilder, FreezeBuilder, FromBuilder, IntoBuilder, OctetsBuilder, Truncate,
-};
+pub use builder::{EmptyBuilder, FreezeBuilder, FromBuilder, IntoBuilder, OctetsBuilder, Truncate};
 pub use compose::{CanonicalOrd, Compose};
 pub use error::{ParseError, ShortBuf};
 pub use octets::{AsOctets, AsOctetsMut, OctetsFrom};

@@ -169,7 +169,8 @@ module _ {E : Type 0} (cause : E → Cause) (room : Room) where
     converts_to t convert r new h = let answer = converted_answer (λ s. s) t convert r new h in by r answer.0 answer.2
       where
         by : (r : Result (List ℕ) E) (n : List ℕ)
-            → MatchResult r (λ o. ConvertsTo codec t (Ok o) × (length n ≤ room.capacity)) (λ e. (ConvertsTo codec t (Err (cause e)) × (length n ≤ room.capacity)) ⊎ ((cause e ≡ short_buf) × (room.fits < length n)))
+            → MatchResult r (λ o. ConvertsTo codec t (Ok o) × (length n ≤ room.capacity))
+            (λ e. (ConvertsTo codec t (Err (cause e)) × (length n ≤ room.capacity)) ⊎ ((cause e ≡ short_buf) × (room.fits < length n)))
             → MatchResult r (λ o. ConvertsTo codec t (Ok o)) (λ e. ConvertsTo codec t (Err (cause e)) ⊎ (cause e ≡ short_buf))
         by (Ok o) n k = k.0
         by (Err e) n k = ⊎_elim (λ a. inl a.0) (λ a. inr a.0) k

@@ -1,5 +1,5 @@
 -- Fields out of words and tokens.
-use Rattle.std.proofs.Common.{◌≡◌, ℕ, ◌+◌, ◌<◌, ◌≤◌, List, [], ◌∷◌, ◌++◌, map, drop, arith, refl, sym, ap, subst, ◌∙◌, append_assoc, append-nil, ◌⊎◌, inl, inr, Option, Some, None, Ok, Err, min}
+use Rattle.std.proofs.Common.{◌≡◌, ℕ, ◌+◌, ◌<◌, ◌≤◌, List, [], ◌∷◌, ◌++◌, map, drop, arith, refl, sym, ap, subst, ◌∙◌, append_assoc, append-nil, ◌⊎◌, inl, inr, Option, Some, None, Ok, Err}
 use Rattle.std.proofs.lemmas.List.{map-append}
 use Rattle.dns_octets.specs.Room.{Room, within}
 use Rattle.dns_symbol.specs.declared.symbol.Symbol.{Symbol}

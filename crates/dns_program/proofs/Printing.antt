@@ -1,9 +1,8 @@
 -- What the program prints of tokens.
-use Rattle.std.proofs.Common.{ℕ, zero, suc, ◌+◌, ◌≡◌, ◌<◌, ◌≤◌, ◌∙◌, List, [], ◌∷◌, ◌++◌, length, drop, add-one, min, arith, refl, sym, subst, ap, inl, inr, ⊎_elim, None, Result, Ok, Err}
+use Rattle.std.proofs.Common.{ℕ, zero, suc, ◌+◌, ◌≡◌, ◌<◌, ◌≤◌, ◌∙◌, List, [], ◌∷◌, ◌++◌, length, drop, add-one, arith, refl, sym, subst, ap, inl, inr, ⊎_elim, None, Result, Ok, Err}
 use Rattle.std.specs.Prelude.{Vec, encode_utf8_all}
 use Rattle.std.specs.Fmt.{WritesInCalls, decimal}
 use Rattle.std.proofs.Output.{writes_in_calls_append, writes_in_calls_nil}
-use Rattle.dns_octets.specs.Octets.{greatest_length}
 use Rattle.dns_octets.specs.Room.{Room, of_memory, within}
 use Rattle.dns_symbol.specs.Symbol.{chars_error_text}
 use Rattle.dns_symbol.specs.Text.{SymbolsOf}

@@ -94,22 +94,16 @@ fn make_field<A: Allocator + Copy>(
 {
     let mut scanner: IterScanner<_, Vec<u8, A>> = IterScanner::new(alloc, iter::once(text));
     match kind {
-        FieldKind::Number => match u32::scan(&mut scanner) {
-            Ok(number) => Ok(Field::Number(number)),
-            Err(error) => Err(error),
-        },
-        FieldKind::Hex => match scanner.convert_token(base16::SymbolConverter::new()) {
-            Ok(octets) => Ok(Field::Hex(octets)),
-            Err(error) => Err(error),
-        },
-        FieldKind::Base64 => match scanner.convert_token(base64::SymbolConverter::new()) {
-            Ok(octets) => Ok(Field::Base64(octets)),
-            Err(error) => Err(error),
-        },
-        FieldKind::Text => match scanner.scan_charstr() {
-            Ok(string) => Ok(Field::Text(string)),
-            Err(error) => Err(error),
-        },
+        FieldKind::Number => Ok(Field::Number(u32::scan(&mut scanner)?)),
+        FieldKind::Hex => {
+            let octets = scanner.convert_token(base16::SymbolConverter::new())?;
+            Ok(Field::Hex(octets))
+        }
+        FieldKind::Base64 => {
+            let octets = scanner.convert_token(base64::SymbolConverter::new())?;
+            Ok(Field::Base64(octets))
+        }
+        FieldKind::Text => Ok(Field::Text(scanner.scan_charstr()?)),
     }
 }
 

@@ -85,7 +85,11 @@ fault_short room [] [] octets parts count why is gives fault = absurd fault
 fault_short room [] (x ∷ xs) [] parts count why is gives fault = cc
 fault_short room [] (x ∷ xs) (o ∷ os) [] count why is gives fault =
     let first : octet_of x ≡ Ok o = cc is in
-    omega (arith, (subst (λ (q : Result ℕ BadSymbol). MatchResult (bad_or (λ n. n ∷ []) q) (λ l. (room.fits < count + 0 + length l) × (why ≡ short_buf)) (λ text. why ≡ custom_text text)) first fault).0)
+    omega (
+      arith,
+      (subst (λ (q : Result ℕ BadSymbol). MatchResult (bad_or (λ n. n ∷ []) q) (λ l. (room.fits < count + 0 + length l) × (why ≡ short_buf))
+          (λ text. why ≡ custom_text text)) first fault).0,
+    )
 fault_short room [] (x ∷ xs) (o ∷ os) (p ∷ ps) count why is gives fault = cc
 fault_short room (x ∷ xs) rest [] parts count why is gives fault = cc
 fault_short room (x ∷ xs) rest (o ∷ os) [] count why is gives fault = cc

@@ -145,13 +145,9 @@ where
     ensures ready { S.can_scan scanner.new }
     ensures fields { TakesFields S.next_token S.Error.cause S.OctetsBuilder.room (three_values A.values B.values C.values) scanner.old result scanner.new }
 {
-    match scan_fields::<S, (A, (B, C))>(scanner) {
-        Ok((a, others)) => {
-            let (b, c) = others;
-            Ok((a, b, c))
-        }
-        Err(error) => Err(error),
-    }
+    let (a, others) = scan_fields::<S, (A, (B, C))>(scanner)?;
+    let (b, c) = others;
+    Ok((a, b, c))
 }
 
 /// Takes the texts of five values in a row, as [`scan_fields`] does those of one.
@@ -166,15 +162,11 @@ where
     ensures ready { S.can_scan scanner.new }
     ensures fields { TakesFields S.next_token S.Error.cause S.OctetsBuilder.room (five_values A.values B.values C.values D.values E.values) scanner.old result scanner.new }
 {
-    match scan_fields::<S, (A, (B, (C, (D, E))))>(scanner) {
-        Ok((a, others)) => {
-            let (b, others) = others;
-            let (c, others) = others;
-            let (d, e) = others;
-            Ok((a, b, c, d, e))
-        }
-        Err(error) => Err(error),
-    }
+    let (a, others) = scan_fields::<S, (A, (B, (C, (D, E))))>(scanner)?;
+    let (b, others) = others;
+    let (c, others) = others;
+    let (d, e) = others;
+    Ok((a, b, c, d, e))
 }
 
 /// Prints a character string as one token, between double quotes.

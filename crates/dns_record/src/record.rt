@@ -40,7 +40,8 @@ where
         ensures ready { ⟦<EntryScanner<'a, T, Octets, E> as Scanner>⟧.can_scan scanner.new }
         ensures back { (x : Self) (tokens : List Token) → AreFields (values_of (parts x)) → AreTexts (values_of (parts x)) tokens []
             → HasTokens (⟦<EntryScanner<'a, T, Octets, E> as Scanner>⟧.next_token) scanner.old tokens
-            → ReadsBack (⟦<EntryScanner<'a, T, Octets, E> as Scanner>⟧.next_token) E.cause Octets.Builder.room (λ y. values_of (parts y)) (values_of (parts x)) (values_of (parts x)) [] result scanner.new };
+            → ReadsBack (⟦<EntryScanner<'a, T, Octets, E> as Scanner>⟧.next_token) E.cause Octets.Builder.room
+            (λ y. values_of (parts y)) (values_of (parts x)) (values_of (parts x)) [] result scanner.new };
 
     // The document is that of the parts.
     ghost shown: { (x : Self) → Self.document x ≡ steps_of (parts x) };
@@ -68,15 +69,11 @@ where
         → IsOkAnd result (λ y. values_of (R.parts y) ≡ values_of (R.parts x)) ⊎ (Lacks E.cause result × SomeMayLack Octets.Builder.room (values_of (R.parts x))) }
     ensures all { (tokens : List Token) → HasTokens (⟦<EntryScanner<'a, T, Octets, E> as Scanner>⟧.next_token) scanner.new tokens → IsOk result → tokens ≡ [] }
 {
-    match R::scan_data(alloc, scanner) {
-        Ok(data) => {
-            if scanner.continues() {
-                return Err(E::trailing_tokens());
-            }
-            Ok(data)
-        }
-        Err(error) => Err(error),
+    let data = R::scan_data(alloc, scanner)?;
+    if scanner.continues() {
+        return Err(E::trailing_tokens());
     }
+    Ok(data)
 }
 
 /// The text that a value prints in a layout splits into one entry, and scanning that entry gives a

@@ -66,10 +66,8 @@ where
     ensures back { (octets : List ℕ) (past : List Value) (tokens : List Token) → AreValues (hex octets ∷ []) → AreTexts (hex octets ∷ []) tokens [] → HasTokens S.next_token scanner.old tokens
         → ReadsBack S.next_token S.Error.cause S.OctetsBuilder.room (λ o. hex o ∷ []) (hex octets ∷ []) (past ++ hex octets ∷ []) [] result scanner.new }
 {
-    match hex_entry_is_scanned_back(scanner) {
-        Ok(octets) => some_octets(octets),
-        Err(error) => Err(error),
-    }
+    let octets = hex_entry_is_scanned_back(scanner)?;
+    some_octets(octets)
 }
 
 /// Takes all tokens that are left as octets in base 64 (RFC 4648 section 4).
@@ -80,13 +78,12 @@ where
     S::Octets: Drop,
     requires { S.can_scan scanner.old }
     ensures ready { S.can_scan scanner.new }
-    ensures back { (octets : List ℕ) (past : List Value) (tokens : List Token) → AreValues (base64_octets octets ∷ []) → AreTexts (base64_octets octets ∷ []) tokens [] → HasTokens S.next_token scanner.old tokens
+    ensures back { (octets : List ℕ) (past : List Value) (tokens : List Token) → AreValues (base64_octets octets ∷ []) → AreTexts (base64_octets octets ∷ []) tokens []
+        → HasTokens S.next_token scanner.old tokens
         → ReadsBack S.next_token S.Error.cause S.OctetsBuilder.room (λ o. base64_octets o ∷ []) (base64_octets octets ∷ []) (past ++ base64_octets octets ∷ []) [] result scanner.new }
 {
-    match base64_entry_is_scanned_back(scanner) {
-        Ok(octets) => some_octets(octets),
-        Err(error) => Err(error),
-    }
+    let octets = base64_entry_is_scanned_back(scanner)?;
+    some_octets(octets)
 }
 
 // The octets, of which there has to be one.
@@ -193,13 +190,11 @@ where
     S::Octets: Drop,
     requires { S.can_scan scanner.old }
     ensures ready { S.can_scan scanner.new }
-    ensures back { (strings : List (List ℕ)) (past : List Value) (tokens : List Token) → AreFields (strings_of strings) → AreTexts (strings_of strings) tokens [] → HasTokens S.next_token scanner.old tokens
+    ensures back { (strings : List (List ℕ)) (past : List Value) (tokens : List Token) → AreFields (strings_of strings) → AreTexts (strings_of strings) tokens []
+        → HasTokens S.next_token scanner.old tokens
         → ReadsBack S.next_token S.Error.cause S.OctetsBuilder.room strings_of (strings_of strings) (past ++ strings_of strings) [] result scanner.new }
 {
-    match dns_scan::strings_rest(alloc, scanner) {
-        Ok(strings) => some_strings(strings),
-        Err(error) => Err(error),
-    }
+    some_strings(dns_scan::strings_rest(alloc, scanner)?)
 }
 
 // The strings, of which there has to be one.

@@ -48,10 +48,8 @@ where
         _alloc: A,
         scanner: &mut EntryScanner<'a, T, Octets, E>,
     ) -> Result<Self, E> {
-        match scan_three(scanner) {
-            Ok((flags, tag, value)) => Ok(Caa { flags, tag, value }),
-            Err(error) => Err(error),
-        }
+        let (flags, tag, value) = scan_three(scanner)?;
+        Ok(Caa { flags, tag, value })
     }
 
     ghost shown = { λ _. refl };

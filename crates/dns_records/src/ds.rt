@@ -52,19 +52,14 @@ where
         _alloc: A,
         scanner: &mut EntryScanner<'a, T, Octets, E>,
     ) -> Result<Self, E> {
-        let (key_tag, algorithm, digest_type) = match scan_three::<_, u16, u8, u8>(scanner) {
-            Ok(numbers) => numbers,
-            Err(error) => return Err(error),
-        };
-        match hex_rest(scanner) {
-            Ok(digest) => Ok(Ds {
-                key_tag,
-                algorithm,
-                digest_type,
-                digest,
-            }),
-            Err(error) => Err(error),
-        }
+        let (key_tag, algorithm, digest_type) = scan_three::<_, u16, u8, u8>(scanner)?;
+        let digest = hex_rest(scanner)?;
+        Ok(Ds {
+            key_tag,
+            algorithm,
+            digest_type,
+            digest,
+        })
     }
 
     ghost shown = { λ _. refl };

@@ -47,13 +47,11 @@ where
         _alloc: A,
         scanner: &mut EntryScanner<'a, T, Octets, E>,
     ) -> Result<Self, E> {
-        match scan_fields::<_, (u16, Name<Octets>)>(scanner) {
-            Ok((preference, exchange)) => Ok(Mx {
-                preference,
-                exchange,
-            }),
-            Err(error) => Err(error),
-        }
+        let (preference, exchange) = scan_fields::<_, (u16, Name<Octets>)>(scanner)?;
+        Ok(Mx {
+            preference,
+            exchange,
+        })
     }
 
     ghost shown = { λ _. refl };

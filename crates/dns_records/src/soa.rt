@@ -110,14 +110,8 @@ where
         _alloc: A,
         scanner: &mut EntryScanner<'a, T, Octets, E>,
     ) -> Result<Self, E> {
-        let (mname, rname) = match scan_fields::<_, (Name<Octets>, Name<Octets>)>(scanner) {
-            Ok(names) => names,
-            Err(error) => return Err(error),
-        };
-        let (serial, refresh, retry, expire, minimum) = match scan_numbers(scanner) {
-            Ok(numbers) => numbers,
-            Err(error) => return Err(error),
-        };
+        let (mname, rname) = scan_fields::<_, (Name<Octets>, Name<Octets>)>(scanner)?;
+        let (serial, refresh, retry, expire, minimum) = scan_numbers(scanner)?;
         Ok(Soa {
             mname,
             rname,

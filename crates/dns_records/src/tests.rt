@@ -291,93 +291,48 @@ fn lacked(
     Ok(())
 }
 
-// Whichever growth is refused, the text is the same record or lacks memory.
+// Whichever growth is refused, the text is the same record or lacks memory. Each growth of a scan is
+// refused in turn, until none is: then the value comes.
+macro_rules! refuse_growths {
+    ($rt:ident, $data:ty, $text:expr, $value:ident => $found:expr, $wanted:expr) => {{
+        let alloc = $rt.alloc();
+        for nth in 1..100 {
+            let heap = Refusing::new(alloc, nth);
+            match scanned::<$data, _>(&heap, $text) {
+                Ok($value) => assert_eq!(&$rt; $found, $wanted),
+                Err(why) => lacked(&$rt, alloc, &heap, why)?,
+            }
+            if !heap.has_refused() {
+                assert!(&$rt; nth > 4);
+                return Ok(());
+            }
+        }
+        assert!(&$rt; false);
+        Ok(())
+    }};
+}
+
 #[test]
 fn growths_of_mx_refused(rt: HostRuntime) -> Result<(), Fail> {
-    let alloc = rt.alloc();
-    for nth in 1..100 {
-        let heap = Refusing::new(alloc, nth);
-        match scanned::<Mx<Hostile<'_>>, _>(&heap, "10 a.example.") {
-            Ok(mx) => assert_eq!(&rt; mx.preference, 10),
-            Err(why) => lacked(&rt, alloc, &heap, why)?,
-        }
-        if !heap.has_refused() {
-            assert!(&rt; nth > 4);
-            return Ok(());
-        }
-    }
-    assert!(&rt; false);
-    Ok(())
+    refuse_growths!(rt, Mx<Hostile<'_>>, "10 a.example.", mx => mx.preference, 10)
 }
 
 #[test]
 fn growths_of_txt_refused(rt: HostRuntime) -> Result<(), Fail> {
-    let alloc = rt.alloc();
-    for nth in 1..100 {
-        let heap = Refusing::new(alloc, nth);
-        match scanned::<Txt<Hostile<'_>, &Refusing<Global>>, _>(&heap, "a \"b c\" d") {
-            Ok(txt) => assert_eq!(&rt; txt.strings.as_slice().len(), 3),
-            Err(why) => lacked(&rt, alloc, &heap, why)?,
-        }
-        if !heap.has_refused() {
-            assert!(&rt; nth > 4);
-            return Ok(());
-        }
-    }
-    assert!(&rt; false);
-    Ok(())
+    refuse_growths!(rt, Txt<Hostile<'_>, &Refusing<Global>>, "a \"b c\" d", txt => txt.strings.as_slice().len(), 3)
 }
 
 #[test]
 fn growths_of_ds_refused(rt: HostRuntime) -> Result<(), Fail> {
-    let alloc = rt.alloc();
-    for nth in 1..100 {
-        let heap = Refusing::new(alloc, nth);
-        match scanned::<Ds<Hostile<'_>>, _>(&heap, "60485 5 1 2BB183AF 5F225881") {
-            Ok(ds) => assert_eq!(&rt; ds.digest.as_slice().len(), 8),
-            Err(why) => lacked(&rt, alloc, &heap, why)?,
-        }
-        if !heap.has_refused() {
-            assert!(&rt; nth > 4);
-            return Ok(());
-        }
-    }
-    assert!(&rt; false);
-    Ok(())
+    refuse_growths!(rt, Ds<Hostile<'_>>, "60485 5 1 2BB183AF 5F225881", ds => ds.digest.as_slice().len(), 8)
 }
 
 #[test]
 fn growths_of_caa_refused(rt: HostRuntime) -> Result<(), Fail> {
-    let alloc = rt.alloc();
-    for nth in 1..100 {
-        let heap = Refusing::new(alloc, nth);
-        match scanned::<Caa<Hostile<'_>>, _>(&heap, "0 issue \"ca1.example.net\"") {
-            Ok(caa) => assert_eq!(&rt; caa.value.as_slice().len(), 15),
-            Err(why) => lacked(&rt, alloc, &heap, why)?,
-        }
-        if !heap.has_refused() {
-            assert!(&rt; nth > 4);
-            return Ok(());
-        }
-    }
-    assert!(&rt; false);
-    Ok(())
+    refuse_growths!(rt, Caa<Hostile<'_>>, "0 issue \"ca1.example.net\"", caa => caa.value.as_slice().len(), 15)
 }
 
 #[test]
 fn growths_of_soa_refused(rt: HostRuntime) -> Result<(), Fail> {
-    let alloc = rt.alloc();
-    for nth in 1..100 {
-        let heap = Refusing::new(alloc, nth);
-        match scanned::<Soa<Hostile<'_>>, _>(&heap, SOA) {
-            Ok(soa) => assert_eq!(&rt; soa.minimum.as_secs(), 60),
-            Err(why) => lacked(&rt, alloc, &heap, why)?,
-        }
-        if !heap.has_refused() {
-            assert!(&rt; nth > 4);
-            return Ok(());
-        }
-    }
-    assert!(&rt; false);
-    Ok(())
+    refuse_growths!(rt, Soa<Hostile<'_>>, SOA, soa => soa.minimum.as_secs(), 60)
 }

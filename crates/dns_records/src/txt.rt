@@ -38,10 +38,9 @@ where
         alloc: A,
         scanner: &mut EntryScanner<'a, T, Octets, E>,
     ) -> Result<Self, E> {
-        match strings_rest(alloc, scanner) {
-            Ok(strings) => Ok(Txt { strings }),
-            Err(error) => Err(error),
-        }
+        Ok(Txt {
+            strings: strings_rest(alloc, scanner)?,
+        })
     }
 
     ghost shown = { λ x. strings_shown x.strings };

@@ -1,7 +1,7 @@
 -- From the appends at the tokens of an entry to the character strings that they are.
 use Rattle.std.proofs.Common.{ℕ, ◌≡◌, ◌<◌, ◌≤◌, ◌+◌, List, [], ◌∷◌, ◌++◌}
 use Rattle.std.proofs.Common.{length, refl, sym, ap, subst, ◌∙◌, arith, append_assoc, append-nil, zero-add, length-append, ◌⊎◌, inl, inr, ⊎_elim, Option, Result, Ok, Err}
-use Rattle.std.specs.Prelude.{All, IsErr, IsOkAnd, MatchResult, min}
+use Rattle.std.specs.Prelude.{All, IsErr, IsOkAnd, MatchResult}
 use Rattle.std.specs.List.{flat_map, AllZip}
 use Rattle.std.proofs.lemmas.List.Elements.{All-nil, All-cons}
 use Rattle.dns_octets.specs.Room.{Room, within}
@@ -63,7 +63,8 @@ module _ {E : Type 0} (cause : E → Cause) (room : Room) where
   step_read b t r c h = by h.answer h.built (record { answer = h.answer; built = h.built; asks = h.asks; gives = replied h.answer h.built }) r h.gives
     where
       by : (a : Result (Unit {0}) E) (built : List ℕ) → Builds cause (GivesStep cause (within 255 room) octet_given) (λ s. s) t (reply a built) → (r : Result (Unit {0}) E)
-          → MatchResult a (λ _. ((r ≡ Ok tt) × (c ≡ b ++ wire_of built) × (length c ≤ room.capacity)) ⊎ (IsCause cause r short_buf × (room.fits < length b + length (wire_of built)))) (λ e. (r ≡ Err e) × (c ≡ b))
+          → MatchResult a (λ _. ((r ≡ Ok tt) × (c ≡ b ++ wire_of built) × (length c ≤ room.capacity)) ⊎ (IsCause cause r short_buf × (room.fits < length b + length (wire_of built))))
+          (λ e. (r ≡ Err e) × (c ≡ b))
           → One b t r c
       by (Ok u) built k (Ok v) (inl g) =
           let only = builds_only cause (within 255 room) (λ s. s) t (Ok built) k k.asks.symbols k.asks.error k.asks.read in

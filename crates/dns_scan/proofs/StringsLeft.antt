@@ -1,5 +1,5 @@
 -- From readings of character strings in turn to the tokens that they were read of.
-use Rattle.std.proofs.Common.{ℕ, ◌≡◌, ◌≤◌, List, [], ◌∷◌, ◌++◌, length, map, refl, sym, ap, subst, ◌∙◌, arith, append_assoc, append-nil, min, ◌⊎◌, inl, inr, ⊎_elim, Option, Result, Ok, Err}
+use Rattle.std.proofs.Common.{ℕ, ◌≡◌, ◌≤◌, List, [], ◌∷◌, ◌++◌, length, map, refl, sym, ap, subst, ◌∙◌, arith, append_assoc, append-nil, ◌⊎◌, inl, inr, ⊎_elim, Option, Result, Ok, Err}
 use Rattle.std.specs.Prelude.{◌≢◌, All, IfOk, IsOkAnd, MatchResult}
 use Rattle.std.specs.List.{AllZip, concat}
 use Rattle.std.proofs.lemmas.List.Elements.{All-nil, All-cons}

@@ -1,5 +1,5 @@
 -- What the calls of a scanner do that convert tokens or take all that are left.
-use Rattle.std.specs.Prelude.{ℕ, List, [], ◌∷◌, ◌++◌, ◌+◌, ◌<◌, ◌≤◌, length, min, ◌≡◌, Option, Some, None, Result, Ok, Err, IsErr, IsOkAnd, MatchResult, ◌⊎◌, codes}
+use Rattle.std.specs.Prelude.{ℕ, List, [], ◌∷◌, ◌++◌, ◌+◌, ◌<◌, ◌≤◌, length, ◌≡◌, Option, Some, None, Result, Ok, Err, IsErr, IsOkAnd, MatchResult, ◌⊎◌, codes}
 use Rattle.std.specs.Str.{IsAscii, IsNotAscii}
 use Rattle.dns_octets.specs.Room.{Room, within}
 use Rattle.dns_symbol.specs.declared.symbol.Symbol.{Symbol}

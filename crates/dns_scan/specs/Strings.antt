@@ -1,5 +1,5 @@
 -- What is answered of the tokens of an entry that are put together as character strings.
-use Rattle.std.specs.Prelude.{ℕ, List, ◌∷◌, ◌++◌, [], ◌+◌, ◌≡◌, ◌<◌, ◌≤◌, ◌⊎◌, length, min, All, Result, Ok, Err, MatchResult}
+use Rattle.std.specs.Prelude.{ℕ, List, ◌∷◌, ◌++◌, [], ◌+◌, ◌≡◌, ◌<◌, ◌≤◌, ◌⊎◌, length, All, Result, Ok, Err, MatchResult}
 use Rattle.std.specs.List.{AllZip, flat_map}
 use Rattle.dns_octets.specs.Room.{Room, within}
 use Rattle.dns_charstr.specs.Reading.{HasOctets}

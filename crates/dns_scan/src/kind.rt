@@ -68,34 +68,13 @@ impl Kind {
             → (rest : List Token) × KindReads T.scan_reads self tokens (by_cause S.Error.cause result) rest × HasTokens S.next_token scanner.new rest }
     {
         match self {
-            Kind::U8 => match u8::scan(scanner) {
-                Ok(value) => Ok(Scanned::U8(value)),
-                Err(error) => Err(error),
-            },
-            Kind::U16 => match u16::scan(scanner) {
-                Ok(value) => Ok(Scanned::U16(value)),
-                Err(error) => Err(error),
-            },
-            Kind::U32 => match u32::scan(scanner) {
-                Ok(value) => Ok(Scanned::U32(value)),
-                Err(error) => Err(error),
-            },
-            Kind::U64 => match u64::scan(scanner) {
-                Ok(value) => Ok(Scanned::U64(value)),
-                Err(error) => Err(error),
-            },
-            Kind::U128 => match u128::scan(scanner) {
-                Ok(value) => Ok(Scanned::U128(value)),
-                Err(error) => Err(error),
-            },
-            Kind::Ttl => match Ttl::scan(scanner) {
-                Ok(value) => Ok(Scanned::Ttl(value)),
-                Err(error) => Err(error),
-            },
-            Kind::Other => match T::scan(scanner) {
-                Ok(value) => Ok(Scanned::Other(value)),
-                Err(error) => Err(error),
-            },
+            Kind::U8 => Ok(Scanned::U8(u8::scan(scanner)?)),
+            Kind::U16 => Ok(Scanned::U16(u16::scan(scanner)?)),
+            Kind::U32 => Ok(Scanned::U32(u32::scan(scanner)?)),
+            Kind::U64 => Ok(Scanned::U64(u64::scan(scanner)?)),
+            Kind::U128 => Ok(Scanned::U128(u128::scan(scanner)?)),
+            Kind::Ttl => Ok(Scanned::Ttl(Ttl::scan(scanner)?)),
+            Kind::Other => Ok(Scanned::Other(T::scan(scanner)?)),
         }
     }
 }

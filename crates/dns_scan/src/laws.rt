@@ -95,10 +95,7 @@ pub fn scans_in_turn<S: Scanner, T: Scan<S>, F: FnMut(T)>(
         × MatchResult result (λ _. refusal ≡ None) (λ e. refusal ≡ Some (S.Error.cause e)) }
 {
     for _turn in 0..count {
-        match T::scan(scanner) {
-            Ok(value) => give(value),
-            Err(error) => return Err(error),
-        }
+        give(T::scan(scanner)?);
     }
     Ok(())
 }
@@ -121,10 +118,7 @@ pub fn kinds_in_turn<S: Scanner, T: Scan<S>, F: FnMut(Scanned<T>)>(
         × MatchResult result (λ _. refusal ≡ None) (λ e. refusal ≡ Some (S.Error.cause e)) }
 {
     for kind in kinds {
-        match kind.scan(scanner) {
-            Ok(scanned) => give(scanned),
-            Err(refusal) => return Err(refusal),
-        }
+        give(kind.scan(scanner)?);
     }
     Ok(())
 }

@@ -47,8 +47,6 @@ pub fn scan_number<S: Scanner>(scanner: &mut S, limit: u128) -> Result<u128, S::
 {
     let mut value = 0u128;
     let mut op = |symbol: Symbol| -> Result<(), S::Error> { add_digit(limit, &mut value, symbol) };
-    match scanner.scan_symbols(&mut op) {
-        Ok(()) => Ok(value),
-        Err(error) => Err(error),
-    }
+    scanner.scan_symbols(&mut op)?;
+    Ok(value)
 }

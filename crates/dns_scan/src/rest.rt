@@ -52,12 +52,9 @@ pub fn scan_rest<A: Allocator, S: Scanner, T: Scan<S> + Drop>(
         if !scanner.continues() {
             return Ok(values);
         }
-        match T::scan(scanner) {
-            Ok(value) => match values.push(value) {
-                Ok(()) => {}
-                Err(_) => return Err(S::Error::short_buf()),
-            },
-            Err(error) => return Err(error),
+        match values.push(T::scan(scanner)?) {
+            Ok(()) => {}
+            Err(_) => return Err(S::Error::short_buf()),
         }
     }
     // No list holds so many values, so this never is.
@@ -80,13 +77,10 @@ impl<S: Scanner, C: ConvertSymbols<EntrySymbol, S::Error> + Default> Scan<S>
         (λ why. (e : S.Error) × (S.Error.cause e ≡ why) × ConvertsTokens S.Error.cause S.OctetsBuilder.room C.takes C.tail S.Octets.octets tokens convert (Err e) rest) };
 
     fn scan(scanner: &mut S) -> Result<Self, S::Error> {
-        match entries_convert_as_their_join(scanner, C::default()) {
-            Ok(octets) => Ok(RestOf {
-                octets,
-                converter: PhantomData,
-            }),
-            Err(error) => Err(error),
-        }
+        Ok(RestOf {
+            octets: entries_convert_as_their_join(scanner, C::default())?,
+            converter: PhantomData,
+        })
     }
 }
 

@@ -113,13 +113,8 @@ impl<S: Scanner, A: Scan<S> + Drop, B: Scan<S>> Scan<S> for (A, B) {
     ghost scan_reads = { ReadsBoth A.scan_reads B.scan_reads };
 
     fn scan(scanner: &mut S) -> Result<Self, S::Error> {
-        let first = match A::scan(scanner) {
-            Ok(first) => first,
-            Err(error) => return Err(error),
-        };
-        match B::scan(scanner) {
-            Ok(second) => Ok((first, second)),
-            Err(error) => Err(error),
-        }
+        let first = A::scan(scanner)?;
+        let second = B::scan(scanner)?;
+        Ok((first, second))
     }
 }

@@ -24,21 +24,13 @@
 //! the reader that the cursor and `split` run, which goes through the octets once.
 #![tactic(auto)]
 
-#[cfg(test)]
-mod cursor_tests;
 pub mod error;
 pub mod laws;
 pub mod opening;
-#[cfg(test)]
-mod piece_tests;
 pub mod pieces;
 pub mod position;
 mod reader;
 mod skip;
 pub mod splitting;
 pub mod standing;
-#[cfg(test)]
-mod standing_tests;
-#[cfg(test)]
-mod tests;
 pub mod token;

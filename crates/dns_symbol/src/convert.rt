@@ -35,16 +35,12 @@ pub trait ConvertSymbols<Sym, Error>: Drop {
         ensures answer { (after : Self) × takes self.old symbol (lent_octets result) after }
         ensures some { IfOk result (λ octets. IfSome octets (λ o. o.now ≢ [])) }
     {
-        match self.take_symbol(symbol) {
-            Ok(()) => {
-                let octets = self.lent();
-                if octets.is_empty() {
-                    return Ok(None);
-                }
-                Ok(Some(octets))
-            }
-            Err(error) => Err(error),
+        self.take_symbol(symbol)?;
+        let octets = self.lent();
+        if octets.is_empty() {
+            return Ok(None);
         }
+        Ok(Some(octets))
     }
 
     /// Takes the end of the symbols and lends the octets that it makes, if it makes any.
@@ -52,15 +48,11 @@ pub trait ConvertSymbols<Sym, Error>: Drop {
         ensures answer { (after : Self) × tail self.old (lent_octets result) after }
         ensures some { IfOk result (λ octets. IfSome octets (λ o. o.now ≢ [])) }
     {
-        match self.take_tail() {
-            Ok(()) => {
-                let last = self.lent();
-                if last.is_empty() {
-                    return Ok(None);
-                }
-                Ok(Some(last))
-            }
-            Err(error) => Err(error),
+        self.take_tail()?;
+        let last = self.lent();
+        if last.is_empty() {
+            return Ok(None);
         }
+        Ok(Some(last))
     }
 }

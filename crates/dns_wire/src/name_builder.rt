@@ -158,13 +158,9 @@ impl<B: OctetsBuilder> NameBuilder<B> {
         ensures ok { OnOk result (self.new ≡ with_octet self.old octet) }
         ensures err { OnErr result (self.new ≡ self.old) }
     {
-        match grow(&mut self.inner, self.current, octet) {
-            Ok(()) => {
-                self.current += 1;
-                Ok(())
-            }
-            Err(e) => Err(e),
-        }
+        grow(&mut self.inner, self.current, octet)?;
+        self.current += 1;
+        Ok(())
     }
 
     /// Closes the open label. Without one it does nothing.
@@ -182,13 +178,9 @@ impl<B: OctetsBuilder> NameBuilder<B> {
         ensures ok { OnOk result (self.new ≡ with_label self.old label.now) }
         ensures err { OnErr result (self.new ≡ self.old) }
     {
-        match append_whole(&mut self.inner, label) {
-            Ok(()) => {
-                self.current = 0;
-                Ok(())
-            }
-            Err(e) => Err(e),
-        }
+        append_whole(&mut self.inner, label)?;
+        self.current = 0;
+        Ok(())
     }
 
     /// The relative name, with the open label closed.

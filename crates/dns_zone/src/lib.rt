@@ -111,10 +111,6 @@
 
 pub mod document;
 pub mod error;
-#[cfg(test)]
-mod example;
 pub mod laws;
-#[cfg(test)]
-mod tests;
 pub mod tokens;
 pub mod zonefile_fmt;

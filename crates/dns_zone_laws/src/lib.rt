@@ -18,5 +18,3 @@
 #![tactic(auto)]
 
 pub mod laws;
-#[cfg(test)]
-mod tests;

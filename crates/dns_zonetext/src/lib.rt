@@ -12,22 +12,12 @@
 //! another encoding refuses no zone.
 #![tactic(auto)]
 
-#[cfg(test)]
-mod block_tests;
 pub mod blocks;
 pub mod check;
 pub mod comparer;
-#[cfg(test)]
-mod comparer_tests;
 pub mod diff;
-#[cfg(test)]
-mod entry_tests;
 pub mod laws;
 pub mod layout;
 pub mod place;
-#[cfg(test)]
-mod tests;
 pub mod tokens;
 pub mod writer;
-#[cfg(test)]
-mod writer_tests;

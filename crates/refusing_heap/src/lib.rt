@@ -19,7 +19,11 @@
 //! That it is safe, and gives back to the inner allocator what it took from it, is proved by hand.
 //! How many calls were made stands in a cell, and no contract speaks of what a cell holds; so that
 //! it refuses just the one call is shown by tests.
+//!
+//! [`sink::Sink`] is a sink of which one write is refused.
 #![tactic(auto)]
+
+pub mod sink;
 
 use std::alloc::{AllocError, Allocator};
 use std::cell::Cell;

@@ -1,9 +1,10 @@
 //! Layouts that are printed into texts whose growths are refused.
 use super::{Call, Heap, Missed, Told, keeps, told_ample, told_refusal};
-use dns_zone::document::{Document, Item};
+use dns_zone::document::Document;
 use dns_zone::zonefile_fmt::{DisplayKind, ZoneFileDisplay, ZonefileFmt};
-use std::alloc::{AllocError, Global};
+use std::alloc::AllocError;
 use std::fmt::Write;
+use tests_of_zones::documents::{DS, NESTED, document};
 
 /// A document is printed, and then into a text that is made for it.
 #[derive(Drop)]
@@ -25,48 +26,6 @@ impl Call for Prints<'_> {
         }
     }
 }
-
-/// The item that a word means: `(`, `)`, `n`, `; TEXT`, and else a token.
-fn item(alloc: Global, word: &str) -> Result<Item, AllocError> {
-    match word {
-        "(" => Ok(Item::Begin),
-        ")" => Ok(Item::End),
-        "\n" => Ok(Item::Newline),
-        _ => match word.strip_prefix("; ") {
-            Some(text) => Ok(Item::Comment(String::from_str(alloc, text)?)),
-            None => Ok(Item::Token(String::from_str(alloc, word)?)),
-        },
-    }
-}
-
-/// The document that words mean.
-fn document(alloc: Global, words: &[&str]) -> Result<Option<Document>, AllocError> {
-    let mut items = Vec::new(alloc);
-    for word in words {
-        items.push(item(alloc, word)?)?;
-    }
-    Ok(Document::from_items(items).ok())
-}
-
-const DS: [&str; 13] = [
-    "example.com.",
-    "3600",
-    "IN",
-    "DS",
-    "(",
-    "5414",
-    "; key tag",
-    "15",
-    "; algorithm: ED25519",
-    "2",
-    "; digest type: SHA-256",
-    "DEADBEEF",
-    ")",
-];
-
-const NESTED: [&str; 12] = [
-    "a", "(", "b", "(", "c", "; x", ")", "; y", "d", ")", "\n", "e",
-];
 
 #[test]
 fn documents_are_printed(rt: HostRuntime) -> Result<(), AllocError> {

@@ -1,6 +1,7 @@
 //! The program, with sinks whose room was reserved, and with sinks that refuse.
 use super::{Call, Heap, Missed, Told, keeps, told_ample};
 use dns_program::program;
+use refusing_heap::sink::Sink;
 use std::alloc::{AllocError, Allocator, Global};
 use std::fmt;
 use std::process::Abort;
@@ -178,38 +179,6 @@ fn all_kept<'a>(rt: &impl Abort, alloc: Global, command: &'a str, rows: &'a [Row
 fn layouts_are_printed(rt: HostRuntime) {
     all_kept(&rt, rt.alloc(), "print", &DOCUMENTS);
     all_kept(&rt, rt.alloc(), "line", &LINES);
-}
-
-/// A sink that takes so many writes, and refuses the next one.
-#[derive(Drop)]
-struct Sink {
-    left: usize,
-    has_refused: bool,
-    text: String,
-}
-
-impl Sink {
-    fn new(alloc: Global, left: usize) -> Sink {
-        Sink {
-            left,
-            has_refused: false,
-            text: String::new(alloc),
-        }
-    }
-}
-
-impl fmt::Write for Sink {
-    fn write_str(&mut self, text: &str) -> fmt::Result {
-        let Some(left) = self.left.checked_sub(1) else {
-            self.has_refused = true;
-            return Err(fmt::Error);
-        };
-        self.left = left;
-        match self.text.push_str(text) {
-            Ok(()) => Ok(()),
-            Err(_) => Err(fmt::Error),
-        }
-    }
 }
 
 /// What a run came to whose output takes so many writes, and whose reason so many.

@@ -14,9 +14,6 @@ impl<Octets: AsOctets> UncertainName<Octets> {
         ensures ready { S.can_scan scanner.new }
         ensures scans { ScansToken S.next_token S.Error.cause (λ t r. ReadsUncertain (S.reads_name t) r) scanner.old result scanner.new }
     {
-        match scanner.scan_name() {
-            Ok(name) => Ok(UncertainName::Absolute(name)),
-            Err(error) => Err(error),
-        }
+        Ok(UncertainName::Absolute(scanner.scan_name()?))
     }
 }

@@ -1,17 +1,19 @@
 use Rattle.std.proofs.Common.{ℕ, ◌<◌, List, [], ◌∷◌}
 use Rattle.std.proofs.lemmas.List.Elements.{recursion_from_All}
+use Rattle.std.proofs.lemmas.Result.{err_from_is_err_and}
 use Rattle.dns_record.specs.Values.{hex}
 use Rattle.dns_record.proofs.FieldsBack.{hex_text, some_rest, no_rest}
 use Rattle.dns_record.proofs.several.hex_rest.Goals as goal
 
-pub returns-in-Ok-clause-back : goal.returns-in-Ok-clause-back
-returns-in-Ok-clause-back g c = λ octets past tokens is texts stands.
-    let given = c.in-Ok.ensures in
+pub returns-clause-back : goal.returns-clause-back
+returns-clause-back g c = λ octets past tokens is texts stands.
+    let given = c.in_ok-octets.ensures in
     some_rest g.S.Scanner.next_token g.S.Error.ScannerError.cause g.S.Octets.AsOctets.octets g.S.OctetsBuilder.OctetsBuilder.room (λ o. hex o) octets past tokens _ _ c.some_octets.result is.0.1
     (given.back octets tokens (recursion_from_All (λ o. o < 256) octets is.0.0) stands (hex_text octets tokens texts)) (given.rest tokens stands) c.some_octets.ensures
 
-pub returns-in-Err-clause-back : goal.returns-in-Err-clause-back
-returns-in-Err-clause-back g c = λ octets past tokens is texts stands.
-    no_rest g.S.Scanner.next_token g.S.Error.ScannerError.cause g.S.Octets.AsOctets.octets g.S.OctetsBuilder.OctetsBuilder.room (λ o. hex o)
+pub returns-in_err-octets-clause-back : goal.returns-in_err-octets-clause-back
+returns-in_err-octets-clause-back g c = λ octets past tokens is texts stands.
+    let p = err_from_is_err_and c.from_residual.result c.from_residual.ensures.1 in
+    rw (p.1, p.2) (no_rest g.S.Scanner.next_token g.S.Error.ScannerError.cause g.S.Octets.AsOctets.octets g.S.OctetsBuilder.OctetsBuilder.room (λ o. hex o)
     octets past tokens _ {T = List ℕ} (λ o. hex o ∷ []) (hex octets ∷ []) _ (λ less. less)
-    (c.in-Err.ensures.back octets tokens (recursion_from_All (λ o. o < 256) octets is.0.0) stands (hex_text octets tokens texts))
+    (c.in_err-octets.ensures.back octets tokens (recursion_from_All (λ o. o < 256) octets is.0.0) stands (hex_text octets tokens texts)))

@@ -1,4 +1,5 @@
-use Rattle.std.proofs.Common.{ℕ, ◌≡◌, ◌+◌, [], ◌∷◌, length, refl, sym, ap, ◌∙◌, arith, subst, inl, inr}
+use Rattle.std.proofs.Common.{◌≡◌, ◌+◌, [], ◌∷◌, length, refl, sym, ap, ◌∙◌, arith, subst, inl, inr}
+use Rattle.std.proofs.lemmas.Result.{err_from_is_err_and}
 use Rattle.std.proofs.lemmas.List.{length-append}
 use Rattle.std.specs.Prelude.{◌≢◌}
 use Rattle.dns_scan.specs.Reads.{ReadsSome}
@@ -14,37 +15,38 @@ returns-then-not-continues-clause-reads g c = λ tokens stands.
     let none = none_left at.0 peek.0 left.0 peek.2 in
     ([], (subst (λ m. ReadsSome g.T.Scan.scan_reads tokens c.loop-turn.values.items m) none at.1, refl), subst (λ m. HasTokens g.S.Scanner.next_token c.continues.new.self m) none left.1)
 
-pub returns-in-Err-push-clause-reads : goal.returns-in-Err-push-clause-reads
-returns-in-Err-push-clause-reads g c = λ tokens stands.
-    let at = c.loop-turn.invariant.reads tokens stands in
-    let peek = c.if-not-continues.ensures.peeks in
-    let left = peeked g.S.Scanner.next_token _ _ peek.0 at.0 at.2 peek.1 in
-    let some = some_left at.0 peek.0 left.0 peek.2 in
-    let took = c.in-Ok.ensures.reads at.0 left.1 in
-    let more = some_more g.T.Scan.scan_reads tokens c.loop-turn.values.items at.0 took.0 c.in-Ok.value at.1 some took.1 in
-    (took.0, (_, took.0, more, inr (ends_with_one c.loop-turn.values.items c.in-Ok.value, c.short_buf.ensures, refl)), took.2)
-
 pub returns-in-Err-clause-reads : goal.returns-in-Err-clause-reads
 returns-in-Err-clause-reads g c = λ tokens stands.
     let at = c.loop-turn.invariant.reads tokens stands in
     let peek = c.if-not-continues.ensures.peeks in
     let left = peeked g.S.Scanner.next_token _ _ peek.0 at.0 at.2 peek.1 in
     let some = some_left at.0 peek.0 left.0 peek.2 in
-    let took = c.in-Err.ensures.reads at.0 left.1 in
-    (took.0, (c.loop-turn.values.items, at.0, at.1, inl (some, took.1)), took.2)
+    let took = c.in_ok-scan.ensures.reads at.0 left.1 in
+    let more = some_more g.T.Scan.scan_reads tokens c.loop-turn.values.items at.0 took.0 c.in_ok-scan.field-0 at.1 some took.1 in
+    (took.0, (_, took.0, more, inr (ends_with_one c.loop-turn.values.items c.in_ok-scan.field-0, c.short_buf.ensures, refl)), took.2)
+
+pub returns-in_err-scan-clause-reads : goal.returns-in_err-scan-clause-reads
+returns-in_err-scan-clause-reads g c = λ tokens stands.
+    let p = err_from_is_err_and c.from_residual.result c.from_residual.ensures.1 in
+    let at = c.loop-turn.invariant.reads tokens stands in
+    let peek = c.if-not-continues.ensures.peeks in
+    let left = peeked g.S.Scanner.next_token _ _ peek.0 at.0 at.2 peek.1 in
+    let some = some_left at.0 peek.0 left.0 peek.2 in
+    let took = c.in_err-scan.ensures.reads at.0 left.1 in
+    rw (p.1, p.2) (took.0, (c.loop-turn.values.items, at.0, at.1, inl (some, took.1)), took.2)
 
 pub loop-turn-preserved : goal.loop-turn-preserved
 loop-turn-preserved g c = record {
-  ready = c.in-Ok.ensures.ready;
-  counted = ap length c.in-Ok-push.ensures.items ∙ length-append c.loop-turn.values.items (c.in-Ok.value ∷ []) ∙ ap (λ n. n + 1) c.loop-turn.invariant.counted;
+  ready = c.in_ok-scan.ensures.ready;
+  counted = ap length c.in-Ok.ensures.items ∙ length-append c.loop-turn.values.items (c.in_ok-scan.field-0 ∷ []) ∙ ap (λ n. n + 1) c.loop-turn.invariant.counted;
   reads = λ tokens stands.
       let at = c.loop-turn.invariant.reads tokens stands in
       let peek = c.if-not-continues.ensures.peeks in
       let left = peeked g.S.Scanner.next_token _ _ peek.0 at.0 at.2 peek.1 in
       let some = some_left at.0 peek.0 left.0 peek.2 in
-      let took = c.in-Ok.ensures.reads at.0 left.1 in
-      let more = some_more g.T.Scan.scan_reads tokens c.loop-turn.values.items at.0 took.0 c.in-Ok.value at.1 some took.1 in
-      (took.0, subst (λ l. ReadsSome g.T.Scan.scan_reads tokens l took.0) (sym c.in-Ok-push.ensures.items) more, took.2);
+      let took = c.in_ok-scan.ensures.reads at.0 left.1 in
+      let more = some_more g.T.Scan.scan_reads tokens c.loop-turn.values.items at.0 took.0 c.in_ok-scan.field-0 at.1 some took.1 in
+      (took.0, subst (λ l. ReadsSome g.T.Scan.scan_reads tokens l took.0) (sym c.in-Ok.ensures.items) more, took.2);
 }
 
 pub returns-clause-reads : goal.returns-clause-reads

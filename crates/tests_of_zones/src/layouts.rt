@@ -1,0 +1,354 @@
+//! Documents in each layout, and the lists that are none.
+ghost use Rattle.std.specs.Prelude.{◌≡◌, [], ◌∷◌, codes, refl};
+ghost use Rattle.dns_zone.specs.Layout.{token, begin, end};
+
+use crate::documents::{DS, NESTED, document, items};
+use crate::wanted::{holds, prints, text_is};
+use dns_zone::document::{Document, DocumentError};
+use dns_zone::zonefile_fmt::{
+    self, DisplayKind, FormatWriter, Formatter, MultiLineWriter, SimpleWriter, TabbedWriter,
+    ZoneFileDisplay, ZonefileFmt,
+};
+use refusing_heap::sink::Sink;
+use std::alloc::{AllocError, Global};
+use std::fmt::Write;
+use std::process::Abort;
+use std::test::Fail;
+
+/// Words, the text of their document in a layout, and the entries into which that splits.
+type Row = (&'static [&'static str], &'static str, &'static str);
+
+const DS_ENTRIES: &str = "example.com.|3600|IN|DS|5414|15|2|DEADBEEF|/";
+
+const NESTED_ENTRIES: &str = "a|b|c|d|/e|/";
+
+/// The data of `DS` alone in the tabbed layout, and the entries into which it splits.
+pub(crate) const DS_DATA: &str = "5414 15 2 DEADBEEF";
+
+pub(crate) const DS_DATA_ENTRIES: &str = "5414|15|2|DEADBEEF|/";
+
+/// Documents in the simple layout.
+pub(crate) const SIMPLE: [Row; 4] = [
+    (
+        &DS,
+        "example.com. 3600 IN DS 5414 15 2 DEADBEEF",
+        DS_ENTRIES,
+    ),
+    (&[], "", "/"),
+    (&["\n", "\n"], "\n\n", "///"),
+    (&NESTED, "a b c d\ne", NESTED_ENTRIES),
+];
+
+/// Documents in the tabbed layout.
+pub(crate) const TABBED: [Row; 4] = [
+    (
+        &DS,
+        "example.com.\t3600\tIN\tDS\t5414 15 2 DEADBEEF",
+        DS_ENTRIES,
+    ),
+    (&[], "", "/"),
+    (&["\n", "\n"], "\n\n", "///"),
+    (&NESTED, "a\tb c d\ne", NESTED_ENTRIES),
+];
+
+/// Documents in the multiline layout.
+pub(crate) const MULTILINE: [Row; 7] = [
+    (
+        &DS,
+        "example.com. 3600 IN DS ( 5414\t; key tag\n                          \
+            15\t; algorithm: ED25519\n                          \
+            2\t; digest type: SHA-256\n                          DEADBEEF )",
+        DS_ENTRIES,
+    ),
+    (
+        &["(", "5414", "15", "2", "DEADBEEF", ")"],
+        "( 5414 15 2 DEADBEEF )",
+        DS_DATA_ENTRIES,
+    ),
+    (&[], "", "/"),
+    (&["\n", "\n"], "\n\n", "///"),
+    (&NESTED, "a ( b ( c\t; x\n        ) d )\ne", NESTED_ENTRIES),
+    (&["(", "; k", "a", ")"], "(\t; k\n  a )", "a|/"),
+    (&["é", "(", "; c", "x", ")"], "é (\t; c\n     x )", "é|x|/"),
+];
+
+/// The words' text in a layout, and the same under a width.
+fn laid_out(
+    alloc: Global,
+    words: &[&str],
+    kind: DisplayKind,
+) -> Result<(String, String), AllocError> {
+    match document(alloc, words)? {
+        Some(document) => {
+            let display = document.display_zonefile(kind);
+            let text = display.to_string(alloc)?;
+            Ok((text, format!(in alloc; "{display:99}")?))
+        }
+        None => Err(AllocError),
+    }
+}
+
+/// The words' text in a layout is the wanted one, also under a width.
+fn lays_out(rt: &impl Abort, made: &Result<(String, String), AllocError>, wanted: &str) {
+    assert!(rt;
+        matches!(made, Ok((text, wide)) if text.as_str() == wanted && wide.as_str() == wanted),
+        "{wanted}"
+    );
+}
+
+#[test]
+fn layouts(rt: HostRuntime) {
+    let alloc = rt.alloc();
+    for &(words, text, _) in &SIMPLE {
+        lays_out(&rt, &laid_out(alloc, words, DisplayKind::Simple), text);
+    }
+    for &(words, text, _) in &TABBED {
+        lays_out(&rt, &laid_out(alloc, words, DisplayKind::Tabbed), text);
+    }
+    lays_out(
+        &rt,
+        &laid_out(alloc, &DS[4..], DisplayKind::Tabbed),
+        DS_DATA,
+    );
+    for &(words, text, _) in &MULTILINE {
+        lays_out(&rt, &laid_out(alloc, words, DisplayKind::Multiline), text);
+    }
+}
+
+const DOCUMENTS: [(&[&str], Option<DocumentError>); 15] = [
+    (&["a b"], Some(DocumentError::BadToken(0))),
+    (&[""], Some(DocumentError::BadToken(0))),
+    (&["\"a b\""], None),
+    (&["(", "\n", ")"], Some(DocumentError::LineInBlock(1))),
+    (&["(", "; a\rb", ")"], Some(DocumentError::BadComment(1))),
+    (&["; a\nb"], Some(DocumentError::BadComment(0))),
+    (&[")"], Some(DocumentError::EndWithoutBegin(0))),
+    (&["("], Some(DocumentError::OpenBlock)),
+    (&["(", "a", "\n", ")"], Some(DocumentError::LineInBlock(2))),
+    (&["a;b"], Some(DocumentError::BadToken(0))),
+    (&["a\\;b"], None),
+    (&["\"a\"b\""], Some(DocumentError::BadToken(0))),
+    (&["\\999"], Some(DocumentError::BadToken(0))),
+    (&["\"\""], None),
+    (&[")", "("], Some(DocumentError::EndWithoutBegin(0))),
+];
+
+/// An error's text under a width.
+fn wide(alloc: Global, error: DocumentError) -> Result<String, AllocError> {
+    format!(in alloc; "{error:99}")
+}
+
+/// An error's text, which is the same under a width.
+fn is_told_alike(rt: &impl Abort, alloc: Global, error: DocumentError) -> Result<(), AllocError> {
+    let text = error.to_string(alloc)?;
+    text_is(rt, &wide(alloc, error), text.as_str());
+    Ok(())
+}
+
+/// The fault of the words' items, which come back with it.
+fn fault_of(
+    rt: &impl Abort,
+    alloc: Global,
+    words: &[&str],
+) -> Result<Option<DocumentError>, AllocError> {
+    match Document::from_items(items(alloc, words)?) {
+        Ok(_) => Ok(None),
+        Err((error, returned)) => {
+            holds(rt, returned == items(alloc, words)?);
+            is_told_alike(rt, alloc, error)?;
+            Ok(Some(error))
+        }
+    }
+}
+
+fn fault_is(
+    rt: &impl Abort,
+    found: &Result<Option<DocumentError>, AllocError>,
+    wanted: Option<DocumentError>,
+) {
+    assert!(rt; matches!(found, Ok(found) if *found == wanted));
+}
+
+#[test]
+fn documents(rt: HostRuntime) {
+    for &(words, wanted) in &DOCUMENTS {
+        fault_is(&rt, &fault_of(&rt, rt.alloc(), words), wanted);
+    }
+}
+
+#[derive(Drop)]
+struct Leaf;
+
+impl ZonefileFmt for Leaf {
+    ghost document = { λ _. token (codes "c") ∷ [] };
+
+    ghost nested = { λ _. refl };
+
+    fn fmt<F: FormatWriter>(&self, p: &mut F) -> zonefile_fmt::Result {
+        p.write_token("c")
+    }
+}
+
+#[derive(Drop)]
+struct Branch {
+    leaf: Leaf,
+}
+
+impl ZonefileFmt for Branch {
+    ghost document = { λ _. token (codes "b") ∷ begin ∷ token (codes "c") ∷ end ∷ [] };
+
+    ghost nested = { λ _. refl };
+
+    fn fmt<F: FormatWriter>(&self, p: &mut F) -> zonefile_fmt::Result {
+        p.write_token("b")?;
+        p.block(&self.leaf)
+    }
+}
+
+/// A token, and a block of a token and a block.
+#[derive(Drop)]
+struct Tree {
+    branch: Branch,
+}
+
+impl ZonefileFmt for Tree {
+    ghost document = { λ _. token (codes "a") ∷ begin ∷ token (codes "b") ∷ begin
+        ∷ token (codes "c") ∷ end ∷ end ∷ [] };
+
+    ghost nested = { λ _. refl };
+
+    fn fmt<F: FormatWriter>(&self, p: &mut F) -> zonefile_fmt::Result {
+        p.write_token("a")?;
+        p.block(&self.branch)
+    }
+}
+
+#[test]
+fn nested_blocks(rt: HostRuntime) {
+    let tree = Tree {
+        branch: Branch { leaf: Leaf },
+    };
+    let texts = ("a b c", "a\tb c", "a ( b ( c ) )");
+    prints(&rt, rt.alloc(), &tree, texts);
+}
+
+/// The open blocks of a writer with none after a begin, a begin and an end.
+fn blocks_left<F: FormatWriter>(writer: &mut F) -> Result<usize, zonefile_fmt::Error>
+    requires { F.blocks writer.old ≡ 0 }
+{
+    writer.begin_block()?;
+    writer.begin_block()?;
+    writer.end_block()?;
+    Ok(writer.open_blocks())
+}
+
+fn one_is_left(rt: &impl Abort, left: &Result<usize, zonefile_fmt::Error>) {
+    assert!(rt; matches!(left, Ok(1)));
+}
+
+#[test]
+fn open_blocks(rt: HostRuntime) {
+    let alloc = rt.alloc();
+    let mut simple = SimpleWriter::new(String::new(alloc));
+    one_is_left(&rt, &blocks_left(&mut simple));
+    let mut tabbed = TabbedWriter::new(String::new(alloc));
+    one_is_left(&rt, &blocks_left(&mut tabbed));
+    let mut multiline = MultiLineWriter::new(String::new(alloc));
+    one_is_left(&rt, &blocks_left(&mut multiline));
+}
+
+#[test]
+fn one_after_another(rt: HostRuntime) -> Result<(), Fail> {
+    let first = document(rt.alloc(), &["a"])?;
+    let second = document(rt.alloc(), &["; k", "b"])?;
+    let (Some(first), Some(second)) = (&first, &second) else {
+        assert!(rt; false, "refused");
+        return Ok(());
+    };
+    let mut text = String::new(rt.alloc());
+    let mut writer = MultiLineWriter::new(&mut text);
+    // the second is written where the first is known to have left no block open
+    assert!(rt; writer.write_show(first).is_ok());
+    holds(&rt, writer.write_show(second).is_ok());
+    holds(&rt, text.as_str() == "a b");
+    Ok(())
+}
+
+#[test]
+fn text_beside_steps(rt: HostRuntime) {
+    let mut text = String::new(rt.alloc());
+    let mut writer = MultiLineWriter::new(&mut text);
+    holds(&rt, writer.write_str("> ").is_ok());
+    holds(&rt, writer.begin_block().is_ok());
+    holds(&rt, writer.write_comment("k").is_ok());
+    holds(&rt, writer.write_token("a").is_ok());
+    holds(&rt, text.as_str() == "> (\t; k\n    a");
+}
+
+/// Whether a sink that takes so many writes takes a document's text in a layout.
+fn takes(
+    rt: &impl Abort,
+    alloc: Global,
+    display: &ZoneFileDisplay<Document>,
+    text: &str,
+    left: usize,
+) -> bool {
+    let mut sink = Sink::new(alloc, left);
+    let is_taken = write!(sink, "{display}").is_ok();
+    let is_wanted = if is_taken {
+        sink.text.as_str() == text
+    } else {
+        sink.has_refused && text.starts_with(sink.text.as_str())
+    };
+    holds(rt, is_wanted);
+    is_taken
+}
+
+/// How many writes a sink has to take for a document's text in a layout; it takes a beginning of
+/// it where it takes fewer.
+fn writes(
+    rt: &impl Abort,
+    alloc: Global,
+    document: &Document,
+    kind: DisplayKind,
+) -> Result<usize, AllocError> {
+    let display = document.display_zonefile(kind);
+    let text = display.to_string(alloc)?;
+    for left in 0..200 {
+        if takes(rt, alloc, &display, text.as_str(), left) {
+            return Ok(left);
+        }
+    }
+    Ok(0)
+}
+
+fn are_some(rt: &impl Abort, writes: &Result<usize, AllocError>) {
+    assert!(rt;
+        matches!(writes, Ok(writes) if *writes > 5),
+        "no sink took all of it, or one took it at once"
+    );
+}
+
+fn meets_refusals(rt: &impl Abort, alloc: Global, words: &[&str]) -> Result<(), AllocError> {
+    let document = document(alloc, words)?;
+    holds(rt, document.is_some());
+    if let Some(document) = &document {
+        are_some(rt, &writes(rt, alloc, document, DisplayKind::Simple));
+        are_some(rt, &writes(rt, alloc, document, DisplayKind::Tabbed));
+        are_some(rt, &writes(rt, alloc, document, DisplayKind::Multiline));
+    }
+    Ok(())
+}
+
+#[test]
+fn refusing_sinks(rt: HostRuntime) {
+    holds(&rt, meets_refusals(&rt, rt.alloc(), &DS).is_ok());
+    holds(&rt, meets_refusals(&rt, rt.alloc(), &NESTED).is_ok());
+}
+
+#[test]
+fn a_block_that_fails_stays_open(rt: HostRuntime) {
+    let mut writer = SimpleWriter::new(Sink::new(rt.alloc(), 0));
+    holds(&rt, writer.block(Leaf).is_err());
+    holds(&rt, writer.open_blocks() == 1);
+}
