@@ -1,6 +1,6 @@
 -- The entries of a line, and its tokens scanned back.
-use Rattle.std.proofs.Common.{◌≡◌, ℕ, ◌<◌, ◌≤◌, ◌^◌, true, List, [], ◌∷◌, ◌++◌, length, map, All, refl, sym, ap, subst, ◌∙◌, arith, inl, inr, Option, None, Result, Ok, Err}
-use Rattle.std.specs.List.{flat_map, list_all, AllByRecursion}
+use Rattle.std.proofs.Common.{◌≡◌, ℕ, ◌<◌, ◌≤◌, ◌^◌, true, List, [], ◌∷◌, ◌++◌, length, map, All, refl, sym, ap, subst, ◌∙◌, arith, inl, inr, None, Result, Ok, Err}
+use Rattle.std.specs.List.{flat_map, list_all}
 use Rattle.std.specs.Fmt.{decimal}
 use Rattle.std.proofs.lemmas.Bool.{and_parts}
 use Rattle.std.proofs.lemmas.List.Elements.{recursion_from_All}
@@ -19,9 +19,8 @@ use Rattle.dns_split.specs.Splitting.{Entries, Splits, SplitsOnlyInto, with_toke
 use Rattle.dns_split.specs.Token.{IsWord}
 use Rattle.dns_symbol.specs.Cause.{Cause}
 use Rattle.dns_scan.specs.Numbers.{by_cause, greatest}
-use Rattle.dns_scan.specs.Octets.{GivesWhere, unquoted_token}
-use Rattle.dns_scan.specs.Reads.{NumberReads, ReadsFirst}
-use Rattle.dns_scan.specs.Stands.{HasTokens}
+use Rattle.dns_scan.specs.Octets.{GivesWhere, StringBack, unquoted_token}
+use Rattle.dns_scan.specs.Reads.{NumberReads}
 use Rattle.dns_scan.specs.Tokens.{Token}
 use Rattle.dns_scan.proofs.Decimal.{decimal_read}
 use Rattle.dns_scan.proofs.Once.{numbers_once}
@@ -34,6 +33,7 @@ use Rattle.dns_entry.specs.Field.{Content, number, hex_octets, base64_octets, te
 use Rattle.dns_entry.specs.Line.{AreContents, IsLine, field_step, line_document}
 use Rattle.dns_entry.proofs.Words.{line_formed, number_word, hex_word, base64_word, text_word}
 use Rattle.dns_laws.specs.declared.lines.Refusal.TheVariants.{Split}
+use Rattle.dns_laws.specs.Encodings.{EncodingBack}
 use Rattle.dns_laws.specs.Lines.{line_entries, kind_of, IsRefusal, IsScannedOf, GivesField, GivesOctets}
 use Rattle.dns_program.specs.declared.program.FieldKind.TheVariants.{Number, Hex, Base64, Text}
 use Rattle.dns_laws.specs.declared.lines.Scanned.{Scanned}
@@ -114,7 +114,7 @@ abbrev pub as_text : {O E : Type 0} → Result (List ℕ) E → Result (Scanned 
 as_text (Ok o) = Ok (TextScanned o)
 as_text (Err e) = Err e
 
-module _ {S O E : Type 0} (next : S → Option Token → S → Type 0) (cause : E → Cause) (octets : O → List ℕ) (room : Room) (old : S) where
+module _ {O E : Type 0} (cause : E → Cause) (octets : O → List ℕ) (room : Room) where
   octets_back : (os : List ℕ) (r : Result O E) → GivesWhere cause octets room os r → GivesOctets cause octets room os (as_octets r)
   octets_back os (Ok o) (inl h) = inl (o, refl, h)
   octets_back os (Ok o) (inr h) = absurd h.0
@@ -127,47 +127,38 @@ module _ {S O E : Type 0} (next : S → Option Token → S → Type 0) (cause : 
   text_back os (Err e) short (inl h) = absurd h
   text_back os (Err e) short (inr h) = inr (h.0, omega (arith, h.1, short))
 
-  -- a field's token, and what was scanned before others
-  module _ (text : Token) (others : List Token) (stands : HasTokens next old (text ∷ others)) where
-    pub number_field : (new : S) (field : Content) (r : Result ℕ E) → IsContent field → kind_of field ≡ Number → IsScannedOf (field_text field) text
-        → ((tokens : List Token) → HasTokens next old tokens → (rest : List Token) × ReadsFirst (NumberReads (greatest 32)) tokens (by_cause cause r) rest × HasTokens next new rest)
-        → GivesField cause octets room field (as_number r)
-    number_field new (number n) r is kind scanned reads =
+  -- what was scanned of a field's token
+  module _ (text : Token) where
+    pub number_field : (field : Content) (r : Result ℕ E) → IsContent field → kind_of field ≡ Number → IsScannedOf (field_text field) text
+        → NumberReads (greatest 32) text (by_cause cause r) → GivesField cause octets room field (as_number r)
+    number_field (number n) r is kind scanned reads =
         let same = scanned_word (decimal n) text (number_word n is) scanned in
-        let read = (reads (text ∷ others) stands).1.0 in
-        ap as_number (number_back cause n r is (subst (λ t. NumberReads (greatest 32) t (by_cause cause r)) same read))
-    number_field new (hex_octets os) r is kind scanned reads = cc
-    number_field new (base64_octets os) r is kind scanned reads = cc
-    number_field new (text_octets os) r is kind scanned reads = cc
-
-    -- those before which the scanner stands, as the field prints
-    stands_at : (token : Token) → text ≡ token → HasTokens next old (token ∷ others)
-    stands_at token same = subst (λ t. HasTokens next old (t ∷ others)) same stands
+        ap as_number (number_back cause n r is (subst (λ t. NumberReads (greatest 32) t (by_cause cause r)) same reads))
+    number_field (hex_octets os) r is kind scanned reads = cc
+    number_field (base64_octets os) r is kind scanned reads = cc
+    number_field (text_octets os) r is kind scanned reads = cc
 
     pub hex_field : (field : Content) (r : Result O E) → IsContent field → IsPrintable field → kind_of field ≡ Hex → IsScannedOf (field_text field) text
-        → ((os : List ℕ) (ts : List Token) → AllByRecursion (λ o. o < 256) os → HasTokens next old (encoded base16 os ∷ ts) → GivesWhere cause octets room os r)
-        → GivesField cause octets room field (as_octets r)
+        → EncodingBack base16 cause octets room text r → GivesField cause octets room field (as_octets r)
     hex_field (hex_octets os) r is can kind scanned back =
-        octets_back os r (back os others (recursion_from_All (λ o. o < 256) os is) (stands_at (encoded base16 os) (scanned_word (encoded base16 os) text (hex_word os is can) scanned)))
+        octets_back os r (back.back os (recursion_from_All (λ o. o < 256) os is) (scanned_word (encoded base16 os) text (hex_word os is can) scanned))
     hex_field (number n) r is can kind scanned back = cc
     hex_field (base64_octets os) r is can kind scanned back = cc
     hex_field (text_octets os) r is can kind scanned back = cc
 
     pub base64_field : (field : Content) (r : Result O E) → IsContent field → IsPrintable field → kind_of field ≡ Base64 → IsScannedOf (field_text field) text
-        → ((os : List ℕ) (ts : List Token) → AllByRecursion (λ o. o < 256) os → HasTokens next old (encoded base64 os ∷ ts) → GivesWhere cause octets room os r)
-        → GivesField cause octets room field (as_octets r)
+        → EncodingBack base64 cause octets room text r → GivesField cause octets room field (as_octets r)
     base64_field (base64_octets os) r is can kind scanned back =
-        octets_back os r (back os others (recursion_from_All (λ o. o < 256) os is) (stands_at (encoded base64 os) (scanned_word (encoded base64 os) text (base64_word os is can) scanned)))
+        octets_back os r (back.back os (recursion_from_All (λ o. o < 256) os is) (scanned_word (encoded base64 os) text (base64_word os is can) scanned))
     base64_field (number n) r is can kind scanned back = cc
     base64_field (hex_octets os) r is can kind scanned back = cc
     base64_field (text_octets os) r is can kind scanned back = cc
 
     pub text_field : (field : Content) (r : Result (List ℕ) E) → IsContent field → kind_of field ≡ Text → IsScannedOf (field_text field) text
-        → ((os : List ℕ) (ts : List Token) → All (λ o. o < 256) os → HasTokens next old (unquoted_token os ∷ ts) → GivesWhere cause (λ o. o) (within 255 room) os r)
-        → GivesField cause octets room field (as_text r)
-    text_field (text_octets []) r is kind scanned back = text_back [] r is.1 (back [] others is.0 (stands_at [] (scanned_quotes text scanned)))
+        → StringBack cause (within 255 room) text r → GivesField cause octets room field (as_text r)
+    text_field (text_octets []) r is kind scanned back = text_back [] r is.1 (back.printed [] is.0 (inl (scanned_quotes text scanned)))
     text_field (text_octets (o ∷ os)) r is kind scanned back =
-        text_back (o ∷ os) r is.1 (back (o ∷ os) others is.0 (stands_at (unquoted_token (o ∷ os)) (scanned_word (unquoted_token (o ∷ os)) text (text_word o os is.0) scanned)))
+        text_back (o ∷ os) r is.1 (back.printed (o ∷ os) is.0 (inl (scanned_word (unquoted_token (o ∷ os)) text (text_word o os is.0) scanned)))
     text_field (number n) r is kind scanned back = cc
     text_field (hex_octets os) r is kind scanned back = cc
     text_field (base64_octets os) r is kind scanned back = cc

@@ -1,13 +1,13 @@
 //! Laws on encodings: what tokens convert to, and that a text is scanned back.
-ghost use Rattle.std.specs.Prelude.{◌≡◌, ◌↔◌, ℕ, ◌<◌, List, ◌∷◌, Ok, Result, IfOk};
+ghost use Rattle.std.specs.Prelude.{◌≡◌, ◌↔◌, ℕ, ◌<◌, List, Ok, Result};
 ghost use Rattle.std.specs.List.{AllByRecursion};
 ghost use Rattle.dns_octets.specs.Room.{exactly};
 ghost use Rattle.dns_codec.specs.Base.{Base, IsEncoding as IsBase, base16, base32hex, base64, encoded};
 ghost use Rattle.dns_symbol.specs.Cause.{Cause};
-ghost use Rattle.dns_scan.specs.Octets.{GivesWhere};
-ghost use Rattle.dns_scan.specs.Stands.{HasTokens};
+ghost use Rattle.dns_scan.specs.Stands.{TakesOne};
 ghost use Rattle.dns_scan.specs.Tokens.{Token};
-ghost use Rattle.dns_program.specs.Codecs.{AnswersConverted, ConvertsTo, IsEncoding, codec_of, hex_codec, base32hex_codec, base64_codec};
+ghost use Rattle.dns_program.specs.Codecs.{AnswersConverted, ConvertsTo, IsEncoding, codec_of};
+ghost use Rattle.dns_laws.specs.Encodings.{EncodingBack};
 
 use dns_codec::base::{Base16, Base32Hex, Base64, Encoding};
 use dns_codec::converter::Converter;
@@ -24,14 +24,7 @@ pub fn encoding_is_scanned_back<K: Encoding, S: Scanner>(
 ) -> Result<S::Octets, S::Error>
     requires { S.can_scan scanner.old }
     ensures ready { S.can_scan scanner.new }
-    ensures back { (octets : List ℕ) (others : List Token) → AllByRecursion (λ o. o < 256) octets → HasTokens S.next_token scanner.old (encoded K.base octets ∷ others)
-        → GivesWhere S.Error.cause S.Octets.octets S.OctetsBuilder.room octets result }
-    ensures whole { (token : Token) (others : List Token) (octets : List ℕ) → HasTokens S.next_token scanner.old (token ∷ others)
-        → IsEncoding K.base token octets → GivesWhere S.Error.cause S.Octets.octets S.OctetsBuilder.room octets result }
-    ensures answer { (token : Token) (others : List Token) → HasTokens S.next_token scanner.old (token ∷ others)
-        → AnswersConverted (codec_of K.base) S.Error.cause S.Octets.octets S.OctetsBuilder.room token result }
-    ensures only { (token : Token) (others : List Token) → HasTokens S.next_token scanner.old (token ∷ others) → IfOk result (λ o. IsEncoding K.base token (S.Octets.octets o)) }
-    ensures rest { (token : Token) (others : List Token) → HasTokens S.next_token scanner.old (token ∷ others) → HasTokens S.next_token scanner.new others }
+    ensures takes { TakesOne S.next_token scanner.old scanner.new (λ token. EncodingBack K.base S.Error.cause S.Octets.octets S.OctetsBuilder.room token result) }
 {
     scanner.convert_token(Converter::<K>::new())
 }
@@ -45,14 +38,7 @@ pub fn encoding_is_scanned_back<K: Encoding, S: Scanner>(
 pub fn hex_is_scanned_back<S: Scanner>(scanner: &mut S) -> Result<S::Octets, S::Error>
     requires { S.can_scan scanner.old }
     ensures ready { S.can_scan scanner.new }
-    ensures back { (octets : List ℕ) (others : List Token) → AllByRecursion (λ o. o < 256) octets → HasTokens S.next_token scanner.old (encoded base16 octets ∷ others)
-        → GivesWhere S.Error.cause S.Octets.octets S.OctetsBuilder.room octets result }
-    ensures whole { (token : Token) (others : List Token) (octets : List ℕ) → HasTokens S.next_token scanner.old (token ∷ others)
-        → IsEncoding base16 token octets → GivesWhere S.Error.cause S.Octets.octets S.OctetsBuilder.room octets result }
-    ensures answer { (token : Token) (others : List Token) → HasTokens S.next_token scanner.old (token ∷ others)
-        → AnswersConverted hex_codec S.Error.cause S.Octets.octets S.OctetsBuilder.room token result }
-    ensures only { (token : Token) (others : List Token) → HasTokens S.next_token scanner.old (token ∷ others) → IfOk result (λ o. IsEncoding base16 token (S.Octets.octets o)) }
-    ensures rest { (token : Token) (others : List Token) → HasTokens S.next_token scanner.old (token ∷ others) → HasTokens S.next_token scanner.new others }
+    ensures takes { TakesOne S.next_token scanner.old scanner.new (λ token. EncodingBack base16 S.Error.cause S.Octets.octets S.OctetsBuilder.room token result) }
 {
     encoding_is_scanned_back::<Base16, S>(scanner)
 }
@@ -62,14 +48,7 @@ pub fn hex_is_scanned_back<S: Scanner>(scanner: &mut S) -> Result<S::Octets, S::
 pub fn base32hex_is_scanned_back<S: Scanner>(scanner: &mut S) -> Result<S::Octets, S::Error>
     requires { S.can_scan scanner.old }
     ensures ready { S.can_scan scanner.new }
-    ensures back { (octets : List ℕ) (others : List Token) → AllByRecursion (λ o. o < 256) octets → HasTokens S.next_token scanner.old (encoded base32hex octets ∷ others)
-        → GivesWhere S.Error.cause S.Octets.octets S.OctetsBuilder.room octets result }
-    ensures whole { (token : Token) (others : List Token) (octets : List ℕ) → HasTokens S.next_token scanner.old (token ∷ others)
-        → IsEncoding base32hex token octets → GivesWhere S.Error.cause S.Octets.octets S.OctetsBuilder.room octets result }
-    ensures answer { (token : Token) (others : List Token) → HasTokens S.next_token scanner.old (token ∷ others)
-        → AnswersConverted base32hex_codec S.Error.cause S.Octets.octets S.OctetsBuilder.room token result }
-    ensures only { (token : Token) (others : List Token) → HasTokens S.next_token scanner.old (token ∷ others) → IfOk result (λ o. IsEncoding base32hex token (S.Octets.octets o)) }
-    ensures rest { (token : Token) (others : List Token) → HasTokens S.next_token scanner.old (token ∷ others) → HasTokens S.next_token scanner.new others }
+    ensures takes { TakesOne S.next_token scanner.old scanner.new (λ token. EncodingBack base32hex S.Error.cause S.Octets.octets S.OctetsBuilder.room token result) }
 {
     encoding_is_scanned_back::<Base32Hex, S>(scanner)
 }
@@ -80,14 +59,7 @@ pub fn base32hex_is_scanned_back<S: Scanner>(scanner: &mut S) -> Result<S::Octet
 pub fn base64_is_scanned_back<S: Scanner>(scanner: &mut S) -> Result<S::Octets, S::Error>
     requires { S.can_scan scanner.old }
     ensures ready { S.can_scan scanner.new }
-    ensures back { (octets : List ℕ) (others : List Token) → AllByRecursion (λ o. o < 256) octets → HasTokens S.next_token scanner.old (encoded base64 octets ∷ others)
-        → GivesWhere S.Error.cause S.Octets.octets S.OctetsBuilder.room octets result }
-    ensures whole { (token : Token) (others : List Token) (octets : List ℕ) → HasTokens S.next_token scanner.old (token ∷ others)
-        → IsEncoding base64 token octets → GivesWhere S.Error.cause S.Octets.octets S.OctetsBuilder.room octets result }
-    ensures answer { (token : Token) (others : List Token) → HasTokens S.next_token scanner.old (token ∷ others)
-        → AnswersConverted base64_codec S.Error.cause S.Octets.octets S.OctetsBuilder.room token result }
-    ensures only { (token : Token) (others : List Token) → HasTokens S.next_token scanner.old (token ∷ others) → IfOk result (λ o. IsEncoding base64 token (S.Octets.octets o)) }
-    ensures rest { (token : Token) (others : List Token) → HasTokens S.next_token scanner.old (token ∷ others) → HasTokens S.next_token scanner.new others }
+    ensures takes { TakesOne S.next_token scanner.old scanner.new (λ token. EncodingBack base64 S.Error.cause S.Octets.octets S.OctetsBuilder.room token result) }
 {
     encoding_is_scanned_back::<Base64, S>(scanner)
 }

@@ -1,12 +1,10 @@
 //! Laws on encodings whose text is all tokens that are left of an entry.
-ghost use Rattle.std.specs.Prelude.{◌≡◌, ℕ, ◌<◌, List, IfOk};
-ghost use Rattle.std.specs.List.{AllByRecursion, concat};
-ghost use Rattle.dns_codec.specs.Base.{base16, base32hex, base64, encoded};
-ghost use Rattle.dns_scan.specs.Join.{IsJoin, IsSymbols, LeavesOf};
-ghost use Rattle.dns_scan.specs.Octets.{GivesWhere};
+ghost use Rattle.std.specs.Prelude.{List};
+ghost use Rattle.dns_codec.specs.Base.{base16, base32hex, base64};
+ghost use Rattle.dns_scan.specs.Join.{LeavesOf};
 ghost use Rattle.dns_scan.specs.Stands.{HasTokens};
 ghost use Rattle.dns_scan.specs.Tokens.{Token};
-ghost use Rattle.dns_program.specs.Codecs.{AnswersConverted, IsEncoding, codec_of, hex_codec, base32hex_codec, base64_codec};
+ghost use Rattle.dns_laws.specs.Encodings.{EntryBack};
 
 use dns_codec::base::{Base16, Base32Hex, Base64, Encoding};
 use dns_codec::converter::Converter;
@@ -21,14 +19,8 @@ pub fn entry_is_scanned_back<K: Encoding, S: Scanner>(
 ) -> Result<S::Octets, S::Error>
     requires { S.can_scan scanner.old }
     ensures ready { S.can_scan scanner.new }
-    ensures back { (octets : List ℕ) (tokens : List Token) → AllByRecursion (λ o. o < 256) octets → HasTokens S.next_token scanner.old tokens
-        → concat tokens ≡ encoded K.base octets → GivesWhere S.Error.cause S.Octets.octets S.OctetsBuilder.room octets result }
-    ensures whole { (tokens : List Token) (octets : List ℕ) → HasTokens S.next_token scanner.old tokens → AllByRecursion IsSymbols tokens
-        → IsEncoding K.base (concat tokens) octets → GivesWhere S.Error.cause S.Octets.octets S.OctetsBuilder.room octets result }
-    ensures answer { (tokens : List Token) (text : List ℕ) → HasTokens S.next_token scanner.old tokens → IsJoin tokens text
-        → AnswersConverted (codec_of K.base) S.Error.cause S.Octets.octets S.OctetsBuilder.room text result }
-    ensures only { (tokens : List Token) → HasTokens S.next_token scanner.old tokens → IfOk result (λ o. IsEncoding K.base (concat tokens) (S.Octets.octets o)) }
-    ensures rest { (tokens : List Token) → HasTokens S.next_token scanner.old tokens → LeavesOf S.next_token tokens result scanner.new }
+    ensures takes { (tokens : List Token) → HasTokens S.next_token scanner.old tokens
+        → EntryBack K.base S.Error.cause S.Octets.octets S.OctetsBuilder.room tokens result × LeavesOf S.next_token tokens result scanner.new }
 {
     entries_convert_as_their_join(scanner, Converter::<K>::new())
 }
@@ -39,14 +31,8 @@ pub fn entry_is_scanned_back<K: Encoding, S: Scanner>(
 pub fn hex_entry_is_scanned_back<S: Scanner>(scanner: &mut S) -> Result<S::Octets, S::Error>
     requires { S.can_scan scanner.old }
     ensures ready { S.can_scan scanner.new }
-    ensures back { (octets : List ℕ) (tokens : List Token) → AllByRecursion (λ o. o < 256) octets → HasTokens S.next_token scanner.old tokens
-        → concat tokens ≡ encoded base16 octets → GivesWhere S.Error.cause S.Octets.octets S.OctetsBuilder.room octets result }
-    ensures whole { (tokens : List Token) (octets : List ℕ) → HasTokens S.next_token scanner.old tokens → AllByRecursion IsSymbols tokens
-        → IsEncoding base16 (concat tokens) octets → GivesWhere S.Error.cause S.Octets.octets S.OctetsBuilder.room octets result }
-    ensures answer { (tokens : List Token) (text : List ℕ) → HasTokens S.next_token scanner.old tokens → IsJoin tokens text
-        → AnswersConverted hex_codec S.Error.cause S.Octets.octets S.OctetsBuilder.room text result }
-    ensures only { (tokens : List Token) → HasTokens S.next_token scanner.old tokens → IfOk result (λ o. IsEncoding base16 (concat tokens) (S.Octets.octets o)) }
-    ensures rest { (tokens : List Token) → HasTokens S.next_token scanner.old tokens → LeavesOf S.next_token tokens result scanner.new }
+    ensures takes { (tokens : List Token) → HasTokens S.next_token scanner.old tokens
+        → EntryBack base16 S.Error.cause S.Octets.octets S.OctetsBuilder.room tokens result × LeavesOf S.next_token tokens result scanner.new }
 {
     entry_is_scanned_back::<Base16, S>(scanner)
 }
@@ -55,14 +41,8 @@ pub fn hex_entry_is_scanned_back<S: Scanner>(scanner: &mut S) -> Result<S::Octet
 pub fn base32hex_entry_is_scanned_back<S: Scanner>(scanner: &mut S) -> Result<S::Octets, S::Error>
     requires { S.can_scan scanner.old }
     ensures ready { S.can_scan scanner.new }
-    ensures back { (octets : List ℕ) (tokens : List Token) → AllByRecursion (λ o. o < 256) octets → HasTokens S.next_token scanner.old tokens
-        → concat tokens ≡ encoded base32hex octets → GivesWhere S.Error.cause S.Octets.octets S.OctetsBuilder.room octets result }
-    ensures whole { (tokens : List Token) (octets : List ℕ) → HasTokens S.next_token scanner.old tokens → AllByRecursion IsSymbols tokens
-        → IsEncoding base32hex (concat tokens) octets → GivesWhere S.Error.cause S.Octets.octets S.OctetsBuilder.room octets result }
-    ensures answer { (tokens : List Token) (text : List ℕ) → HasTokens S.next_token scanner.old tokens → IsJoin tokens text
-        → AnswersConverted base32hex_codec S.Error.cause S.Octets.octets S.OctetsBuilder.room text result }
-    ensures only { (tokens : List Token) → HasTokens S.next_token scanner.old tokens → IfOk result (λ o. IsEncoding base32hex (concat tokens) (S.Octets.octets o)) }
-    ensures rest { (tokens : List Token) → HasTokens S.next_token scanner.old tokens → LeavesOf S.next_token tokens result scanner.new }
+    ensures takes { (tokens : List Token) → HasTokens S.next_token scanner.old tokens
+        → EntryBack base32hex S.Error.cause S.Octets.octets S.OctetsBuilder.room tokens result × LeavesOf S.next_token tokens result scanner.new }
 {
     entry_is_scanned_back::<Base32Hex, S>(scanner)
 }
@@ -71,14 +51,8 @@ pub fn base32hex_entry_is_scanned_back<S: Scanner>(scanner: &mut S) -> Result<S:
 pub fn base64_entry_is_scanned_back<S: Scanner>(scanner: &mut S) -> Result<S::Octets, S::Error>
     requires { S.can_scan scanner.old }
     ensures ready { S.can_scan scanner.new }
-    ensures back { (octets : List ℕ) (tokens : List Token) → AllByRecursion (λ o. o < 256) octets → HasTokens S.next_token scanner.old tokens
-        → concat tokens ≡ encoded base64 octets → GivesWhere S.Error.cause S.Octets.octets S.OctetsBuilder.room octets result }
-    ensures whole { (tokens : List Token) (octets : List ℕ) → HasTokens S.next_token scanner.old tokens → AllByRecursion IsSymbols tokens
-        → IsEncoding base64 (concat tokens) octets → GivesWhere S.Error.cause S.Octets.octets S.OctetsBuilder.room octets result }
-    ensures answer { (tokens : List Token) (text : List ℕ) → HasTokens S.next_token scanner.old tokens → IsJoin tokens text
-        → AnswersConverted base64_codec S.Error.cause S.Octets.octets S.OctetsBuilder.room text result }
-    ensures only { (tokens : List Token) → HasTokens S.next_token scanner.old tokens → IfOk result (λ o. IsEncoding base64 (concat tokens) (S.Octets.octets o)) }
-    ensures rest { (tokens : List Token) → HasTokens S.next_token scanner.old tokens → LeavesOf S.next_token tokens result scanner.new }
+    ensures takes { (tokens : List Token) → HasTokens S.next_token scanner.old tokens
+        → EntryBack base64 S.Error.cause S.Octets.octets S.OctetsBuilder.room tokens result × LeavesOf S.next_token tokens result scanner.new }
 {
     entry_is_scanned_back::<Base64, S>(scanner)
 }

@@ -1,8 +1,7 @@
 //! Laws on entry lines: each layout is one entry with a token a field, and each token is scanned
 //! back.
-ghost use Rattle.std.specs.Prelude.{◌≡◌, List, ◌∷◌, IfErr, IfOk, IsOk, string_bytes};
-ghost use Rattle.dns_scan.specs.Stands.{HasTokens};
-ghost use Rattle.dns_scan.specs.Tokens.{Token};
+ghost use Rattle.std.specs.Prelude.{◌≡◌, List, IfErr, IfOk, IsOk, string_bytes};
+ghost use Rattle.dns_scan.specs.Stands.{TakesOne};
 ghost use Rattle.dns_split.specs.Answer.{entries_of};
 ghost use Rattle.dns_split.specs.Splitting.{SplitsOnlyInto};
 ghost use Rattle.dns_zone.specs.Printed.{printed};
@@ -102,9 +101,8 @@ pub fn fields_are_scanned_back<S: Scanner>(
 ) -> Result<Scanned<S::Octets>, S::Error>
     requires { S.can_scan scanner.old }
     ensures ready { S.can_scan scanner.new }
-    ensures back { (field : Content) (text : Token) (others : List Token) → IsContent field → IsPrintable field → kind_of field ≡ kind → IsScannedOf (field_text field) text
-        → HasTokens S.next_token scanner.old (text ∷ others) → GivesField S.Error.cause S.Octets.octets S.OctetsBuilder.room field result }
-    ensures rest { (token : Token) (others : List Token) → HasTokens S.next_token scanner.old (token ∷ others) → HasTokens S.next_token scanner.new others }
+    ensures takes { TakesOne S.next_token scanner.old scanner.new (λ token. (field : Content) → IsContent field → IsPrintable field → kind_of field ≡ kind
+        → IsScannedOf (field_text field) token → GivesField S.Error.cause S.Octets.octets S.OctetsBuilder.room field result) }
 {
     match kind {
         FieldKind::Number => Ok(Scanned::Number(u32::scan(scanner)?)),

@@ -1,14 +1,8 @@
 //! Laws on the texts of names.
-ghost use Rattle.std.specs.Prelude.{◌≡◌, ◌≢◌, ◌<◌, ◌≤◌, List, ℕ, Ok, [], ◌∷◌, ◌++◌, All, encode_utf8_all};
-ghost use Rattle.dns_scan.specs.Stands.{HasTokens};
-ghost use Rattle.dns_scan.specs.Tokens.{Token};
-ghost use Rattle.dns_wire.specs.Printed.{dotted_text};
-ghost use Rattle.dns_wire.specs.Wire.{wire, wire_length, IsName, EndsInRoot};
-ghost use Rattle.dns_name.specs.Reading.{ReadsAs};
-ghost use Rattle.dns_name.specs.declared.name.UncertainName.TheVariants.{Absolute, Relative};
-ghost use Rattle.dns_name.specs.Uncertain.{IsUncertain};
-ghost use Rattle.dns_laws.specs.Names.{GivesName};
-ghost use Rattle.dns_wire.specs.ZoneText.{zone_text};
+ghost use Rattle.std.specs.Prelude.{◌≡◌, ◌≤◌, Ok};
+ghost use Rattle.dns_scan.specs.Stands.{TakesOne};
+ghost use Rattle.dns_wire.specs.Wire.{wire_length};
+ghost use Rattle.dns_laws.specs.Names.{GivesName, NameBack};
 
 use dns_iter::IterScanner;
 use dns_octets::{AsOctetsMut, EmptyBuilder, FreezeBuilder, FromBuilder, Truncate};
@@ -28,18 +22,8 @@ where
     Octets::Builder: EmptyBuilder + AsOctetsMut + Truncate + FreezeBuilder<Octets = Octets> + Drop,
     requires { ⟦<IterScanner<Iter, Octets, E> as Scanner>⟧.can_scan scanner.old }
     ensures ready { ⟦<IterScanner<Iter, Octets, E> as Scanner>⟧.can_scan scanner.new }
-    ensures whole { (token : Token) (others : List Token) (name : List (List ℕ)) → HasTokens (⟦<IterScanner<Iter, Octets, E> as Scanner>⟧.next_token) scanner.old (token ∷ others)
-        → ReadsAs {O = Octets} token (Absolute name) → GivesName E.cause Octets.Builder.room name result }
-    ensures dotted { (name : List (List ℕ)) (others : List Token) → IsName name → EndsInRoot name → All (λ o. o < 256) (wire name)
-        → HasTokens (⟦<IterScanner<Iter, Octets, E> as Scanner>⟧.next_token) scanner.old (encode_utf8_all (dotted_text name) ∷ others) → GivesName E.cause Octets.Builder.room name result }
-    ensures zone { (name : List (List ℕ)) (others : List Token) → IsName name → EndsInRoot name → All (λ o. o < 256) (wire name)
-        → HasTokens (⟦<IterScanner<Iter, Octets, E> as Scanner>⟧.next_token) scanner.old (zone_text name ∷ others) → GivesName E.cause Octets.Builder.room name result }
-    ensures relative { (token : Token) (others : List Token) (name : List (List ℕ)) → HasTokens (⟦<IterScanner<Iter, Octets, E> as Scanner>⟧.next_token) scanner.old (token ∷ others)
-        → ReadsAs {O = Octets} token (Relative name) → name ≢ [] → GivesName E.cause Octets.Builder.room (name ++ [] ∷ []) result }
-    ensures relative_zone { (name : List (List ℕ)) (others : List Token) → IsUncertain {O = Octets} (Relative name) → name ≢ [] → All (λ o. o < 256) (wire name)
-        → HasTokens (⟦<IterScanner<Iter, Octets, E> as Scanner>⟧.next_token) scanner.old (zone_text name ∷ others) → GivesName E.cause Octets.Builder.room (name ++ [] ∷ []) result }
-    ensures rest { (token : Token) (others : List Token) → HasTokens (⟦<IterScanner<Iter, Octets, E> as Scanner>⟧.next_token) scanner.old (token ∷ others)
-        → HasTokens (⟦<IterScanner<Iter, Octets, E> as Scanner>⟧.next_token) scanner.new others }
+    ensures takes { TakesOne (⟦<IterScanner<Iter, Octets, E> as Scanner>⟧.next_token) scanner.old scanner.new
+        (NameBack Octets (λ name. GivesName E.cause Octets.Builder.room name result)) }
 {
     scanner.scan_name()
 }
@@ -56,15 +40,8 @@ where
     Octets::Builder: EmptyBuilder + AsOctetsMut + Truncate + FreezeBuilder<Octets = Octets> + Drop,
     requires { ⟦<IterScanner<Iter, Octets, E> as Scanner>⟧.can_scan scanner.old }
     ensures ready { ⟦<IterScanner<Iter, Octets, E> as Scanner>⟧.can_scan scanner.new }
-    ensures whole { (token : Token) (others : List Token) (name : List (List ℕ)) → HasTokens (⟦<IterScanner<Iter, Octets, E> as Scanner>⟧.next_token) scanner.old (token ∷ others)
-        → ReadsAs {O = Octets} token (Absolute name) → wire_length name ≤ Octets.Builder.room.fits → result ≡ Ok name }
-    ensures zone { (name : List (List ℕ)) (others : List Token) → IsName name → EndsInRoot name → All (λ o. o < 256) (wire name)
-        → HasTokens (⟦<IterScanner<Iter, Octets, E> as Scanner>⟧.next_token) scanner.old (zone_text name ∷ others) → wire_length name ≤ Octets.Builder.room.fits → result ≡ Ok name }
-    ensures relative { (token : Token) (others : List Token) (name : List (List ℕ)) → HasTokens (⟦<IterScanner<Iter, Octets, E> as Scanner>⟧.next_token) scanner.old (token ∷ others)
-        → ReadsAs {O = Octets} token (Relative name) → name ≢ [] → wire_length (name ++ [] ∷ []) ≤ Octets.Builder.room.fits → result ≡ Ok (name ++ [] ∷ []) }
-    ensures relative_zone { (name : List (List ℕ)) (others : List Token) → IsUncertain {O = Octets} (Relative name) → name ≢ [] → All (λ o. o < 256) (wire name)
-        → HasTokens (⟦<IterScanner<Iter, Octets, E> as Scanner>⟧.next_token) scanner.old (zone_text name ∷ others)
-        → wire_length (name ++ [] ∷ []) ≤ Octets.Builder.room.fits → result ≡ Ok (name ++ [] ∷ []) }
+    ensures takes { TakesOne (⟦<IterScanner<Iter, Octets, E> as Scanner>⟧.next_token) scanner.old scanner.new
+        (NameBack Octets (λ name. wire_length name ≤ Octets.Builder.room.fits → result ≡ Ok name)) }
 {
     names_are_scanned_back(scanner)
 }

@@ -64,8 +64,9 @@ fn lines_are_scanned_back(rt: HostRuntime) -> Result<(), Fail> {
         let number = scanned(alloc, tokens[0].as_str(), FieldKind::Number);
         assert!(&rt; matches!(number, Ok(Scanned::Number(5))));
         let hex = scanned(alloc, tokens[1].as_str(), FieldKind::Hex);
+        let octets = [0xde, 0xad];
         assert!(&rt;
-            matches!(&hex, Ok(Scanned::Octets(o)) if AsOctets::as_slice(o) == [0xde, 0xad].as_slice())
+            matches!(&hex, Ok(Scanned::Octets(o)) if AsOctets::as_slice(o) == octets.as_slice())
         );
         let base64 = scanned(alloc, tokens[2].as_str(), FieldKind::Base64);
         assert!(&rt;

@@ -1,5 +1,5 @@
 -- What is read of the texts of fields is their values.
-use Rattle.std.proofs.Common.{ℕ, ◌+◌, ◌≡◌, ◌<◌, ◌≤◌, ◌^◌, Bool, List, [], ◌∷◌, ◌++◌, length, length-append, map, min}
+use Rattle.std.proofs.Common.{ℕ, ◌+◌, ◌≡◌, ◌<◌, ◌≤◌, ◌^◌, Bool, List, [], ◌∷◌, ◌++◌, length, length-append, map}
 use Rattle.std.proofs.Common.{refl, sym, ap, subst, ◌∙◌, arith, zero-add, inl, inr, ⊎_elim, None, Result, Ok, Err}
 use Rattle.std.specs.Prelude.{All, MatchResult, encode_utf8_all}
 use Rattle.std.specs.List.{concat}

@@ -1,5 +1,5 @@
 -- What is scanned of a record's text.
-use Rattle.std.specs.Prelude.{ℕ, List, ◌≡◌, ◌++◌, ◌⊎◌, Option, Result, IsOkAnd}
+use Rattle.std.specs.Prelude.{List, ◌≡◌, ◌++◌, ◌⊎◌, Option, Result, IsOkAnd}
 use Rattle.dns_octets.specs.Room.{Room}
 use Rattle.dns_symbol.specs.Cause.{Cause, IsCause, short_buf}
 use Rattle.dns_scan.specs.Stands.{HasTokens}

@@ -291,8 +291,8 @@ fn lacked(
     Ok(())
 }
 
-// Whichever growth is refused, the text is the same record or lacks memory. Each growth of a scan is
-// refused in turn, until none is: then the value comes.
+// Whichever growth is refused, the text is the same record or lacks memory. Each growth of a scan
+// is refused in turn, until none is: then the value comes.
 macro_rules! refuse_growths {
     ($rt:ident, $data:ty, $text:expr, $value:ident => $found:expr, $wanted:expr) => {{
         let alloc = $rt.alloc();
@@ -319,17 +319,26 @@ fn growths_of_mx_refused(rt: HostRuntime) -> Result<(), Fail> {
 
 #[test]
 fn growths_of_txt_refused(rt: HostRuntime) -> Result<(), Fail> {
-    refuse_growths!(rt, Txt<Hostile<'_>, &Refusing<Global>>, "a \"b c\" d", txt => txt.strings.as_slice().len(), 3)
+    refuse_growths!(
+        rt, Txt<Hostile<'_>, &Refusing<Global>>, "a \"b c\" d",
+        txt => txt.strings.as_slice().len(), 3
+    )
 }
 
 #[test]
 fn growths_of_ds_refused(rt: HostRuntime) -> Result<(), Fail> {
-    refuse_growths!(rt, Ds<Hostile<'_>>, "60485 5 1 2BB183AF 5F225881", ds => ds.digest.as_slice().len(), 8)
+    refuse_growths!(
+        rt, Ds<Hostile<'_>>, "60485 5 1 2BB183AF 5F225881",
+        ds => ds.digest.as_slice().len(), 8
+    )
 }
 
 #[test]
 fn growths_of_caa_refused(rt: HostRuntime) -> Result<(), Fail> {
-    refuse_growths!(rt, Caa<Hostile<'_>>, "0 issue \"ca1.example.net\"", caa => caa.value.as_slice().len(), 15)
+    refuse_growths!(
+        rt, Caa<Hostile<'_>>, "0 issue \"ca1.example.net\"",
+        caa => caa.value.as_slice().len(), 15
+    )
 }
 
 #[test]

@@ -1,8 +1,16 @@
 -- Tokens of octets, and what is answered of them.
-use Rattle.std.specs.Prelude.{ℕ, List, ◌≡◌, ◌<◌, ◌⊎◌, Result, IsOkAnd, encode_utf8_all, length}
+use Rattle.std.specs.Prelude.{ℕ, List, ◌≡◌, ◌<◌, ◌≤◌, ◌⊎◌, All, Option, None, Ok, Result, IfOk, IsOkAnd, encode_utf8_all, length, map}
 use Rattle.dns_octets.specs.Room.{Room}
+use Rattle.dns_symbol.specs.declared.symbol.Symbol.{Symbol as PlainSymbol}
+use Rattle.dns_symbol.specs.declared.error.SymbolCharsError.{SymbolCharsError}
 use Rattle.dns_symbol.specs.Printed.{text_of, is_quoted_escape, is_unquoted_escape}
 use Rattle.dns_symbol.specs.Cause.{Cause, short_buf, IsCause}
+use Rattle.dns_symbol.specs.Symbol.{octet_of}
+use Rattle.dns_symbol.specs.Text.{SymbolsOf}
+use Rattle.dns_charstr.specs.Limits.{max_string}
+use Rattle.dns_charstr.specs.Reading.{HasOctets}
+use Rattle.dns_scan.specs.Answers.{AnswersGiven}
+use Rattle.dns_scan.specs.Steps.{octet_given}
 use Rattle.dns_scan.specs.Tokens.{Token}
 
 -- the token that octets print as in the unquoted form
@@ -20,3 +28,16 @@ IsPrinted token octets = (token ≡ unquoted_token octets) ⊎ (token ≡ quoted
 -- the answer is these octets, or "short buffer" where they are more than surely fit
 abbrev pub GivesWhere : {O E : Type 0} → (E → Cause) → (O → List ℕ) → Room → List ℕ → Result O E → Type 0
 GivesWhere cause value room octets r = IsOkAnd r (λ x. value x ≡ octets) ⊎ (IsCause cause r short_buf × (room.fits < length octets))
+
+-- r is what a token is scanned as that stands for a character string: its octets, where there is room
+pub record StringBack {E : Type 0} (cause : E → Cause) (room : Room) (token : Token) (r : Result (List ℕ) E) : Type 0 where
+  -- of any token that has octets
+  pub whole : (octets : List ℕ) → HasOctets token octets → GivesWhere cause (λ s. s) room octets r
+  -- of a printed text
+  pub printed : (octets : List ℕ) → All (λ o. o < 256) octets → IsPrinted token octets → GivesWhere cause (λ s. s) room octets r
+  -- and else its first fault
+  pub answer : (symbols : List PlainSymbol) (error : Option SymbolCharsError) → SymbolsOf token symbols error
+      → AnswersGiven octet_given room cause (λ s. s) symbols error r
+  -- no other token is scanned
+  pub only : (symbols : List PlainSymbol) (error : Option SymbolCharsError) → SymbolsOf token symbols error
+      → IfOk r (λ s. (error ≡ None) × (map octet_of symbols ≡ map Ok s) × (length symbols ≤ max_string))

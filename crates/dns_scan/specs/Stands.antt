@@ -32,3 +32,7 @@ module _ {S : Type 0} (next : S → Option Token → S → Type 0) where
   -- one that takes none stands before the same tokens
   pub stands_same : (s u : S) (ts : List Token) → HasTokens s ts → TakesNothing next s u → HasTokens u ts
   stands_same s u ts h k = record { calls = λ n. same_for n s u ts k (h.calls n) }
+
+  -- where old stands before one token and others, that token is taken as P says, and new stands before the others
+  abbrev pub TakesOne : S → S → (Token → Type 0) → Type 0
+  TakesOne old new P = (token : Token) (others : List Token) → HasTokens old (token ∷ others) → P token × HasTokens new others

@@ -16,10 +16,10 @@ ghost use Rattle.dns_scan.specs.Entries.{AsksToken, Converts, ConvertInEntry};
 ghost use Rattle.dns_scan.specs.Join.{CallsTokens, ConvertsTokens, IsJoin, IsSymbols, LeavesOf, handed_over};
 ghost use Rattle.dns_scan.specs.Kinds.{KindReads};
 ghost use Rattle.dns_scan.specs.Numbers.{IsNumber};
-ghost use Rattle.dns_scan.specs.Octets.{GivesWhere, IsPrinted, unquoted_token, quoted_token};
+ghost use Rattle.dns_scan.specs.Octets.{GivesWhere, IsPrinted, StringBack};
 ghost use Rattle.dns_scan.specs.Reads.{NumberReads, OctetsRead, ReadInOneWay, ReadsBoth, ReadsEach, ReadsFirst, ReadsInOneWay, ReadsInTurn};
 ghost use Rattle.dns_scan.specs.Steps.{octet_given};
-ghost use Rattle.dns_scan.specs.Stands.{HasTokens};
+ghost use Rattle.dns_scan.specs.Stands.{HasTokens, TakesOne};
 ghost use Rattle.dns_scan.specs.Strings.{AnswersStrings};
 ghost use Rattle.dns_scan.specs.Tokens.{Token};
 ghost use Rattle.dns_charstr.specs.Limits.{max_string};
@@ -42,17 +42,7 @@ pub fn character_strings_are_scanned_back<S: Scanner>(
 ) -> Result<CharStr<S::Octets>, S::Error>
     requires { S.can_scan scanner.old }
     ensures ready { S.can_scan scanner.new }
-    ensures whole { (token : Token) (others : List Token) (octets : List ℕ) → HasTokens S.next_token scanner.old (token ∷ others)
-        → HasOctets token octets → GivesWhere S.Error.cause (λ s. s) (within max_string S.OctetsBuilder.room) octets result }
-    ensures unquoted { (octets : List ℕ) (others : List Token) → All (λ o. o < 256) octets → HasTokens S.next_token scanner.old (unquoted_token octets ∷ others)
-        → GivesWhere S.Error.cause (λ s. s) (within max_string S.OctetsBuilder.room) octets result }
-    ensures quoted { (octets : List ℕ) (others : List Token) → All (λ o. o < 256) octets → HasTokens S.next_token scanner.old (quoted_token octets ∷ others)
-        → GivesWhere S.Error.cause (λ s. s) (within max_string S.OctetsBuilder.room) octets result }
-    ensures answer { (token : Token) (others : List Token) (symbols : List PlainSymbol) (error : Option SymbolCharsError) → HasTokens S.next_token scanner.old (token ∷ others)
-        → SymbolsOf token symbols error → AnswersGiven octet_given (within max_string S.OctetsBuilder.room) S.Error.cause (λ s. s) symbols error result }
-    ensures only { (token : Token) (others : List Token) (symbols : List PlainSymbol) (error : Option SymbolCharsError) → HasTokens S.next_token scanner.old (token ∷ others)
-        → SymbolsOf token symbols error → IfOk result (λ s. (error ≡ None) × (map octet_of symbols ≡ map Ok s) × (length symbols ≤ max_string)) }
-    ensures rest { (token : Token) (others : List Token) → HasTokens S.next_token scanner.old (token ∷ others) → HasTokens S.next_token scanner.new others }
+    ensures takes { TakesOne S.next_token scanner.old scanner.new (λ token. StringBack S.Error.cause (within max_string S.OctetsBuilder.room) token result) }
 {
     scanner.scan_charstr()
 }
