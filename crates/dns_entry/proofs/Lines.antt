@@ -79,7 +79,7 @@ first_found fields i x h e line none = record {
   empty = none;
 }
 
--- the writer stands in the line's block, behind the tokens of some fields
+-- the writer stands in the line's block, after the tokens of some fields
 pub record InLine {F : Type 0} (blocks : F → ℕ) (gives : F → Step → F → Type 0) (w : F) (fields : List Content) (v : F) : Type 0 where
   pub inside : 0 < blocks v
   pub runs : Runs blocks gives w (map field_step fields) v

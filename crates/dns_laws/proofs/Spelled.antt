@@ -122,7 +122,7 @@ module _ (codec : Codec) where
         (λ i. then_made (one i).0 (λ o. converted codec (one i).1 (built ++ o) xs None))
         ∙ ap (λ go. then_made (codec.step held (Char c)).0 go) (λ i o. by_chars (codec.step held (Char c)).1 (built ++ o) xs cs others i)
 
-    -- symbols that convert to octets have characters, and nothing stands behind them
+    -- symbols that convert to octets have characters, and nothing stands after them
     have_chars : (held : codec.Held) (built : List ℕ) (xs : List Symbol) (error : Option SymbolCharsError) (octets : List ℕ) → converted codec held built xs error ≡ Ok octets
         → (error ≡ None) × ((text : List ℕ) × (map char_of xs ≡ map Ok text))
     have_chars held built [] None octets e = (refl, ([], refl))

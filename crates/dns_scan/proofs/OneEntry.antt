@@ -106,7 +106,7 @@ printed_read (t ∷ ts) (s ∷ ss) z b = (
     quoted = record { symbols = map (symbol_of is_quoted_escape) s; read = printed_symbols is_quoted_escape quoted_form s bytes; octets_are = printed_octets is_quoted_escape s }
 
 module _ (room : Room) where
-  -- a character string is refused for want of room alone
+  -- a character string is refused for lack of room alone
   pub string_fault : (t : Token) (o : List ℕ) (count : ℕ) (why : Cause) → HasOctets t o → Short o → IsStringFault room count t why → (why ≡ short_buf) × (room.fits < count + length (wire_of o))
   string_fault t o count why has short (inl h) =
       let same = symbols_same t h.0 has.symbols h.1 None h.2 has.read in
@@ -135,7 +135,7 @@ module _ (room : Room) where
       let more = cut_at xs t rest ss z.1 (All-tail Short s ss short) in
       (s ∷ more.0, more.1, (z.0, more.2), more.3, more.4, omega (arith, more.5, length-append (wire_of s) (wires ss), length-append (wire_of s) (wires more.0)))
 
-  -- tokens that are character strings are answered by their wire forms, or for want of room
+  -- tokens that are character strings are answered by their wire forms, or for lack of room
   pub strings_whole : {O E : Type 0} (cause : E → Cause) (value : O → List ℕ) (tokens : List Token) (strings : List (List ℕ)) (r : Result O E) (rest : List Token)
       → AllZip HasOctets tokens strings → All Short strings → AnswersStrings room cause value tokens r rest → GivesWhere cause value room (wires strings) r
   strings_whole cause value tokens strings (Ok x) rest read short h = inl (h.0.joined ∙ ap wires (strings_same tokens h.0.strings strings h.0.read read))

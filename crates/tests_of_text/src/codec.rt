@@ -456,12 +456,12 @@ fn converters_go_on(rt: HostRuntime) {
     takes_each(&rt, &mut base64, "g=", Ok(None));
     takes_each(&rt, &mut base64, "=", Ok(Some(b"f")));
 
-    // After a refused character behind `xx=` all is refused.
-    let mut spoiled = base64::SymbolConverter::new();
-    takes_each(&rt, &mut spoiled, "Zg=", Ok(None));
-    takes_each(&rt, &mut spoiled, "a=Zg", refused("illegal Base 64 data"));
-    takes(&rt, &mut spoiled, EntrySymbol::EndOfToken, Ok(None));
-    ends(&rt, &mut spoiled, refused("incomplete Base 64 data"));
+    // After a refused character that follows `xx=` all is refused.
+    let mut failed = base64::SymbolConverter::new();
+    takes_each(&rt, &mut failed, "Zg=", Ok(None));
+    takes_each(&rt, &mut failed, "a=Zg", refused("illegal Base 64 data"));
+    takes(&rt, &mut failed, EntrySymbol::EndOfToken, Ok(None));
+    ends(&rt, &mut failed, refused("incomplete Base 64 data"));
 }
 
 // The tail changes nothing, refused or not.
@@ -520,14 +520,14 @@ fn clones_of_base64_go_on_alike(rt: HostRuntime) -> Result<(), Fail> {
     equal(&rt, &lent, &b"f".as_slice(), "lent");
     let trailing = Err("trailing Base 64 data");
     made_is(&rt, converted(done, &[plain('=')]), trailing);
-    let mut spoiled = half.clone()?;
+    let mut failed = half.clone()?;
     made_is(&rt, converted(half, &[plain('=')]), Ok(b"f"));
-    takes_each(&rt, &mut spoiled, "a", refused("illegal Base 64 data"));
-    let copy = spoiled.clone()?;
+    takes_each(&rt, &mut failed, "a", refused("illegal Base 64 data"));
+    let copy = failed.clone()?;
     let incomplete = Err("incomplete Base 64 data");
     made_is(&rt, converted(copy, &[]), incomplete);
     let end = [EntrySymbol::EndOfToken];
-    made_is(&rt, converted(spoiled, &end), incomplete);
+    made_is(&rt, converted(failed, &end), incomplete);
     Ok(())
 }
 

@@ -197,7 +197,7 @@ fn tells_refusals(rt: HostRuntime) {
     text_is(&rt, &text, "buffer size exceeded");
 }
 
-/// A text is split; the answer is the ample one, or want of memory where a growth is refused.
+/// A text is split; the answer is the ample one, or lack of memory where a growth is refused.
 #[derive(Drop)]
 struct Growing<'a> {
     alloc: Global,
@@ -221,7 +221,7 @@ const GROWING_TEXTS: [(&str, u64); 3] = [
     ("", 1),
 ];
 
-// The entries, or want of memory, whichever growth is refused.
+// The entries, or lack of memory, whichever growth is refused.
 #[test]
 fn splits_where_a_growth_is_refused(rt: HostRuntime) -> Result<(), Fail> {
     let alloc = rt.alloc();

@@ -20,7 +20,7 @@ returns-in_ok-scan-in-Number g c =
     let road = YieldsList-from_once (Some c.args.text) c.once.ensures.item in
     subst (λ k. Holds k c.args.text.now (number c.in_ok-scan-in-Number.field-0)) (sym c.in-Number.is)
     (number_held {E = Cause} (λ why. why) (greatest 32) c.args.text.now c.in_ok-scan-in-Number.field-0
-        (c.in_ok-scan-in-Number.ensures.reads (c.args.text.now ∷ []) (c.new-scanner.ensures.stands _ (texts_from road))).1.0)
+    (c.in_ok-scan-in-Number.ensures.reads (c.args.text.now ∷ []) (c.new-scanner.ensures.stands _ (texts_from road))).1.0)
 
 pub returns-in_err-scan-in-Number : goal.returns-in_err-scan-in-Number
 returns-in_err-scan-in-Number g c =
