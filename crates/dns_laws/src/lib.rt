@@ -14,8 +14,6 @@ pub mod entries;
 pub mod lines;
 pub mod names;
 pub mod strings;
-#[cfg(test)]
-mod tests;
 
 pub use dns_zone_laws::laws as layouts;
 

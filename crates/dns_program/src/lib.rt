@@ -5,5 +5,3 @@
 mod line;
 mod print;
 pub mod program;
-#[cfg(test)]
-mod tests;

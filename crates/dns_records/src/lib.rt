@@ -5,6 +5,4 @@ pub mod caa;
 pub mod ds;
 pub mod mx;
 pub mod soa;
-#[cfg(test)]
-mod tests;
 pub mod txt;

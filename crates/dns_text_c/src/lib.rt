@@ -16,6 +16,4 @@ pub mod outcome;
 pub mod pieces;
 pub mod status;
 pub mod strings;
-#[cfg(test)]
-mod tests;
 pub mod tokens;

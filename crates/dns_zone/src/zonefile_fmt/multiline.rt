@@ -169,36 +169,3 @@ impl<W: fmt::Write> FormatWriter for MultiLineWriter<W> {
         self.blocks
     }
 }
-
-#[cfg(test)]
-mod tests {
-    use super::{Line, MultiLineWriter};
-    use crate::zonefile_fmt::FormatWriter;
-    use std::alloc::Global;
-    use std::test::Fail;
-
-    /// A writer with so many open blocks and bytes on its line.
-    fn writer_at(alloc: Global, blocks: usize, column: usize) -> MultiLineWriter<String> {
-        MultiLineWriter {
-            first: false,
-            blocks,
-            block_indent: None,
-            line: Line {
-                column,
-                writer: String::new(alloc),
-            },
-        }
-    }
-
-    #[test]
-    fn counts_at_their_end(rt: HostRuntime) -> std::result::Result<(), Fail> {
-        let alloc = rt.alloc();
-        let most = usize::MAX;
-        assert!(rt; writer_at(alloc, most, 0).begin_block().is_err());
-        assert!(rt; writer_at(alloc, 0, most).fmt_token("a").is_err());
-        assert!(rt; writer_at(alloc, 0, most - 2).fmt_token("a").is_ok());
-        assert!(rt; writer_at(alloc, 0, most - 2).begin_block().is_err());
-        assert!(rt; writer_at(alloc, 0, most - 3).begin_block().is_ok());
-        Ok(())
-    }
-}

@@ -95,21 +95,3 @@ impl<W: fmt::Write> FormatWriter for SimpleWriter<W> {
         self.blocks
     }
 }
-
-#[cfg(test)]
-mod tests {
-    use super::SimpleWriter;
-    use crate::zonefile_fmt::FormatWriter;
-    use std::test::Fail;
-
-    #[test]
-    fn counts_at_their_end(rt: HostRuntime) -> std::result::Result<(), Fail> {
-        let mut writer = SimpleWriter {
-            first: true,
-            blocks: usize::MAX,
-            writer: String::new(rt.alloc()),
-        };
-        assert!(rt; writer.begin_block().is_err());
-        Ok(())
-    }
-}

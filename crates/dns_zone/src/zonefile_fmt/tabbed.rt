@@ -112,22 +112,3 @@ impl<W: fmt::Write> FormatWriter for TabbedWriter<W> {
         self.blocks
     }
 }
-
-#[cfg(test)]
-mod tests {
-    use super::TabbedWriter;
-    use crate::zonefile_fmt::FormatWriter;
-    use std::test::Fail;
-
-    #[test]
-    fn counts_at_their_end(rt: HostRuntime) -> std::result::Result<(), Fail> {
-        let mut writer = TabbedWriter {
-            first: true,
-            first_block: true,
-            blocks: usize::MAX,
-            writer: String::new(rt.alloc()),
-        };
-        assert!(rt; writer.begin_block().is_err());
-        Ok(())
-    }
-}

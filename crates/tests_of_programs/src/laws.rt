@@ -1,8 +1,9 @@
-use crate::lines::{Refusal, Scanned, fields_are_scanned_back, fields_split};
-use crate::strings::unquoted_text_is_a_token;
+//! Laws across crates, at work.
 use dns_charstr::charstr::CharStr;
 use dns_entry::entry::{EntryError, Field};
 use dns_iter::{IterScanner, StrError};
+use dns_laws::lines::{Refusal, Scanned, fields_are_scanned_back, fields_split};
+use dns_laws::strings::unquoted_text_is_a_token;
 use dns_octets::AsOctets;
 use dns_program::program::FieldKind;
 use dns_zone::zonefile_fmt::{DisplayKind, ZonefileFmt};

@@ -1,5 +1,5 @@
 //! What the program prints and answers.
-use crate::program;
+use dns_program::program;
 use std::alloc::Global;
 use std::fmt;
 use std::test::Fail;
@@ -17,7 +17,7 @@ const USAGE: &str = "usage: dnstext scan|print|line KIND WORD..\n";
 #[test]
 fn values_are_printed(rt: HostRuntime) {
     let alloc = rt.alloc();
-    let cases: [(&[&str], &str, &str, u8); 24] = [
+    let cases: [(&[&str], &str, &str, u8); 25] = [
         (
             &["scan", "charstr", "foo\\112", "f\\\"oo"],
             "foop\nf\\\"oo\n",
@@ -112,6 +112,12 @@ fn values_are_printed(rt: HostRuntime) {
             "refused: end without begin at 1\n",
             1,
         ),
+        (
+            &["print", "tabbed", "t:"],
+            "",
+            "refused: bad token at 0\n",
+            1,
+        ),
     ];
     for (words, printed, refused, status) in cases {
         assert!(rt;
@@ -124,13 +130,15 @@ fn values_are_printed(rt: HostRuntime) {
 #[test]
 fn unknown_words_are_refused(rt: HostRuntime) {
     let alloc = rt.alloc();
-    let cases: [&[&str]; 11] = [
+    let cases: [&[&str]; 13] = [
         &[],
         &["scan"],
         &["scan", "colour", "a"],
         &["paint", "charstr", "a"],
         &["print"],
         &["print", "tabbed", "x"],
+        &["print", "Simple"],
+        &["print", "simple", "t:a", "n "],
         &["line"],
         &["line", "wide", "n:5"],
         &["line", "simple", "q:1"],

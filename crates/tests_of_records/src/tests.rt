@@ -1,9 +1,9 @@
 //! Texts of the standards to records and back, in three layouts.
-use crate::caa::Caa;
-use crate::ds::Ds;
-use crate::mx::Mx;
-use crate::soa::Soa;
-use crate::txt::Txt;
+use dns_records::caa::Caa;
+use dns_records::ds::Ds;
+use dns_records::mx::Mx;
+use dns_records::soa::Soa;
+use dns_records::txt::Txt;
 use dns_text::charstr::CharStr;
 use dns_text::document::split;
 use dns_text::record::{RecordData, Strings, record_reads_back, scan_record};
