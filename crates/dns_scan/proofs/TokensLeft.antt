@@ -18,6 +18,15 @@ pub some_left : (ts : List Token) (o : Option Token) → o ≡ first_of ts → t
 some_left [] o is h = λ e. let z : true ≡ false = h ∙ ap is_some is in cc
 some_left (t ∷ ts) o is h = λ e. cc
 
+-- so tokens are left where it finds one, and none where it does not
+pub peeked_some : {S : Type 0} (next : S → Option Token → S → Type 0) (u v : S) (o : Option Token) (ts : List Token) → HasTokens next u ts → Peeks next u v o → true ≡ is_some o
+    → (ts ≢ []) × HasTokens next v ts
+peeked_some next u v o ts stands p some = let left = peeked next u v o ts stands p in (some_left ts o left.0 some, left.1)
+
+pub peeked_none : {S : Type 0} (next : S → Option Token → S → Type 0) (u v : S) (o : Option Token) (ts : List Token) → HasTokens next u ts → Peeks next u v o → false ≡ is_some o
+    → (ts ≡ []) × HasTokens next v ts
+peeked_none next u v o ts stands p none = let left = peeked next u v o ts stands p in (none_left ts o left.0 none, left.1)
+
 -- what holds by whether a token is left
 pub when_some : (P : Type 0) (Q : Token → Type 0) (ts : List Token) (o : Option Token) → o ≡ first_of ts → true ≡ is_some o → ((t : Token) → Q t) → MatchOption (first_of ts) P Q
 when_some P Q [] o is h q = absurd (some_left [] o is h refl)

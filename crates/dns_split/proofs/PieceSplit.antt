@@ -22,29 +22,36 @@ between_is before w rest text at e k =
     let n : at + length w - at ≡ length w = omega arith in
     ap (λ l. take (at + length w - at) (drop at l)) (sym e) ∙ ap (take (at + length w - at)) (drop_at before (w ++ rest) at (sym k)) ∙ ap (λ i. take i (w ++ rest)) n ∙ take-append_seam w rest
 
+-- a reading of lexemes and one of their pieces say the same
+abbrev pub Agrees : {A : Type 0} → (ℕ → Bool → List Lexeme → A) → (List ℕ → List Piece → A) → List Lexeme → Type 0
+Agrees of_lexemes of_pieces ls = (text before : List ℕ) (d at : ℕ) (b : Bool) → before ++ flat_map bytes ls ≡ text → at ≡ length before → nests d ls ≡ true
+    → of_lexemes d b ls ≡ of_pieces text (pieces at d b ls)
+
+-- and so they do past a lexeme
+pub past : {A : Type 0} (of_lexemes : ℕ → Bool → List Lexeme → A) (of_pieces : List ℕ → List Piece → A) (l : Lexeme) (ls : List Lexeme) → Agrees of_lexemes of_pieces ls
+    → (text before : List ℕ) (d at : ℕ) (b : Bool) → before ++ flat_map bytes (l ∷ ls) ≡ text → at ≡ length before → nests d ls ≡ true
+    → of_lexemes d b ls ≡ of_pieces text (pieces (at + length (bytes l)) d b ls)
+past of_lexemes of_pieces l ls agrees text before d at b e k n =
+    agrees text (before ++ bytes l) d (at + length (bytes l)) b (append_assoc before (bytes l) (flat_map bytes ls) ∙ e) (omega (arith, k, length-append before (bytes l))) n
+
 -- the tokens of pieces, cut where entries end, are the entries
-abbrev Cuts : List Lexeme → Type 0
-Cuts ls = (text before : List ℕ) (d at : ℕ) (b : Bool) → before ++ flat_map bytes ls ≡ text → at ≡ length before → nests d ls ≡ true → entries d ls ≡ cut text (pieces at d b ls)
+abbrev entries_at : ℕ → Bool → List Lexeme → Entries
+entries_at d b ls = entries d ls
 
-on : (l : Lexeme) (ls : List Lexeme) → Cuts ls → (text before : List ℕ) (d at : ℕ) (b : Bool) → before ++ flat_map bytes (l ∷ ls) ≡ text → at ≡ length before → nests d ls ≡ true
-    → entries d ls ≡ cut text (pieces (at + length (bytes l)) d b ls)
-on l ls ih text before d at b e k n = ih text (before ++ bytes l) d (at + length (bytes l)) b (append_assoc before (bytes l) (flat_map bytes ls) ∙ e)
-    (omega (arith, k, length-append before (bytes l))) n
-
-cuts : (ls : List Lexeme) → Cuts ls
+cuts : (ls : List Lexeme) → Agrees entries_at cut ls
 cuts [] text before d at b e k n = refl
-cuts (Open ∷ ls) text before d at b e k n = on Open ls (cuts ls) text before (suc d) at b e k n
+cuts (Open ∷ ls) text before d at b e k n = past entries_at cut Open ls (cuts ls) text before (suc d) at b e k n
 cuts (Close ∷ ls) text before zero at b e k n = cc
-cuts (Close ∷ ls) text before (suc d) at b e k n = on Close ls (cuts ls) text before d at b e k n
-cuts (Line r ∷ ls) text before zero at b e k n = ap (λ x. [] ∷ x) (on (Line r) ls (cuts ls) text before zero at (begins_blank ls) e k n)
-cuts (Line r ∷ ls) text before (suc d) at b e k n = on (Line r) ls (cuts ls) text before (suc d) at b e k n
-cuts (Blank t ∷ ls) text before d at b e k n = on (Blank t) ls (cuts ls) text before d at b e k n
-cuts (Note cs ∷ ls) text before d at b e k n = on (Note cs) ls (cuts ls) text before d at b e k n
+cuts (Close ∷ ls) text before (suc d) at b e k n = past entries_at cut Close ls (cuts ls) text before d at b e k n
+cuts (Line r ∷ ls) text before zero at b e k n = ap (λ x. [] ∷ x) (past entries_at cut (Line r) ls (cuts ls) text before zero at (begins_blank ls) e k n)
+cuts (Line r ∷ ls) text before (suc d) at b e k n = past entries_at cut (Line r) ls (cuts ls) text before (suc d) at b e k n
+cuts (Blank t ∷ ls) text before d at b e k n = past entries_at cut (Blank t) ls (cuts ls) text before d at b e k n
+cuts (Note cs ∷ ls) text before d at b e k n = past entries_at cut (Note cs) ls (cuts ls) text before d at b e k n
 cuts (Word y ss ∷ ls) text before d at b e k n =
-    ap (with_token (bytes (Word y ss))) (on (Word y ss) ls (cuts ls) text before d at b e k n)
+    ap (with_token (bytes (Word y ss))) (past entries_at cut (Word y ss) ls (cuts ls) text before d at b e k n)
     ∙ ap (λ t. with_token t (cut text (pieces (at + length (bytes (Word y ss))) d b ls))) (sym (between_is before (bytes (Word y ss)) (flat_map bytes ls) text at e k))
 cuts (Quote ss ∷ ls) text before d at b e k n =
-    ap (with_token (bytes (Quote ss))) (on (Quote ss) ls (cuts ls) text before d at b e k n)
+    ap (with_token (bytes (Quote ss))) (past entries_at cut (Quote ss) ls (cuts ls) text before d at b e k n)
     ∙ ap (λ t. with_token t (cut text (pieces (at + length (bytes (Quote ss))) d b ls))) (sym (between_is before (bytes (Quote ss)) (flat_map bytes ls) text at e k))
 
 pub pieces_split : (text : List ℕ) (found : List Piece) → IsPieces text found → Splits text (cut text found)

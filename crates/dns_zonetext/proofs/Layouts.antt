@@ -1,5 +1,5 @@
 -- What is laid out has the same entries.
-use Rattle.std.proofs.Common.{◌≡◌, ℕ, zero, suc, ◌+◌, Bool, true, false, ◌&&◌, ◌||◌, not, List, [], ◌∷◌, ◌++◌, length, refl, sym, ap, ◌∙◌, subst, arith, append_assoc, length-append}
+use Rattle.std.proofs.Common.{◌≡◌, ℕ, zero, suc, ◌+◌, Bool, true, false, ◌&&◌, ◌||◌, not, List, [], ◌∷◌, ◌++◌, length, refl, sym, ap, ◌∙◌, subst}
 use Rattle.std.specs.Prelude.{⊤, map, Option, Some, None, Ok, option_map, encode_utf8_all}
 use Rattle.std.specs.List.{flat_map}
 use lib.Utf8.{encode}
@@ -12,7 +12,7 @@ use Rattle.dns_split.specs.Lexeme.{Lexeme, Blank, Line, Open, Close, Note, Word,
 use Rattle.dns_split.specs.Splitting.{are_lexemes, may_precede, nests}
 use Rattle.dns_split.specs.Pieces.{pieces, begins_blank, IsPieces, moved, moved_piece, moved_fault, place_of}
 use Rattle.dns_split.proofs.Agree.{pieces_of_octets}
-use Rattle.dns_split.proofs.PieceSplit.{between_is, same_found}
+use Rattle.dns_split.proofs.PieceSplit.{between_is, Agrees, past, same_found}
 use Rattle.dns_zonetext.specs.declared.layout.Gap.{Gap}
 use Rattle.dns_zonetext.specs.declared.layout.Gap.TheVariants.{Space, Tab}
 use Rattle.dns_zonetext.specs.Entries.{Part, Token, Ends, parts, HasEntries}
@@ -30,28 +30,20 @@ parts_of d b (Word s ss ∷ ls) = Token (bytes (Word s ss)) ∷ parts_of d b ls
 parts_of d b (Quote ss ∷ ls) = Token (bytes (Quote ss)) ∷ parts_of d b ls
 parts_of d b (_ ∷ ls) = parts_of d b ls
 
-abbrev Cuts : List Lexeme → Type 0
-Cuts ls = (text before : List ℕ) (d at : ℕ) (b : Bool) → before ++ flat_map bytes ls ≡ text → at ≡ length before → nests d ls ≡ true → parts_of d b ls ≡ parts text (pieces at d b ls)
-
-on : (l : Lexeme) (ls : List Lexeme) → Cuts ls → (text before : List ℕ) (d at : ℕ) (b : Bool) → before ++ flat_map bytes (l ∷ ls) ≡ text → at ≡ length before → nests d ls ≡ true
-    → parts_of d b ls ≡ parts text (pieces (at + length (bytes l)) d b ls)
-on l ls ih text before d at b e k n = ih text (before ++ bytes l) d (at + length (bytes l)) b (append_assoc before (bytes l) (flat_map bytes ls) ∙ e)
-    (omega (arith, k, length-append before (bytes l))) n
-
-cuts : (ls : List Lexeme) → Cuts ls
+cuts : (ls : List Lexeme) → Agrees parts_of parts ls
 cuts [] text before d at b e k n = refl
-cuts (Open ∷ ls) text before d at b e k n = on Open ls (cuts ls) text before (suc d) at b e k n
+cuts (Open ∷ ls) text before d at b e k n = past parts_of parts Open ls (cuts ls) text before (suc d) at b e k n
 cuts (Close ∷ ls) text before zero at b e k n = cc
-cuts (Close ∷ ls) text before (suc d) at b e k n = on Close ls (cuts ls) text before d at b e k n
-cuts (Line r ∷ ls) text before zero at b e k n = ap (λ x. Ends b ∷ x) (on (Line r) ls (cuts ls) text before zero at (begins_blank ls) e k n)
-cuts (Line r ∷ ls) text before (suc d) at b e k n = on (Line r) ls (cuts ls) text before (suc d) at b e k n
-cuts (Blank t ∷ ls) text before d at b e k n = on (Blank t) ls (cuts ls) text before d at b e k n
-cuts (Note cs ∷ ls) text before d at b e k n = on (Note cs) ls (cuts ls) text before d at b e k n
+cuts (Close ∷ ls) text before (suc d) at b e k n = past parts_of parts Close ls (cuts ls) text before d at b e k n
+cuts (Line r ∷ ls) text before zero at b e k n = ap (λ x. Ends b ∷ x) (past parts_of parts (Line r) ls (cuts ls) text before zero at (begins_blank ls) e k n)
+cuts (Line r ∷ ls) text before (suc d) at b e k n = past parts_of parts (Line r) ls (cuts ls) text before (suc d) at b e k n
+cuts (Blank t ∷ ls) text before d at b e k n = past parts_of parts (Blank t) ls (cuts ls) text before d at b e k n
+cuts (Note cs ∷ ls) text before d at b e k n = past parts_of parts (Note cs) ls (cuts ls) text before d at b e k n
 cuts (Word y ss ∷ ls) text before d at b e k n =
-    ap (λ l. Token (bytes (Word y ss)) ∷ l) (on (Word y ss) ls (cuts ls) text before d at b e k n)
+    ap (λ l. Token (bytes (Word y ss)) ∷ l) (past parts_of parts (Word y ss) ls (cuts ls) text before d at b e k n)
     ∙ ap (λ t. Token t ∷ parts text (pieces (at + length (bytes (Word y ss))) d b ls)) (sym (between_is before (bytes (Word y ss)) (flat_map bytes ls) text at e k))
 cuts (Quote ss ∷ ls) text before d at b e k n =
-    ap (λ l. Token (bytes (Quote ss)) ∷ l) (on (Quote ss) ls (cuts ls) text before d at b e k n)
+    ap (λ l. Token (bytes (Quote ss)) ∷ l) (past parts_of parts (Quote ss) ls (cuts ls) text before d at b e k n)
     ∙ ap (λ t. Token t ∷ parts text (pieces (at + length (bytes (Quote ss))) d b ls)) (sym (between_is before (bytes (Quote ss)) (flat_map bytes ls) text at e k))
 
 -- a word or a quoted text

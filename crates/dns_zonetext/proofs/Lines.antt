@@ -1,11 +1,11 @@
 -- What is left to lay out.
-use Rattle.std.proofs.Common.{◌≡◌, ℕ, Bool, true, false, ◌||◌, ◌&&◌, not, List, [], ◌∷◌, ◌++◌, refl, sym, ap, ◌∙◌, append_assoc}
+use Rattle.std.proofs.Common.{◌≡◌, ℕ, length, subst, Bool, true, false, ◌||◌, ◌&&◌, not, List, [], ◌∷◌, ◌++◌, refl, sym, ap, ◌∙◌, append_assoc}
 use Rattle.std.specs.Prelude.{if◌then◌else◌}
 use Rattle.std.specs.Prelude.{map, Result, Ok, Err, None, IfSome, encode_utf8_all}
 use Rattle.dns_split.specs.declared.pieces.Piece.{Piece}
 use Rattle.dns_split.specs.declared.pieces.Piece.TheVariants.{Word as WordAt, Quote as QuoteAt, Comment as CommentAt, End as EndAt}
 use Rattle.dns_split.specs.declared.pieces.Fault.{Fault}
-use Rattle.dns_split.specs.Pieces.{ReadsOctets, moved, next_blank, place_of}
+use Rattle.dns_split.specs.Pieces.{ReadsOctets, EachWithin, moved, next_blank, place_of}
 use Rattle.dns_split.proofs.PieceSplit.{closes, given_close}
 use Rattle.dns_zonetext.proofs.Givens.{first_fault, pieces_in}
 use Rattle.dns_zonetext.specs.Entries.{parts}
@@ -67,3 +67,24 @@ blank_known octets (Err f ∷ given) b c n h = cc
 pub left_none : (gap : Gap) (feed inside : Bool) → left gap feed inside [] ≡ []
 left_none gap true inside = refl
 left_none gap false inside = refl
+
+-- a token's turn: what is left to lay out after it
+pub token_turn : (gap : Gap) (octets whole out token pushed : List ℕ) (feed inside lead : Bool) (p : Piece) (given pieces rest : List (Result Piece Fault))
+    → pieces ≡ Ok p ∷ rest → ((ps : List Piece) → parts octets (p ∷ ps) ≡ Token token ∷ parts octets ps) → closes (not inside) (Ok p ∷ rest) ≡ closes false rest
+    → first_fault pieces ≡ first_fault given → EachWithin (length octets) pieces → closes (not inside) pieces ≡ true
+    → (first_fault given ≡ None → out ++ left gap feed inside (parts octets (pieces_in pieces)) ≡ whole)
+    → IfSome (next_blank rest) (λ b. lead ≡ b) → pushed ≡ out ++ feed_if feed ++ gap_if gap (inside || lead) ++ token
+    → (first_fault rest ≡ first_fault given) × EachWithin (length octets) rest × (closes false rest ≡ true)
+    × (first_fault given ≡ None → pushed ++ left gap false true (parts octets (pieces_in rest)) ≡ whole)
+token_turn gap octets whole out token pushed feed inside lead p given pieces rest now shown one fault within closed laid blank is =
+    let here : closes false rest ≡ true = sym one ∙ sym (ap (closes (not inside)) now) ∙ closed in
+    let first : first_fault rest ≡ first_fault given = ap first_fault (sym now) ∙ fault in
+    let es : List Part = parts octets (pieces_in rest) in (
+      first,
+      (subst (EachWithin (length octets)) now within).1,
+      here,
+      λ none.
+          let known : lead ≡ leads es = blank_known octets rest lead here (first ∙ none) blank in
+          ap (λ o. o ++ left gap false true es) is ∙ token_left gap feed inside (inside || lead) token out es (ap (λ b. inside || b) known)
+          ∙ ap (λ l. out ++ left gap feed inside l) (sym (shown (pieces_in rest))) ∙ ap (λ l. out ++ left gap feed inside (parts octets (pieces_in l))) (sym now) ∙ laid none,
+    )

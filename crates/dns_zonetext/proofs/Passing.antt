@@ -104,6 +104,19 @@ pub end_on : (given left now : List (Result Piece Fault)) (p : Piece) (at : ℕ)
 end_on given left now p at e (inl z) = inl z
 end_on given left now p at e (inr x) = inr (ended_before given left now p at e x)
 
+-- the pieces that were passed, and the last entry's end among them
+abbrev pub Walked : List (Result Piece Fault) → List (Result Piece Fault) → ℕ → Type 0
+Walked given left last = Passed given left × LastEnd given left last
+
+pub none_walked : (given : List (Result Piece Fault)) → Walked given given 0
+none_walked given = (none_passed given, inl refl)
+
+pub walked_on : (given left now : List (Result Piece Fault)) (p : Piece) (last : ℕ) → now ≡ Ok p ∷ left → Walked given now last → Walked given left last
+walked_on given left now p last e w = (one_passed given left now p e w.0, end_on given left now p last e w.1)
+
+pub walked_end : (given left now : List (Result Piece Fault)) (at last : ℕ) (blank : Bool) → now ≡ Ok (end_at at blank) ∷ left → Walked given now last → Walked given left at
+walked_end given left now at last blank e w = (one_passed given left now (end_at at blank) e w.0, inr (ended_here given left now at blank e w.0))
+
 pub before_on : (given left now : List (Result Piece Fault)) (p : Piece) (at : ℕ) → now ≡ Ok p ∷ left → EndBefore given now at → EndBefore given left at
 before_on given left now p at e (inl z) = inl z
 before_on given left now p at e (inr x) = inr (end_then_more given left now p at e x.0)

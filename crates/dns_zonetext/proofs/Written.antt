@@ -9,7 +9,7 @@ use Rattle.dns_zonetext.specs.declared.writer.Output.{Output}
 use Rattle.dns_zonetext.specs.Blocks.{Releases, Settled}
 use Rattle.dns_zonetext.specs.Held.{Held, Writing}
 use Rattle.dns_zonetext.specs.Place.{IsAt, feeds}
-use Rattle.dns_zonetext.specs.Writing.{Makes, Wrote}
+use Rattle.dns_zonetext.specs.Writing.{MadeAfter, Makes, WritesAll, Wrote}
 use Rattle.dns_zonetext.proofs.Cuts.{both_octets, read_on, take_octets}
 use Rattle.dns_zonetext.proofs.Givens.{moved_oks}
 use Rattle.dns_zonetext.proofs.Holding.{added, let_go}
@@ -44,6 +44,14 @@ pub wrote_rest : (all written more : List ℕ) (output : Output) (h : Held) (lin
 wrote_rest all written more output h lines x o is m =
     subst (λ l. Makes output l 0 (written ++ more)) (sym x.held.is)
     (makes_follow output x.held.before h.octets written more x.held.octets o x.held.ended x.made (counted output h.octets more x.held.before h lines x.held.position is m))
+
+-- what is held was written after the rest
+pub writes_all : (w : Writing) (octets from to : List ℕ) (output : Output) (h : Held) (lines : ℕ) → writing output h ≡ w → octets ≡ h.octets → AreOctets octets
+    → lines ≡ h.place.position.line - 1 → MadeAfter output octets lines from to → WritesAll w from to
+writes_all w octets from to output h lines is held o at m = λ all written x.
+    let made : Makes output h.octets lines m.0 = subst (λ l. Makes output l lines m.0) held m.2 in
+    let whole = wrote_rest all written m.0 output h lines (subst (Wrote all written) (sym is) x) (subst AreOctets held o) at made in
+    (m.0, m.1, subst (λ (w : Writing). Makes w.output all 0 (written ++ m.0)) is whole)
 
 -- and stays, where a fault does
 pub wrote_bad : (all written more rest : List ℕ) (output : Output) (h : Held) (lines : ℕ) (f : Fault) → Wrote all written (writing output h) → AreOctets h.octets → AreOctets rest

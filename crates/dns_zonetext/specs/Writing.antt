@@ -71,10 +71,14 @@ Writes old new block from to (Err (Wrong f)) = (all written : List ℕ) → Wrot
 Writes old new block from to (Err OutOfMemory) = ⊤
 Writes old new block from to (Err TooLong) = to ≡ from
 
--- and what is left of all octets that were added
+-- with this all is written that is made of the octets that were added
+abbrev pub WritesAll : Writing → List ℕ → List ℕ → Type 0
+WritesAll w from to = (all written : List ℕ) → Wrote all written w → (more : List ℕ) × (to ≡ from ++ more) × Makes w.output all 0 (written ++ more)
+
+-- so at the end, whether they are zone text or have a fault
 abbrev pub WritesRest : {U : Type 0} → Writing → List ℕ → List ℕ → Result U Halt → Type 0
-WritesRest w from to (Ok u) = (all written : List ℕ) → Wrote all written w → (more : List ℕ) × (to ≡ from ++ more) × Makes w.output all 0 (written ++ more)
-WritesRest w from to (Err (Wrong f)) = (all written : List ℕ) → Wrote all written w → (more : List ℕ) × (to ≡ from ++ more) × Makes w.output all 0 (written ++ more)
+WritesRest w from to (Ok u) = WritesAll w from to
+WritesRest w from to (Err (Wrong f)) = WritesAll w from to
 WritesRest w from to (Err OutOfMemory) = ⊤
 WritesRest w from to (Err TooLong) = ⊥
 

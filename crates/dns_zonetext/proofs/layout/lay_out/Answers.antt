@@ -1,12 +1,10 @@
-use Rattle.std.proofs.Common.{◌≡◌, ◌++◌, ◌∷◌, [], ◌||◌, not, true, false, length, refl, sym, ap, ◌∙◌, subst, append-nil}
+use Rattle.std.proofs.Common.{List, ◌≡◌, ◌++◌, ◌∷◌, [], refl, sym, ap, ◌∙◌, append-nil}
 use Rattle.std.specs.Prelude.{Some, None, Ok, Err}
-use Rattle.dns_split.specs.Pieces.{EachWithin, between}
+use Rattle.dns_split.specs.declared.pieces.Piece.{Piece}
 use Rattle.dns_split.specs.declared.pieces.Piece.TheVariants.{Word as WordAt, Quote as QuoteAt}
-use Rattle.dns_split.proofs.PieceSplit.{closes}
-use Rattle.dns_zonetext.specs.Entries.{parts}
-use Rattle.dns_zonetext.specs.Layout.{gap_if, leads}
+use Rattle.dns_zonetext.specs.Entries.{Token, parts}
 use Rattle.dns_zonetext.proofs.Givens.{first_fault, pieces_in, whole_of, fault_of}
-use Rattle.dns_zonetext.proofs.Lines.{left, left_none, feed_if, token_left, octets_close, blank_known}
+use Rattle.dns_zonetext.proofs.Lines.{left, left_none, token_turn, octets_close}
 use Rattle.dns_zonetext.proofs.layout.lay_out.Goals as goal
 
 pub loop-piece-init : goal.loop-piece-init
@@ -20,52 +18,26 @@ loop-piece-init g c = record {
 pub loop-piece-preserved-in-Ok-Word : goal.loop-piece-preserved-in-Ok-Word
 loop-piece-preserved-in-Ok-Word g c =
     let inv = c.loop-piece.invariant in
-    let p = c.in-Ok-Word.span in
-    let octets = c.args.octets.now in
+    let at = c.in-Ok-Word.span in
     let rest = c.next.new.self in
-    let feed = c.loop-piece.owes_feed in
-    let inside = c.loop-piece.inside in
-    let out = c.loop-piece.out.items in
-    let gap = c.args.gap in
-    let now : c.loop-piece.pieces ≡ Ok (WordAt p) ∷ rest = c.in-Some.ensures.steps ∙ ap (λ x. x ∷ rest) c.in-Ok-Word.is ∙ ap (λ x. Ok x ∷ rest) (rw c.in-Ok-Word.is at c.in-Ok-Word.field-0-is) in
-    let closed : closes false rest ≡ true = sym (ap (closes (not inside)) now) ∙ inv.closed in
-    let fault : first_fault rest ≡ first_fault c.of_octets-pieces.result = ap first_fault (sym now) ∙ inv.fault in
-    let es = parts octets (pieces_in rest) in
-    record {
-      fault = fault;
-      within = (subst (EachWithin (length octets)) now inv.within).1;
-      closed = closed;
-      out = λ none.
-          let known : c.begins_blank-leads.result ≡ leads es = blank_known octets rest c.begins_blank-leads.result closed (fault ∙ none) c.begins_blank-leads.ensures in
-          let pushed = c.in_ok-push_token-in-Ok-Word.ensures ∙ ap (λ t. out ++ feed_if feed ++ gap_if gap (inside || c.begins_blank-leads.result) ++ t) c.of_octets-word.ensures in
-          ap (λ o. o ++ left gap false true es) pushed ∙ token_left gap feed inside (inside || c.begins_blank-leads.result) (between octets p.start p.end) out es (ap (λ x. inside || x) known)
-          ∙ ap (λ l. out ++ left gap feed inside (parts octets (pieces_in l))) (sym now) ∙ inv.out none;
-    }
+    let now : c.loop-piece.pieces ≡ Ok (WordAt at) ∷ rest = c.in-Some.ensures.steps ∙ ap (λ x. x ∷ rest) c.in-Ok-Word.is ∙ ap (λ x. Ok x ∷ rest) (rw c.in-Ok-Word.is at c.in-Ok-Word.field-0-is) in
+    let shown = λ (ps : List Piece). ap (λ t. Token t ∷ parts c.args.octets.now ps) (sym c.of_octets-word.ensures) in
+    let turn =
+    token_turn c.args.gap c.args.octets.now _ c.loop-piece.out.items _ _ c.loop-piece.owes_feed c.loop-piece.inside _ (WordAt at) c.of_octets-pieces.result _ rest
+    now shown refl inv.fault inv.within inv.closed inv.out c.begins_blank-leads.ensures c.in_ok-push_token-in-Ok-Word.ensures in
+    record { fault = turn.0; within = turn.1; closed = turn.2; out = turn.3 }
 
 pub loop-piece-preserved-in-Ok-Quote : goal.loop-piece-preserved-in-Ok-Quote
 loop-piece-preserved-in-Ok-Quote g c =
     let inv = c.loop-piece.invariant in
-    let p = c.in-Ok-Quote.span in
-    let octets = c.args.octets.now in
+    let at = c.in-Ok-Quote.span in
     let rest = c.next.new.self in
-    let feed = c.loop-piece.owes_feed in
-    let inside = c.loop-piece.inside in
-    let out = c.loop-piece.out.items in
-    let gap = c.args.gap in
-    let now : c.loop-piece.pieces ≡ Ok (QuoteAt p) ∷ rest = c.in-Some.ensures.steps ∙ ap (λ x. x ∷ rest) c.in-Ok-Quote.is ∙ ap (λ x. Ok x ∷ rest) (rw c.in-Ok-Quote.is at c.in-Ok-Quote.field-0-is) in
-    let closed : closes false rest ≡ true = sym (ap (closes (not inside)) now) ∙ inv.closed in
-    let fault : first_fault rest ≡ first_fault c.of_octets-pieces.result = ap first_fault (sym now) ∙ inv.fault in
-    let es = parts octets (pieces_in rest) in
-    record {
-      fault = fault;
-      within = (subst (EachWithin (length octets)) now inv.within).1;
-      closed = closed;
-      out = λ none.
-          let known : c.begins_blank-begins.result ≡ leads es = blank_known octets rest c.begins_blank-begins.result closed (fault ∙ none) c.begins_blank-begins.ensures in
-          let pushed = c.in_ok-push_token-in-Ok-Quote.ensures ∙ ap (λ t. out ++ feed_if feed ++ gap_if gap (inside || c.begins_blank-begins.result) ++ t) c.of_octets-quote.ensures in
-          ap (λ o. o ++ left gap false true es) pushed ∙ token_left gap feed inside (inside || c.begins_blank-begins.result) (between octets p.start p.end) out es (ap (λ x. inside || x) known)
-          ∙ ap (λ l. out ++ left gap feed inside (parts octets (pieces_in l))) (sym now) ∙ inv.out none;
-    }
+    let now : c.loop-piece.pieces ≡ Ok (QuoteAt at) ∷ rest = c.in-Some.ensures.steps ∙ ap (λ x. x ∷ rest) c.in-Ok-Quote.is ∙ ap (λ x. Ok x ∷ rest) (rw c.in-Ok-Quote.is at c.in-Ok-Quote.field-0-is) in
+    let shown = λ (ps : List Piece). ap (λ t. Token t ∷ parts c.args.octets.now ps) (sym c.of_octets-quote.ensures) in
+    let turn =
+    token_turn c.args.gap c.args.octets.now _ c.loop-piece.out.items _ _ c.loop-piece.owes_feed c.loop-piece.inside _ (QuoteAt at) c.of_octets-pieces.result _ rest
+    now shown refl inv.fault inv.within inv.closed inv.out c.begins_blank-begins.ensures c.in_ok-push_token-in-Ok-Quote.ensures in
+    record { fault = turn.0; within = turn.1; closed = turn.2; out = turn.3 }
 
 pub locate-requires-clause-fault : goal.locate-requires-clause-fault
 locate-requires-clause-fault g c =
