@@ -7,12 +7,15 @@ use dns_zonetext::writer::Output;
 use std::alloc::{AllocError, Global};
 use std::io;
 
+/// What is said of `--quiet`.
+const QUIET: &str = "say nothing of how far reading has come";
+
 /// A command over any number of files.
 fn over_files<'a>(alloc: Global, name: &'a str, about: &'a str) -> Result<Command<'a>, AllocError> {
     let file = Arg::new(alloc, "FILE")
         .action(ArgAction::Append)
         .help("a zone file, or - for standard input");
-    let quiet = flag(alloc, "quiet", "say nothing of how far reading has come");
+    let quiet = flag(alloc, "quiet", QUIET);
     Command::new(alloc, name).about(about).arg(file)?.arg(quiet)
 }
 
@@ -24,40 +27,47 @@ fn flag<'a>(alloc: Global, name: &'a str, help: &'a str) -> Arg<'a> {
         .help(help)
 }
 
+/// Lists tokens.
+fn tokens_command<'a>(alloc: Global) -> Result<Command<'a>, AllocError> {
+    let about = "Write a line for each token, with its position";
+    let json = flag(alloc, "json", "write a JSON object for each token");
+    over_files(alloc, "tokens", about)?.arg(json)
+}
+
+/// Lays files out.
+fn fmt_command<'a>(alloc: Global) -> Result<Command<'a>, AllocError> {
+    let tabbed = flag(alloc, "tabbed", "put tabs between tokens");
+    over_files(alloc, "fmt", "Write each entry on a line of its own")?.arg(tabbed)
+}
+
+/// A file that has to be given.
+fn required_file<'a>(alloc: Global, name: &'a str, help: &'a str) -> Arg<'a> {
+    Arg::new(alloc, name)
+        .required(true)
+        .action(ArgAction::Set)
+        .help(help)
+}
+
+/// Compares two files.
+fn diff_command<'a>(alloc: Global) -> Result<Command<'a>, AllocError> {
+    Command::new(alloc, "diff")
+        .about("Say where the entries of two files differ first")
+        .arg(required_file(alloc, "A", "a zone file"))?
+        .arg(required_file(alloc, "B", "another"))?
+        .arg(flag(alloc, "quiet", QUIET))
+}
+
 /// The command line.
 fn command_line<'a>(alloc: Global) -> Result<Command<'a>, AllocError> {
-    let check = over_files(alloc, "check", "Say where files are not zone text")?;
-    let json = flag(alloc, "json", "write a JSON object for each token");
-    let tokens = over_files(
-        alloc,
-        "tokens",
-        "Write a line for each token, with its position",
-    )?
-    .arg(json)?;
-    let tabbed = flag(alloc, "tabbed", "put tabs between tokens");
-    let fmt = over_files(alloc, "fmt", "Write each entry on a line of its own")?.arg(tabbed)?;
-    let first = Arg::new(alloc, "A")
-        .required(true)
-        .action(ArgAction::Set)
-        .help("a zone file");
-    let second = Arg::new(alloc, "B")
-        .required(true)
-        .action(ArgAction::Set)
-        .help("another");
-    let quiet = flag(alloc, "quiet", "say nothing of how far reading has come");
-    let diff = Command::new(alloc, "diff")
-        .about("Say where the entries of two files differ first")
-        .arg(first)?
-        .arg(second)?
-        .arg(quiet)?;
-    Command::new(alloc, "zonetext")
+    let all = Command::new(alloc, "zonetext")
         .version("0.2.0")
         .about("Checks, lists, lays out and compares DNS zone files")
-        .subcommand_required(true)
-        .subcommand(check)?
-        .subcommand(tokens)?
-        .subcommand(fmt)?
-        .subcommand(diff)
+        .subcommand_required(true);
+    let check = over_files(alloc, "check", "Say where files are not zone text")?;
+    let all = all.subcommand(check)?;
+    let all = all.subcommand(tokens_command(alloc)?)?;
+    let all = all.subcommand(fmt_command(alloc)?)?;
+    all.subcommand(diff_command(alloc)?)
 }
 
 /// The words, parsed.
