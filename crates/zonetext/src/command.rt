@@ -27,20 +27,20 @@ fn flag<'a>(alloc: Global, name: &'a str, help: &'a str) -> Arg<'a> {
         .help(help)
 }
 
-/// Lists tokens.
+/// The command that lists tokens.
 fn tokens_command<'a>(alloc: Global) -> Result<Command<'a>, AllocError> {
     let about = "Write a line for each token, with its position";
     let json = flag(alloc, "json", "write a JSON object for each token");
     over_files(alloc, "tokens", about)?.arg(json)
 }
 
-/// Lays files out.
+/// The command that lays files out.
 fn fmt_command<'a>(alloc: Global) -> Result<Command<'a>, AllocError> {
     let tabbed = flag(alloc, "tabbed", "put tabs between tokens");
     over_files(alloc, "fmt", "Write each entry on a line of its own")?.arg(tabbed)
 }
 
-/// A file that has to be given.
+/// A file that must be given.
 fn required_file<'a>(alloc: Global, name: &'a str, help: &'a str) -> Arg<'a> {
     Arg::new(alloc, name)
         .required(true)
@@ -48,7 +48,7 @@ fn required_file<'a>(alloc: Global, name: &'a str, help: &'a str) -> Arg<'a> {
         .help(help)
 }
 
-/// Compares two files.
+/// The command that compares two files.
 fn diff_command<'a>(alloc: Global) -> Result<Command<'a>, AllocError> {
     Command::new(alloc, "diff")
         .about("Say where the entries of two files differ first")
