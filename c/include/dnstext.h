@@ -2,10 +2,10 @@
  *
  * Octets and texts are passed as a pointer and a length. The pointer may be NULL where the length is
  * 0. A text is its characters, one octet each, with no end mark. Whoever passes memory owns it: the
- * functions keep no pointer, and take no memory (dns_text_split alone does). While a call runs nobody
- * writes what it reads, and nobody reads or writes what it writes; what it writes overlaps nothing else
- * that it was passed. Octets need no alignment; structs are aligned as C aligns them, and a pointer to
- * one struct is not NULL.
+ * functions keep no pointer, and take no memory. While a call runs nobody writes what it reads, and
+ * nobody reads or writes what it writes; what it writes overlaps nothing else that it was passed.
+ * Octets need no alignment; structs are aligned as C aligns them, and a pointer to one struct is not
+ * NULL.
  *
  * A call answers one of the statuses below and writes a struct dns_outcome. What it gives stands at the
  * start of the memory that it was passed; what follows there stays as it was. Where there is no room,
@@ -28,7 +28,8 @@ enum dns_status {
     DNS_BAD_ESCAPE = 3,        /* a backslash with what makes no escape */
     DNS_SHORT_INPUT = 4,       /* the end inside an escape or a character */
     DNS_BAD_UTF8 = 5,          /* no UTF-8 */
-    DNS_BAD_SYMBOL = 6,        /* a character that stands for no octet */
+    DNS_BAD_SYMBOL = 6,        /* a plain octet or character outside printable ASCII, which stands for
+                                  no octet */
     DNS_TOO_LONG = 7,          /* more than 255 octets, or 2^60 for the encodings; of a name's text
                                   more than 254 before the root */
     DNS_BAD_ENCODING = 8,      /* no text of the encoding; the place is not told */
@@ -59,6 +60,13 @@ struct dns_outcome {
  * refused first, then a symbol after 255 octets, then one that stands for no octet. */
 uint32_t dns_charstr_read(const uint8_t *text, size_t text_len, uint8_t *octets, size_t octets_len,
                           struct dns_outcome *outcome);
+/* Reads a text as name servers do: each octet but the backslash stands for itself, a tab and 0x80 to
+ * 0xFF too. A backslash and three digits are the octet of that number, at most 255, and a backslash and
+ * an octet that is no digit are that octet, whichever it is. What is no escape is refused first, then an
+ * octet after 255 others, which are the only faults: DNS_BAD_ESCAPE, DNS_SHORT_INPUT, DNS_TOO_LONG. A
+ * text of printable ASCII is read as by dns_charstr_read. */
+uint32_t dns_charstr_read_octets(const uint8_t *text, size_t text_len, uint8_t *octets,
+                                 size_t octets_len, struct dns_outcome *outcome);
 /* Plain: a backslash alone is escaped, and what is not printable ASCII by its decimal value. */
 uint32_t dns_charstr_print(const uint8_t *octets, size_t octets_len, uint8_t *text, size_t text_len,
                            struct dns_outcome *outcome);
@@ -184,24 +192,6 @@ uint32_t dns_tokens_next(const uint8_t *text, size_t text_len, struct dns_standi
 /* ---- The text of a status, also of an unknown one. */
 uint32_t dns_status_text(uint32_t status, uint8_t *text, size_t text_len,
                          struct dns_outcome *outcome);
-
-/* ---- Answers that are a length alone.
- *
- * The encodings: how many octets were written at the start of the other, or SIZE_MAX where the text is
- * not one of the encoding or the output too short. */
-size_t dns_base16_encode(const uint8_t *octets, size_t octets_len, uint8_t *text, size_t text_len);
-size_t dns_base32hex_encode(const uint8_t *octets, size_t octets_len, uint8_t *text,
-                            size_t text_len);
-size_t dns_base64_encode(const uint8_t *octets, size_t octets_len, uint8_t *text, size_t text_len);
-size_t dns_base16_decode(const uint8_t *text, size_t text_len, uint8_t *octets, size_t octets_len);
-size_t dns_base32hex_decode(const uint8_t *text, size_t text_len, uint8_t *octets,
-                            size_t octets_len);
-size_t dns_base64_decode(const uint8_t *text, size_t text_len, uint8_t *octets, size_t octets_len);
-
-/* How many entries a zone text splits into; 0 where the octets are no UTF-8 or do not split, or where
- * memory was refused. It takes memory from malloc, by the three functions of heap.c; a program that
- * defines these itself has its own used. */
-size_t dns_text_split(const uint8_t *text, size_t text_len);
 
 #ifdef __cplusplus
 }

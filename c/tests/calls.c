@@ -94,6 +94,19 @@ static void strings(void) {
     REFUSES(dns_charstr_read, "a\tb", DNS_BAD_SYMBOL, 1);
     REFUSES(dns_charstr_read, "abcd\xC3\xA9", DNS_BAD_SYMBOL, 4);
     refuses(dns_charstr_read, long_string, 256, DNS_TOO_LONG, 255, __LINE__);
+    GIVES(dns_charstr_read_octets, "a\tb", "a\tb");
+    GIVES(dns_charstr_read_octets, "\x80" "abc\xC3\xFF", "\x80" "abc\xC3\xFF");
+    GIVES(dns_charstr_read_octets, "\\\tb\\\xFF" "\\\\\\\"\\255\\0097", "\tb\xFF" "\\\"\xFF\t" "7");
+    GIVES(dns_charstr_read_octets, "\n\r\0", "\n\r\0");
+    GIVES(dns_charstr_read_octets, "", "");
+    gives(dns_charstr_read_octets, zeros, 255, zeros, 255, __LINE__);
+    gives(dns_charstr_read_octets, zeros_text + 1, 1020, zeros, 255, __LINE__);
+    REFUSES(dns_charstr_read_octets, "\tb\\25x", DNS_BAD_ESCAPE, 2);
+    REFUSES(dns_charstr_read_octets, "\xFF\\256", DNS_BAD_ESCAPE, 1);
+    REFUSES(dns_charstr_read_octets, "a\\2\xFF" "1", DNS_BAD_ESCAPE, 1);
+    REFUSES(dns_charstr_read_octets, "ab\\25", DNS_SHORT_INPUT, 2);
+    REFUSES(dns_charstr_read_octets, "ab\\", DNS_SHORT_INPUT, 2);
+    refuses(dns_charstr_read_octets, zeros, 256, DNS_TOO_LONG, 255, __LINE__);
     GIVES(dns_charstr_print, "f\"o;\\\n", "f\"o;\\\\\\010");
     GIVES(dns_charstr_print, "a\\", "a\\\\");
     GIVES(dns_charstr_print_quoted, "f\"o;", "\"f\\\"o;\"");
@@ -274,43 +287,6 @@ static void encodings(void) {
     NO_TEXT(dns_base64_read, "=Zg=", 1);
     NO_TEXT(dns_base64_read, "=g==", 0);
     NO_TEXT(dns_base64_read, "Zm9vYmF!", 6);
-}
-
-typedef size_t (*coder)(const uint8_t *, size_t, uint8_t *, size_t);
-
-/* A call that answers a length alone, with every room from none to ample, and what it writes. */
-static void writes(coder f, const uint8_t *from, size_t from_len, const uint8_t *made,
-                   size_t length, int line) {
-    size_t room;
-    for (room = 0; room <= length + 6; room++) {
-        uint8_t *memory = room != 0 ? (uint8_t *)malloc(room) : NULL;
-        size_t answer = f(from, from_len, memory, room);
-        expect(answer == (room < length ? SIZE_MAX : length), "answer", line);
-        if (answer == length && length != 0)
-            expect(memcmp(memory, made, length) == 0, "memory", line);
-        free(memory);
-    }
-}
-#define WRITES(f, from, made) writes(f, BYTES(from), BYTES(made), __LINE__)
-
-static void lengths(void) {
-    uint8_t memory[16];
-    WRITES(dns_base16_encode, "fo", "666F");
-    WRITES(dns_base16_decode, "666f", "fo");
-    WRITES(dns_base32hex_encode, "foob", "CPNMUOG");
-    WRITES(dns_base32hex_encode, "foobar", "CPNMUOJ1E8");
-    WRITES(dns_base32hex_decode, "CPNMUOG", "foob");
-    WRITES(dns_base32hex_decode, "cpnmuoj1e8", "foobar");
-    WRITES(dns_base64_encode, "foob", "Zm9vYg==");
-    WRITES(dns_base64_encode, "foobarfoo", "Zm9vYmFyZm9v");
-    WRITES(dns_base64_decode, "Zm9vYg==", "foob");
-    EXPECT(dns_base64_decode(BYTES("Zm9vYg="), memory, 6) == SIZE_MAX);
-    EXPECT(dns_base64_decode(NULL, 0, NULL, 0) == 0);
-    EXPECT(dns_text_split(BYTES("a ( b\n)\n\"c\"")) == 2);
-    EXPECT(dns_text_split(NULL, 0) == 1);
-    EXPECT(dns_text_split(BYTES("")) == 1);
-    EXPECT(dns_text_split(BYTES("a)")) == 0);
-    EXPECT(dns_text_split(BYTES("\xFF")) == 0);
 }
 
 static void wrong(const uint8_t *text, size_t length, uint32_t status, size_t place, size_t tokens,
@@ -539,6 +515,8 @@ static void texts(void) {
     EXPECT(dns_status_text(DNS_NO_ROOM, memory, 8, &outcome) == DNS_OK);
     EXPECT(tells(outcome, 7, 0) && memcmp(memory, "no room-", 8) == 0);
     EXPECT(dns_status_text(DNS_NO_ROOM, memory, 6, &outcome) == DNS_NO_ROOM);
+    EXPECT(dns_status_text(DNS_BAD_SYMBOL, memory, 64, &outcome) == DNS_OK);
+    EXPECT(tells(outcome, 29, 0) && memcmp(memory, "octet outside printable ASCII", 29) == 0);
     EXPECT(dns_status_text(99, NULL, 0, &outcome) == DNS_NO_ROOM);
     EXPECT(tells(outcome, 14, 0));
 }
@@ -548,7 +526,6 @@ int main(void) {
     names();
     numbers();
     encodings();
-    lengths();
     entries();
     cursors();
     pieces();

@@ -1,6 +1,7 @@
 pub mod Error
 pub mod Lends
 pub mod Limits
+pub mod OctetText
 pub mod Order
 pub mod Printed
 pub mod Reading

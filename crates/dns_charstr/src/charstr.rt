@@ -9,6 +9,7 @@ mod error;
 mod iter;
 mod wire;
 
+use crate::octet_text::octet_at;
 pub use builder::CharStrBuilder;
 pub use display::{DisplayQuoted, DisplayUnquoted, LowerHexDisplay, UpperHexDisplay};
 use dns_octets::{
@@ -178,7 +179,11 @@ impl<Octs: AsOctetsMut> CharStr<Octs> {
         self.octets.as_slice_mut()
     }
 
-    /// A view of the same octets, to be written over. Their count stays.
+    /// A view of the same octets, to be written over.
+    ///
+    /// The contract says what the view holds at first. That the string then holds what was written
+    /// through the view, as many octets as it had, is tested and not proved; see
+    /// [`CharStr::as_slice_mut`] for a call whose contract says it.
     pub fn for_slice_mut(&mut self) -> CharStr<&mut [u8]>
         ensures { result ≡ self.old }
     {
@@ -190,6 +195,7 @@ impl<Octs: AsOctetsMut> CharStr<Octs> {
 
 impl<Octs: AsOctets> CharStr<Octs> {
     ghost use Rattle.dns_charstr.specs.Reading.{ReadsText, HasOctets};
+    ghost use Rattle.dns_charstr.specs.OctetText.{ReadsOctetText, SpellsOctets};
 
     /// Reads the text of a character string: the octets of its symbols (RFC 1035 section 5.1).
     ///
@@ -229,6 +235,49 @@ impl<Octs: AsOctets> CharStr<Octs> {
             builder.append_slice(&[octet])?;
         }
         Ok(builder.finish())
+    }
+
+    /// Reads a text in which each octet but the backslash stands for itself: a tab and the octets
+    /// from 0x80 to 0xFF too, as name servers read it. Escapes are read as by
+    /// [`octet_at`](crate::octet_text::octet_at) (RFC 1035 section 5.1). A text of printable ASCII
+    /// is read as by [`from_str`](CharStr::from_str).
+    ///
+    /// What is no escape, or is cut short, is refused first, by `SymbolChars`; then an octet after
+    /// 255 others by `LongString`; then one for which the buffer has no room by `ShortBuf`. The
+    /// first refusal is the answer. There is no `BadSymbol`.
+    pub fn from_octets_text(
+        alloc: <<Octs as FromBuilder>::Builder as EmptyBuilder>::Alloc,
+        text: &[u8],
+    ) -> Result<Self, FromStrError>
+    where
+        Octs: FromBuilder,
+        <Octs as FromBuilder>::Builder: EmptyBuilder + FreezeBuilder<Octets = Octs> + Drop,
+        ensures reads { ReadsOctetText Octs.Builder.room text.now result }
+        ensures succeeds { (octets : List ℕ) → SpellsOctets text.now octets [] → length octets ≤ Octs.Builder.room.fits
+            → length octets ≤ max_string → result ≡ Ok octets }
+    {
+        Self::read_octets(alloc, text)
+    }
+
+    fn read_octets(
+        alloc: <<Octs as FromBuilder>::Builder as EmptyBuilder>::Alloc,
+        text: &[u8],
+    ) -> Result<Self, FromStrError>
+    where
+        Octs: FromBuilder,
+        <Octs as FromBuilder>::Builder: EmptyBuilder + FreezeBuilder<Octets = Octs> + Drop,
+        ensures { ReadsOctetText Octs.Builder.room text.now result }
+    {
+        let mut octets = CharStrBuilder::<<Octs as FromBuilder>::Builder>::new(alloc);
+        let mut place = 0;
+        while let Some((octet, after)) = octet_at(text, place)? {
+            if octets.len() == CharStr::MAX_LEN {
+                return Err(PresentationError::LongString.into());
+            }
+            octets.append_slice(&[octet])?;
+            place = after;
+        }
+        Ok(octets.finish())
     }
 }
 

@@ -3,10 +3,11 @@ ghost use Rattle.std.specs.Prelude.{◌≡◌, ◌<◌, ◌≤◌, ◌↔◌, �
 ghost use Rattle.std.specs.List.{flat_map, list_all};
 ghost use Rattle.std.specs.Cmp.{IsEquivalence, IsTotalOrder};
 ghost use Rattle.std.specs.declared.cmp.Ordering.TheVariants.{Equal};
-ghost use Rattle.dns_symbol.specs.Symbol.{bytes, is_word_symbol};
+ghost use Rattle.dns_symbol.specs.Symbol.{bytes, is_printable, is_word_symbol};
 ghost use Rattle.dns_symbol.specs.Printed.{text_of, is_plain_escape, is_unquoted_escape};
 ghost use Rattle.dns_symbol.specs.declared.symbol.Symbol.{Symbol};
 ghost use Rattle.dns_charstr.specs.Printed.{quoted_text};
+ghost use Rattle.dns_charstr.specs.OctetText.{SpellsOctets, ReadsOctetText};
 ghost use Rattle.dns_charstr.specs.Reading.{HasOctets, ReadsText};
 ghost use Rattle.dns_octets.specs.Lowered.{lowered, same_lowered, lowered_order, hash_writes};
 ghost use Rattle.dns_octets.specs.Room.{Room, exactly};
@@ -58,6 +59,36 @@ pub fn texts_have_one_reading(text: &str)
     ensures answer { (size : ℕ) (q r : Result (List ℕ) FromStrError) → ReadsText (exactly size) text.now q → ReadsText (exactly size) text.now r → q ≡ r }
 {
     let _text = text;
+}
+
+/// The same of texts of octets: they are the octets of one list at most, and reading one has one
+/// answer.
+pub fn octet_texts_have_one_reading(text: &[u8])
+    ensures octets { (xs ys : List ℕ) → SpellsOctets text.now xs [] → SpellsOctets text.now ys [] → xs ≡ ys }
+    ensures whole { (room : Room) (octets : List ℕ) (r : Result (List ℕ) FromStrError) → ReadsOctetText room text.now r
+        → SpellsOctets text.now octets [] → length octets ≤ max_string → (r ≡ Ok octets) ⊎ ((r ≡ Err ShortBuf) × (room.fits < length octets)) }
+    ensures answer { (size : ℕ) (q r : Result (List ℕ) FromStrError) → ReadsOctetText (exactly size) text.now q → ReadsOctetText (exactly size) text.now r → q ≡ r }
+{
+    let _text = text;
+}
+
+/// A text of printable ASCII is read alike as characters and as octets, whatever the room: the
+/// same octets, or the same refusal. What characters are read as, octets always are.
+pub fn printable_texts_read_alike(text: &[u8])
+    ensures alike { (room : Room) (r : Result (List ℕ) FromStrError) → list_all is_printable text.now ≡ true → ReadsText room text.now r ↔ ReadsOctetText room text.now r }
+    ensures octets { (octets : List ℕ) → HasOctets text.now octets → SpellsOctets text.now octets [] }
+{
+    let _text = text;
+}
+
+/// The printed texts of octets are read back as texts of octets: the plain and the unquoted one,
+/// and what stands between the double quotes of the quoted one.
+pub fn printed_texts_read_back_as_octets(octets: &[u8])
+    ensures plain { SpellsOctets (encode_utf8_all (text_of is_plain_escape octets.now)) octets.now [] }
+    ensures unquoted { SpellsOctets (encode_utf8_all (text_of is_unquoted_escape octets.now)) octets.now [] }
+    ensures between { (between : List ℕ) → encode_utf8_all (quoted_text octets.now) ≡ 34 ∷ between ++ 34 ∷ [] → SpellsOctets between octets.now [] }
+{
+    let _octets = octets;
 }
 
 /// Two lists of octets are equal exactly if they are the same once lowered, which is where their

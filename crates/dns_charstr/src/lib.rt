@@ -10,7 +10,9 @@
 //! by [`DisplayQuoted`](charstr::DisplayQuoted); and as a word of a zone file, by
 //! [`DisplayUnquoted`](charstr::DisplayUnquoted). Each is read back as the same octets by
 //! [`from_str`](charstr::CharStr::from_str), which otherwise gives the first refusal, as a
-//! [`FromStrError`](charstr::FromStrError). It also prints as hexadecimal digits.
+//! [`FromStrError`](charstr::FromStrError). It also prints as hexadecimal digits. A text whose
+//! octets stand for themselves, as name servers read them, is read by
+//! [`from_octets_text`](charstr::CharStr::from_octets_text).
 //!
 //! Equality, order and hash leave the case of ASCII letters aside. The canonical order
 //! (RFC 4034 section 6) doesn't: it is that of the wire forms.
@@ -21,3 +23,4 @@
 
 pub mod charstr;
 pub mod laws;
+pub mod octet_text;

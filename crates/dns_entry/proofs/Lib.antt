@@ -1,2 +1,3 @@
+pub mod Converting
 pub mod Lines
 pub mod Words

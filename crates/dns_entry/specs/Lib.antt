@@ -1,3 +1,4 @@
+pub mod Codecs
 pub mod Field
 pub mod Line
 pub mod EntryError

@@ -12,6 +12,22 @@ use dns_zone::zonefile_fmt::{self, FormatWriter, Formatter, ZonefileFmt};
 use std::alloc::{Allocator, Global};
 use std::marker::Model;
 
+/// What the token of a line's field is scanned as.
+#[derive(Clone, Copy)]
+pub enum FieldKind {
+    /// A number of at most 32 bits.
+    Number,
+
+    /// Octets in base 16.
+    Hex,
+
+    /// Octets in base 64.
+    Base64,
+
+    /// A character string.
+    Text,
+}
+
 /// A field of an entry, which prints as one token.
 #[derive(Debug, PartialEq, Eq, Drop)]
 pub enum Field<A: Allocator = Global> {

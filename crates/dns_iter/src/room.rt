@@ -1,8 +1,10 @@
 //! Laws on octets of a fixed capacity, whose room is known.
-ghost use Rattle.std.specs.Prelude.{◌≡◌, ◌≤◌, List, ℕ, ◌∷◌, All, IsOkAnd, length};
+ghost use Rattle.std.specs.Prelude.{◌≡◌, ◌≤◌, List, ℕ, ◌∷◌, All, IsOkAnd, Result, length};
 ghost use Rattle.std.specs.List.{AllZip, flat_map};
 ghost use Rattle.dns_charstr.specs.Reading.{HasOctets};
 ghost use Rattle.dns_charstr.specs.Wire.{wire_of};
+ghost use Rattle.dns_scan.specs.Numbers.{by_cause};
+ghost use Rattle.dns_scan.specs.Reads.{NameReads, ReadsFirst, ReadsInOneWay};
 ghost use Rattle.dns_scan.specs.Stands.{HasTokens};
 ghost use Rattle.dns_scan.specs.Tokens.{Token};
 ghost use Rattle.dns_charstr.specs.Limits.{max_string};
@@ -37,3 +39,12 @@ pub fn fitting_entries_are_answered<'a, T: TokenText, E: ScannerError, const N: 
 {
     string_entries_are_scanned_back(scanner)
 }
+
+/// A token is read as one name or refused in one way, and so are the tokens of an entry: what is
+/// given is a function of the tokens, and so are the tokens that are left.
+pub fn names_have_one_answer<'a, T: TokenText + 'a, E: ScannerError, const N: usize>()
+    ensures token { (token : Token) (q r : Result (List (List ℕ)) E)
+        → ⟦<EntryScanner<'a, T, ArrayVec<u8, N>, E> as Scanner>⟧.reads_name token q → ⟦<EntryScanner<'a, T, ArrayVec<u8, N>, E> as Scanner>⟧.reads_name token r
+        → by_cause E.cause q ≡ by_cause E.cause r }
+    ensures first { ReadsInOneWay (ReadsFirst (NameReads E.cause (⟦<EntryScanner<'a, T, ArrayVec<u8, N>, E> as Scanner>⟧.reads_name))) }
+{}

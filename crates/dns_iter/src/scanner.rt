@@ -192,6 +192,8 @@ where
 
     ghost space_ends = { λ _ _ _ taken. taken.1 };
 
+    ghost space_stays = { λ _ _ taken. taken.1 };
+
     fn has_space(&self) -> bool {
         self.spaced
     }

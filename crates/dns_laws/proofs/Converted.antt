@@ -23,7 +23,7 @@ use Rattle.dns_codec.specs.declared.error.DecodeError.{DecodeError}
 use Rattle.dns_symbol.specs.Cause.{Cause, custom_text}
 use Rattle.dns_scan.specs.Tokens.{Token}
 use Rattle.dns_entry.proofs.Words.{ascii_bytes, encoded_all}
-use Rattle.dns_program.specs.Codecs.{Codec, then_made, converted, ConvertsTo, codec_of}
+use Rattle.dns_entry.specs.Codecs.{Codec, then_made, converted, ConvertsTo, codec_of}
 
 -- the symbols of characters that stand for themselves
 abbrev pub plain_symbols : List ℕ → List Symbol

@@ -3,3 +3,6 @@ pub mod LineTokens
 pub mod Spelled
 pub mod EntryTexts
 pub mod NameBack
+pub mod GrammarStands
+pub mod GrammarReads
+pub mod GrammarOnce

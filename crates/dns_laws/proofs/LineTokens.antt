@@ -35,7 +35,7 @@ use Rattle.dns_entry.proofs.Words.{line_formed, number_word, hex_word, base64_wo
 use Rattle.dns_laws.specs.declared.lines.Refusal.TheVariants.{Split}
 use Rattle.dns_laws.specs.Encodings.{EncodingBack}
 use Rattle.dns_laws.specs.Lines.{line_entries, kind_of, IsRefusal, IsScannedOf, GivesField, GivesOctets}
-use Rattle.dns_program.specs.declared.program.FieldKind.TheVariants.{Number, Hex, Base64, Text}
+use Rattle.dns_entry.specs.declared.entry.FieldKind.TheVariants.{Number, Hex, Base64, Text}
 use Rattle.dns_laws.specs.declared.lines.Scanned.{Scanned}
 use Rattle.dns_laws.specs.declared.lines.Scanned.TheVariants.{Number as NumberScanned, Octets, Text as TextScanned}
 

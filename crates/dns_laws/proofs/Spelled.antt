@@ -19,7 +19,7 @@ use Rattle.dns_codec.proofs.Each.{decodes}
 use Rattle.dns_symbol.specs.Cause.{Cause}
 use Rattle.dns_scan.specs.Octets.{GivesWhere}
 use Rattle.dns_scan.specs.Tokens.{Token}
-use Rattle.dns_program.specs.Codecs.{Codec, then_made, then_more, converted, made_of, ConvertsTo, MadeOf, AnswersConverted, IsEncoding, codec_of}
+use Rattle.dns_entry.specs.Codecs.{Codec, then_made, then_more, converted, made_of, ConvertsTo, MadeOf, AnswersConverted, IsEncoding, codec_of}
 use Rattle.dns_laws.proofs.Converted.{plain_symbols, is_plain, plain_read, plain_alphabet, encoded_plain}
 
 -- a step that went well, and what followed
@@ -31,13 +31,13 @@ no_octets : (why : Cause) (octets : List ℕ) → Err why ≡ Ok octets → ⊥
 no_octets why octets e = cc
 
 -- a symbol's character, as the converters ask for it
-char_there : (x : Symbol) (c : ℕ) → char_of x ≡ Ok c → char_in x ≡ Some c
+pub char_there : (x : Symbol) (c : ℕ) → char_of x ≡ Ok c → char_in x ≡ Some c
 char_there x c e = rw (e, char_in) refl
 
-no_char : (x : Symbol) (e : BadSymbol) → char_of x ≡ Err e → char_in x ≡ None
+pub no_char : (x : Symbol) (e : BadSymbol) → char_of x ≡ Err e → char_in x ≡ None
 no_char x e is = rw (is, char_in) refl
 
-cases_char : (r : Result ℕ BadSymbol) → ((c : ℕ) × (r ≡ Ok c)) ⊎ ((e : BadSymbol) × (r ≡ Err e))
+pub cases_char : (r : Result ℕ BadSymbol) → ((c : ℕ) × (r ≡ Ok c)) ⊎ ((e : BadSymbol) × (r ≡ Err e))
 cases_char (Ok c) = inl (c, refl)
 cases_char (Err e) = inr (e, refl)
 

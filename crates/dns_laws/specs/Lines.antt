@@ -12,8 +12,8 @@ use Rattle.dns_entry.specs.EntryError.{place_of}
 use Rattle.dns_split.specs.declared.error.SplitError.TheVariants.{BadText, ShortBuf}
 use Rattle.dns_laws.specs.declared.lines.Refusal.{Refusal}
 use Rattle.dns_laws.specs.declared.lines.Refusal.TheVariants.{Line, Split}
-use Rattle.dns_program.specs.declared.program.FieldKind.{FieldKind}
-use Rattle.dns_program.specs.declared.program.FieldKind.TheVariants.{Number, Hex, Base64, Text}
+use Rattle.dns_entry.specs.declared.entry.FieldKind.{FieldKind}
+use Rattle.dns_entry.specs.declared.entry.FieldKind.TheVariants.{Number, Hex, Base64, Text}
 use Rattle.dns_laws.specs.declared.lines.Scanned.{Scanned}
 use Rattle.dns_laws.specs.declared.lines.Scanned.TheVariants.{Number as NumberScanned, Octets, Text as TextScanned}
 

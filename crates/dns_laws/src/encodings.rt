@@ -1,13 +1,13 @@
 //! Laws on encodings: what tokens convert to, and that a text is scanned back.
 ghost use Rattle.std.specs.Prelude.{◌≡◌, ◌↔◌, ℕ, ◌<◌, List, Ok, Result};
 ghost use Rattle.std.specs.List.{AllByRecursion};
-ghost use Rattle.dns_octets.specs.Room.{exactly};
+ghost use Rattle.dns_octets.specs.Room.{Room, exactly};
 ghost use Rattle.dns_codec.specs.Base.{Base, IsEncoding as IsBase, base16, base32hex, base64, encoded};
 ghost use Rattle.dns_symbol.specs.Cause.{Cause};
 ghost use Rattle.dns_scan.specs.Stands.{TakesOne};
 ghost use Rattle.dns_scan.specs.Tokens.{Token};
-ghost use Rattle.dns_program.specs.Codecs.{AnswersConverted, ConvertsTo, IsEncoding, codec_of};
-ghost use Rattle.dns_laws.specs.Encodings.{EncodingBack};
+ghost use Rattle.dns_entry.specs.Codecs.{AnswersConverted, ConvertsTo, IsEncoding, codec_of};
+ghost use Rattle.dns_laws.specs.Encodings.{AnswersEncoding, EncodingBack};
 
 use dns_codec::base::{Base16, Base32Hex, Base64, Encoding};
 use dns_codec::converter::Converter;
@@ -78,6 +78,13 @@ pub fn only_encodings_convert()
 /// A token converts to one thing.
 pub fn tokens_convert_to_one_thing()
     ensures { (b : Base) (token : Token) (q r : Result (List ℕ) Cause) → ConvertsTo (codec_of b) token q → ConvertsTo (codec_of b) token r → q ≡ r }
+{}
+
+/// What is answered of a token by the grammar alone is just what is answered by what the converters
+/// make of its symbols, one after the other.
+pub fn converters_answer_by_the_grammar()
+    ensures { (b : Base) → IsBase b → (room : Room) (token : Token) (r : Result (List ℕ) Cause) → AnswersEncoding b (λ why. why) (λ s. s) room token r
+        ↔ AnswersConverted (codec_of b) (λ why. why) (λ s. s) room token r }
 {}
 
 /// Over a builder whose room is known, as an array's, a token is answered in one way.

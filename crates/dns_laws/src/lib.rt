@@ -6,6 +6,7 @@
 //! - [`layouts`]: the three layouts and splitting.
 //! - [`encodings`]: what tokens convert to, and [`entries`], what all tokens of an entry do.
 //! - [`names`]: the texts of absolute names.
+//! - [`numbers`]: a printed number is scanned back.
 //! - [`strings`]: character strings as tokens of a document.
 #![tactic(auto)]
 
@@ -13,6 +14,7 @@ pub mod encodings;
 pub mod entries;
 pub mod lines;
 pub mod names;
+pub mod numbers;
 pub mod strings;
 
 pub use dns_zone_laws::laws as layouts;
@@ -22,6 +24,7 @@ pub mod headline {
     pub use crate::encodings::{
         base32hex_is_scanned_back, base64_is_scanned_back, hex_is_scanned_back,
     };
+    pub use crate::numbers::number_is_scanned_back;
     pub use dns_scan::laws::{character_strings_are_scanned_back, printed_numbers_read_back};
     pub use dns_zone_laws::laws::items_split;
 }

@@ -12,10 +12,9 @@ ghost use Rattle.dns_laws.specs.Lines.{GivesField, IsRefusal, IsScannedOf, kind_
 
 use crate::encodings::{base64_is_scanned_back, hex_is_scanned_back};
 use dns_charstr::charstr::CharStr;
-use dns_entry::entry::{EntryError, EntryLine, Field};
+use dns_entry::entry::{EntryError, EntryLine, Field, FieldKind};
 use dns_entry::laws::lines_are_lines;
 use dns_octets::AsOctets;
-use dns_program::program::FieldKind;
 use dns_scan::laws::character_strings_are_scanned_back;
 use dns_scan::{Scan, Scanner};
 use dns_split::splitting::{SplitError, split};

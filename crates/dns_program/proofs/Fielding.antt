@@ -13,10 +13,10 @@ use Rattle.dns_scan.specs.Tokens.{Token}
 use Rattle.dns_scan.proofs.Answered.{builds_read, all_given_in}
 use Rattle.dns_entry.specs.Field.{Content, content_of, contents_of, number, text_octets}
 use Rattle.dns_entry.specs.declared.entry.Field.{Field}
-use Rattle.dns_program.specs.Codecs.{Codec, ConvertsTo, OctetsRefused}
+use Rattle.dns_entry.specs.Codecs.{Codec, ConvertsTo, OctetsRefused}
 use Rattle.dns_program.specs.EntryLine.{asked_of, FieldsRun, Holds, NoField}
 use Rattle.dns_program.specs.Program.{Stops}
-use Rattle.dns_program.specs.declared.program.FieldKind.TheVariants.{Text}
+use Rattle.dns_entry.specs.declared.entry.FieldKind.TheVariants.{Text}
 use Rattle.dns_program.specs.declared.line.FieldWord.{FieldWord}
 
 -- ---- one token

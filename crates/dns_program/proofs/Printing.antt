@@ -25,7 +25,8 @@ use Rattle.dns_scan.proofs.Answered.{builds_read, all_given_in, first_fault_in}
 use Rattle.dns_program.specs.declared.program.ScanKind.{ScanKind}
 use Rattle.dns_program.specs.declared.program.Stop.{Stop}
 use Rattle.dns_program.specs.declared.program.Stop.TheVariants.{Refused, WriteFailed}
-use Rattle.dns_iter.specs.Name.{AnswersName, ReadsNames, ReadsToken, by_cause, invalid_name}
+use Rattle.dns_iter.specs.Name.{AnswersName, ReadsNames, ReadsToken, invalid_name}
+use Rattle.dns_scan.specs.Numbers.{by_cause}
 use Rattle.dns_program.specs.Program.{Stops, StringPrints, StringRefused, NumberPrints, NumberRefused, NamePrints, LineWritten, LinesWritten}
 
 -- what a text reads as, over octets of another type: a name is its labels

@@ -16,13 +16,13 @@ use Rattle.dns_entry.specs.Field.{Content, number, hex_octets, base64_octets, te
 use Rattle.dns_entry.specs.Line.{IsFirstEmpty, IsLine, line_document}
 use Rattle.dns_entry.specs.EntryError.{place_of, error_text}
 use Rattle.dns_entry.specs.declared.error.EntryError.{EntryError}
-use Rattle.dns_program.specs.Codecs.{ConvertsTo, hex_codec, base64_codec}
+use Rattle.dns_entry.specs.Codecs.{ConvertsTo, hex_codec, base64_codec}
 use Rattle.dns_program.specs.Print.{layout_name, NoMemory}
 use Rattle.dns_program.specs.Program.{IsRefused, cause_text}
 use Rattle.dns_scan.specs.StrError.{str_cause}
 use Rattle.dns_program.specs.declared.program.ScanKind.TheVariants.{U32, Charstr, Hex as HexScan, Base64 as Base64Scan}
-use Rattle.dns_program.specs.declared.program.FieldKind.{FieldKind}
-use Rattle.dns_program.specs.declared.program.FieldKind.TheVariants.{Number, Hex, Base64, Text}
+use Rattle.dns_entry.specs.declared.entry.FieldKind.{FieldKind}
+use Rattle.dns_entry.specs.declared.entry.FieldKind.TheVariants.{Number, Hex, Base64, Text}
 use Rattle.dns_program.specs.declared.line.FieldWord.{FieldWord}
 use Rattle.dns_program.specs.declared.line.Unmade.{Unmade}
 use Rattle.dns_program.specs.declared.line.Unmade.TheVariants.{Refused, NoMemory as OutOfMemory}

@@ -1,4 +1,3 @@
-pub mod Codecs
 pub mod EntryLine
 pub mod Print
 pub mod Program

@@ -7,7 +7,7 @@ use Rattle.dns_codec.specs.Bits.{bits, joined, cut, whole}
 use Rattle.dns_codec.specs.Group.{fresh}
 use Rattle.dns_codec.specs.Base.{base16, value}
 use Rattle.dns_symbol.specs.Cause.{custom_text}
-use Rattle.dns_program.specs.Codecs.{converted, made_of, hex_codec, base32hex_codec, IsEncoding}
+use Rattle.dns_entry.specs.Codecs.{converted, made_of, hex_codec, base32hex_codec, IsEncoding}
 
 -- a simple escape counts as its character, and letter case doesn't matter
 escaped : IsEncoding base16 (codes "Ca\\FE") (202 ∷ 254 ∷ [])

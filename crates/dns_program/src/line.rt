@@ -8,9 +8,9 @@ ghost use Rattle.dns_program.specs.Program.{refusal_line, usage_line, texts};
 ghost use Rattle.dns_scan.specs.StrError.{str_cause};
 
 use crate::print::Unread;
-use crate::program::{FieldKind, refuse, refuse_usage};
+use crate::program::{refuse, refuse_usage};
 use dns_codec::{base16, base64};
-use dns_entry::entry::{EntryLine, Field};
+use dns_entry::entry::{EntryLine, Field, FieldKind};
 use dns_iter::IterScanner;
 use dns_scan::{Scan, Scanner, StrError};
 use dns_zone::zonefile_fmt::{DisplayKind, ZonefileFmt};

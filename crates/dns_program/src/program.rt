@@ -62,22 +62,6 @@ pub enum ScanKind {
     Name,
 }
 
-/// What the token of a line's field is scanned as.
-#[derive(Clone, Copy)]
-pub enum FieldKind {
-    /// A number of at most 32 bits.
-    Number,
-
-    /// Octets in base 16.
-    Hex,
-
-    /// Octets in base 64.
-    Base64,
-
-    /// A character string.
-    Text,
-}
-
 /// Why no more is printed.
 #[derive(Drop)]
 pub(crate) enum Stop<E> {

@@ -1,11 +1,15 @@
 -- What is scanned of a record's text.
-use Rattle.std.specs.Prelude.{List, ◌≡◌, ◌++◌, ◌⊎◌, Option, Result, IsOkAnd}
+use Rattle.std.specs.Prelude.{List, ◌≡◌, ◌++◌, ◌⊎◌, Option, Result, IsOkAnd, codes}
 use Rattle.dns_octets.specs.Room.{Room}
-use Rattle.dns_symbol.specs.Cause.{Cause, IsCause, short_buf}
+use Rattle.dns_symbol.specs.Cause.{Cause, IsCause, custom_text, short_buf}
 use Rattle.dns_scan.specs.Stands.{HasTokens}
 use Rattle.dns_scan.specs.Tokens.{Token}
 use Rattle.dns_iter.specs.Name.{invalid_name}
 use Rattle.dns_record.specs.Values.{Value, AreTexts, AreValues, SomeMayLack}
+
+-- the refusal of generic data (RFC 3597)
+abbrev pub generic_data : Cause
+generic_data = custom_text (codes "generic record data is not supported")
 
 -- lack of room or memory, which a name calls "invalid domain name"
 abbrev pub Lacks : {T E : Type 0} → (E → Cause) → Result T E → Type 0

@@ -1,10 +1,11 @@
 //! Record data: values that print as the tokens of one entry, and are scanned back from them.
-ghost use Rattle.std.specs.Prelude.{◌≡◌, ◌⊎◌, List, [], IfSome, IsOk, IsOkAnd};
+ghost use Rattle.std.specs.Prelude.{◌≡◌, ◌≢◌, ◌⊎◌, List, [], ◌∷◌, IfSome, IsOk, IsOkAnd, MatchResult};
 ghost use Rattle.dns_split.specs.Answer.{texts};
-ghost use Rattle.dns_scan.specs.Stands.{HasTokens};
-ghost use Rattle.dns_scan.specs.Tokens.{Token};
+ghost use Rattle.dns_symbol.specs.Cause.{IsCause};
+ghost use Rattle.dns_scan.specs.Stands.{HasTokens, first_of, others_of};
+ghost use Rattle.dns_scan.specs.Tokens.{Token, marker};
 ghost use Rattle.dns_record.specs.Parts.{Part, IsLaidOut, steps_of, values_of};
-ghost use Rattle.dns_record.specs.ReadsBack.{Lacks, ReadsBack};
+ghost use Rattle.dns_record.specs.ReadsBack.{Lacks, ReadsBack, generic_data};
 ghost use Rattle.dns_record.specs.Values.{AreFields, AreTexts, SomeMayLack};
 
 use dns_iter::entry::{EntryScanner, TokenText, entry_scanner};
@@ -31,7 +32,8 @@ where
     fn known(&self)
         ensures { AreFields (values_of (parts self.now)) };
 
-    /// Takes the tokens of the data.
+    /// Takes the tokens of the data. That they begin with no marker of generic data was asked
+    /// before, by [`scan_record`].
     fn scan_data<'a, T: TokenText, E: ScannerError>(
         alloc: A,
         scanner: &mut EntryScanner<'a, T, Octets, E>,
@@ -50,7 +52,28 @@ where
     ghost laid_out: { (x : Self) → IsLaidOut (parts x) };
 }
 
+/// Refuses the marker of generic data, `\#` (RFC 3597 section 5), as "generic record data is not
+/// supported" where it is the first token. Where it isn't, no token is taken.
+pub fn expect_no_marker<S: Scanner>(scanner: &mut S) -> Result<(), S::Error>
+    requires { S.can_scan scanner.old }
+    ensures ready { S.can_scan scanner.new }
+    ensures stands { (tokens : List Token) → HasTokens S.next_token scanner.old tokens → MatchResult result
+        (λ _. (first_of tokens ≢ Some marker) × HasTokens S.next_token scanner.new tokens)
+        (λ e. (first_of tokens ≡ Some marker) × (S.Error.cause e ≡ generic_data) × HasTokens S.next_token scanner.new (others_of tokens)) }
+{
+    let marked = scanner.scan_opt_unknown_marker()?;
+    if marked {
+        return Err(S::Error::custom("generic record data is not supported"));
+    }
+    Ok(())
+}
+
 /// Takes the data and the end of the entry: a token that is left is refused.
+///
+/// Data that begin with `\#` are refused as "generic record data is not supported", whatever the
+/// type: no value is read of RFC 3597's generic form, nor is the form taken for the type's own. The
+/// scanner has what tokens hold, so a quoted text that holds `\#` counts as well. No value prints
+/// such a text: a backslash is printed as two.
 pub fn scan_record<
     'a,
     R,
@@ -67,8 +90,11 @@ where
     ensures back { (x : R) (tokens : List Token) → AreFields (values_of (R.parts x)) → AreTexts (values_of (R.parts x)) tokens []
         → HasTokens (⟦<EntryScanner<'a, T, Octets, E> as Scanner>⟧.next_token) scanner.old tokens
         → IsOkAnd result (λ y. values_of (R.parts y) ≡ values_of (R.parts x)) ⊎ (Lacks E.cause result × SomeMayLack Octets.Builder.room (values_of (R.parts x))) }
+    ensures generic { (others : List Token) → HasTokens (⟦<EntryScanner<'a, T, Octets, E> as Scanner>⟧.next_token) scanner.old (marker ∷ others)
+        → IsCause E.cause result generic_data × HasTokens (⟦<EntryScanner<'a, T, Octets, E> as Scanner>⟧.next_token) scanner.new others }
     ensures all { (tokens : List Token) → HasTokens (⟦<EntryScanner<'a, T, Octets, E> as Scanner>⟧.next_token) scanner.new tokens → IsOk result → tokens ≡ [] }
 {
+    expect_no_marker(scanner)?;
     let data = R::scan_data(alloc, scanner)?;
     if scanner.continues() {
         return Err(E::trailing_tokens());

@@ -3,6 +3,7 @@ pub mod Decimal
 pub mod HandedOver
 pub mod InTurn
 pub mod Joined
+pub mod Markers
 pub mod Numbers
 pub mod Once
 pub mod OneAnswer

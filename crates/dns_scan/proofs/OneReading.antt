@@ -6,8 +6,8 @@ use Rattle.dns_scan.specs.declared.kind.Kind.{Kind}
 use Rattle.dns_scan.specs.declared.kind.Kind.TheVariants.{U8, U16, U32, U64, U128, Ttl, Other}
 use Rattle.dns_symbol.specs.Cause.{Cause, end_of_entry}
 use Rattle.dns_scan.specs.Kinds.{KindReads, ReadsAs}
-use Rattle.dns_scan.specs.Numbers.{greatest}
-use Rattle.dns_scan.specs.Reads.{NumberReads, OctetsRead, ReadInOneWay, ReadsBoth, ReadsEach, ReadsFirst, ReadsInOneWay, ReadsInTurn}
+use Rattle.dns_scan.specs.Numbers.{by_cause, greatest}
+use Rattle.dns_scan.specs.Reads.{NameReads, NumberReads, OctetsRead, ReadInOneWay, ReadsBoth, ReadsEach, ReadsFirst, ReadsInOneWay, ReadsInTurn}
 use Rattle.dns_scan.specs.Stands.{first_of}
 use Rattle.dns_scan.specs.Tokens.{Token}
 use Rattle.dns_scan.proofs.Once.{numbers_once}
@@ -25,6 +25,10 @@ number_once limit = first_once (NumberReads limit) (numbers_once limit)
 
 pub string_once : (size : ℕ) → ReadsInOneWay (ReadsFirst (OctetsRead (exactly size)))
 string_once size = first_once (OctetsRead (exactly size)) (one_reading size)
+
+pub name_once : {N E : Type 0} (cause : E → Cause) (reads : Token → Result N E → Type 0)
+    → ((t : Token) (q r : Result N E) → reads t q → reads t r → by_cause cause q ≡ by_cause cause r) → ReadsInOneWay (ReadsFirst (NameReads cause reads))
+name_once cause reads once = first_once (NameReads cause reads) (λ t q r h k. h.2 ∙ once t h.0 k.0 h.1 k.1 ∙ sym k.2)
 
 as_once : {A V : Type 0} (make : A → V) (reads : List Token → Result A Cause → List Token → Type 0) → ReadsInOneWay reads → ReadsInOneWay (ReadsAs make reads)
 as_once make reads once tokens (Ok v) (Ok w) rest others h k =

@@ -1,8 +1,8 @@
 -- Readings in turn, where tokens are left.
-use Rattle.std.proofs.Common.{◌≡◌, List, [], ◌∷◌, ◌++◌, true, false, refl, ap, subst, ◌∙◌, Option, Result, Ok}
-use Rattle.std.specs.Prelude.{◌≢◌, is_some, MatchOption}
+use Rattle.std.proofs.Common.{◌≡◌, List, [], ◌∷◌, ◌++◌, true, false, refl, ap, subst, ◌∙◌, ⊎_elim, Option, Result, Ok, Err, Vec}
+use Rattle.std.specs.Prelude.{◌≢◌, is_some, IsOkAnd, MatchOption, MatchResult}
 use Rattle.dns_symbol.specs.Cause.{Cause}
-use Rattle.dns_scan.specs.Reads.{ReadsSome}
+use Rattle.dns_scan.specs.Reads.{ReadsRest, ReadsSome}
 use Rattle.dns_scan.specs.Stands.{HasTokens, stands_takes, stands_same, first_of}
 use Rattle.dns_scan.specs.Tokens.{Token, Peeks}
 
@@ -47,3 +47,17 @@ module _ {V : Type 0} (reads : List Token → Result V Cause → List Token → 
       → ReadsSome reads tokens (values ++ v ∷ []) after
   some_more tokens [] middle after v some left k = subst (λ t. (m : List Token) × (t ≢ []) × reads t (Ok v) m × (after ≡ m)) some (after, left, k, refl)
   some_more tokens (w ∷ ws) middle after v some left k = (some.0, some.1, some.2, some_more some.0 ws middle after v some.3 left k)
+
+  -- of no token nothing is read
+  some_of_none : (values : List V) (middle : List Token) → ReadsSome reads [] values middle → (values ≡ []) × (middle ≡ [])
+  some_of_none [] middle some = (refl, some)
+  some_of_none (v ∷ vs) middle some = absurd (some.1 refl)
+
+  pub none_refused : (why : Cause) (rest : List Token) → ReadsRest reads [] (Err why) rest → ⊥
+  none_refused why rest h = let none = some_of_none h.0 h.1 h.2 in ⊎_elim (λ k. k.0 none.1) (λ k. k.0 none.0) h.3
+
+  -- so no token left is an empty list, which asks for no memory
+  pub rest_of_none : {A E : Type 0} (cause : E → Cause) (r : Result (Vec V A) E) (rest : List Token)
+      → MatchResult r (λ v. ReadsRest reads [] (Ok v.items) rest) (λ e. ReadsRest reads [] (Err (cause e)) rest) → IsOkAnd r (λ v. v.items ≡ [])
+  rest_of_none cause (Ok v) rest h = (some_of_none v.items [] h.0).0
+  rest_of_none cause (Err e) rest h = none_refused (cause e) rest h

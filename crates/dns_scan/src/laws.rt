@@ -1,5 +1,5 @@
 //! Laws on what any scanner gives.
-ghost use Rattle.std.specs.Prelude.{◌≡◌, ℕ, ◌<◌, ◌≤◌, ◌^◌, List, ◌∷◌, Some, None, Ok, Option, Result, IfOk, MatchResult, map, length, min, All, IsUtf8};
+ghost use Rattle.std.specs.Prelude.{◌≡◌, ◌≢◌, ◌↔◌, ℕ, ◌<◌, ◌≤◌, ◌^◌, List, ◌∷◌, Some, None, Ok, Option, Result, IfOk, IsOkAnd, IsTrue, MatchResult, map, length, min, All, IsUtf8};
 ghost use Rattle.std.specs.Fmt.{decimal};
 ghost use Rattle.std.specs.List.{AllByRecursion, AllZip, FoldsTo, concat, flat_map};
 ghost use Rattle.dns_octets.specs.Room.{exactly, within};
@@ -15,13 +15,13 @@ ghost use Rattle.dns_symbol.specs.Cause.{Cause};
 ghost use Rattle.dns_scan.specs.Entries.{AsksToken, Converts, ConvertInEntry};
 ghost use Rattle.dns_scan.specs.Join.{CallsTokens, ConvertsTokens, IsJoin, IsSymbols, LeavesOf, handed_over};
 ghost use Rattle.dns_scan.specs.Kinds.{KindReads};
-ghost use Rattle.dns_scan.specs.Numbers.{IsNumber};
+ghost use Rattle.dns_scan.specs.Numbers.{IsNumber, by_cause};
 ghost use Rattle.dns_scan.specs.Octets.{GivesWhere, IsPrinted, StringBack};
-ghost use Rattle.dns_scan.specs.Reads.{NumberReads, OctetsRead, ReadInOneWay, ReadsBoth, ReadsEach, ReadsFirst, ReadsInOneWay, ReadsInTurn};
+ghost use Rattle.dns_scan.specs.Reads.{NameReads, NumberReads, OctetsRead, ReadInOneWay, ReadsBoth, ReadsEach, ReadsFirst, ReadsInOneWay, ReadsInTurn};
 ghost use Rattle.dns_scan.specs.Steps.{octet_given};
-ghost use Rattle.dns_scan.specs.Stands.{HasTokens, TakesOne};
+ghost use Rattle.dns_scan.specs.Stands.{HasTokens, TakesOne, first_of};
 ghost use Rattle.dns_scan.specs.Strings.{AnswersStrings};
-ghost use Rattle.dns_scan.specs.Tokens.{Token};
+ghost use Rattle.dns_scan.specs.Tokens.{Token, marker};
 ghost use Rattle.dns_charstr.specs.Limits.{max_string};
 
 use crate::kind::{Kind, Scanned};
@@ -114,15 +114,31 @@ pub fn kinds_in_turn<S: Scanner, T: Scan<S>, F: FnMut(Scanned<T>)>(
 }
 
 /// What tokens are read as is a function of the tokens, and so are the tokens that are left: for a
-/// number, and over a builder whose room is known for a character string. Where it is so for scans
-/// of two types, it is for so many of one, for a list of kinds with one, and for pairs of both.
+/// number, over a builder whose room is known for a character string, and for a name where the
+/// scanner reads each token as one name or refuses it in one way. Where it is so for scans of two
+/// types, it is for so many of one, for a list of kinds with one, and for pairs of both.
 pub fn scans_have_one_answer<S: Scanner, A: Scan<S> + Drop, B: Scan<S>>()
     ensures number { (limit : ℕ) → ReadsInOneWay (ReadsFirst (NumberReads limit)) }
     ensures string { (size : ℕ) → ReadsInOneWay (ReadsFirst (OctetsRead (exactly size))) }
+    ensures name { ((token : Token) (q r : Result S.Name S.Error) → S.reads_name token q → S.reads_name token r → by_cause S.Error.cause q ≡ by_cause S.Error.cause r)
+        → ReadsInOneWay (ReadsFirst (NameReads S.Error.cause S.reads_name)) }
     ensures each { ReadsInOneWay A.scan_reads → (count : ℕ) → ReadInOneWay (ReadsEach A.scan_reads count) }
     ensures kinds { ReadsInOneWay A.scan_reads → (kinds : List Kind) → ReadInOneWay (ReadsInTurn (KindReads A.scan_reads) kinds) }
     ensures both { ReadsInOneWay A.scan_reads → ReadsInOneWay B.scan_reads → ReadsInOneWay (ReadsBoth A.scan_reads B.scan_reads) }
 {}
+
+/// The marker of unknown data, `\#`, is found exactly where it is the first token, and only then
+/// taken. Any other token is left, and so is white space before it.
+pub fn markers_are_found<S: Scanner>(scanner: &mut S) -> Result<bool, S::Error>
+    requires { S.can_scan scanner.old }
+    ensures ready { S.can_scan scanner.new }
+    ensures found { (tokens : List Token) → HasTokens S.next_token scanner.old tokens → IsOkAnd result (λ found. IsTrue found ↔ (first_of tokens ≡ Some marker)) }
+    ensures taken { (others : List Token) → HasTokens S.next_token scanner.old (marker ∷ others) → HasTokens S.next_token scanner.new others }
+    ensures left { (tokens : List Token) → HasTokens S.next_token scanner.old tokens → first_of tokens ≢ Some marker
+        → HasTokens S.next_token scanner.new tokens × (S.is_spaced scanner.new ≡ S.is_spaced scanner.old) }
+{
+    scanner.scan_opt_unknown_marker()
+}
 
 /// The symbols of all tokens, and the end of each token after them, are handed over in turn, up to
 /// the first refusal, which is the answer. A bad escape is a refusal in its place. Then the tokens

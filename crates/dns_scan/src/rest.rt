@@ -25,6 +25,7 @@ pub fn expect_end<S: Scanner>(scanner: &mut S) -> Result<(), S::Error>
     ensures peeks { (o : Option Token) × Peeks S.next_token scanner.old scanner.new o × MatchOption o (result ≡ Ok tt) (λ _. IsCause S.Error.cause result trailing_tokens) }
     ensures stands { (tokens : List Token) → HasTokens S.next_token scanner.old tokens
         → HasTokens S.next_token scanner.new tokens × MatchOption (first_of tokens) (result ≡ Ok tt) (λ _. IsCause S.Error.cause result trailing_tokens) }
+    ensures space { S.is_spaced scanner.new ≡ S.is_spaced scanner.old }
 {
     if scanner.continues() {
         return Err(S::Error::trailing_tokens());
@@ -36,7 +37,7 @@ pub fn expect_end<S: Scanner>(scanner: &mut S) -> Result<(), S::Error>
 /// an empty list.
 ///
 /// The first value that is refused is the answer; so is "short buffer" where the list finds no
-/// memory. Then the tokens after that value are left.
+/// memory, which it asks for once there is a value. Then the tokens after that value are left.
 pub fn scan_rest<A: Allocator, S: Scanner, T: Scan<S> + Drop>(
     alloc: A,
     scanner: &mut S,
@@ -46,6 +47,7 @@ pub fn scan_rest<A: Allocator, S: Scanner, T: Scan<S> + Drop>(
     ensures reads { (tokens : List Token) → HasTokens S.next_token scanner.old tokens
         → (rest : List Token) × MatchResult result (λ v. ReadsRest T.scan_reads tokens (Ok v.items) rest) (λ e. ReadsRest T.scan_reads tokens (Err (S.Error.cause e)) rest)
         × HasTokens S.next_token scanner.new rest }
+    ensures none { HasTokens S.next_token scanner.old [] → IsOkAnd result (λ v. v.items ≡ []) }
 {
     let mut values = Vec::new(alloc);
     for _turn in 0..u64::MAX {
@@ -100,6 +102,7 @@ where
     ensures only { (tokens : List Token) → HasTokens S.next_token scanner.old tokens → IfOk result (λ v. AllZip HasOctets tokens v.items × All (λ s. length s ≤ max_string) v.items) }
     ensures whole { (tokens : List Token) (strings : List (List ℕ)) → HasTokens S.next_token scanner.old tokens → AllZip HasOctets tokens strings
         → All (λ s. length s ≤ max_string) strings → IsOkAnd result (λ v. v.items ≡ strings) ⊎ IsCause S.Error.cause result short_buf }
+    ensures none { HasTokens S.next_token scanner.old [] → IsOkAnd result (λ v. v.items ≡ []) }
     ensures rest { (tokens : List Token) → HasTokens S.next_token scanner.old tokens → LeavesOf S.next_token tokens result scanner.new }
 {
     scan_rest(alloc, scanner)

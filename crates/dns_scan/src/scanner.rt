@@ -1,5 +1,5 @@
 //! Scanners: where the tokens of an entry come from.
-ghost use Rattle.std.specs.Prelude.{◌≡◌, ℕ, List, [], Option, Some, None, Result, Bool, false, IsOkAnd, is_some, min, codes};
+ghost use Rattle.std.specs.Prelude.{◌≡◌, ℕ, List, [], Option, Some, None, Result, Ok, Bool, false, IsOkAnd, is_some, min, codes};
 ghost use Rattle.dns_octets.specs.Room.{within};
 ghost use Rattle.dns_scan.specs.Asks.{Builds, ScansSymbols};
 ghost use Rattle.std.specs.Fn.{FnOnceReturnsAt};
@@ -118,6 +118,7 @@ pub trait Scanner {
         requires { can_scan self.old }
         ensures ready { can_scan self.new }
         ensures same { TakesNothing next_token self.old self.new }
+        ensures space { is_spaced self.new ≡ is_spaced self.old }
         ensures answer { IsCause Self.Error.cause result (custom_text (codes "Scanning SVCB octets is only implemented by some Scanners")) }
     {
         Err(Self::Error::custom("Scanning SVCB octets is only implemented by some Scanners"))
@@ -167,15 +168,20 @@ pub trait Scanner {
     fn scan_opt_unknown_marker(&mut self) -> Result<bool, Self::Error>
         requires { can_scan self.old }
         ensures ready { can_scan self.new }
-        ensures scans { MarkerCall next_token self.old result self.new };
+        ensures scans { MarkerCall next_token self.old result self.new }
+        ensures space { result ≡ Ok false → is_spaced self.new ≡ is_spaced self.old };
 
     /// A builder of no octets. It takes no token and no memory.
     fn octets_builder(&mut self) -> Result<Self::OctetsBuilder, Self::Error>
         requires { can_scan self.old }
         ensures ready { can_scan self.new }
         ensures same { TakesNothing next_token self.old self.new }
+        ensures space { is_spaced self.new ≡ is_spaced self.old }
         ensures empty { IsOkAnd result (λ b. Self.OctetsBuilder.octets b ≡ []) };
 
     // White space stands before no token but the first of those that are taken.
     ghost space_ends: { (s u : Self) (t : Token) → next_token s (Some t) u → is_spaced u ≡ false };
+
+    // Where a token was asked for and none was left, white space stands as it did.
+    ghost space_stays: { (s u : Self) → next_token s None u → is_spaced u ≡ is_spaced s };
 }

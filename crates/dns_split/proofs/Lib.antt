@@ -5,9 +5,14 @@ pub mod Complete
 pub mod Content
 pub mod Early
 pub mod Entries
+pub mod EntryLaws
+pub mod EntryParts
+pub mod EntrySpans
 pub mod FaultJoins
+pub mod Gathering
 pub mod Joins
 pub mod Lanes
+pub mod OctetFaults
 pub mod OctetJoins
 pub mod OctetOpeners
 pub mod OctetsOnce

@@ -22,7 +22,7 @@ use Rattle.dns_split.proofs.PieceMoved.{mono}
 use Rattle.dns_split.proofs.PieceSplit.{pieces_split, split_pieces}
 use Rattle.dns_split.proofs.Agree.{octets_have_pieces, octets_are_bad}
 
-splits_utf8 : (text : List ℕ) (e : Entries) → Splits text e → IsUtf8 text
+pub splits_utf8 : (text : List ℕ) (e : Entries) → Splits text e → IsUtf8 text
 splits_utf8 text e s = (flat_map characters s.lexemes, (lexemes_scalars s.lexemes s.valid, sym (bytes_all s.lexemes) ∙ s.spelled))
 
 pub octets_split : (text : List ℕ) (e : Entries) → scalars text ≡ true → Splits text e → (f : Entries) × Splits (encode_utf8_all text) f
@@ -39,12 +39,12 @@ text_splits text f u ok s = go (reads text u)
     go (inr b) = elim ((octets_are_bad text u ok b.fault.at b.is_fault.bad).splits_not f s) [ ]
 
 -- the octets before and after a place
-taken : (octets : List ℕ) (i : ℕ) → take (place_of octets i) (encode_utf8_all octets) ≡ encode_utf8_all (take i octets)
+pub taken : (octets : List ℕ) (i : ℕ) → take (place_of octets i) (encode_utf8_all octets) ≡ encode_utf8_all (take i octets)
 taken octets i =
     ap (λ l. take (place_of octets i) (encode_utf8_all l)) (sym (take-append-drop i octets)) ∙ ap (take (place_of octets i)) (encodes-append (take i octets) (drop i octets))
     ∙ take-append_seam (encode_utf8_all (take i octets)) (encode_utf8_all (drop i octets))
 
-dropped : (octets : List ℕ) (i : ℕ) → drop (place_of octets i) (encode_utf8_all octets) ≡ encode_utf8_all (drop i octets)
+pub dropped : (octets : List ℕ) (i : ℕ) → drop (place_of octets i) (encode_utf8_all octets) ≡ encode_utf8_all (drop i octets)
 dropped octets i =
     ap (λ l. drop (place_of octets i) (encode_utf8_all l)) (sym (take-append-drop i octets)) ∙ ap (drop (place_of octets i)) (encodes-append (take i octets) (drop i octets))
     ∙ drop-append_seam (encode_utf8_all (take i octets)) (encode_utf8_all (drop i octets))

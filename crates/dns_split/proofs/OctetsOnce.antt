@@ -46,7 +46,7 @@ tail_of [] = []
 tail_of (x ∷ xs) = xs
 
 -- two double quotes are two octets
-short : (n : ℕ) (l m : List ℕ) → n ≤ 1 → take n l ≡ 34 ∷ (m ++ 34 ∷ []) → ⊥
+pub short : (n : ℕ) (l m : List ℕ) → n ≤ 1 → take n l ≡ 34 ∷ (m ++ 34 ∷ []) → ⊥
 short zero l m h e = cc
 short (suc n) [] m h e = cc
 short (suc n) (x ∷ l) m h e = go n (omega arith) (ap tail_of e)

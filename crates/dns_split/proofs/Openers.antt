@@ -236,7 +236,7 @@ left_open ys (OneDigit q n) (suc d) ok h p f = cc
 left_open ys (TwoDigits q n) (suc d) ok h p f = cc
 
 -- and nothing else
-tail_read : (ys : List ℕ) → IsLeftOpen (encode_utf8_all ys) → (n : ℕ) × (p : Mode × ℕ) × (walk Outside 0 (ys ++ (10 ∷ replicate (suc n) 41)) ≡ Some p)
+pub tail_read : (ys : List ℕ) → IsLeftOpen (encode_utf8_all ys) → (n : ℕ) × (p : Mode × ℕ) × (walk Outside 0 (ys ++ (10 ∷ replicate (suc n) 41)) ≡ Some p)
 tail_read ys w =
     let tail : List ℕ = 10 ∷ replicate (suc w.0) 41 in
     let is : encode_utf8_all (ys ++ tail) ≡ encode_utf8_all ys ++ tail = encodes-append ys tail ∙ ap (λ l. encode_utf8_all ys ++ l) (low_encodes tail (low_close w.0)) in

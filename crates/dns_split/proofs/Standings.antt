@@ -13,7 +13,7 @@ use Rattle.dns_split.specs.declared.pieces.Stepped.{Stepped}
 use Rattle.dns_split.specs.declared.standing.Standing.{Standing}
 use Rattle.dns_split.specs.Pieces.{AreOctets, EachWithin, IsGiven, IsWithin, later, moved, moved_wrong, next_blank}
 use Rattle.dns_split.specs.Run.{blank_then, first_blank, run, Steps}
-use Rattle.dns_split.specs.Standing.{blank_at, entered, LeftIf, IsLeft, at_entry, IsGivenFrom, Takes, TakesAll, began_after}
+use Rattle.dns_split.specs.Standing.{ahead, blank_at, entered, LeftIf, IsLeft, at_entry, IsGivenFrom, Takes, TakesAll, began_after}
 use Rattle.dns_split.proofs.PieceMoved.{blank_left, from_place, later_run}
 use Rattle.dns_split.proofs.Skips.{moved_on}
 use Rattle.dns_split.proofs.Blocks.{back_octets, both_octets}
@@ -78,10 +78,6 @@ open_octets (suc n) = open_octets n
 entered_octets : (b : Bool) (n : ℕ) → AreOctets (entered b n)
 entered_octets true n = open_octets n
 entered_octets false n = open_octets n
-
--- what the reader gives from where it stands
-abbrev pub ahead : List ℕ → Standing → Given
-ahead octets s = cond s.is_done [] (run Outside s.depth s.at s.at (blank_at octets s.began) (drop s.at octets))
 
 module _ (octets : List ℕ) (s : Standing) where
   -- is what is left

@@ -2,6 +2,8 @@
 use Rattle.std.specs.Prelude.{⊤, ℕ, List, ◌++◌, map, codes, Result, Ok, Err, Vec, String, string_bytes}
 use Rattle.dns_split.specs.declared.error.SplitError.{SplitError}
 use Rattle.dns_split.specs.declared.error.SplitError.TheVariants.{BadText, ShortBuf}
+use Rattle.dns_split.specs.declared.entry_tokens.NextEntryError.{NextEntryError}
+use Rattle.dns_split.specs.declared.entry_tokens.NextEntryError.TheVariants.{BadText as NotText, ShortBuf as NoRoom}
 use Rattle.std.specs.Fmt.{decimal}
 use Rattle.dns_split.specs.Splitting.{Entries, Splits}
 use Rattle.dns_split.specs.Viable.{IsBad}
@@ -24,3 +26,7 @@ Answers (Err ShortBuf) text = ⊤
 abbrev pub error_text : SplitError → List ℕ
 error_text (BadText i) = codes "bad text at " ++ decimal i
 error_text ShortBuf = codes "buffer size exceeded"
+
+abbrev pub next_error_text : NextEntryError → List ℕ
+next_error_text (NotText f) = codes "bad text at " ++ decimal f.at
+next_error_text NoRoom = codes "buffer size exceeded"

@@ -1,4 +1,5 @@
 pub mod Answer
+pub mod EntryTokens
 pub mod Lexeme
 pub mod Opening
 pub mod Pieces

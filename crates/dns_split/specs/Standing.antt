@@ -2,7 +2,8 @@
 use Rattle.std.specs.Prelude.{◌≡◌, ℕ, Bool, true, false, if◌then◌else◌, List, [], ◌∷◌, ◌++◌, length, drop, replicate, Option, Some, None, Result, Ok}
 use Rattle.dns_symbol.specs.Characters.{space, open_parenthesis, close_parenthesis}
 use Rattle.dns_split.specs.Pieces.{IsGiven, later}
-use Rattle.dns_split.specs.Run.{first_blank}
+use Rattle.dns_split.specs.declared.reader.Mode.TheVariants.{Outside}
+use Rattle.dns_split.specs.Run.{first_blank, run}
 use Rattle.dns_split.specs.declared.pieces.Fault.{Fault}
 use Rattle.dns_split.specs.declared.pieces.Piece.{Piece}
 use Rattle.dns_split.specs.declared.pieces.Piece.TheVariants.{End as EndAt}
@@ -15,6 +16,10 @@ blank_at octets at = first_blank (drop at octets)
 -- an entry that begins with a blank or doesn't, up to where so many parentheses are open and no piece has begun
 abbrev pub entered : Bool → ℕ → List ℕ
 entered blank depth = (if blank then space ∷ [] else open_parenthesis ∷ close_parenthesis ∷ []) ++ replicate depth open_parenthesis
+
+-- what the reader gives from where it stands
+abbrev pub ahead : List ℕ → Standing → List (Result Piece Fault)
+ahead octets s = if s.is_done then [] else run Outside s.depth s.at s.at (blank_at octets s.began) (drop s.at octets)
 
 -- what octets give after others that give nothing, with their places further on
 abbrev pub GivenAfter : List ℕ → List ℕ → ℕ → List (Result Piece Fault) → Type 0

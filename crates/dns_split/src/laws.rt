@@ -7,11 +7,12 @@ ghost use Rattle.std.specs.Str.{IsUtf8};
 ghost use Rattle.dns_split.specs.Splitting.{Splits, Entries};
 ghost use Rattle.dns_split.specs.Lexeme.{Line, bytes};
 ghost use Rattle.dns_split.specs.Viable.{IsBad, IsViable};
-ghost use Rattle.dns_split.specs.Opening.{IsOpener};
+ghost use Rattle.dns_split.specs.Opening.{IsLeftOpen, IsOpener};
 ghost use Rattle.dns_split.specs.Token.{IsToken};
 ghost use Rattle.dns_split.specs.Pieces.{AreOctets, Faulty, IsFault, IsGiven, IsOctetPieces};
 ghost use Rattle.dns_split.specs.Pieces.{IsPieces, IsSpelled, Reads, cut, end_at, later};
 ghost use Rattle.dns_split.specs.Pieces.{moved_fault, moved_piece, place_of};
+ghost use Rattle.dns_split.specs.EntryTokens.{IsSeen, PartSeen, StandsAsSpelled, entries_seen};
 ghost use Rattle.dns_split.specs.declared.pieces.Piece.{Piece};
 ghost use Rattle.dns_split.specs.declared.pieces.Fault.{Fault};
 
@@ -168,9 +169,37 @@ pub fn octet_pieces_go_on()
         × (more ≡ map (moved_piece (λ i. at + i)) alone)) }
 {}
 
-/// Of UTF-8 text the octets, each a character, have the same pieces, or are bad in the same place.
+/// UTF-8 text and its octets, each a character, give the same: the same pieces before the same
+/// fault, with its cause. And what is left open was opened by the same parenthesis.
 pub fn octets_agree(text: &str)
+    ensures given { (given : List (Result Piece Fault))
+        → (Reads text.now given ↔ IsGiven text.now given) }
     ensures pieces { (found : List Piece) → IsPieces text.now found → IsOctetPieces text.now found }
     ensures bad { (at : ℕ) → IsBad text.now at
         → IsBad (encode_utf8_all text.now) (place_of text.now at) }
+    ensures fault { (fault : Fault) → IsFault text.now fault
+        → IsFault (encode_utf8_all text.now) (moved_fault (place_of text.now) fault) }
+    ensures opener { IsLeftOpen text.now → (at : ℕ) → IsOpener text.now at
+        → IsOpener (encode_utf8_all text.now) (place_of text.now at) }
+{}
+
+/// One list is seen of octets.
+pub fn tokens_are_seen_one_way()
+    ensures { (octets : List ℕ) (seen other : List (Result PartSeen Fault)) → IsSeen octets seen
+        → IsSeen octets other → seen ≡ other }
+{}
+
+/// The tokens that are seen of octets, as they are spelled and cut where entries end, are the
+/// octets' pieces so cut; and so those of the entries that a text splits into.
+pub fn seen_tokens_are_entries()
+    ensures octets { (octets : List ℕ) (found : List Piece) (seen : List (Result PartSeen Fault))
+        → IsGiven octets (map Ok found) → IsSeen octets seen → entries_seen seen ≡ cut octets found }
+    ensures text { (text : List ℕ) (found : Entries) (seen : List (Result PartSeen Fault))
+        → AreOctets text → Splits text found → IsSeen text seen → entries_seen seen ≡ found }
+{}
+
+/// Each token that is seen of octets, before a fault too, stands at its place as it is spelled.
+pub fn seen_tokens_stand()
+    ensures { (octets : List ℕ) (seen : List (Result PartSeen Fault)) → IsSeen octets seen
+        → AllByRecursion (StandsAsSpelled octets) seen }
 {}

@@ -7,6 +7,9 @@
 //!   entry, and reads octets that need not be UTF-8.
 //! - [`standing::next_of_octets`] gives them one by one too, from a place that the caller keeps as
 //!   plain numbers.
+//! - [`entry_tokens::EntryTokens`] gives the tokens of entries one by one, or an entry at once, for
+//!   what reads records: each token with its place, whether it is quoted, and whether it touches
+//!   the one before it, and each entry with its leading blank.
 //! - [`pieces::Fault::needs_more`] tells the faults past which more octets may go on, and
 //!   [`opening::outermost_open`] finds the parenthesis that was left open.
 //! - [`position::line_and_column`] tells a place as people count it.
@@ -24,6 +27,7 @@
 //! the reader that the cursor and `split` run, which goes through the octets once.
 #![tactic(auto)]
 
+pub mod entry_tokens;
 pub mod error;
 pub mod laws;
 pub mod opening;

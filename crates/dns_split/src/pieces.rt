@@ -68,11 +68,16 @@ pub enum Wrong {
     Closing,
     /// The text ends inside parentheses; see [`crate::opening::outermost_open`].
     OpenParenthesis,
-    /// The text or a line ends inside a quoted text: where its double quote stands.
+    /// A line or the text ends inside a quoted text, not inside an escape: where its double quote
+    /// stands.
     OpenQuote(usize),
-    /// A CR without its LF.
+    /// A CR stands outside quoted texts and escapes, perhaps in a comment, and no LF follows:
+    /// another octet, or the end of the text. The fault is after the CR.
     LoneReturn,
-    /// A backslash, with digits or not, and no escape begins so.
+    /// An escape, in a word or a quoted text, can't be completed. After its backslash stands an
+    /// octet that is not printable ASCII, or a digit above 2; or after one digit or two stands an
+    /// octet with which no number up to 255 can be made of three digits; or the text ends before
+    /// the escape does. The fault is at that octet, or at the text's end.
     BadEscape,
 }
 

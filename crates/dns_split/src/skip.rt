@@ -11,7 +11,7 @@ use std::simd::prelude::*;
 /// The octets of one load.
 const LANES: usize = 16;
 
-/// The octets of a run that are looked at one by one, since most runs are short.
+/// The blanks that are looked at one by one, since most runs of blanks are short.
 const FEW: usize = 4;
 
 /// Octets that are passed over together: some of those that change nothing.
@@ -97,6 +97,15 @@ fn run_in(class: Class, octets: &[u8], at: usize) -> usize
     first_set(ends(class, u8x16::from_slice(&octets[at..])))
 }
 
+/// The octets of a run that are looked at one by one before the first load.
+#[inline(always)]
+fn few(class: Class) -> usize {
+    match class {
+        Class::Blank => FEW,
+        _ => 0,
+    }
+}
+
 /// The first place from `at` on whose octet is not of a class.
 #[inline(always)]
 pub(crate) fn skip_class(class: Class, octets: &[u8], at: usize) -> usize
@@ -105,11 +114,12 @@ pub(crate) fn skip_class(class: Class, octets: &[u8], at: usize) -> usize
     ensures within { result ≤ length octets.now }
     ensures each { EachIn class octets.now at result }
 {
+    let few = few(class);
     let mut place = at;
-    'by_few: while place < octets.len() && place - at < FEW && is_in(class, octets[place]) {
+    'by_few: while place < octets.len() && place - at < few && is_in(class, octets[place]) {
         place += 1;
     }
-    if place - at < FEW {
+    if place - at < few {
         return place;
     }
     'by_load: while octets.len() - place >= LANES {

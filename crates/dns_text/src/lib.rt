@@ -41,7 +41,7 @@ pub mod record {
     pub use dns_record::fields::{
         Field, FieldValue, scan_fields, scan_five, scan_three, write_quoted, write_unquoted,
     };
-    pub use dns_record::record::{RecordData, record_reads_back, scan_record};
+    pub use dns_record::record::{RecordData, expect_no_marker, record_reads_back, scan_record};
     pub use dns_record::several::{SomeOctets, Strings, base64_rest, hex_rest, strings_rest};
 }
 
@@ -54,5 +54,5 @@ pub mod scan {
 
 /// What holds of several of these together: each function's contract is a law.
 pub mod laws {
-    pub use dns_laws::{encodings, entries, headline, layouts, lines, names, strings};
+    pub use dns_laws::{encodings, entries, headline, layouts, lines, names, numbers, strings};
 }

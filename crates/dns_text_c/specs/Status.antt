@@ -6,7 +6,7 @@ abbrev pub status_text : ℕ → List ℕ
 status_text n =
     if n == 0 then codes "well" else (if n == 1 then codes "nothing is left" else (if n == 2 then codes "no room" else (
     if n == 3 then codes "illegal escape sequence" else (if n == 4 then codes "unexpected end of data" else (
-    if n == 5 then codes "illegal UTF-8 sequence" else (if n == 6 then codes "non-ASCII symbol" else (
+    if n == 5 then codes "illegal UTF-8 sequence" else (if n == 6 then codes "octet outside printable ASCII" else (
     if n == 7 then codes "too many octets" else (if n == 8 then codes "not of the encoding" else (
     if n == 9 then codes "closing parenthesis, and none is open" else (if n == 10 then codes "parenthesis that is not closed" else (
     if n == 11 then codes "quoted text that is not closed" else (if n == 12 then codes "CR without LF" else (

@@ -1,5 +1,5 @@
 -- What reading and printing a character string answers.
-use Rattle.std.specs.Prelude.{◌≡◌, ℕ, ◌<◌, ◌≤◌, Bool, true, List, ◌++◌, length, map, drop, Some, Result, Ok, Err}
+use Rattle.std.specs.Prelude.{◌≡◌, ℕ, ◌<◌, ◌≤◌, ◌⊎◌, Bool, true, List, [], ◌++◌, length, map, drop, Some, Result, Ok, Err}
 use Rattle.std.specs.List.{flat_map, list_all}
 use Rattle.arrayvec.specs.ArrayVec.{ArrayVec}
 use Rattle.dns_symbol.specs.Symbol.{bytes, is_readable, octet_of}
@@ -7,9 +7,12 @@ use Rattle.dns_symbol.specs.Index.{ReadsAt}
 use Rattle.dns_symbol.specs.Printed.{is_plain_escape, is_quoted_escape, is_unquoted_escape, text_of}
 use Rattle.dns_symbol.specs.declared.symbol.Symbol.{Symbol}
 use Rattle.dns_symbol.specs.declared.error.BadSymbol.{BadSymbol as WhyNone}
+use Rattle.dns_symbol.specs.declared.error.SymbolCharsError.{SymbolCharsError}
+use Rattle.dns_symbol.specs.declared.error.SymbolCharsError.TheVariants.{BadEscape as BadOne, ShortInput as ShortOne}
 use Rattle.dns_symbol.specs.declared.error.SymbolOctetsError.{SymbolOctetsError}
 use Rattle.dns_symbol.specs.declared.error.SymbolOctetsError.TheVariants.{BadUtf8 as NoUtf8, BadEscape as NoEscape, ShortInput as CutShort}
 use Rattle.dns_charstr.specs.Printed.{quoted_text}
+use Rattle.dns_charstr.specs.OctetText.{SpellsOctet, SpellsOctets, SpellsNone}
 use Rattle.dns_charstr.specs.Reading.{HasOctets}
 use Rattle.dns_text_c.specs.Told.{IsGiven, IsRefused}
 use Rattle.dns_text_c.specs.declared.outcome.Outcome.{Outcome}
@@ -60,6 +63,23 @@ Stops text octets place other = (e : SymbolOctetsError) × ReadsAt text place (E
 abbrev pub ReadsString : List ℕ → Result (List ℕ) Fault → Type 0
 ReadsString text (Ok octets) = HasOctets text octets × (length octets ≤ 255)
 ReadsString text (Err fault) = (octets : List ℕ) × HasOctetsBefore text octets fault.place × Stops text octets fault.place fault.refusal
+
+-- the refusal of what spells no octet
+abbrev pub refusal_of_escape : SymbolCharsError → Refusal
+refusal_of_escape BadOne = BadEscape
+refusal_of_escape ShortOne = ShortInput
+
+-- why reading octets goes no further, though more stands there: 255 octets have been read and another one is spelled, or none is
+abbrev pub StopsOctets : List ℕ → List ℕ → Refusal → Type 0
+StopsOctets octets rest refusal =
+    ((next : ℕ) × (after : List ℕ) × SpellsOctet rest next after × (length octets ≡ 255) × (refusal ≡ TooLong))
+    ⊎ ((e : SymbolCharsError) × SpellsNone rest e × (length octets ≤ 255) × (refusal ≡ refusal_of_escape e))
+
+-- what reading a text of octets answers: the octets that it spells, or the first fault, with the octets before it
+abbrev pub ReadsOctetString : List ℕ → Result (List ℕ) Fault → Type 0
+ReadsOctetString text (Ok octets) = SpellsOctets text octets [] × (length octets ≤ 255)
+ReadsOctetString text (Err fault) =
+    (octets : List ℕ) × SpellsOctets text octets (drop fault.place text) × (fault.place ≤ length text) × StopsOctets octets (drop fault.place text) fault.refusal
 
 -- the octets that were read
 abbrev pub octets_of : Result (ArrayVec ℕ) Fault → Result (List ℕ) Fault

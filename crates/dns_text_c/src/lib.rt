@@ -3,12 +3,10 @@
 //! `c/include/dnstext.h` declares the functions. Octets and texts are passed as a pointer and a
 //! length, a text as its characters, one octet each. A call answers a status and tells an
 //! [`Outcome`](outcome::Outcome); what it gives stands at the start of the memory that it was
-//! passed, and what follows there stays as it was. None of these calls takes memory, but for
-//! [`dns_text_split`](encodings::dns_text_split).
+//! passed, and what follows there stays as it was. None of these calls takes memory.
 #![tactic(auto)]
 
 pub mod codecs;
-pub mod encodings;
 pub mod laws;
 pub mod names;
 pub mod numbers;

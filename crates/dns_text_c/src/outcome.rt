@@ -23,7 +23,7 @@ pub enum Refusal {
     ShortInput,
     /// The octets are no UTF-8.
     BadUtf8,
-    /// A character that stands for no octet.
+    /// A plain character outside printable ASCII, which stands for no octet.
     BadSymbol,
     /// More octets than a value may have.
     TooLong,

@@ -16,7 +16,7 @@ pub fn status_text(status: u32) -> &'static str
         3 => "illegal escape sequence",
         4 => "unexpected end of data",
         5 => "illegal UTF-8 sequence",
-        6 => "non-ASCII symbol",
+        6 => "octet outside printable ASCII",
         7 => "too many octets",
         8 => "not of the encoding",
         9 => "closing parenthesis, and none is open",

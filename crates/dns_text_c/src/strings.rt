@@ -2,17 +2,20 @@
 ghost use Rattle.std.specs.Prelude.{◌≡◌, ℕ, ◌*◌, ◌+◌, ◌≤◌, ◌<◌, ◌++◌, List, Result, Ok, Err, length, IfOk, IfErr, IfSome};
 ghost use Rattle.dns_symbol.specs.Symbol.{spell};
 ghost use Rattle.dns_symbol.specs.Index.{ReadsAt};
+ghost use Rattle.dns_symbol.specs.declared.error.SymbolCharsError.{SymbolCharsError};
 ghost use Rattle.dns_symbol.specs.declared.error.SymbolOctetsError.{SymbolOctetsError};
 ghost use Rattle.dns_symbol.specs.Printed.{is_plain_escape, is_unquoted_escape, symbol_of, text_of};
+ghost use Rattle.dns_charstr.specs.OctetText.{OctetAt};
 ghost use Rattle.dns_charstr.specs.Printed.{quoted_text};
 ghost use Rattle.dns_text_c.specs.Told.{IsTold};
-ghost use Rattle.dns_text_c.specs.Strings.{ReadsString, PrintsString, octets_of, escape_of, refusal_of, string_text};
+ghost use Rattle.dns_text_c.specs.Strings.{ReadsString, ReadsOctetString, PrintsString, octets_of, escape_of, refusal_of, refusal_of_escape, string_text};
 ghost use Rattle.dns_text_c.specs.declared.outcome.Fault.{Fault};
 ghost use Rattle.dns_charstr.specs.Limits.{max_string};
 
 use crate::outcome::{Fault, Outcome, Refusal, give, refuse};
 use arrayvec::ArrayVec;
-use dns_symbol::symbol::{Symbol, SymbolOctetsError};
+use dns_charstr::octet_text::octet_at;
+use dns_symbol::symbol::{Symbol, SymbolCharsError, SymbolOctetsError};
 
 /// The most octets of a character string.
 const MOST: usize = 255;
@@ -194,6 +197,68 @@ pub extern "C" fn dns_charstr_read(text: &[u8], octets: &mut [u8], outcome: &mut
     ensures { (answer : Result (List ℕ) Fault) × ReadsString text.now answer × IsTold answer octets.old result octets.new outcome.new }
 {
     match read_string(text) {
+        Ok(read) => give(read.as_slice(), octets, outcome),
+        Err(fault) => refuse(fault, outcome),
+    }
+}
+
+/// Why no octet is spelled in a text.
+fn refusal_of_escape(error: SymbolCharsError) -> Refusal
+    ensures { result ≡ refusal_of_escape error }
+{
+    match error {
+        SymbolCharsError::BadEscape => Refusal::BadEscape,
+        SymbolCharsError::ShortInput => Refusal::ShortInput,
+    }
+}
+
+/// The octet that is spelled at a place, if the text goes on there, and the place after it.
+fn spelled_at(text: &[u8], place: usize) -> Result<Option<(u8, usize)>, Fault>
+    ensures reads { IfOk result (λ found. OctetAt text.now place (Ok found)) }
+    ensures refused { IfErr result (λ fault. (e : SymbolCharsError) × OctetAt text.now place (Err e) × (fault ≡ record { refusal = refusal_of_escape e; place = place })) }
+    ensures goes { IfOk result (λ found. IfSome found (λ p. (place < p.1) × (p.1 ≤ length text.now))) }
+{
+    match octet_at(text, place) {
+        Ok(found) => Ok(found),
+        Err(error) => Err(Fault {
+            refusal: refusal_of_escape(error),
+            place,
+        }),
+    }
+}
+
+/// The octets that a text spells, or the first fault.
+fn read_octets(text: &[u8]) -> Result<ArrayVec<u8, MOST>, Fault>
+    ensures { ReadsOctetString text.now (octets_of result) }
+{
+    let mut octets = ArrayVec::new();
+    let mut place = 0;
+    while let Some((octet, after)) = spelled_at(text, place)? {
+        if octets.len() >= MOST {
+            let refusal = Refusal::TooLong;
+            return Err(Fault { refusal, place });
+        }
+        octets.push(octet);
+        place = after;
+    }
+    Ok(octets)
+}
+
+/// Reads a text of a character string in which each octet but the backslash stands for itself: a
+/// tab and the octets from 0x80 to 0xFF too, as name servers read it (RFC 1035 section 5.1).
+///
+/// A backslash and three digits are the octet of that number, and a backslash and an octet that is
+/// no digit are that octet, whichever it is. What is no escape, or is cut short, is refused first,
+/// then an octet after 255 others. The first fault is told, with its place.
+#[unsafe(no_mangle)]
+pub extern "C" fn dns_charstr_read_octets(
+    text: &[u8],
+    octets: &mut [u8],
+    outcome: &mut Outcome,
+) -> u32
+    ensures { (answer : Result (List ℕ) Fault) × ReadsOctetString text.now answer × IsTold answer octets.old result octets.new outcome.new }
+{
+    match read_octets(text) {
         Ok(read) => give(read.as_slice(), octets, outcome),
         Err(fault) => refuse(fault, outcome),
     }

@@ -2,6 +2,7 @@ pub mod Layout
 pub mod Rows
 pub mod Nesting
 pub mod Writers
+pub mod Sinks
 pub mod Simple
 pub mod Tabbed
 pub mod Multiline

@@ -1,8 +1,8 @@
 -- What the contracts of writers and of printed values say.
-use Rattle.std.specs.Prelude.{◌≡◌, ℕ, ◌+◌, ◌-◌, List, ◌∷◌}
+use Rattle.std.specs.Prelude.{◌≡◌, ◌<◌, ◌⊎◌, ℕ, ◌+◌, ◌-◌, List, ◌∷◌}
 use Rattle.std.specs.List.{FoldsTo}
 use Rattle.std.specs.Fmt.{WritesInCalls}
-use Rattle.dns_zone.specs.Layout.{Step, token, begin, end, comment, newline}
+use Rattle.dns_zone.specs.Layout.{Step, token, begin, end, comment, newline, depth}
 
 -- the open blocks after a step, from those before it
 abbrev pub opened : Step → ℕ → ℕ
@@ -32,3 +32,15 @@ pub record Prints {F W : Type 0} (stands : F → List Step → Type 0) (sink : F
 -- the same after whatever steps the writer stands
 abbrev pub PrintsStep : {F W : Type 0} → (F → List Step → Type 0) → (F → W) → (W → List ℕ → W → Type 0) → (List Step → Step → List ℕ) → F → Step → F → Type 0
 PrintsStep stands sink took piece w x v = (past : List Step) → stands w past → Prints stands sink took piece past w x v
+
+-- a step that failed: the sink refused, or, after whatever steps the writer stands, a count would pass the greatest
+abbrev pub FailsStep : {F : Type 0} → (F → List Step → Type 0) → Type 0 → (List Step → Step → Type 0) → F → Step → Type 0
+FailsStep stands refused passes w x = refused ⊎ ((past : List Step) → stands w past → passes past x)
+
+-- after the steps of `past`, a step makes the open blocks pass `most`
+abbrev pub BlocksPass : ℕ → List Step → Step → Type 0
+BlocksPass most past begin = most < depth (begin ∷ past)
+BlocksPass most past (token bs) = ⊥
+BlocksPass most past end = ⊥
+BlocksPass most past (comment bs) = ⊥
+BlocksPass most past newline = ⊥

@@ -13,6 +13,7 @@
 //! - [`zonefile_fmt::FormatWriter`]: what prints steps one by one; [`zonefile_fmt::SimpleWriter`],
 //!   [`zonefile_fmt::TabbedWriter`] and [`zonefile_fmt::MultiLineWriter`] print them over any sink,
 //!   one for each layout.
+//! - [`zonefile_fmt::Sink`]: what the writers print on. Every `fmt::Write` is one.
 //! - [`zonefile_fmt::Formatter`]: what a value prints itself with. Every `FormatWriter` is one.
 //! - [`document::Item`] and [`document::Document`]: a document as a list of items, made of exactly
 //!   the well-formed lists: each token is a word or a quoted text, no comment has a line end,

@@ -1,5 +1,5 @@
 //! Printing of values as zone text: traits, writers and displays.
-ghost use Rattle.std.specs.Prelude.{◌≡◌, ◌<◌, ℕ, List, [], ◌∷◌, ◌++◌, IfSome, OnOk};
+ghost use Rattle.std.specs.Prelude.{◌≡◌, ◌<◌, ℕ, List, [], ◌∷◌, ◌++◌, IfSome, OnOk, OnErr};
 ghost use Rattle.dns_zone.specs.Layout.{Step, token, begin, end, comment, newline};
 ghost use Rattle.dns_zone.specs.Displayed.{displayed_value, displayed_kind};
 ghost use Rattle.dns_zone.specs.Nesting.{Fits, IsNested};
@@ -8,11 +8,13 @@ ghost use Rattle.dns_zone.specs.Writers.{Steps, Runs};
 mod display;
 mod multiline;
 mod simple;
+mod sink;
 mod tabbed;
 
 pub use crate::error::Error;
 pub use multiline::MultiLineWriter;
 pub use simple::SimpleWriter;
+pub use sink::{Line, Sink};
 use std::fmt;
 use std::fmt::Display;
 pub use tabbed::TabbedWriter;
@@ -100,29 +102,37 @@ pub trait FormatWriter: Sized {
     /// The writer before a step that went well, the step, and the writer after it.
     ghost step_gives: { Self → Step → Self → Type 0 };
 
+    /// The writer before a step that failed, and the step.
+    ghost step_fails: { Self → Step → Type 0 };
+
     /// Prints a token: a word, or a text between double quotes.
     fn fmt_token<T: Display + Drop>(&mut self, text: T) -> Result
         ensures blocks { OnOk result (blocks self.new ≡ blocks self.old) }
-        ensures gives { OnOk result (IfSome (T.output text) (λ bs. step_gives self.old (token bs) self.new)) };
+        ensures gives { OnOk result (IfSome (T.output text) (λ bs. step_gives self.old (token bs) self.new)) }
+        ensures fails { OnErr result (IfSome (T.output text) (λ bs. step_fails self.old (token bs))) };
 
     /// Opens a block.
     fn begin_block(&mut self) -> Result
-        ensures { OnOk result (Steps blocks step_gives self.old begin self.new) };
+        ensures gives { OnOk result (Steps blocks step_gives self.old begin self.new) }
+        ensures fails { OnErr result (step_fails self.old begin) };
 
     /// Closes the block that was opened last. A block is open.
     fn end_block(&mut self) -> Result
         requires { 0 < blocks self.old }
-        ensures { OnOk result (Steps blocks step_gives self.old end self.new) };
+        ensures gives { OnOk result (Steps blocks step_gives self.old end self.new) }
+        ensures fails { OnErr result (step_fails self.old end) };
 
     /// Prints a comment, where the layout shows it.
     fn fmt_comment<T: Display + Drop>(&mut self, text: T) -> Result
         ensures blocks { OnOk result (blocks self.new ≡ blocks self.old) }
-        ensures gives { OnOk result (IfSome (T.output text) (λ bs. step_gives self.old (comment bs) self.new)) };
+        ensures gives { OnOk result (IfSome (T.output text) (λ bs. step_gives self.old (comment bs) self.new)) }
+        ensures fails { OnErr result (IfSome (T.output text) (λ bs. step_fails self.old (comment bs))) };
 
     /// Ends the line. No block is open.
     fn newline(&mut self) -> Result
         requires { blocks self.old ≡ 0 }
-        ensures { OnOk result (Steps blocks step_gives self.old newline self.new) };
+        ensures gives { OnOk result (Steps blocks step_gives self.old newline self.new) }
+        ensures fails { OnErr result (step_fails self.old newline) };
 
     /// The number of open blocks.
     fn open_blocks(&self) -> usize
@@ -145,6 +155,7 @@ pub trait Formatter: FormatWriter {
     fn write_token<T: Display + Drop>(&mut self, text: T) -> Result
         ensures blocks { OnOk result (Self.blocks self.new ≡ Self.blocks self.old) }
         ensures gives { OnOk result (IfSome (T.output text) (λ bs. Self.step_gives self.old (token bs) self.new)) }
+        ensures fails { OnErr result (IfSome (T.output text) (λ bs. Self.step_fails self.old (token bs))) }
     {
         self.fmt_token(text)
     }
@@ -161,6 +172,7 @@ pub trait Formatter: FormatWriter {
     fn write_comment<T: Display + Drop>(&mut self, text: T) -> Result
         ensures blocks { OnOk result (Self.blocks self.new ≡ Self.blocks self.old) }
         ensures gives { OnOk result (IfSome (T.output text) (λ bs. Self.step_gives self.old (comment bs) self.new)) }
+        ensures fails { OnErr result (IfSome (T.output text) (λ bs. Self.step_fails self.old (comment bs))) }
     {
         self.fmt_comment(text)
     }

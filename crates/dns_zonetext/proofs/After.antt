@@ -25,9 +25,8 @@ use Rattle.dns_zonetext.specs.Blocks.{EndsEntry, IsOpenedAfter}
 use Rattle.dns_zonetext.specs.Found.{IsFound, IsOctetFault, IsOpened}
 use Rattle.dns_zonetext.specs.Place.{IsAt}
 use Rattle.dns_zonetext.specs.declared.check.Found.{Found}
-use Rattle.dns_zonetext.proofs.Comparing.{pieces_after}
 use Rattle.dns_zonetext.proofs.Cuts.{fault_after}
-use Rattle.dns_zonetext.proofs.Givens.{whole_of, pieces_in}
+use Rattle.dns_zonetext.proofs.Givens.{whole_of, pieces_after, pieces_in}
 
 -- where the entry before the last ends
 abbrev last_but_one : ℕ → ℕ → List Piece → ℕ

@@ -1,34 +1,20 @@
 -- Two texts in step.
-use Rattle.std.proofs.Common.{◌≡◌, ℕ, List, [], ◌∷◌, ◌++◌, length, take, arith, refl, sym, ap, ◌∙◌, subst, append_assoc, append-nil}
+use Rattle.std.proofs.Common.{◌≡◌, ℕ, true, false, List, [], ◌∷◌, ◌++◌, length, take, arith, refl, sym, ap, ◌∙◌, subst, append_assoc, append-nil}
 use Rattle.std.specs.Prelude.{Option, Some, None, map, Result, Ok, Err, encode_utf8_all}
 use Rattle.dns_split.specs.declared.pieces.Piece.{Piece}
 use Rattle.dns_split.specs.declared.pieces.Piece.TheVariants.{Word as WordAt, Quote as QuoteAt, Comment as CommentAt, End as EndAt}
 use Rattle.dns_split.specs.declared.pieces.Fault.{Fault}
 use Rattle.dns_split.specs.declared.position.Position.{Position}
-use Rattle.dns_split.specs.Pieces.{ReadsOctets, EachWithin, IsWithin, between, cut, moved_piece, place_of}
-use Rattle.dns_split.proofs.PieceSplit.{oks, pieces_split}
-use Rattle.dns_zonetext.specs.Entries.{Part, Token, Ends, parts, HasEntries}
+use Rattle.dns_split.specs.Pieces.{ReadsOctets, EachWithin, IsWithin, cut, moved_piece, place_of}
+use Rattle.dns_split.proofs.PieceSplit.{pieces_split}
+use Rattle.dns_zonetext.specs.Entries.{Part, HasTokens, ended_after, ended_by, parts, with_tokens}
 use Rattle.dns_zonetext.specs.Found.{IsOctetFault}
-use Rattle.dns_zonetext.specs.Compare.{part, start_of, Skips, ComesNext, GoesOn, DifferAt, NoCommon}
+use Rattle.dns_zonetext.specs.Compare.{part, says, start_of, is_passed, Skips, ComesNext, GoesOn, DifferAt, NoCommon}
 use Rattle.dns_zonetext.specs.Place.{IsAt}
-use Rattle.std.proofs.lemmas.List.{append_cancel_left, take_all}
-use Rattle.dns_zonetext.proofs.Givens.{first_fault, pieces_in, whole_of, fault_of}
+use Rattle.std.proofs.lemmas.List.{append_cancel_left, map-append, take_all}
+use Rattle.dns_zonetext.proofs.Givens.{first_fault, pieces_after, pieces_in, whole_of, fault_of}
 use Rattle.dns_zonetext.proofs.Once.{entries_once}
-
-oks_append : (xs ys : List Piece) → oks (xs ++ ys) ≡ oks xs ++ oks ys
-oks_append [] ys = refl
-oks_append (x ∷ xs) ys = ap (λ l. Ok x ∷ l) (oks_append xs ys)
-
-pub parts_append : (octets : List ℕ) (xs ys : List Piece) → parts octets (xs ++ ys) ≡ parts octets xs ++ parts octets ys
-parts_append octets [] ys = refl
-parts_append octets (WordAt p ∷ xs) ys = ap (λ l. Token (between octets p.start p.end) ∷ l) (parts_append octets xs ys)
-parts_append octets (QuoteAt p ∷ xs) ys = ap (λ l. Token (between octets p.start p.end) ∷ l) (parts_append octets xs ys)
-parts_append octets (CommentAt p ∷ xs) ys = parts_append octets xs ys
-parts_append octets (EndAt p ∷ xs) ys = ap (λ l. Ends p.begins_blank ∷ l) (parts_append octets xs ys)
-
-pub pieces_after : (xs : List Piece) (given : List (Result Piece Fault)) → pieces_in (map Ok xs ++ given) ≡ xs ++ pieces_in given
-pieces_after [] given = refl
-pieces_after (x ∷ xs) given = ap (λ l. x ∷ l) (pieces_after xs given)
+use Rattle.dns_zonetext.proofs.Parts.{ended_append, says_append}
 
 fault_after : (xs : List Piece) (given : List (Result Piece Fault)) → first_fault (map Ok xs ++ given) ≡ first_fault given
 fault_after [] given = refl
@@ -39,164 +25,212 @@ within_after n [] given w = w
 within_after n (x ∷ xs) given w = within_after n xs given w.1
 
 -- zone text has the entries of its pieces
-pub zone_entries : (octets : List ℕ) (given : List (Result Piece Fault)) → ReadsOctets octets given → first_fault given ≡ None → HasEntries octets (parts octets (pieces_in given))
-zone_entries octets given r none = (pieces_in given, whole_of octets given r none, refl)
+pub zone_tokens : (octets : List ℕ) (given : List (Result Piece Fault)) → ReadsOctets octets given → first_fault given ≡ None → HasTokens octets (says octets None (pieces_in given))
+zone_tokens octets given r none = (parts octets (pieces_in given), (pieces_in given, whole_of octets given r none, refl), refl)
 
-zone_has : (octets : List ℕ) (given : List (Result Piece Fault)) (es : List Part) → ReadsOctets octets given → EachWithin (length octets) given → HasEntries octets es
-    → es ≡ parts octets (pieces_in given)
+zone_has : (octets : List ℕ) (given : List (Result Piece Fault)) (es : List Part) → ReadsOctets octets given → EachWithin (length octets) given → HasTokens octets es
+    → es ≡ says octets None (pieces_in given)
 zone_has octets given es r w h = go (first_fault given) refl
   where
-    go : (o : Option Fault) → first_fault given ≡ o → es ≡ parts octets (pieces_in given)
-    go None none = entries_once octets es (parts octets (pieces_in given)) h (zone_entries octets given r none)
+    go : (o : Option Fault) → first_fault given ≡ o → es ≡ says octets None (pieces_in given)
+    go None none = sym h.2 ∙ ap (with_tokens false) (entries_once octets h.0 (parts octets (pieces_in given)) h.1 (pieces_in given, whole_of octets given r none, refl))
     go (Some f) some =
         let bad = fault_of octets given f r w some in
         let text = encode_utf8_all octets in
-        let found = map (moved_piece (place_of octets)) h.0 in
-        absurd (bad.is.bad.splits_not (cut text found) (pieces_split text found h.1))
+        let found = map (moved_piece (place_of octets)) h.1.0 in
+        absurd (bad.is.bad.splits_not (cut text found) (pieces_split text found h.1.1))
 
 abbrev first_part : List Part → Option Part
 first_part [] = None
 first_part (e ∷ es) = Some e
 
-next_is : (octets : List ℕ) (rest : List (Result Piece Fault)) (e : Option Part) (at : ℕ) → ComesNext octets rest e at → first_part (parts octets (pieces_in rest)) ≡ e
-next_is octets [] e at h = sym h.0
-next_is octets (Ok p ∷ given) e at h = ap first_part (parts_append octets (p ∷ []) (pieces_in given) ∙ ap (λ l. l ++ parts octets (pieces_in given)) h.2) ∙ sym h.0
-next_is octets (Err f ∷ given) e at h = absurd h
+next_is : (octets : List ℕ) (ended : Option ℕ) (rest : List (Result Piece Fault)) (e : Option Part) (at : ℕ) → ComesNext octets ended rest e at
+    → first_part (says octets ended (pieces_in rest)) ≡ e
+next_is octets ended [] e at h = sym h.0
+next_is octets ended (Ok p ∷ given) e at h =
+    ap first_part (says_append octets ended (p ∷ []) (pieces_in given) ∙ ap (λ l. l ++ says octets (ended_by ended p) (pieces_in given)) h.2) ∙ sym h.0
+next_is octets ended (Err f ∷ given) e at h = absurd h
 
-goes_on_with : (octets : List ℕ) (common : List Part) (e : Option Part) (p : Position) (es : List Part) → (x : GoesOn octets common e p) → HasEntries octets es
-    → es ≡ common ++ parts octets (pieces_in x.rest)
+goes_on_with : (octets : List ℕ) (common : List Part) (e : Option Part) (p : Position) (es : List Part) → (x : GoesOn octets common e p) → HasTokens octets es
+    → es ≡ common ++ says octets (ended_after None x.before) (pieces_in x.rest)
 goes_on_with octets common e p es x h =
-    zone_has octets (map Ok x.before ++ x.rest) es x.reads x.within h ∙ ap (parts octets) (pieces_after x.before x.rest) ∙ parts_append octets x.before (pieces_in x.rest)
-    ∙ ap (λ l. l ++ parts octets (pieces_in x.rest)) x.is
+    zone_has octets (map Ok x.before ++ x.rest) es x.reads x.within h ∙ ap (says octets None) (pieces_after x.before x.rest) ∙ says_append octets None x.before (pieces_in x.rest)
+    ∙ ap (λ l. l ++ says octets (ended_after None x.before) (pieces_in x.rest)) x.is
 
 pub no_common : (first second : List ℕ) (p q : Position) → DifferAt first second p q → NoCommon first second
 no_common first second p q d = λ es h k.
     let one = goes_on_with first d.common d.one p es d.in_first h in
     let two = goes_on_with second d.common d.other q es d.in_second k in
-    let rest = append_cancel_left d.common (parts first (pieces_in d.in_first.rest)) (parts second (pieces_in d.in_second.rest)) (sym one ∙ two) in
-    d.apart (sym (next_is first d.in_first.rest d.one d.in_first.at d.in_first.next) ∙ ap first_part rest ∙ next_is second d.in_second.rest d.other d.in_second.at d.in_second.next)
+    let a : Option ℕ = ended_after None d.in_first.before in
+    let b : Option ℕ = ended_after None d.in_second.before in
+    let rest = append_cancel_left d.common (says first a (pieces_in d.in_first.rest)) (says second b (pieces_in d.in_second.rest)) (sym one ∙ two) in
+    d.apart (sym (next_is first a d.in_first.rest d.one d.in_first.at d.in_first.next) ∙ ap first_part rest ∙ next_is second b d.in_second.rest d.other d.in_second.at d.in_second.next)
+
+-- of a text these pieces were taken, after which the entry's last token ended here
+pub record Taken (octets : List ℕ) (all left : List (Result Piece Fault)) (ended : Option ℕ) (common : List Part) : Type 0 where
+  pub taken : List Piece
+  pub is : all ≡ map Ok taken ++ left
+  pub ends : ended_after None taken ≡ ended
+  pub says_is : says octets None taken ≡ common
 
 -- the pieces that were taken of both are the same parts
-pub record InStep (first second : List ℕ) (all_ours all_theirs ours theirs : List (Result Piece Fault)) : Type 0 where
-  pub fa : List Piece
-  pub fb : List Piece
-  pub ours_is : all_ours ≡ map Ok fa ++ ours
-  pub theirs_is : all_theirs ≡ map Ok fb ++ theirs
-  pub same : parts first fa ≡ parts second fb
+pub record InStep (first second : List ℕ) (all_ours all_theirs ours theirs : List (Result Piece Fault)) (ended that_ended : Option ℕ) : Type 0 where
+  pub common : List Part
+  pub in_first : Taken first all_ours ours ended common
+  pub in_second : Taken second all_theirs theirs that_ended common
 
--- what was taken, with the comments before it
-pub skipped : (octets : List ℕ) (all old new left : List (Result Piece Fault)) (fa comments : List Piece) → all ≡ map Ok fa ++ old → old ≡ map Ok comments ++ left
-    → all ≡ map Ok (fa ++ comments) ++ left
-skipped octets all old new left fa comments e f = e ∙ ap (λ l. map Ok fa ++ l) f ∙ sym (append_assoc (map Ok fa) (map Ok comments) left) ∙ ap (λ l. l ++ left) (sym (oks_append fa comments))
+pub none_taken : (octets : List ℕ) (all : List (Result Piece Fault)) → Taken octets all all None []
+none_taken octets all = record { taken = []; is = refl; ends = refl; says_is = refl }
 
-pub no_more_parts : (octets : List ℕ) (fa comments : List Piece) → parts octets comments ≡ [] → parts octets (fa ++ comments) ≡ parts octets fa
-no_more_parts octets fa comments h = parts_append octets fa comments ∙ ap (λ l. parts octets fa ++ l) h ∙ append-nil (parts octets fa)
+-- what was passed over
+pub passed_taken : (octets : List ℕ) (all old left : List (Result Piece Fault)) (ended : Option ℕ) (common : List Part) (passed : List Piece) → old ≡ map Ok passed ++ left
+    → says octets ended passed ≡ [] → ended_after ended passed ≡ ended → Taken octets all old ended common → Taken octets all left ended common
+passed_taken octets all old left ended common passed e none stays x = record {
+  taken = x.taken ++ passed;
+  is = x.is ∙ ap (λ l. map Ok x.taken ++ l) e ∙ sym (append_assoc (map Ok x.taken) (map Ok passed) left) ∙ ap (λ l. l ++ left) (sym (map-append Ok x.taken passed));
+  ends = ended_append None x.taken passed ∙ ap (λ o. ended_after o passed) x.ends ∙ stays;
+  says_is = says_append octets None x.taken passed ∙ ap (λ o. says octets None x.taken ++ says octets o passed) x.ends ∙ ap (λ l. says octets None x.taken ++ l) none
+      ∙ append-nil (says octets None x.taken) ∙ x.says_is;
+}
 
-pub fault_taken : (octets : List ℕ) (all old new : List (Result Piece Fault)) (fa : List Piece) (f : Fault) → ReadsOctets octets all → EachWithin (length octets) all
-    → all ≡ map Ok fa ++ old → Skips old (Some (Err f)) new
-    → IsOctetFault octets f
-fault_taken octets all old new fa f r w e s =
-    let k = skipped octets all old new s.left fa s.comments e s.is ∙ ap (λ l. map Ok (fa ++ s.comments) ++ l) s.takes in
-    fault_of octets all f r w (ap first_fault k ∙ fault_after (fa ++ s.comments) (Err f ∷ new))
+pub skipped : (octets : List ℕ) (all old new : List (Result Piece Fault)) (ended : Option ℕ) (common : List Part) (t : Option (Result Piece Fault)) → Taken octets all old ended common
+    → (s : Skips ended old t new) → Taken octets all s.left ended common
+skipped octets all old new ended common t x s = passed_taken octets all old s.left ended common s.passed s.is (s.no_parts octets) s.stays x
 
-pub piece_within : (octets : List ℕ) (all old new : List (Result Piece Fault)) (fa : List Piece) (p : Piece) → EachWithin (length octets) all → all ≡ map Ok fa ++ old
-    → Skips old (Some (Ok p)) new → IsWithin (length octets) (Ok p)
-piece_within octets all old new fa p w e s =
-    let k = skipped octets all old new s.left fa s.comments e s.is ∙ ap (λ l. map Ok (fa ++ s.comments) ++ l) s.takes.0 in
-    (within_after (length octets) (fa ++ s.comments) (Ok p ∷ new) (subst (EachWithin (length octets)) k w)).0
+pub fault_taken : (octets : List ℕ) (all old new : List (Result Piece Fault)) (ended : Option ℕ) (common : List Part) (f : Fault) → ReadsOctets octets all → EachWithin (length octets) all
+    → Taken octets all old ended common → Skips ended old (Some (Err f)) new → IsOctetFault octets f
+fault_taken octets all old new ended common f r w x s =
+    let k = skipped octets all old new ended common (Some (Err f)) x s in
+    fault_of octets all f r w (ap first_fault (k.is ∙ ap (λ l. map Ok k.taken ++ l) s.takes) ∙ fault_after k.taken (Err f ∷ new))
 
--- comments were passed over
-pub record PassedOver (old now : List (Result Piece Fault)) : Type 0 where
-  pub comments : List Piece
-  pub is : old ≡ map Ok comments ++ now
-  pub no_parts : (octets : List ℕ) → parts octets comments ≡ []
+pub piece_within : (octets : List ℕ) (all old new : List (Result Piece Fault)) (ended : Option ℕ) (common : List Part) (p : Piece) → EachWithin (length octets) all
+    → Taken octets all old ended common → Skips ended old (Some (Ok p)) new → IsWithin (length octets) (Ok p)
+piece_within octets all old new ended common p w x s =
+    let k = skipped octets all old new ended common (Some (Ok p)) x s in
+    (within_after (length octets) k.taken (Ok p ∷ new) (subst (EachWithin (length octets)) (k.is ∙ ap (λ l. map Ok k.taken ++ l) s.takes.0) w)).0
 
--- an octet text that went on with a piece, or ended
-pub taken_part : (octets : List ℕ) (all old new : List (Result Piece Fault)) (fa : List Piece) (p : Piece) (q : Position) → ReadsOctets octets all
-    → EachWithin (length octets) all → all ≡ map Ok fa ++ old
-    → Skips old (Some (Ok p)) new → IsAt 0 (take (start_of p) octets) q → GoesOn octets (parts octets fa) (Some (part octets p)) q
-taken_part octets all old new fa p q r w e s i =
-    let k : all ≡ map Ok (fa ++ s.comments) ++ Ok p ∷ new = skipped octets all old new s.left fa s.comments e s.is ∙ ap (λ l. map Ok (fa ++ s.comments) ++ l) s.takes.0 in
+-- a text that went on with a piece, or ended
+pub taken_part : (octets : List ℕ) (all old new : List (Result Piece Fault)) (ended : Option ℕ) (common : List Part) (p : Piece) (q : Position) → ReadsOctets octets all
+    → EachWithin (length octets) all → Taken octets all old ended common → Skips ended old (Some (Ok p)) new → IsAt 0 (take (start_of p) octets) q → GoesOn octets common (Some (part octets ended p)) q
+taken_part octets all old new ended common p q r w x s i =
+    let k = skipped octets all old new ended common (Some (Ok p)) x s in
+    let e : all ≡ map Ok k.taken ++ Ok p ∷ new = k.is ∙ ap (λ l. map Ok k.taken ++ l) s.takes.0 in
     record {
-      before = fa ++ s.comments;
+      before = k.taken;
       rest = Ok p ∷ new;
-      reads = subst (ReadsOctets octets) k r;
-      within = subst (EachWithin (length octets)) k w;
-      is = no_more_parts octets fa s.comments (s.no_parts octets);
+      reads = subst (ReadsOctets octets) e r;
+      within = subst (EachWithin (length octets)) e w;
+      is = k.says_is;
       at = start_of p;
-      next = (refl, refl, s.takes.1 octets);
+      next = subst (λ o. ComesNext octets o (Ok p ∷ new) (Some (part octets ended p)) (start_of p)) (sym k.ends) (refl, refl, s.takes.1 octets);
       position = i;
     }
 
-ended_is : (octets : List ℕ) (all old new : List (Result Piece Fault)) (fa : List Piece) → all ≡ map Ok fa ++ old → (s : Skips old None new) → all ≡ map Ok (fa ++ s.comments) ++ []
-ended_is octets all old new fa e s = skipped octets all old new s.left fa s.comments e s.is ∙ ap (λ l. map Ok (fa ++ s.comments) ++ l) s.takes.0
+ended_is : (octets : List ℕ) (all old new : List (Result Piece Fault)) (ended : Option ℕ) (common : List Part) → (x : Taken octets all old ended common) → (s : Skips ended old None new)
+    → all ≡ map Ok (skipped octets all old new ended common None x s).taken ++ []
+ended_is octets all old new ended common x s = let k = skipped octets all old new ended common None x s in k.is ∙ ap (λ l. map Ok k.taken ++ l) s.takes.0
 
-pub ended_part : (octets : List ℕ) (all old new : List (Result Piece Fault)) (fa : List Piece) (q : Position) → ReadsOctets octets all → EachWithin (length octets) all → all ≡ map Ok fa ++ old
-    → Skips old None new → IsAt 0 octets q → GoesOn octets (parts octets fa) None q
-ended_part octets all old new fa q r w e s i =
-    let k = ended_is octets all old new fa e s in
+pub ended_part : (octets : List ℕ) (all old new : List (Result Piece Fault)) (ended : Option ℕ) (common : List Part) (q : Position) → ReadsOctets octets all → EachWithin (length octets) all
+    → Taken octets all old ended common → Skips ended old None new → IsAt 0 octets q → GoesOn octets common None q
+ended_part octets all old new ended common q r w x s i =
+    let k = skipped octets all old new ended common None x s in
+    let e = ended_is octets all old new ended common x s in
     record {
-      before = fa ++ s.comments;
+      before = k.taken;
       rest = [];
-      reads = subst (ReadsOctets octets) k r;
-      within = subst (EachWithin (length octets)) k w;
-      is = no_more_parts octets fa s.comments (s.no_parts octets);
+      reads = subst (ReadsOctets octets) e r;
+      within = subst (EachWithin (length octets)) e w;
+      is = k.says_is;
       at = length octets;
       next = (refl, refl);
       position = subst (λ l. IsAt 0 l q) (sym (take_all (length octets) octets (omega arith))) i;
     }
 
-pub ended_entries : (octets : List ℕ) (all old new : List (Result Piece Fault)) (fa : List Piece) → ReadsOctets octets all → all ≡ map Ok fa ++ old → Skips old None new
-    → HasEntries octets (parts octets fa)
-ended_entries octets all old new fa r e s =
-    let k = ended_is octets all old new fa e s in
-    let none : first_fault all ≡ None = ap first_fault k ∙ fault_after (fa ++ s.comments) [] in
-    let same : parts octets (pieces_in all) ≡ parts octets fa =
-    ap (λ l. parts octets (pieces_in l)) k ∙ ap (parts octets) (pieces_after (fa ++ s.comments) [] ∙ append-nil (fa ++ s.comments)) ∙ no_more_parts octets fa s.comments (s.no_parts octets) in
-    subst (HasEntries octets) same (zone_entries octets all r none)
+pub ended_tokens : (octets : List ℕ) (all old new : List (Result Piece Fault)) (ended : Option ℕ) (common : List Part) → ReadsOctets octets all → Taken octets all old ended common
+    → Skips ended old None new → HasTokens octets common
+ended_tokens octets all old new ended common r x s =
+    let k = skipped octets all old new ended common None x s in
+    let e = ended_is octets all old new ended common x s in
+    let none : first_fault all ≡ None = ap first_fault e ∙ fault_after k.taken [] in
+    let same : says octets None (pieces_in all) ≡ common =
+    ap (λ l. says octets None (pieces_in l)) e ∙ ap (says octets None) (pieces_after k.taken [] ∙ append-nil k.taken) ∙ k.says_is in
+    subst (HasTokens octets) same (zone_tokens octets all r none)
 
 -- two texts that went on with different parts
-pub apart : (first second : List ℕ) (all_ours all_theirs ours theirs : List (Result Piece Fault)) (x : InStep first second all_ours all_theirs ours theirs) (e f : Option Part) (p q : Position)
-    → GoesOn first (parts first x.fa) e p → GoesOn second (parts second x.fb) f q → (e ≡ f → ⊥) → DifferAt first second p q × NoCommon first second
-apart first second all_ours all_theirs ours theirs x e f p q g h other =
-    let d : DifferAt first second p q = record {
-      common = parts first x.fa;
-      one = e;
-      other = f;
-      in_first = g;
-      in_second = subst (λ l. GoesOn second l f q) (sym x.same) h;
-      apart = other;
-    } in
+pub apart : (first second : List ℕ) (common : List Part) (e f : Option Part) (p q : Position) → GoesOn first common e p → GoesOn second common f q → (e ≡ f → ⊥)
+    → DifferAt first second p q × NoCommon first second
+apart first second common e f p q g h other =
+    let d : DifferAt first second p q = record { common = common; one = e; other = f; in_first = g; in_second = h; apart = other } in
     (d, no_common first second p q d)
 
--- one more part of both
-pub both_on : (first second : List ℕ) (all_ours all_theirs ours theirs new new2 : List (Result Piece Fault)) (x : InStep first second all_ours all_theirs ours theirs) (p q : Piece)
-    → Skips ours (Some (Ok p)) new → Skips theirs (Some (Ok q)) new2 → part first p ≡ part second q → InStep first second all_ours all_theirs new new2
-both_on first second all_ours all_theirs ours theirs new new2 x p q s t same = record {
-  fa = (x.fa ++ s.comments) ++ p ∷ [];
-  fb = (x.fb ++ t.comments) ++ q ∷ [];
-  ours_is = one_on first all_ours ours new x.fa p x.ours_is s;
-  theirs_is = one_on second all_theirs theirs new2 x.fb q x.theirs_is t;
-  same = parts_on first ours new x.fa p s ∙ ap (λ l. l ++ part first p ∷ []) x.same ∙ ap (λ e. parts second x.fb ++ e ∷ []) same ∙ sym (parts_on second theirs new2 x.fb q t);
-}
+-- one more part
+part_on : (octets : List ℕ) (all old new : List (Result Piece Fault)) (ended : Option ℕ) (common : List Part) (p : Piece) (e : Part) → Taken octets all old ended common
+    → Skips ended old (Some (Ok p)) new → part octets ended p ≡ e → Taken octets all new (ended_by ended p) (common ++ e ∷ [])
+part_on octets all old new ended common p e x s same =
+    let k = skipped octets all old new ended common (Some (Ok p)) x s in
+    record {
+      taken = k.taken ++ p ∷ [];
+      is = k.is ∙ ap (λ l. map Ok k.taken ++ l) s.takes.0 ∙ sym (append_assoc (map Ok k.taken) (Ok p ∷ []) new) ∙ ap (λ l. l ++ new) (sym (map-append Ok k.taken (p ∷ [])));
+      ends = ended_append None k.taken (p ∷ []) ∙ ap (λ o. ended_by o p) k.ends;
+      says_is = says_append octets None k.taken (p ∷ []) ∙ ap (λ o. says octets None k.taken ++ says octets o (p ∷ [])) k.ends
+          ∙ ap (λ l. says octets None k.taken ++ l) (s.takes.1 octets) ∙ ap (λ l. l ++ part octets ended p ∷ []) k.says_is ∙ ap (λ t. common ++ t ∷ []) same;
+    }
+
+pub both_on : (first second : List ℕ) (all_ours all_theirs ours theirs new new2 : List (Result Piece Fault)) (ended that_ended next that_next : Option ℕ) (p q : Piece)
+    → InStep first second all_ours all_theirs ours theirs ended that_ended → Skips ended ours (Some (Ok p)) new → Skips that_ended theirs (Some (Ok q)) new2
+    → part first ended p ≡ part second that_ended q → next ≡ ended_by ended p → that_next ≡ ended_by that_ended q → InStep first second all_ours all_theirs new new2 next that_next
+both_on first second all_ours all_theirs ours theirs new new2 ended that_ended next that_next p q x s t same a b =
+    let e : Part = part second that_ended q in
+    record {
+      common = x.common ++ e ∷ [];
+      in_first = subst (λ o. Taken first all_ours new o (x.common ++ e ∷ [])) (sym a) (part_on first all_ours ours new ended x.common p e x.in_first s same);
+      in_second = subst (λ o. Taken second all_theirs new2 o (x.common ++ e ∷ [])) (sym b) (part_on second all_theirs theirs new2 that_ended x.common q e x.in_second t refl);
+    }
+
+pub none_in_step : (first second : List ℕ) (ours theirs : List (Result Piece Fault)) → InStep first second ours theirs ours theirs None None
+none_in_step first second ours theirs = record { common = []; in_first = none_taken first ours; in_second = none_taken second theirs }
+
+-- pieces were passed over that are no parts
+pub record PassedOver (ended : Option ℕ) (old now : List (Result Piece Fault)) : Type 0 where
+  pub passed : List Piece
+  pub is : old ≡ map Ok passed ++ now
+  pub no_parts : (octets : List ℕ) → says octets ended passed ≡ []
+  pub stays : ended_after ended passed ≡ ended
+
+-- a piece that is passed over, and one that is not
+pub over_one : (ended : Option ℕ) (p : Piece) → is_passed ended (Ok p) ≡ true → ((octets : List ℕ) → says octets ended (p ∷ []) ≡ []) × (ended_by ended p ≡ ended)
+over_one ended (WordAt p) h = cc
+over_one ended (QuoteAt p) h = cc
+over_one ended (CommentAt p) h = (λ octets. refl, refl)
+over_one None (EndAt p) h = (λ octets. refl, refl)
+over_one (Some e) (EndAt p) h = cc
+
+pub is_part : (ended : Option ℕ) (p : Piece) → is_passed ended (Ok p) ≡ false → (octets : List ℕ) → says octets ended (p ∷ []) ≡ part octets ended p ∷ []
+is_part ended (WordAt p) h octets = refl
+is_part ended (QuoteAt p) h octets = refl
+is_part ended (CommentAt p) h octets = cc
+is_part None (EndAt p) h octets = cc
+is_part (Some e) (EndAt p) h octets = refl
+
+pub over_on : (ended : Option ℕ) (old now new : List (Result Piece Fault)) (p : Piece) → is_passed ended (Ok p) ≡ true → now ≡ Ok p ∷ new → PassedOver ended old now → PassedOver ended old new
+over_on ended old now new p h e o =
+    let one = over_one ended p h in
+    record {
+      passed = o.passed ++ p ∷ [];
+      is = o.is ∙ ap (λ l. map Ok o.passed ++ l) e ∙ sym (append_assoc (map Ok o.passed) (Ok p ∷ []) new) ∙ ap (λ l. l ++ new) (sym (map-append Ok o.passed (p ∷ [])));
+      no_parts = λ octets. says_append octets ended o.passed (p ∷ []) ∙ ap (λ x. says octets ended o.passed ++ says octets x (p ∷ [])) o.stays
+          ∙ ap (λ l. says octets ended o.passed ++ l) (one.0 octets) ∙ append-nil (says octets ended o.passed) ∙ o.no_parts octets;
+      stays = ended_append ended o.passed (p ∷ []) ∙ ap (λ x. ended_by x p) o.stays ∙ one.1;
+    }
+
+pub none_over : (ended : Option ℕ) (old : List (Result Piece Fault)) → PassedOver ended old old
+none_over ended old = record { passed = []; is = refl; no_parts = λ octets. none ended octets; stays = refl }
   where
-    one_on : (octets : List ℕ) (all old new : List (Result Piece Fault)) (fa : List Piece) (p : Piece) → all ≡ map Ok fa ++ old → (s : Skips old (Some (Ok p)) new)
-        → all ≡ map Ok ((fa ++ s.comments) ++ p ∷ []) ++ new
-    one_on octets all old new fa p e s =
-        skipped octets all old new s.left fa s.comments e s.is ∙ ap (λ l. map Ok (fa ++ s.comments) ++ l) s.takes.0 ∙ sym (append_assoc (map Ok (fa ++ s.comments)) (Ok p ∷ []) new)
-        ∙ ap (λ l. l ++ new) (sym (oks_append (fa ++ s.comments) (p ∷ [])))
+    none : (ended : Option ℕ) (octets : List ℕ) → says octets ended [] ≡ []
+    none None octets = refl
+    none (Some e) octets = refl
 
-    parts_on : (octets : List ℕ) (old new : List (Result Piece Fault)) (fa : List Piece) (p : Piece) → (s : Skips old (Some (Ok p)) new)
-        → parts octets ((fa ++ s.comments) ++ p ∷ []) ≡ parts octets fa ++ part octets p ∷ []
-    parts_on octets old new fa p s =
-        parts_append octets (fa ++ s.comments) (p ∷ []) ∙ ap (λ l. l ++ parts octets (p ∷ [])) (no_more_parts octets fa s.comments (s.no_parts octets))
-        ∙ ap (λ l. parts octets fa ++ l) (s.takes.1 octets)
-
--- one more comment
-pub comment_on : (old new : List (Result Piece Fault)) (now : List (Result Piece Fault)) (p : Piece) → ((octets : List ℕ) → parts octets (p ∷ []) ≡ []) → PassedOver old now
-    → now ≡ Ok p ∷ new → PassedOver old new
-comment_on old new now p none o e = record {
-  comments = o.comments ++ p ∷ [];
-  is = o.is ∙ ap (λ l. map Ok o.comments ++ l) e ∙ sym (append_assoc (map Ok o.comments) (Ok p ∷ []) new) ∙ ap (λ l. l ++ new) (sym (oks_append o.comments (p ∷ [])));
-  no_parts = λ octets. parts_append octets o.comments (p ∷ []) ∙ ap (λ l. l ++ parts octets (p ∷ [])) (o.no_parts octets) ∙ none octets;
-}
+pub passed_piece : (ended : Option ℕ) (x : Result Piece Fault) → is_passed ended x ≡ true → (p : Piece) × (x ≡ Ok p)
+passed_piece ended (Ok p) h = (p, refl)
+passed_piece None (Err f) h = cc
+passed_piece (Some e) (Err f) h = cc

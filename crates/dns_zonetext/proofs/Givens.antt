@@ -16,6 +16,10 @@ pieces_in [] = []
 pieces_in (Ok p ∷ given) = p ∷ pieces_in given
 pieces_in (Err f ∷ given) = pieces_in given
 
+pub pieces_after : (xs : List Piece) (given : List (Result Piece Fault)) → pieces_in (map Ok xs ++ given) ≡ xs ++ pieces_in given
+pieces_after [] given = refl
+pieces_after (x ∷ xs) given = ap (λ l. x ∷ l) (pieces_after xs given)
+
 pub moved_first : (g : ℕ → ℕ) (given : List (Result Piece Fault)) → first_fault (map (moved g) given) ≡ option_map (moved_fault g) (first_fault given)
 moved_first g [] = refl
 moved_first g (Ok p ∷ given) = moved_first g given

@@ -13,8 +13,8 @@ use Rattle.dns_zonetext.specs.declared.place.Place.{Place}
 use Rattle.dns_zonetext.proofs.After.{found_on}
 use Rattle.dns_zonetext.proofs.Cuts.{both_octets, take_octets, ended_on, zone_on, fault_on, fault_alone, fault_stays_on}
 
-abbrev pub held_at : List ℕ → Place → Held
-held_at octets place = record { octets = octets; place = place }
+abbrev pub held_at : List ℕ → Place → ℕ → Held
+held_at octets place left = record { octets = octets; place = place; left = left }
 
 -- a fault of what is held, with its positions
 pub record Located (h : Held) (f : Fault) (r : Found) : Type 0 where

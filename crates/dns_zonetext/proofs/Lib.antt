@@ -1,6 +1,8 @@
 pub mod After
+pub mod Beginnings
 pub mod Columns
 pub mod Comparing
+pub mod Counted
 pub mod Cuts
 pub mod Feeds
 pub mod Following
@@ -12,6 +14,10 @@ pub mod Made
 pub mod Once
 pub mod Opened
 pub mod Order
+pub mod Parts
 pub mod Passing
+pub mod Plain
+pub mod Same
+pub mod Settling
 pub mod Together
 pub mod Written

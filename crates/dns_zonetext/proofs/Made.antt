@@ -1,9 +1,7 @@
 -- What is made of octets that follow the end of an entry, and of octets with a fault that stays.
 use Rattle.std.proofs.Common.{◌≡◌, ℕ, zero, suc, ◌+◌, ◌<◌, Bool, true, false, List, [], ◌∷◌, ◌++◌, length, take, drop, refl, sym, ap, ◌∙◌, subst, arith, inl, inr}
 use Rattle.std.proofs.Common.{append-nil, append_assoc, length-append, take_all}
-use Rattle.std.specs.Prelude.{Option, Some, None, option_map, map, Result, Ok, Err, encode_utf8_all}
-use Rattle.std.specs.List.{flat_map}
-use Rattle.std.proofs.lemmas.Grind.{flat_map-append}
+use Rattle.std.specs.Prelude.{◌⊎◌, Option, Some, None, option_map, map, Result, Ok, Err, encode_utf8_all}
 use Rattle.std.proofs.lemmas.List.{map-append, take-append-drop}
 use Rattle.dns_split.specs.declared.pieces.Piece.{Piece}
 use Rattle.dns_split.specs.declared.pieces.Piece.TheVariants.{Word as WordAt, Quote as QuoteAt, Comment as CommentAt, End as EndAt}
@@ -17,17 +15,17 @@ use Rattle.dns_zonetext.specs.declared.layout.Gap.{Gap}
 use Rattle.dns_zonetext.specs.declared.tokens.Form.{Form}
 use Rattle.dns_zonetext.specs.declared.writer.Output.{Output}
 use Rattle.dns_zonetext.specs.declared.writer.Output.TheVariants.{Rows, Lines}
-use Rattle.dns_zonetext.specs.Blocks.{EndsEntry}
-use Rattle.dns_zonetext.specs.Entries.{Part, Ends, HasEntries, parts}
+use Rattle.dns_zonetext.specs.Blocks.{EndsEntry, IsCut, Settled}
+use Rattle.dns_zonetext.specs.Entries.{Part, Ends, HasEntries, parts, parts_after}
 use Rattle.dns_zonetext.specs.Found.{IsOctetFault}
 use Rattle.dns_zonetext.specs.Layout.{laid_out}
 use Rattle.dns_zonetext.specs.Place.{feeds}
-use Rattle.dns_zonetext.specs.Tokens.{Appended, row_of}
+use Rattle.dns_zonetext.specs.Tokens.{Appended, rows_after}
 use Rattle.dns_zonetext.specs.Writing.{EndsAt, FaultAfter, HasLines, Makes, Until, has_end}
-use Rattle.dns_zonetext.proofs.Comparing.{parts_append, pieces_after}
+use Rattle.dns_zonetext.proofs.Givens.{fault_of, first_fault, first_of_oks, moved_oks, pieces_after, pieces_in, whole_of}
 use Rattle.dns_zonetext.proofs.Cuts.{EndedFront, cut_given, fault_after, first_on, none_given, read_on}
 use Rattle.dns_zonetext.proofs.Following.{lines_joined, parts_back, parts_front, rows_follow, rows_front}
-use Rattle.dns_zonetext.proofs.Givens.{fault_of, first_fault, first_of_oks, moved_oks, pieces_in, whole_of}
+use Rattle.dns_zonetext.proofs.Parts.{parts_append, parts_ended, rows_append}
 use Rattle.dns_zonetext.proofs.Once.{entries_once}
 
 -- zone text has no fault
@@ -70,24 +68,24 @@ has_moved g (QuoteAt p ∷ ps) = has_moved g ps
 has_moved g (CommentAt p ∷ ps) = has_moved g ps
 has_moved g (EndAt p ∷ ps) = refl
 
-end_part : (octets : List ℕ) (ps : List Piece) → has_end ps ≡ true → 0 < length (parts octets ps)
-end_part octets [] h = cc
-end_part octets (WordAt p ∷ ps) h = omega arith
-end_part octets (QuoteAt p ∷ ps) h = omega arith
-end_part octets (CommentAt p ∷ ps) h = end_part octets ps h
-end_part octets (EndAt p ∷ ps) h = omega arith
+end_part : (octets : List ℕ) (ended : Option ℕ) (ps : List Piece) → has_end ps ≡ true → 0 < length (parts_after octets ended ps)
+end_part octets ended [] h = cc
+end_part octets ended (WordAt p ∷ ps) h = omega arith
+end_part octets ended (QuoteAt p ∷ ps) h = omega arith
+end_part octets ended (CommentAt p ∷ ps) h = end_part octets ended ps h
+end_part octets ended (EndAt p ∷ ps) h = omega arith
 
 some_part : (octets : List ℕ) (es : List Part) → HasEntries octets es → 0 < length es
 some_part octets es h =
     let ends : has_end h.0 ≡ true = sym (has_moved (place_of octets) h.0) ∙ ap has_end (sym h.1.placed) ∙ ends_some h.1.lexemes 0 0 (begins_blank h.1.lexemes) in
-    subst (λ l. 0 < length l) h.2 (end_part octets h.0 ends)
+    subst (λ l. 0 < length l) h.2 (end_part octets None h.0 ends)
 
 -- entries that have ended, laid out
 lines_own : (before written : List ℕ) (gap : Gap) (front : List Piece) → IsGiven before (map Ok front ++ Ok (end_at (length before) false) ∷ []) → HasLines before gap written
     → written ≡ laid_out gap false (parts before front ++ Ends false ∷ [])
 lines_own before written gap front g (inl h) =
     let end : List Piece = end_at (length before) false ∷ [] in
-    h.2 ∙ ap (laid_out gap false) (zone_is before h.0 (map Ok front ++ map Ok end) h.1 g ∙ ap (parts before) (pieces_after front (map Ok end)) ∙ parts_append before front end)
+    h.2 ∙ ap (laid_out gap false) (zone_is before h.0 (map Ok front ++ map Ok end) h.1 g ∙ ap (parts before) (pieces_after front (map Ok end)) ∙ parts_append before None front end)
 lines_own before written gap front g (inr h) =
     let f = h.1 in
     let same = given_once before _ (map Ok front ++ Ok (end_at (length before) false) ∷ []) f.given g in
@@ -132,9 +130,9 @@ lines_zone before x written more gap es b o e w h k =
     let last : List (Result Piece Fault) = Ok (end_at (length before) false) ∷ [] in
     let moved_on : pieces_in (later (length before) alone) ≡ map (moved_piece (λ i. length before + i)) (pieces_in alone) = pieces_moved (λ i. length before + i) alone in
     let shape : parts (before ++ x) (pieces_in all) ≡ parts before r.front ++ es =
-    ap (parts (before ++ x)) (pieces_after r.front (later (length before) alone)) ∙ parts_append (before ++ x) r.front (pieces_in (later (length before) alone))
-    ∙ ap (λ l. l ++ parts (before ++ x) (pieces_in (later (length before) alone))) (parts_front before x r.front last r.own.1)
-    ∙ ap (λ l. parts before r.front ++ l) (ap (parts (before ++ x)) moved_on ∙ parts_back before x (pieces_in alone) ∙ sym (zone_is x es alone h g)) in
+    ap (parts (before ++ x)) (pieces_after r.front (later (length before) alone)) ∙ parts_ended (before ++ x) r.front (pieces_in (later (length before) alone)) r.ended
+    ∙ ap (λ l. l ++ parts (before ++ x) (pieces_in (later (length before) alone))) (parts_front before x None r.front last r.own.1)
+    ∙ ap (λ l. parts before r.front ++ l) (ap (parts (before ++ x)) moved_on ∙ parts_back before x None (pieces_in alone) ∙ sym (zone_is x es alone h g)) in
     inl (
       parts (before ++ x) (pieces_in all),
       (pieces_in all, whole_of (before ++ x) all r.is.0 none, refl),
@@ -161,8 +159,8 @@ lines_bad before x written more gap at f b o e w k =
     let shape : map Ok r.front ++ later (length before) alone ≡ map Ok (r.front ++ map g f.ended) ++ tail =
     ap (λ l. map Ok r.front ++ l) on ∙ sym (append_assoc (map Ok r.front) (map Ok (map g f.ended)) tail) ∙ ap (λ l. l ++ tail) (sym (map-append Ok r.front (map g f.ended))) in
     let same : parts (before ++ x) (r.front ++ map g f.ended) ≡ parts before r.front ++ parts x f.ended =
-    parts_append (before ++ x) r.front (map g f.ended) ∙ ap (λ l. l ++ parts (before ++ x) (map g f.ended)) (parts_front before x r.front end r.own.1)
-    ∙ ap (λ l. parts before r.front ++ l) (parts_back before x f.ended) in
+    parts_ended (before ++ x) r.front (map g f.ended) r.ended ∙ ap (λ l. l ++ parts (before ++ x) (map g f.ended)) (parts_front before x None r.front end r.own.1)
+    ∙ ap (λ l. parts before r.front ++ l) (parts_back before x None f.ended) in
     let some : 0 < length (parts x f.ended ++ Ends false ∷ []) = omega (arith, length-append (parts x f.ended) (Ends false ∷ [])) in
     inr (
       there.0,
@@ -205,7 +203,7 @@ lines_stay octets rest written gap found f o r g less (inr h) =
     inr (
       h.0,
       record { ended = k.ended; last = k.last; fault = k.fault; given = subst (IsGiven (octets ++ rest)) (sym shape) on; ends = k.ends; none = k.none },
-      h.2 ∙ ap (λ l. laid_out gap false (l ++ Ends false ∷ [])) (sym (parts_front octets rest k.ended (map Ok k.last ++ bad) k.given.1)),
+      h.2 ∙ ap (λ l. laid_out gap false (l ++ Ends false ∷ [])) (sym (parts_front octets rest None k.ended (map Ok k.last ++ bad) k.given.1)),
     )
   where
     some_same : {a b : Fault} → Some a ≡ Some b → a ≡ b
@@ -215,12 +213,11 @@ rows_stay : (octets rest written : List ℕ) (form : Form) (found : List Piece) 
     → Appended octets 0 form [] written → Appended (octets ++ rest) 0 form [] written
 rows_stay octets rest written form found f o r g less a =
     let bad : List (Result Piece Fault) = Err f ∷ [] in
-    let own = row_of octets 0 form in
-    let all = row_of (octets ++ rest) 0 form in
     let same : a.0 ≡ map Ok found ++ bad = given_once octets a.0 (map Ok found ++ bad) a.1 g in (
       map Ok found ++ bad,
       faults_stay octets rest found f o r g less,
-      a.2 ∙ ap (flat_map own) same ∙ flat_map-append own (map Ok found) bad ∙ ap (λ l. l ++ []) (sym (rows_front octets rest form found bad g.1)) ∙ sym (flat_map-append all (map Ok found) bad),
+      a.2 ∙ ap (rows_after octets 0 form None) same ∙ rows_append octets 0 form None found bad ∙ ap (λ l. l ++ []) (sym (rows_front octets rest form None found bad g.1))
+          ∙ sym (rows_append (octets ++ rest) 0 form None found bad),
     )
 
 pub made_stays : (output : Output) (octets rest written : List ℕ) (found : List Piece) (f : Fault) → AreOctets octets → AreOctets rest → IsGiven octets (map Ok found ++ Err f ∷ [])
@@ -255,10 +252,10 @@ lines_until octets at gap es o (inr f) h =
     let end : List Piece = end_at at false ∷ [] in
     let g = ended_given octets at f o in
     let own : es ≡ parts (take at octets) f.ended ++ Ends false ∷ [] =
-    zone_is (take at octets) es (map Ok f.ended ++ map Ok end) h g ∙ ap (parts (take at octets)) (pieces_after f.ended (map Ok end)) ∙ parts_append (take at octets) f.ended end in
+    zone_is (take at octets) es (map Ok f.ended ++ map Ok end) h g ∙ ap (parts (take at octets)) (pieces_after f.ended (map Ok end)) ∙ parts_append (take at octets) None f.ended end in
     let within : EachWithin (length (take at octets)) (map Ok f.ended ++ map Ok end) = g.1 in
     let same : parts octets f.ended ≡ parts (take at octets) f.ended =
-    ap (λ l. parts l f.ended) (sym (take-append-drop at octets)) ∙ parts_front (take at octets) (drop at octets) f.ended (map Ok end) within in
+    ap (λ l. parts l f.ended) (sym (take-append-drop at octets)) ∙ parts_front (take at octets) (drop at octets) None f.ended (map Ok end) within in
     inr (at, f, ap (laid_out gap false) (own ∙ ap (λ l. l ++ Ends false ∷ []) (sym same)))
 
 pub until_well : (octets : List ℕ) (at : ℕ) (f : Fault) → AreOctets octets → Until octets at → IsOctetFault (take at octets) f → ⊥
@@ -273,3 +270,16 @@ until_well octets at f o (inr k) bad =
 pub none_before : (output : Output) (before octets : List ℕ) → [] ≡ before ++ octets → Makes output before 0 []
 none_before output [] octets e = none_made output
 none_before output (x ∷ before) octets e = cc
+
+-- octets up to a cut have no fault
+pub cut_whole : (octets : List ℕ) (at : ℕ) → AreOctets octets → Settled octets (Ok at) → (found : List Piece) × IsGiven (take at octets) (map Ok found)
+cut_whole octets at o s = go s.1
+  where
+    go : (at ≡ 0) ⊎ IsCut octets at → (found : List Piece) × IsGiven (take at octets) (map Ok found)
+    go (inl z) = (end_at 0 false ∷ [], subst (λ n. IsGiven (take n octets) (Ok (end_at 0 false) ∷ [])) (sym z) none_given)
+    go (inr k) =
+        let last : List Piece = end_at at k.1 ∷ end_at at false ∷ [] in
+        (k.0 ++ last, subst (IsGiven (take at octets)) (sym (map-append Ok k.0 last)) (cut_given octets k.0 at k.1 k.2 o k.3 k.4))
+
+pub whole_not_bad : (octets : List ℕ) (f : Fault) → (found : List Piece) × IsGiven octets (map Ok found) → IsOctetFault octets f → ⊥
+whole_not_bad octets f w bad = zone_not_bad octets _ f (given_zone octets w.0 w.1) bad

@@ -62,11 +62,11 @@ ended_before given left now p at e x = record {
 pub ended_here : (given left now : List (Result Piece Fault)) (at : ℕ) (blank : Bool) → now ≡ Ok (end_at at blank) ∷ left → Passed given now → Ended given left at
 ended_here given left now at blank e x = record { found = x.found; blank = blank; more = []; is = x.is ∙ ap (λ l. map Ok x.found ++ l) e }
 
-within_after : (n : ℕ) (xs : List Piece) (given : List (Result Piece Fault)) → EachWithin n (map Ok xs ++ given) → EachWithin n given
+pub within_after : (n : ℕ) (xs : List Piece) (given : List (Result Piece Fault)) → EachWithin n (map Ok xs ++ given) → EachWithin n given
 within_after n [] given w = w
 within_after n (x ∷ xs) given w = within_after n xs given w.1
 
-oks_length : (xs : List Piece) → length (map {B = Result Piece Fault} Ok xs) ≡ length xs
+pub oks_length : (xs : List Piece) → length (map {B = Result Piece Fault} Ok xs) ≡ length xs
 oks_length [] = refl
 oks_length (x ∷ xs) = ap suc (oks_length xs)
 

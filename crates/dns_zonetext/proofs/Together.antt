@@ -1,7 +1,7 @@
 -- Two texts whose entries are the same so far.
-use Rattle.std.proofs.Common.{◌≡◌, ℕ, ◌+◌, ◌-◌, ◌<◌, ◌≤◌, false, List, [], ◌∷◌, ◌++◌, length, take, refl, sym, ap, ◌∙◌, subst, arith, inl, inr, append_assoc, length-append, ◌==◌, cond}
+use Rattle.std.proofs.Common.{◌≡◌, ℕ, ◌+◌, ◌-◌, ◌≤◌, true, false, List, [], ◌∷◌, ◌++◌, length, take, refl, sym, ap, ◌∙◌, subst, arith, append-nil, append_assoc, length-append, ◌==◌, cond}
 use Rattle.std.specs.Prelude.{Option, Some, None, option_map, map, Result, Ok, Err}
-use Rattle.std.proofs.lemmas.List.{append_cancel_right, map-append}
+use Rattle.std.proofs.lemmas.List.{map-append}
 use Rattle.std.proofs.lemmas.List.Sums.{count_by-le-length, sum_by-take-le}
 use Rattle.std.proofs.Math.Seq.{take-append-add}
 use Rattle.dns_split.specs.declared.pieces.Piece.{Piece}
@@ -12,92 +12,82 @@ use Rattle.dns_split.specs.Pieces.{AreOctets, IsGiven, end_at, later, moved, mov
 use Rattle.dns_split.proofs.OctetsOnce.{run_given}
 use Rattle.dns_zonetext.specs.declared.diff.Comparison.TheVariants.{Differ}
 use Rattle.dns_zonetext.specs.Blocks.{EndsEntry, Holds, Releases, Settled}
-use Rattle.dns_zonetext.specs.Compare.{ComesNext, Compares, DifferAt, GoesOn, part, start_of}
-use Rattle.dns_zonetext.specs.Comparing.{Compared, EndTwice}
-use Rattle.dns_zonetext.specs.Entries.{Part, Token, Ends, HasEntries, parts}
+use Rattle.dns_zonetext.specs.Compare.{ComesNext, Compares, DifferAt, GoesOn, part, says, start_of}
+use Rattle.dns_zonetext.specs.Comparing.{Compared}
+use Rattle.dns_zonetext.specs.Entries.{Part, Ends, HasTokens, ended_after, parts, with_tokens}
 use Rattle.dns_zonetext.specs.Found.{IsOctetFault, IsZone}
 use Rattle.dns_zonetext.specs.Held.{Both, Held}
 use Rattle.dns_zonetext.specs.Place.{IsAt, column_of, feeds}
-use Rattle.dns_zonetext.proofs.Comparing.{no_common, parts_append, pieces_after}
+use Rattle.dns_zonetext.proofs.Comparing.{no_common}
 use Rattle.dns_zonetext.proofs.Cuts.{ReadOn, first_on, none_given, read_on, take_octets}
 use Rattle.dns_zonetext.proofs.Feeds.{column_after, ends_feed, feeds_after}
-use Rattle.dns_zonetext.proofs.Following.{between_back, parts_back, parts_front}
-use Rattle.dns_zonetext.proofs.Givens.{fault_of, first_fault, moved_oks, pieces_in, whole_of}
+use Rattle.dns_zonetext.proofs.Following.{parts_back, parts_front, token_back}
+use Rattle.dns_zonetext.proofs.Givens.{fault_of, first_fault, moved_oks, pieces_after, pieces_in, whole_of}
 use Rattle.dns_zonetext.proofs.Holding.{let_go}
 use Rattle.dns_zonetext.proofs.Made.{given_zone, pieces_moved, zone_is, zone_none, zone_not_bad}
+use Rattle.dns_zonetext.proofs.Parts.{ended_append, ended_none, says_ended}
 
-abbrev last : List Part
-last = Ends false ∷ []
-
--- the entries that came before are the parts before what is read on
-own_parts : (before x : List ℕ) (alone : List (Result Piece Fault)) (es : List Part) (r : ReadOn before x alone) → HasEntries before es → es ≡ parts before r.front ++ last
-own_parts before x alone es r h =
+-- the entries with tokens that came before are the parts before what is read on
+own_tokens : (before x : List ℕ) (alone : List (Result Piece Fault)) (es : List Part) (r : ReadOn before x alone) → HasTokens before es → es ≡ says before None r.front
+own_tokens before x alone es r h =
     let end : List Piece = end_at (length before) false ∷ [] in
-    zone_is before es (map Ok r.front ++ map Ok end) h r.own ∙ ap (parts before) (pieces_after r.front (map Ok end)) ∙ parts_append before r.front end
+    sym h.2 ∙ ap (with_tokens false) (zone_is before h.0 (map Ok r.front ++ map Ok end) h.1 r.own ∙ ap (parts before) (pieces_after r.front (map Ok end)))
+    ∙ says_ended before r.front end r.ended ∙ append-nil (says before None r.front)
 
--- the entries of octets that follow others
-pub record Follow (before x : List ℕ) (es fs : List Part) : Type 0 where
-  pub front : List Part
-  pub is : es ≡ front ++ last
-  pub has : HasEntries (before ++ x) (front ++ fs)
+says_front : (before x : List ℕ) (alone : List (Result Piece Fault)) (es : List Part) (r : ReadOn before x alone) → HasTokens before es → says (before ++ x) None r.front ≡ es
+says_front before x alone es r h =
+    ap (with_tokens false) (parts_front before x None r.front (Ok (end_at (length before) false) ∷ []) r.own.1) ∙ sym (own_tokens before x alone es r h)
 
-entries_follow : (before x : List ℕ) (es fs : List Part) → AreOctets before → AreOctets x → EndsEntry before → HasEntries before es → HasEntries x fs → Follow before x es fs
-entries_follow before x es fs b o e h k =
+says_back : (before x : List ℕ) (ended : Option ℕ) (found : List Piece)
+    → says (before ++ x) (option_map (λ i. length before + i) ended) (map (moved_piece (λ i. length before + i)) found) ≡ says x ended found
+says_back before x None found = ap (with_tokens false) (parts_back before x None found)
+says_back before x (Some e) found = ap (with_tokens true) (parts_back before x (Some e) found)
+
+-- the entries with tokens of octets that follow others
+tokens_follow : (before x : List ℕ) (es fs : List Part) → AreOctets before → AreOctets x → EndsEntry before → HasTokens before es → HasTokens x fs → HasTokens (before ++ x) (es ++ fs)
+tokens_follow before x es fs b o e h k =
     let read : (given : List (Result Piece Fault)) × IsGiven x given = (_, run_given x o) in
     let alone : List (Result Piece Fault) = read.0 in
     let n : ℕ = length before in
     let r = read_on before x alone b o e read.1 in
     let all = map Ok r.front ++ later n alone in
-    let none : first_fault all ≡ None = first_on before x alone r ∙ ap (option_map (moved_fault (λ i. n + i))) (zone_none x fs alone k read.1) in
-    let end : List (Result Piece Fault) = Ok (end_at n false) ∷ [] in
-    let shape : parts (before ++ x) (pieces_in all) ≡ parts before r.front ++ fs =
-    ap (parts (before ++ x)) (pieces_after r.front (later n alone)) ∙ parts_append (before ++ x) r.front (pieces_in (later n alone))
-    ∙ ap (λ l. l ++ parts (before ++ x) (pieces_in (later n alone))) (parts_front before x r.front end r.own.1)
-    ∙ ap (λ l. parts before r.front ++ l) (ap (parts (before ++ x)) (pieces_moved (λ i. n + i) alone) ∙ parts_back before x (pieces_in alone) ∙ sym (zone_is x fs alone k read.1)) in
-    record {
-      front = parts before r.front;
-      is = own_parts before x alone es r h;
-      has = (pieces_in all, whole_of (before ++ x) all r.is.0 none, shape);
-    }
-
--- both read on alike
-both_follow : (a x b y : List ℕ) (es fs : List Part) → AreOctets a → AreOctets x → EndsEntry a → HasEntries a es → HasEntries x fs → AreOctets b → AreOctets y → EndsEntry b → HasEntries b es
-    → HasEntries y fs → (gs : List Part) × HasEntries (a ++ x) gs × HasEntries (b ++ y) gs
-both_follow a x b y es fs oa ox ea ha hx ob oy eb hb hy =
-    let one = entries_follow a x es fs oa ox ea ha hx in
-    let two = entries_follow b y es fs ob oy eb hb hy in
-    let same : one.front ≡ two.front = append_cancel_right one.front two.front last (sym one.is ∙ two.is) in
-    (one.front ++ fs, one.has, subst (λ l. HasEntries (b ++ y) (l ++ fs)) (sym same) two.has)
+    let none : first_fault all ≡ None = first_on before x alone r ∙ ap (option_map (moved_fault (λ i. n + i))) (zone_none x k.0 alone k.1 read.1) in
+    let back : says (before ++ x) None (pieces_in (later n alone)) ≡ fs =
+    ap (says (before ++ x) None) (pieces_moved (λ i. n + i) alone) ∙ says_back before x None (pieces_in alone) ∙ ap (with_tokens false) (sym (zone_is x k.0 alone k.1 read.1)) ∙ k.2 in
+    let shape : says (before ++ x) None (pieces_in all) ≡ es ++ fs =
+    ap (says (before ++ x) None) (pieces_after r.front (later n alone)) ∙ says_ended (before ++ x) r.front (pieces_in (later n alone)) r.ended
+    ∙ ap (λ l. l ++ says (before ++ x) None (pieces_in (later n alone))) (says_front before x alone es r h) ∙ ap (λ l. es ++ l) back in
+    (parts (before ++ x) (pieces_in all), (pieces_in all, whole_of (before ++ x) all r.is.0 none, refl), shape)
 
 -- what is the same is let go
 pub compared_on : (one other : List ℕ) (old new : Both) (cut there : ℕ) (fs : List Part) → Compared one other old → AreOctets old.first.octets → AreOctets old.second.octets
-    → Settled old.first.octets (Ok cut) → Settled old.second.octets (Ok there) → HasEntries (take cut old.first.octets) fs → HasEntries (take there old.second.octets) fs
+    → Settled old.first.octets (Ok cut) → Settled old.second.octets (Ok there) → HasTokens (take cut old.first.octets) fs → HasTokens (take there old.second.octets) fs
     → Releases old.first new.first cut → Releases old.second new.second there → Compared one other new
 unfolding let_go
 compared_on one other old new cut there fs x oa ob sa sb ha hb ra rb =
-    let k = both_follow x.first.before (take cut old.first.octets) x.second.before (take there old.second.octets) x.entries fs x.first.octets (take_octets cut old.first.octets oa) x.first.ended
-    x.in_first ha x.second.octets (take_octets there old.second.octets ob) x.second.ended x.in_second hb in
     record {
       first = let_go one old.first new.first cut x.first oa sa ra.octets ra.at ra.position;
       second = let_go other old.second new.second there x.second ob sb rb.octets rb.at rb.position;
-      entries = k.0;
-      in_first = k.1;
-      in_second = k.2;
+      entries = x.entries ++ fs;
+      in_first = tokens_follow x.first.before (take cut old.first.octets) x.entries fs x.first.octets (take_octets cut old.first.octets oa) x.first.ended x.in_first ha;
+      in_second = tokens_follow x.second.before (take there old.second.octets) x.entries fs x.second.octets (take_octets there old.second.octets ob) x.second.ended x.in_second hb;
     }
 
 -- the same of all
-pub compared_same : (one other : List ℕ) (c : Both) (fs : List Part) → Compared one other c → AreOctets c.first.octets → AreOctets c.second.octets → HasEntries c.first.octets fs
-    → HasEntries c.second.octets fs → (gs : List Part) × HasEntries one gs × HasEntries other gs
+pub compared_same : (one other : List ℕ) (c : Both) (fs : List Part) → Compared one other c → AreOctets c.first.octets → AreOctets c.second.octets → HasTokens c.first.octets fs
+    → HasTokens c.second.octets fs → (gs : List Part) × HasTokens one gs × HasTokens other gs
 compared_same one other c fs x oa ob ha hb =
-    let k = both_follow x.first.before c.first.octets x.second.before c.second.octets x.entries fs x.first.octets oa x.first.ended x.in_first ha x.second.octets ob x.second.ended x.in_second hb in
-    (k.0, subst (λ l. HasEntries l k.0) (sym x.first.is) k.1, subst (λ l. HasEntries l k.0) (sym x.second.is) k.2)
+    let gs : List Part = x.entries ++ fs in
+    let a = tokens_follow x.first.before c.first.octets x.entries fs x.first.octets oa x.first.ended x.in_first ha in
+    let b = tokens_follow x.second.before c.second.octets x.entries fs x.second.octets ob x.second.ended x.in_second hb in
+    (gs, subst (λ l. HasTokens l gs) (sym x.first.is) a, subst (λ l. HasTokens l gs) (sym x.second.is) b)
 
 -- a part that comes next
-part_back : (before x : List ℕ) (p : Piece) → part (before ++ x) (moved_piece (λ i. length before + i) p) ≡ part x p
-part_back before x (WordAt p) = ap Token (between_back before x p.start p.end)
-part_back before x (QuoteAt p) = ap Token (between_back before x p.start p.end)
-part_back before x (CommentAt p) = ap Token (between_back before x p.start p.end)
-part_back before x (EndAt p) = refl
+part_back : (before x : List ℕ) (ended : Option ℕ) (p : Piece) → part (before ++ x) (option_map (λ i. length before + i) ended) (moved_piece (λ i. length before + i) p) ≡ part x ended p
+part_back before x ended (WordAt p) = token_back before x ended p.start p.end
+part_back before x ended (QuoteAt p) = token_back before x ended p.start p.end
+part_back before x ended (CommentAt p) = token_back before x ended p.start p.end
+part_back before x ended (EndAt p) = refl
 
 start_back : (n : ℕ) (p : Piece) → start_of (moved_piece (λ i. n + i) p) ≡ n + start_of p
 start_back n (WordAt p) = refl
@@ -105,51 +95,51 @@ start_back n (QuoteAt p) = refl
 start_back n (CommentAt p) = refl
 start_back n (EndAt p) = refl
 
-next_back : (before x : List ℕ) (rest : List (Result Piece Fault)) (e : Option Part) (at : ℕ) → ComesNext x rest e at → ComesNext (before ++ x) (later (length before) rest) e (length before + at)
-next_back before x [] e at h = (h.0, ap (λ i. length before + i) h.1 ∙ sym (length-append before x))
-next_back before x (Ok p ∷ rest) e at h = (
-  h.0 ∙ ap Some (sym (part_back before x p)),
+ended_back : (n : ℕ) (ended : Option ℕ) (ps : List Piece) → ended_after (option_map (λ i. n + i) ended) (map (moved_piece (λ i. n + i)) ps) ≡ option_map (λ i. n + i) (ended_after ended ps)
+ended_back n ended [] = refl
+ended_back n ended (WordAt p ∷ ps) = ended_back n (Some p.end) ps
+ended_back n ended (QuoteAt p ∷ ps) = ended_back n (Some p.end) ps
+ended_back n ended (CommentAt p ∷ ps) = ended_back n ended ps
+ended_back n ended (EndAt p ∷ ps) = ended_back n None ps
+
+next_back : (before x : List ℕ) (ended : Option ℕ) (rest : List (Result Piece Fault)) (e : Option Part) (at : ℕ) → ComesNext x ended rest e at
+    → ComesNext (before ++ x) (option_map (λ i. length before + i) ended) (later (length before) rest) e (length before + at)
+next_back before x ended [] e at h = (h.0, ap (λ i. length before + i) h.1 ∙ sym (length-append before x))
+next_back before x ended (Ok p ∷ rest) e at h = (
+  h.0 ∙ ap Some (sym (part_back before x ended p)),
   ap (λ i. length before + i) h.1 ∙ sym (start_back (length before) p),
-  parts_back before x (p ∷ []) ∙ h.2 ∙ ap (λ t. t ∷ []) (sym (part_back before x p)),
+  says_back before x ended (p ∷ []) ∙ h.2 ∙ ap (λ t. t ∷ []) (sym (part_back before x ended p)),
 )
-next_back before x (Err f ∷ rest) e at h = absurd h
+next_back before x ended (Err f ∷ rest) e at h = absurd h
 
 -- octets that follow go on alike
-record GoOn (before x : List ℕ) (es common : List Part) (e : Option Part) (p : Position) : Type 0 where
-  pub front : List Part
-  pub is : es ≡ front ++ last
-  pub goes : GoesOn (before ++ x) (front ++ common) e p
-
-go_on : (before x : List ℕ) (es common : List Part) (e : Option Part) (p q : Position) → AreOctets before → AreOctets x → EndsEntry before → HasEntries before es → GoesOn x common e p
-    → q.line ≡ feeds before + p.line → q.column ≡ p.column → GoOn before x es common e q
+go_on : (before x : List ℕ) (es common : List Part) (e : Option Part) (p q : Position) → AreOctets before → AreOctets x → EndsEntry before → HasTokens before es → GoesOn x common e p
+    → q.line ≡ feeds before + p.line → q.column ≡ p.column → GoesOn (before ++ x) (es ++ common) e q
 go_on before x es common e p q b o ends h g line column =
     let n : ℕ = length before in
     let alone : List (Result Piece Fault) = map Ok g.before ++ g.rest in
     let r = read_on before x alone b o ends (g.reads, g.within) in
     let m : List Piece = map (moved_piece (λ i. n + i)) g.before in
-    let end : List (Result Piece Fault) = Ok (end_at n false) ∷ [] in
     let shape : map Ok r.front ++ later n alone ≡ map Ok (r.front ++ m) ++ later n g.rest =
     ap (λ l. map Ok r.front ++ l) (map-append (moved (λ i. n + i)) (map Ok g.before) g.rest ∙ ap (λ l. l ++ later n g.rest) (moved_oks (λ i. n + i) g.before))
     ∙ sym (append_assoc (map Ok r.front) (map Ok m) (later n g.rest)) ∙ ap (λ l. l ++ later n g.rest) (sym (map-append Ok r.front m)) in
     let whole : IsGiven (before ++ x) (map Ok (r.front ++ m) ++ later n g.rest) = subst (IsGiven (before ++ x)) shape r.is in
     let place : take (n + g.at) (before ++ x) ≡ before ++ take g.at x = take-append-add before x g.at in
+    let ended : option_map (λ i. n + i) (ended_after None g.before) ≡ ended_after None (r.front ++ m) =
+    sym (ended_append None r.front m ∙ ap (λ v. ended_after v m) (ended_none r.front r.ended) ∙ ended_back n None g.before) in
     record {
-      front = parts before r.front;
-      is = own_parts before x alone es r h;
-      goes = record {
-        before = r.front ++ m;
-        rest = later n g.rest;
-        reads = whole.0;
-        within = whole.1;
-        is = parts_append (before ++ x) r.front m ∙ ap (λ l. l ++ parts (before ++ x) m) (parts_front before x r.front end r.own.1)
-            ∙ ap (λ l. parts before r.front ++ l) (parts_back before x g.before ∙ g.is);
-        at = n + g.at;
-        next = next_back before x g.rest e g.at g.next;
-        position = (
-          omega (arith, line, g.position.0, ap feeds place, feeds_after before (take g.at x)),
-          column ∙ g.position.1 ∙ sym (ap column_of place ∙ column_after before (take g.at x) (ends_feed before ends)),
-        );
-      };
+      before = r.front ++ m;
+      rest = later n g.rest;
+      reads = whole.0;
+      within = whole.1;
+      is = says_ended (before ++ x) r.front m r.ended ∙ ap (λ l. l ++ says (before ++ x) None m) (says_front before x alone es r h)
+          ∙ ap (λ l. es ++ l) (says_back before x None g.before ∙ g.is);
+      at = n + g.at;
+      next = subst (λ v. ComesNext (before ++ x) v (later n g.rest) e (n + g.at)) ended (next_back before x (ended_after None g.before) g.rest e g.at g.next);
+      position = (
+        omega (arith, line, g.position.0, ap feeds place, feeds_after before (take g.at x)),
+        column ∙ g.position.1 ∙ sym (ap column_of place ∙ column_after before (take g.at x) (ends_feed before ends)),
+      );
     }
 
 -- and differ alike
@@ -158,15 +148,15 @@ pub compared_differ : (one other : List ℕ) (c : Both) (p q s t : Position) →
 compared_differ one other c p q s t x oa ob d sl sc tl tc =
     let a = x.first.before in
     let b = x.second.before in
+    let common : List Part = x.entries ++ d.common in
     let g = go_on a c.first.octets x.entries d.common d.one p s x.first.octets oa x.first.ended x.in_first d.in_first (omega (arith, sl, x.first.position.0)) sc in
     let h = go_on b c.second.octets x.entries d.common d.other q t x.second.octets ob x.second.ended x.in_second d.in_second (omega (arith, tl, x.second.position.0)) tc in
-    let same : g.front ≡ h.front = append_cancel_right g.front h.front last (sym g.is ∙ h.is) in
     let all : DifferAt one other s t = record {
-      common = g.front ++ d.common;
+      common = common;
       one = d.one;
       other = d.other;
-      in_first = subst (λ l. GoesOn l (g.front ++ d.common) d.one s) (sym x.first.is) g.goes;
-      in_second = subst (λ l. GoesOn l (g.front ++ d.common) d.other t) (sym x.second.is) (subst (λ f. GoesOn (b ++ c.second.octets) (f ++ d.common) d.other t) (sym same) h.goes);
+      in_first = subst (λ l. GoesOn l common d.one s) (sym x.first.is) g;
+      in_second = subst (λ l. GoesOn l common d.other t) (sym x.second.is) h;
       apart = d.apart;
     } in
     (all, no_common one other s t all)
@@ -200,18 +190,11 @@ pub none_compared : (first second : Held) → Holds [] first → Holds [] second
 none_compared first second x y = record {
   first = x;
   second = y;
-  entries = last;
+  entries = [];
   in_first = nothing x.before first.octets x.is;
   in_second = nothing y.before second.octets y.is;
 }
   where
-    nothing : (before octets : List ℕ) → [] ≡ before ++ octets → HasEntries before last
-    nothing [] octets e = given_zone [] (end_at 0 false ∷ []) none_given
+    nothing : (before octets : List ℕ) → [] ≡ before ++ octets → HasTokens before []
+    nothing [] octets e = (Ends false ∷ [], given_zone [] (end_at 0 false ∷ []) none_given, refl)
     nothing (c ∷ before) octets e = cc
-
--- two cuts, one after the other
-pub twice : (octets : List ℕ) (later at : ℕ) → Settled octets (Ok later) → Settled octets (Ok at) → at < later → EndTwice octets
-twice octets later at s t less = elim s.1 [
-  | inl z ↦ absurd (omega (arith, z, less))
-  | inr cut ↦ (at, later, less, cut, t.1)
-]

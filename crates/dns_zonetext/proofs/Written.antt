@@ -1,6 +1,6 @@
 -- What was written of all octets.
 use Rattle.std.proofs.Common.{◌≡◌, ℕ, ◌+◌, ◌-◌, List, [], ◌∷◌, ◌++◌, length, take, sym, ap, ◌∙◌, subst, arith, append_assoc, length-append}
-use Rattle.std.specs.Prelude.{map, Result, Ok, Err}
+use Rattle.std.specs.Prelude.{map, Option, Some, None, Result, Ok, Err}
 use Rattle.std.proofs.lemmas.List.{map-append}
 use Rattle.dns_split.specs.declared.pieces.Piece.{Piece}
 use Rattle.dns_split.specs.declared.pieces.Fault.{Fault}
@@ -9,7 +9,7 @@ use Rattle.dns_zonetext.specs.declared.writer.Output.{Output}
 use Rattle.dns_zonetext.specs.Blocks.{Releases, Settled}
 use Rattle.dns_zonetext.specs.Held.{Held, Writing}
 use Rattle.dns_zonetext.specs.Place.{IsAt, feeds}
-use Rattle.dns_zonetext.specs.Writing.{MadeAfter, Makes, WritesAll, Wrote}
+use Rattle.dns_zonetext.specs.Writing.{MadeAfter, Makes, WritesAll, WritesSettled, Wrote}
 use Rattle.dns_zonetext.proofs.Cuts.{both_octets, read_on, take_octets}
 use Rattle.dns_zonetext.proofs.Givens.{moved_oks}
 use Rattle.dns_zonetext.proofs.Holding.{added, let_go}
@@ -71,3 +71,11 @@ wrote_bad all written more rest output h lines f x o r is s m =
     subst (λ l. Makes output (l ++ rest) 0 (written ++ more)) (sym x.held.is)
     (made_stays output (before ++ h.octets) rest (written ++ more) (k.front ++ map g s.0) (moved_fault (λ i. n + i) f)
     (both_octets before h.octets x.held.octets o) r whole (omega (arith, s.2, length-append before h.octets)) made)
+
+-- what was written up to a cut, or nothing
+pub settled_some : (output : Output) (octets : List ℕ) (lines : ℕ) (old new : List ℕ) (o : Option ℕ) (at : ℕ) → o ≡ Some at → WritesSettled output octets lines old new (Ok o)
+    → Settled octets (Ok at) × MadeAfter output (take at octets) lines old new
+settled_some output octets lines old new o at e h = subst (λ k. WritesSettled output octets lines old new (Ok k)) e h
+
+pub settled_none : (output : Output) (octets : List ℕ) (lines : ℕ) (old new : List ℕ) (o : Option ℕ) → o ≡ None → WritesSettled output octets lines old new (Ok o) → new ≡ old
+settled_none output octets lines old new o e h = subst (λ k. WritesSettled output octets lines old new (Ok k)) e h

@@ -1,7 +1,8 @@
 -- Octets that come in blocks.
-use Rattle.std.specs.Prelude.{◌≡◌, ℕ, ◌+◌, ◌<◌, ◌≤◌, ◌^◌, ◌⊎◌, Bool, false, List, [], ◌∷◌, ◌++◌, length, take, drop, map, Option, Some, None, Result, Ok, Err, IsSomeAnd, encode_utf8_all}
+use Rattle.std.specs.Prelude.{◌≡◌, ℕ, ◌+◌, ◌*◌, ◌<◌, ◌≤◌, ◌^◌, ◌⊎◌, ◌↔◌, IsTrue, Bool, false, List, [], ◌∷◌, ◌++◌, length, take, drop, map, Option, Some, None, Result, Ok, Err, IsSomeAnd, encode_utf8_all}
 use Rattle.dns_split.specs.Opening.{IsOpener}
 use Rattle.dns_split.specs.Pieces.{AreOctets, IsGiven, end_at, place_of}
+use Rattle.dns_split.specs.Viable.{IsViable}
 use Rattle.dns_split.specs.declared.pieces.Piece.{Piece}
 use Rattle.dns_split.specs.declared.pieces.Fault.{Fault}
 use Rattle.dns_split.specs.declared.pieces.Wrong.{Wrong}
@@ -13,7 +14,6 @@ use Rattle.dns_zonetext.specs.declared.check.Found.{Found}
 use Rattle.dns_zonetext.specs.Found.{IsFound}
 use Rattle.dns_zonetext.specs.Held.{Held}
 use Rattle.dns_zonetext.specs.Place.{IsAt}
-use Rattle.dns_zonetext.specs.declared.place.Place.{Place}
 
 -- no octets, or zone text whose last entry has none
 abbrev pub EndsEntry : List ℕ → Type 0
@@ -35,13 +35,13 @@ Adds old new block (Err (WrongHalt f)) = (all : List ℕ) → Holds all old → 
 Adds old new block (Err OutOfMemory) = new ≡ old
 Adds old new block (Err TooLong) = (new ≡ old) × (2 ^ 64 ≤ old.place.at + length old.octets + length block + 2)
 
--- these octets are held, from this place on
-abbrev pub IsHeld : List ℕ → Place → Held → Type 0
-IsHeld octets place h = (h.octets ≡ octets) × (h.place ≡ place)
+-- other octets are held, from the same place on
+abbrev pub IsHeld : List ℕ → Held → Held → Type 0
+IsHeld octets old new = (new.octets ≡ octets) × (new.place ≡ old.place) × (new.left ≡ old.left)
 
--- a block is held too, or nothing changed
-abbrev pub Takes : {U : Type 0} → Held → Held → List ℕ → Result U Halt → Type 0
-Takes old new block (Ok u) = IsHeld (old.octets ++ block) old.place new
+-- a block is held too, and it is time to read where twice as much is held as was left over; or nothing changed
+abbrev pub Takes : Held → Held → List ℕ → Result Bool Halt → Type 0
+Takes old new block (Ok reads) = (new.octets ≡ old.octets ++ block) × (new.place ≡ old.place) × (new.left ≡ old.left) × (IsTrue reads ↔ (2 * old.left ≤ length new.octets))
 Takes old new block (Err (WrongHalt f)) = ⊥
 Takes old new block (Err OutOfMemory) = new ≡ old
 Takes old new block (Err TooLong) = (new ≡ old) × (2 ^ 64 ≤ old.place.at + length old.octets + length block + 2)
@@ -49,6 +49,7 @@ Takes old new block (Err TooLong) = (new ≡ old) × (2 ^ 64 ≤ old.place.at + 
 -- the first octets are no longer held
 pub record Releases (old new : Held) (cut : ℕ) : Type 0 where
   pub octets : new.octets ≡ drop cut old.octets
+  pub left : new.left ≡ length new.octets
   pub at : new.place.at ≡ old.place.at + cut
   pub position : (before : List ℕ) → IsAt 0 before old.place.position → IsAt 0 (before ++ take cut old.octets) new.place.position
 
@@ -65,6 +66,12 @@ Settled octets (Err f) = (found : List Piece) × IsGiven octets (map Ok found ++
 abbrev pub Settles : Held → Result ℕ Found → Type 0
 Settles h (Ok at) = Settled h.octets (Ok at)
 Settles h (Err f) = (e : Fault) × Settled h.octets (Err e) × ((all more : List ℕ) → Holds all h → AreOctets more → IsFound (all ++ more) 0 f)
+
+-- a block was added, and all octets with it can still become zone text; or it is held with less than twice as much as was left over, and was not read yet
+abbrev pub AddsInTime : {U : Type 0} → Held → Held → List ℕ → Result U Halt → Type 0
+AddsInTime old new block (Ok u) = ((new.left ≡ length new.octets) × ((all : List ℕ) → Holds all old → IsViable (encode_utf8_all (all ++ block))))
+    ⊎ ((new.octets ≡ old.octets ++ block) × (new.left ≡ old.left) × (length new.octets < 2 * old.left))
+AddsInTime old new block (Err h) = new.left ≡ old.left
 
 -- octets have this fault after their pieces, or none
 abbrev pub EndsWith : List ℕ → Option Fault → Type 0

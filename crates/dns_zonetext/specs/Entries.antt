@@ -1,22 +1,52 @@
 -- The entries of zone text, one after another.
-use Rattle.std.specs.Prelude.{◌≡◌, ℕ, Bool, List, [], ◌∷◌}
+use Rattle.std.specs.Prelude.{◌≡◌, ℕ, ◌==◌, Bool, true, false, List, [], ◌∷◌, Option, Some, None}
 use Rattle.dns_split.specs.Pieces.{IsOctetPieces, between}
 use Rattle.dns_split.specs.declared.pieces.Piece.{Piece}
 use Rattle.dns_split.specs.declared.pieces.Piece.TheVariants.{Word as WordAt, Quote as QuoteAt, Comment as CommentAt, End as EndAt}
 
--- a token of an entry, or the entry's end, and whether it began with a blank
+-- a token of an entry, and whether it is glued to the one before it; or the entry's end, and whether it began with a blank
 pub data Part : Type 0 where
-  Token : List ℕ → Part
+  Token : (is_glued : Bool) → List ℕ → Part
   Ends : (begins_blank : Bool) → Part
 
--- the parts that pieces of octets are: comments are none
+-- a token is glued that begins where the one before it in its entry, if it has one, ended
+abbrev pub begins_glued : Option ℕ → ℕ → Bool
+begins_glued None start = false
+begins_glued (Some end) start = end == start
+
+-- the parts that pieces of octets are, where the entry's last token so far, if it has one, ended here: comments are none
+abbrev pub parts_after : List ℕ → Option ℕ → List Piece → List Part
+parts_after octets ended [] = []
+parts_after octets ended (WordAt p ∷ ps) = Token (begins_glued ended p.start) (between octets p.start p.end) ∷ parts_after octets (Some p.end) ps
+parts_after octets ended (QuoteAt p ∷ ps) = Token (begins_glued ended p.start) (between octets p.start p.end) ∷ parts_after octets (Some p.end) ps
+parts_after octets ended (CommentAt p ∷ ps) = parts_after octets ended ps
+parts_after octets ended (EndAt p ∷ ps) = Ends p.begins_blank ∷ parts_after octets None ps
+
 abbrev pub parts : List ℕ → List Piece → List Part
-parts octets [] = []
-parts octets (WordAt p ∷ ps) = Token (between octets p.start p.end) ∷ parts octets ps
-parts octets (QuoteAt p ∷ ps) = Token (between octets p.start p.end) ∷ parts octets ps
-parts octets (CommentAt p ∷ ps) = parts octets ps
-parts octets (EndAt p ∷ ps) = Ends p.begins_blank ∷ parts octets ps
+parts octets ps = parts_after octets None ps
 
 -- octets are zone text, whose entries have these parts
 abbrev pub HasEntries : List ℕ → List Part → Type 0
 HasEntries octets es = (found : List Piece) × IsOctetPieces octets found × (parts octets found ≡ es)
+
+-- where the last token ended of the entry that is open after a piece, and after pieces
+abbrev pub ended_by : Option ℕ → Piece → Option ℕ
+ended_by ended (WordAt p) = Some p.end
+ended_by ended (QuoteAt p) = Some p.end
+ended_by ended (CommentAt p) = ended
+ended_by ended (EndAt p) = None
+
+abbrev pub ended_after : Option ℕ → List Piece → Option ℕ
+ended_after ended [] = ended
+ended_after ended (p ∷ ps) = ended_after (ended_by ended p) ps
+
+-- the parts of those entries that have tokens: the first entry has some already, or not
+abbrev pub with_tokens : Bool → List Part → List Part
+with_tokens some [] = []
+with_tokens some (Token g t ∷ es) = Token g t ∷ with_tokens true es
+with_tokens true (Ends b ∷ es) = Ends b ∷ with_tokens false es
+with_tokens false (Ends b ∷ es) = with_tokens false es
+
+-- octets are zone text, and these are the parts of those entries that have tokens
+abbrev pub HasTokens : List ℕ → List Part → Type 0
+HasTokens octets es = (all : List Part) × HasEntries octets all × (with_tokens false all ≡ es)

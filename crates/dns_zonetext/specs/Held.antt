@@ -6,6 +6,8 @@ use Rattle.dns_zonetext.specs.declared.writer.Output.{Output}
 pub record Held : Type 0 where
   pub octets : List ℕ
   pub place : Place
+  -- as many were left over when they were last read
+  pub left : ℕ
 
 pub record Writing : Type 0 where
   pub output : Output

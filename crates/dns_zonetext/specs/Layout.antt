@@ -16,7 +16,7 @@ gap_if gap b = if b then gap_octet gap ∷ [] else []
 -- whether the first entry begins with a blank
 abbrev pub leads : List Part → Bool
 leads [] = false
-leads (Token t ∷ es) = leads es
+leads (Token g t ∷ es) = leads es
 leads (Ends b ∷ es) = b
 
 -- a line's end where an entry follows
@@ -24,10 +24,10 @@ abbrev pub feed_before : List Part → List ℕ
 feed_before [] = []
 feed_before (e ∷ es) = line_feed ∷ []
 
--- tokens with gaps between, after a gap where the entry begins with a blank; the first entry has tokens already, or not
+-- tokens with gaps between those that are not glued, after a gap where the entry begins with a blank; the first entry has tokens already, or not
 abbrev pub laid_out : Gap → Bool → List Part → List ℕ
 laid_out gap inside [] = []
-laid_out gap inside (Token t ∷ es) = gap_if gap (inside || leads es) ++ (t ++ laid_out gap true es)
+laid_out gap inside (Token g t ∷ es) = gap_if gap (not g && (inside || leads es)) ++ (t ++ laid_out gap true es)
 laid_out gap inside (Ends b ∷ es) = gap_if gap (not inside && b) ++ (feed_before es ++ laid_out gap false es)
 
 -- the entries of octets were appended

@@ -1,5 +1,6 @@
 -- What is written of octets that come in blocks.
-use Rattle.std.specs.Prelude.{⊤, ◌≡◌, ℕ, ◌⊎◌, Bool, true, false, List, [], ◌∷◌, ◌++◌, length, map, Result, Ok, Err}
+use Rattle.std.specs.declared.alloc.AllocError.{AllocError}
+use Rattle.std.specs.Prelude.{⊤, ◌≡◌, ℕ, ◌⊎◌, Bool, true, false, List, [], ◌∷◌, ◌++◌, length, take, map, Option, Some, None, Result, Ok, Err}
 use Rattle.dns_split.specs.Pieces.{AreOctets, IsGiven, end_at}
 use Rattle.dns_split.specs.declared.pieces.Piece.{Piece}
 use Rattle.dns_split.specs.declared.pieces.Piece.TheVariants.{Word as WordAt, Quote as QuoteAt, Comment as CommentAt, End as EndAt}
@@ -9,7 +10,7 @@ use Rattle.dns_zonetext.specs.declared.blocks.Halt.TheVariants.{Wrong, OutOfMemo
 use Rattle.dns_zonetext.specs.declared.layout.Gap.{Gap}
 use Rattle.dns_zonetext.specs.declared.writer.Output.{Output}
 use Rattle.dns_zonetext.specs.declared.writer.Output.TheVariants.{Rows, Lines}
-use Rattle.dns_zonetext.specs.Blocks.{Holds}
+use Rattle.dns_zonetext.specs.Blocks.{Holds, Settled}
 use Rattle.dns_zonetext.specs.Entries.{Part, Ends, HasEntries, parts}
 use Rattle.dns_zonetext.specs.Found.{IsFound}
 use Rattle.dns_zonetext.specs.Held.{Writing}
@@ -45,6 +46,12 @@ LinesBefore octets gap out = (at : ℕ) × (f : FaultAfter octets at) × (out �
 abbrev pub HasLines : List ℕ → Gap → List ℕ → Type 0
 HasLines octets gap out = ((es : List Part) × HasEntries octets es × (out ≡ laid_out gap false es)) ⊎ LinesBefore octets gap out
 
+-- the entries up to a cut were laid out, or nothing was
+abbrev pub LaysSettled : {E : Type 0} → List ℕ → Gap → List ℕ → List ℕ → Result (Option ℕ) E → Type 0
+LaysSettled octets gap old new (Ok (Some at)) = Settled octets (Ok at) × ((more : List ℕ) × (new ≡ old ++ more) × HasLines (take at octets) gap more)
+LaysSettled octets gap old new (Ok None) = new ≡ old
+LaysSettled octets gap old new (Err e) = ⊤
+
 -- a row for each token, or a line for each entry
 abbrev pub Makes : Output → List ℕ → ℕ → List ℕ → Type 0
 Makes (Rows form) octets lines out = Appended octets lines form [] out
@@ -53,6 +60,12 @@ Makes (Lines gap) octets lines out = HasLines octets gap out
 -- it was appended
 abbrev pub MadeAfter : Output → List ℕ → ℕ → List ℕ → List ℕ → Type 0
 MadeAfter output octets lines old new = (more : List ℕ) × (new ≡ old ++ more) × Makes output octets lines more
+
+-- what is written up to a cut, or nothing
+abbrev pub WritesSettled : Output → List ℕ → ℕ → List ℕ → List ℕ → Result (Option ℕ) AllocError → Type 0
+WritesSettled output octets lines old new (Ok (Some at)) = Settled octets (Ok at) × MadeAfter output (take at octets) lines old new
+WritesSettled output octets lines old new (Ok None) = new ≡ old
+WritesSettled output octets lines old new (Err e) = ⊤
 
 -- where to lay out to: all of zone text, or the entries before a fault
 abbrev pub Until : List ℕ → ℕ → Type 0

@@ -1,9 +1,10 @@
 //! Whether octets are zone text that come in blocks.
 ghost use Rattle.std.specs.Prelude.{◌≡◌, ◌+◌, ◌-◌, ◌++◌, ◌<◌, ◌≤◌, ◌^◌, ℕ, [], List, length, take};
-ghost use Rattle.std.specs.Prelude.{IfOk, IfErr};
+ghost use Rattle.std.specs.Prelude.{IfOk, IfErr, encode_utf8_all};
 ghost use Rattle.dns_split.specs.Pieces.{AreOctets, moved_fault};
+ghost use Rattle.dns_split.specs.Viable.{IsViable};
 ghost use Rattle.dns_split.specs.declared.pieces.Wrong.TheVariants.{OpenQuote};
-ghost use Rattle.dns_zonetext.specs.Blocks.{Adds, EndsWith, Holds, IsHeld, IsOpenedAfter};
+ghost use Rattle.dns_zonetext.specs.Blocks.{Adds, AddsInTime, EndsWith, Holds, IsHeld, IsOpenedAfter};
 ghost use Rattle.dns_zonetext.specs.Blocks.{Releases, Settled, Settles, Takes};
 ghost use Rattle.dns_zonetext.specs.Found.{IsFound, IsOctetFault, IsZone};
 ghost use Rattle.dns_zonetext.specs.Place.{IsAt};
@@ -50,6 +51,7 @@ fn as_octets(octets: &[u8]) -> &[u8]
 fn settled(octets: &[u8]) -> Result<usize, Fault>
     ensures octets { AreOctets octets.now }
     ensures settled { Settled octets.now result }
+    ensures viable { IfOk result (λ _. IsViable (encode_utf8_all octets.now)) }
 {
     let mut before = 0;
     let mut last = 0;
@@ -148,8 +150,8 @@ fn locate_after(place: Place, octets: &[u8], fault: Fault) -> Found
 pub struct Checker<A: Allocator> {
     held: Vec<u8, A>,
     place: Place,
-    /// As many octets are held before they are read.
-    enough: usize,
+    /// As many octets were left over when they were last read.
+    left: usize,
 }
 
 impl<A: Allocator> Model for Checker<A> {
@@ -158,7 +160,7 @@ impl<A: Allocator> Model for Checker<A> {
 
     ghost Value = { Held };
 
-    ghost view = { λ c. record { octets = c.held.items; place = c.place } };
+    ghost view = { λ c. record { octets = c.held.items; place = c.place; left = c.left } };
 
     ghost invariant = { λ c. (c.place.at + length c.held.items + 2 < 2 ^ 64)
         × (c.place.position.line ≤ c.place.at + 1) × (c.place.position.column ≤ c.place.at + 1) };
@@ -167,7 +169,8 @@ impl<A: Allocator> Model for Checker<A> {
 impl<A: Allocator> Checker<A> {
     /// No octets.
     pub fn new(alloc: A) -> Checker<A>
-        ensures { Holds [] result }
+        ensures none { Holds [] result }
+        ensures left { result.left ≡ 0 }
     {
         Checker {
             held: Vec::new(alloc),
@@ -175,7 +178,7 @@ impl<A: Allocator> Checker<A> {
                 at: 0,
                 position: Position { line: 1, column: 1 },
             },
-            enough: 0,
+            left: 0,
         }
     }
 
@@ -196,7 +199,8 @@ impl<A: Allocator> Checker<A> {
         self.place.position.line.saturating_sub(1)
     }
 
-    /// Adds octets, and answers whether so many are held that they are worth reading.
+    /// Adds octets, and returns whether so many are held that they are worth reading: twice as many
+    /// as were left over the last time.
     pub(crate) fn take(&mut self, block: &[u8]) -> Result<bool, Halt>
         ensures { Takes self.old self.new block.now result }
     {
@@ -205,12 +209,12 @@ impl<A: Allocator> Checker<A> {
             return Err(Halt::TooLong);
         }
         self.held.extend_from_slice(block)?;
-        Ok(self.held.len() >= self.enough)
+        Ok(self.held.len() / 2 >= self.left)
     }
 
     /// Takes the last octets back, so that so many are held.
     pub(crate) fn forget(&mut self, count: usize)
-        ensures { IsHeld (take count self.old.octets) self.old.place self.new }
+        ensures { IsHeld (take count self.old.octets) self.old self.new }
     {
         self.held.truncate(count);
     }
@@ -219,6 +223,7 @@ impl<A: Allocator> Checker<A> {
     pub(crate) fn settle(&self) -> Result<usize, Found>
         ensures octets { AreOctets self.now.octets }
         ensures settled { Settles self.now result }
+        ensures viable { IfOk result (λ _. IsViable (encode_utf8_all self.now.octets)) }
     {
         let held = self.held.as_slice();
         match settled(held) {
@@ -240,15 +245,18 @@ impl<A: Allocator> Checker<A> {
         let left = held.len() - cut;
         self.held.rotate_left(cut);
         self.held.truncate(left);
-        self.enough = left.saturating_add(left);
+        self.left = left;
     }
 
     /// Adds octets after those that were added before.
     ///
-    /// A fault is answered once it is known, whatever octets follow, and at the end by
-    /// [`Checker::finish`]. The octets are added then too, but not where memory was lacking.
+    /// A fault that stays whatever octets follow is returned as soon as it is read, any other at
+    /// the end by [`Checker::finish`]. Reading is put off while less is held than twice what was
+    /// left over the last time, so a fault is returned before what is held has doubled. The octets
+    /// are added where a fault is returned too, but not where memory was lacking.
     pub fn add(&mut self, block: &[u8]) -> Result<(), Halt>
-        ensures { Adds self.old self.new block.now result }
+        ensures added { Adds self.old self.new block.now result }
+        ensures in_time { AddsInTime self.old self.new block.now result }
     {
         if !self.take(block)? {
             return Ok(());

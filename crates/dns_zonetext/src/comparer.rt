@@ -1,52 +1,38 @@
 //! How two zone texts compare that come in blocks.
-ghost use Rattle.std.specs.Prelude.{◌≡◌, ◌+◌, ◌-◌, ◌<◌, ◌^◌, [], ℕ, List, Ok, false};
-ghost use Rattle.dns_split.specs.Pieces.{AreOctets};
-ghost use Rattle.dns_zonetext.specs.Blocks.{Settled, Takes};
+ghost use Rattle.std.specs.Prelude.{◌≡◌, ◌+◌, ◌-◌, ◌<◌, ◌^◌, [], ℕ, List, false, true};
+ghost use Rattle.dns_zonetext.specs.Blocks.{Takes};
 ghost use Rattle.dns_zonetext.specs.Compare.{Compares};
-ghost use Rattle.dns_zonetext.specs.Comparing.{Compared, Suffices};
+ghost use Rattle.dns_zonetext.specs.Comparing.{Compared, EndTwice, Suffices};
 
 use crate::blocks::{Checker, Halt};
-use crate::diff::{Comparison, diff};
+use crate::diff::{Comparison, diff, same_until};
 use dns_split::pieces::{Piece, Pieces};
 use dns_split::position::Position;
 use std::alloc::Allocator;
 use std::marker::Model;
 
-/// Where the entry of a number ends, counted from 1, if something follows it; of a later one, where
-/// the last ends before a fault; and 0 for none.
-fn cut_after(octets: &[u8], number: usize) -> usize
-    ensures octets { AreOctets octets.now }
-    ensures cut { Settled octets.now (Ok result) }
+/// Whether two entries that have tokens end, and something follows them.
+fn end_twice(octets: &[u8]) -> bool
+    ensures { result ≡ true → EndTwice octets.now }
 {
-    let mut count = 0;
-    let mut last = 0;
-    for piece in Pieces::of_octets(octets) {
-        if count >= number {
-            return last;
-        }
-        match piece {
-            Ok(Piece::End(end)) => {
-                count += 1;
-                last = end.at;
-            }
-            Ok(_) => {}
-            Err(_) => return last,
-        }
-    }
-    0
-}
-
-/// How many entries end in octets before another begins.
-fn count_ended(octets: &[u8]) -> usize {
     let mut count: usize = 0;
+    let mut has_tokens = false;
     for piece in Pieces::of_octets(octets) {
+        if count >= 2 {
+            return true;
+        }
         match piece {
-            Ok(Piece::End(_)) => count = count.saturating_add(1),
-            Ok(_) => {}
-            Err(_) => return count,
+            Ok(Piece::Word(_)) => has_tokens = true,
+            Ok(Piece::Quote(_)) => has_tokens = true,
+            Ok(Piece::Comment(_)) => {}
+            Ok(Piece::End(_)) => {
+                count += usize::from(has_tokens);
+                has_tokens = false;
+            }
+            Err(_) => return false,
         }
     }
-    count.saturating_sub(1)
+    false
 }
 
 /// A position of octets that stand after so many lines.
@@ -63,7 +49,8 @@ fn after_lines(lines_before: usize, position: Position) -> Position
 
 /// Two zone texts that are added block by block, and compared.
 ///
-/// Those entries are let go that have ended in both and are the same.
+/// Those entries are let go that have ended in both and are the same, and with them those without
+/// tokens.
 #[derive(Drop)]
 pub struct Comparer<A: Allocator + Copy> {
     first: Checker<A>,
@@ -106,16 +93,13 @@ impl<A: Allocator + Copy> Comparer<A> {
         self.second.take(block)
     }
 
-    /// Whether more of the first may be needed to compare: not where two entries have ended that
-    /// are held, and not where there is a fault that stays whatever follows.
+    /// Whether more of the first may be needed to compare: not where two entries with tokens have
+    /// ended that are held, and not where there is a fault that stays whatever follows.
     pub fn wants_first(&self) -> bool
         ensures { result ≡ false → Suffices self.now.first.octets }
     {
         match self.first.settle() {
-            Ok(_) => {
-                let held = self.first.held();
-                cut_after(held, 2) <= cut_after(held, 1)
-            }
+            Ok(_) => !end_twice(self.first.held()),
             Err(_) => false,
         }
     }
@@ -125,28 +109,20 @@ impl<A: Allocator + Copy> Comparer<A> {
         ensures { result ≡ false → Suffices self.now.second.octets }
     {
         match self.second.settle() {
-            Ok(_) => {
-                let held = self.second.held();
-                cut_after(held, 2) <= cut_after(held, 1)
-            }
+            Ok(_) => !end_twice(self.second.held()),
             Err(_) => false,
         }
     }
 
-    /// Lets the entries go that have ended in both, if they are the same.
+    /// Lets the first entries go that have ended in both and are the same, and the entries without
+    /// tokens between and after them.
     pub fn let_go(&mut self)
         ensures { (first second : List ℕ) → Compared first second self.old
             → Compared first second self.new }
     {
-        let ours = self.first.held();
-        let theirs = self.second.held();
-        let count = count_ended(ours).min(count_ended(theirs));
-        let one = cut_after(ours, count);
-        let other = cut_after(theirs, count);
-        if let Comparison::Same = diff(&ours[..one], &theirs[..other]) {
-            self.first.release(one);
-            self.second.release(other);
-        }
+        let (one, other) = same_until(self.first.held(), self.second.held());
+        self.first.release(one);
+        self.second.release(other);
     }
 
     /// How the octets compare that were added.

@@ -7,6 +7,8 @@
 //! - [`writer::Writer`] writes either of octets that come in blocks.
 //! - [`diff::diff`] compares the entries of two texts.
 //! - [`comparer::Comparer`] compares those of two texts that come in blocks.
+//! - [`unified::Unified`] writes what changes from one text to another, as a unified diff.
+//! - [`replace::Batch`] gives files new texts, all of them or none.
 //!
 //! Octets need not be UTF-8: each counts as a character of the grammar, so that a comment in
 //! another encoding refuses no zone.
@@ -16,8 +18,11 @@ pub mod blocks;
 pub mod check;
 pub mod comparer;
 pub mod diff;
+mod glue;
 pub mod laws;
 pub mod layout;
 pub mod place;
+pub mod replace;
 pub mod tokens;
+pub mod unified;
 pub mod writer;

@@ -1,19 +1,20 @@
 //! What is written of octets that come in blocks.
 ghost use Rattle.std.specs.Prelude.{◌≡◌, ◌+◌, ◌++◌, ◌<◌, ◌≤◌, ◌^◌, ℕ, [], List, length};
-ghost use Rattle.std.specs.Prelude.{IfErr, IfOk, OnOk};
-ghost use Rattle.dns_split.specs.Pieces.{AreOctets};
+ghost use Rattle.std.specs.Prelude.{IfErr, IfOk, OnOk, Ok, map};
+ghost use Rattle.dns_split.specs.Pieces.{AreOctets, IsGiven};
+ghost use Rattle.dns_split.specs.declared.pieces.Piece.{Piece};
 ghost use Rattle.dns_zonetext.specs.Blocks.{Adds, Holds};
 ghost use Rattle.dns_zonetext.specs.declared.blocks.Halt.TheVariants.{OutOfMemory};
 ghost use Rattle.dns_zonetext.specs.Found.{IsZone};
 ghost use Rattle.dns_zonetext.specs.declared.writer.Output.TheVariants.{Rows};
 ghost use Rattle.dns_zonetext.specs.Writing.{HasLines, IsEnd, MadeAfter, Until};
-ghost use Rattle.dns_zonetext.specs.Writing.{Writes, WritesRest, Wrote};
+ghost use Rattle.dns_zonetext.specs.Writing.{Writes, WritesRest, WritesSettled, Wrote};
 
 use crate::blocks::{Checker, Halt};
-use crate::layout::{Gap, lay_out};
+use crate::layout::{Gap, lay_out, lay_out_settled};
 use crate::tokens::{Form, Stop, tokens};
 use dns_split::pieces::{Piece, Pieces};
-use std::alloc::Allocator;
+use std::alloc::{AllocError, Allocator};
 use std::marker::Model;
 
 /// What is written of zone text.
@@ -65,8 +66,7 @@ fn write_lines<A: Allocator>(
 }
 
 /// Appends a row for each token before a fault, or each token of zone text.
-fn write_rows<A: Allocator + Copy>(
-    alloc: A,
+fn write_rows<A: Allocator>(
     octets: &[u8],
     lines_before: usize,
     form: Form,
@@ -77,7 +77,7 @@ fn write_rows<A: Allocator + Copy>(
         (MadeAfter (Rows form) octets.now lines_before out.old.items out.new.items) }
     ensures short { IfErr result (λ h. h ≡ OutOfMemory) }
 {
-    match tokens(alloc, octets, lines_before, form, out) {
+    match tokens(octets, lines_before, form, out) {
         Ok(()) => Ok(()),
         Err(Stop::Wrong(_)) => Ok(()),
         Err(Stop::OutOfMemory) => Err(Halt::OutOfMemory),
@@ -85,8 +85,7 @@ fn write_rows<A: Allocator + Copy>(
 }
 
 /// Appends what is written of octets that begin an entry.
-fn write<A: Allocator + Copy>(
-    alloc: A,
+fn write<A: Allocator>(
     output: Output,
     octets: &[u8],
     lines_before: usize,
@@ -99,8 +98,62 @@ fn write<A: Allocator + Copy>(
     ensures short { IfErr result (λ h. h ≡ OutOfMemory) }
 {
     match output {
-        Output::Rows(form) => write_rows(alloc, octets, lines_before, form, out),
+        Output::Rows(form) => write_rows(octets, lines_before, form, out),
         Output::Lines(gap) => write_lines(octets, lines_before, gap, out),
+    }
+}
+
+/// Appends all entries of zone text as lines.
+fn write_all_lines<A: Allocator>(
+    octets: &[u8],
+    lines_before: usize,
+    gap: Gap,
+    out: &mut Vec<u8, A>,
+) -> Result<(), Halt>
+    requires room { lines_before + length octets.now + 2 < 2 ^ 64 }
+    requires whole { (found : List Piece) × IsGiven octets.now (map Ok found) }
+    ensures lines { OnOk result ((more : List ℕ) × (out.new.items ≡ out.old.items ++ more)
+        × HasLines octets.now gap more) }
+    ensures short { IfErr result (λ h. h ≡ OutOfMemory) }
+{
+    match lay_out(octets, lines_before, gap, out) {
+        Ok(()) => Ok(()),
+        Err(Stop::Wrong(_)) => Ok(()),
+        Err(Stop::OutOfMemory) => Err(Halt::OutOfMemory),
+    }
+}
+
+/// Appends what is written of zone text that begins an entry.
+fn write_ended<A: Allocator>(
+    output: Output,
+    octets: &[u8],
+    lines_before: usize,
+    out: &mut Vec<u8, A>,
+) -> Result<(), Halt>
+    requires room { lines_before + length octets.now + 2 < 2 ^ 64 }
+    requires whole { (found : List Piece) × IsGiven octets.now (map Ok found) }
+    ensures made { OnOk result
+        (MadeAfter output octets.now lines_before out.old.items out.new.items) }
+    ensures short { IfErr result (λ h. h ≡ OutOfMemory) }
+{
+    match output {
+        Output::Rows(form) => write_rows(octets, lines_before, form, out),
+        Output::Lines(gap) => write_all_lines(octets, lines_before, gap, out),
+    }
+}
+
+/// Appends what is written of the entries that are the same whatever follows, and returns where the
+/// last of them ends, where one reading does both; nothing for rows, and where octets have a fault.
+fn write_settled<A: Allocator>(
+    output: Output,
+    octets: &[u8],
+    out: &mut Vec<u8, A>,
+) -> Result<Option<usize>, AllocError>
+    ensures { (lines : ℕ) → WritesSettled output octets.now lines out.old.items out.new.items result }
+{
+    match output {
+        Output::Rows(_) => Ok(None),
+        Output::Lines(gap) => lay_out_settled(octets, gap, out),
     }
 }
 
@@ -110,13 +163,12 @@ fn write<A: Allocator + Copy>(
 /// It holds no more octets than [`Checker`] does: those of the longest entry, twice over at most,
 /// and a block.
 #[derive(Drop)]
-pub struct Writer<A: Allocator + Copy> {
-    alloc: A,
+pub struct Writer<A: Allocator> {
     checker: Checker<A>,
     output: Output,
 }
 
-impl<A: Allocator + Copy> Model for Writer<A> {
+impl<A: Allocator> Model for Writer<A> {
     ghost use Rattle.dns_zonetext.specs.Held.{Writing};
 
     ghost Value = { Writing };
@@ -124,14 +176,13 @@ impl<A: Allocator + Copy> Model for Writer<A> {
     ghost view = { λ w. record { output = w.output; held = w.checker } };
 }
 
-impl<A: Allocator + Copy> Writer<A> {
+impl<A: Allocator> Writer<A> {
     /// No octets.
     pub fn new(alloc: A, output: Output) -> Writer<A>
         ensures output { result.output ≡ output }
         ensures none { Wrote [] [] result }
     {
         Writer {
-            alloc,
             checker: Checker::new(alloc),
             output,
         }
@@ -152,11 +203,22 @@ impl<A: Allocator + Copy> Writer<A> {
         if !self.checker.take(block)? {
             return Ok(());
         }
+        match write_settled(self.output, self.checker.held(), out) {
+            Ok(Some(cut)) => {
+                self.checker.release(cut);
+                return Ok(());
+            }
+            Ok(None) => {}
+            Err(error) => {
+                self.checker.forget(before);
+                return Err(Halt::from(error));
+            }
+        }
         let lines = self.checker.lines_before();
         match self.checker.settle() {
             Ok(cut) => {
                 let ended = &self.checker.held()[..cut];
-                if let Err(halt) = write(self.alloc, self.output, ended, lines, out) {
+                if let Err(halt) = write_ended(self.output, ended, lines, out) {
                     self.checker.forget(before);
                     return Err(halt);
                 }
@@ -165,7 +227,7 @@ impl<A: Allocator + Copy> Writer<A> {
             }
             Err(found) => {
                 let held = self.checker.held();
-                if let Err(halt) = write(self.alloc, self.output, held, lines, out) {
+                if let Err(halt) = write(self.output, held, lines, out) {
                     self.checker.forget(before);
                     return Err(halt);
                 }
@@ -184,7 +246,7 @@ impl<A: Allocator + Copy> Writer<A> {
         ensures written { WritesRest self.now out.old.items out.new.items result }
     {
         let lines = self.checker.lines_before();
-        write(self.alloc, self.output, self.checker.held(), lines, out)?;
+        write(self.output, self.checker.held(), lines, out)?;
         match self.checker.finish() {
             Ok(()) => Ok(()),
             Err(found) => Err(Halt::Wrong(found)),

@@ -1,5 +1,5 @@
 -- What a run wrote to a sink, seen by what the stream below it holds.
-use Rattle.std.proofs.Common.{◌≡◌, ◌≤◌, ◌<◌, ◌⊎◌, inl, inr, ⊎_elim, ℕ, zero, suc, List, [], ◌∷◌, ◌++◌, Option, Some, None, refl, sym, ap, subst, ◌∙◌, arith, append_assoc, append-nil}
+use Rattle.std.proofs.Common.{◌≡◌, ◌≤◌, ◌<◌, ◌⊎◌, inl, inr, ⊎_elim, ℕ, zero, suc, List, [], ◌∷◌, ◌++◌, Option, Some, None, refl, sym, ap, subst, ◌∙◌, arith, append-nil}
 use Rattle.std.specs.List.{FoldsTo}
 use Rattle.std.specs.Fmt.{WritesInCalls}
 use Rattle.std.specs.Io.KnownBytes.{Appends, Keeps}
@@ -9,7 +9,7 @@ use Rattle.dns_program.specs.Run.{IsUnknownCommand, RunPrinted, RunRefused}
 use Rattle.dnstext.specs.Streams.{Grows, Printed, Refused, Ran}
 use Rattle.dnstext.specs.declared.streams.TextSink.{TextSink}
 
--- bytes that are kept, and bytes after one another
+-- bytes that are kept
 pub kept_here : (o : Option (List ℕ)) → Keeps o o
 kept_here None = tt
 kept_here (Some xs) = refl
@@ -18,12 +18,6 @@ pub kept_by_none : (o p : Option (List ℕ)) (bytes : List ℕ) → bytes ≡ []
 kept_by_none None p bytes e h = tt
 kept_by_none (Some xs) None bytes e h = absurd h
 kept_by_none (Some xs) (Some ys) bytes e h = h ∙ ap (λ b. xs ++ b) e ∙ append-nil xs
-
-pub appends_twice : (o p q : Option (List ℕ)) (a b : List ℕ) → Appends o p a → Appends p q b → Appends o q (a ++ b)
-appends_twice None p q a b h k = tt
-appends_twice (Some xs) None q a b h k = absurd h
-appends_twice (Some xs) (Some ys) None a b h k = absurd k
-appends_twice (Some xs) (Some ys) (Some zs) a b h k = k ∙ ap (λ x. x ++ b) h ∙ append_assoc xs a b
 
 -- a text that held nothing, after these calls
 pub text_after : {L : Type 0} (bytes : L → List ℕ) (s : L) (text : List ℕ) (t : L) → bytes s ≡ [] → WritesInCalls (λ (u : L) b (v : L). bytes v ≡ bytes u ++ b) s text t → bytes t ≡ text

@@ -1,5 +1,5 @@
 -- What a run of the program leaves on its streams.
-use Rattle.std.specs.Prelude.{◌≡◌, ◌⊎◌, ℕ, List, [], ◌++◌, Option, codes}
+use Rattle.std.specs.Prelude.{◌≡◌, ◌⊎◌, ℕ, List, [], Option, codes}
 use Rattle.std.specs.Io.KnownBytes.{Appends, Keeps}
 use Rattle.dns_program.specs.Program.{refusal_line}
 use Rattle.dns_program.specs.Run.{RunPrinted, RunRefused}
@@ -22,8 +22,8 @@ Ran words o p line =
     (Printed words o p × (line ≡ []))
     ⊎ ((reason : List ℕ) × Refused words o p reason × (line ≡ refusal_line reason))
 
--- what stands on standard error at status 1: the line of the refusal; or, where the output refused at its end, `write failed` after the run's own line
+-- the reason that standard error has at status 1: that of the refusal; or, where the output refused at its end, `write failed` alone, whatever the run's own line was
 abbrev pub Told : List (List ℕ) → Option (List ℕ) → Option (List ℕ) → List ℕ → Type 0
-Told words o p lines =
-    ((reason : List ℕ) × Refused words o p reason × (lines ≡ refusal_line reason))
-    ⊎ ((line : List ℕ) × Ran words o p line × (lines ≡ line ++ refusal_line (codes "write failed")))
+Told words o p reason =
+    Refused words o p reason
+    ⊎ (((line : List ℕ) × Ran words o p line) × (reason ≡ codes "write failed"))

@@ -74,8 +74,8 @@ pub fn refuse_usage<E: Write>(err: &mut E) -> u8
 /// Runs the program on the words after its name, and answers its exit status.
 ///
 /// What is printed goes to `out` as it is made, and `out` is flushed before anything is written to
-/// `err`. Where `out` refuses, the status is 1 and the line `refused: write failed` stands on
-/// `err`, after the line of an earlier refusal. Where `err` refuses, the status is 3.
+/// `err`. Where `out` refuses, also at its end, the status is 1 and the one line on `err` is
+/// `refused: write failed`, whatever else was refused. Where `err` refuses, the status is 3.
 pub fn run<A: Allocator + Copy, O: Write, E: Write>(
     alloc: A,
     words: &[&str],
@@ -83,8 +83,8 @@ pub fn run<A: Allocator + Copy, O: Write, E: Write>(
     err: &mut E,
 ) -> u8
     ensures printed { result ≡ 0 → Printed (texts words.now) (O.contents out.old) (O.contents out.new) × Keeps (E.contents err.old) (E.contents err.new) }
-    ensures refused { result ≡ 1 → (lines : List ℕ) × Told (texts words.now) (O.contents out.old) (O.contents out.new) lines
-        × Appends (E.contents err.old) (E.contents err.new) lines }
+    ensures refused { result ≡ 1 → (reason : List ℕ) × Told (texts words.now) (O.contents out.old) (O.contents out.new) reason
+        × Appends (E.contents err.old) (E.contents err.new) (refusal_line reason) }
     ensures usage { result ≡ 2 → IsUnknownCommand (texts words.now) × Keeps (O.contents out.old) (O.contents out.new)
         × Appends (E.contents err.old) (E.contents err.new) usage_line }
     ensures silent { result ≡ 3 → (IsUnknownCommand (texts words.now) × Keeps (O.contents out.old) (O.contents out.new))
@@ -100,11 +100,11 @@ pub fn run<A: Allocator + Copy, O: Write, E: Write>(
     let is_lost = sink.refuses_the_end();
     // No effect at run time: the proof reads what `out` holds from this use.
     let _ = &*sink.writer;
-    if err.write_all(line.as_str().as_bytes()).is_err() {
-        return 3;
-    }
     if is_lost && status < 2 {
         return refuse(err, "write failed");
+    }
+    if err.write_all(line.as_str().as_bytes()).is_err() {
+        return 3;
     }
     status
 }
@@ -154,27 +154,19 @@ mod tests {
         let alloc = rt.alloc();
         let lost = "refused: write failed\n";
         let refused = "refused: expected decimal number\n";
-        let both = "refused: expected decimal number\nrefused: write failed\n";
         let usage = "usage: dnstext scan|print|line KIND WORD..\n";
         // Words, the room of both streams, the status, and what the streams took. The buffer before
         // the output has 4 octets: one line of output is refused at its end, four lines on the way.
         let rows: [(&[&str], usize, usize, u8, &str, &str); 11] = [
             (&["scan", "u8", "1"], 99, 0, 0, "1\n", ""),
             (&["scan", "u8", "1", "x"], 99, 99, 1, "1\n", refused),
-            (&["scan", "u8", "1", "x"], 0, 99, 1, "", both),
+            (&["scan", "u8", "1", "x"], 0, 99, 1, "", lost),
             (&["scan", "u8", "1"], 0, 99, 1, "", lost),
             (&["scan", "u8", "1"], 1, 99, 1, "1", lost),
             (&["scan", "u8", "1", "2", "3", "4"], 0, 99, 1, "", lost),
             (&["scan", "u8", "1"], 0, 0, 3, "", ""),
             (&["scan", "u8", "x"], 99, 5, 3, "", "refus"),
-            (
-                &["scan", "u8", "1", "x"],
-                0,
-                40,
-                3,
-                "",
-                "refused: expected decimal number\nrefused",
-            ),
+            (&["scan", "u8", "1", "x"], 0, 5, 3, "", "refus"),
             (&["scan", "colour"], 0, 99, 2, "", usage),
             (&["scan", "colour"], 0, 0, 3, "", ""),
         ];

@@ -1,11 +1,11 @@
 //! Laws across crates, at work.
 use dns_charstr::charstr::CharStr;
-use dns_entry::entry::{EntryError, Field};
+use dns_entry::entry::{EntryError, Field, FieldKind};
 use dns_iter::{IterScanner, StrError};
 use dns_laws::lines::{Refusal, Scanned, fields_are_scanned_back, fields_split};
+use dns_laws::numbers::number_is_scanned_back;
 use dns_laws::strings::unquoted_text_is_a_token;
 use dns_octets::AsOctets;
-use dns_program::program::FieldKind;
 use dns_zone::zonefile_fmt::{DisplayKind, ZonefileFmt};
 use std::alloc::{AllocError, Global};
 use std::iter;
@@ -98,4 +98,28 @@ fn refused_fields_and_tokens(rt: HostRuntime) -> Result<(), Fail> {
         .to_string(alloc)?;
     assert_eq!(&rt; printed.as_str(), "a\\ b\\\"\\(");
     Ok(())
+}
+
+/// The number of 8 bits that a token is scanned as.
+fn scanned_byte(alloc: Global, token: &str) -> Result<u8, StrError> {
+    let mut scanner: IterScanner<_, Vec<u8>> = IterScanner::new(alloc, iter::once(token));
+    number_is_scanned_back(&mut scanner)
+}
+
+/// The number of 128 bits that a token is scanned as.
+fn scanned_wide(alloc: Global, token: &str) -> Result<u128, StrError> {
+    let mut scanner: IterScanner<_, Vec<u8>> = IterScanner::new(alloc, iter::once(token));
+    number_is_scanned_back(&mut scanner)
+}
+
+#[test]
+fn numbers_are_scanned_back(rt: HostRuntime) {
+    let alloc = rt.alloc();
+    assert!(&rt; matches!(scanned_byte(alloc, "255"), Ok(255)));
+    assert!(&rt; matches!(scanned_byte(alloc, "0007"), Ok(7)));
+    assert!(&rt; scanned_byte(alloc, "256").is_err());
+    assert!(&rt; scanned_byte(alloc, r"\050").is_err());
+    let greatest = scanned_wide(alloc, "340282366920938463463374607431768211455");
+    assert!(&rt; matches!(greatest, Ok(u128::MAX)));
+    assert!(&rt; scanned_wide(alloc, "340282366920938463463374607431768211456").is_err());
 }

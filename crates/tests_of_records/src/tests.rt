@@ -1,4 +1,5 @@
 //! Texts of the standards to records and back, in three layouts.
+use dns_record::record::record_reads_back_in_room;
 use dns_records::caa::Caa;
 use dns_records::ds::Ds;
 use dns_records::mx::Mx;
@@ -6,7 +7,7 @@ use dns_records::soa::Soa;
 use dns_records::txt::Txt;
 use dns_text::charstr::CharStr;
 use dns_text::document::split;
-use dns_text::record::{RecordData, Strings, record_reads_back, scan_record};
+use dns_text::record::{RecordData, SomeOctets, Strings, record_reads_back, scan_record};
 use dns_text::scan::{EntryScanner, ScannerError, StrError, entry_scanner};
 use dns_text::wire::Name;
 use dns_text::zonefile_fmt::{DisplayKind, ZonefileFmt};
@@ -217,6 +218,53 @@ fn txt(rt: HostRuntime) -> Result<(), Fail> {
     )
 }
 
+// RFC 3597 section 5: the marker of generic data is the token `\#` itself, at the front of the data.
+// Generic data are read for no type; `#` is an octet as others everywhere else, and two backslashes
+// are a backslash (RFC 1035 section 5.1).
+#[test]
+fn generic_data(rt: HostRuntime) -> Result<(), Fail> {
+    let alloc = rt.alloc();
+    let refused = "generic record data is not supported";
+    refuses::<Txt<Vec<u8>, Global>>(&rt, alloc, "\\# 1 00", refused)?;
+    refuses::<Txt<Vec<u8>, Global>>(&rt, alloc, "( \\# ) ; none", refused)?;
+    // An entry's scanner has what tokens hold, so quotes make no difference.
+    refuses::<Txt<Vec<u8>, Global>>(&rt, alloc, "\"\\#\" b", refused)?;
+    refuses::<Soa<Vec<u8>>>(&rt, alloc, "\\# 22 0 1 2 3 4", refused)?;
+    refuses::<Mx<Vec<u8>>>(&rt, alloc, "\\# 3 000A00", refused)?;
+    refuses::<Ds<Vec<u8>>>(&rt, alloc, "\\# 5 0001020300", refused)?;
+    refuses::<Caa<Vec<u8>>>(&rt, alloc, "\\# 3 000161", refused)?;
+    prints::<Txt<Vec<u8>, Global>>(
+        &rt,
+        alloc,
+        "\\\\# # a\\# \\# \"\\\\#\"",
+        "\"\\\\#\" \"#\" \"a#\" \"#\" \"\\\\#\"",
+        "\"\\\\#\"\t\"#\"\t\"a#\"\t\"#\"\t\"\\\\#\"",
+    )?;
+    prints::<Txt<Vec<u8>, Global>>(&rt, alloc, "\\035", "\"#\"", "\"#\"")?;
+    prints::<Txt<Vec<u8>, Global>>(
+        &rt,
+        alloc,
+        "# 1 00",
+        "\"#\" \"1\" \"00\"",
+        "\"#\"\t\"1\"\t\"00\"",
+    )
+}
+
+// The two octets `\#` are printed with two backslashes, and so read back as they are.
+#[test]
+fn strings_that_look_like_the_marker(rt: HostRuntime) -> Result<(), Fail> {
+    let alloc = rt.alloc();
+    let mut octets = Vec::new(alloc);
+    octets.extend_from_slice(b"\\#")?;
+    let mut strings = Vec::new(alloc);
+    strings.push(CharStr::from_octets(octets).expect(&rt, "a character string"))?;
+    let txt: Txt<Vec<u8>, Global> = Txt {
+        strings: Strings::new(strings).expect(&rt, "a string"),
+    };
+    prints_as(&rt, alloc, &txt, DisplayKind::Simple, "\"\\\\#\"")?;
+    reads_back(&rt, alloc, &txt, DisplayKind::Simple, "\"\\\\#\"")
+}
+
 // Each octet alone in a label.
 #[test]
 fn names_of_each_octet(rt: HostRuntime) -> Result<(), Fail> {
@@ -247,6 +295,66 @@ fn strings_of_most_octets(rt: HostRuntime) -> Result<(), Fail> {
     assert_eq!(&rt; one.strings.as_slice().len(), 1);
     text.push('x')?;
     refuses::<Txt<Vec<u8>, Global>>(&rt, alloc, text.as_str(), "short buffer")
+}
+
+/// Whether a TXT has so many strings of 255 octets each.
+fn has_strings(rt: &impl Abort, txt: &Txt<Vec<u8>, Global>, count: usize) {
+    let strings = txt.strings.as_slice();
+    assert!(rt; strings.len() == count);
+    for string in strings {
+        assert!(rt; string.as_slice().len() == 255);
+    }
+}
+
+// Data of more than 100,000 octets are printed in each layout and read back: memory suffices.
+#[test]
+fn strings_of_many_octets(rt: HostRuntime) -> Result<(), Fail> {
+    let alloc = rt.alloc();
+    let mut strings = Vec::new(alloc);
+    for _ in 0..400u16 {
+        let mut octets = Vec::new(alloc);
+        octets.resize(255, b'x')?;
+        strings.push(CharStr::from_octets(octets).expect(&rt, "a character string"))?;
+    }
+    let txt: Txt<Vec<u8>, Global> = Txt {
+        strings: Strings::new(strings).expect(&rt, "a string"),
+    };
+    for kind in [
+        DisplayKind::Simple,
+        DisplayKind::Tabbed,
+        DisplayKind::Multiline,
+    ] {
+        let back: Txt<Vec<u8>, Global> = record_reads_back::<_, Vec<u8>, Global, StrError>(
+            alloc, alloc, &txt, kind,
+        ).expect(&rt, "the same record data");
+        has_strings(&rt, &back, 400);
+    }
+    Ok(())
+}
+
+// The same of octets in base 16.
+#[test]
+fn digest_of_many_octets(rt: HostRuntime) -> Result<(), Fail> {
+    let alloc = rt.alloc();
+    let mut digest = Vec::new(alloc);
+    digest.resize(100_000, 0xa5)?;
+    let ds = Ds {
+        key_tag: 60485,
+        algorithm: 5,
+        digest_type: 1,
+        digest: SomeOctets::new(digest).expect(&rt, "an octet"),
+    };
+    let read: Option<Result<Ds<Vec<u8>>, StrError>> = record_reads_back_in_room(
+        alloc,
+        alloc,
+        &ds,
+        DisplayKind::Simple,
+    );
+    let back = read
+        .expect(&rt, "memory")
+        .expect(&rt, "the same record data");
+    assert!(&rt; back.digest.as_slice() == ds.digest.as_slice());
+    Ok(())
 }
 
 #[test]

@@ -10,7 +10,7 @@ use std::alloc::Global;
 use std::process::Abort;
 
 /// Adds octets in blocks of a length, and answers as if they were whole.
-fn in_blocks(alloc: Global, octets: &[u8], size: usize) -> Result<(), Halt>
+pub(crate) fn in_blocks(alloc: Global, octets: &[u8], size: usize) -> Result<(), Halt>
     requires { 0 < size }
 {
     let mut checker = Checker::new(alloc);

@@ -72,7 +72,7 @@ fn counts_lines_before(rt: HostRuntime) {
 /// The rows of the tokens of a zone.
 fn rows_are(rt: &impl Abort, alloc: Global, zone: &[u8], form: Form, wanted: &[u8]) {
     let mut out = Vec::new(alloc);
-    let answer = tokens(alloc, zone, 0, form, &mut out);
+    let answer = tokens(zone, 0, form, &mut out);
     holds(rt, answer.is_ok());
     holds(rt, out.as_slice() == wanted);
 }
@@ -82,11 +82,11 @@ fn writes_rows(rt: HostRuntime) {
     let alloc = rt.alloc();
     let plain =
         "1:1\tword\ta\n1:4\tword\tb\n2:2\tquoted\t\"c d\"\n3:3\tword\té\n3:5\tword\te\\\"\n";
-    let json = "{\"line\":1,\"column\":1,\"kind\":\"word\",\"token\":\"a\"}\n\
-        {\"line\":1,\"column\":4,\"kind\":\"word\",\"token\":\"b\"}\n\
-        {\"line\":2,\"column\":2,\"kind\":\"quoted\",\"token\":\"\\\"c d\\\"\"}\n\
-        {\"line\":3,\"column\":3,\"kind\":\"word\",\"token\":\"\\u00c3\\u00a9\"}\n\
-        {\"line\":3,\"column\":5,\"kind\":\"word\",\"token\":\"e\\\\\\\"\"}\n";
+    let json = "{\"line\":1,\"column\":1,\"kind\":\"word\",\"glued\":false,\"token\":\"a\"}\n\
+        {\"line\":1,\"column\":4,\"kind\":\"word\",\"glued\":false,\"token\":\"b\"}\n\
+        {\"line\":2,\"column\":2,\"kind\":\"quoted\",\"glued\":false,\"token\":\"\\\"c d\\\"\"}\n\
+        {\"line\":3,\"column\":3,\"kind\":\"word\",\"glued\":false,\"token\":\"\\u00c3\\u00a9\"}\n\
+        {\"line\":3,\"column\":5,\"kind\":\"word\",\"glued\":false,\"token\":\"e\\\\\\\"\"}\n";
     let zone = "a (b\n \"c d\" ; k\n) é e\\\"\n".as_bytes();
     rows_are(&rt, alloc, zone, Form::Plain, plain.as_bytes());
     rows_are(&rt, alloc, zone, Form::Json, json.as_bytes());
@@ -96,7 +96,7 @@ fn writes_rows(rt: HostRuntime) {
 #[test]
 fn writes_rows_before_faults(rt: HostRuntime) {
     let mut out = Vec::new(rt.alloc());
-    let answer = tokens(rt.alloc(), b"a b)", 6, Form::Plain, &mut out);
+    let answer = tokens(b"a b)", 6, Form::Plain, &mut out);
     holds(&rt, matches!(answer, Err(Stop::Wrong(_))));
     holds(&rt, out.as_slice() == b"7:1\tword\ta\n".as_slice());
 }
@@ -123,7 +123,7 @@ struct Rows;
 impl Grows for Rows {
     fn grow<R: Abort>(&self, rt: &R, heap: &Heap) {
         let mut out = Vec::new(heap);
-        let answer = tokens(heap, b"a\n\"b\"", 0, Form::Plain, &mut out);
+        let answer = tokens(b"a\n\"b\"", 0, Form::Plain, &mut out);
         let is_wanted = out.as_slice() == b"1:1\tword\ta\n2:1\tquoted\t\"b\"\n".as_slice();
         is_written(rt, answer, is_wanted, heap.has_refused());
     }

@@ -37,7 +37,12 @@ fn add_second<'o>(
 }
 
 /// Compares octets that are added in blocks of a length, until no more are wanted of either.
-fn in_blocks(alloc: Global, first: &[u8], second: &[u8], size: usize) -> Result<Comparison, Halt> {
+pub(crate) fn in_blocks(
+    alloc: Global,
+    first: &[u8],
+    second: &[u8],
+    size: usize,
+) -> Result<Comparison, Halt> {
     let mut comparer = Comparer::new(alloc);
     let (mut ours, mut theirs) = (first, second);
     for _ in 0..u64::MAX {

@@ -15,7 +15,7 @@ const ENTRIES: [(&str, &str); 9] = [
     ("\t a ;k\nb", " a\nb"),
     ("a (b\r\n \"c d\" ; k\r\n) e\r\n", "a b \"c d\" e\n"),
     ("; k\n\n ;k\n \n", "\n\n \n \n"),
-    ("a\"b\"c", "a \"b\" c"),
+    ("a\"b\"c", "a\"b\"c"),
     ("( a\n b)\n( )\n", "a b\n\n"),
     ("é \\( \";\"", "é \\( \";\""),
 ];
@@ -77,20 +77,26 @@ fn lays_out_where_a_growth_is_refused(rt: HostRuntime) {
 type Pair = (&'static str, &'static str, Option<(Spot, Spot)>);
 
 /// Pairs of zone texts.
-pub(crate) const PAIRS: [Pair; 13] = [
+pub(crate) const PAIRS: [Pair; 19] = [
     ("a b\n", "a (\tb) ;k\n", None),
     ("a\r\nb", "a\nb", None),
     ("a\r\nb\n\n c\n", "a\nb\n\n\tc\n", None),
     ("a\n b", "a\nb", Some(((2, 3), (2, 2)))),
     ("a b", "a\nb", Some(((1, 3), (2, 1)))),
-    ("a", "a\n", Some(((1, 2), (2, 1)))),
+    ("a", "a\n", None),
     ("a b", "a \"b\"", Some(((1, 3), (1, 3)))),
     ("é c", "é d", Some(((1, 3), (1, 3)))),
     ("k\nk\né c", "k\nk ;\né d", Some(((3, 3), (3, 3)))),
     ("k\nk\nab", "k\nk\nabc", Some(((3, 1), (3, 1)))),
     ("k\n(\nk)\nab", "k\nk\nab cd\ne\n\"", Some(((4, 3), (3, 4)))),
     ("k\nl\nm\nn", "k\nl\no\n)", Some(((3, 1), (3, 1)))),
-    ("", " ", Some(((1, 1), (1, 2)))),
+    ("", " ", None),
+    ("a\"b\"", "a \"b\"", Some(((1, 2), (1, 3)))),
+    ("k\na\"b\"c\n", "k\n(a\"b\"c)\n;\n", None),
+    ("a\n\n;k\n \nb\n", ";\n\na\nb", None),
+    ("a\n\n\nb", "a\n;k\nc", Some(((4, 1), (3, 1)))),
+    ("a", "a\n;k\n\n;l\n", None),
+    ("a\n;k\n\n;l\nb", "a", Some(((5, 1), (1, 2)))),
 ];
 
 /// How two texts compare that differ there.

@@ -3,7 +3,7 @@ ghost use Rattle.std.specs.Prelude.{◌≡◌, [], ◌∷◌, codes, refl};
 ghost use Rattle.dns_zone.specs.Layout.{token, begin, end};
 
 use crate::documents::{DS, NESTED, document, items};
-use crate::wanted::{holds, prints, text_is};
+use crate::wanted::{holds, prints, text_is, text_of};
 use dns_zone::document::{Document, DocumentError};
 use dns_zone::zonefile_fmt::{
     self, DisplayKind, FormatWriter, Formatter, MultiLineWriter, SimpleWriter, TabbedWriter,
@@ -113,6 +113,50 @@ fn layouts(rt: HostRuntime) {
     for &(words, text, _) in &MULTILINE {
         lays_out(&rt, &laid_out(alloc, words, DisplayKind::Multiline), text);
     }
+}
+
+/// A document of so many records, a line end after each.
+fn many_records(alloc: Global, count: usize) -> Result<Option<Document>, AllocError> {
+    let mut words = Vec::new(alloc);
+    for _ in 0..count {
+        for word in &DS {
+            words.push(*word)?;
+        }
+        words.push("\n")?;
+    }
+    document(alloc, &words)
+}
+
+/// The text of so many records, from that of one.
+fn many_lines(alloc: Global, line: &str, count: usize) -> Result<String, AllocError> {
+    let line = text_of(alloc, line, "\n", 1, "")?;
+    text_of(alloc, "", line.as_str(), count, "")
+}
+
+// More than 100,000 octets in each layout.
+const MANY: usize = 2500;
+
+fn prints_many(rt: &impl Abort, alloc: Global) -> Result<(), AllocError> {
+    let simple = many_lines(alloc, SIMPLE[0].1, MANY)?;
+    let tabbed = many_lines(alloc, TABBED[0].1, MANY)?;
+    let multiline = many_lines(alloc, MULTILINE[0].1, MANY)?;
+    let records = many_records(alloc, MANY)?;
+    assert!(rt; records.is_some());
+    if let Some(records) = records {
+        prints(
+            rt,
+            alloc,
+            &records,
+            (simple.as_str(), tabbed.as_str(), multiline.as_str()),
+        );
+    }
+    Ok(())
+}
+
+#[test]
+fn many_records_in_each_layout(rt: HostRuntime) -> Result<(), Fail> {
+    prints_many(&rt, rt.alloc())?;
+    Ok(())
 }
 
 const DOCUMENTS: [(&[&str], Option<DocumentError>); 15] = [

@@ -28,11 +28,17 @@ mod laws;
 #[cfg(test)]
 mod layouts;
 #[cfg(test)]
+mod long;
+#[cfg(test)]
 mod pieces;
+#[cfg(test)]
+mod replacing;
 #[cfg(test)]
 mod split;
 #[cfg(test)]
 mod standing;
+#[cfg(test)]
+mod unified;
 #[cfg(test)]
 mod wanted;
 #[cfg(test)]

@@ -30,7 +30,7 @@ fn in_blocks(
 }
 
 /// Blocks of a length are written as wanted, and have a fault or none.
-fn write_block(
+pub(crate) fn write_block(
     rt: &impl Abort,
     alloc: Global,
     output: Output,
@@ -68,7 +68,8 @@ fn writes_rows_in_blocks(rt: HostRuntime) {
         5:2\tword\té\n5:4\tword\tf\n6:1\tword\tg\n";
     let output = Output::Rows(Form::Plain);
     writes(&rt, rt.alloc(), output, zone, 40, plain.as_bytes());
-    let json: &[u8] = b"{\"line\":2,\"column\":1,\"kind\":\"word\",\"token\":\"b\"}\n";
+    let json: &[u8] =
+        b"{\"line\":2,\"column\":1,\"kind\":\"word\",\"glued\":false,\"token\":\"b\"}\n";
     let output = Output::Rows(Form::Json);
     writes(&rt, rt.alloc(), output, b"\nb", 4, json);
 }

@@ -1,5 +1,6 @@
 //! The words of the program.
-use crate::files;
+use crate::format::Mode;
+use crate::{files, format};
 use clap::{Arg, ArgAction, ArgMatches, Command, Error};
 use dns_zonetext::layout::Gap;
 use dns_zonetext::tokens::Form;
@@ -34,10 +35,44 @@ fn tokens_command<'a>(alloc: Global) -> Result<Command<'a>, AllocError> {
     over_files(alloc, "tokens", about)?.arg(json)
 }
 
-/// The command that lays files out.
+/// The command that writes files in their canonical form.
 fn fmt_command<'a>(alloc: Global) -> Result<Command<'a>, AllocError> {
+    let write = flag(alloc, "write", "replace the files by their forms").short('w');
+    let check = flag(
+        alloc,
+        "check",
+        "name the files that would change, with status 1",
+    );
+    let diff = flag(
+        alloc,
+        "diff",
+        "show what would change as a unified diff, with status 1",
+    );
+    let force = flag(
+        alloc,
+        "force",
+        "also replace zones that a server changes itself",
+    );
+    over_files(
+        alloc,
+        "fmt",
+        "Write zone files in one form, with their comments",
+    )?
+    .arg(write.conflicts_with("check")?.conflicts_with("diff")?)?
+    .arg(check.conflicts_with("diff")?)?
+    .arg(diff)?
+    .arg(force)
+}
+
+/// The command that lays entries out as lines.
+fn lines_command<'a>(alloc: Global) -> Result<Command<'a>, AllocError> {
     let tabbed = flag(alloc, "tabbed", "put tabs between tokens");
-    over_files(alloc, "fmt", "Write each entry on a line of its own")?.arg(tabbed)
+    over_files(
+        alloc,
+        "lines",
+        "Write each entry on a line of its own, without comments",
+    )?
+    .arg(tabbed)
 }
 
 /// A file that must be given.
@@ -61,12 +96,13 @@ fn diff_command<'a>(alloc: Global) -> Result<Command<'a>, AllocError> {
 fn command_line<'a>(alloc: Global) -> Result<Command<'a>, AllocError> {
     let all = Command::new(alloc, "zonetext")
         .version("0.2.0")
-        .about("Checks, lists, lays out and compares DNS zone files")
+        .about("Checks, formats, lists, lays out and compares DNS zone files")
         .subcommand_required(true);
     let check = over_files(alloc, "check", "Say where files are not zone text")?;
     let all = all.subcommand(check)?;
     let all = all.subcommand(tokens_command(alloc)?)?;
     let all = all.subcommand(fmt_command(alloc)?)?;
+    let all = all.subcommand(lines_command(alloc)?)?;
     all.subcommand(diff_command(alloc)?)
 }
 
@@ -87,43 +123,81 @@ pub fn run(rt: &HostRuntime, alloc: Global, words: &[&str]) -> io::Result<u8> {
     let Some((name, inner)) = matches.subcommand() else {
         return Ok(2);
     };
-    if name == "diff" {
+    let Some(which) = Which::named(name) else {
+        return Ok(2);
+    };
+    if which == Which::Diff {
         let first = inner.get_str("A").unwrap_or("-");
         let second = inner.get_str("B").unwrap_or("-");
         return files::compare(rt, first, second, inner.get_flag("quiet"));
     }
-    let names = match inner.get_strs("FILE") {
-        Some(names) => names,
-        None => return over_file(rt, name, inner, "-"),
-    };
+    let names = inner.get_strs("FILE").unwrap_or(&["-"]);
+    if which == Which::Format {
+        return run_format(rt, inner, names);
+    }
     let mut status = 0;
     for file in names {
-        let this = over_file(rt, name, inner, file)?;
-        if this > status {
-            status = this;
-        }
+        status = over_file(rt, which, inner, file)?.max(status);
     }
     Ok(status)
 }
 
-/// Runs a command that takes one file at a time.
-fn over_file(rt: &HostRuntime, name: &str, inner: &ArgMatches, file: &str) -> io::Result<u8> {
-    let is_quiet = inner.get_flag("quiet");
-    if name == "tokens" {
-        let form = if inner.get_flag("json") {
-            Form::Json
-        } else {
-            Form::Plain
-        };
-        files::print(rt, file, is_quiet, Output::Rows(form))
-    } else if name == "fmt" {
-        let gap = if inner.get_flag("tabbed") {
-            Gap::Tab
-        } else {
-            Gap::Space
-        };
-        files::print(rt, file, is_quiet, Output::Lines(gap))
+/// A command.
+#[derive(Clone, Copy, PartialEq, Eq)]
+enum Which {
+    Check,
+    Tokens,
+    Format,
+    Lines,
+    Diff,
+}
+
+impl Which {
+    fn named(name: &str) -> Option<Which> {
+        match name {
+            "check" => Some(Which::Check),
+            "tokens" => Some(Which::Tokens),
+            "fmt" => Some(Which::Format),
+            "lines" => Some(Which::Lines),
+            "diff" => Some(Which::Diff),
+            _ => None,
+        }
+    }
+}
+
+/// Formats files.
+fn run_format(rt: &HostRuntime, inner: &ArgMatches, names: &[&str]) -> io::Result<u8> {
+    let mode = if inner.get_flag("write") {
+        let ignores_journal = inner.get_flag("force");
+        Mode::Write { ignores_journal }
+    } else if inner.get_flag("check") {
+        Mode::Check
+    } else if inner.get_flag("diff") {
+        Mode::Diff
     } else {
-        files::check_file(rt, file, is_quiet)
+        Mode::Print
+    };
+    if inner.get_flag("write") && names.contains(&"-") {
+        eprintln!(rt; "zonetext: fmt -w wants files: standard input can't be replaced")?;
+        return Ok(2);
+    }
+    format::run(rt, names, mode)
+}
+
+/// Runs a command that takes one file at a time.
+fn over_file(rt: &HostRuntime, which: Which, inner: &ArgMatches, file: &str) -> io::Result<u8> {
+    let is_quiet = inner.get_flag("quiet");
+    match which {
+        Which::Tokens => {
+            let is_json = inner.get_flag("json");
+            let form = if is_json { Form::Json } else { Form::Plain };
+            files::print(rt, file, is_quiet, Output::Rows(form))
+        }
+        Which::Lines => {
+            let is_tabbed = inner.get_flag("tabbed");
+            let gap = if is_tabbed { Gap::Tab } else { Gap::Space };
+            files::print(rt, file, is_quiet, Output::Lines(gap))
+        }
+        Which::Check | Which::Format | Which::Diff => files::check_file(rt, file, is_quiet),
     }
 }

@@ -21,7 +21,7 @@ fn reason(wrong: Wrong) -> &'static str {
 }
 
 /// Says where a file is no zone text, and answers the exit status.
-fn report(rt: &HostRuntime, file: &str, found: Found) -> io::Result<u8> {
+pub fn report(rt: &HostRuntime, file: &str, found: Found) -> io::Result<u8> {
     let why = reason(found.fault.wrong);
     let (line, column) = (found.position.line, found.position.column);
     match found.opened {

@@ -1,9 +1,10 @@
-//! The program `zonetext`: it checks, lists, lays out and compares zone files.
+//! The program `zonetext`: it checks, formats, lists, lays out and compares zone files.
 #![tactic(auto)]
 
 mod blocks;
 mod command;
 mod files;
+mod format;
 mod pair;
 mod progress;
 

@@ -90,6 +90,13 @@ extern "C" {
         octets_len: usize,
         outcome: *mut dns_outcome,
     ) -> u32;
+    pub fn dns_charstr_read_octets(
+        text: *const u8,
+        text_len: usize,
+        octets: *mut u8,
+        octets_len: usize,
+        outcome: *mut dns_outcome,
+    ) -> u32;
     pub fn dns_charstr_print(
         octets: *const u8,
         octets_len: usize,
@@ -210,42 +217,4 @@ extern "C" {
         text_len: usize,
         outcome: *mut dns_outcome,
     ) -> u32;
-
-    pub fn dns_base16_encode(
-        octets: *const u8,
-        octets_len: usize,
-        text: *mut u8,
-        text_len: usize,
-    ) -> usize;
-    pub fn dns_base32hex_encode(
-        octets: *const u8,
-        octets_len: usize,
-        text: *mut u8,
-        text_len: usize,
-    ) -> usize;
-    pub fn dns_base64_encode(
-        octets: *const u8,
-        octets_len: usize,
-        text: *mut u8,
-        text_len: usize,
-    ) -> usize;
-    pub fn dns_base16_decode(
-        text: *const u8,
-        text_len: usize,
-        octets: *mut u8,
-        octets_len: usize,
-    ) -> usize;
-    pub fn dns_base32hex_decode(
-        text: *const u8,
-        text_len: usize,
-        octets: *mut u8,
-        octets_len: usize,
-    ) -> usize;
-    pub fn dns_base64_decode(
-        text: *const u8,
-        text_len: usize,
-        octets: *mut u8,
-        octets_len: usize,
-    ) -> usize;
-    pub fn dns_text_split(text: *const u8, text_len: usize) -> usize;
 }

@@ -1,17 +1,23 @@
 //! Character strings.
 use crate::call::{give, print};
+use crate::lowered::hash_lowered;
 use crate::status;
 use dns_text_sys::{
-    dns_charstr_print, dns_charstr_print_quoted, dns_charstr_print_unquoted, dns_charstr_read,
-    DNS_BAD_ESCAPE, DNS_BAD_SYMBOL, DNS_BAD_UTF8, DNS_SHORT_INPUT, DNS_TOO_LONG,
+    dns_call, dns_charstr_print, dns_charstr_print_quoted, dns_charstr_print_unquoted,
+    dns_charstr_read, dns_charstr_read_octets, DNS_BAD_ESCAPE, DNS_BAD_SYMBOL, DNS_BAD_UTF8,
+    DNS_SHORT_INPUT, DNS_TOO_LONG,
 };
 use std::error::Error;
 use std::fmt;
+use std::hash::{Hash, Hasher};
 
 /// A character string: at most 255 octets (RFC 1035 section 3.3).
 ///
 /// It prints with no character special but the backslash; [`quoted`](CharStr::quoted) and
 /// [`unquoted`](CharStr::unquoted) print it for zone text.
+///
+/// Equality and hash leave the case of ASCII letters aside (RFC 1035 section 2.3.3). Where case
+/// tells, compare the octets.
 ///
 /// ```
 /// use dns_text::CharStr;
@@ -21,9 +27,10 @@ use std::fmt;
 /// assert_eq!(string.to_string(), "a; b");
 /// assert_eq!(string.quoted(), "\"a; b\"");
 /// assert_eq!(string.unquoted(), r"a\;\ b");
+/// assert_eq!(string, CharStr::from_text(br"A\;\ B")?);
 /// # Ok::<(), dns_text::ReadError>(())
 /// ```
-#[derive(Clone, Debug, Default, PartialEq, Eq, Hash)]
+#[derive(Clone, Debug, Default)]
 pub struct CharStr {
     octets: Vec<u8>,
 }
@@ -39,6 +46,9 @@ impl CharStr {
 
     /// Reads a text: the octets of its symbols. A quoted text is passed without its double quotes.
     ///
+    /// A plain character outside printable ASCII is refused;
+    /// [`from_octets_text`](CharStr::from_octets_text) takes its octets as they are.
+    ///
     /// ```
     /// use dns_text::{CharStr, ReadErrorKind};
     ///
@@ -46,7 +56,32 @@ impl CharStr {
     /// assert_eq!((error.kind, error.place), (ReadErrorKind::BadEscape, 2));
     /// ```
     pub fn from_text(text: &[u8]) -> Result<CharStr, ReadError> {
-        match give(dns_charstr_read, text, text.len().min(255)) {
+        CharStr::read(dns_charstr_read, text)
+    }
+
+    /// Reads a text as name servers do: each octet but the backslash stands for itself, a tab and
+    /// the octets from 0x80 to 0xFF too. A quoted text is passed without its double quotes.
+    ///
+    /// A backslash and three digits are the octet of that number, and a backslash and an octet that
+    /// is no digit are that octet, whichever it is (RFC 1035 section 5.1). The only refusals are
+    /// `BadEscape`, `ShortInput` and `TooLong`. A text of printable ASCII is read as by
+    /// [`from_text`](CharStr::from_text).
+    ///
+    /// ```
+    /// use dns_text::{CharStr, ReadErrorKind};
+    ///
+    /// let string = CharStr::from_octets_text("Zürich\t\\009".as_bytes())?;
+    /// assert_eq!(string.as_octets(), "Zürich\t\t".as_bytes());
+    /// let error = CharStr::from_octets_text(b"\xFF\\256").unwrap_err();
+    /// assert_eq!((error.kind, error.place), (ReadErrorKind::BadEscape, 1));
+    /// # Ok::<(), dns_text::ReadError>(())
+    /// ```
+    pub fn from_octets_text(text: &[u8]) -> Result<CharStr, ReadError> {
+        CharStr::read(dns_charstr_read_octets, text)
+    }
+
+    fn read(call: dns_call, text: &[u8]) -> Result<CharStr, ReadError> {
+        match give(call, text, text.len().min(255)) {
             Ok(octets) => Ok(CharStr { octets }),
             Err(refused) => Err(ReadError {
                 kind: ReadErrorKind::of(refused.status),
@@ -73,11 +108,25 @@ impl CharStr {
         self.printed(dns_charstr_print_unquoted)
     }
 
-    fn printed(&self, call: dns_text_sys::dns_call) -> String {
+    fn printed(&self, call: dns_call) -> String {
         match print(call, &self.octets, self.octets.len() + 2) {
             Ok(text) => text,
             Err(_) => unreachable!("there are at most 255 octets"),
         }
+    }
+}
+
+impl PartialEq for CharStr {
+    fn eq(&self, other: &CharStr) -> bool {
+        self.octets.eq_ignore_ascii_case(&other.octets)
+    }
+}
+
+impl Eq for CharStr {}
+
+impl Hash for CharStr {
+    fn hash<H: Hasher>(&self, state: &mut H) {
+        hash_lowered(&self.octets, state);
     }
 }
 
@@ -117,7 +166,7 @@ pub enum ReadErrorKind {
     ShortInput = DNS_SHORT_INPUT,
     /// No UTF-8.
     BadUtf8 = DNS_BAD_UTF8,
-    /// A character that stands for no octet.
+    /// A plain character outside printable ASCII, which stands for no octet.
     BadSymbol = DNS_BAD_SYMBOL,
     /// A symbol after 255 octets.
     TooLong = DNS_TOO_LONG,

@@ -16,6 +16,7 @@
 mod call;
 mod char_str;
 pub mod codec;
+mod lowered;
 mod name;
 mod number;
 mod pieces;

@@ -1,5 +1,6 @@
 //! Names.
 use crate::call::{give, print};
+use crate::lowered::hash_lowered;
 use crate::status;
 use dns_text_sys::{
     dns_call, dns_name_print, dns_name_print_dotted, dns_name_print_zone, dns_name_read,
@@ -9,12 +10,16 @@ use dns_text_sys::{
 };
 use std::error::Error;
 use std::fmt;
+use std::hash::{Hash, Hasher};
 
 /// A name, absolute or relative: at most 255 octets in wire form (RFC 1035 section 3.1).
 ///
 /// It prints its labels joined by dots, with a dot at the end where it is absolute.
 /// [`without_dot`](Name::without_dot) leaves that dot out, and [`zone_text`](Name::zone_text)
 /// prints it for zone text.
+///
+/// Equality and hash leave the case of ASCII letters aside (RFC 1035 section 2.3.3). A relative
+/// name never equals an absolute one. Where case tells, compare the octets.
 ///
 /// ```
 /// use dns_text::Name;
@@ -25,9 +30,10 @@ use std::fmt;
 /// assert_eq!(name.to_string(), r"Action\.domains.ISI.EDU.");
 /// assert_eq!(name.without_dot(), r"Action\.domains.ISI.EDU");
 /// assert_eq!(name.zone_text(), r"Action\046domains.ISI.EDU.");
+/// assert_eq!(name, Name::from_text(br"action\.domains.isi.edu.")?);
 /// # Ok::<(), dns_text::NameError>(())
 /// ```
-#[derive(Clone, Debug, PartialEq, Eq, Hash)]
+#[derive(Clone, Debug)]
 pub struct Name {
     octets: Vec<u8>,
     is_absolute: bool,
@@ -140,6 +146,21 @@ fn ends_in_root(octets: &[u8]) -> bool {
     false
 }
 
+// A label's length is at most 63, and so no letter: lowered octets are the lowered labels.
+impl PartialEq for Name {
+    fn eq(&self, other: &Name) -> bool {
+        self.octets.eq_ignore_ascii_case(&other.octets)
+    }
+}
+
+impl Eq for Name {}
+
+impl Hash for Name {
+    fn hash<H: Hasher>(&self, state: &mut H) {
+        hash_lowered(&self.octets, state);
+    }
+}
+
 impl fmt::Display for Name {
     fn fmt(&self, f: &mut fmt::Formatter<'_>) -> fmt::Result {
         f.write_str(&self.printed(dns_name_print_dotted))
@@ -164,7 +185,7 @@ pub enum NameErrorKind {
     ShortInput = DNS_SHORT_INPUT,
     /// No UTF-8.
     BadUtf8 = DNS_BAD_UTF8,
-    /// A character that stands for no octet.
+    /// A plain character outside printable ASCII, which stands for no octet.
     BadSymbol = DNS_BAD_SYMBOL,
     /// More than 254 octets before the root.
     TooLong = DNS_TOO_LONG,

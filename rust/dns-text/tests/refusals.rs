@@ -31,6 +31,27 @@ fn character_strings() {
 }
 
 #[test]
+fn texts_of_octets() {
+    let read = |text: &[u8]| CharStr::from_octets_text(text).map(CharStr::into_octets);
+    assert_eq!(read(b"a\tb").unwrap(), b"a\tb");
+    assert_eq!(read(b"\x80\xC3\xFF").unwrap(), b"\x80\xC3\xFF");
+    assert_eq!(read(b"\\\t\\\xFF\\009\\\\").unwrap(), b"\t\xFF\t\\");
+    assert_eq!(read(&[0xFF; 255]).unwrap(), [0xFF; 255]);
+    assert_eq!(read(b"").unwrap(), b"");
+    let refused = |text: &[u8]| {
+        let error = CharStr::from_octets_text(text).unwrap_err();
+        (error.kind, error.place)
+    };
+    assert_eq!(refused(b"\xFF\\25x"), (ReadErrorKind::BadEscape, 1));
+    assert_eq!(refused(b"\xFF\\256"), (ReadErrorKind::BadEscape, 1));
+    assert_eq!(refused(b"ab\\25"), (ReadErrorKind::ShortInput, 2));
+    assert_eq!(refused(b"ab\\"), (ReadErrorKind::ShortInput, 2));
+    assert_eq!(refused(&[0xFF; 256]), (ReadErrorKind::TooLong, 255));
+    let error = CharStr::from_text(b"a\tb").unwrap_err();
+    assert_eq!(error.to_string(), "octet outside printable ASCII at 1");
+}
+
+#[test]
 fn names() {
     let refused = |text: &[u8]| {
         let error = Name::from_text(text).unwrap_err();

@@ -1,14 +1,16 @@
 //! The multiline layout.
-ghost use Rattle.std.specs.Prelude.{◌≡◌, ◌<◌, ℕ, List, [], ◌∷◌, false, IsOk, OnOk, IfSome, replicate};
+ghost use Rattle.std.specs.Prelude.{◌≡◌, ◌<◌, ℕ, List, [], ◌∷◌, false, IsOk, OnOk, OnErr, IfSome, replicate};
 ghost use Rattle.std.specs.Fmt.{WritesInCalls};
 ghost use Rattle.dns_symbol.specs.Characters.{space};
 ghost use Rattle.dns_zone.specs.Layout.{Step, begin, comment, is_shown, line_width};
-ghost use Rattle.dns_zone.specs.Multiline.{MultilineStands, MultilineStep, IndentFits, Counts, WritesLine, multiline_sink, multiline_blocks};
+ghost use Rattle.dns_zone.specs.Multiline.{MultilineStands, MultilineStep, IndentFits, MultilineFails, WritesLine, multiline_sink, multiline_blocks};
+ghost use Rattle.dns_zone.specs.Sinks.{greatest};
 ghost use Rattle.dns_zone.specs.Writers.{Steps};
 
+use crate::zonefile_fmt::sink::count_on;
 use crate::zonefile_fmt::{
-    CLOSE_PARENTHESIS, COMMENT_MARK, Error, FormatWriter, LINE_FEED, OPEN_PARENTHESIS, Result,
-    SPACE,
+    CLOSE_PARENTHESIS, COMMENT_MARK, Error, FormatWriter, LINE_FEED, Line, OPEN_PARENTHESIS,
+    Result, SPACE, Sink,
 };
 use std::fmt;
 use std::fmt::{Display, Write};
@@ -32,26 +34,6 @@ pub struct MultiLineWriter<W> {
     line: Line<W>,
 }
 
-/// A sink with the number of bytes on its line.
-#[derive(Drop)]
-struct Line<W> {
-    column: usize,
-    writer: W,
-}
-
-impl<W: fmt::Write> Write for Line<W> {
-    ghost write_str_gives = { Counts W.write_str_gives };
-
-    fn write_str(&mut self, s: &str) -> fmt::Result {
-        let Some(column) = self.column.checked_add(s.len()) else {
-            return Err(fmt::Error);
-        };
-        self.writer.write_str(s)?;
-        self.column = column;
-        Ok(())
-    }
-}
-
 impl<W> MultiLineWriter<W> {
     /// A writer that has printed nothing yet, over a sink.
     pub fn new(writer: W) -> MultiLineWriter<W>
@@ -62,7 +44,10 @@ impl<W> MultiLineWriter<W> {
             first: true,
             blocks: 0,
             block_indent: None,
-            line: Line { column: 0, writer },
+            line: Line {
+                column: Some(0),
+                writer,
+            },
         }
     }
 
@@ -70,7 +55,7 @@ impl<W> MultiLineWriter<W> {
     pub(crate) fn line_width(&self) -> usize
         ensures { (past : List Step) → MultilineStands self.now past → result ≡ line_width past }
     {
-        self.line.column
+        self.line.column.unwrap_or(0)
     }
 
     /// The sink.
@@ -85,7 +70,11 @@ impl<W: fmt::Write> Write for MultiLineWriter<W> {
     ghost write_str_gives = { WritesLine W.write_str_gives };
 
     fn write_str(&mut self, s: &str) -> fmt::Result {
-        self.line.write_str(s)
+        self.line.put_counted(s)?;
+        match self.line.column {
+            Some(_) => Ok(()),
+            None => Err(fmt::Error),
+        }
     }
 }
 
@@ -93,31 +82,38 @@ impl<W: fmt::Write> Write for MultiLineWriter<W> {
 const SPACES: &str = "                                                                ";
 
 // Writes that many spaces, a slice of them at a time.
-fn write_spaces<W: fmt::Write>(writer: &mut W, count: usize) -> fmt::Result
-    ensures { OnOk result (WritesInCalls W.write_str_gives writer.old (replicate count space) writer.new) }
+fn write_spaces<W: Sink>(writer: &mut W, count: usize) -> fmt::Result
+    ensures ok { OnOk result (WritesInCalls W.write_str_gives writer.old (replicate count space) writer.new) }
+    ensures err { OnErr result W.refused }
 {
     for _slice in 0..count / SPACES.len() {
-        writer.write_str(SPACES)?;
+        writer.put_str(SPACES)?;
     }
-    writer.write_str(&SPACES[..count % SPACES.len()])
+    writer.put_str(&SPACES[..count % SPACES.len()])
 }
 
-impl<W: fmt::Write> FormatWriter for MultiLineWriter<W> {
+impl<W: Sink> FormatWriter for MultiLineWriter<W> {
     ghost blocks = { multiline_blocks };
 
     ghost step_gives = { MultilineStep W.write_str_gives };
 
+    ghost step_fails = { MultilineFails W.refused greatest };
+
     fn fmt_token<T: Display + Drop>(&mut self, text: T) -> Result {
         if !self.first {
-            self.line.write_str(SPACE)?;
+            self.line.put_counted(SPACE)?;
         }
         self.first = false;
-        self.line.write(text)?;
-        Ok(())
+        W::put_on_line(&mut self.line, text)?;
+        match self.line.column {
+            Some(_) => Ok(()),
+            None => Err(Error),
+        }
     }
 
     fn begin_block(&mut self) -> Result
-        ensures step { OnOk result (Steps multiline_blocks (MultilineStep W.write_str_gives) self.old begin self.new) }
+        ensures gives { OnOk result (Steps multiline_blocks (MultilineStep W.write_str_gives) self.old begin self.new) }
+        ensures fails { OnErr result (MultilineFails W.refused greatest self.old begin) }
         ensures counted { OnOk result (multiline_blocks self.old < usize.MAX) }
         ensures indented { OnOk result (IndentFits usize.MAX self.old) }
     {
@@ -125,7 +121,7 @@ impl<W: fmt::Write> FormatWriter for MultiLineWriter<W> {
             return Err(Error);
         };
         self.fmt_token(OPEN_PARENTHESIS)?;
-        let Some(indent) = self.line.column.checked_add(1) else {
+        let Some(indent) = count_on(self.line.column, 1) else {
             return Err(Error);
         };
         self.block_indent = Some(indent);
@@ -143,24 +139,25 @@ impl<W: fmt::Write> FormatWriter for MultiLineWriter<W> {
     fn fmt_comment<T: Display + Drop>(&mut self, text: T) -> Result
         ensures blocks { OnOk result (multiline_blocks self.new ≡ multiline_blocks self.old) }
         ensures gives { OnOk result (IfSome (T.output text) (λ bs. MultilineStep W.write_str_gives self.old (comment bs) self.new)) }
+        ensures fails { OnErr result (IfSome (T.output text) (λ bs. MultilineFails W.refused greatest self.old (comment bs))) }
 
         // A comment that isn't shown touches no sink.
         ensures hidden { (past : List Step) → MultilineStands self.old past → is_shown past ≡ false → IsOk result }
     {
         if let Some(indent) = self.block_indent {
-            self.line.writer.write_str(COMMENT_MARK)?;
-            self.line.writer.write(text)?;
-            self.line.writer.write_str(LINE_FEED)?;
+            self.line.writer.put_str(COMMENT_MARK)?;
+            self.line.writer.put(text)?;
+            self.line.writer.put_str(LINE_FEED)?;
             write_spaces(&mut self.line.writer, indent)?;
-            self.line.column = indent;
+            self.line.column = Some(indent);
             self.first = true;
         }
         Ok(())
     }
 
     fn newline(&mut self) -> Result {
-        self.line.writer.write_str(LINE_FEED)?;
-        self.line.column = 0;
+        self.line.writer.put_str(LINE_FEED)?;
+        self.line.column = Some(0);
         self.first = true;
         Ok(())
     }

@@ -1,12 +1,12 @@
 //! The simple layout.
-ghost use Rattle.std.specs.Prelude.{◌≡◌, ◌<◌, ◌↔◌, ℕ, List, [], ◌∷◌, IsOk, OnOk, IfSome};
+ghost use Rattle.std.specs.Prelude.{◌≡◌, ◌<◌, ◌↔◌, ℕ, List, [], ◌∷◌, IsOk, OnOk, OnErr, IfSome};
 ghost use Rattle.dns_zone.specs.Layout.{begin, end, comment};
+ghost use Rattle.dns_zone.specs.Sinks.{greatest};
 ghost use Rattle.dns_zone.specs.Writers.{Steps};
-ghost use Rattle.dns_zone.specs.Simple.{SimpleStands, SimpleStep, simple_sink, simple_blocks};
+ghost use Rattle.dns_zone.specs.Simple.{SimpleStands, SimpleStep, SimpleFails, simple_sink, simple_blocks};
 
-use crate::zonefile_fmt::{Error, FormatWriter, LINE_FEED, Result, SPACE};
-use std::fmt;
-use std::fmt::{Display, Write};
+use crate::zonefile_fmt::{Error, FormatWriter, LINE_FEED, Result, SPACE, Sink};
+use std::fmt::Display;
 
 /// Prints each entry on one line, its tokens apart by a space. Block marks and comments print
 /// nothing.
@@ -40,22 +40,25 @@ impl<W> SimpleWriter<W> {
     }
 }
 
-impl<W: fmt::Write> FormatWriter for SimpleWriter<W> {
+impl<W: Sink> FormatWriter for SimpleWriter<W> {
     ghost blocks = { simple_blocks };
 
     ghost step_gives = { SimpleStep W.write_str_gives };
 
+    ghost step_fails = { SimpleFails W.refused greatest };
+
     fn fmt_token<T: Display + Drop>(&mut self, text: T) -> Result {
         if !self.first {
-            self.writer.write_str(SPACE)?;
+            self.writer.put_str(SPACE)?;
         }
         self.first = false;
-        self.writer.write(text)?;
+        self.writer.put(text)?;
         Ok(())
     }
 
     fn begin_block(&mut self) -> Result
-        ensures step { OnOk result (Steps simple_blocks (SimpleStep W.write_str_gives) self.old begin self.new) }
+        ensures gives { OnOk result (Steps simple_blocks (SimpleStep W.write_str_gives) self.old begin self.new) }
+        ensures fails { OnErr result (SimpleFails W.refused greatest self.old begin) }
         ensures counted { IsOk result ↔ (simple_blocks self.old < usize.MAX) }
     {
         match self.blocks.checked_add(1) {
@@ -70,7 +73,8 @@ impl<W: fmt::Write> FormatWriter for SimpleWriter<W> {
     fn end_block(&mut self) -> Result
         requires { 0 < simple_blocks self.old }
         ensures ok { IsOk result }
-        ensures step { OnOk result (Steps simple_blocks (SimpleStep W.write_str_gives) self.old end self.new) }
+        ensures gives { OnOk result (Steps simple_blocks (SimpleStep W.write_str_gives) self.old end self.new) }
+        ensures fails { OnErr result (SimpleFails W.refused greatest self.old end) }
     {
         self.blocks -= 1;
         Ok(())
@@ -80,13 +84,14 @@ impl<W: fmt::Write> FormatWriter for SimpleWriter<W> {
         ensures ok { IsOk result }
         ensures blocks { OnOk result (simple_blocks self.new ≡ simple_blocks self.old) }
         ensures gives { OnOk result (IfSome (T.output _text) (λ bs. SimpleStep W.write_str_gives self.old (comment bs) self.new)) }
+        ensures fails { OnErr result (IfSome (T.output _text) (λ bs. SimpleFails W.refused greatest self.old (comment bs))) }
     {
         // This layout shows no comments.
         Ok(())
     }
 
     fn newline(&mut self) -> Result {
-        self.writer.write_str(LINE_FEED)?;
+        self.writer.put_str(LINE_FEED)?;
         self.first = true;
         Ok(())
     }

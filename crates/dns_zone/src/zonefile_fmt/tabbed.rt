@@ -1,13 +1,13 @@
 //! The tabbed layout.
-ghost use Rattle.std.specs.Prelude.{◌≡◌, ◌<◌, ◌↔◌, ℕ, List, [], ◌∷◌, if◌then◌else◌, IsOk, OnOk, IfSome};
+ghost use Rattle.std.specs.Prelude.{◌≡◌, ◌<◌, ◌↔◌, ℕ, List, [], ◌∷◌, if◌then◌else◌, IsOk, OnOk, OnErr, IfSome};
 ghost use Rattle.dns_symbol.specs.Characters.{tab, space};
 ghost use Rattle.dns_zone.specs.Layout.{begin, end, comment};
+ghost use Rattle.dns_zone.specs.Sinks.{greatest};
 ghost use Rattle.dns_zone.specs.Writers.{Steps};
-ghost use Rattle.dns_zone.specs.Tabbed.{TabbedStands, TabbedStep, tabbed_sink, tabbed_blocks};
+ghost use Rattle.dns_zone.specs.Tabbed.{TabbedStands, TabbedStep, TabbedFails, tabbed_sink, tabbed_blocks};
 
-use crate::zonefile_fmt::{Error, FormatWriter, LINE_FEED, Result, SPACE, TAB};
-use std::fmt;
-use std::fmt::{Display, Write};
+use crate::zonefile_fmt::{Error, FormatWriter, LINE_FEED, Result, SPACE, Sink, TAB};
+use std::fmt::Display;
 
 /// Prints each entry on one line. Before each token but a line's first stands a tab outside blocks,
 /// a tab before the first token since the outermost open block opened, and a space otherwise.
@@ -52,24 +52,27 @@ fn gap(is_wide: bool) -> &'static str
     if is_wide { TAB } else { SPACE }
 }
 
-impl<W: fmt::Write> FormatWriter for TabbedWriter<W> {
+impl<W: Sink> FormatWriter for TabbedWriter<W> {
     ghost blocks = { tabbed_blocks };
 
     ghost step_gives = { TabbedStep W.write_str_gives };
 
+    ghost step_fails = { TabbedFails W.refused greatest };
+
     fn fmt_token<T: Display + Drop>(&mut self, text: T) -> Result {
         if !self.first {
             self.writer
-                .write_str(gap((self.blocks == 0) | self.first_block))?;
+                .put_str(gap((self.blocks == 0) | self.first_block))?;
         }
         self.first = false;
         self.first_block = false;
-        self.writer.write(text)?;
+        self.writer.put(text)?;
         Ok(())
     }
 
     fn begin_block(&mut self) -> Result
-        ensures step { OnOk result (Steps tabbed_blocks (TabbedStep W.write_str_gives) self.old begin self.new) }
+        ensures gives { OnOk result (Steps tabbed_blocks (TabbedStep W.write_str_gives) self.old begin self.new) }
+        ensures fails { OnErr result (TabbedFails W.refused greatest self.old begin) }
         ensures counted { IsOk result ↔ (tabbed_blocks self.old < usize.MAX) }
     {
         match self.blocks.checked_add(1) {
@@ -87,7 +90,8 @@ impl<W: fmt::Write> FormatWriter for TabbedWriter<W> {
     fn end_block(&mut self) -> Result
         requires { 0 < tabbed_blocks self.old }
         ensures ok { IsOk result }
-        ensures step { OnOk result (Steps tabbed_blocks (TabbedStep W.write_str_gives) self.old end self.new) }
+        ensures gives { OnOk result (Steps tabbed_blocks (TabbedStep W.write_str_gives) self.old end self.new) }
+        ensures fails { OnErr result (TabbedFails W.refused greatest self.old end) }
     {
         self.blocks -= 1;
         Ok(())
@@ -97,13 +101,14 @@ impl<W: fmt::Write> FormatWriter for TabbedWriter<W> {
         ensures ok { IsOk result }
         ensures blocks { OnOk result (tabbed_blocks self.new ≡ tabbed_blocks self.old) }
         ensures gives { OnOk result (IfSome (T.output _text) (λ bs. TabbedStep W.write_str_gives self.old (comment bs) self.new)) }
+        ensures fails { OnErr result (IfSome (T.output _text) (λ bs. TabbedFails W.refused greatest self.old (comment bs))) }
     {
         // This layout shows no comments.
         Ok(())
     }
 
     fn newline(&mut self) -> Result {
-        self.writer.write_str(LINE_FEED)?;
+        self.writer.put_str(LINE_FEED)?;
         self.first = true;
         Ok(())
     }

@@ -225,6 +225,20 @@ fn converts_names(rt: HostRuntime) {
     holds(&rt, name.try_into_relative().is_err(), "not relative");
 }
 
+// A name is given as what it is; as the other it is given back.
+#[test]
+fn gives_names_by_their_end(rt: HostRuntime) {
+    let alloc = rt.alloc();
+    let name = name_of(&rt, alloc, "www.example.");
+    let name = name.try_into_relative().expect_err(&rt, "absolute");
+    octets_are(&rt, name.as_slice(), b"\x03www\x07example\x00");
+    let name = name.try_into_absolute().expect(&rt, "absolute");
+    octets_are(&rt, name.as_slice(), b"\x03www\x07example\x00");
+    let name = name_of(&rt, alloc, "www.example");
+    let name = name.try_into_relative().expect(&rt, "relative");
+    octets_are(&rt, name.as_slice(), b"\x03www\x07example");
+}
+
 #[test]
 fn clones_names(rt: HostRuntime) {
     let name = name_of(&rt, rt.alloc(), "www.example");

@@ -90,6 +90,8 @@ impl<N: ToName + Drop, E: ScannerError> Scanner for Names<N, E> {
 
     ghost space_ends = { λ _ _ _ _. refl };
 
+    ghost space_stays = { λ _ _ _. refl };
+
     fn has_space(&self) -> bool {
         false
     }

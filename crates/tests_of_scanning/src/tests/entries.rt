@@ -1,6 +1,7 @@
 //! The entries of zone text.
 use super::*;
 use dns_iter::entry::{EntryScanner, TokenText, entry_at, entry_scanner};
+use dns_scan::expect_end;
 use dns_split::splitting::split;
 
 // These character strings are read, and nothing else.
@@ -49,24 +50,56 @@ fn escapes_and_long_texts_are_read(rt: HostRuntime) {
     text_is_read(&rt, alloc, text.as_str(), &strings);
 }
 
+// Calls that take no token leave white space as it stands.
+fn space_is_left<'a, T: TokenText>(
+    rt: &impl Abort,
+    scanner: &mut EntryScanner<'a, T, Vec<u8>>,
+    spaced: bool,
+)
+    requires { ⟦<EntryScanner<'a, T, Vec<u8>> as Scanner>⟧.can_scan scanner.old }
+    ensures { ⟦<EntryScanner<'a, T, Vec<u8>> as Scanner>⟧.can_scan scanner.new }
+{
+    answers(rt, scanner.has_space(), spaced);
+    value_is(rt, scanner.scan_opt_unknown_marker(), Ok(false));
+    answers(rt, scanner.has_space(), spaced);
+    answers(rt, scanner.continues(), true);
+    answers(rt, scanner.has_space(), spaced);
+    value_is(rt, expect_end(scanner), Err("trailing data"));
+    answers(rt, scanner.has_space(), spaced);
+    answers(rt, scanner.scan_svcb_octets().is_err(), true);
+    answers(rt, scanner.has_space(), spaced);
+    octets_are(rt, scanner.octets_builder(), Ok(b""));
+    answers(rt, scanner.has_space(), spaced);
+}
+
 #[test]
 fn space_stands_before_the_first_token(rt: HostRuntime) {
-    let tokens = ["\"b c\"", "1"];
+    let tokens = ["4", "\"b c\""];
     let mut scanner: EntryScanner<'_, _, Vec<u8>> = entry_scanner(rt.alloc(), &tokens, true);
-    answers(&rt, scanner.has_space(), true);
-    answers(&rt, scanner.continues(), true);
-    answers(&rt, scanner.has_space(), true);
+    space_is_left(&rt, &mut scanner, true);
+    octets_are(&rt, scanner.scan_octets(), Ok(b"4"));
+    space_is_left(&rt, &mut scanner, false);
     octets_are(&rt, scanner.scan_octets(), Ok(b"b c"));
-    answers(&rt, scanner.has_space(), false);
-    octets_are(&rt, scanner.scan_octets(), Ok(b"1"));
     answers(&rt, scanner.has_space(), false);
 }
 
 #[test]
 fn no_space_stands_before_an_entry_without_it(rt: HostRuntime) {
-    let tokens = ["\"b c\"", "1"];
-    let scanner: EntryScanner<'_, _, Vec<u8>> = entry_scanner(rt.alloc(), &tokens, false);
-    answers(&rt, scanner.has_space(), false);
+    let tokens = ["4", "\"b c\""];
+    let mut scanner: EntryScanner<'_, _, Vec<u8>> = entry_scanner(rt.alloc(), &tokens, false);
+    space_is_left(&rt, &mut scanner, false);
+}
+
+// White space stands before an entry without tokens until one is taken, which none is.
+#[test]
+fn space_stands_in_an_empty_entry(rt: HostRuntime) {
+    let tokens: [&str; 0] = [];
+    let mut scanner: EntryScanner<'_, _, Vec<u8>> = entry_scanner(rt.alloc(), &tokens, true);
+    value_is(&rt, scanner.scan_opt_unknown_marker(), Ok(false));
+    octets_are(&rt, scanner.scan_octets(), Err("unexpected end of entry"));
+    octets_are(&rt, scanner.scan_charstr_entry(), Ok(b""));
+    value_is(&rt, expect_end(&mut scanner), Ok(()));
+    answers(&rt, scanner.has_space(), true);
 }
 
 // The entry of that number is read as these character strings, and nothing else.

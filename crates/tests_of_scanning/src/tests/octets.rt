@@ -3,6 +3,7 @@ ghost use Rattle.std.specs.Prelude.{[], ◌∷◌, ⊤};
 
 use super::*;
 use dns_octets::Str;
+use dns_symbol::symbols::Symbols;
 use std::cell::Cell;
 
 // This text was scanned, or the refusal has that text.
@@ -52,6 +53,16 @@ fn texts_are_read_or_refused(rt: HostRuntime) {
     for &(token, octets, text, ascii) in &TEXT_ROWS {
         texts_are(&rt, token, rt.alloc(), octets, text, ascii);
     }
+}
+
+#[test]
+fn long_tokens_are_read(rt: HostRuntime) {
+    let alloc = rt.alloc();
+    let word = "a".repeat(alloc, 150_000).expect(&rt, "memory");
+    let tokens = [word.as_str(), word.as_str()];
+    let mut scanner = scanner_of(alloc, &tokens);
+    octets_are(&rt, scanner.scan_octets(), Ok(word.as_bytes()));
+    text_is(&rt, scanner.scan_string(), Ok(word.as_str()));
 }
 
 #[test]
@@ -172,6 +183,49 @@ fn entries_are_converted(rt: HostRuntime) {
     entry_by(&rt, alloc, &[], base64::SymbolConverter::new(), Ok(b""));
     let base_64 = base64::SymbolConverter::new();
     token_by(&rt, alloc, "Zg", base_64, Err("incomplete Base 64 data"));
+}
+
+// A step lends what it is made of, or refuses it.
+fn lends(
+    rt: &impl Abort,
+    answer: Result<Option<&[u8]>, StrError>,
+    made: Result<(), StrError>,
+    octets: &[u8],
+) {
+    let same = match (answer, made) {
+        (Ok(lent), Ok(())) => lent.unwrap_or_default() == octets,
+        (Err(error), Err(wanted)) => error.as_str() == wanted.as_str(),
+        _ => false,
+    };
+    assert!(rt; same);
+}
+
+// Steps that lend go on, after a refusal too, as steps go on whose octets are asked for apart.
+fn steps_are_alike<C: ConvertSymbols<Symbol, StrError> + Default>(rt: &impl Abort, text: &str) {
+    let mut lending = C::default();
+    let mut apart = C::default();
+    let mut symbols = Symbols::new(text.chars());
+    for symbol in &mut symbols {
+        let made = apart.take_symbol(symbol);
+        lends(rt, lending.process_symbol(symbol), made, apart.lent());
+    }
+    for _turn in 0..2 {
+        let made = apart.take_tail();
+        lends(rt, lending.process_tail(), made, apart.lent());
+    }
+}
+
+#[test]
+fn lending_steps_go_on_after_a_refusal(rt: HostRuntime) {
+    for &text in &["F0x0F", "xF", "F"] {
+        steps_are_alike::<base16::SymbolConverter>(&rt, text);
+    }
+    for &text in &["CPNMUOJ1!CP", "C!PN", "CPNMU"] {
+        steps_are_alike::<base32::SymbolConverter>(&rt, text);
+    }
+    for &text in &["Zm9v*Zg==", "Zg=aA", "Zg==a", "Zg"] {
+        steps_are_alike::<base64::SymbolConverter>(&rt, text);
+    }
 }
 
 // A converter that counts what it is asked, makes an octet each time, and refuses one symbol.

@@ -1,9 +1,10 @@
 use Rattle.std.proofs.Common.{ℕ, List}
 use Rattle.dns_scan.specs.Octets.{GivesWhere}
 use Rattle.dns_scan.proofs.Whole.{of_first}
-use Rattle.dns_program.specs.Codecs.{IsEncoding, codec_of}
-use Rattle.dns_program.proofs.Converting.{base_answer}
+use Rattle.dns_entry.specs.Codecs.{IsEncoding, codec_of}
+use Rattle.dns_entry.proofs.Converting.{base_answer}
 use Rattle.dns_laws.proofs.Converted.{base_text, base_only}
+use Rattle.dns_laws.proofs.GrammarOnce.{by_grammar}
 use Rattle.dns_laws.proofs.Spelled.{gives_value, gives_only, base_encoding, base_same, base_needs}
 use Rattle.dns_laws.proofs.encodings.encoding_is_scanned_back.Goals as goal
 
@@ -21,7 +22,7 @@ returns-clause-takes g c = λ token others stands.
       record {
         whole = whole;
         back = λ octets all at. whole octets (rw at (base_encoding g.K.Encoding.base g.met.K.Encoding.known octets all));
-        answer = answer;
+        answer = by_grammar g.K.Encoding.base g.met.K.Encoding.known g.S.Error.ScannerError.cause g.S.Octets.AsOctets.octets g.S.OctetsBuilder.OctetsBuilder.room token c.convert_token.result answer;
         only = gives_only (codec_of g.K.Encoding.base) (base_same g.K.Encoding.base) (base_needs g.K.Encoding.base) g.K.Encoding.base
             (base_text g.K.Encoding.base g.met.K.Encoding.known) (base_only g.K.Encoding.base g.met.K.Encoding.known)
             g.S.Error.ScannerError.cause g.S.Octets.AsOctets.octets g.S.OctetsBuilder.OctetsBuilder.room

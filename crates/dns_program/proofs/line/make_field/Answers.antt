@@ -9,7 +9,7 @@ use Rattle.dns_scan.specs.Numbers.{greatest}
 use Rattle.dns_scan.proofs.Whole.{of_first}
 use Rattle.dns_program.specs.EntryLine.{Holds, NoField}
 use Rattle.dns_scan.specs.StrError.{str_cause}
-use Rattle.dns_program.proofs.Converting.{base_answer}
+use Rattle.dns_entry.proofs.Converting.{base_answer}
 use Rattle.dns_program.proofs.Fielding.{number_held, text_held, octets_stop}
 use Rattle.dns_program.proofs.Printing.{number_refused, charstr_stops}
 use Rattle.dns_iter.proofs.Roads.{texts_from}

@@ -2,7 +2,7 @@ use Rattle.std.proofs.Common.{rules, []}
 use Rattle.std.proofs.lemmas.List.{drop_more}
 use Rattle.dns_entry.specs.Field.{contents_of}
 use Rattle.dns_scan.specs.StrError.{str_cause}
-use Rattle.dns_program.specs.declared.program.FieldKind.TheVariants.{Number}
+use Rattle.dns_entry.specs.declared.entry.FieldKind.TheVariants.{Number}
 use Rattle.dns_program.specs.declared.line.FieldWord.{FieldWord}
 use Rattle.dns_program.proofs.Fielding.{fields_more, fields_stop, fields_all}
 use Rattle.dns_program.proofs.Printing.{drop_all}

@@ -1,6 +1,6 @@
 use Rattle.std.proofs.Common.{refl}
 use Rattle.dns_scan.proofs.Whole.{of_first}
-use Rattle.dns_program.proofs.Converting.{converted_value, converted_refusal}
+use Rattle.dns_entry.proofs.Converting.{converted_value, converted_refusal}
 use Rattle.dns_program.proofs.program.print_octets.Goals as goal
 
 pub returns-in-Err-clause-line : goal.returns-in-Err-clause-line

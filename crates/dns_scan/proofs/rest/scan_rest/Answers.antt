@@ -1,10 +1,10 @@
-use Rattle.std.proofs.Common.{◌≡◌, ◌+◌, [], ◌∷◌, length, refl, sym, ap, ◌∙◌, arith, subst, inl, inr}
+use Rattle.std.proofs.Common.{◌≡◌, ◌+◌, [], ◌∷◌, length, refl, sym, ap, ◌∙◌, arith, subst, inl, inr, Ok}
 use Rattle.std.proofs.lemmas.Result.{err_from_is_err_and}
 use Rattle.std.proofs.lemmas.List.{length-append}
 use Rattle.std.specs.Prelude.{◌≢◌}
 use Rattle.dns_scan.specs.Reads.{ReadsSome}
 use Rattle.dns_scan.specs.Stands.{HasTokens}
-use Rattle.dns_scan.proofs.TokensLeft.{peeked_some, peeked_none, some_more, ends_with_one}
+use Rattle.dns_scan.proofs.TokensLeft.{peeked_some, peeked_none, some_more, ends_with_one, none_refused, rest_of_none}
 use Rattle.dns_scan.proofs.rest.scan_rest.Goals as goal
 
 pub returns-then-not-continues-clause-reads : goal.returns-then-not-continues-clause-reads
@@ -50,3 +50,19 @@ returns-clause-reads g c = λ tokens stands.
     let at = c.loop-turn.invariant.reads tokens stands in
     let some : c.loop-turn.values.items ≢ [] = λ none. let z : c.loop-turn._turn ≡ 0 = sym c.loop-turn.invariant.counted ∙ ap length none in omega arith in
     (at.0, (c.loop-turn.values.items, at.0, at.1, inr (some, c.short_buf-2.ensures, refl)), at.2)
+
+pub returns-then-not-continues-clause-none : goal.returns-then-not-continues-clause-none
+returns-then-not-continues-clause-none g c = λ stands.
+    let read = returns-then-not-continues-clause-reads g c [] stands in
+    rest_of_none g.T.Scan.scan_reads g.S.Error.ScannerError.cause (Ok c.loop-turn.values) read.0 read.1
+
+pub returns-in-Err-clause-none : goal.returns-in-Err-clause-none
+returns-in-Err-clause-none g c = λ stands. let read = returns-in-Err-clause-reads g c [] stands in none_refused g.T.Scan.scan_reads _ read.0 read.1
+
+pub returns-in_err-scan-clause-none : goal.returns-in_err-scan-clause-none
+returns-in_err-scan-clause-none g c = λ stands.
+    let read = returns-in_err-scan-clause-reads g c [] stands in
+    rest_of_none g.T.Scan.scan_reads g.S.Error.ScannerError.cause c.from_residual.result read.0 read.1
+
+pub returns-clause-none : goal.returns-clause-none
+returns-clause-none g c = λ stands. let read = returns-clause-reads g c [] stands in none_refused g.T.Scan.scan_reads _ read.0 read.1

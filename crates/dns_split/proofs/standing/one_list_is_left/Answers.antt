@@ -1,4 +1,5 @@
-use Rattle.dns_split.proofs.Standings.{ahead, left_ahead, left_once, left_within}
+use Rattle.dns_split.specs.Standing.{ahead}
+use Rattle.dns_split.proofs.Standings.{left_ahead, left_once, left_within}
 use Rattle.dns_split.proofs.standing.one_list_is_left.Goals as goal
 
 pub returns-clause-one : goal.returns-clause-one

@@ -19,4 +19,4 @@ loop-value-preserved g c =
     let h : c.loop-value.value-index < length c.args.values.now = omega arith in
     rw (lines_more g.T.ZonefileFmt.document c.args.values.now c.loop-value.value-index c.value-item.result h)
     (rw (sym c.value-item.is)
-    (runs_append _ _ _ _ _ _ _ c.loop-value.invariant (runs_then_step _ _ _ _ _ newline _ c.in_ok-write_show.ensures c.in_ok-newline.ensures refl)))
+    (runs_append _ _ _ _ _ _ _ c.loop-value.invariant (runs_then_step _ _ _ _ _ newline _ c.in_ok-write_show.ensures c.in_ok-newline.ensures.gives refl)))

@@ -3,7 +3,9 @@ use Rattle.std.specs.Prelude.{Ok, Err}
 use Rattle.dns_split.specs.declared.pieces.Piece.TheVariants.{End as EndAt}
 use Rattle.dns_split.specs.Pieces.{IsGiven}
 use Rattle.dns_split.proofs.OctetsOnce.{are_octets}
-use Rattle.dns_zonetext.proofs.Passing.{none_walked, walked_end, walked_on, last_on, cut_or_none, cut_before, fault_passed, before_on, before_end}
+use Rattle.dns_zonetext.proofs.Beginnings.{fault_viable, given_viable}
+use Rattle.dns_zonetext.proofs.Cuts.{fault_alone}
+use Rattle.dns_zonetext.proofs.Passing.{all_passed, none_walked, walked_end, walked_on, last_on, cut_or_none, cut_before, fault_passed, before_on, before_end}
 use Rattle.dns_zonetext.proofs.blocks.settled.Goals as goal
 
 pub loop-piece-init : goal.loop-piece-init
@@ -38,6 +40,15 @@ returns-then-needs_more-clause-settled c =
     let some : 0 < length c.loop-piece.piece-iterator = subst (λ l. 0 < length l) (sym now) (omega arith) in
     cut_or_none c.args.octets.now given c.loop-piece.piece-iterator c.loop-piece.last all some c.loop-piece.invariant.walked.1
 
+pub returns-then-needs_more-clause-viable : goal.returns-then-needs_more-clause-viable
+returns-then-needs_more-clause-viable c =
+    let given = c.into_iter-piece-iterator.result in
+    let all = subst (IsGiven c.args.octets.now) (sym c.into_iter-piece-iterator.ensures.into_iter_gives) (c.of_octets-piece-items.ensures.reads, c.of_octets-piece-items.ensures.within) in
+    let now : c.loop-piece.piece-iterator ≡ Err c.in-Err.fault ∷ c.next.new.self = c.in-Some.ensures.steps ∙ ap (λ x. x ∷ c.next.new.self) c.in-Err.is in
+    let walked = c.loop-piece.invariant.walked.0 in
+    let bad = fault_alone c.args.octets.now walked.found c.in-Err.fault (fault_passed c.args.octets.now given c.next.new.self c.loop-piece.piece-iterator c.in-Err.fault all now walked) in
+    fault_viable c.args.octets.now c.in-Err.fault bad (c.needs_more.ensures.place.0 c.if-needs_more.true)
+
 pub returns-else-needs_more-clause-settled : goal.returns-else-needs_more-clause-settled
 returns-else-needs_more-clause-settled c =
     let given = c.into_iter-piece-iterator.result in
@@ -54,6 +65,13 @@ returns-clause-settled c =
     let given = c.into_iter-piece-iterator.result in
     let all = subst (IsGiven c.args.octets.now) (sym c.into_iter-piece-iterator.ensures.into_iter_gives) (c.of_octets-piece-items.ensures.reads, c.of_octets-piece-items.ensures.within) in
     cut_before c.args.octets.now given c.loop-piece.piece-iterator c.loop-piece.before all c.loop-piece.invariant.before
+
+pub returns-clause-viable : goal.returns-clause-viable
+returns-clause-viable c =
+    let given = c.into_iter-piece-iterator.result in
+    let all = subst (IsGiven c.args.octets.now) (sym c.into_iter-piece-iterator.ensures.into_iter_gives) (c.of_octets-piece-items.ensures.reads, c.of_octets-piece-items.ensures.within) in
+    let walked = c.loop-piece.invariant.walked.0 in
+    given_viable c.args.octets.now walked.found (all_passed c.args.octets.now given c.loop-piece.piece-iterator all c.in-None.ensures.steps.0 walked)
 
 pub returns-then-needs_more-clause-octets : goal.returns-then-needs_more-clause-octets
 returns-then-needs_more-clause-octets c = are_octets c.args.octets.now (λ k. (c.type_inv.octets k).fits)

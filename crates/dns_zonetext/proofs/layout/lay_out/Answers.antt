@@ -1,8 +1,9 @@
 use Rattle.std.proofs.Common.{List, ◌≡◌, ◌++◌, ◌∷◌, [], refl, sym, ap, ◌∙◌, append-nil}
 use Rattle.std.specs.Prelude.{Some, None, Ok, Err}
+use Rattle.std.specs.Option.{is_some}
 use Rattle.dns_split.specs.declared.pieces.Piece.{Piece}
 use Rattle.dns_split.specs.declared.pieces.Piece.TheVariants.{Word as WordAt, Quote as QuoteAt}
-use Rattle.dns_zonetext.specs.Entries.{Token, parts}
+use Rattle.dns_zonetext.specs.Entries.{Token, begins_glued, parts, parts_after}
 use Rattle.dns_zonetext.proofs.Givens.{first_fault, pieces_in, whole_of, fault_of}
 use Rattle.dns_zonetext.proofs.Lines.{left, left_none, token_turn, octets_close}
 use Rattle.dns_zonetext.proofs.layout.lay_out.Goals as goal
@@ -21,10 +22,11 @@ loop-piece-preserved-in-Ok-Word g c =
     let at = c.in-Ok-Word.span in
     let rest = c.next.new.self in
     let now : c.loop-piece.pieces ≡ Ok (WordAt at) ∷ rest = c.in-Some.ensures.steps ∙ ap (λ x. x ∷ rest) c.in-Ok-Word.is ∙ ap (λ x. Ok x ∷ rest) (rw c.in-Ok-Word.is at c.in-Ok-Word.field-0-is) in
-    let shown = λ (ps : List Piece). ap (λ t. Token t ∷ parts c.args.octets.now ps) (sym c.of_octets-word.ensures) in
+    let glued = begins_glued c.loop-piece.ended at.start in
+    let shown = λ (ps : List Piece). ap (λ t. Token glued t ∷ parts_after c.args.octets.now (Some at.end) ps) (sym c.of_octets-word.ensures) in
     let turn =
-    token_turn c.args.gap c.args.octets.now _ c.loop-piece.out.items _ _ c.loop-piece.owes_feed c.loop-piece.inside _ (WordAt at) c.of_octets-pieces.result _ rest
-    now shown refl inv.fault inv.within inv.closed inv.out c.begins_blank-leads.ensures c.in_ok-push_token-in-Ok-Word.ensures in
+    token_turn c.args.gap c.args.octets.now _ c.loop-piece.out.items _ _ c.loop-piece.owes_feed glued _ _ c.loop-piece.ended (Some at.end) (WordAt at) c.of_octets-pieces.result _ rest
+    now shown refl inv.fault inv.within inv.closed inv.out c.begins_blank-leads.ensures c.owes_gap-apart.ensures c.in_ok-push_token-in-Ok-Word.ensures in
     record { fault = turn.0; within = turn.1; closed = turn.2; out = turn.3 }
 
 pub loop-piece-preserved-in-Ok-Quote : goal.loop-piece-preserved-in-Ok-Quote
@@ -33,10 +35,11 @@ loop-piece-preserved-in-Ok-Quote g c =
     let at = c.in-Ok-Quote.span in
     let rest = c.next.new.self in
     let now : c.loop-piece.pieces ≡ Ok (QuoteAt at) ∷ rest = c.in-Some.ensures.steps ∙ ap (λ x. x ∷ rest) c.in-Ok-Quote.is ∙ ap (λ x. Ok x ∷ rest) (rw c.in-Ok-Quote.is at c.in-Ok-Quote.field-0-is) in
-    let shown = λ (ps : List Piece). ap (λ t. Token t ∷ parts c.args.octets.now ps) (sym c.of_octets-quote.ensures) in
+    let glued = begins_glued c.loop-piece.ended at.start in
+    let shown = λ (ps : List Piece). ap (λ t. Token glued t ∷ parts_after c.args.octets.now (Some at.end) ps) (sym c.of_octets-quote.ensures) in
     let turn =
-    token_turn c.args.gap c.args.octets.now _ c.loop-piece.out.items _ _ c.loop-piece.owes_feed c.loop-piece.inside _ (QuoteAt at) c.of_octets-pieces.result _ rest
-    now shown refl inv.fault inv.within inv.closed inv.out c.begins_blank-begins.ensures c.in_ok-push_token-in-Ok-Quote.ensures in
+    token_turn c.args.gap c.args.octets.now _ c.loop-piece.out.items _ _ c.loop-piece.owes_feed glued _ _ c.loop-piece.ended (Some at.end) (QuoteAt at) c.of_octets-pieces.result _ rest
+    now shown refl inv.fault inv.within inv.closed inv.out c.begins_blank-begins.ensures c.owes_gap-apart-in-Ok-Quote.ensures c.in_ok-push_token-in-Ok-Quote.ensures in
     record { fault = turn.0; within = turn.1; closed = turn.2; out = turn.3 }
 
 pub locate-requires-clause-fault : goal.locate-requires-clause-fault
@@ -54,8 +57,8 @@ returns-clause-lines g c =
     let given = c.of_octets-pieces.result in
     let over : c.loop-piece.pieces ≡ [] = c.in_default.ensures.steps.0 in
     let none : first_fault given ≡ None = sym inv.fault ∙ ap first_fault over in
-    let nothing : left c.args.gap c.loop-piece.owes_feed c.loop-piece.inside (parts octets (pieces_in c.loop-piece.pieces)) ≡ [] =
-    ap (λ l. left c.args.gap c.loop-piece.owes_feed c.loop-piece.inside (parts octets (pieces_in l))) over ∙ left_none c.args.gap c.loop-piece.owes_feed c.loop-piece.inside in (
+    let nothing : left c.args.gap c.loop-piece.owes_feed (is_some c.loop-piece.ended) (parts_after octets c.loop-piece.ended (pieces_in c.loop-piece.pieces)) ≡ [] =
+    ap (λ l. left c.args.gap c.loop-piece.owes_feed (is_some c.loop-piece.ended) (parts_after octets c.loop-piece.ended (pieces_in l))) over ∙ left_none c.args.gap c.loop-piece.owes_feed (is_some c.loop-piece.ended) in (
       parts octets (pieces_in given),
       (pieces_in given, whole_of octets given c.of_octets-pieces.ensures.reads none, refl),
       sym (append-nil c.loop-piece.out.items) ∙ ap (λ l. c.loop-piece.out.items ++ l) (sym nothing) ∙ inv.out none,

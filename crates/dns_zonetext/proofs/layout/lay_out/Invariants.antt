@@ -1,8 +1,9 @@
 use Rattle.std.proofs.Common.{◌≡◌, ◌++◌, length, true, false, not}
 use Rattle.std.specs.Prelude.{None}
+use Rattle.std.specs.Option.{is_some}
 use Rattle.dns_split.proofs.PieceSplit.{closes}
 use Rattle.dns_split.specs.Pieces.{EachWithin}
-use Rattle.dns_zonetext.specs.Entries.{parts}
+use Rattle.dns_zonetext.specs.Entries.{parts, parts_after}
 use Rattle.dns_zonetext.specs.Layout.{laid_out}
 use Rattle.dns_zonetext.proofs.Givens.{first_fault, pieces_in}
 use Rattle.dns_zonetext.proofs.Lines.{left}
@@ -12,8 +13,8 @@ abbrev pub invariant-loop-piece : goal.invariant-loop-piece
 invariant-loop-piece g l = record {
   fault : first_fault l.pieces ≡ first_fault l.initial.pieces;
   within : EachWithin (length l.octets) l.pieces;
-  closed : closes (not l.inside) l.pieces ≡ true;
-  out : first_fault l.initial.pieces ≡ None → l.out.items ++ left l.gap l.owes_feed l.inside (parts l.octets (pieces_in l.pieces)) ≡ l.initial.out.items ++ laid_out l.gap false
+  closed : closes (not (is_some l.ended)) l.pieces ≡ true;
+  out : first_fault l.initial.pieces ≡ None → l.out.items ++ left l.gap l.owes_feed (is_some l.ended) (parts_after l.octets l.ended (pieces_in l.pieces)) ≡ l.initial.out.items ++ laid_out l.gap false
       (parts l.octets (pieces_in l.initial.pieces));
 }
 

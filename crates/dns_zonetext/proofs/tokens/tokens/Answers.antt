@@ -1,8 +1,7 @@
 use Rattle.std.proofs.Common.{◌≡◌, ◌++◌, ◌∷◌, [], length, refl, sym, ap, ◌∙◌, subst, arith, append-nil}
 use Rattle.std.specs.Prelude.{Some, None, Err}
-use Rattle.std.specs.List.{flat_map}
 use Rattle.dns_split.specs.Pieces.{ReadsOctets, EachWithin, IsGiven}
-use Rattle.dns_zonetext.specs.Tokens.{row_of}
+use Rattle.dns_zonetext.specs.Tokens.{rows_after}
 use Rattle.dns_zonetext.proofs.Givens.{first_fault, pieces_in, whole_of, fault_of}
 use Rattle.dns_zonetext.proofs.Order.{InOrder, in_order}
 use Rattle.dns_zonetext.proofs.tokens.tokens.Goals as goal
@@ -37,8 +36,8 @@ returns-in-Err-clause-rows g c =
     let inv = c.loop-piece.invariant in
     let now : c.loop-piece.piece-iterator ≡ Err c.in-Err.fault ∷ c.next.new.self = c.in-Some.ensures.steps ∙ ap (λ x. x ∷ c.next.new.self) c.in-Err.is in
     let over : c.next.new.self ≡ [] = subst (InOrder c.loop-piece.place.at) now inv.order in
-    let left : flat_map (row_of octets c.args.lines_before c.args.form) c.loop-piece.piece-iterator ≡ [] =
-    ap (flat_map (row_of octets c.args.lines_before c.args.form)) (now ∙ ap (λ l. Err c.in-Err.fault ∷ l) over) in (
+    let left : rows_after octets c.args.lines_before c.args.form c.loop-piece.ended c.loop-piece.piece-iterator ≡ [] =
+    ap (rows_after octets c.args.lines_before c.args.form c.loop-piece.ended) (now ∙ ap (λ l. Err c.in-Err.fault ∷ l) over) in (
       c.into_iter-piece-iterator.result,
       subst (IsGiven octets) (sym same) (c.of_octets-piece-items.ensures.reads, c.of_octets-piece-items.ensures.within),
       sym (append-nil c.loop-piece.out.items) ∙ ap (λ l. c.loop-piece.out.items ++ l) (sym left) ∙ inv.rows,

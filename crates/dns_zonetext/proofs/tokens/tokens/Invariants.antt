@@ -1,8 +1,8 @@
 use Rattle.std.proofs.Common.{◌≡◌, ◌++◌, length}
-use Rattle.std.specs.List.{flat_map}
+use Rattle.std.specs.Prelude.{None}
 use Rattle.dns_split.specs.Pieces.{EachWithin}
 use Rattle.dns_zonetext.specs.Place.{Stands}
-use Rattle.dns_zonetext.specs.Tokens.{row_of}
+use Rattle.dns_zonetext.specs.Tokens.{rows_after}
 use Rattle.dns_zonetext.proofs.Givens.{first_fault}
 use Rattle.dns_zonetext.proofs.Order.{InOrder}
 use Rattle.dns_zonetext.proofs.tokens.tokens.Given as goal
@@ -13,5 +13,5 @@ invariant-loop-piece g l = record {
   within : EachWithin (length l.octets) l.piece-iterator;
   order : InOrder l.place.at l.piece-iterator;
   place : Stands l.octets l.lines_before l.place;
-  rows : l.out.items ++ flat_map (row_of l.octets l.lines_before l.form) l.piece-iterator ≡ l.initial.out.items ++ flat_map (row_of l.octets l.lines_before l.form) l.initial.piece-iterator;
+  rows : l.out.items ++ rows_after l.octets l.lines_before l.form l.ended l.piece-iterator ≡ l.initial.out.items ++ rows_after l.octets l.lines_before l.form None l.initial.piece-iterator;
 }

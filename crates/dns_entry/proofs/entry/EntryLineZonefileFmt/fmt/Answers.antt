@@ -15,6 +15,6 @@ pub returns : goal.returns
 returns g c =
     let items : contents_of c.deref-field-items.result.now ≡ c.args.self.now = search rules in
     on_ok_weaker c.end_block.result
-    (runs_block _ _ _ _ _ _ _ c.in_ok-begin_block.ensures
+    (runs_block _ _ _ _ _ _ _ c.in_ok-begin_block.ensures.gives
     (in_line_all _ _ _ c.args.self.now c.deref-field-items.result.now c.loop-field.field-index _ items c.loop-field-test.false c.loop-field.invariant))
-    c.end_block.ensures
+    c.end_block.ensures.gives

@@ -1,9 +1,9 @@
-use Rattle.std.proofs.Common.{◌≡◌, ◌+◌, ◌*◌, ◌/◌, ◌%◌, ◌-◌, ◌<◌, ◌≤◌, ℕ, ◌++◌, refl, ◌∙◌, ap, arith, replicate, Result, Ok, Err}
-use Rattle.std.specs.Prelude.{IsOk, OnOk}
+use Rattle.std.proofs.Common.{◌≡◌, ◌+◌, ◌*◌, ◌/◌, ◌%◌, ◌-◌, ◌<◌, ◌≤◌, ℕ, ◌++◌, ◌∙◌, ap, arith, replicate}
 use Rattle.std.specs.List.{slice_range}
 use Rattle.std.specs.Str.{IsAscii, IsCharBoundary}
 use Rattle.std.proofs.Output.{writes_in_calls_single, writes_in_calls_append}
 use Rattle.std.proofs.lemmas.List.{replicate-append-replicate, take-replicate, get_or-replicate}
+use Rattle.std.proofs.lemmas.Result.{on_ok_weaker}
 use Rattle.std.proofs.lemmas.Nat.{div-add-mod'}
 use Rattle.std.proofs.lemmas.Str.{IsCharBoundary-from_ascii}
 use Rattle.std.proofs.lemmas.Str.Ascii.{IsAscii-from_all}
@@ -22,10 +22,6 @@ grown n space = replicate-append-replicate (n * 64) 64 space ∙ ap (λ k. repli
 first_of : (n m space : ℕ) → n ≤ m → slice_range (replicate m space) 0 n ≡ replicate n space
 first_of n m space h = let e : n - 0 ≡ n = omega arith in rw e (take-replicate n m space h)
 
-where_ok : {T E : Type 0} (r : Result T E) (P : Type 0) → (IsOk r → P) → OnOk r P
-where_ok (Ok x) P f = f refl
-where_ok (Err e) P f = tt
-
 whole : (count i space : ℕ) → count / 64 ≤ i → i ≤ count / 64
     → replicate (i * 64) space ++ slice_range (replicate 64 space) 0 (count % 64) ≡ replicate count space
 whole count i space low high =
@@ -34,14 +30,13 @@ whole count i space low high =
 
 pub loop-slice-preserved : goal.loop-slice-preserved
 loop-slice-preserved g c =
-    rw (← grown c.loop-slice._slice 32) (writes_in_calls_append _ _ _ _ _ _ c.loop-slice.invariant (writes_in_calls_single _ _ _ _ (c.in_ok-write_str.ensures.ok refl)))
+    rw (← grown c.loop-slice._slice 32) (writes_in_calls_append _ _ _ _ _ _ c.loop-slice.invariant (writes_in_calls_single _ _ _ _ (c.in_ok-put_str.ensures.ok)))
 
 pub range-requires-clause-end_boundary : goal.range-requires-clause-end_boundary
 range-requires-clause-end_boundary g c = cut _ (omega arith)
 
-pub returns : goal.returns
-returns g c =
-    where_ok c.write_str-2.result _ (λ ok.
-    let last = rw c.range.ensures.value at (c.write_str-2.ensures.ok ok) in
+pub returns-clause-ok : goal.returns-clause-ok
+returns-clause-ok g c =
+    on_ok_weaker c.put_str-2.result (λ last.
     rw (← whole c.args.count c.loop-slice._slice 32 c.loop-slice-test.false c.loop-slice.auto._slice-end)
-    (writes_in_calls_append _ _ _ _ _ _ c.loop-slice.invariant (writes_in_calls_single _ _ _ _ last)))
+    (writes_in_calls_append _ _ _ _ _ _ c.loop-slice.invariant (writes_in_calls_single _ _ _ _ (rw c.range.ensures.value at last)))) c.put_str-2.ensures.ok

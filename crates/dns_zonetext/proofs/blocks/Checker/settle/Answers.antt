@@ -1,5 +1,6 @@
 use Rattle.std.proofs.Common.{◌≡◌, sym, ap, ◌∙◌, subst}
-use Rattle.std.specs.Prelude.{Ok, Err}
+use Rattle.std.specs.Prelude.{Ok, Err, encode_utf8_all}
+use Rattle.dns_split.specs.Viable.{IsViable}
 use Rattle.dns_zonetext.specs.Blocks.{Holds, Settled}
 use Rattle.dns_zonetext.specs.Held.{Held}
 use Rattle.dns_zonetext.proofs.Cuts.{fault_alone}
@@ -13,14 +14,20 @@ locate_after-requires-clause-fault g c =
 
 pub returns-in-Ok-clause-settled : goal.returns-in-Ok-clause-settled
 returns-in-Ok-clause-settled g c =
-    let here : Held = held_at c.as_slice-held.result.now c.self.inside.place in
-    let same : c.args.self.now ≡ here = sym c.self.view_is ∙ ap (λ l. held_at l c.self.inside.place) (sym c.as_slice-held.ensures.value) in
+    let here : Held = held_at c.as_slice-held.result.now c.self.inside.place c.self.inside.left in
+    let same : c.args.self.now ≡ here = sym c.self.view_is ∙ ap (λ l. held_at l c.self.inside.place c.self.inside.left) (sym c.as_slice-held.ensures.value) in
     subst (λ (h : Held). Settled h.octets (Ok c.in-Ok.cut)) (sym same) c.in-Ok.ensures.settled
+
+pub returns-in-Ok-clause-viable : goal.returns-in-Ok-clause-viable
+returns-in-Ok-clause-viable g c =
+    let here : Held = held_at c.as_slice-held.result.now c.self.inside.place c.self.inside.left in
+    let same : c.args.self.now ≡ here = sym c.self.view_is ∙ ap (λ l. held_at l c.self.inside.place c.self.inside.left) (sym c.as_slice-held.ensures.value) in
+    subst (λ (h : Held). IsViable (encode_utf8_all h.octets)) (sym same) c.in-Ok.ensures.viable
 
 pub returns-in-Err-clause-settled : goal.returns-in-Err-clause-settled
 returns-in-Err-clause-settled g c =
-    let here : Held = held_at c.as_slice-held.result.now c.self.inside.place in
-    let same : c.args.self.now ≡ here = sym c.self.view_is ∙ ap (λ l. held_at l c.self.inside.place) (sym c.as_slice-held.ensures.value) in (
+    let here : Held = held_at c.as_slice-held.result.now c.self.inside.place c.self.inside.left in
+    let same : c.args.self.now ≡ here = sym c.self.view_is ∙ ap (λ l. held_at l c.self.inside.place c.self.inside.left) (sym c.as_slice-held.ensures.value) in (
       c.in-Err.fault,
       subst (λ (h : Held). Settled h.octets (Err c.in-Err.fault)) (sym same) c.in-Err.ensures.settled,
       λ all more h m.

@@ -1,15 +1,11 @@
 use Rattle.std.proofs.Common.{inl, inr, subst}
-use Rattle.std.proofs.lemmas.Bool.{leb-false}
 use Rattle.dns_zonetext.specs.Comparing.{EndTwice, Suffices}
 use Rattle.dns_zonetext.specs.Held.{Both}
-use Rattle.dns_zonetext.proofs.Together.{twice}
+use Rattle.dns_zonetext.proofs.Counted.{was_true}
 use Rattle.dns_zonetext.proofs.comparer.Comparer.wants_first.Goals as goal
 
 pub returns-in-Ok : goal.returns-in-Ok
-returns-in-Ok g c = λ e.
-    let held = c.held-held.result.now in
-    let here = twice held c.cut_after.result c.cut_after-in-Ok.result c.cut_after.ensures.cut c.cut_after-in-Ok.ensures.cut (leb-false _ _ e) in
-    subst (λ (b : Both). Suffices b.first.octets) c.self.view_is (inl (subst EndTwice c.held-held.ensures.held here))
+returns-in-Ok g c = λ e. subst (λ (b : Both). Suffices b.first.octets) c.self.view_is (inl (subst EndTwice c.held.ensures.held (c.end_twice.ensures (was_true c.end_twice.result e))))
 
 pub returns-in-Err : goal.returns-in-Err
 returns-in-Err g c = λ e.

@@ -2,13 +2,13 @@ use Rattle.std.proofs.Common.{refl}
 use Rattle.std.proofs.Output.{if_some_weaken, writes_in_calls_single, writes_in_calls_nil}
 use Rattle.dns_zone.proofs.SimpleSteps.{simple_token, SpaceWritten}
 use Rattle.dns_zone.proofs.zonefile_fmt.simple.SimpleWriterFormatWriter.fmt_token.Goals as goal
-use Rattle.dns_zone.proofs.zonefile_fmt.simple.SimpleWriterFormatWriter.fmt_token.Goals.{then-not-self+in_ok-write_str, else-not-self}
+use Rattle.dns_zone.proofs.zonefile_fmt.simple.SimpleWriterFormatWriter.fmt_token.Goals.{then-not-self+in_ok-put_str, else-not-self}
 
 pub returns-clause-gives : goal.returns-clause-gives
 returns-clause-gives g c =
     let space : SpaceWritten g.W.Write.write_str_gives c.args.self.now c.if-not-self.self =
     elim c.if-not-self.branch [
-      | then-not-self+in_ok-write_str w ↦ rw w.self-is (record { blocks = refl; wrote = rw w.if-not-self.true (writes_in_calls_single _ _ _ _ (w.in_ok-write_str.ensures.ok refl)) })
+      | then-not-self+in_ok-put_str w ↦ rw w.self-is (record { blocks = refl; wrote = rw w.if-not-self.true (writes_in_calls_single _ _ _ _ (w.in_ok-put_str.ensures.ok)) })
       | else-not-self w ↦ rw w.self-is (record { blocks = refl; wrote = rw w.if-not-self.false (writes_in_calls_nil _ _) })
     ] in
-    if_some_weaken (g.T.Display.output c.args.text) _ _ (λ bs p. simple_token _ c.args.self.now c.if-not-self.self _ bs space p) c.in_ok-write.ensures.writes
+    if_some_weaken (g.T.Display.output c.args.text) _ _ (λ bs p. simple_token _ c.args.self.now c.if-not-self.self _ bs space p) c.in_ok-put.ensures.ok

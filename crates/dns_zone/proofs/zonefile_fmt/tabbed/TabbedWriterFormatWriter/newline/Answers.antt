@@ -2,11 +2,11 @@ use Rattle.std.proofs.Common.{refl}
 use Rattle.std.proofs.Output.{writes_in_calls_single}
 use Rattle.dns_zone.proofs.zonefile_fmt.tabbed.TabbedWriterFormatWriter.newline.Goals as goal
 
-pub returns : goal.returns
-returns g c = record {
+pub returns-clause-gives : goal.returns-clause-gives
+returns-clause-gives g c = record {
   opens = refl;
   gives = λ past h. record {
     next = record { first = refl; blocks = h.blocks; first_block = h.first_block };
-    wrote = writes_in_calls_single _ _ _ _ (c.in_ok-write_str.ensures.ok refl);
+    wrote = writes_in_calls_single _ _ _ _ (c.in_ok-put_str.ensures.ok);
   };
 }

@@ -1,0 +1,87 @@
+//! Texts in which each octet but the backslash stands for itself.
+//!
+//! This is how name servers read the character strings of zone text: an octet that is no
+//! printable ASCII, a tab too, needs no escape. [`CharStr::from_octets_text`] reads a whole text.
+//!
+//! [`CharStr::from_octets_text`]: crate::charstr::CharStr::from_octets_text
+ghost use Rattle.std.specs.Prelude.{◌≡◌, ◌<◌, ◌≤◌, length, slice_index, IfOk, IfSome};
+ghost use Rattle.dns_charstr.specs.OctetText.{OctetAt, OctetFirst};
+ghost use Rattle.dns_symbol.specs.Symbol.{is_digit};
+
+use dns_symbol::symbol::SymbolCharsError;
+
+/// Returns the octet that is written at a place of a text, and the place after it (RFC 1035
+/// section 5.1). At or past the end there is none. Places are counted in octets.
+///
+/// An octet other than the backslash stands for itself. A backslash and three digits are the octet
+/// of that number, and a backslash and an octet that is no digit are that octet, whether it is
+/// printable ASCII or not.
+///
+/// A backslash with at most two digits before the end is refused by `ShortInput`. One with a digit
+/// and then no two others, or with a number above 255, is refused by `BadEscape`.
+pub fn octet_at(text: &[u8], place: usize) -> Result<Option<(u8, usize)>, SymbolCharsError>
+    ensures reads { OctetAt text.now place result }
+
+    // For callers' loops: the place after is further on and no further than the end.
+    ensures goes { IfOk result (λ found. IfSome found (λ p. (place < p.1) × (p.1 ≤ length text.now))) }
+{
+    if place >= text.len() {
+        return Ok(None);
+    }
+    let (octet, len) = first_octet(&text[place..])?;
+    Ok(Some((octet, place + len)))
+}
+
+// The octet that is written first in a text, and how many octets it is written in.
+#[inline(always)]
+fn first_octet(text: &[u8]) -> Result<(u8, usize), SymbolCharsError>
+    requires { 0 < length text.now }
+    ensures reads { OctetFirst text.now result }
+    ensures goes { IfOk result (λ p. (0 < p.1) × (p.1 ≤ length text.now)) }
+{
+    if text[0] == b'\\' {
+        return escaped_octet(text);
+    }
+    Ok((text[0], 1))
+}
+
+// The same of a text that begins with a backslash.
+fn escaped_octet(text: &[u8]) -> Result<(u8, usize), SymbolCharsError>
+    requires some { 0 < length text.now }
+    requires escape { slice_index text.now 0 ≡ 92 }
+    ensures reads { OctetFirst text.now result }
+    ensures goes { IfOk result (λ p. (0 < p.1) × (p.1 ≤ length text.now)) }
+{
+    if text.len() < 2 {
+        return Err(SymbolCharsError::ShortInput);
+    }
+    if !is_digit(text[1]) {
+        return Ok((text[1], 2));
+    }
+    if text.len() < 3 {
+        return Err(SymbolCharsError::ShortInput);
+    }
+    if !is_digit(text[2]) {
+        return Err(SymbolCharsError::BadEscape);
+    }
+    if text.len() < 4 {
+        return Err(SymbolCharsError::ShortInput);
+    }
+    if !is_digit(text[3]) {
+        return Err(SymbolCharsError::BadEscape);
+    }
+    let hundreds = u32::from(text[1] - b'0');
+    let tens = u32::from(text[2] - b'0');
+    let ones = u32::from(text[3] - b'0');
+    let value = hundreds * 100 + tens * 10 + ones;
+    if value > 255 {
+        return Err(SymbolCharsError::BadEscape);
+    }
+    Ok((value as u8, 4))
+}
+
+fn is_digit(octet: u8) -> bool
+    ensures { result ≡ is_digit octet }
+{
+    octet.is_ascii_digit()
+}

@@ -1,0 +1,87 @@
+//! Laws on numbers: a printed one is scanned back.
+ghost use Rattle.std.specs.Prelude.{◌≡◌, ℕ, List, ◌∷◌, Result};
+ghost use Rattle.std.proofs.Common.{lit<};
+ghost use Rattle.dns_symbol.specs.Cause.{Cause};
+ghost use Rattle.dns_scan.specs.Numbers.{greatest};
+ghost use Rattle.dns_scan.specs.Stands.{TakesOne};
+ghost use Rattle.dns_scan.specs.Tokens.{Token};
+ghost use Rattle.dns_laws.specs.Numbers.{NumberBack};
+ghost use Rattle.dns_laws.specs.NumberLaws.{read_of};
+
+use dns_octets::Ttl;
+use dns_scan::{Scan, Scanner};
+
+/// A type of numbers that are scanned: `u8` to `u128`, and [`Ttl`] as its seconds.
+pub trait Number<S: Scanner>: Scan<S> {
+    // The greatest number.
+    ghost limit: { ℕ };
+
+    // The number that a value is.
+    ghost number: { Self → ℕ };
+
+    // Whatever a token is read as is its number, or a refusal of it, and the others are left.
+    ghost reads_number: { (token : Token) (others rest : List Token) (r : Result Self Cause) → Self.scan_reads (token ∷ others) r rest
+        → NumberBack limit number (λ why. why) token r × (rest ≡ others) };
+}
+
+impl<S: Scanner> Number<S> for u8 {
+    ghost limit = { greatest 8 };
+
+    ghost number = { λ n. n };
+
+    ghost reads_number = { read_of 8 (lit< tt) };
+}
+
+impl<S: Scanner> Number<S> for u16 {
+    ghost limit = { greatest 16 };
+
+    ghost number = { λ n. n };
+
+    ghost reads_number = { read_of 16 (lit< tt) };
+}
+
+impl<S: Scanner> Number<S> for u32 {
+    ghost limit = { greatest 32 };
+
+    ghost number = { λ n. n };
+
+    ghost reads_number = { read_of 32 (lit< tt) };
+}
+
+impl<S: Scanner> Number<S> for u64 {
+    ghost limit = { greatest 64 };
+
+    ghost number = { λ n. n };
+
+    ghost reads_number = { read_of 64 (lit< tt) };
+}
+
+impl<S: Scanner> Number<S> for u128 {
+    ghost limit = { greatest 128 };
+
+    ghost number = { λ n. n };
+
+    ghost reads_number = { read_of 128 (lit< tt) };
+}
+
+impl<S: Scanner> Number<S> for Ttl {
+    ghost limit = { greatest 32 };
+
+    ghost number = { λ n. n };
+
+    ghost reads_number = { read_of 32 (lit< tt) };
+}
+
+/// The decimal text of a number that the type holds is scanned back to exactly this number; no
+/// room or memory is wanted. So is each token of plain digits of its value, zeros before them too;
+/// the empty token is 0.
+///
+/// Any other token is refused, by its first fault: a symbol that is no plain digit, a value above
+/// the greatest, or an escape that is none.
+pub fn number_is_scanned_back<N: Number<S>, S: Scanner>(scanner: &mut S) -> Result<N, S::Error>
+    requires { S.can_scan scanner.old }
+    ensures ready { S.can_scan scanner.new }
+    ensures takes { TakesOne S.next_token scanner.old scanner.new (λ token. NumberBack N.limit N.number S.Error.cause token result) }
+{
+    N::scan(scanner)
+}

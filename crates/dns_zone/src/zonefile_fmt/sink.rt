@@ -1,0 +1,85 @@
+//! What the writers print on: sinks, and lines over sinks.
+ghost use Rattle.std.specs.Prelude.{ℕ, ◌+◌, ⊤, OnOk, OnErr};
+ghost use Rattle.std.specs.Fmt.{WritesText};
+ghost use Rattle.dns_zone.specs.Sinks.{Counts, CountsTo, greatest};
+
+use std::fmt;
+use std::fmt::{Display, Write};
+
+/// What a writer prints on. Every `fmt::Write` is one.
+///
+/// The contracts of the writers are proved over any sink. So where a step fails and no count would
+/// pass the greatest `usize`, the sink has refused.
+pub trait Sink: Write + Sized {
+    /// What holds once a call has failed: the sink has refused, or the `Display` of what it was to
+    /// print.
+    ghost refused: { Type 0 };
+
+    /// Writes a text.
+    fn put_str(&mut self, text: &str) -> fmt::Result
+        ensures ok { OnOk result (Self.write_str_gives self.old text.now self.new) }
+        ensures err { OnErr result refused };
+
+    /// Prints a value.
+    fn put<T: Display + Drop>(&mut self, value: T) -> fmt::Result
+        ensures ok { OnOk result (WritesText Self.write_str_gives self.old (T.output value) self.new) }
+        ensures err { OnErr result refused };
+
+    /// Prints a value on a line over a sink.
+    fn put_on_line<T: Display + Drop>(line: &mut Line<Self>, value: T) -> fmt::Result
+        ensures ok { OnOk result (WritesText (Counts greatest Self.write_str_gives) line.old (T.output value) line.new) }
+        ensures err { OnErr result refused };
+}
+
+impl<W: Write> Sink for W {
+    ghost refused = { ⊤ };
+
+    fn put_str(&mut self, text: &str) -> fmt::Result {
+        self.write_str(text)
+    }
+
+    fn put<T: Display + Drop>(&mut self, value: T) -> fmt::Result {
+        self.write(value)
+    }
+
+    fn put_on_line<T: Display + Drop>(line: &mut Line<W>, value: T) -> fmt::Result {
+        line.write(value)
+    }
+}
+
+/// A sink with the number of bytes on its line.
+#[derive(Drop)]
+pub struct Line<W> {
+    /// None where the bytes are more than the greatest `usize`.
+    pub(super) column: Option<usize>,
+    pub(super) writer: W,
+}
+
+impl<W: Sink> Line<W> {
+    /// Writes a text, and counts it.
+    pub(super) fn put_counted(&mut self, text: &str) -> fmt::Result
+        ensures ok { OnOk result (Counts greatest W.write_str_gives self.old text.now self.new) }
+        ensures err { OnErr result W.refused }
+    {
+        self.writer.put_str(text)?;
+        self.column = count_on(self.column, text.len());
+        Ok(())
+    }
+}
+
+impl<W: Write> Write for Line<W> {
+    ghost write_str_gives = { Counts greatest W.write_str_gives };
+
+    fn write_str(&mut self, s: &str) -> fmt::Result {
+        self.writer.write_str(s)?;
+        self.column = count_on(self.column, s.len());
+        Ok(())
+    }
+}
+
+// A count with more added to it.
+pub(super) fn count_on(count: Option<usize>, more: usize) -> Option<usize>
+    ensures { (n : ℕ) → CountsTo greatest count n → CountsTo greatest result (n + more) }
+{
+    count?.checked_add(more)
+}

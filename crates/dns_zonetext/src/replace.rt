@@ -1,0 +1,378 @@
+//! Files that get a new text, all of them or none.
+//!
+//! The new text of each is written into a file beside it. Only once all of them are written and
+//! have reached the disk are they renamed. Until then each file is as it was, whatever fails, and
+//! nobody ever sees half of a text under a file's name.
+use std::alloc::{AllocError, Global};
+use std::fs::{Files, Metadata, OpenFile, OpenOptions, Permissions};
+use std::io;
+use std::io::{ErrorKind, Write};
+use std::os::unix::fs::{MetadataExt, OpenOptionsExt, PermissionsExt};
+
+/// What stands behind a file's name in the name of the file with its new text.
+const NEW: &str = ".zonetext-new";
+/// What a name server puts behind the name of a zone that it changes itself.
+const JOURNAL: &str = ".jnl";
+/// The bits of a file's mode that say who may read, write and run it.
+const PERMISSIONS: u32 = 0o7777;
+
+/// Why a file gets no new text.
+#[derive(Debug, Drop)]
+pub enum Refusal {
+    /// It can't be found, read, written or renamed.
+    Io(io::Error),
+    /// It is a folder, a device or a pipe.
+    NoFile,
+    /// A journal lies beside it: a name server changes the zone itself (dynamic updates, RFC 2136).
+    Journal,
+    /// The file for its new text is there already: another run is at work, or was killed.
+    Busy,
+    /// It changed since it was looked at.
+    Changed,
+}
+
+impl From<io::Error> for Refusal {
+    fn from(error: io::Error) -> Refusal {
+        Refusal::Io(error)
+    }
+}
+
+impl From<AllocError> for Refusal {
+    fn from(error: AllocError) -> Refusal {
+        Refusal::Io(io::Error::from(error))
+    }
+}
+
+/// What tells a file from one that was changed, or that took its place.
+#[derive(Clone, Copy, Debug, PartialEq, Eq)]
+struct Stamp {
+    device: u64,
+    node: u64,
+    length: u64,
+    seconds: i64,
+    nanoseconds: i64,
+}
+
+impl Stamp {
+    fn of(metadata: &Metadata) -> Stamp {
+        Stamp {
+            device: metadata.dev(),
+            node: metadata.ino(),
+            length: metadata.len(),
+            seconds: metadata.mtime(),
+            nanoseconds: metadata.mtime_nsec(),
+        }
+    }
+}
+
+/// Whether something has that name. A link that leads nowhere has it too.
+fn exists<R: Files>(files: &R, path: &str) -> io::Result<bool> {
+    match files.symlink_metadata(path) {
+        Ok(_) => Ok(true),
+        Err(error) if error.kind() == ErrorKind::NotFound => Ok(false),
+        Err(error) => Err(error),
+    }
+}
+
+/// A path with something behind it.
+fn with_suffix(alloc: Global, path: &str, suffix: &str) -> Result<String, AllocError> {
+    let mut text = String::from_str(alloc, path)?;
+    text.push_str(suffix)?;
+    Ok(text)
+}
+
+/// A file as it was when it was looked at.
+#[derive(Drop)]
+pub struct Original {
+    path: String,
+    stamp: Stamp,
+    mode: u32,
+    user: u32,
+    group: u32,
+}
+
+impl Original {
+    /// Finds the file to which a name leads, through links.
+    ///
+    /// Refuses a zone with a journal beside it, unless `ignores_journal`.
+    pub fn find<R: Files>(
+        files: &R,
+        alloc: Global,
+        name: &str,
+        ignores_journal: bool,
+    ) -> Result<Original, Refusal> {
+        let path = files.canonicalize(alloc, name)?.into_string();
+        let metadata = files.metadata(path.as_str())?;
+        if !metadata.is_file() {
+            return Err(Refusal::NoFile);
+        }
+        let journal = with_suffix(alloc, path.as_str(), JOURNAL)?;
+        if !ignores_journal && exists(files, journal.as_str())? {
+            return Err(Refusal::Journal);
+        }
+        Ok(Original {
+            path,
+            stamp: Stamp::of(&metadata),
+            mode: metadata.mode() & PERMISSIONS,
+            user: metadata.uid(),
+            group: metadata.gid(),
+        })
+    }
+
+    /// Where the file lies.
+    pub fn path(&self) -> &str {
+        self.path.as_str()
+    }
+
+    /// Whether the file is as it was.
+    pub fn is_unchanged<R: Files>(&self, files: &R) -> io::Result<bool> {
+        let metadata = files.metadata(self.path.as_str())?;
+        Ok(Stamp::of(&metadata) == self.stamp)
+    }
+
+    /// The folder in which the file lies.
+    fn folder(&self) -> &str {
+        match self.path.as_str().rsplit_once('/') {
+            None => ".",
+            Some(("", _)) => "/",
+            Some((folder, _)) => folder,
+        }
+    }
+}
+
+/// The new text of a file, as far as it is written.
+#[derive(Drop)]
+pub struct NewText<F: Drop> {
+    original: Original,
+    path: String,
+    file: F,
+}
+
+/// Gives a new file the owner and the mode of the original, as far as that is allowed.
+fn take_after<R: Files>(
+    files: &R,
+    file: &R::File,
+    path: &str,
+    original: &Original,
+) -> io::Result<()> {
+    let mine = file.metadata()?;
+    if (mine.uid(), mine.gid()) != (original.user, original.group) {
+        let (user, group) = (Some(original.user), Some(original.group));
+        if files.chown(path, user, group).is_err() {
+            // One who isn't the superuser may still give it a group of theirs.
+            let _ = files.chown(path, None, group);
+        }
+    }
+    file.set_permissions(Permissions::from_mode(original.mode))
+}
+
+impl<F: Write + OpenFile + Drop> NewText<F> {
+    /// Makes the file for a new text, beside the original, with its mode and owner.
+    ///
+    /// Where that fails the file is removed again.
+    pub fn create<R: Files<File = F>>(
+        files: &R,
+        alloc: Global,
+        original: Original,
+    ) -> Result<NewText<F>, Refusal> {
+        let path = with_suffix(alloc, original.path(), NEW)?;
+        let mut options = OpenOptions::new();
+        options.write(true).create_new(true).mode(0o600);
+        let file = match files.open_file(&options, path.as_str()) {
+            Ok(file) => file,
+            Err(error) if error.kind() == ErrorKind::AlreadyExists => return Err(Refusal::Busy),
+            Err(error) => return Err(Refusal::Io(error)),
+        };
+        match take_after(files, &file, path.as_str(), &original) {
+            Ok(()) => Ok(NewText {
+                original,
+                path,
+                file,
+            }),
+            Err(error) => {
+                let _ = files.remove_file(path.as_str());
+                Err(Refusal::Io(error))
+            }
+        }
+    }
+
+    /// Appends octets to the new text.
+    pub fn write(&mut self, octets: &[u8]) -> io::Result<()> {
+        self.file.write_all(octets)
+    }
+
+    /// Ends the new text, once it has reached the disk, and closes its file.
+    ///
+    /// Where that fails the file is removed.
+    fn finish<R: Files<File = F>>(self, files: &R) -> Result<Ready, Refusal> {
+        let NewText {
+            original,
+            path,
+            file,
+        } = self;
+        let ready = Ready { original, path };
+        match file.sync_all() {
+            Ok(()) => Ok(ready),
+            Err(error) => {
+                let _ = files.remove_file(ready.path.as_str());
+                Err(Refusal::Io(error))
+            }
+        }
+    }
+
+    /// Gives the new text up, and removes its file.
+    pub fn discard<R: Files<File = F>>(self, files: &R) -> io::Result<()> {
+        files.remove_file(self.path.as_str())
+    }
+}
+
+/// A new text that is written, and waits to take the place of the original.
+#[derive(Drop)]
+pub struct Ready {
+    original: Original,
+    path: String,
+}
+
+impl Ready {
+    /// Where the file lies that is replaced.
+    pub fn path(&self) -> &str {
+        self.original.path()
+    }
+
+    fn discard<R: Files>(&self, files: &R) -> io::Result<()> {
+        files.remove_file(self.path.as_str())
+    }
+
+    /// Whether the original is as it was.
+    fn may_go<R: Files>(&self, files: &R) -> Result<(), Refusal> {
+        if self.original.is_unchanged(files)? {
+            Ok(())
+        } else {
+            Err(Refusal::Changed)
+        }
+    }
+
+    /// Takes the place of the original.
+    fn rename<R: Files>(&self, files: &R) -> io::Result<()> {
+        files.rename(self.path.as_str(), self.original.path())
+    }
+
+    /// Waits until the folder has the new name on the disk.
+    fn sync_folder<R: Files>(&self, files: &R) -> io::Result<()> {
+        let mut options = OpenOptions::new();
+        options.read(true);
+        files
+            .open_file(&options, self.original.folder())?
+            .sync_all()
+    }
+}
+
+/// Why files that were to be replaced together were not, or not all.
+#[derive(Debug, Drop)]
+pub struct Incomplete {
+    /// How many have their new text: the first ones.
+    pub replaced: usize,
+    /// The number of the file that failed, counted from 0.
+    pub at: usize,
+    /// Why it failed.
+    pub why: Refusal,
+}
+
+/// New texts that take their places together.
+#[derive(Drop)]
+pub struct Batch {
+    texts: Vec<Ready>,
+}
+
+impl Batch {
+    /// No texts.
+    pub fn new(alloc: Global) -> Batch {
+        Batch {
+            texts: Vec::new(alloc),
+        }
+    }
+
+    /// The texts, in the order in which they were added.
+    pub fn texts(&self) -> &[Ready] {
+        self.texts.as_slice()
+    }
+
+    /// Ends a new text and adds it. Where that fails its file is removed.
+    pub fn add<R: Files>(&mut self, files: &R, text: NewText<R::File>) -> Result<(), Refusal> {
+        let ready = text.finish(files)?;
+        match self.texts.push(ready) {
+            Ok(()) => Ok(()),
+            Err(refused) => {
+                let _ = refused.value.discard(files);
+                Err(Refusal::Io(io::Error::from(ErrorKind::OutOfMemory)))
+            }
+        }
+    }
+
+    /// Gives all up, and removes their files. Returns the first error, once all were tried.
+    pub fn discard<R: Files>(&self, files: &R) -> io::Result<()> {
+        discard_from(files, self.texts(), 0)
+    }
+
+    /// Puts all in the places of their originals.
+    ///
+    /// None is replaced where one of the originals changed. Returns once all files and their
+    /// folders have reached the disk. Where a file fails, those after it stay as they were, and
+    /// the new texts that did not get their place are removed.
+    pub fn commit<R: Files>(&self, files: &R) -> Result<(), Incomplete> {
+        let answer = replace_in_turn(files, self.texts());
+        if let Err(incomplete) = &answer {
+            let _ = discard_from(files, self.texts(), incomplete.replaced);
+        }
+        answer
+    }
+}
+
+fn discard_from<R: Files>(files: &R, texts: &[Ready], first: usize) -> io::Result<()> {
+    let mut answer = Ok(());
+    for text in texts.iter().skip(first) {
+        let this = text.discard(files);
+        if answer.is_ok() {
+            answer = this;
+        }
+    }
+    answer
+}
+
+/// The first text whose original changed, or can't be looked at.
+fn find_changed<R: Files>(files: &R, texts: &[Ready]) -> Result<(), Incomplete> {
+    for (at, text) in texts.iter().enumerate() {
+        if let Err(why) = text.may_go(files) {
+            let replaced = 0;
+            return Err(Incomplete { replaced, at, why });
+        }
+    }
+    Ok(())
+}
+
+fn rename_all<R: Files>(files: &R, texts: &[Ready]) -> Result<(), Incomplete> {
+    for (at, text) in texts.iter().enumerate() {
+        if let Err(error) = text.rename(files) {
+            let (replaced, why) = (at, Refusal::Io(error));
+            return Err(Incomplete { replaced, at, why });
+        }
+    }
+    Ok(())
+}
+
+fn sync_folders<R: Files>(files: &R, texts: &[Ready]) -> Result<(), Incomplete> {
+    let replaced = texts.len();
+    for (at, text) in texts.iter().enumerate() {
+        if let Err(error) = text.sync_folder(files) {
+            let why = Refusal::Io(error);
+            return Err(Incomplete { replaced, at, why });
+        }
+    }
+    Ok(())
+}
+
+fn replace_in_turn<R: Files>(files: &R, texts: &[Ready]) -> Result<(), Incomplete> {
+    find_changed(files, texts)?;
+    rename_all(files, texts)?;
+    sync_folders(files, texts)
+}

@@ -1,0 +1,32 @@
+//! The calls that rows name.
+mod charstr;
+mod dnstext;
+mod encoding;
+mod format;
+mod name;
+mod steps;
+mod symbol;
+mod zone;
+mod zonetext;
+
+use self::encoding::Base;
+use crate::answer::{Answer, Failure};
+use crate::row::Inputs;
+
+/// Makes an answer of a call's inputs.
+pub fn call(name: &str, inputs: &Inputs, answer: &mut Answer) {
+    let (group, name) = name.split_once('.').unwrap_or((name, ""));
+    match group {
+        "charstr" => charstr::call(name, inputs, answer),
+        "symbol" => symbol::call(name, inputs, answer),
+        "base16" => encoding::call(Base::Base16, name, inputs, answer),
+        "base32" => encoding::call(Base::Base32, name, inputs, answer),
+        "base64" => encoding::call(Base::Base64, name, inputs, answer),
+        "name" => name::call(name, inputs, answer),
+        "zone" => zone::call(name, inputs, answer),
+        "format" => format::call(name, inputs, answer),
+        "zonetext" => zonetext::call(name, inputs, answer),
+        "dnstext" => dnstext::run(inputs.all(), answer),
+        _ => answer.fail(Failure::NoCall),
+    }
+}

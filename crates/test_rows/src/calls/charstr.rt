@@ -1,0 +1,189 @@
+//! Character strings.
+use crate::answer::{Answer, Failure, Heap};
+use crate::row::Inputs;
+use arrayvec::ArrayVec;
+use dns_charstr::charstr::{CharStr, CharStrBuilder, DisplayQuoted, DisplayUnquoted, FromStrError};
+use dns_octets::{AsOctets, CanonicalOrd, Parser};
+use std::cmp::Ordering;
+use std::hash::{DefaultHasher, Hash, Hasher};
+
+/// Octets in memory of which one growth may be refused.
+type Octets<'a> = Vec<u8, &'a Heap>;
+
+pub fn call(name: &str, inputs: &Inputs, answer: &mut Answer) {
+    match name {
+        "read" => read(inputs.text(answer), answer),
+        "read_into_two" => read_into_two(inputs.text(answer), answer),
+        "octets" => read_octets(inputs.octets(answer), answer),
+        "octets_into_two" => read_octets_into_two(inputs.octets(answer), answer),
+        "of" => of(inputs.octets(answer), answer),
+        "plain" => plain(inputs.octets(answer), answer),
+        "quoted" => quoted(inputs.octets(answer), answer),
+        "unquoted" => unquoted(inputs.octets(answer), answer),
+        "lower_hex" => lower_hex(inputs.octets(answer), answer),
+        "upper_hex" => upper_hex(inputs.octets(answer), answer),
+        "compare" => compare(inputs.two(answer), answer),
+        "canonical" => canonical(inputs.two(answer), answer),
+        "parse" => parse(inputs.octets(answer), answer),
+        "skip" => skip(inputs.octets(answer), answer),
+        "compose" => compose(inputs.octets(answer), answer),
+        _ => answer.fail(Failure::NoCall),
+    }
+}
+
+/// What was read, or the refusal.
+fn tell<O: AsOctets>(read: &Result<CharStr<O>, FromStrError>, answer: &mut Answer) {
+    match read {
+        Ok(string) => answer.add(string.as_slice()),
+        Err(error) => answer.refuse(error),
+    }
+}
+
+/// The octets of a text, into a vector and into an array.
+fn read(text: &str, answer: &mut Answer) {
+    let mut other = answer.another();
+    tell(
+        &CharStr::<ArrayVec<u8, 255>>::from_str((), text),
+        &mut other,
+    );
+    tell(&CharStr::<Octets>::from_str(answer.heap(), text), answer);
+    answer.check_same(&other);
+}
+
+/// The octets of a text, into the room of two.
+fn read_into_two(text: &str, answer: &mut Answer) {
+    tell(&CharStr::<ArrayVec<u8, 2>>::from_str((), text), answer);
+}
+
+/// The octets of a text of octets, into a vector and into an array.
+fn read_octets(text: &[u8], answer: &mut Answer) {
+    let mut other = answer.another();
+    tell(
+        &CharStr::<ArrayVec<u8, 255>>::from_octets_text((), text),
+        &mut other,
+    );
+    tell(
+        &CharStr::<Octets>::from_octets_text(answer.heap(), text),
+        answer,
+    );
+    answer.check_same(&other);
+}
+
+/// The octets of a text of octets, into the room of two.
+fn read_octets_into_two(text: &[u8], answer: &mut Answer) {
+    tell(
+        &CharStr::<ArrayVec<u8, 2>>::from_octets_text((), text),
+        answer,
+    );
+}
+
+/// The character string of octets.
+fn string<'a>(octets: &'a [u8], answer: &mut Answer) -> CharStr<&'a [u8]> {
+    let made = CharStr::from_slice(octets);
+    if made.is_err() {
+        answer.fail(Failure::BadInputs);
+    }
+    made.unwrap_or(CharStr::empty_slice())
+}
+
+/// Whether octets can be a character string.
+fn of(octets: &[u8], answer: &mut Answer) {
+    let made = CharStr::from_slice(octets);
+    answer.check(CharStr::from_octets(octets).is_ok() == made.is_ok());
+    match octets.to_vec(answer.heap()) {
+        Ok(copy) => answer.check(CharStrBuilder::from_builder(copy).is_ok() == made.is_ok()),
+        Err(_) => answer.fail_for_memory(),
+    }
+    match made {
+        Ok(string) => answer.add(string.as_slice()),
+        Err(error) => answer.refuse(&error),
+    }
+}
+
+fn plain(octets: &[u8], answer: &mut Answer) {
+    let string = string(octets, answer);
+    answer.add_shown(&string);
+}
+
+fn quoted(octets: &[u8], answer: &mut Answer) {
+    answer.add_shown(&DisplayQuoted::from_slice(octets));
+}
+
+fn unquoted(octets: &[u8], answer: &mut Answer) {
+    answer.add_shown(&DisplayUnquoted::from_slice(octets));
+}
+
+fn lower_hex(octets: &[u8], answer: &mut Answer) {
+    let string = string(octets, answer);
+    answer.add_shown(&string.display_lower_hex());
+}
+
+fn upper_hex(octets: &[u8], answer: &mut Answer) {
+    let string = string(octets, answer);
+    answer.add_shown(&string.display_upper_hex());
+}
+
+fn order_name(order: Ordering) -> &'static str {
+    match order {
+        Ordering::Less => "less",
+        Ordering::Equal => "equal",
+        Ordering::Greater => "greater",
+    }
+}
+
+fn hash_of(string: &CharStr<&[u8]>) -> u64 {
+    let mut state = DefaultHasher::new();
+    string.hash(&mut state);
+    state.finish()
+}
+
+/// How two character strings compare, of which all ways to tell agree.
+fn compare((one, other): (&[u8], &[u8]), answer: &mut Answer) {
+    let left = string(one, answer);
+    let right = string(other, answer);
+    let order = left.cmp(&right);
+    let is_same = order == Ordering::Equal;
+    answer.check(left.partial_cmp(&right) == Some(order));
+    answer.check(left.cmp_octets(other) == order);
+    answer.check((left == right) == is_same);
+    answer.check(left.eq_octets(other) == is_same);
+    answer.check((hash_of(&left) == hash_of(&right)) == is_same);
+    answer.add_text(order_name(order));
+}
+
+fn canonical((one, other): (&[u8], &[u8]), answer: &mut Answer) {
+    let order = string(one, answer).canonical_cmp(&string(other, answer));
+    answer.add_text(order_name(order));
+}
+
+/// The character string that a wire form begins with, a bar, and what is left.
+fn parse(octets: &[u8], answer: &mut Answer) {
+    let mut parser = Parser::from_slice(octets);
+    match CharStr::parse(&mut parser) {
+        Ok(string) => answer.add(string.as_slice()),
+        Err(error) => answer.refuse(&error),
+    }
+    answer.add_text("|");
+    answer.add(parser.peek_all());
+}
+
+/// The place after a wire form that is passed over, or where it is refused.
+fn skip(octets: &[u8], answer: &mut Answer) {
+    let mut parser = Parser::from_slice(octets);
+    if let Err(error) = CharStr::skip(&mut parser) {
+        answer.refuse(&error);
+        answer.add_text("|");
+    }
+    answer.add_number(parser.pos());
+}
+
+/// The wire form.
+fn compose(octets: &[u8], answer: &mut Answer) {
+    let string = string(octets, answer);
+    let mut target = Vec::new(answer.heap());
+    match string.compose(&mut target) {
+        Ok(()) => answer.add(target.as_slice()),
+        Err(error) => answer.refuse(&error),
+    }
+    answer.check(target.len() == usize::from(string.compose_len()));
+}

@@ -1,0 +1,162 @@
+//! Symbols.
+use crate::answer::{Answer, Failure};
+use crate::row::Inputs;
+use dns_symbol::form::{Form, Plain, Quoted, Unquoted, write_octets};
+use dns_symbol::symbol::Symbol;
+use dns_symbol::symbols::Symbols;
+use std::marker::PhantomData;
+use std::{fmt, str};
+
+pub fn call(name: &str, inputs: &Inputs, answer: &mut Answer) {
+    match name {
+        "at" => at(inputs.octets_and_number(answer), answer),
+        "first" => first(inputs.text(answer), answer),
+        "each" => each(inputs.text(answer), answer),
+        "octet" => octet(inputs.octets(answer), answer),
+        "ascii" => ascii(inputs.octets(answer), answer),
+        "char" => character(inputs.octets(answer), answer),
+        "digit" => digit(inputs.octets_and_number(answer), answer),
+        "is_word_char" => is_word_char(inputs.octets(answer), answer),
+        "plain" => print::<Plain>(inputs.octets(answer), answer),
+        "quoted" => print::<Quoted>(inputs.octets(answer), answer),
+        "unquoted" => print::<Unquoted>(inputs.octets(answer), answer),
+        "from_octet" => from_octet(inputs.octets(answer), answer),
+        _ => answer.fail(Failure::NoCall),
+    }
+}
+
+fn kind(symbol: Symbol) -> &'static str {
+    match symbol {
+        Symbol::Char(_) => "character ",
+        Symbol::SimpleEscape(_) => "simple ",
+        Symbol::DecimalEscape(_) => "decimal ",
+    }
+}
+
+/// A symbol's kind and its text.
+fn add_symbol(symbol: Symbol, answer: &mut Answer) {
+    answer.add_text(kind(symbol));
+    answer.add_shown(&symbol);
+}
+
+/// The symbol at a place of octets, and the place after it.
+fn at((octets, place): (&[u8], usize), answer: &mut Answer) {
+    match Symbol::from_slice_index(octets, place) {
+        Ok(Some((symbol, next))) => {
+            add_symbol(symbol, answer);
+            answer.add_text(" ");
+            answer.add_number(next);
+        }
+        Ok(None) => answer.add_text("none"),
+        Err(error) => answer.refuse(&error),
+    }
+}
+
+/// The first symbol of a text, a bar, and what is left.
+fn first(text: &str, answer: &mut Answer) {
+    let mut chars = text.chars();
+    match Symbol::from_chars(&mut chars) {
+        Ok(Some(symbol)) => add_symbol(symbol, answer),
+        Ok(None) => answer.add_text("none"),
+        Err(error) => answer.refuse(&error),
+    }
+    answer.add_text("|");
+    answer.add_text(chars.as_str());
+}
+
+/// The symbols of a text with a bar after each, and what ended them.
+fn each(text: &str, answer: &mut Answer) {
+    let mut symbols = Symbols::new(text.chars());
+    for symbol in &mut symbols {
+        answer.add_shown(&symbol);
+        answer.add_text("|");
+    }
+    if let Err(error) = symbols.ok() {
+        answer.refuse(&error);
+    }
+}
+
+/// The symbol that a text is.
+fn symbol_of(octets: &[u8], answer: &mut Answer) -> Symbol {
+    let mut chars = str::from_utf8(octets).unwrap_or("").chars();
+    match Symbol::from_chars(&mut chars) {
+        Ok(Some(symbol)) if chars.as_str().is_empty() => symbol,
+        _ => {
+            answer.fail(Failure::BadInputs);
+            Symbol::Char(' ')
+        }
+    }
+}
+
+fn octet(octets: &[u8], answer: &mut Answer) {
+    match symbol_of(octets, answer).into_octet() {
+        Ok(octet) => answer.add_number(usize::from(octet)),
+        Err(error) => answer.refuse(&error),
+    }
+}
+
+fn ascii(octets: &[u8], answer: &mut Answer) {
+    match symbol_of(octets, answer).into_ascii() {
+        Ok(octet) => answer.add_number(usize::from(octet)),
+        Err(error) => answer.refuse(&error),
+    }
+}
+
+fn character(octets: &[u8], answer: &mut Answer) {
+    match symbol_of(octets, answer).into_char() {
+        Ok(c) => answer.add_char(c),
+        Err(error) => answer.refuse(&error),
+    }
+}
+
+/// The value of a symbol as a digit to a base.
+fn digit((octets, base): (&[u8], usize), answer: &mut Answer) {
+    if base < 2 || base > 36 {
+        return answer.fail(Failure::BadInputs);
+    }
+    match symbol_of(octets, answer).into_digit(base as u32) {
+        Ok(digit) => answer.add_number(digit as usize),
+        Err(error) => answer.refuse(&error),
+    }
+}
+
+fn is_word_char(octets: &[u8], answer: &mut Answer) {
+    let symbol = symbol_of(octets, answer);
+    answer.add_bool(symbol.is_word_char());
+}
+
+/// Octets that print in a form.
+#[derive(Drop)]
+struct Shown<'a, F> {
+    octets: &'a [u8],
+    form: PhantomData<F>,
+}
+
+impl<F: Form> fmt::Display for Shown<'_, F> {
+    fn fmt<W: fmt::Write>(&self, f: &mut fmt::Formatter<W>) -> fmt::Result {
+        write_octets::<F, W>(self.octets, f)
+    }
+}
+
+fn in_form<F: Form>(octets: &[u8]) -> Shown<'_, F> {
+    Shown {
+        octets,
+        form: PhantomData,
+    }
+}
+
+fn print<F: Form>(octets: &[u8], answer: &mut Answer) {
+    answer.add_shown(&in_form::<F>(octets));
+}
+
+/// The symbols of an octet in the plain, the quoted and the unquoted form, with bars between.
+fn from_octet(octets: &[u8], answer: &mut Answer) {
+    let [octet] = octets else {
+        return answer.fail(Failure::BadInputs);
+    };
+    answer.add_shown(&Symbol::display_from_octet(*octet));
+    answer.add_text("|");
+    answer.add_shown(&Symbol::quoted_from_octet(*octet));
+    answer.add_text("|");
+    answer.add_shown(&Symbol::from_octet(*octet));
+}

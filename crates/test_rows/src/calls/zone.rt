@@ -1,0 +1,265 @@
+//! Zone text: how it splits, and its layouts.
+use crate::answer::{Answer, Failure, Heap};
+use crate::row::Inputs;
+use dns_split::entry_tokens::{EntryPart, EntryToken, EntryTokens, NextEntryError};
+use dns_split::opening::outermost_open_of_octets;
+use dns_split::pieces::{EndOfEntry, Fault, Piece, Pieces, Span, Wrong};
+use dns_split::position::{Position, line_and_column_of_octets};
+use dns_split::splitting::split;
+use dns_split::token::{content, is_token};
+use dns_zone::document::{Document, Item};
+use dns_zone::zonefile_fmt::{DisplayKind, ZonefileFmt};
+use std::alloc::AllocError;
+use std::str;
+
+pub fn call(name: &str, inputs: &Inputs, answer: &mut Answer) {
+    match name {
+        "split" => split_text(inputs.text(answer), answer),
+        "pieces" => pieces(inputs.octets(answer), answer),
+        "entries" => entries(inputs.octets(answer), answer),
+        "is_token" => is_one_token(inputs.text(answer), answer),
+        "content" => token_content(inputs.text(answer), answer),
+        "open" => open(inputs.octets(answer), answer),
+        "position" => position(inputs.octets_and_number(answer), answer),
+        "simple" => layout(DisplayKind::Simple, inputs.all(), answer),
+        "tabbed" => layout(DisplayKind::Tabbed, inputs.all(), answer),
+        "multiline" => layout(DisplayKind::Multiline, inputs.all(), answer),
+        _ => answer.fail(Failure::NoCall),
+    }
+}
+
+fn is_one_token(text: &str, answer: &mut Answer) {
+    answer.add_bool(is_token(text));
+}
+
+/// The tokens of an entry with a bar after each, and a slash.
+fn add_entry(tokens: &[String<&Heap>], answer: &mut Answer) {
+    for token in tokens {
+        answer.add_text(token.as_str());
+        answer.add_text("|");
+    }
+    answer.add_text("/");
+}
+
+/// The same of a piece.
+fn add_piece(text: &str, piece: Piece, answer: &mut Answer) {
+    match piece {
+        Piece::Word(part) | Piece::Quote(part) => {
+            answer.add_text(text.get(part.start..part.end).unwrap_or("no part"));
+            answer.add_text("|");
+        }
+        Piece::Comment(_) => {}
+        Piece::End(_) => answer.add_text("/"),
+    }
+}
+
+/// The entries of a text by the cursor, up to a fault.
+fn split_by_pieces(text: &str, answer: &mut Answer) {
+    for piece in Pieces::new(text) {
+        match piece {
+            Ok(piece) => add_piece(text, piece, answer),
+            Err(_) => return,
+        }
+    }
+}
+
+/// The entries of a text, as `split` and as the cursor give them.
+fn split_text(text: &str, answer: &mut Answer) {
+    match split(answer.heap(), text) {
+        Ok(entries) => {
+            for entry in &entries {
+                add_entry(entry.as_slice(), answer);
+            }
+        }
+        Err(error) => return answer.refuse(&error),
+    }
+    let mut other = answer.another();
+    split_by_pieces(text, &mut other);
+    answer.check_same(&other);
+}
+
+/// A name and two numbers, with spaces between.
+fn add_span(name: &str, span: Span, answer: &mut Answer) {
+    answer.add_text(name);
+    answer.add_number(span.start);
+    answer.add_text(" ");
+    answer.add_number(span.end);
+}
+
+fn add_named_piece(piece: Piece, answer: &mut Answer) {
+    match piece {
+        Piece::Word(span) => add_span("word ", span, answer),
+        Piece::Quote(span) => add_span("quote ", span, answer),
+        Piece::Comment(span) => add_span("comment ", span, answer),
+        Piece::End(end) => {
+            answer.add_text(if end.begins_blank { "blank " } else { "end " });
+            answer.add_number(end.at);
+        }
+    }
+}
+
+/// What is wrong.
+pub fn wrong_name(wrong: Wrong) -> &'static str {
+    match wrong {
+        Wrong::Closing => "closing",
+        Wrong::OpenParenthesis => "open parenthesis",
+        Wrong::OpenQuote(_) => "open quote",
+        Wrong::LoneReturn => "lone return",
+        Wrong::BadEscape => "bad escape",
+    }
+}
+
+fn add_fault(fault: Fault, answer: &mut Answer) {
+    answer.add_text(wrong_name(fault.wrong));
+    if let Wrong::OpenQuote(start) = fault.wrong {
+        answer.add_text(" from ");
+        answer.add_number(start);
+    }
+    answer.add_text(" at ");
+    answer.add_number(fault.at);
+}
+
+/// The pieces of octets with their places, a bar after each.
+fn pieces(octets: &[u8], answer: &mut Answer) {
+    for piece in Pieces::of_octets(octets) {
+        match piece {
+            Ok(piece) => add_named_piece(piece, answer),
+            Err(fault) => add_fault(fault, answer),
+        }
+        answer.add_text("|");
+    }
+}
+
+/// A token after its place and a colon, or a plus if it is glued, with a bar after it.
+fn add_entry_token(token: EntryToken, answer: &mut Answer) {
+    let quote = if token.is_quoted { "\"" } else { "" };
+    answer.add_number(token.at);
+    answer.add_text(if token.is_glued { "+" } else { ":" });
+    answer.add_text(quote);
+    answer.add(token.text);
+    answer.add_text(quote);
+    answer.add_text("|");
+}
+
+/// A slash, after a line if the entry began with a blank.
+fn add_entry_end(end: EndOfEntry, answer: &mut Answer) {
+    answer.add_text(if end.begins_blank { "_/" } else { "/" });
+}
+
+/// The entries of octets token by token, up to a fault.
+fn entries_by_tokens(octets: &[u8], answer: &mut Answer) {
+    let mut left = EntryTokens::of_octets(octets);
+    let mut is_blank = None;
+    for _ in 0..=octets.len() * 2 {
+        match left.next_token() {
+            Some(
+                Ok(
+                    EntryPart::Token {
+                        token,
+                        begins_blank,
+                    },
+                ),
+            ) => {
+                answer.check(is_blank.unwrap_or(begins_blank) == begins_blank);
+                is_blank = Some(begins_blank);
+                add_entry_token(token, answer);
+            }
+            Some(Ok(EntryPart::End(end))) => {
+                answer.check(is_blank.unwrap_or(end.begins_blank) == end.begins_blank);
+                is_blank = None;
+                add_entry_end(end, answer);
+            }
+            Some(Err(fault)) => add_fault(fault, answer),
+            None => return,
+        }
+    }
+}
+
+/// The same an entry at a time.
+fn entries_at_once(octets: &[u8], answer: &mut Answer) {
+    let mut tokens = Vec::new(answer.heap());
+    let mut left = EntryTokens::of_octets(octets);
+    for _ in 0..=octets.len() + 1 {
+        let next = left.next_entry(&mut tokens);
+        for token in &tokens {
+            add_entry_token(*token, answer);
+        }
+        match next {
+            Ok(Some(end)) => add_entry_end(end, answer),
+            Ok(None) => return,
+            Err(NextEntryError::BadText(fault)) => add_fault(fault, answer),
+            Err(NextEntryError::ShortBuf) => return answer.fail_for_memory(),
+        }
+    }
+}
+
+fn entries(octets: &[u8], answer: &mut Answer) {
+    entries_at_once(octets, answer);
+    let mut other = answer.another();
+    entries_by_tokens(octets, &mut other);
+    answer.check_same(&other);
+}
+
+fn token_content(token: &str, answer: &mut Answer) {
+    answer.check(is_token(token));
+    answer.add_text(content(token));
+}
+
+/// Where the outermost parenthesis stands that is left open.
+fn open(octets: &[u8], answer: &mut Answer) {
+    match outermost_open_of_octets(octets) {
+        Some(place) => answer.add_number(place),
+        None => answer.add_text("none"),
+    }
+}
+
+/// A line and a column.
+pub fn add_position(position: Position, answer: &mut Answer) {
+    answer.add_number(position.line);
+    answer.add_text(":");
+    answer.add_number(position.column);
+}
+
+/// The line and the column of a place, as octets.
+fn position((octets, place): (&[u8], usize), answer: &mut Answer) {
+    if place > octets.len() {
+        return answer.fail(Failure::BadInputs);
+    }
+    add_position(line_and_column_of_octets(octets, place), answer);
+}
+
+/// The item that a word means: a parenthesis, a line end, a comment, and else a token.
+fn item<'a>(heap: &'a Heap, word: &str) -> Result<Item<&'a Heap>, AllocError> {
+    Ok(match word {
+        "(" => Item::Begin,
+        ")" => Item::End,
+        "\n" => Item::Newline,
+        _ => match word.strip_prefix("; ") {
+            Some(text) => Item::Comment(String::from_str(heap, text)?),
+            None => Item::Token(String::from_str(heap, word)?),
+        },
+    })
+}
+
+fn items<'a>(
+    heap: &'a Heap,
+    words: &[Vec<u8>],
+) -> Result<Vec<Item<&'a Heap>, &'a Heap>, AllocError> {
+    let mut items = Vec::new(heap);
+    for word in words {
+        let text = str::from_utf8(word.as_slice()).unwrap_or("");
+        items.push(item(heap, text)?)?;
+    }
+    Ok(items)
+}
+
+/// The text of a document of words in a layout.
+fn layout(kind: DisplayKind, words: &[Vec<u8>], answer: &mut Answer) {
+    let Ok(items) = items(answer.heap(), words) else {
+        return answer.fail_for_memory();
+    };
+    match Document::from_items(items) {
+        Ok(document) => answer.add_shown(&document.display_zonefile(kind)),
+        Err((error, _)) => answer.refuse(&error),
+    }
+}

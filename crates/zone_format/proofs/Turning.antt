@@ -1,0 +1,132 @@
+-- What stays true from piece to piece.
+use Rattle.std.proofs.Common.{◌≡◌, ℕ, ◌-◌, ◌<◌, ◌≤◌, ◌==◌, Bool, true, false, ◌&&◌, List, [], ◌∷◌, ◌++◌, length, drop, get_or, refl, sym, ap, ◌∙◌, subst, arith, inr, append_assoc}
+use Rattle.std.specs.Prelude.{if◌then◌else◌, Result, Ok}
+use Rattle.std.proofs.lemmas.List.{get_or-take, get_or-drop, length-take}
+use Rattle.dns_split.specs.declared.pieces.EndOfEntry.{EndOfEntry}
+use Rattle.dns_split.specs.declared.pieces.Piece.{Piece}
+use Rattle.dns_split.specs.declared.pieces.Piece.TheVariants.{Word as WordAt, Quote as QuoteAt, Comment as CommentAt, End as EndAt}
+use Rattle.dns_split.specs.declared.pieces.Fault.{Fault}
+use Rattle.dns_split.specs.declared.pieces.Span.{Span}
+use Rattle.dns_split.specs.Pieces.{EachWithin, IsGiven, between}
+use Rattle.zone_format.specs.declared.format.Progress.{Progress}
+use Rattle.zone_format.specs.declared.refusal.Refusal.{Refusal}
+use Rattle.zone_format.specs.declared.refusal.Refusal.TheVariants.{Wrong, Nul, OrderMark, OutOfMemory}
+use Rattle.zone_format.specs.declared.stand.Stand.{Stand}
+use Rattle.zone_format.specs.Marks.{Mark, Token, Note, gap_marks, lead, lead_at, marks, shortened}
+use Rattle.zone_format.specs.Refusal.{HasToken, IsRefused, IsUnfit, begins_order_mark}
+use Rattle.zone_format.specs.Writing.{Advances, Fits, Reaches, WritesEnd, WritesNote, WritesToken, accepts_from, first_stand, led, written_from}
+use Rattle.zone_format.proofs.Follow.{Follows}
+use Rattle.zone_format.proofs.Givens.{first_fault, pieces_in}
+
+pub record Stays (octets : List ℕ) (all : List (Result Piece Fault)) (old : List ℕ) (from : Progress) (rest : List (Result Piece Fault)) (new : List ℕ) (p : Progress) : Type 0 where
+  pub fault : first_fault rest ≡ first_fault all
+  pub within : EachWithin (length octets) rest
+  pub order : Follows p.at rest
+  pub tokens : (s e : ℕ) → HasToken s e rest → HasToken s e all
+  pub fits : Fits new p.stand
+  pub reaches : Reaches octets p
+  pub out : new ++ written_from p.stand (marks octets p.is_token p.at (pieces_in rest)) ≡ old ++ written_from from.stand (marks octets from.is_token from.at (pieces_in all))
+  pub accepted : accepts_from p.stand (marks octets p.is_token p.at (pieces_in rest)) ≡ accepts_from from.stand (marks octets from.is_token from.at (pieces_in all))
+
+-- marks were written, and those of the pieces that are left stand after them
+written_after : (octets : List ℕ) (ms : List Mark) (old : List ℕ) (p : Progress) (to : ℕ) (tied : Bool) (new : List ℕ) (q : Progress) (ps : List Piece) → Advances octets ms old p to tied new q
+    → new ++ written_from q.stand (marks octets q.is_token q.at ps) ≡ old ++ written_from p.stand (ms ++ marks octets tied to ps)
+written_after octets ms old p to tied new q ps a =
+    ap (λ b. new ++ written_from q.stand (marks octets b q.at ps)) a.is_token ∙ ap (λ n. new ++ written_from q.stand (marks octets tied n ps)) a.at ∙ a.goes (marks octets tied to ps)
+
+accepted_after : (octets : List ℕ) (ms : List Mark) (old : List ℕ) (p : Progress) (to : ℕ) (tied : Bool) (new : List ℕ) (q : Progress) (ps : List Piece) → Advances octets ms old p to tied new q
+    → accepts_from q.stand (marks octets q.is_token q.at ps) ≡ accepts_from p.stand (ms ++ marks octets tied to ps)
+accepted_after octets ms old p to tied new q ps a =
+    ap (λ b. accepts_from q.stand (marks octets b q.at ps)) a.is_token ∙ ap (λ n. accepts_from q.stand (marks octets tied n ps)) a.at ∙ a.accepts (marks octets tied to ps)
+
+stays : (octets : List ℕ) (all : List (Result Piece Fault)) (old : List ℕ) (from : Progress) (x : Piece) (rest : List (Result Piece Fault)) (mid : List ℕ) (p : Progress) (ms : List Mark) (to : ℕ) (tied : Bool) (new : List ℕ) (q : Progress)
+    → Stays octets all old from (Ok x ∷ rest) mid p → Advances octets ms mid p to tied new q
+    → ms ++ marks octets tied to (pieces_in rest) ≡ marks octets p.is_token p.at (x ∷ pieces_in rest) → Follows to rest → ((s e : ℕ) → HasToken s e rest → HasToken s e (Ok x ∷ rest))
+    → Stays octets all old from rest new q
+stays octets all old from x rest mid p ms to tied new q h a e f t = record {
+  fault = h.fault;
+  within = h.within.1;
+  order = subst (λ n. Follows n rest) (sym a.at) f;
+  tokens = λ s e k. h.tokens s e (t s e k);
+  fits = a.fits;
+  reaches = a.reaches;
+  out = written_after octets ms mid p to tied new q (pieces_in rest) a ∙ ap (λ l. mid ++ written_from p.stand l) e ∙ h.out;
+  accepted = accepted_after octets ms mid p to tied new q (pieces_in rest) a ∙ ap (accepts_from p.stand) e ∙ h.accepted;
+}
+
+pub stays_word : (octets : List ℕ) (all : List (Result Piece Fault)) (old : List ℕ) (from : Progress) (x : Span) (rest : List (Result Piece Fault)) (mid : List ℕ) (p : Progress) (new : List ℕ) (q : Progress)
+    → Stays octets all old from (Ok (WordAt x) ∷ rest) mid p → WritesToken octets p x mid new q → Stays octets all old from rest new q
+stays_word octets all old from x rest mid p new q h a =
+    stays octets all old from (WordAt x) rest mid p _ x.end true new q h a
+    (append_assoc (gap_marks octets p.at x.start) (Token (p.is_token && (x.start == p.at)) (between octets x.start x.end) ∷ []) (marks octets true x.end (pieces_in rest))) h.order.1 (λ s e k. inr k)
+
+pub stays_quote : (octets : List ℕ) (all : List (Result Piece Fault)) (old : List ℕ) (from : Progress) (x : Span) (rest : List (Result Piece Fault)) (mid : List ℕ) (p : Progress) (new : List ℕ) (q : Progress)
+    → Stays octets all old from (Ok (QuoteAt x) ∷ rest) mid p → WritesToken octets p x mid new q → Stays octets all old from rest new q
+stays_quote octets all old from x rest mid p new q h a =
+    stays octets all old from (QuoteAt x) rest mid p _ x.end true new q h a
+    (append_assoc (gap_marks octets p.at x.start) (Token (p.is_token && (x.start == p.at)) (between octets x.start x.end) ∷ []) (marks octets true x.end (pieces_in rest))) h.order.1 (λ s e k. inr k)
+
+pub stays_note : (octets : List ℕ) (all : List (Result Piece Fault)) (old : List ℕ) (from : Progress) (x : Span) (rest : List (Result Piece Fault)) (mid : List ℕ) (p : Progress) (new : List ℕ) (q : Progress)
+    → Stays octets all old from (Ok (CommentAt x) ∷ rest) mid p → WritesNote octets p x mid new q → Stays octets all old from rest new q
+stays_note octets all old from x rest mid p new q h a =
+    stays octets all old from (CommentAt x) rest mid p _ x.end false new q h a
+    (append_assoc (gap_marks octets p.at x.start) (Note (shortened (between octets x.start x.end)) ∷ []) (marks octets false x.end (pieces_in rest))) h.order.1 (λ s e k. k)
+
+pub stays_end : (octets : List ℕ) (all : List (Result Piece Fault)) (old : List ℕ) (from : Progress) (x : EndOfEntry) (rest : List (Result Piece Fault)) (mid : List ℕ) (p : Progress) (new : List ℕ) (q : Progress)
+    → Stays octets all old from (Ok (EndAt x) ∷ rest) mid p → WritesEnd octets p x.at mid new q → Stays octets all old from rest new q
+stays_end octets all old from x rest mid p new q h a =
+    stays octets all old from (EndAt x) rest mid p _ x.at false new q h a
+    (append_assoc (gap_marks octets p.at x.at) (lead (lead_at octets x.at)) (marks octets false x.at (pieces_in rest))) h.order.1 (λ s e k. k)
+
+-- a token that may not be written
+pub unfit_refused : (octets : List ℕ) (s e : ℕ) (given : List (Result Piece Fault)) → IsGiven octets given → HasToken s e given → s ≤ e → e ≤ length octets
+    → (r : Refusal) → IsUnfit (between octets s e) s r → IsRefused octets r
+unfit_refused octets s e given i k o w (Wrong f) u = absurd u
+unfit_refused octets s e given i k o w (Nul at) u =
+    let short : length (between octets s e) ≤ e - s = omega (arith, length-take (e - s) (drop s octets)) in
+    let less : u.0 < e - s = omega (arith, u.2, short) in (
+      s,
+      e,
+      (given, i, k),
+      omega (arith, u.1),
+      omega (arith, u.1, less, o),
+      ap (λ n. get_or octets n 0) u.1 ∙ sym (get_or-drop s octets u.0 0) ∙ sym (get_or-take (e - s) (drop s octets) u.0 0 less) ∙ u.3,
+    )
+unfit_refused octets s e given i k o w (OrderMark at) u = (
+  e,
+  (given, i, subst (λ n. HasToken n e given) (sym u.0) k),
+  ap (λ n. begins_order_mark (between octets n e)) u.0 ∙ u.1,
+)
+unfit_refused octets s e given i k o w OutOfMemory u = tt
+
+-- the beginning
+first_is : (b c : Bool) (s t : Stand) → t ≡ first_stand → s ≡ (if b then led t else t) → b ≡ c → s ≡ (if c then led first_stand else first_stand)
+first_is b c s t e f g = f ∙ ap (λ y. if y then led t else t) g ∙ ap (λ x. if c then led x else x) e
+
+led_fits : (c : Bool) (octets : List ℕ) → Fits octets (if c then led first_stand else first_stand)
+led_fits true octets = record { moved = omega arith; few = omega arith }
+led_fits false octets = record { moved = omega arith; few = omega arith }
+
+pub first_fits : (octets : List ℕ) (b c : Bool) (s t : Stand) → t ≡ first_stand → s ≡ (if b then led t else t) → b ≡ c → Fits octets s
+first_fits octets b c s t e f g = subst (Fits octets) (sym (first_is b c s t e f g)) (led_fits c octets)
+
+led_reaches : (c : Bool) (octets : List ℕ) → Reaches octets (record { stand = if c then led first_stand else first_stand; at = 0; is_token = false })
+led_reaches true octets = record { within = omega arith; depth = omega arith }
+led_reaches false octets = record { within = omega arith; depth = omega arith }
+
+pub first_reaches : (octets : List ℕ) (b c : Bool) (s t : Stand) → t ≡ first_stand → s ≡ (if b then led t else t) → b ≡ c → Reaches octets (record { stand = s; at = 0; is_token = false })
+first_reaches octets b c s t e f g = subst (λ (x : Stand). Reaches octets (record { stand = x; at = 0; is_token = false })) (sym (first_is b c s t e f g)) (led_reaches c octets)
+
+led_written : (c : Bool) (ms : List Mark) → written_from (if c then led first_stand else first_stand) ms ≡ written_from first_stand (lead c ++ ms)
+led_written true ms = refl
+led_written false ms = refl
+
+pub first_written : (b c : Bool) (s t : Stand) (ms : List Mark) → t ≡ first_stand → s ≡ (if b then led t else t) → b ≡ c → written_from s ms ≡ written_from first_stand (lead c ++ ms)
+first_written b c s t ms e f g = ap (λ x. written_from x ms) (first_is b c s t e f g) ∙ led_written c ms
+
+led_accepted : (c : Bool) (ms : List Mark) → accepts_from (if c then led first_stand else first_stand) ms ≡ accepts_from first_stand (lead c ++ ms)
+led_accepted true ms = refl
+led_accepted false ms = refl
+
+pub first_accepted : (b c : Bool) (s t : Stand) (ms : List Mark) → t ≡ first_stand → s ≡ (if b then led t else t) → b ≡ c → accepts_from s ms ≡ accepts_from first_stand (lead c ++ ms)
+first_accepted b c s t ms e f g = ap (λ x. accepts_from x ms) (first_is b c s t e f g) ∙ led_accepted c ms

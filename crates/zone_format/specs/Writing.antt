@@ -1,0 +1,151 @@
+-- Marks written one after another.
+use Rattle.std.specs.Prelude.{◌≡◌, ◌≤◌, ℕ, ◌+◌, ◌-◌, Bool, true, false, ◌&&◌, ◌==◌, not, if◌then◌else◌, List, [], ◌∷◌, ◌++◌, length, replicate}
+use Rattle.dns_symbol.specs.Characters.{line_feed, space as blank, open_parenthesis, close_parenthesis}
+use Rattle.dns_split.specs.Pieces.{between}
+use Rattle.dns_split.specs.declared.pieces.Span.{Span}
+use Rattle.zone_format.specs.declared.columns.Turn.{Turn}
+use Rattle.zone_format.specs.declared.columns.Turn.TheVariants.{Edge, Led, Inside, Rest}
+use Rattle.zone_format.specs.declared.format.Progress.{Progress}
+use Rattle.zone_format.specs.declared.stand.Above.{Above}
+use Rattle.zone_format.specs.declared.stand.Above.TheVariants.{Nothing, Line}
+use Rattle.zone_format.specs.declared.stand.Stand.{Stand}
+use Rattle.zone_format.specs.Columns.{width_of, token_column, after_token, parenthesis_column, note_column, moved_in}
+use Rattle.zone_format.specs.Form.{blank_below, gap, led_turn, start}
+use Rattle.zone_format.specs.Refusal.{begins_order_mark, has_no_nul}
+use Rattle.zone_format.specs.Marks.{Mark, Token, Note, Open, Close, Feed, Lead, gap_marks, lead, lead_at, shortened}
+
+-- a line is empty
+abbrev pub is_start : Turn → Bool
+is_start Edge = true
+is_start Led = true
+is_start Inside = true
+is_start _ = false
+
+abbrev pub first_stand : Stand
+first_stand = record { above = Nothing; depth = 0; noted = 0; note = 0; turn = Edge; end = 0 }
+
+-- after a line's end
+abbrev pub fed : Stand → Stand
+fed s = record { above = if is_start s.turn then blank_below s.above else Line; depth = s.depth; noted = s.note; note = 0; turn = start s.depth; end = 0 }
+
+-- a line that is not empty ends
+abbrev pub ended : Stand → List ℕ
+ended s = if is_start s.turn then [] else line_feed ∷ []
+
+-- after a blank that an entry begins with
+abbrev pub led : Stand → Stand
+led s = record { above = s.above; depth = s.depth; noted = s.noted; note = s.note; turn = led_turn s.turn; end = s.end }
+
+abbrev pub pushed : Stand → ℕ → ℕ → Turn → ℕ → Stand
+pushed s depth note turn end = record { above = s.above; depth = depth; noted = s.noted; note = note; turn = turn; end = end }
+
+-- after a token, a comment or a parenthesis
+abbrev pub pushed_token : Stand → Bool → List ℕ → Stand
+pushed_token s glued t = pushed s s.depth s.note (after_token s.turn s.end glued t) ((token_column s.turn s.end glued t - 1) + width_of t)
+
+abbrev pub pushed_note : Stand → List ℕ → Stand
+pushed_note s t = pushed s s.depth (note_column s.noted s.turn s.end t) Rest ((note_column s.noted s.turn s.end t - 1) + width_of t)
+
+abbrev pub pushed_parenthesis : Stand → ℕ → Stand
+pushed_parenthesis s depth = pushed s depth s.note Rest (parenthesis_column s.turn s.end)
+
+-- what stands before something at a column: a blank line above, and spaces
+abbrev pub before : Stand → ℕ → List ℕ
+before s column = (if is_start s.turn then gap line_feed s.above else []) ++ replicate (column - (s.end + 1)) blank
+
+abbrev pub token_before : Stand → Bool → List ℕ → List ℕ
+token_before s glued t = before s (token_column s.turn s.end glued t)
+
+abbrev pub note_before : Stand → List ℕ → List ℕ
+note_before s t = before s (note_column s.noted s.turn s.end t)
+
+abbrev pub parenthesis_before : Stand → List ℕ
+parenthesis_before s = before s (parenthesis_column s.turn s.end)
+
+-- what marks are written as
+abbrev pub written_from : Stand → List Mark → List ℕ
+written_from s [] = ended s
+written_from s (Token glued t ∷ ms) = token_before s glued t ++ (t ++ written_from (pushed_token s glued t) ms)
+written_from s (Note t ∷ ms) = note_before s t ++ (t ++ written_from (pushed_note s t) ms)
+written_from s (Open ∷ ms) = parenthesis_before s ++ (open_parenthesis ∷ written_from (pushed_parenthesis s (s.depth + 1)) ms)
+written_from s (Close ∷ ms) = parenthesis_before s ++ (close_parenthesis ∷ written_from (pushed_parenthesis s (s.depth - 1)) ms)
+written_from s (Feed ∷ ms) = ended s ++ written_from (fed s) ms
+written_from s (Lead ∷ ms) = written_from (led s) ms
+
+-- the first thing of a text, in the first column
+abbrev pub is_edge : Above → Turn → Bool
+is_edge Nothing Edge = true
+is_edge _ _ = false
+
+-- a token may be written: it has no NUL, and does not begin the text with a byte order mark
+abbrev pub accepts : Stand → List ℕ → Bool
+accepts s t = has_no_nul t && not (is_edge s.above s.turn && begins_order_mark t)
+
+-- each token may be written
+abbrev pub accepts_from : Stand → List Mark → Bool
+accepts_from s [] = true
+accepts_from s (Token glued t ∷ ms) = accepts s t && accepts_from (pushed_token s glued t) ms
+accepts_from s (Note t ∷ ms) = accepts_from (pushed_note s t) ms
+accepts_from s (Open ∷ ms) = accepts_from (pushed_parenthesis s (s.depth + 1)) ms
+accepts_from s (Close ∷ ms) = accepts_from (pushed_parenthesis s (s.depth - 1)) ms
+accepts_from s (Feed ∷ ms) = accepts_from (fed s) ms
+accepts_from s (Lead ∷ ms) = accepts_from (led s) ms
+
+-- a line has no more characters than octets were written, and its columns are moved no further
+pub record Fits (octets : List ℕ) (s : Stand) : Type 0 where
+  pub moved : moved_in s.turn ≤ s.end
+  pub few : s.end ≤ length octets
+
+-- marks were written: what is left to write of others is the same
+abbrev pub Goes : List Mark → List ℕ → Stand → List ℕ → Stand → Type 0
+Goes ms old s new t = (more : List Mark) → new ++ written_from t more ≡ old ++ written_from s (ms ++ more)
+
+-- and accepted
+abbrev pub Accepts : List Mark → Stand → Stand → Type 0
+Accepts ms s t = (more : List Mark) → accepts_from t more ≡ accepts_from s (ms ++ more)
+
+-- marks were written, and writing stands after them, with no more parentheses open than so many octets may open
+pub record Moves (ms : List Mark) (old : List ℕ) (s : Stand) (most : ℕ) (new : List ℕ) (t : Stand) : Type 0 where
+  pub goes : Goes ms old s new t
+  pub accepts : Accepts ms s t
+  pub fits : Fits new t
+  pub depth : t.depth ≤ s.depth + most
+
+-- a token, a comment or a parenthesis was appended, and writing stands after it
+pub record PushesToken (old : List ℕ) (s : Stand) (glued : Bool) (t new : List ℕ) (after : Stand) : Type 0 where
+  pub stand : after ≡ pushed_token s glued t
+  pub out : new ≡ old ++ (token_before s glued t ++ t)
+  pub fits : Fits new after
+
+pub record PushesNote (old : List ℕ) (s : Stand) (t new : List ℕ) (after : Stand) : Type 0 where
+  pub stand : after ≡ pushed_note s t
+  pub out : new ≡ old ++ (note_before s t ++ t)
+  pub fits : Fits new after
+
+pub record PushesParenthesis (old : List ℕ) (s : Stand) (octet depth : ℕ) (new : List ℕ) (after : Stand) : Type 0 where
+  pub stand : after ≡ pushed_parenthesis s depth
+  pub out : new ≡ old ++ (parenthesis_before s ++ octet ∷ [])
+  pub fits : Fits new after
+
+-- how far octets are written
+pub record Reaches (octets : List ℕ) (p : Progress) : Type 0 where
+  pub within : p.at ≤ length octets
+  pub depth : p.stand.depth ≤ p.at
+
+-- marks were written, up to a place
+pub record Advances (octets : List ℕ) (ms : List Mark) (old : List ℕ) (p : Progress) (to : ℕ) (tied : Bool) (new : List ℕ) (q : Progress) : Type 0 where
+  pub goes : Goes ms old p.stand new q.stand
+  pub accepts : Accepts ms p.stand q.stand
+  pub fits : Fits new q.stand
+  pub reaches : Reaches octets q
+  pub at : q.at ≡ to
+  pub is_token : q.is_token ≡ tied
+
+abbrev pub WritesToken : List ℕ → Progress → Span → List ℕ → List ℕ → Progress → Type 0
+WritesToken octets p span old new q = Advances octets (gap_marks octets p.at span.start ++ (Token (p.is_token && (span.start == p.at)) (between octets span.start span.end) ∷ [])) old p span.end true new q
+
+abbrev pub WritesNote : List ℕ → Progress → Span → List ℕ → List ℕ → Progress → Type 0
+WritesNote octets p span old new q = Advances octets (gap_marks octets p.at span.start ++ (Note (shortened (between octets span.start span.end)) ∷ [])) old p span.end false new q
+
+abbrev pub WritesEnd : List ℕ → Progress → ℕ → List ℕ → List ℕ → Progress → Type 0
+WritesEnd octets p at old new q = Advances octets (gap_marks octets p.at at ++ lead (lead_at octets at)) old p at false new q

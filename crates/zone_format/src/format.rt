@@ -1,0 +1,200 @@
+//! Zone text in its canonical form.
+ghost use Rattle.std.specs.Prelude.{◌≡◌, ◌+◌, ◌<◌, ◌≤◌, ◌^◌, IfErr, IfOk, IfSome, IsNone};
+ghost use Rattle.std.specs.Prelude.{if◌then◌else◌, length, slice_index, true};
+ghost use Rattle.dns_split.specs.Pieces.{between};
+ghost use Rattle.zone_format.specs.Marks.{lead_at, shortened};
+ghost use Rattle.zone_format.specs.Refusal.{begins_order_mark, has_no_nul, IsRefused, IsUnfit};
+ghost use Rattle.zone_format.specs.Formats.{Formats};
+ghost use Rattle.zone_format.specs.Writing.{accepts, Fits, is_edge, led, Reaches};
+ghost use Rattle.zone_format.specs.Writing.{WritesEnd, WritesNote, WritesToken};
+
+use crate::columns::{Turn, is_blank};
+use crate::refusal::Refusal;
+use crate::stand::{Above, Stand};
+use crate::writing::{push_end, push_gap, push_note, push_token};
+use dns_split::pieces::{Piece, Pieces, Span};
+use std::alloc::{AllocError, Allocator};
+
+/// A comment without the blanks at its end.
+fn shortened(comment: &[u8]) -> &[u8]
+    ensures { result.now ≡ shortened comment.now }
+{
+    let mut end = comment.len();
+    while end > 0 && is_blank(comment[end - 1]) {
+        end -= 1;
+    }
+    &comment[..end]
+}
+
+/// Whether octets begin with a blank from a place on.
+fn blank_at(octets: &[u8], at: usize) -> bool
+    ensures { result ≡ lead_at octets.now at }
+{
+    match octets.get(at) {
+        Some(octet) => is_blank(*octet),
+        None => false,
+    }
+}
+
+/// Where NUL stands among octets.
+fn find_nul(octets: &[u8]) -> Option<usize>
+    ensures some { IfSome result (λ i. (i < length octets.now) × (slice_index octets.now i ≡ 0)) }
+    ensures none { IsNone result → has_no_nul octets.now ≡ true }
+{
+    let mut place = 0;
+    while place < octets.len() {
+        if octets[place] == 0 {
+            return Some(place);
+        }
+        place += 1;
+    }
+    None
+}
+
+/// Whether octets begin with the byte order mark of UTF-8, or with one of UTF-16.
+fn begins_order_mark(octets: &[u8]) -> bool
+    ensures { result ≡ begins_order_mark octets.now }
+{
+    octets.starts_with(&[0xEF, 0xBB, 0xBF])
+        || octets.starts_with(&[0xFE, 0xFF])
+        || octets.starts_with(&[0xFF, 0xFE])
+}
+
+impl Stand {
+    /// After a blank at an entry's beginning, if there is one.
+    fn led_if(self, is_blank: bool) -> Stand
+        ensures { result ≡ (if is_blank then led self else self) }
+    {
+        if is_blank { self.led() } else { self }
+    }
+
+    /// Whether what comes next is the first thing of a text, in the first column.
+    fn is_edge(self) -> bool
+        ensures { result ≡ is_edge self.above self.turn }
+    {
+        match (self.above, self.turn) {
+            (Above::Nothing, Turn::Edge) => true,
+            _ => false,
+        }
+    }
+}
+
+/// Whether a token may be written, which begins at a place.
+fn accept(token: &[u8], stand: Stand, start: usize) -> Result<(), Refusal>
+    requires { start + length token.now < 2 ^ 64 }
+    ensures well { IfOk result (λ _. accepts stand token.now ≡ true) }
+    ensures bad { IfErr result (IsUnfit token.now start) }
+{
+    if let Some(place) = find_nul(token) {
+        return Err(Refusal::Nul(start + place));
+    }
+    if stand.is_edge() && begins_order_mark(token) {
+        return Err(Refusal::OrderMark(start));
+    }
+    Ok(())
+}
+
+/// How far octets are written: where writing stands, how many were read, and whether they end with
+/// a token.
+#[derive(Clone, Copy)]
+pub(crate) struct Progress {
+    pub(crate) stand: Stand,
+    pub(crate) at: usize,
+    pub(crate) is_token: bool,
+}
+
+/// Appends a token after what stands before it.
+fn write_token<A: Allocator>(
+    octets: &[u8],
+    progress: Progress,
+    span: Span,
+    out: &mut Vec<u8, A>,
+) -> Result<Progress, Refusal>
+    requires fits { Fits out.old.items progress.stand }
+    requires reaches { Reaches octets.now progress }
+    requires order { progress.at ≤ span.start }
+    requires some { span.start ≤ span.end }
+    requires room { length octets.now < 2 ^ 62 }
+    requires within { span.end ≤ length octets.now }
+    ensures well { IfOk result (WritesToken octets.now progress span out.old.items out.new.items) }
+    ensures bad { IfErr result (IsUnfit (between octets.now span.start span.end) span.start) }
+{
+    let stand = push_gap(out, progress.stand, &octets[progress.at..span.start])?;
+    let token = span.of_octets(octets);
+    accept(token, stand, span.start)?;
+    let is_glued = progress.is_token && span.start == progress.at;
+    Ok(Progress {
+        stand: push_token(out, stand, is_glued, token)?,
+        at: span.end,
+        is_token: true,
+    })
+}
+
+/// Appends a comment after what stands before it.
+fn write_note<A: Allocator>(
+    octets: &[u8],
+    progress: Progress,
+    span: Span,
+    out: &mut Vec<u8, A>,
+) -> Result<Progress, AllocError>
+    requires fits { Fits out.old.items progress.stand }
+    requires reaches { Reaches octets.now progress }
+    requires order { progress.at ≤ span.start }
+    requires some { span.start ≤ span.end }
+    requires within { span.end ≤ length octets.now }
+    ensures { IfOk result (WritesNote octets.now progress span out.old.items out.new.items) }
+{
+    let stand = push_gap(out, progress.stand, &octets[progress.at..span.start])?;
+    Ok(Progress {
+        stand: push_note(out, stand, shortened(span.of_octets(octets)))?,
+        at: span.end,
+        is_token: false,
+    })
+}
+
+/// Appends what stands before the end of an entry.
+fn write_end<A: Allocator>(
+    octets: &[u8],
+    progress: Progress,
+    at: usize,
+    out: &mut Vec<u8, A>,
+) -> Result<Progress, AllocError>
+    requires fits { Fits out.old.items progress.stand }
+    requires reaches { Reaches octets.now progress }
+    requires order { progress.at ≤ at }
+    requires within { at ≤ length octets.now }
+    ensures { IfOk result (WritesEnd octets.now progress at out.old.items out.new.items) }
+{
+    let stand = push_gap(out, progress.stand, &octets[progress.at..at])?;
+    Ok(Progress {
+        stand: stand.led_if(blank_at(octets, at)),
+        at,
+        is_token: false,
+    })
+}
+
+/// Appends the form of octets.
+///
+/// After an error `out` has more octets, of which nothing is said.
+pub fn format<A: Allocator>(octets: &[u8], out: &mut Vec<u8, A>) -> Result<(), Refusal>
+    requires { length octets.now < 2 ^ 62 }
+    ensures well { IfOk result (λ _. Formats octets.now out.old.items out.new.items) }
+    ensures bad { IfErr result (IsRefused octets.now) }
+{
+    let mut progress = Progress {
+        stand: Stand::first().led_if(blank_at(octets, 0)),
+        at: 0,
+        is_token: false,
+    };
+    for piece in Pieces::of_octets(octets) {
+        match piece {
+            Ok(Piece::Word(span)) => progress = write_token(octets, progress, span, out)?,
+            Ok(Piece::Quote(span)) => progress = write_token(octets, progress, span, out)?,
+            Ok(Piece::Comment(span)) => progress = write_note(octets, progress, span, out)?,
+            Ok(Piece::End(end)) => progress = write_end(octets, progress, end.at, out)?,
+            Err(fault) => return Err(Refusal::Wrong(fault)),
+        }
+    }
+    push_end(out, progress.stand)?;
+    Ok(())
+}

@@ -1,0 +1,158 @@
+//! Where writing stands: on a line, and below others.
+ghost use Rattle.std.specs.Prelude.{◌≡◌, ◌+◌, ◌-◌, ◌<◌, ◌≤◌, ◌^◌};
+ghost use Rattle.zone_format.specs.Columns.{after_token, token_column, width_of};
+ghost use Rattle.zone_format.specs.Form.{blank_below, start};
+ghost use Rattle.zone_format.specs.Writing.{fed, first_stand, is_start, led, pushed, pushed_token};
+
+use crate::columns::Turn;
+
+/// What stands above a line.
+#[derive(Clone, Copy)]
+pub(crate) enum Above {
+    /// Blank lines alone, or nothing.
+    Nothing,
+    /// A line that is not blank.
+    Line,
+    /// A blank line, and further up one that is not blank.
+    Gap,
+}
+
+impl Above {
+    /// What stands above the line below a blank one.
+    fn blank_below(self) -> Above
+        ensures { result ≡ blank_below self }
+    {
+        match self {
+            Above::Nothing => Above::Nothing,
+            Above::Line | Above::Gap => Above::Gap,
+        }
+    }
+}
+
+/// Where writing stands.
+#[derive(Clone, Copy)]
+pub(crate) struct Stand {
+    pub(crate) above: Above,
+    /// How many parentheses are open.
+    pub(crate) depth: usize,
+    /// The column of the comment of the line directly above, or 0.
+    pub(crate) noted: usize,
+    /// The column of the comment of this line, or 0.
+    pub(crate) note: usize,
+    pub(crate) turn: Turn,
+    /// How many characters the line has.
+    pub(crate) end: usize,
+}
+
+impl Turn {
+    /// Whether a line is empty.
+    pub(crate) fn is_start(self) -> bool
+        ensures { result ≡ is_start self }
+    {
+        match self {
+            Turn::Edge | Turn::Led | Turn::Inside => true,
+            _ => false,
+        }
+    }
+}
+
+/// How a line begins where so many parentheses are open.
+fn start(depth: usize) -> Turn
+    ensures { result ≡ start depth }
+{
+    if depth == 0 { Turn::Edge } else { Turn::Inside }
+}
+
+impl Stand {
+    /// At the beginning of a text.
+    pub(crate) fn first() -> Stand
+        ensures { result ≡ first_stand }
+    {
+        Stand {
+            above: Above::Nothing,
+            depth: 0,
+            noted: 0,
+            note: 0,
+            turn: Turn::Edge,
+            end: 0,
+        }
+    }
+
+    /// After a line's end.
+    pub(crate) fn fed(self) -> Stand
+        ensures { result ≡ fed self }
+    {
+        let above = if self.turn.is_start() {
+            self.above.blank_below()
+        } else {
+            Above::Line
+        };
+        Stand {
+            above,
+            depth: self.depth,
+            noted: self.note,
+            note: 0,
+            turn: start(self.depth),
+            end: 0,
+        }
+    }
+
+    /// After a blank that an entry begins with.
+    pub(crate) fn led(self) -> Stand
+        ensures { result ≡ led self }
+    {
+        match self.turn {
+            Turn::Edge => Stand {
+                turn: Turn::Led,
+                ..self
+            },
+            _ => self,
+        }
+    }
+
+    /// After a token at a column.
+    pub(crate) fn after_token(
+        self,
+        is_glued: bool,
+        token: &[u8],
+        width: usize,
+        column: usize,
+    ) -> Stand
+        requires room { self.end + width + 200 < 2 ^ 64 }
+        requires width { width ≡ width_of token.now }
+        requires column { column ≡ token_column self.turn self.end is_glued token.now }
+        requires narrow { column < self.end + 64 }
+        ensures { result ≡ pushed_token self is_glued token.now }
+    {
+        Stand {
+            turn: self.turn.after_token(self.end, is_glued, token, width),
+            end: column.saturating_sub(1) + width,
+            ..self
+        }
+    }
+
+    /// After a comment of some characters at a column.
+    pub(crate) fn after_note(self, width: usize, column: usize) -> Stand
+        requires { column + width < 2 ^ 64 }
+        ensures { result ≡ pushed self self.depth column Turn.Rest ((column - 1) + width) }
+    {
+        Stand {
+            note: column,
+            turn: Turn::Rest,
+            end: column.saturating_sub(1) + width,
+            ..self
+        }
+    }
+
+    /// After a parenthesis at a column, where then so many are open.
+    pub(crate) fn after_parenthesis(self, depth: usize, column: usize) -> Stand
+        ensures { result ≡ pushed self depth self.note Turn.Rest column }
+    {
+        Stand {
+            depth,
+            turn: Turn::Rest,
+            end: column,
+            ..self
+        }
+    }
+}

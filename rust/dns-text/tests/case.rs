@@ -1,0 +1,49 @@
+//! Names and character strings compare and hash without the case of ASCII letters.
+use dns_text::{CharStr, Name};
+use std::collections::hash_map::DefaultHasher;
+use std::collections::HashSet;
+use std::hash::{Hash, Hasher};
+
+fn hash_of(value: &impl Hash) -> u64 {
+    let mut state = DefaultHasher::new();
+    value.hash(&mut state);
+    state.finish()
+}
+
+fn name(text: &[u8]) -> Name {
+    Name::from_text(text).unwrap()
+}
+
+fn string(octets: &[u8]) -> CharStr {
+    CharStr::from_octets(octets.to_vec()).unwrap()
+}
+
+#[test]
+fn names_without_case() {
+    let (upper, lower) = (name(b"WWW.EXAMPLE."), name(b"www.example."));
+    assert_eq!(upper, lower);
+    assert_eq!(hash_of(&upper), hash_of(&lower));
+    let names = HashSet::from([upper.clone()]);
+    assert!(names.contains(&lower));
+    assert!(!names.contains(&name(b"www.example")));
+    assert!(!names.contains(&name(br"www\.example.")));
+    assert_eq!(upper.to_string(), "WWW.EXAMPLE.");
+    assert_ne!(name(b"a"), name(b"b"));
+    // What differs by 32 and is no letter, and octets above 127.
+    assert_ne!(name(b"@"), name(b"`"));
+    assert_ne!(name(b"[x"), name(b"{x"));
+    assert_ne!(name(br"\192"), name(br"\224"));
+}
+
+#[test]
+fn strings_without_case() {
+    let (upper, lower) = (string(b"AbZ"), string(b"aBz"));
+    assert_eq!(upper, lower);
+    assert_eq!(hash_of(&upper), hash_of(&lower));
+    let strings = HashSet::from([upper]);
+    assert!(strings.contains(&lower));
+    assert!(!strings.contains(&string(b"abz ")));
+    assert_ne!(string(b"@[`{"), string(b"`{@["));
+    assert_ne!(string(&[0xC0]), string(&[0xE0]));
+    assert_ne!(string(b""), string(b"a"));
+}

@@ -1,0 +1,86 @@
+//! The rows of `crates/test_rows/stdin` that the crate's own calls can answer.
+use dns_text::codec::{Encoding, BASE16, BASE32HEX, BASE64};
+use dns_text::{CharStr, Name};
+
+/// The octets that a field spells: `%` and two hexadecimal digits are an octet.
+fn octets_of(field: &str) -> Vec<u8> {
+    let mut parts = field.split('%');
+    let mut octets = parts.next().unwrap_or("").as_bytes().to_vec();
+    for part in parts {
+        octets.push(u8::from_str_radix(&part[..2], 16).unwrap());
+        octets.extend_from_slice(&part.as_bytes()[2..]);
+    }
+    octets
+}
+
+/// An answer, or `None` for a refusal, whose text is not compared: here it has a place.
+type Answer = Option<Vec<u8>>;
+
+fn encoding(name: &str) -> Option<Encoding> {
+    match name {
+        "base16" => Some(BASE16),
+        "base32" => Some(BASE32HEX),
+        "base64" => Some(BASE64),
+        _ => None,
+    }
+}
+
+fn string(octets: Vec<u8>, text: fn(CharStr) -> String) -> Answer {
+    CharStr::from_octets(octets)
+        .ok()
+        .map(|it| text(it).into_bytes())
+}
+
+fn name(octets: Vec<u8>, text: fn(Name) -> String) -> Answer {
+    Name::from_octets(octets)
+        .ok()
+        .map(|it| text(it).into_bytes())
+}
+
+/// What a call makes of its input; none where it is no call of this crate.
+fn answer(call: &str, input: Vec<u8>) -> Option<Answer> {
+    let (group, what) = call.split_once('.')?;
+    if let Some(encoding) = encoding(group) {
+        return match what {
+            "print" => Some(Some(encoding.print(&input).into_bytes())),
+            "read" => Some(encoding.read(&input).ok()),
+            _ => None,
+        };
+    }
+    match call {
+        "charstr.read" => Some(CharStr::from_text(&input).ok().map(CharStr::into_octets)),
+        "charstr.octets" => {
+            let read = CharStr::from_octets_text(&input);
+            Some(read.ok().map(CharStr::into_octets))
+        }
+        "charstr.of" => Some(CharStr::from_octets(input).ok().map(CharStr::into_octets)),
+        "charstr.plain" => Some(string(input, |it| it.to_string())),
+        "charstr.quoted" if input.len() < 256 => Some(string(input, |it| it.quoted())),
+        "charstr.unquoted" if input.len() < 256 => Some(string(input, |it| it.unquoted())),
+        "name.read" => Some(Name::from_text(&input).ok().map(Name::into_octets)),
+        "name.plain" => Some(name(input, |it| it.to_string())),
+        "name.zone" => Some(name(input, |it| it.zone_text())),
+        _ => None,
+    }
+}
+
+#[test]
+fn rows_agree() {
+    let rows = concat!(env!("CARGO_MANIFEST_DIR"), "/../../crates/test_rows/stdin");
+    let mut count = 0;
+    for line in std::fs::read_to_string(rows).unwrap().lines() {
+        let fields: Vec<&str> = line.split('\t').collect();
+        let [call, input, wanted] = fields[..] else {
+            continue;
+        };
+        if let Some(found) = answer(call, octets_of(input)) {
+            let wanted = match wanted.strip_prefix('!') {
+                Some(_) => None,
+                None => Some(octets_of(wanted)),
+            };
+            assert_eq!(found, wanted, "{line}");
+            count += 1;
+        }
+    }
+    assert!(count > 100, "{count} rows");
+}
