@@ -11,6 +11,7 @@ ghost use Rattle.dns_entry.specs.Line.{AreContents, IsLine, line_document};
 ghost use Rattle.dns_laws.specs.Lines.{GivesField, IsRefusal, IsScannedOf, kind_of, line_entries};
 
 use crate::encodings::{base64_is_scanned_back, hex_is_scanned_back};
+use crate::layouts::values_split;
 use dns_charstr::charstr::CharStr;
 use dns_entry::entry::{EntryError, EntryLine, Field, FieldKind};
 use dns_entry::laws::lines_are_lines;
@@ -19,7 +20,6 @@ use dns_scan::laws::character_strings_are_scanned_back;
 use dns_scan::{Scan, Scanner};
 use dns_split::splitting::{SplitError, split};
 use dns_zone::zonefile_fmt::DisplayKind;
-use dns_zone_laws::laws::values_split;
 use std::alloc::{AllocError, Allocator};
 
 /// Each layout of a line splits into one entry, whose tokens are its fields' texts, and into

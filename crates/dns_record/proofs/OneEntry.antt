@@ -4,7 +4,7 @@ use Rattle.dns_split.specs.Answer.{texts, entries_of}
 use Rattle.dns_split.specs.Splitting.{Entries, Splits, SplitsOnlyInto}
 use Rattle.dns_zone.specs.Documents.{IsWellFormed}
 use Rattle.dns_zone.specs.Layout.{Step}
-use Rattle.dns_zone_laws.specs.Entries.{document_entries}
+use Rattle.dns_laws.specs.Entries.{document_entries}
 use Rattle.dns_record.specs.Parts.{Part, IsLaidOut, steps_of, values_of}
 use Rattle.dns_record.specs.Values.{AreValues}
 use Rattle.dns_record.proofs.Parts.{parts_entry, parts_formed, tokens_of}

@@ -23,10 +23,10 @@ use Rattle.dns_scan.specs.Octets.{quoted_token, unquoted_token}
 use Rattle.dns_scan.specs.Tokens.{Token}
 use Rattle.dns_zone.specs.Documents.{IsWellFormed, IsComment, IsProper}
 use Rattle.dns_zone.specs.Nesting.{is_nested}
-use Rattle.dns_zone_laws.specs.Entries.{document_entries}
+use Rattle.dns_laws.specs.Entries.{document_entries}
 use Rattle.dns_wire.specs.Wire.{EndsInRoot}
 use Rattle.dns_wire.specs.ZoneText.{zone_text}
-use Rattle.dns_zone_laws.proofs.ZoneNames.{zone_word}
+use Rattle.dns_laws.proofs.ZoneNames.{zone_word}
 use Rattle.dns_iter.specs.Contents.{IsContent, AreContents}
 use Rattle.dns_record.specs.Parts.{Part, field, unquoted, note, opens, closes, value_token, steps_of, values_of, is_note_ascii, is_plain, IsLaidOut}
 use Rattle.dns_record.specs.Values.{Value, number8, number16, number32, name, hex, base64_octets, string, listed, IsValue, IsText, AreValues, AreTexts}

@@ -13,7 +13,7 @@ use dns_octets::{AsOctetsMut, EmptyBuilder, FreezeBuilder, FromBuilder, Truncate
 use dns_scan::{Scanner, ScannerError};
 use dns_split::splitting::split;
 use dns_zone::zonefile_fmt::{DisplayKind, ZonefileFmt};
-use dns_zone_laws::laws::values_split;
+use dns_laws::layouts::values_split;
 use std::alloc::Allocator;
 
 /// The data of a record over these octets, and over memory from `A` where it holds a list.

@@ -17,8 +17,8 @@ pub use dns_charstr::charstr;
 pub use dns_codec::{base16, base32, base64};
 pub use dns_entry::entry;
 pub use dns_name::{chain, name};
-pub use dns_program::program;
 pub use dns_zone::{document, zonefile_fmt};
+pub use dnstext_lib::program;
 
 /// The units of the text form.
 pub mod symbol {

@@ -4,8 +4,8 @@ use Rattle.std.specs.List.{FoldsTo}
 use Rattle.std.specs.Fmt.{WritesInCalls}
 use Rattle.std.specs.Io.KnownBytes.{Appends, Keeps}
 use Rattle.std.proofs.lemmas.Fmt.{contents_after_writes}
-use Rattle.dns_program.specs.Program.{refusal_line}
-use Rattle.dns_program.specs.Run.{IsUnknownCommand, RunPrinted, RunRefused}
+use Rattle.dnstext_lib.specs.Program.{refusal_line}
+use Rattle.dnstext_lib.specs.Run.{IsUnknownCommand, RunPrinted, RunRefused}
 use Rattle.dnstext.specs.Streams.{Grows, Printed, Refused, Ran}
 use Rattle.dnstext.specs.declared.streams.TextSink.{TextSink}
 

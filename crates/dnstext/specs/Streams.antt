@@ -1,8 +1,8 @@
 -- What a run of the program leaves on its streams.
 use Rattle.std.specs.Prelude.{◌≡◌, ◌⊎◌, ℕ, List, [], Option, codes}
 use Rattle.std.specs.Io.KnownBytes.{Appends, Keeps}
-use Rattle.dns_program.specs.Program.{refusal_line}
-use Rattle.dns_program.specs.Run.{RunPrinted, RunRefused}
+use Rattle.dnstext_lib.specs.Program.{refusal_line}
+use Rattle.dnstext_lib.specs.Run.{RunPrinted, RunRefused}
 
 -- the known bytes of a stream grow by these
 abbrev pub Grows : Option (List ℕ) → List ℕ → Option (List ℕ) → Type 0

@@ -1,4 +1,4 @@
-//! The program `dnstext`: it runs `dns_program::program::run` over its arguments.
+//! The program `dnstext`: it runs `dnstext_lib::program::run` over its arguments.
 #![tactic(auto)]
 
 mod streams;

@@ -1,12 +1,12 @@
 //! The program over streams of bytes.
 ghost use Rattle.std.specs.Prelude.{◌≡◌, ◌⊎◌, ◌≤◌, ℕ, List, []};
 ghost use Rattle.std.specs.Io.KnownBytes.{Appends, Keeps};
-ghost use Rattle.dns_program.specs.Program.{refusal_line, usage_line, texts};
-ghost use Rattle.dns_program.specs.Run.{IsUnknownCommand};
+ghost use Rattle.dnstext_lib.specs.Program.{refusal_line, usage_line, texts};
+ghost use Rattle.dnstext_lib.specs.Run.{IsUnknownCommand};
 ghost use Rattle.dnstext.specs.Streams.{Printed, Ran, Told};
 
 use arrayvec::ArrayString;
-use dns_program::program;
+use dnstext_lib::program;
 use std::alloc::Allocator;
 use std::fmt;
 use std::io::Write;

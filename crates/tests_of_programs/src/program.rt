@@ -1,5 +1,5 @@
 //! What the program prints and answers.
-use dns_program::program;
+use dnstext_lib::program;
 use std::alloc::Global;
 use std::fmt;
 use std::test::Fail;

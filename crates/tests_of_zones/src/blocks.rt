@@ -5,7 +5,7 @@ use crate::checks::names;
 use crate::growths::{Grows, Heap, refuses_in_turn};
 use crate::wanted::{FaultRow, found, holds};
 use dns_split::pieces::Wrong;
-use dns_zonetext::blocks::{Checker, Halt};
+use zonetext_lib::blocks::{Checker, Halt};
 use std::alloc::Global;
 use std::process::Abort;
 

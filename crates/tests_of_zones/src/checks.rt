@@ -2,8 +2,8 @@
 use crate::growths::{Grows, Heap, refuses_in_turn};
 use crate::wanted::{FaultRow, Spot, found, holds, position};
 use dns_split::pieces::Wrong;
-use dns_zonetext::check::{Found, check};
-use dns_zonetext::tokens::{Form, Stop, tokens};
+use zonetext_lib::check::{Found, check};
+use zonetext_lib::tokens::{Form, Stop, tokens};
 use std::alloc::Global;
 use std::process::Abort;
 

@@ -2,9 +2,9 @@
 use crate::entries::{PAIRS, comparison};
 use crate::growths::{Grows, Heap, refuses_in_turn};
 use crate::wanted::holds;
-use dns_zonetext::blocks::Halt;
-use dns_zonetext::comparer::Comparer;
-use dns_zonetext::diff::{Comparison, diff};
+use zonetext_lib::blocks::Halt;
+use zonetext_lib::comparer::Comparer;
+use zonetext_lib::diff::{Comparison, diff};
 use std::alloc::Global;
 use std::process::Abort;
 

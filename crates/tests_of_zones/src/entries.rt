@@ -2,9 +2,9 @@
 use crate::checks::is_written;
 use crate::growths::{Grows, Heap, refuses_in_turn};
 use crate::wanted::{Spot, holds, position};
-use dns_zonetext::diff::{Comparison, diff};
-use dns_zonetext::layout::{Gap, lay_out};
-use dns_zonetext::tokens::Stop;
+use zonetext_lib::diff::{Comparison, diff};
+use zonetext_lib::layout::{Gap, lay_out};
+use zonetext_lib::tokens::Stop;
 use std::alloc::Global;
 use std::process::Abort;
 

@@ -7,7 +7,7 @@ use crate::wanted::{holds, text_is};
 use dns_split::splitting::{SplitError, split};
 use dns_zone::document::{Document, DocumentError, Item};
 use dns_zone::zonefile_fmt::DisplayKind;
-use dns_zone_laws::laws::{Refusal, items_split, values_split, zone_tokens_split};
+use dns_laws::layouts::{Refusal, items_split, values_split, zone_tokens_split};
 use std::alloc::{AllocError, Global};
 use std::process::Abort;
 use std::test::Fail;

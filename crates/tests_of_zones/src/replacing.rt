@@ -1,5 +1,5 @@
 //! Files that are replaced, with each step made to fail in turn.
-use dns_zonetext::replace::{Batch, NewText, Original, Refusal};
+use zonetext_lib::replace::{Batch, NewText, Original, Refusal};
 use std::alloc::{Allocator, Global};
 use std::cell::Cell;
 use std::fs::{File, Files, Metadata, OpenFile, OpenOptions, Permissions};

@@ -1,5 +1,5 @@
 //! Unified diffs, of texts that come in blocks.
-use dns_zonetext::unified::Unified;
+use zonetext_lib::unified::Unified;
 use std::alloc::Global;
 use std::process::Abort;
 use std::test::Fail;

@@ -2,7 +2,7 @@
 use dns_split::pieces::{Fault, Wrong};
 use dns_split::position::Position;
 use dns_zone::zonefile_fmt::{DisplayKind, ZonefileFmt};
-use dns_zonetext::check::Found;
+use zonetext_lib::check::Found;
 use std::alloc::{AllocError, Global};
 use std::process::Abort;
 

@@ -5,10 +5,10 @@ use crate::blocks::answer_is;
 use crate::growths::{Grows, Heap, refuses_in_turn};
 use crate::wanted::{found, holds};
 use dns_split::pieces::Wrong;
-use dns_zonetext::blocks::Halt;
-use dns_zonetext::layout::Gap;
-use dns_zonetext::tokens::Form;
-use dns_zonetext::writer::{Output, Writer};
+use zonetext_lib::blocks::Halt;
+use zonetext_lib::layout::Gap;
+use zonetext_lib::tokens::Form;
+use zonetext_lib::writer::{Output, Writer};
 use std::alloc::Global;
 use std::process::Abort;
 

@@ -1,11 +1,11 @@
 //! Files that are read block by block.
 use crate::progress::Progress;
-use dns_zonetext::blocks::{Checker, Halt};
-use dns_zonetext::writer::{Output, Writer};
 use std::alloc::Global;
 use std::fs::File;
 use std::io;
 use std::io::{ErrorKind, Read, Write};
+use zonetext_lib::blocks::{Checker, Halt};
+use zonetext_lib::writer::{Output, Writer};
 
 /// The octets that are read at a time.
 pub const BLOCK: usize = 64 * 1024;

@@ -2,11 +2,11 @@
 use crate::format::Mode;
 use crate::{files, format};
 use clap::{Arg, ArgAction, ArgMatches, Command, Error};
-use dns_zonetext::layout::Gap;
-use dns_zonetext::tokens::Form;
-use dns_zonetext::writer::Output;
 use std::alloc::{AllocError, Global};
 use std::io;
+use zonetext_lib::layout::Gap;
+use zonetext_lib::tokens::Form;
+use zonetext_lib::writer::Output;
 
 /// What is said of `--quiet`.
 const QUIET: &str = "say nothing of how far reading has come";

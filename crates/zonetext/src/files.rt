@@ -3,12 +3,12 @@ use crate::blocks::{Ended, Printer, Take, go_through_file};
 use crate::pair::{Which, compare_files};
 use crate::progress::Progress;
 use dns_split::pieces::Wrong;
-use dns_zonetext::blocks::{Checker, Halt};
-use dns_zonetext::check::Found;
-use dns_zonetext::diff::Comparison;
-use dns_zonetext::writer::Output;
 use std::io;
 use std::io::{ErrorKind, Write};
+use zonetext_lib::blocks::{Checker, Halt};
+use zonetext_lib::check::Found;
+use zonetext_lib::diff::Comparison;
+use zonetext_lib::writer::Output;
 
 fn reason(wrong: Wrong) -> &'static str {
     match wrong {

@@ -1,15 +1,15 @@
 //! The command `fmt`: zone files in their canonical form.
 use crate::files::report;
-use dns_zonetext::check::check;
-use dns_zonetext::place::position_after;
-use dns_zonetext::replace::{Batch, Incomplete, NewText, Original, Refusal};
-use dns_zonetext::unified::Unified;
 use std::alloc::AllocError;
 use std::fs::File;
 use std::io;
 use std::io::{ErrorKind, Read, Write};
 use zone_format::format::format;
 use zone_format::refusal::Refusal as FormRefusal;
+use zonetext_lib::check::check;
+use zonetext_lib::place::position_after;
+use zonetext_lib::replace::{Batch, Incomplete, NewText, Original, Refusal};
+use zonetext_lib::unified::Unified;
 
 /// What is done with the forms of files.
 #[derive(Clone, Copy, PartialEq, Eq)]

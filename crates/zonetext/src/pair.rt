@@ -1,13 +1,13 @@
 //! Two files that are read block by block, and compared.
 use crate::blocks::{BLOCK, Ended, read_block};
 use crate::progress::Progress;
-use dns_zonetext::blocks::Halt;
-use dns_zonetext::comparer::Comparer;
-use dns_zonetext::diff::Comparison;
 use std::alloc::Global;
 use std::fs::File;
 use std::io;
 use std::io::Read;
+use zonetext_lib::blocks::Halt;
+use zonetext_lib::comparer::Comparer;
+use zonetext_lib::diff::Comparison;
 
 /// One of the two.
 #[derive(Clone, Copy, PartialEq, Eq)]

@@ -1,6 +1,6 @@
 //! The command `dnstext`.
 use crate::answer::{Answer, Heap};
-use dns_program::program;
+use dnstext_lib::program;
 use std::alloc::AllocError;
 use std::str;
 

@@ -4,12 +4,12 @@ ghost use Rattle.std.specs.Prelude.{◌+◌, ◌<◌, ◌^◌, length};
 use super::zone::{add_position, wrong_name};
 use crate::answer::{Answer, Failure, Heap};
 use crate::row::Inputs;
-use dns_zonetext::blocks::{Checker, Halt};
-use dns_zonetext::check::{Found, check};
-use dns_zonetext::diff::{Comparison, diff};
-use dns_zonetext::layout::{Gap, lay_out};
-use dns_zonetext::tokens::{Form, Stop, tokens};
-use dns_zonetext::writer::{Output, Writer};
+use zonetext_lib::blocks::{Checker, Halt};
+use zonetext_lib::check::{Found, check};
+use zonetext_lib::diff::{Comparison, diff};
+use zonetext_lib::layout::{Gap, lay_out};
+use zonetext_lib::tokens::{Form, Stop, tokens};
+use zonetext_lib::writer::{Output, Writer};
 
 pub fn call(name: &str, inputs: &Inputs, answer: &mut Answer) {
     match name {

@@ -1,6 +1,6 @@
 use Rattle.std.proofs.Common.{rules, ◌≡◌, [], codes, refl, ap, subst, ◌∙◌, inl, inr}
 use Rattle.std.specs.Io.KnownBytes.{Appends}
-use Rattle.dns_program.specs.Program.{refusal_line, usage_line, texts}
+use Rattle.dnstext_lib.specs.Program.{refusal_line, usage_line, texts}
 use Rattle.dnstext.proofs.Sinks.{kept_by_none, text_after, untouched, printed_on, refused_on, ran_on, silent_on}
 use Rattle.dnstext.proofs.streams.run.Goals as goal
 

@@ -1,0 +1,5 @@
+use Rattle.dns_laws.proofs.Layouts.{printed_tight}
+use Rattle.dns_laws.proofs.layouts.layouts_begin_no_blank.Goals as goal
+
+pub returns : goal.returns
+returns c = printed_tight

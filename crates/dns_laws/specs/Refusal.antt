@@ -1,0 +1,19 @@
+-- Why a list of items is not printed and split.
+use Rattle.std.specs.Prelude.{⊤, ℕ, List, []}
+use Rattle.dns_split.specs.Answer.{error_text}
+use Rattle.dns_split.specs.declared.error.SplitError.TheVariants.{BadText, ShortBuf}
+use Rattle.dns_zone.specs.Layout.{Step}
+use Rattle.dns_zone.specs.Documents.{IsFirstFault, fault_text}
+use Rattle.dns_laws.specs.declared.layouts.Refusal.{Refusal}
+use Rattle.dns_laws.specs.declared.layouts.Refusal.TheVariants.{Document, Split}
+
+-- the list's first fault, or lack of memory; a printed text is never refused
+abbrev pub IsRefusal : List Step → Refusal → Type 0
+IsRefusal steps (Document fault) = IsFirstFault [] steps fault
+IsRefusal steps (Split ShortBuf) = ⊤
+IsRefusal steps (Split (BadText i)) = ⊥
+
+-- what it prints: the fault's text, or the error's
+abbrev pub refusal_text : Refusal → List ℕ
+refusal_text (Document fault) = fault_text fault
+refusal_text (Split error) = error_text error

@@ -1,6 +1,0 @@
-use Rattle.dns_entry.specs.Field.{contents_of}
-use Rattle.dns_program.proofs.Fielding.{FieldsLeft}
-use Rattle.dns_program.proofs.line.make_fields.Given as goal
-
-abbrev pub invariant-loop-word : goal.invariant-loop-word
-invariant-loop-word g l = FieldsLeft l.words l.word-index (contents_of l.fields.items)

@@ -1,6 +1,0 @@
-use Rattle.dns_program.specs.EntryLine.{asked_of, field_word}
-use Rattle.dns_program.proofs.InTurn.{ReadInTurn}
-use Rattle.dns_program.proofs.line.read_fields.Given as goal
-
-abbrev pub invariant-loop-word : goal.invariant-loop-word
-invariant-loop-word g l = ReadInTurn asked_of field_word l.words l.word-index l.found.items

@@ -1,5 +1,0 @@
-use Rattle.dns_zone_laws.proofs.Layouts.{printed_tight}
-use Rattle.dns_zone_laws.proofs.laws.layouts_begin_no_blank.Goals as goal
-
-pub returns : goal.returns
-returns c = printed_tight

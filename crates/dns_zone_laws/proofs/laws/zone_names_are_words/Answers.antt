@@ -1,5 +1,0 @@
-use Rattle.dns_zone_laws.proofs.ZoneNames.{zone_word}
-use Rattle.dns_zone_laws.proofs.laws.zone_names_are_words.Goals as goal
-
-pub returns : goal.returns
-returns c = zone_word

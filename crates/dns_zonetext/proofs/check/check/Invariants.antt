@@ -1,6 +1,0 @@
-use Rattle.std.proofs.Common.{◌≡◌}
-use Rattle.dns_zonetext.proofs.Givens.{first_fault}
-use Rattle.dns_zonetext.proofs.check.check.Given as goal
-
-abbrev pub invariant-loop-piece : goal.invariant-loop-piece
-invariant-loop-piece l = first_fault l.piece-iterator ≡ first_fault l.initial.piece-iterator

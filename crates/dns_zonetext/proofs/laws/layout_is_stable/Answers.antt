@@ -1,8 +1,0 @@
-use Rattle.std.proofs.Common.{ap, false}
-use Rattle.dns_zonetext.specs.Layout.{laid_out}
-use Rattle.dns_zonetext.proofs.Layouts.{keeps_entries}
-use Rattle.dns_zonetext.proofs.Once.{entries_once}
-use Rattle.dns_zonetext.proofs.laws.layout_is_stable.Goals as goal
-
-pub returns : goal.returns
-returns c = λ octets gap es fs h k. ap (laid_out gap false) (entries_once (laid_out gap false es) fs es k (keeps_entries octets gap es h))

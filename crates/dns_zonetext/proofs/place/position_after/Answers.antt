@@ -1,5 +1,0 @@
-use Rattle.std.proofs.Common.{[], refl, arith}
-use Rattle.dns_zonetext.proofs.place.position_after.Goals as goal
-
-pub returns : goal.returns
-returns c = (omega (arith, c.advance.ensures.line), c.advance.ensures.column [] refl)

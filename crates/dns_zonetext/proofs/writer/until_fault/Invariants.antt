@@ -1,5 +1,0 @@
-use Rattle.dns_zonetext.proofs.Passing.{Parted}
-use Rattle.dns_zonetext.proofs.writer.until_fault.Given as goal
-
-abbrev pub invariant-loop-piece : goal.invariant-loop-piece
-invariant-loop-piece l = Parted l.initial.piece-iterator l.piece-iterator l.last

@@ -1,8 +1,0 @@
-use Rattle.dns_split.proofs.OctetsOnce.{are_octets}
-use Rattle.dns_zonetext.proofs.writer.write.Goals as goal
-
-pub returns-in-Rows-clause-octets : goal.returns-in-Rows-clause-octets
-returns-in-Rows-clause-octets g c = are_octets c.args.octets.now (λ k. (c.type_inv.octets k).fits)
-
-pub returns-in-Lines-clause-octets : goal.returns-in-Lines-clause-octets
-returns-in-Lines-clause-octets g c = are_octets c.args.octets.now (λ k. (c.type_inv.octets k).fits)

@@ -1,0 +1,151 @@
+-- What the program prints of tokens.
+use Rattle.std.proofs.Common.{ℕ, zero, suc, ◌+◌, ◌≡◌, ◌<◌, ◌≤◌, ◌∙◌, List, [], ◌∷◌, ◌++◌, length, drop, add-one, arith, refl, sym, subst, ap, inl, inr, ⊎_elim, None, Result, Ok, Err}
+use Rattle.std.specs.Prelude.{Vec, encode_utf8_all}
+use Rattle.std.specs.Fmt.{WritesInCalls, decimal}
+use Rattle.std.proofs.Output.{writes_in_calls_append, writes_in_calls_nil}
+use Rattle.dns_octets.specs.Room.{Room, of_memory, within}
+use Rattle.dns_symbol.specs.Symbol.{chars_error_text}
+use Rattle.dns_symbol.specs.Text.{SymbolsOf}
+use Rattle.dns_wire.specs.Printed.{dotted_text}
+use Rattle.dns_name.specs.Reading.{ReadsName}
+use Rattle.dns_name.specs.Scanned.{ReadsUncertain}
+use Rattle.dns_name.specs.Uncertain.{labels_of}
+use Rattle.dns_name.specs.declared.name.UncertainName.{UncertainName}
+use Rattle.dns_name.specs.declared.name.UncertainName.TheVariants.{Absolute, Relative}
+use Rattle.dns_name.specs.declared.name.error.FromStrError.{FromStrError}
+use Rattle.dns_name.specs.declared.name.error.FromStrError.TheVariants.{Symbol, BadOctet, BinaryLabel, EmptyLabel, LongLabel, LongName, ShortBuf}
+use Rattle.dns_scan.specs.Answers.{AllGiven}
+use Rattle.dns_scan.specs.Asks.{Builds}
+use Rattle.dns_symbol.specs.Cause.{Cause, custom_text, IsCause}
+use Rattle.dns_scan.specs.Numbers.{ScannedNumber}
+use Rattle.dns_scan.specs.Octets.{unquoted_token}
+use Rattle.dns_scan.specs.Steps.{GivesStep, octet_given}
+use Rattle.dns_scan.specs.Tokens.{Token}
+use Rattle.dns_scan.proofs.Answered.{builds_read, all_given_in, first_fault_in}
+use Rattle.dnstext_lib.specs.declared.program.ScanKind.{ScanKind}
+use Rattle.dnstext_lib.specs.declared.program.Stop.{Stop}
+use Rattle.dnstext_lib.specs.declared.program.Stop.TheVariants.{Refused, WriteFailed}
+use Rattle.dns_iter.specs.Name.{AnswersName, ReadsNames, ReadsToken, invalid_name}
+use Rattle.dns_scan.specs.Numbers.{by_cause}
+use Rattle.dnstext_lib.specs.Program.{Stops, StringPrints, StringRefused, NumberPrints, NumberRefused, NamePrints, LineWritten, LinesWritten}
+
+-- what a text reads as, over octets of another type: a name is its labels
+abbrev recast : {O : Type 0} (P : Type 0) → Result (UncertainName O) FromStrError → Result (UncertainName P) FromStrError
+recast P (Ok (Absolute name)) = Ok (Absolute name)
+recast P (Ok (Relative name)) = Ok (Relative name)
+recast P (Err e) = Err e
+
+recast_reads : {O : Type 0} (P : Type 0) (room : Room) (text : List ℕ) (read : Result (UncertainName O) FromStrError)
+    → ReadsName room text read → ReadsName room text (recast P read)
+recast_reads P room text (Ok (Absolute name)) h = h
+recast_reads P room text (Ok (Relative name)) h = h
+recast_reads P room text (Err (Symbol e)) h = h
+recast_reads P room text (Err BadOctet) h = h
+recast_reads P room text (Err BinaryLabel) h = h
+recast_reads P room text (Err EmptyLabel) h = h
+recast_reads P room text (Err LongLabel) h = h
+recast_reads P room text (Err LongName) h = h
+recast_reads P room text (Err ShortBuf) h = h
+
+recast_answers : {O : Type 0} (P : Type 0) (room : Room) (read : Result (UncertainName O) FromStrError) (r : Result (List (List ℕ)) Cause)
+    → AnswersName (λ why. why) room read r → AnswersName (λ why. why) room (recast P read) r
+recast_answers P room (Ok (Absolute name)) r h = h
+recast_answers P room (Ok (Relative name)) r h = h
+recast_answers P room (Err (Symbol e)) r h = h
+recast_answers P room (Err BadOctet) r h = h
+recast_answers P room (Err BinaryLabel) r h = h
+recast_answers P room (Err EmptyLabel) r h = h
+recast_answers P room (Err LongLabel) r h = h
+recast_answers P room (Err LongName) r h = h
+recast_answers P room (Err ShortBuf) r h = h
+
+module _ {E : Type 0} (cause : E → Cause) where
+  -- a character string that was scanned prints as the token's value
+  pub charstr_prints : (room : Room) (t : Token) (s : List ℕ) → Builds cause (GivesStep cause (within 255 room) octet_given) (λ s. s) t (Ok s) → StringPrints t (unquoted_token s)
+  charstr_prints room t s h =
+      let read = builds_read cause octet_given (within 255 room) (λ s. s) t (Ok s) h in (
+        read.0,
+        subst (λ e. SymbolsOf t read.0 e) read.3.ends read.2,
+        (
+          s,
+          all_given_in octet_given (within 255 room) 255 (omega arith) read.0 None s
+              (subst (λ e. AllGiven octet_given (within 255 room) read.0 e s) read.3.ends read.3),
+          refl,
+        ),
+      )
+
+  pub charstr_stops : (room : Room) (t : Token) (e : E) → Builds cause (GivesStep cause (within 255 room) octet_given) (λ s. s) t (Err e) → Stops StringRefused t (cause e)
+  charstr_stops room t e h =
+      let read = builds_read cause octet_given (within 255 room) (λ s. s) t (Err e) h in
+      ⊎_elim
+      (λ k. inl (read.0, read.1, read.2, k))
+      (λ k. inr k)
+      (first_fault_in octet_given (within 255 room) 255 (omega arith) read.0 read.1 (cause e) read.3)
+
+  -- a number that was scanned prints as the token's value
+  pub number_prints : (limit : ℕ) (t : Token) (v : ℕ) → ScannedNumber cause limit t (Ok v) → NumberPrints limit t (decimal v)
+  number_prints limit t v h = (h.symbols, subst (λ e. SymbolsOf t h.symbols e) h.reads.1 h.read, (v, h.reads.0, refl))
+
+  pub number_refused : (limit : ℕ) (t : Token) (e : E) → ScannedNumber cause limit t (Err e) → NumberRefused limit t (cause e)
+  number_refused limit t e h = (h.symbols, h.error, h.read, h.reads)
+
+  -- a name that was scanned prints as the token's value
+  pub name_prints : {O : Type 0} (reads : Token → Result (List (List ℕ)) E → Type 0) → ReadsNames cause reads → (t : Token) (name : UncertainName O)
+      → ReadsUncertain (reads t) (Ok name) → NamePrints t (encode_utf8_all (dotted_text (labels_of name)))
+  name_prints reads so t (Absolute name) h = (name, so t (Ok name) h, refl)
+  name_prints reads so t (Relative name) h = absurd h
+
+  -- a refusal is the same with its cause in its place
+  same_cause : {V : Type 0} (r : Result V E) (why : Cause) → IsCause cause r why → IsCause (λ c. c) (by_cause cause r) why
+  same_cause (Ok v) why h = absurd h
+  same_cause (Err e) why h = h
+
+  answers_by_cause : {O : Type 0} (room : Room) (read : Result (UncertainName O) FromStrError) (r : Result (List (List ℕ)) E)
+      → AnswersName cause room read r → AnswersName (λ c. c) room read (by_cause cause r)
+  answers_by_cause room (Ok (Absolute name)) r h = ap (by_cause cause) h
+  answers_by_cause room (Ok (Relative name)) r h =
+      ⊎_elim
+      (λ k. inl (k.0, same_cause r invalid_name k.1))
+      (λ k. inr (⊎_elim (λ m. inl (m.0, ap (by_cause cause) m.1, m.2)) (λ m. inr (m.0, m.1, same_cause r invalid_name m.2)) k))
+      h
+  answers_by_cause room (Err (Symbol e)) r h = same_cause r (custom_text (chars_error_text e)) h
+  answers_by_cause room (Err BadOctet) r h = same_cause r invalid_name h
+  answers_by_cause room (Err BinaryLabel) r h = same_cause r invalid_name h
+  answers_by_cause room (Err EmptyLabel) r h = same_cause r invalid_name h
+  answers_by_cause room (Err LongLabel) r h = same_cause r invalid_name h
+  answers_by_cause room (Err LongName) r h = same_cause r invalid_name h
+  answers_by_cause room (Err ShortBuf) r h = same_cause r invalid_name h
+
+  pub reads_names : {A : Type 0} → ReadsNames cause (ReadsToken (Vec ℕ A) cause of_memory)
+  reads_names t r h =
+      (recast _ h.0, recast_reads _ of_memory t h.0 h.1, recast_answers _ of_memory h.0 (by_cause cause r) (answers_by_cause of_memory h.0 r h.2))
+
+  -- a line more, before the lines of others
+  pub lines_more : {O : Type 0} (took : O → List ℕ → O → Type 0) (kind : ScanKind) (t : Token) (ts : List Token) (o m p : O) (r : Result (Unit {0}) (Stop E))
+      → LineWritten cause took kind t o (Ok tt) m → LinesWritten cause took kind ts m r p → LinesWritten cause took kind (t ∷ ts) o r p
+  lines_more took kind t ts o m p (Ok u) line more =
+      ((line.0 ++ 10 ∷ []) ++ more.0, inl (line.0, more.0, line.1, refl, more.1), writes_in_calls_append took o _ m _ p line.2 more.2)
+  lines_more took kind t ts o m p (Err (Refused e)) line more =
+      ((line.0 ++ 10 ∷ []) ++ more.0, inl (line.0, more.0, line.1, refl, more.1), writes_in_calls_append took o _ m _ p line.2 more.2)
+  lines_more took kind t ts o m p (Err WriteFailed) line more = (line.0, line.1)
+
+  -- no lines, and a token that is refused at once
+  pub lines_none : {O : Type 0} (took : O → List ℕ → O → Type 0) (kind : ScanKind) (o : O) → LinesWritten cause took kind [] o (Ok tt) o
+  lines_none took kind o = ([], (refl, refl), writes_in_calls_nil took o)
+
+  pub lines_stop : {O : Type 0} (took : O → List ℕ → O → Type 0) (kind : ScanKind) (t : Token) (ts : List Token) (o p : O) (stop : Stop E)
+      → LineWritten cause took kind t o (Err stop) p → LinesWritten cause took kind (t ∷ ts) o (Err stop) p
+  lines_stop took kind t ts o p (Refused e) h = ([], inr (cause e, h.0, refl, refl), subst (λ x. WritesInCalls took o [] x) (sym h.1) (writes_in_calls_nil took o))
+  lines_stop took kind t ts o p WriteFailed h = h
+
+-- the element at a place, and those after it
+pub drop_at : {A : Type 0} (xs : List A) (i : ℕ) → i < length xs → (x : A) × (drop i xs ≡ x ∷ drop (i + 1) xs)
+drop_at [] i h = absurd (omega arith)
+drop_at (x ∷ xs) zero h = (x, refl)
+drop_at (x ∷ xs) (suc i) h = let more = drop_at xs i (omega arith) in (more.0, more.1 ∙ ap (λ l. more.0 ∷ l) (rw (add-one, add-one) refl))
+
+pub drop_all : {A : Type 0} (xs : List A) (i : ℕ) → length xs ≤ i → drop i xs ≡ []
+drop_all [] zero h = refl
+drop_all [] (suc i) h = refl
+drop_all (x ∷ xs) zero h = absurd (omega arith)
+drop_all (x ∷ xs) (suc i) h = drop_all xs i (omega arith)

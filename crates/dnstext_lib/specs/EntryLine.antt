@@ -1,0 +1,94 @@
+-- What the program's `line` asks for, writes and answers.
+use Rattle.std.specs.Prelude.{ℕ, List, [], ◌∷◌, ◌++◌, ◌≡◌, ◌≢◌, ◌⊎◌, Option, Some, None, Ok, codes, map}
+use Rattle.std.specs.Fmt.{WritesInCalls}
+use Rattle.dns_octets.specs.Room.{exactly}
+use Rattle.dns_symbol.specs.Characters.{line_feed}
+use Rattle.dns_symbol.specs.declared.symbol.Symbol.{Symbol}
+use Rattle.dns_symbol.specs.Text.{SymbolsOf}
+use Rattle.dns_scan.specs.Answers.{AllGiven}
+use Rattle.dns_symbol.specs.Cause.{Cause}
+use Rattle.dns_scan.specs.Numbers.{IsNumber, greatest}
+use Rattle.dns_scan.specs.Steps.{octet_given}
+use Rattle.dns_scan.specs.Tokens.{Token}
+use Rattle.dns_zone.specs.Printed.{printed}
+use Rattle.dns_zone.specs.declared.zonefile_fmt.DisplayKind.{DisplayKind}
+use Rattle.dns_entry.specs.Field.{Content, number, hex_octets, base64_octets, text_octets}
+use Rattle.dns_entry.specs.Line.{IsFirstEmpty, IsLine, line_document}
+use Rattle.dns_entry.specs.EntryError.{place_of, error_text}
+use Rattle.dns_entry.specs.declared.error.EntryError.{EntryError}
+use Rattle.dns_entry.specs.Codecs.{ConvertsTo, hex_codec, base64_codec}
+use Rattle.dnstext_lib.specs.Print.{layout_name, NoMemory}
+use Rattle.dnstext_lib.specs.Program.{IsRefused, cause_text}
+use Rattle.dns_scan.specs.StrError.{str_cause}
+use Rattle.dnstext_lib.specs.declared.program.ScanKind.TheVariants.{U32, Charstr, Hex as HexScan, Base64 as Base64Scan}
+use Rattle.dns_entry.specs.declared.entry.FieldKind.{FieldKind}
+use Rattle.dns_entry.specs.declared.entry.FieldKind.TheVariants.{Number, Hex, Base64, Text}
+use Rattle.dnstext_lib.specs.declared.line.FieldWord.{FieldWord}
+use Rattle.dnstext_lib.specs.declared.line.Unmade.{Unmade}
+use Rattle.dnstext_lib.specs.declared.line.Unmade.TheVariants.{Refused, NoMemory as OutOfMemory}
+
+-- the kind of a field, and the text of its token
+abbrev pub Asked : Type 0
+Asked = FieldKind × Token
+
+abbrev pub asked_of : FieldWord → Asked
+asked_of word = (word.kind, word.text.now)
+
+-- what the word of a field begins with
+abbrev pub mark : FieldKind → List ℕ
+mark Number = codes "n:"
+mark Hex = codes "x:"
+mark Base64 = codes "b:"
+mark Text = codes "s:"
+
+-- the word for a field
+abbrev pub field_word : Asked → List ℕ
+field_word asked = mark asked.0 ++ asked.1
+
+-- the words `FIELD..`
+abbrev pub AsksFields : List (List ℕ) → List Asked → Type 0
+AsksFields words asked = words ≡ map field_word asked
+
+-- the words `line KIND FIELD..`
+abbrev pub IsLineCommand : List (List ℕ) → DisplayKind → List (List ℕ) → Type 0
+IsLineCommand words kind fields = words ≡ codes "line" ∷ layout_name kind ∷ fields
+
+-- the token is what a field of that kind holds
+abbrev pub Holds : FieldKind → Token → Content → Type 0
+Holds Number token c = (symbols : List Symbol) × SymbolsOf token symbols None × ((v : ℕ) × IsNumber (greatest 32) symbols v × (c ≡ number v))
+Holds Hex token c = (octets : List ℕ) × ConvertsTo hex_codec token (Ok octets) × (c ≡ hex_octets octets)
+Holds Base64 token c = (octets : List ℕ) × ConvertsTo base64_codec token (Ok octets) × (c ≡ base64_octets octets)
+Holds Text token c = (symbols : List Symbol) × SymbolsOf token symbols None × ((octets : List ℕ) × AllGiven octet_given (exactly 255) symbols None octets × (c ≡ text_octets octets))
+
+-- the token is no such thing, or no memory was found for it, and that is the refusal
+abbrev pub NoField : FieldKind → Token → Cause → Type 0
+NoField Number = IsRefused U32
+NoField Hex = IsRefused HexScan
+NoField Base64 = IsRefused Base64Scan
+NoField Text = IsRefused Charstr
+
+-- the fields of tokens up to the first refusal, and that refusal
+abbrev pub FieldsRun : List Asked → List Content → Option Cause → Type 0
+FieldsRun [] fields refusal = (fields ≡ []) × (refusal ≡ None)
+FieldsRun (asked ∷ more) fields refusal =
+    ((c : Content) × (others : List Content) × Holds asked.0 asked.1 c × (fields ≡ c ∷ others) × FieldsRun more others refusal)
+    ⊎ ((why : Cause) × NoField asked.0 asked.1 why × (fields ≡ []) × (refusal ≡ Some why))
+
+-- why fields weren't made: a token was refused, or no memory was found for the list
+abbrev pub FieldsUnmade : List Asked → Unmade → Type 0
+FieldsUnmade asked (Refused e) = (fields : List Content) × FieldsRun asked fields (Some (str_cause e))
+FieldsUnmade asked OutOfMemory = asked ≢ []
+
+-- the fields are a line, and its text in the layout was written, and a line end
+abbrev pub LinePrinted : {O : Type 0} → (O → List ℕ → O → Type 0) → DisplayKind → List Asked → O → O → Type 0
+LinePrinted took kind asked o p =
+    (fields : List Content) × FieldsRun asked fields None × IsLine fields × WritesInCalls took o (printed kind (line_document fields) ++ line_feed ∷ []) p
+
+-- the words `FIELD..` were refused for that reason: a token is no field, or the fields are no line, and nothing was printed; or their text found no room; or no memory was found for the fields
+abbrev pub LineRefused : {O : Type 0} → List (List ℕ) → O → O → List ℕ → Type 0
+LineRefused words o p reason =
+    ((asked : List Asked) × (fields : List Content) × (why : Cause) × AsksFields words asked × FieldsRun asked fields (Some why) × (p ≡ o) × (reason ≡ cause_text why))
+    ⊎ (((asked : List Asked) × (fields : List Content) × (error : EntryError) × AsksFields words asked × FieldsRun asked fields None × IsFirstEmpty fields (place_of error) ×
+    (p ≡ o) × (reason ≡ error_text error))
+    ⊎ (((asked : List Asked) × (fields : List Content) × AsksFields words asked × FieldsRun asked fields None × IsLine fields × (reason ≡ codes "write failed"))
+    ⊎ NoMemory field_word words o p reason))

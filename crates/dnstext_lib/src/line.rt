@@ -1,0 +1,179 @@
+//! The program's `line`: an entry line out of words.
+ghost use Rattle.std.specs.Prelude.{◌≡◌, ◌⊎◌, ◌≤◌, ℕ, List, Err, IfOk, MatchOption, MatchResult, map, None};
+ghost use Rattle.std.specs.Fmt.{WritesInCalls};
+ghost use Rattle.dns_entry.specs.Field.{content_of, contents_of};
+ghost use Rattle.dnstext_lib.specs.EntryLine.{Asked, asked_of, field_word, AsksFields, FieldsRun, FieldsUnmade, Holds, LinePrinted, LineRefused, NoField};
+ghost use Rattle.dnstext_lib.specs.Print.{BeginsBy};
+ghost use Rattle.dnstext_lib.specs.Program.{refusal_line, usage_line, texts};
+ghost use Rattle.dns_scan.specs.StrError.{str_cause};
+
+use crate::print::Unread;
+use crate::program::{refuse, refuse_usage};
+use dns_codec::{base16, base64};
+use dns_entry::entry::{EntryLine, Field, FieldKind};
+use dns_iter::IterScanner;
+use dns_scan::{Scan, Scanner, StrError};
+use dns_zone::zonefile_fmt::{DisplayKind, ZonefileFmt};
+use std::alloc::Allocator;
+use std::fmt::{Display, Write};
+use std::{fmt, iter};
+
+/// A field that a word asks for: its kind, and the text of its token.
+#[derive(Clone, Copy)]
+pub(crate) struct FieldWord<'a> {
+    kind: FieldKind,
+    text: &'a str,
+}
+
+/// Why fields weren't made.
+#[derive(Drop)]
+pub(crate) enum Unmade {
+    Refused(StrError),
+    NoMemory,
+}
+
+/// The field that a word asks for, if there is one.
+fn read_field(word: &str) -> Option<FieldWord<'_>>
+    ensures { MatchOption result ((asked : Asked) → word.now ≡ field_word asked → ⊥) (λ found. word.now ≡ field_word (asked_of found)) }
+{
+    if let Some(text) = word.strip_prefix("n:") {
+        return Some(FieldWord {
+            kind: FieldKind::Number,
+            text,
+        });
+    }
+    if let Some(text) = word.strip_prefix("x:") {
+        return Some(FieldWord {
+            kind: FieldKind::Hex,
+            text,
+        });
+    }
+    if let Some(text) = word.strip_prefix("b:") {
+        return Some(FieldWord {
+            kind: FieldKind::Base64,
+            text,
+        });
+    }
+    match word.strip_prefix("s:") {
+        Some(text) => Some(FieldWord {
+            kind: FieldKind::Text,
+            text,
+        }),
+        None => None,
+    }
+}
+
+/// The fields that words ask for.
+fn read_fields<'a, A: Allocator>(
+    alloc: A,
+    words: &[&'a str],
+) -> Result<Vec<FieldWord<'a>, A>, Unread>
+    ensures found { IfOk result (λ found. AsksFields (texts words.now) (map asked_of found.items)) }
+    ensures unknown { result ≡ Err Unread.UnknownItem → (asked : List Asked) → AsksFields (texts words.now) asked → ⊥ }
+    ensures memory { result ≡ Err Unread.NoMemory → BeginsBy field_word (texts words.now) }
+{
+    let mut found = Vec::new(alloc);
+    for word in words {
+        let Some(field) = read_field(word) else {
+            return Err(Unread::UnknownItem);
+        };
+        if found.push(field).is_err() {
+            return Err(Unread::NoMemory);
+        }
+    }
+    Ok(found)
+}
+
+/// The field of a text.
+fn make_field<A: Allocator + Copy>(
+    alloc: A,
+    kind: FieldKind,
+    text: &str,
+) -> Result<Field<A>, StrError>
+    ensures { MatchResult result (λ field. Holds kind text.now (content_of field)) (λ e. NoField kind text.now (str_cause e)) }
+{
+    let mut scanner: IterScanner<_, Vec<u8, A>> = IterScanner::new(alloc, iter::once(text));
+    match kind {
+        FieldKind::Number => Ok(Field::Number(u32::scan(&mut scanner)?)),
+        FieldKind::Hex => {
+            let octets = scanner.convert_token(base16::SymbolConverter::new())?;
+            Ok(Field::Hex(octets))
+        }
+        FieldKind::Base64 => {
+            let octets = scanner.convert_token(base64::SymbolConverter::new())?;
+            Ok(Field::Base64(octets))
+        }
+        FieldKind::Text => Ok(Field::Text(scanner.scan_charstr()?)),
+    }
+}
+
+/// The fields of texts, up to the first that is refused.
+fn make_fields<A: Allocator + Copy>(
+    alloc: A,
+    words: &[FieldWord<'_>],
+) -> Result<Vec<Field<A>, A>, Unmade>
+    ensures { MatchResult result
+        (λ fields. FieldsRun (map asked_of words.now) (contents_of fields.items) None)
+        (FieldsUnmade (map asked_of words.now)) }
+{
+    let mut fields = Vec::new(alloc);
+    for word in words {
+        match make_field(alloc, word.kind, word.text) {
+            Ok(field) => {
+                if fields.push(field).is_err() {
+                    return Err(Unmade::NoMemory);
+                }
+            }
+            Err(error) => return Err(Unmade::Refused(error)),
+        }
+    }
+    Ok(fields)
+}
+
+/// Prints the line that the words ask for in a layout, with a line end, and answers the status.
+///
+/// All words are read as fields before the first is scanned. Status 0 says that all went well, and
+/// 1 that a field or the line was refused, that no memory was found, or that `out` refused; the
+/// reason then stands on `err`. Status 2 is for a word that is no field, and 3 says that `err`
+/// refused.
+pub(crate) fn run_line<A: Allocator + Copy, O: fmt::Write, E: fmt::Write>(
+    alloc: A,
+    kind: DisplayKind,
+    words: &[&str],
+    out: &mut O,
+    err: &mut E,
+) -> u8
+    ensures printed { result ≡ 0 → (asked : List Asked) × AsksFields (texts words.now) asked
+        × LinePrinted O.write_str_gives kind asked out.old out.new × (err.new ≡ err.old) }
+    ensures refused { result ≡ 1 → (reason : List ℕ) × LineRefused (texts words.now) out.old out.new reason
+        × WritesInCalls E.write_str_gives err.old (refusal_line reason) err.new }
+    ensures usage { result ≡ 2 → ((asked : List Asked) → AsksFields (texts words.now) asked → ⊥)
+        × (out.new ≡ out.old) × WritesInCalls E.write_str_gives err.old usage_line err.new }
+    ensures silent { result ≡ 3 → (((asked : List Asked) → AsksFields (texts words.now) asked → ⊥) × (out.new ≡ out.old))
+        ⊎ ((reason : List ℕ) × LineRefused (texts words.now) out.old out.new reason) }
+    ensures status { result ≤ 3 }
+{
+    let found = match read_fields(alloc, words) {
+        Ok(found) => found,
+        Err(Unread::UnknownItem) => return refuse_usage(err),
+        Err(Unread::NoMemory) => return refuse(err, "short buffer"),
+    };
+    let fields = match make_fields(alloc, &found) {
+        Ok(fields) => fields,
+        Err(Unmade::Refused(error)) => return refuse(err, error.as_str()),
+        Err(Unmade::NoMemory) => return refuse(err, "short buffer"),
+    };
+    match EntryLine::new(fields) {
+        Ok(line) => {
+            let display = line.display_zonefile(kind);
+            match write!(out, "{display}\n") {
+                Ok(()) => 0,
+                Err(_) => refuse(err, "write failed"),
+            }
+        }
+        Err(refusal) => {
+            let (error, _fields) = refusal;
+            refuse(err, error)
+        }
+    }
+}

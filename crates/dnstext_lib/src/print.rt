@@ -1,0 +1,127 @@
+//! The program's `print`: a document out of words.
+ghost use Rattle.std.specs.Prelude.{◌≡◌, ◌⊎◌, ◌≤◌, ℕ, List, Err, IfOk, MatchOption, MatchResult};
+ghost use Rattle.std.specs.Fmt.{WritesInCalls};
+ghost use Rattle.dns_zone.specs.Layout.{Step};
+ghost use Rattle.dns_zone.specs.Documents.{step_of, steps_of};
+ghost use Rattle.dnstext_lib.specs.Program.{refusal_line, usage_line, texts};
+ghost use Rattle.dnstext_lib.specs.Print.{layout_name, item_word, AsksItems, BeginsBy, DocumentPrinted, DocumentRefused};
+
+use crate::program::{refuse, refuse_usage};
+use dns_zone::document::{Document, Item};
+use dns_zone::zonefile_fmt::{DisplayKind, ZonefileFmt};
+use std::alloc::{AllocError, Allocator};
+use std::fmt;
+use std::fmt::{Display, Write};
+
+/// Why words are no items or fields.
+#[derive(Clone, Copy)]
+pub(crate) enum Unread {
+    UnknownItem,
+    NoMemory,
+}
+
+impl From<AllocError> for Unread {
+    ghost use Rattle.dnstext_lib.specs.declared.print.Unread.TheVariants.{NoMemory};
+
+    ghost from_gives = { λ _ e. e ≡ NoMemory };
+
+    fn from(_: AllocError) -> Unread {
+        Unread::NoMemory
+    }
+}
+
+/// The layout of that name.
+pub(crate) fn layout_kind(word: &str) -> Option<DisplayKind>
+    ensures { MatchOption result ((kind : DisplayKind) → word.now ≡ layout_name kind → ⊥) (λ kind. word.now ≡ layout_name kind) }
+{
+    match word {
+        "simple" => Some(DisplayKind::Simple),
+        "tabbed" => Some(DisplayKind::Tabbed),
+        "multiline" => Some(DisplayKind::Multiline),
+        _ => None,
+    }
+}
+
+/// The item that a word asks for, if there is one.
+fn read_item<A: Allocator + Copy>(alloc: A, word: &str) -> Result<Option<Item<A>>, AllocError>
+    ensures { MatchResult result
+        (λ found. MatchOption found ((x : Step) → word.now ≡ item_word x → ⊥) (λ item. word.now ≡ item_word (step_of item)))
+        (λ _. (x : Step) × (word.now ≡ item_word x)) }
+{
+    let item = match word {
+        "(" => Item::Begin,
+        ")" => Item::End,
+        "n" => Item::Newline,
+        _ => {
+            if let Some(text) = word.strip_prefix("t:") {
+                Item::Token(String::from_str(alloc, text)?)
+            } else if let Some(text) = word.strip_prefix("c:") {
+                Item::Comment(String::from_str(alloc, text)?)
+            } else {
+                return Ok(None);
+            }
+        }
+    };
+    Ok(Some(item))
+}
+
+/// The items that words ask for.
+fn read_items<A: Allocator + Copy>(alloc: A, words: &[&str]) -> Result<Vec<Item<A>, A>, Unread>
+    ensures items { IfOk result (λ items. AsksItems (texts words.now) (steps_of items.items)) }
+    ensures unknown { result ≡ Err Unread.UnknownItem → (steps : List Step) → AsksItems (texts words.now) steps → ⊥ }
+    ensures memory { result ≡ Err Unread.NoMemory → BeginsBy item_word (texts words.now) }
+{
+    let mut items = Vec::new(alloc);
+    for word in words {
+        let Some(item) = read_item(alloc, word)? else {
+            return Err(Unread::UnknownItem);
+        };
+        if items.push(item).is_err() {
+            return Err(Unread::NoMemory);
+        }
+    }
+    Ok(items)
+}
+
+/// Prints the document that the words ask for in a layout, with a line end, and answers the exit
+/// status.
+///
+/// Status 0 says that all went well, and 1 that the items are no document, that no memory was
+/// found, or that `out` refused; the reason then stands on `err`. Status 2 is for a word that is no
+/// item, and 3 says that `err` refused.
+pub(crate) fn run_print<A: Allocator + Copy, O: fmt::Write, E: fmt::Write>(
+    alloc: A,
+    kind: DisplayKind,
+    words: &[&str],
+    out: &mut O,
+    err: &mut E,
+) -> u8
+    ensures printed { result ≡ 0 → (steps : List Step) × AsksItems (texts words.now) steps
+        × DocumentPrinted O.write_str_gives kind steps out.old out.new × (err.new ≡ err.old) }
+    ensures refused { result ≡ 1 → (reason : List ℕ) × DocumentRefused (texts words.now) out.old out.new reason
+        × WritesInCalls E.write_str_gives err.old (refusal_line reason) err.new }
+    ensures usage { result ≡ 2 → ((steps : List Step) → AsksItems (texts words.now) steps → ⊥)
+        × (out.new ≡ out.old) × WritesInCalls E.write_str_gives err.old usage_line err.new }
+    ensures silent { result ≡ 3 → (((steps : List Step) → AsksItems (texts words.now) steps → ⊥) × (out.new ≡ out.old))
+        ⊎ ((reason : List ℕ) × DocumentRefused (texts words.now) out.old out.new reason) }
+    ensures status { result ≤ 3 }
+{
+    let items = match read_items(alloc, words) {
+        Ok(items) => items,
+        Err(Unread::UnknownItem) => return refuse_usage(err),
+        Err(Unread::NoMemory) => return refuse(err, "short buffer"),
+    };
+    match Document::from_items(items) {
+        Ok(document) => {
+            let display = document.display_zonefile(kind);
+            match write!(out, "{display}\n") {
+                Ok(()) => 0,
+                Err(_) => refuse(err, "write failed"),
+            }
+        }
+        Err(refusal) => {
+            let (fault, _items) = refusal;
+            refuse(err, fault)
+        }
+    }
+}

@@ -1,0 +1,323 @@
+//! The program `dnstext`, over its words.
+ghost use Rattle.std.specs.Prelude.{◌≡◌, ◌⊎◌, ℕ, List, [], ◌∷◌, ◌++◌, Ok, Err, Option, MatchOption, MatchResult, IsTrue, ◌↔◌, codes, map, IfOk, IfSome, drop, ◌≤◌};
+ghost use Rattle.std.specs.Fmt.{WritesInCalls};
+ghost use Rattle.dns_scan.specs.Entries.{Converts, ConvertToken};
+ghost use Rattle.dns_scan.specs.Stands.{HasTokens};
+ghost use Rattle.dns_scan.specs.Tokens.{Token};
+ghost use Rattle.dns_iter.specs.Name.{ReadsNames};
+ghost use Rattle.dnstext_lib.specs.Program.{kind_name, LineBy, LineWritten, LinesWritten, OctetsLine, NumberPrints, NumberRefused, ScanPrinted, ScanRefused, refusal_line, usage_line, texts};
+ghost use Rattle.dnstext_lib.specs.Run.{IsUnknownCommand, RunPrinted, RunRefused};
+
+use crate::line::run_line;
+use crate::print::{layout_kind, run_print};
+use dns_codec::{base16, base32, base64};
+use dns_iter::IterScanner;
+use dns_name::name::UncertainName;
+use dns_octets::AsOctets;
+use dns_scan::number::scan_number;
+use dns_scan::{ConvertSymbols, Scanner, StrError};
+use dns_symbol::symbol::Symbol;
+use dns_wire::Name;
+use std::alloc::Allocator;
+use std::fmt;
+use std::fmt::{Display, Write};
+
+/// The line for words that ask for nothing known.
+pub const USAGE: &str = "usage: dnstext scan|print|line KIND WORD..\n";
+
+/// What tokens are scanned as.
+#[derive(Clone, Copy)]
+pub enum ScanKind {
+    /// Numbers of at most 8 bits.
+    U8,
+
+    /// Numbers of at most 16 bits.
+    U16,
+
+    /// Numbers of at most 32 bits.
+    U32,
+
+    /// Numbers of at most 64 bits.
+    U64,
+
+    /// Numbers of at most 128 bits.
+    U128,
+
+    /// Times to live, in seconds.
+    Ttl,
+
+    /// Character strings, printed in their unquoted form.
+    Charstr,
+
+    /// Octets in base 16, printed in hex.
+    Hex,
+
+    /// Octets in base32hex, printed in hex.
+    Base32hex,
+
+    /// Octets in base 64, printed in hex.
+    Base64,
+
+    /// Names, printed as absolute names with a dot at their end.
+    Name,
+}
+
+/// Why no more is printed.
+#[derive(Drop)]
+pub(crate) enum Stop<E> {
+    Refused(E),
+    WriteFailed,
+}
+
+// The kind of that name.
+fn scan_kind(word: &str) -> Option<ScanKind>
+    ensures { MatchOption result ((kind : ScanKind) → word.now ≡ kind_name kind → ⊥) (λ kind. word.now ≡ kind_name kind) }
+{
+    match word {
+        "u8" => Some(ScanKind::U8),
+        "u16" => Some(ScanKind::U16),
+        "u32" => Some(ScanKind::U32),
+        "u64" => Some(ScanKind::U64),
+        "u128" => Some(ScanKind::U128),
+        "ttl" => Some(ScanKind::Ttl),
+        "charstr" => Some(ScanKind::Charstr),
+        "hex" => Some(ScanKind::Hex),
+        "base32hex" => Some(ScanKind::Base32hex),
+        "base64" => Some(ScanKind::Base64),
+        "name" => Some(ScanKind::Name),
+        _ => None,
+    }
+}
+
+// Prints the next token as a number of at most `limit`.
+fn print_number<S: Scanner, O: fmt::Write>(
+    scanner: &mut S,
+    limit: u128,
+    out: &mut O,
+) -> Result<(), Stop<S::Error>>
+    requires { S.can_scan scanner.old }
+    ensures ready { S.can_scan scanner.new }
+    ensures line { (token : Token) (others : List Token) → HasTokens S.next_token scanner.old (token ∷ others)
+        → LineBy S.Error.cause O.write_str_gives (NumberPrints limit) (NumberRefused limit) token out.old result out.new }
+    ensures rest { (token : Token) (others : List Token) → HasTokens S.next_token scanner.old (token ∷ others) → HasTokens S.next_token scanner.new others }
+{
+    let value = match scan_number(scanner, limit) {
+        Ok(value) => value,
+        Err(error) => return Err(Stop::Refused(error)),
+    };
+    match write!(out, "{value}\n") {
+        Ok(()) => Ok(()),
+        Err(_) => Err(Stop::WriteFailed),
+    }
+}
+
+// Prints the next token as a character string.
+fn print_charstr<S: Scanner, O: fmt::Write>(
+    scanner: &mut S,
+    out: &mut O,
+) -> Result<(), Stop<S::Error>>
+where
+    S::Octets: Drop,
+    requires { S.can_scan scanner.old }
+    ensures ready { S.can_scan scanner.new }
+    ensures line { (token : Token) (others : List Token) → HasTokens S.next_token scanner.old (token ∷ others)
+        → LineWritten S.Error.cause O.write_str_gives ScanKind.Charstr token out.old result out.new }
+    ensures rest { (token : Token) (others : List Token) → HasTokens S.next_token scanner.old (token ∷ others) → HasTokens S.next_token scanner.new others }
+{
+    let string = match scanner.scan_charstr() {
+        Ok(string) => string,
+        Err(error) => return Err(Stop::Refused(error)),
+    };
+    match write!(out, "{}\n", string.display_unquoted()) {
+        Ok(()) => Ok(()),
+        Err(_) => Err(Stop::WriteFailed),
+    }
+}
+
+// Prints the next token's octets, as the converter makes them, in hex.
+fn print_octets<S: Scanner, C: ConvertSymbols<Symbol, S::Error>, O: fmt::Write>(
+    scanner: &mut S,
+    convert: C,
+    out: &mut O,
+) -> Result<(), Stop<S::Error>>
+where
+    S::Octets: Drop,
+    requires { S.can_scan scanner.old }
+    ensures ready { S.can_scan scanner.new }
+    ensures line { (token : Token) (others : List Token) → HasTokens S.next_token scanner.old (token ∷ others)
+        → OctetsLine O.write_str_gives
+        (Converts S.Error.cause S.OctetsBuilder.room C.tail (λ s. s) (λ p a q. ConvertToken S.Error.cause S.OctetsBuilder.room C.takes p token a q) convert)
+        out.old result out.new }
+    ensures rest { (token : Token) (others : List Token) → HasTokens S.next_token scanner.old (token ∷ others) → HasTokens S.next_token scanner.new others }
+{
+    let octets = match scanner.convert_token(convert) {
+        Ok(octets) => octets,
+        Err(error) => return Err(Stop::Refused(error)),
+    };
+    match write!(out, "{}\n", base16::encode_display(octets.as_slice())) {
+        Ok(()) => Ok(()),
+        Err(_) => Err(Stop::WriteFailed),
+    }
+}
+
+// Prints the next token as a name.
+fn print_name<A: Allocator, S: Scanner<Name = Name<Vec<u8, A>>>, O: fmt::Write>(
+    scanner: &mut S,
+    out: &mut O,
+) -> Result<(), Stop<S::Error>>
+    requires ready { S.can_scan scanner.old }
+    requires names { ReadsNames S.Error.cause S.reads_name }
+    ensures ready { S.can_scan scanner.new }
+    ensures line { (token : Token) (others : List Token) → HasTokens S.next_token scanner.old (token ∷ others)
+        → LineWritten S.Error.cause O.write_str_gives ScanKind.Name token out.old result out.new }
+    ensures rest { (token : Token) (others : List Token) → HasTokens S.next_token scanner.old (token ∷ others) → HasTokens S.next_token scanner.new others }
+{
+    let name = match UncertainName::scan(scanner) {
+        Ok(name) => name,
+        Err(error) => return Err(Stop::Refused(error)),
+    };
+    match write!(out, "{name}\n") {
+        Ok(()) => Ok(()),
+        Err(_) => Err(Stop::WriteFailed),
+    }
+}
+
+// Prints the next token as a value of the kind.
+fn print_value<A: Allocator, S: Scanner<Name = Name<Vec<u8, A>>>, O: fmt::Write>(
+    scanner: &mut S,
+    kind: ScanKind,
+    out: &mut O,
+) -> Result<(), Stop<S::Error>>
+where
+    S::Octets: Drop,
+    requires ready { S.can_scan scanner.old }
+    requires names { ReadsNames S.Error.cause S.reads_name }
+    ensures ready { S.can_scan scanner.new }
+    ensures line { (token : Token) (others : List Token) → HasTokens S.next_token scanner.old (token ∷ others)
+        → LineWritten S.Error.cause O.write_str_gives kind token out.old result out.new }
+    ensures rest { (token : Token) (others : List Token) → HasTokens S.next_token scanner.old (token ∷ others) → HasTokens S.next_token scanner.new others }
+{
+    match kind {
+        ScanKind::U8 => print_number(scanner, u8::MAX as u128, out),
+        ScanKind::U16 => print_number(scanner, u16::MAX as u128, out),
+        ScanKind::U32 | ScanKind::Ttl => print_number(scanner, u32::MAX as u128, out),
+        ScanKind::U64 => print_number(scanner, u64::MAX as u128, out),
+        ScanKind::U128 => print_number(scanner, u128::MAX, out),
+        ScanKind::Charstr => print_charstr(scanner, out),
+        ScanKind::Hex => print_octets(scanner, base16::SymbolConverter::new(), out),
+        ScanKind::Base32hex => print_octets(scanner, base32::SymbolConverter::new(), out),
+        ScanKind::Base64 => print_octets(scanner, base64::SymbolConverter::new(), out),
+        ScanKind::Name => print_name(scanner, out),
+    }
+}
+
+// Prints as many tokens as there are words.
+fn print_values<A: Allocator, S: Scanner<Name = Name<Vec<u8, A>>>, O: fmt::Write>(
+    scanner: &mut S,
+    kind: ScanKind,
+    tokens: &[&str],
+    out: &mut O,
+) -> Result<(), Stop<S::Error>>
+where
+    S::Octets: Drop,
+    requires ready { S.can_scan scanner.old }
+    requires names { ReadsNames S.Error.cause S.reads_name }
+    requires stands { HasTokens S.next_token scanner.old (texts tokens.now) }
+    ensures { LinesWritten S.Error.cause O.write_str_gives kind (texts tokens.now) out.old result out.new }
+{
+    for _token in tokens {
+        if let Err(stop) = print_value(scanner, kind, out) {
+            return Err(stop);
+        }
+    }
+    Ok(())
+}
+
+// The line of a refusal for that reason, and the status.
+pub(crate) fn refuse<E: fmt::Write, T: Display + Drop>(err: &mut E, reason: T) -> u8
+    ensures status { (result ≡ 1) ⊎ (result ≡ 3) }
+    ensures wrote { result ≡ 1 → IfSome (T.output reason) (λ text. WritesInCalls E.write_str_gives err.old (refusal_line text) err.new) }
+{
+    match write!(err, "refused: {reason}\n") {
+        Ok(()) => 1,
+        Err(_) => 3,
+    }
+}
+
+// The usage line, and the status.
+pub(crate) fn refuse_usage<E: fmt::Write>(err: &mut E) -> u8
+    ensures status { (result ≡ 2) ⊎ (result ≡ 3) }
+    ensures wrote { result ≡ 2 → WritesInCalls E.write_str_gives err.old usage_line err.new }
+{
+    match write!(err, "{USAGE}") {
+        Ok(()) => 2,
+        Err(_) => 3,
+    }
+}
+
+// Scans the tokens and prints their values.
+fn run_scan<A: Allocator + Copy, O: fmt::Write, E: fmt::Write>(
+    alloc: A,
+    kind: ScanKind,
+    tokens: &[&str],
+    out: &mut O,
+    err: &mut E,
+) -> u8
+    ensures printed { result ≡ 0 → ScanPrinted O.write_str_gives kind (texts tokens.now) out.old out.new × (err.new ≡ err.old) }
+    ensures refused { result ≡ 1 → (reason : List ℕ) × ScanRefused O.write_str_gives kind (texts tokens.now) out.old out.new reason
+        × WritesInCalls E.write_str_gives err.old (refusal_line reason) err.new }
+    ensures silent { result ≡ 3 → (reason : List ℕ) × ScanRefused O.write_str_gives kind (texts tokens.now) out.old out.new reason }
+    ensures status { (result ≡ 0) ⊎ ((result ≡ 1) ⊎ (result ≡ 3)) }
+{
+    let mut scanner: IterScanner<_, Vec<u8, A>> = IterScanner::new(alloc, tokens.iter().copied());
+    match print_values(&mut scanner, kind, tokens, out) {
+        Ok(()) => 0,
+        Err(Stop::Refused(error)) => refuse(err, error.as_str()),
+        Err(Stop::WriteFailed) => refuse(err, "write failed"),
+    }
+}
+
+/// Runs the program on the words after its name, and answers its exit status.
+///
+/// `scan KIND TOKEN..` prints each token's value on a line of its own, `print KIND ITEM..` a
+/// document, and `line KIND FIELD..` an entry line. Status 0 says that all went well, and 1 that a
+/// token, the document or the line was refused, that no memory was found, or that `out` refused;
+/// the reason then stands on `err`, and the lines before it stay printed. Status 2 is for words
+/// that ask for nothing known: nothing is printed, and `err` has the usage. Status 3 says that
+/// `err` refused what it would have got; `out` is then as at status 1 or 2.
+pub fn run<A: Allocator + Copy, O: fmt::Write, E: fmt::Write>(
+    alloc: A,
+    words: &[&str],
+    out: &mut O,
+    err: &mut E,
+) -> u8
+    ensures printed { result ≡ 0 → RunPrinted O.write_str_gives (texts words.now) out.old out.new × (err.new ≡ err.old) }
+    ensures refused { result ≡ 1 → (reason : List ℕ) × RunRefused O.write_str_gives (texts words.now) out.old out.new reason
+        × WritesInCalls E.write_str_gives err.old (refusal_line reason) err.new }
+    ensures usage { result ≡ 2 → IsUnknownCommand (texts words.now) × (out.new ≡ out.old) × WritesInCalls E.write_str_gives err.old usage_line err.new }
+    ensures silent { result ≡ 3 → (IsUnknownCommand (texts words.now) × (out.new ≡ out.old))
+        ⊎ ((reason : List ℕ) × RunRefused O.write_str_gives (texts words.now) out.old out.new reason) }
+    ensures status { result ≤ 3 }
+{
+    let Some((command, rest)) = words.split_first() else {
+        return refuse_usage(err);
+    };
+    let Some((name, others)) = rest.split_first() else {
+        return refuse_usage(err);
+    };
+    match *command {
+        "scan" => match scan_kind(name) {
+            Some(kind) => run_scan(alloc, kind, others, out, err),
+            None => refuse_usage(err),
+        },
+        "print" => match layout_kind(name) {
+            Some(kind) => run_print(alloc, kind, others, out, err),
+            None => refuse_usage(err),
+        },
+        "line" => match layout_kind(name) {
+            Some(kind) => run_line(alloc, kind, others, out, err),
+            None => refuse_usage(err),
+        },
+        _ => refuse_usage(err),
+    }
+}

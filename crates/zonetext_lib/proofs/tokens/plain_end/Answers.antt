@@ -1,0 +1,12 @@
+use Rattle.std.proofs.Common.{arith}
+use Rattle.zonetext_lib.proofs.Plain.{plain_more}
+use Rattle.zonetext_lib.proofs.tokens.plain_end.Goals as goal
+
+pub loop-end-preserved : goal.loop-end-preserved
+loop-end-preserved c =
+    let inv = c.loop-end.invariant in
+    record {
+      on = omega (arith, inv.on);
+      within = omega (arith, c.loop-end-test.true);
+      plain = plain_more c.args.token.now c.args.start c.loop-end.end inv.on (omega (arith, c.loop-end-test.true)) (c.is_plain.ensures c.if-is_plain.true) inv.plain;
+    }

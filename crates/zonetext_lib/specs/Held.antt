@@ -1,0 +1,19 @@
+-- Octets that are held, and where they begin; and what is written of them.
+use Rattle.std.specs.Prelude.{ℕ, List}
+use Rattle.zonetext_lib.specs.declared.place.Place.{Place}
+use Rattle.zonetext_lib.specs.declared.writer.Output.{Output}
+
+pub record Held : Type 0 where
+  pub octets : List ℕ
+  pub place : Place
+  -- as many were left over when they were last read
+  pub left : ℕ
+
+pub record Writing : Type 0 where
+  pub output : Output
+  pub held : Held
+
+-- of two texts
+pub record Both : Type 0 where
+  pub first : Held
+  pub second : Held
