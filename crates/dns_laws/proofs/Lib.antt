@@ -6,6 +6,6 @@ pub mod NameBack
 pub mod GrammarStands
 pub mod GrammarReads
 pub mod GrammarOnce
-pub mod Layouts
+pub mod DocumentLayouts
 pub mod Normal
 pub mod ZoneNames

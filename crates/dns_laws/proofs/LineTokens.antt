@@ -28,7 +28,7 @@ use Rattle.dns_zone.specs.Layout.{end}
 use Rattle.dns_zone.specs.Printed.{printed}
 use Rattle.dns_zone.specs.declared.zonefile_fmt.DisplayKind.{DisplayKind}
 use Rattle.dns_laws.specs.Entries.{document_entries}
-use Rattle.dns_laws.proofs.Layouts.{text_only}
+use Rattle.dns_laws.proofs.DocumentLayouts.{text_only}
 use Rattle.dns_entry.specs.Field.{Content, number, hex_octets, base64_octets, text_octets, IsContent, IsPrintable, field_text}
 use Rattle.dns_entry.specs.Line.{AreContents, IsLine, field_step, line_document}
 use Rattle.dns_entry.proofs.Words.{line_formed, number_word, hex_word, base64_word, text_word}

@@ -9,7 +9,7 @@ use Rattle.dns_laws.specs.Entries.{document_entries, tokens, document_of}
 use Rattle.dns_split.proofs.Tokens.{one_token}
 use Rattle.dns_split.specs.Token.{IsToken}
 use Rattle.dns_split.proofs.Complete.{one_way}
-use Rattle.dns_laws.proofs.Layouts.{simple_splits}
+use Rattle.dns_laws.proofs.DocumentLayouts.{simple_splits}
 
 abbrev pub AreTokens : List (List ℕ) → Type 0
 AreTokens [] = Unit {0}

@@ -1,7 +1,7 @@
 use Rattle.std.proofs.Common.{rules, ◌≡◌, refl, ◌∙◌, string_bytes}
 use Rattle.dns_zone.specs.Documents.{steps_of}
 use Rattle.dns_zone.specs.Printed.{printed}
-use Rattle.dns_laws.proofs.Layouts.{text_only, text_tight, refusal}
+use Rattle.dns_laws.proofs.DocumentLayouts.{text_only, text_tight, refusal}
 use Rattle.dns_laws.proofs.layouts.items_split.Goals as goal
 
 pub returns-in-Ok-split-clause-text : goal.returns-in-Ok-split-clause-text

@@ -1,4 +1,4 @@
-use Rattle.dns_laws.proofs.Layouts.{printed_only}
+use Rattle.dns_laws.proofs.DocumentLayouts.{printed_only}
 use Rattle.dns_laws.proofs.layouts.layouts_split.Goals as goal
 
 pub returns : goal.returns

@@ -1,6 +1,6 @@
 use Rattle.std.proofs.Common.{rules, string_bytes}
 use Rattle.std.proofs.lemmas.Result.{IfOk-weaker}
-use Rattle.dns_laws.proofs.Layouts.{text_only, text_tight}
+use Rattle.dns_laws.proofs.DocumentLayouts.{text_only, text_tight}
 use Rattle.dns_laws.proofs.layouts.values_split.Goals as goal
 
 pub returns-clause-text : goal.returns-clause-text
