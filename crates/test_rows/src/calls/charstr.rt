@@ -1,10 +1,9 @@
 //! Character strings.
-use crate::answer::{Answer, Failure, Heap};
-use crate::row::Inputs;
 use arrayvec::ArrayVec;
 use dns_charstr::charstr::{CharStr, CharStrBuilder, DisplayQuoted, DisplayUnquoted, FromStrError};
 use dns_octets::{AsOctets, CanonicalOrd, Parser};
 use dns_split::token::is_token;
+use row_table::{Answer, Failure, Heap, Inputs};
 use std::alloc::AllocError;
 use std::cmp::Ordering;
 use std::hash::{DefaultHasher, Hash, Hasher};

@@ -1,9 +1,9 @@
 //! The pieces of octets, by each way that leads to them.
 use super::zone::{add_fault, add_named_piece};
-use crate::answer::{Answer, Failure};
-use crate::row::number_of;
 use dns_split::pieces::{Fault, Piece, Pieces, Span};
 use dns_split::standing::{Standing, next_of_octets};
+use row_table::input::number_of;
+use row_table::{Answer, Failure};
 use std::alloc::{AllocError, Global};
 use std::str;
 

@@ -1,10 +1,10 @@
 //! How many pieces a long text has, of parts that are repeated.
 use super::zone::add_fault;
-use crate::answer::{Answer, Failure};
-use crate::row::number_of;
 use dns_split::opening::{outermost_open, outermost_open_of_octets};
 use dns_split::pieces::{Fault, Piece, Pieces, Span, Wrong};
 use dns_split::splitting::{SplitError, split};
+use row_table::input::number_of;
+use row_table::{Answer, Failure};
 use std::alloc::Allocator;
 use std::str;
 
