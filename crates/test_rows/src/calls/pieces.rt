@@ -186,22 +186,26 @@ pub fn pieces(octets: &[u8], answer: &mut Answer) {
     }
 }
 
-/// Where a reader stands among octets.
+/// Where a reader stands: at an entry, or after other pieces of it. How many blanks it has passed
+/// there is its own affair.
 fn add_standing(octets: &[u8], standing: Standing, answer: &mut Answer) {
-    if !standing.is_done {
-        answer.add_text("at ");
-        answer.add_number(standing.at);
-        answer.add_text(" depth ");
-        answer.add_number(standing.depth);
-        answer.add_text(" ");
-    }
-    answer.add_text("began ");
-    answer.add_number(standing.began);
     if standing.is_done {
-        answer.add_text(" done");
-    } else if standing.begins_blank(octets) {
-        answer.add_text(" blank");
+        answer.add_text("done, began ");
+        return answer.add_number(standing.began);
     }
+    if standing == Standing::at_entry(standing.at) {
+        answer.add_text("entry at ");
+    } else {
+        answer.add_text("depth ");
+        answer.add_number(standing.depth);
+        answer.add_text(", began ");
+    }
+    answer.add_number(standing.began);
+    answer.add_text(if standing.begins_blank(octets) {
+        ", blank"
+    } else {
+        ""
+    });
 }
 
 /// The piece after a standing, and the standing after it.

@@ -199,15 +199,18 @@ fn check_lines(output: Output, octets: &[u8], lines: &[u8], answer: &mut Answer)
     }
 }
 
+/// A bar and the fault after it.
+fn add_fault(found: Found, answer: &mut Answer) {
+    answer.add_text("|");
+    add_found(found, answer);
+}
+
 /// Adds octets, and the fault after them.
 fn add_written(written: Written, answer: &mut Answer) {
     answer.add(written.octets);
     match written.end {
         Ok(()) => {}
-        Err(Halt::Wrong(found)) => {
-            answer.add_text("|");
-            add_found(found, answer);
-        }
+        Err(Halt::Wrong(found)) => add_fault(found, answer),
         Err(_) => answer.hold(false),
     }
 }
@@ -232,18 +235,24 @@ fn write(output: Output, inputs: &Inputs, answer: &mut Answer) {
     add_written(written, answer);
 }
 
-/// What is written of octets that stand after so many lines, and the fault after it.
+/// What is written of octets that stand after so many lines, and the fault after it. Of lines
+/// before a fault nothing is said.
 fn write_after(output: Output, inputs: &Inputs, answer: &mut Answer) {
     let (octets, lines) = inputs.octets_and_number(answer);
     let mut out = Vec::new(answer.heap());
     let octets = few(octets, answer);
-    let end = match write_whole(output, octets, lines.min(MOST), &mut out) {
-        Ok(()) => Ok(()),
-        Err(Stop::Wrong(found)) => Err(Halt::Wrong(found)),
-        Err(Stop::OutOfMemory) => return answer.fail_for_memory(),
-    };
-    let octets = out.as_slice();
-    add_written(Written { octets, end }, answer);
+    match (
+        write_whole(output, octets, lines.min(MOST), &mut out),
+        output,
+    ) {
+        (Ok(()), _) => answer.add(out.as_slice()),
+        (Err(Stop::Wrong(found)), Output::Rows(_)) => {
+            answer.add(out.as_slice());
+            add_fault(found, answer);
+        }
+        (Err(Stop::Wrong(found)), Output::Lines(_)) => add_fault(found, answer),
+        (Err(Stop::OutOfMemory), _) => answer.fail_for_memory(),
+    }
 }
 
 /// Adds a block to the first text, and once more where memory was lacking.
