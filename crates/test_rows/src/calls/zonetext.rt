@@ -1,9 +1,9 @@
 //! What is done with zone files.
-ghost use Rattle.std.specs.Prelude.{◌+◌, ◌<◌, ◌≤◌, ◌^◌, length};
+ghost use Rattle.std.specs.Prelude.{◌+◌, ◌<◌, ◌^◌, length};
 
 use super::zone::{add_position, wrong_name};
 use row_table::{Answer, Failure, Heap, Inputs};
-use std::alloc::{AllocError, Global};
+use std::alloc::{AllocError, Allocator, Global};
 use zonetext_lib::blocks::{Checker, Halt};
 use zonetext_lib::check::{Found, check};
 use zonetext_lib::comparer::Comparer;
@@ -34,13 +34,24 @@ const MOST: usize = 1 << 24;
 
 /// Octets of which there are not too many.
 fn few<'a>(octets: &'a [u8], answer: &mut Answer) -> &'a [u8]
-    ensures { length result.now ≤ 2 ^ 24 }
+    ensures { length result.now < 2 ^ 62 }
 {
     if octets.len() > MOST {
         answer.fail(Failure::BadInputs);
         return &[];
     }
     octets
+}
+
+/// A number of lines that is not too large.
+fn few_lines(lines: usize, answer: &mut Answer) -> usize
+    ensures { result < 2 ^ 62 }
+{
+    if lines > MOST {
+        answer.fail(Failure::BadInputs);
+        return 0;
+    }
+    lines
 }
 
 /// A fault's position and reason, its place, and the position of what is left open.
@@ -96,7 +107,7 @@ fn check_octets(octets: &[u8], answer: &mut Answer)
 
 /// Whether octets are zone text that stand after so many lines.
 fn check_after((octets, lines): (&[u8], usize), answer: &mut Answer) {
-    let checked = check(few(octets, answer), lines.min(MOST));
+    let checked = check(few(octets, answer), few_lines(lines, answer));
     add_check(checked, answer);
 }
 
@@ -256,7 +267,7 @@ fn write_after(output: Output, inputs: &Inputs, answer: &mut Answer) {
 }
 
 /// Adds a block to the first text, and once more where memory was lacking.
-fn add_first(comparer: &mut Comparer<&Heap>, block: &[u8]) -> Result<(), Halt> {
+fn add_first<A: Allocator + Copy>(comparer: &mut Comparer<A>, block: &[u8]) -> Result<(), Halt> {
     match comparer.add_first(block) {
         Err(Halt::OutOfMemory) => comparer.add_first(block).map(|_| ()),
         told => told.map(|_| ()),
@@ -264,7 +275,7 @@ fn add_first(comparer: &mut Comparer<&Heap>, block: &[u8]) -> Result<(), Halt> {
 }
 
 /// The same of the second.
-fn add_second(comparer: &mut Comparer<&Heap>, block: &[u8]) -> Result<(), Halt> {
+fn add_second<A: Allocator + Copy>(comparer: &mut Comparer<A>, block: &[u8]) -> Result<(), Halt> {
     match comparer.add_second(block) {
         Err(Halt::OutOfMemory) => comparer.add_second(block).map(|_| ()),
         told => told.map(|_| ()),
@@ -272,8 +283,8 @@ fn add_second(comparer: &mut Comparer<&Heap>, block: &[u8]) -> Result<(), Halt> 
 }
 
 /// Adds a block of a length to a text of which more is wanted. What is left.
-fn add_block<'o>(
-    comparer: &mut Comparer<&Heap>,
+fn add_block<'o, A: Allocator + Copy>(
+    comparer: &mut Comparer<A>,
     is_first: bool,
     octets: &'o [u8],
     size: usize,
@@ -291,8 +302,13 @@ fn add_block<'o>(
 }
 
 /// How two texts compare that come in blocks of a length, until no more is wanted of either.
-fn compare_blocks(heap: &Heap, one: &[u8], other: &[u8], size: usize) -> Result<Comparison, Halt> {
-    let mut comparer = Comparer::new(heap);
+fn compare_blocks<A: Allocator + Copy>(
+    alloc: A,
+    one: &[u8],
+    other: &[u8],
+    size: usize,
+) -> Result<Comparison, Halt> {
+    let mut comparer = Comparer::new(alloc);
     let (mut ours, mut theirs) = (one, other);
     for _ in 0..u64::MAX {
         let our_rest = add_block(&mut comparer, true, ours, size)?;
@@ -330,8 +346,9 @@ fn add_comparison(comparison: Comparison, answer: &mut Answer) {
 fn compare((one, other): (&[u8], &[u8]), answer: &mut Answer) {
     let comparison = diff(few(one, answer), few(other, answer));
     for size in 1..=one.len().max(other.len()) {
-        answer.hold(compare_blocks(answer.heap(), one, other, size) == Ok(comparison));
+        answer.hold(compare_blocks(answer.alloc(), one, other, size) == Ok(comparison));
     }
+    answer.hold(compare_blocks(answer.heap(), one, other, 3) == Ok(comparison));
     add_comparison(comparison, answer);
 }
 

@@ -163,10 +163,10 @@ fn fresh_folder(rt: &HostRuntime, name: &str) -> Result<String, Fail> {
 
 /// How many names a folder has.
 fn count_names(rt: &HostRuntime, folder: &str) -> Result<usize, Fail> {
-    let mut count = 0;
+    let mut count: usize = 0;
     for entry in fs::read_dir(rt, folder)? {
         let _ = entry?;
-        count += 1;
+        count = count.saturating_add(1);
     }
     Ok(count)
 }
