@@ -68,7 +68,7 @@ fn add_found(found: Found, answer: &mut Answer) {
 }
 
 /// Adds a block, and once more where memory was lacking.
-fn add_again(checker: &mut Checker<&Heap>, block: &[u8]) -> Result<(), Halt> {
+fn add_again<A: Allocator>(checker: &mut Checker<A>, block: &[u8]) -> Result<(), Halt> {
     match checker.add(block) {
         Err(Halt::OutOfMemory) => checker.add(block),
         told => told,
@@ -76,10 +76,10 @@ fn add_again(checker: &mut Checker<&Heap>, block: &[u8]) -> Result<(), Halt> {
 }
 
 /// Octets in blocks of a length.
-fn check_blocks(heap: &Heap, octets: &[u8], size: usize) -> Result<(), Halt>
+fn check_blocks<A: Allocator>(alloc: A, octets: &[u8], size: usize) -> Result<(), Halt>
     requires { 0 < size }
 {
-    let mut checker = Checker::new(heap);
+    let mut checker = Checker::new(alloc);
     for block in octets.chunks(size) {
         add_again(&mut checker, block)?;
     }
@@ -99,9 +99,10 @@ fn check_octets(octets: &[u8], answer: &mut Answer)
 {
     let whole = check(octets, 0);
     let wanted = whole.map_err(Halt::Wrong);
-    for size in 1..=octets.len() {
-        answer.hold(check_blocks(answer.heap(), octets, size) == wanted);
+    for size in 2..=octets.len() {
+        answer.hold(check_blocks(answer.alloc(), octets, size) == wanted);
     }
+    answer.hold(check_blocks(answer.heap(), octets, 1) == wanted);
     add_check(whole, answer);
 }
 
@@ -112,10 +113,10 @@ fn check_after((octets, lines): (&[u8], usize), answer: &mut Answer) {
 }
 
 /// Adds a block, and once more where memory was lacking.
-fn write_again<'a>(
-    writer: &mut Writer<&'a Heap>,
+fn write_again<A: Allocator>(
+    writer: &mut Writer<A>,
     block: &[u8],
-    out: &mut Vec<u8, &'a Heap>,
+    out: &mut Vec<u8, A>,
 ) -> Result<(), Halt> {
     let before = out.len();
     match writer.add(block, out) {
@@ -128,7 +129,7 @@ fn write_again<'a>(
 }
 
 /// Writes what is left, and once more where memory was lacking.
-fn finish_again<'a>(writer: &Writer<&'a Heap>, out: &mut Vec<u8, &'a Heap>) -> Result<(), Halt> {
+fn finish_again<A: Allocator>(writer: &Writer<A>, out: &mut Vec<u8, A>) -> Result<(), Halt> {
     let before = out.len();
     match writer.finish(out) {
         Err(Halt::OutOfMemory) => {
@@ -140,16 +141,16 @@ fn finish_again<'a>(writer: &Writer<&'a Heap>, out: &mut Vec<u8, &'a Heap>) -> R
 }
 
 /// What is written of octets in blocks of a length.
-fn write_blocks<'a>(
-    heap: &'a Heap,
+fn write_blocks<A: Allocator>(
+    alloc: A,
     output: Output,
     octets: &[u8],
     size: usize,
-    out: &mut Vec<u8, &'a Heap>,
+    out: &mut Vec<u8, A>,
 ) -> Result<(), Halt>
     requires { 0 < size }
 {
-    let mut writer = Writer::new(heap, output);
+    let mut writer = Writer::new(alloc, output);
     for block in octets.chunks(size) {
         write_again(&mut writer, block, out)?;
     }
@@ -179,11 +180,11 @@ struct Written<'a> {
 }
 
 /// Whether blocks of another length are written alike.
-fn is_alike(heap: &Heap, output: Output, octets: &[u8], size: usize, wanted: &Written) -> bool
+fn is_alike(alloc: Global, output: Output, octets: &[u8], size: usize, wanted: &Written) -> bool
     requires { 0 < size }
 {
-    let mut out = Vec::new(heap);
-    let end = write_blocks(heap, output, octets, size, &mut out);
+    let mut out = Vec::new(alloc);
+    let end = write_blocks(alloc, output, octets, size, &mut out);
     end == wanted.end && *out.as_slice() == *wanted.octets
 }
 
@@ -237,7 +238,7 @@ fn write(output: Output, inputs: &Inputs, answer: &mut Answer) {
         end,
     };
     for size in 2..=octets.len() {
-        answer.hold(is_alike(heap, output, octets, size, &written));
+        answer.hold(is_alike(answer.alloc(), output, octets, size, &written));
     }
     answer.hold(is_whole(heap, output, octets, &written));
     if end.is_ok() {
