@@ -254,9 +254,9 @@ fn refuses_each_step(rt: HostRuntime) -> Result<(), Fail> {
             break;
         }
         match outcome.replaced {
-            0 => none += 1,
-            1 => one += 1,
-            _ => both += 1,
+            0 => none = none.saturating_add(1),
+            1 => one = one.saturating_add(1),
+            _ => both = both.saturating_add(1),
         }
     }
     fs::remove_dir_all(&rt, folder.as_str())?;
