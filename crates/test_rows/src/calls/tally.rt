@@ -105,27 +105,27 @@ fn add_tally(tally: Tally, answer: &mut Answer) {
     }
 }
 
-/// Where a parenthesis was opened that is left open.
+/// Where a parenthesis was opened that is left open, if that is the fault.
 fn add_open(octets: &[u8], tally: Tally, answer: &mut Answer) {
-    let open = outermost_open_of_octets(octets);
-    let is_left = matches!(tally.fault, Some(fault) if fault.wrong == Wrong::OpenParenthesis);
-    answer.check(open.is_some() == is_left || tally.fault.is_some());
-    if let (true, Some(place)) = (is_left, open) {
-        add_count(place, " is open", answer);
+    if !matches!(tally.fault, Some(fault) if fault.wrong == Wrong::OpenParenthesis) {
+        return;
     }
-}
-
-/// A text has the tally of its octets.
-fn check_text(text: &str, octets: &[u8], wanted: Tally, answer: &mut Answer) {
-    check_split(text, wanted, answer);
-    answer.check(tally_of(Pieces::new(text)) == wanted);
-    answer.check(outermost_open(text) == outermost_open_of_octets(octets));
+    let open = outermost_open_of_octets(octets);
+    if let Ok(text) = str::from_utf8(octets) {
+        answer.check(outermost_open(text) == open);
+    }
+    answer.add_text(", ");
+    match open {
+        Some(place) => add_count(place, " is open", answer),
+        None => answer.check(false),
+    }
 }
 
 fn tally_octets(octets: &[u8], answer: &mut Answer) {
     let found = tally_of(Pieces::of_octets(octets));
     if let Ok(text) = str::from_utf8(octets) {
-        check_text(text, octets, found, answer);
+        check_split(text, found, answer);
+        answer.check(tally_of(Pieces::new(text)) == found);
     }
     add_tally(found, answer);
     add_open(octets, found, answer);

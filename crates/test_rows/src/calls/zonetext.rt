@@ -1,9 +1,9 @@
 //! What is done with zone files.
-ghost use Rattle.std.specs.Prelude.{◌+◌, ◌<◌, ◌≤◌, ◌^◌, length};
+ghost use Rattle.std.specs.Prelude.{◌+◌, ◌<◌, ◌^◌, length};
 
 use super::zone::{add_position, wrong_name};
 use row_table::{Answer, Failure, Heap, Inputs};
-use std::alloc::{AllocError, Global};
+use std::alloc::{AllocError, Allocator, Global};
 use zonetext_lib::blocks::{Checker, Halt};
 use zonetext_lib::check::{Found, check};
 use zonetext_lib::comparer::Comparer;
@@ -34,13 +34,24 @@ const MOST: usize = 1 << 24;
 
 /// Octets of which there are not too many.
 fn few<'a>(octets: &'a [u8], answer: &mut Answer) -> &'a [u8]
-    ensures { length result.now ≤ 2 ^ 24 }
+    ensures { length result.now < 2 ^ 62 }
 {
     if octets.len() > MOST {
         answer.fail(Failure::BadInputs);
         return &[];
     }
     octets
+}
+
+/// A number of lines that is not too large.
+fn few_lines(lines: usize, answer: &mut Answer) -> usize
+    ensures { result < 2 ^ 62 }
+{
+    if lines > MOST {
+        answer.fail(Failure::BadInputs);
+        return 0;
+    }
+    lines
 }
 
 /// A fault's position and reason, its place, and the position of what is left open.
@@ -57,7 +68,7 @@ fn add_found(found: Found, answer: &mut Answer) {
 }
 
 /// Adds a block, and once more where memory was lacking.
-fn add_again(checker: &mut Checker<&Heap>, block: &[u8]) -> Result<(), Halt> {
+fn add_again<A: Allocator>(checker: &mut Checker<A>, block: &[u8]) -> Result<(), Halt> {
     match checker.add(block) {
         Err(Halt::OutOfMemory) => checker.add(block),
         told => told,
@@ -65,10 +76,10 @@ fn add_again(checker: &mut Checker<&Heap>, block: &[u8]) -> Result<(), Halt> {
 }
 
 /// Octets in blocks of a length.
-fn check_blocks(heap: &Heap, octets: &[u8], size: usize) -> Result<(), Halt>
+fn check_blocks<A: Allocator>(alloc: A, octets: &[u8], size: usize) -> Result<(), Halt>
     requires { 0 < size }
 {
-    let mut checker = Checker::new(heap);
+    let mut checker = Checker::new(alloc);
     for block in octets.chunks(size) {
         add_again(&mut checker, block)?;
     }
@@ -88,23 +99,24 @@ fn check_octets(octets: &[u8], answer: &mut Answer)
 {
     let whole = check(octets, 0);
     let wanted = whole.map_err(Halt::Wrong);
-    for size in 1..=octets.len() {
-        answer.hold(check_blocks(answer.heap(), octets, size) == wanted);
+    for size in 2..=octets.len() {
+        answer.hold(check_blocks(answer.alloc(), octets, size) == wanted);
     }
+    answer.hold(check_blocks(answer.heap(), octets, 1) == wanted);
     add_check(whole, answer);
 }
 
 /// Whether octets are zone text that stand after so many lines.
 fn check_after((octets, lines): (&[u8], usize), answer: &mut Answer) {
-    let checked = check(few(octets, answer), lines.min(MOST));
+    let checked = check(few(octets, answer), few_lines(lines, answer));
     add_check(checked, answer);
 }
 
 /// Adds a block, and once more where memory was lacking.
-fn write_again<'a>(
-    writer: &mut Writer<&'a Heap>,
+fn write_again<A: Allocator>(
+    writer: &mut Writer<A>,
     block: &[u8],
-    out: &mut Vec<u8, &'a Heap>,
+    out: &mut Vec<u8, A>,
 ) -> Result<(), Halt> {
     let before = out.len();
     match writer.add(block, out) {
@@ -117,7 +129,7 @@ fn write_again<'a>(
 }
 
 /// Writes what is left, and once more where memory was lacking.
-fn finish_again<'a>(writer: &Writer<&'a Heap>, out: &mut Vec<u8, &'a Heap>) -> Result<(), Halt> {
+fn finish_again<A: Allocator>(writer: &Writer<A>, out: &mut Vec<u8, A>) -> Result<(), Halt> {
     let before = out.len();
     match writer.finish(out) {
         Err(Halt::OutOfMemory) => {
@@ -129,16 +141,16 @@ fn finish_again<'a>(writer: &Writer<&'a Heap>, out: &mut Vec<u8, &'a Heap>) -> R
 }
 
 /// What is written of octets in blocks of a length.
-fn write_blocks<'a>(
-    heap: &'a Heap,
+fn write_blocks<A: Allocator>(
+    alloc: A,
     output: Output,
     octets: &[u8],
     size: usize,
-    out: &mut Vec<u8, &'a Heap>,
+    out: &mut Vec<u8, A>,
 ) -> Result<(), Halt>
     requires { 0 < size }
 {
-    let mut writer = Writer::new(heap, output);
+    let mut writer = Writer::new(alloc, output);
     for block in octets.chunks(size) {
         write_again(&mut writer, block, out)?;
     }
@@ -168,11 +180,11 @@ struct Written<'a> {
 }
 
 /// Whether blocks of another length are written alike.
-fn is_alike(heap: &Heap, output: Output, octets: &[u8], size: usize, wanted: &Written) -> bool
+fn is_alike(alloc: Global, output: Output, octets: &[u8], size: usize, wanted: &Written) -> bool
     requires { 0 < size }
 {
-    let mut out = Vec::new(heap);
-    let end = write_blocks(heap, output, octets, size, &mut out);
+    let mut out = Vec::new(alloc);
+    let end = write_blocks(alloc, output, octets, size, &mut out);
     end == wanted.end && *out.as_slice() == *wanted.octets
 }
 
@@ -226,7 +238,7 @@ fn write(output: Output, inputs: &Inputs, answer: &mut Answer) {
         end,
     };
     for size in 2..=octets.len() {
-        answer.hold(is_alike(heap, output, octets, size, &written));
+        answer.hold(is_alike(answer.alloc(), output, octets, size, &written));
     }
     answer.hold(is_whole(heap, output, octets, &written));
     if end.is_ok() {
@@ -256,7 +268,7 @@ fn write_after(output: Output, inputs: &Inputs, answer: &mut Answer) {
 }
 
 /// Adds a block to the first text, and once more where memory was lacking.
-fn add_first(comparer: &mut Comparer<&Heap>, block: &[u8]) -> Result<(), Halt> {
+fn add_first<A: Allocator + Copy>(comparer: &mut Comparer<A>, block: &[u8]) -> Result<(), Halt> {
     match comparer.add_first(block) {
         Err(Halt::OutOfMemory) => comparer.add_first(block).map(|_| ()),
         told => told.map(|_| ()),
@@ -264,7 +276,7 @@ fn add_first(comparer: &mut Comparer<&Heap>, block: &[u8]) -> Result<(), Halt> {
 }
 
 /// The same of the second.
-fn add_second(comparer: &mut Comparer<&Heap>, block: &[u8]) -> Result<(), Halt> {
+fn add_second<A: Allocator + Copy>(comparer: &mut Comparer<A>, block: &[u8]) -> Result<(), Halt> {
     match comparer.add_second(block) {
         Err(Halt::OutOfMemory) => comparer.add_second(block).map(|_| ()),
         told => told.map(|_| ()),
@@ -272,8 +284,8 @@ fn add_second(comparer: &mut Comparer<&Heap>, block: &[u8]) -> Result<(), Halt> 
 }
 
 /// Adds a block of a length to a text of which more is wanted. What is left.
-fn add_block<'o>(
-    comparer: &mut Comparer<&Heap>,
+fn add_block<'o, A: Allocator + Copy>(
+    comparer: &mut Comparer<A>,
     is_first: bool,
     octets: &'o [u8],
     size: usize,
@@ -291,8 +303,13 @@ fn add_block<'o>(
 }
 
 /// How two texts compare that come in blocks of a length, until no more is wanted of either.
-fn compare_blocks(heap: &Heap, one: &[u8], other: &[u8], size: usize) -> Result<Comparison, Halt> {
-    let mut comparer = Comparer::new(heap);
+fn compare_blocks<A: Allocator + Copy>(
+    alloc: A,
+    one: &[u8],
+    other: &[u8],
+    size: usize,
+) -> Result<Comparison, Halt> {
+    let mut comparer = Comparer::new(alloc);
     let (mut ours, mut theirs) = (one, other);
     for _ in 0..u64::MAX {
         let our_rest = add_block(&mut comparer, true, ours, size)?;
@@ -330,8 +347,9 @@ fn add_comparison(comparison: Comparison, answer: &mut Answer) {
 fn compare((one, other): (&[u8], &[u8]), answer: &mut Answer) {
     let comparison = diff(few(one, answer), few(other, answer));
     for size in 1..=one.len().max(other.len()) {
-        answer.hold(compare_blocks(answer.heap(), one, other, size) == Ok(comparison));
+        answer.hold(compare_blocks(answer.alloc(), one, other, size) == Ok(comparison));
     }
+    answer.hold(compare_blocks(answer.heap(), one, other, 3) == Ok(comparison));
     add_comparison(comparison, answer);
 }
 
