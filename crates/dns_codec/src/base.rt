@@ -1,7 +1,7 @@
 //! The three encodings, by their numbers and rules.
 ghost use Rattle.std.specs.Prelude.{◌≡◌, ℕ, List, ◌<◌, ◌^◌, nat_lt, length, IfSome};
 ghost use Rattle.dns_codec.specs.Base.{Base, IsShape, IsStride, IsTable, IsEncoding, value};
-ghost use Rattle.dns_codec.specs.Grammar.{may_end};
+ghost use Rattle.dns_codec.specs.Grammar.{may_end_after};
 
 use crate::read::{VALUES16, VALUES32HEX, VALUES64};
 
@@ -61,7 +61,7 @@ pub trait Encoding {
     /// Whether a text may end after `count` characters of a group.
     fn may_end(count: u32) -> bool
         requires { count < base.group }
-        ensures { result ≡ may_end base count };
+        ensures { result ≡ may_end_after base count };
 
     /// The other rules.
     fn rules() -> Rules

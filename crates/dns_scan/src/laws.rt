@@ -17,7 +17,7 @@ ghost use Rattle.dns_scan.specs.Join.{CallsTokens, ConvertsTokens, IsJoin, IsSym
 ghost use Rattle.dns_scan.specs.Kinds.{KindReads};
 ghost use Rattle.dns_scan.specs.Numbers.{IsNumber, by_cause};
 ghost use Rattle.dns_scan.specs.Octets.{GivesWhere, IsPrinted, StringBack};
-ghost use Rattle.dns_scan.specs.Reads.{NameReads, NumberReads, OctetsRead, ReadInOneWay, ReadsBoth, ReadsEach, ReadsFirst, ReadsInOneWay, ReadsInTurn};
+ghost use Rattle.dns_scan.specs.Reads.{NameReads, NumberReads, OctetsRead, ReadInOneWay, ReadsBoth, ReadsEach, ReadsFirstToken, ReadsInOneWay, ReadsInTurn};
 ghost use Rattle.dns_scan.specs.Steps.{octet_given};
 ghost use Rattle.dns_scan.specs.Stands.{HasTokens, TakesOne, first_of};
 ghost use Rattle.dns_scan.specs.Strings.{AnswersStrings};
@@ -62,7 +62,7 @@ pub fn octets_are_answered_in_one_way()
 /// token that is read as a number is plain digits of that value.
 pub fn printed_numbers_read_back()
     ensures back { (limit v : ℕ) (others rest : List Token) (r : Result ℕ Cause) → v ≤ limit → v < 2 ^ 128
-        → ReadsFirst (NumberReads limit) (decimal v ∷ others) r rest → (r ≡ Ok v) × (rest ≡ others) }
+        → ReadsFirstToken (NumberReads limit) (decimal v ∷ others) r rest → (r ≡ Ok v) × (rest ≡ others) }
     ensures one { (limit : ℕ) (token : Token) (q r : Result ℕ Cause) → NumberReads limit token q → NumberReads limit token r → q ≡ r }
     ensures only { (limit : ℕ) (token : Token) (r : Result ℕ Cause) (symbols : List PlainSymbol) (error : Option SymbolCharsError) → NumberReads limit token r
         → SymbolsOf token symbols error → IfOk r (λ v. IsNumber limit symbols v × (error ≡ None)) }
@@ -118,10 +118,10 @@ pub fn kinds_in_turn<S: Scanner, T: Scan<S>, F: FnMut(Scanned<T>)>(
 /// scanner reads each token as one name or refuses it in one way. Where it is so for scans of two
 /// types, it is for so many of one, for a list of kinds with one, and for pairs of both.
 pub fn scans_have_one_answer<S: Scanner, A: Scan<S> + Drop, B: Scan<S>>()
-    ensures number { (limit : ℕ) → ReadsInOneWay (ReadsFirst (NumberReads limit)) }
-    ensures string { (size : ℕ) → ReadsInOneWay (ReadsFirst (OctetsRead (exactly size))) }
+    ensures number { (limit : ℕ) → ReadsInOneWay (ReadsFirstToken (NumberReads limit)) }
+    ensures string { (size : ℕ) → ReadsInOneWay (ReadsFirstToken (OctetsRead (exactly size))) }
     ensures name { ((token : Token) (q r : Result S.Name S.Error) → S.reads_name token q → S.reads_name token r → by_cause S.Error.cause q ≡ by_cause S.Error.cause r)
-        → ReadsInOneWay (ReadsFirst (NameReads S.Error.cause S.reads_name)) }
+        → ReadsInOneWay (ReadsFirstToken (NameReads S.Error.cause S.reads_name)) }
     ensures each { ReadsInOneWay A.scan_reads → (count : ℕ) → ReadInOneWay (ReadsEach A.scan_reads count) }
     ensures kinds { ReadsInOneWay A.scan_reads → (kinds : List Kind) → ReadInOneWay (ReadsInTurn (KindReads A.scan_reads) kinds) }
     ensures both { ReadsInOneWay A.scan_reads → ReadsInOneWay B.scan_reads → ReadsInOneWay (ReadsBoth A.scan_reads B.scan_reads) }

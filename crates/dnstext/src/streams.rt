@@ -1,7 +1,7 @@
 //! The program over streams of bytes.
 ghost use Rattle.std.specs.Prelude.{◌≡◌, ◌⊎◌, ◌≤◌, ℕ, List, []};
 ghost use Rattle.std.specs.Io.KnownBytes.{Appends, Keeps};
-ghost use Rattle.dnstext_lib.specs.Program.{refusal_line, usage_line, texts};
+ghost use Rattle.dnstext_lib.specs.Program.{refusal_line, usage_line, bytes_of_words};
 ghost use Rattle.dnstext_lib.specs.Run.{IsUnknownCommand};
 ghost use Rattle.dnstext.specs.Streams.{Printed, Ran, Told};
 
@@ -82,13 +82,13 @@ pub fn run<A: Allocator + Copy, O: Write, E: Write>(
     out: &mut O,
     err: &mut E,
 ) -> u8
-    ensures printed { result ≡ 0 → Printed (texts words.now) (O.contents out.old) (O.contents out.new) × Keeps (E.contents err.old) (E.contents err.new) }
-    ensures refused { result ≡ 1 → (reason : List ℕ) × Told (texts words.now) (O.contents out.old) (O.contents out.new) reason
+    ensures printed { result ≡ 0 → Printed (bytes_of_words words.now) (O.contents out.old) (O.contents out.new) × Keeps (E.contents err.old) (E.contents err.new) }
+    ensures refused { result ≡ 1 → (reason : List ℕ) × Told (bytes_of_words words.now) (O.contents out.old) (O.contents out.new) reason
         × Appends (E.contents err.old) (E.contents err.new) (refusal_line reason) }
-    ensures usage { result ≡ 2 → IsUnknownCommand (texts words.now) × Keeps (O.contents out.old) (O.contents out.new)
+    ensures usage { result ≡ 2 → IsUnknownCommand (bytes_of_words words.now) × Keeps (O.contents out.old) (O.contents out.new)
         × Appends (E.contents err.old) (E.contents err.new) usage_line }
-    ensures silent { result ≡ 3 → (IsUnknownCommand (texts words.now) × Keeps (O.contents out.old) (O.contents out.new))
-        ⊎ ((line : List ℕ) × Ran (texts words.now) (O.contents out.old) (O.contents out.new) line) }
+    ensures silent { result ≡ 3 → (IsUnknownCommand (bytes_of_words words.now) × Keeps (O.contents out.old) (O.contents out.new))
+        ⊎ ((line : List ℕ) × Ran (bytes_of_words words.now) (O.contents out.old) (O.contents out.new) line) }
     ensures status { result ≤ 3 }
 {
     let mut line = ArrayString::<LINE_LENGTH>::new();

@@ -5,7 +5,7 @@ ghost use Rattle.dns_scan.specs.Entries.{Converts, ConvertToken};
 ghost use Rattle.dns_scan.specs.Stands.{HasTokens};
 ghost use Rattle.dns_scan.specs.Tokens.{Token};
 ghost use Rattle.dns_iter.specs.Name.{ReadsNames};
-ghost use Rattle.dnstext_lib.specs.Program.{kind_name, LineBy, LineWritten, LinesWritten, OctetsLine, NumberPrints, NumberRefused, ScanPrinted, ScanRefused, refusal_line, usage_line, texts};
+ghost use Rattle.dnstext_lib.specs.Program.{kind_name, LineBy, LineWritten, LinesWritten, OctetsLine, NumberPrints, NumberRefused, ScanPrinted, ScanRefused, refusal_line, usage_line, bytes_of_words};
 ghost use Rattle.dnstext_lib.specs.Run.{IsUnknownCommand, RunPrinted, RunRefused};
 
 use crate::line::run_line;
@@ -222,8 +222,8 @@ where
     S::Octets: Drop,
     requires ready { S.can_scan scanner.old }
     requires names { ReadsNames S.Error.cause S.reads_name }
-    requires stands { HasTokens S.next_token scanner.old (texts tokens.now) }
-    ensures { LinesWritten S.Error.cause O.write_str_gives kind (texts tokens.now) out.old result out.new }
+    requires stands { HasTokens S.next_token scanner.old (bytes_of_words tokens.now) }
+    ensures { LinesWritten S.Error.cause O.write_str_gives kind (bytes_of_words tokens.now) out.old result out.new }
 {
     for _token in tokens {
         if let Err(stop) = print_value(scanner, kind, out) {
@@ -263,10 +263,10 @@ fn run_scan<A: Allocator + Copy, O: fmt::Write, E: fmt::Write>(
     out: &mut O,
     err: &mut E,
 ) -> u8
-    ensures printed { result ≡ 0 → ScanPrinted O.write_str_gives kind (texts tokens.now) out.old out.new × (err.new ≡ err.old) }
-    ensures refused { result ≡ 1 → (reason : List ℕ) × ScanRefused O.write_str_gives kind (texts tokens.now) out.old out.new reason
+    ensures printed { result ≡ 0 → ScanPrinted O.write_str_gives kind (bytes_of_words tokens.now) out.old out.new × (err.new ≡ err.old) }
+    ensures refused { result ≡ 1 → (reason : List ℕ) × ScanRefused O.write_str_gives kind (bytes_of_words tokens.now) out.old out.new reason
         × WritesInCalls E.write_str_gives err.old (refusal_line reason) err.new }
-    ensures silent { result ≡ 3 → (reason : List ℕ) × ScanRefused O.write_str_gives kind (texts tokens.now) out.old out.new reason }
+    ensures silent { result ≡ 3 → (reason : List ℕ) × ScanRefused O.write_str_gives kind (bytes_of_words tokens.now) out.old out.new reason }
     ensures status { (result ≡ 0) ⊎ ((result ≡ 1) ⊎ (result ≡ 3)) }
 {
     let mut scanner: IterScanner<_, Vec<u8, A>> = IterScanner::new(alloc, tokens.iter().copied());
@@ -291,12 +291,12 @@ pub fn run<A: Allocator + Copy, O: fmt::Write, E: fmt::Write>(
     out: &mut O,
     err: &mut E,
 ) -> u8
-    ensures printed { result ≡ 0 → RunPrinted O.write_str_gives (texts words.now) out.old out.new × (err.new ≡ err.old) }
-    ensures refused { result ≡ 1 → (reason : List ℕ) × RunRefused O.write_str_gives (texts words.now) out.old out.new reason
+    ensures printed { result ≡ 0 → RunPrinted O.write_str_gives (bytes_of_words words.now) out.old out.new × (err.new ≡ err.old) }
+    ensures refused { result ≡ 1 → (reason : List ℕ) × RunRefused O.write_str_gives (bytes_of_words words.now) out.old out.new reason
         × WritesInCalls E.write_str_gives err.old (refusal_line reason) err.new }
-    ensures usage { result ≡ 2 → IsUnknownCommand (texts words.now) × (out.new ≡ out.old) × WritesInCalls E.write_str_gives err.old usage_line err.new }
-    ensures silent { result ≡ 3 → (IsUnknownCommand (texts words.now) × (out.new ≡ out.old))
-        ⊎ ((reason : List ℕ) × RunRefused O.write_str_gives (texts words.now) out.old out.new reason) }
+    ensures usage { result ≡ 2 → IsUnknownCommand (bytes_of_words words.now) × (out.new ≡ out.old) × WritesInCalls E.write_str_gives err.old usage_line err.new }
+    ensures silent { result ≡ 3 → (IsUnknownCommand (bytes_of_words words.now) × (out.new ≡ out.old))
+        ⊎ ((reason : List ℕ) × RunRefused O.write_str_gives (bytes_of_words words.now) out.old out.new reason) }
     ensures status { result ≤ 3 }
 {
     let Some((command, rest)) = words.split_first() else {

@@ -4,8 +4,8 @@ ghost use Rattle.std.specs.Prelude.{IfOk, IfErr, encode_utf8_all};
 ghost use Rattle.dns_split.specs.Pieces.{AreOctets, moved_fault};
 ghost use Rattle.dns_split.specs.Viable.{IsViable};
 ghost use Rattle.dns_split.specs.declared.pieces.Wrong.TheVariants.{OpenQuote};
-ghost use Rattle.zonetext_lib.specs.Blocks.{Adds, AddsInTime, EndsWith, Holds, IsHeld, IsOpenedAfter};
-ghost use Rattle.zonetext_lib.specs.Blocks.{Releases, Settled, Settles, Takes};
+ghost use Rattle.zonetext_lib.specs.Blocks.{AddsBlock, AddsInTime, EndsWith, Holds, IsHeld, IsOpenedAfter};
+ghost use Rattle.zonetext_lib.specs.Blocks.{Releases, Settled, SettlesHeld, TakesBlock};
 ghost use Rattle.zonetext_lib.specs.Found.{IsFound, IsOctetFault, IsZone};
 ghost use Rattle.zonetext_lib.specs.Place.{IsAt};
 
@@ -202,7 +202,7 @@ impl<A: Allocator> Checker<A> {
     /// Adds octets, and returns whether so many are held that they are worth reading: twice as many
     /// as were left over the last time.
     pub(crate) fn take(&mut self, block: &[u8]) -> Result<bool, Halt>
-        ensures { Takes self.old self.new block.now result }
+        ensures { TakesBlock self.old self.new block.now result }
     {
         let room = usize::MAX - 2 - self.place.at - self.held.len();
         if block.len() > room {
@@ -222,7 +222,7 @@ impl<A: Allocator> Checker<A> {
     /// Where what is held can be cut, or the fault that all octets have, whatever follows.
     pub(crate) fn settle(&self) -> Result<usize, Found>
         ensures octets { AreOctets self.now.octets }
-        ensures settled { Settles self.now result }
+        ensures settled { SettlesHeld self.now result }
         ensures viable { IfOk result (λ _. IsViable (encode_utf8_all self.now.octets)) }
     {
         let held = self.held.as_slice();
@@ -255,7 +255,7 @@ impl<A: Allocator> Checker<A> {
     /// left over the last time, so a fault is returned before what is held has doubled. The octets
     /// are added where a fault is returned too, but not where memory was lacking.
     pub fn add(&mut self, block: &[u8]) -> Result<(), Halt>
-        ensures added { Adds self.old self.new block.now result }
+        ensures added { AddsBlock self.old self.new block.now result }
         ensures in_time { AddsInTime self.old self.new block.now result }
     {
         if !self.take(block)? {

@@ -1,9 +1,8 @@
 //! Character strings.
-use crate::answer::{Answer, Failure, Heap};
-use crate::row::Inputs;
 use arrayvec::ArrayVec;
 use dns_charstr::charstr::{CharStr, CharStrBuilder, DisplayQuoted, DisplayUnquoted, FromStrError};
 use dns_octets::{AsOctets, CanonicalOrd, Parser};
+use row_table::{Answer, Failure, Heap, Inputs};
 use std::cmp::Ordering;
 use std::hash::{DefaultHasher, Hash, Hasher};
 

@@ -1,6 +1,4 @@
 //! Zone text: how it splits, and its layouts.
-use crate::answer::{Answer, Failure, Heap};
-use crate::row::Inputs;
 use dns_split::entry_tokens::{EntryPart, EntryToken, EntryTokens, NextEntryError};
 use dns_split::opening::outermost_open_of_octets;
 use dns_split::pieces::{EndOfEntry, Fault, Piece, Pieces, Span, Wrong};
@@ -9,6 +7,7 @@ use dns_split::splitting::split;
 use dns_split::token::{content, is_token};
 use dns_zone::document::{Document, Item};
 use dns_zone::zonefile_fmt::{DisplayKind, ZonefileFmt};
+use row_table::{Answer, Failure, Heap, Inputs};
 use std::alloc::AllocError;
 use std::str;
 

@@ -2,8 +2,7 @@
 ghost use Rattle.std.specs.Prelude.{◌+◌, ◌<◌, ◌^◌, length};
 
 use super::zone::{add_position, wrong_name};
-use crate::answer::{Answer, Failure, Heap};
-use crate::row::Inputs;
+use row_table::{Answer, Failure, Heap, Inputs};
 use zonetext_lib::blocks::{Checker, Halt};
 use zonetext_lib::check::{Found, check};
 use zonetext_lib::diff::{Comparison, diff};
