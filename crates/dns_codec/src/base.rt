@@ -24,6 +24,9 @@ pub struct Rules {
 }
 
 /// What sets an encoding apart from the others.
+///
+/// The list of encodings is closed: whoever implements this shows that `base` is base 16,
+/// base32hex or base 64 of RFC 4648 (`known`). The laws of encodings rest on that.
 pub trait Encoding {
     /// The bits of a character.
     const BITS: u32;

@@ -99,6 +99,13 @@ impl<'a> Answer<'a> {
         }
     }
 
+    /// Something holds, whether or not a growth was refused.
+    pub fn hold(&mut self, holds: bool) {
+        if !holds {
+            self.fail(Failure::Unlike);
+        }
+    }
+
     /// Another way leads to the same answer.
     pub fn check_same(&mut self, other: &Answer) {
         let are_alike = self.text == other.text;

@@ -4,8 +4,10 @@ mod dnstext;
 mod encoding;
 mod format;
 mod name;
+mod pieces;
 mod steps;
 mod symbol;
+mod tally;
 mod zone;
 mod zonetext;
 

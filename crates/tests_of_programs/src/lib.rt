@@ -1,4 +1,4 @@
-//! Tests alone: what the program prints and answers, and laws across crates at work.
+//! Tests alone: the program where its sinks refuse, and laws across crates at work.
 #![tactic(auto)]
 
 #[cfg(test)]

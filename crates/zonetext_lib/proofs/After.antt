@@ -21,8 +21,8 @@ use Rattle.dns_split.proofs.Joins.{split_cut}
 use Rattle.dns_split.proofs.PieceJoins.{pieces_joined}
 use Rattle.dns_split.proofs.PieceMoved.{mono}
 use Rattle.dns_split.proofs.PieceSplit.{pieces_split, split_pieces, pieces_one_way}
-use Rattle.zonetext_lib.specs.Blocks.{EndsEntry, IsOpenedAfter}
-use Rattle.zonetext_lib.specs.Found.{IsFound, IsOctetFault, IsOpened}
+use Rattle.zonetext_lib.specs.Blocks.{EndsEntry}
+use Rattle.zonetext_lib.specs.Found.{IsFound, IsOctetFault, IsOpenedAfter}
 use Rattle.zonetext_lib.specs.Place.{IsAt}
 use Rattle.zonetext_lib.specs.declared.check.Found.{Found}
 use Rattle.zonetext_lib.proofs.Cuts.{fault_after}
@@ -184,16 +184,19 @@ open_last octets f h e =
 
 -- what is found in octets that follow
 pub found_on : (before octets more : List ℕ) (f : Fault) (r : Found) → EndsEntry before → f.at ≤ length octets → IsOctetFault (before ++ (octets ++ more)) (moved_fault (λ i. length before + i) f)
-    → r.fault ≡ moved_fault (λ i. length before + i) f → IsAt 0 (before ++ take f.at octets) r.position → IsOpenedAfter before octets f.wrong r.opened
+    → r.fault ≡ moved_fault (λ i. length before + i) f → IsAt 0 (before ++ take f.at octets) r.position → IsOpenedAfter 0 before octets f.wrong r.opened
     → IsFound (before ++ (octets ++ more)) 0 r
 found_on before octets more f r e within fault is position opened = record {
   fault = subst (IsOctetFault (before ++ (octets ++ more))) (sym is) fault;
   position = subst (λ l. IsAt 0 l r.position) (sym (ap (λ (k : Fault). take k.at (before ++ (octets ++ more))) is ∙ place f.at within)) position;
-  opened = subst (λ (k : Fault). IsOpened (before ++ (octets ++ more)) 0 k.wrong r.opened) (sym is) (go f.wrong refl opened);
+  opened = subst (λ (k : Fault). IsOpenedAfter 0 [] (before ++ (octets ++ more)) k.wrong r.opened) (sym is) (go f.wrong refl opened);
 }
   where
     place : (i : ℕ) → i ≤ length octets → take (length before + i) (before ++ (octets ++ more)) ≡ before ++ take i octets
     place i h = take-append-add before (octets ++ more) i ∙ ap (λ l. before ++ l) (take-append-le i octets more h)
+
+    among : (i : ℕ) → i ≤ length octets → length before + i ≤ length (before ++ (octets ++ more))
+    among i h = omega (arith, h, length-append before (octets ++ more), length-append octets more)
 
     at_place : (i : ℕ) (o : Option Position) → i ≤ length octets → IsSomeAnd o (λ p. IsAt 0 (before ++ take i octets) p)
         → IsSomeAnd o (λ p. IsAt 0 (take (length before + i) (before ++ (octets ++ more))) p)
@@ -207,9 +210,10 @@ found_on before octets more f r e within fault is position opened = record {
         let whole : before ++ octets ≡ (before ++ (octets ++ more)) = ap (λ l. before ++ l) (sym (append-nil octets) ∙ ap (λ l. octets ++ l) (sym none)) in
         subst (λ l. IsOpener (encode_utf8_all l) (place_of l (length before + i))) whole (opener_on before octets i e o)
 
-    go : (w : Wrong) → f.wrong ≡ w → IsOpenedAfter before octets w r.opened → IsOpened (before ++ (octets ++ more)) 0 (moved_wrong (λ i. length before + i) w) r.opened
-    go (OpenQuote i) w h = at_place i r.opened h.0 h.1
-    go OpenParenthesis w h = (length before + h.0, left_open w h.0 h.2, at_place h.0 r.opened h.1 h.3)
+    go : (w : Wrong) → f.wrong ≡ w → IsOpenedAfter 0 before octets w r.opened
+        → IsOpenedAfter 0 [] (before ++ (octets ++ more)) (moved_wrong (λ i. length before + i) w) r.opened
+    go (OpenQuote i) w h = (among i h.0, at_place i r.opened h.0 h.1)
+    go OpenParenthesis w h = (length before + h.0, among h.0 h.1, left_open w h.0 h.2, at_place h.0 r.opened h.1 h.3)
     go Closing w h = h
     go LoneReturn w h = h
     go BadEscape w h = h

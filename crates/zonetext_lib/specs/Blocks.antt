@@ -1,13 +1,9 @@
 -- Octets that come in blocks.
-use Rattle.std.specs.Prelude.{◌≡◌, ℕ, ◌+◌, ◌*◌, ◌<◌, ◌≤◌, ◌^◌, ◌⊎◌, ◌↔◌, IsTrue, Bool, false, List, [], ◌∷◌, ◌++◌, length, take, drop, map, Option, Some, None, Result, Ok, Err, IsSomeAnd, encode_utf8_all}
-use Rattle.dns_split.specs.Opening.{IsOpener}
-use Rattle.dns_split.specs.Pieces.{AreOctets, IsGiven, end_at, place_of}
+use Rattle.std.specs.Prelude.{◌≡◌, ℕ, ◌+◌, ◌*◌, ◌<◌, ◌≤◌, ◌^◌, ◌⊎◌, ◌↔◌, IsTrue, Bool, false, List, [], ◌∷◌, ◌++◌, length, take, drop, map, Option, Some, None, Result, Ok, Err, encode_utf8_all}
+use Rattle.dns_split.specs.Pieces.{AreOctets, IsGiven, end_at}
 use Rattle.dns_split.specs.Viable.{IsViable}
 use Rattle.dns_split.specs.declared.pieces.Piece.{Piece}
 use Rattle.dns_split.specs.declared.pieces.Fault.{Fault}
-use Rattle.dns_split.specs.declared.pieces.Wrong.{Wrong}
-use Rattle.dns_split.specs.declared.pieces.Wrong.TheVariants.{OpenParenthesis, OpenQuote}
-use Rattle.dns_split.specs.declared.position.Position.{Position}
 use Rattle.zonetext_lib.specs.declared.blocks.Halt.{Halt}
 use Rattle.zonetext_lib.specs.declared.blocks.Halt.TheVariants.{Wrong as WrongHalt, OutOfMemory, TooLong}
 use Rattle.zonetext_lib.specs.declared.check.Found.{Found}
@@ -77,9 +73,3 @@ AddsInTime old new block (Err h) = new.left ≡ old.left
 abbrev pub EndsWith : List ℕ → Option Fault → Type 0
 EndsWith octets None = (found : List Piece) × IsGiven octets (map Ok found)
 EndsWith octets (Some f) = (found : List Piece) × IsGiven octets (map Ok found ++ Err f ∷ [])
-
--- the position of what is left open in octets that follow others
-abbrev pub IsOpenedAfter : List ℕ → List ℕ → Wrong → Option Position → Type 0
-IsOpenedAfter before octets (OpenQuote i) o = (i ≤ length octets) × IsSomeAnd o (λ p. IsAt 0 (before ++ take i octets) p)
-IsOpenedAfter before octets OpenParenthesis o = (i : ℕ) × (i ≤ length octets) × IsOpener (encode_utf8_all octets) (place_of octets i) × IsSomeAnd o (λ p. IsAt 0 (before ++ take i octets) p)
-IsOpenedAfter before octets _ o = o ≡ None

@@ -4,14 +4,13 @@ ghost use Rattle.std.specs.Prelude.{IfOk, IfErr, encode_utf8_all};
 ghost use Rattle.dns_split.specs.Pieces.{AreOctets, moved_fault};
 ghost use Rattle.dns_split.specs.Viable.{IsViable};
 ghost use Rattle.dns_split.specs.declared.pieces.Wrong.TheVariants.{OpenQuote};
-ghost use Rattle.zonetext_lib.specs.Blocks.{AddsBlock, AddsInTime, EndsWith, Holds, IsHeld, IsOpenedAfter};
+ghost use Rattle.zonetext_lib.specs.Blocks.{AddsBlock, AddsInTime, EndsWith, Holds, IsHeld};
 ghost use Rattle.zonetext_lib.specs.Blocks.{Releases, Settled, SettlesHeld, TakesBlock};
-ghost use Rattle.zonetext_lib.specs.Found.{IsFound, IsOctetFault, IsZone};
+ghost use Rattle.zonetext_lib.specs.Found.{IsFound, IsOctetFault, IsOpenedAfter, IsZone};
 ghost use Rattle.zonetext_lib.specs.Place.{IsAt};
 
-use crate::check::Found;
+use crate::check::{Found, locate_from};
 use crate::place::{Place, advance};
-use dns_split::opening::outermost_open_of_octets;
 use dns_split::pieces::{Fault, Piece, Pieces, Wrong};
 use dns_split::position::Position;
 use std::alloc::{AllocError, Allocator};
@@ -88,25 +87,6 @@ fn fault_of(octets: &[u8]) -> Option<Fault>
     None
 }
 
-/// Where what is left open was opened, in octets that begin at a place.
-fn opened_after(place: Place, octets: &[u8], fault: Fault) -> Option<Position>
-    requires room { place.at + length octets.now + 2 < 2 ^ 64 }
-    requires line { place.position.line ≤ place.at + 1 }
-    requires column { place.position.column ≤ place.at + 1 }
-    requires fault { IsOctetFault octets.now fault }
-    ensures { (before : List ℕ) → IsAt 0 before place.position
-        → IsOpenedAfter before octets.now fault.wrong result }
-{
-    match fault.wrong {
-        Wrong::OpenQuote(start) => Some(advance(place.position, &octets[..start])),
-        Wrong::OpenParenthesis => match outermost_open_of_octets(octets) {
-            Some(start) => Some(advance(place.position, &octets[..start])),
-            None => None,
-        },
-        _ => None,
-    }
-}
-
 /// A fault so much further on.
 fn moved(fault: Fault, by: usize) -> Fault
     requires at { by + fault.at < 2 ^ 64 }
@@ -133,12 +113,13 @@ fn locate_after(place: Place, octets: &[u8], fault: Fault) -> Found
     ensures position { (before : List ℕ) → IsAt 0 before place.position
         → IsAt 0 (before ++ take fault.at octets.now) result.position }
     ensures opened { (before : List ℕ) → IsAt 0 before place.position
-        → IsOpenedAfter before octets.now fault.wrong result.opened }
+        → IsOpenedAfter 0 before octets.now fault.wrong result.opened }
 {
+    let found = locate_from(place.position, octets, fault);
     Found {
         fault: moved(fault, place.at),
-        position: advance(place.position, &octets[..fault.at]),
-        opened: opened_after(place, octets, fault),
+        position: found.position,
+        opened: found.opened,
     }
 }
 

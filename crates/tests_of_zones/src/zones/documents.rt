@@ -3,7 +3,7 @@ use dns_zone::document::{Document, Item};
 use std::alloc::{AllocError, Global};
 
 /// A record whose data is a block with comments.
-pub const DS: [&str; 13] = [
+pub(super) const DS: [&str; 13] = [
     "example.com.",
     "3600",
     "IN",
@@ -20,12 +20,12 @@ pub const DS: [&str; 13] = [
 ];
 
 /// A block in a block, with comments in both, and a second line.
-pub const NESTED: [&str; 12] = [
+pub(super) const NESTED: [&str; 12] = [
     "a", "(", "b", "(", "c", "; x", ")", "; y", "d", ")", "\n", "e",
 ];
 
 /// The item that a word means: a parenthesis, a line end, a comment, and else a token.
-pub fn item(alloc: Global, word: &str) -> Result<Item, AllocError> {
+pub(super) fn item(alloc: Global, word: &str) -> Result<Item, AllocError> {
     Ok(match word {
         "(" => Item::Begin,
         ")" => Item::End,
@@ -38,7 +38,7 @@ pub fn item(alloc: Global, word: &str) -> Result<Item, AllocError> {
 }
 
 /// The items that words mean.
-pub fn items(alloc: Global, words: &[&str]) -> Result<Vec<Item>, AllocError> {
+pub(super) fn items(alloc: Global, words: &[&str]) -> Result<Vec<Item>, AllocError> {
     let mut items = Vec::new(alloc);
     for word in words {
         items.push(item(alloc, word)?)?;
@@ -47,6 +47,6 @@ pub fn items(alloc: Global, words: &[&str]) -> Result<Vec<Item>, AllocError> {
 }
 
 /// The document that words mean, if their items are well-formed.
-pub fn document(alloc: Global, words: &[&str]) -> Result<Option<Document>, AllocError> {
+pub(super) fn document(alloc: Global, words: &[&str]) -> Result<Option<Document>, AllocError> {
     Ok(Document::from_items(items(alloc, words)?).ok())
 }

@@ -7,7 +7,7 @@ use std::process::Abort;
 use zonetext_lib::check::Found;
 
 /// A text that was made is the wanted one.
-pub(crate) fn text_is<E>(rt: &impl Abort, made: &Result<String, E>, wanted: &str) {
+pub(super) fn text_is<E>(rt: &impl Abort, made: &Result<String, E>, wanted: &str) {
     assert!(rt;
         matches!(made, Ok(made) if made.as_str() == wanted),
         "{wanted}"
@@ -15,17 +15,17 @@ pub(crate) fn text_is<E>(rt: &impl Abort, made: &Result<String, E>, wanted: &str
 }
 
 /// A count lies above the limit.
-pub(crate) fn is_more_than(rt: &impl Abort, count: usize, limit: usize) {
+pub(super) fn is_more_than(rt: &impl Abort, count: usize, limit: usize) {
     assert!(rt; count > limit);
 }
 
 /// Something that is said of a row.
-pub(crate) fn holds(rt: &impl Abort, found: bool) {
+pub(super) fn holds(rt: &impl Abort, found: bool) {
     assert!(rt; found);
 }
 
 /// A text of a head, a part so many times, and a tail.
-pub(crate) fn text_of(
+pub(super) fn text_of(
     alloc: Global,
     head: &str,
     part: &str,
@@ -42,7 +42,7 @@ pub(crate) fn text_of(
 }
 
 /// A value's text in a layout.
-pub(crate) fn printed<T: ZonefileFmt>(
+pub(super) fn printed<T: ZonefileFmt>(
     alloc: Global,
     value: &T,
     kind: DisplayKind,
@@ -51,7 +51,7 @@ pub(crate) fn printed<T: ZonefileFmt>(
 }
 
 /// The texts of a value in the simple layout, the tabbed one and the multiline one.
-pub(crate) fn prints<T: ZonefileFmt>(
+pub(super) fn prints<T: ZonefileFmt>(
     rt: &impl Abort,
     alloc: Global,
     value: &T,
@@ -63,21 +63,18 @@ pub(crate) fn prints<T: ZonefileFmt>(
 }
 
 /// A line and a column.
-pub(crate) type Spot = (usize, usize);
+pub(super) type Spot = (usize, usize);
 
 /// The position of a line and a column.
-pub(crate) fn position(spot: Spot) -> Position {
+pub(super) fn position(spot: Spot) -> Position {
     Position {
         line: spot.0,
         column: spot.1,
     }
 }
 
-/// Octets with a fault: its place, what is wrong, its position, and that of what is left open.
-pub(crate) type FaultRow = (&'static [u8], usize, Wrong, Spot, Option<Spot>);
-
 /// A fault with its positions.
-pub(crate) fn found(at: usize, wrong: Wrong, spot: Spot, opened: Option<Spot>) -> Found {
+pub(super) fn found(at: usize, wrong: Wrong, spot: Spot, opened: Option<Spot>) -> Found {
     Found {
         fault: Fault { at, wrong },
         position: position(spot),

@@ -5,7 +5,7 @@ ghost use Rattle.std.specs.String.{string_bytes};
 ghost use Rattle.dns_zone.specs.Layout.{token, begin, end, comment};
 ghost use Rattle.dns_zone.specs.Nesting.{has_line, nested_in_block};
 
-use crate::wanted::prints;
+use super::wanted::prints;
 use dns_zone::zonefile_fmt::{self, FormatWriter, Formatter, ZonefileFmt};
 use std::alloc::{AllocError, Global};
 use std::test::Fail;

@@ -1,20 +1,19 @@
 //! Texts of 130,000 octets, whole and in blocks of 64 KiB: their rows, lines, faults and differences
 //! are those that follow from how they are made, so memory is not called lacking.
-use crate::blocks::{answer_is, in_blocks};
-use crate::comparer;
-use crate::entries::comparison;
-use crate::wanted::{found, text_of};
-use crate::writer::write_block;
+ghost use Rattle.std.specs.Prelude.{◌<◌};
+
+use super::wanted::{Spot, found, holds, position, text_of};
 use dns_split::pieces::Wrong;
 use std::alloc::{AllocError, Global};
 use std::process::Abort;
 use std::test::Fail;
-use zonetext_lib::blocks::Halt;
+use zonetext_lib::blocks::{Checker, Halt};
 use zonetext_lib::check::{Found, check};
+use zonetext_lib::comparer::Comparer;
 use zonetext_lib::diff::{Comparison, diff};
 use zonetext_lib::layout::{Gap, lay_out};
 use zonetext_lib::tokens::{Form, Stop, tokens};
-use zonetext_lib::writer::Output;
+use zonetext_lib::writer::{Output, Writer};
 
 /// The octets that are added at a time.
 const BLOCK: usize = 64 * 1024;
@@ -60,6 +59,113 @@ fn closing() -> Found {
     )
 }
 
+/// Adds octets in blocks of a length, and returns what whole octets come to.
+fn check_in_blocks(alloc: Global, octets: &[u8], size: usize) -> Result<(), Halt>
+    requires { 0 < size }
+{
+    let mut checker = Checker::new(alloc);
+    for block in octets.chunks(size) {
+        checker.add(block)?;
+    }
+    match checker.finish() {
+        Ok(()) => Ok(()),
+        Err(found) => Err(Halt::Wrong(found)),
+    }
+}
+
+fn answer_is(rt: &impl Abort, answer: Result<(), Halt>, wanted: Result<(), Halt>) {
+    assert!(rt; answer == wanted);
+}
+
+/// Writes octets that are added in blocks of a length, and returns what whole octets come to.
+fn write_in_blocks(
+    alloc: Global,
+    output: Output,
+    octets: &[u8],
+    size: usize,
+    out: &mut Vec<u8>,
+) -> Result<(), Halt>
+    requires { 0 < size }
+{
+    let mut writer = Writer::new(alloc, output);
+    for block in octets.chunks(size) {
+        writer.add(block, out)?;
+    }
+    writer.finish(out)
+}
+
+/// Blocks of a length are written as wanted, and have a fault or none.
+fn write_block(
+    rt: &impl Abort,
+    alloc: Global,
+    output: Output,
+    octets: &[u8],
+    size: usize,
+    wanted: &[u8],
+) -> Result<(), Halt>
+    requires { 0 < size }
+{
+    let mut out = Vec::new(alloc);
+    let answer = write_in_blocks(alloc, output, octets, size, &mut out);
+    holds(rt, out.as_slice() == wanted);
+    answer
+}
+
+/// Adds a block of a length to the first text, if more of it is wanted. Returns what is left.
+fn add_first<'o>(
+    comparer: &mut Comparer<Global>,
+    octets: &'o [u8],
+    size: usize,
+) -> Result<&'o [u8], Halt> {
+    if !comparer.wants_first() {
+        return Ok(octets);
+    }
+    let (block, rest) = octets.split_at(size.min(octets.len()));
+    comparer.add_first(block)?;
+    Ok(rest)
+}
+
+/// The same of the second.
+fn add_second<'o>(
+    comparer: &mut Comparer<Global>,
+    octets: &'o [u8],
+    size: usize,
+) -> Result<&'o [u8], Halt> {
+    if !comparer.wants_second() {
+        return Ok(octets);
+    }
+    let (block, rest) = octets.split_at(size.min(octets.len()));
+    comparer.add_second(block)?;
+    Ok(rest)
+}
+
+/// Compares octets that are added in blocks of a length, until no more are wanted of either.
+fn compare_in_blocks(
+    alloc: Global,
+    first: &[u8],
+    second: &[u8],
+    size: usize,
+) -> Result<Comparison, Halt> {
+    let mut comparer = Comparer::new(alloc);
+    let (mut ours, mut theirs) = (first, second);
+    for _ in 0..u64::MAX {
+        let our_rest = add_first(&mut comparer, ours, size)?;
+        let their_rest = add_second(&mut comparer, theirs, size)?;
+        if our_rest.len() == ours.len() && their_rest.len() == theirs.len() {
+            break;
+        }
+        ours = our_rest;
+        theirs = their_rest;
+        comparer.let_go();
+    }
+    Ok(comparer.finish())
+}
+
+/// Two texts that differ there.
+fn differ(first: Spot, second: Spot) -> Comparison {
+    Comparison::Differ(position(first), position(second))
+}
+
 fn is_checked(rt: &impl Abort, answer: Result<(), Found>, wanted: Result<(), Found>) {
     assert!(rt; answer == wanted);
 }
@@ -81,10 +187,10 @@ fn checks_long_texts(rt: HostRuntime) -> Result<(), Fail> {
     let alloc = rt.alloc();
     let zone = entries(alloc, "")?;
     is_checked(&rt, check(zone.as_bytes(), 0), Ok(()));
-    answer_is(&rt, in_blocks(alloc, zone.as_bytes(), BLOCK), Ok(()));
+    answer_is(&rt, check_in_blocks(alloc, zone.as_bytes(), BLOCK), Ok(()));
     let faulty = entries(alloc, ")")?;
     is_checked(&rt, check(faulty.as_bytes(), 0), Err(closing()));
-    let answer = in_blocks(alloc, faulty.as_bytes(), BLOCK);
+    let answer = check_in_blocks(alloc, faulty.as_bytes(), BLOCK);
     answer_is(&rt, answer, Err(Halt::Wrong(closing())));
     Ok(())
 }
@@ -139,11 +245,11 @@ fn compares_long_texts(rt: HostRuntime) -> Result<(), Fail> {
     let other = lines(alloc, " d")?;
     let (zone, same, other) = (zone.as_bytes(), same.as_bytes(), other.as_bytes());
     compares(&rt, diff(zone, same), Comparison::Same);
-    let answer = comparer::in_blocks(alloc, zone, same, BLOCK);
+    let answer = compare_in_blocks(alloc, zone, same, BLOCK);
     compares_in_blocks(&rt, answer, Comparison::Same);
-    let wanted = comparison(Some(((ENTRIES + 1, 1), (ENTRIES + 1, 2))));
+    let wanted = differ((ENTRIES + 1, 1), (ENTRIES + 1, 2));
     compares(&rt, diff(zone, other), wanted);
-    let answer = comparer::in_blocks(alloc, zone, other, BLOCK);
+    let answer = compare_in_blocks(alloc, zone, other, BLOCK);
     compares_in_blocks(&rt, answer, wanted);
     Ok(())
 }

@@ -4,17 +4,17 @@ use std::alloc::Global;
 use std::process::Abort;
 
 /// Memory of which one call is refused.
-pub(crate) type Heap = Refusing<Global>;
+pub(super) type Heap = Refusing<Global>;
 
 /// What takes memory, of which one call may be refused.
-pub(crate) trait Grows {
+pub(super) trait Grows {
     /// Does it, and stops the test where it comes to anything that it must not.
     fn grow<R: Abort>(&self, rt: &R, heap: &Heap);
 }
 
 /// Does it with its first growth refused, then with its second, and so on until it meets no
 /// refusal, which comes after so many at least and before the limit.
-pub(crate) fn refuses_in_turn(
+pub(super) fn refuses_in_turn(
     rt: &impl Abort,
     alloc: Global,
     call: &impl Grows,

@@ -1,5 +1,5 @@
 //! Values in a row, a token each.
-use crate::wanted::{printed, prints, text_is};
+use super::wanted::{printed, prints, text_is};
 use dns_zone::tokens::{Each, ZoneToken, ZoneTokens, write_each};
 use dns_zone::zonefile_fmt::{self, DisplayKind, FormatWriter, Formatter, ZonefileFmt};
 use std::alloc::{AllocError, Global};

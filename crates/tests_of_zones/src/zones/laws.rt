@@ -1,9 +1,9 @@
 //! Layouts of documents that split into the documents' entries.
-use crate::documents::{DS, NESTED, document, item, items};
-use crate::growths::{Grows, Heap, refuses_in_turn};
-use crate::layouts::{DS_DATA, DS_DATA_ENTRIES, MULTILINE, SIMPLE, TABBED};
-use crate::split::{SPLIT_TEXTS, listed, shown};
-use crate::wanted::{holds, text_is};
+use super::documents::{DS, NESTED, document, item, items};
+use super::growths::{Grows, Heap, refuses_in_turn};
+use super::layouts::{DS_DATA, DS_DATA_ENTRIES, MULTILINE, SIMPLE, TABBED};
+use super::split::{SPLIT_TEXTS, listed, shown};
+use super::wanted::{holds, text_is};
 use dns_laws::layouts::{Refusal, items_split, values_split, zone_tokens_split};
 use dns_split::splitting::{SplitError, split};
 use dns_zone::document::{Document, DocumentError, Item};

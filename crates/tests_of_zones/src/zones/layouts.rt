@@ -2,9 +2,9 @@
 ghost use Rattle.std.specs.Prelude.{◌≡◌, [], ◌∷◌, codes, refl};
 ghost use Rattle.dns_zone.specs.Layout.{token, begin, end};
 
-use crate::documents::{DS, NESTED, document, items};
-use crate::wanted::{holds, prints, text_is, text_of};
-use dns_zone::document::{Document, DocumentError};
+use super::documents::{DS, NESTED, document};
+use super::wanted::{holds, prints, text_of};
+use dns_zone::document::Document;
 use dns_zone::zonefile_fmt::{
     self, DisplayKind, FormatWriter, Formatter, MultiLineWriter, SimpleWriter, TabbedWriter,
     ZoneFileDisplay, ZonefileFmt,
@@ -23,12 +23,12 @@ const DS_ENTRIES: &str = "example.com.|3600|IN|DS|5414|15|2|DEADBEEF|/";
 const NESTED_ENTRIES: &str = "a|b|c|d|/e|/";
 
 /// The data of `DS` alone in the tabbed layout, and the entries into which it splits.
-pub(crate) const DS_DATA: &str = "5414 15 2 DEADBEEF";
+pub(super) const DS_DATA: &str = "5414 15 2 DEADBEEF";
 
-pub(crate) const DS_DATA_ENTRIES: &str = "5414|15|2|DEADBEEF|/";
+pub(super) const DS_DATA_ENTRIES: &str = "5414|15|2|DEADBEEF|/";
 
 /// Documents in the simple layout.
-pub(crate) const SIMPLE: [Row; 4] = [
+pub(super) const SIMPLE: [Row; 4] = [
     (
         &DS,
         "example.com. 3600 IN DS 5414 15 2 DEADBEEF",
@@ -40,7 +40,7 @@ pub(crate) const SIMPLE: [Row; 4] = [
 ];
 
 /// Documents in the tabbed layout.
-pub(crate) const TABBED: [Row; 4] = [
+pub(super) const TABBED: [Row; 4] = [
     (
         &DS,
         "example.com.\t3600\tIN\tDS\t5414 15 2 DEADBEEF",
@@ -52,7 +52,7 @@ pub(crate) const TABBED: [Row; 4] = [
 ];
 
 /// Documents in the multiline layout.
-pub(crate) const MULTILINE: [Row; 7] = [
+pub(super) const MULTILINE: [Row; 7] = [
     (
         &DS,
         "example.com. 3600 IN DS ( 5414\t; key tag\n                          \
@@ -71,49 +71,6 @@ pub(crate) const MULTILINE: [Row; 7] = [
     (&["(", "; k", "a", ")"], "(\t; k\n  a )", "a|/"),
     (&["é", "(", "; c", "x", ")"], "é (\t; c\n     x )", "é|x|/"),
 ];
-
-/// The words' text in a layout, and the same under a width.
-fn laid_out(
-    alloc: Global,
-    words: &[&str],
-    kind: DisplayKind,
-) -> Result<(String, String), AllocError> {
-    match document(alloc, words)? {
-        Some(document) => {
-            let display = document.display_zonefile(kind);
-            let text = display.to_string(alloc)?;
-            Ok((text, format!(in alloc; "{display:99}")?))
-        }
-        None => Err(AllocError),
-    }
-}
-
-/// The words' text in a layout is the wanted one, also under a width.
-fn lays_out(rt: &impl Abort, made: &Result<(String, String), AllocError>, wanted: &str) {
-    assert!(rt;
-        matches!(made, Ok((text, wide)) if text.as_str() == wanted && wide.as_str() == wanted),
-        "{wanted}"
-    );
-}
-
-#[test]
-fn layouts(rt: HostRuntime) {
-    let alloc = rt.alloc();
-    for &(words, text, _) in &SIMPLE {
-        lays_out(&rt, &laid_out(alloc, words, DisplayKind::Simple), text);
-    }
-    for &(words, text, _) in &TABBED {
-        lays_out(&rt, &laid_out(alloc, words, DisplayKind::Tabbed), text);
-    }
-    lays_out(
-        &rt,
-        &laid_out(alloc, &DS[4..], DisplayKind::Tabbed),
-        DS_DATA,
-    );
-    for &(words, text, _) in &MULTILINE {
-        lays_out(&rt, &laid_out(alloc, words, DisplayKind::Multiline), text);
-    }
-}
 
 /// A document of so many records, a line end after each.
 fn many_records(alloc: Global, count: usize) -> Result<Option<Document>, AllocError> {
@@ -157,67 +114,6 @@ fn prints_many(rt: &impl Abort, alloc: Global) -> Result<(), AllocError> {
 fn many_records_in_each_layout(rt: HostRuntime) -> Result<(), Fail> {
     prints_many(&rt, rt.alloc())?;
     Ok(())
-}
-
-const DOCUMENTS: [(&[&str], Option<DocumentError>); 15] = [
-    (&["a b"], Some(DocumentError::BadToken(0))),
-    (&[""], Some(DocumentError::BadToken(0))),
-    (&["\"a b\""], None),
-    (&["(", "\n", ")"], Some(DocumentError::LineInBlock(1))),
-    (&["(", "; a\rb", ")"], Some(DocumentError::BadComment(1))),
-    (&["; a\nb"], Some(DocumentError::BadComment(0))),
-    (&[")"], Some(DocumentError::EndWithoutBegin(0))),
-    (&["("], Some(DocumentError::OpenBlock)),
-    (&["(", "a", "\n", ")"], Some(DocumentError::LineInBlock(2))),
-    (&["a;b"], Some(DocumentError::BadToken(0))),
-    (&["a\\;b"], None),
-    (&["\"a\"b\""], Some(DocumentError::BadToken(0))),
-    (&["\\999"], Some(DocumentError::BadToken(0))),
-    (&["\"\""], None),
-    (&[")", "("], Some(DocumentError::EndWithoutBegin(0))),
-];
-
-/// An error's text under a width.
-fn wide(alloc: Global, error: DocumentError) -> Result<String, AllocError> {
-    format!(in alloc; "{error:99}")
-}
-
-/// An error's text, which is the same under a width.
-fn is_told_alike(rt: &impl Abort, alloc: Global, error: DocumentError) -> Result<(), AllocError> {
-    let text = error.to_string(alloc)?;
-    text_is(rt, &wide(alloc, error), text.as_str());
-    Ok(())
-}
-
-/// The fault of the words' items, which come back with it.
-fn fault_of(
-    rt: &impl Abort,
-    alloc: Global,
-    words: &[&str],
-) -> Result<Option<DocumentError>, AllocError> {
-    match Document::from_items(items(alloc, words)?) {
-        Ok(_) => Ok(None),
-        Err((error, returned)) => {
-            holds(rt, returned == items(alloc, words)?);
-            is_told_alike(rt, alloc, error)?;
-            Ok(Some(error))
-        }
-    }
-}
-
-fn fault_is(
-    rt: &impl Abort,
-    found: &Result<Option<DocumentError>, AllocError>,
-    wanted: Option<DocumentError>,
-) {
-    assert!(rt; matches!(found, Ok(found) if *found == wanted));
-}
-
-#[test]
-fn documents(rt: HostRuntime) {
-    for &(words, wanted) in &DOCUMENTS {
-        fault_is(&rt, &fault_of(&rt, rt.alloc(), words), wanted);
-    }
 }
 
 #[derive(Drop)]
