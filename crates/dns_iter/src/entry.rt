@@ -107,7 +107,7 @@ pub type EntryScanner<'a, T, Octets, E = StrError> = IterScanner<Contents<'a, T>
 
 /// A scanner over the tokens of an entry, each as it is spelled.
 ///
-/// `spaced` says whether the entry began with a blank: [`Scanner::has_space`] answers it until the
+/// `spaced` says whether the entry began with a blank: [`Scanner::has_space`] returns it until the
 /// first token is taken. Octets are allocated from `alloc`.
 pub fn entry_scanner<'a, T: TokenText, Octets: FromBuilder + Drop, E: ScannerError>(
     alloc: <Octets::Builder as EmptyBuilder>::Alloc,
@@ -129,7 +129,7 @@ where
 ///
 /// Of entries that a text splits into, it stands before what the tokens of that entry hold: one
 /// list of texts, each of them symbols throughout. `split` does not tell whether an entry began
-/// with a blank, so [`Scanner::has_space`] answers no.
+/// with a blank, so [`Scanner::has_space`] is false.
 pub fn entry_at<'a, A: Allocator, Octets: FromBuilder + Drop, E: ScannerError>(
     alloc: <Octets::Builder as EmptyBuilder>::Alloc,
     entries: &'a [Vec<String<A>, A>],

@@ -15,7 +15,7 @@ use dns_charstr::charstr::CharStr;
 use dns_scan::laws::{character_strings_are_scanned_back, string_entries_are_scanned_back};
 use dns_scan::{Scanner, ScannerError};
 
-/// A character string that fits is answered.
+/// A character string that fits is returned.
 pub fn fitting_strings_are_answered<'a, T: TokenText, E: ScannerError, const N: usize>(
     scanner: &mut EntryScanner<'a, T, ArrayVec<u8, N>, E>,
 ) -> Result<CharStr<ArrayVec<u8, N>>, E>
@@ -27,7 +27,7 @@ pub fn fitting_strings_are_answered<'a, T: TokenText, E: ScannerError, const N: 
     character_strings_are_scanned_back(scanner)
 }
 
-/// Character strings whose wire forms fit are answered.
+/// Character strings whose wire forms fit are returned.
 pub fn fitting_entries_are_answered<'a, T: TokenText, E: ScannerError, const N: usize>(
     scanner: &mut EntryScanner<'a, T, ArrayVec<u8, N>, E>,
 ) -> Result<ArrayVec<u8, N>, E>

@@ -17,7 +17,7 @@ use dns_scan::Scanner;
 /// each token that is a text of the encoding; a simple escape counts as its character. In base 16
 /// and base32hex letters may be in either case.
 ///
-/// Any other token is refused: one with an escape that is none, with a symbol without character,
+/// Any other token is refused: one with a bad escape, with a symbol without character,
 /// or whose characters are no text of the encoding.
 pub fn encoding_is_scanned_back<K: Encoding, S: Scanner>(
     scanner: &mut S,
@@ -33,7 +33,7 @@ pub fn encoding_is_scanned_back<K: Encoding, S: Scanner>(
 /// token that is a text of the encoding; its letters may be in either case, and a simple escape
 /// counts as its character.
 ///
-/// Any other token is refused: one with an escape that is none, with a symbol without character,
+/// Any other token is refused: one with a bad escape, with a symbol without character,
 /// or whose characters are no text of the encoding.
 pub fn hex_is_scanned_back<S: Scanner>(scanner: &mut S) -> Result<S::Octets, S::Error>
     requires { S.can_scan scanner.old }
@@ -80,14 +80,14 @@ pub fn tokens_convert_to_one_thing()
     ensures { (b : Base) (token : Token) (q r : Result (List ℕ) Cause) → ConvertsTo (codec_of b) token q → ConvertsTo (codec_of b) token r → q ≡ r }
 {}
 
-/// What is answered of a token by the grammar alone is just what is answered by what the converters
+/// What is returned of a token by the grammar alone is just what is returned by what the converters
 /// make of its symbols, one after the other.
 pub fn converters_answer_by_the_grammar()
     ensures { (b : Base) → IsEncoding b → (room : Room) (token : Token) (r : Result (List ℕ) Cause) → AnswersEncoding b (λ why. why) (λ s. s) room token r
         ↔ AnswersConverted (codec_of b) (λ why. why) (λ s. s) room token r }
 {}
 
-/// Over a builder whose room is known, as an array's, a token is answered in one way.
+/// Over a builder whose room is known, as an array's, a token has one result.
 pub fn encodings_are_answered_in_one_way()
     ensures { (b : Base) (size : ℕ) (token : Token) (q r : Result (List ℕ) Cause) → AnswersConverted (codec_of b) (λ why. why) (λ s. s) (exactly size) token q
         → AnswersConverted (codec_of b) (λ why. why) (λ s. s) (exactly size) token r → q ≡ r }

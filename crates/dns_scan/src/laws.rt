@@ -35,7 +35,7 @@ use dns_symbol::symbol::EntrySymbol;
 /// where there is room. So the unquoted text of a character string, and the text between its
 /// double quotes, are scanned back to its octets.
 ///
-/// Any other token is refused, by its first fault: one with an escape that is none, with a symbol
+/// Any other token is refused, by its first fault: one with a bad escape, with a symbol
 /// without octet, or with more than 255 symbols.
 pub fn character_strings_are_scanned_back<S: Scanner>(
     scanner: &mut S,
@@ -47,7 +47,7 @@ pub fn character_strings_are_scanned_back<S: Scanner>(
     scanner.scan_charstr()
 }
 
-/// Over a builder whose room is known, as an array's, symbols are answered in one way, whatever
+/// Over a builder whose room is known, as an array's, symbols have one result, whatever
 /// each gives. So is a token that is read as octets, and so are the tokens of an entry that are put
 /// together as character strings, with the tokens that are left.
 pub fn octets_are_answered_in_one_way()
@@ -69,7 +69,7 @@ pub fn printed_numbers_read_back()
 {}
 
 /// `count` scans of one type hand over the values that the tokens are read as, up to the first
-/// refusal, which is the answer. The type may be a pair of types, and those pairs too.
+/// refusal, which is returned. The type may be a pair of types, and those pairs too.
 pub fn scans_in_turn<S: Scanner, T: Scan<S>, F: FnMut(T)>(
     scanner: &mut S,
     count: usize,
@@ -91,7 +91,7 @@ pub fn scans_in_turn<S: Scanner, T: Scan<S>, F: FnMut(T)>(
 }
 
 /// Scans of a list of kinds hand over the values that the tokens are read as, up to the first
-/// refusal, which is the answer. `T` is the type of kind `Other`, as that of character strings.
+/// refusal, which is returned. `T` is the type of kind `Other`, as that of character strings.
 pub fn kinds_in_turn<S: Scanner, T: Scan<S>, F: FnMut(Scanned<T>)>(
     scanner: &mut S,
     kinds: &[Kind],
@@ -141,7 +141,7 @@ pub fn markers_are_found<S: Scanner>(scanner: &mut S) -> Result<bool, S::Error>
 }
 
 /// The symbols of all tokens, and the end of each token after them, are handed over in turn, up to
-/// the first refusal, which is the answer. A bad escape is a refusal in its place. Then the tokens
+/// the first refusal, which is returned. A bad escape is a refusal in its place. Then the tokens
 /// after the refused one are left, and else none.
 pub fn entries_are_handed_over<S: Scanner, F>(scanner: &mut S, op: &mut F) -> Result<(), S::Error>
 where
@@ -159,7 +159,7 @@ where
     scanner.scan_entry_symbols(op)
 }
 
-/// The tokens of an entry are converted in turn, up to the first refusal, which is the answer; the
+/// The tokens of an entry are converted in turn, up to the first refusal, which is returned; the
 /// tail is asked for once all are taken. Then the tokens after the refused one are left, and none
 /// where none or only the tail was refused.
 ///

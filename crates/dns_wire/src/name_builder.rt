@@ -194,7 +194,7 @@ impl<B: OctetsBuilder> NameBuilder<B> {
         }
     }
 
-    /// The absolute name: the open label is closed and the root appended, or the answer is
+    /// The absolute name: the open label is closed and the root appended, or the error is
     /// [`PushError::ShortBuf`].
     pub fn into_name(self) -> Result<Name<B::Octets>, PushError>
     where

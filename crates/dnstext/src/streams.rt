@@ -49,7 +49,7 @@ impl<W: Write> TextSink<'_, W> {
     }
 }
 
-/// Writes the line of a refusal, and answers the exit status.
+/// Writes the line of a refusal, and returns the exit status.
 pub fn refuse<E: Write>(err: &mut E, reason: &str) -> u8
     ensures status { (result ≡ 1) ⊎ (result ≡ 3) }
     ensures wrote { result ≡ 1 → Appends (E.contents err.old) (E.contents err.new) (refusal_line reason.now) }
@@ -60,7 +60,7 @@ pub fn refuse<E: Write>(err: &mut E, reason: &str) -> u8
     }
 }
 
-/// Writes the usage, and answers the exit status.
+/// Writes the usage, and returns the exit status.
 pub fn refuse_usage<E: Write>(err: &mut E) -> u8
     ensures status { (result ≡ 2) ⊎ (result ≡ 3) }
     ensures wrote { result ≡ 2 → Appends (E.contents err.old) (E.contents err.new) usage_line }
@@ -71,7 +71,7 @@ pub fn refuse_usage<E: Write>(err: &mut E) -> u8
     }
 }
 
-/// Runs the program on the words after its name, and answers its exit status.
+/// Runs the program on the words after its name, and returns its exit status.
 ///
 /// What is printed goes to `out` as it is made, and `out` is flushed before anything is written to
 /// `err`. Where `out` refuses, also at its end, the status is 1 and the one line on `err` is

@@ -130,7 +130,7 @@ fn make_fields<A: Allocator + Copy>(
     Ok(fields)
 }
 
-/// Prints the line that the words ask for in a layout, with a line end, and answers the status.
+/// Prints the line that the words ask for in a layout, with a line end, and returns the status.
 ///
 /// All words are read as fields before the first is scanned. Status 0 says that all went well, and
 /// 1 that a field or the line was refused, that no memory was found, or that `out` refused; the

@@ -83,7 +83,7 @@ fn read_items<A: Allocator + Copy>(alloc: A, words: &[&str]) -> Result<Vec<Item<
     Ok(items)
 }
 
-/// Prints the document that the words ask for in a layout, with a line end, and answers the exit
+/// Prints the document that the words ask for in a layout, with a line end, and returns the exit
 /// status.
 ///
 /// Status 0 says that all went well, and 1 that the items are no document, that no memory was

@@ -275,7 +275,7 @@ fn run_scan<A: Allocator + Copy, O: fmt::Write, E: fmt::Write>(
     }
 }
 
-/// Runs the program on the words after its name, and answers its exit status.
+/// Runs the program on the words after its name, and returns its exit status.
 ///
 /// `scan KIND TOKEN..` prints each token's value on a line of its own, `print KIND ITEM..` a
 /// document, and `line KIND FIELD..` an entry line. Status 0 says that all went well, and 1 that a
