@@ -148,7 +148,7 @@ impl Which {
     ];
 
     /// The word that asks for it.
-    fn name(self) -> &'static str {
+    fn name<'a>(self) -> &'a str {
         match self {
             Which::Check => "check",
             Which::Tokens => "tokens",
