@@ -1,6 +1,7 @@
 use Rattle.std.proofs.Common.{refl}
 use Rattle.std.specs.Fmt.{decimal}
 use Rattle.dns_scan.proofs.Whole.{of_first}
+use Rattle.dnstext_lib.specs.Program.{NumberPrints, NumberRefused}
 use Rattle.dnstext_lib.proofs.Printing.{line_by, number_prints, number_refused}
 use Rattle.dnstext_lib.proofs.program.print_number.Goals as goal
 
@@ -13,7 +14,7 @@ returns-in-Err-clause-rest g c = λ token others stands. (of_first g.S.Scanner.n
 
 pub returns-clause-line : goal.returns-clause-line
 returns-clause-line g c = λ token others stands.
-    line_by g.S.Error.ScannerError.cause _ _ _ token (decimal c.in-Ok.value) _ _ c.print_line.result
+    line_by g.S.Error.ScannerError.cause _ (NumberPrints c.args.limit) (NumberRefused c.args.limit) token (decimal c.in-Ok.value) _ _ c.print_line.result
     (number_prints g.S.Error.ScannerError.cause _ token c.in-Ok.value (of_first g.S.Scanner.next_token g.S.Error.ScannerError.cause _ _ _ _ token others stands c.in-Ok.ensures.scans).0)
     c.print_line.ensures
 
