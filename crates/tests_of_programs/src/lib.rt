@@ -1,5 +1,0 @@
-//! Tests alone: the program where its sinks refuse, and laws across crates at work.
-#![tactic(auto)]
-
-#[cfg(test)]
-mod programs;
