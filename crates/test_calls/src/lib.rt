@@ -1,8 +1,10 @@
-//! Calls of the libraries that rows of data can't say: generic code at a caller's own types, laws
-//! across crates at work, texts that are cut and joined, and sinks and files that refuse.
+//! Tests alone, of what rows can't say: generic code at a caller's own types, loans, clones and
+//! iterators, laws at work, files that are replaced.
 #![tactic(auto)]
 
 #[cfg(test)]
 mod programs;
+#[cfg(test)]
+mod records;
 #[cfg(test)]
 mod zones;

@@ -21,6 +21,12 @@ pub enum Ended {
     Write(io::Error),
 }
 
+impl From<Halt> for Ended {
+    fn from(halt: Halt) -> Ended {
+        Ended::Halt(halt)
+    }
+}
+
 /// What takes the blocks of a file.
 pub trait Take {
     /// Takes a block.
@@ -31,17 +37,13 @@ pub trait Take {
 
 impl Take for Checker<Global> {
     fn take(&mut self, block: &[u8]) -> Result<(), Ended> {
-        match self.add(block) {
-            Ok(()) => Ok(()),
-            Err(halt) => Err(Ended::Halt(halt)),
-        }
+        self.add(block)?;
+        Ok(())
     }
 
     fn end(&mut self) -> Result<(), Ended> {
-        match self.finish() {
-            Ok(()) => Ok(()),
-            Err(found) => Err(Ended::Halt(Halt::Wrong(found))),
-        }
+        self.finish().map_err(Halt::Wrong)?;
+        Ok(())
     }
 }
 
@@ -71,10 +73,8 @@ impl<'a> Printer<'a> {
             }
         }
         self.out.truncate(0);
-        match answer {
-            Ok(()) => Ok(()),
-            Err(halt) => Err(Ended::Halt(halt)),
-        }
+        answer?;
+        Ok(())
     }
 }
 
