@@ -5,9 +5,9 @@ use crate::checks::names;
 use crate::growths::{Grows, Heap, refuses_in_turn};
 use crate::wanted::{FaultRow, found, holds};
 use dns_split::pieces::Wrong;
-use zonetext_lib::blocks::{Checker, Halt};
 use std::alloc::Global;
 use std::process::Abort;
+use zonetext_lib::blocks::{Checker, Halt};
 
 /// Adds octets in blocks of a length, and answers as if they were whole.
 pub(crate) fn in_blocks(alloc: Global, octets: &[u8], size: usize) -> Result<(), Halt>

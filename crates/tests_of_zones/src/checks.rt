@@ -2,10 +2,10 @@
 use crate::growths::{Grows, Heap, refuses_in_turn};
 use crate::wanted::{FaultRow, Spot, found, holds, position};
 use dns_split::pieces::Wrong;
-use zonetext_lib::check::{Found, check};
-use zonetext_lib::tokens::{Form, Stop, tokens};
 use std::alloc::Global;
 use std::process::Abort;
+use zonetext_lib::check::{Found, check};
+use zonetext_lib::tokens::{Form, Stop, tokens};
 
 const ZONES: [&[u8]; 7] = [
     b"",

@@ -2,11 +2,11 @@
 use crate::entries::{PAIRS, comparison};
 use crate::growths::{Grows, Heap, refuses_in_turn};
 use crate::wanted::holds;
+use std::alloc::Global;
+use std::process::Abort;
 use zonetext_lib::blocks::Halt;
 use zonetext_lib::comparer::Comparer;
 use zonetext_lib::diff::{Comparison, diff};
-use std::alloc::Global;
-use std::process::Abort;
 
 /// Adds a block of a length to the first text, if more of it is wanted. Answers what is left.
 fn add_first<'o>(

@@ -2,11 +2,11 @@
 use crate::checks::is_written;
 use crate::growths::{Grows, Heap, refuses_in_turn};
 use crate::wanted::{Spot, holds, position};
+use std::alloc::Global;
+use std::process::Abort;
 use zonetext_lib::diff::{Comparison, diff};
 use zonetext_lib::layout::{Gap, lay_out};
 use zonetext_lib::tokens::Stop;
-use std::alloc::Global;
-use std::process::Abort;
 
 const ENTRIES: [(&str, &str); 9] = [
     ("", ""),

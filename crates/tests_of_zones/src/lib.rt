@@ -20,6 +20,8 @@ mod entry_lines;
 #[cfg(test)]
 mod example;
 #[cfg(test)]
+mod formatter;
+#[cfg(test)]
 mod growths;
 #[cfg(test)]
 mod in_a_row;

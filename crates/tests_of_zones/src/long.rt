@@ -6,15 +6,15 @@ use crate::entries::comparison;
 use crate::wanted::{found, text_of};
 use crate::writer::write_block;
 use dns_split::pieces::Wrong;
+use std::alloc::{AllocError, Global};
+use std::process::Abort;
+use std::test::Fail;
 use zonetext_lib::blocks::Halt;
 use zonetext_lib::check::{Found, check};
 use zonetext_lib::diff::{Comparison, diff};
 use zonetext_lib::layout::{Gap, lay_out};
 use zonetext_lib::tokens::{Form, Stop, tokens};
 use zonetext_lib::writer::Output;
-use std::alloc::{AllocError, Global};
-use std::process::Abort;
-use std::test::Fail;
 
 /// The octets that are added at a time.
 const BLOCK: usize = 64 * 1024;

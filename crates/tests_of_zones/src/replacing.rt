@@ -1,5 +1,4 @@
 //! Files that are replaced, with each step made to fail in turn.
-use zonetext_lib::replace::{Batch, NewText, Original, Refusal};
 use std::alloc::{Allocator, Global};
 use std::cell::Cell;
 use std::fs::{File, Files, Metadata, OpenFile, OpenOptions, Permissions};
@@ -9,6 +8,7 @@ use std::path::PathBuf;
 use std::process::Abort;
 use std::test::Fail;
 use std::{fs, io};
+use zonetext_lib::replace::{Batch, NewText, Original, Refusal};
 
 /// The system's files, of which one step is refused.
 #[derive(Drop)]

@@ -1,8 +1,8 @@
 //! Unified diffs, of texts that come in blocks.
-use zonetext_lib::unified::Unified;
 use std::alloc::Global;
 use std::process::Abort;
 use std::test::Fail;
+use zonetext_lib::unified::Unified;
 
 /// The hunks of a diff. The texts come in blocks of so many octets.
 fn diffed(alloc: Global, old: &[u8], new: &[u8], size: usize) -> Result<Vec<u8>, Fail> {

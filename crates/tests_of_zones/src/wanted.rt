@@ -2,9 +2,9 @@
 use dns_split::pieces::{Fault, Wrong};
 use dns_split::position::Position;
 use dns_zone::zonefile_fmt::{DisplayKind, ZonefileFmt};
-use zonetext_lib::check::Found;
 use std::alloc::{AllocError, Global};
 use std::process::Abort;
+use zonetext_lib::check::Found;
 
 /// A text that was made is the wanted one.
 pub(crate) fn text_is<E>(rt: &impl Abort, made: &Result<String, E>, wanted: &str) {

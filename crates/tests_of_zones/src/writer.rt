@@ -5,12 +5,12 @@ use crate::blocks::answer_is;
 use crate::growths::{Grows, Heap, refuses_in_turn};
 use crate::wanted::{found, holds};
 use dns_split::pieces::Wrong;
+use std::alloc::Global;
+use std::process::Abort;
 use zonetext_lib::blocks::Halt;
 use zonetext_lib::layout::Gap;
 use zonetext_lib::tokens::Form;
 use zonetext_lib::writer::{Output, Writer};
-use std::alloc::Global;
-use std::process::Abort;
 
 /// Writes octets that are added in blocks of a length, and answers as if they were whole.
 fn in_blocks(
