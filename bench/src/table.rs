@@ -7,8 +7,8 @@ use std::fmt::Write;
 fn size(octets: usize) -> String {
     match octets {
         0..=9_999 => octets.to_string(),
-        10_000..=9_999_999 => format!("{} k", octets / 1000),
-        _ => format!("{} M", octets / 1_000_000),
+        10_000..=9_999_999 => format!("{}k", octets / 1000),
+        _ => format!("{}M", octets / 1_000_000),
     }
 }
 
@@ -37,40 +37,42 @@ pub fn plain(rows: &[Row]) -> String {
     text
 }
 
+/// Three figures, one for each size.
+fn slashed(figures: [String; 3]) -> String {
+    figures.join("/")
+}
+
 pub fn markdown(rows: &[Row]) -> String {
     let mut text = String::from(
-        "| Operation | octets | library, ns an octet | plain, ns an octet | ratio |\n\
-         |---|---|---|---|---|\n",
+        "| Operation | octets | ns an octet | of the plain |\n\
+         |---|---|---|---|\n",
     );
     let mut group = "";
     for row in rows {
         if row.group != group {
             group = row.group;
-            writeln!(text, "| **{group}** | | | | |").unwrap();
+            writeln!(text, "| **{group}** | | | |").unwrap();
         }
-        let of = |numbers: [f64; 3]| numbers.map(short).join(", ");
         writeln!(
             text,
-            "| {} | {} | {} | {} | {} |",
+            "| {} | {} | {} | {} |",
             row.name,
-            row.octets.map(size).join(", "),
-            of(row.ours),
-            of(row.plain),
-            of(row.ratios()),
+            slashed(row.octets.map(size)),
+            slashed(row.ours.map(short)),
+            slashed(row.ratios().map(short)),
         )
         .unwrap();
     }
     text
 }
 
-/// The texts that are split, with the cursor's and `split`'s times.
+/// The texts that are split, further rows of the same table: the cursor's time and `split`'s.
 pub fn texts(texts: &[(String, [f64; 3])]) -> String {
-    let mut text = String::from(
-        "\n| Text | cursor, ns an octet | `split` | plain splitter |\n|---|---|---|---|\n",
-    );
+    let mut text = String::from("| **Zone text by kind: cursor/`split`** | | | |\n");
     for (name, [cursor, split, plain]) in texts {
-        let (cursor, split, plain) = (short(*cursor), short(*split), short(*plain));
-        writeln!(text, "| {name} | {cursor} | {split} | {plain} |").unwrap();
+        let (one, other) = (cursor / plain, split / plain);
+        let (cursor, split) = (short(*cursor), short(*split));
+        writeln!(text, "| {name} | | {cursor}/{split} | {one:.2}/{other:.2} |").unwrap();
     }
     text
 }

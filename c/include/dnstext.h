@@ -7,9 +7,9 @@
  * Octets need no alignment; structs are aligned as C aligns them, and a pointer to one struct is not
  * NULL.
  *
- * A call answers one of the statuses below and writes a struct dns_outcome. What it gives stands at the
+ * A call returns one of the statuses below and writes a struct dns_outcome. What it gives stands at the
  * start of the memory that it was passed; what follows there stays as it was. Where there is no room,
- * DNS_NO_ROOM is answered and the length is what is needed: so a call with no room at all asks for it.
+ * DNS_NO_ROOM is returned and the length is what is needed: so a call with no room at all asks for it.
  * The functions may run in several threads at once. */
 #ifndef DNSTEXT_H
 #define DNSTEXT_H
@@ -32,7 +32,7 @@ enum dns_status {
                                   no octet */
     DNS_TOO_LONG = 7,          /* more than 255 octets, or 2^60 for the encodings; of a name's text
                                   more than 254 before the root */
-    DNS_BAD_ENCODING = 8,      /* no text of the encoding; the place is not told */
+    DNS_BAD_ENCODING = 8,      /* no text of the encoding; there is no place */
     DNS_CLOSING = 9,           /* a closing parenthesis, and none is open */
     DNS_OPEN_PARENTHESIS = 10, /* the text ends inside parentheses */
     DNS_OPEN_QUOTE = 11,       /* the text or a line ends inside a quoted text */
@@ -117,7 +117,7 @@ uint32_t dns_number_read(const uint8_t *text, size_t text_len, uint64_t greatest
 /* ---- The encodings of RFC 4648 sections 8, 7 and 4.
  *
  * Printing writes capitals, and padding in base 64 alone. Reading takes either case in base 16 and
- * base32hex. It answers DNS_NO_ROOM by the number of characters, before the text is judged. After
+ * base32hex. It returns DNS_NO_ROOM by the number of characters, before the text is judged. After
  * DNS_BAD_ENCODING nothing is said of the octets that there was to be room for. */
 uint32_t dns_base16_print(const uint8_t *octets, size_t octets_len, uint8_t *text, size_t text_len,
                           struct dns_outcome *outcome);
@@ -152,8 +152,8 @@ struct dns_cursor {
 
 /* Gives the places of the next entry's tokens, and moves the cursor on. The length is the number of
  * tokens. Where they do not all fit, the first ones are given with DNS_NO_ROOM, and the cursor stays:
- * call again with more room. A fault is told with its place, after the tokens before it, and then the
- * text is done. Once nothing is left the answer is DNS_END. */
+ * call again with more room. A fault comes with its place, after the tokens before it, and then the
+ * text is done. Once nothing is left the status is DNS_END. */
 uint32_t dns_entry_next(const uint8_t *text, size_t text_len, struct dns_cursor *cursor,
                         struct dns_token *tokens, size_t tokens_len, struct dns_outcome *outcome);
 
@@ -182,9 +182,9 @@ struct dns_standing {
     size_t is_done; /* 1 once nothing is left */
 };
 
-/* Gives the next piece, and moves the standing on. The last piece is an end. A fault is told with its
+/* Gives the next piece, and moves the standing on. The last piece is an end. A fault comes with its
  * place, after the pieces before it, and then the text is done; where what is not closed was opened,
- * dns_entry_next tells from `began`, with no room. Once nothing is left the answer is DNS_END. The piece
+ * dns_entry_next tells from `began`, with no room. Once nothing is left the status is DNS_END. The piece
  * is written with DNS_OK alone, and the length is 0. With DNS_BAD_CURSOR the standing stays. */
 uint32_t dns_tokens_next(const uint8_t *text, size_t text_len, struct dns_standing *standing,
                          struct dns_piece *piece, struct dns_outcome *outcome);

@@ -7,10 +7,10 @@ abbrev pub wire_of : List ℕ → List ℕ
 wire_of octets = length octets ∷ octets
 
 -- no wire form stands at the front
-abbrev pub BeginsNone : List ℕ → Type 0
-BeginsNone front = (octets more : List ℕ) → front ≡ wire_of octets ++ more → ⊥
+abbrev pub BeginsNoWireForm : List ℕ → Type 0
+BeginsNoWireForm front = (octets more : List ℕ) → front ≡ wire_of octets ++ more → ⊥
 
 -- what a refused append leaves: the octets as they were, if the length octet didn't surely fit; or these and the length octet, if the whole wire form didn't
-abbrev pub IsLeft : Room → List ℕ → List ℕ → List ℕ → Type 0
-IsLeft room octets old new =
+abbrev pub IsLeftByRefusal : Room → List ℕ → List ℕ → List ℕ → Type 0
+IsLeftByRefusal room octets old new =
     ((new ≡ old) × (room.fits ≤ length old)) ⊎ ((new ≡ old ++ length octets ∷ []) × (length new ≤ room.capacity) × (room.fits < length old + length (wire_of octets)))

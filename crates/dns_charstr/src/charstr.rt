@@ -47,7 +47,7 @@ impl CharStr<&[u8]> {
         CharStr { octets: &[] }
     }
 
-    /// The character string of these octets, of which there may be at most 255.
+    /// The character string of these octets, 255 at most.
     pub fn from_slice(slice: &[u8]) -> Result<CharStr<&[u8]>, CharStrError>
         ensures ok { IsOk result ↔ (length slice.now ≤ max_string) }
         ensures value { IfOk result (λ s. s ≡ slice.now) }
@@ -69,7 +69,7 @@ impl<Octs: AsOctets> CharStr<Octs> {
         }
     }
 
-    /// The character string of these octets, of which there may be at most 255. Refused, they are
+    /// The character string of these octets, 255 at most. Refused, they are
     /// dropped.
     pub fn from_octets(octets: Octs) -> Result<Self, CharStrError>
     where
@@ -201,7 +201,7 @@ impl<Octs: AsOctets> CharStr<Octs> {
     ///
     /// Symbols are handled in order. What is no symbol is refused first, then a symbol after 255
     /// octets by `LongString`, then one that has no octet, then an octet for which the buffer has
-    /// no room by `ShortBuf`. The first refusal is the answer.
+    /// no room by `ShortBuf`. The first refusal is returned.
     pub fn from_str(
         alloc: <<Octs as FromBuilder>::Builder as EmptyBuilder>::Alloc,
         text: &str,
@@ -244,7 +244,7 @@ impl<Octs: AsOctets> CharStr<Octs> {
     ///
     /// What is no escape, or is cut short, is refused first, by `SymbolChars`; then an octet after
     /// 255 others by `LongString`; then one for which the buffer has no room by `ShortBuf`. The
-    /// first refusal is the answer. There is no `BadSymbol`.
+    /// first refusal is returned. There is no `BadSymbol`.
     pub fn from_octets_text(
         alloc: <<Octs as FromBuilder>::Builder as EmptyBuilder>::Alloc,
         text: &[u8],

@@ -10,8 +10,8 @@ use Rattle.dns_codec.specs.Base.{Base, IsEncoding}
 use Rattle.dns_codec.specs.Grammar.{Decodes}
 use Rattle.dns_codec.specs.Errors.{answer, or_else}
 use Rattle.dns_codec.specs.Front.{ReadsFront}
-use Rattle.dns_codec.specs.Group.{Group, Step, step, is_complete}
-use Rattle.dns_codec.specs.Decoding.{DecoderState, IsNew, Takes, PushesAfter, Pushes, short, Ends}
+use Rattle.dns_codec.specs.Group.{Group, CharacterStep, character_step, is_complete}
+use Rattle.dns_codec.specs.Decoding.{DecoderState, IsNew, TakesStep, PushesAfter, Pushes, short, Ends}
 use Rattle.dns_codec.specs.Outcome.{char_error, refusal, Outcome, IsRefusedBy}
 use Rattle.dns_codec.specs.Limit.{IsLimit}
 use Rattle.dns_codec.specs.declared.error.DecodeError.{DecodeError}
@@ -49,8 +49,8 @@ any_limit room = let left = le-max_left room.fits room.capacity in record { sure
 pub one_push : (b : Base) → IsEncoding b → (room : Room) (text : List ℕ) (d : DecoderState) (c : ℕ) (j : DecoderState) → Stands b room text d → Pushes b room d c j
     → Stands b room (text ++ c ∷ []) j ⊎ Refuses b room text c d j
 one_push b known room text d c j at push =
-    let s : Step = step b d.group c in
-    let t : Takes room d.octets s j = subst (λ (x : Option DecodeError). PushesAfter b room x d c j) at.quiet push in
+    let s : CharacterStep = character_step b d.group c in
+    let t : TakesStep room d.octets s j = subst (λ (x : Option DecodeError). PushesAfter b room x d c j) at.quiet push in
     let next = stepped b known text d.octets d.group.digits d.group.padding c at.read in
     elim (appends_cases room s.octets d.octets j.octets s.error j.error t.appends at.held) [
       | inl all ↦ elim (cases_error s.error) [

@@ -7,7 +7,7 @@ use Rattle.std.proofs.lemmas.List.{length-take-le, length-drop, take-append-drop
 use Rattle.dns_codec.specs.Bits.{whole}
 use Rattle.dns_codec.specs.Base.{Base, base64, IsEncoding}
 use Rattle.dns_codec.specs.Errors.{or_else}
-use Rattle.dns_codec.specs.Grammar.{HaveValues, Decodes, may_end}
+use Rattle.dns_codec.specs.Grammar.{HaveValues, Decodes, may_end_after}
 use Rattle.dns_codec.specs.Group.{may_end_in}
 use Rattle.dns_codec.specs.Outcome.{short_buf_if, octet_count, may_stop, text_end_error, refusal}
 use Rattle.dns_codec.specs.declared.error.DecodeError.{DecodeError}
@@ -41,7 +41,7 @@ stop_plain b known plain text os ps at =
     let few = at.counts.1 in
     let place = n.place (length text) (length at.front) (length ps) len at.counts.2 few in
     let same : length ps % b.group ≡ length text % b.group = n.place (length ps) 0 (length ps) (omega arith) n.none few ∙ sym place in
-    let ends_same : may_end b (length ps) ≡ may_end b (length text) = ap (λ m. list_any (λ r. r == m) b.lasts) same in
+    let ends_same : may_end_after b (length ps) ≡ may_end_after b (length text) = ap (λ m. list_any (λ r. r == m) b.lasts) same in
     record {
       same = rw plain.unpadded (sym ends_same);
       decodes = λ ends. record {

@@ -4,7 +4,7 @@ use Rattle.std.proofs.lemmas.Bool.{cases_Bool, and_right}
 use Rattle.dns_octets.specs.Room.{Room}
 use Rattle.dns_codec.specs.Base.{Base, base64, value, IsEncoding}
 use Rattle.dns_codec.specs.Errors.{or_else}
-use Rattle.dns_codec.specs.Group.{Group, step_from, step}
+use Rattle.dns_codec.specs.Group.{Group, step_from, character_step}
 use Rattle.dns_codec.specs.Decoding.{DecoderState, PushesAfter}
 use Rattle.dns_codec.specs.declared.error.DecodeError.{DecodeError}
 use Rattle.dns_codec.specs.declared.base64.Padding.{Padding}
@@ -31,13 +31,13 @@ module _ (b : Base) (unpadded : nat_lt 1 b.unit ≡ false) where
   absent_by ps One c o is = cc
   absent_by ps Complete c o is = cc
 
-  absent_step : (g : Group) (c : ℕ) → g.padding ≡ Absent → (step b g c).group.padding ≡ Absent
+  absent_step : (g : Group) (c : ℕ) → g.padding ≡ Absent → (character_step b g c).group.padding ≡ Absent
   absent_step g c is = absent_by g.digits g.padding c (value b c) is
 
   pub stays_absent : (room : Room) (old new : DecoderState) (c : ℕ) (x : Option DecodeError) → old.group.padding ≡ Absent → PushesAfter b room x old c new → new.group.padding ≡ Absent
   stays_absent room old new c None absent push = ap (λ (g : Group). g.padding) push.group ∙ absent_step old.group c absent
   stays_absent room old new c (Some e) absent push =
-      let other : DecoderState = record { octets = old.octets; group = (step b old.group c).group; error = or_else (step b old.group c).error (Some e) } in
+      let other : DecoderState = record { octets = old.octets; group = (character_step b old.group c).group; error = or_else (character_step b old.group c).error (Some e) } in
       elim (cases_Bool b.keeps_first) [
         | inl keeps ↦ ap (λ (d : DecoderState). d.group.padding) (subst (λ (x : Bool). new ≡ (if x then old else other)) keeps push) ∙ absent
         | inr goes ↦ ap (λ (d : DecoderState). d.group.padding) (subst (λ (x : Bool). new ≡ (if x then old else other)) goes push) ∙ absent_step old.group c absent

@@ -9,7 +9,7 @@ use Rattle.dns_octets.specs.Room.{Room}
 use Rattle.dns_codec.specs.Base.{Base, base16, base32hex, value, IsEncoding}
 use Rattle.dns_codec.specs.Errors.{or_else}
 use Rattle.dns_codec.specs.Grammar.{HaveValues}
-use Rattle.dns_codec.specs.Group.{Group, Step, refused, step_other, step_in, step_from, step}
+use Rattle.dns_codec.specs.Group.{Group, CharacterStep, refused, step_other, step_in, step_from, character_step}
 use Rattle.dns_codec.specs.Decoding.{DecoderState, IsNew, PushesAfter, Pushes, Runs, short, end_error, Ends}
 use Rattle.dns_codec.specs.Outcome.{short_buf_if, grouped, char_error, first_char_error, last_illegal, legal_count, stored_by, stored, refusal, pushed_refusal, Outcome, IsPushed}
 use Rattle.dns_codec.specs.Limit.{IsLimit}
@@ -42,7 +42,7 @@ module _ (b : Base) (known : IsEncoding b) (plain : IsPlain b) where
   other_step ps c = rw (plain_test c (length ps)) refl
 
   step_error : (ps : List ℕ) (c : ℕ) (o : Option ℕ) → (step_in b ps c o).error ≡ illegal_in c o
-  step_error ps c None = ap (λ (s : Step). s.error) (other_step ps c)
+  step_error ps c None = ap (λ (s : CharacterStep). s.error) (other_step ps c)
   step_error ps c (Some v) = elim (cases_Bool (length ps + 1 == b.group)) [
     | inl last ↦ rw last refl
     | inr more ↦ rw more refl
@@ -69,11 +69,11 @@ module _ (b : Base) (known : IsEncoding b) (plain : IsPlain b) where
 
   -- a push to a decoder that stored an error
   later_push : (room : Room) (x : Option DecodeError) (d : DecoderState) (c : ℕ) (j : DecoderState) (e : DecodeError) → x ≡ Some e → PushesAfter b room x d c j
-      → j ≡ record { octets = d.octets; group = (step b d.group c).group; error = or_else (step b d.group c).error (Some e) }
+      → j ≡ record { octets = d.octets; group = (character_step b d.group c).group; error = or_else (character_step b d.group c).error (Some e) }
   later_push room None d c j e is push = cc is
   later_push room (Some f) d c j e is push =
       let same : f ≡ e = cc is in
-      let s : Step = step b d.group c in
+      let s : CharacterStep = character_step b d.group c in
       subst (λ (g : DecodeError). j ≡ record { octets = d.octets; group = s.group; error = or_else s.error (Some g) }) same
       (subst (λ (x : Bool). j ≡ (if x then d else record { octets = d.octets; group = s.group; error = or_else s.error (Some f) })) plain.goes_on push)
 
@@ -84,7 +84,7 @@ module _ (b : Base) (known : IsEncoding b) (plain : IsPlain b) where
       ∙ ap (λ (p : Padding). or_else (step_from b d.group.digits p c (value b c)).error (Some e)) absent
       ∙ ap (λ (x : Option DecodeError). or_else x (Some e)) (step_error d.group.digits c (value b c))
 
-  push_group : (room : Room) (x : Option DecodeError) (d : DecoderState) (c : ℕ) (j : DecoderState) → PushesAfter b room x d c j → j.group ≡ (step b d.group c).group
+  push_group : (room : Room) (x : Option DecodeError) (d : DecoderState) (c : ℕ) (j : DecoderState) → PushesAfter b room x d c j → j.group ≡ (character_step b d.group c).group
   push_group room None d c j push = push.group
   push_group room (Some e) d c j push = ap (λ (k : DecoderState). k.group) (later_push room (Some e) d c j e refl push)
 
@@ -166,7 +166,7 @@ kept_after : (b : Base) (room : Room) (x : Option DecodeError) (old new : Decode
     → (new.octets ≡ old.octets) × IsSome new.error × (b.keeps_first ≡ true → new ≡ old)
 kept_after b room None old new c is some push = let bad = some in cc bad
 kept_after b room (Some e) old new c is some push =
-    let s : Step = step b old.group c in
+    let s : CharacterStep = character_step b old.group c in
     let other : DecoderState = record { octets = old.octets; group = s.group; error = or_else s.error (Some e) } in
     elim (cases_Bool b.keeps_first) [
       | inl keeps ↦

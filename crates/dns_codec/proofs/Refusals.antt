@@ -6,8 +6,8 @@ use Rattle.std.proofs.lemmas.Bool.{cases_Bool, ltb-false}
 use Rattle.dns_codec.specs.Bits.{whole}
 use Rattle.dns_codec.specs.Base.{Base, base16, base32hex, value, IsEncoding}
 use Rattle.dns_codec.specs.Errors.{or_else}
-use Rattle.dns_codec.specs.Grammar.{HaveValues, Decodes, may_end}
-use Rattle.dns_codec.specs.Group.{Step, step_from, may_end_in}
+use Rattle.dns_codec.specs.Grammar.{HaveValues, Decodes, may_end_after}
+use Rattle.dns_codec.specs.Group.{CharacterStep, step_from, may_end_in}
 use Rattle.dns_codec.specs.Outcome.{short_buf_if, char_error, legal_count, stored, refusal, pushed_refusal}
 use Rattle.dns_codec.specs.declared.error.DecodeError.{DecodeError}
 use Rattle.dns_codec.specs.declared.error.DecodeError.TheVariants.{ShortInput, ShortBuf}
@@ -65,7 +65,7 @@ module _ (b : Base) (known : IsEncoding b) (limit : ℕ) where
       let k = not_short limit _ (may_end_in b ps p) (sym (n.refusal_is limit le) ∙ rw all at e) in
       (os ++ whole b.width ps, rw all (n.decodes k.0), rw length-append k.1)
   unrefused_from text (c ∷ cs) os ps p at le e =
-      let s : Step = step_from b ps p c (value b c) in
+      let s : CharacterStep = step_from b ps p c (value b c) in
       let next = stepped b known text os ps p c at in
       let both = both_none (short_buf_if limit (length os + length s.octets)) s.error (sym (next.cause_is limit le) ∙ unrefused_next text os ps cs p c at le e) in
       rw append_assoc at (unrefused_from (text ++ c ∷ []) cs (os ++ s.octets) s.group.digits s.group.padding (next.goes_on both.1) (rw length-append (want_fits limit _ both.0)) (rw append_assoc e))
@@ -90,7 +90,7 @@ module _ (b : Base) (known : IsEncoding b) (limit wide : ℕ) (e : DecodeError) 
       let k = not_short wide _ (may_end_in b ps p) (sym (n.refusal_is wide wider) ∙ rw all at none) in
       want_is limit _ e (rw k.0 at (sym (n.refusal_is limit le) ∙ rw all at is))
   wants_from text (c ∷ cs) os ps p at le wider none is =
-      let s : Step = step_from b ps p c (value b c) in
+      let s : CharacterStep = step_from b ps p c (value b c) in
       let next = stepped b known text os ps p c at in
       let both = both_none (short_buf_if wide (length os + length s.octets)) s.error (sym (next.cause_is wide wider) ∙ unrefused_next b known wide text os ps cs p c at wider none) in
       let here : char_error b limit text c ≡ short_buf_if limit (length os + length s.octets) =
@@ -106,7 +106,7 @@ module _ (b : Base) (known : IsEncoding b) (limit wide : ℕ) (e : DecodeError) 
       ]
 
 -- in base 16 and base32hex, a text of the grammar is characters of the alphabet, as many as whole octets need
-decodes_valued : (b : Base) → IsPlain b → (text octets : List ℕ) → Decodes b text octets → (ps : List ℕ) × HaveValues b text ps × (may_end b (length text) ≡ true)
+decodes_valued : (b : Base) → IsPlain b → (text octets : List ℕ) → Decodes b text octets → (ps : List ℕ) × HaveValues b text ps × (may_end_after b (length text) ≡ true)
 decodes_valued b plain text octets d =
     let all : text ≡ d.chars = d.spelled ∙ rw (plain.no_marks (length d.chars)) (append-nil d.chars) in
     (d.digits, rw all d.valued, rw all d.count)
@@ -114,7 +114,7 @@ decodes_valued b plain text octets d =
 pushed_wants16 : (text octets : List ℕ) (limit : ℕ) (e : DecodeError) → Decodes base16 text octets → pushed_refusal base16 limit text ≡ Some e → e ≡ ShortBuf
 pushed_wants16 text octets limit e d is =
     let n = decodes_valued base16 plain16 text octets d in
-    let ends : may_end base16 (legal_count base16 text) ≡ true = rw (all_legal base16 (inl refl) plain16 text n.0 n.1) n.2 in
+    let ends : may_end_after base16 (legal_count base16 text) ≡ true = rw (all_legal base16 (inl refl) plain16 text n.0 n.1) n.2 in
     want_is limit _ e (sym (legal_stored base16 (inl refl) plain16 limit text n.0 n.1) ∙ rw ends at is)
 
 pushed_wants32 : (text octets : List ℕ) (limit : ℕ) (e : DecodeError) → Decodes base32hex text octets → pushed_refusal base32hex limit text ≡ Some e → e ≡ ShortBuf

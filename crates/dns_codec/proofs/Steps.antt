@@ -8,7 +8,7 @@ use Rattle.dns_codec.specs.Bits.{whole}
 use Rattle.dns_codec.specs.Base.{Base, base64, value, IsEncoding}
 use Rattle.dns_codec.specs.Errors.{or_else}
 use Rattle.dns_codec.specs.Grammar.{HaveValues}
-use Rattle.dns_codec.specs.Group.{Step, step_digit, step_other, step_after_one, step_from}
+use Rattle.dns_codec.specs.Group.{CharacterStep, step_digit, step_other, step_after_one, step_from}
 use Rattle.dns_codec.specs.Outcome.{short_buf_if, grouped, pad_count, octet_count, char_error, first_char_error}
 use Rattle.dns_codec.specs.declared.error.DecodeError.{DecodeError}
 use Rattle.dns_codec.specs.declared.error.DecodeError.TheVariants.{IllegalChar, TrailingInput}
@@ -140,7 +140,7 @@ no_cause b known text os ps Complete at limit le = padded_none b at.counts.0 tex
 
 -- the cause of a character is lack of room for the octets of its step, and then the step's error. Without an error the
 -- text is read with it
-pub record Stepped (b : Base) (text octets : List ℕ) (c : ℕ) (s : Step) : Type 0 where
+pub record Stepped (b : Base) (text octets : List ℕ) (c : ℕ) (s : CharacterStep) : Type 0 where
   pub cause_is : (limit : ℕ) → length octets ≤ limit → char_error b limit text c ≡ or_else (short_buf_if limit (length octets + length s.octets)) s.error
   pub goes_on : s.error ≡ None → IsRead b (text ++ c ∷ []) (octets ++ s.octets) s.group.digits s.group.padding
 
@@ -152,7 +152,7 @@ closed_octets b known os front g chars made whole_groups valued =
     rw made (sym (whole-append b.width front g (n.bits (length front) whole_groups) (below_front (2 ^ b.width) front g (HaveValues-below b n.below chars (front ++ g) valued))))
 
 -- refused, whatever the room
-at_once : (b : Base) (text os : List ℕ) (c : ℕ) (s : Step) (e : DecodeError) → s.octets ≡ [] → s.error ≡ Some e → ((limit : ℕ) → char_error b limit text c ≡ Some e) → Stepped b text os c s
+at_once : (b : Base) (text os : List ℕ) (c : ℕ) (s : CharacterStep) (e : DecodeError) → s.octets ≡ [] → s.error ≡ Some e → ((limit : ℕ) → char_error b limit text c ≡ Some e) → Stepped b text os c s
 at_once b text os c s e nothing is why =
     let sum : length os + length s.octets ≡ length os = rw nothing (omega arith) in
     record {

@@ -4,7 +4,7 @@ use Rattle.std.specs.Prelude.{◌≡◌, ℕ, ◌+◌, ◌-◌, ◌*◌, ◌/◌
 use Rattle.std.specs.Prelude.{Some, None, Result, Ok, Err}
 use Rattle.dns_octets.specs.Room.{Room}
 use Rattle.dns_codec.specs.Base.{Base, value}
-use Rattle.dns_codec.specs.Grammar.{Decodes, may_end}
+use Rattle.dns_codec.specs.Grammar.{Decodes, may_end_after}
 use Rattle.dns_codec.specs.Errors.{or_else}
 use Rattle.dns_codec.specs.Limit.{IsLimit}
 use Rattle.dns_codec.specs.declared.error.DecodeError.{DecodeError}
@@ -55,7 +55,7 @@ first_char_error why front (c ∷ cs) = or_else (why front c) (first_char_error 
 
 -- a text of so many characters may end
 abbrev pub may_stop : Base → ℕ → Bool
-may_stop b n = if nat_lt 1 b.unit then n % b.unit == 0 else may_end b n
+may_stop b n = if nat_lt 1 b.unit then n % b.unit == 0 else may_end_after b n
 
 -- the error at the end of a text without a cause
 abbrev pub text_end_error : Base → ℕ → List ℕ → Option DecodeError
@@ -86,7 +86,7 @@ stored b limit text = if b.keeps_first then first_char_error (char_error b limit
 -- why the decoder refuses the text at its end
 abbrev pub pushed_refusal : Base → ℕ → List ℕ → Option DecodeError
 pushed_refusal b limit text =
-    if b.ends_first then (if may_end b (legal_count b text) then stored b limit text else Some ShortInput)
+    if b.ends_first then (if may_end_after b (legal_count b text) then stored b limit text else Some ShortInput)
     else or_else (stored b limit text) (text_end_error b limit text)
 
 -- ---- results

@@ -1,7 +1,7 @@
 //! The three encodings, by their numbers and rules.
 ghost use Rattle.std.specs.Prelude.{◌≡◌, ℕ, List, ◌<◌, ◌^◌, nat_lt, length, IfSome};
 ghost use Rattle.dns_codec.specs.Base.{Base, IsShape, IsStride, IsTable, IsEncoding, value};
-ghost use Rattle.dns_codec.specs.Grammar.{may_end};
+ghost use Rattle.dns_codec.specs.Grammar.{may_end_after};
 
 use crate::read::{VALUES16, VALUES32HEX, VALUES64};
 
@@ -24,6 +24,9 @@ pub struct Rules {
 }
 
 /// What sets an encoding apart from the others.
+///
+/// The list of encodings is closed: whoever implements this shows that `base` is base 16,
+/// base32hex or base 64 of RFC 4648 (`known`). The laws of encodings rest on that.
 pub trait Encoding {
     /// The bits of a character.
     const BITS: u32;
@@ -61,7 +64,7 @@ pub trait Encoding {
     /// Whether a text may end after `count` characters of a group.
     fn may_end(count: u32) -> bool
         requires { count < base.group }
-        ensures { result ≡ may_end base count };
+        ensures { result ≡ may_end_after base count };
 
     /// The other rules.
     fn rules() -> Rules

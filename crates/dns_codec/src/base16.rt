@@ -62,10 +62,10 @@ pub fn decode<B: OctetsBuilder + EmptyBuilder + FreezeBuilder + Drop>(
     decoder::decode::<B, Base16>(alloc, s)
 }
 
-/// Reads a text of base 16 into the start of a slice, and answers how many octets; none where the
-/// text isn't in the grammar or its octets don't fit, of which [`decode`] says why.
+/// Reads a text of base 16 into the start of a slice, and returns how many octets; `None` where the
+/// text isn't in the grammar or its octets don't fit. [`decode`] says why.
 ///
-/// What then stands in the slice isn't said.
+/// After `None` nothing is said of the slice.
 pub fn decode_slice(text: &[u8], octets: &mut [u8]) -> Option<usize>
     ensures read { IfSome result (λ n. Decodes base16 text.now (take n octets.new) × (n ≤ length octets.new)) }
     ensures refused { IfNone result ((v : List ℕ) → Decodes base16 text.now v → length octets.old < length v) }
@@ -88,7 +88,7 @@ pub fn display<W: fmt::Write>(bytes: &[u8], f: &mut W) -> fmt::Result
     encode::display::<Base16, W>(bytes, f)
 }
 
-/// Writes the text of octets at the start of a slice, and answers how many characters it has.
+/// Writes the text of octets at the start of a slice, and returns how many characters it has.
 ///
 /// The only error is that they don't fit; nothing is written then.
 pub fn encode_slice(bytes: &[u8], text: &mut [u8]) -> Result<usize, ShortBuf>

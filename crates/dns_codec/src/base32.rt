@@ -53,10 +53,10 @@ pub fn decode_hex<B: OctetsBuilder + EmptyBuilder + FreezeBuilder + Drop>(
     decoder::decode::<B, Base32Hex>(alloc, s)
 }
 
-/// Reads a text of base32hex into the start of a slice, and answers how many octets; none where the
-/// text isn't in the grammar or its octets don't fit, of which [`decode_hex`] says why.
+/// Reads a text of base32hex into the start of a slice, and returns how many octets; `None` where
+/// the text isn't in the grammar or its octets don't fit. [`decode_hex`] says why.
 ///
-/// What then stands in the slice isn't said.
+/// After `None` nothing is said of the slice.
 pub fn decode_slice_hex(text: &[u8], octets: &mut [u8]) -> Option<usize>
     ensures read { IfSome result (λ n. Decodes base32hex text.now (take n octets.new) × (n ≤ length octets.new)) }
     ensures refused { IfNone result ((v : List ℕ) → Decodes base32hex text.now v → length octets.old < length v) }
@@ -71,7 +71,7 @@ pub fn display_hex<W: fmt::Write>(bytes: &[u8], f: &mut W) -> fmt::Result
     encode::display::<Base32Hex, W>(bytes, f)
 }
 
-/// Writes the text of octets at the start of a slice, and answers how many characters it has.
+/// Writes the text of octets at the start of a slice, and returns how many characters it has.
 ///
 /// The only error is that they don't fit; nothing is written then.
 pub fn encode_slice_hex(bytes: &[u8], text: &mut [u8]) -> Result<usize, ShortBuf>

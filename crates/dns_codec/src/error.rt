@@ -1,6 +1,6 @@
 //! Why a text isn't decoded.
 ghost use Rattle.std.specs.Prelude.{◌≡◌, Some};
-ghost use Rattle.dns_codec.specs.Errors.{error_text};
+ghost use Rattle.dns_codec.specs.Errors.{decode_error_text};
 
 use dns_octets::ShortBuf;
 use std::error::Error;
@@ -20,7 +20,7 @@ pub enum DecodeError {
 }
 
 impl fmt::Display for DecodeError {
-    ghost output = { λ e. Some (error_text e) };
+    ghost output = { λ e. Some (decode_error_text e) };
 
     fn fmt<W: fmt::Write>(&self, f: &mut fmt::Formatter<W>) -> fmt::Result {
         match self {

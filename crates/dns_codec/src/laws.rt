@@ -52,7 +52,7 @@ pub fn grammar_is_read()
 {}
 
 /// Where there is too little room, lack of room alone refuses a text of the grammar: `decode`
-/// answers no other error, and neither does a decoder that it is pushed to.
+/// returns no other error, and neither does a decoder that it is pushed to.
 pub fn grammar_wants_room()
     ensures { (b : Base) → IsEncoding b → (text octets : List ℕ) (limit : ℕ) (e : DecodeError) → Decodes b text octets
         → (refusal b limit text ≡ Some e → e ≡ ShortBuf) × (pushed_refusal b limit text ≡ Some e → e ≡ ShortBuf) }

@@ -21,7 +21,7 @@ fn pairs() -> &'static [u8]
         "
 }
 
-/// Puts the characters of octets into a text at a place, and answers the place after them.
+/// Puts the characters of octets into a text at a place, and returns the place after them.
 #[inline(always)]
 pub(crate) fn put_pairs(octets: &[u8], text: &mut [u8], at: usize) -> usize
     requires { at + 2 * length octets.now ≤ length text.old }

@@ -7,13 +7,13 @@ use Rattle.dns_symbol.specs.declared.symbol.Symbol.{Symbol}
 use Rattle.dns_symbol.specs.declared.error.SymbolCharsError.{SymbolCharsError}
 use Rattle.dns_codec.specs.Base.{Base}
 use Rattle.dns_codec.specs.Converting.{ConverterState, new_converter, Makes, made, convert, convert_tail}
-use Rattle.dns_scan.specs.Asks.{CallsEach, Ends}
+use Rattle.dns_scan.specs.Asks.{CallsEach, EndsAfterSymbols}
 use Rattle.dns_symbol.specs.Cause.{Cause, custom_text, short_buf}
 use Rattle.dns_symbol.specs.Convert.{IsAnswer}
 use Rattle.dns_scan.specs.Entries.{Converts, ConvertStep, ConvertToken, ConvertTail}
 use Rattle.dns_scan.specs.Steps.{Adds}
 use Rattle.dns_scan.specs.Tokens.{Token}
-use Rattle.dns_entry.specs.Codecs.{Codec, then_made, then_more, finished, converted, made_of, ConvertsTo, AnswersConverted}
+use Rattle.dns_entry.specs.Codecs.{Codec, then_made, then_more, finished_symbols, converted_symbols, made_of, ConvertsTo, AnswersConverted}
 use Rattle.dns_entry.specs.Codecs.{codec_of}
 
 module _ {E : Type 0} (cause : E → Cause) (room : Room) where
@@ -46,13 +46,13 @@ module _ {E : Type 0} (cause : E → Cause) (room : Room) where
     -- where a run over symbols ends, and why it stops
     abbrev Ran : List Symbol → Option SymbolCharsError → C × List ℕ → C × List ℕ → Result (Unit {0}) E → Type 0
     Ran xs error p q u = MatchResult u
-        (λ _. (error ≡ None) × (converted codec (view p.0) p.1 xs error ≡ finished codec (view q.0) q.1 None) × (whole xs error p ≡ whole [] None q) × (length q.1 ≤ room.capacity))
-        (λ e. ((converted codec (view p.0) p.1 xs error ≡ Err (cause e)) × (length (whole xs error p) ≤ room.capacity)) ⊎ ((cause e ≡ short_buf) × (room.fits < length (whole xs error p))))
+        (λ _. (error ≡ None) × (converted_symbols codec (view p.0) p.1 xs error ≡ finished_symbols codec (view q.0) q.1 None) × (whole xs error p ≡ whole [] None q) × (length q.1 ≤ room.capacity))
+        (λ e. ((converted_symbols codec (view p.0) p.1 xs error ≡ Err (cause e)) × (length (whole xs error p) ≤ room.capacity)) ⊎ ((cause e ≡ short_buf) × (room.fits < length (whole xs error p))))
 
     run : (xs : List Symbol) (error : Option SymbolCharsError) (p : C × List ℕ) (u : Result (Unit {0}) E) (q : C × List ℕ) → length p.1 ≤ room.capacity
-        → CallsEach (ConvertStep cause room takes) xs (Ends cause error) p u q → Ran xs error p q u
+        → CallsEach (ConvertStep cause room takes) xs (EndsAfterSymbols cause error) p u q → Ran xs error p q u
     run [] None p (Ok v) q small h =
-        (refl, ap (λ (x : C × List ℕ). finished codec (view x.0) x.1 None) (sym h.0), ap (λ (x : C × List ℕ). whole [] None x) (sym h.0), omega (arith, small, ap (λ (x : C × List ℕ). length x.1) h.0))
+        (refl, ap (λ (x : C × List ℕ). finished_symbols codec (view x.0) x.1 None) (sym h.0), ap (λ (x : C × List ℕ). whole [] None x) (sym h.0), omega (arith, small, ap (λ (x : C × List ℕ). length x.1) h.0))
     run [] None p (Err e) q small h = let z = h.1 in cc
     run [] (Some x) p (Ok v) q small h = absurd h.1
     run [] (Some x) p (Err e) q small h = inl (ap (λ w. Err w) (sym h.1), omega (arith, small, length-append p.1 []))
@@ -69,10 +69,10 @@ module _ {E : Type 0} (cause : E → Cause) (room : Room) where
             → (o : List ℕ) × ((codec.step (view p.0) x).0 ≡ Ok o) × (m.1 ≡ p.1 ++ o) × (length m.1 ≤ room.capacity) → Ran xs error m q u → Ran (x ∷ xs) error p q u
         on u m held more rest = by u rest
           where
-            here : converted codec (view p.0) p.1 (x ∷ xs) error ≡ converted codec (view m.0) m.1 xs error
+            here : converted_symbols codec (view p.0) p.1 (x ∷ xs) error ≡ converted_symbols codec (view m.0) m.1 xs error
             here =
-                ap (λ a. then_made a (λ octets. converted codec (codec.step (view p.0) x).1 (p.1 ++ octets) xs error)) more.1
-                ∙ (λ i. converted codec (sym held i) (sym more.2 i) xs error)
+                ap (λ a. then_made a (λ octets. converted_symbols codec (codec.step (view p.0) x).1 (p.1 ++ octets) xs error)) more.1
+                ∙ (λ i. converted_symbols codec (sym held i) (sym more.2 i) xs error)
 
             same : whole (x ∷ xs) error p ≡ whole xs error m
             same =
@@ -93,7 +93,7 @@ module _ {E : Type 0} (cause : E → Cause) (room : Room) where
         stop (Err e) is step =
             ⊎_elim
             (λ k. inl (
-              ap (λ a. then_made a (λ octets. converted codec (codec.step (view p.0) x).1 (p.1 ++ octets) xs error)) k.1 ∙ ap (λ w. Err w) (sym k.2),
+              ap (λ a. then_made a (λ octets. converted_symbols codec (codec.step (view p.0) x).1 (p.1 ++ octets) xs error)) k.1 ∙ ap (λ w. Err w) (sym k.2),
               subst (λ a. length (p.1 ++ then_more a later) ≤ room.capacity) (sym k.1) (omega (arith, small, length-append p.1 [])),
             ))
             (λ k. inr (
@@ -120,8 +120,8 @@ module _ {E : Type 0} (cause : E → Cause) (room : Room) where
             (λ e. (ConvertsTo codec t (Err (cause e)) × (length (whole h.ran.symbols h.ran.error (convert, [])) ≤ room.capacity)) ⊎
             ((cause e ≡ short_buf) × (room.fits < length (whole h.ran.symbols h.ran.error (convert, [])))))
 
-        from_start : (a : Result (List ℕ) Cause) → converted codec (view convert) [] h.ran.symbols h.ran.error ≡ a → ConvertsTo codec t a
-        from_start a e = (h.ran.symbols, h.ran.error, h.ran.read, ap (λ k. converted codec k [] h.ran.symbols h.ran.error) (sym new) ∙ e)
+        from_start : (a : Result (List ℕ) Cause) → converted_symbols codec (view convert) [] h.ran.symbols h.ran.error ≡ a → ConvertsTo codec t a
+        from_start a e = (h.ran.symbols, h.ran.error, h.ran.read, ap (λ k. converted_symbols codec k [] h.ran.symbols h.ran.error) (sym new) ∙ e)
 
         last : (v : Result (Unit {0}) E) (q : C × List ℕ) (r : Result O E) → ConvertTail cause room tail h.state v q → MatchResult v (λ _. IsOkAnd r (λ x. octets x ≡ q.1)) (λ e. r ≡ Err e)
             → Ran h.ran.symbols h.ran.error (convert, []) h.state (Ok tt) → Answered r

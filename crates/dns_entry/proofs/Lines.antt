@@ -4,7 +4,7 @@ use Rattle.std.specs.List.{AllByRecursion}
 use Rattle.std.specs.Prelude.{get_or}
 use Rattle.std.proofs.lemmas.List.{take_more, drop_more, map-append, length-map, length-take-le, take_all, take-append-drop}
 use Rattle.dns_zone.specs.Layout.{Step}
-use Rattle.dns_zone.specs.Writers.{Runs}
+use Rattle.dns_zone.specs.Writers.{WritesSteps}
 use Rattle.dns_zone.proofs.Runs.{runs_none, runs_append, runs_step}
 use Rattle.dns_entry.specs.declared.entry.Field.{Field}
 use Rattle.dns_entry.specs.Field.{Content, number, hex_octets, base64_octets, text_octets, content_of, contents_of, IsPrintable}
@@ -82,7 +82,7 @@ first_found fields i x h e line none = record {
 -- the writer stands in the line's block, after the tokens of some fields
 pub record InLine {F : Type 0} (blocks : F → ℕ) (gives : F → Step → F → Type 0) (w : F) (fields : List Content) (v : F) : Type 0 where
   pub inside : 0 < blocks v
-  pub runs : Runs blocks gives w (map field_step fields) v
+  pub runs : WritesSteps blocks gives w (map field_step fields) v
 
 module _ {F : Type 0} (blocks : F → ℕ) (gives : F → Step → F → Type 0) (w : F) where
   pub in_line_none : 0 < blocks w → InLine blocks gives w [] w
@@ -93,11 +93,11 @@ module _ {F : Type 0} (blocks : F → ℕ) (gives : F → Step → F → Type 0)
   in_line_more fields i x v u h e k level step = rw (contents_more fields i x h e) (record {
     inside = omega (arith, level, k.inside);
     runs =
-        subst (λ l. Runs blocks gives w l u) (sym (map-append field_step (contents_of (take i fields)) (content_of x ∷ [])))
+        subst (λ l. WritesSteps blocks gives w l u) (sym (map-append field_step (contents_of (take i fields)) (content_of x ∷ [])))
         (runs_append blocks gives w _ v _ u k.runs (runs_step blocks gives v _ u level step));
   })
 
   pub in_line_all : {A : Type 0} (fields : List Content) (items : List (Field A)) (i : ℕ) (v : F) → contents_of items ≡ fields → length items ≤ i → InLine blocks gives w (contents_of (take i items)) v
-      → Runs blocks gives w (map field_step fields) v
+      → WritesSteps blocks gives w (map field_step fields) v
   in_line_all fields items i v same all k =
-      subst (λ l. Runs blocks gives w (map field_step l) v) (ap contents_of (take_all i items all) ∙ same) k.runs
+      subst (λ l. WritesSteps blocks gives w (map field_step l) v) (ap contents_of (take_all i items all) ∙ same) k.runs

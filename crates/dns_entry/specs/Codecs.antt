@@ -31,18 +31,18 @@ then_more (Err text) more = []
 
 module _ (codec : Codec) where
   -- what comes after the symbols: the token's error, or else the tail's octets or refusal
-  abbrev pub finished : codec.Held → List ℕ → Option SymbolCharsError → Result (List ℕ) Cause
-  finished held built None = then_made (codec.tail held) (λ octets. Ok (built ++ octets))
-  finished held built (Some e) = Err (custom_text (chars_error_text e))
+  abbrev pub finished_symbols : codec.Held → List ℕ → Option SymbolCharsError → Result (List ℕ) Cause
+  finished_symbols held built None = then_made (codec.tail held) (λ octets. Ok (built ++ octets))
+  finished_symbols held built (Some e) = Err (custom_text (chars_error_text e))
 
   -- the octets made of symbols, from what is held and built, or the first refusal
-  abbrev pub converted : codec.Held → List ℕ → List Symbol → Option SymbolCharsError → Result (List ℕ) Cause
-  converted held built [] error = finished held built error
-  converted held built (x ∷ xs) error = then_made (codec.step held x).0 (λ octets. converted (codec.step held x).1 (built ++ octets) xs error)
+  abbrev pub converted_symbols : codec.Held → List ℕ → List Symbol → Option SymbolCharsError → Result (List ℕ) Cause
+  converted_symbols held built [] error = finished_symbols held built error
+  converted_symbols held built (x ∷ xs) error = then_made (codec.step held x).0 (λ octets. converted_symbols (codec.step held x).1 (built ++ octets) xs error)
 
   -- what a new converter makes of a token
   abbrev pub ConvertsTo : Token → Result (List ℕ) Cause → Type 0
-  ConvertsTo token r = (symbols : List Symbol) × (error : Option SymbolCharsError) × SymbolsOf token symbols error × (converted codec.start [] symbols error ≡ r)
+  ConvertsTo token r = (symbols : List Symbol) × (error : Option SymbolCharsError) × SymbolsOf token symbols error × (converted_symbols codec.start [] symbols error ≡ r)
 
   -- the octets that are made of symbols, and of the tail where nothing else follows, up to the first refusal
   abbrev pub made_of : codec.Held → List Symbol → Option SymbolCharsError → List ℕ
@@ -87,7 +87,7 @@ abbrev pub base64_codec : Codec
 base64_codec = codec_of base64
 
 -- a token that is a text of the encoding, of that value: its symbols all have a character, nothing else stands in it, and the grammar has their characters
-pub record IsEncoding (b : Base) (token : Token) (octets : List ℕ) : Type 0 where
+pub record IsEncodingOf (b : Base) (token : Token) (octets : List ℕ) : Type 0 where
   pub symbols : List Symbol
   pub read : SymbolsOf token symbols None
   pub text : List ℕ

@@ -5,9 +5,9 @@ use Rattle.dns_entry.specs.declared.error.EntryError.{EntryError}
 use Rattle.dns_entry.specs.declared.error.EntryError.TheVariants.{EmptyEncoding}
 
 -- the place that an error names
-abbrev pub place_of : EntryError → ℕ
-place_of (EmptyEncoding i) = i
+abbrev pub error_place : EntryError → ℕ
+error_place (EmptyEncoding i) = i
 
 -- what an error prints
-abbrev pub error_text : EntryError → List ℕ
-error_text (EmptyEncoding i) = codes "empty encoding at " ++ decimal i
+abbrev pub entry_error_text : EntryError → List ℕ
+entry_error_text (EmptyEncoding i) = codes "empty encoding at " ++ decimal i

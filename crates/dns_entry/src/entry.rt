@@ -3,7 +3,7 @@ ghost use Rattle.std.specs.Prelude.{◌≡◌, ◌↔◌, ◌+◌, IfNone, IfSom
 ghost use Rattle.dns_zone.specs.Layout.{Step, token};
 ghost use Rattle.dns_entry.specs.Field.{Content, content_of, contents_of, field_text, IsPrintable};
 ghost use Rattle.dns_entry.specs.Line.{IsFirstEmpty, IsLine, line_document, line_nests};
-ghost use Rattle.dns_entry.specs.EntryError.{place_of};
+ghost use Rattle.dns_entry.specs.EntryError.{error_place};
 
 pub use crate::error::EntryError;
 use dns_charstr::charstr::CharStr;
@@ -101,7 +101,7 @@ impl<A: Allocator> EntryLine<A> {
     pub fn new(fields: Vec<Field<A>, A>) -> Result<EntryLine<A>, (EntryError, Vec<Field<A>, A>)>
         ensures ok { IfOk result (λ line. line ≡ contents_of fields.items) }
         ensures accepts { IsOk result ↔ IsLine (contents_of fields.items) }
-        ensures err { IfErr result (λ e. IsFirstEmpty (contents_of fields.items) (place_of e.0) × (e.1 ≡ fields)) }
+        ensures err { IfErr result (λ e. IsFirstEmpty (contents_of fields.items) (error_place e.0) × (e.1 ≡ fields)) }
     {
         match first_empty(&fields) {
             Some(place) => Err((EntryError::EmptyEncoding(place), fields)),

@@ -1,6 +1,6 @@
 //! Why fields are no line.
 ghost use Rattle.std.specs.Prelude.{Some};
-ghost use Rattle.dns_entry.specs.EntryError.{error_text};
+ghost use Rattle.dns_entry.specs.EntryError.{entry_error_text};
 
 use std::error::Error;
 use std::fmt;
@@ -13,7 +13,7 @@ pub enum EntryError {
 }
 
 impl fmt::Display for EntryError {
-    ghost output = { λ e. Some (error_text e) };
+    ghost output = { λ e. Some (entry_error_text e) };
 
     fn fmt<W: fmt::Write>(&self, f: &mut fmt::Formatter<W>) -> fmt::Result {
         match self {

@@ -14,16 +14,16 @@ use Rattle.dns_split.proofs.Complete.{one_way}
 use Rattle.dns_split.proofs.Entries.{splits_into_tokens}
 use Rattle.dns_split.proofs.Content.{word_first, quote_first, between_quotes, word_symbols, quote_symbols}
 use Rattle.dns_scan.specs.Join.{IsSymbols}
-use Rattle.dns_iter.specs.Contents.{IsContent, AreContents, HoldsAt, HoldsOnly, content_next}
+use Rattle.dns_iter.specs.Contents.{HasContent, HaveContents, HoldsAt, HoldsOnly, content_next}
 
 -- what is given of a token's text
 pub content_given : (spelled token given : List ℕ) → spelled ≡ token → ((w : IsWord spelled) → given ≡ spelled) → ((q : IsQuote spelled) → given ≡ flat_map bytes q.symbols)
-    → (content : List ℕ) → IsContent token content → given ≡ content
+    → (content : List ℕ) → HasContent token content → given ≡ content
 content_given spelled token given is word quote content h =
-    ⊎_elim (λ k. word k.0 ∙ sym k.1) (λ k. quote k.0 ∙ sym k.1) (subst (λ t. IsContent t content) (sym is) h)
+    ⊎_elim (λ k. word k.0 ∙ sym k.1) (λ k. quote k.0 ∙ sym k.1) (subst (λ t. HasContent t content) (sym is) h)
 
 module _ {S : Type 0} (texts : S → List Token) where
-  pub contents_come : (tokens : List Token) (contents : List (List ℕ)) (s : S) → texts s ≡ tokens → AreContents tokens contents → AlwaysYields (content_next texts) (λ t. t.now) s contents
+  pub contents_come : (tokens : List Token) (contents : List (List ℕ)) (s : S) → texts s ≡ tokens → HaveContents tokens contents → AlwaysYields (content_next texts) (λ t. t.now) s contents
   contents_come [] [] s is z = λ x j k. let none : k.0 ∷ texts j ≡ [] = sym k.1 ∙ is in cc
   contents_come [] (c ∷ cs) s is z = absurd z
   contents_come (t ∷ ts) [] s is z = absurd z
@@ -33,29 +33,29 @@ module _ {S : Type 0} (texts : S → List Token) where
         let same : k.0 ∷ texts j ≡ t ∷ ts = sym k.1 ∙ is in
         let first : t ≡ k.0 = cc in
         let others : texts j ≡ ts = cc in
-        (k.2 c (subst (λ y. IsContent y c) first z.0), contents_come ts cs j others z.1),
+        (k.2 c (subst (λ y. HasContent y c) first z.0), contents_come ts cs j others z.1),
   )
 
 -- a token holds one text, which is symbols throughout
-token_some : (t : Token) → IsToken t → (content : List ℕ) × IsContent t content
+token_some : (t : Token) → IsToken t → (content : List ℕ) × HasContent t content
 token_some t (inl w) = (t, inl (w, refl))
 token_some t (inr q) = (flat_map bytes q.symbols, inr (q, refl))
 
-token_one : (t : Token) (a b : List ℕ) → IsContent t a → IsContent t b → a ≡ b
+token_one : (t : Token) (a b : List ℕ) → HasContent t a → HasContent t b → a ≡ b
 token_one t a b (inl h) (inl k) = h.1 ∙ sym k.1
 token_one t a b (inl h) (inr k) = absurd (word_first t h.0 (quote_first t k.0))
 token_one t a b (inr h) (inl k) = absurd (word_first t k.0 (quote_first t h.0))
 token_one t a b (inr h) (inr k) = h.1 ∙ sym (between_quotes t h.0) ∙ between_quotes t k.0 ∙ sym k.1
 
-token_symbols : (t : Token) (content : List ℕ) → IsContent t content → IsSymbols content
+token_symbols : (t : Token) (content : List ℕ) → HasContent t content → IsSymbols content
 token_symbols t content (inl h) = (h.0.symbols, subst (λ c. SymbolsOf c h.0.symbols None) (sym h.1) (word_symbols t h.0))
 token_symbols t content (inr h) = (h.0.symbols, quote_symbols t content h.0 h.1)
 
-pub contents_some : (tokens : List Token) → AllByRecursion IsToken tokens → (contents : List (List ℕ)) × AreContents tokens contents
+pub contents_some : (tokens : List Token) → AllByRecursion IsToken tokens → (contents : List (List ℕ)) × HaveContents tokens contents
 contents_some [] all = ([], tt)
 contents_some (t ∷ ts) all = let one = token_some t all.0 in let more = contents_some ts all.1 in (one.0 ∷ more.0, (one.1, more.1))
 
-pub contents_one : (tokens : List Token) (a b : List (List ℕ)) → AreContents tokens a → AreContents tokens b → a ≡ b
+pub contents_one : (tokens : List Token) (a b : List (List ℕ)) → HaveContents tokens a → HaveContents tokens b → a ≡ b
 contents_one [] [] [] h k = refl
 contents_one [] (x ∷ a) b h k = absurd h
 contents_one [] [] (y ∷ b) h k = absurd k
@@ -63,7 +63,7 @@ contents_one (t ∷ ts) [] b h k = absurd h
 contents_one (t ∷ ts) (x ∷ a) [] h k = absurd k
 contents_one (t ∷ ts) (x ∷ a) (y ∷ b) h k = λ i. token_one t x y h.0 k.0 i ∷ contents_one ts a b h.1 k.1 i
 
-pub contents_symbols : (tokens : List Token) (contents : List (List ℕ)) → AreContents tokens contents → AllByRecursion IsSymbols contents
+pub contents_symbols : (tokens : List Token) (contents : List (List ℕ)) → HaveContents tokens contents → AllByRecursion IsSymbols contents
 contents_symbols [] [] h = tt
 contents_symbols [] (x ∷ a) h = absurd h
 contents_symbols (t ∷ ts) [] h = absurd h
@@ -76,11 +76,11 @@ entry_tokens (e ∷ es) zero tokens all is = let same : e ≡ tokens = cc in sub
 entry_tokens (e ∷ es) (suc n) tokens all is = entry_tokens es n tokens all.1 is
 
 -- of an entry with these tokens, what it holds is what they hold
-pub held_at : (found : Entries) (place : ℕ) (tokens contents : List Token) → slice_get found place ≡ Some tokens → HoldsAt found place contents → AreContents tokens contents
-held_at found place tokens contents is h = let both : Some h.0 ≡ Some tokens = sym h.1 ∙ is in let same : h.0 ≡ tokens = cc in subst (λ (t : List Token). AreContents t contents) same h.2
+pub held_at : (found : Entries) (place : ℕ) (tokens contents : List Token) → slice_get found place ≡ Some tokens → HoldsAt found place contents → HaveContents tokens contents
+held_at found place tokens contents is h = let both : Some h.0 ≡ Some tokens = sym h.1 ∙ is in let same : h.0 ≡ tokens = cc in subst (λ (t : List Token). HaveContents t contents) same h.2
 
 pub holds_only : (text : List ℕ) (found : Entries) (place : ℕ) (tokens : List Token) → Splits text found → slice_get found place ≡ Some tokens
-    → (contents : List Token) × HoldsOnly found place contents × AreContents tokens contents
+    → (contents : List Token) × HoldsOnly found place contents × HaveContents tokens contents
 holds_only text found place tokens splits is =
     let some = contents_some tokens (entry_tokens found place tokens (splits_into_tokens text found splits) is) in (
       some.0,

@@ -9,16 +9,16 @@ use Rattle.dns_split.specs.Splitting.{Entries}
 use Rattle.dns_split.specs.Token.{IsWord, IsQuote}
 
 -- a word holds itself, and a quoted text what stands between its double quotes
-abbrev pub IsContent : Token → List ℕ → Type 0
-IsContent token content = (IsWord token × (content ≡ token)) ⊎ ((q : IsQuote token) × (content ≡ flat_map bytes q.symbols))
+abbrev pub HasContent : Token → List ℕ → Type 0
+HasContent token content = (IsWord token × (content ≡ token)) ⊎ ((q : IsQuote token) × (content ≡ flat_map bytes q.symbols))
 
 -- what each token of an entry holds
-abbrev pub AreContents : List Token → List (List ℕ) → Type 0
-AreContents = AllZip IsContent
+abbrev pub HaveContents : List Token → List (List ℕ) → Type 0
+HaveContents = AllZip HasContent
 
 -- the entry of that number, counted from 0, has tokens that hold these texts
 abbrev pub HoldsAt : Entries → ℕ → List Token → Type 0
-HoldsAt entries place contents = (tokens : List Token) × (slice_get entries place ≡ Some tokens) × AreContents tokens contents
+HoldsAt entries place contents = (tokens : List Token) × (slice_get entries place ≡ Some tokens) × HaveContents tokens contents
 
 -- it holds these texts and no others, and each is symbols throughout
 pub record HoldsOnly (entries : Entries) (place : ℕ) (contents : List Token) : Type 0 where
@@ -30,4 +30,4 @@ pub record HoldsOnly (entries : Entries) (place : ℕ) (contents : List Token) :
 abbrev pub content_next : {S : Type 0} → (S → List Token) → S → Option (Bor (List ℕ)) → S → Type 0
 content_next texts s given t =
     MatchOption given (texts s ≡ [])
-    (λ text. (token : Token) × (texts s ≡ token ∷ texts t) × ((content : List ℕ) → IsContent token content → text.now ≡ content))
+    (λ text. (token : Token) × (texts s ≡ token ∷ texts t) × ((content : List ℕ) → HasContent token content → text.now ≡ content))

@@ -24,7 +24,7 @@ ghost use Rattle.dns_split.specs.Token.{IsToken};
 ghost use Rattle.dns_scan.specs.Join.{IsSymbols};
 ghost use Rattle.dns_scan.specs.Stands.{HasTokens};
 ghost use Rattle.dns_scan.specs.Tokens.{Token};
-ghost use Rattle.dns_iter.specs.Contents.{AreContents, HoldsAt, HoldsOnly};
+ghost use Rattle.dns_iter.specs.Contents.{HaveContents, HoldsAt, HoldsOnly};
 
 use crate::scanner::IterScanner;
 use dns_octets::{AsOctetsMut, EmptyBuilder, FreezeBuilder, FromBuilder, Truncate};
@@ -107,7 +107,7 @@ pub type EntryScanner<'a, T, Octets, E = StrError> = IterScanner<Contents<'a, T>
 
 /// A scanner over the tokens of an entry, each as it is spelled.
 ///
-/// `spaced` says whether the entry began with a blank: [`Scanner::has_space`] answers it until the
+/// `spaced` says whether the entry began with a blank: [`Scanner::has_space`] returns it until the
 /// first token is taken. Octets are allocated from `alloc`.
 pub fn entry_scanner<'a, T: TokenText, Octets: FromBuilder + Drop, E: ScannerError>(
     alloc: <Octets::Builder as EmptyBuilder>::Alloc,
@@ -117,7 +117,7 @@ pub fn entry_scanner<'a, T: TokenText, Octets: FromBuilder + Drop, E: ScannerErr
 where
     Octets::Builder: EmptyBuilder + AsOctetsMut + Truncate + FreezeBuilder<Octets = Octets> + Drop,
     ensures ready { ⟦<EntryScanner<'a, T, Octets, E> as Scanner>⟧.can_scan result }
-    ensures stands { (contents : List (List ℕ)) → AreContents (map T.text tokens.now) contents
+    ensures stands { (contents : List (List ℕ)) → HaveContents (map T.text tokens.now) contents
         → HasTokens (⟦<EntryScanner<'a, T, Octets, E> as Scanner>⟧.next_token) result contents }
     ensures spaced { ⟦<EntryScanner<'a, T, Octets, E> as Scanner>⟧.is_spaced result ≡ spaced }
 {
@@ -129,7 +129,7 @@ where
 ///
 /// Of entries that a text splits into, it stands before what the tokens of that entry hold: one
 /// list of texts, each of them symbols throughout. `split` does not tell whether an entry began
-/// with a blank, so [`Scanner::has_space`] answers no.
+/// with a blank, so [`Scanner::has_space`] is false.
 pub fn entry_at<'a, A: Allocator, Octets: FromBuilder + Drop, E: ScannerError>(
     alloc: <Octets::Builder as EmptyBuilder>::Alloc,
     entries: &'a [Vec<String<A>, A>],
@@ -154,7 +154,7 @@ where
 /// Each token holds one text, and that is symbols throughout, so that no scan refuses a bad escape
 /// of it.
 pub fn tokens_hold_one_text()
-    ensures some { (tokens : List Token) → AllByRecursion IsToken tokens → (contents : List (List ℕ)) × AreContents tokens contents }
-    ensures one { (tokens : List Token) (a b : List (List ℕ)) → AreContents tokens a → AreContents tokens b → a ≡ b }
-    ensures symbols { (tokens : List Token) (contents : List (List ℕ)) → AreContents tokens contents → AllByRecursion IsSymbols contents }
+    ensures some { (tokens : List Token) → AllByRecursion IsToken tokens → (contents : List (List ℕ)) × HaveContents tokens contents }
+    ensures one { (tokens : List Token) (a b : List (List ℕ)) → HaveContents tokens a → HaveContents tokens b → a ≡ b }
+    ensures symbols { (tokens : List Token) (contents : List (List ℕ)) → HaveContents tokens contents → AllByRecursion IsSymbols contents }
 {}

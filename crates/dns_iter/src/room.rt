@@ -4,7 +4,7 @@ ghost use Rattle.std.specs.List.{AllZip, flat_map};
 ghost use Rattle.dns_charstr.specs.Reading.{HasOctets};
 ghost use Rattle.dns_charstr.specs.Wire.{wire_of};
 ghost use Rattle.dns_scan.specs.Numbers.{by_cause};
-ghost use Rattle.dns_scan.specs.Reads.{NameReads, ReadsFirst, ReadsInOneWay};
+ghost use Rattle.dns_scan.specs.Reads.{NameReads, ReadsFirstToken, ReadsInOneWay};
 ghost use Rattle.dns_scan.specs.Stands.{HasTokens};
 ghost use Rattle.dns_scan.specs.Tokens.{Token};
 ghost use Rattle.dns_charstr.specs.Limits.{max_string};
@@ -15,7 +15,7 @@ use dns_charstr::charstr::CharStr;
 use dns_scan::laws::{character_strings_are_scanned_back, string_entries_are_scanned_back};
 use dns_scan::{Scanner, ScannerError};
 
-/// A character string that fits is answered.
+/// A character string that fits is returned.
 pub fn fitting_strings_are_answered<'a, T: TokenText, E: ScannerError, const N: usize>(
     scanner: &mut EntryScanner<'a, T, ArrayVec<u8, N>, E>,
 ) -> Result<CharStr<ArrayVec<u8, N>>, E>
@@ -27,7 +27,7 @@ pub fn fitting_strings_are_answered<'a, T: TokenText, E: ScannerError, const N: 
     character_strings_are_scanned_back(scanner)
 }
 
-/// Character strings whose wire forms fit are answered.
+/// Character strings whose wire forms fit are returned.
 pub fn fitting_entries_are_answered<'a, T: TokenText, E: ScannerError, const N: usize>(
     scanner: &mut EntryScanner<'a, T, ArrayVec<u8, N>, E>,
 ) -> Result<ArrayVec<u8, N>, E>
@@ -46,5 +46,5 @@ pub fn names_have_one_answer<'a, T: TokenText + 'a, E: ScannerError, const N: us
     ensures token { (token : Token) (q r : Result (List (List ℕ)) E)
         → ⟦<EntryScanner<'a, T, ArrayVec<u8, N>, E> as Scanner>⟧.reads_name token q → ⟦<EntryScanner<'a, T, ArrayVec<u8, N>, E> as Scanner>⟧.reads_name token r
         → by_cause E.cause q ≡ by_cause E.cause r }
-    ensures first { ReadsInOneWay (ReadsFirst (NameReads E.cause (⟦<EntryScanner<'a, T, ArrayVec<u8, N>, E> as Scanner>⟧.reads_name))) }
+    ensures first { ReadsInOneWay (ReadsFirstToken (NameReads E.cause (⟦<EntryScanner<'a, T, ArrayVec<u8, N>, E> as Scanner>⟧.reads_name))) }
 {}

@@ -94,7 +94,7 @@ where
     }
 }
 
-/// What `op` answers of a token's text, if that is ASCII.
+/// What `op` returns of a token's text, if that is ASCII.
 pub(crate) fn token_ascii<
     B: EmptyBuilder + Drop,
     E: ScannerError,

@@ -10,7 +10,7 @@ use Rattle.dns_symbol.specs.declared.symbol.Symbol.TheVariants.{Char}
 use Rattle.dns_symbol.specs.Symbol.{is_readable}
 use Rattle.dns_symbol.specs.Text.{SymbolsOf}
 use Rattle.dns_symbol.proofs.Unique.{symbols_same}
-use Rattle.dns_codec.specs.Base.{Base, encoded, IsEncoding as Known}
+use Rattle.dns_codec.specs.Base.{Base, encoded, IsEncoding}
 use Rattle.dns_codec.specs.Group.{Group, fresh}
 use Rattle.dns_codec.specs.Converting.{convert, convert_tail}
 use Rattle.dns_codec.specs.Conversions.{then_answer, converts, Agrees}
@@ -23,7 +23,7 @@ use Rattle.dns_codec.specs.declared.error.DecodeError.{DecodeError}
 use Rattle.dns_symbol.specs.Cause.{Cause, custom_text}
 use Rattle.dns_scan.specs.Tokens.{Token}
 use Rattle.dns_entry.proofs.Words.{ascii_bytes, encoded_all}
-use Rattle.dns_entry.specs.Codecs.{Codec, then_made, converted, ConvertsTo, codec_of}
+use Rattle.dns_entry.specs.Codecs.{Codec, then_made, converted_symbols, ConvertsTo, codec_of}
 
 -- the symbols of characters that stand for themselves
 abbrev pub plain_symbols : List ℕ → List Symbol
@@ -44,7 +44,7 @@ joined built (Ok o) (Err text) go same = same o
 joined built (Err text) c go same = refl
 
 -- a run over symbols, in both ways of saying it
-pub base_run : (b : Base) (xs : List Symbol) (g : Group) (s : Bool) (built : List ℕ) → converted (codec_of b) (g, s) built xs None ≡ onto built (converts (convert b) (convert_tail b) g s xs)
+pub base_run : (b : Base) (xs : List Symbol) (g : Group) (s : Bool) (built : List ℕ) → converted_symbols (codec_of b) (g, s) built xs None ≡ onto built (converts (convert b) (convert_tail b) g s xs)
 base_run b [] g s built = ended built _
 base_run b (x ∷ xs) g s built = joined built _ _ _ (λ o. base_run b xs (convert b g s x).group (convert b g s x).failed (built ++ o))
 
@@ -64,7 +64,7 @@ from_agreement b text octets refusal (Err reason) agrees is = cc
 abbrev pub is_plain : ℕ → Bool
 is_plain c = nat_lt c 128 && not (c == 92)
 
-pub plain_alphabet : (b : Base) → Known b → list_all is_plain b.alphabet ≡ true
+pub plain_alphabet : (b : Base) → IsEncoding b → list_all is_plain b.alphabet ≡ true
 plain_alphabet b (inl is) = ap (λ (x : Base). list_all is_plain x.alphabet) is
 plain_alphabet b (inr (inl is)) = ap (λ (x : Base). list_all is_plain x.alphabet) is
 plain_alphabet b (inr (inr is)) = ap (λ (x : Base). list_all is_plain x.alphabet) is
@@ -89,19 +89,19 @@ pub plain_read : (text : List ℕ) → list_all is_plain text ≡ true → Symbo
 plain_read text all = record { rest = []; readable = plain_readable text all; spelled = ascii_bytes is_plain plain_low text all ∙ sym (append-nil _); ends = refl }
 
 -- what a plain text converts to is what its characters give
-pub converts_plain : (codec : Codec) (text : Token) (r : Result (List ℕ) Cause) → list_all is_plain text ≡ true → ConvertsTo codec text r → converted codec codec.start [] (plain_symbols text) None ≡ r
+pub converts_plain : (codec : Codec) (text : Token) (r : Result (List ℕ) Cause) → list_all is_plain text ≡ true → ConvertsTo codec text r → converted_symbols codec codec.start [] (plain_symbols text) None ≡ r
 converts_plain codec text r all h =
     let same = symbols_same text h.0 (plain_symbols text) h.1 None h.2 (plain_read text all) in
-    (λ i. converted codec codec.start [] (sym same.0 i) (sym same.1 i)) ∙ h.3
+    (λ i. converted_symbols codec codec.start [] (sym same.0 i) (sym same.1 i)) ∙ h.3
 
 -- a text of the grammar gives its octets, and only such a text does
-module _ (b : Base) (known : Known b) where
-  pub base_text : (text octets : List ℕ) → Decodes b text octets → converted (codec_of b) (fresh, false) [] (plain_symbols text) None ≡ Ok octets
+module _ (b : Base) (known : IsEncoding b) where
+  pub base_text : (text octets : List ℕ) → Decodes b text octets → converted_symbols (codec_of b) (fresh, false) [] (plain_symbols text) None ≡ Ok octets
   base_text text octets d =
       let size = length text + 3 + length octets in
       base_run b (plain_symbols text) fresh false [] ∙ by_agreement b text octets (refusal b size text) _ (once b known text) d
       (reads b known text octets size d (omega arith)).0 (agrees b known text size (omega arith))
 
-  pub base_only : (text octets : List ℕ) → converted (codec_of b) (fresh, false) [] (plain_symbols text) None ≡ Ok octets → Decodes b text octets
+  pub base_only : (text octets : List ℕ) → converted_symbols (codec_of b) (fresh, false) [] (plain_symbols text) None ≡ Ok octets → Decodes b text octets
   base_only text octets e =
       from_agreement b text octets (refusal b (length text + 3) text) _ (agrees b known text (length text + 3) (omega arith)) (sym (base_run b (plain_symbols text) fresh false []) ∙ e)

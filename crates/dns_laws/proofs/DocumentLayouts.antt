@@ -7,17 +7,17 @@ use lib.Utf8.{encode}
 use Rattle.dns_symbol.specs.Characters.{tab, line_feed, space, open_parenthesis, close_parenthesis, semicolon}
 use Rattle.dns_split.proofs.Tight.{tight_all}
 use Rattle.dns_split.specs.Splitting.{BeginsNoBlank, is_tight, is_outside, Splits, may_precede, are_lexemes, nests, with_token, entries, Entries}
-use Rattle.dns_split.specs.Lexeme.{Lexeme, Blank, Line, Open, Close, Note, Word, Quote, bytes}
-use Rattle.dns_zone.specs.Layout.{Step, token, begin, end, comment, newline, layout, pieces, depth, is_line_start, is_block_start, simple_piece, tabbed_piece, multiline_piece, is_shown}
+use Rattle.dns_split.specs.Lexeme.{Lexeme, Blank, Line, Open, Close, Note, Word, Quote, lexeme_bytes}
+use Rattle.dns_zone.specs.Layout.{Step, token, begin, end, comment, newline, layout, text_of_steps, depth, is_line_start, is_block_start, simple_piece, tabbed_piece, multiline_piece, is_shown}
 use Rattle.dns_zone.specs.Layout.{is_row_start, is_word, since, ends_row, indent}
-use Rattle.dns_zone.specs.Documents.{IsComment, IsProper, IsWellFormed}
+use Rattle.dns_zone.specs.Documents.{IsCommentText, IsProper, IsWellFormed}
 use Rattle.dns_zone.specs.Nesting.{is_nested, from_none_test}
 use Rattle.dns_zone.proofs.Nested.{nested_end, nested_in, nested_newline, nested_out}
 use Rattle.dns_laws.specs.Entries.{document_entries}
 use Rattle.dns_split.proofs.Tokens.{is_token_lexeme, token_one}
 use Rattle.dns_split.specs.Token.{IsToken}
 use Rattle.dns_split.specs.Viable.{IsBad}
-use Rattle.dns_split.specs.Answer.{Answers}
+use Rattle.dns_split.specs.Answer.{IsSplitOf}
 use Rattle.dns_split.specs.declared.error.SplitError.{SplitError}
 use Rattle.dns_split.specs.declared.error.SplitError.TheVariants.{BadText, ShortBuf}
 use Rattle.dns_laws.specs.Refusal.{IsRefusal}
@@ -31,7 +31,7 @@ use Rattle.dns_zone.specs.declared.zonefile_fmt.DisplayKind.TheVariants.{Simple,
 -- a lexeme list of a text, at a depth, with these entries
 pub record Laid (d : ℕ) (text : List ℕ) (e : Entries) : Type 0 where
   pub ls : List Lexeme
-  pub spelled : flat_map bytes ls ≡ text
+  pub spelled : flat_map lexeme_bytes ls ≡ text
   pub valid : are_lexemes ls ≡ true
   pub nested : nests d ls ≡ true
   pub cut : entries d ls ≡ e
@@ -66,7 +66,7 @@ token_nests d Open ls o = cc
 token_nests d Close ls o = cc
 token_nests d (Note _) ls o = cc
 
-token_entries : (d : ℕ) (l : Lexeme) (ls : List Lexeme) → is_token_lexeme l ≡ true → entries d (l ∷ ls) ≡ with_token (bytes l) (entries d ls)
+token_entries : (d : ℕ) (l : Lexeme) (ls : List Lexeme) → is_token_lexeme l ≡ true → entries d (l ∷ ls) ≡ with_token (lexeme_bytes l) (entries d ls)
 token_entries d (Word s ss) ls o = refl
 token_entries d (Quote ss) ls o = refl
 token_entries d (Blank _) ls o = cc
@@ -79,7 +79,7 @@ token_entries d (Note _) ls o = cc
 with_one : (d : ℕ) (t text : List ℕ) (e : Entries) → IsToken t → (l : Laid d text e) → no_word l.ls ≡ true → Laid d (t ++ text) (with_token t e)
 with_one d t text e token_is l n = let i = token_one token_is in record {
   ls = i.lexeme ∷ l.ls;
-  spelled = ap (λ x. x ++ flat_map bytes l.ls) i.spelled ∙ ap (λ x. t ++ x) l.spelled;
+  spelled = ap (λ x. x ++ flat_map lexeme_bytes l.ls) i.spelled ∙ ap (λ x. t ++ x) l.spelled;
   valid = and_from _ _ (and_from _ _ i.valid (token_follows i.lexeme l.ls i.is_one n)) l.valid;
   nested = token_nests d i.lexeme l.ls i.is_one ∙ l.nested;
   cut = token_entries d i.lexeme l.ls i.is_one ∙ ap (λ x. with_token x (entries d l.ls)) i.spelled ∙ ap (with_token t) l.cut;
@@ -145,19 +145,19 @@ flat_token false false d t text e i r = (
   token_tight false d (token_one i).lexeme r.0.ls (token_one i).is_one ∙ r.2,
 )
 
-flat_laid : (sep : List Step → Bool) (steps past : List Step) → AllByRecursion IsProper steps → LaidFrom (is_line_start past) 0 (pieces (flat sep) past steps) (document_entries steps)
+flat_laid : (sep : List Step → Bool) (steps past : List Step) → AllByRecursion IsProper steps → LaidFrom (is_line_start past) 0 (text_of_steps (flat sep) past steps) (document_entries steps)
 unfolding with_line
 flat_laid sep [] past p = (record { ls = []; spelled = refl; valid = refl; nested = refl; cut = refl }, λ _. refl, refl)
-flat_laid sep (token t ∷ steps) past p = flat_token (is_line_start past) (sep past) 0 t (pieces (flat sep) (token t ∷ past) steps) (document_entries steps) p.0
+flat_laid sep (token t ∷ steps) past p = flat_token (is_line_start past) (sep past) 0 t (text_of_steps (flat sep) (token t ∷ past) steps) (document_entries steps) p.0
     (flat_laid sep steps (token t ∷ past) p.1)
 flat_laid sep (newline ∷ steps) past p = let r = flat_laid sep steps (newline ∷ past) p.1 in (with_line _ _ r.0, λ _. refl, r.2)
 flat_laid sep (begin ∷ steps) past p = flat_laid sep steps (begin ∷ past) p.1
 flat_laid sep (end ∷ steps) past p = flat_laid sep steps (end ∷ past) p.1
 flat_laid sep (comment t ∷ steps) past p = flat_laid sep steps (comment t ∷ past) p.1
 
-layout_same : (p q : List Step → Step → List ℕ) → ((past : List Step) (step : Step) → p past step ≡ q past step) → (steps past : List Step) → pieces p past steps ≡ pieces q past steps
+layout_same : (p q : List Step → Step → List ℕ) → ((past : List Step) (step : Step) → p past step ≡ q past step) → (steps past : List Step) → text_of_steps p past steps ≡ text_of_steps q past steps
 layout_same p q h [] past = refl
-layout_same p q h (step ∷ steps) past = ap (λ x. x ++ pieces p (step ∷ past) steps) (h past step) ∙ ap (λ x. q past step ++ x) (layout_same p q h steps (step ∷ past))
+layout_same p q h (step ∷ steps) past = ap (λ x. x ++ text_of_steps p (step ∷ past) steps) (h past step) ∙ ap (λ x. q past step ++ x) (layout_same p q h steps (step ∷ past))
 
 simple_flat : (past : List Step) (step : Step) → flat (λ _. false) past step ≡ simple_piece past step
 simple_flat past (token t) = refl
@@ -208,11 +208,11 @@ blanks_tight d zero text e l = refl
 blanks_tight d (suc n) text e l = blanks_tight d n text e l
 
 -- a shown comment before, in parentheses
-with_note : (d : ℕ) (t text all : List ℕ) (e : Entries) → IsComment t → t ++ line_feed ∷ text ≡ all → Laid (suc d) text e → Laid (suc d) (tab ∷ semicolon ∷ space ∷ all) e
+with_note : (d : ℕ) (t text all : List ℕ) (e : Entries) → IsCommentText t → t ++ line_feed ∷ text ≡ all → Laid (suc d) text e → Laid (suc d) (tab ∷ semicolon ∷ space ∷ all) e
 unfolding encode
 with_note d t text all e i same l = record {
   ls = Blank true ∷ Note (space ∷ i.characters) ∷ Line false ∷ l.ls;
-  spelled = ap (λ x. tab ∷ semicolon ∷ space ∷ (x ++ line_feed ∷ flat_map bytes l.ls)) i.spelled ∙ ap (λ x. tab ∷ semicolon ∷ space ∷ (t ++ line_feed ∷ x)) l.spelled
+  spelled = ap (λ x. tab ∷ semicolon ∷ space ∷ (x ++ line_feed ∷ flat_map lexeme_bytes l.ls)) i.spelled ∙ ap (λ x. tab ∷ semicolon ∷ space ∷ (t ++ line_feed ∷ x)) l.spelled
       ∙ ap (λ x. tab ∷ semicolon ∷ space ∷ x) same;
   valid = and_from _ _ (and_from _ _ i.plain refl) l.valid;
   nested = l.nested;
@@ -235,7 +235,7 @@ inner : (start : Bool) (d : ℕ) (cs : List ℕ) (ls : List Lexeme) → is_tight
 inner true d cs ls h = h
 inner false d cs ls h = h
 
-maybe_note : (shown start : Bool) (n d : ℕ) (t text : List ℕ) (e : Entries) → IsComment t → (shown ≡ true → 0 < d) → LaidFrom (shown || start) d text e
+maybe_note : (shown start : Bool) (n d : ℕ) (t text : List ℕ) (e : Entries) → IsCommentText t → (shown ≡ true → 0 < d) → LaidFrom (shown || start) d text e
     → LaidFrom start d ((if shown then tab ∷ semicolon ∷ space ∷ (t ++ line_feed ∷ replicate n space) else []) ++ text) e
 unfolding with_note
 maybe_note false start n d t text e i inside r = r
@@ -255,24 +255,24 @@ start_after_comment past t = by (is_shown past) (since ends_row past)
     by false row = refl
 
 multiline_laid : (steps past : List Step) (d : ℕ) → is_nested d steps ≡ true → AllByRecursion IsProper steps → (is_shown past ≡ true → 0 < d)
-    → LaidFrom (is_row_start past) d (pieces multiline_piece past steps) (document_entries steps)
+    → LaidFrom (is_row_start past) d (text_of_steps multiline_piece past steps) (document_entries steps)
 unfolding with_line with_opening with_closing
 multiline_laid [] past zero w p s = (record { ls = []; spelled = refl; valid = refl; nested = refl; cut = refl }, λ _. refl, refl)
 multiline_laid [] past (suc d) w p s = let none = from_none_test (suc d) w in absurd (omega (arith, none))
-multiline_laid (token t ∷ steps) past d w p s = spaced_word (is_row_start past) d t (pieces multiline_piece (token t ∷ past) steps) (document_entries steps) p.0
+multiline_laid (token t ∷ steps) past d w p s = spaced_word (is_row_start past) d t (text_of_steps multiline_piece (token t ∷ past) steps) (document_entries steps) p.0
     (multiline_laid steps (token t ∷ past) d w p.1 s)
 multiline_laid (newline ∷ steps) past zero w p s = let r = multiline_laid steps (newline ∷ past) zero w p.1 s in (with_line _ _ r.0, λ _. refl, r.2)
 multiline_laid (newline ∷ steps) past (suc d) w p s = let none = nested_newline (suc d) newline steps w refl in absurd (omega (arith, none))
 multiline_laid (begin ∷ steps) past d w p s =
     let r = multiline_laid steps (begin ∷ past) (suc d) (nested_in d steps w) p.1 (λ _. omega arith) in
-    spaced_mark (is_row_start past) d open_parenthesis (pieces multiline_piece (begin ∷ past) steps) (document_entries steps) (with_opening d _ _ r.0) refl (λ _. r.2)
+    spaced_mark (is_row_start past) d open_parenthesis (text_of_steps multiline_piece (begin ∷ past) steps) (document_entries steps) (with_opening d _ _ r.0) refl (λ _. r.2)
 multiline_laid (end ∷ steps) past zero w p s = let some = nested_end zero end steps w refl in absurd (omega (arith, some))
 multiline_laid (end ∷ steps) past (suc d) w p s =
     let r = multiline_laid steps (end ∷ past) d (nested_out d steps w) p.1 (λ h. cc) in
-    spaced_mark (is_row_start past) (suc d) close_parenthesis (pieces multiline_piece (end ∷ past) steps) (document_entries steps) (with_closing d _ _ r.0) refl (λ _. r.2)
-multiline_laid (comment t ∷ steps) past d w p s = maybe_note (is_shown past) (is_row_start past) (indent past) d t (pieces multiline_piece (comment t ∷ past) steps)
+    spaced_mark (is_row_start past) (suc d) close_parenthesis (text_of_steps multiline_piece (end ∷ past) steps) (document_entries steps) (with_closing d _ _ r.0) refl (λ _. r.2)
+multiline_laid (comment t ∷ steps) past d w p s = maybe_note (is_shown past) (is_row_start past) (indent past) d t (text_of_steps multiline_piece (comment t ∷ past) steps)
     (document_entries steps) p.0 s
-    (subst (λ b. LaidFrom b d (pieces multiline_piece (comment t ∷ past) steps) (document_entries steps)) (start_after_comment past t) (multiline_laid steps (comment t ∷ past) d w p.1 s))
+    (subst (λ b. LaidFrom b d (text_of_steps multiline_piece (comment t ∷ past) steps) (document_entries steps)) (start_after_comment past t) (multiline_laid steps (comment t ∷ past) d w p.1 s))
 
 pub multiline_splits : (steps : List Step) → IsWellFormed steps → Splits (layout multiline_piece steps) (document_entries steps)
 multiline_splits steps w = laid_splits _ _ (multiline_laid steps [] 0 w.0 w.1 (λ h. cc)).0
@@ -311,6 +311,6 @@ never_bad kind steps text i is w bad = bad.splits_not (document_entries steps) (
 
 -- what splitting it can refuse
 pub refusal : (A : Type 0) (kind : DisplayKind) (steps : List Step) (text : List ℕ) → text ≡ printed kind steps → IsWellFormed steps → (e : SplitError)
-    → Answers {A = A} (Err e) text → IsRefusal steps (Split e)
+    → IsSplitOf {A = A} (Err e) text → IsRefusal steps (Split e)
 refusal A kind steps text is w ShortBuf h = tt
 refusal A kind steps text is w (BadText i) h = absurd (never_bad kind steps text i is w h)

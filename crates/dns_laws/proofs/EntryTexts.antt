@@ -15,7 +15,7 @@ use Rattle.dns_scan.specs.Join.{IsJoin, IsSymbols}
 use Rattle.dns_scan.specs.Octets.{GivesWhere}
 use Rattle.dns_scan.specs.Tokens.{Token}
 use Rattle.dns_scan.proofs.Joined.{whole_join}
-use Rattle.dns_entry.specs.Codecs.{Codec, converted, AnswersConverted, IsEncoding}
+use Rattle.dns_entry.specs.Codecs.{Codec, converted_symbols, AnswersConverted, IsEncodingOf}
 use Rattle.dns_laws.proofs.Converted.{is_plain, plain_read, plain_symbols, encoded_plain}
 use Rattle.dns_laws.proofs.Spelled.{gives_value, gives_only}
 
@@ -33,19 +33,19 @@ if_ok P (Err e) a go = tt
 -- an entry that is answered as its join
 module _ (codec : Codec) (same_step : (held : codec.Held) (x : Symbol) (c : ℕ) → char_in x ≡ Some c → codec.step held x ≡ codec.step held (Char c))
     (needs_char : (held : codec.Held) (x : Symbol) (o : List ℕ) → char_in x ≡ None → (codec.step held x).0 ≡ Ok o → ⊥)
-    (b : Base) (texts : (text octets : List ℕ) → Decodes b text octets → converted codec codec.start [] (plain_symbols text) None ≡ Ok octets)
-    (only : (text octets : List ℕ) → converted codec codec.start [] (plain_symbols text) None ≡ Ok octets → Decodes b text octets)
+    (b : Base) (texts : (text octets : List ℕ) → Decodes b text octets → converted_symbols codec codec.start [] (plain_symbols text) None ≡ Ok octets)
+    (only : (text octets : List ℕ) → converted_symbols codec codec.start [] (plain_symbols text) None ≡ Ok octets → Decodes b text octets)
     {O E : Type 0} (cause : E → Cause) (value : O → List ℕ) (room : Room) (r : Result O E) (tokens : List Token)
     (answer : (text : List ℕ) → IsJoin tokens text → AnswersConverted codec cause value room text r) where
-  pub entry_whole : (octets : List ℕ) → AllByRecursion IsSymbols tokens → IsEncoding b (concat tokens) octets → GivesWhere cause value room octets r
+  pub entry_whole : (octets : List ℕ) → AllByRecursion IsSymbols tokens → IsEncodingOf b (concat tokens) octets → GivesWhere cause value room octets r
   entry_whole octets all is =
       gives_value codec same_step needs_char b texts only cause value room (concat tokens) octets r is (answer (concat tokens) (whole_join tokens all))
 
-  pub entry_back : (octets : List ℕ) → list_all is_plain b.alphabet ≡ true → IsEncoding b (encoded b octets) octets → concat tokens ≡ encoded b octets → GivesWhere cause value room octets r
+  pub entry_back : (octets : List ℕ) → list_all is_plain b.alphabet ≡ true → IsEncodingOf b (encoded b octets) octets → concat tokens ≡ encoded b octets → GivesWhere cause value room octets r
   entry_back octets plain encoding is =
-      entry_whole octets (plain_parts tokens (ap (list_all is_plain) is ∙ encoded_plain b octets plain)) (subst (λ (t : List ℕ). IsEncoding b t octets) (sym is) encoding)
+      entry_whole octets (plain_parts tokens (ap (list_all is_plain) is ∙ encoded_plain b octets plain)) (subst (λ (t : List ℕ). IsEncodingOf b t octets) (sym is) encoding)
 
-  pub entry_only : IfOk r (λ _. AllByRecursion IsSymbols tokens) → IfOk r (λ x. IsEncoding b (concat tokens) (value x))
+  pub entry_only : IfOk r (λ _. AllByRecursion IsSymbols tokens) → IfOk r (λ x. IsEncodingOf b (concat tokens) (value x))
   entry_only symbols =
-      if_ok (λ x. IsEncoding b (concat tokens) (value x)) r symbols
+      if_ok (λ x. IsEncodingOf b (concat tokens) (value x)) r symbols
       (λ all. gives_only codec same_step needs_char b texts only cause value room (concat tokens) r (answer (concat tokens) (whole_join tokens all)))

@@ -9,13 +9,13 @@ use Rattle.dns_symbol.specs.Cause.{Cause, short_buf}
 use Rattle.dns_symbol.specs.Symbol.{char_of}
 use Rattle.dns_symbol.specs.Text.{SymbolsOf}
 use Rattle.dns_symbol.proofs.Unique.{symbols_same}
-use Rattle.dns_codec.specs.Base.{Base, IsEncoding as Known}
+use Rattle.dns_codec.specs.Base.{Base, IsEncoding}
 use Rattle.dns_codec.specs.Grammar.{Decodes}
 use Rattle.dns_codec.specs.Group.{fresh}
 use Rattle.dns_codec.proofs.Each.{once}
 use Rattle.dns_codec.proofs.Numbers.{numbers}
 use Rattle.dns_scan.specs.Tokens.{Token}
-use Rattle.dns_entry.specs.Codecs.{converted, AnswersConverted, ConvertsTo, codec_of}
+use Rattle.dns_entry.specs.Codecs.{converted_symbols, AnswersConverted, ConvertsTo, codec_of}
 use Rattle.dns_laws.specs.Encodings.{AnswersEncoding, HasGroups, IsRefusedAfter, NoEncoding, ReadsEncoding}
 use Rattle.dns_laws.proofs.GrammarReads.{reads_all}
 
@@ -46,7 +46,7 @@ not_err : {V E : Type 0} (r : Result V E) → IsOk r → IsErr r → ⊥
 not_err (Ok v) ok err = cc
 not_err (Err e) ok err = cc
 
-module _ (b : Base) (known : Known b) where
+module _ (b : Base) (known : IsEncoding b) where
   groups_once : (text one other : List ℕ) → HasGroups b text one → HasGroups b text other → one ≡ other
   groups_once text one other p q =
       let place = (numbers b known).place in
@@ -107,10 +107,10 @@ module _ (b : Base) (known : Known b) where
         (λ e. ((found ≡ Err (cause e)) × (length made ≤ room.capacity)) ⊎ ((cause e ≡ short_buf) × (room.fits < length made)))
 
     converts_same : (symbols : List Symbol) (error : Option SymbolCharsError) (r : Result (List ℕ) Cause) → SymbolsOf token symbols error → ConvertsTo (codec_of b) token r
-        → converted (codec_of b) (fresh, false) [] symbols error ≡ r
+        → converted_symbols (codec_of b) (fresh, false) [] symbols error ≡ r
     converts_same symbols error r read h =
         let same = symbols_same token symbols h.0 error h.1 read h.2 in
-        (λ i. converted (codec_of b) (fresh, false) [] (same.0 i) (same.1 i)) ∙ h.3
+        (λ i. converted_symbols (codec_of b) (fresh, false) [] (same.0 i) (same.1 i)) ∙ h.3
 
     pub by_grammar : (r : Result O E) → AnswersConverted (codec_of b) cause value room token r → AnswersEncoding b cause value room token r
     by_grammar r h =
@@ -122,14 +122,14 @@ module _ (b : Base) (known : Known b) where
           error = error;
           read = made.2;
           made = h.0;
-          found = converted (codec_of b) (fresh, false) [] symbols error;
+          found = converted_symbols (codec_of b) (fresh, false) [] symbols error;
           reads = rw (made.3) (reads_all b known symbols error);
           answer = by r h.2;
         }
       where
         by : (r : Result O E) → MatchResult r (λ x. ConvertsTo (codec_of b) token (Ok (value x)) × (length h.0 ≤ room.capacity))
             (λ e. (ConvertsTo (codec_of b) token (Err (cause e)) × (length h.0 ≤ room.capacity)) ⊎ ((cause e ≡ short_buf) × (room.fits < length h.0)))
-            → Found h.0 (converted (codec_of b) (fresh, false) [] h.1.0 h.1.1) r
+            → Found h.0 (converted_symbols (codec_of b) (fresh, false) [] h.1.0 h.1.1) r
         by (Ok x) k = (converts_same h.1.0 h.1.1 (Ok (value x)) h.1.2 k.0, k.1)
         by (Err e) (inl k) = inl (converts_same h.1.0 h.1.1 (Err (cause e)) h.1.2 k.0, k.1)
         by (Err e) (inr k) = inr k
@@ -139,7 +139,7 @@ module _ (b : Base) (known : Known b) where
         let same = reads_once h.symbols h.error h.made _ h.found _ h.reads (reads_all b known h.symbols h.error) in
         (h.made, (h.symbols, h.error, h.read, same.0), by r same.1 h.answer)
       where
-        by : (r : Result O E) → h.found ≡ converted (codec_of b) (fresh, false) [] h.symbols h.error → Found h.made h.found r
+        by : (r : Result O E) → h.found ≡ converted_symbols (codec_of b) (fresh, false) [] h.symbols h.error → Found h.made h.found r
             → MatchResult r (λ x. ConvertsTo (codec_of b) token (Ok (value x)) × (length h.made ≤ room.capacity))
             (λ e. (ConvertsTo (codec_of b) token (Err (cause e)) × (length h.made ≤ room.capacity)) ⊎ ((cause e ≡ short_buf) × (room.fits < length h.made)))
         by (Ok x) is k = ((h.symbols, h.error, h.read, sym is ∙ k.0), k.1)

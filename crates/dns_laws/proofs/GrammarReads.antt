@@ -9,10 +9,10 @@ use Rattle.dns_symbol.specs.declared.error.SymbolCharsError.{SymbolCharsError}
 use Rattle.dns_symbol.specs.Cause.{Cause, custom_text}
 use Rattle.dns_symbol.specs.Symbol.{char_of, chars_error_text}
 use Rattle.dns_codec.specs.Bits.{whole}
-use Rattle.dns_codec.specs.Base.{Base, value, IsEncoding as Known}
+use Rattle.dns_codec.specs.Base.{Base, value, IsEncoding}
 use Rattle.dns_codec.specs.Converting.{char_in, convert_by, convert_char, trailing_step}
 use Rattle.dns_codec.specs.Grammar.{Decodes}
-use Rattle.dns_codec.specs.Group.{Group, Step, fresh, step, step_from, may_end_in}
+use Rattle.dns_codec.specs.Group.{Group, CharacterStep, fresh, character_step, step_from, may_end_in}
 use Rattle.dns_codec.specs.declared.error.DecodeError.{DecodeError}
 use Rattle.dns_codec.specs.declared.error.DecodeError.TheVariants.{IllegalChar, TrailingInput, ShortInput, ShortBuf}
 use Rattle.dns_codec.specs.declared.base64.Padding.{Padding}
@@ -20,7 +20,7 @@ use Rattle.dns_codec.specs.declared.base64.Padding.TheVariants.{Absent, One, Com
 use Rattle.dns_codec.proofs.Causes.{cases_error}
 use Rattle.dns_codec.proofs.Ends.{ended}
 use Rattle.dns_codec.proofs.Steps.{IsRead, read_none, stepped}
-use Rattle.dns_entry.specs.Codecs.{then_made, then_more, converted, made_of, codec_of}
+use Rattle.dns_entry.specs.Codecs.{then_made, then_more, converted_symbols, made_of, codec_of}
 use Rattle.dns_laws.specs.Encodings.{BeginsEncoding, IsRefusedAfter, NoEncoding, ReadsEncoding}
 use Rattle.dns_laws.proofs.GrammarStands.{begins, blocked, closed_padded, groups, open_unpadded, unended}
 use Rattle.dns_laws.proofs.Spelled.{cases_char, char_there, no_char}
@@ -64,7 +64,7 @@ longer_on (f ∷ fs) xs (l ∷ ls) others x e less =
 
 -- ---- refusals of a converter
 
-illegal_by : (b : Base) (g : Group) (s : Step) (e : DecodeError) → (g.padding ≡ Complete → ⊥) → (convert_by b g s (Some e)).answer ≡ Err b.illegal
+illegal_by : (b : Base) (g : Group) (s : CharacterStep) (e : DecodeError) → (g.padding ≡ Complete → ⊥) → (convert_by b g s (Some e)).answer ≡ Err b.illegal
 illegal_by b g s (IllegalChar c) open_one = refl
 illegal_by b g s ShortInput open_one = refl
 illegal_by b g s ShortBuf open_one = refl
@@ -84,7 +84,7 @@ is_err_char x e is = rw is refl
 not_both : (x : Symbol) (c : ℕ) (e : BadSymbol) → char_of x ≡ Ok c → char_of x ≡ Err e → ⊥
 not_both x c e is bad = let both : Ok c ≡ Err e = sym is ∙ bad in cc both
 
-module _ (b : Base) (known : Known b) where
+module _ (b : Base) (known : IsEncoding b) where
   -- a converter that holds these digits
   abbrev held : List ℕ → Padding → Group × Bool
   held ps p = (record { digits = ps; padding = p }, false)
@@ -99,12 +99,12 @@ module _ (b : Base) (known : Known b) where
 
   -- what is said of symbols after those that were taken
   abbrev Read : List Symbol → List Symbol → Option SymbolCharsError → List ℕ → List ℕ → Padding → Type 0
-  Read front xs error os ps p = ReadsEncoding b (front ++ xs) error (os ++ made_of (codec_of b) (held ps p) xs error) (converted (codec_of b) (held ps p) os xs error)
+  Read front xs error os ps p = ReadsEncoding b (front ++ xs) error (os ++ made_of (codec_of b) (held ps p) xs error) (converted_symbols (codec_of b) (held ps p) os xs error)
 
   -- the same, of what a step made
   abbrev ReadStep : List Symbol → Symbol → List Symbol → Option SymbolCharsError → List ℕ → Result (List ℕ) (List ℕ) × (Group × Bool) → Type 0
   ReadStep front x xs error os s =
-      ReadsEncoding b (front ++ x ∷ xs) error (os ++ then_more s.0 (made_of (codec_of b) s.1 xs error)) (then_made s.0 (λ octets. converted (codec_of b) s.1 (os ++ octets) xs error))
+      ReadsEncoding b (front ++ x ∷ xs) error (os ++ then_more s.0 (made_of (codec_of b) s.1 xs error)) (then_made s.0 (λ octets. converted_symbols (codec_of b) s.1 (os ++ octets) xs error))
 
   -- what was taken, and what follows it
   module _ (front : List Symbol) (text os ps : List ℕ) (p : Padding) (at : IsRead b text os ps p) (chars : map char_of front ≡ map Ok text) (error : Option SymbolCharsError) where
@@ -160,7 +160,7 @@ module _ (b : Base) (known : Known b) where
     refused_char : (x : Symbol) (xs : List Symbol) (c : ℕ) (e : DecodeError) → char_of x ≡ Ok c → (step_from b ps p c (value b c)).error ≡ Some e → ReadStep front x xs error os (stepped_by ps p (Some c))
     refused_char x xs c e is refused = by p refl
       where
-        s : Step
+        s : CharacterStep
         s = step_from b ps p c (value b c)
 
         block : (d : ℕ) → char_of x ≡ Ok d → (rest octets : List ℕ) → Decodes b (text ++ d ∷ rest) octets → ⊥
@@ -171,7 +171,7 @@ module _ (b : Base) (known : Known b) where
         illegal : (p ≡ Complete → ⊥) → ReadStep front x xs error os (stepped_by ps p (Some c))
         illegal open_one =
             let g : Group = record { digits = ps; padding = p } in
-            let answer : (convert_char b g (Some c)).answer ≡ Err b.illegal = rw refused (illegal_by b g (step b g c) e open_one) in
+            let answer : (convert_char b g (Some c)).answer ≡ Err b.illegal = rw refused (illegal_by b g (character_step b g c) e open_one) in
             refused_step x xs _ _ b.illegal answer block (inr (λ padded. absurd (open_unpadded b known text os ps p open_one at padded), refl))
 
         by : (q : Padding) → p ≡ q → ReadStep front x xs error os (stepped_by ps p (Some c))
@@ -201,7 +201,7 @@ module _ (b : Base) (known : Known b) where
     | inr bad ↦ subst (λ (s : Result (List ℕ) (List ℕ) × (Group × Bool)). ReadStep front x xs error os s) (sym (step_is ps p x None (no_char x bad.0 bad.1))) (refused_symbol front text os ps p at chars error x xs bad.0 bad.1)
     | inl good ↦
         let c = good.0 in
-        let s : Step = step_from b ps p c (value b c) in
+        let s : CharacterStep = step_from b ps p c (value b c) in
         let g : Group = record { digits = ps; padding = p } in
         subst (λ (s : Result (List ℕ) (List ℕ) × (Group × Bool)). ReadStep front x xs error os s) (sym (step_is ps p x (Some c) (char_there x c good.1)))
         (elim (cases_error s.error) [
@@ -215,5 +215,5 @@ module _ (b : Base) (known : Known b) where
 
   -- of all symbols
   pub reads_all : (symbols : List Symbol) (error : Option SymbolCharsError)
-      → ReadsEncoding b symbols error (made_of (codec_of b) (fresh, false) symbols error) (converted (codec_of b) (fresh, false) [] symbols error)
+      → ReadsEncoding b symbols error (made_of (codec_of b) (fresh, false) symbols error) (converted_symbols (codec_of b) (fresh, false) [] symbols error)
   reads_all symbols error = run symbols [] [] [] [] Absent error (read_none b known) refl

@@ -3,10 +3,10 @@ use Rattle.std.proofs.Common.{ℕ, zero, suc, ◌≡◌, ◌<◌, ◌+◌, ◌-�
 use Rattle.std.proofs.Common.{refl, sym, ap, subst, ◌∙◌, arith, append_assoc, append-nil, length-append, inl, inr, Option, Some, None}
 use Rattle.std.proofs.lemmas.List.{length-replicate}
 use Rattle.dns_codec.specs.Bits.{whole}
-use Rattle.dns_codec.specs.Base.{Base, base16, base32hex, base64, value, IsEncoding as Known}
+use Rattle.dns_codec.specs.Base.{Base, base16, base32hex, base64, value, IsEncoding}
 use Rattle.dns_codec.specs.Errors.{or_else}
-use Rattle.dns_codec.specs.Grammar.{Decodes, HaveValues, may_end}
-use Rattle.dns_codec.specs.Group.{Step, step_after_one, step_from, may_end_in}
+use Rattle.dns_codec.specs.Grammar.{Decodes, HaveValues, may_end_after}
+use Rattle.dns_codec.specs.Group.{CharacterStep, step_after_one, step_from, may_end_in}
 use Rattle.dns_codec.specs.Outcome.{short_buf_if, char_error, refusal}
 use Rattle.dns_codec.specs.declared.error.DecodeError.{DecodeError}
 use Rattle.dns_codec.specs.declared.error.DecodeError.TheVariants.{ShortInput}
@@ -25,7 +25,7 @@ use Rattle.dns_laws.specs.Encodings.{BeginsEncoding, HasGroups, IsPaddedText}
 -- ---- characters with values
 
 -- a letter of each alphabet
-letter : (b : Base) → Known b → (v : ℕ) × (value b 65 ≡ Some v)
+letter : (b : Base) → IsEncoding b → (v : ℕ) × (value b 65 ≡ Some v)
 unfolding value
 letter b (inl is) = subst (λ x. (v : ℕ) × (value x 65 ≡ Some v)) (sym is) (10, refl)
 letter b (inr (inl is)) = subst (λ x. (v : ℕ) × (value x 65 ≡ Some v)) (sym is) (10, refl)
@@ -48,16 +48,16 @@ many b (suc n) c v is = (is, many b n c v is)
 
 -- ---- whole groups are a text
 
-group_ends16 : (n : ℕ) → n % 2 ≡ 0 → may_end base16 n ≡ true
+group_ends16 : (n : ℕ) → n % 2 ≡ 0 → may_end_after base16 n ≡ true
 group_ends16 n h = rw h refl
 
-group_ends32 : (n : ℕ) → n % 8 ≡ 0 → may_end base32hex n ≡ true
+group_ends32 : (n : ℕ) → n % 8 ≡ 0 → may_end_after base32hex n ≡ true
 group_ends32 n h = rw h refl
 
-group_ends64 : (n : ℕ) → n % 4 ≡ 0 → may_end base64 n ≡ true
+group_ends64 : (n : ℕ) → n % 4 ≡ 0 → may_end_after base64 n ≡ true
 group_ends64 n h = rw h refl
 
-group_ends : (b : Base) → Known b → (n : ℕ) → n % b.group ≡ 0 → may_end b n ≡ true
+group_ends : (b : Base) → IsEncoding b → (n : ℕ) → n % b.group ≡ 0 → may_end_after b n ≡ true
 group_ends b (inl is) = rw is group_ends16
 group_ends b (inr (inl is)) = rw is group_ends32
 group_ends b (inr (inr is)) = rw is group_ends64
@@ -65,12 +65,12 @@ group_ends b (inr (inr is)) = rw is group_ends64
 unpadded64 : (n : ℕ) → n % 4 ≡ 0 → (4 - n % 4) % 4 ≡ 0
 unpadded64 n h = rw h refl
 
-unpadded : (b : Base) → Known b → (n : ℕ) → n % b.group ≡ 0 → (b.unit - n % b.unit) % b.unit ≡ 0
+unpadded : (b : Base) → IsEncoding b → (n : ℕ) → n % b.group ≡ 0 → (b.unit - n % b.unit) % b.unit ≡ 0
 unpadded b (inl is) = rw is (λ n h. omega arith)
 unpadded b (inr (inl is)) = rw is (λ n h. omega arith)
 unpadded b (inr (inr is)) = rw is unpadded64
 
-groups_decode : (b : Base) → Known b → (chars ps : List ℕ) → HaveValues b chars ps → length chars % b.group ≡ 0 → Decodes b chars (whole b.width ps)
+groups_decode : (b : Base) → IsEncoding b → (chars ps : List ℕ) → HaveValues b chars ps → length chars % b.group ≡ 0 → Decodes b chars (whole b.width ps)
 groups_decode b known chars ps valued even = record {
   chars = chars;
   digits = ps;
@@ -102,7 +102,7 @@ replicate_last : (n c : ℕ) → replicate (suc n) c ≡ replicate n c ++ c ∷ 
 replicate_last zero c = refl
 replicate_last (suc n) c = ap (λ l. c ∷ l) (replicate_last n c)
 
-module _ (b : Base) (known : Known b) where
+module _ (b : Base) (known : IsEncoding b) where
   -- ---- what was taken begins a text
 
   absent_begins : (text os ps : List ℕ) → IsRead b text os ps Absent → BeginsEncoding b text
@@ -171,7 +171,7 @@ module _ (b : Base) (known : Known b) where
       → (rest octets : List ℕ) → Decodes b (text ++ c ∷ rest) octets → ⊥
   blocked text os ps p c e at is rest octets d =
       let limit = length os + length octets in
-      let s : Step = step_from b ps p c (value b c) in
+      let s : CharacterStep = step_from b ps p c (value b c) in
       let next = stepped b known text os ps p c at in
       let why = some_cause (short_buf_if limit (length os + length s.octets)) s.error e is in
       let first = first_here (char_error b limit) text rest c why.0 (no_cause b known text os ps p at limit (omega arith)) (next.cause_is limit (omega arith) ∙ why.1) in

@@ -12,7 +12,7 @@ use Rattle.dns_symbol.specs.declared.symbol.Symbol.TheVariants.{Char}
 use Rattle.dns_symbol.specs.Symbol.{bytes, is_readable, stands_in_word, is_word_symbol}
 use Rattle.dns_symbol.proofs.Unique.{bytes_same}
 use Rattle.std.specs.declared.alloc.Global.{Global}
-use Rattle.dns_split.specs.Answer.{Answers}
+use Rattle.dns_split.specs.Answer.{IsSplitOf}
 use Rattle.dns_split.specs.declared.error.SplitError.{SplitError}
 use Rattle.dns_split.specs.declared.error.SplitError.TheVariants.{BadText, ShortBuf}
 use Rattle.dns_split.specs.Splitting.{Entries, Splits, SplitsOnlyInto, with_token}
@@ -54,7 +54,7 @@ line_only kind fields text are line is e =
     (text_only kind (line_document fields) text is e (line_formed fields are line))
 
 -- what splitting a text that splits into a line's entries can refuse
-pub split_refusal : (fields : List Content) (text : List ℕ) → SplitsOnlyInto text (line_entries fields) → (e : SplitError) → Answers {A = Global} (Err e) text → IsRefusal fields (Split e)
+pub split_refusal : (fields : List Content) (text : List ℕ) → SplitsOnlyInto text (line_entries fields) → (e : SplitError) → IsSplitOf {A = Global} (Err e) text → IsRefusal fields (Split e)
 split_refusal fields text only ShortBuf h = tt
 split_refusal fields text only (BadText i) bad = absurd (bad.splits_not (line_entries fields) ((only (line_entries fields)).1 refl))
 

@@ -1,7 +1,7 @@
 -- What a text splits into is a document, whose simple layout is the normal form.
 use Rattle.std.proofs.Common.{◌≡◌, ℕ, zero, suc, true, ◌&&◌, List, [], ◌∷◌, ◌++◌, refl, sym, ap, ◌∙◌, subst, append-nil}
 use Rattle.std.proofs.lemmas.Bool.{and_parts}
-use Rattle.dns_split.specs.Lexeme.{Lexeme, Blank, Line, Open, Close, Note, Word, Quote, bytes, is_lexeme}
+use Rattle.dns_split.specs.Lexeme.{Lexeme, Blank, Line, Open, Close, Note, Word, Quote, lexeme_bytes, is_lexeme}
 use Rattle.dns_split.specs.Splitting.{Splits, may_precede, are_lexemes, with_token, entries, Entries}
 use Rattle.dns_zone.specs.Layout.{Step, newline, layout, simple_piece}
 use Rattle.dns_zone.specs.Documents.{IsWellFormed}
@@ -42,11 +42,11 @@ are_entries d (Blank b ∷ ls) v = are_entries d ls v
 are_entries d (Note cs ∷ ls) v = are_entries d ls (and_parts _ _ v).1
 are_entries d (Word s ss ∷ ls) v =
     let p = and_parts (is_lexeme (Word s ss) && may_precede (Word s ss) ls) (are_lexemes ls) v in
-    more_token (bytes (Word s ss)) (entries d ls) (one_token
+    more_token (lexeme_bytes (Word s ss)) (entries d ls) (one_token
     (record { lexeme = Word s ss; is_one = refl; valid = (and_parts (is_lexeme (Word s ss)) (may_precede (Word s ss) ls) p.0).0; spelled = refl })) (are_entries d ls p.1)
 are_entries d (Quote ss ∷ ls) v =
     let p = and_parts (is_lexeme (Quote ss) && true) (are_lexemes ls) v in
-    more_token (bytes (Quote ss)) (entries d ls) (one_token (record { lexeme = Quote ss; is_one = refl; valid = (and_parts (is_lexeme (Quote ss)) true p.0).0; spelled = refl })) (are_entries d ls p.1)
+    more_token (lexeme_bytes (Quote ss)) (entries d ls) (one_token (record { lexeme = Quote ss; is_one = refl; valid = (and_parts (is_lexeme (Quote ss)) true p.0).0; spelled = refl })) (are_entries d ls p.1)
 
 formed_tokens : (ts : List (List ℕ)) (steps : List Step) → AreTokens ts → IsWellFormed steps → IsWellFormed (tokens ts ++ steps)
 formed_tokens [] steps a w = w

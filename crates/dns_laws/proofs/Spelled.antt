@@ -11,7 +11,7 @@ use Rattle.dns_symbol.specs.declared.error.SymbolCharsError.{SymbolCharsError}
 use Rattle.dns_symbol.specs.Symbol.{char_of}
 use Rattle.dns_symbol.specs.Text.{SymbolsOf}
 use Rattle.dns_symbol.proofs.Unique.{symbols_same}
-use Rattle.dns_codec.specs.Base.{Base, encoded, IsEncoding as Known}
+use Rattle.dns_codec.specs.Base.{Base, encoded, IsEncoding}
 use Rattle.dns_codec.specs.Group.{Group}
 use Rattle.dns_codec.specs.Converting.{char_in, made, convert_char}
 use Rattle.dns_codec.specs.Grammar.{Decodes}
@@ -19,7 +19,7 @@ use Rattle.dns_codec.proofs.Each.{decodes}
 use Rattle.dns_symbol.specs.Cause.{Cause}
 use Rattle.dns_scan.specs.Octets.{GivesWhere}
 use Rattle.dns_scan.specs.Tokens.{Token}
-use Rattle.dns_entry.specs.Codecs.{Codec, then_made, then_more, converted, made_of, ConvertsTo, MadeOf, AnswersConverted, IsEncoding, codec_of}
+use Rattle.dns_entry.specs.Codecs.{Codec, then_made, then_more, converted_symbols, made_of, ConvertsTo, MadeOf, AnswersConverted, IsEncodingOf, codec_of}
 use Rattle.dns_laws.proofs.Converted.{plain_symbols, is_plain, plain_read, plain_alphabet, encoded_plain}
 
 -- a step that went well, and what followed
@@ -46,7 +46,7 @@ module _ (codec : Codec) where
   pub converts_once : (token : Token) (q r : Result (List ℕ) Cause) → ConvertsTo codec token q → ConvertsTo codec token r → q ≡ r
   converts_once token q r h k =
       let same = symbols_same token h.0 k.0 h.1 k.1 h.2 k.2 in
-      sym h.3 ∙ (λ i. converted codec codec.start [] (same.0 i) (same.1 i)) ∙ k.3
+      sym h.3 ∙ (λ i. converted_symbols codec codec.start [] (same.0 i) (same.1 i)) ∙ k.3
 
   -- and so are the octets that are made of it
   made_once : (token : Token) (a b : List ℕ) → MadeOf codec token a → MadeOf codec token b → a ≡ b
@@ -55,7 +55,7 @@ module _ (codec : Codec) where
       h.3 ∙ (λ i. made_of codec codec.start (same.0 i) (same.1 i)) ∙ sym k.3
 
   -- where no symbol is refused, all that is made is the answer
-  all_made : (held : codec.Held) (built : List ℕ) (xs : List Symbol) (error : Option SymbolCharsError) (octets : List ℕ) → converted codec held built xs error ≡ Ok octets
+  all_made : (held : codec.Held) (built : List ℕ) (xs : List Symbol) (error : Option SymbolCharsError) (octets : List ℕ) → converted_symbols codec held built xs error ≡ Ok octets
       → octets ≡ built ++ made_of codec held xs error
   all_made held built [] None octets e =
       let last = went_on (codec.tail held) (λ o. Ok (built ++ o)) octets e in
@@ -63,7 +63,7 @@ module _ (codec : Codec) where
       sym is ∙ ap (λ a. built ++ made a) (sym last.1)
   all_made held built [] (Some x) octets e = absurd (no_octets _ octets e)
   all_made held built (x ∷ xs) error octets e =
-      let one = went_on (codec.step held x).0 (λ o. converted codec (codec.step held x).1 (built ++ o) xs error) octets e in
+      let one = went_on (codec.step held x).0 (λ o. converted_symbols codec (codec.step held x).1 (built ++ o) xs error) octets e in
       all_made (codec.step held x).1 (built ++ one.0) xs error octets one.2
       ∙ append_assoc built one.0 (made_of codec (codec.step held x).1 xs error)
       ∙ ap (λ a. built ++ then_more a (made_of codec (codec.step held x).1 xs error)) (sym one.1)
@@ -111,7 +111,7 @@ module _ (codec : Codec) where
       (needs_char : (held : codec.Held) (x : Symbol) (o : List ℕ) → char_in x ≡ None → (codec.step held x).0 ≡ Ok o → ⊥) where
     -- symbols convert as their characters
     by_chars : (held : codec.Held) (built : List ℕ) (xs : List Symbol) (text : List ℕ)
-        → map char_of xs ≡ map Ok text → converted codec held built xs None ≡ converted codec held built (plain_symbols text) None
+        → map char_of xs ≡ map Ok text → converted_symbols codec held built xs None ≡ converted_symbols codec held built (plain_symbols text) None
     by_chars held built [] [] e = refl
     by_chars held built [] (c ∷ cs) e = cc
     by_chars held built (x ∷ xs) [] e = cc
@@ -119,28 +119,28 @@ module _ (codec : Codec) where
         let first : char_of x ≡ Ok c = cc in
         let others : map char_of xs ≡ map Ok cs = cc in
         let one = same_step held x c (char_there x c first) in
-        (λ i. then_made (one i).0 (λ o. converted codec (one i).1 (built ++ o) xs None))
+        (λ i. then_made (one i).0 (λ o. converted_symbols codec (one i).1 (built ++ o) xs None))
         ∙ ap (λ go. then_made (codec.step held (Char c)).0 go) (λ i o. by_chars (codec.step held (Char c)).1 (built ++ o) xs cs others i)
 
     -- symbols that convert to octets have characters, and nothing stands after them
-    have_chars : (held : codec.Held) (built : List ℕ) (xs : List Symbol) (error : Option SymbolCharsError) (octets : List ℕ) → converted codec held built xs error ≡ Ok octets
+    have_chars : (held : codec.Held) (built : List ℕ) (xs : List Symbol) (error : Option SymbolCharsError) (octets : List ℕ) → converted_symbols codec held built xs error ≡ Ok octets
         → (error ≡ None) × ((text : List ℕ) × (map char_of xs ≡ map Ok text))
     have_chars held built [] None octets e = (refl, ([], refl))
     have_chars held built [] (Some x) octets e = absurd (no_octets _ octets e)
     have_chars held built (x ∷ xs) error octets e =
-        let one = went_on (codec.step held x).0 (λ o. converted codec (codec.step held x).1 (built ++ o) xs error) octets e in
+        let one = went_on (codec.step held x).0 (λ o. converted_symbols codec (codec.step held x).1 (built ++ o) xs error) octets e in
         let more = have_chars (codec.step held x).1 (built ++ one.0) xs error octets one.2 in
         ⊎_elim
         (λ c. (more.0, (c.0 ∷ more.1.0, λ i. c.1 i ∷ more.1.1 i)))
         (λ bad. absurd (needs_char held x one.0 (no_char x bad.0 bad.1) one.1))
         (cases_char (char_of x))
 
-    module _ (b : Base) (texts : (text octets : List ℕ) → Decodes b text octets → converted codec codec.start [] (plain_symbols text) None ≡ Ok octets)
-        (only : (text octets : List ℕ) → converted codec codec.start [] (plain_symbols text) None ≡ Ok octets → Decodes b text octets) where
-      pub spelled : (token : Token) (octets : List ℕ) → ConvertsTo codec token (Ok octets) → IsEncoding b token octets
+    module _ (b : Base) (texts : (text octets : List ℕ) → Decodes b text octets → converted_symbols codec codec.start [] (plain_symbols text) None ≡ Ok octets)
+        (only : (text octets : List ℕ) → converted_symbols codec codec.start [] (plain_symbols text) None ≡ Ok octets → Decodes b text octets) where
+      pub spelled : (token : Token) (octets : List ℕ) → ConvertsTo codec token (Ok octets) → IsEncodingOf b token octets
       spelled token octets h =
           let chars = have_chars codec.start [] h.0 h.1 octets h.3 in
-          let plain : converted codec codec.start [] h.0 None ≡ Ok octets = (λ i. converted codec codec.start [] h.0 (sym chars.0 i)) ∙ h.3 in
+          let plain : converted_symbols codec codec.start [] h.0 None ≡ Ok octets = (λ i. converted_symbols codec codec.start [] h.0 (sym chars.0 i)) ∙ h.3 in
           record {
             symbols = h.0;
             read = subst (λ e. SymbolsOf token h.0 e) chars.0 h.2;
@@ -149,16 +149,16 @@ module _ (codec : Codec) where
             decodes = only chars.1.0 octets (sym (by_chars codec.start [] h.0 chars.1.0 chars.1.1) ∙ plain);
           }
 
-      pub converts : (token : Token) (octets : List ℕ) → IsEncoding b token octets → ConvertsTo codec token (Ok octets)
+      pub converts : (token : Token) (octets : List ℕ) → IsEncodingOf b token octets → ConvertsTo codec token (Ok octets)
       converts token octets h = (h.symbols, None, h.read, by_chars codec.start [] h.symbols h.text h.chars ∙ texts h.text octets h.decodes)
 
       -- what a scanner gives of a text of the encoding, and of any token
-      pub gives_value : {O E : Type 0} (cause : E → Cause) (value : O → List ℕ) (room : Room) (token : Token) (octets : List ℕ) (r : Result O E) → IsEncoding b token octets
+      pub gives_value : {O E : Type 0} (cause : E → Cause) (value : O → List ℕ) (room : Room) (token : Token) (octets : List ℕ) (r : Result O E) → IsEncodingOf b token octets
           → AnswersConverted codec cause value room token r → GivesWhere cause value room octets r
       gives_value cause value room token octets r h k = gives_octets cause value room token octets r (converts token octets h) k
 
       pub gives_only : {O E : Type 0} (cause : E → Cause) (value : O → List ℕ) (room : Room) (token : Token) (r : Result O E) → AnswersConverted codec cause value room token r
-          → IfOk r (λ x. IsEncoding b token (value x))
+          → IfOk r (λ x. IsEncodingOf b token (value x))
       gives_only cause value room token (Ok x) k = spelled token (value x) k.2.0
       gives_only cause value room token (Err e) k = tt
 
@@ -168,7 +168,7 @@ plain_chars [] = refl
 plain_chars (c ∷ cs) = ap (λ l. Ok c ∷ l) (plain_chars cs)
 
 -- the text of octets is a text of the encoding
-plain_encoding : (b : Base) (octets : List ℕ) → list_all is_plain b.alphabet ≡ true → Decodes b (encoded b octets) octets → IsEncoding b (encoded b octets) octets
+plain_encoding : (b : Base) (octets : List ℕ) → list_all is_plain b.alphabet ≡ true → Decodes b (encoded b octets) octets → IsEncodingOf b (encoded b octets) octets
 plain_encoding b octets plain d = record {
   symbols = plain_symbols (encoded b octets);
   read = plain_read (encoded b octets) (encoded_plain b octets plain);
@@ -177,7 +177,7 @@ plain_encoding b octets plain d = record {
   decodes = d;
 }
 
-pub base_encoding : (b : Base) → Known b → (octets : List ℕ) → AllByRecursion (λ o. o < 256) octets → IsEncoding b (encoded b octets) octets
+pub base_encoding : (b : Base) → IsEncoding b → (octets : List ℕ) → AllByRecursion (λ o. o < 256) octets → IsEncodingOf b (encoded b octets) octets
 base_encoding b known octets all = plain_encoding b octets (plain_alphabet b known) (decodes b known octets all)
 
 -- the converters look at a symbol's character alone, and refuse a symbol that has none

@@ -8,7 +8,7 @@ use Rattle.dns_symbol.specs.Cause.{Cause, short_buf, IsCause}
 use Rattle.dns_scan.specs.Tokens.{Token}
 use Rattle.dns_entry.specs.Field.{Content, number, hex_octets, base64_octets, text_octets, field_text}
 use Rattle.dns_entry.specs.Line.{IsFirstEmpty}
-use Rattle.dns_entry.specs.EntryError.{place_of}
+use Rattle.dns_entry.specs.EntryError.{error_place}
 use Rattle.dns_split.specs.declared.error.SplitError.TheVariants.{BadText, ShortBuf}
 use Rattle.dns_laws.specs.declared.lines.Refusal.{Refusal}
 use Rattle.dns_laws.specs.declared.lines.Refusal.TheVariants.{Line, Split}
@@ -23,7 +23,7 @@ line_entries fields = map field_text fields ∷ []
 
 -- why fields were not printed as a line and split: the first that is no token, or lack of memory
 abbrev pub IsRefusal : List Content → Refusal → Type 0
-IsRefusal fields (Line error) = IsFirstEmpty fields (place_of error)
+IsRefusal fields (Line error) = IsFirstEmpty fields (error_place error)
 IsRefusal fields (Split (BadText place)) = ⊥
 IsRefusal fields (Split ShortBuf) = ⊤
 

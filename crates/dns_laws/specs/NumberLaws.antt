@@ -5,7 +5,7 @@ use Rattle.std.specs.Fmt.{decimal}
 use Rattle.dns_symbol.specs.Cause.{Cause}
 use Rattle.dns_symbol.specs.Text.{SymbolsOf}
 use Rattle.dns_scan.specs.Numbers.{by_cause, greatest}
-use Rattle.dns_scan.specs.Reads.{NumberReads, ReadsFirst}
+use Rattle.dns_scan.specs.Reads.{NumberReads, ReadsFirstToken}
 use Rattle.dns_scan.specs.Tokens.{Token}
 use Rattle.dns_scan.proofs.Decimal.{decimal_read}
 use Rattle.dns_scan.proofs.Once.{numbers_once}
@@ -49,6 +49,6 @@ module _ (limit : ℕ) (token : Token) where
   number_scanned number cause (Err e) h = record { printed = h.printed; whole = h.whole; only = h.only; refused = h.refused }
 
 -- of a type of so many bits
-pub read_of : (bits : ℕ) (low : greatest bits < 10 ^ 64) (token : Token) (others rest : List Token) (r : Result ℕ Cause) → ReadsFirst (NumberReads (greatest bits)) (token ∷ others) r rest
+pub read_of : (bits : ℕ) (low : greatest bits < 10 ^ 64) (token : Token) (others rest : List Token) (r : Result ℕ Cause) → ReadsFirstToken (NumberReads (greatest bits)) (token ∷ others) r rest
     → NumberBack (greatest bits) (λ n. n) (λ why. why) token r × (rest ≡ others)
 read_of bits low token others rest r reads = (number_read (greatest bits) token low r reads.0, reads.1)

@@ -1,6 +1,6 @@
 -- Why a list of items is not printed and split.
 use Rattle.std.specs.Prelude.{⊤, ℕ, List, []}
-use Rattle.dns_split.specs.Answer.{error_text}
+use Rattle.dns_split.specs.Answer.{split_error_text}
 use Rattle.dns_split.specs.declared.error.SplitError.TheVariants.{BadText, ShortBuf}
 use Rattle.dns_zone.specs.Layout.{Step}
 use Rattle.dns_zone.specs.Documents.{IsFirstFault, fault_text}
@@ -16,4 +16,4 @@ IsRefusal steps (Split (BadText i)) = ⊥
 -- what it prints: the fault's text, or the error's
 abbrev pub refusal_text : Refusal → List ℕ
 refusal_text (Document fault) = fault_text fault
-refusal_text (Split error) = error_text error
+refusal_text (Split error) = split_error_text error

@@ -2,11 +2,11 @@
 ghost use Rattle.std.specs.Prelude.{◌≡◌, ◌↔◌, ℕ, ◌<◌, List, Ok, Result};
 ghost use Rattle.std.specs.List.{AllByRecursion};
 ghost use Rattle.dns_octets.specs.Room.{Room, exactly};
-ghost use Rattle.dns_codec.specs.Base.{Base, IsEncoding as IsBase, base16, base32hex, base64, encoded};
+ghost use Rattle.dns_codec.specs.Base.{Base, IsEncoding, base16, base32hex, base64, encoded};
 ghost use Rattle.dns_symbol.specs.Cause.{Cause};
 ghost use Rattle.dns_scan.specs.Stands.{TakesOne};
 ghost use Rattle.dns_scan.specs.Tokens.{Token};
-ghost use Rattle.dns_entry.specs.Codecs.{AnswersConverted, ConvertsTo, IsEncoding, codec_of};
+ghost use Rattle.dns_entry.specs.Codecs.{AnswersConverted, ConvertsTo, IsEncodingOf, codec_of};
 ghost use Rattle.dns_laws.specs.Encodings.{AnswersEncoding, EncodingBack};
 
 use dns_codec::base::{Base16, Base32Hex, Base64, Encoding};
@@ -17,7 +17,7 @@ use dns_scan::Scanner;
 /// each token that is a text of the encoding; a simple escape counts as its character. In base 16
 /// and base32hex letters may be in either case.
 ///
-/// Any other token is refused: one with an escape that is none, with a symbol without character,
+/// Any other token is refused: one with a bad escape, with a symbol without character,
 /// or whose characters are no text of the encoding.
 pub fn encoding_is_scanned_back<K: Encoding, S: Scanner>(
     scanner: &mut S,
@@ -33,7 +33,7 @@ pub fn encoding_is_scanned_back<K: Encoding, S: Scanner>(
 /// token that is a text of the encoding; its letters may be in either case, and a simple escape
 /// counts as its character.
 ///
-/// Any other token is refused: one with an escape that is none, with a symbol without character,
+/// Any other token is refused: one with a bad escape, with a symbol without character,
 /// or whose characters are no text of the encoding.
 pub fn hex_is_scanned_back<S: Scanner>(scanner: &mut S) -> Result<S::Octets, S::Error>
     requires { S.can_scan scanner.old }
@@ -67,12 +67,12 @@ pub fn base64_is_scanned_back<S: Scanner>(scanner: &mut S) -> Result<S::Octets, 
 /// The text of octets in base 16, base32hex or base 64 is a token that converts to these octets,
 /// and to nothing else.
 pub fn encodings_convert_back()
-    ensures { (b : Base) → IsBase b → (octets : List ℕ) (r : Result (List ℕ) Cause) → AllByRecursion (λ o. o < 256) octets → ConvertsTo (codec_of b) (encoded b octets) r → r ≡ Ok octets }
+    ensures { (b : Base) → IsEncoding b → (octets : List ℕ) (r : Result (List ℕ) Cause) → AllByRecursion (λ o. o < 256) octets → ConvertsTo (codec_of b) (encoded b octets) r → r ≡ Ok octets }
 {}
 
 /// The tokens that convert to octets are exactly the texts of the encoding with that value.
 pub fn only_encodings_convert()
-    ensures { (b : Base) → IsBase b → (token : Token) (octets : List ℕ) → ConvertsTo (codec_of b) token (Ok octets) ↔ IsEncoding b token octets }
+    ensures { (b : Base) → IsEncoding b → (token : Token) (octets : List ℕ) → ConvertsTo (codec_of b) token (Ok octets) ↔ IsEncodingOf b token octets }
 {}
 
 /// A token converts to one thing.
@@ -80,14 +80,14 @@ pub fn tokens_convert_to_one_thing()
     ensures { (b : Base) (token : Token) (q r : Result (List ℕ) Cause) → ConvertsTo (codec_of b) token q → ConvertsTo (codec_of b) token r → q ≡ r }
 {}
 
-/// What is answered of a token by the grammar alone is just what is answered by what the converters
+/// What is returned of a token by the grammar alone is just what is returned by what the converters
 /// make of its symbols, one after the other.
 pub fn converters_answer_by_the_grammar()
-    ensures { (b : Base) → IsBase b → (room : Room) (token : Token) (r : Result (List ℕ) Cause) → AnswersEncoding b (λ why. why) (λ s. s) room token r
+    ensures { (b : Base) → IsEncoding b → (room : Room) (token : Token) (r : Result (List ℕ) Cause) → AnswersEncoding b (λ why. why) (λ s. s) room token r
         ↔ AnswersConverted (codec_of b) (λ why. why) (λ s. s) room token r }
 {}
 
-/// Over a builder whose room is known, as an array's, a token is answered in one way.
+/// Over a builder whose room is known, as an array's, a token has one result.
 pub fn encodings_are_answered_in_one_way()
     ensures { (b : Base) (size : ℕ) (token : Token) (q r : Result (List ℕ) Cause) → AnswersConverted (codec_of b) (λ why. why) (λ s. s) (exactly size) token q
         → AnswersConverted (codec_of b) (λ why. why) (λ s. s) (exactly size) token r → q ≡ r }

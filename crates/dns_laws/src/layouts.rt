@@ -5,7 +5,7 @@ ghost use Rattle.dns_split.specs.Splitting.{BeginsNoBlank, Entries, Splits, Spli
 ghost use Rattle.dns_split.specs.Token.{IsWord};
 ghost use Rattle.dns_wire.specs.Wire.{wire};
 ghost use Rattle.dns_wire.specs.ZoneText.{zone_text};
-ghost use Rattle.dns_zone.specs.Documents.{IsWellFormed, steps_of};
+ghost use Rattle.dns_zone.specs.Documents.{IsWellFormed, item_steps};
 ghost use Rattle.dns_zone.specs.Layout.{Step};
 ghost use Rattle.dns_zone.specs.Printed.{printed};
 ghost use Rattle.dns_zone.specs.declared.zonefile_fmt.DisplayKind.{DisplayKind};
@@ -120,12 +120,12 @@ pub fn items_split<A: Allocator + Copy>(
     items: Vec<Item<A>, A>,
     kind: DisplayKind,
 ) -> Result<(String<A>, Vec<Vec<String<A>, A>, A>), Refusal>
-    ensures formed { IsOk result → IsWellFormed (steps_of items.items) }
-    ensures text { IfOk result (λ r. string_bytes r.0 ≡ printed kind (steps_of items.items)) }
-    ensures meaning { IfOk result (λ r. SplitsOnlyInto (string_bytes r.0) (document_entries (steps_of items.items))) }
+    ensures formed { IsOk result → IsWellFormed (item_steps items.items) }
+    ensures text { IfOk result (λ r. string_bytes r.0 ≡ printed kind (item_steps items.items)) }
+    ensures meaning { IfOk result (λ r. SplitsOnlyInto (string_bytes r.0) (document_entries (item_steps items.items))) }
     ensures tight { IfOk result (λ r. BeginsNoBlank (string_bytes r.0)) }
-    ensures entries { IfOk result (λ r. entries_of r.1.items ≡ document_entries (steps_of items.items)) }
-    ensures refused { IfErr result (IsRefusal (steps_of items.items)) }
+    ensures entries { IfOk result (λ r. entries_of r.1.items ≡ document_entries (item_steps items.items)) }
+    ensures refused { IfErr result (IsRefusal (item_steps items.items)) }
 {
     let document = match Document::from_items(items) {
         Ok(document) => document,

@@ -2,7 +2,7 @@
 //!
 //! - [`headline`]: each layout of a document splits into its entries alone, and what was printed of
 //!   a number, an encoding or a character string is scanned back.
-//! - [`lines`]: entry lines, of which all of this holds without a premise of form.
+//! - [`lines`]: entry lines; all of this holds of them without a premise of form.
 //! - [`layouts`]: each of the three layouts splits into its document's entries and tokens, and into
 //!   nothing else.
 //! - [`encodings`]: what tokens convert to, and [`entries`], what all tokens of an entry do.

@@ -29,7 +29,7 @@ where
 }
 
 /// Where the octets of a name surely fit, as those of each name fit an array of 255, the name is
-/// answered: of a text that reads as it, of its zone text, and of both without the root.
+/// returned: of a text that reads as it, of its zone text, and of both without the root.
 pub fn fitting_names_are_answered<
     'a,
     Iter: Iterator<Item = &'a str>,

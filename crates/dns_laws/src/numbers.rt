@@ -77,7 +77,7 @@ impl<S: Scanner> Number<S> for Ttl {
 /// the empty token is 0.
 ///
 /// Any other token is refused, by its first fault: a symbol that is no plain digit, a value above
-/// the greatest, or an escape that is none.
+/// the greatest, or a bad escape.
 pub fn number_is_scanned_back<N: Number<S>, S: Scanner>(scanner: &mut S) -> Result<N, S::Error>
     requires { S.can_scan scanner.old }
     ensures ready { S.can_scan scanner.new }

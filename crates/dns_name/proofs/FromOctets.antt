@@ -1,13 +1,13 @@
 -- Octets that are a name's are refused by no maker of it.
 use Rattle.std.proofs.Common.{◌≡◌, ℕ, ◌<◌, ◌≤◌, List, [], ◌∷◌, length, arith, sym, ◌∙◌, Err}
 use Rattle.std.proofs.Common.{⊎_elim}
-use Rattle.dns_wire.specs.FromOctets.{HasRest, MakesName, MakesRelative, AnswersName, AnswersRelative}
+use Rattle.dns_wire.specs.FromOctets.{HasRest, MakesName, MakesRelative, AnswersLabels, AnswersRelative}
 use Rattle.dns_wire.proofs.Splitting.{splits_same, cut_none}
 use Rattle.dns_wire.specs.declared.split.Rest.TheVariants.{End, Root}
 use Rattle.dns_wire.specs.declared.error.NameError.{NameError}
 use Rattle.dns_wire.specs.declared.error.NameError.TheVariants.{BadLabel, CompressedName, LongName, TrailingData, ShortInput, Relative, Absolute}
 
-root_refused : (labels : List (List ℕ)) (rest : List ℕ) (e : NameError) → rest ≡ 0 ∷ [] → AnswersName labels rest (Err e) → ⊥
+root_refused : (labels : List (List ℕ)) (rest : List ℕ) (e : NameError) → rest ≡ 0 ∷ [] → AnswersLabels labels rest (Err e) → ⊥
 root_refused labels rest (BadLabel e) h a = let n : 0 ≡ e.0 = (let x = sym h ∙ a.1 in cc) in omega (arith, a.2)
 root_refused labels rest CompressedName h a = let x = sym h ∙ a.1.3 in let n : [] ≡ a.1.1 ∷ a.1.2 = cc in cc
 root_refused labels rest LongName h a = a

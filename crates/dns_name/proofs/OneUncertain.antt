@@ -3,7 +3,7 @@ use Rattle.std.proofs.Common.{◌≡◌, ℕ, zero, suc, List, [], ◌∷◌, �
 use Rattle.std.specs.Prelude.{if◌then◌else◌}
 use Rattle.std.specs.Bool.{nat_lt}
 use Rattle.std.proofs.lemmas.Bool.{lt-ltb}
-use Rattle.dns_wire.specs.FromOctets.{Splits}
+use Rattle.dns_wire.specs.FromOctets.{SplitsIntoLabels}
 use Rattle.dns_wire.proofs.OneAnswer.{not_below, refusal, refusal_cut, refusal_bad, refusal_pointer, root_not_cut, by_rest}
 use Rattle.dns_name.specs.Uncertain.{AnswersUncertain, MakesUncertain}
 use Rattle.dns_name.specs.declared.name.UncertainName.{UncertainName}
@@ -29,7 +29,7 @@ module _ (O : Type 0) (octets : List ℕ) where
   answer labels (zero ∷ octet ∷ more) = Err TrailingData
   answer labels (suc n ∷ more) = refused (suc n) more
 
-  answer_one : (labels : List (List ℕ)) (rest : List ℕ) (r : Answer) → Splits octets labels rest → AnswersUncertain count labels rest r
+  answer_one : (labels : List (List ℕ)) (rest : List ℕ) (r : Answer) → SplitsIntoLabels octets labels rest → AnswersUncertain count labels rest r
       → r ≡ answer labels rest
   answer_one labels rest (Ok (Absolute name)) way a = ap (λ n. Ok (Absolute n)) a.1 ∙ ap (answer labels) (sym a.0)
   answer_one [] rest (Ok (Relative name)) way a = absurd (a.2 refl)

@@ -10,26 +10,26 @@ use Rattle.dns_name.specs.declared.name.error.UncertainDnameError.TheVariants.{B
 use Rattle.dns_name.specs.declared.name.error.FromStrError.{FromStrError}
 use Rattle.dns_name.specs.declared.name.error.FromStrError.TheVariants.{Symbol, BadOctet, BinaryLabel, EmptyLabel, LongLabel, LongName, ShortBuf}
 
-abbrev pub octets_error_text : UncertainDnameError → List ℕ
-octets_error_text (BadLabel e) = codes "bad label type"
-octets_error_text CompressedName = codes "compressed domain name"
-octets_error_text Long = codes "long domain name"
-octets_error_text TrailingData = codes "trailing data"
-octets_error_text ShortInput = codes "unexpected end of input"
+abbrev pub uncertain_name_text : UncertainDnameError → List ℕ
+uncertain_name_text (BadLabel e) = codes "bad label type"
+uncertain_name_text CompressedName = codes "compressed domain name"
+uncertain_name_text Long = codes "long domain name"
+uncertain_name_text TrailingData = codes "trailing data"
+uncertain_name_text ShortInput = codes "unexpected end of input"
 
 abbrev pub of_split_error : SplitLabelError → UncertainDnameError
 of_split_error (Pointer place) = CompressedName
 of_split_error (BadType e) = BadLabel e
 of_split_error Short = ShortInput
 
-abbrev pub from_str_text : FromStrError → List ℕ
-from_str_text (Symbol e) = chars_error_text e
-from_str_text BadOctet = codes "illegal character in domain name"
-from_str_text BinaryLabel = codes "binary label"
-from_str_text EmptyLabel = codes "empty label"
-from_str_text LongLabel = codes "long label"
-from_str_text LongName = codes "long domain name"
-from_str_text ShortBuf = codes "buffer size exceeded"
+abbrev pub name_from_str_text : FromStrError → List ℕ
+name_from_str_text (Symbol e) = chars_error_text e
+name_from_str_text BadOctet = codes "illegal character in domain name"
+name_from_str_text BinaryLabel = codes "binary label"
+name_from_str_text EmptyLabel = codes "empty label"
+name_from_str_text LongLabel = codes "long label"
+name_from_str_text LongName = codes "long domain name"
+name_from_str_text ShortBuf = codes "buffer size exceeded"
 
 abbrev pub of_push_error : PushError → FromStrError
 of_push_error PushLabel = LongLabel

@@ -11,7 +11,7 @@ use mathlib.Core.Bool.{true≢false}
 use Rattle.dns_octets.specs.Lowered.{lowered}
 use Rattle.dns_wire.specs.Order.{lowered_wire, same_name}
 use Rattle.dns_wire.proofs.Chains.{chain_name, chain_ends}
-use Rattle.dns_wire.specs.FromOctets.{Splits, IsRootAndMore}
+use Rattle.dns_wire.specs.FromOctets.{SplitsIntoLabels, IsRootAndMore}
 use Rattle.dns_wire.specs.Split.{RefusesLabel, IsCut}
 use Rattle.dns_wire.specs.declared.error.SplitLabelError.TheVariants.{Pointer, BadType}
 use Rattle.dns_name.specs.declared.name.UncertainName.{UncertainName}
@@ -103,4 +103,4 @@ module _ {O : Type 0} where
   abbrev pub MakesUncertain : List ℕ → Result (UncertainName O) UncertainDnameError → Type 0
   MakesUncertain octets result =
       ((max_name < length octets) × (result ≡ Err LongName))
-      ⊎ ((length octets ≤ max_name) × ((labels : List (List ℕ)) × (rest : List ℕ) × Splits octets labels rest × AnswersUncertain (length octets) labels rest result))
+      ⊎ ((length octets ≤ max_name) × ((labels : List (List ℕ)) × (rest : List ℕ) × SplitsIntoLabels octets labels rest × AnswersUncertain (length octets) labels rest result))

@@ -5,8 +5,8 @@ use Rattle.dns_name.specs.declared.name.UncertainName.{UncertainName}
 use Rattle.dns_name.specs.declared.chain.uncertain.UncertainChain.{UncertainChain}
 
 module _ {O R : Type 0} {o : OctetsGhosts O} {r : Ghosts R} where
-  abbrev pub first_of : UncertainChain O R o r → UncertainName O
-  first_of c = c.left
+  abbrev pub first_in_chain : UncertainChain O R o r → UncertainName O
+  first_in_chain c = c.left
 
-  abbrev pub second_of : UncertainChain O R o r → R
-  second_of c = c.right
+  abbrev pub second_in_chain : UncertainChain O R o r → R
+  second_in_chain c = c.right

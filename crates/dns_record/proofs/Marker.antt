@@ -15,7 +15,7 @@ use Rattle.dns_codec.specs.Base.{Base, IsEncoding, base16, base64, encoded}
 use Rattle.dns_name.specs.Reading.{ReadsAs, SpellsLabel, dotted}
 use Rattle.dns_name.specs.declared.name.UncertainName.TheVariants.{Absolute}
 use Rattle.dns_name.proofs.Printing.{zone_reads}
-use Rattle.dns_scan.specs.Numbers.{digit_of}
+use Rattle.dns_scan.specs.Numbers.{plain_digit_of}
 use Rattle.dns_scan.specs.Octets.{IsPrinted, unquoted_token, quoted_token}
 use Rattle.dns_scan.specs.Stands.{HasTokens, first_of, others_of, stands_takes}
 use Rattle.dns_scan.specs.Tokens.{Token, MarkerCall, marker}
@@ -37,9 +37,9 @@ other_symbols : (text : Token) (symbols : List Symbol) → SymbolsOf text symbol
 unfolding sign
 other_symbols text symbols read is = (symbols_same text symbols sign None None read (subst (λ (t : Token). SymbolsOf t sign None) (sym is) marker_read)).0
 
-no_digits : (symbols : List Symbol) (digits : List ℕ) → symbols ≡ SimpleEscape 35 ∷ [] → map digit_of symbols ≡ map Some digits → ⊥
-no_digits symbols [] is plain = let e : map digit_of symbols ≡ None ∷ [] = ap (map digit_of) is in cc
-no_digits symbols (d ∷ ds) is plain = let e : map digit_of symbols ≡ None ∷ [] = ap (map digit_of) is in cc
+no_digits : (symbols : List Symbol) (digits : List ℕ) → symbols ≡ SimpleEscape 35 ∷ [] → map plain_digit_of symbols ≡ map Some digits → ⊥
+no_digits symbols [] is plain = let e : map plain_digit_of symbols ≡ None ∷ [] = ap (map plain_digit_of) is in cc
+no_digits symbols (d ∷ ds) is plain = let e : map plain_digit_of symbols ≡ None ∷ [] = ap (map plain_digit_of) is in cc
 
 no_number : (n : ℕ) → n < 10 ^ 64 → decimal n ≡ marker → ⊥
 no_number n small is =

@@ -21,13 +21,13 @@ use Rattle.dns_split.specs.Splitting.{with_token}
 use Rattle.dns_split.specs.Token.{IsToken, IsQuote}
 use Rattle.dns_scan.specs.Octets.{quoted_token, unquoted_token}
 use Rattle.dns_scan.specs.Tokens.{Token}
-use Rattle.dns_zone.specs.Documents.{IsWellFormed, IsComment, IsProper}
+use Rattle.dns_zone.specs.Documents.{IsWellFormed, IsCommentText, IsProper}
 use Rattle.dns_zone.specs.Nesting.{is_nested}
 use Rattle.dns_laws.specs.Entries.{document_entries}
 use Rattle.dns_wire.specs.Wire.{EndsInRoot}
 use Rattle.dns_wire.specs.ZoneText.{zone_text}
 use Rattle.dns_laws.proofs.ZoneNames.{zone_word}
-use Rattle.dns_iter.specs.Contents.{IsContent, AreContents}
+use Rattle.dns_iter.specs.Contents.{HasContent, HaveContents}
 use Rattle.dns_record.specs.Parts.{Part, field, unquoted, note, opens, closes, value_token, steps_of, values_of, is_note_ascii, is_plain, IsLaidOut}
 use Rattle.dns_record.specs.Values.{Value, number8, number16, number32, name, hex, base64_octets, string, listed, IsValue, IsText, AreValues, AreTexts}
 
@@ -71,7 +71,7 @@ held (base64_octets octets) = encoded base64 octets
 held (string octets) = quoted_token octets
 held (listed octets) = quoted_token octets
 
-value_content : (v : Value) → IsValue v → IsContent (value_token v) (held v)
+value_content : (v : Value) → IsValue v → HasContent (value_token v) (held v)
 unfolding held string_quote
 value_content (number8 n) is = inl (number_word n (omega (arith, is)), refl)
 value_content (number16 n) is = inl (number_word n (omega (arith, is)), refl)
@@ -93,11 +93,11 @@ value_text (base64_octets octets) = refl
 value_text (string octets) = inr refl
 value_text (listed octets) = inr refl
 
-unquoted_content : (octets : List ℕ) → All (λ o. o < 256) octets → IsContent (field_text (text_octets octets)) (unquoted_token octets)
+unquoted_content : (octets : List ℕ) → All (λ o. o < 256) octets → HasContent (field_text (text_octets octets)) (unquoted_token octets)
 unquoted_content [] all = inr (record { symbols = []; valid = refl; spelled = refl }, refl)
 unquoted_content (o ∷ os) all = inl (text_word o os all, refl)
 
-is_token : (token content : List ℕ) → IsContent token content → IsToken token
+is_token : (token content : List ℕ) → HasContent token content → IsToken token
 is_token token content (inl h) = inl h.0
 is_token token content (inr h) = inr h.0
 
@@ -119,7 +119,7 @@ note_bytes (c ∷ cs) h =
     let parts = and_parts (is_note_ascii c) (list_all is_note_ascii cs) h in
     λ i. encode_ascii c (note_low c parts.0) i ++ note_bytes cs parts.1 i
 
-note_comment : (text : List ℕ) → list_all is_note_ascii text ≡ true → IsComment text
+note_comment : (text : List ℕ) → list_all is_note_ascii text ≡ true → IsCommentText text
 note_comment text h = record { characters = text; plain = note_plain text h; spelled = note_bytes text h }
 
 -- ---- the document
@@ -161,7 +161,7 @@ parts_entry (note text ∷ ps) = parts_entry ps
 parts_entry (opens ∷ ps) = parts_entry ps
 parts_entry (closes ∷ ps) = parts_entry ps
 
-pub parts_contents : (ps : List Part) → AreValues (values_of ps) → AreContents (tokens_of ps) (held_of ps)
+pub parts_contents : (ps : List Part) → AreValues (values_of ps) → HaveContents (tokens_of ps) (held_of ps)
 unfolding tokens_of held_of
 parts_contents [] is = tt
 parts_contents (field v ∷ ps) is = (value_content v is.0, parts_contents ps is.1)

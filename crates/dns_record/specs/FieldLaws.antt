@@ -11,11 +11,11 @@ use Rattle.dns_symbol.specs.Symbol.{octet_of}
 use Rattle.dns_symbol.specs.Printed.{symbol_of, text_of, is_quoted_escape, is_unquoted_escape}
 use Rattle.dns_symbol.proofs.PrintedForms.{IsForm, printed_symbols, printed_octets, unquoted_form, quoted_form}
 use Rattle.dns_symbol.proofs.Unique.{symbols_same}
-use Rattle.dns_scan.specs.Answers.{AllGiven, AnswersGiven, IsFault}
+use Rattle.dns_scan.specs.Answers.{AllGiven, AnswersGiven, IsSymbolFault}
 use Rattle.dns_symbol.specs.Cause.{Cause, custom_text, short_buf}
 use Rattle.dns_scan.specs.Numbers.{greatest, by_cause}
 use Rattle.dns_scan.specs.Octets.{IsPrinted}
-use Rattle.dns_scan.specs.Reads.{ReadsFirst, ReadsBoth, NameReads, NumberReads, OctetsRead}
+use Rattle.dns_scan.specs.Reads.{ReadsFirstToken, ReadsBoth, NameReads, NumberReads, OctetsRead}
 use Rattle.dns_scan.specs.Steps.{octet_given, bad_or}
 use Rattle.dns_scan.specs.Tokens.{Token}
 use Rattle.dns_scan.proofs.Answered.{all_given_in, first_fault_in}
@@ -34,7 +34,7 @@ use Rattle.dns_record.specs.Values.{Value, number8, number16, number32, name, st
 -- ---- numbers
 
 number_back : (room : Room) (make : ℕ → Value) (limit v : ℕ) (t : Token) (ts others rest : List Token) (r : Result ℕ Cause)
-    → v ≤ limit → v < 2 ^ 32 → t ≡ decimal v → ts ≡ others → ReadsFirst (NumberReads limit) (t ∷ ts) r rest
+    → v ≤ limit → v < 2 ^ 32 → t ≡ decimal v → ts ≡ others → ReadsFirstToken (NumberReads limit) (t ∷ ts) r rest
     → FieldBack room (λ n. make n ∷ []) (make v ∷ []) others r rest
 number_back room make limit v t ts others rest r small fits text end reads =
     let is = decimal_read limit v (omega (arith, fits)) small in
@@ -47,17 +47,17 @@ number_back room make limit v t ts others rest r small fits text end reads =
     by (Err why) e = cc
 
 pub number8_back : (room : Room) (v : ℕ) (tokens others rest : List Token) (r : Result ℕ Cause) → AreValues (number8 v ∷ []) → AreTexts (number8 v ∷ []) tokens others
-    → ReadsFirst (NumberReads (greatest 8)) tokens r rest → FieldBack room (λ n. number8 n ∷ []) (number8 v ∷ []) others r rest
+    → ReadsFirstToken (NumberReads (greatest 8)) tokens r rest → FieldBack room (λ n. number8 n ∷ []) (number8 v ∷ []) others r rest
 number8_back room v [] others rest r is texts reads = absurd texts
 number8_back room v (t ∷ ts) others rest r is texts reads = number_back room (λ n. number8 n) (greatest 8) v t ts others rest r (omega (arith, is.0)) (omega (arith, is.0)) texts.0 texts.1 reads
 
 pub number16_back : (room : Room) (v : ℕ) (tokens others rest : List Token) (r : Result ℕ Cause) → AreValues (number16 v ∷ []) → AreTexts (number16 v ∷ []) tokens others
-    → ReadsFirst (NumberReads (greatest 16)) tokens r rest → FieldBack room (λ n. number16 n ∷ []) (number16 v ∷ []) others r rest
+    → ReadsFirstToken (NumberReads (greatest 16)) tokens r rest → FieldBack room (λ n. number16 n ∷ []) (number16 v ∷ []) others r rest
 number16_back room v [] others rest r is texts reads = absurd texts
 number16_back room v (t ∷ ts) others rest r is texts reads = number_back room (λ n. number16 n) (greatest 16) v t ts others rest r (omega (arith, is.0)) (omega (arith, is.0)) texts.0 texts.1 reads
 
 pub number32_back : (room : Room) (v : ℕ) (tokens others rest : List Token) (r : Result ℕ Cause) → AreValues (number32 v ∷ []) → AreTexts (number32 v ∷ []) tokens others
-    → ReadsFirst (NumberReads (greatest 32)) tokens r rest → FieldBack room (λ n. number32 n ∷ []) (number32 v ∷ []) others r rest
+    → ReadsFirstToken (NumberReads (greatest 32)) tokens r rest → FieldBack room (λ n. number32 n ∷ []) (number32 v ∷ []) others r rest
 number32_back room v [] others rest r is texts reads = absurd texts
 number32_back room v (t ∷ ts) others rest r is texts reads = number_back room (λ n. number32 n) (greatest 32) v t ts others rest r (omega (arith, is.0)) (omega (arith, is.0)) texts.0 texts.1 reads
 
@@ -80,7 +80,7 @@ joined_each (o ∷ os) = ap (λ l. o ∷ l) (joined_each os)
 -- a fault at a symbol that gives its octet: there was no room for it
 fault_short : (room : Room) (front rest : List Symbol) (octets : List ℕ) (parts : List (List ℕ)) (count : ℕ) (why : Cause)
     → map octet_of (front ++ rest) ≡ map Ok octets → map octet_given front ≡ map Ok parts
-    → IsFault octet_given room (count + length (concat parts)) rest None why → room.fits < count + length octets
+    → IsSymbolFault octet_given room (count + length (concat parts)) rest None why → room.fits < count + length octets
 fault_short room [] [] octets parts count why is gives fault = absurd fault
 fault_short room [] (x ∷ xs) [] parts count why is gives fault = cc
 fault_short room [] (x ∷ xs) (o ∷ os) [] count why is gives fault =
@@ -101,7 +101,7 @@ fault_short room (x ∷ xs) rest (o ∷ os) (p ∷ ps) count why is gives fault 
     let part : p ≡ o ∷ [] = cc (sym given, ap (bad_or (λ n. n ∷ [])) first) in
     let size = ap length part in
     let sum = length-append p (concat ps) in
-    omega (arith, fault_short room xs rest os ps (count + 1) why others more (subst (λ n. IsFault octet_given room n rest None why) (omega arith) fault))
+    omega (arith, fault_short room xs rest os ps (count + 1) why others more (subst (λ n. IsSymbolFault octet_given room n rest None why) (omega arith) fault))
 
 module _ (room : Room) (octets : List ℕ) where
   -- room for all that may be held
@@ -125,7 +125,7 @@ module _ (room : Room) (octets : List ℕ) where
         inl (omega (
           arith,
           fault_short room h.front h.rest octets h.parts 0 why (subst (λ l. map octet_of l ≡ map Ok octets) h.whole is) h.gives
-              (subst (λ n. IsFault octet_given room n h.rest None why) (sym (zero-add (length (concat h.parts)))) h.fault),
+              (subst (λ n. IsSymbolFault octet_given room n h.rest None why) (sym (zero-add (length (concat h.parts)))) h.fault),
         )),
       ))
       (first_fault_in octet_given room size (omega arith) symbols None why h)
@@ -139,14 +139,14 @@ module _ (room : Room) (octets : List ℕ) where
       (subst (λ ss. AnswersGiven octet_given room (λ why. why) (λ s. s) ss error r) same.0 answers))
 
   string_text : (t : Token) (ts others rest : List Token) (r : Result (List ℕ) Cause) → All (λ o. o < 256) octets → IsPrinted t octets → ts ≡ others
-      → ReadsFirst (OctetsRead room) (t ∷ ts) r rest → FieldBack room (λ s. string s ∷ []) (string octets ∷ []) others r rest
+      → ReadsFirstToken (OctetsRead room) (t ∷ ts) r rest → FieldBack room (λ s. string s ∷ []) (string octets ∷ []) others r rest
   string_text t ts others rest r all (inl unquoted) end reads =
       read_back is_unquoted_escape unquoted_form all others rest r (reads.1 ∙ end) (subst (λ (x : Token). OctetsRead room x r) unquoted reads.0)
   string_text t ts others rest r all (inr quoted) end reads =
       read_back is_quoted_escape quoted_form all others rest r (reads.1 ∙ end) (subst (λ (x : Token). OctetsRead room x r) quoted reads.0)
 
 pub string_back : (room : Room) (octets : List ℕ) (tokens others rest : List Token) (r : Result (List ℕ) Cause) → AreValues (string octets ∷ []) → AreTexts (string octets ∷ []) tokens others
-    → ReadsFirst (OctetsRead (within 255 room)) tokens r rest → FieldBack room (λ s. string s ∷ []) (string octets ∷ []) others r rest
+    → ReadsFirstToken (OctetsRead (within 255 room)) tokens r rest → FieldBack room (λ s. string s ∷ []) (string octets ∷ []) others r rest
 string_back room octets [] others rest r is texts reads = absurd texts
 string_back room octets (t ∷ ts) others rest r is texts reads =
     ⊎_elim (λ a. inl a) (λ l. inr (l.0, in_room l.1)) (string_text (within 255 room) octets t ts others rest r is.0.0 texts.0 texts.1 reads)
@@ -233,7 +233,7 @@ module _ (O : Type 0) {E : Type 0} (cause : E → Cause) (room : Room) where
   name_given labels (Err e) (Err why) others rest end (inr g) is = let same : why ≡ cause e = cc is in inr (inr (same ∙ g.0), inl g.1)
 
   pub name_read : (labels : List (List ℕ)) (tokens others rest : List Token) (r : Result (List (List ℕ)) Cause) → AreValues (name labels ∷ []) → AreTexts (name labels ∷ []) tokens others
-      → ReadsFirst (NameReads cause Reads) tokens r rest → FieldBack room (λ n. name n ∷ []) (name labels ∷ []) others r rest
+      → ReadsFirstToken (NameReads cause Reads) tokens r rest → FieldBack room (λ n. name n ∷ []) (name labels ∷ []) others r rest
   name_read labels [] others rest r is texts reads = absurd texts
   name_read labels (t ∷ ts) others rest r is texts reads =
       let text : ReadsAs {O = O} t (Absolute labels) = subst (λ (x : Token). ReadsAs {O = O} x (Absolute labels)) (sym texts.0) (zone_reads {O = O} (Absolute labels) (is.0.0, is.0.1) is.0.2) in

@@ -9,11 +9,11 @@ ghost use Rattle.dns_record.specs.ReadsBack.{Lacks, ReadsBack, generic_data};
 ghost use Rattle.dns_record.specs.Values.{AreFields, AreTexts, SomeMayLack};
 
 use dns_iter::entry::{EntryScanner, TokenText, entry_scanner};
+use dns_laws::layouts::values_split;
 use dns_octets::{AsOctetsMut, EmptyBuilder, FreezeBuilder, FromBuilder, Truncate};
 use dns_scan::{Scanner, ScannerError};
 use dns_split::splitting::split;
 use dns_zone::zonefile_fmt::{DisplayKind, ZonefileFmt};
-use dns_laws::layouts::values_split;
 use std::alloc::Allocator;
 
 /// The data of a record over these octets, and over memory from `A` where it holds a list.

@@ -2,7 +2,7 @@
 ghost use Rattle.std.specs.Prelude.{◌≡◌, ◌↔◌, ◌<◌, List, ℕ, [], ◌∷◌, ◌++◌, length, map, All, IfOk, IfErr, IsOk, IsOkAnd, OnOk};
 ghost use Rattle.dns_scan.specs.Stands.{HasTokens};
 ghost use Rattle.dns_scan.specs.Tokens.{Token};
-ghost use Rattle.dns_zone.specs.Writers.{Runs};
+ghost use Rattle.dns_zone.specs.Writers.{WritesSteps};
 ghost use Rattle.dns_record.specs.ReadsBack.{ReadsBack};
 ghost use Rattle.dns_record.specs.Several.{IsString, string_steps, strings_of};
 ghost use Rattle.dns_record.specs.Values.{Value, hex, base64_octets, AreFields, AreTexts, AreValues};
@@ -158,7 +158,7 @@ fn write_strings<F: FormatWriter, Octets: AsOctets>(
     p: &mut F,
     strings: &[CharStr<Octets>],
 ) -> zonefile_fmt::Result
-    ensures { OnOk result (Runs F.blocks F.step_gives p.old (string_steps strings.now) p.new) }
+    ensures { OnOk result (WritesSteps F.blocks F.step_gives p.old (string_steps strings.now) p.new) }
 {
     for string in strings {
         write_quoted(p, string)?;

@@ -10,9 +10,9 @@ use Rattle.dns_symbol.specs.Text.{SymbolsOf}
 use Rattle.dns_symbol.proofs.Unique.{symbols_same}
 use Rattle.dns_symbol.specs.Cause.{Cause, custom_text, short_buf}
 use Rattle.dns_scan.specs.Tokens.{Token}
-use Rattle.dns_scan.specs.Asks.{Builds, CallsEach, Ends}
-use Rattle.dns_scan.specs.Steps.{GivesStep, Appends}
-use Rattle.dns_scan.specs.Answers.{IsFault, FirstFault, AllGiven, AnswersGiven}
+use Rattle.dns_scan.specs.Asks.{Builds, CallsEach, EndsAfterSymbols}
+use Rattle.dns_scan.specs.Steps.{GivesStep, AppendsSymbol}
+use Rattle.dns_scan.specs.Answers.{IsSymbolFault, FirstFault, AllGiven, AnswersGiven}
 
 module _ {E : Type 0} (cause : E → Cause) (given : Symbol → Result (List ℕ) (List ℕ)) (room : Room) where
   -- all went well from b on
@@ -31,10 +31,10 @@ module _ {E : Type 0} (cause : E → Cause) (given : Symbol → Result (List ℕ
     whole : symbols ≡ front ++ rest
     gives : map given front ≡ map Ok parts
     fits : length b + length (concat parts) ≤ room.capacity
-    fault : IsFault given room (length b + length (concat parts)) rest error why
+    fault : IsSymbolFault given room (length b + length (concat parts)) rest error why
 
   -- a step that went well, and one that refused
-  stepped : (b c : List ℕ) (q : Result (List ℕ) (List ℕ)) → length b ≤ room.capacity → Appends cause room q b (Ok tt) c → (o : List ℕ) × (q ≡ Ok o) × (c ≡ b ++ o) × (length c ≤ room.capacity)
+  stepped : (b c : List ℕ) (q : Result (List ℕ) (List ℕ)) → length b ≤ room.capacity → AppendsSymbol cause room q b (Ok tt) c → (o : List ℕ) × (q ≡ Ok o) × (c ≡ b ++ o) × (length c ≤ room.capacity)
   stepped b c (Ok o) small h = ⊎_elim (λ a. (o, refl, a.1, small_after o a.1 a.2)) (λ a. absurd a.0) h
     where
       small_after : (o : List ℕ) → c ≡ b ++ o → (0 < length o → length c ≤ room.capacity) → length c ≤ room.capacity
@@ -42,13 +42,13 @@ module _ {E : Type 0} (cause : E → Cause) (given : Symbol → Result (List ℕ
       small_after (x ∷ xs) is fits = fits (omega arith)
   stepped b c (Err text) small h = absurd h.0
 
-  refused : (b c : List ℕ) (e : E) (q : Result (List ℕ) (List ℕ)) → Appends cause room q b (Err e) c
+  refused : (b c : List ℕ) (e : E) (q : Result (List ℕ) (List ℕ)) → AppendsSymbol cause room q b (Err e) c
       → MatchResult q (λ o. (room.fits < length b + 0 + length o) × (cause e ≡ short_buf)) (λ text. cause e ≡ custom_text text)
   refused b c e (Ok o) h = ⊎_elim (λ a. let z = a.0 in cc) (λ a. (omega (arith, a.2), a.0)) h
   refused b c e (Err text) h = h.0
 
   run_answer : (symbols : List Symbol) (error : Option SymbolCharsError) (b c : List ℕ) (u : Result (Unit {0}) E) → length b ≤ room.capacity
-      → CallsEach (GivesStep cause room given) symbols (Ends cause error) b u c
+      → CallsEach (GivesStep cause room given) symbols (EndsAfterSymbols cause error) b u c
       → MatchResult u (λ _. Went symbols error b c) (λ e. Stopped symbols error b (cause e))
   run_answer [] None b c (Ok v) small h = record { parts = []; gives = refl; joined = h.0 ∙ sym (append-nil b); ends = refl; fits = omega (arith, ap length h.0) }
   run_answer [] None b c (Err e) small h = let z = h.1 in cc
@@ -80,7 +80,7 @@ module _ {E : Type 0} (cause : E → Cause) (given : Symbol → Result (List ℕ
             whole = ap (λ l. x ∷ l) rest.whole;
             gives = λ i. one.1 i ∷ rest.gives i;
             fits = omega (arith, rest.fits, count);
-            fault = subst (λ n. IsFault given room n rest.rest error (cause e)) count rest.fault;
+            fault = subst (λ n. IsSymbolFault given room n rest.rest error (cause e)) count rest.fault;
           }
 
       stopped : (u : Result (Unit {0}) E) → IsErr u → GivesStep cause room given b x u c → MatchResult u (λ _. Went (x ∷ xs) error b c) (λ e. Stopped (x ∷ xs) error b (cause e))
@@ -92,9 +92,9 @@ module _ {E : Type 0} (cause : E → Cause) (given : Symbol → Result (List ℕ
       → (symbols : List Symbol) (error : Option SymbolCharsError) → SymbolsOf t symbols error → AnswersGiven given room cause octets symbols error r
   builds_answer {O} octets t r h symbols error read =
       let same = symbols_same t h.asks.symbols symbols h.asks.error error h.asks.read read in
-      let ran : CallsEach (GivesStep cause room given) symbols (Ends cause error) [] h.answer h.built =
-      subst (λ ss. CallsEach (GivesStep cause room given) ss (Ends cause error) [] h.answer h.built) same.0
-      (subst (λ e. CallsEach (GivesStep cause room given) h.asks.symbols (Ends cause e) [] h.answer h.built) same.1 h.asks.asked) in
+      let ran : CallsEach (GivesStep cause room given) symbols (EndsAfterSymbols cause error) [] h.answer h.built =
+      subst (λ ss. CallsEach (GivesStep cause room given) ss (EndsAfterSymbols cause error) [] h.answer h.built) same.0
+      (subst (λ e. CallsEach (GivesStep cause room given) h.asks.symbols (EndsAfterSymbols cause e) [] h.answer h.built) same.1 h.asks.asked) in
       by h.answer r h.gives (run_answer symbols error [] h.built h.answer (omega arith) ran)
     where
       by : (u : Result (Unit {0}) E) (r : Result O E) → MatchResult u (λ _. IsOkAnd r (λ x. octets x ≡ h.built)) (λ e. r ≡ Err e)
@@ -111,8 +111,8 @@ module _ {E : Type 0} (cause : E → Cause) (given : Symbol → Result (List ℕ
             whole = k.whole;
             gives = k.gives;
             fits = omega (arith, k.fits);
-            fault = subst (λ n. IsFault given room n k.rest error (cause e)) (zero-add (length (concat k.parts)))
-                (subst (λ e. IsFault given room (0 + length (concat k.parts)) k.rest error (cause e)) same k.fault);
+            fault = subst (λ n. IsSymbolFault given room n k.rest error (cause e)) (zero-add (length (concat k.parts)))
+                (subst (λ e. IsSymbolFault given room (0 + length (concat k.parts)) k.rest error (cause e)) same k.fault);
           }
 
   -- the same, with the symbols that were read
@@ -125,10 +125,10 @@ module _ (given : Symbol → Result (List ℕ) (List ℕ)) (room : Room) (size :
   pub all_given_in : (octets : List ℕ) → AllGiven given room symbols error octets → AllGiven given (exactly size) symbols error octets
   all_given_in octets h = record { parts = h.parts; gives = h.gives; joined = h.joined; ends = h.ends; fits = omega (arith, small, h.fits) }
 
-  fault_in : (count : ℕ) (rest : List Symbol) (why : Cause) → IsFault given room count rest error why → IsFault given (exactly size) count rest error why ⊎ (why ≡ short_buf)
+  fault_in : (count : ℕ) (rest : List Symbol) (why : Cause) → IsSymbolFault given room count rest error why → IsSymbolFault given (exactly size) count rest error why ⊎ (why ≡ short_buf)
   fault_in count [] why h = inl (at_end error h)
     where
-      at_end : (e : Option SymbolCharsError) → IsFault given room count [] e why → IsFault given (exactly size) count [] e why
+      at_end : (e : Option SymbolCharsError) → IsSymbolFault given room count [] e why → IsSymbolFault given (exactly size) count [] e why
       at_end None k = k
       at_end (Some x) k = k
   fault_in count (x ∷ xs) why h = by (given x) h

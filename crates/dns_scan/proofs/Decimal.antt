@@ -10,7 +10,7 @@ use Rattle.dns_symbol.specs.declared.symbol.Symbol.{Symbol}
 use Rattle.dns_symbol.specs.declared.symbol.Symbol.TheVariants.{Char}
 use Rattle.dns_symbol.specs.Symbol.{bytes, is_readable, is_digit}
 use Rattle.dns_symbol.specs.Text.{SymbolsOf}
-use Rattle.dns_scan.specs.Numbers.{digit_of, value_of, IsNumber}
+use Rattle.dns_scan.specs.Numbers.{plain_digit_of, value_of, IsNumber}
 use Rattle.dns_scan.proofs.Numbers.{value_of-append}
 
 -- each is a digit
@@ -78,14 +78,14 @@ bytes_of_digits : (ds : List ℕ) → AllDigits ds → texts_of ds ≡ flat_map 
 bytes_of_digits [] h = refl
 bytes_of_digits (d ∷ ds) h = ap (λ l. (48 + d) ∷ l) (bytes_of_digits ds h.1) ∙ ap (λ b. (b ++ []) ++ flat_map bytes (symbols_of_digits ds)) (sym (encode_ascii (48 + d) (omega (arith, h.0))))
 
-plain_digits : (ds : List ℕ) → AllDigits ds → map digit_of (symbols_of_digits ds) ≡ map Some ds
+plain_digits : (ds : List ℕ) → AllDigits ds → map plain_digit_of (symbols_of_digits ds) ≡ map Some ds
 plain_digits [] h = refl
 plain_digits (d ∷ ds) h = λ i. one d h.0 i ∷ plain_digits ds h.1 i
   where
     less : (d : ℕ) → 48 + d - 48 ≡ d
     less d = omega arith
 
-    one : (d : ℕ) → d < 10 → digit_of (Char (48 + d)) ≡ Some d
+    one : (d : ℕ) → d < 10 → plain_digit_of (Char (48 + d)) ≡ Some d
     one d h = let is : is_digit (48 + d) ≡ true = grind (arith, nat_tests) in rw (is, less d) refl
 
 -- a decimal text has the digits of its number as symbols, and nothing else

@@ -7,7 +7,7 @@ use Rattle.dns_symbol.specs.declared.symbol.EntrySymbol.{EntrySymbol}
 use Rattle.dns_symbol.specs.declared.symbol.EntrySymbol.TheVariants.{EndOfToken, Symbol as Of}
 use Rattle.dns_symbol.specs.Text.{SymbolsOf}
 use Rattle.dns_symbol.proofs.Unique.{symbols_same}
-use Rattle.dns_scan.specs.Asks.{CallsEachSymbol, CallsEach, Ends}
+use Rattle.dns_scan.specs.Asks.{CallsEachSymbol, CallsEach, EndsAfterSymbols}
 use Rattle.dns_symbol.specs.Cause.{Cause}
 use Rattle.dns_scan.specs.Entries.{AsksToken, ScansEntry}
 use Rattle.dns_scan.specs.Join.{CallsTokens, handed_over}
@@ -21,22 +21,22 @@ module _ {F E : Type 0} (cause : E → Cause) (step : F → EntrySymbol → Resu
   Well r = r ≡ Ok tt
 
   -- calls for a token's symbols, and then for others
-  calls_on : (xs : List Symbol) (ys : List EntrySymbol) (f h : F) (r : Result (Unit {0}) E) (g : F) → CallsEach (λ p x q s. step p (Of x) q s) xs (Ends cause None) f (Ok tt) h
+  calls_on : (xs : List Symbol) (ys : List EntrySymbol) (f h : F) (r : Result (Unit {0}) E) (g : F) → CallsEach (λ p x q s. step p (Of x) q s) xs (EndsAfterSymbols cause None) f (Ok tt) h
       → CallsEach step ys Well h r g → CallsEach step (map Of xs ++ ys) Well f r g
   calls_on [] ys f h r g a b = subst (λ p. CallsEach step ys Well p r g) a.0 b
   calls_on (x ∷ xs) ys f h r g a b = ⊎_elim (λ k. inl (k.0, k.1, calls_on xs ys k.0 h r g k.2 b)) (λ k. absurd (not_err {E = E} (Ok tt) refl k.0)) a
 
-  calls_stop : (xs : List Symbol) (ys : List EntrySymbol) (f : F) (r : Result (Unit {0}) E) (g : F) → IsErr r → CallsEach (λ p x q s. step p (Of x) q s) xs (Ends cause None) f r g
+  calls_stop : (xs : List Symbol) (ys : List EntrySymbol) (f : F) (r : Result (Unit {0}) E) (g : F) → IsErr r → CallsEach (λ p x q s. step p (Of x) q s) xs (EndsAfterSymbols cause None) f r g
       → CallsEach step (map Of xs ++ ys) Well f r g
   calls_stop [] ys f r g is a = absurd (not_err r a.1 is)
   calls_stop (x ∷ xs) ys f r g is a = ⊎_elim (λ k. inl (k.0, k.1, calls_stop xs ys k.0 r g is k.2)) (λ k. inr k) a
 
   calls_of : (t : Token) (xs : List Symbol) (f : F) (r : Result (Unit {0}) E) (g : F) → SymbolsOf t xs None → CallsEachSymbol cause (λ p x q s. step p (Of x) q s) t f r g
-      → CallsEach (λ p x q s. step p (Of x) q s) xs (Ends cause None) f r g
+      → CallsEach (λ p x q s. step p (Of x) q s) xs (EndsAfterSymbols cause None) f r g
   calls_of t xs f r g read a =
       let same = symbols_same t a.symbols xs a.error None a.read read in
-      subst (λ ss. CallsEach (λ p x q s. step p (Of x) q s) ss (Ends cause None) f r g) same.0
-      (subst (λ e. CallsEach (λ p x q s. step p (Of x) q s) a.symbols (Ends cause e) f r g) same.1 a.asked)
+      subst (λ ss. CallsEach (λ p x q s. step p (Of x) q s) ss (EndsAfterSymbols cause None) f r g) same.0
+      (subst (λ e. CallsEach (λ p x q s. step p (Of x) q s) a.symbols (EndsAfterSymbols cause e) f r g) same.1 a.asked)
 
   calls_all : (tokens : List Token) (lists : List (List Symbol)) (f : F) (r : Result (Unit {0}) E) (rest : List Token) (g : F) → AllZip (λ t xs. SymbolsOf t xs None) tokens lists
       → CallsTokens (AsksToken cause step) tokens f r rest g → CallsEach step (flat_map handed_over lists) Well f r g

@@ -13,7 +13,7 @@ use Rattle.dns_symbol.specs.declared.symbol.EntrySymbol.{EntrySymbol}
 use Rattle.dns_symbol.specs.declared.error.SymbolCharsError.{SymbolCharsError}
 use Rattle.dns_symbol.proofs.Texts.{symbols_exist}
 use Rattle.dns_symbol.proofs.Unique.{symbols_same}
-use Rattle.dns_scan.specs.Asks.{CallsEachSymbol, CallsEach, Ends}
+use Rattle.dns_scan.specs.Asks.{CallsEachSymbol, CallsEach, EndsAfterSymbols}
 use Rattle.dns_symbol.specs.Cause.{Cause}
 use Rattle.dns_scan.specs.Entries.{Converts, ConvertsEntry, ConvertInEntry}
 use Rattle.dns_scan.specs.Join.{CallsTokens, HasBadEscape, IsJoin, IsSymbols, LeavesOf}
@@ -73,8 +73,8 @@ one_join (t ∷ ts) q r (inr h) (inr k) = h.1 ∙ sym k.1
 module _ {F E : Type 0} (cause : E → Cause) (step : F → Symbol → Result (Unit {0}) E → F → Type 0) where
   -- calls for some symbols and then for others
   calls_join : (xs ys : List Symbol) (e : Option SymbolCharsError) (f h g : F) (r : Result (Unit {0}) E)
-      → CallsEach step xs (Ends cause None) f (Ok tt) h → CallsEach step ys (Ends cause e) h r g → CallsEach step (xs ++ ys) (Ends cause e) f r g
-  calls_join [] ys e f h g r a b = subst (λ x. CallsEach step ys (Ends cause e) x r g) a.0 b
+      → CallsEach step xs (EndsAfterSymbols cause None) f (Ok tt) h → CallsEach step ys (EndsAfterSymbols cause e) h r g → CallsEach step (xs ++ ys) (EndsAfterSymbols cause e) f r g
+  calls_join [] ys e f h g r a b = subst (λ x. CallsEach step ys (EndsAfterSymbols cause e) x r g) a.0 b
   calls_join (x ∷ xs) ys e f h g r a b =
       ⊎_elim
       (λ k. inl (k.0, k.1, calls_join xs ys e k.0 h g r k.2 b))
@@ -83,7 +83,7 @@ module _ {F E : Type 0} (cause : E → Cause) (step : F → Symbol → Result (U
 
   -- a refusal is one of the longer list too
   calls_stop : (xs ys : List Symbol) (e : Option SymbolCharsError) (f g : F) (r : Result (Unit {0}) E) → IsErr r
-      → CallsEach step xs (Ends cause None) f r g → CallsEach step (xs ++ ys) (Ends cause e) f r g
+      → CallsEach step xs (EndsAfterSymbols cause None) f r g → CallsEach step (xs ++ ys) (EndsAfterSymbols cause e) f r g
   calls_stop [] ys e f g r is a = absurd (not_err r a.1 is)
   calls_stop (x ∷ xs) ys e f g r is a =
       ⊎_elim
@@ -92,7 +92,7 @@ module _ {F E : Type 0} (cause : E → Cause) (step : F → Symbol → Result (U
       a
 
   -- where all went well, nothing stands after the symbols
-  calls_end : (xs : List Symbol) (e : Option SymbolCharsError) (f g : F) → CallsEach step xs (Ends cause e) f (Ok tt) g → e ≡ None
+  calls_end : (xs : List Symbol) (e : Option SymbolCharsError) (f g : F) → CallsEach step xs (EndsAfterSymbols cause e) f (Ok tt) g → e ≡ None
   calls_end [] None f g a = refl
   calls_end [] (Some x) f g a = absurd a.1
   calls_end (x ∷ xs) e f g a =
@@ -124,7 +124,7 @@ module _ {F E : Type 0} (cause : E → Cause) (step : F → Symbol → Result (U
       went more is m a b =
           let none = calls_end a.symbols a.error f m a.asked in
           let read : SymbolsOf t a.symbols None = subst (λ e. SymbolsOf t a.symbols e) none a.read in
-          let asked : CallsEach step a.symbols (Ends cause None) f (Ok tt) m = subst (λ e. CallsEach step a.symbols (Ends cause e) f (Ok tt) m) none a.asked in
+          let asked : CallsEach step a.symbols (EndsAfterSymbols cause None) f (Ok tt) m = subst (λ e. CallsEach step a.symbols (EndsAfterSymbols cause e) f (Ok tt) m) none a.asked in
           record {
             symbols = a.symbols ++ b.symbols;
             error = b.error;
@@ -137,7 +137,7 @@ module _ {F E : Type 0} (cause : E → Cause) (step : F → Symbol → Result (U
           let later = join_reads ts more join in
           let same = symbols_same t a.symbols has.0 a.error None a.read has.1 in
           let read : SymbolsOf t a.symbols None = subst (λ e. SymbolsOf t a.symbols e) same.1 a.read in
-          let asked : CallsEach step a.symbols (Ends cause None) f r g = subst (λ e. CallsEach step a.symbols (Ends cause e) f r g) same.1 a.asked in
+          let asked : CallsEach step a.symbols (EndsAfterSymbols cause None) f r g = subst (λ e. CallsEach step a.symbols (EndsAfterSymbols cause e) f r g) same.1 a.asked in
           record {
             symbols = a.symbols ++ later.0;
             error = later.1;

@@ -8,9 +8,9 @@ use Rattle.std.specs.Prelude.{IsErr, MatchOption, IfOk}
 use Rattle.dns_symbol.specs.declared.symbol.Symbol.{Symbol}
 use Rattle.dns_symbol.specs.declared.error.SymbolCharsError.{SymbolCharsError}
 use Rattle.dns_symbol.specs.Cause.{Cause, end_of_entry, IsCause}
-use Rattle.dns_scan.specs.Asks.{CallsEachSymbol, CallsEach, Ends, ScansSymbols}
+use Rattle.dns_scan.specs.Asks.{CallsEachSymbol, CallsEach, EndsAfterSymbols, ScansSymbols}
 use Rattle.dns_scan.specs.Tokens.{Token, ScansToken}
-use Rattle.dns_scan.specs.Numbers.{digit_of, value_of, IsNumber, ReadsNumber, ScannedNumber, AddsDigit, by_cause}
+use Rattle.dns_scan.specs.Numbers.{plain_digit_of, value_of, IsNumber, ReadsNumber, ScannedNumber, AddsDigit, by_cause}
 
 -- digits before others count by the others' power of ten
 pub value_of-append : (cs bs : List ℕ) → value_of (cs ++ bs) ≡ value_of cs * 10 ^ length bs + value_of bs
@@ -25,13 +25,13 @@ value_of-snoc : (ds : List ℕ) (d : ℕ) → value_of (ds ++ d ∷ []) ≡ valu
 value_of-snoc ds d = omega (arith, value_of-append ds (d ∷ []))
 
 -- digits of symbols side by side
-plain_append : (xs ys : List Symbol) (cs bs : List ℕ) → map digit_of xs ≡ map Some cs → map digit_of ys ≡ map Some bs → map digit_of (xs ++ ys) ≡ map Some (cs ++ bs)
+plain_append : (xs ys : List Symbol) (cs bs : List ℕ) → map plain_digit_of xs ≡ map Some cs → map plain_digit_of ys ≡ map Some bs → map plain_digit_of (xs ++ ys) ≡ map Some (cs ++ bs)
 plain_append [] ys [] bs e f = f
 plain_append [] ys (a ∷ cs) bs e f = cc
 plain_append (x ∷ xs) ys [] bs e f = cc
 plain_append (x ∷ xs) ys (a ∷ cs) bs e f =
-    let first : digit_of x ≡ Some a = cc in
-    let others : map digit_of xs ≡ map Some cs = cc in
+    let first : plain_digit_of x ≡ Some a = cc in
+    let others : map plain_digit_of xs ≡ map Some cs = cc in
     (λ i. first i ∷ plain_append xs ys cs bs others f i)
 
 -- the digits of a beginning, of the symbol after it, and of the rest
@@ -40,20 +40,20 @@ record Parted (front : List Symbol) (next : Symbol) (digits : List ℕ) : Type 0
   digit : ℕ
   after : List ℕ
   whole : digits ≡ before ++ digit ∷ after
-  plain : map digit_of front ≡ map Some before
-  is : digit_of next ≡ Some digit
+  plain : map plain_digit_of front ≡ map Some before
+  is : plain_digit_of next ≡ Some digit
 
-parted : (front rest : List Symbol) (next : Symbol) (digits : List ℕ) → map digit_of (front ++ next ∷ rest) ≡ map Some digits → Parted front next digits
+parted : (front rest : List Symbol) (next : Symbol) (digits : List ℕ) → map plain_digit_of (front ++ next ∷ rest) ≡ map Some digits → Parted front next digits
 parted [] rest next [] e = cc
-parted [] rest next (d ∷ ds) e = let first : digit_of next ≡ Some d = cc in record { before = []; digit = d; after = ds; whole = refl; plain = refl; is = first }
+parted [] rest next (d ∷ ds) e = let first : plain_digit_of next ≡ Some d = cc in record { before = []; digit = d; after = ds; whole = refl; plain = refl; is = first }
 parted (x ∷ xs) rest next [] e = cc
 parted (x ∷ xs) rest next (d ∷ ds) e =
-    let first : digit_of x ≡ Some d = cc in
-    let others : map digit_of (xs ++ next ∷ rest) ≡ map Some ds = cc in
+    let first : plain_digit_of x ≡ Some d = cc in
+    let others : map plain_digit_of (xs ++ next ∷ rest) ≡ map Some ds = cc in
     let more = parted xs rest next ds others in
     record { before = d ∷ more.before; digit = more.digit; after = more.after; whole = ap (λ l. d ∷ l) more.whole; plain = (λ i. first i ∷ more.plain i); is = more.is }
 
-same_digits : (xs : List Symbol) (cs bs : List ℕ) → map digit_of xs ≡ map Some cs → map digit_of xs ≡ map Some bs → cs ≡ bs
+same_digits : (xs : List Symbol) (cs bs : List ℕ) → map plain_digit_of xs ≡ map Some cs → map plain_digit_of xs ≡ map Some bs → cs ≡ bs
 same_digits [] [] [] e f = refl
 same_digits [] [] (b ∷ bs) e f = cc
 same_digits [] (a ∷ cs) bs e f = cc
@@ -61,8 +61,8 @@ same_digits (x ∷ xs) [] bs e f = cc
 same_digits (x ∷ xs) (a ∷ cs) [] e f = cc
 same_digits (x ∷ xs) (a ∷ cs) (b ∷ bs) e f =
     let first : a ≡ b = cc in
-    let left : map digit_of xs ≡ map Some cs = cc in
-    let right : map digit_of xs ≡ map Some bs = cc in
+    let left : map plain_digit_of xs ≡ map Some cs = cc in
+    let right : map plain_digit_of xs ≡ map Some bs = cc in
     (λ i. first i ∷ same_digits xs cs bs left right i)
 
 -- a number has one value
@@ -73,7 +73,7 @@ module _ (limit : ℕ) where
   pub number_none : IsNumber limit [] 0
   number_none = record { digits = []; plain = refl; value = refl; small = omega arith }
 
-  pub number_more : (front : List Symbol) (x : Symbol) (v d : ℕ) → IsNumber limit front v → digit_of x ≡ Some d → v * 10 + d ≤ limit → IsNumber limit (front ++ x ∷ []) (v * 10 + d)
+  pub number_more : (front : List Symbol) (x : Symbol) (v d : ℕ) → IsNumber limit front v → plain_digit_of x ≡ Some d → v * 10 + d ≤ limit → IsNumber limit (front ++ x ∷ []) (v * 10 + d)
   number_more front x v d n is small = record {
     digits = n.digits ++ d ∷ [];
     plain = plain_append front (x ∷ []) n.digits (d ∷ []) n.plain (λ i. is i ∷ []);
@@ -82,7 +82,7 @@ module _ (limit : ℕ) where
   }
 
   -- what goes on cs a number goes on by a digit that fits
-  goes_on : (front rest : List Symbol) (next : Symbol) (v w : ℕ) → IsNumber limit front v → IsNumber limit (front ++ next ∷ rest) w → (d : ℕ) × (digit_of next ≡ Some d) × (v * 10 + d ≤ limit)
+  goes_on : (front rest : List Symbol) (next : Symbol) (v w : ℕ) → IsNumber limit front v → IsNumber limit (front ++ next ∷ rest) w → (d : ℕ) × (plain_digit_of next ≡ Some d) × (v * 10 + d ≤ limit)
   goes_on front rest next v w n m =
       let parts = parted front rest next m.digits m.plain in
       let before : value_of parts.before ≡ v = ap value_of (same_digits front parts.before n.digits parts.plain n.plain) ∙ sym n.value in
@@ -106,7 +106,7 @@ module _ (limit : ℕ) where
           times (suc n) m h = let below = times n m h in let step : suc n * m ≡ m + n * m = ap (λ l. l * m) (omega arith) ∙ add-mul 1 n m ∙ omega arith in omega (arith, below, step)
 
   -- so a number that can't go on is the longest
-  no_number : (front rest : List Symbol) (next : Symbol) (v : ℕ) → IsNumber limit front v → ((d : ℕ) → digit_of next ≡ Some d → limit < v * 10 + d)
+  no_number : (front rest : List Symbol) (next : Symbol) (v : ℕ) → IsNumber limit front v → ((d : ℕ) → plain_digit_of next ≡ Some d → limit < v * 10 + d)
       → (longer others : List Symbol) (w : ℕ) → front ++ next ∷ rest ≡ longer ++ others → IsNumber limit longer w → length longer ≤ length front
   no_number front rest next v n stops longer others w whole m =
       ⊎_elim
@@ -131,7 +131,7 @@ module _ (limit : ℕ) where
       stopped y cut =
           let same : y ≡ next = cc in
           let on = goes_on front cut.0 y v w n (subst (λ l. IsNumber limit l w) cut.1 m) in
-          let great = stops on.0 (ap digit_of (sym same) ∙ on.1) in
+          let great = stops on.0 (ap plain_digit_of (sym same) ∙ on.1) in
           omega (arith, great, on.2)
 
   module _ {E : Type 0} (cause : E → Cause) where
@@ -141,7 +141,7 @@ module _ (limit : ℕ) where
     left (Err e) w = Err e
 
     reads_on : (xs front : List Symbol) (v w : ℕ) (u : Result (Unit {0}) E) (error : Option SymbolCharsError) → IsNumber limit front v
-        → CallsEach (AddsDigit cause limit) xs (Ends cause error) v u w → ReadsNumber limit (front ++ xs) error (by_cause cause (left u w))
+        → CallsEach (AddsDigit cause limit) xs (EndsAfterSymbols cause error) v u w → ReadsNumber limit (front ++ xs) error (by_cause cause (left u w))
     reads_on [] front v w (Ok u) None n h = (subst (λ l. IsNumber limit l w) (sym (append-nil front)) (subst (λ x. IsNumber limit front x) (sym h.0) n), refl)
     reads_on [] front v w (Ok u) (Some x) n h = absurd h.1
     reads_on [] front v w (Err e) None n h = let z = h.1 in cc
@@ -174,9 +174,9 @@ module _ (limit : ℕ) where
       -- what a closure from 0 on read of a token
       pub asks_number : (t : Token) (f : F) (u : Result (Unit {0}) E) (h : F) → I f → view f ≡ 0 → CallsEachSymbol cause step t f u h → I h × ScannedNumber cause limit t (left u (view h))
       asks_number t f u h i z asks =
-          let kept = calls_kept asks.symbols (Ends cause asks.error) f u h i asks.asked in
-          let from : CallsEach (AddsDigit cause limit) asks.symbols (Ends cause asks.error) 0 u (view h) =
-          subst (λ v. CallsEach (AddsDigit cause limit) asks.symbols (Ends cause asks.error) v u (view h)) z kept.1 in
+          let kept = calls_kept asks.symbols (EndsAfterSymbols cause asks.error) f u h i asks.asked in
+          let from : CallsEach (AddsDigit cause limit) asks.symbols (EndsAfterSymbols cause asks.error) 0 u (view h) =
+          subst (λ v. CallsEach (AddsDigit cause limit) asks.symbols (EndsAfterSymbols cause asks.error) v u (view h)) z kept.1 in
           (kept.0, record { symbols = asks.symbols; error = asks.error; read = asks.read; reads = reads_on asks.symbols [] 0 (view h) u asks.error number_none from })
 
 -- keeps is what the calls keep of the state that they began with

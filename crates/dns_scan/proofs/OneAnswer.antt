@@ -8,7 +8,7 @@ use Rattle.dns_symbol.specs.declared.symbol.Symbol.{Symbol}
 use Rattle.dns_symbol.specs.declared.error.SymbolCharsError.{SymbolCharsError}
 use Rattle.dns_symbol.specs.Symbol.{chars_error_text}
 use Rattle.dns_symbol.proofs.Unique.{symbols_same}
-use Rattle.dns_scan.specs.Answers.{IsFault, FirstFault, AllGiven, AnswersGiven}
+use Rattle.dns_scan.specs.Answers.{IsSymbolFault, FirstFault, AllGiven, AnswersGiven}
 use Rattle.dns_symbol.specs.Cause.{Cause, custom_text, short_buf}
 use Rattle.dns_scan.specs.Reads.{OctetsRead}
 use Rattle.dns_scan.specs.Steps.{octet_given}
@@ -42,7 +42,7 @@ module _ (given : Symbol → Result (List ℕ) (List ℕ)) (size : ℕ) where
       ∙ more
       ∙ ap (λ n. fault_of n rest error) (omega arith)
 
-  at_fault : (count : ℕ) (rest : List Symbol) (error : Option SymbolCharsError) (why : Cause) → IsFault given (exactly size) count rest error why → fault_of count rest error ≡ Some why
+  at_fault : (count : ℕ) (rest : List Symbol) (error : Option SymbolCharsError) (why : Cause) → IsSymbolFault given (exactly size) count rest error why → fault_of count rest error ≡ Some why
   at_fault count [] None why h = absurd h
   at_fault count [] (Some e) why h = ap Some (sym h)
   at_fault count (x ∷ xs) error why h = by (given x) h
@@ -54,7 +54,7 @@ module _ (given : Symbol → Result (List ℕ) (List ℕ)) (size : ℕ) where
   refused_by : (symbols : List Symbol) (error : Option SymbolCharsError) (why : Cause) → FirstFault given (exactly size) symbols error why → fault_of 0 symbols error ≡ Some why
   refused_by symbols error why h =
       ap (λ l. fault_of 0 l error) h.whole ∙ passed h.front h.rest error h.parts 0 h.gives (omega (arith, h.fits))
-      ∙ at_fault (0 + length (concat h.parts)) h.rest error why (subst (λ n. IsFault given (exactly size) n h.rest error why) (omega arith) h.fault)
+      ∙ at_fault (0 + length (concat h.parts)) h.rest error why (subst (λ n. IsSymbolFault given (exactly size) n h.rest error why) (omega arith) h.fault)
 
   none_refused : (symbols : List Symbol) (error : Option SymbolCharsError) (octets : List ℕ) → AllGiven given (exactly size) symbols error octets → fault_of 0 symbols error ≡ None
   none_refused symbols error octets h =

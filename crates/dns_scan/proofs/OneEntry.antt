@@ -11,7 +11,7 @@ use Rattle.dns_symbol.proofs.PrintedForms.{printed_symbols, printed_octets, quot
 use Rattle.dns_symbol.proofs.Unique.{symbols_same}
 use Rattle.dns_charstr.specs.Reading.{HasOctets}
 use Rattle.dns_charstr.specs.Wire.{wire_of}
-use Rattle.dns_scan.specs.Answers.{FirstFault, IsFault}
+use Rattle.dns_scan.specs.Answers.{FirstFault, IsSymbolFault}
 use Rattle.dns_symbol.specs.Cause.{Cause, custom_text, short_buf}
 use Rattle.dns_scan.specs.Octets.{GivesWhere, IsPrinted, quoted_token, unquoted_token}
 use Rattle.dns_scan.specs.Steps.{octet_given, bad_or}
@@ -52,7 +52,7 @@ module _ (given : Symbol → Result (List ℕ) (List ℕ)) (room : Room) where
       let more = passed xs rest bs ps (let others : map given xs ≡ map Ok bs = cc in others) (let others : map given (xs ++ rest) ≡ map Ok ps = cc in others) in
       (more.0, more.1, omega (arith, more.2, ap length same, length-append b (concat bs), length-append p (concat ps)))
 
-  no_room : (rest : List Symbol) (after : List (List ℕ)) (count : ℕ) (why : Cause) → map given rest ≡ map Ok after → IsFault given room count rest None why
+  no_room : (rest : List Symbol) (after : List (List ℕ)) (count : ℕ) (why : Cause) → map given rest ≡ map Ok after → IsSymbolFault given room count rest None why
       → (why ≡ short_buf) × (room.fits < count + length (concat after))
   no_room [] after count why e h = absurd h
   no_room (x ∷ xs) [] count why e h = cc

@@ -5,32 +5,32 @@ use Rattle.dns_octets.specs.Room.{exactly}
 use Rattle.dns_scan.specs.declared.kind.Kind.{Kind}
 use Rattle.dns_scan.specs.declared.kind.Kind.TheVariants.{U8, U16, U32, U64, U128, Ttl, Other}
 use Rattle.dns_symbol.specs.Cause.{Cause, end_of_entry}
-use Rattle.dns_scan.specs.Kinds.{KindReads, ReadsAs}
+use Rattle.dns_scan.specs.Kinds.{KindReads, ReadsAsKind}
 use Rattle.dns_scan.specs.Numbers.{by_cause, greatest}
-use Rattle.dns_scan.specs.Reads.{NameReads, NumberReads, OctetsRead, ReadInOneWay, ReadsBoth, ReadsEach, ReadsFirst, ReadsInOneWay, ReadsInTurn}
+use Rattle.dns_scan.specs.Reads.{NameReads, NumberReads, OctetsRead, ReadInOneWay, ReadsBoth, ReadsEach, ReadsFirstToken, ReadsInOneWay, ReadsInTurn}
 use Rattle.dns_scan.specs.Stands.{first_of}
 use Rattle.dns_scan.specs.Tokens.{Token}
 use Rattle.dns_scan.proofs.Once.{numbers_once}
 use Rattle.dns_scan.proofs.OneAnswer.{one_reading}
 
-first_once : {V : Type 0} (reads : Token → Result V Cause → Type 0) → ((t : Token) (q r : Result V Cause) → reads t q → reads t r → q ≡ r) → ReadsInOneWay (ReadsFirst reads)
+first_once : {V : Type 0} (reads : Token → Result V Cause → Type 0) → ((t : Token) (q r : Result V Cause) → reads t q → reads t r → q ≡ r) → ReadsInOneWay (ReadsFirstToken reads)
 first_once {V} reads once tokens q r rest others h k = (by (first_of tokens) h.0 k.0, h.1 ∙ sym k.1)
   where
     by : (o : Option Token) → MatchOption o (q ≡ Err end_of_entry) (λ t. reads t q) → MatchOption o (r ≡ Err end_of_entry) (λ t. reads t r) → q ≡ r
     by None x y = x ∙ sym y
     by (Some t) x y = once t q r x y
 
-pub number_once : (limit : ℕ) → ReadsInOneWay (ReadsFirst (NumberReads limit))
+pub number_once : (limit : ℕ) → ReadsInOneWay (ReadsFirstToken (NumberReads limit))
 number_once limit = first_once (NumberReads limit) (numbers_once limit)
 
-pub string_once : (size : ℕ) → ReadsInOneWay (ReadsFirst (OctetsRead (exactly size)))
+pub string_once : (size : ℕ) → ReadsInOneWay (ReadsFirstToken (OctetsRead (exactly size)))
 string_once size = first_once (OctetsRead (exactly size)) (one_reading size)
 
 pub name_once : {N E : Type 0} (cause : E → Cause) (reads : Token → Result N E → Type 0)
-    → ((t : Token) (q r : Result N E) → reads t q → reads t r → by_cause cause q ≡ by_cause cause r) → ReadsInOneWay (ReadsFirst (NameReads cause reads))
+    → ((t : Token) (q r : Result N E) → reads t q → reads t r → by_cause cause q ≡ by_cause cause r) → ReadsInOneWay (ReadsFirstToken (NameReads cause reads))
 name_once cause reads once = first_once (NameReads cause reads) (λ t q r h k. h.2 ∙ once t h.0 k.0 h.1 k.1 ∙ sym k.2)
 
-as_once : {A V : Type 0} (make : A → V) (reads : List Token → Result A Cause → List Token → Type 0) → ReadsInOneWay reads → ReadsInOneWay (ReadsAs make reads)
+as_once : {A V : Type 0} (make : A → V) (reads : List Token → Result A Cause → List Token → Type 0) → ReadsInOneWay reads → ReadsInOneWay (ReadsAsKind make reads)
 as_once make reads once tokens (Ok v) (Ok w) rest others h k =
     let same = once tokens (Ok h.0) (Ok k.0) rest others h.1 k.1 in
     let value : h.0 ≡ k.0 = let is = same.0 in cc is in
@@ -43,12 +43,12 @@ as_once make reads once tokens (Err a) (Err b) rest others h k =
     (ap (λ x. Err x) why, same.1)
 
 kind_once : {T : Type 0} (other : List Token → Result T Cause → List Token → Type 0) → ReadsInOneWay other → (kind : Kind) → ReadsInOneWay (KindReads other kind)
-kind_once other once U8 = as_once _ (ReadsFirst (NumberReads (greatest 8))) (number_once (greatest 8))
-kind_once other once U16 = as_once _ (ReadsFirst (NumberReads (greatest 16))) (number_once (greatest 16))
-kind_once other once U32 = as_once _ (ReadsFirst (NumberReads (greatest 32))) (number_once (greatest 32))
-kind_once other once U64 = as_once _ (ReadsFirst (NumberReads (greatest 64))) (number_once (greatest 64))
-kind_once other once U128 = as_once _ (ReadsFirst (NumberReads (greatest 128))) (number_once (greatest 128))
-kind_once other once Ttl = as_once _ (ReadsFirst (NumberReads (greatest 32))) (number_once (greatest 32))
+kind_once other once U8 = as_once _ (ReadsFirstToken (NumberReads (greatest 8))) (number_once (greatest 8))
+kind_once other once U16 = as_once _ (ReadsFirstToken (NumberReads (greatest 16))) (number_once (greatest 16))
+kind_once other once U32 = as_once _ (ReadsFirstToken (NumberReads (greatest 32))) (number_once (greatest 32))
+kind_once other once U64 = as_once _ (ReadsFirstToken (NumberReads (greatest 64))) (number_once (greatest 64))
+kind_once other once U128 = as_once _ (ReadsFirstToken (NumberReads (greatest 128))) (number_once (greatest 128))
+kind_once other once Ttl = as_once _ (ReadsFirstToken (NumberReads (greatest 32))) (number_once (greatest 32))
 kind_once other once Other = as_once _ other once
 
 turn_once : {K V : Type 0} (reads : K → List Token → Result V Cause → List Token → Type 0) → ((k : K) → ReadsInOneWay (reads k)) → (ks : List K) → ReadInOneWay (ReadsInTurn reads ks)

@@ -8,7 +8,7 @@ use Rattle.dns_scan.specs.Answers.{AnswersGiven}
 use Rattle.dns_scan.specs.Asks.{Builds}
 use Rattle.dns_symbol.specs.Cause.{Cause, end_of_entry, IsCause}
 use Rattle.dns_scan.specs.Numbers.{ScannedNumber, by_cause}
-use Rattle.dns_scan.specs.Reads.{ReadsEach, ReadsInTurn, ReadsFirst, NumberReads, OctetsRead}
+use Rattle.dns_scan.specs.Reads.{ReadsEach, ReadsInTurn, ReadsFirstToken, NumberReads, OctetsRead}
 use Rattle.dns_scan.specs.Stands.{HasTokens, stands_takes, others_of}
 use Rattle.dns_scan.specs.Steps.{GivesStep, octet_given}
 use Rattle.dns_scan.specs.Tokens.{Token, ScansToken}
@@ -17,7 +17,7 @@ use Rattle.dns_scan.proofs.Answered.{builds_read}
 module _ {S V E : Type 0} (next : S → Option Token → S → Type 0) (cause : E → Cause) (answers : Token → Result V E → Type 0) (reads : Token → Result V Cause → Type 0)
     (shows : (t : Token) (r : Result V E) → answers t r → reads t (by_cause cause r)) where
   pub reads_first : (old : S) (r : Result V E) (new : S) → ScansToken next cause answers old r new → (tokens : List Token) → HasTokens next old tokens
-      → (rest : List Token) × ReadsFirst reads tokens (by_cause cause r) rest × HasTokens next new rest
+      → (rest : List Token) × ReadsFirstToken reads tokens (by_cause cause r) rest × HasTokens next new rest
   reads_first old r new scans tokens stands =
       let took = stands_takes next old tokens scans.token new stands scans.taken in
       (others_of tokens, (subst (λ o. MatchOption o (by_cause cause r ≡ Err end_of_entry) (λ t. reads t (by_cause cause r))) took.0 (by scans.token r scans.answer), refl), took.1)
@@ -42,18 +42,18 @@ module _ {S E : Type 0} (next : S → Option Token → S → Type 0) (cause : E 
   number_shows limit t (Err e) h = record { symbols = h.symbols; error = h.error; read = h.read; reads = h.reads }
 
   pub number_first : (limit : ℕ) (old : S) (r : Result ℕ E) (new : S) → ScansToken next cause (ScannedNumber cause limit) old r new → (tokens : List Token) → HasTokens next old tokens
-      → (rest : List Token) × ReadsFirst (NumberReads limit) tokens (by_cause cause r) rest × HasTokens next new rest
+      → (rest : List Token) × ReadsFirstToken (NumberReads limit) tokens (by_cause cause r) rest × HasTokens next new rest
   number_first limit = reads_first next cause (ScannedNumber cause limit) (NumberReads limit) (number_shows limit)
 
   -- where the refusal is handed on
   pub number_refused : (limit : ℕ) (old : S) (e : E) (r : Result ℕ E) (new : S) → IsErrAnd r (λ y. y ≡ e) → ScansToken next cause (ScannedNumber cause limit) old (Err e) new
-      → (tokens : List Token) → HasTokens next old tokens → (rest : List Token) × ReadsFirst (NumberReads limit) tokens (by_cause cause r) rest × HasTokens next new rest
+      → (tokens : List Token) → HasTokens next old tokens → (rest : List Token) × ReadsFirstToken (NumberReads limit) tokens (by_cause cause r) rest × HasTokens next new rest
   number_refused limit old e (Ok v) new same scans = absurd same
   number_refused limit old e (Err y) new same scans =
       number_first limit old (Err y) new (subst (λ (x : E). ScansToken next cause (ScannedNumber cause limit) old (Err x) new) (sym same) scans)
 
   pub octets_first : (room : Room) (old : S) (r : Result (List ℕ) E) (new : S) → ScansToken next cause (Builds cause (GivesStep cause room octet_given) (λ s. s)) old r new
-      → (tokens : List Token) → HasTokens next old tokens → (rest : List Token) × ReadsFirst (OctetsRead room) tokens (by_cause cause r) rest × HasTokens next new rest
+      → (tokens : List Token) → HasTokens next old tokens → (rest : List Token) × ReadsFirstToken (OctetsRead room) tokens (by_cause cause r) rest × HasTokens next new rest
   octets_first room = reads_first next cause (Builds cause (GivesStep cause room octet_given) (λ s. s)) (OctetsRead room) (octets_show cause room)
 
 -- readings in turn, from the first one on

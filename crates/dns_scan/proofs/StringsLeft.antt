@@ -11,7 +11,7 @@ use Rattle.dns_symbol.specs.Text.{SymbolsOf}
 use Rattle.dns_charstr.specs.Reading.{HasOctets}
 use Rattle.dns_symbol.specs.Cause.{Cause, short_buf, IsCause}
 use Rattle.dns_scan.specs.Join.{LeavesOf}
-use Rattle.dns_scan.specs.Reads.{OctetsRead, ReadsFirst, ReadsSome, ReadsRest}
+use Rattle.dns_scan.specs.Reads.{OctetsRead, ReadsFirstToken, ReadsSome, ReadsRest}
 use Rattle.dns_scan.specs.Stands.{HasTokens}
 use Rattle.dns_scan.specs.Steps.{octet_given, bad_or}
 use Rattle.dns_scan.specs.Tokens.{Token}
@@ -34,7 +34,7 @@ octets_of (x ∷ xs) (p ∷ ps) e =
 
 module _ (room : Room) where
   abbrev pub Reads : List Token → Result (List ℕ) Cause → List Token → Type 0
-  Reads = ReadsFirst (OctetsRead (within 255 room))
+  Reads = ReadsFirstToken (OctetsRead (within 255 room))
 
   read_octets : (t : Token) (o : List ℕ) → OctetsRead (within 255 room) t (Ok o) → HasOctets t o × (length o ≤ 255)
   read_octets t o h = (

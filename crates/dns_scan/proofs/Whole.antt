@@ -13,8 +13,8 @@ use Rattle.dns_symbol.proofs.Unique.{symbols_same}
 use Rattle.dns_symbol.proofs.PrintedForms.{IsForm, printed_symbols, printed_octets}
 use Rattle.dns_symbol.specs.Cause.{Cause, short_buf, end_of_entry, IsCause}
 use Rattle.dns_scan.specs.Tokens.{Token, ScansToken}
-use Rattle.dns_scan.specs.Asks.{Builds, CallsEach, Ends}
-use Rattle.dns_scan.specs.Steps.{GivesStep, Appends, octet_given, bad_or}
+use Rattle.dns_scan.specs.Asks.{Builds, CallsEach, EndsAfterSymbols}
+use Rattle.dns_scan.specs.Steps.{GivesStep, AppendsSymbol, octet_given, bad_or}
 use Rattle.dns_charstr.specs.Reading.{HasOctets}
 use Rattle.dns_scan.specs.Octets.{GivesWhere}
 use Rattle.dns_scan.specs.Stands.{HasTokens, stands_takes}
@@ -26,7 +26,7 @@ not_err (Err x) e h = cc
 module _ {E : Type 0} (cause : E → Cause) (room : Room) where
   -- octets of symbols that all have one: all were appended, or some found no room
   run_whole : (symbols : List Symbol) (os : List ℕ) (b c : List ℕ) (u : Result (Unit {0}) E) → map octet_of symbols ≡ map Ok os
-      → CallsEach (GivesStep cause room octet_given) symbols (Ends cause None) b u c
+      → CallsEach (GivesStep cause room octet_given) symbols (EndsAfterSymbols cause None) b u c
       → ((u ≡ Ok tt) × (c ≡ b ++ os)) ⊎ (IsCause cause u short_buf × (room.fits < length b + length os))
   run_whole [] [] b c u is h = inl (h.1, h.0 ∙ sym (append-nil b))
   run_whole [] (o ∷ os) b c u is h = cc
@@ -41,19 +41,19 @@ module _ {E : Type 0} (cause : E → Cause) (room : Room) where
       (λ d. inr (d.0, omega (arith, d.1, ap length a.1 ∙ length-append b (o ∷ []))))
       (run_whole xs os k.0 c u others k.2))
       (λ a. absurd a.0)
-      (appended o b k.0 (Ok tt) (subst (λ q. Appends cause room (bad_or (λ n. n ∷ []) q) b (Ok tt) k.0) first k.1)))
+      (appended o b k.0 (Ok tt) (subst (λ q. AppendsSymbol cause room (bad_or (λ n. n ∷ []) q) b (Ok tt) k.0) first k.1)))
       (λ k. ⊎_elim
       (λ a. absurd (not_err u a.0 k.0))
       (λ a. inr (a.0, omega (arith, a.2)))
-      (appended o b c u (subst (λ q. Appends cause room (bad_or (λ n. n ∷ []) q) b u c) first k.1)))
+      (appended o b c u (subst (λ q. AppendsSymbol cause room (bad_or (λ n. n ∷ []) q) b u c) first k.1)))
       h
     where
-      appended : (o : ℕ) (b c : List ℕ) (r : Result (Unit {0}) E) → Appends cause room (Ok (o ∷ [])) b r c
+      appended : (o : ℕ) (b c : List ℕ) (r : Result (Unit {0}) E) → AppendsSymbol cause room (Ok (o ∷ [])) b r c
           → ((r ≡ Ok tt) × (c ≡ b ++ o ∷ []) × (0 < 1 → length c ≤ room.capacity)) ⊎ (IsCause cause r short_buf × (c ≡ b) × (room.fits - length b < 1))
       appended o b c r a = a
 
   -- octets of a whole run, and their count
-  run_ok : (symbols : List Symbol) (e : Option SymbolCharsError) (b c : List ℕ) → length b ≤ room.capacity → CallsEach (GivesStep cause room octet_given) symbols (Ends cause e) b (Ok tt) c
+  run_ok : (symbols : List Symbol) (e : Option SymbolCharsError) (b c : List ℕ) → length b ≤ room.capacity → CallsEach (GivesStep cause room octet_given) symbols (EndsAfterSymbols cause e) b (Ok tt) c
       → (os : List ℕ) × (map octet_of symbols ≡ map Ok os) × (c ≡ b ++ os) × (e ≡ None) × (length c ≤ room.capacity)
   run_ok [] None b c small h = ([], refl, h.0 ∙ sym (append-nil b), refl, omega (arith, ap length h.0))
   run_ok [] (Some e) b c small h = absurd h.1
@@ -66,7 +66,7 @@ module _ {E : Type 0} (cause : E → Cause) (room : Room) where
       (λ k. absurd (not_err {E = E} (Ok tt) (λ i. Ok tt) k.0))
       h
     where
-      given : (b c : List ℕ) (q : Result ℕ BadSymbol) → Appends cause room (bad_or (λ n. n ∷ []) q) b (Ok tt) c → (o : ℕ) × (q ≡ Ok o) × (c ≡ b ++ o ∷ []) × (length c ≤ room.capacity)
+      given : (b c : List ℕ) (q : Result ℕ BadSymbol) → AppendsSymbol cause room (bad_or (λ n. n ∷ []) q) b (Ok tt) c → (o : ℕ) × (q ≡ Ok o) × (c ≡ b ++ o ∷ []) × (length c ≤ room.capacity)
       given b c (Ok o) h = ⊎_elim (λ a. (o, refl, a.1, a.2 (omega arith))) (λ a. absurd a.0) h
       given b c (Err e) h = absurd h.0
 
@@ -75,9 +75,9 @@ module _ {E : Type 0} (cause : E → Cause) (room : Room) where
         → map octet_of symbols ≡ map Ok os → GivesWhere cause octets room os r
     builds_whole r h symbols os read is =
         let same = symbols_same t h.asks.symbols symbols h.asks.error None h.asks.read read in
-        let ran : CallsEach (GivesStep cause room octet_given) symbols (Ends cause None) [] h.answer h.built =
-        subst (λ ss. CallsEach (GivesStep cause room octet_given) ss (Ends cause None) [] h.answer h.built) same.0
-        (subst (λ e. CallsEach (GivesStep cause room octet_given) h.asks.symbols (Ends cause e) [] h.answer h.built) same.1 h.asks.asked) in
+        let ran : CallsEach (GivesStep cause room octet_given) symbols (EndsAfterSymbols cause None) [] h.answer h.built =
+        subst (λ ss. CallsEach (GivesStep cause room octet_given) ss (EndsAfterSymbols cause None) [] h.answer h.built) same.0
+        (subst (λ e. CallsEach (GivesStep cause room octet_given) h.asks.symbols (EndsAfterSymbols cause e) [] h.answer h.built) same.1 h.asks.asked) in
         by h.answer h.gives (run_whole symbols os _ h.built h.answer is ran)
       where
         by : (u : Result (Unit {0}) E) → MatchResult u (λ _. IsOkAnd r (λ x. octets x ≡ h.built)) (λ e. r ≡ Err e)
@@ -92,13 +92,13 @@ module _ {E : Type 0} (cause : E → Cause) (room : Room) where
     builds_only (Err e) h symbols error read = tt
     builds_only (Ok x) h symbols error read =
         let same = symbols_same t h.asks.symbols symbols h.asks.error error h.asks.read read in
-        let ran : CallsEach (GivesStep cause room octet_given) symbols (Ends cause error) [] h.answer h.built =
-        subst (λ ss. CallsEach (GivesStep cause room octet_given) ss (Ends cause error) [] h.answer h.built) same.0
-        (subst (λ e. CallsEach (GivesStep cause room octet_given) h.asks.symbols (Ends cause e) [] h.answer h.built) same.1 h.asks.asked) in
+        let ran : CallsEach (GivesStep cause room octet_given) symbols (EndsAfterSymbols cause error) [] h.answer h.built =
+        subst (λ ss. CallsEach (GivesStep cause room octet_given) ss (EndsAfterSymbols cause error) [] h.answer h.built) same.0
+        (subst (λ e. CallsEach (GivesStep cause room octet_given) h.asks.symbols (EndsAfterSymbols cause e) [] h.answer h.built) same.1 h.asks.asked) in
         by h.answer (Ok x) refl h.gives ran
       where
         by : (u : Result (Unit {0}) E) (r : Result O E) → r ≡ Ok x → MatchResult u (λ _. IsOkAnd r (λ y. octets y ≡ h.built)) (λ e. r ≡ Err e)
-            → CallsEach (GivesStep cause room octet_given) symbols (Ends cause error) [] u h.built
+            → CallsEach (GivesStep cause room octet_given) symbols (EndsAfterSymbols cause error) [] u h.built
             → (error ≡ None) × (map octet_of symbols ≡ map Ok (octets x)) × (length (octets x) ≤ room.capacity)
         by (Ok v) (Ok y) is g k =
             let ran = run_ok symbols error [] h.built (omega arith) k in

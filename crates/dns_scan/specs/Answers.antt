@@ -10,10 +10,10 @@ use Rattle.dns_symbol.specs.Cause.{Cause, custom_text, short_buf}
 -- what each symbol gives, in a builder with that room
 module _ (given : Symbol → Result (List ℕ) (List ℕ)) (room : Room) where
   -- what is refused once `count` octets stand: a symbol that gives none or whose octets find no room, or what follows the symbols
-  abbrev pub IsFault : ℕ → List Symbol → Option SymbolCharsError → Cause → Type 0
-  IsFault count [] None c = ⊥
-  IsFault count [] (Some e) c = c ≡ custom_text (chars_error_text e)
-  IsFault count (x ∷ xs) error c = MatchResult (given x) (λ o. (room.fits < count + length o) × (c ≡ short_buf)) (λ text. c ≡ custom_text text)
+  abbrev pub IsSymbolFault : ℕ → List Symbol → Option SymbolCharsError → Cause → Type 0
+  IsSymbolFault count [] None c = ⊥
+  IsSymbolFault count [] (Some e) c = c ≡ custom_text (chars_error_text e)
+  IsSymbolFault count (x ∷ xs) error c = MatchResult (given x) (λ o. (room.fits < count + length o) × (c ≡ short_buf)) (λ text. c ≡ custom_text text)
 
   -- the first fault of a token: the symbols before it give octets, and those fit
   pub record FirstFault (symbols : List Symbol) (error : Option SymbolCharsError) (c : Cause) : Type 0 where
@@ -23,7 +23,7 @@ module _ (given : Symbol → Result (List ℕ) (List ℕ)) (room : Room) where
     pub whole : symbols ≡ front ++ rest
     pub gives : map given front ≡ map Ok parts
     pub fits : length (concat parts) ≤ room.capacity
-    pub fault : IsFault (length (concat parts)) rest error c
+    pub fault : IsSymbolFault (length (concat parts)) rest error c
 
   -- the octets of all symbols joined, nothing else stands in the token, and they fit
   pub record AllGiven (symbols : List Symbol) (error : Option SymbolCharsError) (octets : List ℕ) : Type 0 where

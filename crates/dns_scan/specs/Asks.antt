@@ -14,9 +14,9 @@ module _ {F X E : Type 0} (step : F → X → Result (Unit {0}) E → F → Type
   CallsEach (x ∷ xs) Last f r g = ((m : F) × step f x (Ok tt) m × CallsEach xs Last m r g) ⊎ (IsErr r × step f x r g)
 
 -- how a text ends once all its symbols were taken: well, or refused by its error
-abbrev pub Ends : {E : Type 0} → (E → Cause) → Option SymbolCharsError → Result (Unit {0}) E → Type 0
-Ends cause None r = r ≡ Ok tt
-Ends cause (Some e) r = IsCause cause r (custom_text (chars_error_text e))
+abbrev pub EndsAfterSymbols : {E : Type 0} → (E → Cause) → Option SymbolCharsError → Result (Unit {0}) E → Type 0
+EndsAfterSymbols cause None r = r ≡ Ok tt
+EndsAfterSymbols cause (Some e) r = IsCause cause r (custom_text (chars_error_text e))
 
 -- f was asked for the symbols of a token in turn: its first refusal, else the text's error, else Ok
 pub record CallsEachSymbol {F E : Type 0} (cause : E → Cause) (step : F → Symbol → Result (Unit {0}) E → F → Type 0)
@@ -24,7 +24,7 @@ pub record CallsEachSymbol {F E : Type 0} (cause : E → Cause) (step : F → Sy
   pub symbols : List Symbol
   pub error : Option SymbolCharsError
   pub read : SymbolsOf token symbols error
-  pub asked : CallsEach step symbols (Ends cause error) f r g
+  pub asked : CallsEach step symbols (EndsAfterSymbols cause error) f r g
 
 -- a call that handed over the symbols of one token: the token that was taken, and the calls; or the refusal where none was left, and no call
 pub record ScansSymbols {S F E : Type 0} (next : S → Option Token → S → Type 0) (cause : E → Cause) (step : F → Symbol → Result (Unit {0}) E → F → Type 0)

@@ -13,10 +13,10 @@ abbrev pub greatest : ℕ → ℕ
 greatest bits = 2 ^ bits - 1
 
 -- the value of a plain digit; an escape is none
-abbrev pub digit_of : Symbol → Option ℕ
-digit_of (Char c) = if is_digit c then Some (c - 48) else None
-digit_of (SimpleEscape o) = None
-digit_of (DecimalEscape o) = None
+abbrev pub plain_digit_of : Symbol → Option ℕ
+plain_digit_of (Char c) = if is_digit c then Some (c - 48) else None
+plain_digit_of (SimpleEscape o) = None
+plain_digit_of (DecimalEscape o) = None
 
 -- the sum of each digit times its power of ten
 abbrev pub value_of : List ℕ → ℕ
@@ -26,7 +26,7 @@ value_of (d ∷ ds) = d * 10 ^ length ds + value_of ds
 -- the symbols are plain digits of that value, which is at most the limit
 pub record IsNumber (limit : ℕ) (symbols : List Symbol) (v : ℕ) : Type 0 where
   pub digits : List ℕ
-  pub plain : map digit_of symbols ≡ map Some digits
+  pub plain : map plain_digit_of symbols ≡ map Some digits
   pub value : v ≡ value_of digits
   pub small : v ≤ limit
 
@@ -38,7 +38,7 @@ no_digit = custom_text (codes "expected decimal number")
 
 -- why a symbol after a number of that value makes it none: tens of it are too many, or the symbol is no digit, or their sum is too great
 abbrev pub refusal_at : ℕ → ℕ → Symbol → Cause
-refusal_at limit v x = if nat_lt limit (v * 10) then overflow else (if is_some (digit_of x) then overflow else no_digit)
+refusal_at limit v x = if nat_lt limit (v * 10) then overflow else (if is_some (plain_digit_of x) then overflow else no_digit)
 
 -- the symbols are no number: the longest beginning that is one, and the refusal at the symbol after it
 pub record NoNumber (limit : ℕ) (symbols : List Symbol) (why : Cause) : Type 0 where
@@ -72,5 +72,5 @@ pub record ScannedNumber {E : Type 0} (cause : E → Cause) (limit : ℕ) (token
 -- a digit more, as the private `add_digit` adds it, which alone cites this: ten times the value and the digit; or the refusal, and the value as it was
 abbrev pub AddsDigit : {E : Type 0} → (E → Cause) → ℕ → ℕ → Symbol → Result (Unit {0}) E → ℕ → Type 0
 AddsDigit cause limit v x r w =
-    MatchResult r (λ _. (d : ℕ) × (digit_of x ≡ Some d) × (w ≡ v * 10 + d) × (w ≤ limit))
-    (λ e. (w ≡ v) × (cause e ≡ refusal_at limit v x) × ((d : ℕ) → digit_of x ≡ Some d → limit < v * 10 + d))
+    MatchResult r (λ _. (d : ℕ) × (plain_digit_of x ≡ Some d) × (w ≡ v * 10 + d) × (w ≤ limit))
+    (λ e. (w ≡ v) × (cause e ≡ refusal_at limit v x) × ((d : ℕ) → plain_digit_of x ≡ Some d → limit < v * 10 + d))

@@ -13,8 +13,8 @@ use Rattle.dns_scan.specs.Steps.{octet_given}
 use Rattle.dns_scan.specs.Tokens.{Token}
 
 -- the first token was read, or none was left, and the others are left
-abbrev pub ReadsFirst : {V : Type 0} → (Token → Result V Cause → Type 0) → List Token → Result V Cause → List Token → Type 0
-ReadsFirst reads tokens r rest = MatchOption (first_of tokens) (r ≡ Err end_of_entry) (λ t. reads t r) × (rest ≡ others_of tokens)
+abbrev pub ReadsFirstToken : {V : Type 0} → (Token → Result V Cause → Type 0) → List Token → Result V Cause → List Token → Type 0
+ReadsFirstToken reads tokens r rest = MatchOption (first_of tokens) (r ≡ Err end_of_entry) (λ t. reads t r) × (rest ≡ others_of tokens)
 
 -- a token that is read as a number of at most the limit
 abbrev pub NumberReads : ℕ → Token → Result ℕ Cause → Type 0

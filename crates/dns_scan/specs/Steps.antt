@@ -26,9 +26,9 @@ module _ {E : Type 0} (cause : E → Cause) (room : Room) where
   Grows o b r c = ((r ≡ Ok tt) × (c ≡ b ++ o) × (0 < length o → length c ≤ room.capacity)) ⊎ (IsCause cause r short_buf × (c ≡ b) × (room.fits - length b < length o))
 
   -- the octets of one symbol were appended, or there was the refusal with that text
-  abbrev pub Appends : Result (List ℕ) (List ℕ) → List ℕ → Result (Unit {0}) E → List ℕ → Type 0
-  Appends (Ok o) b r c = Grows o b r c
-  Appends (Err text) b r c = IsCause cause r (custom_text text) × (c ≡ b)
+  abbrev pub AppendsSymbol : Result (List ℕ) (List ℕ) → List ℕ → Result (Unit {0}) E → List ℕ → Type 0
+  AppendsSymbol (Ok o) b r c = Grows o b r c
+  AppendsSymbol (Err text) b r c = IsCause cause r (custom_text text) × (c ≡ b)
 
   -- what a converter made was appended, or there was its own refusal
   abbrev pub Adds : Result (List ℕ) E → List ℕ → Result (Unit {0}) E → List ℕ → Type 0
@@ -37,4 +37,4 @@ module _ {E : Type 0} (cause : E → Cause) (room : Room) where
 
   -- the octets that a symbol gives
   abbrev pub GivesStep : (Symbol → Result (List ℕ) (List ℕ)) → List ℕ → Symbol → Result (Unit {0}) E → List ℕ → Type 0
-  GivesStep given b x r c = Appends (given x) b r c
+  GivesStep given b x r c = AppendsSymbol (given x) b r c

@@ -17,7 +17,7 @@ ghost use Rattle.dns_scan.specs.Join.{CallsTokens, ConvertsTokens, IsJoin, IsSym
 ghost use Rattle.dns_scan.specs.Kinds.{KindReads};
 ghost use Rattle.dns_scan.specs.Numbers.{IsNumber, by_cause};
 ghost use Rattle.dns_scan.specs.Octets.{GivesWhere, IsPrinted, StringBack};
-ghost use Rattle.dns_scan.specs.Reads.{NameReads, NumberReads, OctetsRead, ReadInOneWay, ReadsBoth, ReadsEach, ReadsFirst, ReadsInOneWay, ReadsInTurn};
+ghost use Rattle.dns_scan.specs.Reads.{NameReads, NumberReads, OctetsRead, ReadInOneWay, ReadsBoth, ReadsEach, ReadsFirstToken, ReadsInOneWay, ReadsInTurn};
 ghost use Rattle.dns_scan.specs.Steps.{octet_given};
 ghost use Rattle.dns_scan.specs.Stands.{HasTokens, TakesOne, first_of};
 ghost use Rattle.dns_scan.specs.Strings.{AnswersStrings};
@@ -35,7 +35,7 @@ use dns_symbol::symbol::EntrySymbol;
 /// where there is room. So the unquoted text of a character string, and the text between its
 /// double quotes, are scanned back to its octets.
 ///
-/// Any other token is refused, by its first fault: one with an escape that is none, with a symbol
+/// Any other token is refused, by its first fault: one with a bad escape, with a symbol
 /// without octet, or with more than 255 symbols.
 pub fn character_strings_are_scanned_back<S: Scanner>(
     scanner: &mut S,
@@ -47,7 +47,7 @@ pub fn character_strings_are_scanned_back<S: Scanner>(
     scanner.scan_charstr()
 }
 
-/// Over a builder whose room is known, as an array's, symbols are answered in one way, whatever
+/// Over a builder whose room is known, as an array's, symbols have one result, whatever
 /// each gives. So is a token that is read as octets, and so are the tokens of an entry that are put
 /// together as character strings, with the tokens that are left.
 pub fn octets_are_answered_in_one_way()
@@ -62,14 +62,14 @@ pub fn octets_are_answered_in_one_way()
 /// token that is read as a number is plain digits of that value.
 pub fn printed_numbers_read_back()
     ensures back { (limit v : ℕ) (others rest : List Token) (r : Result ℕ Cause) → v ≤ limit → v < 2 ^ 128
-        → ReadsFirst (NumberReads limit) (decimal v ∷ others) r rest → (r ≡ Ok v) × (rest ≡ others) }
+        → ReadsFirstToken (NumberReads limit) (decimal v ∷ others) r rest → (r ≡ Ok v) × (rest ≡ others) }
     ensures one { (limit : ℕ) (token : Token) (q r : Result ℕ Cause) → NumberReads limit token q → NumberReads limit token r → q ≡ r }
     ensures only { (limit : ℕ) (token : Token) (r : Result ℕ Cause) (symbols : List PlainSymbol) (error : Option SymbolCharsError) → NumberReads limit token r
         → SymbolsOf token symbols error → IfOk r (λ v. IsNumber limit symbols v × (error ≡ None)) }
 {}
 
 /// `count` scans of one type hand over the values that the tokens are read as, up to the first
-/// refusal, which is the answer. The type may be a pair of types, and those pairs too.
+/// refusal, which is returned. The type may be a pair of types, and those pairs too.
 pub fn scans_in_turn<S: Scanner, T: Scan<S>, F: FnMut(T)>(
     scanner: &mut S,
     count: usize,
@@ -91,7 +91,7 @@ pub fn scans_in_turn<S: Scanner, T: Scan<S>, F: FnMut(T)>(
 }
 
 /// Scans of a list of kinds hand over the values that the tokens are read as, up to the first
-/// refusal, which is the answer. `T` is the type of kind `Other`, as that of character strings.
+/// refusal, which is returned. `T` is the type of kind `Other`, as that of character strings.
 pub fn kinds_in_turn<S: Scanner, T: Scan<S>, F: FnMut(Scanned<T>)>(
     scanner: &mut S,
     kinds: &[Kind],
@@ -118,10 +118,10 @@ pub fn kinds_in_turn<S: Scanner, T: Scan<S>, F: FnMut(Scanned<T>)>(
 /// scanner reads each token as one name or refuses it in one way. Where it is so for scans of two
 /// types, it is for so many of one, for a list of kinds with one, and for pairs of both.
 pub fn scans_have_one_answer<S: Scanner, A: Scan<S> + Drop, B: Scan<S>>()
-    ensures number { (limit : ℕ) → ReadsInOneWay (ReadsFirst (NumberReads limit)) }
-    ensures string { (size : ℕ) → ReadsInOneWay (ReadsFirst (OctetsRead (exactly size))) }
+    ensures number { (limit : ℕ) → ReadsInOneWay (ReadsFirstToken (NumberReads limit)) }
+    ensures string { (size : ℕ) → ReadsInOneWay (ReadsFirstToken (OctetsRead (exactly size))) }
     ensures name { ((token : Token) (q r : Result S.Name S.Error) → S.reads_name token q → S.reads_name token r → by_cause S.Error.cause q ≡ by_cause S.Error.cause r)
-        → ReadsInOneWay (ReadsFirst (NameReads S.Error.cause S.reads_name)) }
+        → ReadsInOneWay (ReadsFirstToken (NameReads S.Error.cause S.reads_name)) }
     ensures each { ReadsInOneWay A.scan_reads → (count : ℕ) → ReadInOneWay (ReadsEach A.scan_reads count) }
     ensures kinds { ReadsInOneWay A.scan_reads → (kinds : List Kind) → ReadInOneWay (ReadsInTurn (KindReads A.scan_reads) kinds) }
     ensures both { ReadsInOneWay A.scan_reads → ReadsInOneWay B.scan_reads → ReadsInOneWay (ReadsBoth A.scan_reads B.scan_reads) }
@@ -141,7 +141,7 @@ pub fn markers_are_found<S: Scanner>(scanner: &mut S) -> Result<bool, S::Error>
 }
 
 /// The symbols of all tokens, and the end of each token after them, are handed over in turn, up to
-/// the first refusal, which is the answer. A bad escape is a refusal in its place. Then the tokens
+/// the first refusal, which is returned. A bad escape is a refusal in its place. Then the tokens
 /// after the refused one are left, and else none.
 pub fn entries_are_handed_over<S: Scanner, F>(scanner: &mut S, op: &mut F) -> Result<(), S::Error>
 where
@@ -159,7 +159,7 @@ where
     scanner.scan_entry_symbols(op)
 }
 
-/// The tokens of an entry are converted in turn, up to the first refusal, which is the answer; the
+/// The tokens of an entry are converted in turn, up to the first refusal, which is returned; the
 /// tail is asked for once all are taken. Then the tokens after the refused one are left, and none
 /// where none or only the tail was refused.
 ///

@@ -1,6 +1,6 @@
 //! Decimal numbers.
 ghost use Rattle.std.specs.Prelude.{◌≡◌, ◌≤◌, ◌<◌, IfSome, IfOk};
-ghost use Rattle.dns_scan.specs.Numbers.{digit_of, AddsDigit, ScannedNumber};
+ghost use Rattle.dns_scan.specs.Numbers.{plain_digit_of, AddsDigit, ScannedNumber};
 ghost use Rattle.dns_scan.specs.Tokens.{ScansToken};
 
 use crate::scanner::Scanner;
@@ -9,7 +9,7 @@ use dns_symbol::symbol::Symbol;
 
 // The value of a plain digit.
 fn plain_digit(symbol: Symbol) -> Option<u8>
-    ensures value { result ≡ digit_of symbol }
+    ensures value { result ≡ plain_digit_of symbol }
     ensures small { IfSome result (λ d. d < 10) }
 {
     match symbol {

@@ -36,7 +36,7 @@ pub fn expect_end<S: Scanner>(scanner: &mut S) -> Result<(), S::Error>
 /// Takes all tokens that are left, as values of one type, in a list from `alloc`. No token left is
 /// an empty list.
 ///
-/// The first value that is refused is the answer; so is "short buffer" where the list finds no
+/// The first refusal of a value is returned; so is "short buffer" where the list finds no
 /// memory, which it asks for once there is a value. Then the tokens after that value are left.
 pub fn scan_rest<A: Allocator, S: Scanner, T: Scan<S> + Drop>(
     alloc: A,

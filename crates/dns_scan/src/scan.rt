@@ -3,7 +3,7 @@ ghost use Rattle.std.specs.Prelude.{◌≡◌, List, Result, Ok, min};
 ghost use Rattle.dns_octets.specs.Room.{within};
 ghost use Rattle.dns_symbol.specs.Cause.{Cause};
 ghost use Rattle.dns_scan.specs.Numbers.{by_cause, greatest};
-ghost use Rattle.dns_scan.specs.Reads.{ReadsFirst, NameReads, NumberReads, OctetsRead, ReadsBoth};
+ghost use Rattle.dns_scan.specs.Reads.{ReadsFirstToken, NameReads, NumberReads, OctetsRead, ReadsBoth};
 ghost use Rattle.dns_scan.specs.Stands.{HasTokens};
 ghost use Rattle.dns_scan.specs.Tokens.{Token};
 ghost use Rattle.dns_charstr.specs.Limits.{max_string};
@@ -29,7 +29,7 @@ pub trait Scan<S: Scanner>: Sized {
 
 /// A decimal number. The empty token is 0.
 impl<S: Scanner> Scan<S> for u8 {
-    ghost scan_reads = { ReadsFirst (NumberReads (greatest 8)) };
+    ghost scan_reads = { ReadsFirstToken (NumberReads (greatest 8)) };
 
     fn scan(scanner: &mut S) -> Result<Self, S::Error> {
         Ok(scan_number(scanner, u8::MAX as u128)? as u8)
@@ -38,7 +38,7 @@ impl<S: Scanner> Scan<S> for u8 {
 
 /// A decimal number. The empty token is 0.
 impl<S: Scanner> Scan<S> for u16 {
-    ghost scan_reads = { ReadsFirst (NumberReads (greatest 16)) };
+    ghost scan_reads = { ReadsFirstToken (NumberReads (greatest 16)) };
 
     fn scan(scanner: &mut S) -> Result<Self, S::Error> {
         Ok(scan_number(scanner, u16::MAX as u128)? as u16)
@@ -47,7 +47,7 @@ impl<S: Scanner> Scan<S> for u16 {
 
 /// A decimal number. The empty token is 0.
 impl<S: Scanner> Scan<S> for u32 {
-    ghost scan_reads = { ReadsFirst (NumberReads (greatest 32)) };
+    ghost scan_reads = { ReadsFirstToken (NumberReads (greatest 32)) };
 
     fn scan(scanner: &mut S) -> Result<Self, S::Error> {
         Ok(scan_number(scanner, u32::MAX as u128)? as u32)
@@ -56,7 +56,7 @@ impl<S: Scanner> Scan<S> for u32 {
 
 /// A decimal number. The empty token is 0.
 impl<S: Scanner> Scan<S> for u64 {
-    ghost scan_reads = { ReadsFirst (NumberReads (greatest 64)) };
+    ghost scan_reads = { ReadsFirstToken (NumberReads (greatest 64)) };
 
     fn scan(scanner: &mut S) -> Result<Self, S::Error> {
         Ok(scan_number(scanner, u64::MAX as u128)? as u64)
@@ -65,7 +65,7 @@ impl<S: Scanner> Scan<S> for u64 {
 
 /// A decimal number. The empty token is 0.
 impl<S: Scanner> Scan<S> for u128 {
-    ghost scan_reads = { ReadsFirst (NumberReads (greatest 128)) };
+    ghost scan_reads = { ReadsFirstToken (NumberReads (greatest 128)) };
 
     fn scan(scanner: &mut S) -> Result<Self, S::Error> {
         scan_number(scanner, u128::MAX)
@@ -74,7 +74,7 @@ impl<S: Scanner> Scan<S> for u128 {
 
 /// Seconds, as a decimal number.
 impl<S: Scanner> Scan<S> for Ttl {
-    ghost scan_reads = { ReadsFirst (NumberReads (greatest 32)) };
+    ghost scan_reads = { ReadsFirstToken (NumberReads (greatest 32)) };
 
     fn scan(scanner: &mut S) -> Result<Self, S::Error> {
         Ok(Ttl::from_secs(scan_number(scanner, u32::MAX as u128)? as u32))
@@ -83,7 +83,7 @@ impl<S: Scanner> Scan<S> for Ttl {
 
 /// A character string, as [`Scanner::scan_charstr`] takes it.
 impl<S: Scanner> Scan<S> for CharStr<S::Octets> {
-    ghost scan_reads = { ReadsFirst (OctetsRead (within max_string S.OctetsBuilder.room)) };
+    ghost scan_reads = { ReadsFirstToken (OctetsRead (within max_string S.OctetsBuilder.room)) };
 
     fn scan(scanner: &mut S) -> Result<Self, S::Error> {
         scanner.scan_charstr()
@@ -92,7 +92,7 @@ impl<S: Scanner> Scan<S> for CharStr<S::Octets> {
 
 /// A name, as [`Scanner::scan_name`] takes it.
 impl<O: AsOctets, S: Scanner<Name = Name<O>>> Scan<S> for Name<O> {
-    ghost scan_reads = { ReadsFirst (NameReads S.Error.cause S.reads_name) };
+    ghost scan_reads = { ReadsFirstToken (NameReads S.Error.cause S.reads_name) };
 
     fn scan(scanner: &mut S) -> Result<Self, S::Error> {
         scanner.scan_name()

@@ -18,7 +18,7 @@ use dns_wire::ToName;
 
 /// Gives the tokens of an entry one by one, read as values.
 ///
-/// A token call takes one token, also where it then refuses it; with none left it answers
+/// A token call takes one token, also where it then refuses it; with none left it returns
 /// [`ScannerError::end_of_entry`]. The symbols of a token are handled in order. A bad escape is
 /// refused by the text of its error, once all symbols before it were handled.
 ///
@@ -164,7 +164,7 @@ pub trait Scanner {
         ensures ready { can_scan self.new }
         ensures scans { BuildsEntry next_token (StringStep Self.Error.cause Self.OctetsBuilder.room) Self.Octets.octets self.old result self.new };
 
-    /// Takes a token that is exactly `\#` and answers true, or takes none and answers false.
+    /// Takes a token that is exactly `\#` and returns true, or takes none and returns false.
     fn scan_opt_unknown_marker(&mut self) -> Result<bool, Self::Error>
         requires { can_scan self.old }
         ensures ready { can_scan self.new }

@@ -18,7 +18,7 @@ use Rattle.dns_split.specs.declared.pieces.Wrong.{Wrong}
 use Rattle.dns_split.specs.declared.pieces.Wrong.TheVariants.{Closing as Late, OpenParenthesis, OpenQuote, LoneReturn, BadEscape}
 use Rattle.dns_split.specs.Reader.{step, may_end}
 use Rattle.dns_split.specs.Pieces.{word_at, quote_at, comment_at, end_at, moved_piece, moved_wrong, moved_fault, moved, later, IsGiven, AreOctets}
-use Rattle.dns_split.specs.Run.{open_piece, goes_on, before, closed, finished, start_after, first_blank, blank_after, fault, wrong_at, wrong_at_end, run}
+use Rattle.dns_split.specs.Run.{open_piece, goes_on, before, closed_piece, finished, start_after, first_blank, blank_after, fault, wrong_at, wrong_at_end, run}
 use Rattle.dns_split.proofs.Complete.{Some_same}
 use Rattle.dns_split.proofs.PieceSteps.{run_step, run_stop, entry_home}
 use Rattle.dns_split.proofs.PieceGiven.{tail_of, first_of}
@@ -57,7 +57,7 @@ Stays bs y = (m : Mode) (d s at : ℕ) (b : Bool) (f : Fault) → first_fault (r
 stays_on : (bs y : List ℕ) (m : Mode) (d s at : ℕ) (b : Bool) (c : ℕ) (f : Fault) (v : Move) → step m d c ≡ Some v → Stays bs y → first_fault (run m d s at b (c ∷ bs)) ≡ Some f
     → f.at < at + suc (length bs) → (w : List ℕ) → w ≡ bs → run m d s at b (c ∷ (bs ++ y)) ≡ run m d s at b (c ∷ bs)
 stays_on bs y m d s at b c f v e ih h l w k =
-    let o : Option Piece = closed m v.mode v.act s at in
+    let o : Option Piece = closed_piece m v.mode v.act s at in
     let q : Option Piece = finished v.act s (at + 1) b in
     let t : ℕ = start_after m v.mode v.act s at in
     let left : List (Result Piece Fault) = run v.mode v.depth t (at + 1) (blank_after v.act b bs) bs in
@@ -70,7 +70,7 @@ stays_on bs y m d s at b c f v e ih h l w k =
         let t : ℕ = start_after m v.mode v.act s at in
         absurd (omega (arith, l, ap length k, at_end v.mode v.depth t (at + 1) (blank_after v.act b []) f (ap (λ w. first_fault (run v.mode v.depth t (at + 1) (blank_after v.act b w) w)) k ∙ here)))
     on (x ∷ w) k here =
-        let o : Option Piece = closed m v.mode v.act s at in
+        let o : Option Piece = closed_piece m v.mode v.act s at in
         let q : Option Piece = finished v.act s (at + 1) b in
         let t : ℕ = start_after m v.mode v.act s at in
         let some : 0 < length bs = omega (arith, ap length k) in
@@ -162,7 +162,7 @@ place_in n _ = n
 module _ (m : Mode) (d s at : ℕ) (b : Bool) (c : ℕ) (bs : List ℕ) (v : Move) (e : step m d c ≡ Some v) where
   -- the octet ends the entry
   ends_here : (found : List Piece) (i : ℕ) (x : Bool) → v.act ≡ EndEntry → i ≡ at + 1 → x ≡ b
-      → ((k : List (Result Piece Fault)) → before (closed m v.mode v.act s at) (map Ok [] ++ k) ≡ map Ok found ++ k) → Passed m d s at b (c ∷ bs) found i x
+      → ((k : List (Result Piece Fault)) → before (closed_piece m v.mode v.act s at) (map Ok [] ++ k) ≡ map Ok found ++ k) → Passed m d s at b (c ∷ bs) found i x
   ends_here found i x a i_is x_is back = record {
     front = c ∷ [];
     rest = bs;
@@ -172,7 +172,7 @@ module _ (m : Mode) (d s at : ℕ) (b : Bool) (c : ℕ) (bs : List ℕ) (v : Mov
     goes = λ y.
         let home = entry_home m d c v e a in
         run_step m d s at b c y v e ∙ ap
-        (λ w. before (closed m v.mode v.act s at) (before (finished w s (at + 1) b) (run v.mode v.depth (start_after m v.mode w s at) (at + 1) (blank_after w b y) y))) a
+        (λ w. before (closed_piece m v.mode v.act s at) (before (finished w s (at + 1) b) (run v.mode v.depth (start_after m v.mode w s at) (at + 1) (blank_after w b y) y))) a
         ∙ back (Ok (end_at (at + 1) b) ∷ run v.mode v.depth (at + 1) (at + 1) (first_blank y) y)
         ∙ ap (λ z. map Ok found ++ Ok (end_at (at + 1) b) ∷ run z v.depth (at + 1) (at + 1) (first_blank y) y) home.0
         ∙ ap (λ z. map Ok found ++ Ok (end_at (at + 1) b) ∷ run Outside z (at + 1) (at + 1) (first_blank y) y) home.1
@@ -182,7 +182,7 @@ module _ (m : Mode) (d s at : ℕ) (b : Bool) (c : ℕ) (bs : List ℕ) (v : Mov
 
   -- the entry ends later
   ends_later : (found more : List Piece) (i : ℕ) (x : Bool) → Passed v.mode v.depth (start_after m v.mode v.act s at) (at + 1) (blank_after v.act b bs) bs more i x
-      → ((k : List (Result Piece Fault)) → before (closed m v.mode v.act s at) (before (finished v.act s (at + 1) b) (map Ok more ++ k)) ≡ map Ok found ++ k) → Passed m d s at b (c ∷ bs) found i x
+      → ((k : List (Result Piece Fault)) → before (closed_piece m v.mode v.act s at) (before (finished v.act s (at + 1) b) (map Ok more ++ k)) ≡ map Ok found ++ k) → Passed m d s at b (c ∷ bs) found i x
   ends_later found more i x p back = record {
     front = c ∷ p.front;
     rest = p.rest;
@@ -192,13 +192,13 @@ module _ (m : Mode) (d s at : ℕ) (b : Bool) (c : ℕ) (bs : List ℕ) (v : Mov
     goes = λ y.
         let same : blank_after v.act b (p.front ++ y) ≡ blank_after v.act b bs = blank_front v.act b p.front y p.rest p.some ∙ ap (blank_after v.act b) (sym p.is) in
         run_step m d s at b c (p.front ++ y) v e
-        ∙ ap (λ z. before (closed m v.mode v.act s at) (before (finished v.act s (at + 1) b) (run v.mode v.depth (start_after m v.mode v.act s at) (at + 1) z (p.front ++ y)))) same
-        ∙ ap (λ l. before (closed m v.mode v.act s at) (before (finished v.act s (at + 1) b) l)) (p.goes y)
+        ∙ ap (λ z. before (closed_piece m v.mode v.act s at) (before (finished v.act s (at + 1) b) (run v.mode v.depth (start_after m v.mode v.act s at) (at + 1) z (p.front ++ y)))) same
+        ∙ ap (λ l. before (closed_piece m v.mode v.act s at) (before (finished v.act s (at + 1) b) l)) (p.goes y)
         ∙ back (Ok (end_at i x) ∷ run Outside 0 i i (first_blank y) y);
   }
 
   abbrev Back : List Piece → List Piece → Type 0
-  Back more found = (k : List (Result Piece Fault)) → before (closed m v.mode v.act s at) (map Ok more ++ k) ≡ map Ok found ++ k
+  Back more found = (k : List (Result Piece Fault)) → before (closed_piece m v.mode v.act s at) (map Ok more ++ k) ≡ map Ok found ++ k
 
   abbrev tail : List (Result Piece Fault)
   tail = run v.mode v.depth (start_after m v.mode v.act s at) (at + 1) (blank_after v.act b bs) bs
@@ -207,7 +207,7 @@ module _ (m : Mode) (d s at : ℕ) (b : Bool) (c : ℕ) (bs : List ℕ) (v : Mov
       → before (finished v.act s (at + 1) b) tail ≡ map Ok more ++ Ok (end_at i x) ∷ left → Back more found → Passed m d s at b (c ∷ bs) found i x
   no_end found more i x left ih h n e back =
       let k = skip (finished v.act s (at + 1) b) tail more i x left n e in
-      ends_later found k.more i x (ih v.mode v.depth _ (at + 1) _ k.more i x left k.is h) (λ l. ap (before (closed m v.mode v.act s at)) (k.back l) ∙ back l)
+      ends_later found k.more i x (ih v.mode v.depth _ (at + 1) _ k.more i x left k.is h) (λ l. ap (before (closed_piece m v.mode v.act s at)) (k.back l) ∙ back l)
 
   an_end : (found more : List Piece) (i : ℕ) (x : Bool) (left : List (Result Piece Fault)) → Passes bs → 0 < length left → v.act ≡ EndEntry
       → Ok (end_at (at + 1) b) ∷ tail ≡ map Ok more ++ Ok (end_at i x) ∷ left → Back more found → Passed m d s at b (c ∷ bs) found i x
@@ -216,7 +216,7 @@ module _ (m : Mode) (d s at : ℕ) (b : Bool) (c : ℕ) (bs : List ℕ) (v : Mov
       ends_here found i x a (ap (place_in 0) same) (ap (blank_of b) same) back
   an_end found (q ∷ more) i x left ih h a e back =
       let same : end_at (at + 1) b ≡ q = ap (first_of q) e in
-      let o : Option Piece = closed m v.mode v.act s at in
+      let o : Option Piece = closed_piece m v.mode v.act s at in
       ends_later found more i x (ih v.mode v.depth _ (at + 1) _ more i x left (ap tail_of e) h)
       (λ k. ap (λ w. before o (before (finished w s (at + 1) b) (map Ok more ++ k))) a ∙ ap (λ z. before o (Ok z ∷ (map Ok more ++ k))) same ∙ back k)
 
@@ -235,7 +235,7 @@ passed (c ∷ bs) m d s at b found i x left e h = go (step m d c) refl (passed b
     go : (o : Option Move) → step m d c ≡ o → Passes bs → Passed m d s at b (c ∷ bs) found i x
     go None g ih = elim (one_given (Err (record { at = at; wrong = wrong_at m s })) found (end_at i x) left (sym (run_stop m d s at b c bs g) ∙ e) h) [ ]
     go (Some v) g ih =
-        let k = skip (closed m v.mode v.act s at) _ found i x left (closed_no_end (goes_on m v.mode v.act) m s at) (sym (run_step m d s at b c bs v g) ∙ e) in
+        let k = skip (closed_piece m v.mode v.act s at) _ found i x left (closed_no_end (goes_on m v.mode v.act) m s at) (sym (run_step m d s at b c bs v g) ∙ e) in
         by_act m d s at b c bs v g v.act refl found k.more i x left ih h k.is k.back
 
 abbrev Read : List ℕ → List (Result Piece Fault)

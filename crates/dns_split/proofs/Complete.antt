@@ -10,7 +10,7 @@ use Rattle.dns_symbol.specs.declared.symbol.Symbol.TheVariants.{Char, SimpleEsca
 use Rattle.dns_split.specs.declared.reader.Mode.{Mode}
 use Rattle.dns_split.specs.declared.reader.Mode.TheVariants.{Outside, Quoted, Comment, Escape, OneDigit, TwoDigits}
 use Rattle.dns_split.specs.declared.reader.Act.TheVariants.{EndToken, Add}
-use Rattle.dns_split.specs.Lexeme.{Lexeme, Blank, Line, Open, Close, Note, Word, Quote, characters, bytes, is_quote_symbol, is_quote_char, is_note_char}
+use Rattle.dns_split.specs.Lexeme.{Lexeme, Blank, Line, Open, Close, Note, Word, Quote, characters, lexeme_bytes, is_quote_symbol, is_quote_char, is_note_char}
 use Rattle.dns_split.specs.Splitting.{Splits, may_precede, are_lexemes, nests, with_token, entries, Entries}
 use Rattle.dns_symbol.specs.Symbol.{spell, is_word_symbol, is_word_char, is_readable, is_digit}
 use Rattle.dns_split.specs.declared.reader.Kind.TheVariants.{Plain}
@@ -205,10 +205,10 @@ spell_some (Char c) = omega (arith, length-append (encode_utf8 c) [], length-enc
 spell_some (SimpleEscape o) = omega (arith, length-append (encode_utf8 92) (encode_utf8_all (o ∷ [])), length-encode 92, (len_utf8_bounds 92).0)
 spell_some (DecimalEscape o) = omega (arith, length-append (encode_utf8 92) (encode_utf8_all ((48 + o / 100) ∷ (48 + o / 10 % 10) ∷ (48 + o % 10) ∷ [])), length-encode 92, (len_utf8_bounds 92).0)
 
-pub word_some : (s : Symbol) (ss : List Symbol) → 0 < length (bytes (Word s ss))
+pub word_some : (s : Symbol) (ss : List Symbol) → 0 < length (lexeme_bytes (Word s ss))
 word_some s ss = omega (arith, spell_some s, length-append (encode_utf8_all (spell s)) (encode_utf8_all (flat_map spell ss)), ap length (encodes-append (spell s) (flat_map spell ss)))
 
-pub quote_some : (ss : List Symbol) → 0 < length (bytes (Quote ss))
+pub quote_some : (ss : List Symbol) → 0 < length (lexeme_bytes (Quote ss))
 quote_some ss = omega (arith, length-append (encode_utf8 34) (encode_utf8_all (flat_map spell ss ++ 34 ∷ [])), length-encode 34, (len_utf8_bounds 34).0)
 
 -- no word comes first
@@ -257,27 +257,27 @@ lexemes_read (Word s ss ∷ ls) d t v n a =
     let e : t ≡ [] = open_clear [] t (Word s ss ∷ ls) a refl in
     rw e
     (symbols_read InWord d [] (flat_map characters ls) (s ∷ ss) r.0
-    ∙ lexemes_read ls d (bytes (Word s ss)) p.1 n (inr (apart_word s ss ls r.1))
-    ∙ ap Some (with_open_some (bytes (Word s ss)) (entries d ls) (word_some s ss)))
+    ∙ lexemes_read ls d (lexeme_bytes (Word s ss)) p.1 n (inr (apart_word s ss ls r.1))
+    ∙ ap Some (with_open_some (lexeme_bytes (Word s ss)) (entries d ls) (word_some s ss)))
 lexemes_read (Quote ss ∷ ls) d t v n a =
     let p = and_parts (list_all is_quote_symbol ss && true) (are_lexemes ls) v in
     let r = and_parts (list_all is_quote_symbol ss) true p.0 in
     let rest : List ℕ = flat_map characters ls in
     let body : List ℕ = encode_utf8_all (flat_map spell ss) in
-    let token : encode_utf8 34 ++ body ++ encode_utf8 34 ≡ bytes (Quote ss) = simp (encodes-append, append_assoc, append-nil) in
+    let token : encode_utf8 34 ++ body ++ encode_utf8 34 ≡ lexeme_bytes (Quote ss) = simp (encodes-append, append_assoc, append-nil) in
     ap (option_map (with_open t))
     (ap (read Quoted d (encode_utf8 34)) (append_assoc (flat_map spell ss) (34 ∷ []) rest)
     ∙ symbols_read InQuote d (encode_utf8 34) (34 ∷ rest) ss r.0
     ∙ ap (λ x. option_map (with_open (encode_utf8 34 ++ body ++ encode_utf8 34)) x) (lexemes_read ls d [] p.1 n (inl refl))
     ∙ ap (λ u. Some (with_open u (entries d ls))) token
-    ∙ ap Some (with_open_some (bytes (Quote ss)) (entries d ls) (quote_some ss)))
+    ∙ ap Some (with_open_some (lexeme_bytes (Quote ss)) (entries d ls) (quote_some ss)))
 
 pub Some_same : {A : Type 0} {x y : A} → Some x ≡ Some y → x ≡ y
 Some_same {x = x} e = ap (λ o. unwrap_or o x) e
 
-pub bytes_all : (ls : List Lexeme) → flat_map bytes ls ≡ encode_utf8_all (flat_map characters ls)
+pub bytes_all : (ls : List Lexeme) → flat_map lexeme_bytes ls ≡ encode_utf8_all (flat_map characters ls)
 bytes_all [] = refl
-bytes_all (l ∷ ls) = ap (λ x. bytes l ++ x) (bytes_all ls) ∙ sym (encodes-append (characters l) (flat_map characters ls))
+bytes_all (l ∷ ls) = ap (λ x. lexeme_bytes l ++ x) (bytes_all ls) ∙ sym (encodes-append (characters l) (flat_map characters ls))
 
 -- a text that splits is read so
 pub splits_read : (cs : List ℕ) (text : List ℕ) (e : Entries) → encode_utf8_all cs ≡ text → Splits text e → read Outside 0 [] cs ≡ Some e

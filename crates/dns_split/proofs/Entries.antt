@@ -12,20 +12,20 @@ use Rattle.dns_split.specs.declared.pieces.Piece.{Piece}
 use Rattle.dns_split.specs.declared.pieces.Piece.TheVariants.{Word as WordAt, Quote as QuoteAt, Comment as CommentAt, End as EndAt}
 use Rattle.dns_split.specs.declared.pieces.Fault.{Fault}
 use Rattle.dns_split.specs.Answer.{texts, entries_of}
-use Rattle.dns_split.specs.Lexeme.{Lexeme, Blank, Line, Open, Close, Note, Word, Quote, bytes, is_lexeme, is_quote_symbol, is_note_char}
+use Rattle.dns_split.specs.Lexeme.{Lexeme, Blank, Line, Open, Close, Note, Word, Quote, lexeme_bytes, is_lexeme, is_quote_symbol, is_note_char}
 use Rattle.dns_split.specs.Splitting.{Splits, Entries, may_precede, are_lexemes, with_token, entries}
 use Rattle.dns_split.specs.Token.{IsWord, IsQuote, IsComment, IsToken}
 use Rattle.dns_split.specs.Pieces.{begins_blank, pieces, IsPieces, IsSpelled, IsWithin, EachWithin, Faulty, Reads, between}
 use Rattle.dns_split.proofs.Tokens.{symbols_bytes, quote_bytes}
 use Rattle.dns_split.proofs.PieceSplit.{between_is, split_pieces}
 
-word_is : (s : Symbol) (ss : List Symbol) → list_all is_word_symbol (s ∷ ss) ≡ true → IsWord (bytes (Word s ss))
+word_is : (s : Symbol) (ss : List Symbol) → list_all is_word_symbol (s ∷ ss) ≡ true → IsWord (lexeme_bytes (Word s ss))
 word_is s ss v = record { symbols = s ∷ ss; some = omega arith; valid = v; spelled = sym (symbols_bytes (s ∷ ss)) }
 
-quote_is : (ss : List Symbol) → list_all is_quote_symbol ss ≡ true → IsQuote (bytes (Quote ss))
+quote_is : (ss : List Symbol) → list_all is_quote_symbol ss ≡ true → IsQuote (lexeme_bytes (Quote ss))
 quote_is ss v = record { symbols = ss; valid = v; spelled = quote_bytes ss }
 
-comment_is : (cs : List ℕ) → list_all is_note_char cs ≡ true → IsComment (bytes (Note cs))
+comment_is : (cs : List ℕ) → list_all is_note_char cs ≡ true → IsComment (lexeme_bytes (Note cs))
 comment_is cs v = record { characters = cs; valid = v; spelled = refl }
 
 -- the first of lexemes, and the others
@@ -55,8 +55,8 @@ are_entries zero (Close ∷ ls) v = are_entries zero ls v
 are_entries (suc d) (Close ∷ ls) v = are_entries d ls v
 are_entries d (Blank t ∷ ls) v = are_entries d ls v
 are_entries d (Note cs ∷ ls) v = are_entries d ls (rest_valid (Note cs) ls v)
-are_entries d (Word s ss ∷ ls) v = more_token (bytes (Word s ss)) (entries d ls) (inl (word_is s ss (first_valid (Word s ss) ls v))) (are_entries d ls (rest_valid (Word s ss) ls v))
-are_entries d (Quote ss ∷ ls) v = more_token (bytes (Quote ss)) (entries d ls) (inr (quote_is ss (first_valid (Quote ss) ls v))) (are_entries d ls (rest_valid (Quote ss) ls v))
+are_entries d (Word s ss ∷ ls) v = more_token (lexeme_bytes (Word s ss)) (entries d ls) (inl (word_is s ss (first_valid (Word s ss) ls v))) (are_entries d ls (rest_valid (Word s ss) ls v))
+are_entries d (Quote ss ∷ ls) v = more_token (lexeme_bytes (Quote ss)) (entries d ls) (inr (quote_is ss (first_valid (Quote ss) ls v))) (are_entries d ls (rest_valid (Quote ss) ls v))
 
 some_entry : (d : ℕ) (ls : List Lexeme) → 0 < length (entries d ls)
 some_entry d [] = omega arith
@@ -67,8 +67,8 @@ some_entry zero (Close ∷ ls) = some_entry zero ls
 some_entry (suc d) (Close ∷ ls) = some_entry d ls
 some_entry d (Blank t ∷ ls) = some_entry d ls
 some_entry d (Note cs ∷ ls) = some_entry d ls
-some_entry d (Word s ss ∷ ls) = some_with (bytes (Word s ss)) (entries d ls)
-some_entry d (Quote ss ∷ ls) = some_with (bytes (Quote ss)) (entries d ls)
+some_entry d (Word s ss ∷ ls) = some_with (lexeme_bytes (Word s ss)) (entries d ls)
+some_entry d (Quote ss ∷ ls) = some_with (lexeme_bytes (Quote ss)) (entries d ls)
 
 -- what a text splits into are tokens, in one entry or more
 pub splits_into_tokens : (text : List ℕ) (found : Entries) → Splits text found → AllByRecursion (AllByRecursion IsToken) found
@@ -90,17 +90,17 @@ abbrev Spelled : List ℕ → List Piece → Type 0
 Spelled text found = AllByRecursion (IsSpelled text) (map Ok found)
 
 abbrev Says : List Lexeme → Type 0
-Says ls = (text before : List ℕ) (d at : ℕ) (b : Bool) → before ++ flat_map bytes ls ≡ text → at ≡ length before → are_lexemes ls ≡ true → Spelled text (pieces at d b ls)
+Says ls = (text before : List ℕ) (d at : ℕ) (b : Bool) → before ++ flat_map lexeme_bytes ls ≡ text → at ≡ length before → are_lexemes ls ≡ true → Spelled text (pieces at d b ls)
 
-on : (l : Lexeme) (ls : List Lexeme) → Says ls → (text before : List ℕ) (d at : ℕ) (b : Bool) → before ++ flat_map bytes (l ∷ ls) ≡ text → at ≡ length before
-    → are_lexemes (l ∷ ls) ≡ true → Spelled text (pieces (at + length (bytes l)) d b ls)
-on l ls ih text before d at b e k v = ih text (before ++ bytes l) d (at + length (bytes l)) b (append_assoc before (bytes l) (flat_map bytes ls) ∙ e)
-    (omega (arith, k, length-append before (bytes l))) (rest_valid l ls v)
+on : (l : Lexeme) (ls : List Lexeme) → Says ls → (text before : List ℕ) (d at : ℕ) (b : Bool) → before ++ flat_map lexeme_bytes (l ∷ ls) ≡ text → at ≡ length before
+    → are_lexemes (l ∷ ls) ≡ true → Spelled text (pieces (at + length (lexeme_bytes l)) d b ls)
+on l ls ih text before d at b e k v = ih text (before ++ lexeme_bytes l) d (at + length (lexeme_bytes l)) b (append_assoc before (lexeme_bytes l) (flat_map lexeme_bytes ls) ∙ e)
+    (omega (arith, k, length-append before (lexeme_bytes l))) (rest_valid l ls v)
 
 -- the octets of a lexeme, where it stands
-here : (P : List ℕ → Type 0) (l : Lexeme) (ls : List Lexeme) (text before : List ℕ) (at : ℕ) → before ++ flat_map bytes (l ∷ ls) ≡ text → at ≡ length before
-    → P (bytes l) → P (between text at (at + length (bytes l)))
-here P l ls text before at e k h = subst P (sym (between_is before (bytes l) (flat_map bytes ls) text at e k)) h
+here : (P : List ℕ → Type 0) (l : Lexeme) (ls : List Lexeme) (text before : List ℕ) (at : ℕ) → before ++ flat_map lexeme_bytes (l ∷ ls) ≡ text → at ≡ length before
+    → P (lexeme_bytes l) → P (between text at (at + length (lexeme_bytes l)))
+here P l ls text before at e k h = subst P (sym (between_is before (lexeme_bytes l) (flat_map lexeme_bytes ls) text at e k)) h
 
 says : (ls : List Lexeme) → Says ls
 says [] text before d at b e k v = (tt, tt)

@@ -12,7 +12,7 @@ use Rattle.dns_split.specs.declared.reader.Move.{Move}
 use Rattle.dns_split.specs.declared.standing.Standing.{Standing}
 use Rattle.dns_split.specs.Reader.{step, may_end}
 use Rattle.dns_split.specs.Pieces.{AreOctets, end_at, next_blank}
-use Rattle.dns_split.specs.Run.{before, blank_after, closed, fault, finished, open_piece, run, start_after, wrong_at_end}
+use Rattle.dns_split.specs.Run.{before, blank_after, closed_piece, fault, finished, open_piece, run, start_after, wrong_at_end}
 use Rattle.dns_split.specs.Standing.{Takes, ahead, at_entry, began_after, blank_at, with_answer}
 use Rattle.dns_split.specs.EntryTokens.{IsInEntries, IsOpen, IsSeen, IsWide, PartSeen, StandsIn, answer_seen, ended_after, seen_from, seen_of}
 use Rattle.dns_split.proofs.PieceSteps.{run_step, run_stop}
@@ -108,7 +108,7 @@ run_closes (c ∷ bs) m d s at b = go (step m d c) refl (λ (v : Move). run_clos
     go : (o : Option Move) → step m d c ≡ o → ((v : Move) → Closes (run v.mode v.depth (start_after m v.mode v.act s at) (at + 1) (blank_after v.act b bs) bs)) → Closes (run m d s at b (c ∷ bs))
     go None e ih = subst Closes (sym (run_stop m d s at b c bs e)) refl
     go (Some v) e ih = subst Closes (sym (run_step m d s at b c bs v e))
-        (before_closes (closed m v.mode v.act s at) _ (before_closes (finished v.act s (at + 1) b) _ (ih v)))
+        (before_closes (closed_piece m v.mode v.act s at) _ (before_closes (finished v.act s (at + 1) b) _ (ih v)))
 
 -- so an entry is open with the flag of its end
 opens_with : (octets : List ℕ) (began : ℕ) (ended : Option ℕ) (given : List (Result Piece Fault)) → Closes given → IfSome (next_blank given) (λ x. blank_at octets began ≡ x)

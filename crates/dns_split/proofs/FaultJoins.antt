@@ -21,7 +21,7 @@ use Rattle.dns_split.specs.declared.pieces.Piece.{Piece}
 use Rattle.dns_split.specs.declared.pieces.Fault.{Fault}
 use Rattle.dns_split.specs.declared.pieces.Wrong.{Wrong}
 use Rattle.dns_split.specs.declared.pieces.Wrong.TheVariants.{Closing as Late, OpenParenthesis, OpenQuote, LoneReturn, BadEscape}
-use Rattle.dns_split.specs.Lexeme.{Lexeme, Blank, Line, Open, Close, Note, Word, Quote, characters, bytes, is_lexeme, is_note_char, stands_in_quote}
+use Rattle.dns_split.specs.Lexeme.{Lexeme, Blank, Line, Open, Close, Note, Word, Quote, characters, lexeme_bytes, is_lexeme, is_note_char, stands_in_quote}
 use Rattle.dns_split.specs.Splitting.{Splits, Entries, may_precede, are_lexemes}
 use Rattle.dns_split.specs.Viable.{IsViable, IsBad}
 use Rattle.dns_split.specs.Opening.{IsLeftOpen, IsOpener}
@@ -121,13 +121,13 @@ line_read (OneDigit q n) d r t us e k h = cc
 line_read (TwoDigits q n) d r t us e k h = cc
 
 -- what follows a text that splits and a line's end splits too
-pub behind_line : (x w : List ℕ) (r : Bool) (e g : Entries) → Splits x e → Splits (x ++ (bytes (Line r) ++ w)) g → (f : Entries) × Splits w f
+pub behind_line : (x w : List ℕ) (r : Bool) (e g : Entries) → Splits x e → Splits (x ++ (lexeme_bytes (Line r) ++ w)) g → (f : Entries) × Splits w f
 behind_line x w r e g s t =
     let xs : List ℕ = flat_map characters s.lexemes in
     let ys : List ℕ = flat_map characters t.lexemes in
     let x_is : encode_utf8_all xs ≡ x = sym (bytes_all s.lexemes) ∙ s.spelled in
-    let y_is : encode_utf8_all ys ≡ x ++ (bytes (Line r) ++ w) = sym (bytes_all t.lexemes) ∙ t.spelled in
-    let p = begin_same xs ys (bytes (Line r) ++ w) (y_is ∙ ap (λ l. l ++ (bytes (Line r) ++ w)) (sym x_is)) in
+    let y_is : encode_utf8_all ys ≡ x ++ (lexeme_bytes (Line r) ++ w) = sym (bytes_all t.lexemes) ∙ t.spelled in
+    let p = begin_same xs ys (lexeme_bytes (Line r) ++ w) (y_is ∙ ap (λ l. l ++ (lexeme_bytes (Line r) ++ w)) (sym x_is)) in
     let q = begin_same (characters (Line r)) p.0 w p.2 in
     let h : read Outside 0 [] (xs ++ (characters (Line r) ++ q.0)) ≡ Some g = ap (λ l. read Outside 0 [] (xs ++ l)) (sym q.1) ∙ ap (read Outside 0 []) (sym p.1) ∙ splits_read ys _ g y_is t in
     let k = goes xs (characters (Line r) ++ q.0) Outside 0 [] g h in
@@ -143,17 +143,17 @@ joined_more : (x l z w : List ℕ) → (x ++ (l ++ z)) ++ w ≡ x ++ (l ++ (z ++
 joined_more x l z w = append_assoc x (l ++ z) w ∙ ap (λ t. x ++ t) (append_assoc l z w)
 
 -- so a beginning is viable exactly if it is so after such a text
-pub viable_behind : (x z : List ℕ) (r : Bool) (e : Entries) → Splits x e → IsViable (x ++ (bytes (Line r) ++ z)) → IsViable z
+pub viable_behind : (x z : List ℕ) (r : Bool) (e : Entries) → Splits x e → IsViable (x ++ (lexeme_bytes (Line r) ++ z)) → IsViable z
 viable_behind x z r e s v =
-    let f = behind_line x (z ++ v.tail) r e v.found s (subst (λ l. Splits l v.found) (joined_more x (bytes (Line r)) z v.tail) v.splits) in
+    let f = behind_line x (z ++ v.tail) r e v.found s (subst (λ l. Splits l v.found) (joined_more x (lexeme_bytes (Line r)) z v.tail) v.splits) in
     record { tail = v.tail; is_tail = v.is_tail; found = f.0; splits = f.1 }
 
-pub viable_joined : (x z : List ℕ) (r : Bool) (e : Entries) → Splits x e → IsViable z → IsViable (x ++ (bytes (Line r) ++ z))
+pub viable_joined : (x z : List ℕ) (r : Bool) (e : Entries) → Splits x e → IsViable z → IsViable (x ++ (lexeme_bytes (Line r) ++ z))
 viable_joined x z r e s v = record {
   tail = v.tail;
   is_tail = v.is_tail;
   found = e ++ v.found;
-  splits = subst (λ l. Splits l (e ++ v.found)) (sym (joined_more x (bytes (Line r)) z v.tail)) (split_joined x (z ++ v.tail) r e v.found s v.splits);
+  splits = subst (λ l. Splits l (e ++ v.found)) (sym (joined_more x (lexeme_bytes (Line r)) z v.tail)) (split_joined x (z ++ v.tail) r e v.found s v.splits);
 }
 
 -- the octets of the texts one after the other
@@ -166,9 +166,9 @@ drop_joined x l y n =
     ap (λ i. drop (i + n) (x ++ (l ++ y))) (sym (length-append x l)) ∙ ap (drop (length (x ++ l) + n)) (sym (append_assoc x l y)) ∙ drop-append-add (x ++ l) y n
 
 -- the second text is bad where it is bad alone
-pub bad_joined : (x y : List ℕ) (r : Bool) (e : Entries) (n : ℕ) → Splits x e → IsBad y n → IsBad (x ++ (bytes (Line r) ++ y)) (length x + length (bytes (Line r)) + n)
+pub bad_joined : (x y : List ℕ) (r : Bool) (e : Entries) (n : ℕ) → Splits x e → IsBad y n → IsBad (x ++ (lexeme_bytes (Line r) ++ y)) (length x + length (lexeme_bytes (Line r)) + n)
 bad_joined x y r e n s b =
-    let l : List ℕ = bytes (Line r) in
+    let l : List ℕ = lexeme_bytes (Line r) in
     let k : ℕ = length x + length l in
     let room : length (x ++ (l ++ y)) ≡ k + length y = omega (arith, length-append x (l ++ y), length-append l y) in
     record {
@@ -184,9 +184,9 @@ bad_joined x y r e n s b =
     }
 
 -- with a double quote after it, the same quoted text ends
-quote_joined : (x front : List ℕ) (r : Bool) (e : Entries) (i : ℕ) → Splits x e → EndsQuote front i → EndsQuote (x ++ (bytes (Line r) ++ front)) (length x + length (bytes (Line r)) + i)
+quote_joined : (x front : List ℕ) (r : Bool) (e : Entries) (i : ℕ) → Splits x e → EndsQuote front i → EndsQuote (x ++ (lexeme_bytes (Line r) ++ front)) (length x + length (lexeme_bytes (Line r)) + i)
 quote_joined x front r e i s h more all there =
-    let l : List ℕ = bytes (Line r) in
+    let l : List ℕ = lexeme_bytes (Line r) in
     let k : ℕ = length x + length l in
     let w : List ℕ = front ++ (34 ∷ more) in
     let p : IsPieces (x ++ (l ++ w)) all = subst (λ z. IsPieces z all) (joined_more x l front (34 ∷ more)) there in
@@ -207,34 +207,34 @@ quote_joined x front r e i s h more all there =
     )
 
 -- the same parentheses are left open
-pub open_joined : (x front : List ℕ) (r : Bool) (e : Entries) → Splits x e → IsLeftOpen front → IsLeftOpen (x ++ (bytes (Line r) ++ front))
+pub open_joined : (x front : List ℕ) (r : Bool) (e : Entries) → Splits x e → IsLeftOpen front → IsLeftOpen (x ++ (lexeme_bytes (Line r) ++ front))
 open_joined x front r e s h =
     let tail : List ℕ = 10 ∷ replicate (suc h.0) 41 in
-    (h.0, e ++ h.1, subst (λ l. Splits l (e ++ h.1)) (sym (joined_more x (bytes (Line r)) front tail)) (split_joined x (front ++ tail) r e h.1 s h.2))
+    (h.0, e ++ h.1, subst (λ l. Splits l (e ++ h.1)) (sym (joined_more x (lexeme_bytes (Line r)) front tail)) (split_joined x (front ++ tail) r e h.1 s h.2))
 
 -- and for the same cause
 wrong_joined : (x front rest : List ℕ) (r : Bool) (e : Entries) (w : Wrong) → Splits x e → IsWrong front rest w
-    → IsWrong (x ++ (bytes (Line r) ++ front)) rest (moved_wrong (λ i. length x + length (bytes (Line r)) + i) w)
+    → IsWrong (x ++ (lexeme_bytes (Line r) ++ front)) rest (moved_wrong (λ i. length x + length (lexeme_bytes (Line r)) + i) w)
 wrong_joined x front rest r e Late s h = (h.0, e ++ h.1, h.2, split_joined x front r e h.1 s h.3)
 wrong_joined x front rest r e OpenParenthesis s h = (
   h.0,
   open_joined x front r e s h.1,
-  subst IsViable (sym (joined_more x (bytes (Line r)) front (9 ∷ []))) (viable_joined x (front ++ 9 ∷ []) r e s h.2),
+  subst IsViable (sym (joined_more x (lexeme_bytes (Line r)) front (9 ∷ []))) (viable_joined x (front ++ 9 ∷ []) r e s h.2),
 )
 wrong_joined x front rest r e (OpenQuote i) s h = (
-  subst IsViable (sym (joined_more x (bytes (Line r)) front (34 ∷ []))) (viable_joined x (front ++ 34 ∷ []) r e s h.0),
+  subst IsViable (sym (joined_more x (lexeme_bytes (Line r)) front (34 ∷ []))) (viable_joined x (front ++ 34 ∷ []) r e s h.0),
   quote_joined x front r e i s h.1,
 )
 wrong_joined x front rest r e LoneReturn s h = λ c fine v.
-    h c fine (viable_behind x (front ++ encode_utf8 c) r e s (subst IsViable (joined_more x (bytes (Line r)) front (encode_utf8 c)) v))
+    h c fine (viable_behind x (front ++ encode_utf8 c) r e s (subst IsViable (joined_more x (lexeme_bytes (Line r)) front (encode_utf8 c)) v))
 wrong_joined x front rest r e BadEscape s h = (
-  λ v. h.0 (viable_behind x (front ++ 9 ∷ []) r e s (subst IsViable (joined_more x (bytes (Line r)) front (9 ∷ [])) v)),
-  λ v. h.1 (viable_behind x (front ++ 10 ∷ []) r e s (subst IsViable (joined_more x (bytes (Line r)) front (10 ∷ [])) v)),
+  λ v. h.0 (viable_behind x (front ++ 9 ∷ []) r e s (subst IsViable (joined_more x (lexeme_bytes (Line r)) front (9 ∷ [])) v)),
+  λ v. h.1 (viable_behind x (front ++ 10 ∷ []) r e s (subst IsViable (joined_more x (lexeme_bytes (Line r)) front (10 ∷ [])) v)),
 )
 
-pub fault_joined : (x y : List ℕ) (r : Bool) (e : Entries) (f : Fault) → Splits x e → IsFault y f → IsFault (x ++ (bytes (Line r) ++ y)) (moved_fault (λ i. length x + length (bytes (Line r)) + i) f)
+pub fault_joined : (x y : List ℕ) (r : Bool) (e : Entries) (f : Fault) → Splits x e → IsFault y f → IsFault (x ++ (lexeme_bytes (Line r) ++ y)) (moved_fault (λ i. length x + length (lexeme_bytes (Line r)) + i) f)
 fault_joined x y r e f s h =
-    let l : List ℕ = bytes (Line r) in
+    let l : List ℕ = lexeme_bytes (Line r) in
     let k : ℕ = length x + length l in
     let all : List ℕ = x ++ (l ++ y) in
     let w : Wrong = moved_wrong (λ i. k + i) f.wrong in
@@ -247,9 +247,9 @@ fault_joined x y r e f s h =
     }
 
 -- and left open by the same parenthesis
-pub opener_joined : (x y : List ℕ) (r : Bool) (e : Entries) (i : ℕ) → Splits x e → IsOpener y i → IsOpener (x ++ (bytes (Line r) ++ y)) (length x + length (bytes (Line r)) + i)
+pub opener_joined : (x y : List ℕ) (r : Bool) (e : Entries) (i : ℕ) → Splits x e → IsOpener y i → IsOpener (x ++ (lexeme_bytes (Line r) ++ y)) (length x + length (lexeme_bytes (Line r)) + i)
 opener_joined x y r e i s o =
-    let l : List ℕ = bytes (Line r) in
+    let l : List ℕ = lexeme_bytes (Line r) in
     let k : ℕ = length x + length l in
     let room : length (x ++ (l ++ y)) ≡ k + length y = omega (arith, length-append x (l ++ y), length-append l y) in
     record {

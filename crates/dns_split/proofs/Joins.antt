@@ -3,7 +3,7 @@ use Rattle.std.proofs.Common.{◌≡◌, ℕ, zero, suc, ◌<◌, Bool, true, �
 use Rattle.std.specs.List.{flat_map}
 use Rattle.std.proofs.lemmas.Bool.{and_parts, and_from}
 use Rattle.std.proofs.lemmas.Grind.{flat_map-append}
-use Rattle.dns_split.specs.Lexeme.{Lexeme, Blank, Line, Open, Close, Note, Word, Quote, bytes, is_lexeme}
+use Rattle.dns_split.specs.Lexeme.{Lexeme, Blank, Line, Open, Close, Note, Word, Quote, lexeme_bytes, is_lexeme}
 use Rattle.dns_split.specs.Splitting.{Splits, Entries, may_precede, are_lexemes, nests, with_token, entries}
 
 -- before a line's end stands whatever may stand last
@@ -91,12 +91,12 @@ some_entry (Line _ ∷ ls) zero = omega arith
 some_entry (Line _ ∷ ls) (suc d) = some_entry ls (suc d)
 some_entry (Blank _ ∷ ls) d = some_entry ls d
 some_entry (Note _ ∷ ls) d = some_entry ls d
-some_entry (Word s ss ∷ ls) d = with_some (bytes (Word s ss)) (entries d ls)
+some_entry (Word s ss ∷ ls) d = with_some (lexeme_bytes (Word s ss)) (entries d ls)
   where
     with_some : (t : List ℕ) (e : Entries) → 0 < length (with_token t e)
     with_some t [] = omega arith
     with_some t (x ∷ e) = omega arith
-some_entry (Quote ss ∷ ls) d = with_some (bytes (Quote ss)) (entries d ls)
+some_entry (Quote ss ∷ ls) d = with_some (lexeme_bytes (Quote ss)) (entries d ls)
   where
     with_some : (t : List ℕ) (e : Entries) → 0 < length (with_token t e)
     with_some t [] = omega arith
@@ -116,17 +116,17 @@ join_entries (Line _ ∷ ls) more r zero h = ap (λ e. [] ∷ e) (join_entries l
 join_entries (Line _ ∷ ls) more r (suc d) h = join_entries ls more r (suc d) h
 join_entries (Blank _ ∷ ls) more r d h = join_entries ls more r d h
 join_entries (Note _ ∷ ls) more r d h = join_entries ls more r d h
-join_entries (Word s ss ∷ ls) more r d h = ap (with_token (bytes (Word s ss))) (join_entries ls more r d h) ∙ token_joined (bytes (Word s ss)) (entries d ls) (entries 0 more) (some_entry ls d)
-join_entries (Quote ss ∷ ls) more r d h = ap (with_token (bytes (Quote ss))) (join_entries ls more r d h) ∙ token_joined (bytes (Quote ss)) (entries d ls) (entries 0 more) (some_entry ls d)
+join_entries (Word s ss ∷ ls) more r d h = ap (with_token (lexeme_bytes (Word s ss))) (join_entries ls more r d h) ∙ token_joined (lexeme_bytes (Word s ss)) (entries d ls) (entries 0 more) (some_entry ls d)
+join_entries (Quote ss ∷ ls) more r d h = ap (with_token (lexeme_bytes (Quote ss))) (join_entries ls more r d h) ∙ token_joined (lexeme_bytes (Quote ss)) (entries d ls) (entries 0 more) (some_entry ls d)
 
-pub join_bytes : (ls more : List Lexeme) (r : Bool) → flat_map bytes (ls ++ Line r ∷ more) ≡ flat_map bytes ls ++ (bytes (Line r) ++ flat_map bytes more)
-join_bytes ls more r = flat_map-append bytes ls (Line r ∷ more)
+pub join_bytes : (ls more : List Lexeme) (r : Bool) → flat_map lexeme_bytes (ls ++ Line r ∷ more) ≡ flat_map lexeme_bytes ls ++ (lexeme_bytes (Line r) ++ flat_map lexeme_bytes more)
+join_bytes ls more r = flat_map-append lexeme_bytes ls (Line r ∷ more)
 
 -- texts that split, with a line's end between
-pub split_joined : (x y : List ℕ) (r : Bool) (e f : Entries) → Splits x e → Splits y f → Splits (x ++ (bytes (Line r) ++ y)) (e ++ f)
+pub split_joined : (x y : List ℕ) (r : Bool) (e f : Entries) → Splits x e → Splits y f → Splits (x ++ (lexeme_bytes (Line r) ++ y)) (e ++ f)
 split_joined x y r e f s t = record {
   lexemes = s.lexemes ++ Line r ∷ t.lexemes;
-  spelled = join_bytes s.lexemes t.lexemes r ∙ ap (λ l. l ++ (bytes (Line r) ++ flat_map bytes t.lexemes)) s.spelled ∙ ap (λ l. x ++ (bytes (Line r) ++ l)) t.spelled;
+  spelled = join_bytes s.lexemes t.lexemes r ∙ ap (λ l. l ++ (lexeme_bytes (Line r) ++ flat_map lexeme_bytes t.lexemes)) s.spelled ∙ ap (λ l. x ++ (lexeme_bytes (Line r) ++ l)) t.spelled;
   valid = join_lexemes s.lexemes t.lexemes r s.valid t.valid;
   nested = join_nests s.lexemes t.lexemes r 0 s.nested t.nested;
   cut = join_entries s.lexemes t.lexemes r 0 s.nested ∙ ap (λ l. l ++ entries 0 t.lexemes) s.cut ∙ ap (λ l. e ++ l) t.cut;
@@ -194,22 +194,22 @@ cuts (Line r ∷ ls) (suc d) e f n is h k = one_before (Line r) ls (suc d) (suc 
 cuts (Blank b ∷ ls) d e f n is h k = one_before (Blank b) ls d d e e f (cuts ls d e f n is h k) (λ more. refl) (λ more g. g)
 cuts (Note cs ∷ ls) d e f n is h k = one_before (Note cs) ls d d e e f (cuts ls d e f n is h k) (λ more. refl) (λ more g. g)
 cuts (Word s ss ∷ ls) d e f n is h k =
-    let p = token_front (bytes (Word s ss)) (entries d ls) e f (some_entry ls d) h is in
-    one_before (Word s ss) ls d d e p.0 f (cuts ls d p.0 f n p.2 p.1 k) (λ more. refl) (λ more g. ap (with_token (bytes (Word s ss))) g ∙ p.3)
+    let p = token_front (lexeme_bytes (Word s ss)) (entries d ls) e f (some_entry ls d) h is in
+    one_before (Word s ss) ls d d e p.0 f (cuts ls d p.0 f n p.2 p.1 k) (λ more. refl) (λ more g. ap (with_token (lexeme_bytes (Word s ss))) g ∙ p.3)
 cuts (Quote ss ∷ ls) d e f n is h k =
-    let p = token_front (bytes (Quote ss)) (entries d ls) e f (some_entry ls d) h is in
-    one_before (Quote ss) ls d d e p.0 f (cuts ls d p.0 f n p.2 p.1 k) (λ more. refl) (λ more g. ap (with_token (bytes (Quote ss))) g ∙ p.3)
+    let p = token_front (lexeme_bytes (Quote ss)) (entries d ls) e f (some_entry ls d) h is in
+    one_before (Quote ss) ls d d e p.0 f (cuts ls d p.0 f n p.2 p.1 k) (λ more. refl) (λ more g. ap (with_token (lexeme_bytes (Quote ss))) g ∙ p.3)
 
 -- a text that splits, cut after some of its entries
 pub split_cut : (text : List ℕ) (e f : Entries) → Splits text (e ++ f) → 0 < length e → 0 < length f
-    → (x : List ℕ) × (y : List ℕ) × (r : Bool) × (text ≡ x ++ (bytes (Line r) ++ y)) × Splits x e × Splits y f
+    → (x : List ℕ) × (y : List ℕ) × (r : Bool) × (text ≡ x ++ (lexeme_bytes (Line r) ++ y)) × Splits x e × Splits y f
 split_cut text e f s h k =
     let c = cuts s.lexemes 0 e f s.nested s.cut h k in
     let v = cut_lexemes c.front c.back c.ends (ap are_lexemes (sym c.is) ∙ s.valid) in (
-      flat_map bytes c.front,
-      flat_map bytes c.back,
+      flat_map lexeme_bytes c.front,
+      flat_map lexeme_bytes c.back,
       c.ends,
-      sym s.spelled ∙ ap (flat_map bytes) c.is ∙ join_bytes c.front c.back c.ends,
+      sym s.spelled ∙ ap (flat_map lexeme_bytes) c.is ∙ join_bytes c.front c.back c.ends,
       record { lexemes = c.front; spelled = refl; valid = v.0; nested = c.nested; cut = c.found },
       record { lexemes = c.back; spelled = refl; valid = v.1; nested = c.left; cut = c.follow },
     )

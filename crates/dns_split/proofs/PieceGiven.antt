@@ -17,7 +17,7 @@ use Rattle.dns_split.specs.declared.pieces.Piece.{Piece}
 use Rattle.dns_split.specs.declared.pieces.Fault.{Fault}
 use Rattle.dns_split.specs.Reader.{kind, home, move_to, step, outside_step, quoted_step, comment_step, return_step}
 use Rattle.dns_split.specs.Pieces.{BeginsPieces}
-use Rattle.dns_split.specs.Run.{before, closed, finished, start_after, opens, in_comment, next_open, first_blank, blank_after, run}
+use Rattle.dns_split.specs.Run.{before, closed_piece, finished, start_after, opens, in_comment, next_open, first_blank, blank_after, run}
 use Rattle.dns_split.proofs.Complete.{Some_same, View, view, v_space, v_tab, v_lf, v_cr, v_open, v_close, v_note, v_quote, v_escape, v_plain}
 use Rattle.dns_split.proofs.Viable.{walk}
 use Rattle.dns_split.proofs.PieceLexemes.{run_some, first_blank_char}
@@ -199,12 +199,12 @@ both (Some o) (Some q) found k = refl
 more : (c : ℕ) (ys : List ℕ) (m : Mode) (d s at : ℕ) (b x : Bool) (v : Move) (p : Mode × ℕ) → step m d c ≡ Some v → ((rest : List ℕ) → blank_after v.act b (encode_utf8_all ys ++ rest) ≡ x)
     → Gives v.mode v.depth (start_after m v.mode v.act s at) (at + length (encode_utf8 c)) x ys p → Gives m d s at b (c ∷ ys) p
 more c ys m d s at b x v p h same g = record {
-  found = listed (closed m v.mode v.act s at) ++ (listed (finished v.act s (at + 1) b) ++ g.found);
+  found = listed (closed_piece m v.mode v.act s at) ++ (listed (finished v.act s (at + 1) b) ++ g.found);
   start = g.start;
   gives = λ rest.
       let r = g.gives rest in
       let all : List ℕ = encode_utf8_all ys ++ rest in
-      let o : Option Piece = closed m v.mode v.act s at in
+      let o : Option Piece = closed_piece m v.mode v.act s at in
       let q : Option Piece = finished v.act s (at + 1) b in
       let e : ℕ = at + length (encode_utf8 c) in (
         r.0,
@@ -220,10 +220,10 @@ more c ys m d s at b x v p h same g = record {
 
 last_one : (c : ℕ) (m : Mode) (d s at : ℕ) (b : Bool) (v : Move) → step m d c ≡ Some v → Gives m d s at b (c ∷ []) (v.mode, v.depth)
 last_one c m d s at b v h = record {
-  found = listed (closed m v.mode v.act s at) ++ (listed (finished v.act s (at + 1) b) ++ []);
+  found = listed (closed_piece m v.mode v.act s at) ++ (listed (finished v.act s (at + 1) b) ++ []);
   start = start_after m v.mode v.act s at;
   gives = λ rest.
-      let o : Option Piece = closed m v.mode v.act s at in
+      let o : Option Piece = closed_piece m v.mode v.act s at in
       let q : Option Piece = finished v.act s (at + 1) b in
       let t : ℕ = start_after m v.mode v.act s at in
       let x : Bool = blank_after v.act b rest in (

@@ -7,7 +7,7 @@ use Rattle.std.proofs.lemmas.Grind.{flat_map-append}
 use Rattle.std.proofs.lemmas.List.{drop_at}
 use Rattle.dns_split.specs.declared.pieces.Piece.{Piece}
 use Rattle.dns_split.specs.declared.pieces.Piece.TheVariants.{End as EndAt}
-use Rattle.dns_split.specs.Lexeme.{Lexeme, Blank, Line, Open, Close, Note, Word, Quote, bytes, is_lexeme}
+use Rattle.dns_split.specs.Lexeme.{Lexeme, Blank, Line, Open, Close, Note, Word, Quote, lexeme_bytes, is_lexeme}
 use Rattle.dns_split.specs.Splitting.{may_precede, are_lexemes, nests}
 use Rattle.dns_split.specs.Pieces.{word_at, quote_at, comment_at, end_at, begins_blank, pieces, IsPieces, moved_piece}
 use Rattle.dns_split.proofs.Joins.{join_lexemes, join_nests, join_bytes}
@@ -18,22 +18,22 @@ further n found = map (moved_piece (λ i. n + i)) found
 -- the same lexemes further on
 pieces_further : (ls : List Lexeme) (n at d : ℕ) (b : Bool) → pieces (n + at) d b ls ≡ further n (pieces at d b ls)
 pieces_further [] n at d b = refl
-pieces_further (Open ∷ ls) n at d b = ap (λ k. pieces k (suc d) b ls) (add_assoc n at (length (bytes Open))) ∙ pieces_further ls n (at + length (bytes Open)) (suc d) b
-pieces_further (Close ∷ ls) n at zero b = ap (λ k. pieces k zero b ls) (add_assoc n at (length (bytes Close))) ∙ pieces_further ls n (at + length (bytes Close)) zero b
-pieces_further (Close ∷ ls) n at (suc d) b = ap (λ k. pieces k d b ls) (add_assoc n at (length (bytes Close))) ∙ pieces_further ls n (at + length (bytes Close)) d b
+pieces_further (Open ∷ ls) n at d b = ap (λ k. pieces k (suc d) b ls) (add_assoc n at (length (lexeme_bytes Open))) ∙ pieces_further ls n (at + length (lexeme_bytes Open)) (suc d) b
+pieces_further (Close ∷ ls) n at zero b = ap (λ k. pieces k zero b ls) (add_assoc n at (length (lexeme_bytes Close))) ∙ pieces_further ls n (at + length (lexeme_bytes Close)) zero b
+pieces_further (Close ∷ ls) n at (suc d) b = ap (λ k. pieces k d b ls) (add_assoc n at (length (lexeme_bytes Close))) ∙ pieces_further ls n (at + length (lexeme_bytes Close)) d b
 pieces_further (Line r ∷ ls) n at zero b =
-    let w : ℕ = length (bytes (Line r)) in
+    let w : ℕ = length (lexeme_bytes (Line r)) in
     ap (λ k. end_at k b ∷ pieces k zero (begins_blank ls) ls) (add_assoc n at w) ∙ ap (λ l. end_at (n + (at + w)) b ∷ l) (pieces_further ls n (at + w) zero (begins_blank ls))
-pieces_further (Line r ∷ ls) n at (suc d) b = ap (λ k. pieces k (suc d) b ls) (add_assoc n at (length (bytes (Line r)))) ∙ pieces_further ls n (at + length (bytes (Line r))) (suc d) b
-pieces_further (Blank t ∷ ls) n at d b = ap (λ k. pieces k d b ls) (add_assoc n at (length (bytes (Blank t)))) ∙ pieces_further ls n (at + length (bytes (Blank t))) d b
+pieces_further (Line r ∷ ls) n at (suc d) b = ap (λ k. pieces k (suc d) b ls) (add_assoc n at (length (lexeme_bytes (Line r)))) ∙ pieces_further ls n (at + length (lexeme_bytes (Line r))) (suc d) b
+pieces_further (Blank t ∷ ls) n at d b = ap (λ k. pieces k d b ls) (add_assoc n at (length (lexeme_bytes (Blank t)))) ∙ pieces_further ls n (at + length (lexeme_bytes (Blank t))) d b
 pieces_further (Note cs ∷ ls) n at d b =
-    let w : ℕ = length (bytes (Note cs)) in
+    let w : ℕ = length (lexeme_bytes (Note cs)) in
     ap (λ k. comment_at (n + at) k ∷ pieces k d b ls) (add_assoc n at w) ∙ ap (λ l. comment_at (n + at) (n + (at + w)) ∷ l) (pieces_further ls n (at + w) d b)
 pieces_further (Word s ss ∷ ls) n at d b =
-    let w : ℕ = length (bytes (Word s ss)) in
+    let w : ℕ = length (lexeme_bytes (Word s ss)) in
     ap (λ k. word_at (n + at) k ∷ pieces k d b ls) (add_assoc n at w) ∙ ap (λ l. word_at (n + at) (n + (at + w)) ∷ l) (pieces_further ls n (at + w) d b)
 pieces_further (Quote ss ∷ ls) n at d b =
-    let w : ℕ = length (bytes (Quote ss)) in
+    let w : ℕ = length (lexeme_bytes (Quote ss)) in
     ap (λ k. quote_at (n + at) k ∷ pieces k d b ls) (add_assoc n at w) ∙ ap (λ l. quote_at (n + at) (n + (at + w)) ∷ l) (pieces_further ls n (at + w) d b)
 
 -- lexemes, a line's end and more lexemes
@@ -45,22 +45,22 @@ record Joined (at d : ℕ) (b : Bool) (ls more : List Lexeme) (r : Bool) (end ne
 
 abbrev Joins : List Lexeme → Type 0
 Joins ls = (more : List Lexeme) (r : Bool) (at d : ℕ) (b : Bool) → nests d ls ≡ true
-    → Joined at d b ls more r (at + length (flat_map bytes ls)) (at + length (flat_map bytes ls) + length (bytes (Line r)))
+    → Joined at d b ls more r (at + length (flat_map lexeme_bytes ls)) (at + length (flat_map lexeme_bytes ls) + length (lexeme_bytes (Line r)))
 
 -- one more lexeme, which gives these pieces
-one_more : (l : Lexeme) (ls more : List Lexeme) (r : Bool) (at d d' : ℕ) (b b' : Bool) (given : List Piece) → pieces at d b (l ∷ ls) ≡ given ++ pieces (at + length (bytes l)) d' b' ls
-    → pieces at d b (l ∷ (ls ++ Line r ∷ more)) ≡ given ++ pieces (at + length (bytes l)) d' b' (ls ++ Line r ∷ more)
-    → Joined (at + length (bytes l)) d' b' ls more r (at + length (bytes l) + length (flat_map bytes ls)) (at + length (bytes l) + length (flat_map bytes ls) + length (bytes (Line r)))
-    → Joined at d b (l ∷ ls) more r (at + length (flat_map bytes (l ∷ ls))) (at + length (flat_map bytes (l ∷ ls)) + length (bytes (Line r)))
+one_more : (l : Lexeme) (ls more : List Lexeme) (r : Bool) (at d d' : ℕ) (b b' : Bool) (given : List Piece) → pieces at d b (l ∷ ls) ≡ given ++ pieces (at + length (lexeme_bytes l)) d' b' ls
+    → pieces at d b (l ∷ (ls ++ Line r ∷ more)) ≡ given ++ pieces (at + length (lexeme_bytes l)) d' b' (ls ++ Line r ∷ more)
+    → Joined (at + length (lexeme_bytes l)) d' b' ls more r (at + length (lexeme_bytes l) + length (flat_map lexeme_bytes ls)) (at + length (lexeme_bytes l) + length (flat_map lexeme_bytes ls) + length (lexeme_bytes (Line r)))
+    → Joined at d b (l ∷ ls) more r (at + length (flat_map lexeme_bytes (l ∷ ls))) (at + length (flat_map lexeme_bytes (l ∷ ls)) + length (lexeme_bytes (Line r)))
 one_more l ls more r at d d' b b' given e f j =
-    let n : at + length (bytes l) + length (flat_map bytes ls) ≡ at + length (flat_map bytes (l ∷ ls)) = omega (arith, length-append (bytes l) (flat_map bytes ls)) in
+    let n : at + length (lexeme_bytes l) + length (flat_map lexeme_bytes ls) ≡ at + length (flat_map lexeme_bytes (l ∷ ls)) = omega (arith, length-append (lexeme_bytes l) (flat_map lexeme_bytes ls)) in
     record {
       front = given ++ j.front;
       blank = j.blank;
-      first = e ∙ ap (λ x. given ++ x) j.first ∙ sym (append_assoc given j.front (end_at (at + length (bytes l) + length (flat_map bytes ls)) j.blank ∷ []))
+      first = e ∙ ap (λ x. given ++ x) j.first ∙ sym (append_assoc given j.front (end_at (at + length (lexeme_bytes l) + length (flat_map lexeme_bytes ls)) j.blank ∷ []))
           ∙ ap (λ k. (given ++ j.front) ++ end_at k j.blank ∷ []) n;
       both = f ∙ ap (λ x. given ++ x) j.both ∙ sym (append_assoc given j.front _)
-          ∙ ap (λ k. (given ++ j.front) ++ end_at (k + length (bytes (Line r))) j.blank ∷ pieces (k + length (bytes (Line r))) 0 (begins_blank more) more) n;
+          ∙ ap (λ k. (given ++ j.front) ++ end_at (k + length (lexeme_bytes (Line r))) j.blank ∷ pieces (k + length (lexeme_bytes (Line r))) 0 (begins_blank more) more) n;
     }
 
 same_blank : (ls more : List Lexeme) (r : Bool) → begins_blank (ls ++ Line r ∷ more) ≡ begins_blank ls
@@ -74,41 +74,41 @@ same_blank (Word _ _ ∷ ls) more r = refl
 same_blank (Quote _ ∷ ls) more r = refl
 
 joins : (ls : List Lexeme) → Joins ls
-joins [] more r at zero b h = let n : at + length (flat_map bytes []) ≡ at = omega arith in
-    subst (λ k. Joined at zero b [] more r k (k + length (bytes (Line r)))) (sym n) (record { front = []; blank = b; first = refl; both = refl })
+joins [] more r at zero b h = let n : at + length (flat_map lexeme_bytes []) ≡ at = omega arith in
+    subst (λ k. Joined at zero b [] more r k (k + length (lexeme_bytes (Line r)))) (sym n) (record { front = []; blank = b; first = refl; both = refl })
 joins [] more r at (suc d) b h = cc
 joins (Open ∷ ls) more r at d b h = one_more Open ls more r at d (suc d) b b [] refl refl (joins ls more r _ (suc d) b h)
 joins (Close ∷ ls) more r at zero b h = cc
 joins (Close ∷ ls) more r at (suc d) b h = one_more Close ls more r at (suc d) d b b [] refl refl (joins ls more r _ d b h)
 joins (Line t ∷ ls) more r at zero b h =
-    let w : ℕ = at + length (bytes (Line t)) in
+    let w : ℕ = at + length (lexeme_bytes (Line t)) in
     one_more (Line t) ls more r at zero zero b (begins_blank ls) (end_at w b ∷ []) refl (ap (λ x. end_at w b ∷ pieces w zero x (ls ++ Line r ∷ more)) (same_blank ls more r))
     (joins ls more r w zero (begins_blank ls) h)
 joins (Line t ∷ ls) more r at (suc d) b h = one_more (Line t) ls more r at (suc d) (suc d) b b [] refl refl (joins ls more r _ (suc d) b h)
 joins (Blank t ∷ ls) more r at d b h = one_more (Blank t) ls more r at d d b b [] refl refl (joins ls more r _ d b h)
-joins (Note cs ∷ ls) more r at d b h = one_more (Note cs) ls more r at d d b b (comment_at at (at + length (bytes (Note cs))) ∷ []) refl refl (joins ls more r _ d b h)
-joins (Word s ss ∷ ls) more r at d b h = one_more (Word s ss) ls more r at d d b b (word_at at (at + length (bytes (Word s ss))) ∷ []) refl refl (joins ls more r _ d b h)
-joins (Quote ss ∷ ls) more r at d b h = one_more (Quote ss) ls more r at d d b b (quote_at at (at + length (bytes (Quote ss))) ∷ []) refl refl (joins ls more r _ d b h)
+joins (Note cs ∷ ls) more r at d b h = one_more (Note cs) ls more r at d d b b (comment_at at (at + length (lexeme_bytes (Note cs))) ∷ []) refl refl (joins ls more r _ d b h)
+joins (Word s ss ∷ ls) more r at d b h = one_more (Word s ss) ls more r at d d b b (word_at at (at + length (lexeme_bytes (Word s ss))) ∷ []) refl refl (joins ls more r _ d b h)
+joins (Quote ss ∷ ls) more r at d b h = one_more (Quote ss) ls more r at d d b b (quote_at at (at + length (lexeme_bytes (Quote ss))) ∷ []) refl refl (joins ls more r _ d b h)
 
 -- the pieces of texts one after the other, with a line's end between
 pub pieces_joined : (x y : List ℕ) (r : Bool) (found follow : List Piece) → IsPieces x found → IsPieces y follow
     → (front : List Piece) × (b : Bool) × (found ≡ front ++ end_at (length x) b ∷ [])
-    × IsPieces (x ++ (bytes (Line r) ++ y)) (front ++ end_at (length x + length (bytes (Line r))) b ∷ further (length x + length (bytes (Line r))) follow)
+    × IsPieces (x ++ (lexeme_bytes (Line r) ++ y)) (front ++ end_at (length x + length (lexeme_bytes (Line r))) b ∷ further (length x + length (lexeme_bytes (Line r))) follow)
 pieces_joined x y r found follow p q =
     let j = joins p.lexemes q.lexemes r 0 0 (begins_blank p.lexemes) p.nested in
-    let n : 0 + length (flat_map bytes p.lexemes) ≡ length x = omega (arith, ap length p.spelled) in
-    let next : ℕ = length x + length (bytes (Line r)) in
+    let n : 0 + length (flat_map lexeme_bytes p.lexemes) ≡ length x = omega (arith, ap length p.spelled) in
+    let next : ℕ = length x + length (lexeme_bytes (Line r)) in
     let w : next ≡ next + 0 = omega arith in (
       j.front,
       j.blank,
       sym p.placed ∙ j.first ∙ ap (λ k. j.front ++ end_at k j.blank ∷ []) n,
       record {
         lexemes = p.lexemes ++ Line r ∷ q.lexemes;
-        spelled = join_bytes p.lexemes q.lexemes r ∙ ap (λ l. l ++ (bytes (Line r) ++ flat_map bytes q.lexemes)) p.spelled ∙ ap (λ l. x ++ (bytes (Line r) ++ l)) q.spelled;
+        spelled = join_bytes p.lexemes q.lexemes r ∙ ap (λ l. l ++ (lexeme_bytes (Line r) ++ flat_map lexeme_bytes q.lexemes)) p.spelled ∙ ap (λ l. x ++ (lexeme_bytes (Line r) ++ l)) q.spelled;
         valid = join_lexemes p.lexemes q.lexemes r p.valid q.valid;
         nested = join_nests p.lexemes q.lexemes r 0 p.nested q.nested;
         placed = ap (λ t. pieces 0 0 t (p.lexemes ++ Line r ∷ q.lexemes)) (same_blank p.lexemes q.lexemes r) ∙ j.both
-            ∙ ap (λ k. j.front ++ end_at (k + length (bytes (Line r))) j.blank ∷ pieces (k + length (bytes (Line r))) 0 (begins_blank q.lexemes) q.lexemes) n
+            ∙ ap (λ k. j.front ++ end_at (k + length (lexeme_bytes (Line r))) j.blank ∷ pieces (k + length (lexeme_bytes (Line r))) 0 (begins_blank q.lexemes) q.lexemes) n
             ∙ ap (λ k. j.front ++ end_at next j.blank ∷ pieces k 0 (begins_blank q.lexemes) q.lexemes) w
             ∙ ap (λ l. j.front ++ end_at next j.blank ∷ l) (pieces_further q.lexemes next 0 0 (begins_blank q.lexemes) ∙ ap (further next) q.placed);
       },
@@ -122,13 +122,13 @@ record GoesOn (at : ℕ) (ls : List Lexeme) (e : ℕ) (more : List Piece) : Type
   pub nested : nests 0 back ≡ true
   pub valid : are_lexemes back ≡ true
   pub placed : pieces e 0 (begins_blank back) back ≡ more
-  pub place : e ≡ at + length (flat_map bytes front)
+  pub place : e ≡ at + length (flat_map lexeme_bytes front)
 
 abbrev Goes : List Lexeme → Type 0
 Goes ls = (at d : ℕ) (b : Bool) (found more : List Piece) (e : ℕ) (t : Bool) → are_lexemes ls ≡ true → nests d ls ≡ true → pieces at d b ls ≡ found ++ end_at e t ∷ more
     → (more ≡ []) ⊎ GoesOn at ls e more
 
-behind : (l : Lexeme) (ls : List Lexeme) (at e : ℕ) (more : List Piece) → (more ≡ []) ⊎ GoesOn (at + length (bytes l)) ls e more → (more ≡ []) ⊎ GoesOn at (l ∷ ls) e more
+behind : (l : Lexeme) (ls : List Lexeme) (at e : ℕ) (more : List Piece) → (more ≡ []) ⊎ GoesOn (at + length (lexeme_bytes l)) ls e more → (more ≡ []) ⊎ GoesOn at (l ∷ ls) e more
 behind l ls at e more (inl h) = inl h
 behind l ls at e more (inr g) = inr (record {
   front = l ∷ g.front;
@@ -137,7 +137,7 @@ behind l ls at e more (inr g) = inr (record {
   nested = g.nested;
   valid = g.valid;
   placed = g.placed;
-  place = omega (arith, g.place, length-append (bytes l) (flat_map bytes g.front));
+  place = omega (arith, g.place, length-append (lexeme_bytes l) (flat_map lexeme_bytes g.front));
 })
 
 no_end : (found more : List Piece) (p : Piece) → [] ≡ found ++ p ∷ more → ⊥
@@ -154,10 +154,10 @@ first_in (x ∷ xs) = place_in x
 
 -- after a piece that is no end
 past : (l : Lexeme) (ls : List Lexeme) (p : Piece) (at d : ℕ) (b : Bool) (found more : List Piece) (e : ℕ) (t : Bool) → ((q : Piece) → p ≡ q → q ≡ end_at e t → ⊥) → Goes ls
-    → are_lexemes ls ≡ true → nests d ls ≡ true → p ∷ pieces (at + length (bytes l)) d b ls ≡ found ++ end_at e t ∷ more
+    → are_lexemes ls ≡ true → nests d ls ≡ true → p ∷ pieces (at + length (lexeme_bytes l)) d b ls ≡ found ++ end_at e t ∷ more
     → (more ≡ []) ⊎ GoesOn at (l ∷ ls) e more
 past l ls p at d b [] more e t other ih v n is = absurd (other p refl (cc))
-past l ls p at d b (x ∷ found) more e t other ih v n is = behind l ls at e more (ih (at + length (bytes l)) d b found more e t v n (cc))
+past l ls p at d b (x ∷ found) more e t other ih v n is = behind l ls at e more (ih (at + length (lexeme_bytes l)) d b found more e t v n (cc))
 
 valid_rest : (l : Lexeme) (ls : List Lexeme) → are_lexemes (l ∷ ls) ≡ true → are_lexemes ls ≡ true
 valid_rest l ls v = (and_parts (is_lexeme l && may_precede l ls) (are_lexemes ls) v).1
@@ -169,8 +169,8 @@ goes (Open ∷ ls) at d b found more e t v n is = behind Open ls at e more (goes
 goes (Close ∷ ls) at zero b found more e t v n is = cc
 goes (Close ∷ ls) at (suc d) b found more e t v n is = behind Close ls at e more (goes ls _ d b found more e t (valid_rest Close ls v) n is)
 goes (Line r ∷ ls) at zero b [] more e t v n is =
-    let k : at + length (bytes (Line r)) ≡ e = ap first_in is in
-    let rest : pieces (at + length (bytes (Line r))) zero (begins_blank ls) ls ≡ more = cc in
+    let k : at + length (lexeme_bytes (Line r)) ≡ e = ap first_in is in
+    let rest : pieces (at + length (lexeme_bytes (Line r))) zero (begins_blank ls) ls ≡ more = cc in
     inr (record {
       front = Line r ∷ [];
       back = ls;
@@ -178,14 +178,14 @@ goes (Line r ∷ ls) at zero b [] more e t v n is =
       nested = n;
       valid = valid_rest (Line r) ls v;
       placed = ap (λ i. pieces i zero (begins_blank ls) ls) (sym k) ∙ rest;
-      place = omega (arith, k, length-append (bytes (Line r)) []);
+      place = omega (arith, k, length-append (lexeme_bytes (Line r)) []);
     })
 goes (Line r ∷ ls) at zero b (x ∷ found) more e t v n is = behind (Line r) ls at e more (goes ls _ zero (begins_blank ls) found more e t (valid_rest (Line r) ls v) n (cc))
 goes (Line r ∷ ls) at (suc d) b found more e t v n is = behind (Line r) ls at e more (goes ls _ (suc d) b found more e t (valid_rest (Line r) ls v) n is)
 goes (Blank x ∷ ls) at d b found more e t v n is = behind (Blank x) ls at e more (goes ls _ d b found more e t (valid_rest (Blank x) ls v) n is)
-goes (Note cs ∷ ls) at d b found more e t v n is = past (Note cs) ls (comment_at at (at + length (bytes (Note cs)))) at d b found more e t (λ q f g. cc) (goes ls) (valid_rest (Note cs) ls v) n is
-goes (Word s ss ∷ ls) at d b found more e t v n is = past (Word s ss) ls (word_at at (at + length (bytes (Word s ss)))) at d b found more e t (λ q f g. cc) (goes ls) (valid_rest (Word s ss) ls v) n is
-goes (Quote ss ∷ ls) at d b found more e t v n is = past (Quote ss) ls (quote_at at (at + length (bytes (Quote ss)))) at d b found more e t (λ q f g. cc) (goes ls) (valid_rest (Quote ss) ls v) n is
+goes (Note cs ∷ ls) at d b found more e t v n is = past (Note cs) ls (comment_at at (at + length (lexeme_bytes (Note cs)))) at d b found more e t (λ q f g. cc) (goes ls) (valid_rest (Note cs) ls v) n is
+goes (Word s ss ∷ ls) at d b found more e t v n is = past (Word s ss) ls (word_at at (at + length (lexeme_bytes (Word s ss)))) at d b found more e t (λ q f g. cc) (goes ls) (valid_rest (Word s ss) ls v) n is
+goes (Quote ss ∷ ls) at d b found more e t v n is = past (Quote ss) ls (quote_at at (at + length (lexeme_bytes (Quote ss)))) at d b found more e t (λ q f g. cc) (goes ls) (valid_rest (Quote ss) ls v) n is
 
 -- after an entry's end that isn't the text's, the rest alone has the pieces that follow
 pub pieces_go_on : (text : List ℕ) (found more : List Piece) (at : ℕ) (b : Bool) → IsPieces text (found ++ end_at at b ∷ more)
@@ -195,9 +195,9 @@ pieces_go_on text found more at b p = go (goes p.lexemes 0 0 (begins_blank p.lex
     go : (more ≡ []) ⊎ GoesOn 0 p.lexemes at more → (more ≡ []) ⊎ ((alone : List Piece) × IsPieces (drop at text) alone × (more ≡ further at alone))
     go (inl h) = inl h
     go (inr g) =
-        let left : flat_map bytes g.back ≡ drop at text =
-        sym (drop_at (flat_map bytes g.front) (flat_map bytes g.back) at (omega (arith, g.place)))
-        ∙ ap (drop at) (sym (flat_map-append bytes g.front g.back) ∙ ap (flat_map bytes) (sym g.is) ∙ p.spelled) in
+        let left : flat_map lexeme_bytes g.back ≡ drop at text =
+        sym (drop_at (flat_map lexeme_bytes g.front) (flat_map lexeme_bytes g.back) at (omega (arith, g.place)))
+        ∙ ap (drop at) (sym (flat_map-append lexeme_bytes g.front g.back) ∙ ap (flat_map lexeme_bytes) (sym g.is) ∙ p.spelled) in
         let n : at ≡ at + 0 = omega arith in
         inr (
           pieces 0 0 (begins_blank g.back) g.back,

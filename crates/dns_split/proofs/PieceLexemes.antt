@@ -17,11 +17,11 @@ use Rattle.dns_split.specs.declared.reader.Within.{Within}
 use Rattle.dns_split.specs.declared.reader.Within.TheVariants.{InWord, InQuote}
 use Rattle.dns_split.specs.declared.pieces.Piece.{Piece}
 use Rattle.dns_split.specs.declared.pieces.Fault.{Fault}
-use Rattle.dns_split.specs.Lexeme.{Lexeme, Blank, Line, Open, Close, Note, Word, Quote, bytes, is_note_char}
+use Rattle.dns_split.specs.Lexeme.{Lexeme, Blank, Line, Open, Close, Note, Word, Quote, lexeme_bytes, is_note_char}
 use Rattle.dns_split.specs.Splitting.{may_precede, nests}
 use Rattle.dns_split.specs.Reader.{home, move_to, step}
 use Rattle.dns_split.specs.Pieces.{comment_at}
-use Rattle.dns_split.specs.Run.{before, closed, finished, start_after, is_blank, first_blank, blank_after, fault, wrong_at, run}
+use Rattle.dns_split.specs.Run.{before, closed_piece, finished, start_after, is_blank, first_blank, blank_after, fault, wrong_at, run}
 use Rattle.dns_split.proofs.Complete.{Some_same as some_same, allowed, char_step, escape_step, simple_step, first_step, second_step, third_step, simple_readable, decimal_small, note_step, view}
 use Rattle.dns_split.proofs.Viable.{high_is, high_step}
 use Rattle.dns_split.proofs.PieceSteps.{run_step, run_stop}
@@ -88,7 +88,7 @@ high_run (x ∷ bs) rest m d s at b h k =
 
 -- what a character gives and leaves
 abbrev pub char_stepped : Mode → ℕ → ℕ → Bool → ℕ → List ℕ → Move → List (Result Piece Fault)
-char_stepped m s at b w rest v = before (closed m v.mode v.act s at)
+char_stepped m s at b w rest v = before (closed_piece m v.mode v.act s at)
     (before (finished v.act s (at + 1) b) (run v.mode v.depth (start_after m v.mode v.act s at) (at + w) (blank_after v.act b rest) rest))
 
 pub run_some : (m : Mode) (d s at : ℕ) (b : Bool) (c : ℕ) (rest : List ℕ) (v : Move) → step m d c ≡ Some v
@@ -137,12 +137,12 @@ first_blank_char c rest = elim (cases_lt c 128) [
 ]
 
 -- a character that goes on with what is open
-add_run : (m m' : Mode) (d s at e : ℕ) (b : Bool) (c : ℕ) (rest : List ℕ) → closed m m' Add s at ≡ None → step m d c ≡ move_to m' d Add → e ≡ at + length (encode_utf8 c)
+add_run : (m m' : Mode) (d s at e : ℕ) (b : Bool) (c : ℕ) (rest : List ℕ) → closed_piece m m' Add s at ≡ None → step m d c ≡ move_to m' d Add → e ≡ at + length (encode_utf8 c)
     → run m d s at b (encode_utf8 c ++ rest) ≡ run m' d s e b rest
 add_run m m' d s at e b c rest n h k =
     run_some m d s at b c rest _ h ∙ ap (λ o. before o (run m' d s (at + length (encode_utf8 c)) b rest)) n ∙ ap (λ i. run m' d s i b rest) (sym k)
 
-home_open : (q : Within) (m' : Mode) (s at : ℕ) → closed (home q) m' Add s at ≡ None
+home_open : (q : Within) (m' : Mode) (s at : ℕ) → closed_piece (home q) m' Add s at ≡ None
 home_open InWord m' s at = refl
 home_open InQuote m' s at = refl
 
@@ -211,33 +211,33 @@ pub self : (at : ℕ) → (at == at) ≡ true
 self at = eq-eqb at at refl
 
 -- the bytes of marks
-pub blank_bytes : (t : Bool) → bytes (Blank t) ≡ cond t 9 32 ∷ []
+pub blank_bytes : (t : Bool) → lexeme_bytes (Blank t) ≡ cond t 9 32 ∷ []
 unfolding encode
 blank_bytes true = refl
 blank_bytes false = refl
 
-pub line_bytes : (r : Bool) → bytes (Line r) ≡ cond r (13 ∷ 10 ∷ []) (10 ∷ [])
+pub line_bytes : (r : Bool) → lexeme_bytes (Line r) ≡ cond r (13 ∷ 10 ∷ []) (10 ∷ [])
 unfolding encode
 line_bytes true = refl
 line_bytes false = refl
 
-pub open_bytes : bytes Open ≡ 40 ∷ []
+pub open_bytes : lexeme_bytes Open ≡ 40 ∷ []
 unfolding encode
 open_bytes = refl
 
-pub close_bytes : bytes Close ≡ 41 ∷ []
+pub close_bytes : lexeme_bytes Close ≡ 41 ∷ []
 unfolding encode
 close_bytes = refl
 
-pub note_bytes : (cs : List ℕ) → bytes (Note cs) ≡ 59 ∷ encode_utf8_all cs
+pub note_bytes : (cs : List ℕ) → lexeme_bytes (Note cs) ≡ 59 ∷ encode_utf8_all cs
 note_bytes cs = ap (λ l. l ++ encode_utf8_all cs) (encode_ascii 59 (omega arith))
 
-pub quote_bytes : (ss : List Symbol) → bytes (Quote ss) ≡ 34 ∷ (encode_utf8_all (flat_map spell ss) ++ 34 ∷ [])
+pub quote_bytes : (ss : List Symbol) → lexeme_bytes (Quote ss) ≡ 34 ∷ (encode_utf8_all (flat_map spell ss) ++ 34 ∷ [])
 quote_bytes ss = ap (λ l. encode_utf8 34 ++ l) (encodes-append (flat_map spell ss) (34 ∷ [])) ∙ ap (λ l. l ++ (encode_utf8_all (flat_map spell ss) ++ (l ++ []))) (encode_ascii 34 (omega arith))
 
 -- after a comment
 pub note_end : (d s at : ℕ) (b : Bool) (ls : List Lexeme) (cs : List ℕ) → may_precede (Note cs) ls ≡ true → nests d ls ≡ true
-    → run Comment d s at b (flat_map bytes ls) ≡ Ok (comment_at s at) ∷ run Outside d at at b (flat_map bytes ls)
+    → run Comment d s at b (flat_map lexeme_bytes ls) ≡ Ok (comment_at s at) ∷ run Outside d at at b (flat_map lexeme_bytes ls)
 note_end zero s at b [] cs h n = rw (self at) refl
 note_end (suc d) s at b [] cs h n = cc
 note_end zero s at b (Line true ∷ ls) cs h n = rw (line_bytes true, self at) refl

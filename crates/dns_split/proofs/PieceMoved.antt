@@ -15,7 +15,7 @@ use Rattle.dns_split.specs.declared.pieces.Piece.{Piece}
 use Rattle.dns_split.specs.declared.pieces.Fault.{Fault}
 use Rattle.dns_split.specs.Reader.{step, may_end}
 use Rattle.dns_split.specs.Pieces.{word_at, end_at, moved_piece, moved_wrong, moved, later, next_blank, place_of, Reads, ReadsFrom, ReadsOctets, ReadsOctetsFrom}
-use Rattle.dns_split.specs.Run.{open_piece, goes_on, before, closed, finished, start_after, opens, in_comment, next_open, first_blank, blank_after, fault, wrong_at, wrong_at_end, run}
+use Rattle.dns_split.specs.Run.{open_piece, goes_on, before, closed_piece, finished, start_after, opens, in_comment, next_open, first_blank, blank_after, fault, wrong_at, wrong_at_end, run}
 use Rattle.dns_split.proofs.Complete.{Some_same}
 use Rattle.dns_split.proofs.Viable.{high_is}
 use Rattle.dns_split.proofs.PieceSteps.{run_step, run_stop}
@@ -148,17 +148,17 @@ end_wrong_moved f (TwoDigits q n) s = refl
 -- what is left after one octet, moved
 turn_moved : (f : ℕ → ℕ) (m : Mode) (v : Move) (s at : ℕ) (b x : Bool) (bs cs : List ℕ) → f (at + 1) ≡ f at + 1 → (f s == f at) ≡ (s == at) → blank_after v.act b bs ≡ blank_after v.act b cs
     → ((t : ℕ) → t ≤ at + 1 → run v.mode v.depth (f t) (f (at + 1)) (blank_after v.act b bs) cs ≡ map (moved f) (run v.mode v.depth t (at + 1) (blank_after v.act b bs) bs)) → s ≤ at
-    → before (closed m v.mode v.act (f s) (f at)) (before (finished v.act (f s) (f at + 1) b) (run v.mode v.depth (start_after m v.mode v.act (f s) (f at)) (f at + 1) (blank_after v.act b cs) cs))
-    ≡ map (moved f) (before (closed m v.mode v.act s at) (before (finished v.act s (at + 1) b) (run v.mode v.depth (start_after m v.mode v.act s at) (at + 1) (blank_after v.act b bs) bs)))
+    → before (closed_piece m v.mode v.act (f s) (f at)) (before (finished v.act (f s) (f at + 1) b) (run v.mode v.depth (start_after m v.mode v.act (f s) (f at)) (f at + 1) (blank_after v.act b cs) cs))
+    ≡ map (moved f) (before (closed_piece m v.mode v.act s at) (before (finished v.act s (at + 1) b) (run v.mode v.depth (start_after m v.mode v.act s at) (at + 1) (blank_after v.act b bs) bs)))
 turn_moved f m v s at b x bs cs e g k ih w =
     let t : ℕ = start_after m v.mode v.act s at in
     let left : List (Result Piece Fault) = run v.mode v.depth t (at + 1) (blank_after v.act b bs) bs in
     let same : run v.mode v.depth (start_after m v.mode v.act (f s) (f at)) (f at + 1) (blank_after v.act b cs) cs ≡ map (moved f) left =
     ap (λ n. run v.mode v.depth n (f at + 1) (blank_after v.act b cs) cs) (sym (start_moved f m v.mode v.act s at e)) ∙ ap (λ n. run v.mode v.depth (f t) n (blank_after v.act b cs) cs) (sym e)
     ∙ ap (λ y. run v.mode v.depth (f t) (f (at + 1)) y cs) (sym k) ∙ ih t (start_within m v.mode v.act s at w) in
-    let o : Option Piece = closed m v.mode v.act s at in
+    let o : Option Piece = closed_piece m v.mode v.act s at in
     let q : Option Piece = finished v.act s (at + 1) b in
-    ap (λ l. before (closed m v.mode v.act (f s) (f at)) (before (finished v.act (f s) (f at + 1) b) l)) same
+    ap (λ l. before (closed_piece m v.mode v.act (f s) (f at)) (before (finished v.act (f s) (f at + 1) b) l)) same
     ∙ ap (λ p. before p (before (finished v.act (f s) (f at + 1) b) (map (moved f) left))) (sym (closed_moved f (goes_on m v.mode v.act) m s at g))
     ∙ ap (λ p. before (option_map (moved_piece f) o) (before p (map (moved f) left))) (sym (finished_moved f v.act s at b e))
     ∙ ap (before (option_map (moved_piece f) o)) (sym (before_moved f q left))

@@ -17,7 +17,7 @@ use Rattle.dns_split.specs.declared.pieces.Piece.TheVariants.{Word as WordAt, Qu
 use Rattle.dns_split.specs.declared.pieces.Fault.{Fault}
 use Rattle.dns_split.specs.Reader.{step, may_end}
 use Rattle.dns_split.specs.Pieces.{word_at, Reads, EachFits, IsPartOf, EachIsPart, EachWithin}
-use Rattle.dns_split.specs.Run.{open_piece, goes_on, before, closed, finished, start_after, opens, in_comment, next_open, first_blank, blank_after, run}
+use Rattle.dns_split.specs.Run.{open_piece, goes_on, before, closed_piece, finished, start_after, opens, in_comment, next_open, first_blank, blank_after, run}
 use Rattle.dns_split.proofs.Viable.{high_is}
 use Rattle.dns_split.proofs.PieceSteps.{run_step, run_stop}
 
@@ -60,7 +60,7 @@ module _ (Q R : ℕ → Type 0) where
   open_part (OneDigit q n) s at h = word_part (s == at) s at h
   open_part (TwoDigits q n) s at h = word_part (s == at) s at h
 
-  closed_part : (m n : Mode) (a : Act) (s at : ℕ) → IsSpan s at → Maybe (closed m n a s at)
+  closed_part : (m n : Mode) (a : Act) (s at : ℕ) → IsSpan s at → Maybe (closed_piece m n a s at)
   closed_part m n a s at h = cond_both (goes_on m n a) None (open_piece m s at) Maybe (λ _. tt) (λ _. open_part m s at h)
 
   finished_part : (a : Act) (s e : ℕ) (b : Bool) → IsSpan s e → Maybe (finished a s e b)
@@ -120,7 +120,7 @@ module _ (Q R : ℕ → Type 0) where
       go (Some v) e =
           let n = start_at m v.mode v.act s at (h, k) p q in
           subst Parts (sym (run_step m d s at b c bs v e))
-          (put (closed m v.mode v.act s at) _ (closed_part m v.mode v.act s at (record { ordered = h; starts = k; ends = p }))
+          (put (closed_piece m v.mode v.act s at) _ (closed_part m v.mode v.act s at (record { ordered = h; starts = k; ends = p }))
           (put (finished v.act s (at + 1) b) _ (finished_part v.act s (at + 1) b (record { ordered = omega arith; starts = k; ends = q }))
           (ih v.mode v.depth (start_after m v.mode v.act s at) (blank_after v.act b bs) n.0 n.1)))
 

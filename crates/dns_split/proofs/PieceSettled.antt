@@ -17,7 +17,7 @@ use Rattle.dns_split.specs.declared.pieces.Fault.{Fault}
 use Rattle.dns_split.specs.Splitting.{Splits}
 use Rattle.dns_split.specs.Reader.{home, move_to, step, line_end}
 use Rattle.dns_split.specs.Pieces.{word_at, quote_at, comment_at, end_at, IsPieces, EachWithin, Begins, BeginsPieces}
-use Rattle.dns_split.specs.Run.{before, closed, first_blank, run}
+use Rattle.dns_split.specs.Run.{before, closed_piece, first_blank, run}
 use Rattle.dns_split.proofs.Complete.{Some_same, first_step, second_step, third_step}
 use Rattle.dns_split.proofs.Sound.{read_splits}
 use Rattle.dns_split.proofs.Viable.{walk, walk_completes, Completes, Fine, step_completes, close_completes, line_completes, low, low_encodes, low_scalars, low_close, scalars_both}
@@ -122,7 +122,7 @@ home_apart InWord d s n h = outside_apart d s n h
 home_apart InQuote d s n h = quoted_apart d s n
 
 -- one digit more
-digit_apart : (m m' : Mode) (d s n : ℕ) → step m d 48 ≡ move_to m' d Add → closed m m' Add s n ≡ None → Apart m' d s (n + 1) → Apart m d s n
+digit_apart : (m m' : Mode) (d s n : ℕ) → step m d 48 ≡ move_to m' d Add → closed_piece m m' Add s n ≡ None → Apart m' d s (n + 1) → Apart m d s n
 digit_apart m m' d s n h c a = record {
   one = 48 ∷ a.one;
   two = 48 ∷ a.two;

@@ -9,7 +9,7 @@ use Rattle.dns_split.specs.declared.pieces.Piece.{Piece}
 use Rattle.dns_split.specs.declared.pieces.Piece.TheVariants.{Word as WordAt, Quote as QuoteAt, Comment as CommentAt, End as EndAt}
 use Rattle.dns_split.specs.declared.pieces.Fault.{Fault}
 use Rattle.dns_split.specs.declared.splitting.Collected.{Collected}
-use Rattle.dns_split.specs.Lexeme.{Lexeme, Blank, Line, Open, Close, Note, Word, Quote, bytes}
+use Rattle.dns_split.specs.Lexeme.{Lexeme, Blank, Line, Open, Close, Note, Word, Quote, lexeme_bytes}
 use Rattle.dns_split.specs.Splitting.{Splits, Entries, nests, with_token, entries}
 use Rattle.dns_split.specs.Pieces.{begins_blank, pieces, IsPieces, Reads, between, cut}
 use Rattle.dns_split.specs.Answer.{texts, entries_of}
@@ -24,15 +24,15 @@ between_is before w rest text at e k =
 
 -- a reading of lexemes and one of their pieces say the same
 abbrev pub Agrees : {A : Type 0} → (ℕ → Bool → List Lexeme → A) → (List ℕ → List Piece → A) → List Lexeme → Type 0
-Agrees of_lexemes of_pieces ls = (text before : List ℕ) (d at : ℕ) (b : Bool) → before ++ flat_map bytes ls ≡ text → at ≡ length before → nests d ls ≡ true
+Agrees of_lexemes of_pieces ls = (text before : List ℕ) (d at : ℕ) (b : Bool) → before ++ flat_map lexeme_bytes ls ≡ text → at ≡ length before → nests d ls ≡ true
     → of_lexemes d b ls ≡ of_pieces text (pieces at d b ls)
 
 -- and so they do past a lexeme
 pub past : {A : Type 0} (of_lexemes : ℕ → Bool → List Lexeme → A) (of_pieces : List ℕ → List Piece → A) (l : Lexeme) (ls : List Lexeme) → Agrees of_lexemes of_pieces ls
-    → (text before : List ℕ) (d at : ℕ) (b : Bool) → before ++ flat_map bytes (l ∷ ls) ≡ text → at ≡ length before → nests d ls ≡ true
-    → of_lexemes d b ls ≡ of_pieces text (pieces (at + length (bytes l)) d b ls)
+    → (text before : List ℕ) (d at : ℕ) (b : Bool) → before ++ flat_map lexeme_bytes (l ∷ ls) ≡ text → at ≡ length before → nests d ls ≡ true
+    → of_lexemes d b ls ≡ of_pieces text (pieces (at + length (lexeme_bytes l)) d b ls)
 past of_lexemes of_pieces l ls agrees text before d at b e k n =
-    agrees text (before ++ bytes l) d (at + length (bytes l)) b (append_assoc before (bytes l) (flat_map bytes ls) ∙ e) (omega (arith, k, length-append before (bytes l))) n
+    agrees text (before ++ lexeme_bytes l) d (at + length (lexeme_bytes l)) b (append_assoc before (lexeme_bytes l) (flat_map lexeme_bytes ls) ∙ e) (omega (arith, k, length-append before (lexeme_bytes l))) n
 
 -- the tokens of pieces, cut where entries end, are the entries
 abbrev entries_at : ℕ → Bool → List Lexeme → Entries
@@ -48,11 +48,11 @@ cuts (Line r ∷ ls) text before (suc d) at b e k n = past entries_at cut (Line 
 cuts (Blank t ∷ ls) text before d at b e k n = past entries_at cut (Blank t) ls (cuts ls) text before d at b e k n
 cuts (Note cs ∷ ls) text before d at b e k n = past entries_at cut (Note cs) ls (cuts ls) text before d at b e k n
 cuts (Word y ss ∷ ls) text before d at b e k n =
-    ap (with_token (bytes (Word y ss))) (past entries_at cut (Word y ss) ls (cuts ls) text before d at b e k n)
-    ∙ ap (λ t. with_token t (cut text (pieces (at + length (bytes (Word y ss))) d b ls))) (sym (between_is before (bytes (Word y ss)) (flat_map bytes ls) text at e k))
+    ap (with_token (lexeme_bytes (Word y ss))) (past entries_at cut (Word y ss) ls (cuts ls) text before d at b e k n)
+    ∙ ap (λ t. with_token t (cut text (pieces (at + length (lexeme_bytes (Word y ss))) d b ls))) (sym (between_is before (lexeme_bytes (Word y ss)) (flat_map lexeme_bytes ls) text at e k))
 cuts (Quote ss ∷ ls) text before d at b e k n =
-    ap (with_token (bytes (Quote ss))) (past entries_at cut (Quote ss) ls (cuts ls) text before d at b e k n)
-    ∙ ap (λ t. with_token t (cut text (pieces (at + length (bytes (Quote ss))) d b ls))) (sym (between_is before (bytes (Quote ss)) (flat_map bytes ls) text at e k))
+    ap (with_token (lexeme_bytes (Quote ss))) (past entries_at cut (Quote ss) ls (cuts ls) text before d at b e k n)
+    ∙ ap (λ t. with_token t (cut text (pieces (at + length (lexeme_bytes (Quote ss))) d b ls))) (sym (between_is before (lexeme_bytes (Quote ss)) (flat_map lexeme_bytes ls) text at e k))
 
 pub pieces_split : (text : List ℕ) (found : List Piece) → IsPieces text found → Splits text (cut text found)
 pieces_split text found p = record {

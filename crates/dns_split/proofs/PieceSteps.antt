@@ -17,12 +17,12 @@ use Rattle.dns_split.specs.declared.pieces.Fault.{Fault}
 use Rattle.dns_symbol.specs.Symbol.{is_digit}
 use Rattle.dns_split.specs.Reader.{kind, home, move_to, step, outside_step, quoted_step, comment_step, return_step, line_end}
 use Rattle.dns_split.specs.Pieces.{word_at}
-use Rattle.dns_split.specs.Run.{before, closed, finished, start_after, first_blank, blank_after, blank_then, fault, goes_on, open_piece, wrong_at, run}
+use Rattle.dns_split.specs.Run.{before, closed_piece, finished, start_after, first_blank, blank_after, blank_then, fault, goes_on, open_piece, wrong_at, run}
 use Rattle.dns_split.proofs.Complete.{Some_same}
 
 -- what a step gives and leaves
 abbrev pub stepped : Mode → ℕ → ℕ → Bool → List ℕ → Move → List (Result Piece Fault)
-stepped m s at b bs v = before (closed m v.mode v.act s at) (before (finished v.act s (at + 1) b) (run v.mode v.depth (start_after m v.mode v.act s at) (at + 1) (blank_after v.act b bs) bs))
+stepped m s at b bs v = before (closed_piece m v.mode v.act s at) (before (finished v.act s (at + 1) b) (run v.mode v.depth (start_after m v.mode v.act s at) (at + 1) (blank_after v.act b bs) bs))
 
 pub run_step : (m : Mode) (d s at : ℕ) (b : Bool) (c : ℕ) (bs : List ℕ) (v : Move) → step m d c ≡ Some v → run m d s at b (c ∷ bs) ≡ stepped m s at b bs v
 run_step m d s at b c bs v h = ap (λ o. unwrap_or (option_map (stepped m s at b bs) o) (fault at (wrong_at m s))) h
@@ -37,21 +37,21 @@ turn text m d s at b c v h e g = ap (run m d s at b) (drop_more text at 0 h ∙ 
 
 -- nothing is open before the octet that ended it
 abbrev Reopens : Mode → ℕ → ℕ → ℕ → Bool → ℕ → List ℕ → Piece → Move → Type 0
-Reopens m d s at b c bs p v = closed m v.mode v.act s at ≡ Some p
+Reopens m d s at b c bs p v = closed_piece m v.mode v.act s at ≡ Some p
     → run Outside d at at b (c ∷ bs) ≡ before (finished v.act s (at + 1) b) (run v.mode v.depth (start_after m v.mode v.act s at) (at + 1) (blank_after v.act b bs) bs)
 
 none_some : {A : Type 0} {X : Type 0} {x : X} → None ≡ Some x → A
 none_some h = cc
 
-added : (m m' : Mode) (d s at : ℕ) (b : Bool) (c : ℕ) (bs : List ℕ) (p : Piece) (v : Move) → closed m m' Add s at ≡ None → move_to m' d Add ≡ Some v → Reopens m d s at b c bs p v
+added : (m m' : Mode) (d s at : ℕ) (b : Bool) (c : ℕ) (bs : List ℕ) (p : Piece) (v : Move) → closed_piece m m' Add s at ≡ None → move_to m' d Add ≡ Some v → Reopens m d s at b c bs p v
 added m m' d s at b c bs p v n h = subst (Reopens m d s at b c bs p) (Some_same h) (λ k. none_some (sym n ∙ k))
 
-only_added : (t : Bool) (m m' : Mode) (d s at : ℕ) (b : Bool) (c : ℕ) (bs : List ℕ) (p : Piece) (v : Move) → closed m m' Add s at ≡ None → cond t (move_to m' d Add) None ≡ Some v
+only_added : (t : Bool) (m m' : Mode) (d s at : ℕ) (b : Bool) (c : ℕ) (bs : List ℕ) (p : Piece) (v : Move) → closed_piece m m' Add s at ≡ None → cond t (move_to m' d Add) None ≡ Some v
     → Reopens m d s at b c bs p v
 only_added true m m' d s at b c bs p v n h = added m m' d s at b c bs p v n h
 only_added false m m' d s at b c bs p v n h = none_some h
 
-one_or : (t g k : Bool) (m m' m'' : Mode) (d s at : ℕ) (b : Bool) (c : ℕ) (bs : List ℕ) (p : Piece) (v : Move) → closed m m' Add s at ≡ None → closed m m'' Add s at ≡ None
+one_or : (t g k : Bool) (m m' m'' : Mode) (d s at : ℕ) (b : Bool) (c : ℕ) (bs : List ℕ) (p : Piece) (v : Move) → closed_piece m m' Add s at ≡ None → closed_piece m m'' Add s at ≡ None
     → cond t (cond g (move_to m' d Add) None) (cond k (move_to m'' d Add) None) ≡ Some v → Reopens m d s at b c bs p v
 one_or true g k m m' m'' d s at b c bs p v n o h = only_added g m m' d s at b c bs p v n h
 one_or false g k m m' m'' d s at b c bs p v n o h = only_added k m m'' d s at b c bs p v o h
@@ -128,7 +128,7 @@ reopens (TwoDigits q n) d s at b c bs p v h = only_added (is_digit c && nat_le (
 
 -- in a text: the piece, and what is left
 pub turn_closed : (text : List ℕ) (m : Mode) (d s at : ℕ) (b : Bool) (c : ℕ) (p : Piece) (v : Move) → at < length text → c ≡ get_or text at 0 → step m d c ≡ Some v
-    → closed m v.mode v.act s at ≡ Some p
+    → closed_piece m v.mode v.act s at ≡ Some p
     → run m d s at b (drop at text) ≡ Ok p ∷ run Outside d at at b (drop at text)
 turn_closed text m d s at b c p v h e g k =
     let rest : List ℕ = drop (at + 1) text in
@@ -146,7 +146,7 @@ same_blank FinishToken s e b bs h = refl
 same_blank EndEntry s e b bs h = none_some (sym h)
 
 -- no piece ends
-pub turn_on : (text : List ℕ) (m : Mode) (d s at : ℕ) (b : Bool) (c : ℕ) (v : Move) → at < length text → c ≡ get_or text at 0 → step m d c ≡ Some v → closed m v.mode v.act s at ≡ None
+pub turn_on : (text : List ℕ) (m : Mode) (d s at : ℕ) (b : Bool) (c : ℕ) (v : Move) → at < length text → c ≡ get_or text at 0 → step m d c ≡ Some v → closed_piece m v.mode v.act s at ≡ None
     → finished v.act s (at + 1) b ≡ None
     → run m d s at b (drop at text) ≡ run v.mode v.depth (start_after m v.mode v.act s at) (at + 1) b (drop (at + 1) text)
 turn_on text m d s at b c v h e g k f =
@@ -257,7 +257,7 @@ after_finished m n EndToken d s at b bs p h f = none_some f
 
 -- a piece ends with the octet
 pub turn_finished : (text : List ℕ) (m : Mode) (d s at : ℕ) (b : Bool) (c : ℕ) (p : Piece) (v : Move) → at < length text → c ≡ get_or text at 0 → step m d c ≡ Some v
-    → closed m v.mode v.act s at ≡ None → finished v.act s (at + 1) b ≡ Some p
+    → closed_piece m v.mode v.act s at ≡ None → finished v.act s (at + 1) b ≡ Some p
     → run m d s at b (drop at text) ≡ Ok p ∷ run Outside v.depth (at + 1) (at + 1) (blank_after v.act b (drop (at + 1) text)) (drop (at + 1) text)
 turn_finished text m d s at b c p v h e g k f =
     let rest : List ℕ = drop (at + 1) text in
@@ -280,7 +280,7 @@ open_then text (Escape q) s at b p e = word_then text (s == at) s at b p e
 open_then text (OneDigit q n) s at b p e = word_then text (s == at) s at b p e
 open_then text (TwoDigits q n) s at b p e = word_then text (s == at) s at b p e
 
-pub closed_then : (text : List ℕ) (m n : Mode) (a : Act) (s at : ℕ) (b : Bool) (p : Piece) → closed m n a s at ≡ Some p → b ≡ blank_then text (Ok p) b
+pub closed_then : (text : List ℕ) (m n : Mode) (a : Act) (s at : ℕ) (b : Bool) (p : Piece) → closed_piece m n a s at ≡ Some p → b ≡ blank_then text (Ok p) b
 closed_then text m n a s at b p e = go (goes_on m n a) e
   where
     go : (t : Bool) → cond t None (open_piece m s at) ≡ Some p → b ≡ blank_then text (Ok p) b

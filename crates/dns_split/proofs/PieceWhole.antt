@@ -12,7 +12,7 @@ use Rattle.dns_split.specs.declared.reader.Kind.TheVariants.{Plain}
 use Rattle.dns_split.specs.declared.reader.Within.TheVariants.{InWord, InQuote}
 use Rattle.dns_split.specs.declared.pieces.Piece.{Piece}
 use Rattle.dns_split.specs.declared.pieces.Fault.{Fault}
-use Rattle.dns_split.specs.Lexeme.{Lexeme, Blank, Line, Open, Close, Note, Word, Quote, bytes, is_quote_symbol, is_note_char}
+use Rattle.dns_split.specs.Lexeme.{Lexeme, Blank, Line, Open, Close, Note, Word, Quote, lexeme_bytes, is_quote_symbol, is_note_char}
 use Rattle.dns_split.specs.Splitting.{may_precede, are_lexemes, nests}
 use Rattle.dns_split.specs.Reader.{kind}
 use Rattle.dns_split.specs.Pieces.{word_at, quote_at, comment_at, end_at, begins_blank, pieces, IsPieces}
@@ -38,13 +38,13 @@ word_char _ v_note h = refl
 word_char _ v_quote h = refl
 word_char _ v_escape h = refl
 
-word_first : (y : Symbol) (ss : List Symbol) (rest : List ℕ) → is_word_symbol y ≡ true → first_blank (bytes (Word y ss) ++ rest) ≡ false
+word_first : (y : Symbol) (ss : List Symbol) (rest : List ℕ) → is_word_symbol y ≡ true → first_blank (lexeme_bytes (Word y ss) ++ rest) ≡ false
 word_first (Char c) ss rest h = ap first_blank (append_assoc (encode_utf8 c) (encode_utf8_all (flat_map spell ss)) rest) ∙ first_blank_char c _ ∙ word_char c (view c) h
 word_first (SimpleEscape o) ss rest h = ap first_blank (append_assoc (encode_utf8 92) (encode_utf8_all (o ∷ flat_map spell ss)) rest) ∙ first_blank_char 92 _
 word_first (DecimalEscape o) ss rest h = ap first_blank (append_assoc (encode_utf8 92) _ rest) ∙ first_blank_char 92 _
 
 -- a text of lexemes begins with a blank where they do
-blank_lexemes : (ls : List Lexeme) → are_lexemes ls ≡ true → first_blank (flat_map bytes ls) ≡ begins_blank ls
+blank_lexemes : (ls : List Lexeme) → are_lexemes ls ≡ true → first_blank (flat_map lexeme_bytes ls) ≡ begins_blank ls
 blank_lexemes [] v = refl
 blank_lexemes (Blank true ∷ ls) v = rw (blank_bytes true) refl
 blank_lexemes (Blank false ∷ ls) v = rw (blank_bytes false) refl
@@ -57,7 +57,7 @@ blank_lexemes (Quote ss ∷ ls) v = rw (quote_bytes ss) refl
 blank_lexemes (Word y ss ∷ ls) v =
     let p = and_parts (list_all is_word_symbol (y ∷ ss) && may_precede (Word y ss) ls) (are_lexemes ls) v in
     let r = and_parts (list_all is_word_symbol (y ∷ ss)) (may_precede (Word y ss) ls) p.0 in
-    word_first y ss (flat_map bytes ls) (and_parts (is_word_symbol y) (list_all is_word_symbol ss) r.0).0
+    word_first y ss (flat_map lexeme_bytes ls) (and_parts (is_word_symbol y) (list_all is_word_symbol ss) r.0).0
 
 clear : (at : ℕ) (k : List (Result Piece Fault)) → before (open_piece Outside at at) k ≡ k
 clear at k = rw (self at) refl
@@ -84,7 +84,7 @@ two_on at = omega arith
 
 -- a text of lexemes gives their pieces
 pub lexemes_run : (ls : List Lexeme) (d s at : ℕ) (b : Bool) → are_lexemes ls ≡ true → nests d ls ≡ true → (s ≡ at) ⊎ (no_word ls ≡ true)
-    → run Outside d s at b (flat_map bytes ls) ≡ before (open_piece Outside s at) (map Ok (pieces at d b ls))
+    → run Outside d s at b (flat_map lexeme_bytes ls) ≡ before (open_piece Outside s at) (map Ok (pieces at d b ls))
 lexemes_run [] zero s at b v n a = refl
 lexemes_run [] (suc d) s at b v n a = cc
 lexemes_run (Blank true ∷ ls) d s at b v n a = rw (blank_bytes true) (ap (before (open_piece Outside s at)) (lexemes_run ls d (at + 1) (at + 1) b v n (inl refl) ∙ clear (at + 1) _))
@@ -95,22 +95,22 @@ lexemes_run (Close ∷ ls) (suc d) s at b v n a = rw close_bytes (ap (before (op
 lexemes_run (Line false ∷ ls) zero s at b v n a =
     rw (line_bytes false)
     (ap (λ k. before (open_piece Outside s at) (Ok (end_at (at + 1) b) ∷ k))
-    (ap (λ x. run Outside zero (at + 1) (at + 1) x (flat_map bytes ls)) (blank_lexemes ls v) ∙ lexemes_run ls zero (at + 1) (at + 1) (begins_blank ls) v n (inl refl) ∙ clear (at + 1) _))
+    (ap (λ x. run Outside zero (at + 1) (at + 1) x (flat_map lexeme_bytes ls)) (blank_lexemes ls v) ∙ lexemes_run ls zero (at + 1) (at + 1) (begins_blank ls) v n (inl refl) ∙ clear (at + 1) _))
 lexemes_run (Line false ∷ ls) (suc d) s at b v n a = rw (line_bytes false) (ap (before (open_piece Outside s at)) (lexemes_run ls (suc d) (at + 1) (at + 1) b v n (inl refl) ∙ clear (at + 1) _))
 lexemes_run (Line true ∷ ls) zero s at b v n a =
     rw (line_bytes true, self (at + 1))
-    (ap (λ e. before (open_piece Outside s at) (Ok (end_at e b) ∷ run Outside zero e e (first_blank (flat_map bytes ls)) (flat_map bytes ls))) (two_on at)
+    (ap (λ e. before (open_piece Outside s at) (Ok (end_at e b) ∷ run Outside zero e e (first_blank (flat_map lexeme_bytes ls)) (flat_map lexeme_bytes ls))) (two_on at)
     ∙ ap (λ k. before (open_piece Outside s at) (Ok (end_at (at + 2) b) ∷ k))
-    (ap (λ x. run Outside zero (at + 2) (at + 2) x (flat_map bytes ls)) (blank_lexemes ls v) ∙ lexemes_run ls zero (at + 2) (at + 2) (begins_blank ls) v n (inl refl) ∙ clear (at + 2) _))
+    (ap (λ x. run Outside zero (at + 2) (at + 2) x (flat_map lexeme_bytes ls)) (blank_lexemes ls v) ∙ lexemes_run ls zero (at + 2) (at + 2) (begins_blank ls) v n (inl refl) ∙ clear (at + 2) _))
 lexemes_run (Line true ∷ ls) (suc d) s at b v n a =
     rw (line_bytes true, self (at + 1))
-    (ap (λ e. before (open_piece Outside s at) (run Outside (suc d) e e b (flat_map bytes ls))) (two_on at)
+    (ap (λ e. before (open_piece Outside s at) (run Outside (suc d) e e b (flat_map lexeme_bytes ls))) (two_on at)
     ∙ ap (before (open_piece Outside s at)) (lexemes_run ls (suc d) (at + 2) (at + 2) b v n (inl refl) ∙ clear (at + 2) _))
 lexemes_run (Note cs ∷ ls) d s at b v n a =
     let p = and_parts (list_all is_note_char cs && may_precede (Note cs) ls) (are_lexemes ls) v in
     let r = and_parts (list_all is_note_char cs) (may_precede (Note cs) ls) p.0 in
-    let rest : List ℕ = flat_map bytes ls in
-    let e : ℕ = at + length (bytes (Note cs)) in
+    let rest : List ℕ = flat_map lexeme_bytes ls in
+    let e : ℕ = at + length (lexeme_bytes (Note cs)) in
     let k : at + 1 + length (encode_utf8_all cs) ≡ e = omega (arith, ap length (note_bytes cs)) in
     ap (λ l. run Outside d s at b (l ++ rest)) (note_bytes cs)
     ∙ ap (before (open_piece Outside s at))
@@ -122,20 +122,20 @@ lexemes_run (Word y ss ∷ ls) d s at b v n a =
     let p = and_parts (list_all is_word_symbol (y ∷ ss) && may_precede (Word y ss) ls) (are_lexemes ls) v in
     let r = and_parts (list_all is_word_symbol (y ∷ ss)) (may_precede (Word y ss) ls) p.0 in
     let is : s ≡ at = open_clear s at (Word y ss ∷ ls) a refl in
-    let rest : List ℕ = flat_map bytes ls in
-    let e : ℕ = at + length (bytes (Word y ss)) in
+    let rest : List ℕ = flat_map lexeme_bytes ls in
+    let e : ℕ = at + length (lexeme_bytes (Word y ss)) in
     let left : List (Result Piece Fault) = map Ok (pieces e d b ls) in
-    ap (λ x. run Outside d x at b (bytes (Word y ss) ++ rest)) is
+    ap (λ x. run Outside d x at b (lexeme_bytes (Word y ss) ++ rest)) is
     ∙ symbols_run InWord d at at b rest (y ∷ ss) r.0
     ∙ lexemes_run ls d at e b p.1 n (inr (apart_word y ss ls r.1))
-    ∙ ap (λ t. before (if t then None else Some (word_at at e)) left) (word_open at e (length (bytes (Word y ss))) refl (word_some y ss))
+    ∙ ap (λ t. before (if t then None else Some (word_at at e)) left) (word_open at e (length (lexeme_bytes (Word y ss))) refl (word_some y ss))
     ∙ sym (ap (λ x. before (open_piece Outside x at) (Ok (word_at at e) ∷ left)) is ∙ clear at (Ok (word_at at e) ∷ left))
 lexemes_run (Quote ss ∷ ls) d s at b v n a =
     let p = and_parts (list_all is_quote_symbol ss && true) (are_lexemes ls) v in
     let r = and_parts (list_all is_quote_symbol ss) true p.0 in
-    let rest : List ℕ = flat_map bytes ls in
+    let rest : List ℕ = flat_map lexeme_bytes ls in
     let body : List ℕ = encode_utf8_all (flat_map spell ss) in
-    let e : ℕ = at + length (bytes (Quote ss)) in
+    let e : ℕ = at + length (lexeme_bytes (Quote ss)) in
     let k : at + 1 + length body + 1 ≡ e = omega (arith, ap length (quote_bytes ss), length-append body (34 ∷ [])) in
     ap (λ l. run Outside d s at b (l ++ rest)) (quote_bytes ss)
     ∙ ap (before (open_piece Outside s at))

@@ -13,7 +13,7 @@ use Rattle.dns_split.specs.declared.skip.Class.TheVariants.{Word, Quote, Comment
 use Rattle.dns_split.specs.declared.skip.Place.{Place}
 use Rattle.dns_symbol.specs.Symbol.{is_digit, is_printable}
 use Rattle.dns_split.specs.Reader.{home, move_to, step}
-use Rattle.dns_split.specs.Run.{run, before, closed, Still, SameRun, Skips, GoesOn, Passes, EndsWord, EndsComment, Gives}
+use Rattle.dns_split.specs.Run.{run, before, closed_piece, Still, SameRun, Skips, GoesOn, Passes, EndsWord, EndsComment, Gives}
 use Rattle.dns_split.specs.Pieces.{word_at, quote_at, comment_at}
 use Rattle.dns_split.specs.Skip.{is_in, EachIn, class_of}
 use Rattle.dns_split.proofs.PieceSteps.{run_step}
@@ -80,7 +80,7 @@ blank_between text i j o w all d b = subst (λ e. run Outside d i i b (drop i te
 
 -- ---- escapes
 -- one octet that joins the token
-joins : (m n : Mode) (d s at : ℕ) (b : Bool) (c : ℕ) (bs : List ℕ) → step m d c ≡ move_to n d Add → run m d s at b (c ∷ bs) ≡ before (closed m n Add s at) (run n d s (at + 1) b bs)
+joins : (m n : Mode) (d s at : ℕ) (b : Bool) (c : ℕ) (bs : List ℕ) → step m d c ≡ move_to n d Add → run m d s at b (c ∷ bs) ≡ before (closed_piece m n Add s at) (run n d s (at + 1) b bs)
 joins m n d s at b c bs h = run_step m d s at b c bs _ h
 
 -- after the backslash

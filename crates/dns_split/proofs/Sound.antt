@@ -11,7 +11,7 @@ use Rattle.dns_symbol.specs.declared.symbol.Symbol.TheVariants.{Char, SimpleEsca
 use Rattle.dns_split.specs.declared.reader.Mode.{Mode}
 use Rattle.dns_split.specs.declared.reader.Mode.TheVariants.{Outside, Quoted, Comment, Return, Escape, OneDigit, TwoDigits}
 use Rattle.dns_split.specs.declared.reader.Act.TheVariants.{Add}
-use Rattle.dns_split.specs.Lexeme.{Lexeme, Blank, Line, Open, Close, Note, Word, Quote, characters, bytes, is_quote_symbol, is_note_char}
+use Rattle.dns_split.specs.Lexeme.{Lexeme, Blank, Line, Open, Close, Note, Word, Quote, characters, lexeme_bytes, is_quote_symbol, is_note_char}
 use Rattle.dns_split.specs.Splitting.{Splits, may_precede, are_lexemes, nests, entries, Entries}
 use Rattle.dns_symbol.specs.Symbol.{spell, is_word_symbol, is_readable, is_digit}
 use Rattle.dns_split.specs.declared.reader.Move.{Move}
@@ -129,7 +129,7 @@ lexed_with d cs e (s ∷ ss) ls text symbols apart valid nested is = record {
   text = text;
   valid = and_from _ _ (and_from _ _ symbols (word_follows s ss ls apart)) valid;
   nested = nested;
-  is = is ∙ with_open_some (bytes (Word s ss)) (entries d ls) (word_some s ss);
+  is = is ∙ with_open_some (lexeme_bytes (Word s ss)) (entries d ls) (word_some s ss);
 }
 
 -- from the start of a token on, the text is lexemes
@@ -308,10 +308,10 @@ gap_sound _ v_note cs ih ok d t e h =
 gap_sound _ v_quote cs ih ok d t e h =
     let p = map_some (with_open t) (read Quoted d (encode_utf8 34) cs) e h in
     let l = ih Quoted d (encode_utf8 34) p.0 p.1 in
-    let token : encode_utf8 34 ++ (encode_utf8_all (flat_map spell l.ss) ++ encode_utf8 34) ≡ bytes (Quote l.ss) = simp (encodes-append, append-nil) in
+    let token : encode_utf8 34 ++ (encode_utf8_all (flat_map spell l.ss) ++ encode_utf8 34) ≡ lexeme_bytes (Quote l.ss) = simp (encodes-append, append-nil) in
     gap_of d t _ e (Quote l.ss ∷ l.ls) (ap (λ x. 34 ∷ x) (l.text ∙ sym (append_assoc (flat_map spell l.ss) (34 ∷ []) (flat_map characters l.ls)))) refl
     (and_from _ _ (and_from _ _ l.symbols refl) l.valid) l.nested
-    (p.2 ∙ ap (with_open t) (l.is ∙ ap (λ u. with_open u (entries d l.ls)) token ∙ with_open_some (bytes (Quote l.ss)) (entries d l.ls) (quote_some l.ss)))
+    (p.2 ∙ ap (with_open t) (l.is ∙ ap (λ u. with_open u (entries d l.ls)) token ∙ with_open_some (lexeme_bytes (Quote l.ss)) (entries d l.ls) (quote_some l.ss)))
 gap_sound _ v_escape cs ih ok d t e h = escape_before InWord d t cs e (ih (Escape InWord) d (t ++ encode_utf8 92) e h)
 gap_sound c (v_plain p) cs ih ok d t e h =
     char_before InWord d t cs c e (and_from _ _ p.in_word (and_from _ _ ok (not_from_false _ p.unescaped))) (ih Outside d (t ++ encode_utf8 c) e (rw p.kind_is at h))

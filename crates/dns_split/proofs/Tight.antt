@@ -13,7 +13,7 @@ use Rattle.dns_split.specs.declared.reader.Act.TheVariants.{EndToken, EndEntry, 
 use Rattle.dns_split.specs.declared.reader.Kind.{Kind}
 use Rattle.dns_split.specs.declared.reader.Kind.TheVariants.{White}
 use Rattle.dns_split.specs.declared.reader.Move.{Move}
-use Rattle.dns_split.specs.Lexeme.{Lexeme, Blank, Line, Open, Close, Note, Word, Quote, characters, bytes, is_quote_symbol, is_note_char}
+use Rattle.dns_split.specs.Lexeme.{Lexeme, Blank, Line, Open, Close, Note, Word, Quote, characters, lexeme_bytes, is_quote_symbol, is_note_char}
 use Rattle.dns_split.specs.Splitting.{BeginsNoBlank, may_precede, are_lexemes, nests, is_tight}
 use Rattle.dns_symbol.specs.Symbol.{spell, is_word_symbol}
 use Rattle.dns_split.specs.Reader.{kind, home, step, move_to}
@@ -128,7 +128,7 @@ tight_is (Quote ss ∷ ls) starts d v n =
     ∙ symbols_tight InQuote d (34 ∷ flat_map characters ls) ss r.0 ∙ tight_is ls false d p.1 n
 
 -- one such lexeme list speaks for all
-pub tight_all : (text : List ℕ) (ls : List Lexeme) → flat_map bytes ls ≡ text → are_lexemes ls ≡ true → nests 0 ls ≡ true → is_tight true 0 ls ≡ true → BeginsNoBlank text
+pub tight_all : (text : List ℕ) (ls : List Lexeme) → flat_map lexeme_bytes ls ≡ text → are_lexemes ls ≡ true → nests 0 ls ≡ true → is_tight true 0 ls ≡ true → BeginsNoBlank text
 tight_all text ls s v n t ks ss kv kn =
     let same : flat_map characters ks ≡ flat_map characters ls = encodes_same _ _ (sym (bytes_all ks) ∙ ss ∙ sym s ∙ bytes_all ls) in
     sym (tight_is ks true 0 kv kn) ∙ ap (tight true Outside 0) same ∙ tight_is ls true 0 v n ∙ t

@@ -12,7 +12,7 @@ use Rattle.dns_split.specs.declared.reader.Mode.TheVariants.{Outside, Quoted}
 use Rattle.dns_split.specs.declared.pieces.Piece.{Piece}
 use Rattle.dns_split.specs.declared.pieces.Piece.TheVariants.{Word as WordAt, Quote as QuoteAt, Comment as CommentAt, End as EndAt}
 use Rattle.dns_split.specs.declared.pieces.Fault.{Fault}
-use Rattle.dns_split.specs.Lexeme.{Lexeme, Blank, Line, Open, Close, Note, Word, Quote, bytes, is_lexeme}
+use Rattle.dns_split.specs.Lexeme.{Lexeme, Blank, Line, Open, Close, Note, Word, Quote, lexeme_bytes, is_lexeme}
 use Rattle.dns_split.specs.Pieces.{word_at, end_at, spans_all, pieces, IsPieces, IsSpelled, Reads, between}
 use Rattle.dns_split.specs.Run.{SameRun, before, first_blank, run}
 use Rattle.dns_split.specs.Splitting.{Splits, are_lexemes, with_token, entries, Entries}
@@ -40,37 +40,37 @@ some_bytes : (c : ℕ) (cs : List ℕ) → 0 < length (encode_utf8_all (c ∷ cs
 some_bytes c cs = omega (arith, length-append (encode_utf8 c) (encode_utf8_all cs), length-encode c, (len_utf8_bounds c).0)
 
 -- tokens weigh no more than the text
-light : (ls : List Lexeme) (d : ℕ) → weight (entries d ls) ≤ length (flat_map bytes ls)
+light : (ls : List Lexeme) (d : ℕ) → weight (entries d ls) ≤ length (flat_map lexeme_bytes ls)
 light [] d = omega arith
-light (Blank b ∷ ls) d = omega (arith, light ls d, length-append (bytes (Blank b)) (flat_map bytes ls))
-light (Line b ∷ ls) zero = omega (arith, light ls zero, length-append (bytes (Line b)) (flat_map bytes ls))
-light (Line b ∷ ls) (suc d) = omega (arith, light ls (suc d), length-append (bytes (Line b)) (flat_map bytes ls))
-light (Open ∷ ls) d = omega (arith, light ls (suc d), length-append (bytes Open) (flat_map bytes ls))
-light (Close ∷ ls) zero = omega (arith, light ls zero, length-append (bytes Close) (flat_map bytes ls))
-light (Close ∷ ls) (suc d) = omega (arith, light ls d, length-append (bytes Close) (flat_map bytes ls))
-light (Note cs ∷ ls) d = omega (arith, light ls d, length-append (bytes (Note cs)) (flat_map bytes ls))
-light (Word s ss ∷ ls) d = omega (arith, light ls d, length-append (bytes (Word s ss)) (flat_map bytes ls), token_weight (bytes (Word s ss)) (entries d ls))
-light (Quote ss ∷ ls) d = omega (arith, light ls d, length-append (bytes (Quote ss)) (flat_map bytes ls), token_weight (bytes (Quote ss)) (entries d ls))
+light (Blank b ∷ ls) d = omega (arith, light ls d, length-append (lexeme_bytes (Blank b)) (flat_map lexeme_bytes ls))
+light (Line b ∷ ls) zero = omega (arith, light ls zero, length-append (lexeme_bytes (Line b)) (flat_map lexeme_bytes ls))
+light (Line b ∷ ls) (suc d) = omega (arith, light ls (suc d), length-append (lexeme_bytes (Line b)) (flat_map lexeme_bytes ls))
+light (Open ∷ ls) d = omega (arith, light ls (suc d), length-append (lexeme_bytes Open) (flat_map lexeme_bytes ls))
+light (Close ∷ ls) zero = omega (arith, light ls zero, length-append (lexeme_bytes Close) (flat_map lexeme_bytes ls))
+light (Close ∷ ls) (suc d) = omega (arith, light ls d, length-append (lexeme_bytes Close) (flat_map lexeme_bytes ls))
+light (Note cs ∷ ls) d = omega (arith, light ls d, length-append (lexeme_bytes (Note cs)) (flat_map lexeme_bytes ls))
+light (Word s ss ∷ ls) d = omega (arith, light ls d, length-append (lexeme_bytes (Word s ss)) (flat_map lexeme_bytes ls), token_weight (lexeme_bytes (Word s ss)) (entries d ls))
+light (Quote ss ∷ ls) d = omega (arith, light ls d, length-append (lexeme_bytes (Quote ss)) (flat_map lexeme_bytes ls), token_weight (lexeme_bytes (Quote ss)) (entries d ls))
 
 -- and as much only if there is nothing else
-all_tokens : (ls : List Lexeme) (d : ℕ) → length (flat_map bytes ls) ≤ weight (entries d ls) → list_all is_token_lexeme ls ≡ true
+all_tokens : (ls : List Lexeme) (d : ℕ) → length (flat_map lexeme_bytes ls) ≤ weight (entries d ls) → list_all is_token_lexeme ls ≡ true
 all_tokens [] d h = refl
-all_tokens (Blank b ∷ ls) d h = absurd (omega (arith, h, light ls d, length-append (bytes (Blank b)) (flat_map bytes ls), some_bytes (if b then 9 else 32) []))
-all_tokens (Line true ∷ ls) zero h = absurd (omega (arith, h, light ls zero, length-append (bytes (Line true)) (flat_map bytes ls), some_bytes 13 (10 ∷ [])))
-all_tokens (Line false ∷ ls) zero h = absurd (omega (arith, h, light ls zero, length-append (bytes (Line false)) (flat_map bytes ls), some_bytes 10 []))
-all_tokens (Line true ∷ ls) (suc d) h = absurd (omega (arith, h, light ls (suc d), length-append (bytes (Line true)) (flat_map bytes ls), some_bytes 13 (10 ∷ [])))
-all_tokens (Line false ∷ ls) (suc d) h = absurd (omega (arith, h, light ls (suc d), length-append (bytes (Line false)) (flat_map bytes ls), some_bytes 10 []))
-all_tokens (Open ∷ ls) d h = absurd (omega (arith, h, light ls (suc d), length-append (bytes Open) (flat_map bytes ls), some_bytes 40 []))
-all_tokens (Close ∷ ls) zero h = absurd (omega (arith, h, light ls zero, length-append (bytes Close) (flat_map bytes ls), some_bytes 41 []))
-all_tokens (Close ∷ ls) (suc d) h = absurd (omega (arith, h, light ls d, length-append (bytes Close) (flat_map bytes ls), some_bytes 41 []))
-all_tokens (Note cs ∷ ls) d h = absurd (omega (arith, h, light ls d, length-append (bytes (Note cs)) (flat_map bytes ls), some_bytes 59 cs))
-all_tokens (Word s ss ∷ ls) d h = all_tokens ls d (omega (arith, h, length-append (bytes (Word s ss)) (flat_map bytes ls), token_weight (bytes (Word s ss)) (entries d ls)))
-all_tokens (Quote ss ∷ ls) d h = all_tokens ls d (omega (arith, h, length-append (bytes (Quote ss)) (flat_map bytes ls), token_weight (bytes (Quote ss)) (entries d ls)))
+all_tokens (Blank b ∷ ls) d h = absurd (omega (arith, h, light ls d, length-append (lexeme_bytes (Blank b)) (flat_map lexeme_bytes ls), some_bytes (if b then 9 else 32) []))
+all_tokens (Line true ∷ ls) zero h = absurd (omega (arith, h, light ls zero, length-append (lexeme_bytes (Line true)) (flat_map lexeme_bytes ls), some_bytes 13 (10 ∷ [])))
+all_tokens (Line false ∷ ls) zero h = absurd (omega (arith, h, light ls zero, length-append (lexeme_bytes (Line false)) (flat_map lexeme_bytes ls), some_bytes 10 []))
+all_tokens (Line true ∷ ls) (suc d) h = absurd (omega (arith, h, light ls (suc d), length-append (lexeme_bytes (Line true)) (flat_map lexeme_bytes ls), some_bytes 13 (10 ∷ [])))
+all_tokens (Line false ∷ ls) (suc d) h = absurd (omega (arith, h, light ls (suc d), length-append (lexeme_bytes (Line false)) (flat_map lexeme_bytes ls), some_bytes 10 []))
+all_tokens (Open ∷ ls) d h = absurd (omega (arith, h, light ls (suc d), length-append (lexeme_bytes Open) (flat_map lexeme_bytes ls), some_bytes 40 []))
+all_tokens (Close ∷ ls) zero h = absurd (omega (arith, h, light ls zero, length-append (lexeme_bytes Close) (flat_map lexeme_bytes ls), some_bytes 41 []))
+all_tokens (Close ∷ ls) (suc d) h = absurd (omega (arith, h, light ls d, length-append (lexeme_bytes Close) (flat_map lexeme_bytes ls), some_bytes 41 []))
+all_tokens (Note cs ∷ ls) d h = absurd (omega (arith, h, light ls d, length-append (lexeme_bytes (Note cs)) (flat_map lexeme_bytes ls), some_bytes 59 cs))
+all_tokens (Word s ss ∷ ls) d h = all_tokens ls d (omega (arith, h, length-append (lexeme_bytes (Word s ss)) (flat_map lexeme_bytes ls), token_weight (lexeme_bytes (Word s ss)) (entries d ls)))
+all_tokens (Quote ss ∷ ls) d h = all_tokens ls d (omega (arith, h, length-append (lexeme_bytes (Quote ss)) (flat_map lexeme_bytes ls), token_weight (lexeme_bytes (Quote ss)) (entries d ls)))
 
-entries_all : (ls : List Lexeme) (d : ℕ) → list_all is_token_lexeme ls ≡ true → entries d ls ≡ map bytes ls ∷ []
+entries_all : (ls : List Lexeme) (d : ℕ) → list_all is_token_lexeme ls ≡ true → entries d ls ≡ map lexeme_bytes ls ∷ []
 entries_all [] d h = refl
-entries_all (Word s ss ∷ ls) d h = ap (with_token (bytes (Word s ss))) (entries_all ls d h)
-entries_all (Quote ss ∷ ls) d h = ap (with_token (bytes (Quote ss))) (entries_all ls d h)
+entries_all (Word s ss ∷ ls) d h = ap (with_token (lexeme_bytes (Word s ss))) (entries_all ls d h)
+entries_all (Quote ss ∷ ls) d h = ap (with_token (lexeme_bytes (Quote ss))) (entries_all ls d h)
 entries_all (Blank _ ∷ ls) d h = cc
 entries_all (Line _ ∷ ls) d h = cc
 entries_all (Open ∷ ls) d h = cc
@@ -87,26 +87,26 @@ itself_token t s = one_token (go s.lexemes s.spelled s.valid tokens (sym (entrie
     tokens : list_all is_token_lexeme s.lexemes ≡ true
     tokens = all_tokens s.lexemes 0 (omega (arith, weighs, ap length s.spelled))
 
-    go : (ls : List Lexeme) → flat_map bytes ls ≡ t → are_lexemes ls ≡ true → list_all is_token_lexeme ls ≡ true → map bytes ls ∷ [] ≡ (t ∷ []) ∷ [] → IsOne t
+    go : (ls : List Lexeme) → flat_map lexeme_bytes ls ≡ t → are_lexemes ls ≡ true → list_all is_token_lexeme ls ≡ true → map lexeme_bytes ls ∷ [] ≡ (t ∷ []) ∷ [] → IsOne t
     go [] e v k h = cc
-    go (l ∷ []) e v k h = record { lexeme = l; is_one = (and_parts _ _ k).0; valid = (and_parts _ _ (and_parts _ _ v).0).0; spelled = sym (append-nil (bytes l)) ∙ e }
+    go (l ∷ []) e v k h = record { lexeme = l; is_one = (and_parts _ _ k).0; valid = (and_parts _ _ (and_parts _ _ v).0).0; spelled = sym (append-nil (lexeme_bytes l)) ∙ e }
     go (l ∷ m ∷ ls) e v k h = cc
 
 -- and a token splits into itself alone
 pub token_itself : (t : List ℕ) → IsToken t → Splits t ((t ∷ []) ∷ [])
 token_itself t i = go (token_one i).lexeme (token_one i).is_one (token_one i).valid (token_one i).spelled
   where
-    go : (l : Lexeme) → is_token_lexeme l ≡ true → is_lexeme l ≡ true → bytes l ≡ t → Splits t ((t ∷ []) ∷ [])
+    go : (l : Lexeme) → is_token_lexeme l ≡ true → is_lexeme l ≡ true → lexeme_bytes l ≡ t → Splits t ((t ∷ []) ∷ [])
     go (Word s ss) o v e = record {
       lexemes = Word s ss ∷ [];
-      spelled = append-nil (bytes (Word s ss)) ∙ e;
+      spelled = append-nil (lexeme_bytes (Word s ss)) ∙ e;
       valid = and_from _ _ (and_from _ _ v refl) refl;
       nested = refl;
       cut = ap (λ x. (x ∷ []) ∷ []) e;
     }
     go (Quote ss) o v e = record {
       lexemes = Quote ss ∷ [];
-      spelled = append-nil (bytes (Quote ss)) ∙ e;
+      spelled = append-nil (lexeme_bytes (Quote ss)) ∙ e;
       valid = and_from _ _ (and_from _ _ v refl) refl;
       nested = refl;
       cut = ap (λ x. (x ∷ []) ∷ []) e;
@@ -122,29 +122,29 @@ first [] = None
 first (x ∷ xs) = Some x
 
 -- a token's pieces: itself, and the end
-lexeme_pieces : (l : Lexeme) → is_token_lexeme l ≡ true → is_lexeme l ≡ true → (t : List ℕ) → bytes l ≡ t
+lexeme_pieces : (l : Lexeme) → is_token_lexeme l ≡ true → is_lexeme l ≡ true → (t : List ℕ) → lexeme_bytes l ≡ t
     → (found : List Piece) × IsPieces t found × (spans_all (first (map Ok found)) (length t) ≡ true)
 lexeme_pieces (Word s ss) o v t e = (
   pieces 0 0 false (Word s ss ∷ []),
   record {
     lexemes = Word s ss ∷ [];
-    spelled = append-nil (bytes (Word s ss)) ∙ e;
+    spelled = append-nil (lexeme_bytes (Word s ss)) ∙ e;
     valid = and_from _ _ (and_from _ _ v refl) refl;
     nested = refl;
     placed = refl;
   },
-  eq-eqb (0 + length (bytes (Word s ss))) (length t) (omega (arith, ap length e)),
+  eq-eqb (0 + length (lexeme_bytes (Word s ss))) (length t) (omega (arith, ap length e)),
 )
 lexeme_pieces (Quote ss) o v t e = (
   pieces 0 0 false (Quote ss ∷ []),
   record {
     lexemes = Quote ss ∷ [];
-    spelled = append-nil (bytes (Quote ss)) ∙ e;
+    spelled = append-nil (lexeme_bytes (Quote ss)) ∙ e;
     valid = and_from _ _ (and_from _ _ v refl) refl;
     nested = refl;
     placed = refl;
   },
-  eq-eqb (0 + length (bytes (Quote ss))) (length t) (omega (arith, ap length e)),
+  eq-eqb (0 + length (lexeme_bytes (Quote ss))) (length t) (omega (arith, ap length e)),
 )
 lexeme_pieces (Blank _) o v t e = cc
 lexeme_pieces (Line _) o v t e = cc

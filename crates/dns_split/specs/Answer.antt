@@ -17,15 +17,15 @@ abbrev pub entries_of : {A : Type 0} → List (Vec (String A) A) → Entries
 entries_of es = map (λ e. texts e.items) es
 
 -- the entries that the text splits into, or the bytes of its longest viable beginning; nothing is said where memory ran out
-abbrev pub Answers : {A : Type 0} → Result (Vec (Vec (String A) A) A) SplitError → List ℕ → Type 0
-Answers (Ok v) text = Splits text (entries_of v.items)
-Answers (Err (BadText i)) text = IsBad text i
-Answers (Err ShortBuf) text = ⊤
+abbrev pub IsSplitOf : {A : Type 0} → Result (Vec (Vec (String A) A) A) SplitError → List ℕ → Type 0
+IsSplitOf (Ok v) text = Splits text (entries_of v.items)
+IsSplitOf (Err (BadText i)) text = IsBad text i
+IsSplitOf (Err ShortBuf) text = ⊤
 
 -- what an error prints
-abbrev pub error_text : SplitError → List ℕ
-error_text (BadText i) = codes "bad text at " ++ decimal i
-error_text ShortBuf = codes "buffer size exceeded"
+abbrev pub split_error_text : SplitError → List ℕ
+split_error_text (BadText i) = codes "bad text at " ++ decimal i
+split_error_text ShortBuf = codes "buffer size exceeded"
 
 abbrev pub next_error_text : NextEntryError → List ℕ
 next_error_text (NotText f) = codes "bad text at " ++ decimal f.at

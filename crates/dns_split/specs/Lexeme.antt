@@ -47,8 +47,8 @@ characters (Word s ss) = flat_map spell (s ∷ ss)
 characters (Quote ss) = double_quote ∷ (flat_map spell ss ++ double_quote ∷ [])
 
 -- and their bytes
-abbrev pub bytes : Lexeme → List ℕ
-bytes l = encode_utf8_all (characters l)
+abbrev pub lexeme_bytes : Lexeme → List ℕ
+lexeme_bytes l = encode_utf8_all (characters l)
 
 -- a lexeme holds only what may stand in it
 abbrev pub is_lexeme : Lexeme → Bool

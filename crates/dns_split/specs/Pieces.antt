@@ -11,7 +11,7 @@ use Rattle.dns_split.specs.declared.pieces.Fault.{Fault}
 use Rattle.dns_split.specs.declared.pieces.Wrong.{Wrong}
 use Rattle.dns_split.specs.declared.pieces.Wrong.TheVariants.{Closing, OpenParenthesis, OpenQuote, LoneReturn, BadEscape}
 use Rattle.dns_split.specs.Opening.{IsLeftOpen}
-use Rattle.dns_split.specs.Lexeme.{Lexeme, Blank, Line, Open, Close, Note, Word, Quote, bytes}
+use Rattle.dns_split.specs.Lexeme.{Lexeme, Blank, Line, Open, Close, Note, Word, Quote, lexeme_bytes}
 use Rattle.dns_split.specs.Splitting.{Entries, Splits, are_lexemes, nests, with_token}
 use Rattle.dns_split.specs.Token.{IsWord, IsQuote, IsComment}
 use Rattle.dns_split.specs.Viable.{IsBad, IsViable}
@@ -38,18 +38,18 @@ begins_blank _ = false
 -- the pieces of lexemes that stand from an octet on, at a depth, in an entry that began with a blank or didn't
 abbrev pub pieces : ℕ → ℕ → Bool → List Lexeme → List Piece
 pieces at depth b [] = end_at at b ∷ []
-pieces at depth b (Open ∷ ls) = pieces (at + length (bytes Open)) (suc depth) b ls
-pieces at (suc depth) b (Close ∷ ls) = pieces (at + length (bytes Close)) depth b ls
-pieces at zero b (Line r ∷ ls) = end_at (at + length (bytes (Line r))) b ∷ pieces (at + length (bytes (Line r))) zero (begins_blank ls) ls
-pieces at depth b (Word s ss ∷ ls) = word_at at (at + length (bytes (Word s ss))) ∷ pieces (at + length (bytes (Word s ss))) depth b ls
-pieces at depth b (Quote ss ∷ ls) = quote_at at (at + length (bytes (Quote ss))) ∷ pieces (at + length (bytes (Quote ss))) depth b ls
-pieces at depth b (Note cs ∷ ls) = comment_at at (at + length (bytes (Note cs))) ∷ pieces (at + length (bytes (Note cs))) depth b ls
-pieces at depth b (l ∷ ls) = pieces (at + length (bytes l)) depth b ls
+pieces at depth b (Open ∷ ls) = pieces (at + length (lexeme_bytes Open)) (suc depth) b ls
+pieces at (suc depth) b (Close ∷ ls) = pieces (at + length (lexeme_bytes Close)) depth b ls
+pieces at zero b (Line r ∷ ls) = end_at (at + length (lexeme_bytes (Line r))) b ∷ pieces (at + length (lexeme_bytes (Line r))) zero (begins_blank ls) ls
+pieces at depth b (Word s ss ∷ ls) = word_at at (at + length (lexeme_bytes (Word s ss))) ∷ pieces (at + length (lexeme_bytes (Word s ss))) depth b ls
+pieces at depth b (Quote ss ∷ ls) = quote_at at (at + length (lexeme_bytes (Quote ss))) ∷ pieces (at + length (lexeme_bytes (Quote ss))) depth b ls
+pieces at depth b (Note cs ∷ ls) = comment_at at (at + length (lexeme_bytes (Note cs))) ∷ pieces (at + length (lexeme_bytes (Note cs))) depth b ls
+pieces at depth b (l ∷ ls) = pieces (at + length (lexeme_bytes l)) depth b ls
 
 -- the text is of the grammar, and these are its pieces
 pub record IsPieces (text : List ℕ) (found : List Piece) : Type 0 where
   pub lexemes : List Lexeme
-  pub spelled : flat_map bytes lexemes ≡ text
+  pub spelled : flat_map lexeme_bytes lexemes ≡ text
   pub valid : are_lexemes lexemes ≡ true
   pub nested : nests 0 lexemes ≡ true
   pub placed : pieces 0 0 (begins_blank lexemes) lexemes ≡ found
@@ -213,13 +213,13 @@ IsPieceOf text (CommentAt p) = IsPart text p.start p.end
 IsPieceOf text (EndAt p) = IsCharBoundary text p.at
 
 -- and a fault is the text's
-abbrev pub Fits : List ℕ → Result Piece Fault → Type 0
-Fits text (Ok p) = IsPieceOf text p
-Fits text (Err f) = IsFault text f
+abbrev pub IsPieceOrFault : List ℕ → Result Piece Fault → Type 0
+IsPieceOrFault text (Ok p) = IsPieceOf text p
+IsPieceOrFault text (Err f) = IsFault text f
 
 abbrev pub EachFits : List ℕ → List (Result Piece Fault) → Type 0
 EachFits text [] = ⊤
-EachFits text (x ∷ xs) = Fits text x × EachFits text xs
+EachFits text (x ∷ xs) = IsPieceOrFault text x × EachFits text xs
 
 -- each that is no fault is a part of the text
 abbrev pub IsPartOf : List ℕ → Result Piece Fault → Type 0

@@ -32,8 +32,8 @@ goes_on _ _ FinishToken = true
 goes_on _ _ _ = false
 
 -- the piece that ends before an octet
-abbrev pub closed : Mode → Mode → Act → ℕ → ℕ → Option Piece
-closed m n a s at = if goes_on m n a then None else open_piece m s at
+abbrev pub closed_piece : Mode → Mode → Act → ℕ → ℕ → Option Piece
+closed_piece m n a s at = if goes_on m n a then None else open_piece m s at
 
 -- the piece that ends with an octet, which ends before e
 abbrev pub finished : Act → ℕ → ℕ → Bool → Option Piece
@@ -106,7 +106,7 @@ before (Some p) k = Ok p ∷ k
 -- what the reader gives from here on
 abbrev pub run : Mode → ℕ → ℕ → ℕ → Bool → List ℕ → List (Result Piece Fault)
 run m d s at b [] = if may_end m d then before (open_piece m s at) (Ok (end_at at b) ∷ []) else fault at (wrong_at_end m s)
-run m d s at b (c ∷ bs) = unwrap_or (option_map (λ (v : Move). before (closed m v.mode v.act s at) (before (finished v.act s (at + 1) b)
+run m d s at b (c ∷ bs) = unwrap_or (option_map (λ (v : Move). before (closed_piece m v.mode v.act s at) (before (finished v.act s (at + 1) b)
     (run v.mode v.depth (start_after m v.mode v.act s at) (at + 1) (blank_after v.act b bs) bs))) (step m d c)) (fault at (wrong_at m s))
 
 -- the octet changes nothing but the place

@@ -1,7 +1,7 @@
 -- Which texts split into which entries: by concatenation of lexemes.
 use Rattle.std.specs.Prelude.{◌≡◌, ◌↔◌, ℕ, zero, suc, Bool, true, false, ◌&&◌, not, List, [], ◌∷◌}
 use Rattle.std.specs.List.{flat_map}
-use Rattle.dns_split.specs.Lexeme.{Lexeme, Blank, Line, Open, Close, Note, Word, Quote, bytes, is_lexeme}
+use Rattle.dns_split.specs.Lexeme.{Lexeme, Blank, Line, Open, Close, Note, Word, Quote, lexeme_bytes, is_lexeme}
 
 -- no word directly follows a word, and a note is last or directly before a line
 abbrev pub may_precede : Lexeme → List Lexeme → Bool
@@ -40,14 +40,14 @@ entries depth [] = [] ∷ []
 entries depth (Open ∷ ls) = entries (suc depth) ls
 entries zero (Line _ ∷ ls) = [] ∷ entries zero ls
 entries (suc depth) (Close ∷ ls) = entries depth ls
-entries depth (Word s ss ∷ ls) = with_token (bytes (Word s ss)) (entries depth ls)
-entries depth (Quote ss ∷ ls) = with_token (bytes (Quote ss)) (entries depth ls)
+entries depth (Word s ss ∷ ls) = with_token (lexeme_bytes (Word s ss)) (entries depth ls)
+entries depth (Quote ss ∷ ls) = with_token (lexeme_bytes (Quote ss)) (entries depth ls)
 entries depth (_ ∷ ls) = entries depth ls
 
 -- the text splits into the entries
 pub record Splits (text : List ℕ) (found : Entries) : Type 0 where
   pub lexemes : List Lexeme
-  pub spelled : flat_map bytes lexemes ≡ text
+  pub spelled : flat_map lexeme_bytes lexemes ≡ text
   pub valid : are_lexemes lexemes ≡ true
   pub nested : nests 0 lexemes ≡ true
   pub cut : entries 0 lexemes ≡ found
@@ -72,4 +72,4 @@ is_tight starts depth (_ ∷ ls) = is_tight false depth ls
 
 -- however it is spelled, neither the text nor what follows a line outside parentheses begins with a blank
 abbrev pub BeginsNoBlank : List ℕ → Type 0
-BeginsNoBlank text = (ls : List Lexeme) → flat_map bytes ls ≡ text → are_lexemes ls ≡ true → nests 0 ls ≡ true → is_tight true 0 ls ≡ true
+BeginsNoBlank text = (ls : List Lexeme) → flat_map lexeme_bytes ls ≡ text → are_lexemes ls ≡ true → nests 0 ls ≡ true → is_tight true 0 ls ≡ true

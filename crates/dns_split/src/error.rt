@@ -20,9 +20,9 @@ pub enum SplitError {
 }
 
 impl fmt::Display for SplitError {
-    ghost use Rattle.dns_split.specs.Answer.{error_text};
+    ghost use Rattle.dns_split.specs.Answer.{split_error_text};
 
-    ghost output = { λ e. Some (error_text e) };
+    ghost output = { λ e. Some (split_error_text e) };
 
     fn fmt<W: fmt::Write>(&self, f: &mut fmt::Formatter<W>) -> fmt::Result {
         match self {

@@ -5,7 +5,7 @@ ghost use Rattle.std.specs.Prelude.{Result, Ok, Err, ℕ, drop, encode_utf8_all,
 ghost use Rattle.std.specs.List.{AllByRecursion};
 ghost use Rattle.std.specs.Str.{IsUtf8};
 ghost use Rattle.dns_split.specs.Splitting.{Splits, Entries};
-ghost use Rattle.dns_split.specs.Lexeme.{Line, bytes};
+ghost use Rattle.dns_split.specs.Lexeme.{Line, lexeme_bytes};
 ghost use Rattle.dns_split.specs.Viable.{IsBad, IsViable};
 ghost use Rattle.dns_split.specs.Opening.{IsLeftOpen, IsOpener};
 ghost use Rattle.dns_split.specs.Token.{IsToken};
@@ -110,35 +110,35 @@ pub fn splits_have_pieces()
 /// Texts that split join: with a line's end between them they split into the entries of both.
 pub fn splits_join()
     ensures { (x y : List ℕ) (has_cr : Bool) (e f : Entries) → Splits x e → Splits y f
-        → Splits (x ++ (bytes (Line has_cr) ++ y)) (e ++ f) }
+        → Splits (x ++ (lexeme_bytes (Line has_cr) ++ y)) (e ++ f) }
 {}
 
 /// Where a text that splits has a bad one after it, with a line's end between, the place is the
 /// bad text's.
 pub fn bad_texts_join()
     ensures { (x y : List ℕ) (has_cr : Bool) (e : Entries) (at : ℕ) → Splits x e → IsBad y at
-        → IsBad (x ++ (bytes (Line has_cr) ++ y)) (length x + length (bytes (Line has_cr)) + at) }
+        → IsBad (x ++ (lexeme_bytes (Line has_cr) ++ y)) (length x + length (lexeme_bytes (Line has_cr)) + at) }
 {}
 
 /// And the fault is the bad text's, further on.
 pub fn faults_join()
     ensures { (x y : List ℕ) (has_cr : Bool) (e : Entries) (fault : Fault) → Splits x e
         → IsFault y fault
-        → IsFault (x ++ (bytes (Line has_cr) ++ y))
-        (moved_fault (λ i. length x + length (bytes (Line has_cr)) + i) fault) }
+        → IsFault (x ++ (lexeme_bytes (Line has_cr) ++ y))
+        (moved_fault (λ i. length x + length (lexeme_bytes (Line has_cr)) + i) fault) }
 {}
 
 /// And so is the parenthesis that is left open.
 pub fn openers_join()
     ensures { (x y : List ℕ) (has_cr : Bool) (e : Entries) (at : ℕ) → Splits x e → IsOpener y at
-        → IsOpener (x ++ (bytes (Line has_cr) ++ y)) (length x + length (bytes (Line has_cr)) + at) }
+        → IsOpener (x ++ (lexeme_bytes (Line has_cr) ++ y)) (length x + length (lexeme_bytes (Line has_cr)) + at) }
 {}
 
 /// A text can be cut at the end of any of its entries but the last.
 pub fn splits_are_cut()
     ensures { (text : List ℕ) (e f : Entries) → Splits text (e ++ f) → 0 < length e → 0 < length f
         → (x : List ℕ) × (y : List ℕ) × (has_cr : Bool)
-        × (text ≡ x ++ (bytes (Line has_cr) ++ y)) × Splits x e × Splits y f }
+        × (text ≡ x ++ (lexeme_bytes (Line has_cr) ++ y)) × Splits x e × Splits y f }
 {}
 
 /// Pieces of texts join alike: the first text's last end moves after the line's end.
@@ -146,9 +146,9 @@ pub fn pieces_join()
     ensures { (x y : List ℕ) (has_cr : Bool) (found follow : List Piece) → IsPieces x found
         → IsPieces y follow
         → (front : List Piece) × (blank : Bool) × (found ≡ front ++ end_at (length x) blank ∷ [])
-        × IsPieces (x ++ (bytes (Line has_cr) ++ y))
-        (front ++ end_at (length x + length (bytes (Line has_cr))) blank
-        ∷ map (moved_piece (λ i. length x + length (bytes (Line has_cr)) + i)) follow) }
+        × IsPieces (x ++ (lexeme_bytes (Line has_cr) ++ y))
+        (front ++ end_at (length x + length (lexeme_bytes (Line has_cr))) blank
+        ∷ map (moved_piece (λ i. length x + length (lexeme_bytes (Line has_cr)) + i)) follow) }
 {}
 
 /// After the end of an entry that is not the last, the pieces are those of the rest alone.

@@ -14,7 +14,7 @@
 //!   [`opening::outermost_open`] finds the parenthesis that was left open.
 //! - [`position::line_and_column`] tells a place as people count it.
 //! - [`token::content`] is the text of a token without its double quotes.
-//! - [`splitting::split`] answers the entries of a text, each with its tokens as they are
+//! - [`splitting::split`] returns the entries of a text, each with its tokens as they are
 //!   spelled, or [`splitting::SplitError`] with the place up to which the text could have become
 //!   one of the grammar.
 //! - [`laws`] has what holds of the grammar whatever the text: it splits in one way at most,

@@ -6,7 +6,7 @@ ghost use Rattle.dns_split.specs.Pieces.{Reads, EachFits, ReadsOctets, ReadsOcte
 ghost use Rattle.dns_split.specs.Pieces.{IsPart, between, ReadsFrom, EachIsPart, next_blank};
 ghost use Rattle.dns_split.specs.Pieces.{IsFault, moved_fault, place_of};
 ghost use Rattle.dns_split.specs.Viable.{IsViable};
-ghost use Rattle.dns_split.specs.Run.{open_piece, goes_on, closed, finished, start_after};
+ghost use Rattle.dns_split.specs.Run.{open_piece, goes_on, closed_piece, finished, start_after};
 ghost use Rattle.dns_split.specs.Run.{first_blank, blank_after, wrong_at, wrong_at_end, run};
 ghost use Rattle.dns_split.specs.Run.{EndsWord, EndsComment, Gives, Steps};
 
@@ -155,7 +155,7 @@ fn goes_on(mode: Mode, next: Mode, act: Act) -> bool
 /// The piece that ends before the octet at `at`.
 #[inline(always)]
 fn closed(mode: Mode, next: Mode, act: Act, start: usize, at: usize) -> Option<Piece>
-    ensures { result ≡ closed mode next act start at }
+    ensures { result ≡ closed_piece mode next act start at }
 {
     if goes_on(mode, next, act) {
         None

@@ -1,7 +1,7 @@
 //! Splitting a zone text into entries.
 ghost use Rattle.std.specs.Prelude.{◌≡◌, ◌++◌, ◌∷◌, [], Some, OnOk, IfOk};
 ghost use Rattle.std.specs.List.{All, AllByRecursion};
-ghost use Rattle.dns_split.specs.Answer.{Answers, texts, entries_of};
+ghost use Rattle.dns_split.specs.Answer.{IsSplitOf, texts, entries_of};
 ghost use Rattle.dns_split.specs.Splitting.{SplitsOnlyInto};
 ghost use Rattle.dns_split.specs.Token.{IsToken};
 
@@ -55,7 +55,7 @@ pub fn split<A: Allocator + Copy>(
     alloc: A,
     text: &str,
 ) -> Result<Vec<Vec<String<A>, A>, A>, SplitError>
-    ensures exact { Answers result text.now }
+    ensures exact { IsSplitOf result text.now }
     ensures only { IfOk result (λ v. SplitsOnlyInto text.now (entries_of v.items)) }
     ensures tokens { IfOk result (λ v. All (λ e. AllByRecursion IsToken (texts e.items)) v.items) }
 {

@@ -97,7 +97,7 @@ pub fn next_of_octets(octets: &[u8], standing: &mut Standing) -> Option<Result<P
     Some(stepped.given)
 }
 
-/// Calls one after another from an entry's beginning, until there is no answer, give just what the
+/// Calls one after another from an entry's beginning, until nothing is left, give just what the
 /// octets give from there on alone; and from 0, what they give.
 ///
 /// The contract is the law; calling it does nothing.

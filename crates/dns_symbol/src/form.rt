@@ -87,7 +87,7 @@ pub fn ascii_text(bytes: &[u8]) -> &str
     unsafe { str::from_utf8_unchecked(bytes) }
 }
 
-/// Puts the characters of octets in a form into a text at a place, and answers the place after
+/// Puts the characters of octets in a form into a text at a place, and returns the place after
 /// them. There has to be room for four characters of each octet.
 pub fn put_octets<F: Form>(octets: &[u8], text: &mut [u8], at: usize) -> usize
     requires room { at + 4 * length octets.now ≤ length text.old }
@@ -102,7 +102,7 @@ pub fn put_octets<F: Form>(octets: &[u8], text: &mut [u8], at: usize) -> usize
     end
 }
 
-// Puts the characters of an octet into a text at a place, and answers the place after them.
+// Puts the characters of an octet into a text at a place, and returns the place after them.
 #[inline(always)]
 fn put_octet<F: Form>(octet: u8, text: &mut [u8], at: usize) -> usize
     requires room { at + 4 ≤ length text.old }
@@ -123,7 +123,7 @@ fn put_octet<F: Form>(octet: u8, text: &mut [u8], at: usize) -> usize
     }
 }
 
-/// Puts a backslash and the three decimal digits of an octet into a text at a place, and answers
+/// Puts a backslash and the three decimal digits of an octet into a text at a place, and returns
 /// the place after them.
 #[inline(always)]
 pub fn put_decimal(octet: u8, text: &mut [u8], at: usize) -> usize

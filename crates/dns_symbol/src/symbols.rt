@@ -41,7 +41,7 @@ impl<Chars: Iterator<Item = char>> Symbols<Chars> {
 
     /// Lets a closure use the symbols of some characters.
     ///
-    /// An error of the closure is answered first, then the error that ended the symbols where
+    /// An error of the closure is returned first, then the error that ended the symbols where
     /// the closure came to it, and else the closure's value.
     pub fn with<F, T, E>(chars: Chars, op: F) -> Result<T, E>
     where

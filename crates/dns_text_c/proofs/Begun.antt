@@ -7,7 +7,7 @@ use Rattle.std.proofs.lemmas.Bool.{and_parts, and_from}
 use Rattle.std.proofs.lemmas.List.{length-map, length-take-le, take-append-drop}
 use Rattle.std.proofs.lemmas.Str.{encodes-append}
 use Rattle.std.proofs.Math.Seq.{take-append-add}
-use Rattle.dns_split.specs.Lexeme.{Lexeme, Blank, Line, Open, Close, Note, Word, Quote, bytes, is_lexeme}
+use Rattle.dns_split.specs.Lexeme.{Lexeme, Blank, Line, Open, Close, Note, Word, Quote, lexeme_bytes, is_lexeme}
 use Rattle.dns_split.specs.Opening.{IsOpener}
 use Rattle.dns_split.specs.Pieces.{AreOctets, IsGiven, IsPieces, Reads, end_at, moved, pieces, place_of}
 use Rattle.dns_split.specs.Splitting.{Entries, Splits, are_lexemes, entries, may_precede, nests}
@@ -29,7 +29,7 @@ record EndsInLine (d : ℕ) (ls : List Lexeme) : Type 0 where
   back : List Lexeme
   is : ls ≡ front ++ Line has_cr ∷ back
   nested : nests d front ≡ true
-  none : flat_map bytes back ≡ []
+  none : flat_map lexeme_bytes back ≡ []
 
 one_before : (l : Lexeme) (ls : List Lexeme) (d d' : ℕ) → ((more : List Lexeme) → nests d (l ∷ more) ≡ nests d' more) → EndsInLine d' ls → EndsInLine d (l ∷ ls)
 one_before l ls d d' n e = record { front = l ∷ e.front; has_cr = e.has_cr; back = e.back; is = ap (λ x. l ∷ x) e.is; nested = n e.front ∙ e.nested; none = e.none }
@@ -46,38 +46,38 @@ abbrev tail_of : List Piece → List Piece
 tail_of [] = []
 tail_of (p ∷ ps) = ps
 
-further : (l : Lexeme) (ls : List Lexeme) (at k : ℕ) → at + length (flat_map bytes (l ∷ ls)) ≤ k → at + length (bytes l) + length (flat_map bytes ls) ≤ k
-further l ls at k h = omega (arith, h, length-append (bytes l) (flat_map bytes ls))
+further : (l : Lexeme) (ls : List Lexeme) (at k : ℕ) → at + length (flat_map lexeme_bytes (l ∷ ls)) ≤ k → at + length (lexeme_bytes l) + length (flat_map lexeme_bytes ls) ≤ k
+further l ls at k h = omega (arith, h, length-append (lexeme_bytes l) (flat_map lexeme_bytes ls))
 
 abbrev LineLast : List Lexeme → Type 0
 LineLast ls = (at d : ℕ) (b : Bool) (found more : List Piece) (k : ℕ) (t : Bool) → nests d ls ≡ true → pieces at d b ls ≡ found ++ end_at k t ∷ more → 0 < length more
-    → at + length (flat_map bytes ls) ≤ k → EndsInLine d ls
+    → at + length (flat_map lexeme_bytes ls) ≤ k → EndsInLine d ls
 
 line_last : (ls : List Lexeme) → LineLast ls
 line_last [] at d b found more k t n is some far = absurd (omega (arith, ap length is, length-append found (end_at k t ∷ more), some))
 line_last (Open ∷ ls) at d b found more k t n is some far =
-    one_before Open ls d (suc d) (λ m. refl) (line_last ls (at + length (bytes Open)) (suc d) b found more k t n is some (further Open ls at k far))
+    one_before Open ls d (suc d) (λ m. refl) (line_last ls (at + length (lexeme_bytes Open)) (suc d) b found more k t n is some (further Open ls at k far))
 line_last (Close ∷ ls) at zero b found more k t n is some far = cc
 line_last (Close ∷ ls) at (suc d) b found more k t n is some far =
-    one_before Close ls (suc d) d (λ m. refl) (line_last ls (at + length (bytes Close)) d b found more k t n is some (further Close ls at k far))
+    one_before Close ls (suc d) d (λ m. refl) (line_last ls (at + length (lexeme_bytes Close)) d b found more k t n is some (further Close ls at k far))
 line_last (Line r ∷ ls) at zero b [] more k t n is some far =
-    let here : at + length (bytes (Line r)) ≡ k = ap place_in is in
-    record { front = []; has_cr = r; back = ls; is = refl; nested = refl; none = none_of (flat_map bytes ls) (omega (arith, here, further (Line r) ls at k far)) }
+    let here : at + length (lexeme_bytes (Line r)) ≡ k = ap place_in is in
+    record { front = []; has_cr = r; back = ls; is = refl; nested = refl; none = none_of (flat_map lexeme_bytes ls) (omega (arith, here, further (Line r) ls at k far)) }
 line_last (Line r ∷ ls) at zero b (x ∷ found) more k t n is some far =
-    one_before (Line r) ls zero zero (λ m. refl) (line_last ls (at + length (bytes (Line r))) zero _ found more k t n (ap tail_of is) some (further (Line r) ls at k far))
+    one_before (Line r) ls zero zero (λ m. refl) (line_last ls (at + length (lexeme_bytes (Line r))) zero _ found more k t n (ap tail_of is) some (further (Line r) ls at k far))
 line_last (Line r ∷ ls) at (suc d) b found more k t n is some far =
-    one_before (Line r) ls (suc d) (suc d) (λ m. refl) (line_last ls (at + length (bytes (Line r))) (suc d) b found more k t n is some (further (Line r) ls at k far))
+    one_before (Line r) ls (suc d) (suc d) (λ m. refl) (line_last ls (at + length (lexeme_bytes (Line r))) (suc d) b found more k t n is some (further (Line r) ls at k far))
 line_last (Blank c ∷ ls) at d b found more k t n is some far =
-    one_before (Blank c) ls d d (λ m. refl) (line_last ls (at + length (bytes (Blank c))) d b found more k t n is some (further (Blank c) ls at k far))
+    one_before (Blank c) ls d d (λ m. refl) (line_last ls (at + length (lexeme_bytes (Blank c))) d b found more k t n is some (further (Blank c) ls at k far))
 line_last (Note cs ∷ ls) at d b [] more k t n is some far = cc
 line_last (Note cs ∷ ls) at d b (x ∷ found) more k t n is some far =
-    one_before (Note cs) ls d d (λ m. refl) (line_last ls (at + length (bytes (Note cs))) d b found more k t n (ap tail_of is) some (further (Note cs) ls at k far))
+    one_before (Note cs) ls d d (λ m. refl) (line_last ls (at + length (lexeme_bytes (Note cs))) d b found more k t n (ap tail_of is) some (further (Note cs) ls at k far))
 line_last (Word s ss ∷ ls) at d b [] more k t n is some far = cc
 line_last (Word s ss ∷ ls) at d b (x ∷ found) more k t n is some far =
-    one_before (Word s ss) ls d d (λ m. refl) (line_last ls (at + length (bytes (Word s ss))) d b found more k t n (ap tail_of is) some (further (Word s ss) ls at k far))
+    one_before (Word s ss) ls d d (λ m. refl) (line_last ls (at + length (lexeme_bytes (Word s ss))) d b found more k t n (ap tail_of is) some (further (Word s ss) ls at k far))
 line_last (Quote ss ∷ ls) at d b [] more k t n is some far = cc
 line_last (Quote ss ∷ ls) at d b (x ∷ found) more k t n is some far =
-    one_before (Quote ss) ls d d (λ m. refl) (line_last ls (at + length (bytes (Quote ss))) d b found more k t n (ap tail_of is) some (further (Quote ss) ls at k far))
+    one_before (Quote ss) ls d d (λ m. refl) (line_last ls (at + length (lexeme_bytes (Quote ss))) d b found more k t n (ap tail_of is) some (further (Quote ss) ls at k far))
 
 front_lexemes : (ls more : List Lexeme) (r : Bool) → are_lexemes (ls ++ Line r ∷ more) ≡ true → are_lexemes ls ≡ true
 front_lexemes [] more r h = refl
@@ -88,17 +88,17 @@ front_lexemes (l ∷ ls) more r h =
 
 -- a text that splits, and a line's end
 abbrev pub SplitsBeforeLine : List ℕ → Type 0
-SplitsBeforeLine text = (x : List ℕ) × (r : Bool) × (e : Entries) × (text ≡ x ++ bytes (Line r)) × Splits x e
+SplitsBeforeLine text = (x : List ℕ) × (r : Bool) × (e : Entries) × (text ≡ x ++ lexeme_bytes (Line r)) × Splits x e
 
 before_line : (text : List ℕ) (found more : List Piece) (k : ℕ) (t : Bool) → IsPieces text (found ++ end_at k t ∷ more) → 0 < length more → length text ≤ k → SplitsBeforeLine text
 before_line text found more k t p some far =
     let e = line_last p.lexemes 0 0 _ found more k t p.nested p.placed some (omega (arith, far, ap length p.spelled)) in
     let v = front_lexemes e.front e.back e.has_cr (ap are_lexemes (sym e.is) ∙ p.valid) in (
-      flat_map bytes e.front,
+      flat_map lexeme_bytes e.front,
       e.has_cr,
       entries 0 e.front,
-      sym p.spelled ∙ ap (flat_map bytes) e.is ∙ join_bytes e.front e.back e.has_cr ∙ ap (λ l. flat_map bytes e.front ++ (bytes (Line e.has_cr) ++ l)) e.none
-          ∙ ap (λ l. flat_map bytes e.front ++ l) (append-nil (bytes (Line e.has_cr))),
+      sym p.spelled ∙ ap (flat_map lexeme_bytes) e.is ∙ join_bytes e.front e.back e.has_cr ∙ ap (λ l. flat_map lexeme_bytes e.front ++ (lexeme_bytes (Line e.has_cr) ++ l)) e.none
+          ∙ ap (λ l. flat_map lexeme_bytes e.front ++ l) (append-nil (lexeme_bytes (Line e.has_cr))),
       record { lexemes = e.front; spelled = refl; valid = v; nested = e.nested; cut = refl },
     )
 
@@ -169,12 +169,12 @@ module _ (text : List ℕ) (at : ℕ) (fits : at ≤ length text) where
       inr (x, r, e, encoded end ∙ ap (λ l. l ++ encode_utf8_all (take end (drop at text))) none ∙ is, s)
   begins_next end (inr (y, q, f, this, t)) (x, r, e, is, s) =
       inr (
-        y ++ (bytes (Line q) ++ x),
+        y ++ (lexeme_bytes (Line q) ++ x),
         r,
         f ++ e,
-        encoded end ∙ ap (λ l. l ++ encode_utf8_all (take end (drop at text))) this ∙ ap (λ l. (y ++ bytes (Line q)) ++ l) is
-            ∙ append_assoc y (bytes (Line q)) (x ++ bytes (Line r)) ∙ ap (λ l. y ++ l) (sym (append_assoc (bytes (Line q)) x (bytes (Line r))))
-            ∙ sym (append_assoc y (bytes (Line q) ++ x) (bytes (Line r))),
+        encoded end ∙ ap (λ l. l ++ encode_utf8_all (take end (drop at text))) this ∙ ap (λ l. (y ++ lexeme_bytes (Line q)) ++ l) is
+            ∙ append_assoc y (lexeme_bytes (Line q)) (x ++ lexeme_bytes (Line r)) ∙ ap (λ l. y ++ l) (sym (append_assoc (lexeme_bytes (Line q)) x (lexeme_bytes (Line r))))
+            ∙ sym (append_assoc y (lexeme_bytes (Line q) ++ x) (lexeme_bytes (Line r))),
         split_joined y x q f e t s,
       )
 
@@ -185,8 +185,8 @@ module _ (text : List ℕ) (at : ℕ) (fits : at ≤ length text) where
       subst (λ n. IsOpener (encode_utf8_all text) (place_of text n)) (sym same) (subst (λ n. IsOpener (encode_utf8_all (drop n text)) (place_of (drop n text) i)) z o)
   opener_of_text i (inr (x, r, e, is, s)) o =
       let rest : List ℕ = encode_utf8_all (drop at text) in
-      let all : x ++ (bytes (Line r) ++ rest) ≡ encode_utf8_all text =
-      sym (append_assoc x (bytes (Line r)) rest) ∙ ap (λ l. l ++ rest) (sym is) ∙ sym (encodes-append (take at text) (drop at text)) ∙ ap encode_utf8_all (take-append-drop at text) in
-      let place : length x + length (bytes (Line r)) + place_of (drop at text) i ≡ place_of text (at + i) = omega (arith, placed i, ap length is, length-append x (bytes (Line r))) in
+      let all : x ++ (lexeme_bytes (Line r) ++ rest) ≡ encode_utf8_all text =
+      sym (append_assoc x (lexeme_bytes (Line r)) rest) ∙ ap (λ l. l ++ rest) (sym is) ∙ sym (encodes-append (take at text) (drop at text)) ∙ ap encode_utf8_all (take-append-drop at text) in
+      let place : length x + length (lexeme_bytes (Line r)) + place_of (drop at text) i ≡ place_of text (at + i) = omega (arith, placed i, ap length is, length-append x (lexeme_bytes (Line r))) in
       subst (λ n. IsOpener (encode_utf8_all text) n) place
-      (subst (λ l. IsOpener l (length x + length (bytes (Line r)) + place_of (drop at text) i)) all (opener_joined x rest r e (place_of (drop at text) i) s o))
+      (subst (λ l. IsOpener l (length x + length (lexeme_bytes (Line r)) + place_of (drop at text) i)) all (opener_joined x rest r e (place_of (drop at text) i) s o))

@@ -9,7 +9,7 @@ use Rattle.dns_split.specs.Pieces.{AreOctets, EachWithin, IsGiven, ReadsOctetsFr
 use Rattle.dns_split.specs.declared.pieces.Fault.{Fault as TextFault}
 use Rattle.dns_split.specs.declared.pieces.Piece.{Piece}
 use Rattle.dns_split.specs.declared.pieces.Piece.TheVariants.{Word as WordAt, Quote as QuoteAt, Comment as CommentAt, End as EndAt}
-use Rattle.dns_split.specs.Splitting.{Entries, Splits, with_token as with_octets}
+use Rattle.dns_split.specs.Splitting.{Entries, Splits, with_token}
 use Rattle.dns_split.proofs.Agree.{octets_have_pieces}
 use Rattle.dns_split.proofs.Blocks.{entries_stay, later_later, nothing_given}
 use Rattle.dns_split.proofs.OctetsOnce.{given_once, octet_scalars, run_given}
@@ -19,8 +19,8 @@ use Rattle.dns_split.proofs.PieceSplit.{split_pieces}
 use Rattle.dns_split.proofs.PieceWhole.{pieces_run}
 use Rattle.dns_split.specs.declared.pieces.Wrong.{Wrong}
 use Rattle.dns_split.specs.declared.pieces.Wrong.TheVariants.{Closing as NoneOpen, OpenParenthesis as NotClosed, OpenQuote as NotQuoted, LoneReturn as NoFeed, BadEscape as NoEscape}
-use Rattle.dns_text_c.specs.Calls.{ToldEntry, told, with_token, told_entries, Tells, Calls, last_status, octets_of}
-use Rattle.dns_text_c.specs.Entries.{bit, counted, is_nothing, refusal_of_wrong, stop_of, token_at, tokens_of, written_over_start, GivesEntry, Opens, ReadsEntry}
+use Rattle.dns_text_c.specs.Calls.{ToldEntry, told, with_told_token, told_entries, Tells, Calls, last_status, octets_of}
+use Rattle.dns_text_c.specs.Entries.{bit, counted, is_nothing, refusal_of_wrong, stop_of, token_between, tokens_of, written_over_start, TellsEntry, Opens, ReadsEntry}
 use Rattle.dns_text_c.specs.declared.outcome.Refusal.TheVariants.{OpenParenthesis}
 use Rattle.dns_text_c.proofs.Row.{map_ok}
 use Rattle.dns_text_c.proofs.Begun.{Begins, begins_next, ends_with_line, opener_of_text}
@@ -102,20 +102,20 @@ heads at [] = inr (inr refl)
 heads at (Ok (WordAt p) ∷ alone) = go (heads at alone)
   where
     t : TokenAt
-    t = token_at (at + p.start) (at + p.end) 0
+    t = token_between (at + p.start) (at + p.end) 0
 
     go : Heads at alone → Heads at (Ok (WordAt p) ∷ alone)
-    go (inl e) = inl (record { front = WordAt p ∷ e.front; end = e.end; blank = e.blank; left = e.left; is = ap (λ l. Ok (WordAt p) ∷ l) e.is; stops = e.stops; tells = ap (with_token t) e.tells })
-    go (inr (inl f)) = inr (inl (record { fault = f.fault; stops = f.stops; tells = ap (with_token t) f.tells }))
+    go (inl e) = inl (record { front = WordAt p ∷ e.front; end = e.end; blank = e.blank; left = e.left; is = ap (λ l. Ok (WordAt p) ∷ l) e.is; stops = e.stops; tells = ap (with_told_token t) e.tells })
+    go (inr (inl f)) = inr (inl (record { fault = f.fault; stops = f.stops; tells = ap (with_told_token t) f.tells }))
     go (inr (inr n)) = inr (inr n)
 heads at (Ok (QuoteAt p) ∷ alone) = go (heads at alone)
   where
     t : TokenAt
-    t = token_at (at + p.start) (at + p.end) 1
+    t = token_between (at + p.start) (at + p.end) 1
 
     go : Heads at alone → Heads at (Ok (QuoteAt p) ∷ alone)
-    go (inl e) = inl (record { front = QuoteAt p ∷ e.front; end = e.end; blank = e.blank; left = e.left; is = ap (λ l. Ok (QuoteAt p) ∷ l) e.is; stops = e.stops; tells = ap (with_token t) e.tells })
-    go (inr (inl f)) = inr (inl (record { fault = f.fault; stops = f.stops; tells = ap (with_token t) f.tells }))
+    go (inl e) = inl (record { front = QuoteAt p ∷ e.front; end = e.end; blank = e.blank; left = e.left; is = ap (λ l. Ok (QuoteAt p) ∷ l) e.is; stops = e.stops; tells = ap (with_told_token t) e.tells })
+    go (inr (inl f)) = inr (inl (record { fault = f.fault; stops = f.stops; tells = ap (with_told_token t) f.tells }))
     go (inr (inr n)) = inr (inr n)
 heads at (Ok (CommentAt p) ∷ alone) = go (heads at alone)
   where
@@ -189,8 +189,8 @@ module _ (text : List ℕ) (o : AreOctets text) (last : Cursor) where
     same : read.given ≡ later cursor.at alone
     same = once text cursor.at read.given alone read.reads read.within g
 
-    stopped : (stop : Stop) → stop_of (later cursor.at alone) ≡ stop → GivesEntry text read.count stop (length tells.before) entry.status cursor new tells.outcome
-    stopped stop is = subst (λ s. GivesEntry text read.count s (length tells.before) entry.status cursor new tells.outcome) (read.entry.stop_is ∙ ap stop_of same ∙ is) read.told
+    stopped : (stop : Stop) → stop_of (later cursor.at alone) ≡ stop → TellsEntry text read.count stop (length tells.before) entry.status cursor new tells.outcome
+    stopped stop is = subst (λ s. TellsEntry text read.count s (length tells.before) entry.status cursor new tells.outcome) (read.entry.stop_is ∙ ap stop_of same ∙ is) read.told
 
     all : tells.outcome.length ≡ read.count → entry.tokens ≡ tokens
     all counts =
@@ -200,7 +200,7 @@ module _ (text : List ℕ) (o : AreOctets text) (last : Cursor) where
     by_end : Ends cursor.at alone → Answer
     by_end e = (ap (λ x. x ∷ more) here ∙ ap (λ l. told tokens 0 0 ∷ l) (rest e.left refl).0 ∙ sym e.tells, (rest e.left refl).1)
       where
-        s : GivesEntry text read.count (End (record { at = cursor.at + e.end; begins_blank = e.blank }) (is_nothing e.left)) (length tells.before) entry.status cursor new tells.outcome
+        s : TellsEntry text read.count (End (record { at = cursor.at + e.end; begins_blank = e.blank }) (is_nothing e.left)) (length tells.before) entry.status cursor new tells.outcome
         s = stopped (End (record { at = cursor.at + e.end; begins_blank = e.blank }) (is_nothing e.left)) e.stops
 
         counts : tells.outcome.length ≡ read.count
@@ -269,16 +269,16 @@ later_zero : (text : List ℕ) (given : Given) → AreOctets text → IsGiven te
 later_zero text given o g = sym (given_once text given (later 0 given) g (nothing_given text given o g))
 
 -- the tokens of pieces are the text between their places
-token_octets : (text : List ℕ) (t : TokenAt) (es : List ToldEntry) → map (octets_of text) (with_token t es) ≡ with_octets (between text t.start t.end) (map (octets_of text) es)
+token_octets : (text : List ℕ) (t : TokenAt) (es : List ToldEntry) → map (octets_of text) (with_told_token t es) ≡ with_token (between text t.start t.end) (map (octets_of text) es)
 token_octets text t [] = refl
 token_octets text t (e ∷ es) = refl
 
 told_cut : (text : List ℕ) (found : List Piece) → map (octets_of text) (told_entries (map Ok found)) ≡ cut text found
 told_cut text [] = refl
 told_cut text (WordAt p ∷ found) =
-    token_octets text (token_at p.start p.end 0) (told_entries (map Ok found)) ∙ ap (with_octets (between text p.start p.end)) (told_cut text found)
+    token_octets text (token_between p.start p.end 0) (told_entries (map Ok found)) ∙ ap (with_token (between text p.start p.end)) (told_cut text found)
 told_cut text (QuoteAt p ∷ found) =
-    token_octets text (token_at p.start p.end 1) (told_entries (map Ok found)) ∙ ap (with_octets (between text p.start p.end)) (told_cut text found)
+    token_octets text (token_between p.start p.end 1) (told_entries (map Ok found)) ∙ ap (with_token (between text p.start p.end)) (told_cut text found)
 told_cut text (CommentAt p ∷ found) = told_cut text found
 told_cut text (EndAt p ∷ found) = ap (λ l. [] ∷ l) (told_cut text found)
 

@@ -19,9 +19,9 @@ use Rattle.dns_name.specs.declared.name.UncertainName.{UncertainName}
 use Rattle.dns_name.specs.declared.name.UncertainName.TheVariants.{Absolute, Relative}
 use Rattle.dns_name.proofs.Naming.{named_none, named_octet, named_dot, named_on, named_nothing, dot_bytes}
 use Rattle.dns_name.proofs.Taking.{dot_spelled}
-use Rattle.dns_text_c.specs.Names.{TakesSymbol, NameStops, ReadsNameText}
+use Rattle.dns_text_c.specs.Names.{TakesNameSymbol, NameStops, ReadsNameText}
 use Rattle.dns_text_c.specs.Strings.{refusal_of}
-use Rattle.dns_text_c.specs.Told.{IsGiven}
+use Rattle.dns_text_c.specs.Told.{TellsOctets}
 use Rattle.dns_text_c.specs.declared.outcome.Fault.{Fault}
 use Rattle.dns_text_c.specs.declared.outcome.Outcome.{Outcome}
 use Rattle.dns_text_c.specs.declared.outcome.Refusal.{Refusal}
@@ -103,7 +103,7 @@ module _ {O : Type 0} where
 
 -- a symbol that is refused
 pub name_stops : (text : List ℕ) (b new : Naming) (place after : ℕ) (x : Symbol) (why : Refusal) → HasNamed text b.labels b.current (drop place text)
-    → ReadsAt text place (Ok (Some (x, after))) → is_dot x ≡ false → TakesSymbol b x (Err why) new → NameStops text b.labels b.current place why
+    → ReadsAt text place (Ok (Some (x, after))) → is_dot x ≡ false → TakesNameSymbol b x (Err why) new → NameStops text b.labels b.current place why
 name_stops text b new place after x BinaryLabel h next no_dot t = (after, subst (λ y. ReadsAt text place (Ok (Some (y, after)))) t.1 next, t.0)
 name_stops text b new place after x BadSymbol h next no_dot t = ((x, after), t.0, next, t.1)
 name_stops text b new place after x TooLong h next no_dot t = (t.0, ((x, after), next, no_dot, t.1.0, t.1.1), t.2)
@@ -129,8 +129,8 @@ root_fits labels (Err NoLabel) h a = absurd a
 root_fits labels (Err ShortBuf) h a = absurd (omega (arith, a, h))
 
 -- what was given of other octets
-pub given_as : (octets want old new : List ℕ) (status : ℕ) (outcome : Outcome) → octets ≡ want → IsGiven octets old status new outcome → IsGiven want old status new outcome
-given_as octets want old new status outcome is g = subst (λ o. IsGiven o old status new outcome) is g
+pub given_as : (octets want old new : List ℕ) (status : ℕ) (outcome : Outcome) → octets ≡ want → TellsOctets octets old status new outcome → TellsOctets want old status new outcome
+given_as octets want old new status outcome is g = subst (λ o. TellsOctets o old status new outcome) is g
 
 -- octets are left
 pub some_left : (text : List ℕ) (after : ℕ) → after ≤ length text → (after ≡ length text → ⊥) → drop after text ≡ [] → ⊥

@@ -10,7 +10,7 @@ use Rattle.dns_symbol.specs.declared.error.SymbolOctetsError.{SymbolOctetsError}
 use Rattle.dns_scan.specs.Numbers.{IsNumber}
 use Rattle.dns_scan.specs.Reads.{NumberReads}
 use Rattle.dns_scan.proofs.Numbers.{number_none, number_more}
-use Rattle.dns_text_c.specs.Numbers.{AddsDigit, HasSymbolsBefore, HasNumberBefore, ReadsNumber}
+use Rattle.dns_text_c.specs.Numbers.{AppendsDigit, HasSymbolsBefore, HasNumberBefore, ReadsTextAsNumber}
 use Rattle.dns_text_c.specs.Strings.{refusal_of}
 use Rattle.dns_text_c.specs.declared.outcome.Fault.{Fault}
 use Rattle.dns_text_c.proofs.Leading.{nothing_left}
@@ -35,7 +35,7 @@ symbol_more text symbols place after x read next = record {
     counted = Prim.grind (arith, common_steps, flat_map-append)
 
 pub number_before_more : (most : ℕ) (text : List ℕ) (v w place after : ℕ) (x : Symbol) → HasNumberBefore most text v place
-    → ReadsAt text place (Ok (Some (x, after))) → AddsDigit most v x (Ok w) → HasNumberBefore most text w after
+    → ReadsAt text place (Ok (Some (x, after))) → AppendsDigit most v x (Ok w) → HasNumberBefore most text w after
 number_before_more most text v w place after x read next adds = record {
   symbols = read.symbols ++ x ∷ [];
   before = symbol_more text read.symbols place after x read.before next;
@@ -54,5 +54,5 @@ number_before_end most text v place read h = record {
 
 -- where no symbol follows
 pub number_refused : (most : ℕ) (text : List ℕ) (v place : ℕ) (fault : Fault) → HasNumberBefore most text v place
-    → (e : SymbolOctetsError) × ReadsAt text place (Err e) × (fault ≡ record { refusal = refusal_of e; place = place }) → ReadsNumber most text (Err fault)
-number_refused most text v place fault read r = subst (λ f. ReadsNumber most text (Err f)) (sym r.2) (v, read, inr (r.0, r.1, refl))
+    → (e : SymbolOctetsError) × ReadsAt text place (Err e) × (fault ≡ record { refusal = refusal_of e; place = place }) → ReadsTextAsNumber most text (Err fault)
+number_refused most text v place fault read r = subst (λ f. ReadsTextAsNumber most text (Err f)) (sym r.2) (v, read, inr (r.0, r.1, refl))

@@ -9,7 +9,7 @@ use Rattle.dns_split.specs.declared.pieces.Piece.{Piece}
 use Rattle.dns_split.specs.declared.pieces.Piece.TheVariants.{Word as WordAt, Quote as QuoteAt, Comment as CommentAt, End as EndAt}
 use Rattle.dns_split.proofs.PieceJoins.{pieces_joined}
 use Rattle.dns_split.proofs.OctetJoins.{octet_pieces_go_on}
-use Rattle.dns_text_c.specs.Entries.{tokens_of, stop_of, is_nothing, token_at, with_first, entries_of, InARow}
+use Rattle.dns_text_c.specs.Entries.{tokens_of, stop_of, is_nothing, token_between, with_first, entries_of_pieces, InARow}
 use Rattle.dns_text_c.specs.declared.tokens.Stop.TheVariants.{End}
 
 -- an end of an entry is among them
@@ -61,7 +61,7 @@ record First (f : ℕ → ℕ) (found : List Piece) : Type 0 where
   blank : Bool
   more : List Piece
   is : found ≡ front ++ end_at at blank ∷ more
-  entries : entries_of (map (moved_piece f) found) ≡ tokens_of (map Ok (map (moved_piece f) found)) ∷ entries_of (map (moved_piece f) more)
+  entries : entries_of_pieces (map (moved_piece f) found) ≡ tokens_of (map Ok (map (moved_piece f) found)) ∷ entries_of_pieces (map (moved_piece f) more)
   stops : stop_of (map Ok (map (moved_piece f) found)) ≡ End (record { at = f at; begins_blank = blank }) (is_nothing more)
 
 first_of : (f : ℕ → ℕ) (found : List Piece) → HasEnd found → First f found
@@ -74,7 +74,7 @@ first_of f (WordAt p ∷ ps) h =
       blank = r.blank;
       more = r.more;
       is = ap (λ l. WordAt p ∷ l) r.is;
-      entries = ap (with_first (token_at (f p.start) (f p.end) 0)) r.entries;
+      entries = ap (with_first (token_between (f p.start) (f p.end) 0)) r.entries;
       stops = r.stops;
     }
 first_of f (QuoteAt p ∷ ps) h =
@@ -85,7 +85,7 @@ first_of f (QuoteAt p ∷ ps) h =
       blank = r.blank;
       more = r.more;
       is = ap (λ l. QuoteAt p ∷ l) r.is;
-      entries = ap (with_first (token_at (f p.start) (f p.end) 1)) r.entries;
+      entries = ap (with_first (token_between (f p.start) (f p.end) 1)) r.entries;
       stops = r.stops;
     }
 first_of f (CommentAt p ∷ ps) h =
@@ -143,7 +143,7 @@ reads_there text at alone p =
 -- pieces that are at most so many are entries in a row
 abbrev Rows : ℕ → List ℕ → Type 0
 Rows n text = (at : ℕ) (alone : List Piece) → length alone ≤ n → IsOctetPieces (drop at text) alone → EachWithin (length (drop at text)) (map Ok alone)
-    → InARow text at (entries_of (map (moved_piece (λ i. at + i)) alone))
+    → InARow text at (entries_of_pieces (map (moved_piece (λ i. at + i)) alone))
 
 one_more : (n : ℕ) (text : List ℕ) → Rows n text → Rows (suc n) text
 one_more n text rows at alone few p w =
@@ -162,13 +162,13 @@ one_more n text rows at alone few p w =
     end : EndOfEntry
     end = record { at = at + f.at; begins_blank = f.blank }
 
-    last : f.more ≡ [] → InARow text at (tokens_of given ∷ entries_of (map (moved_piece (λ i. at + i)) f.more))
+    last : f.more ≡ [] → InARow text at (tokens_of given ∷ entries_of_pieces (map (moved_piece (λ i. at + i)) f.more))
     last none =
-        let rest : entries_of (map (moved_piece (λ i. at + i)) f.more) ≡ [] = ap (λ l. entries_of (map (moved_piece (λ i. at + i)) l)) none in
+        let rest : entries_of_pieces (map (moved_piece (λ i. at + i)) f.more) ≡ [] = ap (λ l. entries_of_pieces (map (moved_piece (λ i. at + i)) l)) none in
         (given, end, reads_there text at alone p, refl, f.stops ∙ (λ i. End end (is_nothing (none i))) ∙ (λ i. End end (is_nothing (sym rest i))), λ some. absurd (some rest))
 
     goes : (follow : List Piece) × IsOctetPieces (drop f.at (drop at text)) follow × (f.more ≡ map (moved_piece (λ i. f.at + i)) follow)
-        → InARow text at (tokens_of given ∷ entries_of (map (moved_piece (λ i. at + i)) f.more))
+        → InARow text at (tokens_of given ∷ entries_of_pieces (map (moved_piece (λ i. at + i)) f.more))
     goes g =
         let there : drop f.at (drop at text) ≡ drop (at + f.at) text = drop-drop f.at at text in
         let pieces = subst (λ l. IsOctetPieces l g.0) there g.1 in
@@ -177,12 +177,12 @@ one_more n text rows at alone few p w =
         let w' = subst (λ l. EachWithin l (map Ok g.0)) left
         (within_back (length (drop at text)) f.at g.0 (subst (λ l. EachWithin (length (drop at text)) (map Ok l)) g.2 within.1)) in
         let next = rows (at + f.at) g.0 few' pieces w' in
-        let entries : entries_of (map (moved_piece (λ i. at + f.at + i)) g.0) ≡ entries_of (map (moved_piece (λ i. at + i)) f.more) =
-        ap entries_of (sym (ap (map (moved_piece (λ i. at + i))) g.2 ∙ twice at f.at g.0)) in
+        let entries : entries_of_pieces (map (moved_piece (λ i. at + f.at + i)) g.0) ≡ entries_of_pieces (map (moved_piece (λ i. at + i)) f.more) =
+        ap entries_of_pieces (sym (ap (map (moved_piece (λ i. at + i))) g.2 ∙ twice at f.at g.0)) in
         let follows = subst (InARow text (at + f.at)) entries next in
         let some : HasEnd g.0 = pieces_end (drop (at + f.at) text) g.0 pieces in
         let more : is_nothing f.more ≡ false = ap is_nothing g.2 ∙ moved_nothing (λ i. f.at + i) g.0 ∙ no_nothing g.0 some in
-        let rest : is_nothing (entries_of (map (moved_piece (λ i. at + i)) f.more)) ≡ false = ap is_nothing (sym entries) ∙ ap is_nothing ((first_of (λ i. at + f.at + i) g.0 some).entries) in
+        let rest : is_nothing (entries_of_pieces (map (moved_piece (λ i. at + i)) f.more)) ≡ false = ap is_nothing (sym entries) ∙ ap is_nothing ((first_of (λ i. at + f.at + i) g.0 some).entries) in
         (given, end, reads_there text at alone p, refl, f.stops ∙ ap (End end) (more ∙ sym rest), λ _. follows)
 
 row : (n : ℕ) (text : List ℕ) → Rows n text
@@ -204,5 +204,5 @@ unmoved (p ∷ ps) = (λ i. one p i ∷ unmoved ps i)
     one (CommentAt p) = (λ i. CommentAt (record { start = sum p.start i; end = sum p.end i }))
     one (EndAt e) = (λ i. EndAt (record { at = sum e.at i; begins_blank = e.begins_blank }))
 
-pub entries_in_a_row : (text : List ℕ) (found : List Piece) → IsOctetPieces text found → EachWithin (length text) (map Ok found) → InARow text 0 (entries_of found)
-entries_in_a_row text found p w = subst (λ l. InARow text 0 (entries_of l)) (unmoved found) (row (length found) text 0 found (omega arith) p w)
+pub entries_in_a_row : (text : List ℕ) (found : List Piece) → IsOctetPieces text found → EachWithin (length text) (map Ok found) → InARow text 0 (entries_of_pieces found)
+entries_in_a_row text found p w = subst (λ l. InARow text 0 (entries_of_pieces l)) (unmoved found) (row (length found) text 0 found (omega arith) p w)

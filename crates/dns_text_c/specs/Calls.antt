@@ -5,7 +5,7 @@ use Rattle.dns_split.specs.Pieces.{between}
 use Rattle.dns_split.specs.declared.pieces.Piece.{Piece}
 use Rattle.dns_split.specs.declared.pieces.Piece.TheVariants.{Word as WordAt, Quote as QuoteAt, Comment as CommentAt, End as EndAt}
 use Rattle.dns_split.specs.declared.pieces.Fault.{Fault as TextFault}
-use Rattle.dns_text_c.specs.Entries.{NextEntry, refusal_of_wrong, token_at}
+use Rattle.dns_text_c.specs.Entries.{NextEntry, refusal_of_wrong, token_between}
 use Rattle.dns_text_c.specs.Told.{number_of}
 use Rattle.dns_text_c.specs.declared.outcome.Outcome.{Outcome}
 use Rattle.dns_text_c.specs.declared.tokens.Token.{Token as TokenAt}
@@ -21,15 +21,15 @@ abbrev pub told : List TokenAt → ℕ → ℕ → ToldEntry
 told ts s p = record { tokens = ts; status = s; place = p }
 
 -- a token before those of the first entry
-abbrev pub with_token : TokenAt → List ToldEntry → List ToldEntry
-with_token t [] = told (t ∷ []) 0 0 ∷ []
-with_token t (e ∷ es) = told (t ∷ e.tokens) e.status e.place ∷ es
+abbrev pub with_told_token : TokenAt → List ToldEntry → List ToldEntry
+with_told_token t [] = told (t ∷ []) 0 0 ∷ []
+with_told_token t (e ∷ es) = told (t ∷ e.tokens) e.status e.place ∷ es
 
 -- the words and quoted texts of what a text gives, cut where entries end; the last entry has the fault, if there is one
 abbrev pub told_entries : List (Result Piece TextFault) → List ToldEntry
 told_entries [] = []
-told_entries (Ok (WordAt p) ∷ given) = with_token (token_at p.start p.end 0) (told_entries given)
-told_entries (Ok (QuoteAt p) ∷ given) = with_token (token_at p.start p.end 1) (told_entries given)
+told_entries (Ok (WordAt p) ∷ given) = with_told_token (token_between p.start p.end 0) (told_entries given)
+told_entries (Ok (QuoteAt p) ∷ given) = with_told_token (token_between p.start p.end 1) (told_entries given)
 told_entries (Ok (CommentAt p) ∷ given) = told_entries given
 told_entries (Ok (EndAt e) ∷ given) = told [] 0 0 ∷ told_entries given
 told_entries (Err f ∷ given) = told [] (number_of (refusal_of_wrong f.wrong)) f.at ∷ []

@@ -9,7 +9,7 @@ use Rattle.dns_split.specs.declared.pieces.Piece.TheVariants.{Word as WordAt, Qu
 use Rattle.dns_split.specs.declared.pieces.Fault.{Fault as TextFault}
 use Rattle.dns_split.specs.declared.pieces.Wrong.{Wrong}
 use Rattle.dns_split.specs.declared.pieces.Wrong.TheVariants.{Closing as NoneOpen, OpenParenthesis as NotClosed, OpenQuote as NotQuoted, LoneReturn as NoFeed, BadEscape as NoEscape}
-use Rattle.dns_text_c.specs.Told.{number_of, IsRefused}
+use Rattle.dns_text_c.specs.Told.{number_of, TellsFault}
 use Rattle.dns_text_c.specs.declared.outcome.Outcome.{Outcome}
 use Rattle.dns_text_c.specs.declared.outcome.Refusal.{Refusal}
 use Rattle.dns_text_c.specs.declared.outcome.Refusal.TheVariants.{NoRoom, BadEscape, Closing, OpenParenthesis, OpenQuote, LoneReturn, BadCursor}
@@ -49,13 +49,13 @@ LeavesOpen text at (End e last) = ⊤
 LeavesOpen text at (Fault f) = f.wrong ≡ NotClosed → IsLeftOpen (encode_utf8_all (drop at text))
 LeavesOpen text at Nothing = ⊤
 
-abbrev pub token_at : ℕ → ℕ → ℕ → TokenAt
-token_at s e quoted = record { start = s; end = e; is_quoted = quoted }
+abbrev pub token_between : ℕ → ℕ → ℕ → TokenAt
+token_between s e quoted = record { start = s; end = e; is_quoted = quoted }
 
 -- the words and quoted texts of pieces up to the first end of an entry or fault
 abbrev pub tokens_of : List (Result Piece TextFault) → List TokenAt
-tokens_of (Ok (WordAt p) ∷ given) = token_at p.start p.end 0 ∷ tokens_of given
-tokens_of (Ok (QuoteAt p) ∷ given) = token_at p.start p.end 1 ∷ tokens_of given
+tokens_of (Ok (WordAt p) ∷ given) = token_between p.start p.end 0 ∷ tokens_of given
+tokens_of (Ok (QuoteAt p) ∷ given) = token_between p.start p.end 1 ∷ tokens_of given
 tokens_of (Ok (CommentAt p) ∷ given) = tokens_of given
 tokens_of (Ok (EndAt e) ∷ given) = []
 tokens_of (Err f ∷ given) = []
@@ -76,12 +76,12 @@ with_first t [] = (t ∷ []) ∷ []
 with_first t (ts ∷ more) = (t ∷ ts) ∷ more
 
 -- the words and quoted texts of pieces, cut where entries end
-abbrev pub entries_of : List Piece → List (List TokenAt)
-entries_of [] = []
-entries_of (WordAt p ∷ ps) = with_first (token_at p.start p.end 0) (entries_of ps)
-entries_of (QuoteAt p ∷ ps) = with_first (token_at p.start p.end 1) (entries_of ps)
-entries_of (CommentAt p ∷ ps) = entries_of ps
-entries_of (EndAt e ∷ ps) = [] ∷ entries_of ps
+abbrev pub entries_of_pieces : List Piece → List (List TokenAt)
+entries_of_pieces [] = []
+entries_of_pieces (WordAt p ∷ ps) = with_first (token_between p.start p.end 0) (entries_of_pieces ps)
+entries_of_pieces (QuoteAt p ∷ ps) = with_first (token_between p.start p.end 1) (entries_of_pieces ps)
+entries_of_pieces (CommentAt p ∷ ps) = entries_of_pieces ps
+entries_of_pieces (EndAt e ∷ ps) = [] ∷ entries_of_pieces ps
 
 -- entries in a row from a place on: each is the first of what is read there, and is known as the last or not; the next one begins where it ends
 abbrev pub InARow : List ℕ → ℕ → List (List TokenAt) → Type 0
@@ -91,10 +91,10 @@ InARow text at (tokens ∷ more) =
     × (more ≢ [] → InARow text e.at more)
 
 -- what was taken of the pieces
-abbrev pub Steps : List (Result Piece TextFault) → Step → List (Result Piece TextFault) → Type 0
-Steps old (Token t) new = (tokens_of old ≡ t ∷ tokens_of new) × (stop_of old ≡ stop_of new) × (length new < length old)
-Steps old Comment new = (tokens_of old ≡ tokens_of new) × (stop_of old ≡ stop_of new) × (length new < length old)
-Steps old (Stops stop) new = (tokens_of old ≡ []) × (stop_of old ≡ stop)
+abbrev pub TakesPieces : List (Result Piece TextFault) → Step → List (Result Piece TextFault) → Type 0
+TakesPieces old (Token t) new = (tokens_of old ≡ t ∷ tokens_of new) × (stop_of old ≡ stop_of new) × (length new < length old)
+TakesPieces old Comment new = (tokens_of old ≡ tokens_of new) × (stop_of old ≡ stop_of new) × (length new < length old)
+TakesPieces old (Stops stop) new = (tokens_of old ≡ []) × (stop_of old ≡ stop)
 
 -- some values written over the start of others, as many as fit
 abbrev pub written_over_start : {A : Type 0} → List A → List A → List A
@@ -113,15 +113,15 @@ pub record IsEntry (given : List (Result Piece TextFault)) (old : List TokenAt) 
   pub stop_is : stop ≡ stop_of given
 
 -- what is said of an entry of so many tokens where there is room for some, and where the cursor goes
-abbrev pub GivesEntry : List ℕ → ℕ → Stop → ℕ → ℕ → Cursor → Cursor → Outcome → Type 0
-GivesEntry text count (End e last) room status old new outcome =
+abbrev pub TellsEntry : List ℕ → ℕ → Stop → ℕ → ℕ → Cursor → Cursor → Outcome → Type 0
+TellsEntry text count (End e last) room status old new outcome =
     (outcome ≡ record { length = count; place = 0 })
     × (count ≤ room → (status ≡ 0) × (new ≡ record { at = e.at; begins_blank = bit e.begins_blank; is_done = bit last; opened = old.opened }))
     × (room < count → (status ≡ number_of NoRoom) × (new ≡ old))
-GivesEntry text count (Fault f) room status old new outcome =
+TellsEntry text count (Fault f) room status old new outcome =
     (outcome ≡ record { length = count; place = f.at }) × (status ≡ number_of (refusal_of_wrong f.wrong))
     × (new ≡ record old { is_done = 1; opened = new.opened }) × Opens text old.at f.wrong old.opened new.opened
-GivesEntry text count Nothing room status old new outcome =
+TellsEntry text count Nothing room status old new outcome =
     (outcome ≡ record { length = count; place = 0 }) × (status ≡ 1) × (new ≡ record old { is_done = 1 })
 
 -- the entry at a place is read, and what is said of it
@@ -132,10 +132,10 @@ pub record ReadsEntry (text : List ℕ) (old new : Cursor) (before after : List 
   pub count : ℕ
   pub stop : Stop
   pub entry : IsEntry given before count stop after
-  pub told : GivesEntry text count stop (length before) status old new outcome
+  pub told : TellsEntry text count stop (length before) status old new outcome
 
 -- a text that is done has no entry; a cursor past the end is refused; and else the entry that begins there is given
 pub record NextEntry (text : List ℕ) (old new : Cursor) (before after : List TokenAt) (status : ℕ) (outcome : Outcome) : Type 0 where
   pub done : old.is_done ≢ 0 → (status ≡ 1) × (outcome ≡ record { length = 0; place = 0 }) × (new ≡ old) × (after ≡ before)
-  pub past : old.is_done ≡ 0 → length text < old.at → IsRefused (record { refusal = BadCursor; place = 0 }) status outcome × (new ≡ old) × (after ≡ before)
+  pub past : old.is_done ≡ 0 → length text < old.at → TellsFault (record { refusal = BadCursor; place = 0 }) status outcome × (new ≡ old) × (after ≡ before)
   pub reads : old.is_done ≡ 0 → old.at ≤ length text → ReadsEntry text old new before after status outcome

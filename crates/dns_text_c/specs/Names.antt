@@ -18,7 +18,7 @@ use Rattle.dns_name.specs.declared.name.error.UncertainDnameError.{UncertainDnam
 use Rattle.dns_name.specs.declared.name.error.UncertainDnameError.TheVariants.{BadLabel as NoType, CompressedName, LongName, TrailingData, ShortInput as CutShort}
 use Rattle.dns_text_c.specs.Entries.{bit}
 use Rattle.dns_text_c.specs.Strings.{refusal_of}
-use Rattle.dns_text_c.specs.Told.{IsGiven, IsRefused}
+use Rattle.dns_text_c.specs.Told.{TellsOctets, TellsFault}
 use Rattle.dns_wire.specs.declared.display.Form.{Form}
 use Rattle.dns_text_c.specs.declared.outcome.Outcome.{Outcome}
 use Rattle.dns_text_c.specs.declared.outcome.Fault.{Fault}
@@ -26,15 +26,15 @@ use Rattle.dns_text_c.specs.declared.outcome.Refusal.{Refusal}
 use Rattle.dns_text_c.specs.declared.outcome.Refusal.TheVariants.{ShortInput, BadSymbol, TooLong, EmptyLabel, LongLabel, BinaryLabel, BadLabel, Pointer, TrailingOctets}
 
 -- what taking a symbol other than a plain dot answers, and what the builder then holds
-abbrev pub TakesSymbol : Naming → Symbol → Result (Unit {0}) Refusal → Naming → Type 0
-TakesSymbol b x (Ok _) new =
+abbrev pub TakesNameSymbol : Naming → Symbol → Result (Unit {0}) Refusal → Naming → Type 0
+TakesNameSymbol b x (Ok _) new =
     (octet : ℕ) × GivesOctet b x octet × (new ≡ with_octet b octet) × (wire_length (all_labels (with_octet b octet)) ≤ 254) × (length b.current < 63)
-TakesSymbol b x (Err BinaryLabel) new = (b.current ≡ []) × (x ≡ bracket)
-TakesSymbol b x (Err BadSymbol) new = (e : WhyNone) × (octet_of x ≡ Err e)
-TakesSymbol b x (Err TooLong) new = (octet : ℕ) × GivesOctet b x octet × (254 < wire_length (all_labels (with_octet b octet)))
-TakesSymbol b x (Err LongLabel) new =
+TakesNameSymbol b x (Err BinaryLabel) new = (b.current ≡ []) × (x ≡ bracket)
+TakesNameSymbol b x (Err BadSymbol) new = (e : WhyNone) × (octet_of x ≡ Err e)
+TakesNameSymbol b x (Err TooLong) new = (octet : ℕ) × GivesOctet b x octet × (254 < wire_length (all_labels (with_octet b octet)))
+TakesNameSymbol b x (Err LongLabel) new =
     (octet : ℕ) × GivesOctet b x octet × (wire_length (all_labels (with_octet b octet)) ≤ 254) × (63 ≤ length b.current)
-TakesSymbol b x (Err other) new = ⊥
+TakesNameSymbol b x (Err other) new = ⊥
 
 -- the next symbol is no plain dot and gives the open label one more octet
 abbrev pub GivesNext : List ℕ → List (List ℕ) → List ℕ → ℕ → ℕ → Type 0
@@ -65,9 +65,9 @@ ReadsNameText text (Err fault) =
     × NameStops text labels current fault.place fault.refusal
 
 -- the wire octets of the name are given, and whether it is absolute; or the fault is told, and nothing was written
-abbrev pub GivesName : NameAnswer → List ℕ → ℕ → ℕ → List ℕ → ℕ → Outcome → Type 0
-GivesName (Ok name) old was status new is outcome = IsGiven (wire (labels_of name)) old status new outcome × (is ≡ bit (is_absolute name))
-GivesName (Err fault) old was status new is outcome = IsRefused fault status outcome × (new ≡ old) × (is ≡ was)
+abbrev pub TellsName : NameAnswer → List ℕ → ℕ → ℕ → List ℕ → ℕ → Outcome → Type 0
+TellsName (Ok name) old was status new is outcome = TellsOctets (wire (labels_of name)) old status new outcome × (is ≡ bit (is_absolute name))
+TellsName (Err fault) old was status new is outcome = TellsFault fault status outcome × (new ≡ old) × (is ≡ was)
 
 -- the bytes of the text of labels
 abbrev pub labels_text : Form → Bool → List (List ℕ) → List ℕ
@@ -83,8 +83,8 @@ refusal_of_octets CutShort = ShortInput
 
 -- the text of the name is given; or the refusal is told, whose place is not, and nothing was written
 abbrev pub GivesText : (List (List ℕ) → List ℕ) → Result (UncertainName (Bor (List ℕ))) UncertainDnameError → List ℕ → ℕ → List ℕ → Outcome → Type 0
-GivesText text_is (Ok name) old status new outcome = IsGiven (text_is (labels_of name)) old status new outcome
-GivesText text_is (Err e) old status new outcome = IsRefused (record { refusal = refusal_of_octets e; place = 0 }) status outcome × (new ≡ old)
+GivesText text_is (Ok name) old status new outcome = TellsOctets (text_is (labels_of name)) old status new outcome
+GivesText text_is (Err e) old status new outcome = TellsFault (record { refusal = refusal_of_octets e; place = 0 }) status outcome × (new ≡ old)
 
 -- what printing the name of some octets answers
 abbrev pub PrintsOctetsOf : (List (List ℕ) → List ℕ) → List ℕ → List ℕ → ℕ → List ℕ → Outcome → Type 0
@@ -93,5 +93,5 @@ PrintsOctetsOf text_is octets old status new outcome =
 
 -- no octets are the relative name of no labels, and others make a name or are refused
 pub record PrintsName (text_is : List (List ℕ) → List ℕ) (octets old : List ℕ) (status : ℕ) (new : List ℕ) (outcome : Outcome) : Type 0 where
-  pub none : octets ≡ [] → IsGiven (text_is []) old status new outcome
+  pub none : octets ≡ [] → TellsOctets (text_is []) old status new outcome
   pub some : octets ≢ [] → PrintsOctetsOf text_is octets old status new outcome

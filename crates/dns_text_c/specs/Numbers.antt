@@ -5,10 +5,10 @@ use Rattle.dns_symbol.specs.Symbol.{bytes, is_readable}
 use Rattle.dns_symbol.specs.Index.{ReadsAt}
 use Rattle.dns_symbol.specs.declared.symbol.Symbol.{Symbol}
 use Rattle.dns_symbol.specs.declared.error.SymbolOctetsError.{SymbolOctetsError}
-use Rattle.dns_scan.specs.Numbers.{digit_of, IsNumber}
+use Rattle.dns_scan.specs.Numbers.{plain_digit_of, IsNumber}
 use Rattle.dns_scan.specs.Reads.{NumberReads}
 use Rattle.dns_text_c.specs.Strings.{refusal_of}
-use Rattle.dns_text_c.specs.Told.{IsRefused}
+use Rattle.dns_text_c.specs.Told.{TellsFault}
 use Rattle.dns_text_c.specs.declared.outcome.Outcome.{Outcome}
 use Rattle.dns_text_c.specs.declared.outcome.Fault.{Fault}
 use Rattle.dns_text_c.specs.declared.outcome.Refusal.{Refusal}
@@ -16,12 +16,12 @@ use Rattle.dns_text_c.specs.declared.outcome.Refusal.TheVariants.{NoDigit, TooGr
 
 -- why a symbol after a number of that value makes it none: tens of it are too many, or the symbol is no digit, or their sum is too great
 abbrev pub digit_refusal : ℕ → ℕ → Symbol → Refusal
-digit_refusal most v x = if nat_lt most (v * 10) then TooGreat else (if is_some (digit_of x) then TooGreat else NoDigit)
+digit_refusal most v x = if nat_lt most (v * 10) then TooGreat else (if is_some (plain_digit_of x) then TooGreat else NoDigit)
 
 -- a digit more: ten times the value and the digit; or the refusal, and no digit is small enough
-abbrev pub AddsDigit : ℕ → ℕ → Symbol → Result ℕ Refusal → Type 0
-AddsDigit most v x (Ok w) = (d : ℕ) × (digit_of x ≡ Some d) × (w ≡ v * 10 + d) × (w ≤ most)
-AddsDigit most v x (Err why) = (why ≡ digit_refusal most v x) × ((d : ℕ) → digit_of x ≡ Some d → most < v * 10 + d)
+abbrev pub AppendsDigit : ℕ → ℕ → Symbol → Result ℕ Refusal → Type 0
+AppendsDigit most v x (Ok w) = (d : ℕ) × (plain_digit_of x ≡ Some d) × (w ≡ v * 10 + d) × (w ≤ most)
+AppendsDigit most v x (Err why) = (why ≡ digit_refusal most v x) × ((d : ℕ) → plain_digit_of x ≡ Some d → most < v * 10 + d)
 
 -- the symbols of a text before a place
 pub record HasSymbolsBefore (text : List ℕ) (symbols : List Symbol) (place : ℕ) : Type 0 where
@@ -38,14 +38,14 @@ pub record HasNumberBefore (most : ℕ) (text : List ℕ) (v place : ℕ) : Type
 -- why reading goes no further after a number: the symbol that follows makes it none, or what stands there is no symbol
 abbrev pub NumberStops : ℕ → List ℕ → ℕ → ℕ → Refusal → Type 0
 NumberStops most text v place why =
-    ((p : Symbol × ℕ) × ReadsAt text place (Ok (Some p)) × AddsDigit most v p.0 (Err why)) ⊎ ((e : SymbolOctetsError) × ReadsAt text place (Err e) × (why ≡ refusal_of e))
+    ((p : Symbol × ℕ) × ReadsAt text place (Ok (Some p)) × AppendsDigit most v p.0 (Err why)) ⊎ ((e : SymbolOctetsError) × ReadsAt text place (Err e) × (why ≡ refusal_of e))
 
 -- what reading a text answers: the number that it is as a token; or the first fault, after a number
-abbrev pub ReadsNumber : ℕ → List ℕ → Result ℕ Fault → Type 0
-ReadsNumber most text (Ok v) = NumberReads most text (Ok v)
-ReadsNumber most text (Err fault) = (v : ℕ) × HasNumberBefore most text v fault.place × NumberStops most text v fault.place fault.refusal
+abbrev pub ReadsTextAsNumber : ℕ → List ℕ → Result ℕ Fault → Type 0
+ReadsTextAsNumber most text (Ok v) = NumberReads most text (Ok v)
+ReadsTextAsNumber most text (Err fault) = (v : ℕ) × HasNumberBefore most text v fault.place × NumberStops most text v fault.place fault.refusal
 
 -- the number is given; or the fault is told, and the number stays as it was. The length is 0
 abbrev pub GivesNumber : Result ℕ Fault → ℕ → ℕ → ℕ → Outcome → Type 0
 GivesNumber (Ok v) old status new outcome = (status ≡ 0) × (outcome ≡ record { length = 0; place = 0 }) × (new ≡ v)
-GivesNumber (Err fault) old status new outcome = IsRefused fault status outcome × (new ≡ old)
+GivesNumber (Err fault) old status new outcome = TellsFault fault status outcome × (new ≡ old)

@@ -8,7 +8,7 @@ use Rattle.dns_split.specs.declared.pieces.Piece.TheVariants.{Word as WordAt, Qu
 use Rattle.dns_split.specs.declared.pieces.Fault.{Fault as TextFault}
 use Rattle.dns_split.specs.declared.standing.Standing.{Standing as TextStanding}
 use Rattle.dns_text_c.specs.Entries.{bit, refusal_of_wrong}
-use Rattle.dns_text_c.specs.Told.{number_of, IsRefused}
+use Rattle.dns_text_c.specs.Told.{number_of, TellsFault}
 use Rattle.dns_text_c.specs.declared.outcome.Outcome.{Outcome}
 use Rattle.dns_text_c.specs.declared.outcome.Refusal.TheVariants.{BadCursor}
 use Rattle.dns_text_c.specs.declared.pieces.Piece.{Piece}
@@ -25,15 +25,15 @@ abbrev pub piece_at : ℕ → ℕ → ℕ → Bool → Piece
 piece_at kind s e b = record { kind = kind; start = s; end = e; begins_blank = bit b }
 
 -- a piece of an entry that begins with a blank or doesn't, with the number of its kind
-abbrev pub piece_of : TextPiece → Bool → Piece
-piece_of (WordAt p) b = piece_at 0 p.start p.end b
-piece_of (QuoteAt p) b = piece_at 1 p.start p.end b
-piece_of (CommentAt p) b = piece_at 2 p.start p.end b
-piece_of (EndAt e) b = piece_at 3 e.at e.at e.begins_blank
+abbrev pub numbered_piece : TextPiece → Bool → Piece
+numbered_piece (WordAt p) b = piece_at 0 p.start p.end b
+numbered_piece (QuoteAt p) b = piece_at 1 p.start p.end b
+numbered_piece (CommentAt p) b = piece_at 2 p.start p.end b
+numbered_piece (EndAt e) b = piece_at 3 e.at e.at e.begins_blank
 
 -- the piece is written, or the fault is told and nothing is written
 abbrev pub TellsPiece : Result TextPiece TextFault → Bool → Piece → Piece → ℕ → Outcome → Type 0
-TellsPiece (Ok p) b before after status outcome = (status ≡ 0) × (outcome ≡ record { length = 0; place = 0 }) × (after ≡ piece_of p b)
+TellsPiece (Ok p) b before after status outcome = (status ≡ 0) × (outcome ≡ record { length = 0; place = 0 }) × (after ≡ numbered_piece p b)
 TellsPiece (Err f) b before after status outcome = (status ≡ number_of (refusal_of_wrong f.wrong)) × (outcome ≡ record { length = 0; place = f.at }) × (after ≡ before)
 
 -- the first of what is left is taken, and told
@@ -48,7 +48,7 @@ pub record ReadsPiece (text : List ℕ) (old new : Standing) (before after : Pie
 -- a text that is done has no piece; a standing past the end, or with more parentheses open than there are octets before it, is refused; and else the next piece is given
 pub record NextPiece (text : List ℕ) (old new : Standing) (before after : Piece) (status : ℕ) (outcome : Outcome) : Type 0 where
   pub done : old.is_done ≢ 0 → (status ≡ 1) × (outcome ≡ record { length = 0; place = 0 }) × (new ≡ old) × (after ≡ before)
-  pub past : old.is_done ≡ 0 → (length text < old.at) ⊎ (old.at < old.depth) → IsRefused (record { refusal = BadCursor; place = 0 }) status outcome × (new ≡ old) × (after ≡ before)
+  pub past : old.is_done ≡ 0 → (length text < old.at) ⊎ (old.at < old.depth) → TellsFault (record { refusal = BadCursor; place = 0 }) status outcome × (new ≡ old) × (after ≡ before)
   pub reads : old.is_done ≡ 0 → old.at ≤ length text → old.depth ≤ old.at → ReadsPiece text old new before after status outcome
 
 -- what a call tells: a piece, or a status and the place of a fault
@@ -56,7 +56,7 @@ abbrev pub ToldPiece : Type 0
 ToldPiece = Result Piece (ℕ × ℕ)
 
 abbrev pub told_piece : Bool → Result TextPiece TextFault → ToldPiece
-told_piece b (Ok p) = Ok (piece_of p b)
+told_piece b (Ok p) = Ok (numbered_piece p b)
 told_piece b (Err f) = Err (number_of (refusal_of_wrong f.wrong), f.at)
 
 -- all that is told of what is given, where an entry is open that began at a place

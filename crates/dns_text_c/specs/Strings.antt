@@ -14,7 +14,7 @@ use Rattle.dns_symbol.specs.declared.error.SymbolOctetsError.TheVariants.{BadUtf
 use Rattle.dns_charstr.specs.Printed.{quoted_text}
 use Rattle.dns_charstr.specs.OctetText.{SpellsOctet, SpellsOctets, SpellsNone}
 use Rattle.dns_charstr.specs.Reading.{HasOctets}
-use Rattle.dns_text_c.specs.Told.{IsGiven, IsRefused}
+use Rattle.dns_text_c.specs.Told.{TellsOctets, TellsFault}
 use Rattle.dns_text_c.specs.declared.outcome.Outcome.{Outcome}
 use Rattle.dns_text_c.specs.declared.outcome.Fault.{Fault}
 use Rattle.dns_text_c.specs.declared.outcome.Refusal.{Refusal}
@@ -35,8 +35,8 @@ string_text Unquoted octets = text_of is_unquoted_escape octets
 
 -- at most 255 octets are given as their text, one octet a character; the 256th is refused
 pub record PrintsString (text_is : List ℕ → List ℕ) (octets old : List ℕ) (status : ℕ) (new : List ℕ) (outcome : Outcome) : Type 0 where
-  pub short : length octets ≤ 255 → IsGiven (text_is octets) old status new outcome
-  pub long : 255 < length octets → IsRefused (record { refusal = TooLong; place = 255 }) status outcome × (new ≡ old)
+  pub short : length octets ≤ 255 → TellsOctets (text_is octets) old status new outcome
+  pub long : 255 < length octets → TellsFault (record { refusal = TooLong; place = 255 }) status outcome × (new ≡ old)
 
 -- the refusal of what is no symbol
 abbrev pub refusal_of : SymbolOctetsError → Refusal
@@ -53,16 +53,16 @@ pub record HasOctetsBefore (text octets : List ℕ) (place : ℕ) : Type 0 where
   pub place_is : place ≡ length (flat_map bytes symbols)
 
 -- why reading goes no further after these octets: what stands there is no symbol, or one too many, or one that has no octet
-abbrev pub Stops : List ℕ → List ℕ → ℕ → Refusal → Type 0
-Stops text octets place NoRoom = ⊥
-Stops text octets place TooLong = (p : Symbol × ℕ) × ReadsAt text place (Ok (Some p)) × (length octets ≡ 255)
-Stops text octets place BadSymbol = (p : Symbol × ℕ) × (e : WhyNone) × ReadsAt text place (Ok (Some p)) × (length octets < 255) × (octet_of p.0 ≡ Err e)
-Stops text octets place other = (e : SymbolOctetsError) × ReadsAt text place (Err e) × (length octets ≤ 255) × (other ≡ refusal_of e)
+abbrev pub StopsReading : List ℕ → List ℕ → ℕ → Refusal → Type 0
+StopsReading text octets place NoRoom = ⊥
+StopsReading text octets place TooLong = (p : Symbol × ℕ) × ReadsAt text place (Ok (Some p)) × (length octets ≡ 255)
+StopsReading text octets place BadSymbol = (p : Symbol × ℕ) × (e : WhyNone) × ReadsAt text place (Ok (Some p)) × (length octets < 255) × (octet_of p.0 ≡ Err e)
+StopsReading text octets place other = (e : SymbolOctetsError) × ReadsAt text place (Err e) × (length octets ≤ 255) × (other ≡ refusal_of e)
 
 -- what reading a text answers: the octets of all its symbols, or the first fault
 abbrev pub ReadsString : List ℕ → Result (List ℕ) Fault → Type 0
 ReadsString text (Ok octets) = HasOctets text octets × (length octets ≤ 255)
-ReadsString text (Err fault) = (octets : List ℕ) × HasOctetsBefore text octets fault.place × Stops text octets fault.place fault.refusal
+ReadsString text (Err fault) = (octets : List ℕ) × HasOctetsBefore text octets fault.place × StopsReading text octets fault.place fault.refusal
 
 -- the refusal of what spells no octet
 abbrev pub refusal_of_escape : SymbolCharsError → Refusal

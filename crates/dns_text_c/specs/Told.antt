@@ -30,16 +30,16 @@ number_of NoDigit = 20
 number_of TooGreat = 21
 
 -- the octets fit and stand at the start of the buffer, and what follows them is as it was; or they don't fit and nothing was written. The length is theirs
-pub record IsGiven (octets old : List ℕ) (status : ℕ) (new : List ℕ) (outcome : Outcome) : Type 0 where
+pub record TellsOctets (octets old : List ℕ) (status : ℕ) (new : List ℕ) (outcome : Outcome) : Type 0 where
   pub told : outcome ≡ record { length = length octets; place = 0 }
   pub fits : length octets ≤ length old → (status ≡ 0) × (take (length octets) new ≡ octets) × (drop (length octets) new ≡ drop (length octets) old)
   pub lacks : length old < length octets → (status ≡ number_of NoRoom) × (new ≡ old)
 
 -- the status and the place are the fault's
-abbrev pub IsRefused : Fault → ℕ → Outcome → Type 0
-IsRefused fault status outcome = (status ≡ number_of fault.refusal) × (outcome ≡ record { length = 0; place = fault.place })
+abbrev pub TellsFault : Fault → ℕ → Outcome → Type 0
+TellsFault fault status outcome = (status ≡ number_of fault.refusal) × (outcome ≡ record { length = 0; place = fault.place })
 
 -- the octets are given; or the fault is told, and nothing was written
 abbrev pub IsTold : Result (List ℕ) Fault → List ℕ → ℕ → List ℕ → Outcome → Type 0
-IsTold (Ok octets) old status new outcome = IsGiven octets old status new outcome
-IsTold (Err fault) old status new outcome = IsRefused fault status outcome × (new ≡ old)
+IsTold (Ok octets) old status new outcome = TellsOctets octets old status new outcome
+IsTold (Err fault) old status new outcome = TellsFault fault status outcome × (new ≡ old)

@@ -2,8 +2,8 @@
 ghost use Rattle.std.specs.Prelude.{◌≡◌, ◌≤◌, ◌^◌, length, IfOk, IfErr, IfSome, IfNone};
 ghost use Rattle.dns_codec.specs.Base.{base16, base32hex, base64};
 ghost use Rattle.dns_codec.specs.Outcome.{pad_count};
-ghost use Rattle.dns_text_c.specs.Codecs.{PrintsOctets, ReadsText};
-ghost use Rattle.dns_text_c.specs.Told.{number_of, IsRefused};
+ghost use Rattle.dns_text_c.specs.Codecs.{PrintsOctets, DecodesText};
+ghost use Rattle.dns_text_c.specs.Told.{number_of, TellsFault};
 ghost use Rattle.dns_text_c.specs.declared.outcome.Refusal.TheVariants.{NoRoom, TooLong, BadEncoding};
 
 use crate::outcome::{Fault, OK, Outcome, Refusal, number_of, refuse};
@@ -28,7 +28,7 @@ fn tell_written(written: Result<usize, ShortBuf>, length: usize, outcome: &mut O
 
 /// Refuses octets that no memory holds.
 fn refuse_length(outcome: &mut Outcome) -> u32
-    ensures { IsRefused (record { refusal = TooLong; place = 2 ^ 60 }) result outcome.new }
+    ensures { TellsFault (record { refusal = TooLong; place = 2 ^ 60 }) result outcome.new }
 {
     let fault = Fault {
         refusal: Refusal::TooLong,
@@ -84,7 +84,7 @@ fn refuse_room(length: usize, outcome: &mut Outcome) -> u32
 /// Tells whether the text was one of the encoding.
 fn tell_read(read: Option<usize>, length: usize, outcome: &mut Outcome) -> u32
     ensures some { IfSome read (λ _. (result ≡ 0) × (outcome.new ≡ record { length = length; place = 0 })) }
-    ensures none { IfNone read (IsRefused (record { refusal = BadEncoding; place = 0 }) result outcome.new) }
+    ensures none { IfNone read (TellsFault (record { refusal = BadEncoding; place = 0 }) result outcome.new) }
 {
     match read {
         Some(_) => {
@@ -118,7 +118,7 @@ fn count_marks(text: &[u8]) -> usize
 /// Reads a text of base 16, in either case.
 #[unsafe(no_mangle)]
 pub extern "C" fn dns_base16_read(text: &[u8], octets: &mut [u8], outcome: &mut Outcome) -> u32
-    ensures { ReadsText base16 text.now octets.old result octets.new outcome.new }
+    ensures { DecodesText base16 text.now octets.old result octets.new outcome.new }
 {
     let length = text.len() / 2;
     if octets.len() < length {
@@ -131,7 +131,7 @@ pub extern "C" fn dns_base16_read(text: &[u8], octets: &mut [u8], outcome: &mut 
 /// Reads a text of base32hex, in either case and without padding.
 #[unsafe(no_mangle)]
 pub extern "C" fn dns_base32hex_read(text: &[u8], octets: &mut [u8], outcome: &mut Outcome) -> u32
-    ensures { ReadsText base32hex text.now octets.old result octets.new outcome.new }
+    ensures { DecodesText base32hex text.now octets.old result octets.new outcome.new }
 {
     let length = text.len() / 8 * 5 + text.len() % 8 * 5 / 8;
     if octets.len() < length {
@@ -144,7 +144,7 @@ pub extern "C" fn dns_base32hex_read(text: &[u8], octets: &mut [u8], outcome: &m
 /// Reads a text of base 64, with its padding.
 #[unsafe(no_mangle)]
 pub extern "C" fn dns_base64_read(text: &[u8], octets: &mut [u8], outcome: &mut Outcome) -> u32
-    ensures { ReadsText base64 text.now octets.old result octets.new outcome.new }
+    ensures { DecodesText base64 text.now octets.old result octets.new outcome.new }
 {
     let chars = text.len() - count_marks(text);
     let length = chars / 4 * 3 + chars % 4 * 6 / 8;

@@ -7,7 +7,7 @@ ghost use Rattle.dns_split.specs.Splitting.{Entries, Splits};
 ghost use Rattle.dns_split.specs.declared.pieces.Piece.{Piece};
 ghost use Rattle.dns_split.specs.declared.pieces.Fault.{Fault};
 ghost use Rattle.dns_text_c.specs.Calls.{ToldEntry, Calls, told_entries, octets_of, last_status};
-ghost use Rattle.dns_text_c.specs.Entries.{entries_of, InARow};
+ghost use Rattle.dns_text_c.specs.Entries.{entries_of_pieces, InARow};
 ghost use Rattle.dns_text_c.specs.Pieces.{PieceCalls, ToldPiece, told_from, entries_told};
 ghost use Rattle.dns_text_c.specs.Told.{number_of};
 ghost use Rattle.dns_text_c.specs.declared.outcome.Refusal.TheVariants.{OpenParenthesis};
@@ -17,7 +17,7 @@ ghost use Rattle.dns_text_c.specs.declared.tokens.Cursor.{Cursor};
 /// A text of the grammar is read entry by entry: in a row from its start on, its entries have just
 /// the tokens of its pieces, cut where entries end, and the last one is known as such.
 pub fn entries_in_a_row()
-    ensures { (text : List ℕ) (found : List Piece) → IsOctetPieces text found → EachWithin (length text) (map Ok found) → InARow text 0 (entries_of found) }
+    ensures { (text : List ℕ) (found : List Piece) → IsOctetPieces text found → EachWithin (length text) (map Ok found) → InARow text 0 (entries_of_pieces found) }
 {}
 
 /// Calls for the next entry, one after another from a text's start until the text is done, each

@@ -1,7 +1,7 @@
 //! The text layer of DNS, for C and other languages, as a static library.
 //!
 //! `c/include/dnstext.h` declares the functions. Octets and texts are passed as a pointer and a
-//! length, a text as its characters, one octet each. A call answers a status and tells an
+//! length, a text as its characters, one octet each. A call returns a status and writes an
 //! [`Outcome`](outcome::Outcome); what it gives stands at the start of the memory that it was
 //! passed, and what follows there stays as it was. None of these calls takes memory.
 #![tactic(auto)]

@@ -9,8 +9,8 @@ ghost use Rattle.dns_wire.specs.Wire.{wire_length};
 ghost use Rattle.dns_wire.specs.ZoneText.{zone_text};
 ghost use Rattle.dns_name.specs.Reading.{is_dot};
 ghost use Rattle.dns_name.specs.declared.name.UncertainName.TheVariants.{Absolute, Relative};
-ghost use Rattle.dns_text_c.specs.Names.{TakesSymbol, NameAnswer, ReadsNameText, GivesName, labels_text, refusal_of_octets, PrintsOctetsOf, PrintsName};
-ghost use Rattle.dns_text_c.specs.Told.{IsGiven};
+ghost use Rattle.dns_text_c.specs.Names.{TakesNameSymbol, NameAnswer, ReadsNameText, TellsName, labels_text, refusal_of_octets, PrintsOctetsOf, PrintsName};
+ghost use Rattle.dns_text_c.specs.Told.{TellsOctets};
 ghost use Rattle.dns_wire.specs.Limits.{max_name, max_relative};
 
 use crate::outcome::{Fault, Outcome, Refusal, give, refuse};
@@ -36,7 +36,7 @@ fn is_dot(symbol: Symbol) -> bool
 
 /// Takes a symbol other than a plain dot.
 fn push_symbol(builder: &mut NameBuilder<ArrayVec<u8, MOST>>, symbol: Symbol) -> Result<(), Refusal>
-    ensures { TakesSymbol builder.old symbol result builder.new }
+    ensures { TakesNameSymbol builder.old symbol result builder.new }
 {
     if symbol == Symbol::SimpleEscape(b'[') && !builder.in_label() {
         return Err(Refusal::BinaryLabel);
@@ -112,7 +112,7 @@ pub extern "C" fn dns_name_read(
     outcome: &mut Outcome,
 ) -> u32
     ensures { (answer : NameAnswer) × ReadsNameText text.now answer
-        × GivesName answer name.old is_absolute.old result name.new is_absolute.new outcome.new }
+        × TellsName answer name.old is_absolute.old result name.new is_absolute.new outcome.new }
 {
     match read_name(text) {
         Ok(read) => {
@@ -132,7 +132,7 @@ fn give_text(
     outcome: &mut Outcome,
 ) -> u32
     requires { wire_length labels ≤ max_name }
-    ensures { IsGiven (labels_text form dot labels.entry) text.old result text.new outcome.new }
+    ensures { TellsOctets (labels_text form dot labels.entry) text.old result text.new outcome.new }
 {
     let mut made = [0; TEXT];
     let shown = labels_in(labels, form, dot, &mut made);

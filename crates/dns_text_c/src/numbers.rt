@@ -1,7 +1,7 @@
 //! Decimal numbers.
 ghost use Rattle.std.specs.Prelude.{◌≡◌, ◌<◌, ◌≤◌, ℕ, Result, IfSome, IfOk};
-ghost use Rattle.dns_scan.specs.Numbers.{digit_of};
-ghost use Rattle.dns_text_c.specs.Numbers.{AddsDigit, ReadsNumber, GivesNumber};
+ghost use Rattle.dns_scan.specs.Numbers.{plain_digit_of};
+ghost use Rattle.dns_text_c.specs.Numbers.{AppendsDigit, ReadsTextAsNumber, GivesNumber};
 ghost use Rattle.dns_text_c.specs.declared.outcome.Fault.{Fault};
 
 use crate::outcome::{Fault, OK, Outcome, Refusal, refuse};
@@ -10,7 +10,7 @@ use dns_symbol::symbol::Symbol;
 
 /// The value of a plain digit.
 fn plain_digit(symbol: Symbol) -> Option<u64>
-    ensures value { result ≡ digit_of symbol }
+    ensures value { result ≡ plain_digit_of symbol }
     ensures small { IfSome result (λ d. d < 10) }
 {
     match symbol {
@@ -21,7 +21,7 @@ fn plain_digit(symbol: Symbol) -> Option<u64>
 
 /// A symbol more of a number of at most `greatest`.
 fn with_digit(greatest: u64, value: u64, symbol: Symbol) -> Result<u64, Refusal>
-    ensures { AddsDigit greatest value symbol result }
+    ensures { AppendsDigit greatest value symbol result }
 {
     if value > greatest / 10 {
         return Err(Refusal::TooGreat);
@@ -38,7 +38,7 @@ fn with_digit(greatest: u64, value: u64, symbol: Symbol) -> Result<u64, Refusal>
 
 /// The number of a text's symbols, or the first fault.
 fn read_number(text: &[u8], greatest: u64) -> Result<u64, Fault>
-    ensures { ReadsNumber greatest text.now result }
+    ensures { ReadsTextAsNumber greatest text.now result }
 {
     let mut value = 0;
     let mut place = 0;
@@ -65,7 +65,7 @@ pub extern "C" fn dns_number_read(
     number: &mut u64,
     outcome: &mut Outcome,
 ) -> u32
-    ensures { (answer : Result ℕ Fault) × ReadsNumber greatest text.now answer × GivesNumber answer number.old result number.new outcome.new }
+    ensures { (answer : Result ℕ Fault) × ReadsTextAsNumber greatest text.now answer × GivesNumber answer number.old result number.new outcome.new }
 {
     match read_number(text, greatest) {
         Ok(read) => {

@@ -1,6 +1,6 @@
 //! What a call says: a status, a length and a place.
 ghost use Rattle.std.specs.Prelude.{◌≡◌};
-ghost use Rattle.dns_text_c.specs.Told.{number_of, IsGiven, IsRefused};
+ghost use Rattle.dns_text_c.specs.Told.{number_of, TellsOctets, TellsFault};
 
 /// What a call says beside its status.
 #[repr(C)]
@@ -101,7 +101,7 @@ pub fn number_of(refusal: Refusal) -> u32
 
 /// Tells of a fault.
 pub(crate) fn refuse(fault: Fault, outcome: &mut Outcome) -> u32
-    ensures { IsRefused fault result outcome.new }
+    ensures { TellsFault fault result outcome.new }
 {
     *outcome = Outcome {
         length: 0,
@@ -112,7 +112,7 @@ pub(crate) fn refuse(fault: Fault, outcome: &mut Outcome) -> u32
 
 /// Puts octets at the start of a buffer, if they fit.
 pub(crate) fn give(octets: &[u8], buffer: &mut [u8], outcome: &mut Outcome) -> u32
-    ensures { IsGiven octets.now buffer.old result buffer.new outcome.new }
+    ensures { TellsOctets octets.now buffer.old result buffer.new outcome.new }
 {
     let length = octets.len();
     *outcome = Outcome { length, place: 0 };

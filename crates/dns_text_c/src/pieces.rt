@@ -2,7 +2,7 @@
 //!
 //! An octet of 0x80 or more counts as a character of its own, so that comments needn't be UTF-8.
 ghost use Rattle.std.specs.Prelude.{◌≡◌};
-ghost use Rattle.dns_text_c.specs.Pieces.{NextPiece, TellsPiece, cursor_of, piece_of, standing_of};
+ghost use Rattle.dns_text_c.specs.Pieces.{NextPiece, TellsPiece, cursor_of, numbered_piece, standing_of};
 
 use crate::outcome::{END, Fault, OK, Outcome, Refusal, number_of, refuse};
 use crate::tokens::{bit, refusal_of_wrong};
@@ -64,7 +64,7 @@ fn cursor_of(standing: TextStanding) -> Standing
 
 /// The piece that a caller gets, of an entry that begins with a blank or doesn't.
 fn piece_of(piece: TextPiece, begins_blank: bool) -> Piece
-    ensures { result ≡ piece_of piece begins_blank }
+    ensures { result ≡ numbered_piece piece begins_blank }
 {
     let (kind, start, end, begins_blank) = match piece {
         TextPiece::Word(span) => (0, span.start, span.end, begins_blank),

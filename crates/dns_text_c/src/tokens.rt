@@ -7,7 +7,7 @@ ghost use Rattle.dns_split.specs.Pieces.{ReadsOctetsFrom, EachWithin};
 ghost use Rattle.dns_split.specs.declared.pieces.Piece.{Piece};
 ghost use Rattle.dns_split.specs.declared.pieces.Fault.{Fault as TextFault};
 ghost use Rattle.dns_split.specs.declared.pieces.Wrong.TheVariants.{OpenParenthesis};
-ghost use Rattle.dns_text_c.specs.Entries.{bit, refusal_of_wrong, LeavesOpen, Opens, Steps, IsEntry, GivesEntry, NextEntry};
+ghost use Rattle.dns_text_c.specs.Entries.{bit, refusal_of_wrong, LeavesOpen, Opens, TakesPieces, IsEntry, TellsEntry, NextEntry};
 
 use crate::outcome::{END, Fault, OK, Outcome, Refusal, number_of, refuse};
 use dns_split::opening::outermost_open_of_octets;
@@ -96,7 +96,7 @@ fn opened_by(text: &[u8], at: usize, wrong: Wrong, otherwise: usize) -> usize
 
 /// Takes what comes next.
 fn next_step(pieces: &mut Pieces) -> Step
-    ensures { Steps pieces.old result pieces.new }
+    ensures { TakesPieces pieces.old result pieces.new }
 {
     match pieces.next() {
         Some(Ok(Piece::Word(span))) => Step::Token(Token {
@@ -166,7 +166,7 @@ fn tell_stop(
 ) -> u32
     requires within { cursor.old.at ≤ length text.now }
     requires open { LeavesOpen text.now cursor.old.at entry.stop }
-    ensures { GivesEntry text.now entry.count entry.stop room result cursor.old cursor.new outcome.new }
+    ensures { TellsEntry text.now entry.count entry.stop room result cursor.old cursor.new outcome.new }
 {
     *outcome = Outcome {
         length: entry.count,

@@ -8,7 +8,7 @@ use Rattle.dns_wire.specs.Wire.{wire, wire_label, wire_length, IsPlain, IsName, 
 use Rattle.dns_wire.proofs.Wires.{IsName-plain, IsName-absolute, wire_append, length_wire, wire_length_append}
 use Rattle.std.proofs.lemmas.List.{get_or_append_left}
 use Rattle.std.proofs.lemmas.List.Elements.{All-push}
-use Rattle.dns_wire.specs.Building.{closed, needed, grown, Naming, AnswersGrowth, all_labels, with_octet, with_label}
+use Rattle.dns_wire.specs.Building.{closed, needed_for_octet, grown, Naming, AnswersGrowth, all_labels, with_octet, with_label}
 use Rattle.dns_wire.specs.declared.error.PushError.{PushError}
 use Rattle.dns_wire.specs.Opened.{Opened, opened_same}
 
@@ -60,7 +60,7 @@ pub length_more : (current : List ℕ) (octet : ℕ) → length (current ++ octe
 length_more current octet = grind (arith, common_steps)
 
 pub more_length : (octets : List ℕ) (labels : List (List ℕ)) (current : List ℕ) (octet : ℕ) → octets ≡ wire (labels ++ closed current)
-    → wire_length (labels ++ closed (current ++ octet ∷ [])) ≡ length octets + needed (length current)
+    → wire_length (labels ++ closed (current ++ octet ∷ [])) ≡ length octets + needed_for_octet (length current)
 more_length octets labels [] octet is =
     omega (arith, ap length is, length_wire (labels ++ []), ap wire_length (append-nil labels), wire_length_append labels ((octet ∷ []) ∷ []))
 more_length octets labels (c ∷ current) octet is =
@@ -88,7 +88,7 @@ built_more labels current octet h fits short =
 
 pub growth_of : (b : Naming) (octets : List ℕ) (count octet : ℕ) (room : Room) (r : Result (Unit {0}) PushError)
     → octets ≡ wire (all_labels b) → length b.current ≡ count
-    → AnswersGrowth (length octets + needed count) (count + 1) room r
+    → AnswersGrowth (length octets + needed_for_octet count) (count + 1) room r
     → AnswersGrowth (wire_length (all_labels (with_octet b octet))) (length b.current + 1) room r
 growth_of b octets count octet room r is n h = rw (more_length octets b.labels b.current octet is, n) h
 

@@ -4,7 +4,7 @@ use Rattle.std.specs.Prelude.{if◌then◌else◌}
 use Rattle.std.specs.Bool.{nat_lt}
 use Rattle.std.proofs.lemmas.Bool.{lt-ltb}
 use Rattle.std.proofs.lemmas.Bool.Decides.{nat_tests}
-use Rattle.dns_wire.specs.FromOctets.{Splits, AnswersName, AnswersRelative, MakesName, MakesRelative}
+use Rattle.dns_wire.specs.FromOctets.{SplitsIntoLabels, AnswersLabels, AnswersRelative, MakesName, MakesRelative}
 use Rattle.dns_wire.specs.Split.{IsCut, RefusesLabel}
 use Rattle.dns_wire.specs.Split.IsCut.{cut_lead, cut_label, cut_pointer}
 use Rattle.dns_wire.specs.declared.error.LabelTypeError.{LabelTypeError}
@@ -55,7 +55,7 @@ name_answer labels (suc n ∷ more) = refusal (Err ShortInput) (Err CompressedNa
 pub root_not_cut : (more : List ℕ) → IsCut (0 ∷ more) → ⊥
 root_not_cut more h = cut_none [] more (omega arith) h
 
-name_one : (labels : List (List ℕ)) (rest : List ℕ) (r : Result (List (List ℕ)) NameError) → AnswersName labels rest r → r ≡ name_answer labels rest
+name_one : (labels : List (List ℕ)) (rest : List ℕ) (r : Result (List (List ℕ)) NameError) → AnswersLabels labels rest r → r ≡ name_answer labels rest
 name_one labels rest (Ok name) a = ap Ok a.1 ∙ ap (name_answer labels) (sym a.0)
 name_one labels rest (Err LongName) a = absurd a
 name_one labels rest (Err TrailingData) a = ap (name_answer labels) (sym a.2)
@@ -101,9 +101,9 @@ relative_one labels (suc n ∷ more) (Err CompressedName) a =
 
 -- where the octets are few enough, their one way decides
 pub by_rest : {E : Type 0} (octets : List ℕ) (limit : ℕ) (long : E) (answers : List (List ℕ) → List ℕ → E → Type 0) (answer : List (List ℕ) → List ℕ → E)
-    → ((labels : List (List ℕ)) (rest : List ℕ) (r : E) → Splits octets labels rest → answers labels rest r → r ≡ answer labels rest)
+    → ((labels : List (List ℕ)) (rest : List ℕ) (r : E) → SplitsIntoLabels octets labels rest → answers labels rest r → r ≡ answer labels rest)
     → let Makes : E → Type 0 = (λ r. ((limit < length octets) × (r ≡ long))
-    ⊎ ((length octets ≤ limit) × ((labels : List (List ℕ)) × (rest : List ℕ) × Splits octets labels rest × answers labels rest r))) in
+    ⊎ ((length octets ≤ limit) × ((labels : List (List ℕ)) × (rest : List ℕ) × SplitsIntoLabels octets labels rest × answers labels rest r))) in
     (r s : E) → Makes r → Makes s → r ≡ s
 by_rest octets limit long answers answer one r s p q =
     ⊎_elim
@@ -115,7 +115,7 @@ by_rest octets limit long answers answer one r s p q =
     p
 
 pub name_same : (octets : List ℕ) (r s : Result (List (List ℕ)) NameError) → MakesName octets r → MakesName octets s → r ≡ s
-name_same octets = by_rest octets 255 (Err LongName) AnswersName name_answer (λ labels rest r way. name_one labels rest r)
+name_same octets = by_rest octets 255 (Err LongName) AnswersLabels name_answer (λ labels rest r way. name_one labels rest r)
 
 pub relative_same : (octets : List ℕ) (r s : Result (List (List ℕ)) NameError) → MakesRelative octets r → MakesRelative octets s → r ≡ s
 relative_same octets = by_rest octets 254 (Err LongName) AnswersRelative relative_answer (λ labels rest r way. relative_one labels rest r)

@@ -4,7 +4,7 @@ use Rattle.std.specs.Prelude.{All, IsTrue, true, false, ◌==◌}
 use Rattle.std.proofs.lemmas.List.Elements.{All-push, All-head, All-tail}
 use Rattle.std.proofs.lemmas.Grind.{common_steps, flat_map-append}
 use Rattle.dns_wire.specs.Wire.{wire, wire_label, wire_length, IsPlain, IsName, EndsInRoot, HasNoRoot}
-use Rattle.dns_wire.specs.FromOctets.{BeginsNoLabel, Splits, IsRootAndMore, HasRest}
+use Rattle.dns_wire.specs.FromOctets.{BeginsNoLabel, SplitsIntoLabels, IsRootAndMore, HasRest}
 use Rattle.dns_wire.specs.declared.split.Rest.TheVariants.{End, Root}
 use Rattle.dns_wire.specs.Labelled.{Labelled, label_same}
 use Rattle.dns_wire.specs.Split.{RefusesLabel, IsCut}
@@ -110,7 +110,7 @@ unrooted_name octets s p fits =
     rw e (IsName-plain s.0 s.2.plain (omega arith), (λ k d h. (s.2.plain k d h).0), omega arith)
 
 -- octets split in one way only
-pub splits_same : (octets : List ℕ) (a b : List (List ℕ)) (x y : List ℕ) → Splits octets a x → Splits octets b y → (a ≡ b) × (x ≡ y)
+pub splits_same : (octets : List ℕ) (a b : List (List ℕ)) (x y : List ℕ) → SplitsIntoLabels octets a x → SplitsIntoLabels octets b y → (a ≡ b) × (x ≡ y)
 splits_same octets [] [] x y s t = (refl, sym s.spelled ∙ t.spelled)
 splits_same octets [] (l ∷ b) x y s t =
     absurd (s.ends l (wire b ++ y) (All-head IsPlain l b t.plain) (sym s.spelled ∙ t.spelled ∙ append_assoc (wire_label l) (wire b) y))

@@ -52,9 +52,9 @@ AnswersRoot labels room (Err LongLabel) = ⊥
 AnswersRoot labels room (Err ShortBuf) = room.fits < wire_length labels + 1
 
 -- how many octets one more takes: a new label's length octet stands before it
-abbrev pub needed : ℕ → ℕ
-needed zero = 2
-needed (suc n) = 1
+abbrev pub needed_for_octet : ℕ → ℕ
+needed_for_octet zero = 2
+needed_for_octet (suc n) = 1
 
 -- the octets once the label of so many octets that ends them has one more; of none, once a label of one octet follows them
 abbrev pub grown : List ℕ → ℕ → ℕ → List ℕ

@@ -14,7 +14,7 @@ abbrev pub BeginsNoLabel : List ℕ → Type 0
 BeginsNoLabel rest = (label more : List ℕ) → IsPlain label → rest ≡ wire_label label ++ more → ⊥
 
 -- octets as whole labels other than the root, and a rest that begins with none
-pub record Splits (octets : List ℕ) (labels : List (List ℕ)) (rest : List ℕ) : Type 0 where
+pub record SplitsIntoLabels (octets : List ℕ) (labels : List (List ℕ)) (rest : List ℕ) : Type 0 where
   pub spelled : octets ≡ wire labels ++ rest
   pub plain : All IsPlain labels
   pub ends : BeginsNoLabel rest
@@ -31,15 +31,15 @@ IsRest rest RootAndMore = IsRootAndMore rest
 IsRest rest (Refused e) = RefusesLabel e rest × (rest ≢ [])
 
 -- what making an absolute name answers where the octets are not too many, by their labels and the rest
-abbrev pub AnswersName : List (List ℕ) → List ℕ → Result (List (List ℕ)) NameError → Type 0
-AnswersName labels rest (Ok name) = (rest ≡ 0 ∷ []) × (name ≡ labels ++ [] ∷ [])
-AnswersName labels rest (Err LongName) = ⊥
-AnswersName labels rest (Err TrailingData) = IsRootAndMore rest
-AnswersName labels rest (Err ShortInput) = IsCut rest × (rest ≡ [] → labels ≡ [])
-AnswersName labels rest (Err Relative) = (rest ≡ []) × (labels ≢ [])
-AnswersName labels rest (Err (BadLabel e)) = RefusesLabel (BadType e) rest
-AnswersName labels rest (Err CompressedName) = (place : ℕ) × RefusesLabel (Pointer place) rest
-AnswersName labels rest (Err Absolute) = ⊥
+abbrev pub AnswersLabels : List (List ℕ) → List ℕ → Result (List (List ℕ)) NameError → Type 0
+AnswersLabels labels rest (Ok name) = (rest ≡ 0 ∷ []) × (name ≡ labels ++ [] ∷ [])
+AnswersLabels labels rest (Err LongName) = ⊥
+AnswersLabels labels rest (Err TrailingData) = IsRootAndMore rest
+AnswersLabels labels rest (Err ShortInput) = IsCut rest × (rest ≡ [] → labels ≡ [])
+AnswersLabels labels rest (Err Relative) = (rest ≡ []) × (labels ≢ [])
+AnswersLabels labels rest (Err (BadLabel e)) = RefusesLabel (BadType e) rest
+AnswersLabels labels rest (Err CompressedName) = (place : ℕ) × RefusesLabel (Pointer place) rest
+AnswersLabels labels rest (Err Absolute) = ⊥
 
 -- the same of a relative name
 abbrev pub AnswersRelative : List (List ℕ) → List ℕ → Result (List (List ℕ)) NameError → Type 0
@@ -56,13 +56,13 @@ AnswersRelative labels rest (Err Relative) = ⊥
 abbrev pub MakesName : List ℕ → Result (List (List ℕ)) NameError → Type 0
 MakesName octets result =
     ((max_name < length octets) × (result ≡ Err LongName))
-    ⊎ ((length octets ≤ max_name) × ((labels : List (List ℕ)) × (rest : List ℕ) × Splits octets labels rest × AnswersName labels rest result))
+    ⊎ ((length octets ≤ max_name) × ((labels : List (List ℕ)) × (rest : List ℕ) × SplitsIntoLabels octets labels rest × AnswersLabels labels rest result))
 
 abbrev pub MakesRelative : List ℕ → Result (List (List ℕ)) NameError → Type 0
 MakesRelative octets result =
     ((max_relative < length octets) × (result ≡ Err LongName))
-    ⊎ ((length octets ≤ max_relative) × ((labels : List (List ℕ)) × (rest : List ℕ) × Splits octets labels rest × AnswersRelative labels rest result))
+    ⊎ ((length octets ≤ max_relative) × ((labels : List (List ℕ)) × (rest : List ℕ) × SplitsIntoLabels octets labels rest × AnswersRelative labels rest result))
 
 -- the octets split into labels and a rest of this kind
 abbrev pub HasRest : List ℕ → Rest → Type 0
-HasRest octets kind = (labels : List (List ℕ)) × (rest : List ℕ) × Splits octets labels rest × IsRest rest kind
+HasRest octets kind = (labels : List (List ℕ)) × (rest : List ℕ) × SplitsIntoLabels octets labels rest × IsRest rest kind

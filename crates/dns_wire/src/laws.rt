@@ -1,7 +1,7 @@
 //! Laws of labels and names in wire form.
 ghost use Rattle.std.specs.Prelude.{ℕ, ◌≡◌, ◌⊎◌, List, ◌++◌, Result, None};
 ghost use Rattle.std.specs.List.{FoldsTo};
-ghost use Rattle.dns_wire.specs.FromOctets.{Splits, MakesName, MakesRelative};
+ghost use Rattle.dns_wire.specs.FromOctets.{SplitsIntoLabels, MakesName, MakesRelative};
 ghost use Rattle.dns_wire.specs.Takes.{Take, from_front, from_back, fronts, backs, TakesLabel};
 ghost use Rattle.dns_wire.specs.declared.error.NameError.{NameError};
 
@@ -23,9 +23,9 @@ pub fn labels_from_both_ends()
 /// Octets are in one way those of some labels other than the root, and a rest with which none of
 /// these begins.
 pub fn octets_split_one_way(octets: &[u8])
-    ensures some { (labels : List (List ℕ)) × (rest : List ℕ) × Splits octets.now labels rest }
+    ensures some { (labels : List (List ℕ)) × (rest : List ℕ) × SplitsIntoLabels octets.now labels rest }
     ensures one { (labels others : List (List ℕ)) (rest more : List ℕ)
-        → Splits octets.now labels rest → Splits octets.now others more → (labels ≡ others) × (rest ≡ more) }
+        → SplitsIntoLabels octets.now labels rest → SplitsIntoLabels octets.now others more → (labels ≡ others) × (rest ≡ more) }
 {
     let _rest = rest_of(octets);
 }

@@ -1,7 +1,7 @@
 //! Building names.
 ghost use Rattle.std.specs.Prelude.{ℕ, ◌≡◌, ◌<◌, ◌≤◌, ◌+◌, ◌-◌, [], ◌∷◌, ◌++◌, length, slice_set, OnOk, OnErr, IsOk};
 ghost use Rattle.dns_wire.specs.Wire.{wire_label};
-ghost use Rattle.dns_wire.specs.Building.{AnswersGrowth, needed, grown};
+ghost use Rattle.dns_wire.specs.Building.{AnswersGrowth, needed_for_octet, grown};
 ghost use Rattle.dns_wire.specs.Opened.{Opened, Opened-prop};
 ghost use Rattle.dns_wire.specs.Limits.{max_label, max_relative};
 
@@ -42,7 +42,7 @@ fn grow<B: OctetsBuilder + AsOctetsMut>(
 ) -> Result<(), PushError>
     requires few { count ≤ max_label }
     requires place { 0 < count → count < length (B.octets inner.old) }
-    ensures answers { AnswersGrowth (length (B.octets inner.old) + needed count) (count + 1) B.room result }
+    ensures answers { AnswersGrowth (length (B.octets inner.old) + needed_for_octet count) (count + 1) B.room result }
     ensures ok { OnOk result (B.octets inner.new ≡ grown (B.octets inner.old) count octet) }
     ensures err { OnErr result (B.octets inner.new ≡ B.octets inner.old) }
 {
@@ -194,7 +194,7 @@ impl<B: OctetsBuilder> NameBuilder<B> {
         }
     }
 
-    /// The absolute name: the open label is closed and the root appended, or the answer is
+    /// The absolute name: the open label is closed and the root appended, or the error is
     /// [`PushError::ShortBuf`].
     pub fn into_name(self) -> Result<Name<B::Octets>, PushError>
     where

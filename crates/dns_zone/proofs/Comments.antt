@@ -6,7 +6,7 @@ use Rattle.std.proofs.lemmas.Str.{encodes-chars, scalars-chars, chars_from_encod
 use lib.Utf8.{scalars}
 use Rattle.dns_symbol.specs.Characters.{carriage_return, line_feed}
 use Rattle.dns_split.specs.Lexeme.{is_note_char}
-use Rattle.dns_zone.specs.Documents.{IsComment}
+use Rattle.dns_zone.specs.Documents.{IsCommentText}
 use Rattle.dns_zone.specs.Nesting.{both_true, both_parts}
 
 -- neither LF nor CR
@@ -26,7 +26,7 @@ in_line_chars (c ∷ cs) p =
     let s = both_parts _ _ p in
     both_true _ _ ((both_parts _ _ s.0).1) (in_line_chars cs s.1)
 
-pub comment_has : (bs : List ℕ) → IsUtf8 bs → (list_all is_in_line (chars bs) ≡ true → IsComment bs) × (IsComment bs → list_all is_in_line (chars bs) ≡ true)
+pub comment_has : (bs : List ℕ) → IsUtf8 bs → (list_all is_in_line (chars bs) ≡ true → IsCommentText bs) × (IsCommentText bs → list_all is_in_line (chars bs) ≡ true)
 comment_has bs u = (
   λ p. record { characters = chars bs; plain = plain_chars (chars bs) (scalars-chars bs u) p; spelled = encodes-chars bs u },
   λ k. subst (λ (cs : List ℕ). list_all is_in_line cs ≡ true) (chars_from_encodes k.characters bs u k.spelled) (in_line_chars k.characters k.plain),

@@ -4,12 +4,12 @@ use Rattle.std.specs.List.{FoldsTo, concat}
 use Rattle.std.specs.Fmt.{WritesInCalls, HasWritten, IsPlainFormatter}
 use Rattle.std.specs.declared.fmt.Formatter.{Formatter}
 use Rattle.std.proofs.Output.{writes_in_calls_append, writes_in_calls_nil, has_written_append, has_written_of_eq, LentTook, WritesText-from_lent}
-use Rattle.dns_zone.specs.Layout.{Step, pieces}
+use Rattle.dns_zone.specs.Layout.{Step, text_of_steps}
 use Rattle.dns_zone.specs.Writers.{PrintsStep}
 
 module _ {F W : Type 0} (stands : F → List Step → Type 0) (sink : F → W) (took : W → List ℕ → W → Type 0) (piece : List Step → Step → List ℕ) where
   pub prints_run : (w : F) (xs : List Step) (v : F) (past : List Step) → stands w past → FoldsTo (PrintsStep stands sink took piece) w xs v
-      → WritesInCalls took (sink w) (pieces piece past xs) (sink v)
+      → WritesInCalls took (sink w) (text_of_steps piece past xs) (sink v)
   prints_run w [] v past h p = subst (λ (x : F). WritesInCalls took (sink w) [] (sink x)) p (writes_in_calls_nil took (sink w))
   prints_run w (x ∷ xs) v past h p =
       let one = p.1 past h in

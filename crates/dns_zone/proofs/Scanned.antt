@@ -5,7 +5,7 @@ use Rattle.std.specs.Prelude.{IfNone}
 use Rattle.std.specs.List.{AllByRecursion}
 use Rattle.std.proofs.lemmas.Grind.{not_there}
 use Rattle.dns_zone.specs.Layout.{Step, token, begin, end, comment, newline, depth}
-use Rattle.dns_zone.specs.Documents.{step_of, steps_of, IsFault, IsFine, IsFirstFault, IsProper, IsWellFormed}
+use Rattle.dns_zone.specs.Documents.{item_step, item_steps, IsDocumentFault, IsFine, IsFirstFault, IsProper, IsWellFormed}
 use Rattle.dns_zone.specs.Nesting.{is_nested, from_none_test}
 use Rattle.dns_zone.proofs.Nested.{nested_more, nested_rest, nested_end, nested_newline}
 use Rattle.dns_zone.specs.Writers.{opened}
@@ -28,13 +28,13 @@ opened_le newline n i h = omega arith
 
 -- the rest of the items from a place on
 pub rest_more : {A : Type 0} (items : List (Item A)) (i : ℕ) (x : Item A) → i < length items → x ≡ get_or items i x
-    → steps_of (drop i items) ≡ step_of x ∷ steps_of (drop (i + 1) items)
-rest_more {A} items i x h e = ap steps_of (drop_more items i x h) ∙ ap (λ (y : Item A). step_of y ∷ steps_of (drop (i + 1) items)) (sym e)
+    → item_steps (drop i items) ≡ item_step x ∷ item_steps (drop (i + 1) items)
+rest_more {A} items i x h e = ap item_steps (drop_more items i x h) ∙ ap (λ (y : Item A). item_step y ∷ item_steps (drop (i + 1) items)) (sym e)
 
 pub front_more : {A : Type 0} (items : List (Item A)) (i : ℕ) (x : Item A) → i < length items → x ≡ get_or items i x
-    → steps_of (take (i + 1) items) ≡ steps_of (take i items) ++ step_of x ∷ []
+    → item_steps (take (i + 1) items) ≡ item_steps (take i items) ++ item_step x ∷ []
 front_more {A} items i x h e =
-    ap steps_of (take_more items i x h) ∙ (map-append step_of (take i items) (get_or items i x ∷ []) ∙ ap (λ (y : Item A). steps_of (take i items) ++ step_of y ∷ []) (sym e))
+    ap item_steps (take_more items i x h) ∙ (map-append item_step (take i items) (get_or items i x ∷ []) ∙ ap (λ (y : Item A). item_steps (take i items) ++ item_step y ∷ []) (sym e))
 
 -- well-formed from a place on, where `blocks` blocks are open
 abbrev pub RestFormed : (blocks : ℕ) → List Step → Type 0
@@ -69,7 +69,7 @@ scanned_more xs blocks place x rest s p h k = record {
 }
 
 pub scanned_fault : (xs : List Step) (blocks place : ℕ) (x : Step) (rest : List Step) (e : DocumentError) → Scanned xs blocks place (x ∷ rest)
-    → ((past : List Step) → length past ≡ place → depth past ≡ blocks → IsFault past x e) → IsFirstFault [] xs e
+    → ((past : List Step) → length past ≡ place → depth past ≡ blocks → IsDocumentFault past x e) → IsFirstFault [] xs e
 scanned_fault xs blocks place x rest e s p = s.fault e (inl (p s.past s.places s.opens))
 
 -- steps with a fault are not well-formed
@@ -93,7 +93,7 @@ pub surely_well_formed : (xs : List Step) (o : Option DocumentError) → IfNone 
     → ∥ IsWellFormed xs ∥₁ → IsWellFormed xs
 surely_well_formed xs o p q t = without_fault xs o p q (λ e f. not_there t (fault_refuses [] xs e f))
 
-one_fault : (past : List Step) (x : Step) (e f : DocumentError) → IsFault past x e → IsFault past x f → e ≡ f
+one_fault : (past : List Step) (x : Step) (e f : DocumentError) → IsDocumentFault past x e → IsDocumentFault past x f → e ≡ f
 one_fault past (token bs) e f p q = p.0 ∙ sym q.0
 one_fault past (comment bs) e f p q = p.0 ∙ sym q.0
 one_fault past begin e f p q = absurd p

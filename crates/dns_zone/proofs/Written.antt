@@ -5,7 +5,7 @@ use Rattle.std.specs.List.{FoldsTo}
 use Rattle.dns_zone.specs.Layout.{Step, token, begin, end, comment, newline}
 use Rattle.dns_zone.specs.Nesting.{is_nested, IsNested, has_line, Fits, from_none_test}
 use Rattle.dns_zone.proofs.Nested.{nested_rest, nested_end, nested_newline}
-use Rattle.dns_zone.specs.Writers.{Steps, Runs, opened}
+use Rattle.dns_zone.specs.Writers.{WritesStep, WritesSteps, opened}
 
 -- the writing of a document has come to `rest`, with `inner` blocks of its own open
 pub record Written {F : Type 0} (blocks : F → ℕ) (gives : F → Step → F → Type 0) (w : F) (front rest : List Step) (v : F) : Type 0 where
@@ -44,7 +44,7 @@ module _ {F : Type 0} (blocks : F → ℕ) (gives : F → Step → F → Type 0)
       let z = s.lines (ap (λ (y : Step). has_line (y ∷ rest)) e) in
       omega (arith, s.opens)
 
-  pub written_more : (front rest : List Step) (x : Step) (v u : F) → Written blocks gives w front (x ∷ rest) v → Steps blocks gives v x u
+  pub written_more : (front rest : List Step) (x : Step) (v u : F) → Written blocks gives w front (x ∷ rest) v → WritesStep blocks gives v x u
       → Written blocks gives w (front ++ x ∷ []) rest u
   written_more front rest x v u s p = record {
     inner = opened x s.inner;
@@ -54,7 +54,7 @@ module _ {F : Type 0} (blocks : F → ℕ) (gives : F → Step → F → Type 0)
     steps = FoldsTo-push gives w front v x u s.steps p.gives;
   }
 
-  pub written_all : (front : List Step) (v : F) → Written blocks gives w front [] v → Runs blocks gives w front v
+  pub written_all : (front : List Step) (v : F) → Written blocks gives w front [] v → WritesSteps blocks gives w front v
   written_all front v s =
       let d : s.inner ≡ 0 = from_none_test s.inner s.nested in
       record { level = omega (arith, s.opens); steps = s.steps }

@@ -13,19 +13,19 @@ use Rattle.dns_zone.specs.declared.error.DocumentError.{DocumentError}
 use Rattle.dns_zone.specs.declared.error.DocumentError.TheVariants.{BadToken, BadComment, EndWithoutBegin, LineInBlock, OpenBlock}
 
 -- the step that an item is
-abbrev pub step_of : {A : Type 0} → Item A → Step
-step_of (Token text) = token (string_bytes text)
-step_of Begin = begin
-step_of End = end
-step_of (Comment text) = comment (string_bytes text)
-step_of Newline = newline
+abbrev pub item_step : {A : Type 0} → Item A → Step
+item_step (Token text) = token (string_bytes text)
+item_step Begin = begin
+item_step End = end
+item_step (Comment text) = comment (string_bytes text)
+item_step Newline = newline
 
 -- the steps that items are
-abbrev pub steps_of : {A : Type 0} → List (Item A) → List Step
-steps_of items = map step_of items
+abbrev pub item_steps : {A : Type 0} → List (Item A) → List Step
+item_steps items = map item_step items
 
 -- characters without LF and CR
-pub record IsComment (text : List ℕ) : Type 0 where
+pub record IsCommentText (text : List ℕ) : Type 0 where
   pub characters : List ℕ
   pub plain : list_all is_note_char characters ≡ true
   pub spelled : encode_utf8_all characters ≡ text
@@ -33,7 +33,7 @@ pub record IsComment (text : List ℕ) : Type 0 where
 -- a token is a word or a quoted text, and a comment has no LF and no CR; other steps are proper as they stand
 abbrev pub IsProper : Step → Type 0
 IsProper (token text) = IsToken text
-IsProper (comment text) = IsComment text
+IsProper (comment text) = IsCommentText text
 IsProper begin = ⊤
 IsProper end = ⊤
 IsProper newline = ⊤
@@ -43,21 +43,21 @@ abbrev pub IsWellFormed : List Step → Type 0
 IsWellFormed xs = IsNested xs × AllByRecursion IsProper xs
 
 -- what is wrong with a step, after the steps of `past`; its place is how many they are
-abbrev pub IsFault : List Step → Step → DocumentError → Type 0
-IsFault past (token text) e = (e ≡ BadToken (length past)) × ¬ IsToken text
-IsFault past (comment text) e = (e ≡ BadComment (length past)) × ¬ IsComment text
-IsFault past begin e = ⊥
-IsFault past end e = (e ≡ EndWithoutBegin (length past)) × (depth past ≡ 0)
-IsFault past newline e = (e ≡ LineInBlock (length past)) × (0 < depth past)
+abbrev pub IsDocumentFault : List Step → Step → DocumentError → Type 0
+IsDocumentFault past (token text) e = (e ≡ BadToken (length past)) × ¬ IsToken text
+IsDocumentFault past (comment text) e = (e ≡ BadComment (length past)) × ¬ IsCommentText text
+IsDocumentFault past begin e = ⊥
+IsDocumentFault past end e = (e ≡ EndWithoutBegin (length past)) × (depth past ≡ 0)
+IsDocumentFault past newline e = (e ≡ LineInBlock (length past)) × (0 < depth past)
 
 -- nothing is wrong with a step
 abbrev pub IsFine : List Step → Step → Type 0
-IsFine past x = (e : DocumentError) → ¬ IsFault past x e
+IsFine past x = (e : DocumentError) → ¬ IsDocumentFault past x e
 
 -- the first fault after the steps of `past`: the next step's, or, where it has none, the first one after it; a block left open comes last
 abbrev pub IsFirstFault : List Step → List Step → DocumentError → Type 0
 IsFirstFault past [] e = (e ≡ OpenBlock) × (0 < depth past)
-IsFirstFault past (x ∷ xs) e = IsFault past x e ⊎ (IsFine past x × IsFirstFault (x ∷ past) xs e)
+IsFirstFault past (x ∷ xs) e = IsDocumentFault past x e ⊎ (IsFine past x × IsFirstFault (x ∷ past) xs e)
 
 -- what an error prints
 abbrev pub fault_text : DocumentError → List ℕ

@@ -41,13 +41,13 @@ since ends [] = []
 since ends (x ∷ past) = if ends past x then [] else x ∷ since ends past
 
 -- the text of each step in turn, after the steps of `past`
-abbrev pub pieces : (List Step → Step → List ℕ) → List Step → List Step → List ℕ
-pieces piece past [] = []
-pieces piece past (x ∷ xs) = piece past x ++ pieces piece (x ∷ past) xs
+abbrev pub text_of_steps : (List Step → Step → List ℕ) → List Step → List Step → List ℕ
+text_of_steps piece past [] = []
+text_of_steps piece past (x ∷ xs) = piece past x ++ text_of_steps piece (x ∷ past) xs
 
 -- the text of a document, where `piece` says what a step prints after others
 abbrev pub layout : (List Step → Step → List ℕ) → List Step → List ℕ
-layout piece xs = pieces piece [] xs
+layout piece xs = text_of_steps piece [] xs
 
 -- ---- simple
 

@@ -9,7 +9,7 @@ use Rattle.dns_zone.specs.Documents.{IsFirstFault, IsWellFormed}
 use Rattle.dns_zone.specs.declared.error.DocumentError.TheVariants.{EndWithoutBegin, LineInBlock, OpenBlock}
 use Rattle.dns_zone.specs.Layout.{Step, token, begin, end, comment, newline, layout, simple_piece, tabbed_piece, multiline_piece, depth, row, is_row_start, line_width}
 use Rattle.dns_zone.specs.Multiline.{MultilinePasses}
-use Rattle.dns_zone.specs.Sinks.{greatest}
+use Rattle.dns_zone.specs.Sinks.{greatest_usize}
 use Rattle.dns_zone.specs.Writers.{BlocksPass}
 
 abbrev pub ds_steps : List Step
@@ -72,24 +72,24 @@ two_bytes : layout multiline_piece (token (0xC3 ∷ 0xA9 ∷ []) ∷ begin ∷ c
 two_bytes = refl
 
 -- on a row with words, of as many bytes as are counted at most: no token fits
-line_is_full : (past : List Step) → is_row_start past ≡ false → line_width past ≡ greatest → MultilinePasses greatest past (token (codes "a"))
+line_is_full : (past : List Step) → is_row_start past ≡ false → line_width past ≡ greatest_usize → MultilinePasses greatest_usize past (token (codes "a"))
 line_is_full past some wide = rw some (omega (arith, wide, length-append (row past) (space ∷ codes "a")))
 
 -- two bytes less: a token of one octet fits, and a begin doesn't, by the indent of its block
-two_are_left : (past : List Step) → is_row_start past ≡ false → line_width past ≡ greatest - 2 → (¬ MultilinePasses greatest past (token (codes "a"))) × MultilinePasses greatest past begin
+two_are_left : (past : List Step) → is_row_start past ≡ false → line_width past ≡ greatest_usize - 2 → (¬ MultilinePasses greatest_usize past (token (codes "a"))) × MultilinePasses greatest_usize past begin
 two_are_left past some wide = (
   rw some (λ h. absurd (omega (arith, wide, h, length-append (row past) (space ∷ codes "a")))),
   inr (rw some (omega (arith, wide, length-append (row past) (space ∷ open_parenthesis ∷ [])))),
 )
 
 -- three bytes less: a begin fits, where one more block can be counted
-three_are_left : (past : List Step) → is_row_start past ≡ false → line_width past ≡ greatest - 3 → depth past < greatest → ¬ MultilinePasses greatest past begin
+three_are_left : (past : List Step) → is_row_start past ≡ false → line_width past ≡ greatest_usize - 3 → depth past < greatest_usize → ¬ MultilinePasses greatest_usize past begin
 three_are_left past some wide few (inl h) = absurd (omega (arith, few, h))
 three_are_left past some wide few (inr h) =
     let k = rw some at h in absurd (omega (arith, wide, k, length-append (row past) (space ∷ open_parenthesis ∷ [])))
 
 -- as many open blocks as are counted at most: no writer begins one more
-blocks_are_full : (past : List Step) → depth past ≡ greatest → BlocksPass greatest past begin × MultilinePasses greatest past begin
+blocks_are_full : (past : List Step) → depth past ≡ greatest_usize → BlocksPass greatest_usize past begin × MultilinePasses greatest_usize past begin
 blocks_are_full past full = (omega (arith, full), inl (omega (arith, full)))
 
 line_in_block : IsFirstFault [] (begin ∷ newline ∷ end ∷ []) (LineInBlock 1)

@@ -3,8 +3,8 @@ use Rattle.std.specs.Prelude.{◌≡◌, ◌<◌, ℕ, ◌+◌, ◌-◌, ◌^◌
 use Rattle.dns_zone.specs.declared.zonefile_fmt.sink.Line.{Line}
 
 -- the greatest `usize`
-abbrev pub greatest : ℕ
-greatest = 2 ^ 64 - 1
+abbrev pub greatest_usize : ℕ
+greatest_usize = 2 ^ 64 - 1
 
 -- a count of n: n itself, or none where n is above `most`
 abbrev pub CountsTo : ℕ → Option ℕ → ℕ → Type 0

@@ -13,12 +13,12 @@ opened (comment bs) n = n
 opened newline n = n
 
 -- a step of a writer that went well
-pub record Steps {F : Type 0} (blocks : F → ℕ) (step_gives : F → Step → F → Type 0) (w : F) (x : Step) (v : F) : Type 0 where
+pub record WritesStep {F : Type 0} (blocks : F → ℕ) (step_gives : F → Step → F → Type 0) (w : F) (x : Step) (v : F) : Type 0 where
   pub opens : blocks v ≡ opened x (blocks w)
   pub gives : step_gives w x v
 
 -- the steps of a list in turn, between two states with equally many open blocks
-pub record Runs {F : Type 0} (blocks : F → ℕ) (step_gives : F → Step → F → Type 0) (w : F) (xs : List Step) (v : F) : Type 0 where
+pub record WritesSteps {F : Type 0} (blocks : F → ℕ) (step_gives : F → Step → F → Type 0) (w : F) (xs : List Step) (v : F) : Type 0 where
   pub level : blocks v ≡ blocks w
   pub steps : FoldsTo step_gives w xs v
 

@@ -1,8 +1,8 @@
 //! Lists of tokens, block marks, comments and line ends, and which of them are documents.
 ghost use Rattle.std.specs.Prelude.{◌≡◌, ℕ, ◌<◌, List, [], ◌∷◌, Some, IsTrue, IfNone, IfSome, IfOk, IfErr, IsOk, OnOk, length, ◌↔◌};
 ghost use Rattle.dns_zone.specs.Layout.{Step, token, begin, end, comment, newline, depth};
-ghost use Rattle.dns_zone.specs.Documents.{step_of, steps_of, IsComment, IsProper, IsFault, IsFirstFault, IsWellFormed};
-ghost use Rattle.dns_zone.specs.Writers.{Steps, opened};
+ghost use Rattle.dns_zone.specs.Documents.{item_step, item_steps, IsCommentText, IsProper, IsDocumentFault, IsFirstFault, IsWellFormed};
+ghost use Rattle.dns_zone.specs.Writers.{WritesStep, opened};
 
 pub use crate::error::DocumentError;
 use crate::tokens::ZoneTokens;
@@ -28,17 +28,17 @@ pub enum Item<A: Allocator = Global> {
 
 /// Whether a text can be a comment: it has no LF and no CR.
 fn is_comment(text: &str) -> bool
-    ensures { IsTrue result ↔ IsComment text.now }
+    ensures { IsTrue result ↔ IsCommentText text.now }
 {
     text.chars().all(|c| !(c == '\n' || c == '\r'))
 }
 
 /// What is wrong with the item at a place, where `blocks` blocks are open before it.
 fn fault<A: Allocator>(item: &Item<A>, place: usize, blocks: usize) -> Option<DocumentError>
-    ensures proper { IfNone result (IsProper (step_of item.now)) }
-    ensures end { IfNone result (step_of item.now ≡ end → 0 < blocks) }
-    ensures newline { IfNone result (step_of item.now ≡ newline → blocks ≡ 0) }
-    ensures fault { IfSome result (λ e. (past : List Step) → length past ≡ place → depth past ≡ blocks → IsFault past (step_of item.now) e) }
+    ensures proper { IfNone result (IsProper (item_step item.now)) }
+    ensures end { IfNone result (item_step item.now ≡ end → 0 < blocks) }
+    ensures newline { IfNone result (item_step item.now ≡ newline → blocks ≡ 0) }
+    ensures fault { IfSome result (λ e. (past : List Step) → length past ≡ place → depth past ≡ blocks → IsDocumentFault past (item_step item.now) e) }
 {
     match item {
         Item::Token(text) if !is_token(text.as_str()) => Some(DocumentError::BadToken(place)),
@@ -51,9 +51,9 @@ fn fault<A: Allocator>(item: &Item<A>, place: usize, blocks: usize) -> Option<Do
 
 /// Prints an item.
 fn write_item<F: FormatWriter, A: Allocator>(p: &mut F, item: &Item<A>) -> Result
-    requires end { step_of item.now ≡ end → 0 < F.blocks p.old }
-    requires newline { step_of item.now ≡ newline → F.blocks p.old ≡ 0 }
-    ensures { OnOk result (Steps F.blocks F.step_gives p.old (step_of item.now) p.new) }
+    requires end { item_step item.now ≡ end → 0 < F.blocks p.old }
+    requires newline { item_step item.now ≡ newline → F.blocks p.old ≡ 0 }
+    ensures { OnOk result (WritesStep F.blocks F.step_gives p.old (item_step item.now) p.new) }
 {
     match item {
         Item::Token(text) => p.write_token(text.as_str()),
@@ -67,8 +67,8 @@ fn write_item<F: FormatWriter, A: Allocator>(p: &mut F, item: &Item<A>) -> Resul
 /// The open blocks after an item, from those before it.
 fn blocks_after<A: Allocator>(item: &Item<A>, blocks: usize) -> usize
     requires begin { blocks < usize.MAX }
-    requires end { step_of item.now ≡ end → 0 < blocks }
-    ensures { result ≡ opened (step_of item.now) blocks }
+    requires end { item_step item.now ≡ end → 0 < blocks }
+    ensures { result ≡ opened (item_step item.now) blocks }
 {
     match item {
         Item::Begin => blocks + 1,
@@ -79,8 +79,8 @@ fn blocks_after<A: Allocator>(item: &Item<A>, blocks: usize) -> usize
 
 /// What is wrong first with a list of items.
 pub(crate) fn first_fault<A: Allocator>(items: &[Item<A>]) -> Option<DocumentError>
-    ensures fine { IfNone result (IsWellFormed (steps_of items.now)) }
-    ensures fault { IfSome result (λ e. IsFirstFault [] (steps_of items.now) e) }
+    ensures fine { IfNone result (IsWellFormed (item_steps items.now)) }
+    ensures fault { IfSome result (λ e. IsFirstFault [] (item_steps items.now) e) }
 {
     let mut blocks: usize = 0;
     for (place, item) in items.iter().enumerate() {
@@ -101,7 +101,7 @@ pub(crate) fn first_fault<A: Allocator>(items: &[Item<A>]) -> Option<DocumentErr
 #[derive(Debug, Drop)]
 pub struct Document<A: Allocator = Global> {
     pub(crate) items: Vec<Item<A>, A>,
-    ghost well_formed: { ∥ IsWellFormed (steps_of items.items) ∥₁ },
+    ghost well_formed: { ∥ IsWellFormed (item_steps items.items) ∥₁ },
 }
 
 impl<A: Allocator> Document<A> {
@@ -112,9 +112,9 @@ impl<A: Allocator> Document<A> {
     pub fn from_items(
         items: Vec<Item<A>, A>,
     ) -> std::result::Result<Document<A>, (DocumentError, Vec<Item<A>, A>)>
-        ensures ok { IfOk result (λ d. document_steps d ≡ steps_of items.items) }
-        ensures accepts { IsOk result ↔ IsWellFormed (steps_of items.items) }
-        ensures err { IfErr result (λ e. IsFirstFault [] (steps_of items.items) e.0 × (e.1 ≡ items)) }
+        ensures ok { IfOk result (λ d. document_steps d ≡ item_steps items.items) }
+        ensures accepts { IsOk result ↔ IsWellFormed (item_steps items.items) }
+        ensures err { IfErr result (λ e. IsFirstFault [] (item_steps items.items) e.0 × (e.1 ≡ items)) }
     {
         match first_fault(&items) {
             Some(error) => Err((error, items)),

@@ -2,7 +2,7 @@
 //! Each function's contract is the law; calling one does nothing of use.
 ghost use Rattle.std.specs.Prelude.{◌≡◌, ◌≤◌, ◌↔◌, List, []};
 ghost use Rattle.dns_zone.specs.Layout.{Step, line_width};
-ghost use Rattle.dns_zone.specs.Documents.{steps_of, IsFirstFault, IsWellFormed};
+ghost use Rattle.dns_zone.specs.Documents.{item_steps, IsFirstFault, IsWellFormed};
 ghost use Rattle.dns_zone.specs.DocumentSteps.{document_steps};
 ghost use Rattle.dns_zone.specs.Multiline.{MultilineStands};
 
@@ -19,7 +19,7 @@ pub fn documents_are_well_formed(document: &Document)
 
 /// A list of items is well-formed exactly if it has no first fault.
 pub fn well_formed_without_fault(items: &[Item])
-    ensures { IsWellFormed (steps_of items.now) ↔ ((e : DocumentError) → ¬ IsFirstFault [] (steps_of items.now) e) }
+    ensures { IsWellFormed (item_steps items.now) ↔ ((e : DocumentError) → ¬ IsFirstFault [] (item_steps items.now) e) }
 {
     let _fault = first_fault(items);
 }

@@ -3,7 +3,7 @@ ghost use Rattle.std.specs.Prelude.{◌≡◌, ◌<◌, ℕ, List, [], ◌∷◌
 ghost use Rattle.dns_zone.specs.Layout.{Step, token, begin, end, comment, newline};
 ghost use Rattle.dns_zone.specs.Displayed.{displayed_value, displayed_kind};
 ghost use Rattle.dns_zone.specs.Nesting.{Fits, IsNested};
-ghost use Rattle.dns_zone.specs.Writers.{Steps, Runs};
+ghost use Rattle.dns_zone.specs.Writers.{WritesStep, WritesSteps};
 
 mod display;
 mod multiline;
@@ -65,7 +65,7 @@ pub trait ZonefileFmt {
     /// line end.
     fn fmt<F: FormatWriter>(&self, p: &mut F) -> Result
         requires { Fits (document self.now) (F.blocks p.old) }
-        ensures { OnOk result (Runs F.blocks F.step_gives p.old (document self.now) p.new) };
+        ensures { OnOk result (WritesSteps F.blocks F.step_gives p.old (document self.now) p.new) };
 
     /// The value as a `Display`, whose text is its document in the given layout.
     fn display_zonefile(&self, kind: DisplayKind) -> ZoneFileDisplay<'_, Self>
@@ -113,13 +113,13 @@ pub trait FormatWriter: Sized {
 
     /// Opens a block.
     fn begin_block(&mut self) -> Result
-        ensures gives { OnOk result (Steps blocks step_gives self.old begin self.new) }
+        ensures gives { OnOk result (WritesStep blocks step_gives self.old begin self.new) }
         ensures fails { OnErr result (step_fails self.old begin) };
 
     /// Closes the block that was opened last. A block is open.
     fn end_block(&mut self) -> Result
         requires { 0 < blocks self.old }
-        ensures gives { OnOk result (Steps blocks step_gives self.old end self.new) }
+        ensures gives { OnOk result (WritesStep blocks step_gives self.old end self.new) }
         ensures fails { OnErr result (step_fails self.old end) };
 
     /// Prints a comment, where the layout shows it.
@@ -131,7 +131,7 @@ pub trait FormatWriter: Sized {
     /// Ends the line. No block is open.
     fn newline(&mut self) -> Result
         requires { blocks self.old ≡ 0 }
-        ensures gives { OnOk result (Steps blocks step_gives self.old newline self.new) }
+        ensures gives { OnOk result (WritesStep blocks step_gives self.old newline self.new) }
         ensures fails { OnErr result (step_fails self.old newline) };
 
     /// The number of open blocks.
@@ -144,7 +144,7 @@ pub trait Formatter: FormatWriter {
     /// Prints a value's document in a block of its own. The document has no line end.
     fn block<T: ZonefileFmt + Drop>(&mut self, item: T) -> Result
         requires { Fits (T.document item) 1 }
-        ensures { OnOk result (Runs Self.blocks Self.step_gives self.old (begin ∷ (T.document item ++ end ∷ [])) self.new) }
+        ensures { OnOk result (WritesSteps Self.blocks Self.step_gives self.old (begin ∷ (T.document item ++ end ∷ [])) self.new) }
     {
         self.begin_block()?;
         self.write_show(item)?;
@@ -163,7 +163,7 @@ pub trait Formatter: FormatWriter {
     /// Prints a value's document. On a writer with an open block it has no line end.
     fn write_show<T: ZonefileFmt + Drop>(&mut self, item: T) -> Result
         requires { Fits (T.document item) (Self.blocks self.old) }
-        ensures { OnOk result (Runs Self.blocks Self.step_gives self.old (T.document item) self.new) }
+        ensures { OnOk result (WritesSteps Self.blocks Self.step_gives self.old (T.document item) self.new) }
     {
         item.fmt(self)
     }

@@ -6,7 +6,7 @@ use Rattle.std.specs.Io.KnownBytes.{Appends, Keeps}
 use Rattle.std.proofs.lemmas.Fmt.{contents_after_writes}
 use Rattle.dnstext_lib.specs.Program.{refusal_line}
 use Rattle.dnstext_lib.specs.Run.{IsUnknownCommand, RunPrinted, RunRefused}
-use Rattle.dnstext.specs.Streams.{Grows, Printed, Refused, Ran}
+use Rattle.dnstext.specs.Streams.{StreamGrows, Printed, Refused, Ran}
 use Rattle.dnstext.specs.declared.streams.TextSink.{TextSink}
 
 -- bytes that are kept
@@ -33,19 +33,19 @@ by_status (suc (suc (suc (suc n)))) h a b c d = absurd (omega arith)
 -- name is the loan that a sink writes to, held the bytes there, and p those after the run
 module _ {S N : Type 0} (took : S → List ℕ → S → Type 0) (name : S → N) (held : S → Option (List ℕ))
     (stays : (s : S) (bytes : List ℕ) (t : S) → took s bytes t → name t ≡ name s)
-    (grows : (s : S) (bytes : List ℕ) (t : S) → took s bytes t → Grows (held s) bytes (held t)) where
+    (grows : (s : S) (bytes : List ℕ) (t : S) → took s bytes t → StreamGrows (held s) bytes (held t)) where
   folds_stay : (s : S) (parts : List (List ℕ)) (t : S) → FoldsTo took s parts t → name t ≡ name s
   folds_stay s [] t same = ap name (sym same)
   folds_stay s (x ∷ xs) t calls = folds_stay calls.0 xs t calls.2 ∙ stays s x calls.0 calls.1
 
-  folds_grow : (s : S) (parts : List (List ℕ)) (t : S) → FoldsTo took s parts t → FoldsTo Grows (held s) parts (held t)
+  folds_grow : (s : S) (parts : List (List ℕ)) (t : S) → FoldsTo took s parts t → FoldsTo StreamGrows (held s) parts (held t)
   folds_grow s [] t same = ap held same
   folds_grow s (x ∷ xs) t calls = (held calls.0, grows s x calls.0 calls.1, folds_grow calls.0 xs t calls.2)
 
   calls_stay : (s : S) (bytes : List ℕ) (t : S) → WritesInCalls took s bytes t → name t ≡ name s
   calls_stay s bytes t calls = folds_stay s calls.parts t calls.calls
 
-  calls_grow : (s : S) (bytes : List ℕ) (t : S) → WritesInCalls took s bytes t → WritesInCalls Grows (held s) bytes (held t)
+  calls_grow : (s : S) (bytes : List ℕ) (t : S) → WritesInCalls took s bytes t → WritesInCalls StreamGrows (held s) bytes (held t)
   calls_grow s bytes t calls = record { parts = calls.parts; calls = folds_grow s calls.parts t calls.calls; whole = calls.whole }
 
   pub printed_held : (words : List (List ℕ)) (s t : S) (p : Option (List ℕ)) → (name t ≡ name s → Keeps (held t) p) → RunPrinted took words s t → Printed words (held s) p

@@ -5,16 +5,16 @@ use Rattle.dnstext_lib.specs.Program.{refusal_line}
 use Rattle.dnstext_lib.specs.Run.{RunPrinted, RunRefused}
 
 -- the known bytes of a stream grow by these
-abbrev pub Grows : Option (List ℕ) → List ℕ → Option (List ℕ) → Type 0
-Grows o bytes p = Appends o p bytes
+abbrev pub StreamGrows : Option (List ℕ) → List ℕ → Option (List ℕ) → Type 0
+StreamGrows o bytes p = Appends o p bytes
 
 -- what the words ask for was printed on a stream, which kept it
 abbrev pub Printed : List (List ℕ) → Option (List ℕ) → Option (List ℕ) → Type 0
-Printed words o p = (q : Option (List ℕ)) × RunPrinted Grows words o q × Keeps q p
+Printed words o p = (q : Option (List ℕ)) × RunPrinted StreamGrows words o q × Keeps q p
 
 -- it was refused for that reason, and the stream kept what was printed before
 abbrev pub Refused : List (List ℕ) → Option (List ℕ) → Option (List ℕ) → List ℕ → Type 0
-Refused words o p reason = (q : Option (List ℕ)) × RunRefused Grows words o q reason × Keeps q p
+Refused words o p reason = (q : Option (List ℕ)) × RunRefused StreamGrows words o q reason × Keeps q p
 
 -- it was printed, which has no line on standard error, or refused, which has this line
 abbrev pub Ran : List (List ℕ) → Option (List ℕ) → Option (List ℕ) → List ℕ → Type 0

@@ -7,7 +7,7 @@ use std::io::{BufWriter, ErrorKind};
 use std::process::ExitCode;
 use std::{env, io};
 
-/// Runs the program on its arguments, and answers the exit status. The only error is lack of
+/// Runs the program on its arguments, and returns the exit status. The only error is lack of
 /// memory.
 fn run_arguments(rt: &HostRuntime) -> io::Result<u8> {
     let alloc = rt.alloc();

@@ -1,7 +1,7 @@
 //! The program over streams of bytes.
 ghost use Rattle.std.specs.Prelude.{◌≡◌, ◌⊎◌, ◌≤◌, ℕ, List, []};
 ghost use Rattle.std.specs.Io.KnownBytes.{Appends, Keeps};
-ghost use Rattle.dnstext_lib.specs.Program.{refusal_line, usage_line, texts};
+ghost use Rattle.dnstext_lib.specs.Program.{refusal_line, usage_line, bytes_of_words};
 ghost use Rattle.dnstext_lib.specs.Run.{IsUnknownCommand};
 ghost use Rattle.dnstext.specs.Streams.{Printed, Ran, Told};
 
@@ -49,7 +49,7 @@ impl<W: Write> TextSink<'_, W> {
     }
 }
 
-/// Writes the line of a refusal, and answers the exit status.
+/// Writes the line of a refusal, and returns the exit status.
 pub fn refuse<E: Write>(err: &mut E, reason: &str) -> u8
     ensures status { (result ≡ 1) ⊎ (result ≡ 3) }
     ensures wrote { result ≡ 1 → Appends (E.contents err.old) (E.contents err.new) (refusal_line reason.now) }
@@ -60,7 +60,7 @@ pub fn refuse<E: Write>(err: &mut E, reason: &str) -> u8
     }
 }
 
-/// Writes the usage, and answers the exit status.
+/// Writes the usage, and returns the exit status.
 pub fn refuse_usage<E: Write>(err: &mut E) -> u8
     ensures status { (result ≡ 2) ⊎ (result ≡ 3) }
     ensures wrote { result ≡ 2 → Appends (E.contents err.old) (E.contents err.new) usage_line }
@@ -71,7 +71,7 @@ pub fn refuse_usage<E: Write>(err: &mut E) -> u8
     }
 }
 
-/// Runs the program on the words after its name, and answers its exit status.
+/// Runs the program on the words after its name, and returns its exit status.
 ///
 /// What is printed goes to `out` as it is made, and `out` is flushed before anything is written to
 /// `err`. Where `out` refuses, also at its end, the status is 1 and the one line on `err` is
@@ -82,13 +82,13 @@ pub fn run<A: Allocator + Copy, O: Write, E: Write>(
     out: &mut O,
     err: &mut E,
 ) -> u8
-    ensures printed { result ≡ 0 → Printed (texts words.now) (O.contents out.old) (O.contents out.new) × Keeps (E.contents err.old) (E.contents err.new) }
-    ensures refused { result ≡ 1 → (reason : List ℕ) × Told (texts words.now) (O.contents out.old) (O.contents out.new) reason
+    ensures printed { result ≡ 0 → Printed (bytes_of_words words.now) (O.contents out.old) (O.contents out.new) × Keeps (E.contents err.old) (E.contents err.new) }
+    ensures refused { result ≡ 1 → (reason : List ℕ) × Told (bytes_of_words words.now) (O.contents out.old) (O.contents out.new) reason
         × Appends (E.contents err.old) (E.contents err.new) (refusal_line reason) }
-    ensures usage { result ≡ 2 → IsUnknownCommand (texts words.now) × Keeps (O.contents out.old) (O.contents out.new)
+    ensures usage { result ≡ 2 → IsUnknownCommand (bytes_of_words words.now) × Keeps (O.contents out.old) (O.contents out.new)
         × Appends (E.contents err.old) (E.contents err.new) usage_line }
-    ensures silent { result ≡ 3 → (IsUnknownCommand (texts words.now) × Keeps (O.contents out.old) (O.contents out.new))
-        ⊎ ((line : List ℕ) × Ran (texts words.now) (O.contents out.old) (O.contents out.new) line) }
+    ensures silent { result ≡ 3 → (IsUnknownCommand (bytes_of_words words.now) × Keeps (O.contents out.old) (O.contents out.new))
+        ⊎ ((line : List ℕ) × Ran (bytes_of_words words.now) (O.contents out.old) (O.contents out.new) line) }
     ensures status { result ≤ 3 }
 {
     let mut line = ArrayString::<LINE_LENGTH>::new();

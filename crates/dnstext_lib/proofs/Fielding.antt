@@ -14,7 +14,7 @@ use Rattle.dns_scan.proofs.Answered.{builds_read, all_given_in}
 use Rattle.dns_entry.specs.Field.{Content, content_of, contents_of, number, text_octets}
 use Rattle.dns_entry.specs.declared.entry.Field.{Field}
 use Rattle.dns_entry.specs.Codecs.{Codec, ConvertsTo, OctetsRefused}
-use Rattle.dnstext_lib.specs.EntryLine.{asked_of, FieldsRun, Holds, NoField}
+use Rattle.dnstext_lib.specs.EntryLine.{asked_of, FieldsRun, FieldHolds, NoField}
 use Rattle.dnstext_lib.specs.Program.{Stops}
 use Rattle.dns_entry.specs.declared.entry.FieldKind.TheVariants.{Text}
 use Rattle.dnstext_lib.specs.declared.line.FieldWord.{FieldWord}
@@ -34,7 +34,7 @@ octets_stop codec token why (inr h) = inr h.0
 
 -- a character string that was scanned
 pub text_held : {E : Type 0} (cause : E → Cause) (room : Room) (t : Token) (s : List ℕ)
-    → Builds cause (GivesStep cause (within 255 room) octet_given) (λ s. s) t (Ok s) → Holds Text t (text_octets s)
+    → Builds cause (GivesStep cause (within 255 room) octet_given) (λ s. s) t (Ok s) → FieldHolds Text t (text_octets s)
 text_held cause room t s h =
     let read = builds_read cause octet_given (within 255 room) (λ s. s) t (Ok s) h in (
       read.0,
@@ -49,7 +49,7 @@ abbrev pub FieldsLeft : List FieldWord → ℕ → List Content → Type 0
 FieldsLeft words i made = (more : List Content) (refusal : Option Cause) → FieldsRun (map asked_of (drop i words)) more refusal → FieldsRun (map asked_of words) (made ++ more) refusal
 
 pub fields_more : {A : Type 0} (words : List FieldWord) (i : ℕ) (w : FieldWord) (fields longer : List (Field A)) (field : Field A) → drop i words ≡ w ∷ drop (i + 1) words
-    → Holds w.kind w.text.now (content_of field)
+    → FieldHolds w.kind w.text.now (content_of field)
     → longer ≡ fields ++ field ∷ [] → FieldsLeft words i (contents_of fields) → FieldsLeft words (i + 1) (contents_of longer)
 fields_more words i w fields longer field at holds is left = λ more refusal run.
     subst (λ l. FieldsRun (map asked_of words) l refusal) (sym

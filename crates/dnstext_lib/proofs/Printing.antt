@@ -1,6 +1,8 @@
 -- What the program prints of tokens.
 use Rattle.std.proofs.Common.{ℕ, zero, suc, ◌+◌, ◌≡◌, ◌<◌, ◌≤◌, ◌∙◌, List, [], ◌∷◌, ◌++◌, length, drop, add-one, arith, refl, sym, subst, ap, inl, inr, ⊎_elim, None, Result, Ok, Err}
-use Rattle.std.specs.Prelude.{Vec, encode_utf8_all}
+use Rattle.std.specs.Prelude.{Vec, MatchResult, encode_utf8_all}
+use Rattle.dns_codec.specs.Base.{base16, encoded}
+use Rattle.dns_symbol.specs.Characters.{line_feed}
 use Rattle.std.specs.Fmt.{WritesInCalls, decimal}
 use Rattle.std.proofs.Output.{writes_in_calls_append, writes_in_calls_nil}
 use Rattle.dns_octets.specs.Room.{Room, of_memory, within}
@@ -27,7 +29,7 @@ use Rattle.dnstext_lib.specs.declared.program.Stop.{Stop}
 use Rattle.dnstext_lib.specs.declared.program.Stop.TheVariants.{Refused, WriteFailed}
 use Rattle.dns_iter.specs.Name.{AnswersName, ReadsNames, ReadsToken, invalid_name}
 use Rattle.dns_scan.specs.Numbers.{by_cause}
-use Rattle.dnstext_lib.specs.Program.{Stops, StringPrints, StringRefused, NumberPrints, NumberRefused, NamePrints, LineWritten, LinesWritten}
+use Rattle.dnstext_lib.specs.Program.{Stops, StringPrints, StringRefused, NumberPrints, NumberRefused, NamePrints, LineBy, LineWritten, LinesWritten, OctetsLine}
 
 -- what a text reads as, over octets of another type: a name is its labels
 abbrev recast : {O : Type 0} (P : Type 0) → Result (UncertainName O) FromStrError → Result (UncertainName P) FromStrError
@@ -149,3 +151,14 @@ drop_all [] zero h = refl
 drop_all [] (suc i) h = refl
 drop_all (x ∷ xs) zero h = absurd (omega arith)
 drop_all (x ∷ xs) (suc i) h = drop_all xs i (omega arith)
+
+-- a line of what a token prints as, where the line is written or the sink refused
+pub line_by : {E O : Type 0} (cause : E → Cause) (took : O → List ℕ → O → Type 0) (prints : Token → List ℕ → Type 0) (refused : Token → Cause → Type 0) (token : Token) (text : List ℕ) (o p : O)
+    (r : Result (Unit {0}) (Stop E)) → prints token text → MatchResult r (λ _. WritesInCalls took o (text ++ line_feed ∷ []) p) (λ stop. stop ≡ WriteFailed) → LineBy cause took prints refused token o r p
+line_by cause took prints refused token text o p (Ok u) has line = (text, has, line)
+line_by cause took prints refused token text o p (Err stop) has is = subst (λ s. LineBy cause took prints refused token o (Err s) p) (sym is) (text, has)
+
+pub octets_line : {E O : Type 0} (took : O → List ℕ → O → Type 0) (run : Result (List ℕ) E → Type 0) (octets : List ℕ) (o p : O) (r : Result (Unit {0}) (Stop E))
+    → run (Ok octets) → MatchResult r (λ _. WritesInCalls took o (encoded base16 octets ++ line_feed ∷ []) p) (λ stop. stop ≡ WriteFailed) → OctetsLine took run o r p
+octets_line took run octets o p (Ok u) has line = (octets, has, line)
+octets_line took run octets o p (Err stop) has is = subst (λ s. OctetsLine took run o (Err s) p) (sym is) (octets, has)

@@ -14,7 +14,7 @@ use Rattle.dns_zone.specs.Printed.{printed}
 use Rattle.dns_zone.specs.declared.zonefile_fmt.DisplayKind.{DisplayKind}
 use Rattle.dns_entry.specs.Field.{Content, number, hex_octets, base64_octets, text_octets}
 use Rattle.dns_entry.specs.Line.{IsFirstEmpty, IsLine, line_document}
-use Rattle.dns_entry.specs.EntryError.{place_of, error_text}
+use Rattle.dns_entry.specs.EntryError.{error_place, entry_error_text}
 use Rattle.dns_entry.specs.declared.error.EntryError.{EntryError}
 use Rattle.dns_entry.specs.Codecs.{ConvertsTo, hex_codec, base64_codec}
 use Rattle.dnstext_lib.specs.Print.{layout_name, NoMemory}
@@ -54,11 +54,11 @@ abbrev pub IsLineCommand : List (List ℕ) → DisplayKind → List (List ℕ) �
 IsLineCommand words kind fields = words ≡ codes "line" ∷ layout_name kind ∷ fields
 
 -- the token is what a field of that kind holds
-abbrev pub Holds : FieldKind → Token → Content → Type 0
-Holds Number token c = (symbols : List Symbol) × SymbolsOf token symbols None × ((v : ℕ) × IsNumber (greatest 32) symbols v × (c ≡ number v))
-Holds Hex token c = (octets : List ℕ) × ConvertsTo hex_codec token (Ok octets) × (c ≡ hex_octets octets)
-Holds Base64 token c = (octets : List ℕ) × ConvertsTo base64_codec token (Ok octets) × (c ≡ base64_octets octets)
-Holds Text token c = (symbols : List Symbol) × SymbolsOf token symbols None × ((octets : List ℕ) × AllGiven octet_given (exactly 255) symbols None octets × (c ≡ text_octets octets))
+abbrev pub FieldHolds : FieldKind → Token → Content → Type 0
+FieldHolds Number token c = (symbols : List Symbol) × SymbolsOf token symbols None × ((v : ℕ) × IsNumber (greatest 32) symbols v × (c ≡ number v))
+FieldHolds Hex token c = (octets : List ℕ) × ConvertsTo hex_codec token (Ok octets) × (c ≡ hex_octets octets)
+FieldHolds Base64 token c = (octets : List ℕ) × ConvertsTo base64_codec token (Ok octets) × (c ≡ base64_octets octets)
+FieldHolds Text token c = (symbols : List Symbol) × SymbolsOf token symbols None × ((octets : List ℕ) × AllGiven octet_given (exactly 255) symbols None octets × (c ≡ text_octets octets))
 
 -- the token is no such thing, or no memory was found for it, and that is the refusal
 abbrev pub NoField : FieldKind → Token → Cause → Type 0
@@ -71,7 +71,7 @@ NoField Text = IsRefused Charstr
 abbrev pub FieldsRun : List Asked → List Content → Option Cause → Type 0
 FieldsRun [] fields refusal = (fields ≡ []) × (refusal ≡ None)
 FieldsRun (asked ∷ more) fields refusal =
-    ((c : Content) × (others : List Content) × Holds asked.0 asked.1 c × (fields ≡ c ∷ others) × FieldsRun more others refusal)
+    ((c : Content) × (others : List Content) × FieldHolds asked.0 asked.1 c × (fields ≡ c ∷ others) × FieldsRun more others refusal)
     ⊎ ((why : Cause) × NoField asked.0 asked.1 why × (fields ≡ []) × (refusal ≡ Some why))
 
 -- why fields weren't made: a token was refused, or no memory was found for the list
@@ -88,7 +88,7 @@ LinePrinted took kind asked o p =
 abbrev pub LineRefused : {O : Type 0} → List (List ℕ) → O → O → List ℕ → Type 0
 LineRefused words o p reason =
     ((asked : List Asked) × (fields : List Content) × (why : Cause) × AsksFields words asked × FieldsRun asked fields (Some why) × (p ≡ o) × (reason ≡ cause_text why))
-    ⊎ (((asked : List Asked) × (fields : List Content) × (error : EntryError) × AsksFields words asked × FieldsRun asked fields None × IsFirstEmpty fields (place_of error) ×
-    (p ≡ o) × (reason ≡ error_text error))
+    ⊎ (((asked : List Asked) × (fields : List Content) × (error : EntryError) × AsksFields words asked × FieldsRun asked fields None × IsFirstEmpty fields (error_place error) ×
+    (p ≡ o) × (reason ≡ entry_error_text error))
     ⊎ (((asked : List Asked) × (fields : List Content) × AsksFields words asked × FieldsRun asked fields None × IsLine fields × (reason ≡ codes "write failed"))
     ⊎ NoMemory field_word words o p reason))

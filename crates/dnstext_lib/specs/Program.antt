@@ -23,8 +23,8 @@ use Rattle.dnstext_lib.specs.declared.program.Stop.{Stop}
 use Rattle.dnstext_lib.specs.declared.program.Stop.TheVariants.{Refused, WriteFailed}
 
 -- the bytes of the program's words
-abbrev pub texts : List (Bor (List ℕ)) → List (List ℕ)
-texts words = map (λ w. w.now) words
+abbrev pub bytes_of_words : List (Bor (List ℕ)) → List (List ℕ)
+bytes_of_words words = map (λ w. w.now) words
 
 -- the word for a kind
 abbrev pub kind_name : ScanKind → List ℕ

@@ -7,10 +7,10 @@ use Rattle.dns_codec.specs.Bits.{bits, joined, cut, whole}
 use Rattle.dns_codec.specs.Group.{fresh}
 use Rattle.dns_codec.specs.Base.{base16, value}
 use Rattle.dns_symbol.specs.Cause.{custom_text}
-use Rattle.dns_entry.specs.Codecs.{converted, made_of, hex_codec, base32hex_codec, IsEncoding}
+use Rattle.dns_entry.specs.Codecs.{converted_symbols, made_of, hex_codec, base32hex_codec, IsEncodingOf}
 
 -- a simple escape counts as its character, and letter case doesn't matter
-escaped : IsEncoding base16 (codes "Ca\\FE") (202 ∷ 254 ∷ [])
+escaped : IsEncodingOf base16 (codes "Ca\\FE") (202 ∷ 254 ∷ [])
 unfolding bits joined cut whole value encode_utf8
 escaped = record {
   symbols = Char 67 ∷ Char 97 ∷ SimpleEscape 70 ∷ Char 69 ∷ [];
@@ -21,7 +21,7 @@ escaped = record {
 }
 
 -- a decimal escape has no character
-no_character : converted hex_codec (fresh, false) [] (Char 67 ∷ Char 65 ∷ DecimalEscape 70 ∷ []) None ≡ Err (custom_text (codes "expected hex digits"))
+no_character : converted_symbols hex_codec (fresh, false) [] (Char 67 ∷ Char 65 ∷ DecimalEscape 70 ∷ []) None ≡ Err (custom_text (codes "expected hex digits"))
 unfolding bits joined cut whole value
 no_character = refl
 

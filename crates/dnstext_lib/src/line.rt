@@ -2,9 +2,9 @@
 ghost use Rattle.std.specs.Prelude.{◌≡◌, ◌⊎◌, ◌≤◌, ℕ, List, Err, IfOk, MatchOption, MatchResult, map, None};
 ghost use Rattle.std.specs.Fmt.{WritesInCalls};
 ghost use Rattle.dns_entry.specs.Field.{content_of, contents_of};
-ghost use Rattle.dnstext_lib.specs.EntryLine.{Asked, asked_of, field_word, AsksFields, FieldsRun, FieldsUnmade, Holds, LinePrinted, LineRefused, NoField};
+ghost use Rattle.dnstext_lib.specs.EntryLine.{Asked, asked_of, field_word, AsksFields, FieldsRun, FieldsUnmade, FieldHolds, LinePrinted, LineRefused, NoField};
 ghost use Rattle.dnstext_lib.specs.Print.{BeginsBy};
-ghost use Rattle.dnstext_lib.specs.Program.{refusal_line, usage_line, texts};
+ghost use Rattle.dnstext_lib.specs.Program.{refusal_line, usage_line, bytes_of_words};
 ghost use Rattle.dns_scan.specs.StrError.{str_cause};
 
 use crate::print::Unread;
@@ -68,9 +68,9 @@ fn read_fields<'a, A: Allocator>(
     alloc: A,
     words: &[&'a str],
 ) -> Result<Vec<FieldWord<'a>, A>, Unread>
-    ensures found { IfOk result (λ found. AsksFields (texts words.now) (map asked_of found.items)) }
-    ensures unknown { result ≡ Err Unread.UnknownItem → (asked : List Asked) → AsksFields (texts words.now) asked → ⊥ }
-    ensures memory { result ≡ Err Unread.NoMemory → BeginsBy field_word (texts words.now) }
+    ensures found { IfOk result (λ found. AsksFields (bytes_of_words words.now) (map asked_of found.items)) }
+    ensures unknown { result ≡ Err Unread.UnknownItem → (asked : List Asked) → AsksFields (bytes_of_words words.now) asked → ⊥ }
+    ensures memory { result ≡ Err Unread.NoMemory → BeginsBy field_word (bytes_of_words words.now) }
 {
     let mut found = Vec::new(alloc);
     for word in words {
@@ -90,7 +90,7 @@ fn make_field<A: Allocator + Copy>(
     kind: FieldKind,
     text: &str,
 ) -> Result<Field<A>, StrError>
-    ensures { MatchResult result (λ field. Holds kind text.now (content_of field)) (λ e. NoField kind text.now (str_cause e)) }
+    ensures { MatchResult result (λ field. FieldHolds kind text.now (content_of field)) (λ e. NoField kind text.now (str_cause e)) }
 {
     let mut scanner: IterScanner<_, Vec<u8, A>> = IterScanner::new(alloc, iter::once(text));
     match kind {
@@ -130,7 +130,7 @@ fn make_fields<A: Allocator + Copy>(
     Ok(fields)
 }
 
-/// Prints the line that the words ask for in a layout, with a line end, and answers the status.
+/// Prints the line that the words ask for in a layout, with a line end, and returns the status.
 ///
 /// All words are read as fields before the first is scanned. Status 0 says that all went well, and
 /// 1 that a field or the line was refused, that no memory was found, or that `out` refused; the
@@ -143,14 +143,14 @@ pub(crate) fn run_line<A: Allocator + Copy, O: fmt::Write, E: fmt::Write>(
     out: &mut O,
     err: &mut E,
 ) -> u8
-    ensures printed { result ≡ 0 → (asked : List Asked) × AsksFields (texts words.now) asked
+    ensures printed { result ≡ 0 → (asked : List Asked) × AsksFields (bytes_of_words words.now) asked
         × LinePrinted O.write_str_gives kind asked out.old out.new × (err.new ≡ err.old) }
-    ensures refused { result ≡ 1 → (reason : List ℕ) × LineRefused (texts words.now) out.old out.new reason
+    ensures refused { result ≡ 1 → (reason : List ℕ) × LineRefused (bytes_of_words words.now) out.old out.new reason
         × WritesInCalls E.write_str_gives err.old (refusal_line reason) err.new }
-    ensures usage { result ≡ 2 → ((asked : List Asked) → AsksFields (texts words.now) asked → ⊥)
+    ensures usage { result ≡ 2 → ((asked : List Asked) → AsksFields (bytes_of_words words.now) asked → ⊥)
         × (out.new ≡ out.old) × WritesInCalls E.write_str_gives err.old usage_line err.new }
-    ensures silent { result ≡ 3 → (((asked : List Asked) → AsksFields (texts words.now) asked → ⊥) × (out.new ≡ out.old))
-        ⊎ ((reason : List ℕ) × LineRefused (texts words.now) out.old out.new reason) }
+    ensures silent { result ≡ 3 → (((asked : List Asked) → AsksFields (bytes_of_words words.now) asked → ⊥) × (out.new ≡ out.old))
+        ⊎ ((reason : List ℕ) × LineRefused (bytes_of_words words.now) out.old out.new reason) }
     ensures status { result ≤ 3 }
 {
     let found = match read_fields(alloc, words) {

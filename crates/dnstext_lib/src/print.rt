@@ -2,8 +2,8 @@
 ghost use Rattle.std.specs.Prelude.{◌≡◌, ◌⊎◌, ◌≤◌, ℕ, List, Err, IfOk, MatchOption, MatchResult};
 ghost use Rattle.std.specs.Fmt.{WritesInCalls};
 ghost use Rattle.dns_zone.specs.Layout.{Step};
-ghost use Rattle.dns_zone.specs.Documents.{step_of, steps_of};
-ghost use Rattle.dnstext_lib.specs.Program.{refusal_line, usage_line, texts};
+ghost use Rattle.dns_zone.specs.Documents.{item_step, item_steps};
+ghost use Rattle.dnstext_lib.specs.Program.{refusal_line, usage_line, bytes_of_words};
 ghost use Rattle.dnstext_lib.specs.Print.{layout_name, item_word, AsksItems, BeginsBy, DocumentPrinted, DocumentRefused};
 
 use crate::program::{refuse, refuse_usage};
@@ -45,7 +45,7 @@ pub(crate) fn layout_kind(word: &str) -> Option<DisplayKind>
 /// The item that a word asks for, if there is one.
 fn read_item<A: Allocator + Copy>(alloc: A, word: &str) -> Result<Option<Item<A>>, AllocError>
     ensures { MatchResult result
-        (λ found. MatchOption found ((x : Step) → word.now ≡ item_word x → ⊥) (λ item. word.now ≡ item_word (step_of item)))
+        (λ found. MatchOption found ((x : Step) → word.now ≡ item_word x → ⊥) (λ item. word.now ≡ item_word (item_step item)))
         (λ _. (x : Step) × (word.now ≡ item_word x)) }
 {
     let item = match word {
@@ -67,9 +67,9 @@ fn read_item<A: Allocator + Copy>(alloc: A, word: &str) -> Result<Option<Item<A>
 
 /// The items that words ask for.
 fn read_items<A: Allocator + Copy>(alloc: A, words: &[&str]) -> Result<Vec<Item<A>, A>, Unread>
-    ensures items { IfOk result (λ items. AsksItems (texts words.now) (steps_of items.items)) }
-    ensures unknown { result ≡ Err Unread.UnknownItem → (steps : List Step) → AsksItems (texts words.now) steps → ⊥ }
-    ensures memory { result ≡ Err Unread.NoMemory → BeginsBy item_word (texts words.now) }
+    ensures items { IfOk result (λ items. AsksItems (bytes_of_words words.now) (item_steps items.items)) }
+    ensures unknown { result ≡ Err Unread.UnknownItem → (steps : List Step) → AsksItems (bytes_of_words words.now) steps → ⊥ }
+    ensures memory { result ≡ Err Unread.NoMemory → BeginsBy item_word (bytes_of_words words.now) }
 {
     let mut items = Vec::new(alloc);
     for word in words {
@@ -83,7 +83,7 @@ fn read_items<A: Allocator + Copy>(alloc: A, words: &[&str]) -> Result<Vec<Item<
     Ok(items)
 }
 
-/// Prints the document that the words ask for in a layout, with a line end, and answers the exit
+/// Prints the document that the words ask for in a layout, with a line end, and returns the exit
 /// status.
 ///
 /// Status 0 says that all went well, and 1 that the items are no document, that no memory was
@@ -96,14 +96,14 @@ pub(crate) fn run_print<A: Allocator + Copy, O: fmt::Write, E: fmt::Write>(
     out: &mut O,
     err: &mut E,
 ) -> u8
-    ensures printed { result ≡ 0 → (steps : List Step) × AsksItems (texts words.now) steps
+    ensures printed { result ≡ 0 → (steps : List Step) × AsksItems (bytes_of_words words.now) steps
         × DocumentPrinted O.write_str_gives kind steps out.old out.new × (err.new ≡ err.old) }
-    ensures refused { result ≡ 1 → (reason : List ℕ) × DocumentRefused (texts words.now) out.old out.new reason
+    ensures refused { result ≡ 1 → (reason : List ℕ) × DocumentRefused (bytes_of_words words.now) out.old out.new reason
         × WritesInCalls E.write_str_gives err.old (refusal_line reason) err.new }
-    ensures usage { result ≡ 2 → ((steps : List Step) → AsksItems (texts words.now) steps → ⊥)
+    ensures usage { result ≡ 2 → ((steps : List Step) → AsksItems (bytes_of_words words.now) steps → ⊥)
         × (out.new ≡ out.old) × WritesInCalls E.write_str_gives err.old usage_line err.new }
-    ensures silent { result ≡ 3 → (((steps : List Step) → AsksItems (texts words.now) steps → ⊥) × (out.new ≡ out.old))
-        ⊎ ((reason : List ℕ) × DocumentRefused (texts words.now) out.old out.new reason) }
+    ensures silent { result ≡ 3 → (((steps : List Step) → AsksItems (bytes_of_words words.now) steps → ⊥) × (out.new ≡ out.old))
+        ⊎ ((reason : List ℕ) × DocumentRefused (bytes_of_words words.now) out.old out.new reason) }
     ensures status { result ≤ 3 }
 {
     let items = match read_items(alloc, words) {

@@ -1,11 +1,13 @@
 //! The program `dnstext`, over its words.
 ghost use Rattle.std.specs.Prelude.{◌≡◌, ◌⊎◌, ℕ, List, [], ◌∷◌, ◌++◌, Ok, Err, Option, MatchOption, MatchResult, IsTrue, ◌↔◌, codes, map, IfOk, IfSome, drop, ◌≤◌};
 ghost use Rattle.std.specs.Fmt.{WritesInCalls};
+ghost use Rattle.dns_symbol.specs.Characters.{line_feed};
 ghost use Rattle.dns_scan.specs.Entries.{Converts, ConvertToken};
 ghost use Rattle.dns_scan.specs.Stands.{HasTokens};
 ghost use Rattle.dns_scan.specs.Tokens.{Token};
 ghost use Rattle.dns_iter.specs.Name.{ReadsNames};
-ghost use Rattle.dnstext_lib.specs.Program.{kind_name, LineBy, LineWritten, LinesWritten, OctetsLine, NumberPrints, NumberRefused, ScanPrinted, ScanRefused, refusal_line, usage_line, texts};
+ghost use Rattle.dnstext_lib.specs.Program.{kind_name, LineBy, LineWritten, LinesWritten, OctetsLine, NumberPrints, NumberRefused, ScanPrinted, ScanRefused, refusal_line, usage_line, bytes_of_words};
+ghost use Rattle.dnstext_lib.specs.declared.program.Stop.TheVariants.{WriteFailed};
 ghost use Rattle.dnstext_lib.specs.Run.{IsUnknownCommand, RunPrinted, RunRefused};
 
 use crate::line::run_line;
@@ -89,6 +91,16 @@ fn scan_kind(word: &str) -> Option<ScanKind>
     }
 }
 
+// Prints a value on a line of its own.
+fn print_line<T: Display, E, O: fmt::Write>(value: &T, out: &mut O) -> Result<(), Stop<E>>
+    ensures { MatchResult result (λ _. IfSome (T.output value.now) (λ text. WritesInCalls O.write_str_gives out.old (text ++ line_feed ∷ []) out.new)) (λ stop. stop ≡ WriteFailed) }
+{
+    match write!(out, "{value}\n") {
+        Ok(()) => Ok(()),
+        Err(_) => Err(Stop::WriteFailed),
+    }
+}
+
 // Prints the next token as a number of at most `limit`.
 fn print_number<S: Scanner, O: fmt::Write>(
     scanner: &mut S,
@@ -105,10 +117,7 @@ fn print_number<S: Scanner, O: fmt::Write>(
         Ok(value) => value,
         Err(error) => return Err(Stop::Refused(error)),
     };
-    match write!(out, "{value}\n") {
-        Ok(()) => Ok(()),
-        Err(_) => Err(Stop::WriteFailed),
-    }
+    print_line(&value, out)
 }
 
 // Prints the next token as a character string.
@@ -128,10 +137,7 @@ where
         Ok(string) => string,
         Err(error) => return Err(Stop::Refused(error)),
     };
-    match write!(out, "{}\n", string.display_unquoted()) {
-        Ok(()) => Ok(()),
-        Err(_) => Err(Stop::WriteFailed),
-    }
+    print_line(&string.display_unquoted(), out)
 }
 
 // Prints the next token's octets, as the converter makes them, in hex.
@@ -154,10 +160,7 @@ where
         Ok(octets) => octets,
         Err(error) => return Err(Stop::Refused(error)),
     };
-    match write!(out, "{}\n", base16::encode_display(octets.as_slice())) {
-        Ok(()) => Ok(()),
-        Err(_) => Err(Stop::WriteFailed),
-    }
+    print_line(&base16::encode_display(octets.as_slice()), out)
 }
 
 // Prints the next token as a name.
@@ -176,10 +179,7 @@ fn print_name<A: Allocator, S: Scanner<Name = Name<Vec<u8, A>>>, O: fmt::Write>(
         Ok(name) => name,
         Err(error) => return Err(Stop::Refused(error)),
     };
-    match write!(out, "{name}\n") {
-        Ok(()) => Ok(()),
-        Err(_) => Err(Stop::WriteFailed),
-    }
+    print_line(&name, out)
 }
 
 // Prints the next token as a value of the kind.
@@ -222,13 +222,11 @@ where
     S::Octets: Drop,
     requires ready { S.can_scan scanner.old }
     requires names { ReadsNames S.Error.cause S.reads_name }
-    requires stands { HasTokens S.next_token scanner.old (texts tokens.now) }
-    ensures { LinesWritten S.Error.cause O.write_str_gives kind (texts tokens.now) out.old result out.new }
+    requires stands { HasTokens S.next_token scanner.old (bytes_of_words tokens.now) }
+    ensures { LinesWritten S.Error.cause O.write_str_gives kind (bytes_of_words tokens.now) out.old result out.new }
 {
     for _token in tokens {
-        if let Err(stop) = print_value(scanner, kind, out) {
-            return Err(stop);
-        }
+        print_value(scanner, kind, out)?;
     }
     Ok(())
 }
@@ -263,10 +261,10 @@ fn run_scan<A: Allocator + Copy, O: fmt::Write, E: fmt::Write>(
     out: &mut O,
     err: &mut E,
 ) -> u8
-    ensures printed { result ≡ 0 → ScanPrinted O.write_str_gives kind (texts tokens.now) out.old out.new × (err.new ≡ err.old) }
-    ensures refused { result ≡ 1 → (reason : List ℕ) × ScanRefused O.write_str_gives kind (texts tokens.now) out.old out.new reason
+    ensures printed { result ≡ 0 → ScanPrinted O.write_str_gives kind (bytes_of_words tokens.now) out.old out.new × (err.new ≡ err.old) }
+    ensures refused { result ≡ 1 → (reason : List ℕ) × ScanRefused O.write_str_gives kind (bytes_of_words tokens.now) out.old out.new reason
         × WritesInCalls E.write_str_gives err.old (refusal_line reason) err.new }
-    ensures silent { result ≡ 3 → (reason : List ℕ) × ScanRefused O.write_str_gives kind (texts tokens.now) out.old out.new reason }
+    ensures silent { result ≡ 3 → (reason : List ℕ) × ScanRefused O.write_str_gives kind (bytes_of_words tokens.now) out.old out.new reason }
     ensures status { (result ≡ 0) ⊎ ((result ≡ 1) ⊎ (result ≡ 3)) }
 {
     let mut scanner: IterScanner<_, Vec<u8, A>> = IterScanner::new(alloc, tokens.iter().copied());
@@ -277,7 +275,7 @@ fn run_scan<A: Allocator + Copy, O: fmt::Write, E: fmt::Write>(
     }
 }
 
-/// Runs the program on the words after its name, and answers its exit status.
+/// Runs the program on the words after its name, and returns its exit status.
 ///
 /// `scan KIND TOKEN..` prints each token's value on a line of its own, `print KIND ITEM..` a
 /// document, and `line KIND FIELD..` an entry line. Status 0 says that all went well, and 1 that a
@@ -291,12 +289,12 @@ pub fn run<A: Allocator + Copy, O: fmt::Write, E: fmt::Write>(
     out: &mut O,
     err: &mut E,
 ) -> u8
-    ensures printed { result ≡ 0 → RunPrinted O.write_str_gives (texts words.now) out.old out.new × (err.new ≡ err.old) }
-    ensures refused { result ≡ 1 → (reason : List ℕ) × RunRefused O.write_str_gives (texts words.now) out.old out.new reason
+    ensures printed { result ≡ 0 → RunPrinted O.write_str_gives (bytes_of_words words.now) out.old out.new × (err.new ≡ err.old) }
+    ensures refused { result ≡ 1 → (reason : List ℕ) × RunRefused O.write_str_gives (bytes_of_words words.now) out.old out.new reason
         × WritesInCalls E.write_str_gives err.old (refusal_line reason) err.new }
-    ensures usage { result ≡ 2 → IsUnknownCommand (texts words.now) × (out.new ≡ out.old) × WritesInCalls E.write_str_gives err.old usage_line err.new }
-    ensures silent { result ≡ 3 → (IsUnknownCommand (texts words.now) × (out.new ≡ out.old))
-        ⊎ ((reason : List ℕ) × RunRefused O.write_str_gives (texts words.now) out.old out.new reason) }
+    ensures usage { result ≡ 2 → IsUnknownCommand (bytes_of_words words.now) × (out.new ≡ out.old) × WritesInCalls E.write_str_gives err.old usage_line err.new }
+    ensures silent { result ≡ 3 → (IsUnknownCommand (bytes_of_words words.now) × (out.new ≡ out.old))
+        ⊎ ((reason : List ℕ) × RunRefused O.write_str_gives (bytes_of_words words.now) out.old out.new reason) }
     ensures status { result ≤ 3 }
 {
     let Some((command, rest)) = words.split_first() else {

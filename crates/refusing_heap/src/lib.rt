@@ -1,8 +1,8 @@
-//! Memory for tests, of which one call is refused.
+//! Memory for tests that refuses one call.
 //!
 //! A value such as a `Vec` that is made with `&heap`, where `heap` is a [`Refusing`], takes its
 //! memory from another allocator, and one call for memory finds none. A test that makes a call with
-//! the first refused, then with the second, and so on until [`Refusing::has_refused`] answers no,
+//! the first refused, then with the second, and so on until [`Refusing::has_refused`] is false,
 //! has seen the call fall short of memory at each place where it can:
 //!
 //! ```text
@@ -10,7 +10,7 @@
 //!     let heap = Refusing::new(alloc, nth);
 //!     let answer = split(&heap, text);
 //!     if !heap.has_refused() {
-//!         // `answer` is what is answered with ample memory.
+//!         // `answer` is what is returned with ample memory.
 //!         break;
 //!     }
 //! }
@@ -20,7 +20,7 @@
 //! How many calls were made stands in a cell, and no contract speaks of what a cell holds; so that
 //! it refuses just the one call is shown by tests.
 //!
-//! [`sink::Sink`] is a sink of which one write is refused.
+//! [`sink::Sink`] is a sink that refuses one write.
 #![tactic(auto)]
 
 pub mod sink;

@@ -1,4 +1,4 @@
-//! A sink for tests, of which one write is refused.
+//! A sink for tests that refuses one write.
 use std::alloc::Global;
 use std::fmt;
 

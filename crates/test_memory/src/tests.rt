@@ -4,16 +4,12 @@ use refusing_heap::Refusing;
 use std::alloc::{AllocError, Global};
 use std::process::Abort;
 
-mod encodings;
 mod heap;
-mod layouts;
 mod names;
 mod programs;
 mod rests;
 mod scanning;
-mod splitting;
 mod texts;
-mod zonetexts;
 
 /// Memory of which one call is refused.
 type Heap = Refusing<Global>;

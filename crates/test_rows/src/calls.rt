@@ -4,17 +4,27 @@ mod dnstext;
 mod encoding;
 mod format;
 mod name;
+mod pieces;
 mod steps;
 mod symbol;
+mod tally;
 mod zone;
 mod zonetext;
 
 use self::encoding::Base;
-use crate::answer::{Answer, Failure};
-use crate::row::Inputs;
+use row_table::{Answer, Calls, Failure, Inputs};
+
+/// The calls of the library.
+pub struct Library;
+
+impl Calls for Library {
+    fn call(&self, name: &str, inputs: &Inputs, answer: &mut Answer<'_>) {
+        call(name, inputs, answer);
+    }
+}
 
 /// Makes an answer of a call's inputs.
-pub fn call(name: &str, inputs: &Inputs, answer: &mut Answer) {
+fn call(name: &str, inputs: &Inputs, answer: &mut Answer) {
     let (group, name) = name.split_once('.').unwrap_or((name, ""));
     match group {
         "charstr" => charstr::call(name, inputs, answer),

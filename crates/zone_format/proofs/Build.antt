@@ -6,7 +6,7 @@ use lib.Utf8.{encode}
 use Rattle.std.proofs.lemmas.Bool.{and_parts, and_from}
 use Rattle.std.proofs.lemmas.Grind.{flat_map-append}
 use Rattle.dns_symbol.specs.declared.symbol.Symbol.{Symbol}
-use Rattle.dns_split.specs.Lexeme.{Lexeme, Blank, Line, Open, Close, Note, Word, Quote, bytes, is_lexeme}
+use Rattle.dns_split.specs.Lexeme.{Lexeme, Blank, Line, Open, Close, Note, Word, Quote, lexeme_bytes, is_lexeme}
 use Rattle.dns_split.specs.Splitting.{are_lexemes, may_precede, nests}
 use Rattle.dns_split.specs.Pieces.{begins_blank}
 use Rattle.zone_format.specs.declared.stand.Above.{Above}
@@ -25,9 +25,9 @@ marks_of k zero (Close ∷ ls) = CloseMark ∷ marks_of false zero ls
 marks_of k (suc d) (Close ∷ ls) = CloseMark ∷ marks_of false d ls
 marks_of k zero (Line r ∷ ls) = Feed ∷ (lead (begins_blank ls) ++ marks_of false zero ls)
 marks_of k (suc d) (Line r ∷ ls) = Feed ∷ marks_of false (suc d) ls
-marks_of k d (Word s ss ∷ ls) = TokenMark k (bytes (Word s ss)) ∷ marks_of true d ls
-marks_of k d (Quote ss ∷ ls) = TokenMark k (bytes (Quote ss)) ∷ marks_of true d ls
-marks_of k d (Note cs ∷ ls) = NoteMark (shortened (bytes (Note cs))) ∷ marks_of false d ls
+marks_of k d (Word s ss ∷ ls) = TokenMark k (lexeme_bytes (Word s ss)) ∷ marks_of true d ls
+marks_of k d (Quote ss ∷ ls) = TokenMark k (lexeme_bytes (Quote ss)) ∷ marks_of true d ls
+marks_of k d (Note cs ∷ ls) = NoteMark (shortened (lexeme_bytes (Note cs))) ∷ marks_of false d ls
 
 abbrev pub blanks : ℕ → List Lexeme
 blanks n = replicate n (Blank false)
@@ -48,30 +48,30 @@ build plan k a w d led (Quote ss ∷ ls) = spaces a w (count k w (deep d) led (f
 build plan k a w d led (Note cs ∷ ls) = spaces a w (count false w (deep d) led (first_of plan)) ++ (Note (shortened cs) ∷ build (drop 1 plan) false a true d false ls)
 
 -- their bytes
-blanks_bytes : (n : ℕ) → flat_map bytes (blanks n) ≡ replicate n 32
+blanks_bytes : (n : ℕ) → flat_map lexeme_bytes (blanks n) ≡ replicate n 32
 unfolding encode
 blanks_bytes zero = refl
 blanks_bytes (suc n) = ap (λ l. 32 ∷ l) (blanks_bytes n)
 
-gap_bytes : (w : Bool) (a : Above) → flat_map bytes (gap_unless (Line false) w a) ≡ gap_unless 10 w a
+gap_bytes : (w : Bool) (a : Above) → flat_map lexeme_bytes (gap_unless (Line false) w a) ≡ gap_unless 10 w a
 unfolding encode
 gap_bytes true a = refl
 gap_bytes false Nothing = refl
 gap_bytes false AtLine = refl
 gap_bytes false AtGap = refl
 
-end_bytes : (w : Bool) → flat_map bytes (end_if (Line false) w) ≡ end_if 10 w
+end_bytes : (w : Bool) → flat_map lexeme_bytes (end_if (Line false) w) ≡ end_if 10 w
 unfolding encode
 end_bytes true = refl
 end_bytes false = refl
 
-spaces_bytes : (a : Above) (w : Bool) (n : ℕ) → flat_map bytes (spaces a w n) ≡ space a w n
-spaces_bytes a w n = flat_map-append bytes (gap_unless (Line false) w a) (blanks n) ∙ ap (λ l. l ++ flat_map bytes (blanks n)) (gap_bytes w a) ∙ ap (λ l. gap_unless 10 w a ++ l) (blanks_bytes n)
+spaces_bytes : (a : Above) (w : Bool) (n : ℕ) → flat_map lexeme_bytes (spaces a w n) ≡ space a w n
+spaces_bytes a w n = flat_map-append lexeme_bytes (gap_unless (Line false) w a) (blanks n) ∙ ap (λ l. l ++ flat_map lexeme_bytes (blanks n)) (gap_bytes w a) ∙ ap (λ l. gap_unless 10 w a ++ l) (blanks_bytes n)
 
-put : (a : Above) (w : Bool) (n : ℕ) (l : Lexeme) (rest : List Lexeme) (t r : List ℕ) → bytes l ≡ t → flat_map bytes rest ≡ r → flat_map bytes (spaces a w n ++ (l ∷ rest)) ≡ space a w n ++ (t ++ r)
+put : (a : Above) (w : Bool) (n : ℕ) (l : Lexeme) (rest : List Lexeme) (t r : List ℕ) → lexeme_bytes l ≡ t → flat_map lexeme_bytes rest ≡ r → flat_map lexeme_bytes (spaces a w n ++ (l ∷ rest)) ≡ space a w n ++ (t ++ r)
 put a w n l rest t r h k =
-    flat_map-append bytes (spaces a w n) (l ∷ rest) ∙ ap (λ x. x ++ (bytes l ++ flat_map bytes rest)) (spaces_bytes a w n)
-    ∙ ap (λ x. space a w n ++ (x ++ flat_map bytes rest)) h ∙ ap (λ x. space a w n ++ (t ++ x)) k
+    flat_map-append lexeme_bytes (spaces a w n) (l ∷ rest) ∙ ap (λ x. x ++ (lexeme_bytes l ++ flat_map lexeme_bytes rest)) (spaces_bytes a w n)
+    ∙ ap (λ x. space a w n ++ (x ++ flat_map lexeme_bytes rest)) h ∙ ap (λ x. space a w n ++ (t ++ x)) k
 
 one_more : (d : ℕ) → suc d ≡ d + 1
 one_more d = omega arith
@@ -79,22 +79,22 @@ one_more d = omega arith
 one_less : (d : ℕ) → d ≡ suc d - 1
 one_less d = omega arith
 
-open_is : bytes Open ≡ 40 ∷ []
+open_is : lexeme_bytes Open ≡ 40 ∷ []
 unfolding encode
 open_is = refl
 
-close_is : bytes Close ≡ 41 ∷ []
+close_is : lexeme_bytes Close ≡ 41 ∷ []
 unfolding encode
 close_is = refl
 
-line_put : (w : Bool) (rest : List Lexeme) (r : List ℕ) → flat_map bytes rest ≡ r → flat_map bytes (end_if (Line false) w ++ rest) ≡ end_if 10 w ++ r
-line_put w rest r h = flat_map-append bytes (end_if (Line false) w) rest ∙ ap (λ l. l ++ flat_map bytes rest) (end_bytes w) ∙ ap (λ l. end_if 10 w ++ l) h
+line_put : (w : Bool) (rest : List Lexeme) (r : List ℕ) → flat_map lexeme_bytes rest ≡ r → flat_map lexeme_bytes (end_if (Line false) w ++ rest) ≡ end_if 10 w ++ r
+line_put w rest r h = flat_map-append lexeme_bytes (end_if (Line false) w) rest ∙ ap (λ l. l ++ flat_map lexeme_bytes rest) (end_bytes w) ∙ ap (λ l. end_if 10 w ++ l) h
 
 respelt_lead : (b : Bool) (plan : List ℕ) (a : Above) (w : Bool) (d : ℕ) (ms : List Mark) → respelt plan a w d b ms ≡ respelt plan a w d false (lead b ++ ms)
 respelt_lead true plan a w d ms = refl
 respelt_lead false plan a w d ms = refl
 
-pub built_bytes : (ls : List Lexeme) (plan : List ℕ) (k : Bool) (a : Above) (w : Bool) (d : ℕ) (led : Bool) → nests d ls ≡ true → flat_map bytes (build plan k a w d led ls) ≡ respelt plan a w d led (marks_of k d ls)
+pub built_bytes : (ls : List Lexeme) (plan : List ℕ) (k : Bool) (a : Above) (w : Bool) (d : ℕ) (led : Bool) → nests d ls ≡ true → flat_map lexeme_bytes (build plan k a w d led ls) ≡ respelt plan a w d led (marks_of k d ls)
 built_bytes [] plan k a w d led n = end_bytes w
 built_bytes (Blank t ∷ ls) plan k a w d led n = built_bytes ls plan false a w d led n
 built_bytes (Open ∷ ls) plan k a w d led n =
@@ -106,9 +106,9 @@ built_bytes (Close ∷ ls) plan k a w (suc d) led n =
     (built_bytes ls (drop 1 plan) false a true d false n ∙ ap (λ m. respelt (drop 1 plan) a true m false (marks_of false d ls)) (one_less d))
 built_bytes (Line r ∷ ls) plan k a w zero led n = line_put w _ _ (built_bytes ls plan false (next w a) false zero (begins_blank ls) n ∙ respelt_lead (begins_blank ls) plan (next w a) false zero (marks_of false zero ls))
 built_bytes (Line r ∷ ls) plan k a w (suc d) led n = line_put w _ _ (built_bytes ls plan false (next w a) false (suc d) false n)
-built_bytes (Word s ss ∷ ls) plan k a w d led n = put a w (count k w (deep d) led (first_of plan)) (Word s ss) _ (bytes (Word s ss)) _ refl (built_bytes ls (drop 1 plan) true a true d false n)
-built_bytes (Quote ss ∷ ls) plan k a w d led n = put a w (count k w (deep d) led (first_of plan)) (Quote ss) _ (bytes (Quote ss)) _ refl (built_bytes ls (drop 1 plan) true a true d false n)
-built_bytes (Note cs ∷ ls) plan k a w d led n = put a w (count false w (deep d) led (first_of plan)) (Note (shortened cs)) _ (shortened (bytes (Note cs))) _ (note_short cs) (built_bytes ls (drop 1 plan) false a true d false n)
+built_bytes (Word s ss ∷ ls) plan k a w d led n = put a w (count k w (deep d) led (first_of plan)) (Word s ss) _ (lexeme_bytes (Word s ss)) _ refl (built_bytes ls (drop 1 plan) true a true d false n)
+built_bytes (Quote ss ∷ ls) plan k a w d led n = put a w (count k w (deep d) led (first_of plan)) (Quote ss) _ (lexeme_bytes (Quote ss)) _ refl (built_bytes ls (drop 1 plan) true a true d false n)
+built_bytes (Note cs ∷ ls) plan k a w d led n = put a w (count false w (deep d) led (first_of plan)) (Note (shortened cs)) _ (shortened (lexeme_bytes (Note cs))) _ (note_short cs) (built_bytes ls (drop 1 plan) false a true d false n)
 
 -- they nest
 blanks_nest : (n d : ℕ) (ls : List Lexeme) → nests d (blanks n ++ ls) ≡ nests d ls

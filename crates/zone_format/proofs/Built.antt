@@ -1,6 +1,6 @@
 -- The marks of lexemes that are built are those that were read, with runs of line ends shortened.
 use Rattle.std.proofs.Common.{◌≡◌, ℕ, zero, suc, Bool, true, false, List, [], ◌∷◌, ◌++◌, drop, refl, sym, ap, ◌∙◌}
-use Rattle.dns_split.specs.Lexeme.{Lexeme, Blank, Line, Open, Close, Note, Word, Quote, bytes}
+use Rattle.dns_split.specs.Lexeme.{Lexeme, Blank, Line, Open, Close, Note, Word, Quote, lexeme_bytes}
 use Rattle.dns_split.specs.Splitting.{nests}
 use Rattle.dns_split.specs.Pieces.{begins_blank}
 use Rattle.zone_format.specs.declared.stand.Above.{Above}
@@ -56,8 +56,8 @@ pub sq_lead : (b : Bool) (a : Above) (w : Bool) (ms : List Mark) → sq a w fals
 sq_lead true a w ms = refl
 sq_lead false a w ms = refl
 
-note_same : (cs : List ℕ) → shortened (bytes (Note (shortened cs))) ≡ shortened (bytes (Note cs))
-note_same cs = ap shortened (note_short cs) ∙ short_twice (bytes (Note cs))
+note_same : (cs : List ℕ) → shortened (lexeme_bytes (Note (shortened cs))) ≡ shortened (lexeme_bytes (Note cs))
+note_same cs = ap shortened (note_short cs) ∙ short_twice (lexeme_bytes (Note cs))
 
 inner_put : (a : Above) (m : Mark) (xs ys : List Mark) → xs ≡ ys → gap Feed a ++ (m ∷ xs) ≡ lead_in a false false ++ (m ∷ ys)
 inner_put Nothing m xs ys e = ap (λ l. m ∷ l) e
@@ -125,20 +125,20 @@ built_marks (Line r ∷ ls) = (
   λ plan a d n. (built_marks ls).2 plan (blank_below a) d n,
 )
 built_marks (Word s ss ∷ ls) = (
-  λ plan k a d led n. glued_marks k (deep d) led (first_of plan) d _ ∙ ap (λ l. TokenMark k (bytes (Word s ss)) ∷ l) ((built_marks ls).0 (drop 1 plan) true a d false n),
-  λ plan a led n. outer_marks a led (first_of plan) _ refl ∙ ap (λ l. lead_in a false led ++ (TokenMark false (bytes (Word s ss)) ∷ l)) ((built_marks ls).0 (drop 1 plan) true a 0 false n),
-  λ plan a d n. inner_marks a _ d _ ∙ inner_put a (TokenMark false (bytes (Word s ss))) _ _ ((built_marks ls).0 (drop 1 plan) true a (suc d) false n),
+  λ plan k a d led n. glued_marks k (deep d) led (first_of plan) d _ ∙ ap (λ l. TokenMark k (lexeme_bytes (Word s ss)) ∷ l) ((built_marks ls).0 (drop 1 plan) true a d false n),
+  λ plan a led n. outer_marks a led (first_of plan) _ refl ∙ ap (λ l. lead_in a false led ++ (TokenMark false (lexeme_bytes (Word s ss)) ∷ l)) ((built_marks ls).0 (drop 1 plan) true a 0 false n),
+  λ plan a d n. inner_marks a _ d _ ∙ inner_put a (TokenMark false (lexeme_bytes (Word s ss))) _ _ ((built_marks ls).0 (drop 1 plan) true a (suc d) false n),
 )
 built_marks (Quote ss ∷ ls) = (
-  λ plan k a d led n. glued_marks k (deep d) led (first_of plan) d _ ∙ ap (λ l. TokenMark k (bytes (Quote ss)) ∷ l) ((built_marks ls).0 (drop 1 plan) true a d false n),
-  λ plan a led n. outer_marks a led (first_of plan) _ refl ∙ ap (λ l. lead_in a false led ++ (TokenMark false (bytes (Quote ss)) ∷ l)) ((built_marks ls).0 (drop 1 plan) true a 0 false n),
-  λ plan a d n. inner_marks a _ d _ ∙ inner_put a (TokenMark false (bytes (Quote ss))) _ _ ((built_marks ls).0 (drop 1 plan) true a (suc d) false n),
+  λ plan k a d led n. glued_marks k (deep d) led (first_of plan) d _ ∙ ap (λ l. TokenMark k (lexeme_bytes (Quote ss)) ∷ l) ((built_marks ls).0 (drop 1 plan) true a d false n),
+  λ plan a led n. outer_marks a led (first_of plan) _ refl ∙ ap (λ l. lead_in a false led ++ (TokenMark false (lexeme_bytes (Quote ss)) ∷ l)) ((built_marks ls).0 (drop 1 plan) true a 0 false n),
+  λ plan a d n. inner_marks a _ d _ ∙ inner_put a (TokenMark false (lexeme_bytes (Quote ss))) _ _ ((built_marks ls).0 (drop 1 plan) true a (suc d) false n),
 )
 built_marks (Note cs ∷ ls) = (
   λ plan k a d led n. some_marks k (first_of plan) d _ ∙ ap (λ t. NoteMark t ∷ marks_of false d (build (drop 1 plan) false a true d false ls)) (note_same cs)
-      ∙ ap (λ l. NoteMark (shortened (bytes (Note cs))) ∷ l) ((built_marks ls).0 (drop 1 plan) false a d false n),
+      ∙ ap (λ l. NoteMark (shortened (lexeme_bytes (Note cs))) ∷ l) ((built_marks ls).0 (drop 1 plan) false a d false n),
   λ plan a led n. outer_marks a led (first_of plan) _ refl ∙ ap (λ t. lead_in a false led ++ (NoteMark t ∷ marks_of false 0 (build (drop 1 plan) false a true 0 false ls))) (note_same cs)
-      ∙ ap (λ l. lead_in a false led ++ (NoteMark (shortened (bytes (Note cs))) ∷ l)) ((built_marks ls).0 (drop 1 plan) false a 0 false n),
+      ∙ ap (λ l. lead_in a false led ++ (NoteMark (shortened (lexeme_bytes (Note cs))) ∷ l)) ((built_marks ls).0 (drop 1 plan) false a 0 false n),
   λ plan a d n. inner_marks a _ d _ ∙ ap (λ t. gap Feed a ++ (NoteMark t ∷ marks_of false (suc d) (build (drop 1 plan) false a true (suc d) false ls))) (note_same cs)
-      ∙ inner_put a (NoteMark (shortened (bytes (Note cs)))) _ _ ((built_marks ls).0 (drop 1 plan) false a (suc d) false n),
+      ∙ inner_put a (NoteMark (shortened (lexeme_bytes (Note cs)))) _ _ ((built_marks ls).0 (drop 1 plan) false a (suc d) false n),
 )

@@ -5,7 +5,7 @@ use Rattle.std.specs.List.{flat_map}
 use Rattle.std.proofs.lemmas.Bool.{and_parts, eqb-true}
 use Rattle.std.proofs.lemmas.List.{map-append}
 use Rattle.std.proofs.lemmas.Str.{encodes-append}
-use Rattle.dns_split.specs.Lexeme.{Lexeme, Blank, Line, Open, Close, Note, Word, Quote, bytes}
+use Rattle.dns_split.specs.Lexeme.{Lexeme, Blank, Line, Open, Close, Note, Word, Quote, lexeme_bytes}
 use Rattle.dns_split.specs.Splitting.{are_lexemes, nests}
 use Rattle.dns_split.specs.Pieces.{IsPieces, begins_blank, pieces}
 use Rattle.dns_split.proofs.Joins.{join_bytes, join_lexemes, join_nests, split_joined}
@@ -45,9 +45,9 @@ marks_joined (Line s ∷ ls) more r k zero h =
     ap (λ c. Feed ∷ (lead c ++ marks_of false zero (ls ++ Line r ∷ more))) (blank_joined ls more r) ∙ ap (λ l. Feed ∷ (lead b ++ l)) (marks_joined ls more r false zero h)
     ∙ ap (λ l. Feed ∷ l) (sym (append_assoc (lead b) (marks_of false zero (ls ++ Line r ∷ [])) (whole more)))
 marks_joined (Line s ∷ ls) more r k (suc d) h = ap (λ l. Feed ∷ l) (marks_joined ls more r false (suc d) h)
-marks_joined (Note cs ∷ ls) more r k d h = ap (λ l. NoteMark (shortened (bytes (Note cs))) ∷ l) (marks_joined ls more r false d h)
-marks_joined (Word s ss ∷ ls) more r k d h = ap (λ l. TokenMark k (bytes (Word s ss)) ∷ l) (marks_joined ls more r true d h)
-marks_joined (Quote ss ∷ ls) more r k d h = ap (λ l. TokenMark k (bytes (Quote ss)) ∷ l) (marks_joined ls more r true d h)
+marks_joined (Note cs ∷ ls) more r k d h = ap (λ l. NoteMark (shortened (lexeme_bytes (Note cs))) ∷ l) (marks_joined ls more r false d h)
+marks_joined (Word s ss ∷ ls) more r k d h = ap (λ l. TokenMark k (lexeme_bytes (Word s ss)) ∷ l) (marks_joined ls more r true d h)
+marks_joined (Quote ss ∷ ls) more r k d h = ap (λ l. TokenMark k (lexeme_bytes (Quote ss)) ∷ l) (marks_joined ls more r true d h)
 
 whole_joined : (ls more : List Lexeme) (r : Bool) → nests 0 ls ≡ true → whole (ls ++ Line r ∷ more) ≡ whole (ls ++ Line r ∷ []) ++ whole more
 whole_joined ls more r h =
@@ -122,7 +122,7 @@ rested (Lead ∷ ms) s d f h k r = rested ms (led s) d false h (no_flag _) r
 -- octets whose text has lexemes, and lexemes of octets that have marks
 record Lexed (octets : List ℕ) (ms : List Mark) : Type 0 where
   pub lexemes : List Lexeme
-  pub spelled : flat_map bytes lexemes ≡ encode_utf8_all octets
+  pub spelled : flat_map lexeme_bytes lexemes ≡ encode_utf8_all octets
   pub valid : are_lexemes lexemes ≡ true
   pub nested : nests 0 lexemes ≡ true
   pub marks : map encoded_mark ms ≡ whole lexemes
@@ -132,7 +132,7 @@ lexed octets ms h =
     let p = h.1 in
     record { lexemes = p.lexemes; spelled = p.spelled; valid = p.valid; nested = p.nested; marks = ap (map encoded_mark) (sym h.3) ∙ sym (moved_all octets h.0 h.2) ∙ all_is (encode_utf8_all octets) _ p }
 
-marked : (octets : List ℕ) (ls : List Lexeme) → flat_map bytes ls ≡ encode_utf8_all octets → are_lexemes ls ≡ true → nests 0 ls ≡ true → (ms : List Mark) × HasMarks octets ms × (map encoded_mark ms ≡ whole ls)
+marked : (octets : List ℕ) (ls : List Lexeme) → flat_map lexeme_bytes ls ≡ encode_utf8_all octets → are_lexemes ls ≡ true → nests 0 ls ≡ true → (ms : List Mark) × HasMarks octets ms × (map encoded_mark ms ≡ whole ls)
 marked octets ls e v n =
     let text = encode_utf8_all octets in
     let p : IsPieces text (pieces 0 0 (begins_blank ls) ls) = record { lexemes = ls; spelled = e; valid = v; nested = n; placed = refl } in
@@ -151,8 +151,8 @@ line_marked : (octets : List ℕ) (l : EndsInLine octets) (ms : List Mark) → H
 line_marked octets l ms h =
     let ls = l.splits.lexemes in
     let r = l.has_cr in
-    let spelled : flat_map bytes (ls ++ Line r ∷ []) ≡ encode_utf8_all octets =
-    join_bytes ls [] r ∙ ap (λ t. t ++ (bytes (Line r) ++ [])) l.splits.spelled ∙ ap (λ t. l.front ++ t) (append-nil (bytes (Line r))) ∙ sym l.is in
+    let spelled : flat_map lexeme_bytes (ls ++ Line r ∷ []) ≡ encode_utf8_all octets =
+    join_bytes ls [] r ∙ ap (λ t. t ++ (lexeme_bytes (Line r) ++ [])) l.splits.spelled ∙ ap (λ t. l.front ++ t) (append-nil (lexeme_bytes (Line r))) ∙ sym l.is in
     let m = marked octets (ls ++ Line r ∷ []) spelled (join_lexemes ls [] r l.splits.valid refl) (join_nests ls [] r 0 l.splits.nested refl) in
     ap (map encoded_mark) (marks_once octets ms m.0 h m.1) ∙ m.2
 
@@ -179,9 +179,9 @@ marks_join before x ms ns (inr l) h k =
     let r = l.has_cr in
     let n = lexed x ns k in
     let more = n.lexemes in
-    let spelled : flat_map bytes (ls ++ Line r ∷ more) ≡ encode_utf8_all (before ++ x) =
-    join_bytes ls more r ∙ ap (λ t. t ++ (bytes (Line r) ++ flat_map bytes more)) l.splits.spelled ∙ ap (λ t. l.front ++ (bytes (Line r) ++ t)) n.spelled
-    ∙ sym (append_assoc l.front (bytes (Line r)) (encode_utf8_all x)) ∙ ap (λ t. t ++ encode_utf8_all x) (sym l.is) ∙ sym (encodes-append before x) in
+    let spelled : flat_map lexeme_bytes (ls ++ Line r ∷ more) ≡ encode_utf8_all (before ++ x) =
+    join_bytes ls more r ∙ ap (λ t. t ++ (lexeme_bytes (Line r) ++ flat_map lexeme_bytes more)) l.splits.spelled ∙ ap (λ t. l.front ++ (lexeme_bytes (Line r) ++ t)) n.spelled
+    ∙ sym (append_assoc l.front (lexeme_bytes (Line r)) (encode_utf8_all x)) ∙ ap (λ t. t ++ encode_utf8_all x) (sym l.is) ∙ sym (encodes-append before x) in
     let all = marked (before ++ x) (ls ++ Line r ∷ more) spelled (join_lexemes ls more r l.splits.valid n.valid) (join_nests ls more r 0 l.splits.nested n.nested) in
     let same : map encoded_mark all.0 ≡ map encoded_mark (ms ++ ns) =
     all.2 ∙ whole_joined ls more r l.splits.nested ∙ ap (λ t. t ++ whole more) (sym (line_marked before l ms h)) ∙ ap (λ t. map encoded_mark ms ++ t) (sym n.marks) ∙ sym (map-append encoded_mark ms ns) in
@@ -191,12 +191,12 @@ pub entries_join : (before x : List ℕ) → AreEntries before → AreEntries x 
 entries_join before x (inl none) k = subst (λ l. AreEntries (l ++ x)) (sym none) k
 entries_join before x (inr l) (inl none) = subst (λ t. AreEntries (before ++ t)) (sym none) (subst AreEntries (sym (append-nil before)) (inr l))
 entries_join before x (inr l) (inr m) = inr (record {
-  front = l.front ++ (bytes (Line l.has_cr) ++ m.front);
+  front = l.front ++ (lexeme_bytes (Line l.has_cr) ++ m.front);
   found = l.found ++ m.found;
   has_cr = m.has_cr;
   splits = split_joined l.front m.front l.has_cr l.found m.found l.splits m.splits;
-  is = encodes-append before x ∙ ap (λ t. t ++ encode_utf8_all x) l.is ∙ ap (λ t. (l.front ++ bytes (Line l.has_cr)) ++ t) m.is
-      ∙ append_assoc l.front (bytes (Line l.has_cr)) (m.front ++ bytes (Line m.has_cr))
-      ∙ ap (λ t. l.front ++ t) (sym (append_assoc (bytes (Line l.has_cr)) m.front (bytes (Line m.has_cr))))
-      ∙ sym (append_assoc l.front (bytes (Line l.has_cr) ++ m.front) (bytes (Line m.has_cr)));
+  is = encodes-append before x ∙ ap (λ t. t ++ encode_utf8_all x) l.is ∙ ap (λ t. (l.front ++ lexeme_bytes (Line l.has_cr)) ++ t) m.is
+      ∙ append_assoc l.front (lexeme_bytes (Line l.has_cr)) (m.front ++ lexeme_bytes (Line m.has_cr))
+      ∙ ap (λ t. l.front ++ t) (sym (append_assoc (lexeme_bytes (Line l.has_cr)) m.front (lexeme_bytes (Line m.has_cr))))
+      ∙ sym (append_assoc l.front (lexeme_bytes (Line l.has_cr) ++ m.front) (lexeme_bytes (Line m.has_cr)));
 })

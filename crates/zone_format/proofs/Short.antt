@@ -5,7 +5,7 @@ use Rattle.std.specs.List.{list_all}
 use lib.Utf8.{encode}
 use Rattle.std.proofs.lemmas.Bool.{and_parts, and_from, cases_lt, leb-true, ne_eqb, or_from}
 use Rattle.std.proofs.lemmas.Str.{encode_ascii}
-use Rattle.dns_split.specs.Lexeme.{Note, bytes, is_lexeme, is_note_char}
+use Rattle.dns_split.specs.Lexeme.{Note, lexeme_bytes, is_lexeme, is_note_char}
 use Rattle.dns_split.specs.Run.{is_blank}
 use Rattle.dns_split.proofs.PieceLexemes.{is_high, high_bytes, first_high}
 use Rattle.zone_format.specs.Marks.{is_none, shortened}
@@ -50,7 +50,7 @@ short_encoded (c ∷ cs) = elim (cases_lt c 128) [
       ∙ sym (ap (λ b. encode_utf8_all (short_step b c (shortened cs))) (not_blank c big))
 ]
 
-pub note_short : (cs : List ℕ) → bytes (Note (shortened cs)) ≡ shortened (bytes (Note cs))
+pub note_short : (cs : List ℕ) → lexeme_bytes (Note (shortened cs)) ≡ shortened (lexeme_bytes (Note cs))
 unfolding encode
 note_short cs = ap (λ l. 59 ∷ l) (sym (short_encoded cs))
 

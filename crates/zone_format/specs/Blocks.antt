@@ -1,7 +1,7 @@
 -- Zone text that comes in blocks of whole entries.
 use Rattle.std.specs.Prelude.{◌≡◌, ◌⊎◌, ℕ, true, Bool, List, [], ◌++◌, encode_utf8_all}
 use Rattle.std.specs.List.{list_all}
-use Rattle.dns_split.specs.Lexeme.{Line, bytes}
+use Rattle.dns_split.specs.Lexeme.{Line, lexeme_bytes}
 use Rattle.dns_split.specs.Splitting.{Entries, Splits}
 use Rattle.zone_format.specs.declared.columns.Turn.TheVariants.{Edge}
 use Rattle.zone_format.specs.declared.stand.Above.{Above}
@@ -20,7 +20,7 @@ pub record EndsInLine (octets : List ℕ) : Type 0 where
   pub found : Entries
   pub has_cr : Bool
   pub splits : Splits front found
-  pub is : encode_utf8_all octets ≡ front ++ bytes (Line has_cr)
+  pub is : encode_utf8_all octets ≡ front ++ lexeme_bytes (Line has_cr)
 
 -- whole entries, or none
 abbrev pub AreEntries : List ℕ → Type 0

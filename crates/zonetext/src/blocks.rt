@@ -30,6 +30,12 @@ impl From<AllocError> for Ended {
     }
 }
 
+impl From<Halt> for Ended {
+    fn from(halt: Halt) -> Ended {
+        Ended::Halt(halt)
+    }
+}
+
 /// What takes the blocks of a file.
 pub trait Take {
     /// Takes a block.
@@ -40,17 +46,13 @@ pub trait Take {
 
 impl Take for Checker<Global> {
     fn take(&mut self, block: &[u8]) -> Result<(), Ended> {
-        match self.add(block) {
-            Ok(()) => Ok(()),
-            Err(halt) => Err(Ended::Halt(halt)),
-        }
+        self.add(block)?;
+        Ok(())
     }
 
     fn end(&mut self) -> Result<(), Ended> {
-        match self.finish() {
-            Ok(()) => Ok(()),
-            Err(found) => Err(Ended::Halt(Halt::Wrong(found))),
-        }
+        self.finish().map_err(Halt::Wrong)?;
+        Ok(())
     }
 }
 
@@ -80,10 +82,8 @@ impl<'a> Printer<'a> {
             }
         }
         self.out.truncate(0);
-        match answer {
-            Ok(()) => Ok(()),
-            Err(halt) => Err(Ended::Halt(halt)),
-        }
+        answer?;
+        Ok(())
     }
 }
 

@@ -29,14 +29,14 @@ fn flag<'a>(alloc: Global, name: &'a str, help: &'a str) -> Arg<'a> {
 }
 
 /// The command that lists tokens.
-fn tokens_command<'a>(alloc: Global) -> Result<Command<'a>, AllocError> {
+fn tokens_command<'a>(alloc: Global, name: &'a str) -> Result<Command<'a>, AllocError> {
     let about = "Write a line for each token, with its position";
     let json = flag(alloc, "json", "write a JSON object for each token");
-    over_files(alloc, "tokens", about)?.arg(json)
+    over_files(alloc, name, about)?.arg(json)
 }
 
 /// The command that writes files in their canonical form.
-fn fmt_command<'a>(alloc: Global) -> Result<Command<'a>, AllocError> {
+fn fmt_command<'a>(alloc: Global, name: &'a str) -> Result<Command<'a>, AllocError> {
     let write = flag(alloc, "write", "replace the files by their forms").short('w');
     let check = flag(
         alloc,
@@ -55,7 +55,7 @@ fn fmt_command<'a>(alloc: Global) -> Result<Command<'a>, AllocError> {
     );
     over_files(
         alloc,
-        "fmt",
+        name,
         "Write zone files in one form, with their comments",
     )?
     .arg(write.conflicts_with("check")?.conflicts_with("diff")?)?
@@ -65,11 +65,11 @@ fn fmt_command<'a>(alloc: Global) -> Result<Command<'a>, AllocError> {
 }
 
 /// The command that lays entries out as lines.
-fn lines_command<'a>(alloc: Global) -> Result<Command<'a>, AllocError> {
+fn lines_command<'a>(alloc: Global, name: &'a str) -> Result<Command<'a>, AllocError> {
     let tabbed = flag(alloc, "tabbed", "put tabs between tokens");
     over_files(
         alloc,
-        "lines",
+        name,
         "Write each entry on a line of its own, without comments",
     )?
     .arg(tabbed)
@@ -84,8 +84,8 @@ fn required_file<'a>(alloc: Global, name: &'a str, help: &'a str) -> Arg<'a> {
 }
 
 /// The command that compares two files.
-fn diff_command<'a>(alloc: Global) -> Result<Command<'a>, AllocError> {
-    Command::new(alloc, "diff")
+fn diff_command<'a>(alloc: Global, name: &'a str) -> Result<Command<'a>, AllocError> {
+    Command::new(alloc, name)
         .about("Say where the entries of two files differ first")
         .arg(required_file(alloc, "A", "a zone file"))?
         .arg(required_file(alloc, "B", "another"))?
@@ -94,16 +94,14 @@ fn diff_command<'a>(alloc: Global) -> Result<Command<'a>, AllocError> {
 
 /// The command line.
 fn command_line<'a>(alloc: Global) -> Result<Command<'a>, AllocError> {
-    let all = Command::new(alloc, "zonetext")
+    let mut all = Command::new(alloc, "zonetext")
         .version("0.2.0")
         .about("Checks, formats, lists, lays out and compares DNS zone files")
         .subcommand_required(true);
-    let check = over_files(alloc, "check", "Say where files are not zone text")?;
-    let all = all.subcommand(check)?;
-    let all = all.subcommand(tokens_command(alloc)?)?;
-    let all = all.subcommand(fmt_command(alloc)?)?;
-    let all = all.subcommand(lines_command(alloc)?)?;
-    all.subcommand(diff_command(alloc)?)
+    for which in &Which::ALL {
+        all = all.subcommand(which.command(alloc)?)?;
+    }
+    Ok(all)
 }
 
 /// The words, parsed.
@@ -123,23 +121,10 @@ pub fn run(rt: &HostRuntime, alloc: Global, words: &[&str]) -> io::Result<u8> {
     let Some((name, inner)) = matches.subcommand() else {
         return Ok(2);
     };
-    let Some(which) = Which::named(name) else {
-        return Ok(2);
-    };
-    if which == Which::Diff {
-        let first = inner.get_str("A").unwrap_or("-");
-        let second = inner.get_str("B").unwrap_or("-");
-        return files::compare(rt, first, second, inner.get_flag("quiet"));
+    match Which::named(name) {
+        Some(which) => which.run(rt, inner),
+        None => Ok(2),
     }
-    let names = inner.get_strs("FILE").unwrap_or(&["-"]);
-    if which == Which::Format {
-        return run_format(rt, inner, names);
-    }
-    let mut status = 0;
-    for file in names {
-        status = over_file(rt, which, inner, file)?.max(status);
-    }
-    Ok(status)
 }
 
 /// A command.
@@ -153,16 +138,100 @@ enum Which {
 }
 
 impl Which {
-    fn named(name: &str) -> Option<Which> {
-        match name {
-            "check" => Some(Which::Check),
-            "tokens" => Some(Which::Tokens),
-            "fmt" => Some(Which::Format),
-            "lines" => Some(Which::Lines),
-            "diff" => Some(Which::Diff),
-            _ => None,
+    /// Each command, as the help lists them.
+    const ALL: [Which; 5] = [
+        Which::Check,
+        Which::Tokens,
+        Which::Format,
+        Which::Lines,
+        Which::Diff,
+    ];
+
+    /// The word that asks for it.
+    fn name(self) -> &'static str {
+        match self {
+            Which::Check => "check",
+            Which::Tokens => "tokens",
+            Which::Format => "fmt",
+            Which::Lines => "lines",
+            Which::Diff => "diff",
         }
     }
+
+    fn named(name: &str) -> Option<Which> {
+        for which in &Which::ALL {
+            if which.name() == name {
+                return Some(*which);
+            }
+        }
+        None
+    }
+
+    /// The words that it takes.
+    fn command<'a>(self, alloc: Global) -> Result<Command<'a>, AllocError> {
+        match self {
+            Which::Check => over_files(alloc, self.name(), "Say where files are not zone text"),
+            Which::Tokens => tokens_command(alloc, self.name()),
+            Which::Format => fmt_command(alloc, self.name()),
+            Which::Lines => lines_command(alloc, self.name()),
+            Which::Diff => diff_command(alloc, self.name()),
+        }
+    }
+
+    /// Runs it, and returns the exit status.
+    fn run(self, rt: &HostRuntime, inner: &ArgMatches) -> io::Result<u8> {
+        match self {
+            Which::Check => run_check(rt, inner),
+            Which::Tokens => run_tokens(rt, inner),
+            Which::Format => run_format(rt, inner, names_of(inner)),
+            Which::Lines => run_lines(rt, inner),
+            Which::Diff => run_diff(rt, inner),
+        }
+    }
+}
+
+/// The files that are named, or standard input.
+fn names_of<'m>(inner: &'m ArgMatches) -> &'m [&'m str] {
+    inner.get_strs("FILE").unwrap_or(&["-"])
+}
+
+/// Checks files, and returns the greatest status.
+fn run_check(rt: &HostRuntime, inner: &ArgMatches) -> io::Result<u8> {
+    let mut status = 0;
+    for file in names_of(inner) {
+        status = files::check_file(rt, file, inner.get_flag("quiet"))?.max(status);
+    }
+    Ok(status)
+}
+
+/// Writes what is made of files, and returns the greatest status.
+fn print_files(rt: &HostRuntime, inner: &ArgMatches, output: Output) -> io::Result<u8> {
+    let mut status = 0;
+    for file in names_of(inner) {
+        status = files::print(rt, file, inner.get_flag("quiet"), output)?.max(status);
+    }
+    Ok(status)
+}
+
+/// Lists tokens.
+fn run_tokens(rt: &HostRuntime, inner: &ArgMatches) -> io::Result<u8> {
+    let is_json = inner.get_flag("json");
+    let form = if is_json { Form::Json } else { Form::Plain };
+    print_files(rt, inner, Output::Rows(form))
+}
+
+/// Lays entries out as lines.
+fn run_lines(rt: &HostRuntime, inner: &ArgMatches) -> io::Result<u8> {
+    let is_tabbed = inner.get_flag("tabbed");
+    let gap = if is_tabbed { Gap::Tab } else { Gap::Space };
+    print_files(rt, inner, Output::Lines(gap))
+}
+
+/// Compares two files.
+fn run_diff(rt: &HostRuntime, inner: &ArgMatches) -> io::Result<u8> {
+    let first = inner.get_str("A").unwrap_or("-");
+    let second = inner.get_str("B").unwrap_or("-");
+    files::compare(rt, first, second, inner.get_flag("quiet"))
 }
 
 /// Formats files.
@@ -183,22 +252,4 @@ fn run_format(rt: &HostRuntime, inner: &ArgMatches, names: &[&str]) -> io::Resul
     }
     let is_quiet = inner.get_flag("quiet");
     format::run(rt, names, Work { mode, is_quiet })
-}
-
-/// Runs a command that takes one file at a time.
-fn over_file(rt: &HostRuntime, which: Which, inner: &ArgMatches, file: &str) -> io::Result<u8> {
-    let is_quiet = inner.get_flag("quiet");
-    match which {
-        Which::Tokens => {
-            let is_json = inner.get_flag("json");
-            let form = if is_json { Form::Json } else { Form::Plain };
-            files::print(rt, file, is_quiet, Output::Rows(form))
-        }
-        Which::Lines => {
-            let is_tabbed = inner.get_flag("tabbed");
-            let gap = if is_tabbed { Gap::Tab } else { Gap::Space };
-            files::print(rt, file, is_quiet, Output::Lines(gap))
-        }
-        Which::Check | Which::Format | Which::Diff => files::check_file(rt, file, is_quiet),
-    }
 }

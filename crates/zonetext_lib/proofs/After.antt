@@ -12,7 +12,7 @@ use Rattle.dns_split.specs.declared.pieces.Fault.{Fault}
 use Rattle.dns_split.specs.declared.pieces.Wrong.{Wrong}
 use Rattle.dns_split.specs.declared.pieces.Wrong.TheVariants.{Closing, OpenParenthesis, OpenQuote, LoneReturn, BadEscape}
 use Rattle.dns_split.specs.declared.position.Position.{Position}
-use Rattle.dns_split.specs.Lexeme.{Line, bytes}
+use Rattle.dns_split.specs.Lexeme.{Line, lexeme_bytes}
 use Rattle.dns_split.specs.Opening.{IsOpener}
 use Rattle.dns_split.specs.Splitting.{Entries, Splits, with_token}
 use Rattle.dns_split.specs.Pieces.{IsGiven, IsPieces, IsWrong, cut, between, end_at, moved_piece, moved_fault, moved_wrong, place_of}
@@ -21,8 +21,8 @@ use Rattle.dns_split.proofs.Joins.{split_cut}
 use Rattle.dns_split.proofs.PieceJoins.{pieces_joined}
 use Rattle.dns_split.proofs.PieceMoved.{mono}
 use Rattle.dns_split.proofs.PieceSplit.{pieces_split, split_pieces, pieces_one_way}
-use Rattle.zonetext_lib.specs.Blocks.{EndsEntry, IsOpenedAfter}
-use Rattle.zonetext_lib.specs.Found.{IsFound, IsOctetFault, IsOpened}
+use Rattle.zonetext_lib.specs.Blocks.{EndsEntry}
+use Rattle.zonetext_lib.specs.Found.{IsFound, IsOctetFault, IsOpenedAfter}
 use Rattle.zonetext_lib.specs.Place.{IsAt}
 use Rattle.zonetext_lib.specs.declared.check.Found.{Found}
 use Rattle.zonetext_lib.proofs.Cuts.{fault_after}
@@ -103,7 +103,7 @@ last_none text (EndAt p ∷ xs) i j s t =
 pub record EndsLine (text : List ℕ) : Type 0 where
   pub front : List ℕ
   pub has_cr : Bool
-  pub is : text ≡ front ++ bytes (Line has_cr)
+  pub is : text ≡ front ++ lexeme_bytes (Line has_cr)
   pub found : Entries
   pub splits : Splits front found
 
@@ -122,15 +122,15 @@ ends_line text xs j s t p =
     let one = split_pieces x l.front c.4 in
     let two = split_pieces y ([] ∷ []) c.5 in
     let g = pieces_joined x y r one.0 two.0 one.1 two.1 in
-    let n : ℕ = length x + length (bytes (Line r)) in
+    let n : ℕ = length x + length (lexeme_bytes (Line r)) in
     let other : List Piece = g.0 ++ end_at n g.1 ∷ map (moved_piece (λ i. n + i)) two.0 in
     let same = pieces_one_way text all other p (subst (λ k. IsPieces k other) (sym c.3) g.3) in
     let at : length text ≡ n = sym (two_ends xs 0 0 (length text) j s t) ∙ ap (last_but_one 0 0) same ∙ after_one y (λ i. n + i) g.0 two.0 0 0 n g.1 two.2 in
-    let none : y ≡ [] = nothing y (omega (arith, at, ap length c.3, length-append x (bytes (Line r) ++ y), length-append (bytes (Line r)) y)) in
+    let none : y ≡ [] = nothing y (omega (arith, at, ap length c.3, length-append x (lexeme_bytes (Line r) ++ y), length-append (lexeme_bytes (Line r)) y)) in
     record {
       front = x;
       has_cr = r;
-      is = c.3 ∙ ap (λ l. x ++ (bytes (Line r) ++ l)) none ∙ ap (λ l. x ++ l) (append-nil (bytes (Line r)));
+      is = c.3 ∙ ap (λ l. x ++ (lexeme_bytes (Line r) ++ l)) none ∙ ap (λ l. x ++ l) (append-nil (lexeme_bytes (Line r)));
       found = l.front;
       splits = c.4;
     }
@@ -159,7 +159,7 @@ opener_on before octets i (inl none) o =
 opener_on before octets i (inr e) o =
     let line = entry_line before e.0 e.1 e.2 in
     let x : List ℕ = line.front in
-    let l : List ℕ = bytes (Line line.has_cr) in
+    let l : List ℕ = lexeme_bytes (Line line.has_cr) in
     let text : List ℕ = encode_utf8_all octets in
     let all : x ++ (l ++ text) ≡ encode_utf8_all (before ++ octets) = sym (append_assoc x l text) ∙ ap (λ k. k ++ text) (sym line.is) ∙ sym (encodes-append before octets) in
     let front : encode_utf8_all (take (length before + i) (before ++ octets)) ≡ encode_utf8_all before ++ encode_utf8_all (take i octets) =
@@ -184,16 +184,19 @@ open_last octets f h e =
 
 -- what is found in octets that follow
 pub found_on : (before octets more : List ℕ) (f : Fault) (r : Found) → EndsEntry before → f.at ≤ length octets → IsOctetFault (before ++ (octets ++ more)) (moved_fault (λ i. length before + i) f)
-    → r.fault ≡ moved_fault (λ i. length before + i) f → IsAt 0 (before ++ take f.at octets) r.position → IsOpenedAfter before octets f.wrong r.opened
+    → r.fault ≡ moved_fault (λ i. length before + i) f → IsAt 0 (before ++ take f.at octets) r.position → IsOpenedAfter 0 before octets f.wrong r.opened
     → IsFound (before ++ (octets ++ more)) 0 r
 found_on before octets more f r e within fault is position opened = record {
   fault = subst (IsOctetFault (before ++ (octets ++ more))) (sym is) fault;
   position = subst (λ l. IsAt 0 l r.position) (sym (ap (λ (k : Fault). take k.at (before ++ (octets ++ more))) is ∙ place f.at within)) position;
-  opened = subst (λ (k : Fault). IsOpened (before ++ (octets ++ more)) 0 k.wrong r.opened) (sym is) (go f.wrong refl opened);
+  opened = subst (λ (k : Fault). IsOpenedAfter 0 [] (before ++ (octets ++ more)) k.wrong r.opened) (sym is) (go f.wrong refl opened);
 }
   where
     place : (i : ℕ) → i ≤ length octets → take (length before + i) (before ++ (octets ++ more)) ≡ before ++ take i octets
     place i h = take-append-add before (octets ++ more) i ∙ ap (λ l. before ++ l) (take-append-le i octets more h)
+
+    among : (i : ℕ) → i ≤ length octets → length before + i ≤ length (before ++ (octets ++ more))
+    among i h = omega (arith, h, length-append before (octets ++ more), length-append octets more)
 
     at_place : (i : ℕ) (o : Option Position) → i ≤ length octets → IsSomeAnd o (λ p. IsAt 0 (before ++ take i octets) p)
         → IsSomeAnd o (λ p. IsAt 0 (take (length before + i) (before ++ (octets ++ more))) p)
@@ -207,9 +210,10 @@ found_on before octets more f r e within fault is position opened = record {
         let whole : before ++ octets ≡ (before ++ (octets ++ more)) = ap (λ l. before ++ l) (sym (append-nil octets) ∙ ap (λ l. octets ++ l) (sym none)) in
         subst (λ l. IsOpener (encode_utf8_all l) (place_of l (length before + i))) whole (opener_on before octets i e o)
 
-    go : (w : Wrong) → f.wrong ≡ w → IsOpenedAfter before octets w r.opened → IsOpened (before ++ (octets ++ more)) 0 (moved_wrong (λ i. length before + i) w) r.opened
-    go (OpenQuote i) w h = at_place i r.opened h.0 h.1
-    go OpenParenthesis w h = (length before + h.0, left_open w h.0 h.2, at_place h.0 r.opened h.1 h.3)
+    go : (w : Wrong) → f.wrong ≡ w → IsOpenedAfter 0 before octets w r.opened
+        → IsOpenedAfter 0 [] (before ++ (octets ++ more)) (moved_wrong (λ i. length before + i) w) r.opened
+    go (OpenQuote i) w h = (among i h.0, at_place i r.opened h.0 h.1)
+    go OpenParenthesis w h = (length before + h.0, among h.0 h.1, left_open w h.0 h.2, at_place h.0 r.opened h.1 h.3)
     go Closing w h = h
     go LoneReturn w h = h
     go BadEscape w h = h

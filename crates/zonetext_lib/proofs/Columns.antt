@@ -67,5 +67,5 @@ pub line_goes_on : (before xs : List ℕ) (s n : ℕ) → s ≤ length xs → n 
 line_goes_on before xs s n within e = e ∙ ap column_of (append_assoc before (take s xs) (take (length xs - s) (drop s xs)) ∙ ap (λ l. before ++ l) (parted xs s within))
 
 -- the position after more octets
-pub position_on : (before xs : List ℕ) (from p : Position) → IsAt 0 before from → p.line ≡ from.line + feeds xs → p.column ≡ column_of (before ++ xs) → IsAt 0 (before ++ xs) p
-position_on before xs from p at line column = (omega (arith, line, at.0, sum_by-append (λ x. cond (x == 10) 1 0) before xs), column)
+pub position_on : (lines : ℕ) (before xs : List ℕ) (from p : Position) → IsAt lines before from → p.line ≡ from.line + feeds xs → p.column ≡ column_of (before ++ xs) → IsAt lines (before ++ xs) p
+position_on lines before xs from p at line column = (omega (arith, line, at.0, sum_by-append (λ x. cond (x == 10) 1 0) before xs), column)

@@ -7,9 +7,9 @@ use Rattle.dns_split.specs.declared.pieces.Fault.{Fault}
 use Rattle.dns_split.specs.declared.position.Position.{Position}
 use Rattle.dns_split.specs.Pieces.{ReadsOctets, EachWithin, IsWithin, cut, moved_piece, place_of}
 use Rattle.dns_split.proofs.PieceSplit.{pieces_split}
-use Rattle.zonetext_lib.specs.Entries.{Part, HasTokens, ended_after, ended_by, parts, with_tokens}
+use Rattle.zonetext_lib.specs.Entries.{ComparedPart, HasTokenEntries, ended_after_pieces, ended_by, parts, with_tokens}
 use Rattle.zonetext_lib.specs.Found.{IsOctetFault}
-use Rattle.zonetext_lib.specs.Compare.{part, says, start_of, is_passed, Skips, ComesNext, GoesOn, DifferAt, NoCommon}
+use Rattle.zonetext_lib.specs.Compare.{part, says, start_of, is_passed, SkipsToPart, ComesNext, GoesOnWithPart, DifferAt, NoCommon}
 use Rattle.zonetext_lib.specs.Place.{IsAt}
 use Rattle.std.proofs.lemmas.List.{append_cancel_left, map-append, take_all}
 use Rattle.zonetext_lib.proofs.Givens.{first_fault, pieces_after, pieces_in, whole_of, fault_of}
@@ -25,10 +25,10 @@ within_after n [] given w = w
 within_after n (x ∷ xs) given w = within_after n xs given w.1
 
 -- zone text has the entries of its pieces
-pub zone_tokens : (octets : List ℕ) (given : List (Result Piece Fault)) → ReadsOctets octets given → first_fault given ≡ None → HasTokens octets (says octets None (pieces_in given))
+pub zone_tokens : (octets : List ℕ) (given : List (Result Piece Fault)) → ReadsOctets octets given → first_fault given ≡ None → HasTokenEntries octets (says octets None (pieces_in given))
 zone_tokens octets given r none = (parts octets (pieces_in given), (pieces_in given, whole_of octets given r none, refl), refl)
 
-zone_has : (octets : List ℕ) (given : List (Result Piece Fault)) (es : List Part) → ReadsOctets octets given → EachWithin (length octets) given → HasTokens octets es
+zone_has : (octets : List ℕ) (given : List (Result Piece Fault)) (es : List ComparedPart) → ReadsOctets octets given → EachWithin (length octets) given → HasTokenEntries octets es
     → es ≡ says octets None (pieces_in given)
 zone_has octets given es r w h = go (first_fault given) refl
   where
@@ -40,42 +40,42 @@ zone_has octets given es r w h = go (first_fault given) refl
         let found = map (moved_piece (place_of octets)) h.1.0 in
         absurd (bad.is.bad.splits_not (cut text found) (pieces_split text found h.1.1))
 
-abbrev first_part : List Part → Option Part
+abbrev first_part : List ComparedPart → Option ComparedPart
 first_part [] = None
 first_part (e ∷ es) = Some e
 
-next_is : (octets : List ℕ) (ended : Option ℕ) (rest : List (Result Piece Fault)) (e : Option Part) (at : ℕ) → ComesNext octets ended rest e at
+next_is : (octets : List ℕ) (ended : Option ℕ) (rest : List (Result Piece Fault)) (e : Option ComparedPart) (at : ℕ) → ComesNext octets ended rest e at
     → first_part (says octets ended (pieces_in rest)) ≡ e
 next_is octets ended [] e at h = sym h.0
 next_is octets ended (Ok p ∷ given) e at h =
     ap first_part (says_append octets ended (p ∷ []) (pieces_in given) ∙ ap (λ l. l ++ says octets (ended_by ended p) (pieces_in given)) h.2) ∙ sym h.0
 next_is octets ended (Err f ∷ given) e at h = absurd h
 
-goes_on_with : (octets : List ℕ) (common : List Part) (e : Option Part) (p : Position) (es : List Part) → (x : GoesOn octets common e p) → HasTokens octets es
-    → es ≡ common ++ says octets (ended_after None x.before) (pieces_in x.rest)
+goes_on_with : (octets : List ℕ) (common : List ComparedPart) (e : Option ComparedPart) (p : Position) (es : List ComparedPart) → (x : GoesOnWithPart octets common e p) → HasTokenEntries octets es
+    → es ≡ common ++ says octets (ended_after_pieces None x.before) (pieces_in x.rest)
 goes_on_with octets common e p es x h =
     zone_has octets (map Ok x.before ++ x.rest) es x.reads x.within h ∙ ap (says octets None) (pieces_after x.before x.rest) ∙ says_append octets None x.before (pieces_in x.rest)
-    ∙ ap (λ l. l ++ says octets (ended_after None x.before) (pieces_in x.rest)) x.is
+    ∙ ap (λ l. l ++ says octets (ended_after_pieces None x.before) (pieces_in x.rest)) x.is
 
 pub no_common : (first second : List ℕ) (p q : Position) → DifferAt first second p q → NoCommon first second
 no_common first second p q d = λ es h k.
     let one = goes_on_with first d.common d.one p es d.in_first h in
     let two = goes_on_with second d.common d.other q es d.in_second k in
-    let a : Option ℕ = ended_after None d.in_first.before in
-    let b : Option ℕ = ended_after None d.in_second.before in
+    let a : Option ℕ = ended_after_pieces None d.in_first.before in
+    let b : Option ℕ = ended_after_pieces None d.in_second.before in
     let rest = append_cancel_left d.common (says first a (pieces_in d.in_first.rest)) (says second b (pieces_in d.in_second.rest)) (sym one ∙ two) in
     d.apart (sym (next_is first a d.in_first.rest d.one d.in_first.at d.in_first.next) ∙ ap first_part rest ∙ next_is second b d.in_second.rest d.other d.in_second.at d.in_second.next)
 
 -- of a text these pieces were taken, after which the entry's last token ended here
-pub record Taken (octets : List ℕ) (all left : List (Result Piece Fault)) (ended : Option ℕ) (common : List Part) : Type 0 where
+pub record Taken (octets : List ℕ) (all left : List (Result Piece Fault)) (ended : Option ℕ) (common : List ComparedPart) : Type 0 where
   pub taken : List Piece
   pub is : all ≡ map Ok taken ++ left
-  pub ends : ended_after None taken ≡ ended
+  pub ends : ended_after_pieces None taken ≡ ended
   pub says_is : says octets None taken ≡ common
 
 -- the pieces that were taken of both are the same parts
 pub record InStep (first second : List ℕ) (all_ours all_theirs ours theirs : List (Result Piece Fault)) (ended that_ended : Option ℕ) : Type 0 where
-  pub common : List Part
+  pub common : List ComparedPart
   pub in_first : Taken first all_ours ours ended common
   pub in_second : Taken second all_theirs theirs that_ended common
 
@@ -83,35 +83,35 @@ pub none_taken : (octets : List ℕ) (all : List (Result Piece Fault)) → Taken
 none_taken octets all = record { taken = []; is = refl; ends = refl; says_is = refl }
 
 -- what was passed over
-pub passed_taken : (octets : List ℕ) (all old left : List (Result Piece Fault)) (ended : Option ℕ) (common : List Part) (passed : List Piece) → old ≡ map Ok passed ++ left
-    → says octets ended passed ≡ [] → ended_after ended passed ≡ ended → Taken octets all old ended common → Taken octets all left ended common
+pub passed_taken : (octets : List ℕ) (all old left : List (Result Piece Fault)) (ended : Option ℕ) (common : List ComparedPart) (passed : List Piece) → old ≡ map Ok passed ++ left
+    → says octets ended passed ≡ [] → ended_after_pieces ended passed ≡ ended → Taken octets all old ended common → Taken octets all left ended common
 passed_taken octets all old left ended common passed e none stays x = record {
   taken = x.taken ++ passed;
   is = x.is ∙ ap (λ l. map Ok x.taken ++ l) e ∙ sym (append_assoc (map Ok x.taken) (map Ok passed) left) ∙ ap (λ l. l ++ left) (sym (map-append Ok x.taken passed));
-  ends = ended_append None x.taken passed ∙ ap (λ o. ended_after o passed) x.ends ∙ stays;
+  ends = ended_append None x.taken passed ∙ ap (λ o. ended_after_pieces o passed) x.ends ∙ stays;
   says_is = says_append octets None x.taken passed ∙ ap (λ o. says octets None x.taken ++ says octets o passed) x.ends ∙ ap (λ l. says octets None x.taken ++ l) none
       ∙ append-nil (says octets None x.taken) ∙ x.says_is;
 }
 
-pub skipped : (octets : List ℕ) (all old new : List (Result Piece Fault)) (ended : Option ℕ) (common : List Part) (t : Option (Result Piece Fault)) → Taken octets all old ended common
-    → (s : Skips ended old t new) → Taken octets all s.left ended common
+pub skipped : (octets : List ℕ) (all old new : List (Result Piece Fault)) (ended : Option ℕ) (common : List ComparedPart) (t : Option (Result Piece Fault)) → Taken octets all old ended common
+    → (s : SkipsToPart ended old t new) → Taken octets all s.left ended common
 skipped octets all old new ended common t x s = passed_taken octets all old s.left ended common s.passed s.is (s.no_parts octets) s.stays x
 
-pub fault_taken : (octets : List ℕ) (all old new : List (Result Piece Fault)) (ended : Option ℕ) (common : List Part) (f : Fault) → ReadsOctets octets all → EachWithin (length octets) all
-    → Taken octets all old ended common → Skips ended old (Some (Err f)) new → IsOctetFault octets f
+pub fault_taken : (octets : List ℕ) (all old new : List (Result Piece Fault)) (ended : Option ℕ) (common : List ComparedPart) (f : Fault) → ReadsOctets octets all → EachWithin (length octets) all
+    → Taken octets all old ended common → SkipsToPart ended old (Some (Err f)) new → IsOctetFault octets f
 fault_taken octets all old new ended common f r w x s =
     let k = skipped octets all old new ended common (Some (Err f)) x s in
     fault_of octets all f r w (ap first_fault (k.is ∙ ap (λ l. map Ok k.taken ++ l) s.takes) ∙ fault_after k.taken (Err f ∷ new))
 
-pub piece_within : (octets : List ℕ) (all old new : List (Result Piece Fault)) (ended : Option ℕ) (common : List Part) (p : Piece) → EachWithin (length octets) all
-    → Taken octets all old ended common → Skips ended old (Some (Ok p)) new → IsWithin (length octets) (Ok p)
+pub piece_within : (octets : List ℕ) (all old new : List (Result Piece Fault)) (ended : Option ℕ) (common : List ComparedPart) (p : Piece) → EachWithin (length octets) all
+    → Taken octets all old ended common → SkipsToPart ended old (Some (Ok p)) new → IsWithin (length octets) (Ok p)
 piece_within octets all old new ended common p w x s =
     let k = skipped octets all old new ended common (Some (Ok p)) x s in
     (within_after (length octets) k.taken (Ok p ∷ new) (subst (EachWithin (length octets)) (k.is ∙ ap (λ l. map Ok k.taken ++ l) s.takes.0) w)).0
 
 -- a text that went on with a piece, or ended
-pub taken_part : (octets : List ℕ) (all old new : List (Result Piece Fault)) (ended : Option ℕ) (common : List Part) (p : Piece) (q : Position) → ReadsOctets octets all
-    → EachWithin (length octets) all → Taken octets all old ended common → Skips ended old (Some (Ok p)) new → IsAt 0 (take (start_of p) octets) q → GoesOn octets common (Some (part octets ended p)) q
+pub taken_part : (octets : List ℕ) (all old new : List (Result Piece Fault)) (ended : Option ℕ) (common : List ComparedPart) (p : Piece) (q : Position) → ReadsOctets octets all
+    → EachWithin (length octets) all → Taken octets all old ended common → SkipsToPart ended old (Some (Ok p)) new → IsAt 0 (take (start_of p) octets) q → GoesOnWithPart octets common (Some (part octets ended p)) q
 taken_part octets all old new ended common p q r w x s i =
     let k = skipped octets all old new ended common (Some (Ok p)) x s in
     let e : all ≡ map Ok k.taken ++ Ok p ∷ new = k.is ∙ ap (λ l. map Ok k.taken ++ l) s.takes.0 in
@@ -126,12 +126,12 @@ taken_part octets all old new ended common p q r w x s i =
       position = i;
     }
 
-ended_is : (octets : List ℕ) (all old new : List (Result Piece Fault)) (ended : Option ℕ) (common : List Part) → (x : Taken octets all old ended common) → (s : Skips ended old None new)
+ended_is : (octets : List ℕ) (all old new : List (Result Piece Fault)) (ended : Option ℕ) (common : List ComparedPart) → (x : Taken octets all old ended common) → (s : SkipsToPart ended old None new)
     → all ≡ map Ok (skipped octets all old new ended common None x s).taken ++ []
 ended_is octets all old new ended common x s = let k = skipped octets all old new ended common None x s in k.is ∙ ap (λ l. map Ok k.taken ++ l) s.takes.0
 
-pub ended_part : (octets : List ℕ) (all old new : List (Result Piece Fault)) (ended : Option ℕ) (common : List Part) (q : Position) → ReadsOctets octets all → EachWithin (length octets) all
-    → Taken octets all old ended common → Skips ended old None new → IsAt 0 octets q → GoesOn octets common None q
+pub ended_part : (octets : List ℕ) (all old new : List (Result Piece Fault)) (ended : Option ℕ) (common : List ComparedPart) (q : Position) → ReadsOctets octets all → EachWithin (length octets) all
+    → Taken octets all old ended common → SkipsToPart ended old None new → IsAt 0 octets q → GoesOnWithPart octets common None q
 ended_part octets all old new ended common q r w x s i =
     let k = skipped octets all old new ended common None x s in
     let e = ended_is octets all old new ended common x s in
@@ -146,26 +146,26 @@ ended_part octets all old new ended common q r w x s i =
       position = subst (λ l. IsAt 0 l q) (sym (take_all (length octets) octets (omega arith))) i;
     }
 
-pub ended_tokens : (octets : List ℕ) (all old new : List (Result Piece Fault)) (ended : Option ℕ) (common : List Part) → ReadsOctets octets all → Taken octets all old ended common
-    → Skips ended old None new → HasTokens octets common
+pub ended_tokens : (octets : List ℕ) (all old new : List (Result Piece Fault)) (ended : Option ℕ) (common : List ComparedPart) → ReadsOctets octets all → Taken octets all old ended common
+    → SkipsToPart ended old None new → HasTokenEntries octets common
 ended_tokens octets all old new ended common r x s =
     let k = skipped octets all old new ended common None x s in
     let e = ended_is octets all old new ended common x s in
     let none : first_fault all ≡ None = ap first_fault e ∙ fault_after k.taken [] in
     let same : says octets None (pieces_in all) ≡ common =
     ap (λ l. says octets None (pieces_in l)) e ∙ ap (says octets None) (pieces_after k.taken [] ∙ append-nil k.taken) ∙ k.says_is in
-    subst (HasTokens octets) same (zone_tokens octets all r none)
+    subst (HasTokenEntries octets) same (zone_tokens octets all r none)
 
 -- two texts that went on with different parts
-pub apart : (first second : List ℕ) (common : List Part) (e f : Option Part) (p q : Position) → GoesOn first common e p → GoesOn second common f q → (e ≡ f → ⊥)
+pub apart : (first second : List ℕ) (common : List ComparedPart) (e f : Option ComparedPart) (p q : Position) → GoesOnWithPart first common e p → GoesOnWithPart second common f q → (e ≡ f → ⊥)
     → DifferAt first second p q × NoCommon first second
 apart first second common e f p q g h other =
     let d : DifferAt first second p q = record { common = common; one = e; other = f; in_first = g; in_second = h; apart = other } in
     (d, no_common first second p q d)
 
 -- one more part
-part_on : (octets : List ℕ) (all old new : List (Result Piece Fault)) (ended : Option ℕ) (common : List Part) (p : Piece) (e : Part) → Taken octets all old ended common
-    → Skips ended old (Some (Ok p)) new → part octets ended p ≡ e → Taken octets all new (ended_by ended p) (common ++ e ∷ [])
+part_on : (octets : List ℕ) (all old new : List (Result Piece Fault)) (ended : Option ℕ) (common : List ComparedPart) (p : Piece) (e : ComparedPart) → Taken octets all old ended common
+    → SkipsToPart ended old (Some (Ok p)) new → part octets ended p ≡ e → Taken octets all new (ended_by ended p) (common ++ e ∷ [])
 part_on octets all old new ended common p e x s same =
     let k = skipped octets all old new ended common (Some (Ok p)) x s in
     record {
@@ -177,10 +177,10 @@ part_on octets all old new ended common p e x s same =
     }
 
 pub both_on : (first second : List ℕ) (all_ours all_theirs ours theirs new new2 : List (Result Piece Fault)) (ended that_ended next that_next : Option ℕ) (p q : Piece)
-    → InStep first second all_ours all_theirs ours theirs ended that_ended → Skips ended ours (Some (Ok p)) new → Skips that_ended theirs (Some (Ok q)) new2
+    → InStep first second all_ours all_theirs ours theirs ended that_ended → SkipsToPart ended ours (Some (Ok p)) new → SkipsToPart that_ended theirs (Some (Ok q)) new2
     → part first ended p ≡ part second that_ended q → next ≡ ended_by ended p → that_next ≡ ended_by that_ended q → InStep first second all_ours all_theirs new new2 next that_next
 both_on first second all_ours all_theirs ours theirs new new2 ended that_ended next that_next p q x s t same a b =
-    let e : Part = part second that_ended q in
+    let e : ComparedPart = part second that_ended q in
     record {
       common = x.common ++ e ∷ [];
       in_first = subst (λ o. Taken first all_ours new o (x.common ++ e ∷ [])) (sym a) (part_on first all_ours ours new ended x.common p e x.in_first s same);
@@ -195,7 +195,7 @@ pub record PassedOver (ended : Option ℕ) (old now : List (Result Piece Fault))
   pub passed : List Piece
   pub is : old ≡ map Ok passed ++ now
   pub no_parts : (octets : List ℕ) → says octets ended passed ≡ []
-  pub stays : ended_after ended passed ≡ ended
+  pub stays : ended_after_pieces ended passed ≡ ended
 
 -- a piece that is passed over, and one that is not
 pub over_one : (ended : Option ℕ) (p : Piece) → is_passed ended (Ok p) ≡ true → ((octets : List ℕ) → says octets ended (p ∷ []) ≡ []) × (ended_by ended p ≡ ended)

@@ -10,7 +10,7 @@ use Rattle.dns_split.specs.declared.pieces.Fault.{Fault}
 use Rattle.dns_split.specs.Pieces.{AreOctets, IsGiven, comment_at}
 use Rattle.zonetext_lib.specs.Compare.{says}
 use Rattle.zonetext_lib.specs.Comparing.{EndTwice, ends}
-use Rattle.zonetext_lib.specs.Entries.{Part, Token, Ends, ended_after, ended_by}
+use Rattle.zonetext_lib.specs.Entries.{ComparedPart, Token, Ends, ended_after_pieces, ended_by}
 use Rattle.zonetext_lib.proofs.Parts.{ended_append, says_append}
 use Rattle.zonetext_lib.proofs.Same.{EndsHere, tokens_to, up_to}
 
@@ -19,13 +19,13 @@ pub record Counted (octets : List ℕ) (given left : List (Result Piece Fault)) 
   pub found : List Piece
   pub is : given ≡ map Ok found ++ left
   pub counted : ends (says octets None found) ≡ count
-  pub begun : is_some (ended_after None found) ≡ some
+  pub begun : is_some (ended_after_pieces None found) ≡ some
   pub last : 2 ≤ count → (at : ℕ) × EndsHere found at
 
 pub none_counted : (octets : List ℕ) (given : List (Result Piece Fault)) → Counted octets given given 0 false
 none_counted octets given = record { found = []; is = refl; counted = refl; begun = refl; last = λ h. absurd (omega (arith, h)) }
 
-ends_append : (xs ys : List Part) → ends (xs ++ ys) ≡ ends xs + ends ys
+ends_append : (xs ys : List ComparedPart) → ends (xs ++ ys) ≡ ends xs + ends ys
 ends_append [] ys = omega arith
 ends_append (Token g t ∷ xs) ys = ends_append xs ys
 ends_append (Ends b ∷ xs) ys = omega (arith, ends_append xs ys)
@@ -43,8 +43,8 @@ more_is : (given now left : List (Result Piece Fault)) (found : List Piece) (p :
 more_is given now left found p e k =
     e ∙ ap (λ l. map Ok found ++ l) k ∙ sym (append_assoc (map Ok found) (Ok p ∷ []) left) ∙ ap (λ l. l ++ left) (sym (map-append Ok found (p ∷ [])))
 
-sum_is : (octets : List ℕ) (found : List Piece) (p : Piece) → ends (says octets None (found ++ p ∷ [])) ≡ ends (says octets None found) + ends (says octets (ended_after None found) (p ∷ []))
-sum_is octets found p = ap ends (says_append octets None found (p ∷ [])) ∙ ends_append (says octets None found) (says octets (ended_after None found) (p ∷ []))
+sum_is : (octets : List ℕ) (found : List Piece) (p : Piece) → ends (says octets None (found ++ p ∷ [])) ≡ ends (says octets None found) + ends (says octets (ended_after_pieces None found) (p ∷ []))
+sum_is octets found p = ap ends (says_append octets None found (p ∷ [])) ∙ ends_append (says octets None found) (says octets (ended_after_pieces None found) (p ∷ []))
 
 -- a piece that ends no entry
 pub piece_counted : (octets : List ℕ) (given now left : List (Result Piece Fault)) (count : ℕ) (some next : Bool) (p : Piece) → now ≡ Ok p ∷ left
@@ -53,8 +53,8 @@ pub piece_counted : (octets : List ℕ) (given now left : List (Result Piece Fau
 piece_counted octets given now left count some next p e none begins few x = record {
   found = x.found ++ p ∷ [];
   is = more_is given now left x.found p x.is e;
-  counted = sum_is octets x.found p ∙ omega (arith, x.counted, none (ended_after None x.found));
-  begun = ap is_some (ended_append None x.found (p ∷ [])) ∙ begins (ended_after None x.found) x.begun;
+  counted = sum_is octets x.found p ∙ omega (arith, x.counted, none (ended_after_pieces None x.found));
+  begun = ap is_some (ended_append None x.found (p ∷ [])) ∙ begins (ended_after_pieces None x.found) x.begun;
   last = λ h. absurd (omega (arith, h, few));
 }
 
@@ -63,7 +63,7 @@ pub end_counted : (octets : List ℕ) (given now left : List (Result Piece Fault
 end_counted octets given now left count some p e x = record {
   found = x.found ++ EndAt p ∷ [];
   is = more_is given now left x.found (EndAt p) x.is e;
-  counted = sum_is octets x.found (EndAt p) ∙ omega (arith, x.counted, end_counts octets (ended_after None x.found) p, ap one_if x.begun);
+  counted = sum_is octets x.found (EndAt p) ∙ omega (arith, x.counted, end_counts octets (ended_after_pieces None x.found) p, ap one_if x.begun);
   begun = ap is_some (ended_append None x.found (EndAt p ∷ []));
   last = λ h. (p.at, (x.found, p.begins_blank, refl));
 }

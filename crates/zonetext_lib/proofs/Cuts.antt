@@ -8,7 +8,7 @@ use Rattle.dns_split.specs.declared.pieces.Fault.{Fault}
 use Rattle.dns_split.specs.Pieces.{AreOctets, IsGiven, end_at, later, moved_piece, moved_fault}
 use Rattle.dns_split.proofs.Blocks.{entries_stay, faults_stay, nothing_given}
 use Rattle.dns_split.proofs.OctetsOnce.{run_given}
-use Rattle.zonetext_lib.specs.Blocks.{EndsEntry, IsCut}
+use Rattle.zonetext_lib.specs.Blocks.{EndsEntry, EndsEntryAt}
 use Rattle.zonetext_lib.specs.Found.{IsZone, IsOctetFault}
 use Rattle.zonetext_lib.proofs.Givens.{first_fault, first_of_oks, moved_first, moved_oks, pieces_in, whole_of, fault_of}
 use Rattle.std.proofs.lemmas.Bool.{and_parts, and_from}
@@ -79,7 +79,7 @@ read_on before octets alone b o (inr e) g =
     }
 
 -- one more entry ends
-pub ended_on : (before octets : List ℕ) (at : ℕ) → AreOctets before → AreOctets octets → EndsEntry before → at ≤ length octets → IsCut octets at → EndsEntry (before ++ take at octets)
+pub ended_on : (before octets : List ℕ) (at : ℕ) → AreOctets before → AreOctets octets → EndsEntry before → at ≤ length octets → EndsEntryAt octets at → EndsEntry (before ++ take at octets)
 ended_on before octets at b o e within c =
     let found : List Piece = c.0 in
     let blank : Bool = c.1 in

@@ -7,7 +7,7 @@ use Rattle.std.proofs.lemmas.Bool.{and_parts, cases_lt, leb-true}
 use Rattle.std.proofs.lemmas.List.{reverse-append}
 use Rattle.std.proofs.lemmas.List.Sums.{take_while-cons, sum_by-append}
 use Rattle.std.proofs.lemmas.Str.{encode_ascii}
-use Rattle.dns_split.specs.Lexeme.{Line, bytes}
+use Rattle.dns_split.specs.Lexeme.{Line, lexeme_bytes}
 use Rattle.dns_split.proofs.PieceLexemes.{is_high, high_bytes, first_high}
 use Rattle.zonetext_lib.specs.Blocks.{EndsEntry}
 use Rattle.zonetext_lib.specs.Place.{begins_character, column_of, feeds, last_line}
@@ -40,7 +40,7 @@ all_last : (cs : List ℕ) (d e : ℕ) → (d ≡ 10 → e ≡ 10) → last_of d
 all_last [] d e h k = h k
 all_last (c ∷ cs) d e h k = all_last cs (last_of d (encode_utf8 c)) c (char_last c d) (sym (last_append d (encode_utf8 c) (encode_utf8_all cs)) ∙ k)
 
-feed_last : (d : ℕ) (r : Bool) → last_of d (bytes (Line r)) ≡ 10
+feed_last : (d : ℕ) (r : Bool) → last_of d (lexeme_bytes (Line r)) ≡ 10
 unfolding encode
 feed_last d true = refl
 feed_last d false = refl
@@ -56,7 +56,7 @@ pub ends_feed : (before : List ℕ) → EndsEntry before → EndsFeed before
 ends_feed before (inl none) = inl none
 ends_feed before (inr e) =
     let line = entry_line before e.0 e.1 e.2 in
-    let last : last_of 0 (encode_utf8_all before) ≡ 10 = ap (last_of 0) line.is ∙ last_append 0 line.front (bytes (Line line.has_cr)) ∙ feed_last (last_of 0 line.front) line.has_cr in
+    let last : last_of 0 (encode_utf8_all before) ≡ 10 = ap (last_of 0) line.is ∙ last_append 0 line.front (lexeme_bytes (Line line.has_cr)) ∙ feed_last (last_of 0 line.front) line.has_cr in
     go before (all_last before 0 0 (λ h. h) last)
   where
     go : (l : List ℕ) → last_of 0 l ≡ 10 → EndsFeed l

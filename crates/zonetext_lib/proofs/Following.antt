@@ -13,10 +13,10 @@ use Rattle.dns_split.proofs.OctetsOnce.{given_once}
 use Rattle.zonetext_lib.specs.declared.layout.Gap.{Gap}
 use Rattle.zonetext_lib.specs.declared.tokens.Form.{Form}
 use Rattle.zonetext_lib.specs.Blocks.{EndsEntry}
-use Rattle.zonetext_lib.specs.Entries.{Part, Token, Ends, begins_glued, parts, parts_after}
+use Rattle.zonetext_lib.specs.Entries.{ComparedPart, Token, Ends, begins_glued, parts, parts_after}
 use Rattle.zonetext_lib.specs.Layout.{feed_before, gap_if, laid_out, leads}
 use Rattle.zonetext_lib.specs.Place.{column_of, feeds}
-use Rattle.zonetext_lib.specs.Tokens.{Appended, row, row_at, rows_after}
+use Rattle.zonetext_lib.specs.Tokens.{Appended, token_row, row_at, rows_after}
 use Rattle.zonetext_lib.proofs.Parts.{parts_append, rows_append, rows_ended}
 use Rattle.zonetext_lib.proofs.Cuts.{EndedFront, read_on}
 use Rattle.zonetext_lib.proofs.Feeds.{EndsFeed, column_after, ends_feed, feeds_after}
@@ -43,8 +43,8 @@ glued_back n (Some e) s = elim (cases_eq e s) [
 row_front : (before x : List ℕ) (form : Form) (kind : List ℕ) (g : Bool) (s e : ℕ) → s ≤ e → e ≤ length before → row_at (before ++ x) 0 form kind g s e ≡ row_at before 0 form kind g s e
 row_front before x form kind g s e h k =
     let t : take s (before ++ x) ≡ take s before = take-append-le s before x (omega arith) in
-    ap (λ l. row form (0 + feeds l + 1) (column_of l) kind g (between (before ++ x) s e)) t
-    ∙ ap (row form (0 + feeds (take s before) + 1) (column_of (take s before)) kind g) (between_front before x s e h k)
+    ap (λ l. token_row form (0 + feeds l + 1) (column_of l) kind g (between (before ++ x) s e)) t
+    ∙ ap (token_row form (0 + feeds (take s before) + 1) (column_of (take s before)) kind g) (between_front before x s e h k)
 
 row_back : (before x : List ℕ) (form : Form) (kind : List ℕ) (ended : Option ℕ) (s e : ℕ) → EndsFeed before
     → row_at (before ++ x) 0 form kind (begins_glued (option_map (λ i. length before + i) ended) (length before + s)) (length before + s) (length before + e)
@@ -56,10 +56,10 @@ row_back before x form kind ended s e f =
     let t : l ≡ before ++ take s x = take-append-add before x s in
     let line : 0 + feeds l + 1 ≡ feeds before + feeds (take s x) + 1 = omega (arith, ap feeds t, feeds_after before (take s x)) in
     let column : column_of l ≡ column_of (take s x) = ap column_of t ∙ column_after before (take s x) f in
-    ap (λ b. row form (0 + feeds l + 1) (column_of l) kind b (between (before ++ x) (n + s) (n + e))) (glued_back n ended s)
-    ∙ ap (λ i. row form i (column_of l) kind g (between (before ++ x) (n + s) (n + e))) line
-    ∙ ap (λ c. row form (feeds before + feeds (take s x) + 1) c kind g (between (before ++ x) (n + s) (n + e))) column
-    ∙ ap (row form (feeds before + feeds (take s x) + 1) (column_of (take s x)) kind g) (between_back before x s e)
+    ap (λ b. token_row form (0 + feeds l + 1) (column_of l) kind b (between (before ++ x) (n + s) (n + e))) (glued_back n ended s)
+    ∙ ap (λ i. token_row form i (column_of l) kind g (between (before ++ x) (n + s) (n + e))) line
+    ∙ ap (λ c. token_row form (feeds before + feeds (take s x) + 1) c kind g (between (before ++ x) (n + s) (n + e))) column
+    ∙ ap (token_row form (feeds before + feeds (take s x) + 1) (column_of (take s x)) kind g) (between_back before x s e)
 
 pub rows_front : (before x : List ℕ) (form : Form) (ended : Option ℕ) (front : List Piece) (more : List (Result Piece Fault)) → EachWithin (length before) (map Ok front ++ more)
     → rows_after (before ++ x) 0 form ended (map Ok front) ≡ rows_after before 0 form ended (map Ok front)
@@ -138,16 +138,16 @@ parts_back before x ended (CommentAt p ∷ found) = parts_back before x ended fo
 parts_back before x ended (EndAt p ∷ found) = ap (λ l. Ends p.begins_blank ∷ l) (parts_back before x None found)
 
 -- the lines of entries that have ended, and of those that follow
-leads_front : (es : List Part) (b : Bool) (fs gs : List Part) → leads (es ++ Ends b ∷ fs) ≡ leads (es ++ Ends b ∷ gs)
+leads_front : (es : List ComparedPart) (b : Bool) (fs gs : List ComparedPart) → leads (es ++ Ends b ∷ fs) ≡ leads (es ++ Ends b ∷ gs)
 leads_front [] b fs gs = refl
 leads_front (Token g t ∷ es) b fs gs = leads_front es b fs gs
 leads_front (Ends a ∷ es) b fs gs = refl
 
-feed_front : (es : List Part) (b : Bool) (fs gs : List Part) → feed_before (es ++ Ends b ∷ fs) ≡ feed_before (es ++ Ends b ∷ gs)
+feed_front : (es : List ComparedPart) (b : Bool) (fs gs : List ComparedPart) → feed_before (es ++ Ends b ∷ fs) ≡ feed_before (es ++ Ends b ∷ gs)
 feed_front [] b fs gs = refl
 feed_front (e ∷ es) b fs gs = refl
 
-lines_on : (gap : Gap) (inside : Bool) (es : List Part) (b : Bool) (f : Part) (fs : List Part)
+lines_on : (gap : Gap) (inside : Bool) (es : List ComparedPart) (b : Bool) (f : ComparedPart) (fs : List ComparedPart)
     → laid_out gap inside (es ++ Ends b ∷ f ∷ fs) ≡ laid_out gap inside (es ++ Ends b ∷ Ends false ∷ []) ++ laid_out gap false (f ∷ fs)
 lines_on gap inside [] b f fs =
     let k : List ℕ = laid_out gap false (f ∷ fs) in
@@ -155,7 +155,7 @@ lines_on gap inside [] b f fs =
 lines_on gap inside (Token g t ∷ es) b f fs =
     let k : List ℕ = laid_out gap false (f ∷ fs) in
     let m : List ℕ = laid_out gap true (es ++ Ends b ∷ Ends false ∷ []) in
-    let lead : List Part → List ℕ = λ l. gap_if gap (not g && (inside || leads l)) in
+    let lead : List ComparedPart → List ℕ = λ l. gap_if gap (not g && (inside || leads l)) in
     ap (λ c. gap_if gap (not g && (inside || c)) ++ (t ++ laid_out gap true (es ++ Ends b ∷ f ∷ fs))) (leads_front es b (f ∷ fs) (Ends false ∷ []))
     ∙ ap (λ l. lead (es ++ Ends b ∷ Ends false ∷ []) ++ (t ++ l)) (lines_on gap true es b f fs)
     ∙ ap (λ l. lead (es ++ Ends b ∷ Ends false ∷ []) ++ l) (sym (append_assoc t m k))
@@ -169,14 +169,14 @@ lines_on gap inside (Ends a ∷ es) b f fs =
     ∙ ap (λ l. gap_if gap (not inside && a) ++ l) (sym (append_assoc feed m k))
     ∙ sym (append_assoc (gap_if gap (not inside && a)) (feed ++ m) k)
 
-pub lines_joined : (gap : Gap) (octets : List ℕ) (front : List Piece) (fs : List Part) → EndedFront front → 0 < length fs
+pub lines_joined : (gap : Gap) (octets : List ℕ) (front : List Piece) (fs : List ComparedPart) → EndedFront front → 0 < length fs
     → laid_out gap false (parts octets front ++ Ends false ∷ []) ++ laid_out gap false fs ≡ laid_out gap false (parts octets front ++ fs)
 lines_joined gap octets front [] e s = absurd (omega (arith, s))
 lines_joined gap octets front (f ∷ fs) (inl none) s =
     ap (λ p. laid_out gap false (parts octets p ++ Ends false ∷ []) ++ laid_out gap false (f ∷ fs)) none
     ∙ sym (ap (λ p. laid_out gap false (parts octets p ++ f ∷ fs)) none)
 lines_joined gap octets front (f ∷ fs) (inr e) s =
-    let p : List Part = parts octets e.0 in
+    let p : List ComparedPart = parts octets e.0 in
     let b : Bool = e.2 in
     let shape : parts octets front ≡ p ++ Ends b ∷ [] = ap (parts octets) e.3 ∙ parts_append octets None e.0 (end_at e.1 b ∷ []) in
     ap (λ l. laid_out gap false (l ++ Ends false ∷ []) ++ laid_out gap false (f ∷ fs)) shape

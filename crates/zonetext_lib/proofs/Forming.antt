@@ -16,7 +16,7 @@ use Rattle.zone_format.proofs.Seams.{none_formed}
 use Rattle.zone_format.specs.Refusal.{HasToken, IsRefused, IsToken, begins_order_mark}
 use Rattle.zone_format.specs.declared.refusal.Refusal.TheVariants.{Nul as NulAt, OrderMark as OrderMarkAt, Wrong as WrongAt}
 use Rattle.zone_format.specs.declared.stand.Seam.{Seam}
-use Rattle.zonetext_lib.specs.Blocks.{EndsEntry, Holds, IsHeld, Releases, Settled, Takes}
+use Rattle.zonetext_lib.specs.Blocks.{EndsEntry, Holds, IsHeld, Releases, Settled, TakesBlock}
 use Rattle.zonetext_lib.specs.Found.{IsOctetFault, IsZone}
 use Rattle.zonetext_lib.specs.declared.blocks.Halt.{Halt}
 use Rattle.zonetext_lib.specs.declared.blocks.Halt.TheVariants.{Wrong as WrongHalt, OutOfMemory as OutOfMemoryHalt, TooLong as TooLongHalt}
@@ -237,7 +237,7 @@ pub nothing_held : (h : Held) → Holds [] h → length h.octets < 2 ^ 62
 nothing_held h x = let none : length h.octets ≡ 0 = sym (ap length (none_before x.before h.octets x.is).1) in omega (arith, none)
 
 -- a block that was not taken, or is given back
-pub not_taken : (old new : Held) (s : Seam) (block from to : List ℕ) (h : Halt) → Takes old new block (Err h) → AddsForm {U = Unit} (forming old s) (forming new s) block from to (Err (as_no_form h))
+pub not_taken : (old new : Held) (s : Seam) (block from to : List ℕ) (h : Halt) → TakesBlock old new block (Err h) → AddsForm {U = Unit} (forming old s) (forming new s) block from to (Err (as_no_form h))
 not_taken old new s block from to (WrongHalt f) k = absurd k
 not_taken old new s block from to OutOfMemoryHalt k = ap (λ (h : Held). forming h s) k
 not_taken old new s block from to TooLongHalt k = (ap (λ (h : Held). forming h s) k.0, omega (arith, k.1))

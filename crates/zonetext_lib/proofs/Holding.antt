@@ -4,8 +4,8 @@ use Rattle.std.specs.Prelude.{Some, None, Ok, Err}
 use Rattle.std.proofs.lemmas.List.{take-append-drop}
 use Rattle.dns_split.specs.declared.pieces.Fault.{Fault}
 use Rattle.dns_split.specs.Pieces.{AreOctets, moved_fault}
-use Rattle.zonetext_lib.specs.Blocks.{EndsEntry, EndsWith, Holds, IsOpenedAfter, Settled}
-use Rattle.zonetext_lib.specs.Found.{IsFound, IsOctetFault, IsZone}
+use Rattle.zonetext_lib.specs.Blocks.{EndsEntry, EndsWith, Holds, Settled}
+use Rattle.zonetext_lib.specs.Found.{IsFound, IsOctetFault, IsOpenedAfter, IsZone}
 use Rattle.zonetext_lib.specs.Held.{Held}
 use Rattle.zonetext_lib.specs.Place.{IsAt}
 use Rattle.zonetext_lib.specs.declared.check.Found.{Found}
@@ -20,7 +20,7 @@ held_at octets place left = record { octets = octets; place = place; left = left
 pub record Located (h : Held) (f : Fault) (r : Found) : Type 0 where
   pub fault : r.fault ≡ moved_fault (λ i. h.place.at + i) f
   pub position : (before : List ℕ) → IsAt 0 before h.place.position → IsAt 0 (before ++ take f.at h.octets) r.position
-  pub opened : (before : List ℕ) → IsAt 0 before h.place.position → IsOpenedAfter before h.octets f.wrong r.opened
+  pub opened : (before : List ℕ) → IsAt 0 before h.place.position → IsOpenedAfter 0 before h.octets f.wrong r.opened
 
 located_on : (all more : List ℕ) (h : Held) (f : Fault) (r : Found) (x : Holds all h) → f.at ≤ length h.octets → Located h f r
     → IsOctetFault (x.before ++ (h.octets ++ more)) (moved_fault (λ i. length x.before + i) f) → IsFound (all ++ more) 0 r

@@ -10,7 +10,7 @@ use Rattle.std.proofs.lemmas.Str.{encodes-append, length-encode, len_utf8_bounds
 use Rattle.dns_symbol.specs.Characters.{tab, line_feed, carriage_return, space, open_parenthesis, close_parenthesis, semicolon}
 use Rattle.dns_split.specs.declared.pieces.Piece.{Piece}
 use Rattle.dns_split.specs.declared.pieces.Fault.{Fault}
-use Rattle.dns_split.specs.Lexeme.{Lexeme, Blank, Line, Open, Close, Note, Word, Quote, bytes, is_lexeme}
+use Rattle.dns_split.specs.Lexeme.{Lexeme, Blank, Line, Open, Close, Note, Word, Quote, lexeme_bytes, is_lexeme}
 use Rattle.dns_split.specs.Splitting.{are_lexemes, may_precede, nests}
 use Rattle.dns_split.specs.Pieces.{pieces, begins_blank, between, IsOctetPieces, IsPieces, moved, moved_piece, moved_fault, place_of}
 use Rattle.dns_split.proofs.Agree.{pieces_of_octets}
@@ -18,19 +18,19 @@ use Rattle.dns_split.proofs.Complete.{word_some, quote_some}
 use Rattle.dns_split.proofs.PieceSplit.{between_is, same_found}
 use Rattle.zonetext_lib.specs.declared.layout.Gap.{Gap}
 use Rattle.zonetext_lib.specs.declared.layout.Gap.TheVariants.{Space, Tab}
-use Rattle.zonetext_lib.specs.Entries.{Part, Token, Ends, begins_glued, parts, parts_after, HasEntries}
+use Rattle.zonetext_lib.specs.Entries.{ComparedPart, Token, Ends, begins_glued, parts, parts_after, HasEntries}
 use Rattle.zonetext_lib.specs.Layout.{gap_if, leads, feed_before, laid_out}
 use Rattle.zonetext_lib.proofs.Givens.{first_fault, pieces_in, all_ok, moved_first, moved_oks, first_of_oks}
 use Rattle.zonetext_lib.proofs.Once.{encoded, moved_parts, octets_start, same_parts}
 
 -- the parts of lexemes, directly after a token or not
-abbrev parts_of : Bool → ℕ → Bool → List Lexeme → List Part
+abbrev parts_of : Bool → ℕ → Bool → List Lexeme → List ComparedPart
 parts_of g d b [] = Ends b ∷ []
 parts_of g d b (Open ∷ ls) = parts_of false (suc d) b ls
 parts_of g zero b (Line r ∷ ls) = Ends b ∷ parts_of false zero (begins_blank ls) ls
 parts_of g (suc d) b (Close ∷ ls) = parts_of false d b ls
-parts_of g d b (Word s ss ∷ ls) = Token g (bytes (Word s ss)) ∷ parts_of true d b ls
-parts_of g d b (Quote ss ∷ ls) = Token g (bytes (Quote ss)) ∷ parts_of true d b ls
+parts_of g d b (Word s ss ∷ ls) = Token g (lexeme_bytes (Word s ss)) ∷ parts_of true d b ls
+parts_of g d b (Quote ss ∷ ls) = Token g (lexeme_bytes (Quote ss)) ∷ parts_of true d b ls
 parts_of g d b (_ ∷ ls) = parts_of false d b ls
 
 -- a place directly after the last token, or not
@@ -52,7 +52,7 @@ stands_end at = (omega arith, eq-eqb at at refl)
 first_some : (c : ℕ) (cs : List ℕ) → 0 < length (encode_utf8_all (c ∷ cs))
 first_some c cs = omega (arith, length-append (encode_utf8 c) (encode_utf8_all cs), length-encode c, (len_utf8_bounds c).0)
 
-bytes_some : (l : Lexeme) → 0 < length (bytes l)
+bytes_some : (l : Lexeme) → 0 < length (lexeme_bytes l)
 bytes_some (Blank true) = first_some tab []
 bytes_some (Blank false) = first_some space []
 bytes_some (Line true) = first_some carriage_return (line_feed ∷ [])
@@ -64,26 +64,26 @@ bytes_some (Word s ss) = word_some s ss
 bytes_some (Quote ss) = quote_some ss
 
 abbrev Cuts : List Lexeme → Type 0
-Cuts ls = (text before : List ℕ) (g : Bool) (ended : Option ℕ) (d at : ℕ) (b : Bool) → before ++ flat_map bytes ls ≡ text → at ≡ length before → nests d ls ≡ true → StandsAt ended at g
+Cuts ls = (text before : List ℕ) (g : Bool) (ended : Option ℕ) (d at : ℕ) (b : Bool) → before ++ flat_map lexeme_bytes ls ≡ text → at ≡ length before → nests d ls ≡ true → StandsAt ended at g
     → parts_of g d b ls ≡ parts_after text ended (pieces at d b ls)
 
-past : (l : Lexeme) (ls : List Lexeme) → Cuts ls → (text before : List ℕ) (g : Bool) (ended : Option ℕ) (d at : ℕ) (b : Bool) → before ++ flat_map bytes (l ∷ ls) ≡ text → at ≡ length before
-    → nests d ls ≡ true → StandsAt ended (at + length (bytes l)) g → parts_of g d b ls ≡ parts_after text ended (pieces (at + length (bytes l)) d b ls)
+past : (l : Lexeme) (ls : List Lexeme) → Cuts ls → (text before : List ℕ) (g : Bool) (ended : Option ℕ) (d at : ℕ) (b : Bool) → before ++ flat_map lexeme_bytes (l ∷ ls) ≡ text → at ≡ length before
+    → nests d ls ≡ true → StandsAt ended (at + length (lexeme_bytes l)) g → parts_of g d b ls ≡ parts_after text ended (pieces (at + length (lexeme_bytes l)) d b ls)
 past l ls more text before g ended d at b e k n s =
-    more text (before ++ bytes l) g ended d (at + length (bytes l)) b (append_assoc before (bytes l) (flat_map bytes ls) ∙ e) (omega (arith, k, length-append before (bytes l))) n s
+    more text (before ++ lexeme_bytes l) g ended d (at + length (lexeme_bytes l)) b (append_assoc before (lexeme_bytes l) (flat_map lexeme_bytes ls) ∙ e) (omega (arith, k, length-append before (lexeme_bytes l))) n s
 
-apart : (l : Lexeme) (ls : List Lexeme) → Cuts ls → (text before : List ℕ) (g : Bool) (ended : Option ℕ) (d at : ℕ) (b : Bool) → before ++ flat_map bytes (l ∷ ls) ≡ text → at ≡ length before
-    → nests d ls ≡ true → StandsAt ended at g → parts_of false d b ls ≡ parts_after text ended (pieces (at + length (bytes l)) d b ls)
-apart l ls more text before g ended d at b e k n s = past l ls more text before false ended d at b e k n (stands_on ended at (length (bytes l)) g (bytes_some l) s)
+apart : (l : Lexeme) (ls : List Lexeme) → Cuts ls → (text before : List ℕ) (g : Bool) (ended : Option ℕ) (d at : ℕ) (b : Bool) → before ++ flat_map lexeme_bytes (l ∷ ls) ≡ text → at ≡ length before
+    → nests d ls ≡ true → StandsAt ended at g → parts_of false d b ls ≡ parts_after text ended (pieces (at + length (lexeme_bytes l)) d b ls)
+apart l ls more text before g ended d at b e k n s = past l ls more text before false ended d at b e k n (stands_on ended at (length (lexeme_bytes l)) g (bytes_some l) s)
 
-token_past : (l : Lexeme) (ls : List Lexeme) → Cuts ls → (text before : List ℕ) (g : Bool) (ended : Option ℕ) (d at : ℕ) (b : Bool) → before ++ flat_map bytes (l ∷ ls) ≡ text → at ≡ length before
+token_past : (l : Lexeme) (ls : List Lexeme) → Cuts ls → (text before : List ℕ) (g : Bool) (ended : Option ℕ) (d at : ℕ) (b : Bool) → before ++ flat_map lexeme_bytes (l ∷ ls) ≡ text → at ≡ length before
     → nests d ls ≡ true → StandsAt ended at g
-    → Token g (bytes l) ∷ parts_of true d b ls
-    ≡ Token (begins_glued ended at) (between text at (at + length (bytes l))) ∷ parts_after text (Some (at + length (bytes l))) (pieces (at + length (bytes l)) d b ls)
+    → Token g (lexeme_bytes l) ∷ parts_of true d b ls
+    ≡ Token (begins_glued ended at) (between text at (at + length (lexeme_bytes l))) ∷ parts_after text (Some (at + length (lexeme_bytes l))) (pieces (at + length (lexeme_bytes l)) d b ls)
 token_past l ls more text before g ended d at b e k n s =
-    ap (λ r. Token g (bytes l) ∷ r) (past l ls more text before true (Some (at + length (bytes l))) d at b e k n (stands_end (at + length (bytes l))))
-    ∙ ap (λ t. Token g t ∷ parts_after text (Some (at + length (bytes l))) (pieces (at + length (bytes l)) d b ls)) (sym (between_is before (bytes l) (flat_map bytes ls) text at e k))
-    ∙ ap (λ x. Token x (between text at (at + length (bytes l))) ∷ parts_after text (Some (at + length (bytes l))) (pieces (at + length (bytes l)) d b ls)) (sym (glued_here ended at g s))
+    ap (λ r. Token g (lexeme_bytes l) ∷ r) (past l ls more text before true (Some (at + length (lexeme_bytes l))) d at b e k n (stands_end (at + length (lexeme_bytes l))))
+    ∙ ap (λ t. Token g t ∷ parts_after text (Some (at + length (lexeme_bytes l))) (pieces (at + length (lexeme_bytes l)) d b ls)) (sym (between_is before (lexeme_bytes l) (flat_map lexeme_bytes ls) text at e k))
+    ∙ ap (λ x. Token x (between text at (at + length (lexeme_bytes l))) ∷ parts_after text (Some (at + length (lexeme_bytes l))) (pieces (at + length (lexeme_bytes l)) d b ls)) (sym (glued_here ended at g s))
 
 cuts : (ls : List Lexeme) → Cuts ls
 cuts [] text before g ended d at b e k n s = refl
@@ -107,25 +107,25 @@ record Spelling (t : List ℕ) : Type 0 where
   pub lexeme : Lexeme
   pub token : is_token lexeme ≡ true
   pub valid : is_lexeme lexeme ≡ true
-  pub is : bytes lexeme ≡ t
+  pub is : lexeme_bytes lexeme ≡ t
 
 -- a token may be glued to this one before it, if there is one
 abbrev may_glue : Option Lexeme → Lexeme → Bool
 may_glue None l = false
 may_glue (Some k) l = may_precede k (l ∷ [])
 
-abbrev Spelled : Option Lexeme → List Part → Type 0
+abbrev Spelled : Option Lexeme → List ComparedPart → Type 0
 Spelled k [] = ⊤
 Spelled k (Token g t ∷ es) = (x : Spelling t) × (g ≡ true → may_glue k x.lexeme ≡ true) × Spelled (Some x.lexeme) es
 Spelled k (Ends b ∷ es) = Spelled None es
 
-abbrev closes : List Part → Bool
+abbrev closes : List ComparedPart → Bool
 closes [] = false
 closes (Token g t ∷ es) = closes es
 closes (Ends b ∷ []) = true
 closes (Ends b ∷ e ∷ es) = closes (e ∷ es)
 
-some_close : (b : Bool) (es : List Part) → closes es ≡ true → closes (Ends b ∷ es) ≡ true
+some_close : (b : Bool) (es : List ComparedPart) → closes es ≡ true → closes (Ends b ∷ es) ≡ true
 some_close b [] h = refl
 some_close b (e ∷ es) h = h
 
@@ -224,38 +224,38 @@ abbrev lead : Gap → Bool → List Lexeme
 lead gap true = Blank (is_tab gap) ∷ []
 lead gap false = []
 
-abbrev line_before : List Part → List Lexeme
+abbrev line_before : List ComparedPart → List Lexeme
 line_before [] = []
 line_before (e ∷ es) = Line false ∷ []
 
-abbrev build : Gap → (o : Option Lexeme) (es : List Part) → Spelled o es → List Lexeme
+abbrev build : Gap → (o : Option Lexeme) (es : List ComparedPart) → Spelled o es → List Lexeme
 build gap o [] s = []
 build gap o (Token g t ∷ es) s = lead gap (not g && (is_some o || leads es)) ++ (s.0.lexeme ∷ build gap (Some s.0.lexeme) es s.2)
 build gap o (Ends b ∷ es) s = lead gap (not (is_some o) && b) ++ (line_before es ++ build gap None es s)
 
-lead_bytes : (gap : Gap) (b : Bool) → flat_map bytes (lead gap b) ≡ gap_if gap b
+lead_bytes : (gap : Gap) (b : Bool) → flat_map lexeme_bytes (lead gap b) ≡ gap_if gap b
 unfolding encode
 lead_bytes Space true = refl
 lead_bytes Tab true = refl
 lead_bytes gap false = refl
 
-line_bytes : (es : List Part) → flat_map bytes (line_before es) ≡ feed_before es
+line_bytes : (es : List ComparedPart) → flat_map lexeme_bytes (line_before es) ≡ feed_before es
 unfolding encode
 line_bytes [] = refl
 line_bytes (e ∷ es) = refl
 
-built_bytes : (gap : Gap) (o : Option Lexeme) (es : List Part) (s : Spelled o es) → flat_map bytes (build gap o es s) ≡ laid_out gap (is_some o) es
+built_bytes : (gap : Gap) (o : Option Lexeme) (es : List ComparedPart) (s : Spelled o es) → flat_map lexeme_bytes (build gap o es s) ≡ laid_out gap (is_some o) es
 built_bytes gap o [] s = refl
 built_bytes gap o (Token g t ∷ es) s =
     let apart : Bool = not g && (is_some o || leads es) in
     let more : List Lexeme = build gap (Some s.0.lexeme) es s.2 in
-    flat_map-append bytes (lead gap apart) (s.0.lexeme ∷ more) ∙ ap (λ l. l ++ (bytes s.0.lexeme ++ flat_map bytes more)) (lead_bytes gap apart)
-    ∙ ap (λ t. gap_if gap apart ++ (t ++ flat_map bytes more)) s.0.is ∙ ap (λ l. gap_if gap apart ++ (t ++ l)) (built_bytes gap (Some s.0.lexeme) es s.2)
+    flat_map-append lexeme_bytes (lead gap apart) (s.0.lexeme ∷ more) ∙ ap (λ l. l ++ (lexeme_bytes s.0.lexeme ++ flat_map lexeme_bytes more)) (lead_bytes gap apart)
+    ∙ ap (λ t. gap_if gap apart ++ (t ++ flat_map lexeme_bytes more)) s.0.is ∙ ap (λ l. gap_if gap apart ++ (t ++ l)) (built_bytes gap (Some s.0.lexeme) es s.2)
 built_bytes gap o (Ends b ∷ es) s =
     let blank : Bool = not (is_some o) && b in
-    flat_map-append bytes (lead gap blank) (line_before es ++ build gap None es s)
-    ∙ ap (λ l. l ++ flat_map bytes (line_before es ++ build gap None es s)) (lead_bytes gap blank)
-    ∙ ap (λ l. gap_if gap blank ++ l) (flat_map-append bytes (line_before es) (build gap None es s) ∙ ap (λ l. l ++ flat_map bytes (build gap None es s)) (line_bytes es)
+    flat_map-append lexeme_bytes (lead gap blank) (line_before es ++ build gap None es s)
+    ∙ ap (λ l. l ++ flat_map lexeme_bytes (line_before es ++ build gap None es s)) (lead_bytes gap blank)
+    ∙ ap (λ l. gap_if gap blank ++ l) (flat_map-append lexeme_bytes (line_before es) (build gap None es s) ∙ ap (λ l. l ++ flat_map lexeme_bytes (build gap None es s)) (line_bytes es)
     ∙ ap (λ l. feed_before es ++ l) (built_bytes gap None es s))
 
 abbrev no_word : List Lexeme → Bool
@@ -278,7 +278,7 @@ may_follow Open ls t n = cc
 may_follow Close ls t n = cc
 may_follow (Note a) ls t n = cc
 
-after_token : (gap : Gap) (l : Lexeme) (es : List Part) (s : Spelled (Some l) es) → is_token l ≡ true → may_precede l (build gap (Some l) es s) ≡ true
+after_token : (gap : Gap) (l : Lexeme) (es : List ComparedPart) (s : Spelled (Some l) es) → is_token l ≡ true → may_precede l (build gap (Some l) es s) ≡ true
 after_token gap l [] s t = may_follow l [] t refl
 after_token gap l (Token true u ∷ es) s t = may_more l s.0.lexeme (build gap (Some s.0.lexeme) es s.2) (s.1 refl)
 after_token gap l (Token false u ∷ es) s t = may_follow l (Blank (is_tab gap) ∷ s.0.lexeme ∷ build gap (Some s.0.lexeme) es s.2) t refl
@@ -289,11 +289,11 @@ lead_valid : (gap : Gap) (b : Bool) (ls : List Lexeme) → are_lexemes ls ≡ tr
 lead_valid gap true ls v = v
 lead_valid gap false ls v = v
 
-line_valid : (es : List Part) (ls : List Lexeme) → are_lexemes ls ≡ true → are_lexemes (line_before es ++ ls) ≡ true
+line_valid : (es : List ComparedPart) (ls : List Lexeme) → are_lexemes ls ≡ true → are_lexemes (line_before es ++ ls) ≡ true
 line_valid [] ls v = v
 line_valid (e ∷ es) ls v = v
 
-built_valid : (gap : Gap) (o : Option Lexeme) (es : List Part) (s : Spelled o es) → are_lexemes (build gap o es s) ≡ true
+built_valid : (gap : Gap) (o : Option Lexeme) (es : List ComparedPart) (s : Spelled o es) → are_lexemes (build gap o es s) ≡ true
 built_valid gap o [] s = refl
 built_valid gap o (Token g t ∷ es) s =
     let l = s.0.lexeme in
@@ -308,7 +308,7 @@ lead_nests : (gap : Gap) (b : Bool) (ls : List Lexeme) → nests 0 ls ≡ true �
 lead_nests gap true ls v = v
 lead_nests gap false ls v = v
 
-line_nests : (es : List Part) (ls : List Lexeme) → nests 0 ls ≡ true → nests 0 (line_before es ++ ls) ≡ true
+line_nests : (es : List ComparedPart) (ls : List Lexeme) → nests 0 ls ≡ true → nests 0 (line_before es ++ ls) ≡ true
 line_nests [] ls v = v
 line_nests (e ∷ es) ls v = v
 
@@ -321,7 +321,7 @@ token_nests Open ls t n = cc
 token_nests Close ls t n = cc
 token_nests (Note a) ls t n = cc
 
-built_nests : (gap : Gap) (o : Option Lexeme) (es : List Part) (s : Spelled o es) → nests 0 (build gap o es s) ≡ true
+built_nests : (gap : Gap) (o : Option Lexeme) (es : List ComparedPart) (s : Spelled o es) → nests 0 (build gap o es s) ≡ true
 built_nests gap o [] s = refl
 built_nests gap o (Token g t ∷ es) s =
     let more = build gap (Some s.0.lexeme) es s.2 in
@@ -342,11 +342,11 @@ lead_blank : (gap : Gap) (b : Bool) (ls : List Lexeme) → begins_blank ls ≡ f
 lead_blank gap true ls h = refl
 lead_blank gap false ls h = h
 
-line_blank : (gap : Gap) (es : List Part) (s : Spelled None es) → begins_blank (line_before es ++ build gap None es s) ≡ false
+line_blank : (gap : Gap) (es : List ComparedPart) (s : Spelled None es) → begins_blank (line_before es ++ build gap None es s) ≡ false
 line_blank gap [] s = refl
 line_blank gap (e ∷ es) s = refl
 
-built_blank : (gap : Gap) (es : List Part) (s : Spelled None es) → begins_blank (build gap None es s) ≡ leads es
+built_blank : (gap : Gap) (es : List ComparedPart) (s : Spelled None es) → begins_blank (build gap None es s) ≡ leads es
 built_blank gap [] s = refl
 built_blank gap (Token true t ∷ es) s = never (s.1 refl)
 built_blank gap (Token false t ∷ es) s =
@@ -366,7 +366,7 @@ lead_line : (gap : Gap) (c g b : Bool) (ls : List Lexeme) → parts_of g 0 b (le
 lead_line gap true g b ls = refl
 lead_line gap false g b ls = refl
 
-token_parts : (l : Lexeme) (g b : Bool) (ls : List Lexeme) → is_token l ≡ true → parts_of g 0 b (l ∷ ls) ≡ Token g (bytes l) ∷ parts_of true 0 b ls
+token_parts : (l : Lexeme) (g b : Bool) (ls : List Lexeme) → is_token l ≡ true → parts_of g 0 b (l ∷ ls) ≡ Token g (lexeme_bytes l) ∷ parts_of true 0 b ls
 token_parts (Word s ss) g b ls t = refl
 token_parts (Quote ss) g b ls t = refl
 token_parts (Blank a) g b ls t = cc
@@ -375,13 +375,13 @@ token_parts Open g b ls t = cc
 token_parts Close g b ls t = cc
 token_parts (Note a) g b ls t = cc
 
-token_built : (gap : Gap) (g b : Bool) (t : List ℕ) (es : List Part) (x : Spelling t) (s : Spelled (Some x.lexeme) es) → parts_of true 0 b (build gap (Some x.lexeme) es s) ≡ es
+token_built : (gap : Gap) (g b : Bool) (t : List ℕ) (es : List ComparedPart) (x : Spelling t) (s : Spelled (Some x.lexeme) es) → parts_of true 0 b (build gap (Some x.lexeme) es s) ≡ es
     → parts_of g 0 b (x.lexeme ∷ build gap (Some x.lexeme) es s) ≡ Token g t ∷ es
 token_built gap g b t es x s k =
     let more = build gap (Some x.lexeme) es s in
     token_parts x.lexeme g b more x.token ∙ ap (λ u. Token g u ∷ parts_of true 0 b more) x.is ∙ ap (λ l. Token g t ∷ l) k
 
-built_parts : (gap : Gap) (o : Option Lexeme) (b : Bool) (es : List Part) (s : Spelled o es) → closes es ≡ true → b ≡ leads es → parts_of (is_some o) 0 b (build gap o es s) ≡ es
+built_parts : (gap : Gap) (o : Option Lexeme) (b : Bool) (es : List ComparedPart) (s : Spelled o es) → closes es ≡ true → b ≡ leads es → parts_of (is_some o) 0 b (build gap o es s) ≡ es
 built_parts gap o b [] s c e = cc
 built_parts gap None b (Token true t ∷ es) s c e = never (s.1 refl)
 built_parts gap (Some k) b (Token true t ∷ es) s c e = token_built gap true b t es s.0 s.2 (built_parts gap (Some s.0.lexeme) b es s.2 c e)
@@ -404,7 +404,7 @@ text_laid_out gap text found p =
     let s = spelled p.lexemes false None 0 b p.valid (λ e. never e) in
     let ls = build gap None es s in
     let out = laid_out gap false es in
-    let same : flat_map bytes ls ≡ out = built_bytes gap None es s in
+    let same : flat_map lexeme_bytes ls ≡ out = built_bytes gap None es s in
     let again = pieces 0 0 (begins_blank ls) ls in
     let whole : IsPieces out again = record { lexemes = ls; spelled = same; valid = built_valid gap None es s; nested = built_nests gap None es s; placed = refl } in
     let kept : parts out again ≡ es = sym (cuts ls out [] false None 0 0 (begins_blank ls) same refl (built_nests gap None es s) refl)
@@ -412,7 +412,7 @@ text_laid_out gap text found p =
     subst (λ fs. (again : List Piece) × IsPieces (laid_out gap false fs) again × (parts (laid_out gap false fs) again ≡ fs)) is (again, whole, kept)
 
 -- the text of octets that are laid out
-leads_encoded : (es : List Part) → leads (map encoded es) ≡ leads es
+leads_encoded : (es : List ComparedPart) → leads (map encoded es) ≡ leads es
 leads_encoded [] = refl
 leads_encoded (Token g t ∷ es) = leads_encoded es
 leads_encoded (Ends b ∷ es) = refl
@@ -423,12 +423,12 @@ gap_encoded Space true = refl
 gap_encoded Tab true = refl
 gap_encoded gap false = refl
 
-feed_encoded : (es : List Part) → encode_utf8_all (feed_before es) ≡ feed_before (map encoded es)
+feed_encoded : (es : List ComparedPart) → encode_utf8_all (feed_before es) ≡ feed_before (map encoded es)
 unfolding encode
 feed_encoded [] = refl
 feed_encoded (e ∷ es) = refl
 
-out_encoded : (gap : Gap) (i : Bool) (es : List Part) → encode_utf8_all (laid_out gap i es) ≡ laid_out gap i (map encoded es)
+out_encoded : (gap : Gap) (i : Bool) (es : List ComparedPart) → encode_utf8_all (laid_out gap i es) ≡ laid_out gap i (map encoded es)
 out_encoded gap i [] = refl
 out_encoded gap i (Token g t ∷ es) =
     let apart : Bool = not g && (i || leads es) in
@@ -454,7 +454,7 @@ octets_have octets found p =
     none_moved g None e = refl
     none_moved g (Some f) e = cc
 
-pub keeps_entries : (octets : List ℕ) (gap : Gap) (es : List Part) → HasEntries octets es → HasEntries (laid_out gap false es) es
+pub keeps_entries : (octets : List ℕ) (gap : Gap) (es : List ComparedPart) → HasEntries octets es → HasEntries (laid_out gap false es) es
 keeps_entries octets gap es h =
     let text = encode_utf8_all octets in
     let found = map (moved_piece (place_of octets)) h.0 in

@@ -11,24 +11,24 @@ use Rattle.dns_split.proofs.PieceSplit.{closes, given_close}
 use Rattle.zonetext_lib.proofs.Givens.{first_fault, pieces_in}
 use Rattle.zonetext_lib.specs.Entries.{parts_after}
 use Rattle.zonetext_lib.specs.declared.layout.Gap.{Gap}
-use Rattle.zonetext_lib.specs.Entries.{Part, Token, Ends}
+use Rattle.zonetext_lib.specs.Entries.{ComparedPart, Token, Ends}
 use Rattle.zonetext_lib.specs.Layout.{gap_if, feed_before, laid_out, leads}
 
 abbrev pub feed_if : Bool → List ℕ
 feed_if b = if b then 10 ∷ [] else []
 
-abbrev pub owed : Bool → List Part → List ℕ
+abbrev pub owed : Bool → List ComparedPart → List ℕ
 owed true es = feed_before es
 owed false es = []
 
-abbrev pub left : Gap → Bool → Bool → List Part → List ℕ
+abbrev pub left : Gap → Bool → Bool → List ComparedPart → List ℕ
 left gap feed inside es = owed feed es ++ laid_out gap inside es
 
-owed_some : (feed : Bool) (e : Part) (es : List Part) → owed feed (e ∷ es) ≡ feed_if feed
+owed_some : (feed : Bool) (e : ComparedPart) (es : List ComparedPart) → owed feed (e ∷ es) ≡ feed_if feed
 owed_some true e es = refl
 owed_some false e es = refl
 
-pub token_left : (gap : Gap) (feed inside g apart : Bool) (t out : List ℕ) (es : List Part) → apart ≡ (not g && (inside || leads es))
+pub token_left : (gap : Gap) (feed inside g apart : Bool) (t out : List ℕ) (es : List ComparedPart) → apart ≡ (not g && (inside || leads es))
     → (out ++ feed_if feed ++ gap_if gap apart ++ t) ++ left gap false true es ≡ out ++ left gap feed inside (Token g t ∷ es)
 token_left gap feed inside g apart t out es e =
     let r : List ℕ = laid_out gap true es in
@@ -36,7 +36,7 @@ token_left gap feed inside g apart t out es e =
     ∙ ap (λ b. out ++ (feed_if feed ++ (gap_if gap b ++ (t ++ r)))) e
     ∙ ap (λ f. out ++ (f ++ (gap_if gap (not g && (inside || leads es)) ++ (t ++ r)))) (sym (owed_some feed (Token g t) es))
 
-pub end_left : (gap : Gap) (feed inside b : Bool) (out : List ℕ) (es : List Part)
+pub end_left : (gap : Gap) (feed inside b : Bool) (out : List ℕ) (es : List ComparedPart)
     → (out ++ feed_if feed ++ gap_if gap (not inside && b)) ++ left gap true false es ≡ out ++ left gap feed inside (Ends b ∷ es)
 end_left gap feed inside b out es =
     let r : List ℕ = feed_before es ++ laid_out gap false es in
@@ -80,7 +80,7 @@ pub token_turn : (gap : Gap) (octets whole out token pushed : List ℕ) (feed g 
 token_turn gap octets whole out token pushed feed g lead apart ended next p given pieces rest now shown one fault within closed laid blank owes is =
     let here : closes false rest ≡ true = sym one ∙ sym (ap (closes (not (is_some ended))) now) ∙ closed in
     let first : first_fault rest ≡ first_fault given = ap first_fault (sym now) ∙ fault in
-    let es : List Part = parts_after octets next (pieces_in rest) in (
+    let es : List ComparedPart = parts_after octets next (pieces_in rest) in (
       first,
       (subst (EachWithin (length octets)) now within).1,
       here,

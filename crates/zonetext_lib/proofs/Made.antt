@@ -15,13 +15,13 @@ use Rattle.zonetext_lib.specs.declared.layout.Gap.{Gap}
 use Rattle.zonetext_lib.specs.declared.tokens.Form.{Form}
 use Rattle.zonetext_lib.specs.declared.writer.Output.{Output}
 use Rattle.zonetext_lib.specs.declared.writer.Output.TheVariants.{Rows, Lines}
-use Rattle.zonetext_lib.specs.Blocks.{EndsEntry, IsCut, Settled}
-use Rattle.zonetext_lib.specs.Entries.{Part, Ends, HasEntries, parts, parts_after}
+use Rattle.zonetext_lib.specs.Blocks.{EndsEntry, EndsEntryAt, Settled}
+use Rattle.zonetext_lib.specs.Entries.{ComparedPart, Ends, HasEntries, parts, parts_after}
 use Rattle.zonetext_lib.specs.Found.{IsOctetFault}
 use Rattle.zonetext_lib.specs.Layout.{laid_out}
 use Rattle.zonetext_lib.specs.Place.{feeds}
 use Rattle.zonetext_lib.specs.Tokens.{Appended, rows_after}
-use Rattle.zonetext_lib.specs.Writing.{EndsAt, FaultAfter, HasLines, Makes, Until, has_end}
+use Rattle.zonetext_lib.specs.Writing.{EndsAt, FaultAfter, HasLines, WritesOutput, Until, has_end}
 use Rattle.zonetext_lib.proofs.Givens.{fault_of, first_fault, first_of_oks, moved_oks, pieces_after, pieces_in, whole_of}
 use Rattle.zonetext_lib.proofs.Cuts.{EndedFront, cut_given, fault_after, first_on, none_given, read_on}
 use Rattle.zonetext_lib.proofs.Following.{lines_joined, parts_back, parts_front, rows_follow, rows_front}
@@ -29,20 +29,20 @@ use Rattle.zonetext_lib.proofs.Parts.{parts_append, parts_ended, rows_append}
 use Rattle.zonetext_lib.proofs.Once.{entries_once}
 
 -- zone text has no fault
-pub zone_not_bad : (octets : List ℕ) (es : List Part) (f : Fault) → HasEntries octets es → IsOctetFault octets f → ⊥
+pub zone_not_bad : (octets : List ℕ) (es : List ComparedPart) (f : Fault) → HasEntries octets es → IsOctetFault octets f → ⊥
 zone_not_bad octets es f h bad =
     let text = encode_utf8_all octets in
     let found = map (moved_piece (place_of octets)) h.0 in
     bad.is.bad.splits_not (cut text found) (pieces_split text found h.1)
 
-pub zone_none : (octets : List ℕ) (es : List Part) (given : List (Result Piece Fault)) → HasEntries octets es → IsGiven octets given → first_fault given ≡ None
+pub zone_none : (octets : List ℕ) (es : List ComparedPart) (given : List (Result Piece Fault)) → HasEntries octets es → IsGiven octets given → first_fault given ≡ None
 zone_none octets es given h g = go (first_fault given) refl
   where
     go : (o : Option Fault) → first_fault given ≡ o → first_fault given ≡ None
     go None none = none
     go (Some f) some = absurd (zone_not_bad octets es f h (fault_of octets given f g.0 g.1 some))
 
-pub zone_is : (octets : List ℕ) (es : List Part) (given : List (Result Piece Fault)) → HasEntries octets es → IsGiven octets given → es ≡ parts octets (pieces_in given)
+pub zone_is : (octets : List ℕ) (es : List ComparedPart) (given : List (Result Piece Fault)) → HasEntries octets es → IsGiven octets given → es ≡ parts octets (pieces_in given)
 zone_is octets es given h g = entries_once octets es (parts octets (pieces_in given)) h (pieces_in given, whole_of octets given g.0 (zone_none octets es given h g), refl)
 
 pub given_zone : (octets : List ℕ) (found : List Piece) → IsGiven octets (map Ok found) → HasEntries octets (parts octets (pieces_in (map Ok found)))
@@ -75,7 +75,7 @@ end_part octets ended (QuoteAt p ∷ ps) h = omega arith
 end_part octets ended (CommentAt p ∷ ps) h = end_part octets ended ps h
 end_part octets ended (EndAt p ∷ ps) h = omega arith
 
-some_part : (octets : List ℕ) (es : List Part) → HasEntries octets es → 0 < length es
+some_part : (octets : List ℕ) (es : List ComparedPart) → HasEntries octets es → 0 < length es
 some_part octets es h =
     let ends : has_end h.0 ≡ true = sym (has_moved (place_of octets) h.0) ∙ ap has_end (sym h.1.placed) ∙ ends_some h.1.lexemes 0 0 (begins_blank h.1.lexemes) in
     subst (λ l. 0 < length l) h.2 (end_part octets None h.0 ends)
@@ -117,7 +117,7 @@ pieces_moved g [] = refl
 pieces_moved g (Ok p ∷ given) = ap (λ l. moved_piece g p ∷ l) (pieces_moved g given)
 pieces_moved g (Err f ∷ given) = pieces_moved g given
 
-lines_zone : (before x written more : List ℕ) (gap : Gap) (es : List Part) → AreOctets before → AreOctets x → EndsEntry before → HasLines before gap written → HasEntries x es
+lines_zone : (before x written more : List ℕ) (gap : Gap) (es : List ComparedPart) → AreOctets before → AreOctets x → EndsEntry before → HasLines before gap written → HasEntries x es
     → more ≡ laid_out gap false es → HasLines (before ++ x) gap (written ++ more)
 lines_zone before x written more gap es b o e w h k =
     let read : (given : List (Result Piece Fault)) × IsGiven x given = (_, run_given x o) in
@@ -177,8 +177,8 @@ lines_bad before x written more gap at f b o e w k =
           ∙ ap (laid_out gap false) (sym (append_assoc (parts before r.front) (parts x f.ended) (Ends false ∷ [])) ∙ ap (λ l. l ++ Ends false ∷ []) (sym same)),
     )
 
-pub makes_follow : (output : Output) (before x written more : List ℕ) → AreOctets before → AreOctets x → EndsEntry before → Makes output before 0 written → Makes output x (feeds before) more
-    → Makes output (before ++ x) 0 (written ++ more)
+pub makes_follow : (output : Output) (before x written more : List ℕ) → AreOctets before → AreOctets x → EndsEntry before → WritesOutput output before 0 written → WritesOutput output x (feeds before) more
+    → WritesOutput output (before ++ x) 0 (written ++ more)
 makes_follow (Rows form) before x written more b o e w m = rows_follow before x written more form b o e w m
 makes_follow (Lines gap) before x written more b o e w (inl h) = lines_zone before x written more gap h.0 b o e w h.1 h.2
 makes_follow (Lines gap) before x written more b o e w (inr h) = lines_bad before x written more gap h.0 h.1 b o e w h.2
@@ -221,12 +221,12 @@ rows_stay octets rest written form found f o r g less a =
     )
 
 pub made_stays : (output : Output) (octets rest written : List ℕ) (found : List Piece) (f : Fault) → AreOctets octets → AreOctets rest → IsGiven octets (map Ok found ++ Err f ∷ [])
-    → f.at < length octets → Makes output octets 0 written → Makes output (octets ++ rest) 0 written
+    → f.at < length octets → WritesOutput output octets 0 written → WritesOutput output (octets ++ rest) 0 written
 made_stays (Rows form) octets rest written found f o r g less m = rows_stay octets rest written form found f o r g less m
 made_stays (Lines gap) octets rest written found f o r g less m = lines_stay octets rest written gap found f o r g less m
 
 -- nothing is made of no octets
-pub none_made : (output : Output) → Makes output [] 0 []
+pub none_made : (output : Output) → WritesOutput output [] 0 []
 none_made (Rows form) = (Ok (end_at 0 false) ∷ [], none_given, refl)
 none_made (Lines gap) = inl (parts [] (end_at 0 false ∷ []), given_zone [] (end_at 0 false ∷ []) none_given, refl)
 
@@ -245,7 +245,7 @@ ended_given octets at f o = go f.ends
         subst (IsGiven (take at octets)) (sym (ap (λ l. l ++ Ok (end_at at false) ∷ []) shape ∙ append_assoc (map Ok k.0) end (Ok (end_at at false) ∷ [])))
         (cut_given octets k.0 at k.1 tail o here some)
 
-pub lines_until : (octets : List ℕ) (at : ℕ) (gap : Gap) (es : List Part) → AreOctets octets → Until octets at → HasEntries (take at octets) es → HasLines octets gap (laid_out gap false es)
+pub lines_until : (octets : List ℕ) (at : ℕ) (gap : Gap) (es : List ComparedPart) → AreOctets octets → Until octets at → HasEntries (take at octets) es → HasLines octets gap (laid_out gap false es)
 lines_until octets at gap es o (inl u) h =
     inl (es, subst (λ l. HasEntries l es) (ap (λ n. take n octets) u.2 ∙ take_all (length octets) octets (omega arith)) h, refl)
 lines_until octets at gap es o (inr f) h =
@@ -267,7 +267,7 @@ until_well octets at f o (inr k) bad =
     let g = subst (IsGiven (take at octets)) (sym (map-append Ok k.ended end)) (ended_given octets at k o) in
     zone_not_bad (take at octets) _ f (given_zone (take at octets) (k.ended ++ end) g) bad
 
-pub none_before : (output : Output) (before octets : List ℕ) → [] ≡ before ++ octets → Makes output before 0 []
+pub none_before : (output : Output) (before octets : List ℕ) → [] ≡ before ++ octets → WritesOutput output before 0 []
 none_before output [] octets e = none_made output
 none_before output (x ∷ before) octets e = cc
 
@@ -275,7 +275,7 @@ none_before output (x ∷ before) octets e = cc
 pub cut_whole : (octets : List ℕ) (at : ℕ) → AreOctets octets → Settled octets (Ok at) → (found : List Piece) × IsGiven (take at octets) (map Ok found)
 cut_whole octets at o s = go s.1
   where
-    go : (at ≡ 0) ⊎ IsCut octets at → (found : List Piece) × IsGiven (take at octets) (map Ok found)
+    go : (at ≡ 0) ⊎ EndsEntryAt octets at → (found : List Piece) × IsGiven (take at octets) (map Ok found)
     go (inl z) = (end_at 0 false ∷ [], subst (λ n. IsGiven (take n octets) (Ok (end_at 0 false) ∷ [])) (sym z) none_given)
     go (inr k) =
         let last : List Piece = end_at at k.1 ∷ end_at at false ∷ [] in

@@ -8,15 +8,15 @@ use Rattle.std.proofs.lemmas.Str.{encodes-append, encodes_same}
 use Rattle.std.proofs.Math.Seq.{take-add, take-append_seam, drop-append_seam}
 use Rattle.dns_split.specs.declared.pieces.Piece.{Piece}
 use Rattle.dns_split.specs.declared.pieces.Piece.TheVariants.{Word as WordAt, Quote as QuoteAt, Comment as CommentAt, End as EndAt}
-use Rattle.dns_split.specs.Lexeme.{Lexeme, Blank, Line, Open, Close, Note, Word, Quote, bytes}
+use Rattle.dns_split.specs.Lexeme.{Lexeme, Blank, Line, Open, Close, Note, Word, Quote, lexeme_bytes}
 use Rattle.dns_split.specs.Pieces.{IsOctetPieces, begins_blank, between, moved_piece, pieces, place_of}
 use Rattle.dns_split.proofs.Complete.{word_some, quote_some}
 use Rattle.dns_split.proofs.PieceMoved.{mono}
 use Rattle.dns_split.proofs.PieceSplit.{pieces_one_way}
-use Rattle.zonetext_lib.specs.Entries.{Part, Token, Ends, begins_glued, parts, parts_after, HasEntries}
+use Rattle.zonetext_lib.specs.Entries.{ComparedPart, Token, Ends, begins_glued, parts, parts_after, HasEntries}
 
 -- the same part of the text of which each octet is a character
-abbrev pub encoded : Part → Part
+abbrev pub encoded : ComparedPart → ComparedPart
 encoded (Token g t) = Token g (encode_utf8_all t)
 encoded (Ends b) = Ends b
 
@@ -82,10 +82,10 @@ StartWithin n (QuoteAt p ∷ ps) = (p.start < n) × StartWithin n ps
 StartWithin n (CommentAt p ∷ ps) = StartWithin n ps
 StartWithin n (EndAt p ∷ ps) = StartWithin n ps
 
-past_fits : (at n : ℕ) (l : Lexeme) (ls : List Lexeme) → at + length (flat_map bytes (l ∷ ls)) ≤ n → at + length (bytes l) + length (flat_map bytes ls) ≤ n
-past_fits at n l ls h = omega (arith, h, length-append (bytes l) (flat_map bytes ls))
+past_fits : (at n : ℕ) (l : Lexeme) (ls : List Lexeme) → at + length (flat_map lexeme_bytes (l ∷ ls)) ≤ n → at + length (lexeme_bytes l) + length (flat_map lexeme_bytes ls) ≤ n
+past_fits at n l ls h = omega (arith, h, length-append (lexeme_bytes l) (flat_map lexeme_bytes ls))
 
-text_start : (ls : List Lexeme) (at d n : ℕ) (b : Bool) → at + length (flat_map bytes ls) ≤ n → StartWithin n (pieces at d b ls)
+text_start : (ls : List Lexeme) (at d n : ℕ) (b : Bool) → at + length (flat_map lexeme_bytes ls) ≤ n → StartWithin n (pieces at d b ls)
 text_start [] at d n b h = tt
 text_start (Open ∷ ls) at d n b h = text_start ls _ (suc d) n b (past_fits at n Open ls h)
 text_start (Close ∷ ls) at zero n b h = text_start ls _ zero n b (past_fits at n Close ls h)
@@ -137,35 +137,35 @@ moved_parts octets ended (QuoteAt p ∷ ps) h = token_moved octets ended p.start
 moved_parts octets ended (CommentAt p ∷ ps) h = moved_parts octets ended ps h
 moved_parts octets ended (EndAt p ∷ ps) h = ap (λ l. Ends p.begins_blank ∷ l) (moved_parts octets None ps h)
 
-abbrev text_of : Part → List ℕ
+abbrev text_of : ComparedPart → List ℕ
 text_of (Token g t) = t
 text_of (Ends b) = []
 
-abbrev glue_of : Part → Bool
+abbrev glue_of : ComparedPart → Bool
 glue_of (Token g t) = g
 glue_of (Ends b) = b
 
-abbrev head_of : Part → List Part → Part
+abbrev head_of : ComparedPart → List ComparedPart → ComparedPart
 head_of p [] = p
 head_of p (x ∷ xs) = x
 
-abbrev rest_of : List Part → List Part
+abbrev rest_of : List ComparedPart → List ComparedPart
 rest_of [] = []
 rest_of (x ∷ xs) = xs
 
-same_part : (x y : Part) → encoded x ≡ encoded y → x ≡ y
+same_part : (x y : ComparedPart) → encoded x ≡ encoded y → x ≡ y
 same_part (Token g t) (Token h u) e = ap (λ x. Token x t) (ap glue_of e) ∙ ap (Token h) (encodes_same t u (ap text_of e))
 same_part (Token g t) (Ends b) e = cc
 same_part (Ends b) (Token h u) e = cc
 same_part (Ends b) (Ends c) e = e
 
-pub same_parts : (xs ys : List Part) → map encoded xs ≡ map encoded ys → xs ≡ ys
+pub same_parts : (xs ys : List ComparedPart) → map encoded xs ≡ map encoded ys → xs ≡ ys
 same_parts [] [] e = refl
 same_parts [] (y ∷ ys) e = cc
 same_parts (x ∷ xs) [] e = cc
 same_parts (x ∷ xs) (y ∷ ys) e = ap (λ z. z ∷ xs) (same_part x y (ap (head_of (encoded x)) e)) ∙ ap (λ l. y ∷ l) (same_parts xs ys (ap rest_of e))
 
-pub entries_once : (octets : List ℕ) (es fs : List Part) → HasEntries octets es → HasEntries octets fs → es ≡ fs
+pub entries_once : (octets : List ℕ) (es fs : List ComparedPart) → HasEntries octets es → HasEntries octets fs → es ≡ fs
 entries_once octets es fs a b =
     let g = place_of octets in
     let one = pieces_one_way (encode_utf8_all octets) (map (moved_piece g) a.0) (map (moved_piece g) b.0) a.1 b.1 in

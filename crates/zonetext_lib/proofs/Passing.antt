@@ -7,7 +7,7 @@ use Rattle.dns_split.specs.declared.pieces.Piece.{Piece}
 use Rattle.dns_split.specs.declared.pieces.Piece.TheVariants.{Word as WordAt, Quote as QuoteAt, Comment as CommentAt, End as EndAt}
 use Rattle.dns_split.specs.declared.pieces.Fault.{Fault}
 use Rattle.dns_split.specs.Pieces.{IsGiven, EachWithin, end_at}
-use Rattle.zonetext_lib.specs.Blocks.{IsCut}
+use Rattle.zonetext_lib.specs.Blocks.{EndsEntryAt}
 use Rattle.zonetext_lib.specs.Writing.{EndsAt, FaultAfter, has_end}
 use Rattle.zonetext_lib.proofs.Order.{InOrder, in_order}
 
@@ -72,7 +72,7 @@ oks_length (x ∷ xs) = ap suc (oks_length xs)
 
 -- it is a cut where something follows
 pub ended_cut : (octets : List ℕ) (given left : List (Result Piece Fault)) (at : ℕ) → IsGiven octets given → (x : Ended given left at) → 0 < length x.more + length left
-    → (at ≤ length octets) × IsCut octets at
+    → (at ≤ length octets) × EndsEntryAt octets at
 ended_cut octets given left at g x some =
     let here = subst (IsGiven octets) x.is g in (
       (within_after (length octets) x.found _ here.1).0,
@@ -125,11 +125,11 @@ none_or : (octets : List ℕ) (at : ℕ) → at ≡ 0 → at ≤ length octets
 none_or octets at z = omega (arith, z)
 
 pub cut_or_none : (octets : List ℕ) (given left : List (Result Piece Fault)) (at : ℕ) → IsGiven octets given → 0 < length left → LastEnd given left at
-    → (at ≤ length octets) × ((at ≡ 0) ⊎ IsCut octets at)
+    → (at ≤ length octets) × ((at ≡ 0) ⊎ EndsEntryAt octets at)
 cut_or_none octets given left at g some (inl z) = (none_or octets at z, inl z)
 cut_or_none octets given left at g some (inr x) = let c = ended_cut octets given left at g x (omega (arith, some)) in (c.0, inr c.1)
 
-pub cut_before : (octets : List ℕ) (given left : List (Result Piece Fault)) (at : ℕ) → IsGiven octets given → EndBefore given left at → (at ≤ length octets) × ((at ≡ 0) ⊎ IsCut octets at)
+pub cut_before : (octets : List ℕ) (given left : List (Result Piece Fault)) (at : ℕ) → IsGiven octets given → EndBefore given left at → (at ≤ length octets) × ((at ≡ 0) ⊎ EndsEntryAt octets at)
 cut_before octets given left at g (inl z) = (none_or octets at z, inl z)
 cut_before octets given left at g (inr x) = let c = ended_cut octets given left at g x.0 (omega (arith, x.1)) in (c.0, inr c.1)
 

@@ -7,10 +7,10 @@ use Rattle.dns_split.specs.declared.pieces.EndOfEntry.{EndOfEntry}
 use Rattle.dns_split.specs.declared.pieces.Piece.TheVariants.{Word as WordAt, Quote as QuoteAt, Comment as CommentAt, End as EndAt}
 use Rattle.dns_split.specs.declared.pieces.Fault.{Fault}
 use Rattle.dns_split.specs.Pieces.{AreOctets, IsGiven, end_at}
-use Rattle.zonetext_lib.specs.Blocks.{IsCut, Settled}
-use Rattle.zonetext_lib.specs.Compare.{CanCut, Skips, is_passed, part, says, start_of}
+use Rattle.zonetext_lib.specs.Blocks.{EndsEntryAt, Settled}
+use Rattle.zonetext_lib.specs.Compare.{CanCut, SkipsToPart, is_passed, part, says, start_of}
 use Rattle.zonetext_lib.specs.Comparing.{SameUntil, if_both}
-use Rattle.zonetext_lib.specs.Entries.{Part, Ends, HasEntries, HasTokens, ended_after, ended_by, parts, with_tokens}
+use Rattle.zonetext_lib.specs.Entries.{ComparedPart, Ends, HasEntries, HasTokenEntries, ended_after_pieces, ended_by, parts, with_tokens}
 use Rattle.zonetext_lib.specs.Writing.{EndsAt}
 use Rattle.zonetext_lib.proofs.Comparing.{PassedOver, Taken, skipped}
 use Rattle.zonetext_lib.proofs.Cuts.{cut_given, none_given}
@@ -27,7 +27,7 @@ EndsHere front at = (first : List Piece) × (blank : Bool) × (front ≡ first +
 -- octets up to such an end
 pub record UpTo (octets : List ℕ) (front : List Piece) (at : ℕ) : Type 0 where
   pub settled : Settled octets (Ok at)
-  pub cut : IsCut octets at
+  pub cut : EndsEntryAt octets at
   pub entries : HasEntries (take at octets) (parts octets front ++ Ends false ∷ [])
 
 pub up_to : (octets : List ℕ) (all left : List (Result Piece Fault)) (front more : List Piece) (at : ℕ) → AreOctets octets → IsGiven octets all → all ≡ map Ok front ++ (map Ok more ++ left)
@@ -63,10 +63,10 @@ pub none_entries : (octets : List ℕ) (at : ℕ) → at ≡ 0 → HasEntries (t
 none_entries octets at z = subst (λ n. HasEntries (take n octets) (Ends false ∷ [])) (sym z) (given_zone [] (end_at 0 false ∷ []) none_given)
 
 -- the entries of pieces that end with an entry's end
-here_none : (front : List Piece) (at : ℕ) → EndsHere front at → ended_after None front ≡ None
+here_none : (front : List Piece) (at : ℕ) → EndsHere front at → ended_after_pieces None front ≡ None
 here_none front at e = ended_none front (inr (e.0, at, e.1, e.2))
 
-pub tokens_to : (octets : List ℕ) (front : List Piece) (at : ℕ) → EndsHere front at → UpTo octets front at → HasTokens (take at octets) (says octets None front)
+pub tokens_to : (octets : List ℕ) (front : List Piece) (at : ℕ) → EndsHere front at → UpTo octets front at → HasTokenEntries (take at octets) (says octets None front)
 tokens_to octets front at e u =
     let end : List Piece = end_at at false ∷ [] in
     let none : says octets None (front ++ end) ≡ says octets None front =
@@ -74,7 +74,7 @@ tokens_to octets front at e u =
     (parts octets front ++ Ends false ∷ [], u.entries, ap (with_tokens false) (sym (parts_append octets None front end)) ∙ none)
 
 -- of what was given an entry ended here, before which the parts are these; what follows is of one entry, unless none has begun
-pub record Begun (octets : List ℕ) (all left : List (Result Piece Fault)) (ended : Option ℕ) (at : ℕ) (es : List Part) : Type 0 where
+pub record Begun (octets : List ℕ) (all left : List (Result Piece Fault)) (ended : Option ℕ) (at : ℕ) (es : List ComparedPart) : Type 0 where
   pub front : List Piece
   pub more : List Piece
   pub is : all ≡ map Ok front ++ (map Ok more ++ left)
@@ -83,7 +83,7 @@ pub record Begun (octets : List ℕ) (all left : List (Result Piece Fault)) (end
   pub none : ended ≡ None → more ≡ []
 
 abbrev pub Last : (first second : List ℕ) (all_ours all_theirs ours theirs : List (Result Piece Fault)) (ended that_ended : Option ℕ) (at there : ℕ) → Type 0
-Last first second all_ours all_theirs ours theirs ended that_ended at there = (es : List Part) × Begun first all_ours ours ended at es × Begun second all_theirs theirs that_ended there es
+Last first second all_ours all_theirs ours theirs ended that_ended at there = (es : List ComparedPart) × Begun first all_ours ours ended at es × Begun second all_theirs theirs that_ended there es
 
 none_begun : (octets : List ℕ) (all : List (Result Piece Fault)) → Begun octets all all None 0 []
 none_begun octets all = record { front = []; more = []; is = refl; ends = inl (refl, refl); says_is = refl; none = λ e. refl }
@@ -92,7 +92,7 @@ pub none_last : (first second : List ℕ) (ours theirs : List (Result Piece Faul
 none_last first second ours theirs = ([], none_begun first ours, none_begun second theirs)
 
 -- a token was taken
-token_begun : (octets : List ℕ) (all old new : List (Result Piece Fault)) (ended next : Option ℕ) (at : ℕ) (es : List Part) (p : Piece) → Skips ended old (Some (Ok p)) new → (next ≡ None → ⊥)
+token_begun : (octets : List ℕ) (all old new : List (Result Piece Fault)) (ended next : Option ℕ) (at : ℕ) (es : List ComparedPart) (p : Piece) → SkipsToPart ended old (Some (Ok p)) new → (next ≡ None → ⊥)
     → Begun octets all old ended at es → Begun octets all new next at es
 token_begun octets all old new ended next at es p s some x =
     let more : List Piece = s.passed ++ p ∷ [] in
@@ -108,8 +108,8 @@ token_begun octets all old new ended next at es p s some x =
     }
 
 -- an end was taken
-end_begun : (octets : List ℕ) (all old new : List (Result Piece Fault)) (ended next : Option ℕ) (common : List Part) (e : Part) (p : Piece) (end : EndOfEntry) → p ≡ EndAt end
-    → Taken octets all old ended common → Skips ended old (Some (Ok p)) new → part octets ended p ≡ e → Begun octets all new next end.at (common ++ e ∷ [])
+end_begun : (octets : List ℕ) (all old new : List (Result Piece Fault)) (ended next : Option ℕ) (common : List ComparedPart) (e : ComparedPart) (p : Piece) (end : EndOfEntry) → p ≡ EndAt end
+    → Taken octets all old ended common → SkipsToPart ended old (Some (Ok p)) new → part octets ended p ≡ e → Begun octets all new next end.at (common ++ e ∷ [])
 end_begun octets all old new ended next common e p end is x s same =
     let k = skipped octets all old new ended common (Some (Ok p)) x s in
     let last : List Piece = p ∷ [] in
@@ -145,7 +145,7 @@ other_end first second ended that_ended p (CommentAt q) same = cc
 other_end first second ended that_ended p (EndAt q) same = (q, refl, refl)
 
 pub last_token : (first second : List ℕ) (all_ours all_theirs ours theirs new new2 : List (Result Piece Fault)) (ended that_ended next that_next : Option ℕ) (at there : ℕ) (p q : Piece)
-    → Skips ended ours (Some (Ok p)) new → Skips that_ended theirs (Some (Ok q)) new2 → ((end : EndOfEntry) → p ≡ EndAt end → ⊥) → part first ended p ≡ part second that_ended q
+    → SkipsToPart ended ours (Some (Ok p)) new → SkipsToPart that_ended theirs (Some (Ok q)) new2 → ((end : EndOfEntry) → p ≡ EndAt end → ⊥) → part first ended p ≡ part second that_ended q
     → next ≡ ended_by ended p → that_next ≡ ended_by that_ended q → Last first second all_ours all_theirs ours theirs ended that_ended at there
     → Last first second all_ours all_theirs new new2 next that_next at there
 last_token first second all_ours all_theirs ours theirs new new2 ended that_ended next that_next at there p q s t not_end same a b x = (
@@ -155,11 +155,11 @@ last_token first second all_ours all_theirs ours theirs new new2 ended that_ende
       (token_is second that_ended that_next q (other_token first second ended that_ended p q not_end same) (t.takes.1 second) b) x.2,
 )
 
-pub last_end : (first second : List ℕ) (all_ours all_theirs ours theirs new new2 : List (Result Piece Fault)) (ended that_ended next that_next : Option ℕ) (there : ℕ) (common : List Part)
-    (p q : Piece) (end : EndOfEntry) → p ≡ EndAt end → Skips ended ours (Some (Ok p)) new → Skips that_ended theirs (Some (Ok q)) new2 → part first ended p ≡ part second that_ended q
+pub last_end : (first second : List ℕ) (all_ours all_theirs ours theirs new new2 : List (Result Piece Fault)) (ended that_ended next that_next : Option ℕ) (there : ℕ) (common : List ComparedPart)
+    (p q : Piece) (end : EndOfEntry) → p ≡ EndAt end → SkipsToPart ended ours (Some (Ok p)) new → SkipsToPart that_ended theirs (Some (Ok q)) new2 → part first ended p ≡ part second that_ended q
     → there ≡ start_of q → Taken first all_ours ours ended common → Taken second all_theirs theirs that_ended common → Last first second all_ours all_theirs new new2 next that_next end.at there
 last_end first second all_ours all_theirs ours theirs new new2 ended that_ended next that_next there common p q end is s t same at x y =
-    let e : Part = part second that_ended q in
+    let e : ComparedPart = part second that_ended q in
     let o = other_end first second ended that_ended end q (ap (part first ended) (sym is) ∙ same) in (
       common ++ e ∷ [],
       end_begun first all_ours ours new ended next common e p end is x s same,
@@ -170,23 +170,23 @@ last_end first second all_ours all_theirs ours theirs new new2 ended that_ended 
 some_left : (old left : List (Result Piece Fault)) (passed : List Piece) → old ≡ map Ok passed ++ left → 0 < length left → 0 < length old
 some_left old left passed e some = subst (λ (l : List (Result Piece Fault)). 0 < length l) (sym e) (omega (arith, some, length-append (map {B = Result Piece Fault} Ok passed) left))
 
-abbrev pub CutAt : List ℕ → ℕ → List Part → Type 0
-CutAt octets at es = Settled octets (Ok at) × HasTokens (take at octets) es
+abbrev pub CutAt : List ℕ → ℕ → List ComparedPart → Type 0
+CutAt octets at es = Settled octets (Ok at) × HasTokenEntries (take at octets) es
 
-none_cut : (octets : List ℕ) (at : ℕ) (es : List Part) → at ≡ 0 → es ≡ [] → CutAt octets at es
+none_cut : (octets : List ℕ) (at : ℕ) (es : List ComparedPart) → at ≡ 0 → es ≡ [] → CutAt octets at es
 none_cut octets at es z n = (none_settled octets at z, (Ends false ∷ [], none_entries octets at z, sym n))
 
-here_cut : (octets : List ℕ) (all left : List (Result Piece Fault)) (front more : List Piece) (at : ℕ) (es : List Part) → AreOctets octets → IsGiven octets all
+here_cut : (octets : List ℕ) (all left : List (Result Piece Fault)) (front more : List Piece) (at : ℕ) (es : List ComparedPart) → AreOctets octets → IsGiven octets all
     → all ≡ map Ok front ++ (map Ok more ++ left) → 0 < length more + length left → EndsHere front at → says octets None front ≡ es → CutAt octets at es
 here_cut octets all left front more at es o g e some ends is =
     let u = up_to octets all left front more at o g e some ends in
-    (u.settled, subst (HasTokens (take at octets)) is (tokens_to octets front at ends u))
+    (u.settled, subst (HasTokenEntries (take at octets)) is (tokens_to octets front at ends u))
 
-begun_none : (front : List Piece) (at : ℕ) → EndsAt front at → ended_after None front ≡ None
-begun_none front at (inl z) = ap (ended_after None) z.0
+begun_none : (front : List Piece) (at : ℕ) → EndsAt front at → ended_after_pieces None front ≡ None
+begun_none front at (inl z) = ap (ended_after_pieces None) z.0
 begun_none front at (inr e) = here_none front at e
 
-cut_one : (octets : List ℕ) (all old : List (Result Piece Fault)) (ended : Option ℕ) (last at : ℕ) (es : List Part) → AreOctets octets → IsGiven octets all → Begun octets all old ended last es
+cut_one : (octets : List ℕ) (all old : List (Result Piece Fault)) (ended : Option ℕ) (last at : ℕ) (es : List ComparedPart) → AreOctets octets → IsGiven octets all → Begun octets all old ended last es
     → CanCut ended last old at → CutAt octets at es
 cut_one octets all old ended last at es o g x c = go c.ends
   where
@@ -229,9 +229,9 @@ cut_both first second all_ours all_theirs ours theirs ended that_ended last that
     (both_cut first second all_ours all_theirs ours theirs ended that_ended last that_last cut that_cut here there o p g h x c d u))
 
 -- what was taken, as it was found to be
-pub found_skips : (ended : Option ℕ) (old new : List (Result Piece Fault)) (o : Option (Result Piece Fault)) (x : Result Piece Fault) (p : Piece) → o ≡ Some x → x ≡ Ok p → Skips ended old o new
-    → Skips ended old (Some (Ok p)) new
-found_skips ended old new o x p e k s = subst (λ y. Skips ended old (Some y) new) k (subst (λ y. Skips ended old y new) e s)
+pub found_skips : (ended : Option ℕ) (old new : List (Result Piece Fault)) (o : Option (Result Piece Fault)) (x : Result Piece Fault) (p : Piece) → o ≡ Some x → x ≡ Ok p → SkipsToPart ended old o new
+    → SkipsToPart ended old (Some (Ok p)) new
+found_skips ended old new o x p e k s = subst (λ y. SkipsToPart ended old (Some y) new) k (subst (λ y. SkipsToPart ended old y new) e s)
 
 pub none_same : (first second : List ℕ) → SameUntil first second 0 0
 none_same first second =

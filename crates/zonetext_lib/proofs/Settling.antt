@@ -10,7 +10,7 @@ use Rattle.dns_split.specs.declared.pieces.Fault.{Fault}
 use Rattle.dns_split.specs.Pieces.{AreOctets, EachWithin, IsGiven, end_at, next_blank}
 use Rattle.zonetext_lib.specs.declared.layout.Gap.{Gap}
 use Rattle.zonetext_lib.specs.Blocks.{Settled}
-use Rattle.zonetext_lib.specs.Entries.{Part, Token, Ends, parts, parts_after}
+use Rattle.zonetext_lib.specs.Entries.{ComparedPart, Token, Ends, parts, parts_after}
 use Rattle.zonetext_lib.specs.Layout.{gap_if, feed_before, laid_out, leads}
 use Rattle.zonetext_lib.specs.Writing.{HasLines, has_end}
 use Rattle.zonetext_lib.proofs.Passing.{within_after}
@@ -20,7 +20,7 @@ use Rattle.zonetext_lib.proofs.Same.{none_entries, none_settled, up_to}
 pub record Laid (gap : Gap) (octets old : List ℕ) (given left : List (Result Piece Fault)) (out : List ℕ) (ended : Option ℕ) : Type 0 where
   pub passed : List Piece
   pub is : given ≡ map Ok passed ++ left
-  pub on : (rest : List Piece) (more : List (Result Piece Fault)) (tail : List Part) → left ≡ map Ok rest ++ more → (is_some ended ≡ true → has_end rest ≡ true) → 0 < length tail
+  pub on : (rest : List Piece) (more : List (Result Piece Fault)) (tail : List ComparedPart) → left ≡ map Ok rest ++ more → (is_some ended ≡ true → has_end rest ≡ true) → 0 < length tail
       → out ++ laid_out gap (is_some ended) (parts_after octets ended rest ++ tail) ≡ old ++ laid_out gap false (parts octets (passed ++ rest) ++ tail)
 
 pub none_laid : (gap : Gap) (octets old : List ℕ) (given : List (Result Piece Fault)) → Laid gap octets old given given old None
@@ -31,7 +31,7 @@ passed_on given left now passed p e g =
     g ∙ ap (λ l. map Ok passed ++ l) e ∙ sym (append_assoc (map Ok passed) (Ok p ∷ []) left) ∙ ap (λ l. l ++ left) (sym (map-append Ok passed (p ∷ [])))
 
 -- the end of the entry says whether it began with a blank
-leads_is : (octets : List ℕ) (ended : Option ℕ) (rest : List Piece) (more : List (Result Piece Fault)) (tail : List Part) (b : Bool) → has_end rest ≡ true
+leads_is : (octets : List ℕ) (ended : Option ℕ) (rest : List Piece) (more : List (Result Piece Fault)) (tail : List ComparedPart) (b : Bool) → has_end rest ≡ true
     → IfSome (next_blank (map Ok rest ++ more)) (λ x. b ≡ x) → b ≡ leads (parts_after octets ended rest ++ tail)
 leads_is octets ended [] more tail b h k = cc
 leads_is octets ended (WordAt p ∷ rest) more tail b h k = leads_is octets (Some p.end) rest more tail b h k
@@ -48,7 +48,7 @@ token_laid gap octets old given left now out new token g lead apart ended e p n 
   passed = x.passed ++ p ∷ [];
   is = passed_on given left now x.passed p n x.is;
   on = λ rest more tail k h s.
-      let es : List Part = parts_after octets (Some e) rest ++ tail in
+      let es : List ComparedPart = parts_after octets (Some e) rest ++ tail in
       let end : has_end rest ≡ true = h refl in
       let known : lead ≡ leads es = leads_is octets (Some e) rest more tail lead end (subst (λ l. IfSome (next_blank l) (λ b. lead ≡ b)) k blank) in
       let was = x.on (p ∷ rest) more tail (n ∙ ap (λ l. Ok p ∷ l) k) (λ i. ends rest ∙ end) s in
@@ -70,7 +70,7 @@ comment_laid gap octets old given left now out ended p e shown ends x = record {
       ∙ ap (λ l. old ++ laid_out gap false (parts octets l ++ tail)) (sym (append_assoc x.passed (p ∷ []) rest));
 }
 
-feed_some : (es tail : List Part) → 0 < length tail → feed_before (es ++ tail) ≡ 10 ∷ []
+feed_some : (es tail : List ComparedPart) → 0 < length tail → feed_before (es ++ tail) ≡ 10 ∷ []
 feed_some [] [] s = absurd (omega (arith, s))
 feed_some [] (t ∷ tail) s = refl
 feed_some (e ∷ es) tail s = refl
@@ -82,7 +82,7 @@ end_laid gap octets old given left now out new ended p e is x = record {
   passed = x.passed ++ EndAt p ∷ [];
   is = passed_on given left now x.passed (EndAt p) e x.is;
   on = λ rest more tail k h s.
-      let es : List Part = parts_after octets None rest ++ tail in
+      let es : List ComparedPart = parts_after octets None rest ++ tail in
       let g : List ℕ = gap_if gap (not (is_some ended) && p.begins_blank) in
       let r : List ℕ = laid_out gap false es in
       ap (λ l. l ++ r) is ∙ append_assoc (out ++ g) (10 ∷ []) r ∙ append_assoc out g (10 ∷ r)
@@ -145,7 +145,7 @@ marked gap octets old given left at out o g some (inl z) =
     (none_settled octets at z.0, ([], z.1 ∙ sym (append-nil old), inl (Ends false ∷ [], none_entries octets at z.0, refl)))
 marked gap octets old given left at out o g some (inr x) =
     let u = up_to octets given left x.front x.more at o g x.is (omega (arith, some)) x.ends in
-    let es : List Part = parts octets x.front ++ Ends false ∷ [] in
+    let es : List ComparedPart = parts octets x.front ++ Ends false ∷ [] in
     (u.settled, (laid_out gap false es, x.text, inl (es, u.entries, refl)))
 
 pub marked_before : (gap : Gap) (octets old : List ℕ) (given left : List (Result Piece Fault)) (at : ℕ) (out : List ℕ) → AreOctets octets → IsGiven octets given → MarkBefore gap octets old given left at out
@@ -154,7 +154,7 @@ marked_before gap octets old given left at out o g (inl z) =
     (none_settled octets at z.0, ([], z.1 ∙ sym (append-nil old), inl (Ends false ∷ [], none_entries octets at z.0, refl)))
 marked_before gap octets old given left at out o g (inr x) =
     let u = up_to octets given left x.0.front x.0.more at o g x.0.is (omega (arith, x.1)) x.0.ends in
-    let es : List Part = parts octets x.0.front ++ Ends false ∷ [] in
+    let es : List ComparedPart = parts octets x.0.front ++ Ends false ∷ [] in
     (u.settled, (laid_out gap false es, x.0.text, inl (es, u.entries, refl)))
 
 -- where the loop stands

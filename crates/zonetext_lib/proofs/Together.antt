@@ -12,9 +12,9 @@ use Rattle.dns_split.specs.Pieces.{AreOctets, IsGiven, end_at, later, moved, mov
 use Rattle.dns_split.proofs.OctetsOnce.{run_given}
 use Rattle.zonetext_lib.specs.declared.diff.Comparison.TheVariants.{Differ}
 use Rattle.zonetext_lib.specs.Blocks.{EndsEntry, Holds, Releases, Settled}
-use Rattle.zonetext_lib.specs.Compare.{ComesNext, Compares, DifferAt, GoesOn, part, says, start_of}
+use Rattle.zonetext_lib.specs.Compare.{ComesNext, Compares, DifferAt, GoesOnWithPart, part, says, start_of}
 use Rattle.zonetext_lib.specs.Comparing.{Compared}
-use Rattle.zonetext_lib.specs.Entries.{Part, Ends, HasTokens, ended_after, parts, with_tokens}
+use Rattle.zonetext_lib.specs.Entries.{ComparedPart, Ends, HasTokenEntries, ended_after_pieces, parts, with_tokens}
 use Rattle.zonetext_lib.specs.Found.{IsOctetFault, IsZone}
 use Rattle.zonetext_lib.specs.Held.{Both, Held}
 use Rattle.zonetext_lib.specs.Place.{IsAt, column_of, feeds}
@@ -28,13 +28,13 @@ use Rattle.zonetext_lib.proofs.Made.{given_zone, pieces_moved, zone_is, zone_non
 use Rattle.zonetext_lib.proofs.Parts.{ended_append, ended_none, says_ended}
 
 -- the entries with tokens that came before are the parts before what is read on
-own_tokens : (before x : List ℕ) (alone : List (Result Piece Fault)) (es : List Part) (r : ReadOn before x alone) → HasTokens before es → es ≡ says before None r.front
+own_tokens : (before x : List ℕ) (alone : List (Result Piece Fault)) (es : List ComparedPart) (r : ReadOn before x alone) → HasTokenEntries before es → es ≡ says before None r.front
 own_tokens before x alone es r h =
     let end : List Piece = end_at (length before) false ∷ [] in
     sym h.2 ∙ ap (with_tokens false) (zone_is before h.0 (map Ok r.front ++ map Ok end) h.1 r.own ∙ ap (parts before) (pieces_after r.front (map Ok end)))
     ∙ says_ended before r.front end r.ended ∙ append-nil (says before None r.front)
 
-says_front : (before x : List ℕ) (alone : List (Result Piece Fault)) (es : List Part) (r : ReadOn before x alone) → HasTokens before es → says (before ++ x) None r.front ≡ es
+says_front : (before x : List ℕ) (alone : List (Result Piece Fault)) (es : List ComparedPart) (r : ReadOn before x alone) → HasTokenEntries before es → says (before ++ x) None r.front ≡ es
 says_front before x alone es r h =
     ap (with_tokens false) (parts_front before x None r.front (Ok (end_at (length before) false) ∷ []) r.own.1) ∙ sym (own_tokens before x alone es r h)
 
@@ -44,7 +44,7 @@ says_back before x None found = ap (with_tokens false) (parts_back before x None
 says_back before x (Some e) found = ap (with_tokens true) (parts_back before x (Some e) found)
 
 -- the entries with tokens of octets that follow others
-tokens_follow : (before x : List ℕ) (es fs : List Part) → AreOctets before → AreOctets x → EndsEntry before → HasTokens before es → HasTokens x fs → HasTokens (before ++ x) (es ++ fs)
+tokens_follow : (before x : List ℕ) (es fs : List ComparedPart) → AreOctets before → AreOctets x → EndsEntry before → HasTokenEntries before es → HasTokenEntries x fs → HasTokenEntries (before ++ x) (es ++ fs)
 tokens_follow before x es fs b o e h k =
     let read : (given : List (Result Piece Fault)) × IsGiven x given = (_, run_given x o) in
     let alone : List (Result Piece Fault) = read.0 in
@@ -60,8 +60,8 @@ tokens_follow before x es fs b o e h k =
     (parts (before ++ x) (pieces_in all), (pieces_in all, whole_of (before ++ x) all r.is.0 none, refl), shape)
 
 -- what is the same is let go
-pub compared_on : (one other : List ℕ) (old new : Both) (cut there : ℕ) (fs : List Part) → Compared one other old → AreOctets old.first.octets → AreOctets old.second.octets
-    → Settled old.first.octets (Ok cut) → Settled old.second.octets (Ok there) → HasTokens (take cut old.first.octets) fs → HasTokens (take there old.second.octets) fs
+pub compared_on : (one other : List ℕ) (old new : Both) (cut there : ℕ) (fs : List ComparedPart) → Compared one other old → AreOctets old.first.octets → AreOctets old.second.octets
+    → Settled old.first.octets (Ok cut) → Settled old.second.octets (Ok there) → HasTokenEntries (take cut old.first.octets) fs → HasTokenEntries (take there old.second.octets) fs
     → Releases old.first new.first cut → Releases old.second new.second there → Compared one other new
 unfolding let_go
 compared_on one other old new cut there fs x oa ob sa sb ha hb ra rb =
@@ -74,13 +74,13 @@ compared_on one other old new cut there fs x oa ob sa sb ha hb ra rb =
     }
 
 -- the same of all
-pub compared_same : (one other : List ℕ) (c : Both) (fs : List Part) → Compared one other c → AreOctets c.first.octets → AreOctets c.second.octets → HasTokens c.first.octets fs
-    → HasTokens c.second.octets fs → (gs : List Part) × HasTokens one gs × HasTokens other gs
+pub compared_same : (one other : List ℕ) (c : Both) (fs : List ComparedPart) → Compared one other c → AreOctets c.first.octets → AreOctets c.second.octets → HasTokenEntries c.first.octets fs
+    → HasTokenEntries c.second.octets fs → (gs : List ComparedPart) × HasTokenEntries one gs × HasTokenEntries other gs
 compared_same one other c fs x oa ob ha hb =
-    let gs : List Part = x.entries ++ fs in
+    let gs : List ComparedPart = x.entries ++ fs in
     let a = tokens_follow x.first.before c.first.octets x.entries fs x.first.octets oa x.first.ended x.in_first ha in
     let b = tokens_follow x.second.before c.second.octets x.entries fs x.second.octets ob x.second.ended x.in_second hb in
-    (gs, subst (λ l. HasTokens l gs) (sym x.first.is) a, subst (λ l. HasTokens l gs) (sym x.second.is) b)
+    (gs, subst (λ l. HasTokenEntries l gs) (sym x.first.is) a, subst (λ l. HasTokenEntries l gs) (sym x.second.is) b)
 
 -- a part that comes next
 part_back : (before x : List ℕ) (ended : Option ℕ) (p : Piece) → part (before ++ x) (option_map (λ i. length before + i) ended) (moved_piece (λ i. length before + i) p) ≡ part x ended p
@@ -95,14 +95,14 @@ start_back n (QuoteAt p) = refl
 start_back n (CommentAt p) = refl
 start_back n (EndAt p) = refl
 
-ended_back : (n : ℕ) (ended : Option ℕ) (ps : List Piece) → ended_after (option_map (λ i. n + i) ended) (map (moved_piece (λ i. n + i)) ps) ≡ option_map (λ i. n + i) (ended_after ended ps)
+ended_back : (n : ℕ) (ended : Option ℕ) (ps : List Piece) → ended_after_pieces (option_map (λ i. n + i) ended) (map (moved_piece (λ i. n + i)) ps) ≡ option_map (λ i. n + i) (ended_after_pieces ended ps)
 ended_back n ended [] = refl
 ended_back n ended (WordAt p ∷ ps) = ended_back n (Some p.end) ps
 ended_back n ended (QuoteAt p ∷ ps) = ended_back n (Some p.end) ps
 ended_back n ended (CommentAt p ∷ ps) = ended_back n ended ps
 ended_back n ended (EndAt p ∷ ps) = ended_back n None ps
 
-next_back : (before x : List ℕ) (ended : Option ℕ) (rest : List (Result Piece Fault)) (e : Option Part) (at : ℕ) → ComesNext x ended rest e at
+next_back : (before x : List ℕ) (ended : Option ℕ) (rest : List (Result Piece Fault)) (e : Option ComparedPart) (at : ℕ) → ComesNext x ended rest e at
     → ComesNext (before ++ x) (option_map (λ i. length before + i) ended) (later (length before) rest) e (length before + at)
 next_back before x ended [] e at h = (h.0, ap (λ i. length before + i) h.1 ∙ sym (length-append before x))
 next_back before x ended (Ok p ∷ rest) e at h = (
@@ -113,8 +113,8 @@ next_back before x ended (Ok p ∷ rest) e at h = (
 next_back before x ended (Err f ∷ rest) e at h = absurd h
 
 -- octets that follow go on alike
-go_on : (before x : List ℕ) (es common : List Part) (e : Option Part) (p q : Position) → AreOctets before → AreOctets x → EndsEntry before → HasTokens before es → GoesOn x common e p
-    → q.line ≡ feeds before + p.line → q.column ≡ p.column → GoesOn (before ++ x) (es ++ common) e q
+go_on : (before x : List ℕ) (es common : List ComparedPart) (e : Option ComparedPart) (p q : Position) → AreOctets before → AreOctets x → EndsEntry before → HasTokenEntries before es → GoesOnWithPart x common e p
+    → q.line ≡ feeds before + p.line → q.column ≡ p.column → GoesOnWithPart (before ++ x) (es ++ common) e q
 go_on before x es common e p q b o ends h g line column =
     let n : ℕ = length before in
     let alone : List (Result Piece Fault) = map Ok g.before ++ g.rest in
@@ -125,8 +125,8 @@ go_on before x es common e p q b o ends h g line column =
     ∙ sym (append_assoc (map Ok r.front) (map Ok m) (later n g.rest)) ∙ ap (λ l. l ++ later n g.rest) (sym (map-append Ok r.front m)) in
     let whole : IsGiven (before ++ x) (map Ok (r.front ++ m) ++ later n g.rest) = subst (IsGiven (before ++ x)) shape r.is in
     let place : take (n + g.at) (before ++ x) ≡ before ++ take g.at x = take-append-add before x g.at in
-    let ended : option_map (λ i. n + i) (ended_after None g.before) ≡ ended_after None (r.front ++ m) =
-    sym (ended_append None r.front m ∙ ap (λ v. ended_after v m) (ended_none r.front r.ended) ∙ ended_back n None g.before) in
+    let ended : option_map (λ i. n + i) (ended_after_pieces None g.before) ≡ ended_after_pieces None (r.front ++ m) =
+    sym (ended_append None r.front m ∙ ap (λ v. ended_after_pieces v m) (ended_none r.front r.ended) ∙ ended_back n None g.before) in
     record {
       before = r.front ++ m;
       rest = later n g.rest;
@@ -135,7 +135,7 @@ go_on before x es common e p q b o ends h g line column =
       is = says_ended (before ++ x) r.front m r.ended ∙ ap (λ l. l ++ says (before ++ x) None m) (says_front before x alone es r h)
           ∙ ap (λ l. es ++ l) (says_back before x None g.before ∙ g.is);
       at = n + g.at;
-      next = subst (λ v. ComesNext (before ++ x) v (later n g.rest) e (n + g.at)) ended (next_back before x (ended_after None g.before) g.rest e g.at g.next);
+      next = subst (λ v. ComesNext (before ++ x) v (later n g.rest) e (n + g.at)) ended (next_back before x (ended_after_pieces None g.before) g.rest e g.at g.next);
       position = (
         omega (arith, line, g.position.0, ap feeds place, feeds_after before (take g.at x)),
         column ∙ g.position.1 ∙ sym (ap column_of place ∙ column_after before (take g.at x) (ends_feed before ends)),
@@ -148,15 +148,15 @@ pub compared_differ : (one other : List ℕ) (c : Both) (p q s t : Position) →
 compared_differ one other c p q s t x oa ob d sl sc tl tc =
     let a = x.first.before in
     let b = x.second.before in
-    let common : List Part = x.entries ++ d.common in
+    let common : List ComparedPart = x.entries ++ d.common in
     let g = go_on a c.first.octets x.entries d.common d.one p s x.first.octets oa x.first.ended x.in_first d.in_first (omega (arith, sl, x.first.position.0)) sc in
     let h = go_on b c.second.octets x.entries d.common d.other q t x.second.octets ob x.second.ended x.in_second d.in_second (omega (arith, tl, x.second.position.0)) tc in
     let all : DifferAt one other s t = record {
       common = common;
       one = d.one;
       other = d.other;
-      in_first = subst (λ l. GoesOn l common d.one s) (sym x.first.is) g;
-      in_second = subst (λ l. GoesOn l common d.other t) (sym x.second.is) h;
+      in_first = subst (λ l. GoesOnWithPart l common d.one s) (sym x.first.is) g;
+      in_second = subst (λ l. GoesOnWithPart l common d.other t) (sym x.second.is) h;
       apart = d.apart;
     } in
     (all, no_common one other s t all)
@@ -195,6 +195,6 @@ none_compared first second x y = record {
   in_second = nothing y.before second.octets y.is;
 }
   where
-    nothing : (before octets : List ℕ) → [] ≡ before ++ octets → HasTokens before []
+    nothing : (before octets : List ℕ) → [] ≡ before ++ octets → HasTokenEntries before []
     nothing [] octets e = (Ends false ∷ [], given_zone [] (end_at 0 false ∷ []) none_given, refl)
     nothing (c ∷ before) octets e = cc

@@ -9,7 +9,7 @@ use Rattle.zonetext_lib.specs.declared.writer.Output.{Output}
 use Rattle.zonetext_lib.specs.Blocks.{Releases, Settled}
 use Rattle.zonetext_lib.specs.Held.{Held, Writing}
 use Rattle.zonetext_lib.specs.Place.{IsAt, feeds}
-use Rattle.zonetext_lib.specs.Writing.{MadeAfter, Makes, WritesAll, WritesSettled, Wrote}
+use Rattle.zonetext_lib.specs.Writing.{MadeAfter, WritesOutput, WritesAll, WritesSettled, Wrote}
 use Rattle.zonetext_lib.proofs.Cuts.{both_octets, read_on, take_octets}
 use Rattle.zonetext_lib.proofs.Givens.{moved_oks}
 use Rattle.zonetext_lib.proofs.Holding.{added, let_go}
@@ -24,13 +24,13 @@ pub wrote_more : (all block written : List ℕ) (output : Output) (old new : Hel
 unfolding added
 wrote_more all block written output old new x is place = record { held = added all block old new x.held is place; made = x.made }
 
-counted : (output : Output) (octets more before : List ℕ) (h : Held) (lines : ℕ) → IsAt 0 before h.place.position → lines ≡ h.place.position.line - 1 → Makes output octets lines more
-    → Makes output octets (feeds before) more
-counted output octets more before h lines at is m = let same : lines ≡ feeds before = omega (arith, is, at.0) in subst (λ n. Makes output octets n more) same m
+counted : (output : Output) (octets more before : List ℕ) (h : Held) (lines : ℕ) → IsAt 0 before h.place.position → lines ≡ h.place.position.line - 1 → WritesOutput output octets lines more
+    → WritesOutput output octets (feeds before) more
+counted output octets more before h lines at is m = let same : lines ≡ feeds before = omega (arith, is, at.0) in subst (λ n. WritesOutput output octets n more) same m
 
 -- what could be cut off was written
 pub wrote_on : (all written more : List ℕ) (output : Output) (old new : Held) (cut lines : ℕ) → Wrote all written (writing output old) → AreOctets old.octets → Settled old.octets (Ok cut)
-    → lines ≡ old.place.position.line - 1 → Makes output (take cut old.octets) lines more → Releases old new cut → Wrote all (written ++ more) (writing output new)
+    → lines ≡ old.place.position.line - 1 → WritesOutput output (take cut old.octets) lines more → Releases old new cut → Wrote all (written ++ more) (writing output new)
 unfolding let_go
 wrote_on all written more output old new cut lines x o s is m r = record {
   held = let_go all old new cut x.held o s r.octets r.at r.position;
@@ -40,22 +40,22 @@ wrote_on all written more output old new cut lines x o s is m r = record {
 
 -- all was written
 pub wrote_rest : (all written more : List ℕ) (output : Output) (h : Held) (lines : ℕ) → Wrote all written (writing output h) → AreOctets h.octets → lines ≡ h.place.position.line - 1
-    → Makes output h.octets lines more → Makes output all 0 (written ++ more)
+    → WritesOutput output h.octets lines more → WritesOutput output all 0 (written ++ more)
 wrote_rest all written more output h lines x o is m =
-    subst (λ l. Makes output l 0 (written ++ more)) (sym x.held.is)
+    subst (λ l. WritesOutput output l 0 (written ++ more)) (sym x.held.is)
     (makes_follow output x.held.before h.octets written more x.held.octets o x.held.ended x.made (counted output h.octets more x.held.before h lines x.held.position is m))
 
 -- what is held was written after the rest
 pub writes_all : (w : Writing) (octets from to : List ℕ) (output : Output) (h : Held) (lines : ℕ) → writing output h ≡ w → octets ≡ h.octets → AreOctets octets
     → lines ≡ h.place.position.line - 1 → MadeAfter output octets lines from to → WritesAll w from to
 writes_all w octets from to output h lines is held o at m = λ all written x.
-    let made : Makes output h.octets lines m.0 = subst (λ l. Makes output l lines m.0) held m.2 in
+    let made : WritesOutput output h.octets lines m.0 = subst (λ l. WritesOutput output l lines m.0) held m.2 in
     let whole = wrote_rest all written m.0 output h lines (subst (Wrote all written) (sym is) x) (subst AreOctets held o) at made in
-    (m.0, m.1, subst (λ (w : Writing). Makes w.output all 0 (written ++ m.0)) is whole)
+    (m.0, m.1, subst (λ (w : Writing). WritesOutput w.output all 0 (written ++ m.0)) is whole)
 
 -- and stays, where a fault does
 pub wrote_bad : (all written more rest : List ℕ) (output : Output) (h : Held) (lines : ℕ) (f : Fault) → Wrote all written (writing output h) → AreOctets h.octets → AreOctets rest
-    → lines ≡ h.place.position.line - 1 → Settled h.octets (Err f) → Makes output h.octets lines more → Makes output (all ++ rest) 0 (written ++ more)
+    → lines ≡ h.place.position.line - 1 → Settled h.octets (Err f) → WritesOutput output h.octets lines more → WritesOutput output (all ++ rest) 0 (written ++ more)
 wrote_bad all written more rest output h lines f x o r is s m =
     let before : List ℕ = x.held.before in
     let n : ℕ = length before in
@@ -67,8 +67,8 @@ wrote_bad all written more rest output h lines f x o r is s m =
     ap (λ l. map Ok k.front ++ l) (map-append (moved (λ i. n + i)) (map Ok s.0) bad ∙ ap (λ l. l ++ on) (moved_oks (λ i. n + i) s.0))
     ∙ sym (append_assoc (map Ok k.front) (map Ok (map g s.0)) on) ∙ ap (λ l. l ++ on) (sym (map-append Ok k.front (map g s.0))) in
     let whole : IsGiven (before ++ h.octets) (map Ok (k.front ++ map g s.0) ++ on) = subst (IsGiven (before ++ h.octets)) shape k.is in
-    let made = subst (λ l. Makes output l 0 (written ++ more)) x.held.is (wrote_rest all written more output h lines x o is m) in
-    subst (λ l. Makes output (l ++ rest) 0 (written ++ more)) (sym x.held.is)
+    let made = subst (λ l. WritesOutput output l 0 (written ++ more)) x.held.is (wrote_rest all written more output h lines x o is m) in
+    subst (λ l. WritesOutput output (l ++ rest) 0 (written ++ more)) (sym x.held.is)
     (made_stays output (before ++ h.octets) rest (written ++ more) (k.front ++ map g s.0) (moved_fault (λ i. n + i) f)
     (both_octets before h.octets x.held.octets o) r whole (omega (arith, s.2, length-append before h.octets)) made)
 

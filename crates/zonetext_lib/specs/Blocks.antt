@@ -1,13 +1,9 @@
 -- Octets that come in blocks.
-use Rattle.std.specs.Prelude.{◌≡◌, ℕ, ◌+◌, ◌*◌, ◌<◌, ◌≤◌, ◌^◌, ◌⊎◌, ◌↔◌, IsTrue, Bool, false, List, [], ◌∷◌, ◌++◌, length, take, drop, map, Option, Some, None, Result, Ok, Err, IsSomeAnd, encode_utf8_all}
-use Rattle.dns_split.specs.Opening.{IsOpener}
-use Rattle.dns_split.specs.Pieces.{AreOctets, IsGiven, end_at, place_of}
+use Rattle.std.specs.Prelude.{◌≡◌, ℕ, ◌+◌, ◌*◌, ◌<◌, ◌≤◌, ◌^◌, ◌⊎◌, ◌↔◌, IsTrue, Bool, false, List, [], ◌∷◌, ◌++◌, length, take, drop, map, Option, Some, None, Result, Ok, Err, encode_utf8_all}
+use Rattle.dns_split.specs.Pieces.{AreOctets, IsGiven, end_at}
 use Rattle.dns_split.specs.Viable.{IsViable}
 use Rattle.dns_split.specs.declared.pieces.Piece.{Piece}
 use Rattle.dns_split.specs.declared.pieces.Fault.{Fault}
-use Rattle.dns_split.specs.declared.pieces.Wrong.{Wrong}
-use Rattle.dns_split.specs.declared.pieces.Wrong.TheVariants.{OpenParenthesis, OpenQuote}
-use Rattle.dns_split.specs.declared.position.Position.{Position}
 use Rattle.zonetext_lib.specs.declared.blocks.Halt.{Halt}
 use Rattle.zonetext_lib.specs.declared.blocks.Halt.TheVariants.{Wrong as WrongHalt, OutOfMemory, TooLong}
 use Rattle.zonetext_lib.specs.declared.check.Found.{Found}
@@ -29,22 +25,22 @@ pub record Holds (all : List ℕ) (h : Held) : Type 0 where
   pub position : IsAt 0 before h.place.position
 
 -- a block was added; or all octets with it have this fault, whatever follows; or nothing changed
-abbrev pub Adds : {U : Type 0} → Held → Held → List ℕ → Result U Halt → Type 0
-Adds old new block (Ok u) = (all : List ℕ) → Holds all old → Holds (all ++ block) new
-Adds old new block (Err (WrongHalt f)) = (all : List ℕ) → Holds all old → Holds (all ++ block) new × ((more : List ℕ) → AreOctets more → IsFound ((all ++ block) ++ more) 0 f)
-Adds old new block (Err OutOfMemory) = new ≡ old
-Adds old new block (Err TooLong) = (new ≡ old) × (2 ^ 64 ≤ old.place.at + length old.octets + length block + 2)
+abbrev pub AddsBlock : {U : Type 0} → Held → Held → List ℕ → Result U Halt → Type 0
+AddsBlock old new block (Ok u) = (all : List ℕ) → Holds all old → Holds (all ++ block) new
+AddsBlock old new block (Err (WrongHalt f)) = (all : List ℕ) → Holds all old → Holds (all ++ block) new × ((more : List ℕ) → AreOctets more → IsFound ((all ++ block) ++ more) 0 f)
+AddsBlock old new block (Err OutOfMemory) = new ≡ old
+AddsBlock old new block (Err TooLong) = (new ≡ old) × (2 ^ 64 ≤ old.place.at + length old.octets + length block + 2)
 
 -- other octets are held, from the same place on
 abbrev pub IsHeld : List ℕ → Held → Held → Type 0
 IsHeld octets old new = (new.octets ≡ octets) × (new.place ≡ old.place) × (new.left ≡ old.left)
 
 -- a block is held too, and it is time to read where twice as much is held as was left over; or nothing changed
-abbrev pub Takes : Held → Held → List ℕ → Result Bool Halt → Type 0
-Takes old new block (Ok reads) = (new.octets ≡ old.octets ++ block) × (new.place ≡ old.place) × (new.left ≡ old.left) × (IsTrue reads ↔ (2 * old.left ≤ length new.octets))
-Takes old new block (Err (WrongHalt f)) = ⊥
-Takes old new block (Err OutOfMemory) = new ≡ old
-Takes old new block (Err TooLong) = (new ≡ old) × (2 ^ 64 ≤ old.place.at + length old.octets + length block + 2)
+abbrev pub TakesBlock : Held → Held → List ℕ → Result Bool Halt → Type 0
+TakesBlock old new block (Ok reads) = (new.octets ≡ old.octets ++ block) × (new.place ≡ old.place) × (new.left ≡ old.left) × (IsTrue reads ↔ (2 * old.left ≤ length new.octets))
+TakesBlock old new block (Err (WrongHalt f)) = ⊥
+TakesBlock old new block (Err OutOfMemory) = new ≡ old
+TakesBlock old new block (Err TooLong) = (new ≡ old) × (2 ^ 64 ≤ old.place.at + length old.octets + length block + 2)
 
 -- the first octets are no longer held
 pub record Releases (old new : Held) (cut : ℕ) : Type 0 where
@@ -54,18 +50,18 @@ pub record Releases (old new : Held) (cut : ℕ) : Type 0 where
   pub position : (before : List ℕ) → IsAt 0 before old.place.position → IsAt 0 (before ++ take cut old.octets) new.place.position
 
 -- an entry ends here that is not the last
-abbrev pub IsCut : List ℕ → ℕ → Type 0
-IsCut octets at = (found : List Piece) × (blank : Bool) × (more : List (Result Piece Fault)) × IsGiven octets (map Ok found ++ Ok (end_at at blank) ∷ more) × (0 < length more)
+abbrev pub EndsEntryAt : List ℕ → ℕ → Type 0
+EndsEntryAt octets at = (found : List Piece) × (blank : Bool) × (more : List (Result Piece Fault)) × IsGiven octets (map Ok found ++ Ok (end_at at blank) ∷ more) × (0 < length more)
 
 -- what octets give up to here stays whatever follows; or their fault does
 abbrev pub Settled : List ℕ → Result ℕ Fault → Type 0
-Settled octets (Ok at) = (at ≤ length octets) × ((at ≡ 0) ⊎ IsCut octets at)
+Settled octets (Ok at) = (at ≤ length octets) × ((at ≡ 0) ⊎ EndsEntryAt octets at)
 Settled octets (Err f) = (found : List Piece) × IsGiven octets (map Ok found ++ Err f ∷ []) × (f.at < length octets)
 
 -- what is held can be cut here; or all octets have this fault, whatever follows
-abbrev pub Settles : Held → Result ℕ Found → Type 0
-Settles h (Ok at) = Settled h.octets (Ok at)
-Settles h (Err f) = (e : Fault) × Settled h.octets (Err e) × ((all more : List ℕ) → Holds all h → AreOctets more → IsFound (all ++ more) 0 f)
+abbrev pub SettlesHeld : Held → Result ℕ Found → Type 0
+SettlesHeld h (Ok at) = Settled h.octets (Ok at)
+SettlesHeld h (Err f) = (e : Fault) × Settled h.octets (Err e) × ((all more : List ℕ) → Holds all h → AreOctets more → IsFound (all ++ more) 0 f)
 
 -- a block was added, and all octets with it can still become zone text; or it is held with less than twice as much as was left over, and was not read yet
 abbrev pub AddsInTime : {U : Type 0} → Held → Held → List ℕ → Result U Halt → Type 0
@@ -77,9 +73,3 @@ AddsInTime old new block (Err h) = new.left ≡ old.left
 abbrev pub EndsWith : List ℕ → Option Fault → Type 0
 EndsWith octets None = (found : List Piece) × IsGiven octets (map Ok found)
 EndsWith octets (Some f) = (found : List Piece) × IsGiven octets (map Ok found ++ Err f ∷ [])
-
--- the position of what is left open in octets that follow others
-abbrev pub IsOpenedAfter : List ℕ → List ℕ → Wrong → Option Position → Type 0
-IsOpenedAfter before octets (OpenQuote i) o = (i ≤ length octets) × IsSomeAnd o (λ p. IsAt 0 (before ++ take i octets) p)
-IsOpenedAfter before octets OpenParenthesis o = (i : ℕ) × (i ≤ length octets) × IsOpener (encode_utf8_all octets) (place_of octets i) × IsSomeAnd o (λ p. IsAt 0 (before ++ take i octets) p)
-IsOpenedAfter before octets _ o = o ≡ None

@@ -8,26 +8,26 @@ use Rattle.dns_split.specs.declared.pieces.Fault.{Fault}
 use Rattle.dns_split.specs.declared.position.Position.{Position}
 use Rattle.zonetext_lib.specs.declared.diff.Comparison.{Comparison}
 use Rattle.zonetext_lib.specs.declared.diff.Comparison.TheVariants.{Same, Differ, FirstWrong, SecondWrong}
-use Rattle.zonetext_lib.specs.Entries.{Part, Token, Ends, HasTokens, begins_glued, ended_after, parts_after, with_tokens}
+use Rattle.zonetext_lib.specs.Entries.{ComparedPart, Token, Ends, HasTokenEntries, begins_glued, ended_after_pieces, parts_after, with_tokens}
 use Rattle.zonetext_lib.specs.Found.{IsFound}
 use Rattle.zonetext_lib.specs.Place.{IsAt}
 
 -- the parts that pieces are of those entries that have tokens, where the entry's last token so far, if it has one, ended here
-abbrev pub says : List ℕ → Option ℕ → List Piece → List Part
+abbrev pub says : List ℕ → Option ℕ → List Piece → List ComparedPart
 says octets ended ps = with_tokens (is_some ended) (parts_after octets ended ps)
 
 -- the part that a piece is there: its octets, glued or not, or an entry's end
-abbrev pub part : List ℕ → Option ℕ → Piece → Part
+abbrev pub part : List ℕ → Option ℕ → Piece → ComparedPart
 part octets ended (WordAt p) = Token (begins_glued ended p.start) (between octets p.start p.end)
 part octets ended (QuoteAt p) = Token (begins_glued ended p.start) (between octets p.start p.end)
 part octets ended (CommentAt p) = Token (begins_glued ended p.start) (between octets p.start p.end)
 part octets ended (EndAt p) = Ends p.begins_blank
 
-abbrev pub IsText : List ℕ → Piece → List ℕ → Type 0
-IsText octets (WordAt p) t = t ≡ between octets p.start p.end
-IsText octets (QuoteAt p) t = t ≡ between octets p.start p.end
-IsText octets (CommentAt p) t = t ≡ between octets p.start p.end
-IsText octets (EndAt p) t = ⊤
+abbrev pub IsPieceText : List ℕ → Piece → List ℕ → Type 0
+IsPieceText octets (WordAt p) t = t ≡ between octets p.start p.end
+IsPieceText octets (QuoteAt p) t = t ≡ between octets p.start p.end
+IsPieceText octets (CommentAt p) t = t ≡ between octets p.start p.end
+IsPieceText octets (EndAt p) t = ⊤
 
 abbrev pub start_of : Piece → ℕ
 start_of (WordAt p) = p.start
@@ -42,18 +42,18 @@ is_passed None (Ok (EndAt p)) = true
 is_passed ended _ = false
 
 -- what was taken from the front: pieces that are no parts, and a piece that is one, or a fault, or nothing at the end
-abbrev pub Takes : Option ℕ → Option (Result Piece Fault) → List (Result Piece Fault) → List (Result Piece Fault) → Type 0
-Takes ended None left new = (left ≡ []) × (new ≡ [])
-Takes ended (Some (Ok p)) left new = (left ≡ Ok p ∷ new) × ((octets : List ℕ) → says octets ended (p ∷ []) ≡ part octets ended p ∷ [])
-Takes ended (Some (Err f)) left new = left ≡ Err f ∷ new
+abbrev pub TakesPart : Option ℕ → Option (Result Piece Fault) → List (Result Piece Fault) → List (Result Piece Fault) → Type 0
+TakesPart ended None left new = (left ≡ []) × (new ≡ [])
+TakesPart ended (Some (Ok p)) left new = (left ≡ Ok p ∷ new) × ((octets : List ℕ) → says octets ended (p ∷ []) ≡ part octets ended p ∷ [])
+TakesPart ended (Some (Err f)) left new = left ≡ Err f ∷ new
 
-pub record Skips (ended : Option ℕ) (old : List (Result Piece Fault)) (taken : Option (Result Piece Fault)) (new : List (Result Piece Fault)) : Type 0 where
+pub record SkipsToPart (ended : Option ℕ) (old : List (Result Piece Fault)) (taken : Option (Result Piece Fault)) (new : List (Result Piece Fault)) : Type 0 where
   pub passed : List Piece
   pub left : List (Result Piece Fault)
   pub is : old ≡ map Ok passed ++ left
   pub no_parts : (octets : List ℕ) → says octets ended passed ≡ []
-  pub stays : ended_after ended passed ≡ ended
-  pub takes : Takes ended taken left new
+  pub stays : ended_after_pieces ended passed ≡ ended
+  pub takes : TakesPart ended taken left new
 
 -- the entry before ended here; what was passed over up to here, where an entry without tokens ends, is no part; something follows
 pub record CanCut (ended : Option ℕ) (last : ℕ) (old : List (Result Piece Fault)) (at : ℕ) : Type 0 where
@@ -65,38 +65,38 @@ pub record CanCut (ended : Option ℕ) (last : ℕ) (old : List (Result Piece Fa
   pub ends : ((passed ≡ []) × (at ≡ last)) ⊎ ((ended ≡ None) × (first : List Piece) × (blank : Bool) × (passed ≡ first ++ end_at at blank ∷ []))
 
 -- the part that comes next, or nothing, and where it begins; a comment is none, nor the end of an entry without tokens
-abbrev pub ComesNext : List ℕ → Option ℕ → List (Result Piece Fault) → Option Part → ℕ → Type 0
+abbrev pub ComesNext : List ℕ → Option ℕ → List (Result Piece Fault) → Option ComparedPart → ℕ → Type 0
 ComesNext octets ended [] e at = (e ≡ None) × (at ≡ length octets)
 ComesNext octets ended (Ok p ∷ given) e at = (e ≡ Some (part octets ended p)) × (at ≡ start_of p) × (says octets ended (p ∷ []) ≡ part octets ended p ∷ [])
 ComesNext octets ended (Err f ∷ given) e at = ⊥
 
 -- after the same parts the octets go on with this part at this position
-pub record GoesOn (octets : List ℕ) (common : List Part) (e : Option Part) (p : Position) : Type 0 where
+pub record GoesOnWithPart (octets : List ℕ) (common : List ComparedPart) (e : Option ComparedPart) (p : Position) : Type 0 where
   pub before : List Piece
   pub rest : List (Result Piece Fault)
   pub reads : ReadsOctets octets (map Ok before ++ rest)
   pub within : EachWithin (length octets) (map Ok before ++ rest)
   pub is : says octets None before ≡ common
   pub at : ℕ
-  pub next : ComesNext octets (ended_after None before) rest e at
+  pub next : ComesNext octets (ended_after_pieces None before) rest e at
   pub position : IsAt 0 (take at octets) p
 
 -- the same parts, and then others or none
 pub record DifferAt (first second : List ℕ) (p q : Position) : Type 0 where
-  pub common : List Part
-  pub one : Option Part
-  pub other : Option Part
-  pub in_first : GoesOn first common one p
-  pub in_second : GoesOn second common other q
+  pub common : List ComparedPart
+  pub one : Option ComparedPart
+  pub other : Option ComparedPart
+  pub in_first : GoesOnWithPart first common one p
+  pub in_second : GoesOnWithPart second common other q
   pub apart : one ≡ other → ⊥
 
 -- no entries with tokens are those of both
 abbrev pub NoCommon : List ℕ → List ℕ → Type 0
-NoCommon first second = (es : List Part) → HasTokens first es → HasTokens second es → ⊥
+NoCommon first second = (es : List ComparedPart) → HasTokenEntries first es → HasTokenEntries second es → ⊥
 
 -- the comparison of two texts
 abbrev pub Compares : List ℕ → List ℕ → Comparison → Type 0
-Compares first second Same = (es : List Part) × HasTokens first es × HasTokens second es
+Compares first second Same = (es : List ComparedPart) × HasTokenEntries first es × HasTokenEntries second es
 Compares first second (Differ p q) = DifferAt first second p q × NoCommon first second
 Compares first second (FirstWrong f) = IsFound first 0 f
 Compares first second (SecondWrong f) = IsFound second 0 f

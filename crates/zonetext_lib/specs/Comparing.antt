@@ -1,27 +1,27 @@
 -- Two zone texts that come in blocks, and are compared.
 use Rattle.std.specs.Prelude.{ℕ, ◌+◌, ◌≤◌, ◌⊎◌, List, [], ◌∷◌, Option, Some, Ok, Err, take}
 use Rattle.dns_split.specs.declared.pieces.Fault.{Fault}
-use Rattle.zonetext_lib.specs.Blocks.{Holds, IsCut, Settled}
-use Rattle.zonetext_lib.specs.Entries.{Part, Token, Ends, HasTokens}
+use Rattle.zonetext_lib.specs.Blocks.{Holds, EndsEntryAt, Settled}
+use Rattle.zonetext_lib.specs.Entries.{ComparedPart, Token, Ends, HasTokenEntries}
 use Rattle.zonetext_lib.specs.Held.{Both}
 
 -- of both texts these are held; what came before has the same entries with tokens
 pub record Compared (one other : List ℕ) (c : Both) : Type 0 where
   pub first : Holds one c.first
   pub second : Holds other c.second
-  pub entries : List Part
-  pub in_first : HasTokens first.before entries
-  pub in_second : HasTokens second.before entries
+  pub entries : List ComparedPart
+  pub in_first : HasTokenEntries first.before entries
+  pub in_second : HasTokenEntries second.before entries
 
 -- how many entries end
-abbrev pub ends : List Part → ℕ
+abbrev pub ends : List ComparedPart → ℕ
 ends [] = 0
 ends (Token g t ∷ es) = ends es
 ends (Ends b ∷ es) = ends es + 1
 
 -- two entries with tokens end, and something follows
 abbrev pub EndTwice : List ℕ → Type 0
-EndTwice octets = (at : ℕ) × (es : List Part) × IsCut octets at × HasTokens (take at octets) es × (2 ≤ ends es)
+EndTwice octets = (at : ℕ) × (es : List ComparedPart) × EndsEntryAt octets at × HasTokenEntries (take at octets) es × (2 ≤ ends es)
 
 -- or there is a fault that stays
 abbrev pub Suffices : List ℕ → Type 0
@@ -29,7 +29,7 @@ Suffices octets = EndTwice octets ⊎ ((f : Fault) × Settled octets (Err f))
 
 -- the same entries with tokens end here in both, and something follows in both
 abbrev pub SameUntil : List ℕ → List ℕ → ℕ → ℕ → Type 0
-SameUntil first second cut there = Settled first (Ok cut) × Settled second (Ok there) × ((es : List Part) × HasTokens (take cut first) es × HasTokens (take there second) es)
+SameUntil first second cut there = Settled first (Ok cut) × Settled second (Ok there) × ((es : List ComparedPart) × HasTokenEntries (take cut first) es × HasTokenEntries (take there second) es)
 
 -- the first of two places where both are known, or the one before
 abbrev pub if_both : Option ℕ → Option ℕ → ℕ → ℕ

@@ -1,5 +1,5 @@
 -- Octets that are zone text, and the faults of others.
-use Rattle.std.specs.Prelude.{⊤, ◌≡◌, ◌≤◌, ℕ, List, length, take, Option, None, IsSomeAnd, encode_utf8_all}
+use Rattle.std.specs.Prelude.{⊤, ◌≡◌, ◌≤◌, ℕ, List, [], ◌++◌, length, take, Option, None, IsSomeAnd, encode_utf8_all}
 use Rattle.dns_split.specs.Opening.{IsOpener}
 use Rattle.dns_split.specs.Pieces.{IsFault, IsOctetPieces, moved_fault, place_of}
 use Rattle.dns_split.specs.declared.pieces.Piece.{Piece}
@@ -21,17 +21,18 @@ pub record IsOctetFault (octets : List ℕ) (f : Fault) : Type 0 where
   pub within : f.at ≤ length octets
   pub is : IsFault (encode_utf8_all octets) (moved_fault (place_of octets) f)
 
--- the position of what a quoted text was opened by, or of the outermost parenthesis that is left open
-abbrev pub IsOpened : List ℕ → ℕ → Wrong → Option Position → Type 0
-IsOpened octets lines (OpenQuote i) o = IsSomeAnd o (λ p. IsAt lines (take i octets) p)
-IsOpened octets lines OpenParenthesis o = (i : ℕ) × IsOpener (encode_utf8_all octets) (place_of octets i) × IsSomeAnd o (λ p. IsAt lines (take i octets) p)
-IsOpened octets lines _ o = o ≡ None
+-- the position of what a quoted text was opened by, or of the outermost parenthesis that is left open, in octets that follow others
+abbrev pub IsOpenedAfter : ℕ → List ℕ → List ℕ → Wrong → Option Position → Type 0
+IsOpenedAfter lines before octets (OpenQuote i) o = (i ≤ length octets) × IsSomeAnd o (λ p. IsAt lines (before ++ take i octets) p)
+IsOpenedAfter lines before octets OpenParenthesis o =
+    (i : ℕ) × (i ≤ length octets) × IsOpener (encode_utf8_all octets) (place_of octets i) × IsSomeAnd o (λ p. IsAt lines (before ++ take i octets) p)
+IsOpenedAfter lines before octets _ o = o ≡ None
 
 -- the fault, and its positions
 pub record IsFound (octets : List ℕ) (lines : ℕ) (f : Found) : Type 0 where
   pub fault : IsOctetFault octets f.fault
   pub position : IsAt lines (take f.fault.at octets) f.position
-  pub opened : IsOpened octets lines f.fault.wrong f.opened
+  pub opened : IsOpenedAfter lines [] octets f.fault.wrong f.opened
 
 -- why a command stopped
 abbrev pub IsStop : List ℕ → ℕ → Stop → Type 0

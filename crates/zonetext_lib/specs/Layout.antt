@@ -3,7 +3,7 @@ use Rattle.std.specs.Prelude.{⊤, ◌≡◌, ℕ, ◌||◌, ◌&&◌, not, if�
 use Rattle.dns_symbol.specs.Characters.{tab, line_feed, space}
 use Rattle.zonetext_lib.specs.declared.layout.Gap.{Gap}
 use Rattle.zonetext_lib.specs.declared.layout.Gap.TheVariants.{Space, Tab}
-use Rattle.zonetext_lib.specs.Entries.{Part, Token, Ends, HasEntries}
+use Rattle.zonetext_lib.specs.Entries.{ComparedPart, Token, Ends, HasEntries}
 
 abbrev pub gap_octet : Gap → ℕ
 gap_octet Space = space
@@ -14,23 +14,23 @@ abbrev pub gap_if : Gap → Bool → List ℕ
 gap_if gap b = if b then gap_octet gap ∷ [] else []
 
 -- whether the first entry begins with a blank
-abbrev pub leads : List Part → Bool
+abbrev pub leads : List ComparedPart → Bool
 leads [] = false
 leads (Token g t ∷ es) = leads es
 leads (Ends b ∷ es) = b
 
 -- a line's end where an entry follows
-abbrev pub feed_before : List Part → List ℕ
+abbrev pub feed_before : List ComparedPart → List ℕ
 feed_before [] = []
 feed_before (e ∷ es) = line_feed ∷ []
 
 -- tokens with gaps between those that are not glued, after a gap where the entry begins with a blank; the first entry has tokens already, or not
-abbrev pub laid_out : Gap → Bool → List Part → List ℕ
+abbrev pub laid_out : Gap → Bool → List ComparedPart → List ℕ
 laid_out gap inside [] = []
 laid_out gap inside (Token g t ∷ es) = gap_if gap (not g && (inside || leads es)) ++ (t ++ laid_out gap true es)
 laid_out gap inside (Ends b ∷ es) = gap_if gap (not inside && b) ++ (feed_before es ++ laid_out gap false es)
 
 -- the entries of octets were appended
 abbrev pub LaysOut : {U E : Type 0} → List ℕ → Gap → List ℕ → List ℕ → Result U E → Type 0
-LaysOut octets gap old new (Ok u) = (es : List Part) × HasEntries octets es × (new ≡ old ++ laid_out gap false es)
+LaysOut octets gap old new (Ok u) = (es : List ComparedPart) × HasEntries octets es × (new ≡ old ++ laid_out gap false es)
 LaysOut octets gap old new (Err e) = ⊤

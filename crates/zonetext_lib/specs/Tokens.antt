@@ -37,13 +37,13 @@ form_head Plain line column kind glued = decimal line ++ (codes ":" ++ (decimal 
 form_head Json line column kind glued = codes "{\"line\":" ++ (decimal line ++ (codes ",\"column\":" ++ (decimal column ++ (codes ",\"kind\":\"" ++ (kind ++ glued_member glued)))))
 
 -- a token's row
-abbrev pub row : Form → ℕ → ℕ → List ℕ → Bool → List ℕ → List ℕ
-row Plain line column kind glued token = form_head Plain line column kind glued ++ token ++ codes "\n"
-row Json line column kind glued token = form_head Json line column kind glued ++ flat_map escaped token ++ codes "\"}\n"
+abbrev pub token_row : Form → ℕ → ℕ → List ℕ → Bool → List ℕ → List ℕ
+token_row Plain line column kind glued token = form_head Plain line column kind glued ++ token ++ codes "\n"
+token_row Json line column kind glued token = form_head Json line column kind glued ++ flat_map escaped token ++ codes "\"}\n"
 
 -- the row of a token of octets that stand after so many lines
 abbrev pub row_at : List ℕ → ℕ → Form → List ℕ → Bool → ℕ → ℕ → List ℕ
-row_at octets lines form kind glued s e = row form (lines + feeds (take s octets) + 1) (column_of (take s octets)) kind glued (between octets s e)
+row_at octets lines form kind glued s e = token_row form (lines + feeds (take s octets) + 1) (column_of (take s octets)) kind glued (between octets s e)
 
 -- words and quoted texts have rows, where the entry's last token so far, if it has one, ended here
 abbrev pub rows_after : List ℕ → ℕ → Form → Option ℕ → List (Result Piece Fault) → List ℕ

@@ -11,7 +11,7 @@ use Rattle.zonetext_lib.specs.declared.layout.Gap.{Gap}
 use Rattle.zonetext_lib.specs.declared.writer.Output.{Output}
 use Rattle.zonetext_lib.specs.declared.writer.Output.TheVariants.{Rows, Lines}
 use Rattle.zonetext_lib.specs.Blocks.{Holds, Settled}
-use Rattle.zonetext_lib.specs.Entries.{Part, Ends, HasEntries, parts}
+use Rattle.zonetext_lib.specs.Entries.{ComparedPart, Ends, HasEntries, parts}
 use Rattle.zonetext_lib.specs.Found.{IsFound}
 use Rattle.zonetext_lib.specs.Held.{Writing}
 use Rattle.zonetext_lib.specs.Layout.{laid_out}
@@ -44,7 +44,7 @@ LinesBefore octets gap out = (at : ℕ) × (f : FaultAfter octets at) × (out �
 
 -- the entries of zone text are laid out, or those before a fault
 abbrev pub HasLines : List ℕ → Gap → List ℕ → Type 0
-HasLines octets gap out = ((es : List Part) × HasEntries octets es × (out ≡ laid_out gap false es)) ⊎ LinesBefore octets gap out
+HasLines octets gap out = ((es : List ComparedPart) × HasEntries octets es × (out ≡ laid_out gap false es)) ⊎ LinesBefore octets gap out
 
 -- the entries up to a cut were laid out, or nothing was
 abbrev pub LaysSettled : {E : Type 0} → List ℕ → Gap → List ℕ → List ℕ → Result (Option ℕ) E → Type 0
@@ -53,13 +53,13 @@ LaysSettled octets gap old new (Ok None) = new ≡ old
 LaysSettled octets gap old new (Err e) = ⊤
 
 -- a row for each token, or a line for each entry
-abbrev pub Makes : Output → List ℕ → ℕ → List ℕ → Type 0
-Makes (Rows form) octets lines out = Appended octets lines form [] out
-Makes (Lines gap) octets lines out = HasLines octets gap out
+abbrev pub WritesOutput : Output → List ℕ → ℕ → List ℕ → Type 0
+WritesOutput (Rows form) octets lines out = Appended octets lines form [] out
+WritesOutput (Lines gap) octets lines out = HasLines octets gap out
 
 -- it was appended
 abbrev pub MadeAfter : Output → List ℕ → ℕ → List ℕ → List ℕ → Type 0
-MadeAfter output octets lines old new = (more : List ℕ) × (new ≡ old ++ more) × Makes output octets lines more
+MadeAfter output octets lines old new = (more : List ℕ) × (new ≡ old ++ more) × WritesOutput output octets lines more
 
 -- what is written up to a cut, or nothing
 abbrev pub WritesSettled : Output → List ℕ → ℕ → List ℕ → List ℕ → Result (Option ℕ) AllocError → Type 0
@@ -74,19 +74,19 @@ Until octets at = ((found : List Piece) × IsGiven octets (map Ok found) × (at 
 -- of all octets that were added this was written: what is made of those that are not held
 pub record Wrote (all written : List ℕ) (w : Writing) : Type 0 where
   pub held : Holds all w.held
-  pub made : Makes w.output held.before 0 written
+  pub made : WritesOutput w.output held.before 0 written
 
 -- what a block adds to what was written; before a fault all is written that will be, whatever follows
 abbrev pub Writes : {U : Type 0} → Writing → Writing → List ℕ → List ℕ → List ℕ → Result U Halt → Type 0
 Writes old new block from to (Ok u) = (all written : List ℕ) → Wrote all written old → (more : List ℕ) × (to ≡ from ++ more) × Wrote (all ++ block) (written ++ more) new
 Writes old new block from to (Err (Wrong f)) = (all written : List ℕ) → Wrote all written old
-    → (more : List ℕ) × (to ≡ from ++ more) × ((rest : List ℕ) → AreOctets rest → Makes old.output ((all ++ block) ++ rest) 0 (written ++ more))
+    → (more : List ℕ) × (to ≡ from ++ more) × ((rest : List ℕ) → AreOctets rest → WritesOutput old.output ((all ++ block) ++ rest) 0 (written ++ more))
 Writes old new block from to (Err OutOfMemory) = ⊤
 Writes old new block from to (Err TooLong) = to ≡ from
 
 -- with this all is written that is made of the octets that were added
 abbrev pub WritesAll : Writing → List ℕ → List ℕ → Type 0
-WritesAll w from to = (all written : List ℕ) → Wrote all written w → (more : List ℕ) × (to ≡ from ++ more) × Makes w.output all 0 (written ++ more)
+WritesAll w from to = (all written : List ℕ) → Wrote all written w → (more : List ℕ) × (to ≡ from ++ more) × WritesOutput w.output all 0 (written ++ more)
 
 -- so at the end, whether they are zone text or have a fault
 abbrev pub WritesRest : {U : Type 0} → Writing → List ℕ → List ℕ → Result U Halt → Type 0

@@ -4,14 +4,13 @@ ghost use Rattle.std.specs.Prelude.{IfOk, IfErr, encode_utf8_all};
 ghost use Rattle.dns_split.specs.Pieces.{AreOctets, moved_fault};
 ghost use Rattle.dns_split.specs.Viable.{IsViable};
 ghost use Rattle.dns_split.specs.declared.pieces.Wrong.TheVariants.{OpenQuote};
-ghost use Rattle.zonetext_lib.specs.Blocks.{Adds, AddsInTime, EndsWith, Holds, IsHeld, IsOpenedAfter};
-ghost use Rattle.zonetext_lib.specs.Blocks.{Releases, Settled, Settles, Takes};
-ghost use Rattle.zonetext_lib.specs.Found.{IsFound, IsOctetFault, IsZone};
+ghost use Rattle.zonetext_lib.specs.Blocks.{AddsBlock, AddsInTime, EndsWith, Holds, IsHeld};
+ghost use Rattle.zonetext_lib.specs.Blocks.{Releases, Settled, SettlesHeld, TakesBlock};
+ghost use Rattle.zonetext_lib.specs.Found.{IsFound, IsOctetFault, IsOpenedAfter, IsZone};
 ghost use Rattle.zonetext_lib.specs.Place.{IsAt};
 
-use crate::check::Found;
+use crate::check::{Found, locate_from};
 use crate::place::{Place, advance};
-use dns_split::opening::outermost_open_of_octets;
 use dns_split::pieces::{Fault, Piece, Pieces, Wrong};
 use dns_split::position::Position;
 use std::alloc::{AllocError, Allocator};
@@ -88,25 +87,6 @@ fn fault_of(octets: &[u8]) -> Option<Fault>
     None
 }
 
-/// Where what is left open was opened, in octets that begin at a place.
-fn opened_after(place: Place, octets: &[u8], fault: Fault) -> Option<Position>
-    requires room { place.at + length octets.now + 2 < 2 ^ 64 }
-    requires line { place.position.line ≤ place.at + 1 }
-    requires column { place.position.column ≤ place.at + 1 }
-    requires fault { IsOctetFault octets.now fault }
-    ensures { (before : List ℕ) → IsAt 0 before place.position
-        → IsOpenedAfter before octets.now fault.wrong result }
-{
-    match fault.wrong {
-        Wrong::OpenQuote(start) => Some(advance(place.position, &octets[..start])),
-        Wrong::OpenParenthesis => match outermost_open_of_octets(octets) {
-            Some(start) => Some(advance(place.position, &octets[..start])),
-            None => None,
-        },
-        _ => None,
-    }
-}
-
 /// A fault so much further on.
 fn moved(fault: Fault, by: usize) -> Fault
     requires at { by + fault.at < 2 ^ 64 }
@@ -133,12 +113,13 @@ pub(crate) fn locate_after(place: Place, octets: &[u8], fault: Fault) -> Found
     ensures position { (before : List ℕ) → IsAt 0 before place.position
         → IsAt 0 (before ++ take fault.at octets.now) result.position }
     ensures opened { (before : List ℕ) → IsAt 0 before place.position
-        → IsOpenedAfter before octets.now fault.wrong result.opened }
+        → IsOpenedAfter 0 before octets.now fault.wrong result.opened }
 {
+    let found = locate_from(place.position, octets, fault);
     Found {
         fault: moved(fault, place.at),
-        position: advance(place.position, &octets[..fault.at]),
-        opened: opened_after(place, octets, fault),
+        position: found.position,
+        opened: found.opened,
     }
 }
 
@@ -202,7 +183,7 @@ impl<A: Allocator> Checker<A> {
     /// Adds octets, and returns whether so many are held that they are worth reading: twice as many
     /// as were left over the last time.
     pub(crate) fn take(&mut self, block: &[u8]) -> Result<bool, Halt>
-        ensures { Takes self.old self.new block.now result }
+        ensures { TakesBlock self.old self.new block.now result }
     {
         let room = usize::MAX - 2 - self.place.at - self.held.len();
         if block.len() > room {
@@ -222,7 +203,7 @@ impl<A: Allocator> Checker<A> {
     /// Where what is held can be cut, or the fault that all octets have, whatever follows.
     pub(crate) fn settle(&self) -> Result<usize, Found>
         ensures octets { AreOctets self.now.octets }
-        ensures settled { Settles self.now result }
+        ensures settled { SettlesHeld self.now result }
         ensures viable { IfOk result (λ _. IsViable (encode_utf8_all self.now.octets)) }
     {
         let held = self.held.as_slice();
@@ -265,7 +246,7 @@ impl<A: Allocator> Checker<A> {
     /// left over the last time, so a fault is returned before what is held has doubled. The octets
     /// are added where a fault is returned too, but not where memory was lacking.
     pub fn add(&mut self, block: &[u8]) -> Result<(), Halt>
-        ensures added { Adds self.old self.new block.now result }
+        ensures added { AddsBlock self.old self.new block.now result }
         ensures in_time { AddsInTime self.old self.new block.now result }
     {
         if !self.take(block)? {

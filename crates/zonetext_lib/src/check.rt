@@ -1,8 +1,9 @@
 //! Whether octets are zone text.
-ghost use Rattle.std.specs.Prelude.{◌+◌, ◌<◌, ◌^◌, length, IfOk, IfErr};
-ghost use Rattle.zonetext_lib.specs.Found.{IsFound, IsOctetFault, IsOpened, IsZone};
+ghost use Rattle.std.specs.Prelude.{◌≡◌, ◌+◌, ◌++◌, ◌<◌, ◌^◌, ℕ, List, length, take, IfOk, IfErr};
+ghost use Rattle.zonetext_lib.specs.Found.{IsFound, IsOctetFault, IsOpenedAfter, IsZone};
+ghost use Rattle.zonetext_lib.specs.Place.{IsAt};
 
-use crate::place::position_after;
+use crate::place::{advance, line_start};
 use dns_split::opening::outermost_open_of_octets;
 use dns_split::pieces::{Fault, Pieces, Wrong};
 use dns_split::position::Position;
@@ -17,33 +18,49 @@ pub struct Found {
     pub opened: Option<Position>,
 }
 
-/// Where what is left open was opened.
-fn opened(octets: &[u8], lines_before: usize, fault: Fault) -> Option<Position>
-    requires room { lines_before + length octets.now + 2 < 2 ^ 64 }
+/// Where what is left open was opened, in octets that begin at a position.
+fn opened(start: Position, octets: &[u8], fault: Fault) -> Option<Position>
+    requires lines { start.line + length octets.now < 2 ^ 64 }
+    requires columns { start.column + length octets.now + 1 < 2 ^ 64 }
     requires fault { IsOctetFault octets.now fault }
-    ensures { IsOpened octets.now lines_before fault.wrong result }
+    ensures { (lines : ℕ) (before : List ℕ) → IsAt lines before start
+        → IsOpenedAfter lines before octets.now fault.wrong result }
 {
     match fault.wrong {
-        Wrong::OpenQuote(start) => Some(position_after(lines_before, &octets[..start])),
+        Wrong::OpenQuote(at) => Some(advance(start, &octets[..at])),
         Wrong::OpenParenthesis => match outermost_open_of_octets(octets) {
-            Some(start) => Some(position_after(lines_before, &octets[..start])),
+            Some(at) => Some(advance(start, &octets[..at])),
             None => None,
         },
         _ => None,
     }
 }
 
-/// A fault with its positions.
+/// A fault of octets that begin at a position, with its positions.
+pub(crate) fn locate_from(start: Position, octets: &[u8], fault: Fault) -> Found
+    requires lines { start.line + length octets.now < 2 ^ 64 }
+    requires columns { start.column + length octets.now + 1 < 2 ^ 64 }
+    requires fault { IsOctetFault octets.now fault }
+    ensures fault { result.fault ≡ fault }
+    ensures position { (lines : ℕ) (before : List ℕ) → IsAt lines before start
+        → IsAt lines (before ++ take fault.at octets.now) result.position }
+    ensures opened { (lines : ℕ) (before : List ℕ) → IsAt lines before start
+        → IsOpenedAfter lines before octets.now fault.wrong result.opened }
+{
+    Found {
+        fault,
+        position: advance(start, &octets[..fault.at]),
+        opened: opened(start, octets, fault),
+    }
+}
+
+/// A fault with its positions, in octets that stand after so many lines.
 pub fn locate(octets: &[u8], lines_before: usize, fault: Fault) -> Found
     requires room { lines_before + length octets.now + 2 < 2 ^ 64 }
     requires fault { IsOctetFault octets.now fault }
     ensures { IsFound octets.now lines_before result }
 {
-    Found {
-        fault,
-        position: position_after(lines_before, &octets[..fault.at]),
-        opened: opened(octets, lines_before, fault),
-    }
+    locate_from(line_start(lines_before), octets, fault)
 }
 
 /// Whether octets are zone text, or the first fault.

@@ -1,6 +1,6 @@
 //! How two zone texts compare that come in blocks.
 ghost use Rattle.std.specs.Prelude.{◌≡◌, ◌+◌, ◌-◌, ◌<◌, ◌^◌, [], ℕ, List, false, true};
-ghost use Rattle.zonetext_lib.specs.Blocks.{Takes};
+ghost use Rattle.zonetext_lib.specs.Blocks.{TakesBlock};
 ghost use Rattle.zonetext_lib.specs.Compare.{Compares};
 ghost use Rattle.zonetext_lib.specs.Comparing.{Compared, EndTwice, Suffices};
 
@@ -79,7 +79,7 @@ impl<A: Allocator + Copy> Comparer<A> {
     /// Adds octets of the first, and answers whether so many are held that it is worth while to
     /// compare. Where memory is lacking nothing is added.
     pub fn add_first(&mut self, block: &[u8]) -> Result<bool, Halt>
-        ensures first { Takes self.old.first self.new.first block.now result }
+        ensures first { TakesBlock self.old.first self.new.first block.now result }
         ensures second { self.new.second ≡ self.old.second }
     {
         self.first.take(block)
@@ -88,7 +88,7 @@ impl<A: Allocator + Copy> Comparer<A> {
     /// The same of the second.
     pub fn add_second(&mut self, block: &[u8]) -> Result<bool, Halt>
         ensures first { self.new.first ≡ self.old.first }
-        ensures second { Takes self.old.second self.new.second block.now result }
+        ensures second { TakesBlock self.old.second self.new.second block.now result }
     {
         self.second.take(block)
     }

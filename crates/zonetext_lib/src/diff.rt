@@ -1,7 +1,7 @@
 //! Whether two zone texts have the same entries.
 ghost use Rattle.std.specs.Prelude.{◌≡◌, ◌+◌, ◌<◌, ◌≤◌, ◌^◌, ◌↔◌, IfSome, IsTrue, Ok, length, take};
 ghost use Rattle.dns_split.specs.Pieces.{IsWithin};
-ghost use Rattle.zonetext_lib.specs.Compare.{CanCut, Compares, IsText, is_passed, part, Skips, start_of};
+ghost use Rattle.zonetext_lib.specs.Compare.{CanCut, Compares, IsPieceText, is_passed, part, SkipsToPart, start_of};
 ghost use Rattle.zonetext_lib.specs.Entries.{ended_by};
 ghost use Rattle.zonetext_lib.specs.Comparing.{SameUntil, if_both};
 ghost use Rattle.zonetext_lib.specs.Place.{IsAt};
@@ -46,7 +46,7 @@ fn next_after(
     ended: Option<usize>,
     before: usize,
 ) -> (Option<Result<Piece, Fault>>, Option<usize>)
-    ensures part { Skips ended pieces.old result.0 pieces.new }
+    ensures part { SkipsToPart ended pieces.old result.0 pieces.new }
     ensures cut { IfSome result.1 (CanCut ended before pieces.old) }
 {
     let mut last = before;
@@ -65,7 +65,7 @@ fn next_after(
 
 /// The next part of an entry that has tokens, or the fault.
 fn next_part(pieces: &mut Pieces, ended: Option<usize>) -> Option<Result<Piece, Fault>>
-    ensures { Skips ended pieces.old result pieces.new }
+    ensures { SkipsToPart ended pieces.old result pieces.new }
 {
     next_after(pieces, ended, 0).0
 }
@@ -85,7 +85,7 @@ fn ended_at(ended: Option<usize>, piece: Piece) -> Option<usize>
 /// The octets of a piece, or none of an end.
 fn text<'t>(octets: &'t [u8], piece: Piece) -> &'t [u8]
     requires { IsWithin (length octets.now) (Ok piece) }
-    ensures { IsText octets.now piece result.now }
+    ensures { IsPieceText octets.now piece result.now }
 {
     match piece {
         Piece::Word(span) => span.of_octets(octets),

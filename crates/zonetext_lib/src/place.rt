@@ -1,5 +1,5 @@
 //! Lines and columns of octets.
-ghost use Rattle.std.specs.Prelude.{◌≡◌, ◌+◌, ◌-◌, ◌++◌, ◌<◌, ◌≤◌, ◌^◌, ℕ, List, length, take, drop, slice_index};
+ghost use Rattle.std.specs.Prelude.{◌≡◌, ◌+◌, ◌-◌, ◌++◌, ◌<◌, ◌≤◌, ◌^◌, ℕ, [], List, length, take, drop, slice_index};
 ghost use Rattle.zonetext_lib.specs.Place.{begins_character, column_of, feeds, IsAt, Stands};
 
 use dns_split::position::Position;
@@ -104,16 +104,25 @@ pub fn advance(from: Position, octets: &[u8]) -> Position
     advance_by_one(Position { line, column: 1 }, &octets[start..])
 }
 
+/// Where a line begins, after so many lines.
+pub(crate) fn line_start(lines_before: usize) -> Position
+    requires { lines_before + 2 < 2 ^ 64 }
+    ensures at { IsAt lines_before [] result }
+    ensures line { result.line ≡ lines_before + 1 }
+    ensures column { result.column ≡ 1 }
+{
+    Position {
+        line: lines_before + 1,
+        column: 1,
+    }
+}
+
 /// The position after octets that begin a line, where `lines_before` lines stand before them.
 pub fn position_after(lines_before: usize, before: &[u8]) -> Position
     requires { lines_before + length before.now + 2 < 2 ^ 64 }
     ensures { IsAt lines_before before.now result }
 {
-    let first = Position {
-        line: lines_before + 1,
-        column: 1,
-    };
-    advance(first, before)
+    advance(line_start(lines_before), before)
 }
 
 /// A place among octets, and its position.

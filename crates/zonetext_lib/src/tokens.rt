@@ -4,7 +4,7 @@ ghost use Rattle.std.specs.Fmt.{decimal};
 ghost use Rattle.std.specs.List.{flat_map};
 ghost use Rattle.dns_split.specs.Pieces.{between};
 ghost use Rattle.zonetext_lib.specs.Found.{IsStop, IsZone};
-ghost use Rattle.zonetext_lib.specs.Tokens.{escaped, form_head, glued_member, hex_digit, plain_kind, row, HasRows};
+ghost use Rattle.zonetext_lib.specs.Tokens.{escaped, form_head, glued_member, hex_digit, plain_kind, token_row, HasRows};
 
 use crate::check::{Found, locate};
 use crate::glue::is_glued;
@@ -190,7 +190,7 @@ fn push_row<A: Allocator>(
     glued: bool,
     token: &[u8],
 ) -> Result<(), AllocError>
-    ensures { OnOk result (out.new.items ≡ out.old.items ++ row form at.line at.column kind.now glued token.now) }
+    ensures { OnOk result (out.new.items ≡ out.old.items ++ token_row form at.line at.column kind.now glued token.now) }
 {
     push_head(out, form, at, kind, glued)?;
     match form {

@@ -3,7 +3,7 @@ ghost use Rattle.std.specs.Prelude.{◌≡◌, ◌+◌, ◌++◌, ◌<◌, ◌�
 ghost use Rattle.std.specs.Prelude.{IfErr, IfOk, OnOk, Ok, map};
 ghost use Rattle.dns_split.specs.Pieces.{AreOctets, IsGiven};
 ghost use Rattle.dns_split.specs.declared.pieces.Piece.{Piece};
-ghost use Rattle.zonetext_lib.specs.Blocks.{Adds, Holds};
+ghost use Rattle.zonetext_lib.specs.Blocks.{AddsBlock, Holds};
 ghost use Rattle.zonetext_lib.specs.declared.blocks.Halt.TheVariants.{OutOfMemory};
 ghost use Rattle.zonetext_lib.specs.Found.{IsZone};
 ghost use Rattle.zonetext_lib.specs.declared.writer.Output.TheVariants.{Rows};
@@ -196,7 +196,7 @@ impl<A: Allocator> Writer<A> {
     /// lacking nothing is added, and nothing is said of `out`.
     pub fn add(&mut self, block: &[u8], out: &mut Vec<u8, A>) -> Result<(), Halt>
         ensures output { self.new.output ≡ self.old.output }
-        ensures told { Adds self.old.held self.new.held block.now result }
+        ensures told { AddsBlock self.old.held self.new.held block.now result }
         ensures written { Writes self.old self.new block.now out.old.items out.new.items result }
     {
         let before = self.checker.held().len();

@@ -59,7 +59,7 @@ pub struct DisplayQuoted<'a> {
 impl<'a> DisplayQuoted<'a> {
     ghost use Rattle.dns_charstr.specs.Printed.{quoted_octets};
 
-    /// Prints these octets, of which there may be any number.
+    /// Prints these octets, however many they are.
     pub fn from_slice(octets: &'a [u8]) -> Self
         ensures { quoted_octets result ≡ octets.now }
     {
@@ -89,7 +89,7 @@ pub struct DisplayUnquoted<'a> {
 impl<'a> DisplayUnquoted<'a> {
     ghost use Rattle.dns_charstr.specs.Printed.{unquoted_octets};
 
-    /// Prints these octets, of which there may be any number.
+    /// Prints these octets, however many they are.
     pub fn from_slice(octets: &'a [u8]) -> Self
         ensures { unquoted_octets result ≡ octets.now }
     {
@@ -118,7 +118,7 @@ pub struct LowerHexDisplay<'a> {
 impl<'a> LowerHexDisplay<'a> {
     ghost use Rattle.dns_charstr.specs.Printed.{lower_hex_octets};
 
-    /// Prints these octets, of which there may be any number.
+    /// Prints these octets, however many they are.
     pub fn from_slice(octets: &'a [u8]) -> Self
         ensures { lower_hex_octets result ≡ octets.now }
     {
@@ -152,7 +152,7 @@ pub struct UpperHexDisplay<'a> {
 impl<'a> UpperHexDisplay<'a> {
     ghost use Rattle.dns_charstr.specs.Printed.{upper_hex_octets};
 
-    /// Prints these octets, of which there may be any number.
+    /// Prints these octets, however many they are.
     pub fn from_slice(octets: &'a [u8]) -> Self
         ensures { upper_hex_octets result ≡ octets.now }
     {

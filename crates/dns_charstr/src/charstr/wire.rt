@@ -1,7 +1,7 @@
 //! The wire form of character strings: a length octet and the octets (RFC 1035 section 3.3).
 ghost use Rattle.std.specs.Prelude.{◌≡◌, ◌≤◌, ◌-◌, ◌∷◌, [], ◌++◌, ℕ, List, length, min, IfOk, IsOk, OnOk, OnErr};
 ghost use Rattle.dns_octets.specs.Parsing.{rest, gone_on};
-ghost use Rattle.dns_charstr.specs.Wire.{wire_of, BeginsNone, IsLeft};
+ghost use Rattle.dns_charstr.specs.Wire.{wire_of, BeginsNoWireForm, IsLeftByRefusal};
 
 use crate::charstr::CharStr;
 use dns_octets::{AsOctets, OctetsBuilder, ParseError, Parser, ShortBuf};
@@ -14,7 +14,7 @@ impl<'a> CharStr<&'a [u8]> {
     pub fn parse(parser: &mut Parser<'a>) -> Result<Self, ParseError>
         ensures value { IfOk result (λ s. rest parser.old ≡ wire_of s ++ rest parser.new) }
         ensures goes { IfOk result (λ s. parser.new ≡ gone_on (length (wire_of s)) parser.old) }
-        ensures refused { OnErr result (BeginsNone (rest parser.old)) }
+        ensures refused { OnErr result (BeginsNoWireForm (rest parser.old)) }
         ensures left { OnErr result (parser.new ≡ gone_on (min 1 (length (rest parser.old))) parser.old) }
     {
         let len = parser.parse_u8()? as usize;
@@ -26,7 +26,7 @@ impl<'a> CharStr<&'a [u8]> {
     pub fn parse_slice(parser: &mut Parser<'a>) -> Result<Self, ParseError>
         ensures value { IfOk result (λ s. rest parser.old ≡ wire_of s ++ rest parser.new) }
         ensures goes { IfOk result (λ s. parser.new ≡ gone_on (length (wire_of s)) parser.old) }
-        ensures refused { OnErr result (BeginsNone (rest parser.old)) }
+        ensures refused { OnErr result (BeginsNoWireForm (rest parser.old)) }
         ensures left { OnErr result (parser.new ≡ gone_on (min 1 (length (rest parser.old))) parser.old) }
     {
         Self::parse(parser)
@@ -37,7 +37,7 @@ impl<'a> CharStr<&'a [u8]> {
     pub fn skip(parser: &mut Parser<'a>) -> Result<(), ParseError>
         ensures goes { OnOk result ((s : List ℕ) × (rest parser.old ≡ wire_of s ++ rest parser.new)
             × (parser.new ≡ gone_on (length (wire_of s)) parser.old)) }
-        ensures refused { OnErr result (BeginsNone (rest parser.old)) }
+        ensures refused { OnErr result (BeginsNoWireForm (rest parser.old)) }
         ensures left { OnErr result (parser.new ≡ gone_on (min 1 (length (rest parser.old))) parser.old) }
     {
         let len = parser.parse_u8()? as usize;
@@ -58,7 +58,7 @@ impl<Octs: AsOctets> CharStr<Octs> {
     /// Refused, the target is as it was, or has the length octet appended.
     pub fn compose<Target: OctetsBuilder>(&self, target: &mut Target) -> Result<(), ShortBuf>
         ensures ok { OnOk result (Target.octets target.new ≡ Target.octets target.old ++ wire_of self.now) }
-        ensures err { OnErr result (IsLeft Target.room self.now (Target.octets target.old) (Target.octets target.new)) }
+        ensures err { OnErr result (IsLeftByRefusal Target.room self.now (Target.octets target.old) (Target.octets target.new)) }
         ensures fits { length (wire_of self.now) ≤ Target.room.fits - length (Target.octets target.old) → IsOk result }
         ensures within { OnOk result (length (Target.octets target.new) ≤ Target.room.capacity) }
     {

@@ -22,7 +22,7 @@ pub struct UncertainChain<Octets: AsOctets, R: ToLabelIter> {
 
 impl<Octets: AsOctets, R: ToLabelIter> UncertainChain<Octets, R> {
     ghost use Rattle.std.specs.Prelude.{◌≡◌, ◌≤◌, ◌↔◌, IsOk, IfOk};
-    ghost use Rattle.dns_name.specs.UncertainChain.{first_of, second_of};
+    ghost use Rattle.dns_name.specs.UncertainChain.{first_in_chain, second_in_chain};
 
     /// The left name with the right one after it. On a relative name it is [`LongChainError`] where
     /// both together have more than 255 octets. On an absolute one no length is checked.
@@ -32,7 +32,7 @@ impl<Octets: AsOctets, R: ToLabelIter> UncertainChain<Octets, R> {
         Octets: Drop,
         R: Drop,
         ensures ok { IsOk result ↔ (wire_length (labels_after left (R.labels right)) ≤ max_name) }
-        ensures value { IfOk result (λ c. (first_of c ≡ left) × (second_of c ≡ right)) }
+        ensures value { IfOk result (λ c. (first_in_chain c ≡ left) × (second_in_chain c ≡ right)) }
     {
         let room = MAX_NAME as u16 - left.compose_len();
         if left.is_relative() && right.compose_len() > room {
@@ -43,7 +43,7 @@ impl<Octets: AsOctets, R: ToLabelIter> UncertainChain<Octets, R> {
 
     /// The left name and the right one.
     pub fn unwrap(self) -> (UncertainName<Octets>, R)
-        ensures { (result.0 ≡ first_of self) × (result.1 ≡ second_of self) }
+        ensures { (result.0 ≡ first_in_chain self) × (result.1 ≡ second_in_chain self) }
     {
         (self.left, self.right)
     }
@@ -55,7 +55,7 @@ impl<Octets: AsOctets, R: ToLabelIter> UncertainChain<Octets, R> {
         R: Clone,
         requires left { (v w : Octets) → Octets.is_clone v w → Octets.octets w ≡ Octets.octets v }
         requires right { (v w : R) → R.is_clone v w → w ≡ v }
-        ensures value { IfOk result (λ c. (first_of c ≡ first_of self.now) × (second_of c ≡ second_of self.now)) }
+        ensures value { IfOk result (λ c. (first_in_chain c ≡ first_in_chain self.now) × (second_in_chain c ≡ second_in_chain self.now)) }
         ensures succeeds { ((v : Octets) → Octets.is_infallible v) → ((v : R) → R.is_infallible v) → IsOk result }
     {
         Ok(UncertainChain {
@@ -68,7 +68,7 @@ impl<Octets: AsOctets, R: ToLabelIter> UncertainChain<Octets, R> {
 impl<Octets: AsOctets, R: ToName> UncertainChain<Octets, R> {
     ghost use Rattle.std.specs.Prelude.{◌≡◌};
     ghost use Rattle.dns_scan.specs.Tokens.{ScansToken};
-    ghost use Rattle.dns_name.specs.UncertainChain.{first_of, second_of};
+    ghost use Rattle.dns_name.specs.UncertainChain.{first_in_chain, second_in_chain};
     ghost use Rattle.dns_wire.specs.Shown.{dotted_name};
 
     /// Scans a chain with a scanner whose names are such chains.
@@ -82,7 +82,7 @@ impl<Octets: AsOctets, R: ToName> UncertainChain<Octets, R> {
 
     /// The labels of the left name and then, where that is relative, those of the right one.
     pub fn iter_labels(&self) -> UncertainChainIter<'_, Octets, R>
-        ensures { result ≡ labels_after (first_of self.now) (R.labels (second_of self.now)) }
+        ensures { result ≡ labels_after (first_in_chain self.now) (R.labels (second_in_chain self.now)) }
     {
         UncertainChainIter::new(self)
     }
@@ -96,12 +96,12 @@ impl<Octets: AsOctets, R: ToName> UncertainChain<Octets, R> {
 }
 
 impl<Octets: AsOctets, R: ToName> ToLabelIter for UncertainChain<Octets, R> {
-    ghost use Rattle.dns_name.specs.UncertainChain.{first_of, second_of};
+    ghost use Rattle.dns_name.specs.UncertainChain.{first_in_chain, second_in_chain};
     ghost use Rattle.dns_name.specs.Uncertain.{IsUncertain, after_name};
 
-    ghost labels = { λ c. labels_after (first_of c) (R.labels (second_of c)) };
+    ghost labels = { λ c. labels_after (first_in_chain c) (R.labels (second_in_chain c)) };
 
-    ghost holds = { λ c. IsUncertain (first_of c) × R.holds (second_of c) };
+    ghost holds = { λ c. IsUncertain (first_in_chain c) × R.holds (second_in_chain c) };
 
     fn label_count(&self) -> usize {
         let right = self.right.label_count();
@@ -138,23 +138,23 @@ impl<Octets: AsOctets, R: ToName> ToLabelIter for UncertainChain<Octets, R> {
         }
     }
 
-    ghost is_name = { λ c h. after_name (first_of c) (R.labels (second_of c)) h.0 (R.is_name (second_of c) h.1) c.fits };
+    ghost is_name = { λ c h. after_name (first_in_chain c) (R.labels (second_in_chain c)) h.0 (R.is_name (second_in_chain c) h.1) c.fits };
 }
 
 impl<Octets: AsOctets, R: ToName> ToName for UncertainChain<Octets, R> {
-    ghost use Rattle.dns_name.specs.UncertainChain.{first_of, second_of};
+    ghost use Rattle.dns_name.specs.UncertainChain.{first_in_chain, second_in_chain};
     ghost use Rattle.dns_name.specs.Uncertain.{after_ends};
 
-    ghost ends_in_root = { λ c h. after_ends (first_of c) (R.labels (second_of c)) h.0 (R.ends_in_root (second_of c) h.1) };
+    ghost ends_in_root = { λ c h. after_ends (first_in_chain c) (R.labels (second_in_chain c)) h.0 (R.ends_in_root (second_in_chain c) h.1) };
 }
 
 /// The labels joined by dots, without a dot at the end; a lone root is one dot.
 impl<Octets: AsOctets, R: ToName> fmt::Display for UncertainChain<Octets, R> {
     ghost use Rattle.std.specs.Prelude.{Some, encode_utf8_all};
     ghost use Rattle.dns_wire.specs.Printed.{undotted_text};
-    ghost use Rattle.dns_name.specs.UncertainChain.{first_of, second_of};
+    ghost use Rattle.dns_name.specs.UncertainChain.{first_in_chain, second_in_chain};
 
-    ghost output = { λ c. Some (encode_utf8_all (undotted_text (labels_after (first_of c) (R.labels (second_of c))))) };
+    ghost output = { λ c. Some (encode_utf8_all (undotted_text (labels_after (first_in_chain c) (R.labels (second_in_chain c))))) };
 
     fn fmt<W: fmt::Write>(&self, f: &mut fmt::Formatter<W>) -> fmt::Result {
         let shown = DisplayWithoutDot::new(self);

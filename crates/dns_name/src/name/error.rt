@@ -22,9 +22,9 @@ pub enum UncertainDnameError {
 
 impl fmt::Display for UncertainDnameError {
     ghost use Rattle.std.specs.Prelude.{Some};
-    ghost use Rattle.dns_name.specs.Error.{octets_error_text};
+    ghost use Rattle.dns_name.specs.Error.{uncertain_name_text};
 
-    ghost output = { λ e. Some (octets_error_text e) };
+    ghost output = { λ e. Some (uncertain_name_text e) };
 
     fn fmt<W: fmt::Write>(&self, f: &mut fmt::Formatter<W>) -> fmt::Result {
         match *self {
@@ -86,9 +86,9 @@ pub enum FromStrError {
 
 impl fmt::Display for FromStrError {
     ghost use Rattle.std.specs.Prelude.{Some};
-    ghost use Rattle.dns_name.specs.Error.{from_str_text};
+    ghost use Rattle.dns_name.specs.Error.{name_from_str_text};
 
-    ghost output = { λ e. Some (from_str_text e) };
+    ghost output = { λ e. Some (name_from_str_text e) };
 
     fn fmt<W: fmt::Write>(&self, f: &mut fmt::Formatter<W>) -> fmt::Result {
         match *self {

@@ -71,7 +71,7 @@ impl<Octets: AsOctets> UncertainName<Octets> {
     /// relative name and one dot the root. Another name is absolute where its text ends in a plain
     /// dot.
     ///
-    /// Symbols are read in order, and the first refusal is the answer. What is no symbol is
+    /// Symbols are read in order, and the first refusal is returned. What is no symbol is
     /// [`FromStrError::Symbol`]. A plain dot after no octet of a label is
     /// [`FromStrError::EmptyLabel`], also as the first of several characters. An escaped opening
     /// bracket that begins a label is [`FromStrError::BinaryLabel`]. A symbol without an octet is

@@ -4,8 +4,8 @@ ghost use Rattle.std.specs.Fmt.{WritesInCalls};
 ghost use Rattle.dns_symbol.specs.Characters.{space};
 ghost use Rattle.dns_zone.specs.Layout.{Step, begin, comment, is_shown, line_width};
 ghost use Rattle.dns_zone.specs.Multiline.{MultilineStands, MultilineStep, IndentFits, MultilineFails, WritesLine, multiline_sink, multiline_blocks};
-ghost use Rattle.dns_zone.specs.Sinks.{greatest};
-ghost use Rattle.dns_zone.specs.Writers.{Steps};
+ghost use Rattle.dns_zone.specs.Sinks.{greatest_usize};
+ghost use Rattle.dns_zone.specs.Writers.{WritesStep};
 
 use crate::zonefile_fmt::sink::count_on;
 use crate::zonefile_fmt::{
@@ -97,7 +97,7 @@ impl<W: Sink> FormatWriter for MultiLineWriter<W> {
 
     ghost step_gives = { MultilineStep W.write_str_gives };
 
-    ghost step_fails = { MultilineFails W.refused greatest };
+    ghost step_fails = { MultilineFails W.refused greatest_usize };
 
     fn fmt_token<T: Display + Drop>(&mut self, text: T) -> Result {
         if !self.first {
@@ -112,8 +112,8 @@ impl<W: Sink> FormatWriter for MultiLineWriter<W> {
     }
 
     fn begin_block(&mut self) -> Result
-        ensures gives { OnOk result (Steps multiline_blocks (MultilineStep W.write_str_gives) self.old begin self.new) }
-        ensures fails { OnErr result (MultilineFails W.refused greatest self.old begin) }
+        ensures gives { OnOk result (WritesStep multiline_blocks (MultilineStep W.write_str_gives) self.old begin self.new) }
+        ensures fails { OnErr result (MultilineFails W.refused greatest_usize self.old begin) }
         ensures counted { OnOk result (multiline_blocks self.old < usize.MAX) }
         ensures indented { OnOk result (IndentFits usize.MAX self.old) }
     {
@@ -139,7 +139,7 @@ impl<W: Sink> FormatWriter for MultiLineWriter<W> {
     fn fmt_comment<T: Display + Drop>(&mut self, text: T) -> Result
         ensures blocks { OnOk result (multiline_blocks self.new ≡ multiline_blocks self.old) }
         ensures gives { OnOk result (IfSome (T.output text) (λ bs. MultilineStep W.write_str_gives self.old (comment bs) self.new)) }
-        ensures fails { OnErr result (IfSome (T.output text) (λ bs. MultilineFails W.refused greatest self.old (comment bs))) }
+        ensures fails { OnErr result (IfSome (T.output text) (λ bs. MultilineFails W.refused greatest_usize self.old (comment bs))) }
 
         // A comment that isn't shown touches no sink.
         ensures hidden { (past : List Step) → MultilineStands self.old past → is_shown past ≡ false → IsOk result }

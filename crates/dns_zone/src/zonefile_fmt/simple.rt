@@ -1,8 +1,8 @@
 //! The simple layout.
 ghost use Rattle.std.specs.Prelude.{◌≡◌, ◌<◌, ◌↔◌, ℕ, List, [], ◌∷◌, IsOk, OnOk, OnErr, IfSome};
 ghost use Rattle.dns_zone.specs.Layout.{begin, end, comment};
-ghost use Rattle.dns_zone.specs.Sinks.{greatest};
-ghost use Rattle.dns_zone.specs.Writers.{Steps};
+ghost use Rattle.dns_zone.specs.Sinks.{greatest_usize};
+ghost use Rattle.dns_zone.specs.Writers.{WritesStep};
 ghost use Rattle.dns_zone.specs.Simple.{SimpleStands, SimpleStep, SimpleFails, simple_sink, simple_blocks};
 
 use crate::zonefile_fmt::{Error, FormatWriter, LINE_FEED, Result, SPACE, Sink};
@@ -45,7 +45,7 @@ impl<W: Sink> FormatWriter for SimpleWriter<W> {
 
     ghost step_gives = { SimpleStep W.write_str_gives };
 
-    ghost step_fails = { SimpleFails W.refused greatest };
+    ghost step_fails = { SimpleFails W.refused greatest_usize };
 
     fn fmt_token<T: Display + Drop>(&mut self, text: T) -> Result {
         if !self.first {
@@ -57,8 +57,8 @@ impl<W: Sink> FormatWriter for SimpleWriter<W> {
     }
 
     fn begin_block(&mut self) -> Result
-        ensures gives { OnOk result (Steps simple_blocks (SimpleStep W.write_str_gives) self.old begin self.new) }
-        ensures fails { OnErr result (SimpleFails W.refused greatest self.old begin) }
+        ensures gives { OnOk result (WritesStep simple_blocks (SimpleStep W.write_str_gives) self.old begin self.new) }
+        ensures fails { OnErr result (SimpleFails W.refused greatest_usize self.old begin) }
         ensures counted { IsOk result ↔ (simple_blocks self.old < usize.MAX) }
     {
         match self.blocks.checked_add(1) {
@@ -73,8 +73,8 @@ impl<W: Sink> FormatWriter for SimpleWriter<W> {
     fn end_block(&mut self) -> Result
         requires { 0 < simple_blocks self.old }
         ensures ok { IsOk result }
-        ensures gives { OnOk result (Steps simple_blocks (SimpleStep W.write_str_gives) self.old end self.new) }
-        ensures fails { OnErr result (SimpleFails W.refused greatest self.old end) }
+        ensures gives { OnOk result (WritesStep simple_blocks (SimpleStep W.write_str_gives) self.old end self.new) }
+        ensures fails { OnErr result (SimpleFails W.refused greatest_usize self.old end) }
     {
         self.blocks -= 1;
         Ok(())
@@ -84,7 +84,7 @@ impl<W: Sink> FormatWriter for SimpleWriter<W> {
         ensures ok { IsOk result }
         ensures blocks { OnOk result (simple_blocks self.new ≡ simple_blocks self.old) }
         ensures gives { OnOk result (IfSome (T.output _text) (λ bs. SimpleStep W.write_str_gives self.old (comment bs) self.new)) }
-        ensures fails { OnErr result (IfSome (T.output _text) (λ bs. SimpleFails W.refused greatest self.old (comment bs))) }
+        ensures fails { OnErr result (IfSome (T.output _text) (λ bs. SimpleFails W.refused greatest_usize self.old (comment bs))) }
     {
         // This layout shows no comments.
         Ok(())

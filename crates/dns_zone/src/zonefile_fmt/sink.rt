@@ -1,7 +1,7 @@
 //! What the writers print on: sinks, and lines over sinks.
 ghost use Rattle.std.specs.Prelude.{ℕ, ◌+◌, ⊤, OnOk, OnErr};
 ghost use Rattle.std.specs.Fmt.{WritesText};
-ghost use Rattle.dns_zone.specs.Sinks.{Counts, CountsTo, greatest};
+ghost use Rattle.dns_zone.specs.Sinks.{Counts, CountsTo, greatest_usize};
 
 use std::fmt;
 use std::fmt::{Display, Write};
@@ -27,7 +27,7 @@ pub trait Sink: Write + Sized {
 
     /// Prints a value on a line over a sink.
     fn put_on_line<T: Display + Drop>(line: &mut Line<Self>, value: T) -> fmt::Result
-        ensures ok { OnOk result (WritesText (Counts greatest Self.write_str_gives) line.old (T.output value) line.new) }
+        ensures ok { OnOk result (WritesText (Counts greatest_usize Self.write_str_gives) line.old (T.output value) line.new) }
         ensures err { OnErr result refused };
 }
 
@@ -58,7 +58,7 @@ pub struct Line<W> {
 impl<W: Sink> Line<W> {
     /// Writes a text, and counts it.
     pub(super) fn put_counted(&mut self, text: &str) -> fmt::Result
-        ensures ok { OnOk result (Counts greatest W.write_str_gives self.old text.now self.new) }
+        ensures ok { OnOk result (Counts greatest_usize W.write_str_gives self.old text.now self.new) }
         ensures err { OnErr result W.refused }
     {
         self.writer.put_str(text)?;
@@ -68,7 +68,7 @@ impl<W: Sink> Line<W> {
 }
 
 impl<W: Write> Write for Line<W> {
-    ghost write_str_gives = { Counts greatest W.write_str_gives };
+    ghost write_str_gives = { Counts greatest_usize W.write_str_gives };
 
     fn write_str(&mut self, s: &str) -> fmt::Result {
         self.writer.write_str(s)?;
@@ -79,7 +79,7 @@ impl<W: Write> Write for Line<W> {
 
 // A count with more added to it.
 pub(super) fn count_on(count: Option<usize>, more: usize) -> Option<usize>
-    ensures { (n : ℕ) → CountsTo greatest count n → CountsTo greatest result (n + more) }
+    ensures { (n : ℕ) → CountsTo greatest_usize count n → CountsTo greatest_usize result (n + more) }
 {
     count?.checked_add(more)
 }

@@ -2,8 +2,8 @@
 ghost use Rattle.std.specs.Prelude.{◌≡◌, ◌<◌, ◌↔◌, ℕ, List, [], ◌∷◌, if◌then◌else◌, IsOk, OnOk, OnErr, IfSome};
 ghost use Rattle.dns_symbol.specs.Characters.{tab, space};
 ghost use Rattle.dns_zone.specs.Layout.{begin, end, comment};
-ghost use Rattle.dns_zone.specs.Sinks.{greatest};
-ghost use Rattle.dns_zone.specs.Writers.{Steps};
+ghost use Rattle.dns_zone.specs.Sinks.{greatest_usize};
+ghost use Rattle.dns_zone.specs.Writers.{WritesStep};
 ghost use Rattle.dns_zone.specs.Tabbed.{TabbedStands, TabbedStep, TabbedFails, tabbed_sink, tabbed_blocks};
 
 use crate::zonefile_fmt::{Error, FormatWriter, LINE_FEED, Result, SPACE, Sink, TAB};
@@ -57,7 +57,7 @@ impl<W: Sink> FormatWriter for TabbedWriter<W> {
 
     ghost step_gives = { TabbedStep W.write_str_gives };
 
-    ghost step_fails = { TabbedFails W.refused greatest };
+    ghost step_fails = { TabbedFails W.refused greatest_usize };
 
     fn fmt_token<T: Display + Drop>(&mut self, text: T) -> Result {
         if !self.first {
@@ -71,8 +71,8 @@ impl<W: Sink> FormatWriter for TabbedWriter<W> {
     }
 
     fn begin_block(&mut self) -> Result
-        ensures gives { OnOk result (Steps tabbed_blocks (TabbedStep W.write_str_gives) self.old begin self.new) }
-        ensures fails { OnErr result (TabbedFails W.refused greatest self.old begin) }
+        ensures gives { OnOk result (WritesStep tabbed_blocks (TabbedStep W.write_str_gives) self.old begin self.new) }
+        ensures fails { OnErr result (TabbedFails W.refused greatest_usize self.old begin) }
         ensures counted { IsOk result ↔ (tabbed_blocks self.old < usize.MAX) }
     {
         match self.blocks.checked_add(1) {
@@ -90,8 +90,8 @@ impl<W: Sink> FormatWriter for TabbedWriter<W> {
     fn end_block(&mut self) -> Result
         requires { 0 < tabbed_blocks self.old }
         ensures ok { IsOk result }
-        ensures gives { OnOk result (Steps tabbed_blocks (TabbedStep W.write_str_gives) self.old end self.new) }
-        ensures fails { OnErr result (TabbedFails W.refused greatest self.old end) }
+        ensures gives { OnOk result (WritesStep tabbed_blocks (TabbedStep W.write_str_gives) self.old end self.new) }
+        ensures fails { OnErr result (TabbedFails W.refused greatest_usize self.old end) }
     {
         self.blocks -= 1;
         Ok(())
@@ -101,7 +101,7 @@ impl<W: Sink> FormatWriter for TabbedWriter<W> {
         ensures ok { IsOk result }
         ensures blocks { OnOk result (tabbed_blocks self.new ≡ tabbed_blocks self.old) }
         ensures gives { OnOk result (IfSome (T.output _text) (λ bs. TabbedStep W.write_str_gives self.old (comment bs) self.new)) }
-        ensures fails { OnErr result (IfSome (T.output _text) (λ bs. TabbedFails W.refused greatest self.old (comment bs))) }
+        ensures fails { OnErr result (IfSome (T.output _text) (λ bs. TabbedFails W.refused greatest_usize self.old (comment bs))) }
     {
         // This layout shows no comments.
         Ok(())

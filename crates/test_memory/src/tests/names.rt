@@ -1,77 +1,10 @@
-//! Names out of texts and out of other names.
+//! Names out of other names.
 use super::{Call, Heap, Hostile, Missed, Told, answered, both, holds, keeps};
 use dns_name::chain::Chain;
-use dns_name::name::{FromStrError, UncertainName};
+use dns_name::name::UncertainName;
 use dns_octets::{OctetsFrom, ShortBuf};
-use dns_symbol::symbol::SymbolCharsError;
 use dns_wire::{FlattenInto, Name, PushError, RelativeName};
 use std::alloc::{AllocError, Global};
-
-/// A name is read out of a text.
-#[derive(Drop)]
-struct Reads<'t, 'o> {
-    text: &'t str,
-    ample: Result<&'o [u8], FromStrError>,
-}
-
-impl Call for Reads<'_, '_> {
-    fn call(&self, heap: &Heap) -> Told {
-        let answer = UncertainName::<Hostile>::from_str(heap, self.text);
-        answered(answer, self.ample, FromStrError::ShortBuf)
-    }
-}
-
-/// Whether a text is read as these octets, or refused.
-fn is_read(alloc: Global, text: &str, ample: Result<&[u8], FromStrError>, least: u64) -> bool {
-    keeps(alloc, &Reads { text, ample }, least)
-}
-
-#[test]
-fn short_names_are_read(rt: HostRuntime) {
-    let alloc = rt.alloc();
-    let rows: [(&str, Result<&[u8], FromStrError>, u64); 6] = [
-        ("www.example.com", Ok(b"\x03www\x07example\x03com"), 2),
-        ("www.example.com.", Ok(b"\x03www\x07example\x03com\x00"), 2),
-        (".", Ok(b"\x00"), 1),
-        ("", Ok(b""), 0),
-        ("aé", Err(FromStrError::BadOctet), 1),
-        ("..", Err(FromStrError::EmptyLabel), 0),
-    ];
-    for (text, ample, least) in rows {
-        assert!(rt; is_read(alloc, text, ample, least), "at {text}");
-    }
-}
-
-/// Whether a name of as many octets as one has at most is read.
-fn is_longest_read(alloc: Global) -> Result<bool, AllocError> {
-    let longest = format!(in alloc; "{}com.", "four.".repeat(alloc, 50)?)?;
-    let wire = format!(in alloc; "{}\x03com\0", "\x04four".repeat(alloc, 50)?)?;
-    Ok(is_read(alloc, longest.as_str(), Ok(wire.as_bytes()), 3))
-}
-
-/// Whether a long name with this end is refused.
-fn is_end_refused(alloc: Global, end: &str, error: FromStrError) -> Result<bool, AllocError> {
-    let text = format!(in alloc; "{}{end}", "four.".repeat(alloc, 50)?)?;
-    Ok(is_read(alloc, text.as_str(), Err(error), 3))
-}
-
-#[test]
-fn long_names_are_read(rt: HostRuntime) {
-    let alloc = rt.alloc();
-    holds(&rt, is_longest_read(alloc), "longest");
-    holds(
-        &rt,
-        is_end_refused(alloc, "coma", FromStrError::LongName),
-        "coma",
-    );
-    let short = SymbolCharsError::ShortInput.into();
-    holds(&rt, is_end_refused(alloc, "co\\1", short), "co\\1");
-    holds(
-        &rt,
-        is_end_refused(alloc, "com..", FromStrError::EmptyLabel),
-        "com..",
-    );
-}
 
 /// A relative name is made absolute, its octets in as much room as they need, and again as one that
 /// is uncertain.

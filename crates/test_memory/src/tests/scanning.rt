@@ -12,8 +12,6 @@ use std::process::Abort;
 
 const SHORT: &str = "short buffer";
 
-const INVALID: &str = "invalid domain name";
-
 /// What a scan came to whose lack of memory has this text.
 fn scanned<O: AsOctets + Drop>(
     answer: Result<O, StrError>,
@@ -36,14 +34,13 @@ fn refused(error: StrError, ample: Result<&[u8], &'static str>, short: &str) -> 
     }
 }
 
-/// What tokens are read as. Any lack of memory for a name is an invalid name.
+/// What tokens are read as.
 #[derive(Clone, Copy)]
 enum Reading {
     Octets,
     Charstr,
     Text,
     Ascii,
-    Name,
     Strings,
 }
 
@@ -64,7 +61,6 @@ impl Call for Scans<'_, '_> {
             Reading::Charstr => scanned(scanner.scan_charstr(), self.ample, SHORT),
             Reading::Text => text(scanner.scan_string(), self.ample),
             Reading::Ascii => ascii(scanner.scan_ascii_str(|text| Ok(text.len())), self.ample),
-            Reading::Name => scanned(scanner.scan_name(), self.ample, INVALID),
             Reading::Strings => scanned(scanner.scan_charstr_entry(), self.ample, SHORT),
         }
     }
@@ -348,33 +344,6 @@ fn entries_of_strings_are_read(rt: HostRuntime) {
     holds(&rt, are_many_read(rt.alloc()), "many");
     holds(&rt, is_longer_refused(rt.alloc()), "longer");
     rows_are_read(&rt, rt.alloc(), Reading::Strings, &STRINGS);
-}
-
-const NAMES: [Row; 6] = [
-    (
-        &["www.example.com."],
-        Ok(b"\x03www\x07example\x03com\x00"),
-        2,
-    ),
-    (&["sevenx7"], Ok(b"\x07sevenx7\x00"), 2),
-    (&["."], Ok(b"\x00"), 1),
-    (&[""], Err(INVALID), 0),
-    (&["www..com"], Err(INVALID), 1),
-    (&["www.com\\1"], Err("unexpected end of input"), 1),
-];
-
-/// Whether a name of as many octets as one has at most is read.
-fn is_longest_read(alloc: Global) -> Result<bool, AllocError> {
-    let longest = format!(in alloc; "{}com", "four.".repeat(alloc, 50)?)?;
-    let wire = format!(in alloc; "{}\x03com\0", "\x04four".repeat(alloc, 50)?)?;
-    let tokens = [longest.as_str()];
-    Ok(is_read(alloc, Reading::Name, &tokens, Ok(wire.as_bytes()), 4))
-}
-
-#[test]
-fn names_are_read(rt: HostRuntime) {
-    rows_are_read(&rt, rt.alloc(), Reading::Name, &NAMES);
-    holds(&rt, is_longest_read(rt.alloc()), "longest");
 }
 
 /// All calls that take no memory.

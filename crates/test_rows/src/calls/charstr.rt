@@ -1,9 +1,10 @@
 //! Character strings.
-use crate::answer::{Answer, Failure, Heap};
-use crate::row::Inputs;
 use arrayvec::ArrayVec;
 use dns_charstr::charstr::{CharStr, CharStrBuilder, DisplayQuoted, DisplayUnquoted, FromStrError};
 use dns_octets::{AsOctets, CanonicalOrd, Parser};
+use dns_split::token::is_token;
+use row_table::{Answer, Failure, Heap, Inputs};
+use std::alloc::AllocError;
 use std::cmp::Ordering;
 use std::hash::{DefaultHasher, Hash, Hasher};
 
@@ -109,8 +110,14 @@ fn quoted(octets: &[u8], answer: &mut Answer) {
     answer.add_shown(&DisplayQuoted::from_slice(octets));
 }
 
+/// The unquoted text of octets, which is a token where there are any.
 fn unquoted(octets: &[u8], answer: &mut Answer) {
-    answer.add_shown(&DisplayUnquoted::from_slice(octets));
+    let display = DisplayUnquoted::from_slice(octets);
+    answer.add_shown(&display);
+    match display.to_string(answer.alloc()) {
+        Ok(text) => answer.check(is_token(text.as_str()) != octets.is_empty()),
+        Err(AllocError) => answer.fail_for_memory(),
+    }
 }
 
 fn lower_hex(octets: &[u8], answer: &mut Answer) {

@@ -1,6 +1,6 @@
 //! The command `dnstext`.
-use crate::answer::{Answer, Heap};
 use dnstext_lib::program;
+use row_table::{Answer, Heap};
 use std::alloc::AllocError;
 use std::str;
 

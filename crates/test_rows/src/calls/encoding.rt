@@ -1,10 +1,9 @@
 //! The encodings.
 use super::steps;
-use crate::answer::{Answer, Failure, Heap};
-use crate::row::Inputs;
 use dns_codec::base64::DecodeError;
 use dns_codec::{base16, base32, base64};
 use dns_octets::ShortBuf;
+use row_table::{Answer, Failure, Heap, Inputs};
 
 /// Octets in memory of which one growth may be refused.
 pub(crate) type Octets<'a> = Vec<u8, &'a Heap>;

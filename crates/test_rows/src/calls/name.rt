@@ -1,8 +1,7 @@
 //! Names.
-use crate::answer::{Answer, Failure, Heap};
-use crate::row::Inputs;
 use dns_name::name::{FromStrError, UncertainName};
 use dns_wire::ZoneName;
+use row_table::{Answer, Failure, Heap, Inputs};
 use std::hash::{DefaultHasher, Hash, Hasher};
 use std::str;
 

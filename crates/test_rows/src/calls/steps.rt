@@ -1,6 +1,5 @@
 //! Encodings, one character or symbol after another.
 use super::encoding::{Base, Octets};
-use crate::answer::Answer;
 use dns_codec::base::Encoding;
 use dns_codec::base64::DecodeError;
 use dns_codec::decoder::Decoder;
@@ -9,6 +8,7 @@ use dns_octets::{AsOctets, FreezeBuilder, OctetsBuilder};
 use dns_scan::{ConvertSymbols, StrError};
 use dns_symbol::symbol::{EntrySymbol, Symbol};
 use dns_symbol::symbols::Symbols;
+use row_table::Answer;
 use std::alloc::AllocError;
 
 /// What a converter answers to a symbol; `|` is the end of a token, and `$` the end of them all.

@@ -1,9 +1,8 @@
 //! Symbols.
-use crate::answer::{Answer, Failure};
-use crate::row::Inputs;
 use dns_symbol::form::{Form, Plain, Quoted, Unquoted, write_octets};
 use dns_symbol::symbol::Symbol;
 use dns_symbol::symbols::Symbols;
+use row_table::{Answer, Failure, Inputs};
 use std::marker::PhantomData;
 use std::{fmt, str};
 

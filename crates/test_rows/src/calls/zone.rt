@@ -1,26 +1,32 @@
 //! Zone text: how it splits, and its layouts.
-use crate::answer::{Answer, Failure, Heap};
-use crate::row::Inputs;
+use super::{pieces, tally};
 use dns_split::entry_tokens::{EntryPart, EntryToken, EntryTokens, NextEntryError};
-use dns_split::opening::outermost_open_of_octets;
+use dns_split::opening::{outermost_open, outermost_open_of_octets};
 use dns_split::pieces::{EndOfEntry, Fault, Piece, Pieces, Span, Wrong};
-use dns_split::position::{Position, line_and_column_of_octets};
+use dns_split::position::{Position, line_and_column, line_and_column_of_octets};
 use dns_split::splitting::split;
 use dns_split::token::{content, is_token};
 use dns_zone::document::{Document, Item};
 use dns_zone::zonefile_fmt::{DisplayKind, ZonefileFmt};
+use row_table::{Answer, Failure, Heap, Inputs};
 use std::alloc::AllocError;
-use std::str;
+use std::fmt::Write;
+use std::{fmt, str};
 
 pub fn call(name: &str, inputs: &Inputs, answer: &mut Answer) {
     match name {
         "split" => split_text(inputs.text(answer), answer),
-        "pieces" => pieces(inputs.octets(answer), answer),
+        "pieces" => pieces::pieces(inputs.octets(answer), answer),
+        "next" => pieces::next_piece(inputs.all(), answer),
+        "needs_more" => pieces::needs_more(inputs.octets(answer), answer),
+        "tally" => tally::tally_parts(inputs.all(), answer),
+        "split_parts" => tally::split_parts(inputs.all(), answer),
         "entries" => entries(inputs.octets(answer), answer),
         "is_token" => is_one_token(inputs.text(answer), answer),
         "content" => token_content(inputs.text(answer), answer),
         "open" => open(inputs.octets(answer), answer),
         "position" => position(inputs.octets_and_number(answer), answer),
+        "text_position" => text_position(inputs.octets_and_number(answer), answer),
         "simple" => layout(DisplayKind::Simple, inputs.all(), answer),
         "tabbed" => layout(DisplayKind::Tabbed, inputs.all(), answer),
         "multiline" => layout(DisplayKind::Multiline, inputs.all(), answer),
@@ -86,7 +92,7 @@ fn add_span(name: &str, span: Span, answer: &mut Answer) {
     answer.add_number(span.end);
 }
 
-fn add_named_piece(piece: Piece, answer: &mut Answer) {
+pub fn add_named_piece(piece: Piece, answer: &mut Answer) {
     match piece {
         Piece::Word(span) => add_span("word ", span, answer),
         Piece::Quote(span) => add_span("quote ", span, answer),
@@ -109,7 +115,7 @@ pub fn wrong_name(wrong: Wrong) -> &'static str {
     }
 }
 
-fn add_fault(fault: Fault, answer: &mut Answer) {
+pub fn add_fault(fault: Fault, answer: &mut Answer) {
     answer.add_text(wrong_name(fault.wrong));
     if let Wrong::OpenQuote(start) = fault.wrong {
         answer.add_text(" from ");
@@ -117,17 +123,6 @@ fn add_fault(fault: Fault, answer: &mut Answer) {
     }
     answer.add_text(" at ");
     answer.add_number(fault.at);
-}
-
-/// The pieces of octets with their places, a bar after each.
-fn pieces(octets: &[u8], answer: &mut Answer) {
-    for piece in Pieces::of_octets(octets) {
-        match piece {
-            Ok(piece) => add_named_piece(piece, answer),
-            Err(fault) => add_fault(fault, answer),
-        }
-        answer.add_text("|");
-    }
 }
 
 /// A token after its place and a colon, or a plus if it is glued, with a bar after it.
@@ -207,9 +202,13 @@ fn token_content(token: &str, answer: &mut Answer) {
 
 /// Where the outermost parenthesis stands that is left open.
 fn open(octets: &[u8], answer: &mut Answer) {
-    match outermost_open_of_octets(octets) {
+    let open = outermost_open_of_octets(octets);
+    match open {
         Some(place) => answer.add_number(place),
         None => answer.add_text("none"),
+    }
+    if let Ok(text) = str::from_utf8(octets) {
+        answer.check(outermost_open(text) == open);
     }
 }
 
@@ -226,6 +225,16 @@ fn position((octets, place): (&[u8], usize), answer: &mut Answer) {
         return answer.fail(Failure::BadInputs);
     }
     add_position(line_and_column_of_octets(octets, place), answer);
+}
+
+/// The line and the column of a place, in characters of a text.
+fn text_position((octets, place): (&[u8], usize), answer: &mut Answer) {
+    match str::from_utf8(octets) {
+        Ok(text) if text.is_char_boundary(place) => {
+            add_position(line_and_column(text, place), answer);
+        }
+        _ => answer.fail(Failure::BadInputs),
+    }
 }
 
 /// The item that a word means: a parenthesis, a line end, a comment, and else a token.
@@ -253,13 +262,86 @@ fn items<'a>(
     Ok(items)
 }
 
+/// The tokens of words with a bar after each, and a slash at each line's end.
+fn add_words(words: &[Vec<u8>], answer: &mut Answer) {
+    for word in words {
+        match word.as_slice() {
+            [b'('] | [b')'] | [b';', b' ', ..] => {}
+            [b'\n'] => answer.add_text("/"),
+            token => {
+                answer.add(token);
+                answer.add_text("|");
+            }
+        }
+    }
+    answer.add_text("/");
+}
+
+/// A layout of words splits into their entries.
+fn check_entries(text: &str, words: &[Vec<u8>], answer: &mut Answer) {
+    let mut wanted = answer.another();
+    add_words(words, &mut wanted);
+    let mut found = answer.another();
+    split_text(text, &mut found);
+    match (wanted.into_text(), found.into_text()) {
+        (Ok(wanted), Ok(found)) => answer.check(wanted == found),
+        _ => answer.check(false),
+    }
+}
+
+/// Whether a value prints a text, or a beginning of it where memory is lacking.
+fn is_printed(heap: &Heap, value: &impl fmt::Display, wanted: &str) -> bool {
+    let mut out = String::new(heap);
+    match write!(out, "{value}") {
+        Ok(()) => out.as_str() == wanted,
+        Err(_) => heap.has_refused() && wanted.starts_with(out.as_str()),
+    }
+}
+
+/// What a document of words prints, as a text of its own and into one.
+fn print(value: &impl fmt::Display, words: &[Vec<u8>], answer: &mut Answer) {
+    answer.add_shown(value);
+    let Ok(text) = value.to_string(answer.heap()) else {
+        return answer.fail_for_memory();
+    };
+    let mut other = answer.another();
+    other.add_text(text.as_str());
+    answer.check_same(&other);
+    answer.hold(is_printed(answer.heap(), value, text.as_str()));
+    check_entries(text.as_str(), words, answer);
+}
+
+/// Whether an item is that of a word.
+fn is_item(item: &Item<&Heap>, word: &[u8]) -> bool {
+    match item {
+        Item::Begin => matches!(word, [b'(']),
+        Item::End => matches!(word, [b')']),
+        Item::Newline => matches!(word, [b'\n']),
+        Item::Comment(text) => word.strip_prefix(b"; ") == Some(text.as_str().as_bytes()),
+        Item::Token(text) => text.as_str().as_bytes() == word,
+    }
+}
+
+/// Whether items are those of words.
+fn are_items(items: &[Item<&Heap>], words: &[Vec<u8>]) -> bool {
+    for (item, word) in items.iter().zip(words) {
+        if !is_item(item, word.as_slice()) {
+            return false;
+        }
+    }
+    items.len() == words.len()
+}
+
 /// The text of a document of words in a layout.
 fn layout(kind: DisplayKind, words: &[Vec<u8>], answer: &mut Answer) {
     let Ok(items) = items(answer.heap(), words) else {
         return answer.fail_for_memory();
     };
     match Document::from_items(items) {
-        Ok(document) => answer.add_shown(&document.display_zonefile(kind)),
-        Err((error, _)) => answer.refuse(&error),
+        Ok(document) => print(&document.display_zonefile(kind), words, answer),
+        Err((error, items)) => {
+            answer.hold(are_items(items.as_slice(), words));
+            answer.refuse(&error);
+        }
     }
 }

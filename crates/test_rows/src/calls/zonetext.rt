@@ -2,23 +2,29 @@
 ghost use Rattle.std.specs.Prelude.{◌+◌, ◌<◌, ◌^◌, length};
 
 use super::zone::{add_position, wrong_name};
-use crate::answer::{Answer, Failure, Heap};
-use crate::row::Inputs;
+use row_table::{Answer, Failure, Heap, Inputs};
+use std::alloc::{AllocError, Allocator, Global};
 use zonetext_lib::blocks::{Checker, Halt};
 use zonetext_lib::check::{Found, check};
+use zonetext_lib::comparer::Comparer;
 use zonetext_lib::diff::{Comparison, diff};
 use zonetext_lib::layout::{Gap, lay_out};
 use zonetext_lib::tokens::{Form, Stop, tokens};
+use zonetext_lib::unified::Unified;
 use zonetext_lib::writer::{Output, Writer};
 
 pub fn call(name: &str, inputs: &Inputs, answer: &mut Answer) {
     match name {
         "check" => check_octets(few(inputs.octets(answer), answer), answer),
+        "check_after" => check_after(inputs.octets_and_number(answer), answer),
         "tokens" => write(Output::Rows(Form::Plain), inputs, answer),
+        "tokens_after" => write_after(Output::Rows(Form::Plain), inputs, answer),
         "json" => write(Output::Rows(Form::Json), inputs, answer),
         "spaces" => write(Output::Lines(Gap::Space), inputs, answer),
         "tabs" => write(Output::Lines(Gap::Tab), inputs, answer),
+        "tabs_after" => write_after(Output::Lines(Gap::Tab), inputs, answer),
         "diff" => compare(inputs.two(answer), answer),
+        "unified" => unified(inputs.two(answer), answer),
         _ => answer.fail(Failure::NoCall),
     }
 }
@@ -28,13 +34,24 @@ const MOST: usize = 1 << 24;
 
 /// Octets of which there are not too many.
 fn few<'a>(octets: &'a [u8], answer: &mut Answer) -> &'a [u8]
-    ensures { length result.now + 2 < 2 ^ 64 }
+    ensures { length result.now < 2 ^ 62 }
 {
     if octets.len() > MOST {
         answer.fail(Failure::BadInputs);
         return &[];
     }
     octets
+}
+
+/// A number of lines that is not too large.
+fn few_lines(lines: usize, answer: &mut Answer) -> usize
+    ensures { result < 2 ^ 62 }
+{
+    if lines > MOST {
+        answer.fail(Failure::BadInputs);
+        return 0;
+    }
+    lines
 }
 
 /// A fault's position and reason, its place, and the position of what is left open.
@@ -50,15 +67,30 @@ fn add_found(found: Found, answer: &mut Answer) {
     }
 }
 
+/// Adds a block, and once more where memory was lacking.
+fn add_again<A: Allocator>(checker: &mut Checker<A>, block: &[u8]) -> Result<(), Halt> {
+    match checker.add(block) {
+        Err(Halt::OutOfMemory) => checker.add(block),
+        told => told,
+    }
+}
+
 /// Octets in blocks of a length.
-fn check_blocks(heap: &Heap, octets: &[u8], size: usize) -> Result<(), Halt>
+fn check_blocks<A: Allocator>(alloc: A, octets: &[u8], size: usize) -> Result<(), Halt>
     requires { 0 < size }
 {
-    let mut checker = Checker::new(heap);
+    let mut checker = Checker::new(alloc);
     for block in octets.chunks(size) {
-        checker.add(block)?;
+        add_again(&mut checker, block)?;
     }
     checker.finish().map_err(Halt::Wrong)
+}
+
+fn add_check(checked: Result<(), Found>, answer: &mut Answer) {
+    match checked {
+        Ok(()) => answer.add_text("ok"),
+        Err(found) => add_found(found, answer),
+    }
 }
 
 /// Whether octets are zone text, whole and in blocks of any length.
@@ -67,39 +99,76 @@ fn check_octets(octets: &[u8], answer: &mut Answer)
 {
     let whole = check(octets, 0);
     let wanted = whole.map_err(Halt::Wrong);
-    for size in 1..=octets.len() {
-        answer.check(check_blocks(answer.heap(), octets, size) == wanted);
+    for size in 2..=octets.len() {
+        answer.hold(check_blocks(answer.alloc(), octets, size) == wanted);
     }
-    match whole {
-        Ok(()) => answer.add_text("ok"),
-        Err(found) => add_found(found, answer),
+    answer.hold(check_blocks(answer.heap(), octets, 1) == wanted);
+    add_check(whole, answer);
+}
+
+/// Whether octets are zone text that stand after so many lines.
+fn check_after((octets, lines): (&[u8], usize), answer: &mut Answer) {
+    let checked = check(few(octets, answer), few_lines(lines, answer));
+    add_check(checked, answer);
+}
+
+/// Adds a block, and once more where memory was lacking.
+fn write_again<A: Allocator>(
+    writer: &mut Writer<A>,
+    block: &[u8],
+    out: &mut Vec<u8, A>,
+) -> Result<(), Halt> {
+    let before = out.len();
+    match writer.add(block, out) {
+        Err(Halt::OutOfMemory) => {
+            out.truncate(before);
+            writer.add(block, out)
+        }
+        told => told,
+    }
+}
+
+/// Writes what is left, and once more where memory was lacking.
+fn finish_again<A: Allocator>(writer: &Writer<A>, out: &mut Vec<u8, A>) -> Result<(), Halt> {
+    let before = out.len();
+    match writer.finish(out) {
+        Err(Halt::OutOfMemory) => {
+            out.truncate(before);
+            writer.finish(out)
+        }
+        told => told,
     }
 }
 
 /// What is written of octets in blocks of a length.
-fn write_blocks<'a>(
-    heap: &'a Heap,
+fn write_blocks<A: Allocator>(
+    alloc: A,
     output: Output,
     octets: &[u8],
     size: usize,
-    out: &mut Vec<u8, &'a Heap>,
+    out: &mut Vec<u8, A>,
 ) -> Result<(), Halt>
     requires { 0 < size }
 {
-    let mut writer = Writer::new(heap, output);
+    let mut writer = Writer::new(alloc, output);
     for block in octets.chunks(size) {
-        writer.add(block, out)?;
+        write_again(&mut writer, block, out)?;
     }
-    writer.finish(out)
+    finish_again(&writer, out)
 }
 
-/// The same of whole octets.
-fn write_whole<'a>(output: Output, octets: &[u8], out: &mut Vec<u8, &'a Heap>) -> Result<(), Stop>
-    requires { length octets.now + 2 < 2 ^ 64 }
+/// What is written of whole octets that stand after so many lines.
+fn write_whole<'a>(
+    output: Output,
+    octets: &[u8],
+    lines: usize,
+    out: &mut Vec<u8, &'a Heap>,
+) -> Result<(), Stop>
+    requires { length octets.now + lines + 2 < 2 ^ 64 }
 {
     match output {
-        Output::Rows(form) => tokens(octets, 0, form, out),
-        Output::Lines(gap) => lay_out(octets, 0, gap, out),
+        Output::Rows(form) => tokens(octets, lines, form, out),
+        Output::Lines(gap) => lay_out(octets, lines, gap, out),
     }
 }
 
@@ -110,24 +179,51 @@ struct Written<'a> {
     end: Result<(), Halt>,
 }
 
-/// Whether blocks of each other length are written alike.
-fn is_alike(heap: &Heap, output: Output, octets: &[u8], size: usize, wanted: &Written) -> bool
+/// Whether blocks of another length are written alike.
+fn is_alike(alloc: Global, output: Output, octets: &[u8], size: usize, wanted: &Written) -> bool
     requires { 0 < size }
 {
-    let mut out = Vec::new(heap);
-    let end = write_blocks(heap, output, octets, size, &mut out);
+    let mut out = Vec::new(alloc);
+    let end = write_blocks(alloc, output, octets, size, &mut out);
     end == wanted.end && *out.as_slice() == *wanted.octets
 }
 
-/// Whether whole octets are written alike; before a fault no less is.
+/// Whether whole octets are written alike, but perhaps before a fault, or lack memory.
 fn is_whole(heap: &Heap, output: Output, octets: &[u8], wanted: &Written) -> bool
     requires { length octets.now + 2 < 2 ^ 64 }
 {
     let mut out = Vec::new(heap);
-    match (write_whole(output, octets, &mut out), wanted.end) {
+    match (write_whole(output, octets, 0, &mut out), wanted.end) {
         (Ok(()), Ok(())) => *out.as_slice() == *wanted.octets,
         (Err(Stop::Wrong(found)), Err(Halt::Wrong(other))) => found == other,
+        (Err(Stop::OutOfMemory), _) => heap.has_refused(),
         _ => false,
+    }
+}
+
+/// Lines have the entries of the octets.
+fn check_lines(output: Output, octets: &[u8], lines: &[u8], answer: &mut Answer)
+    requires ours { length octets.now + 2 < 2 ^ 64 }
+    requires theirs { length lines.now + 2 < 2 ^ 64 }
+{
+    if let Output::Lines(_) = output {
+        answer.hold(diff(octets, lines) == Comparison::Same);
+    }
+}
+
+/// A bar and the fault after it.
+fn add_fault(found: Found, answer: &mut Answer) {
+    answer.add_text("|");
+    add_found(found, answer);
+}
+
+/// Adds octets, and the fault after them.
+fn add_written(written: Written, answer: &mut Answer) {
+    answer.add(written.octets);
+    match written.end {
+        Ok(()) => {}
+        Err(Halt::Wrong(found)) => add_fault(found, answer),
+        Err(_) => answer.hold(false),
     }
 }
 
@@ -137,28 +233,99 @@ fn write(output: Output, inputs: &Inputs, answer: &mut Answer) {
     let heap = answer.heap();
     let mut out = Vec::new(heap);
     let end = write_blocks(heap, output, octets, 1, &mut out);
-    let wanted = Written {
+    let written = Written {
         octets: out.as_slice(),
         end,
     };
     for size in 2..=octets.len() {
-        answer.check(is_alike(heap, output, octets, size, &wanted));
+        answer.hold(is_alike(answer.alloc(), output, octets, size, &written));
     }
-    answer.check(is_whole(heap, output, octets, &wanted));
-    answer.add(out.as_slice());
-    match end {
-        Ok(()) => {}
-        Err(Halt::Wrong(found)) => {
-            answer.add_text("|");
-            add_found(found, answer);
+    answer.hold(is_whole(heap, output, octets, &written));
+    if end.is_ok() {
+        check_lines(output, octets, few(out.as_slice(), answer), answer);
+    }
+    add_written(written, answer);
+}
+
+/// What is written of octets that stand after so many lines, and the fault after it. Of lines
+/// before a fault nothing is said.
+fn write_after(output: Output, inputs: &Inputs, answer: &mut Answer) {
+    let (octets, lines) = inputs.octets_and_number(answer);
+    let mut out = Vec::new(answer.heap());
+    let octets = few(octets, answer);
+    match (
+        write_whole(output, octets, lines.min(MOST), &mut out),
+        output,
+    ) {
+        (Ok(()), _) => answer.add(out.as_slice()),
+        (Err(Stop::Wrong(found)), Output::Rows(_)) => {
+            answer.add(out.as_slice());
+            add_fault(found, answer);
         }
-        Err(_) => answer.fail_for_memory(),
+        (Err(Stop::Wrong(found)), Output::Lines(_)) => add_fault(found, answer),
+        (Err(Stop::OutOfMemory), _) => answer.fail_for_memory(),
     }
 }
 
-/// Where two zone texts differ first.
-fn compare((one, other): (&[u8], &[u8]), answer: &mut Answer) {
-    match diff(few(one, answer), few(other, answer)) {
+/// Adds a block to the first text, and once more where memory was lacking.
+fn add_first<A: Allocator + Copy>(comparer: &mut Comparer<A>, block: &[u8]) -> Result<(), Halt> {
+    match comparer.add_first(block) {
+        Err(Halt::OutOfMemory) => comparer.add_first(block).map(|_| ()),
+        told => told.map(|_| ()),
+    }
+}
+
+/// The same of the second.
+fn add_second<A: Allocator + Copy>(comparer: &mut Comparer<A>, block: &[u8]) -> Result<(), Halt> {
+    match comparer.add_second(block) {
+        Err(Halt::OutOfMemory) => comparer.add_second(block).map(|_| ()),
+        told => told.map(|_| ()),
+    }
+}
+
+/// Adds a block of a length to a text of which more is wanted. What is left.
+fn add_block<'o, A: Allocator + Copy>(
+    comparer: &mut Comparer<A>,
+    is_first: bool,
+    octets: &'o [u8],
+    size: usize,
+) -> Result<&'o [u8], Halt> {
+    let (block, rest) = octets.split_at(size.min(octets.len()));
+    if is_first && comparer.wants_first() {
+        add_first(comparer, block)?;
+        return Ok(rest);
+    }
+    if !is_first && comparer.wants_second() {
+        add_second(comparer, block)?;
+        return Ok(rest);
+    }
+    Ok(octets)
+}
+
+/// How two texts compare that come in blocks of a length, until no more is wanted of either.
+fn compare_blocks<A: Allocator + Copy>(
+    alloc: A,
+    one: &[u8],
+    other: &[u8],
+    size: usize,
+) -> Result<Comparison, Halt> {
+    let mut comparer = Comparer::new(alloc);
+    let (mut ours, mut theirs) = (one, other);
+    for _ in 0..u64::MAX {
+        let our_rest = add_block(&mut comparer, true, ours, size)?;
+        let their_rest = add_block(&mut comparer, false, theirs, size)?;
+        if our_rest.len() == ours.len() && their_rest.len() == theirs.len() {
+            break;
+        }
+        ours = our_rest;
+        theirs = their_rest;
+        comparer.let_go();
+    }
+    Ok(comparer.finish())
+}
+
+fn add_comparison(comparison: Comparison, answer: &mut Answer) {
+    match comparison {
         Comparison::Same => answer.add_text("same"),
         Comparison::Differ(first, second) => {
             add_position(first, answer);
@@ -174,4 +341,44 @@ fn compare((one, other): (&[u8], &[u8]), answer: &mut Answer) {
             add_found(found, answer);
         }
     }
+}
+
+/// Where two zone texts differ first, whole and in blocks of any length.
+fn compare((one, other): (&[u8], &[u8]), answer: &mut Answer) {
+    let comparison = diff(few(one, answer), few(other, answer));
+    for size in 1..=one.len().max(other.len()) {
+        answer.hold(compare_blocks(answer.alloc(), one, other, size) == Ok(comparison));
+    }
+    answer.hold(compare_blocks(answer.heap(), one, other, 3) == Ok(comparison));
+    add_comparison(comparison, answer);
+}
+
+/// The hunks of a unified diff of two texts that come in blocks of a length.
+fn unified_blocks(alloc: Global, old: &[u8], new: &[u8], size: usize) -> Result<Vec<u8>, AllocError>
+    requires { 0 < size }
+{
+    let mut unified = Unified::new(alloc);
+    let mut out = Vec::new(alloc);
+    for block in old.chunks(size) {
+        unified.add_old(block)?;
+        unified.advance(&mut out)?;
+    }
+    for block in new.chunks(size) {
+        unified.add_new(block)?;
+        unified.advance(&mut out)?;
+    }
+    unified.finish(&mut out)?;
+    Ok(out)
+}
+
+/// The hunks of a unified diff, whatever the blocks.
+fn unified((old, new): (&[u8], &[u8]), answer: &mut Answer) {
+    let Ok(hunks) = unified_blocks(answer.alloc(), old, new, 1) else {
+        return answer.fail_for_memory();
+    };
+    for size in 2..=old.len().max(new.len()) {
+        let other = unified_blocks(answer.alloc(), old, new, size);
+        answer.hold(matches!(&other, Ok(other) if other.as_slice() == hunks.as_slice()));
+    }
+    answer.add(hunks.as_slice());
 }

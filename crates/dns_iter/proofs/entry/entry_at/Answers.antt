@@ -2,7 +2,7 @@ use Rattle.std.proofs.Common.{List, length, refl, sym, ap, subst}
 use Rattle.std.proofs.lemmas.Option.{slice_get_read}
 use Rattle.dns_split.specs.Answer.{texts, entries_of}
 use Rattle.dns_scan.specs.Tokens.{Token}
-use Rattle.dns_iter.specs.Contents.{AreContents}
+use Rattle.dns_iter.specs.Contents.{HaveContents}
 use Rattle.dns_iter.proofs.Holding.{entry_is, held_at, holds_only, known_held, none_held}
 use Rattle.dns_iter.proofs.entry.entry_at.Goals as goal
 
@@ -19,7 +19,7 @@ returns-clause-stands g c = λ contents h.
     let entry = c.in_ok-tokens.tokens.now in
     let at = slice_get_read entries (length entries) c.args.place entry refl c.in_ok-tokens.ensures.lookup.3.0 c.in_ok-tokens.ensures.lookup.1 in
     let are = held_at (entries_of entries) c.args.place (texts entry.items) contents (entry_is entries c.args.place entry at) h in
-    c.entry_scanner.ensures.stands contents (subst (λ (l : List Token). AreContents l contents) (sym (ap texts c.deref.ensures.value)) are)
+    c.entry_scanner.ensures.stands contents (subst (λ (l : List Token). HaveContents l contents) (sym (ap texts c.deref.ensures.value)) are)
 
 pub returns-clause-splits : goal.returns-clause-splits
 returns-clause-splits g c = λ text found contents splits other h.

@@ -1,7 +1,7 @@
 use Rattle.std.proofs.Common.{ℕ, List}
 use Rattle.dns_scan.specs.Octets.{GivesWhere}
 use Rattle.dns_scan.proofs.Whole.{of_first}
-use Rattle.dns_entry.specs.Codecs.{IsEncoding, codec_of}
+use Rattle.dns_entry.specs.Codecs.{IsEncodingOf, codec_of}
 use Rattle.dns_entry.proofs.Converting.{base_answer}
 use Rattle.dns_laws.proofs.Converted.{base_text, base_only}
 use Rattle.dns_laws.proofs.GrammarOnce.{by_grammar}
@@ -13,7 +13,7 @@ returns-clause-takes g c = λ token others stands.
     let first = of_first g.S.Scanner.next_token g.S.Error.ScannerError.cause _ _ _ _ token others stands c.convert_token.ensures.scans in
     let answer = base_answer g.S.Error.ScannerError.cause g.S.OctetsBuilder.OctetsBuilder.room g.K.Encoding.base
     g.S.Octets.AsOctets.octets token c.new.result c.convert_token.result c.new.ensures first.0 in
-    let whole : (octets : List ℕ) → IsEncoding g.K.Encoding.base token octets
+    let whole : (octets : List ℕ) → IsEncodingOf g.K.Encoding.base token octets
     → GivesWhere g.S.Error.ScannerError.cause g.S.Octets.AsOctets.octets g.S.OctetsBuilder.OctetsBuilder.room octets c.convert_token.result =
     λ octets is. gives_value (codec_of g.K.Encoding.base) (base_same g.K.Encoding.base) (base_needs g.K.Encoding.base) g.K.Encoding.base
     (base_text g.K.Encoding.base g.met.K.Encoding.known) (base_only g.K.Encoding.base g.met.K.Encoding.known)

@@ -1,7 +1,7 @@
 use Rattle.std.proofs.Common.{List, ℕ, sym, ap, subst, ◌∙◌, string_bytes}
 use Rattle.dns_split.specs.Answer.{texts, entries_of}
 use Rattle.dns_split.specs.Splitting.{Splits}
-use Rattle.dns_iter.specs.Contents.{AreContents}
+use Rattle.dns_iter.specs.Contents.{HaveContents}
 use Rattle.dns_record.proofs.OneEntry.{record_entry, first_of}
 use Rattle.dns_record.proofs.Parts.{tokens_of, held_of, parts_contents, parts_texts}
 use Rattle.dns_record.proofs.record.record_reads_back_in_room.Goals as goal
@@ -16,4 +16,4 @@ returns g c =
     let first = first_of c.in-Ok-split.entries.items c.in-Some.tokens.now c.in-Some.field-0-1.now (tokens_of ps) (sym c.deref.ensures.value ∙ c.in-Some.ensures.cases.0) found in
     c.scan_record.ensures.back x (held_of ps) c.known.ensures (parts_texts ps)
     (c.entry_scanner-scanner.ensures.stands (held_of ps)
-    (subst (λ (l : List (List ℕ)). AreContents l (held_of ps)) (sym (ap texts c.deref-2.ensures.value ∙ first)) (parts_contents ps c.known.ensures.0)))
+    (subst (λ (l : List (List ℕ)). HaveContents l (held_of ps)) (sym (ap texts c.deref-2.ensures.value ∙ first)) (parts_contents ps c.known.ensures.0)))

@@ -1,6 +1,6 @@
 use Rattle.std.proofs.Common.{◌≡◌, [], length, drop, ◌<◌, sym, ap, subst, refl, arith}
 use Rattle.std.proofs.lemmas.List.{drop_all}
-use Rattle.dns_zone.specs.Documents.{steps_of, IsFirstFault}
+use Rattle.dns_zone.specs.Documents.{item_steps, IsFirstFault}
 use Rattle.dns_zone.specs.declared.error.DocumentError.TheVariants.{OpenBlock}
 use Rattle.dns_zone.proofs.Scanned.{scanned_more, scanned_fault, rest_more}
 use Rattle.dns_zone.proofs.document.first_fault.Goals as goal
@@ -20,5 +20,5 @@ returns-in-Some-clause-fault g c =
 pub returns-else-blocks-eq0-clause-fault : goal.returns-else-blocks-eq0-clause-fault
 returns-else-blocks-eq0-clause-fault g c =
     let inv = c.loop-place.invariant in
-    let none : steps_of (drop c.loop-place.place c.args.items.now) ≡ [] = ap steps_of (drop_all c.loop-place.place c.args.items.now (omega arith)) in
+    let none : item_steps (drop c.loop-place.place c.args.items.now) ≡ [] = ap item_steps (drop_all c.loop-place.place c.args.items.now (omega arith)) in
     inv.fault OpenBlock (subst (λ xs. IsFirstFault inv.past xs OpenBlock) (sym none) (refl, omega (arith, inv.opens)))

@@ -7,7 +7,7 @@ use Rattle.dns_entry.specs.Field.{number, hex_octets, base64_octets, text_octets
 use Rattle.dns_symbol.specs.Cause.{Cause}
 use Rattle.dns_scan.specs.Numbers.{greatest}
 use Rattle.dns_scan.proofs.Whole.{of_first}
-use Rattle.dnstext_lib.specs.EntryLine.{Holds, NoField}
+use Rattle.dnstext_lib.specs.EntryLine.{FieldHolds, NoField}
 use Rattle.dns_scan.specs.StrError.{str_cause}
 use Rattle.dns_entry.proofs.Converting.{base_answer}
 use Rattle.dnstext_lib.proofs.Fielding.{number_held, text_held, octets_stop}
@@ -18,7 +18,7 @@ use Rattle.dnstext_lib.proofs.line.make_field.Goals as goal
 pub returns-in_ok-scan-in-Number : goal.returns-in_ok-scan-in-Number
 returns-in_ok-scan-in-Number g c =
     let road = YieldsList-from_once (Some c.args.text) c.once.ensures.item in
-    subst (λ k. Holds k c.args.text.now (number c.in_ok-scan-in-Number.field-0)) (sym c.in-Number.is)
+    subst (λ k. FieldHolds k c.args.text.now (number c.in_ok-scan-in-Number.field-0)) (sym c.in-Number.is)
     (number_held {E = Cause} (λ why. why) (greatest 32) c.args.text.now c.in_ok-scan-in-Number.field-0
     (c.in_ok-scan-in-Number.ensures.reads (c.args.text.now ∷ []) (c.new-scanner.ensures.stands _ (texts_from road))).1.0)
 
@@ -33,7 +33,7 @@ returns-in_err-scan-in-Number g c =
 pub returns-in_ok-octets-in-Hex : goal.returns-in_ok-octets-in-Hex
 returns-in_ok-octets-in-Hex g c =
     let road = YieldsList-from_once (Some c.args.text) c.once.ensures.item in
-    subst (λ k. Holds k c.args.text.now (hex_octets c.in_ok-octets-in-Hex.octets.items)) (sym c.in-Hex.is) (
+    subst (λ k. FieldHolds k c.args.text.now (hex_octets c.in_ok-octets-in-Hex.octets.items)) (sym c.in-Hex.is) (
       _,
       (base_answer str_cause of_memory base16 (λ v. v.items) c.args.text.now c.new.result (Ok c.in_ok-octets-in-Hex.octets) c.new.ensures
           (of_first _ _ _ _ _ _ _ [] (c.new-scanner.ensures.stands _ (texts_from road)) c.in_ok-octets-in-Hex.ensures.scans).0).2.0,
@@ -51,7 +51,7 @@ returns-in_err-octets-in-Hex g c =
 pub returns-in_ok-octets-in-Base64 : goal.returns-in_ok-octets-in-Base64
 returns-in_ok-octets-in-Base64 g c =
     let road = YieldsList-from_once (Some c.args.text) c.once.ensures.item in
-    subst (λ k. Holds k c.args.text.now (base64_octets c.in_ok-octets-in-Base64.octets.items)) (sym c.in-Base64.is) (
+    subst (λ k. FieldHolds k c.args.text.now (base64_octets c.in_ok-octets-in-Base64.octets.items)) (sym c.in-Base64.is) (
       _,
       (base_answer str_cause of_memory base64 (λ v. v.items) c.args.text.now c.new-in-Base64.result (Ok c.in_ok-octets-in-Base64.octets) c.new-in-Base64.ensures
           (of_first _ _ _ _ _ _ _ [] (c.new-scanner.ensures.stands _ (texts_from road)) c.in_ok-octets-in-Base64.ensures.scans).0).2.0,
@@ -69,7 +69,7 @@ returns-in_err-octets-in-Base64 g c =
 pub returns-in_ok-scan_charstr-in-Text : goal.returns-in_ok-scan_charstr-in-Text
 returns-in_ok-scan_charstr-in-Text g c =
     let road = YieldsList-from_once (Some c.args.text) c.once.ensures.item in
-    subst (λ k. Holds k c.args.text.now (text_octets c.in_ok-scan_charstr-in-Text.field-0)) (sym c.in-Text.is)
+    subst (λ k. FieldHolds k c.args.text.now (text_octets c.in_ok-scan_charstr-in-Text.field-0)) (sym c.in-Text.is)
     (text_held str_cause of_memory c.args.text.now c.in_ok-scan_charstr-in-Text.field-0
     (of_first _ _ _ _ _ _ _ [] (c.new-scanner.ensures.stands _ (texts_from road)) c.in_ok-scan_charstr-in-Text.ensures.scans).0)
 

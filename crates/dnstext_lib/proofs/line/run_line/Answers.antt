@@ -1,9 +1,9 @@
 use Rattle.std.proofs.Common.{refl, ap, inl, inr, Err, map}
 use Rattle.std.specs.Prelude.{codes}
 use Rattle.dns_entry.specs.Field.{contents_of}
-use Rattle.dns_entry.specs.EntryError.{error_text}
+use Rattle.dns_entry.specs.EntryError.{entry_error_text}
 use Rattle.dnstext_lib.specs.EntryLine.{asked_of, field_word}
-use Rattle.dnstext_lib.specs.Program.{cause_text, texts}
+use Rattle.dnstext_lib.specs.Program.{cause_text, bytes_of_words}
 use Rattle.dns_scan.specs.StrError.{str_cause}
 use Rattle.dnstext_lib.proofs.InTurn.{some_begin}
 use Rattle.dnstext_lib.proofs.line.run_line.Goals as goal
@@ -28,14 +28,14 @@ pub returns-in-Err-NoMemory-make_fields-clause-refused : goal.returns-in-Err-NoM
 returns-in-Err-NoMemory-make_fields-clause-refused g c = λ is.
     let asked = map asked_of c.in-Ok.found.items in
     let some = rw (c.deref.ensures.value, c.in-Err-NoMemory-make_fields.field-0-is) at c.in-Err-NoMemory-make_fields.ensures in
-    let begins = some_begin field_word (texts c.args.words.now) asked c.in-Ok.ensures.found some in
+    let begins = some_begin field_word (bytes_of_words c.args.words.now) asked c.in-Ok.ensures.found some in
     (codes "short buffer", inr (inr (inr (begins, refl, refl))), c.refuse-in-Err-NoMemory-make_fields.ensures.wrote is)
 
 pub returns-in-Err-NoMemory-make_fields-clause-silent : goal.returns-in-Err-NoMemory-make_fields-clause-silent
 returns-in-Err-NoMemory-make_fields-clause-silent g c = λ is.
     let asked = map asked_of c.in-Ok.found.items in
     let some = rw (c.deref.ensures.value, c.in-Err-NoMemory-make_fields.field-0-is) at c.in-Err-NoMemory-make_fields.ensures in
-    let begins = some_begin field_word (texts c.args.words.now) asked c.in-Ok.ensures.found some in
+    let begins = some_begin field_word (bytes_of_words c.args.words.now) asked c.in-Ok.ensures.found some in
     inr (codes "short buffer", inr (inr (inr (begins, refl, refl))))
 
 pub returns-in-Ok-new-clause-refused : goal.returns-in-Ok-new-clause-refused
@@ -57,11 +57,11 @@ returns-clause-refused g c = λ is.
     let asked = map asked_of c.in-Ok.found.items in
     let fields = contents_of c.in-Ok-make_fields.fields.items in
     let run = rw c.deref.ensures.value at c.in-Ok-make_fields.ensures in
-    (error_text c.in-Err.refusal.0, inr (inl (asked, fields, c.in-Err.refusal.0, c.in-Ok.ensures.found, run, c.in-Err.ensures.err.0, refl, refl)), c.refuse-in-Err.ensures.wrote is)
+    (entry_error_text c.in-Err.refusal.0, inr (inl (asked, fields, c.in-Err.refusal.0, c.in-Ok.ensures.found, run, c.in-Err.ensures.err.0, refl, refl)), c.refuse-in-Err.ensures.wrote is)
 
 pub returns-clause-silent : goal.returns-clause-silent
 returns-clause-silent g c = λ is.
     let asked = map asked_of c.in-Ok.found.items in
     let fields = contents_of c.in-Ok-make_fields.fields.items in
     let run = rw c.deref.ensures.value at c.in-Ok-make_fields.ensures in
-    inr (error_text c.in-Err.refusal.0, inr (inl (asked, fields, c.in-Err.refusal.0, c.in-Ok.ensures.found, run, c.in-Err.ensures.err.0, refl, refl)))
+    inr (entry_error_text c.in-Err.refusal.0, inr (inl (asked, fields, c.in-Err.refusal.0, c.in-Ok.ensures.found, run, c.in-Err.ensures.err.0, refl, refl)))

@@ -1,7 +1,7 @@
 use Rattle.std.proofs.Common.{refl}
 use Rattle.dns_scan.specs.Octets.{unquoted_token}
 use Rattle.dns_scan.proofs.Whole.{of_first}
-use Rattle.dnstext_lib.proofs.Printing.{charstr_prints, charstr_stops}
+use Rattle.dnstext_lib.proofs.Printing.{charstr_prints, charstr_stops, line_by}
 use Rattle.dnstext_lib.proofs.program.print_charstr.Goals as goal
 
 pub returns-in-Err-clause-line : goal.returns-in-Err-clause-line
@@ -11,21 +11,11 @@ returns-in-Err-clause-line g c = λ token others stands.
 pub returns-in-Err-clause-rest : goal.returns-in-Err-clause-rest
 returns-in-Err-clause-rest g c = λ token others stands. (of_first g.S.Scanner.next_token g.S.Error.ScannerError.cause _ _ _ _ token others stands c.scan_charstr.ensures.scans).1
 
-pub returns-in-Ok-write-clause-line : goal.returns-in-Ok-write-clause-line
-returns-in-Ok-write-clause-line g c = λ token others stands.
-    let prints = charstr_prints g.S.Error.ScannerError.cause _ token c.in-Ok.string
-    (of_first g.S.Scanner.next_token g.S.Error.ScannerError.cause _ _ _ _ token others stands c.in-Ok.ensures.scans).0 in
-    (unquoted_token c.in-Ok.string, prints, rw c.display_unquoted.ensures at c.in-Ok-write.ensures.writes)
-
-pub returns-in-Ok-write-clause-rest : goal.returns-in-Ok-write-clause-rest
-returns-in-Ok-write-clause-rest g c = λ token others stands. (of_first g.S.Scanner.next_token g.S.Error.ScannerError.cause _ _ _ _ token others stands c.scan_charstr.ensures.scans).1
+pub returns-clause-line : goal.returns-clause-line
+returns-clause-line g c = λ token others stands.
+    line_by g.S.Error.ScannerError.cause _ _ _ token (unquoted_token c.in-Ok.string) _ _ c.print_line.result
+    (charstr_prints g.S.Error.ScannerError.cause _ token c.in-Ok.string (of_first g.S.Scanner.next_token g.S.Error.ScannerError.cause _ _ _ _ token others stands c.in-Ok.ensures.scans).0)
+    (rw c.display_unquoted.ensures at c.print_line.ensures)
 
 pub returns-clause-rest : goal.returns-clause-rest
 returns-clause-rest g c = λ token others stands. (of_first g.S.Scanner.next_token g.S.Error.ScannerError.cause _ _ _ _ token others stands c.scan_charstr.ensures.scans).1
-
-pub returns-clause-line : goal.returns-clause-line
-returns-clause-line g c = λ token others stands. (
-  unquoted_token c.in-Ok.string,
-  charstr_prints g.S.Error.ScannerError.cause _ token c.in-Ok.string
-      (of_first g.S.Scanner.next_token g.S.Error.ScannerError.cause _ _ _ _ token others stands c.in-Ok.ensures.scans).0,
-)

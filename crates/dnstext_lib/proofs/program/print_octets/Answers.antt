@@ -1,6 +1,7 @@
 use Rattle.std.proofs.Common.{refl}
 use Rattle.dns_scan.proofs.Whole.{of_first}
 use Rattle.dns_entry.proofs.Converting.{converted_value, converted_refusal}
+use Rattle.dnstext_lib.proofs.Printing.{octets_line}
 use Rattle.dnstext_lib.proofs.program.print_octets.Goals as goal
 
 pub returns-in-Err-clause-line : goal.returns-in-Err-clause-line
@@ -10,19 +11,11 @@ returns-in-Err-clause-line g c = λ token others stands.
 pub returns-in-Err-clause-rest : goal.returns-in-Err-clause-rest
 returns-in-Err-clause-rest g c = λ token others stands. (of_first g.S.Scanner.next_token g.S.Error.ScannerError.cause _ _ _ _ token others stands c.convert_token.ensures.scans).1
 
-pub returns-in-Ok-write-clause-line : goal.returns-in-Ok-write-clause-line
-returns-in-Ok-write-clause-line g c = λ token others stands. (
-  _,
-  converted_value g.S.Error.ScannerError.cause _ _ _ _ _ _ (of_first g.S.Scanner.next_token g.S.Error.ScannerError.cause _ _ _ _ token others stands c.in-Ok.ensures.scans).0,
-  rw c.as_slice.ensures.value at (rw c.encode_display.ensures at c.in-Ok-write.ensures.writes),
-)
-
-pub returns-in-Ok-write-clause-rest : goal.returns-in-Ok-write-clause-rest
-returns-in-Ok-write-clause-rest g c = λ token others stands. (of_first g.S.Scanner.next_token g.S.Error.ScannerError.cause _ _ _ _ token others stands c.convert_token.ensures.scans).1
-
 pub returns-clause-line : goal.returns-clause-line
 returns-clause-line g c = λ token others stands.
-    (_, converted_value g.S.Error.ScannerError.cause _ _ _ _ _ _ (of_first g.S.Scanner.next_token g.S.Error.ScannerError.cause _ _ _ _ token others stands c.in-Ok.ensures.scans).0)
+    octets_line _ _ _ _ _ c.print_line.result
+    (converted_value g.S.Error.ScannerError.cause _ _ _ _ _ _ (of_first g.S.Scanner.next_token g.S.Error.ScannerError.cause _ _ _ _ token others stands c.in-Ok.ensures.scans).0)
+    (rw c.as_slice.ensures.value at (rw c.encode_display.ensures at c.print_line.ensures))
 
 pub returns-clause-rest : goal.returns-clause-rest
 returns-clause-rest g c = λ token others stands. (of_first g.S.Scanner.next_token g.S.Error.ScannerError.cause _ _ _ _ token others stands c.convert_token.ensures.scans).1

@@ -1,13 +1,13 @@
 use Rattle.std.proofs.Common.{subst, sym, ap, Ok, Err}
 use Rattle.dns_scan.specs.Stands.{HasTokens}
-use Rattle.dnstext_lib.specs.Program.{LinesWritten, texts}
+use Rattle.dnstext_lib.specs.Program.{LinesWritten, bytes_of_words}
 use Rattle.dnstext_lib.proofs.Printing.{drop_at, drop_all, lines_more, lines_none, lines_stop}
 use Rattle.dnstext_lib.proofs.program.print_values.Goals as goal
 
 pub returns-in-Err : goal.returns-in-Err
 returns-in-Err g c =
     let at = drop_at c.args.tokens.now c.loop-token._token-index c.loop-token-test.true in
-    let first = ap texts at.1 in
+    let first = ap bytes_of_words at.1 in
     let stands = subst (λ ts. HasTokens g.S.Scanner.next_token c.loop-token.scanner ts) first c.loop-token.invariant.stands in
     c.loop-token.invariant.lines (Err c.in-Err.stop) c.print_value.new.out
     (subst (λ ts. LinesWritten g.S.Error.ScannerError.cause g.O.Write.write_str_gives c.args.kind ts c.loop-token.out (Err c.in-Err.stop) c.print_value.new.out) (sym first)
@@ -16,7 +16,7 @@ returns-in-Err g c =
 pub loop-token-preserved : goal.loop-token-preserved
 loop-token-preserved g c =
     let at = drop_at c.args.tokens.now c.loop-token._token-index c.loop-token-test.true in
-    let first = ap texts at.1 in
+    let first = ap bytes_of_words at.1 in
     let stands = subst (λ ts. HasTokens g.S.Scanner.next_token c.loop-token.scanner ts) first c.loop-token.invariant.stands in
     record {
       ready = c.print_value.ensures.ready;
@@ -28,7 +28,7 @@ loop-token-preserved g c =
 
 pub returns : goal.returns
 returns g c =
-    let none = ap texts (drop_all c.args.tokens.now c.loop-token._token-index c.loop-token-test.false) in
+    let none = ap bytes_of_words (drop_all c.args.tokens.now c.loop-token._token-index c.loop-token-test.false) in
     c.loop-token.invariant.lines (Ok tt) c.loop-token.out
     (subst (λ ts. LinesWritten g.S.Error.ScannerError.cause g.O.Write.write_str_gives c.args.kind ts c.loop-token.out (Ok tt) c.loop-token.out) (sym none)
     (lines_none g.S.Error.ScannerError.cause g.O.Write.write_str_gives c.args.kind c.loop-token.out))

@@ -1,7 +1,7 @@
 use Rattle.std.proofs.Common.{◌≡◌, ◌+◌, sym, subst}
 use Rattle.zonetext_lib.specs.Compare.{DifferAt}
 use Rattle.zonetext_lib.specs.Comparing.{Compared}
-use Rattle.zonetext_lib.specs.Entries.{HasTokens}
+use Rattle.zonetext_lib.specs.Entries.{HasTokenEntries}
 use Rattle.zonetext_lib.specs.Found.{IsFound}
 use Rattle.zonetext_lib.proofs.Together.{both, compared_differ, compared_same, still_well}
 use Rattle.zonetext_lib.proofs.comparer.Comparer.finish.Goals as goal
@@ -14,7 +14,7 @@ returns-in-Same g c = λ one other h.
     let oa = c.held.ensures.octets in
     let ob = c.held-2.ensures.octets in
     let e = c.in-Same.ensures in
-    compared_same one other (both a b) e.0 here oa ob (subst (λ l. HasTokens l e.0) c.held.ensures.held e.1) (subst (λ l. HasTokens l e.0) c.held-2.ensures.held e.2)
+    compared_same one other (both a b) e.0 here oa ob (subst (λ l. HasTokenEntries l e.0) c.held.ensures.held e.1) (subst (λ l. HasTokenEntries l e.0) c.held-2.ensures.held e.2)
 
 pub returns-in-Differ : goal.returns-in-Differ
 returns-in-Differ g c = λ one other h.

@@ -4,7 +4,7 @@ use Rattle.dns_split.specs.declared.pieces.Piece.{Piece}
 use Rattle.dns_split.specs.Pieces.{IsGiven}
 use Rattle.zonetext_lib.specs.Blocks.{Holds, Settled}
 use Rattle.zonetext_lib.specs.Held.{Writing}
-use Rattle.zonetext_lib.specs.Writing.{Makes, Wrote}
+use Rattle.zonetext_lib.specs.Writing.{WritesOutput, Wrote}
 use Rattle.zonetext_lib.proofs.Holding.{added, let_go}
 use Rattle.zonetext_lib.proofs.Made.{cut_whole}
 use Rattle.zonetext_lib.proofs.Written.{settled_none, settled_some, writing, wrote_bad, wrote_more, wrote_on}
@@ -33,7 +33,7 @@ returns-in_default-clause-written g c = λ all written x.
     let held = c.in_ok-take.ensures in
     let here = wrote_more all block written output c.self.inside.checker c.take.new.self (subst (Wrote all written) (sym c.self.view_is) x) held.0 held.1 in
     let m = c.in_default.ensures.made in
-    let made = subst (λ l. Makes output (take c.in-Ok.cut l) c.lines_before-lines.result m.0) c.held-in-Ok.ensures.held m.2 in (
+    let made = subst (λ l. WritesOutput output (take c.in-Ok.cut l) c.lines_before-lines.result m.0) c.held-in-Ok.ensures.held m.2 in (
       m.0,
       m.1 ∙ ap (λ l. l ++ m.0) (settled_none c.self.inside.output c.held.result.now 0 c.args.out.now.items c.write_settled.new.out.items _ c.in-Ok-None.field-0-is (c.in-Ok-None.ensures 0)),
       wrote_on _ written m.0 output c.take.new.self c.release-in-Ok.new.self c.in-Ok.cut c.lines_before-lines.result here c.in-Ok.ensures.octets c.in-Ok.ensures.settled
@@ -55,11 +55,11 @@ returns-in_default-write-clause-written g c = λ all written x.
     let here = wrote_more all block written output c.self.inside.checker c.take.new.self (subst (Wrote all written) (sym c.self.view_is) x) held.0 held.1 in
     let m = c.in_default-write.ensures.made in
     let s = c.in-Err-settle.ensures.settled in
-    let made = subst (λ l. Makes output l c.lines_before-lines.result m.0) c.held-held.ensures.held m.2 in (
+    let made = subst (λ l. WritesOutput output l c.lines_before-lines.result m.0) c.held-held.ensures.held m.2 in (
       m.0,
       m.1 ∙ ap (λ l. l ++ m.0) (settled_none c.self.inside.output c.held.result.now 0 c.args.out.now.items c.write_settled.new.out.items _ c.in-Ok-None.field-0-is (c.in-Ok-None.ensures 0)),
       λ rest o.
-          subst (λ (w : Writing). Makes w.output ((all ++ block) ++ rest) 0 (written ++ m.0)) c.self.view_is
+          subst (λ (w : Writing). WritesOutput w.output ((all ++ block) ++ rest) 0 (written ++ m.0)) c.self.view_is
           (wrote_bad _ written m.0 rest output c.take.new.self c.lines_before-lines.result s.0 here c.in-Err-settle.ensures.octets o c.lines_before-lines.ensures.lines s.1 made),
     )
 
@@ -90,7 +90,7 @@ returns-in-Ok-Some-clause-written g c = λ all written x.
     let lines = c.take.new.self.place.position.line - 1 in
     let e = settled_some c.self.inside.output c.held.result.now lines c.args.out.now.items c.write_settled.new.out.items _ c.in-Ok-Some.cut c.in-Ok-Some.field-0-is (c.in-Ok-Some.ensures lines) in
     let m = e.1 in
-    let made = subst (λ l. Makes output (take cut l) lines m.0) c.held.ensures.held m.2 in (
+    let made = subst (λ l. WritesOutput output (take cut l) lines m.0) c.held.ensures.held m.2 in (
       m.0,
       m.1,
       wrote_on _ written m.0 output c.take.new.self c.release.new.self cut lines here c.held.ensures.octets (subst (λ l. Settled l (Ok cut)) c.held.ensures.held e.0)

@@ -1,0 +1,26 @@
+//! A program over the rows of its standard input.
+use crate::call::Calls;
+use crate::table::report;
+use std::io;
+use std::io::Write;
+use std::process::ExitCode;
+
+/// Runs the rows of standard input. Whether all agree, and the input is whole.
+fn run_input<C: Calls>(rt: &HostRuntime, calls: &C) -> io::Result<bool> {
+    let text = io::read_to_string(rt.alloc(), rt.stdin())?;
+    let mut out = String::new(rt.alloc());
+    let tally = report(calls, rt.alloc(), text.as_str(), &mut out)?;
+    rt.stdout().write_all(out.as_str().as_bytes())?;
+    Ok(tally.passes())
+}
+
+/// Runs the rows of standard input, and prints what [`report`] says of them. The exit status is 0
+/// where each agrees and the input is whole, 1 where it is not so, and 2 where the input can't be
+/// read or the output not written.
+pub fn check_input<C: Calls>(rt: &HostRuntime, calls: &C) -> ExitCode {
+    match run_input(rt, calls) {
+        Ok(true) => ExitCode::from(0),
+        Ok(false) => ExitCode::from(1),
+        Err(_) => ExitCode::from(2),
+    }
+}

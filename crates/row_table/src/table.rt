@@ -1,0 +1,204 @@
+//! Rows, one after another.
+ghost use Rattle.std.specs.Prelude.{◌≡◌, ◌↔◌, IfOk, IsTrue, MatchResult, length, map, string_bytes};
+ghost use Rattle.row_table.specs.Rows.{is_row, is_whole, rows};
+ghost use Rattle.row_table.specs.declared.table.Outcome.TheVariants.{Agrees, NotRun};
+
+use crate::answer::Failure;
+use crate::call::Calls;
+use crate::input::{Inputs, fields_of};
+use crate::refusal::{answer_of, refused_growths};
+use refusing_heap::Refusing;
+use std::alloc::{AllocError, Global};
+
+/// What became of a row.
+#[derive(Drop)]
+enum Outcome {
+    Agrees,
+    Differs(String),
+    NotRun(Failure),
+}
+
+/// How many rows a text has, how many of them agreed, and whether the text is whole.
+#[derive(Clone, Copy, PartialEq, Eq)]
+pub struct Tally {
+    pub rows: usize,
+    pub agreeing: usize,
+    pub is_whole: bool,
+}
+
+impl Tally {
+    /// Whether each row agreed, and the text is whole.
+    pub fn passes(&self) -> bool
+        ensures { IsTrue result ↔ (IsTrue self.now.is_whole × (self.now.agreeing ≡ self.now.rows)) }
+    {
+        self.is_whole && self.agreeing == self.rows
+    }
+}
+
+/// What becomes of a row: it agrees where there is an answer, and that is spelled as it is wanted.
+fn judge(answer: Result<String, Failure>, wanted: &str) -> Outcome
+    ensures { MatchResult answer (λ a. (result ≡ Agrees) ↔ (string_bytes a ≡ wanted.now)) (λ f. result ≡ NotRun f) }
+{
+    match answer {
+        Ok(answer) if answer.as_str() == wanted => Outcome::Agrees,
+        Ok(answer) => Outcome::Differs(answer),
+        Err(failure) => Outcome::NotRun(failure),
+    }
+}
+
+/// What becomes of a row, and how many growths were refused.
+#[derive(Drop)]
+struct Ran {
+    outcome: Outcome,
+    growths: u64,
+}
+
+/// A row that was not run.
+fn not_run(failure: Failure) -> Ran {
+    Ran {
+        outcome: Outcome::NotRun(failure),
+        growths: 0,
+    }
+}
+
+/// Makes a call, and then again with each growth refused.
+fn run_call<C: Calls>(calls: &C, alloc: Global, name: &str, inputs: &Inputs, wanted: &str) -> Ran {
+    let heap = Refusing::new(alloc, u64::MAX);
+    let outcome = judge(answer_of(calls, alloc, &heap, name, inputs), wanted);
+    if !matches!(&outcome, Outcome::Agrees) {
+        return Ran {
+            outcome,
+            growths: 0,
+        };
+    }
+    match refused_growths(calls, alloc, name, inputs, wanted) {
+        Some(growths) => Ran { outcome, growths },
+        None => not_run(Failure::Unfirm),
+    }
+}
+
+/// Runs a row.
+fn run_line<C: Calls>(calls: &C, alloc: Global, line: &str) -> Result<Ran, AllocError> {
+    let fields = fields_of(alloc, line)?;
+    let [name, inputs @ .., wanted] = fields.as_slice() else {
+        return Ok(not_run(Failure::BadInputs));
+    };
+    Ok(match Inputs::of(alloc, inputs) {
+        Ok(inputs) => run_call(calls, alloc, name, &inputs, wanted),
+        Err(failure) => not_run(failure),
+    })
+}
+
+/// Why a row was not run, as text.
+fn reason(failure: Failure) -> &'static str {
+    match failure {
+        Failure::NoCall => "no such call",
+        Failure::BadInputs => "other inputs than the call takes",
+        Failure::Unlike => "two ways to the answer differ",
+        Failure::Unfirm => "another answer where a growth is refused",
+        Failure::OutOfMemory => "out of memory",
+    }
+}
+
+/// Adds a line of two texts.
+fn add_line(out: &mut String, head: &str, line: &str) -> Result<(), AllocError> {
+    out.push_str(head)?;
+    out.push_str(line)?;
+    out.push('\n')
+}
+
+/// Runs a row, and says of one that does not agree what was found. How many growths were refused
+/// of one that agrees.
+fn run_row<C: Calls>(
+    calls: &C,
+    alloc: Global,
+    line: &str,
+    out: &mut String,
+) -> Result<Option<u64>, AllocError> {
+    let Ran { outcome, growths } = run_line(calls, alloc, line)?;
+    match outcome {
+        Outcome::Agrees => return Ok(Some(growths)),
+        Outcome::Differs(answer) => {
+            add_line(out, "differs: ", line)?;
+            add_line(out, "  found: ", answer.as_str())?;
+        }
+        Outcome::NotRun(failure) => {
+            add_line(out, "not run: ", line)?;
+            add_line(out, "    why: ", reason(failure))?;
+        }
+    }
+    Ok(None)
+}
+
+/// Whether a line is a row.
+fn is_row(line: &str) -> bool
+    ensures { result ≡ is_row line.now }
+{
+    !matches!(line.as_bytes(), [] | [b'#', ..])
+}
+
+/// The rows of a text.
+fn rows_of<'a>(alloc: Global, text: &'a str) -> Result<Vec<&'a str>, AllocError>
+    ensures { IfOk result (λ v. map (λ x. x.now) v.items ≡ rows text.now) }
+{
+    text.lines().filter(|line| is_row(line)).collect(alloc)
+}
+
+/// Runs rows. How many agree, and how many growths of theirs were refused.
+fn run_rows<C: Calls>(
+    calls: &C,
+    alloc: Global,
+    rows: &[&str],
+    out: &mut String,
+) -> Result<(usize, u64), AllocError> {
+    let mut agreeing: usize = 0;
+    let mut all_growths: u64 = 0;
+    for row in rows {
+        if let Some(growths) = run_row(calls, alloc, row, out)? {
+            agreeing = agreeing.saturating_add(1);
+            all_growths = all_growths.saturating_add(growths);
+        }
+    }
+    Ok((agreeing, all_growths))
+}
+
+/// Whether a text is whole.
+fn is_whole(text: &str) -> bool
+    ensures { result ≡ is_whole text.now }
+{
+    text.ends_with("\n")
+}
+
+/// Says of a text that isn't whole what is wrong with it.
+fn tell_cut(is_whole: bool, out: &mut String) -> Result<(), AllocError> {
+    if !is_whole {
+        out.push_str("cut off: the last line has no end\n")?;
+    }
+    Ok(())
+}
+
+/// Runs the rows of a text. Says of each that does not agree what was found, then whether the text
+/// is cut off, and at the end how many rows there were, how many agreed and how many growths of
+/// theirs were refused, each in a call of its own.
+pub fn report<C: Calls>(
+    calls: &C,
+    alloc: Global,
+    text: &str,
+    out: &mut String,
+) -> Result<Tally, AllocError>
+    ensures counts { IfOk result (λ t. t.rows ≡ length (rows text.now)) }
+    ensures whole { IfOk result (λ t. t.is_whole ≡ is_whole text.now) }
+{
+    let rows = rows_of(alloc, text)?;
+    let (agreeing, growths) = run_rows(calls, alloc, rows.as_slice(), out)?;
+    let is_whole = is_whole(text);
+    tell_cut(is_whole, out)?;
+    let count = rows.len();
+    let last = format!(in alloc; "{count} rows, {agreeing} agree, {growths} growths refused\n")?;
+    out.push_str(last.as_str())?;
+    Ok(Tally {
+        rows: count,
+        agreeing,
+        is_whole,
+    })
+}

@@ -1,0 +1,248 @@
+//! The pieces of octets, by each way that leads to them.
+use super::zone::{add_fault, add_named_piece};
+use dns_split::pieces::{Fault, Piece, Pieces, Span};
+use dns_split::standing::{Standing, next_of_octets};
+use row_table::input::number_of;
+use row_table::{Answer, Failure};
+use std::alloc::{AllocError, Global};
+use std::str;
+
+/// A piece or the fault.
+type Given = Result<Piece, Fault>;
+
+fn list(alloc: Global, pieces: Pieces) -> Result<Vec<Given>, AllocError> {
+    let mut given = Vec::new(alloc);
+    for piece in pieces {
+        given.push(piece)?;
+    }
+    Ok(given)
+}
+
+/// Whether a cursor gives these.
+fn gives(pieces: Pieces, wanted: &[Given]) -> bool {
+    let mut place: usize = 0;
+    let mut are_same = true;
+    for piece in pieces {
+        are_same = are_same && wanted.get(place) == Some(&piece);
+        place = place.saturating_add(1);
+    }
+    are_same && place == wanted.len()
+}
+
+/// The next piece; nothing where the standing is none of these octets.
+fn next(octets: &[u8], standing: &mut Standing) -> Option<Given> {
+    if standing.at > octets.len() || standing.depth > standing.at {
+        return None;
+    }
+    next_of_octets(octets, standing)
+}
+
+/// Whether the pieces are given one by one, then nothing, and the standing stays.
+fn gives_each(octets: &[u8], wanted: &[Given]) -> bool {
+    let mut standing = Standing::at_entry(0);
+    for piece in wanted {
+        if next(octets, &mut standing) != Some(*piece) {
+            return false;
+        }
+    }
+    let done = standing;
+    next(octets, &mut standing).is_none() && standing.is_done && standing == done
+}
+
+/// Whether it is told of each entry before its end whether it begins with a blank.
+fn tells_blanks(octets: &[u8], wanted: &[Given]) -> bool {
+    let mut pieces = Pieces::of_octets(octets);
+    for piece in wanted {
+        let is_blank = pieces.begins_blank();
+        if let Ok(Piece::End(end)) = piece
+            && end.begins_blank != is_blank
+        {
+            return false;
+        }
+        let _ = pieces.next();
+    }
+    true
+}
+
+/// Whether a cursor that starts there gives what is left, of octets and of a text.
+fn goes_on(octets: &[u8], at: usize, left: &[Given]) -> bool {
+    if at > octets.len() || !gives(Pieces::of_octets_starting_at(octets, at), left) {
+        return false;
+    }
+    match str::from_utf8(octets) {
+        Ok(text) => text.is_char_boundary(at) && gives(Pieces::starting_at(text, at), left),
+        Err(_) => true,
+    }
+}
+
+/// From each end but the last what is left is given.
+fn check_ends(octets: &[u8], whole: &[Given], answer: &mut Answer) {
+    for (place, piece) in whole.iter().enumerate() {
+        let left = whole.get(place.saturating_add(1)..).unwrap_or_default();
+        if let Ok(Piece::End(end)) = piece
+            && !left.is_empty()
+        {
+            answer.check(goes_on(octets, end.at, left));
+        }
+    }
+}
+
+/// How many pieces there are up to the last end that is followed by more, and where that is.
+fn ended(given: &[Given]) -> (usize, usize) {
+    let mut last = (0, 0);
+    for (place, piece) in given.iter().enumerate() {
+        let count = place.saturating_add(1);
+        if let Ok(Piece::End(end)) = piece
+            && count < given.len()
+        {
+            last = (count, end.at);
+        }
+    }
+    last
+}
+
+/// Whether a block that ends in a fault needs more, or is all of it up to the fault.
+fn needs_more_or_ends(block: &[u8], given: &[Given], whole: &[Given]) -> bool {
+    match given.last() {
+        Some(Err(fault)) => fault.needs_more(block) || whole.last() == given.last(),
+        _ => true,
+    }
+}
+
+/// Whether a block that the octets begin with gives the entries that have ended, and what is left
+/// of it with the octets after it the others.
+fn gives_in_two(octets: &[u8], block: &[u8], given: &[Given], whole: &[Given]) -> bool {
+    let (count, at) = ended(given);
+    whole.get(..count) == given.get(..count)
+        && goes_on(octets, at, whole.get(count..).unwrap_or_default())
+        && needs_more_or_ends(block, given, whole)
+}
+
+/// The octets come in two blocks, cut in each place.
+fn check_blocks(octets: &[u8], whole: &[Given], answer: &mut Answer) {
+    for cut in 0..=octets.len() {
+        let block = &octets[..cut];
+        match list(answer.alloc(), Pieces::of_octets(block)) {
+            Ok(given) => answer.check(gives_in_two(octets, block, given.as_slice(), whole)),
+            Err(AllocError) => answer.fail_for_memory(),
+        }
+    }
+}
+
+/// Whether the part of a text, and of its octets, is what the span names.
+fn is_part(text: &str, span: Span) -> bool {
+    let Some(part) = text.get(span.start..span.end) else {
+        return false;
+    };
+    let octets = text.as_bytes();
+    if span.start > span.end || span.end > octets.len() {
+        return false;
+    }
+    if !text.is_char_boundary(span.start) || !text.is_char_boundary(span.end) {
+        return false;
+    }
+    span.of(text) == part && span.of_octets(octets) == part.as_bytes()
+}
+
+/// A text gives the pieces of its octets, and each names a part of it.
+fn check_text(text: &str, whole: &[Given], answer: &mut Answer) {
+    answer.check(gives(Pieces::new(text), whole));
+    for piece in whole {
+        if let Ok(Piece::Word(span) | Piece::Quote(span) | Piece::Comment(span)) = piece {
+            answer.check(is_part(text, *span));
+        }
+    }
+}
+
+/// The other ways to the pieces.
+fn check_ways(octets: &[u8], whole: &[Given], answer: &mut Answer) {
+    answer.check(gives_each(octets, whole));
+    answer.check(tells_blanks(octets, whole));
+    check_ends(octets, whole, answer);
+    check_blocks(octets, whole, answer);
+    if let Ok(text) = str::from_utf8(octets) {
+        check_text(text, whole, answer);
+    }
+}
+
+fn add_given(piece: Given, answer: &mut Answer) {
+    match piece {
+        Ok(piece) => add_named_piece(piece, answer),
+        Err(fault) => add_fault(fault, answer),
+    }
+    answer.add_text("|");
+}
+
+/// The pieces of octets with their places, a bar after each.
+pub fn pieces(octets: &[u8], answer: &mut Answer) {
+    match list(answer.alloc(), Pieces::of_octets(octets)) {
+        Ok(whole) => {
+            for piece in &whole {
+                add_given(*piece, answer);
+            }
+            check_ways(octets, whole.as_slice(), answer);
+        }
+        Err(AllocError) => answer.fail_for_memory(),
+    }
+}
+
+/// Where a reader stands: at an entry, or after other pieces of it. How many blanks it has passed
+/// there is its own affair.
+fn add_standing(octets: &[u8], standing: Standing, answer: &mut Answer) {
+    if standing.is_done {
+        answer.add_text("done, began ");
+        return answer.add_number(standing.began);
+    }
+    if standing == Standing::at_entry(standing.at) {
+        answer.add_text("entry at ");
+    } else {
+        answer.add_text("depth ");
+        answer.add_number(standing.depth);
+        answer.add_text(", began ");
+    }
+    answer.add_number(standing.began);
+    answer.add_text(if standing.begins_blank(octets) {
+        ", blank"
+    } else {
+        ""
+    });
+}
+
+/// The piece after a standing, and the standing after it.
+fn next_from(octets: &[u8], mut standing: Standing, answer: &mut Answer) {
+    match next(octets, &mut standing) {
+        Some(piece) => {
+            add_given(piece, answer);
+            add_standing(octets, standing, answer);
+        }
+        None => answer.fail(Failure::BadInputs),
+    }
+}
+
+/// The same of octets, the place, the depth of parentheses there, and where the entry began.
+pub fn next_piece(inputs: &[Vec<u8>], answer: &mut Answer) {
+    let [octets, at, depth, began] = inputs else {
+        return answer.fail(Failure::BadInputs);
+    };
+    match (number_of(at), number_of(depth), number_of(began)) {
+        (Some(at), Some(depth), Some(began)) => {
+            let is_done = false;
+            let standing = Standing {
+                at,
+                depth,
+                began,
+                is_done,
+            };
+            next_from(octets.as_slice(), standing, answer);
+        }
+        _ => answer.fail(Failure::BadInputs),
+    }
+}
+
+/// Whether the text of a fault stops too early.
+pub fn needs_more(octets: &[u8], answer: &mut Answer) {
+    match Pieces::of_octets(octets).last() {
+        Some(Err(fault)) => answer.add_bool(fault.needs_more(octets)),
+        _ => answer.add_text("no fault"),
+    }
+}
