@@ -12,8 +12,8 @@ use Rattle.zone_format.specs.Formats.{Formats}
 use Rattle.zone_format.specs.Marks.{Mark, Token, Note, Open, Close, Feed, Lead, HasMarks, lead}
 use Rattle.zone_format.specs.Refusal.{begins_marked, has_form, mark_has_no_nul}
 use Rattle.zone_format.specs.Squeezed.{squeezed}
-use Rattle.zone_format.specs.Writing.{first_stand, is_start, note_before, parenthesis_before, token_before, written_from}
-use Rattle.zone_format.proofs.Formed.{after_within, stand, written_is_form}
+use Rattle.zone_format.specs.Writing.{is_start, note_before, parenthesis_before, token_before, written_from}
+use Rattle.zone_format.proofs.Formed.{after_within, first_stand, stand, written_is_form}
 use Rattle.zone_format.proofs.Planned.{begin_stand, begin_start, begin_turn, led_begin, plan_of, planned}
 use Rattle.zone_format.proofs.Reading.{rewritten}
 use Rattle.zone_format.proofs.Respelling.{end_if, lead_in, next, sq}

@@ -11,10 +11,14 @@ use Rattle.zone_format.specs.declared.stand.Stand.{Stand}
 use Rattle.zone_format.specs.Columns.{after_token, begins_dollar, first_moved, head_after, note_column, parenthesis_column, role_of, token_column, width_of}
 use Rattle.zone_format.specs.Form.{Before, Placed, blank_below, depth_after, form, forms, gap, is_blank_line, led_turn, lines, noted_in, places, start, with_mark, written}
 use Rattle.zone_format.specs.Marks.{Mark, Token, Note, Open, Close, Feed, Lead}
-use Rattle.zone_format.specs.Writing.{first_stand, is_start, written_from}
+use Rattle.zone_format.specs.Writing.{is_start, written_from}
 
 abbrev pub stand : Above → ℕ → ℕ → ℕ → Turn → ℕ → Stand
 stand a d noted note t e = record { above = a; depth = d; noted = noted; note = note; turn = t; end = e }
+
+-- at the beginning of a text
+abbrev pub first_stand : Stand
+first_stand = stand Nothing 0 0 0 Edge 0
 
 abbrev pub before_line : ℕ → ℕ → Before
 before_line d n = record { depth = d; noted = n }
@@ -109,7 +113,7 @@ abbrev blanks : ℕ → ℕ → List ℕ
 blanks c e = replicate (c - (e + 1)) 32
 
 -- a whole line
-from_start : (ms : List Mark) → Starts ms → (a : Above) (d noted : ℕ) → written_from (stand a d noted 0 (start d) 0) ms ≡ forms a (before_line d noted) (lines ms)
+pub from_start : (ms : List Mark) → Starts ms → (a : Above) (d noted : ℕ) → written_from (stand a d noted 0 (start d) 0) ms ≡ forms a (before_line d noted) (lines ms)
 from_start ms h a d noted = h a d noted (start d) (starts d) ∙ ap (forms a (before_line d noted)) (sym (lines_are ms))
 
 abbrev feed_unless : Bool → List ℕ

@@ -1,9 +1,9 @@
 -- What is left to write after marks that were written.
-use Rattle.std.proofs.Common.{◌≡◌, ℕ, Bool, true, false, ◌&&◌, List, [], ◌∷◌, ◌++◌, sym, ap, ◌∙◌, append_assoc}
+use Rattle.std.proofs.Common.{◌≡◌, ℕ, ◌+◌, ◌-◌, Bool, true, false, ◌&&◌, List, [], ◌∷◌, ◌++◌, refl, sym, ap, ◌∙◌, append_assoc}
 use Rattle.std.specs.Prelude.{if◌then◌else◌}
 use Rattle.zone_format.specs.declared.stand.Stand.{Stand}
-use Rattle.zone_format.specs.Marks.{Mark, Token, Note, lead}
-use Rattle.zone_format.specs.Writing.{Accepts, Goes, PushesNote, PushesToken, accepts, accepts_from, led, note_before, pushed_note, pushed_token, token_before, written_from}
+use Rattle.zone_format.specs.Marks.{Mark, Token, Note, Open, Close, Feed, Lead, lead}
+use Rattle.zone_format.specs.Writing.{Accepts, Goes, PushesNote, PushesToken, accepts, accepts_from, fed, led, note_before, pushed_note, pushed_parenthesis, pushed_token, stands_after, token_before, written_from}
 
 pub written_on : (old before t new rest : List ℕ) → new ≡ old ++ (before ++ t) → new ++ rest ≡ old ++ (before ++ (t ++ rest))
 written_on old before t new rest e = ap (λ l. l ++ rest) e ∙ append_assoc old (before ++ t) rest ∙ ap (λ l. old ++ l) (append_assoc before t rest)
@@ -34,3 +34,26 @@ lead_goes false old s u e = λ ms. ap (λ v. old ++ written_from v ms) e
 pub lead_accepts : (b : Bool) (s u : Stand) → u ≡ (if b then led s else s) → Accepts (lead b) s u
 lead_accepts true s u e = λ ms. ap (λ v. accepts_from v ms) e
 lead_accepts false s u e = λ ms. ap (λ v. accepts_from v ms) e
+
+-- where writing stands after marks and then others
+pub stands_append : (s : Stand) (ms ns : List Mark) → stands_after s (ms ++ ns) ≡ stands_after (stands_after s ms) ns
+stands_append s [] ns = refl
+stands_append s (Token g t ∷ ms) ns = stands_append (pushed_token s g t) ms ns
+stands_append s (Note t ∷ ms) ns = stands_append (pushed_note s t) ms ns
+stands_append s (Open ∷ ms) ns = stands_append (pushed_parenthesis s (s.depth + 1)) ms ns
+stands_append s (Close ∷ ms) ns = stands_append (pushed_parenthesis s (s.depth - 1)) ms ns
+stands_append s (Feed ∷ ms) ns = stands_append (fed s) ms ns
+stands_append s (Lead ∷ ms) ns = stands_append (led s) ms ns
+
+pub stands_on : (xs ys : List Mark) (s t u : Stand) → t ≡ stands_after s xs → u ≡ stands_after t ys → u ≡ stands_after s (xs ++ ys)
+stands_on xs ys s t u g h = h ∙ ap (λ v. stands_after v ys) g ∙ sym (stands_append s xs ys)
+
+pub token_stands : (old : List ℕ) (s : Stand) (glued : Bool) (x new : List ℕ) (u : Stand) → PushesToken old s glued x new u → u ≡ stands_after s (Token glued x ∷ [])
+token_stands old s glued x new u p = p.stand
+
+pub note_stands : (old : List ℕ) (s : Stand) (x new : List ℕ) (u : Stand) → PushesNote old s x new u → u ≡ stands_after s (Note x ∷ [])
+note_stands old s x new u p = p.stand
+
+pub lead_stands : (b : Bool) (s u : Stand) → u ≡ (if b then led s else s) → u ≡ stands_after s (lead b)
+lead_stands true s u e = e
+lead_stands false s u e = e

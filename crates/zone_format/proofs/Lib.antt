@@ -7,10 +7,13 @@ pub mod Follow
 pub mod Formed
 pub mod Givens
 pub mod Going
+pub mod Joined
+pub mod Moving
 pub mod Planned
 pub mod Reading
 pub mod Respelling
 pub mod Same
+pub mod Seams
 pub mod Short
 pub mod Shortened
 pub mod Spelling

@@ -12,8 +12,8 @@ use Rattle.zone_format.specs.declared.stand.Stand.{Stand}
 use Rattle.zone_format.specs.Columns.{after_token, first_column, later_column, next_eighth, note_column, parenthesis_column, parted_column, role_of, token_column, under, has_second, width_of}
 use Rattle.zone_format.specs.Form.{blank_below, gap, led_turn, start}
 use Rattle.zone_format.specs.Marks.{Mark, Token, Note, Open, Close, Feed, Lead}
-use Rattle.zone_format.specs.Writing.{fed, first_stand, is_start, led, pushed_note, pushed_parenthesis, pushed_token, written_from}
-use Rattle.zone_format.proofs.Formed.{after_within, led_start, stand}
+use Rattle.zone_format.specs.Writing.{fed, is_start, led, pushed_note, pushed_parenthesis, pushed_token, written_from}
+use Rattle.zone_format.proofs.Formed.{after_within, first_stand, led_start, stand}
 use Rattle.zone_format.proofs.Respelling.{count, deep, respelt, some}
 
 abbrev pub blanks_to : ℕ → ℕ → ℕ

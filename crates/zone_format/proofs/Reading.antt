@@ -195,7 +195,7 @@ all_marks text found = lead (lead_at text 0) ++ marks text false 0 found
 abbrev pub rewritten : List ℕ → List Mark → List ℕ
 rewritten plan ms = respelt plan Nothing false 0 false ms
 
-all_is : (text : List ℕ) (found : List Piece) (p : IsPieces text found) → all_marks text found ≡ lead (begins_blank p.lexemes) ++ marks_of false 0 p.lexemes
+pub all_is : (text : List ℕ) (found : List Piece) (p : IsPieces text found) → all_marks text found ≡ lead (begins_blank p.lexemes) ++ marks_of false 0 p.lexemes
 all_is text found p =
     let ls = p.lexemes in
     let own : marks_of false 0 ls ≡ marks text false 0 found = marks_cut ls text [] 0 0 0 (begins_blank ls) false false p.spelled refl (omega arith) refl p.nested p.valid ∙ ap (marks text false 0) p.placed in

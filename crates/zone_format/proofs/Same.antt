@@ -296,7 +296,7 @@ abbrev rest_of : List Mark → List Mark
 rest_of [] = []
 rest_of (x ∷ xs) = xs
 
-same_marks : (xs ys : List Mark) → map encoded_mark xs ≡ map encoded_mark ys → xs ≡ ys
+pub same_marks : (xs ys : List Mark) → map encoded_mark xs ≡ map encoded_mark ys → xs ≡ ys
 same_marks [] [] e = refl
 same_marks [] (y ∷ ys) e = cc
 same_marks (x ∷ xs) [] e = cc
@@ -307,7 +307,7 @@ read_octets : (octets : List ℕ) (found : List Piece) → IsPieces (encode_utf8
 read_octets octets found p = (run _ 0 0 0 (first_blank octets) octets, sym (octets_run octets) ∙ pieces_run (encode_utf8_all octets) found p, each_within octets (first_blank octets))
 
 -- octets whose text has pieces have pieces
-octets_have : (octets : List ℕ) (found : List Piece) → IsPieces (encode_utf8_all octets) found → (again : List Piece) × (map (moved_piece (place_of octets)) again ≡ found) × EachWithin (length octets) (map Ok again)
+pub octets_have : (octets : List ℕ) (found : List Piece) → IsPieces (encode_utf8_all octets) found → (again : List Piece) × (map (moved_piece (place_of octets)) again ≡ found) × EachWithin (length octets) (map Ok again)
 octets_have octets found p =
     let g = place_of octets in
     let read = read_octets octets found p in

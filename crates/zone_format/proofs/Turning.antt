@@ -12,10 +12,13 @@ use Rattle.zone_format.specs.declared.format.Progress.{Progress}
 use Rattle.zone_format.specs.declared.refusal.Refusal.{Refusal}
 use Rattle.zone_format.specs.declared.refusal.Refusal.TheVariants.{Wrong, Nul, OrderMark, OutOfMemory}
 use Rattle.zone_format.specs.declared.stand.Stand.{Stand}
-use Rattle.zone_format.specs.Marks.{Mark, Token, Note, gap_marks, lead, lead_at, marks, shortened}
+use Rattle.zone_format.specs.declared.stand.Seam.{Seam}
+use Rattle.zone_format.specs.Blocks.{resting}
+use Rattle.zone_format.specs.Marks.{Mark, Token, Note, Lead, gap_marks, lead, lead_at, marks, shortened}
 use Rattle.zone_format.specs.Refusal.{HasToken, IsRefused, IsUnfit, begins_order_mark}
-use Rattle.zone_format.specs.Writing.{Advances, Fits, Reaches, WritesEnd, WritesNote, WritesToken, accepts_from, first_stand, led, written_from}
+use Rattle.zone_format.specs.Writing.{Advances, Fits, Reaches, WritesEnd, WritesNote, WritesToken, accepts_from, led, stands_after, written_from}
 use Rattle.zone_format.proofs.Follow.{Follows}
+use Rattle.zone_format.proofs.Going.{stands_append}
 use Rattle.zone_format.proofs.Givens.{first_fault, pieces_in}
 
 pub record Stays (octets : List ℕ) (all : List (Result Piece Fault)) (old : List ℕ) (from : Progress) (rest : List (Result Piece Fault)) (new : List ℕ) (p : Progress) : Type 0 where
@@ -25,6 +28,7 @@ pub record Stays (octets : List ℕ) (all : List (Result Piece Fault)) (old : Li
   pub tokens : (s e : ℕ) → HasToken s e rest → HasToken s e all
   pub fits : Fits new p.stand
   pub reaches : Reaches octets p
+  pub stand : stands_after p.stand (marks octets p.is_token p.at (pieces_in rest)) ≡ stands_after from.stand (marks octets from.is_token from.at (pieces_in all))
   pub out : new ++ written_from p.stand (marks octets p.is_token p.at (pieces_in rest)) ≡ old ++ written_from from.stand (marks octets from.is_token from.at (pieces_in all))
   pub accepted : accepts_from p.stand (marks octets p.is_token p.at (pieces_in rest)) ≡ accepts_from from.stand (marks octets from.is_token from.at (pieces_in all))
 
@@ -39,6 +43,12 @@ accepted_after : (octets : List ℕ) (ms : List Mark) (old : List ℕ) (p : Prog
 accepted_after octets ms old p to tied new q ps a =
     ap (λ b. accepts_from q.stand (marks octets b q.at ps)) a.is_token ∙ ap (λ n. accepts_from q.stand (marks octets tied n ps)) a.at ∙ a.accepts (marks octets tied to ps)
 
+stand_after : (octets : List ℕ) (ms : List Mark) (old : List ℕ) (p : Progress) (to : ℕ) (tied : Bool) (new : List ℕ) (q : Progress) (ps : List Piece) → Advances octets ms old p to tied new q
+    → stands_after q.stand (marks octets q.is_token q.at ps) ≡ stands_after p.stand (ms ++ marks octets tied to ps)
+stand_after octets ms old p to tied new q ps a =
+    ap (λ b. stands_after q.stand (marks octets b q.at ps)) a.is_token ∙ ap (λ n. stands_after q.stand (marks octets tied n ps)) a.at ∙ ap (λ s. stands_after s (marks octets tied to ps)) a.stand
+    ∙ sym (stands_append p.stand ms (marks octets tied to ps))
+
 stays : (octets : List ℕ) (all : List (Result Piece Fault)) (old : List ℕ) (from : Progress) (x : Piece) (rest : List (Result Piece Fault)) (mid : List ℕ) (p : Progress) (ms : List Mark) (to : ℕ) (tied : Bool) (new : List ℕ) (q : Progress)
     → Stays octets all old from (Ok x ∷ rest) mid p → Advances octets ms mid p to tied new q
     → ms ++ marks octets tied to (pieces_in rest) ≡ marks octets p.is_token p.at (x ∷ pieces_in rest) → Follows to rest → ((s e : ℕ) → HasToken s e rest → HasToken s e (Ok x ∷ rest))
@@ -50,6 +60,7 @@ stays octets all old from x rest mid p ms to tied new q h a e f t = record {
   tokens = λ s e k. h.tokens s e (t s e k);
   fits = a.fits;
   reaches = a.reaches;
+  stand = stand_after octets ms mid p to tied new q (pieces_in rest) a ∙ ap (stands_after p.stand) e ∙ h.stand;
   out = written_after octets ms mid p to tied new q (pieces_in rest) a ∙ ap (λ l. mid ++ written_from p.stand l) e ∙ h.out;
   accepted = accepted_after octets ms mid p to tied new q (pieces_in rest) a ∙ ap (accepts_from p.stand) e ∙ h.accepted;
 }
@@ -90,43 +101,41 @@ unfit_refused octets s e given i k o w (Nul at) u =
       (given, i, k),
       omega (arith, u.1),
       omega (arith, u.1, less, o),
+      w,
       ap (λ n. get_or octets n 0) u.1 ∙ sym (get_or-drop s octets u.0 0) ∙ sym (get_or-take (e - s) (drop s octets) u.0 0 less) ∙ u.3,
     )
 unfit_refused octets s e given i k o w (OrderMark at) u = (
   e,
   (given, i, subst (λ n. HasToken n e given) (sym u.0) k),
+  omega (arith, u.0, o),
+  w,
   ap (λ n. begins_order_mark (between octets n e)) u.0 ∙ u.1,
 )
 unfit_refused octets s e given i k o w OutOfMemory u = tt
 
 -- the beginning
-first_is : (b c : Bool) (s t : Stand) → t ≡ first_stand → s ≡ (if b then led t else t) → b ≡ c → s ≡ (if c then led first_stand else first_stand)
-first_is b c s t e f g = f ∙ ap (λ y. if y then led t else t) g ∙ ap (λ x. if c then led x else x) e
+first_is : (b c : Bool) (s t z : Stand) → t ≡ z → s ≡ (if b then led t else t) → b ≡ c → s ≡ (if c then led z else z)
+first_is b c s t z e f g = f ∙ ap (λ y. if y then led t else t) g ∙ ap (λ x. if c then led x else x) e
 
-led_fits : (c : Bool) (octets : List ℕ) → Fits octets (if c then led first_stand else first_stand)
-led_fits true octets = record { moved = omega arith; few = omega arith }
-led_fits false octets = record { moved = omega arith; few = omega arith }
+led_fits : (c : Bool) (octets : List ℕ) (m : Seam) → Fits octets (if c then led (resting m) else resting m)
+led_fits true octets m = record { moved = omega arith; few = omega arith }
+led_fits false octets m = record { moved = omega arith; few = omega arith }
 
-pub first_fits : (octets : List ℕ) (b c : Bool) (s t : Stand) → t ≡ first_stand → s ≡ (if b then led t else t) → b ≡ c → Fits octets s
-first_fits octets b c s t e f g = subst (Fits octets) (sym (first_is b c s t e f g)) (led_fits c octets)
+pub first_fits : (octets : List ℕ) (b c : Bool) (s t : Stand) (m : Seam) → t ≡ resting m → s ≡ (if b then led t else t) → b ≡ c → Fits octets s
+first_fits octets b c s t m e f g = subst (Fits octets) (sym (first_is b c s t (resting m) e f g)) (led_fits c octets m)
 
-led_reaches : (c : Bool) (octets : List ℕ) → Reaches octets (record { stand = if c then led first_stand else first_stand; at = 0; is_token = false })
-led_reaches true octets = record { within = omega arith; depth = omega arith }
-led_reaches false octets = record { within = omega arith; depth = omega arith }
+led_reaches : (c : Bool) (octets : List ℕ) (m : Seam) → Reaches octets (record { stand = if c then led (resting m) else resting m; at = 0; is_token = false })
+led_reaches true octets m = record { within = omega arith; depth = omega arith }
+led_reaches false octets m = record { within = omega arith; depth = omega arith }
 
-pub first_reaches : (octets : List ℕ) (b c : Bool) (s t : Stand) → t ≡ first_stand → s ≡ (if b then led t else t) → b ≡ c → Reaches octets (record { stand = s; at = 0; is_token = false })
-first_reaches octets b c s t e f g = subst (λ (x : Stand). Reaches octets (record { stand = x; at = 0; is_token = false })) (sym (first_is b c s t e f g)) (led_reaches c octets)
+pub first_reaches : (octets : List ℕ) (b c : Bool) (s t : Stand) (m : Seam) → t ≡ resting m → s ≡ (if b then led t else t) → b ≡ c → Reaches octets (record { stand = s; at = 0; is_token = false })
+first_reaches octets b c s t m e f g = subst (λ (x : Stand). Reaches octets (record { stand = x; at = 0; is_token = false })) (sym (first_is b c s t (resting m) e f g)) (led_reaches c octets m)
 
-led_written : (c : Bool) (ms : List Mark) → written_from (if c then led first_stand else first_stand) ms ≡ written_from first_stand (lead c ++ ms)
-led_written true ms = refl
-led_written false ms = refl
+-- what goes on from there goes on after the blank that an entry begins with
+module _ {A : Type 0} (goes : Stand → List Mark → A) (led_on : (s : Stand) (ms : List Mark) → goes (led s) ms ≡ goes s (Lead ∷ ms)) where
+  led_goes : (c : Bool) (z : Stand) (ms : List Mark) → goes (if c then led z else z) ms ≡ goes z (lead c ++ ms)
+  led_goes true z ms = led_on z ms
+  led_goes false z ms = refl
 
-pub first_written : (b c : Bool) (s t : Stand) (ms : List Mark) → t ≡ first_stand → s ≡ (if b then led t else t) → b ≡ c → written_from s ms ≡ written_from first_stand (lead c ++ ms)
-first_written b c s t ms e f g = ap (λ x. written_from x ms) (first_is b c s t e f g) ∙ led_written c ms
-
-led_accepted : (c : Bool) (ms : List Mark) → accepts_from (if c then led first_stand else first_stand) ms ≡ accepts_from first_stand (lead c ++ ms)
-led_accepted true ms = refl
-led_accepted false ms = refl
-
-pub first_accepted : (b c : Bool) (s t : Stand) (ms : List Mark) → t ≡ first_stand → s ≡ (if b then led t else t) → b ≡ c → accepts_from s ms ≡ accepts_from first_stand (lead c ++ ms)
-first_accepted b c s t ms e f g = ap (λ x. accepts_from x ms) (first_is b c s t e f g) ∙ led_accepted c ms
+  pub first_goes : (b c : Bool) (s t z : Stand) (ms : List Mark) → t ≡ z → s ≡ (if b then led t else t) → b ≡ c → goes s ms ≡ goes z (lead c ++ ms)
+  first_goes b c s t z ms e f g = ap (λ x. goes x ms) (first_is b c s t z e f g) ∙ led_goes c z ms

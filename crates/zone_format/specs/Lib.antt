@@ -1,3 +1,4 @@
+pub mod Blocks
 pub mod Columns
 pub mod Form
 pub mod Formats

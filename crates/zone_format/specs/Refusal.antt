@@ -44,8 +44,8 @@ IsToken octets s e = (given : List (Result Piece Fault)) × IsGiven octets given
 -- they are no zone text, and this is their fault; or a token has NUL at a place, or begins with a byte order mark
 abbrev pub IsRefused : List ℕ → Refusal → Type 0
 IsRefused octets (Wrong f) = (f.at ≤ length octets) × IsFault (encode_utf8_all octets) (moved_fault (place_of octets) f)
-IsRefused octets (Nul at) = (s : ℕ) × (e : ℕ) × IsToken octets s e × (s ≤ at) × (at < e) × (slice_index octets at ≡ 0)
-IsRefused octets (OrderMark at) = (e : ℕ) × IsToken octets at e × (begins_order_mark (between octets at e) ≡ true)
+IsRefused octets (Nul at) = (s : ℕ) × (e : ℕ) × IsToken octets s e × (s ≤ at) × (at < e) × (e ≤ length octets) × (slice_index octets at ≡ 0)
+IsRefused octets (OrderMark at) = (e : ℕ) × IsToken octets at e × (at ≤ e) × (e ≤ length octets) × (begins_order_mark (between octets at e) ≡ true)
 IsRefused octets OutOfMemory = ⊤
 
 -- a token that begins at a place has NUL, or begins with a byte order mark

@@ -21,9 +21,6 @@ is_start Led = true
 is_start Inside = true
 is_start _ = false
 
-abbrev pub first_stand : Stand
-first_stand = record { above = Nothing; depth = 0; noted = 0; note = 0; turn = Edge; end = 0 }
-
 -- after a line's end
 abbrev pub fed : Stand → Stand
 fed s = record { above = if is_start s.turn then blank_below s.above else Line; depth = s.depth; noted = s.note; note = 0; turn = start s.depth; end = 0 }
@@ -72,6 +69,16 @@ written_from s (Close ∷ ms) = parenthesis_before s ++ (close_parenthesis ∷ w
 written_from s (Feed ∷ ms) = ended s ++ written_from (fed s) ms
 written_from s (Lead ∷ ms) = written_from (led s) ms
 
+-- where writing stands after marks
+abbrev pub stands_after : Stand → List Mark → Stand
+stands_after s [] = s
+stands_after s (Token glued t ∷ ms) = stands_after (pushed_token s glued t) ms
+stands_after s (Note t ∷ ms) = stands_after (pushed_note s t) ms
+stands_after s (Open ∷ ms) = stands_after (pushed_parenthesis s (s.depth + 1)) ms
+stands_after s (Close ∷ ms) = stands_after (pushed_parenthesis s (s.depth - 1)) ms
+stands_after s (Feed ∷ ms) = stands_after (fed s) ms
+stands_after s (Lead ∷ ms) = stands_after (led s) ms
+
 -- the first thing of a text, in the first column
 abbrev pub is_edge : Above → Turn → Bool
 is_edge Nothing Edge = true
@@ -108,6 +115,7 @@ Accepts ms s t = (more : List Mark) → accepts_from t more ≡ accepts_from s (
 pub record Moves (ms : List Mark) (old : List ℕ) (s : Stand) (most : ℕ) (new : List ℕ) (t : Stand) : Type 0 where
   pub goes : Goes ms old s new t
   pub accepts : Accepts ms s t
+  pub stand : t ≡ stands_after s ms
   pub fits : Fits new t
   pub depth : t.depth ≤ s.depth + most
 
@@ -136,6 +144,7 @@ pub record Reaches (octets : List ℕ) (p : Progress) : Type 0 where
 pub record Advances (octets : List ℕ) (ms : List Mark) (old : List ℕ) (p : Progress) (to : ℕ) (tied : Bool) (new : List ℕ) (q : Progress) : Type 0 where
   pub goes : Goes ms old p.stand new q.stand
   pub accepts : Accepts ms p.stand q.stand
+  pub stand : q.stand ≡ stands_after p.stand ms
   pub fits : Fits new q.stand
   pub reaches : Reaches octets q
   pub at : q.at ≡ to

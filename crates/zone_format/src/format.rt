@@ -1,5 +1,5 @@
 //! Zone text in its canonical form.
-ghost use Rattle.std.specs.Prelude.{◌≡◌, ◌+◌, ◌<◌, ◌≤◌, ◌^◌, IfErr, IfOk, IfSome, IsNone};
+ghost use Rattle.std.specs.Prelude.{◌≡◌, ◌==◌, ◌&&◌, ◌+◌, ◌<◌, ◌≤◌, ◌^◌, IfErr, IfOk, IfSome, IsNone};
 ghost use Rattle.std.specs.Prelude.{if◌then◌else◌, length, slice_index, true};
 ghost use Rattle.dns_split.specs.Pieces.{between};
 ghost use Rattle.zone_format.specs.Marks.{lead_at, shortened};
@@ -7,11 +7,13 @@ ghost use Rattle.zone_format.specs.Refusal.{begins_order_mark, has_no_nul, IsRef
 ghost use Rattle.zone_format.specs.Formats.{Formats};
 ghost use Rattle.zone_format.specs.Writing.{accepts, Fits, is_edge, led, Reaches};
 ghost use Rattle.zone_format.specs.Writing.{WritesEnd, WritesNote, WritesToken};
+ghost use Rattle.zone_format.specs.Blocks.{WritesAll};
 
+use crate::blocks::format_last;
 use crate::columns::{Turn, is_blank};
 use crate::refusal::Refusal;
-use crate::stand::{Above, Stand};
-use crate::writing::{push_end, push_gap, push_note, push_token};
+use crate::stand::{Above, Seam, Stand};
+use crate::writing::{push_gap, push_note, push_token};
 use dns_split::pieces::{Piece, Pieces, Span};
 use std::alloc::{AllocError, Allocator};
 
@@ -103,6 +105,15 @@ pub(crate) struct Progress {
     pub(crate) is_token: bool,
 }
 
+impl Progress {
+    /// Whether a token that begins there is glued to one that ends there.
+    fn glues(self, start: usize) -> bool
+        ensures { result ≡ (self.is_token && (start == self.at)) }
+    {
+        self.is_token && start == self.at
+    }
+}
+
 /// Appends a token after what stands before it.
 fn write_token<A: Allocator>(
     octets: &[u8],
@@ -122,7 +133,7 @@ fn write_token<A: Allocator>(
     let stand = push_gap(out, progress.stand, &octets[progress.at..span.start])?;
     let token = span.of_octets(octets);
     accept(token, stand, span.start)?;
-    let is_glued = progress.is_token && span.start == progress.at;
+    let is_glued = progress.glues(span.start);
     Ok(Progress {
         stand: push_token(out, stand, is_glued, token)?,
         at: span.end,
@@ -173,16 +184,18 @@ fn write_end<A: Allocator>(
     })
 }
 
-/// Appends the form of octets.
-///
-/// After an error `out` has more octets, of which nothing is said.
-pub fn format<A: Allocator>(octets: &[u8], out: &mut Vec<u8, A>) -> Result<(), Refusal>
+/// Appends what the marks of octets make, and returns where writing then stands.
+pub(crate) fn write_all<A: Allocator>(
+    octets: &[u8],
+    seam: Seam,
+    out: &mut Vec<u8, A>,
+) -> Result<Stand, Refusal>
     requires { length octets.now < 2 ^ 62 }
-    ensures well { IfOk result (λ _. Formats octets.now out.old.items out.new.items) }
+    ensures well { IfOk result (WritesAll octets.now seam out.old.items out.new.items) }
     ensures bad { IfErr result (IsRefused octets.now) }
 {
     let mut progress = Progress {
-        stand: Stand::first().led_if(blank_at(octets, 0)),
+        stand: seam.stand().led_if(blank_at(octets, 0)),
         at: 0,
         is_token: false,
     };
@@ -195,6 +208,18 @@ pub fn format<A: Allocator>(octets: &[u8], out: &mut Vec<u8, A>) -> Result<(), R
             Err(fault) => return Err(Refusal::Wrong(fault)),
         }
     }
-    push_end(out, progress.stand)?;
+    Ok(progress.stand)
+}
+
+/// Appends the form of octets.
+///
+/// Where a text is refused for several reasons, the one that stands first in it is returned. After
+/// an error `out` has more octets, of which nothing is said.
+pub fn format<A: Allocator>(octets: &[u8], out: &mut Vec<u8, A>) -> Result<(), Refusal>
+    requires { length octets.now < 2 ^ 62 }
+    ensures well { IfOk result (λ _. Formats octets.now out.old.items out.new.items) }
+    ensures bad { IfErr result (IsRefused octets.now) }
+{
+    format_last(Seam::first(), octets, out)?;
     Ok(())
 }

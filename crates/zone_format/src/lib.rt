@@ -2,11 +2,13 @@
 //!
 //! - [`format::format`] appends the form of a text: each line by itself, its things at fixed
 //!   columns.
+//! - [`blocks::format_entries`] and [`blocks::format_last`] do so block by block.
 //! - [`refusal::Refusal`] tells why a text has none.
 //! - [`laws`] has what holds of forms: they keep what the text says, and the form of a form is
 //!   itself.
 #![tactic(auto)]
 
+pub mod blocks;
 mod columns;
 pub mod format;
 pub mod laws;

@@ -1,8 +1,9 @@
 //! Where writing stands: on a line, and below others.
 ghost use Rattle.std.specs.Prelude.{◌≡◌, ◌+◌, ◌-◌, ◌<◌, ◌≤◌, ◌^◌};
+ghost use Rattle.zone_format.specs.Blocks.{first_seam, resting, seam_of};
 ghost use Rattle.zone_format.specs.Columns.{after_token, token_column, width_of};
 ghost use Rattle.zone_format.specs.Form.{blank_below, start};
-ghost use Rattle.zone_format.specs.Writing.{fed, first_stand, is_start, led, pushed, pushed_token};
+ghost use Rattle.zone_format.specs.Writing.{fed, is_start, led, pushed, pushed_token};
 
 use crate::columns::Turn;
 
@@ -25,6 +26,40 @@ impl Above {
         match self {
             Above::Nothing => Above::Nothing,
             Above::Line | Above::Gap => Above::Gap,
+        }
+    }
+}
+
+/// Where two blocks of entries meet: as much of the first as the form of the second depends on.
+#[derive(Clone, Copy)]
+pub struct Seam {
+    pub(crate) above: Above,
+    /// The column of the comment of the line directly above, or 0.
+    pub(crate) noted: usize,
+}
+
+impl Seam {
+    /// Before the first block.
+    pub fn first() -> Seam
+        ensures { result ≡ first_seam }
+    {
+        Seam {
+            above: Above::Nothing,
+            noted: 0,
+        }
+    }
+
+    /// At the beginning of the second block.
+    pub(crate) fn stand(self) -> Stand
+        ensures { result ≡ resting self }
+    {
+        Stand {
+            above: self.above,
+            depth: 0,
+            noted: self.noted,
+            note: 0,
+            turn: Turn::Edge,
+            end: 0,
         }
     }
 }
@@ -64,17 +99,13 @@ fn start(depth: usize) -> Turn
 }
 
 impl Stand {
-    /// At the beginning of a text.
-    pub(crate) fn first() -> Stand
-        ensures { result ≡ first_stand }
+    /// What the form of the lines below depends on, where a line begins.
+    pub(crate) fn seam(self) -> Seam
+        ensures { result ≡ seam_of self }
     {
-        Stand {
-            above: Above::Nothing,
-            depth: 0,
-            noted: 0,
-            note: 0,
-            turn: Turn::Edge,
-            end: 0,
+        Seam {
+            above: self.above,
+            noted: self.noted,
         }
     }
 

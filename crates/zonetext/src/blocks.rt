@@ -1,10 +1,11 @@
 //! Files that are read block by block.
 use crate::progress::Progress;
-use std::alloc::Global;
+use std::alloc::{AllocError, Global};
 use std::fs::File;
 use std::io;
 use std::io::{ErrorKind, Read, Write};
 use zonetext_lib::blocks::{Checker, Halt};
+use zonetext_lib::formatter::NoForm;
 use zonetext_lib::writer::{Output, Writer};
 
 /// The octets that are read at a time.
@@ -15,10 +16,18 @@ pub const BLOCK: usize = 64 * 1024;
 pub enum Ended {
     /// No more octets are taken.
     Halt(Halt),
+    /// They have no form.
+    NoForm(NoForm),
     /// The file can't be read.
     Read(io::Error),
     /// Standard output, or the terminal, takes no more.
     Write(io::Error),
+}
+
+impl From<AllocError> for Ended {
+    fn from(_error: AllocError) -> Ended {
+        Ended::Halt(Halt::OutOfMemory)
+    }
 }
 
 impl From<Halt> for Ended {
@@ -120,6 +129,14 @@ fn go_through<R: Read, T: Take>(
         }
     }
     Err(Ended::Halt(Halt::TooLong))
+}
+
+/// Gives octets to what takes blocks.
+pub fn go_through_octets<T: Take>(octets: &[u8], taker: &mut T) -> Result<(), Ended> {
+    for block in octets.chunks(BLOCK) {
+        taker.take(block)?;
+    }
+    taker.end()
 }
 
 /// Gives a file's octets, or those of standard input, to what takes blocks.

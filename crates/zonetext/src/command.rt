@@ -1,5 +1,5 @@
 //! The words of the program.
-use crate::format::Mode;
+use crate::format::{Mode, Work};
 use crate::{files, format};
 use clap::{Arg, ArgAction, ArgMatches, Command, Error};
 use std::alloc::{AllocError, Global};
@@ -250,5 +250,6 @@ fn run_format(rt: &HostRuntime, inner: &ArgMatches, names: &[&str]) -> io::Resul
         eprintln!(rt; "zonetext: fmt -w wants files: standard input can't be replaced")?;
         return Ok(2);
     }
-    format::run(rt, names, mode)
+    let is_quiet = inner.get_flag("quiet");
+    format::run(rt, names, Work { mode, is_quiet })
 }

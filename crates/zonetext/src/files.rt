@@ -41,6 +41,7 @@ fn conclude(rt: &HostRuntime, file: &str, answer: Result<(), Ended>) -> io::Resu
         Err(Ended::Halt(Halt::Wrong(found))) => report(rt, file, found),
         Err(Ended::Halt(Halt::OutOfMemory)) => Err(io::Error::from(ErrorKind::OutOfMemory)),
         Err(Ended::Halt(Halt::TooLong)) => Err(io::Error::from(ErrorKind::FileTooLarge)),
+        Err(Ended::NoForm(_)) => Ok(1),
         Err(Ended::Read(error)) => {
             eprintln!(rt; "zonetext: {file}: {error}")?;
             Ok(2)

@@ -1,15 +1,16 @@
 //! The command `fmt`: zone files in their canonical form.
+use crate::blocks::{Ended, Take, go_through_file, go_through_octets};
 use crate::files::report;
+use crate::formed::{Former, Looker, Shower};
+use crate::progress::Progress;
+use dns_split::position::Position;
 use std::alloc::AllocError;
-use std::fs::File;
+use std::fs::{File, metadata};
 use std::io;
 use std::io::{ErrorKind, Read, Write};
-use zone_format::format::format;
-use zone_format::refusal::Refusal as FormRefusal;
-use zonetext_lib::check::check;
-use zonetext_lib::place::position_after;
+use zonetext_lib::blocks::Halt;
+use zonetext_lib::formatter::NoForm;
 use zonetext_lib::replace::{Batch, Incomplete, NewText, Original, Refusal};
-use zonetext_lib::unified::Unified;
 
 /// What is done with the forms of files.
 #[derive(Clone, Copy, PartialEq, Eq)]
@@ -27,45 +28,17 @@ pub enum Mode {
     Diff,
 }
 
+/// What is to be done, and whether nothing is said of how far reading has come.
+#[derive(Clone, Copy)]
+pub struct Work {
+    pub mode: Mode,
+    pub is_quiet: bool,
+}
+
 /// The status where files would change, or are no zone text.
 const FOUND: u8 = 1;
 /// The status where something could not be read or written.
 const TROUBLE: u8 = 3;
-
-/// A file and its form.
-#[derive(Drop)]
-struct Formed {
-    text: Vec<u8>,
-    form: Vec<u8>,
-}
-
-impl Formed {
-    fn changes(&self) -> bool {
-        self.text.as_slice() != self.form.as_slice()
-    }
-}
-
-/// No more octets are formatted at once.
-const MOST: usize = 1 << 40;
-
-/// Reads a file, or standard input, to its end.
-fn read(rt: &HostRuntime, file: &str) -> io::Result<Vec<u8>> {
-    let mut text = Vec::new(rt.alloc());
-    if file == "-" {
-        rt.stdin().read_to_end(&mut text)?;
-    } else {
-        File::open(rt, file)?.read_to_end(&mut text)?;
-    }
-    Ok(text)
-}
-
-/// Appends the form of a text.
-fn push_form(text: &[u8], form: &mut Vec<u8>) -> Result<(), FormRefusal> {
-    if text.len() > MOST {
-        return Err(FormRefusal::OutOfMemory);
-    }
-    format(text, form)
-}
 
 /// Says something of a file on standard error, and returns the status.
 fn say(rt: &HostRuntime, file: &str, what: &str) -> io::Result<u8> {
@@ -74,47 +47,96 @@ fn say(rt: &HostRuntime, file: &str, what: &str) -> io::Result<u8> {
 }
 
 /// Says at which place a file is refused, and returns the status.
-fn say_at(rt: &HostRuntime, file: &str, text: &[u8], at: usize, why: &str) -> io::Result<u8> {
-    let position = position_after(0, text.get(..at).unwrap_or(text));
-    let (line, column) = (position.line, position.column);
+fn say_at(rt: &HostRuntime, file: &str, at: Position, why: &str) -> io::Result<u8> {
+    let (line, column) = (at.line, at.column);
     eprintln!(rt; "{file}:{line}:{column}: {why}")?;
     Ok(FOUND)
 }
 
 /// Says why a text has no form, and returns the status.
-fn refuse(rt: &HostRuntime, file: &str, text: &[u8], refusal: FormRefusal) -> io::Result<u8> {
-    match refusal {
-        FormRefusal::Wrong(_) => match check(text, 0) {
-            Err(found) => report(rt, file, found),
-            Ok(()) => Ok(0),
-        },
-        FormRefusal::Nul(at) => say_at(rt, file, text, at, "NUL"),
-        FormRefusal::OrderMark(at) => say_at(rt, file, text, at, "byte order mark"),
-        FormRefusal::OutOfMemory => Err(io::Error::from(ErrorKind::OutOfMemory)),
+fn refuse(rt: &HostRuntime, file: &str, why: NoForm) -> io::Result<u8> {
+    match why {
+        NoForm::Wrong(found) => report(rt, file, found),
+        NoForm::Nul(at) => say_at(rt, file, at, "NUL"),
+        NoForm::OrderMark(at) => say_at(rt, file, at, "byte order mark"),
+        NoForm::OutOfMemory => Err(io::Error::from(ErrorKind::OutOfMemory)),
+        NoForm::TooLong => Err(io::Error::from(ErrorKind::FileTooLarge)),
     }
 }
 
-/// The form of a file, or the status where it has none, once that was said.
-fn form_of(rt: &HostRuntime, file: &str) -> io::Result<Result<Formed, u8>> {
-    let text = match read(rt, file) {
-        Ok(text) => text,
-        Err(error) => {
+/// Says why a file was not gone through to its end, and returns the status. Whoever closed
+/// standard output needs no word of that.
+fn conclude(rt: &HostRuntime, file: &str, ended: Ended) -> io::Result<u8> {
+    match ended {
+        Ended::NoForm(why) => refuse(rt, file, why),
+        Ended::Halt(halt) => refuse(rt, file, NoForm::from(halt)),
+        Ended::Read(error) => {
             eprintln!(rt; "zonetext: {file}: {error}")?;
-            return Ok(Err(TROUBLE));
+            Ok(TROUBLE)
         }
-    };
-    let mut form = Vec::new(rt.alloc());
-    match push_form(text.as_slice(), &mut form) {
-        Ok(()) => Ok(Ok(Formed { text, form })),
-        Err(refusal) => Ok(Err(refuse(rt, file, text.as_slice(), refusal)?)),
+        Ended::Write(error) if error.kind() == ErrorKind::BrokenPipe => Ok(TROUBLE),
+        Ended::Write(error) => Err(error),
     }
 }
 
-/// Writes to standard output; whoever closed it needs no word of that.
-fn put(rt: &HostRuntime, octets: &[u8]) -> io::Result<()> {
+/// What is read twice: once to find out whether it has a form, and then to write it.
+#[derive(Drop)]
+enum Source<'a> {
+    File(&'a str),
+    /// Standard input, or a pipe, which can be read once.
+    Held(Vec<u8>),
+}
+
+impl<'a> Source<'a> {
+    /// Opens a file; what can be read once is read to its end.
+    fn open(rt: &HostRuntime, file: &'a str) -> io::Result<Source<'a>> {
+        let mut text = Vec::new(rt.alloc());
+        if file == "-" {
+            rt.stdin().read_to_end(&mut text)?;
+        } else if metadata(rt, file)?.is_file() {
+            return Ok(Source::File(file));
+        } else {
+            File::open(rt, file)?.read_to_end(&mut text)?;
+        }
+        Ok(Source::Held(text))
+    }
+
+    /// Gives what is read to what takes blocks.
+    fn go_through<T: Take>(
+        &self,
+        rt: &HostRuntime,
+        taker: &mut T,
+        is_quiet: bool,
+    ) -> Result<(), Ended> {
+        match self {
+            Source::Held(text) => go_through_octets(text.as_slice(), taker),
+            Source::File(file) => {
+                let mut progress = match Progress::new(rt, file, is_quiet) {
+                    Ok(progress) => progress,
+                    Err(error) => return Err(Ended::Write(error)),
+                };
+                let answer = go_through_file(rt, file, taker, &mut progress);
+                match progress.clear() {
+                    Ok(()) => answer,
+                    Err(error) => Err(Ended::Write(error)),
+                }
+            }
+        }
+    }
+
+    /// Whether the text differs from its form.
+    fn differs(&self, rt: &HostRuntime, is_quiet: bool) -> Result<bool, Ended> {
+        let mut looker = Looker::new(rt.alloc());
+        self.go_through(rt, &mut looker, is_quiet)?;
+        Ok(looker.differs)
+    }
+}
+
+/// Writes to standard output, and returns the status.
+fn put(rt: &HostRuntime, file: &str, octets: &[u8]) -> io::Result<u8> {
     match rt.stdout().write_all(octets) {
-        Err(error) if error.kind() == ErrorKind::BrokenPipe => Ok(()),
-        answer => answer,
+        Ok(()) => Ok(0),
+        Err(error) => conclude(rt, file, Ended::Write(error)),
     }
 }
 
@@ -124,37 +146,47 @@ fn head_of(rt: &HostRuntime, file: &str) -> Result<String, AllocError> {
     format!(in rt.alloc(); "--- {file}{end}\n+++ {file}{end}\n")
 }
 
-/// Shows what changes in a file.
-fn show_changes(rt: &HostRuntime, file: &str, formed: &Formed) -> io::Result<()> {
-    let mut unified = Unified::new(rt.alloc());
-    let mut out = Vec::new(rt.alloc());
-    out.extend_from_slice(head_of(rt, file)?.as_bytes())?;
-    unified.add_old(formed.text.as_slice())?;
-    unified.add_new(formed.form.as_slice())?;
-    unified.finish(&mut out)?;
-    put(rt, out.as_slice())
+/// Prints a form, names a file that would change, or shows how.
+fn show(rt: &HostRuntime, file: &str, work: Work) -> io::Result<u8> {
+    let source = match Source::open(rt, file) {
+        Ok(source) => source,
+        Err(error) => return conclude(rt, file, Ended::Read(error)),
+    };
+    let differs = match source.differs(rt, work.is_quiet) {
+        Ok(differs) => differs,
+        Err(ended) => return conclude(rt, file, ended),
+    };
+    match work.mode {
+        Mode::Print => print(rt, file, &source, work),
+        Mode::Diff if differs => show_changes(rt, file, &source, work),
+        _ if differs => {
+            let line = format!(in rt.alloc(); "{file}\n")?;
+            Ok(put(rt, file, line.as_bytes())?.max(FOUND))
+        }
+        _ => Ok(0),
+    }
 }
 
-/// Prints a form, names a file that would change, or shows how.
-fn show(rt: &HostRuntime, file: &str, mode: Mode) -> io::Result<u8> {
-    let formed = match form_of(rt, file)? {
-        Ok(formed) => formed,
-        Err(status) => return Ok(status),
-    };
-    if mode == Mode::Print {
-        put(rt, formed.form.as_slice())?;
-        return Ok(0);
+/// Prints a form.
+fn print(rt: &HostRuntime, file: &str, source: &Source, work: Work) -> io::Result<u8> {
+    let mut former = Former::new(rt.alloc(), rt);
+    match source.go_through(rt, &mut former, work.is_quiet) {
+        Ok(()) => Ok(0),
+        Err(ended) => conclude(rt, file, ended),
     }
-    if !formed.changes() {
-        return Ok(0);
+}
+
+/// Shows what changes in a file.
+fn show_changes(rt: &HostRuntime, file: &str, source: &Source, work: Work) -> io::Result<u8> {
+    let status = put(rt, file, head_of(rt, file)?.as_bytes())?;
+    if status > 0 {
+        return Ok(status);
     }
-    if mode == Mode::Diff {
-        show_changes(rt, file, &formed)?;
-    } else {
-        let line = format!(in rt.alloc(); "{file}\n")?;
-        put(rt, line.as_bytes())?;
+    let mut shower = Shower::new(rt);
+    match source.go_through(rt, &mut shower, work.is_quiet) {
+        Ok(()) => Ok(FOUND),
+        Err(ended) => Ok(conclude(rt, file, ended)?.max(FOUND)),
     }
-    Ok(FOUND)
 }
 
 /// Says why a file is left as it is, and returns the status.
@@ -190,33 +222,51 @@ struct Change<'a> {
 fn look<'a>(
     rt: &HostRuntime,
     file: &'a str,
-    ignores_journal: bool,
+    work: Work,
 ) -> io::Result<Result<Option<Change<'a>>, u8>> {
+    let ignores_journal = matches!(
+        work.mode,
+        Mode::Write {
+            ignores_journal: true
+        }
+    );
     let original = match Original::find(rt, rt.alloc(), file, ignores_journal) {
         Ok(original) => original,
         Err(refusal) => return Ok(Err(leave(rt, file, &refusal)?)),
     };
-    match form_of(rt, file)? {
-        Ok(formed) if formed.changes() => Ok(Ok(Some(Change { file, original }))),
-        Ok(_) => Ok(Ok(None)),
-        Err(status) => Ok(Err(status)),
+    match Source::File(file).differs(rt, work.is_quiet) {
+        Ok(true) => Ok(Ok(Some(Change { file, original }))),
+        Ok(false) => Ok(Ok(None)),
+        Err(ended) => Ok(Err(conclude(rt, file, ended)?)),
+    }
+}
+
+/// Why a new text was not written.
+fn refusal_of(ended: Ended) -> Refusal {
+    match ended {
+        Ended::Read(error) | Ended::Write(error) => Refusal::Io(error),
+        Ended::Halt(Halt::OutOfMemory) | Ended::NoForm(NoForm::OutOfMemory) => {
+            Refusal::Io(io::Error::from(ErrorKind::OutOfMemory))
+        }
+        // It had a form when it was looked at.
+        Ended::Halt(_) | Ended::NoForm(_) => Refusal::Changed,
     }
 }
 
 /// Writes the form of a file beside it.
-fn write_beside(rt: &HostRuntime, change: Change, batch: &mut Batch) -> Result<(), Refusal> {
-    let text = read(rt, change.file)?;
-    let mut form = Vec::new(rt.alloc());
-    if push_form(text.as_slice(), &mut form).is_err() {
-        // It had a form when it was looked at, or memory is lacking now.
-        return Err(Refusal::Changed);
-    }
-    let mut new = NewText::create(rt, rt.alloc(), change.original)?;
-    match new.write(form.as_slice()) {
-        Ok(()) => batch.add(rt, new),
-        Err(error) => {
-            let _ = new.discard(rt);
-            Err(Refusal::Io(error))
+fn write_beside(
+    rt: &HostRuntime,
+    change: Change,
+    batch: &mut Batch,
+    work: Work,
+) -> Result<(), Refusal> {
+    let new = NewText::create(rt, rt.alloc(), change.original)?;
+    let mut former = Former::new(rt.alloc(), new);
+    match Source::File(change.file).go_through(rt, &mut former, work.is_quiet) {
+        Ok(()) => batch.add(rt, former.sink),
+        Err(ended) => {
+            let _ = former.sink.discard(rt);
+            Err(refusal_of(ended))
         }
     }
 }
@@ -238,13 +288,13 @@ fn tell_of(rt: &HostRuntime, names: &[&str], incomplete: &Incomplete) -> io::Res
 }
 
 /// Puts the forms of files in their places, all or none.
-fn replace(rt: &HostRuntime, changes: Vec<Change>) -> io::Result<u8> {
+fn replace(rt: &HostRuntime, changes: Vec<Change>, work: Work) -> io::Result<u8> {
     let mut batch = Batch::new(rt.alloc());
     let mut names = Vec::new(rt.alloc());
     for change in changes {
         let file = change.file;
         names.push(file)?;
-        if let Err(refusal) = write_beside(rt, change, &mut batch) {
+        if let Err(refusal) = write_beside(rt, change, &mut batch, work) {
             let _ = batch.discard(rt);
             return leave(rt, file, &refusal);
         }
@@ -255,12 +305,20 @@ fn replace(rt: &HostRuntime, changes: Vec<Change>) -> io::Result<u8> {
     }
 }
 
+/// Whether a file is among those that will change already, under whatever name.
+fn is_among(changes: &[Change], change: &Change) -> bool {
+    changes
+        .iter()
+        .any(|other| other.original.path() == change.original.path())
+}
+
 /// Writes files in place. With a fault in any of them none is changed.
-fn write(rt: &HostRuntime, files: &[&str], ignores_journal: bool) -> io::Result<u8> {
+fn write(rt: &HostRuntime, files: &[&str], work: Work) -> io::Result<u8> {
     let mut changes = Vec::new(rt.alloc());
     let mut status = 0;
     for file in files {
-        match look(rt, file, ignores_journal)? {
+        match look(rt, file, work)? {
+            Ok(Some(change)) if is_among(changes.as_slice(), &change) => {}
             Ok(Some(change)) => changes.push(change).map_err(AllocError::from)?,
             Ok(None) => {}
             Err(this) => status = this.max(status),
@@ -270,17 +328,30 @@ fn write(rt: &HostRuntime, files: &[&str], ignores_journal: bool) -> io::Result<
         eprintln!(rt; "zonetext: no file is changed")?;
         return Ok(status);
     }
-    replace(rt, changes)
+    replace(rt, changes, work)
+}
+
+/// Shows files one by one, and returns the greatest status.
+fn show_all(rt: &HostRuntime, files: &[&str], work: Work) -> io::Result<u8> {
+    let mut status = 0;
+    for file in files {
+        status = show(rt, file, work)?.max(status);
+    }
+    Ok(status)
 }
 
 /// Formats files, and returns the status: the greatest that one of them has.
-pub fn run(rt: &HostRuntime, files: &[&str], mode: Mode) -> io::Result<u8> {
-    if let Mode::Write { ignores_journal } = mode {
-        return write(rt, files, ignores_journal);
+pub fn run(rt: &HostRuntime, files: &[&str], work: Work) -> io::Result<u8> {
+    let answer = if matches!(work.mode, Mode::Write { .. }) {
+        write(rt, files, work)
+    } else {
+        show_all(rt, files, work)
+    };
+    match answer {
+        Ok(status) => Ok(status),
+        Err(error) => {
+            eprintln!(rt; "zonetext: {error}")?;
+            Ok(TROUBLE)
+        }
     }
-    let mut status = 0;
-    for file in files {
-        status = show(rt, file, mode)?.max(status);
-    }
-    Ok(status)
 }

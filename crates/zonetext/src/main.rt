@@ -5,6 +5,7 @@ mod blocks;
 mod command;
 mod files;
 mod format;
+mod formed;
 mod pair;
 mod progress;
 

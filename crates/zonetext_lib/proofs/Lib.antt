@@ -6,6 +6,7 @@ pub mod Counted
 pub mod Cuts
 pub mod Feeds
 pub mod Following
+pub mod Forming
 pub mod Givens
 pub mod Holding
 pub mod Layouts

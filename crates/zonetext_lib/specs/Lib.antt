@@ -2,8 +2,10 @@ pub mod Blocks
 pub mod Compare
 pub mod Comparing
 pub mod Entries
+pub mod Forming
 pub mod Found
 pub mod Held
+pub mod HeldForm
 pub mod Layout
 pub mod Place
 pub mod Tokens

@@ -104,7 +104,7 @@ fn moved(fault: Fault, by: usize) -> Fault
 }
 
 /// The fault of octets that begin at a place, with its positions.
-fn locate_after(place: Place, octets: &[u8], fault: Fault) -> Found
+pub(crate) fn locate_after(place: Place, octets: &[u8], fault: Fault) -> Found
     requires room { place.at + length octets.now + 2 < 2 ^ 64 }
     requires line { place.position.line ≤ place.at + 1 }
     requires column { place.position.column ≤ place.at + 1 }
@@ -211,6 +211,16 @@ impl<A: Allocator> Checker<A> {
             Ok(cut) => Ok(cut),
             Err(fault) => Err(locate_after(self.place, held, fault)),
         }
+    }
+
+    /// Where they begin.
+    pub(crate) fn place(&self) -> Place
+        ensures place { result ≡ self.now.place }
+        ensures room { result.at + length self.now.octets + 2 < 2 ^ 64 }
+        ensures line { result.position.line ≤ result.at + 1 }
+        ensures column { result.position.column ≤ result.at + 1 }
+    {
+        self.place
     }
 
     /// Lets the first octets go.

@@ -5,6 +5,7 @@
 //! - [`tokens::tokens`] writes a row for each token, with its position.
 //! - [`layout::lay_out`] writes a line for each entry.
 //! - [`writer::Writer`] writes either of octets that come in blocks.
+//! - [`formatter::Formatter`] writes the canonical form of octets that come in blocks.
 //! - [`diff::diff`] compares the entries of two texts.
 //! - [`comparer::Comparer`] compares those of two texts that come in blocks.
 //! - [`unified::Unified`] writes what changes from one text to another, as a unified diff.
@@ -18,6 +19,7 @@ pub mod blocks;
 pub mod check;
 pub mod comparer;
 pub mod diff;
+pub mod formatter;
 mod glue;
 pub mod laws;
 pub mod layout;

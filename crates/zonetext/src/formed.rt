@@ -1,0 +1,198 @@
+//! The forms of files, block by block.
+use crate::blocks::{BLOCK, Ended, Take};
+use std::alloc::Global;
+use std::fs::File;
+use std::io;
+use std::io::Write;
+use zonetext_lib::formatter::Formatter;
+use zonetext_lib::replace::NewText;
+use zonetext_lib::unified::Unified;
+
+/// Lets the first octets go.
+fn let_go(octets: &mut Vec<u8>, count: usize) {
+    if count > octets.len() {
+        return;
+    }
+    octets.rotate_left(count);
+    octets.truncate(octets.len() - count);
+}
+
+/// Finds out whether a text differs from its form.
+#[derive(Drop)]
+pub struct Looker {
+    formatter: Formatter<Global>,
+    /// What was read and not compared yet.
+    text: Vec<u8>,
+    /// What was made and not compared yet.
+    form: Vec<u8>,
+    /// Whether a difference was found.
+    pub differs: bool,
+}
+
+impl Looker {
+    /// Before the first block.
+    pub fn new(alloc: Global) -> Looker {
+        Looker {
+            formatter: Formatter::new(alloc),
+            text: Vec::new(alloc),
+            form: Vec::new(alloc),
+            differs: false,
+        }
+    }
+
+    /// Compares as much as there is of both.
+    fn compare(&mut self) {
+        let count = self.text.len().min(self.form.len());
+        if !self.differs && self.text[..count] == self.form[..count] {
+            let_go(&mut self.text, count);
+            let_go(&mut self.form, count);
+        } else {
+            self.differs = true;
+            self.text.truncate(0);
+            self.form.truncate(0);
+        }
+    }
+}
+
+impl Take for Looker {
+    fn take(&mut self, block: &[u8]) -> Result<(), Ended> {
+        if !self.differs {
+            self.text.extend_from_slice(block).map_err(Ended::from)?;
+        }
+        self.formatter
+            .add(block, &mut self.form)
+            .map_err(Ended::NoForm)?;
+        self.compare();
+        Ok(())
+    }
+
+    fn end(&mut self) -> Result<(), Ended> {
+        self.formatter
+            .finish(&mut self.form)
+            .map_err(Ended::NoForm)?;
+        self.compare();
+        if !self.text.is_empty() || !self.form.is_empty() {
+            self.differs = true;
+        }
+        Ok(())
+    }
+}
+
+/// Where a form goes.
+pub trait Sink {
+    /// Takes octets after those that it took before.
+    fn put(&mut self, octets: &[u8]) -> io::Result<()>;
+}
+
+impl<'a> Sink for &'a HostRuntime {
+    fn put(&mut self, octets: &[u8]) -> io::Result<()> {
+        self.stdout().write_all(octets)
+    }
+}
+
+impl Sink for NewText<File> {
+    fn put(&mut self, octets: &[u8]) -> io::Result<()> {
+        self.write(octets)
+    }
+}
+
+/// Writes the form of a text.
+#[derive(Drop)]
+pub struct Former<S: Sink + Drop> {
+    formatter: Formatter<Global>,
+    form: Vec<u8>,
+    pub sink: S,
+}
+
+impl<S: Sink + Drop> Former<S> {
+    /// Before the first block.
+    pub fn new(alloc: Global, sink: S) -> Former<S> {
+        Former {
+            formatter: Formatter::new(alloc),
+            form: Vec::new(alloc),
+            sink,
+        }
+    }
+
+    /// Writes what was made.
+    fn put(&mut self) -> Result<(), Ended> {
+        let answer = self.sink.put(self.form.as_slice());
+        self.form.truncate(0);
+        answer.map_err(Ended::Write)
+    }
+}
+
+impl<S: Sink + Drop> Take for Former<S> {
+    fn take(&mut self, block: &[u8]) -> Result<(), Ended> {
+        self.formatter
+            .add(block, &mut self.form)
+            .map_err(Ended::NoForm)?;
+        if self.form.len() < BLOCK {
+            return Ok(());
+        }
+        self.put()
+    }
+
+    fn end(&mut self) -> Result<(), Ended> {
+        self.formatter
+            .finish(&mut self.form)
+            .map_err(Ended::NoForm)?;
+        self.put()
+    }
+}
+
+/// Shows what changes from a text to its form.
+#[derive(Drop)]
+pub struct Shower<'a> {
+    rt: &'a HostRuntime,
+    formatter: Formatter<Global>,
+    form: Vec<u8>,
+    unified: Unified,
+    out: Vec<u8>,
+}
+
+impl<'a> Shower<'a> {
+    /// Before the first block.
+    pub fn new(rt: &'a HostRuntime) -> Shower<'a> {
+        Shower {
+            rt,
+            formatter: Formatter::new(rt.alloc()),
+            form: Vec::new(rt.alloc()),
+            unified: Unified::new(rt.alloc()),
+            out: Vec::new(rt.alloc()),
+        }
+    }
+
+    /// Writes the hunks that have ended.
+    fn put(&mut self) -> Result<(), Ended> {
+        let answer = self.rt.stdout().write_all(self.out.as_slice());
+        self.out.truncate(0);
+        answer.map_err(Ended::Write)
+    }
+}
+
+impl<'a> Take for Shower<'a> {
+    fn take(&mut self, block: &[u8]) -> Result<(), Ended> {
+        self.formatter
+            .add(block, &mut self.form)
+            .map_err(Ended::NoForm)?;
+        self.unified.add_old(block).map_err(Ended::from)?;
+        self.unified
+            .add_new(self.form.as_slice())
+            .map_err(Ended::from)?;
+        self.form.truncate(0);
+        self.unified.advance(&mut self.out).map_err(Ended::from)?;
+        self.put()
+    }
+
+    fn end(&mut self) -> Result<(), Ended> {
+        self.formatter
+            .finish(&mut self.form)
+            .map_err(Ended::NoForm)?;
+        self.unified
+            .add_new(self.form.as_slice())
+            .map_err(Ended::from)?;
+        self.unified.finish(&mut self.out).map_err(Ended::from)?;
+        self.put()
+    }
+}

@@ -1,0 +1,67 @@
+-- The form of octets that come in blocks.
+use Rattle.std.specs.Prelude.{⊤, ◌≡◌, ◌≤◌, ◌+◌, ◌^◌, ℕ, List, [], ◌++◌, length, take, Result, Ok, Err}
+use Rattle.dns_split.specs.Pieces.{AreOctets}
+use Rattle.dns_split.specs.declared.pieces.Fault.{Fault}
+use Rattle.dns_split.specs.declared.position.Position.{Position}
+use Rattle.zone_format.specs.Blocks.{FormatsEntries, FormedTo}
+use Rattle.zone_format.specs.Formats.{Formats}
+use Rattle.zone_format.specs.Refusal.{IsRefused}
+use Rattle.zone_format.specs.declared.refusal.Refusal.TheVariants.{Nul as NulAt, OrderMark as OrderMarkAt}
+use Rattle.zonetext_lib.specs.declared.formatter.FormedCut.{FormedCut}
+use Rattle.zonetext_lib.specs.declared.formatter.NoForm.{NoForm}
+use Rattle.zonetext_lib.specs.declared.formatter.NoForm.TheVariants.{Wrong, Nul, OrderMark, OutOfMemory, TooLong}
+use Rattle.zonetext_lib.specs.declared.blocks.Halt.{Halt}
+use Rattle.zonetext_lib.specs.declared.blocks.Halt.TheVariants.{Wrong as WrongHalt, OutOfMemory as OutOfMemoryHalt, TooLong as TooLongHalt}
+use Rattle.zonetext_lib.specs.declared.place.Place.{Place}
+use Rattle.zonetext_lib.specs.Blocks.{Holds, Settled}
+use Rattle.zonetext_lib.specs.Found.{IsFound, IsOctetFault}
+use Rattle.zonetext_lib.specs.HeldForm.{Forming}
+use Rattle.zonetext_lib.specs.Place.{IsAt}
+
+abbrev pub as_no_form : Halt → NoForm
+as_no_form (WrongHalt f) = Wrong f
+as_no_form OutOfMemoryHalt = OutOfMemory
+as_no_form TooLongHalt = TooLong
+
+-- of all octets that were added this was written: the form of those that are not held, behind which the form of others goes on
+pub record FormedSoFar (all written : List ℕ) (f : Forming) : Type 0 where
+  pub held : Holds all f.held
+  pub formed : FormedTo held.before written f.seam
+
+-- the position of an octet that stands after others
+abbrev pub HasPosition : Place → List ℕ → ℕ → Position → Type 0
+HasPosition place octets at p = (before : List ℕ) → IsAt 0 before place.position → IsAt 0 (before ++ take at octets) p
+
+-- why octets have no form, and where
+abbrev pub HasNoForm : List ℕ → NoForm → Type 0
+HasNoForm all (Wrong f) = IsFound all 0 f
+HasNoForm all (Nul p) = (at : ℕ) × IsRefused all (NulAt at) × IsAt 0 (take at all) p
+HasNoForm all (OrderMark p) = (at : ℕ) × IsRefused all (OrderMarkAt at) × IsAt 0 (take at all) p
+HasNoForm all OutOfMemory = ⊤
+HasNoForm all TooLong = ⊥
+
+-- why octets that stand after others have no form, and where among all
+abbrev pub HasNoFormAfter : Place → List ℕ → NoForm → Type 0
+HasNoFormAfter place octets (Wrong r) = (f : Fault) × IsOctetFault octets f
+HasNoFormAfter place octets (Nul p) = (at : ℕ) × IsRefused octets (NulAt at) × HasPosition place octets at p
+HasNoFormAfter place octets (OrderMark p) = (at : ℕ) × IsRefused octets (OrderMarkAt at) × HasPosition place octets at p
+HasNoFormAfter place octets OutOfMemory = ⊤
+HasNoFormAfter place octets TooLong = ⊥
+
+-- a block was added, and what it adds to the form was appended; or all octets with it have no form, whatever follows; or nothing was added
+abbrev pub AddsForm : {U : Type 0} → Forming → Forming → List ℕ → List ℕ → List ℕ → Result U NoForm → Type 0
+AddsForm old new block from to (Ok u) = (all written : List ℕ) → FormedSoFar all written old → (more : List ℕ) × (to ≡ from ++ more) × FormedSoFar (all ++ block) (written ++ more) new
+AddsForm old new block from to (Err OutOfMemory) = new ≡ old
+AddsForm old new block from to (Err TooLong) = (new ≡ old) × (2 ^ 62 ≤ old.held.place.at + length old.held.octets + length block + 2)
+AddsForm old new block from to (Err why) = (all written more : List ℕ) → FormedSoFar all written old → AreOctets more → HasNoForm ((all ++ block) ++ more) why
+
+-- the form of the entries that have ended was appended, and here they end; or all octets have no form
+abbrev pub FormsSettled : Forming → List ℕ → List ℕ → Result FormedCut NoForm → Type 0
+FormsSettled f from to (Ok c) = AreOctets f.held.octets × Settled f.held.octets (Ok c.at) × FormatsEntries (take c.at f.held.octets) f.seam from to c.seam
+FormsSettled f from to (Err OutOfMemory) = ⊤
+FormsSettled f from to (Err TooLong) = ⊥
+FormsSettled f from to (Err why) = (all more : List ℕ) → Holds all f.held → AreOctets more → HasNoForm (all ++ more) why
+
+-- with this all is written, and is the form of all octets
+abbrev pub FormsAll : Forming → List ℕ → List ℕ → Type 0
+FormsAll f from to = (all written : List ℕ) → FormedSoFar all written f → (more : List ℕ) × (to ≡ from ++ more) × Formats all [] (written ++ more)
