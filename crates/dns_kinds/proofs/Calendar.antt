@@ -12,7 +12,8 @@ use Rattle.dns_kinds.specs.Time.{is_leap, year_days, months, month_days, days_of
 leap_step : (year last : ℕ) → year ≡ last + 1 → year_days year + year / 100 + last / 4 + last / 400 ≡ 365 + year / 4 + year / 400 + last / 100
 leap_step year last next = Prim.grind (arith, nat_tests)
 
--- the leap years up to a year are every fourth, without every hundredth, and with every four hundredth; 477 of them are before 1970
+-- the leap years up to a year are every fourth, without every hundredth, and with every four
+-- hundredth; 477 of them are before 1970
 pub days_closed : (n : ℕ) → days_of_years n + (1969 + n) / 100 + 477 ≡ n * 365 + (1969 + n) / 4 + (1969 + n) / 400
 days_closed zero = refl
 days_closed (suc n) =

@@ -6,7 +6,8 @@ use Rattle.std.proofs.lemmas.List.{drop_more, drop_all}
 use Rattle.dns_kinds.specs.Ttl.{unit_seconds, IsPeriods, ReadsPeriods}
 use Rattle.dns_kinds.proofs.Periods.{After, after_periods, periods_of, after_ge}
 
--- a text is so many seconds so far, in which this number has begun, and these are its other characters
+-- a text is so many seconds so far, in which this number has begun, and these are its other
+-- characters
 pub record Totals (text : List ℕ) (total : ℕ) (count : Option ℕ) (rest : List ℕ) : Type 0 where
   pub small : total < 2 ^ 32
   pub fits : IfSome count (λ k. k < 2 ^ 32)

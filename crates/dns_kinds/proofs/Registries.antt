@@ -48,7 +48,8 @@ is_own table row = option_map_or (λ code. code == row.code) (row_code table row
 abbrev test : List Row → List ℕ → ℕ → Row → Bool
 test table prefix most row = is_own table row && (nat_le row.code most && not (is_like_numbered prefix row.name))
 
--- each row's name is read as its code, which is at most so much, and no name looks like the prefix and a number
+-- each row's name is read as its code, which is at most so much, and no name looks like the prefix
+-- and a number
 abbrev pub is_registry : List Row → List ℕ → ℕ → Bool
 is_registry table prefix most = list_all (test table prefix most) table
 

@@ -24,6 +24,6 @@ abbrev pub pairs_text : List ℕ → List ℕ
 pairs_text [] = []
 pairs_text (o ∷ os) = pair_text 65 o ++ pairs_text os
 
--- the octets that a text writes were written over others, or the text writes no octets of that number
+-- the octets that a text writes were written over others, or it writes no octets of that number
 abbrev pub WritesOctets : (List ℕ → List ℕ → Type 0) → ℕ → List ℕ → List ℕ → Bool → Type 0
 WritesOctets writes count text now r = MatchBool r (writes text now) ((octets : List ℕ) → length octets ≡ count → writes text octets → ⊥)

@@ -8,7 +8,8 @@ use Rattle.dns_kinds.specs.declared.error.KindError.TheVariants.{ExpectedNumber,
 abbrev pub SpellsNumber : List ℕ → ℕ → Type 0
 SpellsNumber text n = IsNumeral 10 text × (n ≡ digits_value 10 text)
 
--- the number that a text writes if it is below a limit; or else that it is too large, or that the text is no number
+-- the number that a text writes if it is below a limit; or else that it is too large, or that the
+-- text is no number
 abbrev pub ReadsDecimal : ℕ → List ℕ → Result ℕ KindError → Type 0
 ReadsDecimal limit text r =
     MatchResult r (λ n. SpellsNumber text n × (n < limit))

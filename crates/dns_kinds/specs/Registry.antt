@@ -34,7 +34,8 @@ abbrev pub IsNumbered : List ℕ → ℕ → List ℕ → ℕ → Type 0
 IsNumbered prefix most text code =
     (in_small_letters (take (length prefix) text) ≡ in_small_letters prefix) × SpellsNumber (drop (length prefix) text) code × (code ≤ most)
 
--- a text names a code: that of the row with this name, or without such a row by the prefix and the code
+-- a text names a code: that of the row with this name, or without such a row by the prefix and
+-- the code
 abbrev pub SpellsCode : List Row → List ℕ → ℕ → List ℕ → ℕ → Type 0
 SpellsCode table prefix most text code = MatchOption (row_code table text) (IsNumbered prefix most text code) (λ c. code ≡ c)
 

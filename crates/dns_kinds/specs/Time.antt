@@ -77,8 +77,8 @@ four_digits_of n = two_digits (n / 100) ++ two_digits (n % 100)
 abbrev pub date_text : Date → List ℕ
 date_text d = four_digits_of d.year ++ two_digits d.month ++ two_digits d.day ++ two_digits d.hour ++ two_digits d.minute ++ two_digits d.second
 
--- A text writes a second from 1970 on, modulo 2^32: fourteen digits of a date, or at most ten of the seconds
--- themselves.
+-- A text writes a second from 1970 on, modulo 2^32: fourteen digits of a date, or at most ten of
+-- the seconds themselves.
 abbrev pub IsTime : List ℕ → ℕ → Type 0
 IsTime text seconds =
     (IsDateText text × (seconds ≡ seconds_at (date_of text) % 2 ^ 32)) ⊎ ((length text ≤ 10) × SpellsNumber text seconds × (seconds < 2 ^ 32))
