@@ -9,3 +9,4 @@ pub mod Reading
 pub mod Checking
 pub mod Items
 pub mod Printing
+pub mod Queries

@@ -1,5 +1,5 @@
 -- What a value of a service parameter has to be (RFC 9460 sections 7 and 8).
-use Rattle.std.specs.Prelude.{◌≡◌, ◌≢◌, ℕ, ◌+◌, ◌*◌, ◌%◌, ◌<◌, List, [], ◌∷◌, length, All, IsSome}
+use Rattle.std.specs.Prelude.{◌≡◌, ◌≢◌, ℕ, ◌+◌, ◌*◌, ◌%◌, ◌<◌, List, [], ◌∷◌, ◌++◌, length, codes, All, IsSome}
 use Rattle.std.specs.List.{flat_map}
 use Rattle.dns_lists.specs.Params.{value_at}
 
@@ -17,6 +17,10 @@ AreKeys params above (high ∷ low ∷ octets) = (above < 256 * high + low) × I
 abbrev pub AreGroups : ℕ → List ℕ → Type 0
 AreGroups size octets = (0 < length octets) × (length octets % size ≡ 0)
 
+-- octets in which the variable of a query stands (RFC 9461 section 5)
+abbrev pub HoldsQuery : List ℕ → Type 0
+HoldsQuery octets = (front back : List ℕ) × (octets ≡ front ++ codes "{?dns}" ++ back)
+
 -- what the value of a key has to be, beside the other parameters
 pub record IsParamValue (params : List (ℕ × List ℕ)) (key : ℕ) (value : List ℕ) : Type 0 where
   pub mandatory : key ≡ 0 → (value ≢ []) × AreKeys params 0 value
@@ -26,3 +30,4 @@ pub record IsParamValue (params : List (ℕ × List ℕ)) (key : ℕ) (value : L
   pub ipv4hint : key ≡ 4 → AreGroups 4 value
   pub ech : key ≡ 5 → value ≢ []
   pub ipv6hint : key ≡ 6 → AreGroups 16 value
+  pub dohpath : key ≡ 7 → HoldsQuery value

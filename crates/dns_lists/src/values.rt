@@ -1,8 +1,8 @@
-//! The values of service parameters (RFC 9460 sections 7 and 8).
+//! The values of service parameters (RFC 9460 sections 7 and 8, RFC 9461 section 5).
 ghost use Rattle.std.specs.Prelude.{◌≡◌, ◌≢◌, ℕ, [], MatchBool, MatchOption, All, is_some, length};
 ghost use Rattle.std.specs.List.{Any};
 ghost use Rattle.dns_lists.specs.Params.{pairs, value_at};
-ghost use Rattle.dns_lists.specs.Values.{AreWireStrings, AreKeys, AreGroups, IsParamValue};
+ghost use Rattle.dns_lists.specs.Values.{AreWireStrings, AreKeys, AreGroups, HoldsQuery, IsParamValue};
 
 use crate::params::{Param, has_key};
 
@@ -19,6 +19,8 @@ pub const IPV4HINT: u16 = 4;
 pub const ECH: u16 = 5;
 
 pub const IPV6HINT: u16 = 6;
+
+pub const DOHPATH: u16 = 7;
 
 /// Whether octets are strings of 1 to 255 octets, each behind its length.
 fn are_strings(octets: &[u8]) -> bool
@@ -71,6 +73,20 @@ fn are_keys(params: &[Param<'_>], octets: &[u8]) -> bool
     true
 }
 
+/// Whether octets hold the variable of a query, as a template has to (RFC 9461 section 5).
+fn holds_query(octets: &[u8]) -> bool
+    ensures { MatchBool result (HoldsQuery octets.now) (¬ HoldsQuery octets.now) }
+{
+    let mut rest = octets;
+    while !rest.is_empty() {
+        if rest.starts_with(b"{?dns}") {
+            return true;
+        }
+        rest = &rest[1..];
+    }
+    false
+}
+
 /// Whether the value of a key is what it has to be.
 fn is_value(params: &[Param<'_>], key: u16, value: &[u8]) -> bool
     ensures { MatchBool result (IsParamValue (pairs params.now) key value.now) (¬ IsParamValue (pairs params.now) key value.now) }
@@ -83,6 +99,7 @@ fn is_value(params: &[Param<'_>], key: u16, value: &[u8]) -> bool
         IPV4HINT => are_groups(value, 4),
         ECH => !value.is_empty(),
         IPV6HINT => are_groups(value, 16),
+        DOHPATH => holds_query(value),
         _ => true,
     }
 }
