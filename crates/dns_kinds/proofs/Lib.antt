@@ -1,0 +1,14 @@
+pub mod AddressLaws
+pub mod Calendar
+pub mod CodeLaws
+pub mod DateLaws
+pub mod EuiLaws
+pub mod HexLaws
+pub mod NumberLemmas
+pub mod PeriodLemmas
+pub mod Periods
+pub mod ReadBack
+pub mod Registries
+pub mod SaltLaws
+pub mod TimeTexts
+pub mod TtlLaws

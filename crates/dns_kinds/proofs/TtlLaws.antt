@@ -1,0 +1,30 @@
+-- What a text writes as seconds: its number, or its periods, and in one way.
+use Rattle.std.proofs.Common.{ℕ, ◌≡◌, ◌<◌, ◌≤◌, ◌^◌, List, length, sym, arith, ◌∙◌, inl, inr, ⊎_elim, Option, Some, None, decimal}
+use Rattle.std.specs.Str.Parse.{IsNumeral, digits_value}
+use Rattle.std.proofs.lemmas.Fmt.{decimal_is_IsNumeral}
+use Rattle.dns_kinds.specs.Ttl.{IsSeconds, ReadsPeriods, ReadsSeconds, SpellsTtl, SpellsInterval, TtlsAreKind, IntervalsAreKind}
+use Rattle.dns_kinds.proofs.ReadBack.{is_kind}
+use Rattle.dns_kinds.proofs.Periods.{after_periods, after_once, numeral_no_periods}
+
+pub reads_periods : (text : List ℕ) (r : Option ℕ) → 0 < length text → (IsNumeral 10 text × (digits_value 10 text < 2 ^ 32) → ⊥) → ReadsPeriods text r → ReadsSeconds text r
+reads_periods text None some h k = λ n small w. ⊎_elim (λ is. h (is.0, omega (arith, is.1, small))) (k n small) w.1
+reads_periods text (Some n) some h k = (k.0, (some, inr k.1))
+
+pub seconds_once : (text : List ℕ) (n m : ℕ) → IsSeconds text n → IsSeconds text m → n ≡ m
+seconds_once text n m (e, inl h) (f, inl k) = h.1 ∙ sym k.1
+seconds_once text n m (e, inl h) (f, inr k) = absurd (numeral_no_periods text m h.0 k)
+seconds_once text n m (e, inr h) (f, inl k) = absurd (numeral_no_periods text n k.0 h)
+seconds_once text n m (e, inr h) (f, inr k) = after_once None text n m (after_periods text n h) (after_periods text m k)
+
+-- more seconds than so many are not few enough
+pub too_many : (text : List ℕ) (n m : ℕ) → IsSeconds text n → 2 ^ 31 ≤ n → SpellsTtl text m → ⊥
+too_many text n m h many k = let same = seconds_once text n m h k.0 in omega (arith, same, many, k.1)
+
+decimal_seconds : (n : ℕ) → n < 2 ^ 32 → IsSeconds (decimal n) n
+decimal_seconds n small = let d = decimal_is_IsNumeral n (omega arith) in (d.0.0, inl (d.0, sym d.1))
+
+pub ttls_are_kind : TtlsAreKind
+ttls_are_kind = is_kind (λ n. n < 2 ^ 31) SpellsTtl decimal (λ n small. (decimal_seconds n (omega (arith, small)), small)) (λ text n m h k. seconds_once text n m h.0 k.0)
+
+pub intervals_are_kind : IntervalsAreKind
+intervals_are_kind = is_kind (λ n. n < 2 ^ 32) SpellsInterval decimal (λ n small. (decimal_seconds n small, small)) (λ text n m h k. seconds_once text n m h.0 k.0)

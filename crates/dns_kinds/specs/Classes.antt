@@ -1,0 +1,25 @@
+-- The classes of records (RFC 1035 section 3.2.4).
+use Rattle.std.specs.Prelude.{ℕ, ◌<◌, ◌^◌, List, [], ◌∷◌, codes}
+use Rattle.dns_kinds.specs.Kind.{IsKind}
+use Rattle.dns_kinds.specs.Registry.{Row, code_row, SpellsCode, code_text}
+use Rattle.dns_kinds.specs.declared.classes.Class.{Class}
+
+abbrev pub class_prefix : List ℕ
+class_prefix = codes "CLASS"
+
+abbrev pub class_rows : List Row
+class_rows =
+    code_row 1 (codes "IN") ∷
+    code_row 3 (codes "CH") ∷
+    code_row 4 (codes "HS") ∷
+    []
+
+-- a class's name in any case of its letters, or `CLASS` and its code
+abbrev pub SpellsClass : List ℕ → Class → Type 0
+SpellsClass text c = SpellsCode class_rows class_prefix 65535 text c.0
+
+abbrev pub class_text : Class → List ℕ
+class_text c = code_text class_rows class_prefix c.0
+
+abbrev pub ClassesAreKind : Type 0
+ClassesAreKind = IsKind (λ c. c.0 < 2 ^ 16) SpellsClass class_text

@@ -1,0 +1,29 @@
+-- Octets as pairs of hexadecimal digits.
+use Rattle.std.specs.Prelude.{ℕ, ◌≡◌, ◌<◌, ◌+◌, ◌-◌, ◌*◌, ◌/◌, ◌%◌, List, [], ◌∷◌, ◌++◌, length, MatchBool, Bool, slice_index, nat_lt, if◌then◌else◌}
+use Rattle.std.specs.Char.{digit_value}
+
+-- two hexadecimal digits at a place of a text, and the octet that they write
+pub record IsPair (text : List ℕ) (at octet : ℕ) : Type 0 where
+  pub high : digit_value (slice_index text at) < 16
+  pub low : digit_value (slice_index text (at + 1)) < 16
+  pub value : octet ≡ digit_value (slice_index text at) * 16 + digit_value (slice_index text (at + 1))
+
+-- a pair for each octet, with nothing between them
+pub record IsHex (text octets : List ℕ) : Type 0 where
+  pub whole : length text ≡ 2 * length octets
+  pub pairs : (k : ℕ) → k < length octets → IsPair text (2 * k) (slice_index octets k)
+
+-- the digit of a number below sixteen, by the letter for ten
+abbrev pub pair_digit : ℕ → ℕ → ℕ
+pair_digit ten n = if nat_lt n 10 then 48 + n else ten + (n - 10)
+
+abbrev pub pair_text : ℕ → ℕ → List ℕ
+pair_text ten octet = pair_digit ten (octet / 16) ∷ pair_digit ten (octet % 16) ∷ []
+
+abbrev pub pairs_text : List ℕ → List ℕ
+pairs_text [] = []
+pairs_text (o ∷ os) = pair_text 65 o ++ pairs_text os
+
+-- the octets that a text writes were written over others, or it writes no octets of that number
+abbrev pub WritesOctets : (List ℕ → List ℕ → Type 0) → ℕ → List ℕ → List ℕ → Bool → Type 0
+WritesOctets writes count text now r = MatchBool r (writes text now) ((octets : List ℕ) → length octets ≡ count → writes text octets → ⊥)

@@ -1,0 +1,14 @@
+pub mod Addresses
+pub mod Algorithms
+pub mod Classes
+pub mod Eui
+pub mod Hex
+pub mod Kind
+pub mod KindError
+pub mod Numbers
+pub mod Registry
+pub mod Rows
+pub mod Salt
+pub mod Time
+pub mod Ttl
+pub mod Types

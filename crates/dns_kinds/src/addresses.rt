@@ -1,0 +1,67 @@
+//! Addresses of IPv4 and IPv6 (RFC 1035 section 3.4.1, RFC 3596).
+ghost use Rattle.std.specs.Prelude.{◌≡◌, Some};
+ghost use Rattle.std.specs.Net.Addr.{ipv6_segments};
+ghost use Rattle.std.specs.Net.Grammar.{IsIpv4Text, IsIpv6Text};
+ghost use Rattle.dns_kinds.specs.Kind.{ReadsKind};
+ghost use Rattle.dns_kinds.specs.Addresses.{has_ipv4_end, shown_ipv6, Ipv4IsKind, Ipv6IsKind};
+ghost use Rattle.dns_kinds.specs.declared.error.KindError.TheVariants.{ExpectedIpv4, ExpectedIpv6};
+
+use crate::error::KindError;
+use std::fmt;
+use std::net::{Ipv4Addr, Ipv6Addr};
+
+/// The address that a text writes: four decimal numbers without leading zeros, and dots.
+pub fn ipv4_from_text(text: &[u8]) -> Result<Ipv4Addr, KindError>
+    ensures { ReadsKind IsIpv4Text ExpectedIpv4 text.now result }
+{
+    match Ipv4Addr::parse_ascii(text) {
+        Ok(address) => Ok(address),
+        Err(_) => Err(KindError::ExpectedIpv4),
+    }
+}
+
+/// The address that a text writes (RFC 4291 section 2.2).
+pub fn ipv6_from_text(text: &[u8]) -> Result<Ipv6Addr, KindError>
+    ensures { ReadsKind IsIpv6Text ExpectedIpv6 text.now result }
+{
+    match Ipv6Addr::parse_ascii(text) {
+        Ok(address) => Ok(address),
+        Err(_) => Err(KindError::ExpectedIpv6),
+    }
+}
+
+/// Whether all segments but the last two are zero, and these are above 1.
+fn has_ipv4_end(segments: &[u16; 8]) -> bool
+    ensures { result ≡ has_ipv4_end segments.now }
+{
+    let [a, b, c, d, e, f, g, h] = *segments;
+    let begin = [a, b, c, d, e, f];
+    let end = u32::from(g) * 65536 + u32::from(h);
+    begin == [0; 6] && end > 1
+}
+
+/// An IPv6 address that prints as name servers print it: as RFC 5952 has it, but with an IPv4
+/// address at the end where all other bits are zero, as in `::192.0.2.1`.
+#[derive(Clone, Copy)]
+pub struct Ipv6Shown(pub Ipv6Addr);
+
+impl fmt::Display for Ipv6Shown {
+    ghost output = { λ a. Some (shown_ipv6 (ipv6_segments a.0)) };
+
+    fn fmt<W: fmt::Write>(&self, f: &mut fmt::Formatter<W>) -> fmt::Result {
+        let segments = self.0.segments();
+        if !has_ipv4_end(&segments) {
+            return write!(f, "{}", self.0);
+        }
+        let [.., g, h] = segments;
+        let [a, b] = g.to_be_bytes();
+        let [c, d] = h.to_be_bytes();
+        write!(f, "::{a}.{b}.{c}.{d}")
+    }
+}
+
+/// States that addresses are read as they are printed, and does nothing else.
+pub fn addresses_are_read_back()
+    ensures ipv4 { Ipv4IsKind }
+    ensures ipv6 { Ipv6IsKind }
+{}

@@ -1,0 +1,129 @@
+//! Algorithms of keys and signatures (RFC 4034 appendix A.1), and types of certificates (RFC 4398).
+ghost use Rattle.std.specs.Prelude.{◌≡◌, Some, option_copied};
+ghost use Rattle.dns_kinds.specs.Kind.{ReadsKind};
+ghost use Rattle.dns_kinds.specs.Registry.{row_name};
+ghost use Rattle.dns_kinds.specs.Algorithms.{algorithm_rows, certificate_rows, SpellsAlgorithm, algorithm_text, AlgorithmsAreKind, SpellsCertificate, certificate_text, CertificatesAreKind, NumbersOfAlgorithmsAreKind};
+ghost use Rattle.dns_kinds.specs.declared.error.KindError.TheVariants.{UnknownAlgorithm, UnknownCertificate};
+
+use crate::error::KindError;
+use crate::registry::{Named, code_from_text, name_of};
+use std::fmt;
+
+/// The algorithms that have a name. 0 is written as a number alone.
+pub static ALGORITHMS: [Named; 18] = [
+    Named(1, "RSAMD5"),
+    Named(2, "DH"),
+    Named(3, "DSA"),
+    Named(5, "RSASHA1"),
+    Named(6, "DSA-NSEC3-SHA1"),
+    Named(7, "RSASHA1-NSEC3-SHA1"),
+    Named(8, "RSASHA256"),
+    Named(10, "RSASHA512"),
+    Named(12, "ECC-GOST"),
+    Named(13, "ECDSAP256SHA256"),
+    Named(14, "ECDSAP384SHA384"),
+    Named(15, "ED25519"),
+    Named(16, "ED448"),
+    Named(17, "SM2SM3"),
+    Named(23, "ECC-GOST12"),
+    Named(252, "INDIRECT"),
+    Named(253, "PRIVATEDNS"),
+    Named(254, "PRIVATEOID"),
+];
+
+/// The types of certificates that have a name.
+pub static CERTIFICATES: [Named; 10] = [
+    Named(1, "PKIX"),
+    Named(2, "SPKI"),
+    Named(3, "PGP"),
+    Named(4, "IPKIX"),
+    Named(5, "ISPKI"),
+    Named(6, "IPGP"),
+    Named(7, "ACPKIX"),
+    Named(8, "IACPKIX"),
+    Named(253, "URI"),
+    Named(254, "OID"),
+];
+
+/// An algorithm, by its number. It prints as its name or, without one, as the number; in most types
+/// of records it is the number that is printed.
+#[derive(Clone, Copy, Debug, PartialEq, Eq)]
+pub struct Algorithm(pub u8);
+
+impl Algorithm {
+    /// The algorithm that a text names, in any case of its letters, or by its number.
+    pub fn from_text(text: &[u8]) -> Result<Algorithm, KindError>
+        ensures { ReadsKind SpellsAlgorithm UnknownAlgorithm text.now result }
+    {
+        match code_from_text(&ALGORITHMS, "", 255, text, KindError::UnknownAlgorithm) {
+            Ok(code) => Ok(Algorithm(code as u8)),
+            Err(why) => Err(why),
+        }
+    }
+
+    /// The name of the algorithm, if it has one.
+    pub fn name(&self) -> Option<&'static str>
+        ensures { option_copied result ≡ row_name algorithm_rows self.now.0 }
+    {
+        name_of(&ALGORITHMS, u16::from(self.0))
+    }
+}
+
+impl fmt::Display for Algorithm {
+    ghost output = { λ a. Some (algorithm_text a) };
+
+    fn fmt<W: fmt::Write>(&self, f: &mut fmt::Formatter<W>) -> fmt::Result {
+        match self.name() {
+            Some(name) => f.write_str(name),
+            None => write!(f, "{}", self.0),
+        }
+    }
+}
+
+/// A type of certificates, by its number. It prints as its name or, without one, as the number.
+#[derive(Clone, Copy, Debug, PartialEq, Eq)]
+pub struct CertificateType(pub u16);
+
+impl CertificateType {
+    /// The type that a text names, in any case of its letters, or by its number.
+    pub fn from_text(text: &[u8]) -> Result<CertificateType, KindError>
+        ensures { ReadsKind SpellsCertificate UnknownCertificate text.now result }
+    {
+        match code_from_text(
+            &CERTIFICATES,
+            "",
+            u16::MAX,
+            text,
+            KindError::UnknownCertificate,
+        ) {
+            Ok(code) => Ok(CertificateType(code)),
+            Err(why) => Err(why),
+        }
+    }
+
+    /// The name of the type, if it has one.
+    pub fn name(&self) -> Option<&'static str>
+        ensures { option_copied result ≡ row_name certificate_rows self.now.0 }
+    {
+        name_of(&CERTIFICATES, self.0)
+    }
+}
+
+impl fmt::Display for CertificateType {
+    ghost output = { λ t. Some (certificate_text t) };
+
+    fn fmt<W: fmt::Write>(&self, f: &mut fmt::Formatter<W>) -> fmt::Result {
+        match self.name() {
+            Some(name) => f.write_str(name),
+            None => write!(f, "{}", self.0),
+        }
+    }
+}
+
+/// States that algorithms and types of certificates are read as they are printed, an algorithm also
+/// where its number is printed, and does nothing else.
+pub fn algorithms_are_read_back()
+    ensures algorithms { AlgorithmsAreKind }
+    ensures numbers { NumbersOfAlgorithmsAreKind }
+    ensures certificates { CertificatesAreKind }
+{}

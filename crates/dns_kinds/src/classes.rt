@@ -1,0 +1,52 @@
+//! The classes of records (RFC 1035 section 3.2.4, RFC 3597 section 5).
+ghost use Rattle.std.specs.Prelude.{◌≡◌, Some, option_copied};
+ghost use Rattle.dns_kinds.specs.Kind.{ReadsKind};
+ghost use Rattle.dns_kinds.specs.Registry.{row_name};
+ghost use Rattle.dns_kinds.specs.Classes.{class_rows, SpellsClass, class_text, ClassesAreKind};
+ghost use Rattle.dns_kinds.specs.declared.error.KindError.TheVariants.{UnknownClass};
+
+use crate::error::KindError;
+use crate::registry::{Named, code_from_text, name_of};
+use std::fmt;
+
+/// The classes that have a name.
+pub static CLASSES: [Named; 3] = [Named(1, "IN"), Named(3, "CH"), Named(4, "HS")];
+
+/// A class of records, by its code. It prints as its name or, without one, as `CLASS` and the code.
+#[derive(Clone, Copy, Debug, PartialEq, Eq)]
+pub struct Class(pub u16);
+
+impl Class {
+    /// The class that a text names, in any case of its letters: `IN` or `CLASS1`.
+    pub fn from_text(text: &[u8]) -> Result<Class, KindError>
+        ensures { ReadsKind SpellsClass UnknownClass text.now result }
+    {
+        match code_from_text(&CLASSES, "CLASS", u16::MAX, text, KindError::UnknownClass) {
+            Ok(code) => Ok(Class(code)),
+            Err(why) => Err(why),
+        }
+    }
+
+    /// The name of the class, if it has one.
+    pub fn name(&self) -> Option<&'static str>
+        ensures { option_copied result ≡ row_name class_rows self.now.0 }
+    {
+        name_of(&CLASSES, self.0)
+    }
+}
+
+impl fmt::Display for Class {
+    ghost output = { λ c. Some (class_text c) };
+
+    fn fmt<W: fmt::Write>(&self, f: &mut fmt::Formatter<W>) -> fmt::Result {
+        match self.name() {
+            Some(name) => f.write_str(name),
+            None => write!(f, "CLASS{}", self.0),
+        }
+    }
+}
+
+/// States that a class is read as it is printed, and does nothing else.
+pub fn classes_are_read_back()
+    ensures { ClassesAreKind }
+{}

@@ -1,0 +1,132 @@
+//! Identifiers of 48 and 64 bits, as pairs of hexadecimal digits with dashes (RFC 7043).
+ghost use Rattle.std.specs.Prelude.{◌≡◌, ◌≤◌, ◌+◌, ◌*◌, ◌↔◌, length, IsTrue, Some};
+ghost use Rattle.dns_kinds.specs.Hex.{WritesOctets};
+ghost use Rattle.dns_kinds.specs.Kind.{ReadsKind};
+ghost use Rattle.dns_kinds.specs.Eui.{AreDashes, IsDashed, dashed_text, SpellsEui48, SpellsEui64, EuisAreKind};
+ghost use Rattle.dns_kinds.specs.declared.error.KindError.TheVariants.{ExpectedEui48, ExpectedEui64};
+
+use crate::error::KindError;
+use crate::hex::{digits_of, octet_of};
+use std::fmt;
+
+/// Whether a dash stands before each pair of digits but the first.
+fn has_dashes(text: &[u8], pairs: usize) -> bool
+    requires few { pairs ≤ 8 }
+    requires whole { length text.now + 1 ≡ 3 * pairs }
+    ensures { IsTrue result ↔ AreDashes text.now pairs }
+{
+    for pair in 1..pairs {
+        if text[3 * pair - 1] != b'-' {
+            return false;
+        }
+    }
+    true
+}
+
+/// Writes the octets of a text of hexadecimal digits and dashes over others, as many as there are.
+fn dashed_into(text: &[u8], octets: &mut [u8]) -> bool
+    requires { length octets.old ≤ 8 }
+    ensures { WritesOctets IsDashed (length octets.old) text.now octets.new result }
+{
+    if text.len() + 1 != 3 * octets.len() || !has_dashes(text, octets.len()) {
+        return false;
+    }
+    for (index, octet) in octets.iter_mut().enumerate() {
+        match octet_of(text[3 * index], text[3 * index + 1]) {
+            Some(value) => *octet = value,
+            None => return false,
+        }
+    }
+    true
+}
+
+/// An EUI-48. It prints in small letters.
+#[derive(Clone, Copy, Debug, PartialEq, Eq)]
+pub struct Eui48(pub [u8; 6]);
+
+/// An EUI-64. It prints in small letters.
+#[derive(Clone, Copy, Debug, PartialEq, Eq)]
+pub struct Eui64(pub [u8; 8]);
+
+impl Eui48 {
+    /// The identifier that a text writes, with letters in either case: `00-00-5e-00-53-2a`.
+    pub fn from_text(text: &[u8]) -> Result<Eui48, KindError>
+        ensures { ReadsKind SpellsEui48 ExpectedEui48 text.now result }
+    {
+        let mut octets = [0; 6];
+        if dashed_into(text, &mut octets) {
+            Ok(Eui48(octets))
+        } else {
+            Err(KindError::ExpectedEui48)
+        }
+    }
+}
+
+impl Eui64 {
+    /// The identifier that a text writes, with letters in either case: `00-00-5e-ef-10-00-00-2a`.
+    pub fn from_text(text: &[u8]) -> Result<Eui64, KindError>
+        ensures { ReadsKind SpellsEui64 ExpectedEui64 text.now result }
+    {
+        let mut octets = [0; 8];
+        if dashed_into(text, &mut octets) {
+            Ok(Eui64(octets))
+        } else {
+            Err(KindError::ExpectedEui64)
+        }
+    }
+}
+
+/// xx-xx-xx-xx-xx-xx.
+fn eui48_text(octets: [u8; 6]) -> [u8; 17]
+    ensures { result ≡ dashed_text octets }
+{
+    let [a, b] = digits_of(octets[0], b'a');
+    let [c, d] = digits_of(octets[1], b'a');
+    let [e, f] = digits_of(octets[2], b'a');
+    let [g, h] = digits_of(octets[3], b'a');
+    let [i, j] = digits_of(octets[4], b'a');
+    let [k, l] = digits_of(octets[5], b'a');
+    [
+        a, b, b'-', c, d, b'-', e, f, b'-', g, h, b'-', i, j, b'-', k, l,
+    ]
+}
+
+/// xx-xx-xx-xx-xx-xx-xx-xx.
+fn eui64_text(octets: [u8; 8]) -> [u8; 23]
+    ensures { result ≡ dashed_text octets }
+{
+    let [a, b] = digits_of(octets[0], b'a');
+    let [c, d] = digits_of(octets[1], b'a');
+    let [e, f] = digits_of(octets[2], b'a');
+    let [g, h] = digits_of(octets[3], b'a');
+    let [i, j] = digits_of(octets[4], b'a');
+    let [k, l] = digits_of(octets[5], b'a');
+    let [m, n] = digits_of(octets[6], b'a');
+    let [o, p] = digits_of(octets[7], b'a');
+    [
+        a, b, b'-', c, d, b'-', e, f, b'-', g, h, b'-', i, j, b'-', k, l, b'-', m, n, b'-', o, p,
+    ]
+}
+
+impl fmt::Display for Eui48 {
+    ghost output = { λ e. Some (dashed_text e.0) };
+
+    fn fmt<W: fmt::Write>(&self, f: &mut fmt::Formatter<W>) -> fmt::Result {
+        let text = eui48_text(self.0);
+        f.write_str(str::from_utf8(&text).map_err(|_| fmt::Error)?)
+    }
+}
+
+impl fmt::Display for Eui64 {
+    ghost output = { λ e. Some (dashed_text e.0) };
+
+    fn fmt<W: fmt::Write>(&self, f: &mut fmt::Formatter<W>) -> fmt::Result {
+        let text = eui64_text(self.0);
+        f.write_str(str::from_utf8(&text).map_err(|_| fmt::Error)?)
+    }
+}
+
+/// States that identifiers are read as they are printed, and does nothing else.
+pub fn euis_are_read_back()
+    ensures { EuisAreKind }
+{}

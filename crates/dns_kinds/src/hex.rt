@@ -1,0 +1,81 @@
+//! Octets as pairs of hexadecimal digits.
+ghost use Rattle.std.specs.Prelude.{◌≡◌, ◌<◌, ◌+◌, ◌*◌, length, SomeIff};
+ghost use Rattle.std.specs.Char.{digit_value};
+ghost use Rattle.std.specs.Fmt.{WritesOnOk};
+ghost use Rattle.dns_kinds.specs.Hex.{pair_digit, IsHex, WritesOctets, pair_text, pairs_text};
+
+use std::fmt;
+
+/// The value of a hexadecimal digit, in either case.
+fn value_of(digit: u8) -> Option<u8>
+    ensures { SomeIff result (digit_value digit < 16) (digit_value digit) }
+{
+    match digit {
+        b'0'..=b'9' => Some(digit - b'0'),
+        b'A'..=b'F' => Some(digit - b'A' + 10),
+        b'a'..=b'f' => Some(digit - b'a' + 10),
+        _ => None,
+    }
+}
+
+/// The octet that two hexadecimal digits write.
+pub(crate) fn octet_of(high: u8, low: u8) -> Option<u8>
+    ensures { SomeIff result ((digit_value high < 16) × (digit_value low < 16)) (digit_value high * 16 + digit_value low) }
+{
+    Some(value_of(high)? * 16 + value_of(low)?)
+}
+
+/// Writes the octets of a text of hexadecimal digits over others, as many as there are.
+pub(crate) fn hex_into(text: &[u8], octets: &mut [u8]) -> bool
+    ensures { WritesOctets IsHex (length octets.old) text.now octets.new result }
+{
+    if text.len() % 2 != 0 || text.len() / 2 != octets.len() {
+        return false;
+    }
+    for (index, octet) in octets.iter_mut().enumerate() {
+        match octet_of(text[2 * index], text[2 * index + 1]) {
+            Some(value) => *octet = value,
+            None => return false,
+        }
+    }
+    true
+}
+
+/// A hexadecimal digit, by its letter for ten.
+fn digit_of(number: u8, ten: u8) -> u8
+    requires number { number < 16 }
+    requires letter { ten < 100 }
+    ensures { result ≡ pair_digit ten number }
+{
+    if number < 10 {
+        b'0' + number
+    } else {
+        ten + (number - 10)
+    }
+}
+
+/// The two digits of an octet, by the letter for ten.
+pub(crate) fn digits_of(octet: u8, ten: u8) -> [u8; 2]
+    requires { ten < 100 }
+    ensures { result ≡ pair_text ten octet }
+{
+    [digit_of(octet / 16, ten), digit_of(octet % 16, ten)]
+}
+
+/// Writes an octet as a pair of digits, in capital letters.
+fn write_pair<W: fmt::Write>(octet: u8, f: &mut fmt::Formatter<W>) -> fmt::Result
+    ensures { WritesOnOk W.write_str_gives f.old result (pair_text 65 octet) f.new }
+{
+    let pair = digits_of(octet, b'A');
+    f.write_str(str::from_utf8(&pair).map_err(|_| fmt::Error)?)
+}
+
+/// Writes octets as pairs of digits, in capital letters.
+pub(crate) fn write_hex<W: fmt::Write>(octets: &[u8], f: &mut fmt::Formatter<W>) -> fmt::Result
+    ensures { WritesOnOk W.write_str_gives f.old result (pairs_text octets.now) f.new }
+{
+    for octet in octets {
+        write_pair(*octet, f)?;
+    }
+    Ok(())
+}

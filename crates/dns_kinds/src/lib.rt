@@ -1,0 +1,29 @@
+//! Kinds of fields in record data, each one word of zone text: which texts spell a value, and how it
+//! is printed.
+//!
+//! A kind is read from the octets of a word, as they stand: no kind has quotes or escapes.
+#![tactic(auto)]
+
+pub mod addresses;
+pub mod algorithms;
+pub mod classes;
+pub mod error;
+pub mod eui;
+mod hex;
+pub mod numbers;
+pub mod registry;
+pub mod salt;
+pub mod time;
+pub mod ttl;
+pub mod types;
+
+pub use addresses::{Ipv6Shown, ipv4_from_text, ipv6_from_text};
+pub use algorithms::{Algorithm, CertificateType};
+pub use classes::Class;
+pub use error::KindError;
+pub use eui::{Eui48, Eui64};
+pub use numbers::{u8_from_text, u16_from_text, u32_from_text};
+pub use salt::Salt;
+pub use time::Date;
+pub use ttl::{interval_from_text, ttl_from_text};
+pub use types::RecordType;

@@ -1,0 +1,150 @@
+//! The types of records (RFC 1035 section 3.2.2, IANA's registry, RFC 3597 section 5).
+ghost use Rattle.std.specs.Prelude.{◌≡◌, Some, option_copied};
+ghost use Rattle.dns_kinds.specs.Kind.{ReadsKind};
+ghost use Rattle.dns_kinds.specs.Registry.{row_name};
+ghost use Rattle.dns_kinds.specs.Types.{type_rows, SpellsType, type_text, TypesAreKind};
+ghost use Rattle.dns_kinds.specs.declared.error.KindError.TheVariants.{UnknownType};
+
+use crate::error::KindError;
+use crate::registry::{Named, code_from_text, name_of};
+use std::fmt;
+
+/// The types that have a name. `ANY` is how the registry's `*` is written.
+pub static TYPES: [Named; 97] = [
+    Named(1, "A"),
+    Named(2, "NS"),
+    Named(3, "MD"),
+    Named(4, "MF"),
+    Named(5, "CNAME"),
+    Named(6, "SOA"),
+    Named(7, "MB"),
+    Named(8, "MG"),
+    Named(9, "MR"),
+    Named(10, "NULL"),
+    Named(11, "WKS"),
+    Named(12, "PTR"),
+    Named(13, "HINFO"),
+    Named(14, "MINFO"),
+    Named(15, "MX"),
+    Named(16, "TXT"),
+    Named(17, "RP"),
+    Named(18, "AFSDB"),
+    Named(19, "X25"),
+    Named(20, "ISDN"),
+    Named(21, "RT"),
+    Named(22, "NSAP"),
+    Named(23, "NSAP-PTR"),
+    Named(24, "SIG"),
+    Named(25, "KEY"),
+    Named(26, "PX"),
+    Named(27, "GPOS"),
+    Named(28, "AAAA"),
+    Named(29, "LOC"),
+    Named(30, "NXT"),
+    Named(31, "EID"),
+    Named(32, "NIMLOC"),
+    Named(33, "SRV"),
+    Named(34, "ATMA"),
+    Named(35, "NAPTR"),
+    Named(36, "KX"),
+    Named(37, "CERT"),
+    Named(38, "A6"),
+    Named(39, "DNAME"),
+    Named(40, "SINK"),
+    Named(41, "OPT"),
+    Named(42, "APL"),
+    Named(43, "DS"),
+    Named(44, "SSHFP"),
+    Named(45, "IPSECKEY"),
+    Named(46, "RRSIG"),
+    Named(47, "NSEC"),
+    Named(48, "DNSKEY"),
+    Named(49, "DHCID"),
+    Named(50, "NSEC3"),
+    Named(51, "NSEC3PARAM"),
+    Named(52, "TLSA"),
+    Named(53, "SMIMEA"),
+    Named(55, "HIP"),
+    Named(56, "NINFO"),
+    Named(57, "RKEY"),
+    Named(58, "TALINK"),
+    Named(59, "CDS"),
+    Named(60, "CDNSKEY"),
+    Named(61, "OPENPGPKEY"),
+    Named(62, "CSYNC"),
+    Named(63, "ZONEMD"),
+    Named(64, "SVCB"),
+    Named(65, "HTTPS"),
+    Named(66, "DSYNC"),
+    Named(67, "HHIT"),
+    Named(68, "BRID"),
+    Named(99, "SPF"),
+    Named(100, "UINFO"),
+    Named(101, "UID"),
+    Named(102, "GID"),
+    Named(103, "UNSPEC"),
+    Named(104, "NID"),
+    Named(105, "L32"),
+    Named(106, "L64"),
+    Named(107, "LP"),
+    Named(108, "EUI48"),
+    Named(109, "EUI64"),
+    Named(128, "NXNAME"),
+    Named(249, "TKEY"),
+    Named(250, "TSIG"),
+    Named(251, "IXFR"),
+    Named(252, "AXFR"),
+    Named(253, "MAILB"),
+    Named(254, "MAILA"),
+    Named(255, "ANY"),
+    Named(256, "URI"),
+    Named(257, "CAA"),
+    Named(258, "AVC"),
+    Named(259, "DOA"),
+    Named(260, "AMTRELAY"),
+    Named(261, "RESINFO"),
+    Named(262, "WALLET"),
+    Named(263, "CLA"),
+    Named(264, "IPN"),
+    Named(32768, "TA"),
+    Named(32769, "DLV"),
+];
+
+/// A type of records, by its code. It prints as its name or, without one, as `TYPE` and the code.
+#[derive(Clone, Copy, Debug, PartialEq, Eq)]
+pub struct RecordType(pub u16);
+
+impl RecordType {
+    /// The type that a text names, in any case of its letters: `MX` or `TYPE15`.
+    pub fn from_text(text: &[u8]) -> Result<RecordType, KindError>
+        ensures { ReadsKind SpellsType UnknownType text.now result }
+    {
+        match code_from_text(&TYPES, "TYPE", u16::MAX, text, KindError::UnknownType) {
+            Ok(code) => Ok(RecordType(code)),
+            Err(why) => Err(why),
+        }
+    }
+
+    /// The name of the type, if it has one.
+    pub fn name(&self) -> Option<&'static str>
+        ensures { option_copied result ≡ row_name type_rows self.now.0 }
+    {
+        name_of(&TYPES, self.0)
+    }
+}
+
+impl fmt::Display for RecordType {
+    ghost output = { λ t. Some (type_text t) };
+
+    fn fmt<W: fmt::Write>(&self, f: &mut fmt::Formatter<W>) -> fmt::Result {
+        match self.name() {
+            Some(name) => f.write_str(name),
+            None => write!(f, "TYPE{}", self.0),
+        }
+    }
+}
+
+/// States that a type is read as it is printed, and does nothing else.
+pub fn types_are_read_back()
+    ensures { TypesAreKind }
+{}

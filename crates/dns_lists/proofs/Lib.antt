@@ -1,0 +1,12 @@
+pub mod Bits
+pub mod Trimmed
+pub mod Blocks
+pub mod Windows
+pub mod Taking
+pub mod Telling
+pub mod Entries
+pub mod Reading
+pub mod Checking
+pub mod Items
+pub mod Printing
+pub mod Queries

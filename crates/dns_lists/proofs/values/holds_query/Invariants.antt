@@ -1,0 +1,10 @@
+use Rattle.std.proofs.Common.{length}
+use Rattle.dns_lists.specs.Values.{HoldsQuery}
+use Rattle.dns_lists.proofs.Checking.{Exactly}
+use Rattle.dns_lists.proofs.values.holds_query.Given as goal
+
+abbrev pub invariant-loop-rest : goal.invariant-loop-rest
+invariant-loop-rest l = Exactly (HoldsQuery l.rest) (HoldsQuery l.octets)
+
+abbrev pub decreases-loop-rest : goal.decreases-loop-rest
+decreases-loop-rest l = length l.rest

@@ -1,0 +1,33 @@
+-- Worked rows of the definitions, each computed.
+use Rattle.std.specs.Prelude.{◌≡◌, [], ◌∷◌, ◌++◌, codes, refl}
+use Rattle.dns_lists.specs.Bitmap.{types_octet, window_octets_of, trimmed, window_block}
+use Rattle.dns_lists.specs.Params.{param}
+use Rattle.dns_lists.specs.Texts.{item_octet, list_text, wire_strings}
+
+-- the example of RFC 4034 section 4.3: A, MX, RRSIG and NSEC in the first window, TYPE1234 in the
+-- fifth
+first_window : window_block 0 (trimmed (window_octets_of (1 ∷ 15 ∷ 46 ∷ 47 ∷ 1234 ∷ []) 0)) ≡ 0 ∷ 6 ∷ 64 ∷ 1 ∷ 0 ∷ 0 ∷ 0 ∷ 3 ∷ []
+unfolding types_octet window_octets_of trimmed
+first_window = refl
+
+fifth_window : window_block 4 (trimmed (window_octets_of (1 ∷ 15 ∷ 46 ∷ 47 ∷ 1234 ∷ []) 4)) ≡ 4 ∷ 27 ∷ 0 ∷ 0 ∷ 0 ∷ 0 ∷ 0 ∷ 0 ∷ 0 ∷ 0 ∷ 0 ∷ 0 ∷ 0 ∷ 0 ∷ 0 ∷ 0 ∷ 0 ∷ 0 ∷ 0 ∷ 0 ∷ 0 ∷ 0 ∷ 0 ∷ 0 ∷ 0 ∷ 0 ∷ 0 ∷ 0 ∷ 32 ∷ []
+unfolding types_octet window_octets_of trimmed
+fifth_window = refl
+
+-- no type, no block
+empty_window : window_block 7 (trimmed (window_octets_of [] 7)) ≡ []
+unfolding types_octet window_octets_of trimmed
+empty_window = refl
+
+-- port 53
+port : param 3 (0 ∷ 53 ∷ []) ≡ 0 ∷ 3 ∷ 0 ∷ 2 ∷ 0 ∷ 53 ∷ []
+unfolding param
+port = refl
+
+-- the example of RFC 9460 appendix D.2, behind the escapes of its character string
+list : list_text (codes "f\\oo,bar" ∷ codes "h2" ∷ []) ≡ codes "f\\\\oo\\,bar,h2"
+unfolding item_octet
+list = refl
+
+strings : wire_strings (codes "h2" ∷ codes "h3-19" ∷ []) ≡ 2 ∷ codes "h2" ++ (5 ∷ codes "h3-19")
+strings = refl

@@ -1,0 +1,42 @@
+-- A list of strings as text, behind the escapes of a character string (RFC 9460 appendix A.1).
+use Rattle.std.specs.Prelude.{◌≡◌, ◌≢◌, ℕ, ◌<◌, ◌==◌, ◌||◌, Bool, cond, List, [], ◌∷◌, ◌++◌, length, All}
+use Rattle.std.specs.List.{flat_map}
+
+-- a comma and a backslash stand behind a backslash
+abbrev pub is_special : ℕ → Bool
+is_special octet = (octet == 44) || (octet == 92)
+
+unfoldable pub item_octet : ℕ → List ℕ
+item_octet octet = cond (is_special octet) (92 ∷ octet ∷ []) (octet ∷ [])
+
+abbrev pub item_text : List ℕ → List ℕ
+item_text item = flat_map item_octet item
+
+-- each item behind a comma
+abbrev pub later_text : List (List ℕ) → List ℕ
+later_text items = flat_map (λ item. 44 ∷ item_text item) items
+
+-- the first item, and each other one behind a comma
+abbrev pub list_text : List (List ℕ) → List ℕ
+list_text [] = []
+list_text (item ∷ items) = item_text item ++ later_text items
+
+-- each string behind its length
+abbrev pub wire_strings : List (List ℕ) → List ℕ
+wire_strings items = flat_map (λ item. length item ∷ item) items
+
+abbrev pub IsItem : List ℕ → Type 0
+IsItem item = (0 < length item) × (length item < 256)
+
+-- one string or more, each of 1 to 255 octets
+pub record IsList (items : List (List ℕ)) : Type 0 where
+  pub some : items ≢ []
+  pub each : All IsItem items
+
+-- nothing that stands for an octet of an item is in front
+abbrev pub EndsItem : List ℕ → Type 0
+EndsItem rest = (octet : ℕ) (more : List ℕ) → rest ≢ item_octet octet ++ more
+
+-- the text is that of an item, and then the rest
+abbrev pub SplitsItem : List ℕ → List ℕ → List ℕ → Type 0
+SplitsItem text item rest = (text ≡ item_text item ++ rest) × EndsItem rest

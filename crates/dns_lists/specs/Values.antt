@@ -1,0 +1,33 @@
+-- What a value of a service parameter has to be (RFC 9460 sections 7 and 8).
+use Rattle.std.specs.Prelude.{◌≡◌, ◌≢◌, ℕ, ◌+◌, ◌*◌, ◌%◌, ◌<◌, List, [], ◌∷◌, ◌++◌, length, codes, All, IsSome}
+use Rattle.std.specs.List.{flat_map}
+use Rattle.dns_lists.specs.Params.{value_at}
+
+-- strings of 1 to 255 octets, each behind its length
+abbrev pub AreWireStrings : List ℕ → Type 0
+AreWireStrings octets = (strings : List (List ℕ)) × All (λ s. (0 < length s) × (length s < 256)) strings × (octets ≡ flat_map (λ s. length s ∷ s) strings)
+
+-- keys of two octets, each above the one before it and with a value
+abbrev pub AreKeys : List (ℕ × List ℕ) → ℕ → List ℕ → Type 0
+AreKeys params above [] = Unit {0}
+AreKeys params above (high ∷ []) = ⊥
+AreKeys params above (high ∷ low ∷ octets) = (above < 256 * high + low) × IsSome (value_at params (256 * high + low)) × AreKeys params (256 * high + low) octets
+
+-- one group of so many octets or more
+abbrev pub AreGroups : ℕ → List ℕ → Type 0
+AreGroups size octets = (0 < length octets) × (length octets % size ≡ 0)
+
+-- octets in which the variable of a query stands (RFC 9461 section 5)
+abbrev pub HoldsQuery : List ℕ → Type 0
+HoldsQuery octets = (front back : List ℕ) × (octets ≡ front ++ codes "{?dns}" ++ back)
+
+-- what the value of a key has to be, beside the other parameters
+pub record IsParamValue (params : List (ℕ × List ℕ)) (key : ℕ) (value : List ℕ) : Type 0 where
+  pub mandatory : key ≡ 0 → (value ≢ []) × AreKeys params 0 value
+  pub alpn : key ≡ 1 → (value ≢ []) × AreWireStrings value
+  pub no_default_alpn : key ≡ 2 → (value ≡ []) × IsSome (value_at params 1)
+  pub port : key ≡ 3 → length value ≡ 2
+  pub ipv4hint : key ≡ 4 → AreGroups 4 value
+  pub ech : key ≡ 5 → value ≢ []
+  pub ipv6hint : key ≡ 6 → AreGroups 16 value
+  pub dohpath : key ≡ 7 → HoldsQuery value
