@@ -14,7 +14,7 @@ use Rattle.zone_format.specs.declared.stand.Stand.{Stand}
 use Rattle.zone_format.specs.Columns.{moved_in}
 use Rattle.zone_format.specs.Form.{led_turn}
 use Rattle.zone_format.specs.Marks.{Mark, Token, Note, gap_mark, gap_marks, lead, lead_at, shortened}
-use Rattle.zone_format.specs.Writing.{Accepts, Advances, Fits, Goes, Moves, PushesNote, PushesToken, Reaches, WritesEnd, WritesNote, WritesToken, accepts, led, stands_after}
+use Rattle.zone_format.specs.Writing.{Accepts, Advances, LineFits, Goes, Moves, PushesNote, PushesToken, Reaches, WritesEnd, WritesNote, WritesToken, accepts, led, stands_after}
 use Rattle.zone_format.proofs.Going.{accepts_on, goes_on, lead_accepts, lead_goes, lead_stands, note_accepts, note_goes, stands_on, token_accepts, token_goes}
 
 -- octets between two pieces, one by one
@@ -39,7 +39,7 @@ gap_turn gap old mid new s t u i h a b =
 
 -- what stands between two pieces, and then something
 pub advanced : (octets : List ℕ) (ms : List Mark) (old mid new : List ℕ) (p : Progress) (s to : ℕ) (tied : Bool) (t u : Stand) → Moves (gap_marks octets p.at s) old p.stand (length (between octets p.at s)) mid t
-    → Goes ms mid t new u → Accepts ms t u → u ≡ stands_after t ms → Fits new u → u.depth ≡ t.depth → Reaches octets p → p.at ≤ s → s ≤ to → to ≤ length octets
+    → Goes ms mid t new u → Accepts ms t u → u ≡ stands_after t ms → LineFits new u → u.depth ≡ t.depth → Reaches octets p → p.at ≤ s → s ≤ to → to ≤ length octets
     → Advances octets (gap_marks octets p.at s ++ ms) old p to tied new (record { stand = u; at = to; is_token = tied })
 advanced octets ms old mid new p s to tied t u m g a k f d r o some w =
     let gs = gap_marks octets p.at s in
@@ -78,9 +78,9 @@ same_moved (Head m a b) = refl
 same_moved (Typed m) = refl
 same_moved Rest = refl
 
-led_fits : (b : Bool) (octets : List ℕ) (t u : Stand) → u ≡ (if b then led t else t) → Fits octets t → Fits octets u
-led_fits true octets t u e f = subst (Fits octets) (sym e) (record { moved = omega (arith, same_moved t.turn, f.moved); few = f.few })
-led_fits false octets t u e f = subst (Fits octets) (sym e) f
+led_fits : (b : Bool) (octets : List ℕ) (t u : Stand) → u ≡ (if b then led t else t) → LineFits octets t → LineFits octets u
+led_fits true octets t u e f = subst (LineFits octets) (sym e) (record { moved = omega (arith, same_moved t.turn, f.moved); few = f.few })
+led_fits false octets t u e f = subst (LineFits octets) (sym e) f
 
 led_depth : (b : Bool) (t u : Stand) → u ≡ (if b then led t else t) → u.depth ≡ t.depth
 led_depth true t u e = ap (λ (v : Stand). v.depth) e

@@ -8,12 +8,12 @@ use Rattle.zone_format.specs.declared.stand.Above.{Above}
 use Rattle.zone_format.specs.declared.stand.Above.TheVariants.{Nothing, Line, Gap}
 use Rattle.zone_format.specs.declared.stand.Seam.{Seam}
 use Rattle.zone_format.specs.declared.stand.Stand.{Stand}
-use Rattle.zone_format.specs.Blocks.{FormatsEntries, FormatsLast, FormedTo, WritesAll, below_seam, first_seam, may_follow, resting, seam_of}
+use Rattle.zone_format.specs.Blocks.{FormatsEntries, FormatsLast, FormedTo, WritesBelow, below_seam, first_seam, may_follow, resting, seam_of}
 use Rattle.zone_format.specs.Form.{form, forms, lines}
 use Rattle.zone_format.specs.Formats.{Formats}
 use Rattle.zone_format.specs.Marks.{Mark, Token, Note, Open, Close, Feed, Lead}
 use Rattle.zone_format.specs.Refusal.{has_form, mark_has_no_nul}
-use Rattle.zone_format.specs.Writing.{accepts, accepts_from, ended, fed, led, note_before, parenthesis_before, pushed_note, pushed_parenthesis, pushed_token, stands_after, token_before, written_from}
+use Rattle.zone_format.specs.Writing.{accepts, accepts_from, last_line_end, fed, led, note_before, parenthesis_before, pushed_note, pushed_parenthesis, pushed_token, stands_after, token_before, written_from}
 use Rattle.zone_format.proofs.Accepted.{accepted, settled}
 use Rattle.zone_format.proofs.Formed.{both, from_start}
 use Rattle.zone_format.proofs.Joined.{entries_join, entries_rest, marks_join, none_marked}
@@ -25,7 +25,7 @@ written_to s (Token glued t ∷ ms) = token_before s glued t ++ (t ++ written_to
 written_to s (Note t ∷ ms) = note_before s t ++ (t ++ written_to (pushed_note s t) ms)
 written_to s (Open ∷ ms) = parenthesis_before s ++ (open_parenthesis ∷ written_to (pushed_parenthesis s (s.depth + 1)) ms)
 written_to s (Close ∷ ms) = parenthesis_before s ++ (close_parenthesis ∷ written_to (pushed_parenthesis s (s.depth - 1)) ms)
-written_to s (Feed ∷ ms) = ended s ++ written_to (fed s) ms
+written_to s (Feed ∷ ms) = last_line_end s ++ written_to (fed s) ms
 written_to s (Lead ∷ ms) = written_to (led s) ms
 
 two : (a b c d e : List ℕ) → d ≡ c ++ e → a ++ (b ++ d) ≡ (a ++ (b ++ c)) ++ e
@@ -40,7 +40,7 @@ parted (Token g t ∷ ms) more s = two (token_before s g t) t _ _ _ (parted ms m
 parted (Note t ∷ ms) more s = two (note_before s t) t _ _ _ (parted ms more (pushed_note s t))
 parted (Open ∷ ms) more s = two (parenthesis_before s) (open_parenthesis ∷ []) _ _ _ (parted ms more (pushed_parenthesis s (s.depth + 1)))
 parted (Close ∷ ms) more s = two (parenthesis_before s) (close_parenthesis ∷ []) _ _ _ (parted ms more (pushed_parenthesis s (s.depth - 1)))
-parted (Feed ∷ ms) more s = one (ended s) _ _ _ (parted ms more (fed s))
+parted (Feed ∷ ms) more s = one (last_line_end s) _ _ _ (parted ms more (fed s))
 parted (Lead ∷ ms) more s = parted ms more (led s)
 
 -- and accepted
@@ -68,7 +68,7 @@ pub none_formed : FormedTo [] [] first_seam
 none_formed = record { marks = []; read = none_marked; entries = inl refl; formed = λ more. refl; fit = λ more. refl }
 
 -- one more block
-module _ (octets : List ℕ) (s : Seam) (old new : List ℕ) (t : Stand) (w : WritesAll octets s old new t) where
+module _ (octets : List ℕ) (s : Seam) (old new : List ℕ) (t : Stand) (w : WritesBelow octets s old new t) where
   abbrev here : List ℕ
   here = written_from (resting s) w.marks
 
@@ -83,13 +83,13 @@ module _ (octets : List ℕ) (s : Seam) (old new : List ℕ) (t : Stand) (w : Wr
       ∙ ap (λ u. accepts_from u more) (sym w.stand)
 
   -- all that is written of the marks
-  to_end : written_to (resting s) w.marks ++ ended t ≡ here
-  to_end = ap (λ u. written_to (resting s) w.marks ++ ended u) w.stand ∙ sym (parted w.marks [] (resting s)) ∙ ap (written_from (resting s)) (append-nil w.marks)
+  to_end : written_to (resting s) w.marks ++ last_line_end t ≡ here
+  to_end = ap (λ u. written_to (resting s) w.marks ++ last_line_end u) w.stand ∙ sym (parted w.marks [] (resting s)) ∙ ap (written_from (resting s)) (append-nil w.marks)
 
   pub formats_entries : FormatsEntries octets s old new (seam_of t)
   formats_entries e =
       let rest : t ≡ resting (seam_of t) = w.stand ∙ entries_rest octets w.marks (resting s) e w.read refl ∙ ap (λ u. resting (seam_of u)) (sym w.stand) in
-      let none : ended t ≡ [] = ap ended rest in
+      let none : last_line_end t ≡ [] = ap last_line_end rest in
       let all_is : written_to (resting s) w.marks ≡ here = sym (append-nil (written_to (resting s) w.marks)) ∙ ap (λ l. written_to (resting s) w.marks ++ l) (sym none) ∙ to_end in (
         here,
         sym (append-nil new) ∙ ap (λ l. new ++ l) (sym none) ∙ w.out,
@@ -103,7 +103,7 @@ module _ (octets : List ℕ) (s : Seam) (old new : List ℕ) (t : Stand) (w : Wr
         },
       )
 
-  pub formats_last : (last : List ℕ) → last ≡ new ++ ended t → FormatsLast octets s old last
+  pub formats_last : (last : List ℕ) → last ≡ new ++ last_line_end t → FormatsLast octets s old last
   formats_last last is = (
     here,
     is ∙ w.out,

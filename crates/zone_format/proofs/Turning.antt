@@ -15,8 +15,8 @@ use Rattle.zone_format.specs.declared.stand.Stand.{Stand}
 use Rattle.zone_format.specs.declared.stand.Seam.{Seam}
 use Rattle.zone_format.specs.Blocks.{resting}
 use Rattle.zone_format.specs.Marks.{Mark, Token, Note, Lead, gap_marks, lead, lead_at, marks, shortened}
-use Rattle.zone_format.specs.Refusal.{HasToken, IsRefused, IsUnfit, begins_order_mark}
-use Rattle.zone_format.specs.Writing.{Advances, Fits, Reaches, WritesEnd, WritesNote, WritesToken, accepts_from, led, stands_after, written_from}
+use Rattle.zone_format.specs.Refusal.{HasToken, IsWithoutForm, IsUnfit, begins_order_mark}
+use Rattle.zone_format.specs.Writing.{Advances, LineFits, Reaches, WritesEnd, WritesNote, WritesToken, accepts_from, led, stands_after, written_from}
 use Rattle.zone_format.proofs.Follow.{Follows}
 use Rattle.zone_format.proofs.Going.{stands_append}
 use Rattle.zone_format.proofs.Givens.{first_fault, pieces_in}
@@ -26,7 +26,7 @@ pub record Stays (octets : List ℕ) (all : List (Result Piece Fault)) (old : Li
   pub within : EachWithin (length octets) rest
   pub order : Follows p.at rest
   pub tokens : (s e : ℕ) → HasToken s e rest → HasToken s e all
-  pub fits : Fits new p.stand
+  pub fits : LineFits new p.stand
   pub reaches : Reaches octets p
   pub stand : stands_after p.stand (marks octets p.is_token p.at (pieces_in rest)) ≡ stands_after from.stand (marks octets from.is_token from.at (pieces_in all))
   pub out : new ++ written_from p.stand (marks octets p.is_token p.at (pieces_in rest)) ≡ old ++ written_from from.stand (marks octets from.is_token from.at (pieces_in all))
@@ -91,7 +91,7 @@ stays_end octets all old from x rest mid p new q h a =
 
 -- a token that may not be written
 pub unfit_refused : (octets : List ℕ) (s e : ℕ) (given : List (Result Piece Fault)) → IsGiven octets given → HasToken s e given → s ≤ e → e ≤ length octets
-    → (r : Refusal) → IsUnfit (between octets s e) s r → IsRefused octets r
+    → (r : Refusal) → IsUnfit (between octets s e) s r → IsWithoutForm octets r
 unfit_refused octets s e given i k o w (Wrong f) u = absurd u
 unfit_refused octets s e given i k o w (Nul at) u =
     let short : length (between octets s e) ≤ e - s = omega (arith, length-take (e - s) (drop s octets)) in
@@ -117,12 +117,12 @@ unfit_refused octets s e given i k o w OutOfMemory u = tt
 first_is : (b c : Bool) (s t z : Stand) → t ≡ z → s ≡ (if b then led t else t) → b ≡ c → s ≡ (if c then led z else z)
 first_is b c s t z e f g = f ∙ ap (λ y. if y then led t else t) g ∙ ap (λ x. if c then led x else x) e
 
-led_fits : (c : Bool) (octets : List ℕ) (m : Seam) → Fits octets (if c then led (resting m) else resting m)
+led_fits : (c : Bool) (octets : List ℕ) (m : Seam) → LineFits octets (if c then led (resting m) else resting m)
 led_fits true octets m = record { moved = omega arith; few = omega arith }
 led_fits false octets m = record { moved = omega arith; few = omega arith }
 
-pub first_fits : (octets : List ℕ) (b c : Bool) (s t : Stand) (m : Seam) → t ≡ resting m → s ≡ (if b then led t else t) → b ≡ c → Fits octets s
-first_fits octets b c s t m e f g = subst (Fits octets) (sym (first_is b c s t (resting m) e f g)) (led_fits c octets m)
+pub first_fits : (octets : List ℕ) (b c : Bool) (s t : Stand) (m : Seam) → t ≡ resting m → s ≡ (if b then led t else t) → b ≡ c → LineFits octets s
+first_fits octets b c s t m e f g = subst (LineFits octets) (sym (first_is b c s t (resting m) e f g)) (led_fits c octets m)
 
 led_reaches : (c : Bool) (octets : List ℕ) (m : Seam) → Reaches octets (record { stand = if c then led (resting m) else resting m; at = 0; is_token = false })
 led_reaches true octets m = record { within = omega arith; depth = omega arith }

@@ -12,7 +12,7 @@ use Rattle.zone_format.specs.Form.{Before, form, forms, lines}
 use Rattle.zone_format.specs.Formats.{Formats}
 use Rattle.zone_format.specs.Marks.{Mark, HasMarks}
 use Rattle.zone_format.specs.Refusal.{has_form, mark_has_no_nul}
-use Rattle.zone_format.specs.Writing.{accepts_from, ended, stands_after, written_from}
+use Rattle.zone_format.specs.Writing.{accepts_from, last_line_end, stands_after, written_from}
 
 -- octets are zone text and then a line's end
 pub record EndsInLine (octets : List ℕ) : Type 0 where
@@ -62,9 +62,9 @@ abbrev pub seam_of : Stand → Seam
 seam_of s = record { above = s.above; noted = s.noted }
 
 -- the marks of octets were written below a seam
-pub record WritesAll (octets : List ℕ) (s : Seam) (old new : List ℕ) (t : Stand) : Type 0 where
+pub record WritesBelow (octets : List ℕ) (s : Seam) (old new : List ℕ) (t : Stand) : Type 0 where
   pub marks : List Mark
   pub read : HasMarks octets marks
   pub accepted : accepts_from (resting s) marks ≡ true
-  pub out : new ++ ended t ≡ old ++ written_from (resting s) marks
+  pub out : new ++ last_line_end t ≡ old ++ written_from (resting s) marks
   pub stand : t ≡ stands_after (resting s) marks

@@ -38,15 +38,15 @@ HasToken s e (Ok (WordAt p) ∷ given) = ((p.start ≡ s) × (p.end ≡ e)) ⊎ 
 HasToken s e (Ok (QuoteAt p) ∷ given) = ((p.start ≡ s) × (p.end ≡ e)) ⊎ HasToken s e given
 HasToken s e (_ ∷ given) = HasToken s e given
 
-abbrev pub IsToken : List ℕ → ℕ → ℕ → Type 0
-IsToken octets s e = (given : List (Result Piece Fault)) × IsGiven octets given × HasToken s e given
+abbrev pub IsTokenBetween : List ℕ → ℕ → ℕ → Type 0
+IsTokenBetween octets s e = (given : List (Result Piece Fault)) × IsGiven octets given × HasToken s e given
 
 -- they are no zone text, and this is their fault; or a token has NUL at a place, or begins with a byte order mark
-abbrev pub IsRefused : List ℕ → Refusal → Type 0
-IsRefused octets (Wrong f) = (f.at ≤ length octets) × IsFault (encode_utf8_all octets) (moved_fault (place_of octets) f)
-IsRefused octets (Nul at) = (s : ℕ) × (e : ℕ) × IsToken octets s e × (s ≤ at) × (at < e) × (e ≤ length octets) × (slice_index octets at ≡ 0)
-IsRefused octets (OrderMark at) = (e : ℕ) × IsToken octets at e × (at ≤ e) × (e ≤ length octets) × (begins_order_mark (between octets at e) ≡ true)
-IsRefused octets OutOfMemory = ⊤
+abbrev pub IsWithoutForm : List ℕ → Refusal → Type 0
+IsWithoutForm octets (Wrong f) = (f.at ≤ length octets) × IsFault (encode_utf8_all octets) (moved_fault (place_of octets) f)
+IsWithoutForm octets (Nul at) = (s : ℕ) × (e : ℕ) × IsTokenBetween octets s e × (s ≤ at) × (at < e) × (e ≤ length octets) × (slice_index octets at ≡ 0)
+IsWithoutForm octets (OrderMark at) = (e : ℕ) × IsTokenBetween octets at e × (at ≤ e) × (e ≤ length octets) × (begins_order_mark (between octets at e) ≡ true)
+IsWithoutForm octets OutOfMemory = ⊤
 
 -- a token that begins at a place has NUL, or begins with a byte order mark
 abbrev pub IsUnfit : List ℕ → ℕ → Refusal → Type 0

@@ -26,8 +26,8 @@ abbrev pub fed : Stand → Stand
 fed s = record { above = if is_start s.turn then blank_below s.above else Line; depth = s.depth; noted = s.note; note = 0; turn = start s.depth; end = 0 }
 
 -- a line that is not empty ends
-abbrev pub ended : Stand → List ℕ
-ended s = if is_start s.turn then [] else line_feed ∷ []
+abbrev pub last_line_end : Stand → List ℕ
+last_line_end s = if is_start s.turn then [] else line_feed ∷ []
 
 -- after a blank that an entry begins with
 abbrev pub led : Stand → Stand
@@ -47,26 +47,26 @@ abbrev pub pushed_parenthesis : Stand → ℕ → Stand
 pushed_parenthesis s depth = pushed s depth s.note Rest (parenthesis_column s.turn s.end)
 
 -- what stands before something at a column: a blank line above, and spaces
-abbrev pub before : Stand → ℕ → List ℕ
-before s column = (if is_start s.turn then gap line_feed s.above else []) ++ replicate (column - (s.end + 1)) blank
+abbrev pub blanks_before : Stand → ℕ → List ℕ
+blanks_before s column = (if is_start s.turn then gap line_feed s.above else []) ++ replicate (column - (s.end + 1)) blank
 
 abbrev pub token_before : Stand → Bool → List ℕ → List ℕ
-token_before s glued t = before s (token_column s.turn s.end glued t)
+token_before s glued t = blanks_before s (token_column s.turn s.end glued t)
 
 abbrev pub note_before : Stand → List ℕ → List ℕ
-note_before s t = before s (note_column s.noted s.turn s.end t)
+note_before s t = blanks_before s (note_column s.noted s.turn s.end t)
 
 abbrev pub parenthesis_before : Stand → List ℕ
-parenthesis_before s = before s (parenthesis_column s.turn s.end)
+parenthesis_before s = blanks_before s (parenthesis_column s.turn s.end)
 
 -- what marks are written as
 abbrev pub written_from : Stand → List Mark → List ℕ
-written_from s [] = ended s
+written_from s [] = last_line_end s
 written_from s (Token glued t ∷ ms) = token_before s glued t ++ (t ++ written_from (pushed_token s glued t) ms)
 written_from s (Note t ∷ ms) = note_before s t ++ (t ++ written_from (pushed_note s t) ms)
 written_from s (Open ∷ ms) = parenthesis_before s ++ (open_parenthesis ∷ written_from (pushed_parenthesis s (s.depth + 1)) ms)
 written_from s (Close ∷ ms) = parenthesis_before s ++ (close_parenthesis ∷ written_from (pushed_parenthesis s (s.depth - 1)) ms)
-written_from s (Feed ∷ ms) = ended s ++ written_from (fed s) ms
+written_from s (Feed ∷ ms) = last_line_end s ++ written_from (fed s) ms
 written_from s (Lead ∷ ms) = written_from (led s) ms
 
 -- where writing stands after marks
@@ -99,7 +99,7 @@ accepts_from s (Feed ∷ ms) = accepts_from (fed s) ms
 accepts_from s (Lead ∷ ms) = accepts_from (led s) ms
 
 -- a line has no more characters than octets were written, and its columns are moved no further
-pub record Fits (octets : List ℕ) (s : Stand) : Type 0 where
+pub record LineFits (octets : List ℕ) (s : Stand) : Type 0 where
   pub moved : moved_in s.turn ≤ s.end
   pub few : s.end ≤ length octets
 
@@ -116,24 +116,24 @@ pub record Moves (ms : List Mark) (old : List ℕ) (s : Stand) (most : ℕ) (new
   pub goes : Goes ms old s new t
   pub accepts : Accepts ms s t
   pub stand : t ≡ stands_after s ms
-  pub fits : Fits new t
+  pub fits : LineFits new t
   pub depth : t.depth ≤ s.depth + most
 
 -- a token, a comment or a parenthesis was appended, and writing stands after it
 pub record PushesToken (old : List ℕ) (s : Stand) (glued : Bool) (t new : List ℕ) (after : Stand) : Type 0 where
   pub stand : after ≡ pushed_token s glued t
   pub out : new ≡ old ++ (token_before s glued t ++ t)
-  pub fits : Fits new after
+  pub fits : LineFits new after
 
 pub record PushesNote (old : List ℕ) (s : Stand) (t new : List ℕ) (after : Stand) : Type 0 where
   pub stand : after ≡ pushed_note s t
   pub out : new ≡ old ++ (note_before s t ++ t)
-  pub fits : Fits new after
+  pub fits : LineFits new after
 
 pub record PushesParenthesis (old : List ℕ) (s : Stand) (octet depth : ℕ) (new : List ℕ) (after : Stand) : Type 0 where
   pub stand : after ≡ pushed_parenthesis s depth
   pub out : new ≡ old ++ (parenthesis_before s ++ octet ∷ [])
-  pub fits : Fits new after
+  pub fits : LineFits new after
 
 -- how far octets are written
 pub record Reaches (octets : List ℕ) (p : Progress) : Type 0 where
@@ -145,7 +145,7 @@ pub record Advances (octets : List ℕ) (ms : List Mark) (old : List ℕ) (p : P
   pub goes : Goes ms old p.stand new q.stand
   pub accepts : Accepts ms p.stand q.stand
   pub stand : q.stand ≡ stands_after p.stand ms
-  pub fits : Fits new q.stand
+  pub fits : LineFits new q.stand
   pub reaches : Reaches octets q
   pub at : q.at ≡ to
   pub is_token : q.is_token ≡ tied

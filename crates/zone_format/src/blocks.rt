@@ -4,7 +4,7 @@
 //! a [`Seam`], and the forms of the blocks in a row are the form of the whole text.
 ghost use Rattle.std.specs.Prelude.{◌<◌, ◌^◌, IfErr, IfOk, length};
 ghost use Rattle.zone_format.specs.Blocks.{FormatsEntries, FormatsLast};
-ghost use Rattle.zone_format.specs.Refusal.{IsRefused};
+ghost use Rattle.zone_format.specs.Refusal.{IsWithoutForm};
 
 use crate::format::write_all;
 use crate::refusal::Refusal;
@@ -24,7 +24,7 @@ pub fn format_entries<A: Allocator>(
 ) -> Result<Seam, Refusal>
     requires { length octets.now < 2 ^ 62 }
     ensures well { IfOk result (FormatsEntries octets.now seam out.old.items out.new.items) }
-    ensures bad { IfErr result (IsRefused octets.now) }
+    ensures bad { IfErr result (IsWithoutForm octets.now) }
 {
     let stand = write_all(octets, seam, out)?;
     Ok(stand.seam())
@@ -41,7 +41,7 @@ pub fn format_last<A: Allocator>(
 ) -> Result<(), Refusal>
     requires { length octets.now < 2 ^ 62 }
     ensures well { IfOk result (λ _. FormatsLast octets.now seam out.old.items out.new.items) }
-    ensures bad { IfErr result (IsRefused octets.now) }
+    ensures bad { IfErr result (IsWithoutForm octets.now) }
 {
     let stand = write_all(octets, seam, out)?;
     push_end(out, stand)?;

@@ -3,11 +3,11 @@ ghost use Rattle.std.specs.Prelude.{◌≡◌, ◌==◌, ◌&&◌, ◌+◌, ◌<
 ghost use Rattle.std.specs.Prelude.{if◌then◌else◌, length, slice_index, true};
 ghost use Rattle.dns_split.specs.Pieces.{between};
 ghost use Rattle.zone_format.specs.Marks.{lead_at, shortened};
-ghost use Rattle.zone_format.specs.Refusal.{begins_order_mark, has_no_nul, IsRefused, IsUnfit};
+ghost use Rattle.zone_format.specs.Refusal.{begins_order_mark, has_no_nul, IsWithoutForm, IsUnfit};
 ghost use Rattle.zone_format.specs.Formats.{Formats};
-ghost use Rattle.zone_format.specs.Writing.{accepts, Fits, is_edge, led, Reaches};
+ghost use Rattle.zone_format.specs.Writing.{accepts, LineFits, is_edge, led, Reaches};
 ghost use Rattle.zone_format.specs.Writing.{WritesEnd, WritesNote, WritesToken};
-ghost use Rattle.zone_format.specs.Blocks.{WritesAll};
+ghost use Rattle.zone_format.specs.Blocks.{WritesBelow};
 
 use crate::blocks::format_last;
 use crate::columns::{Turn, is_blank};
@@ -121,7 +121,7 @@ fn write_token<A: Allocator>(
     span: Span,
     out: &mut Vec<u8, A>,
 ) -> Result<Progress, Refusal>
-    requires fits { Fits out.old.items progress.stand }
+    requires fits { LineFits out.old.items progress.stand }
     requires reaches { Reaches octets.now progress }
     requires order { progress.at ≤ span.start }
     requires some { span.start ≤ span.end }
@@ -148,7 +148,7 @@ fn write_note<A: Allocator>(
     span: Span,
     out: &mut Vec<u8, A>,
 ) -> Result<Progress, AllocError>
-    requires fits { Fits out.old.items progress.stand }
+    requires fits { LineFits out.old.items progress.stand }
     requires reaches { Reaches octets.now progress }
     requires order { progress.at ≤ span.start }
     requires some { span.start ≤ span.end }
@@ -170,7 +170,7 @@ fn write_end<A: Allocator>(
     at: usize,
     out: &mut Vec<u8, A>,
 ) -> Result<Progress, AllocError>
-    requires fits { Fits out.old.items progress.stand }
+    requires fits { LineFits out.old.items progress.stand }
     requires reaches { Reaches octets.now progress }
     requires order { progress.at ≤ at }
     requires within { at ≤ length octets.now }
@@ -191,8 +191,8 @@ pub(crate) fn write_all<A: Allocator>(
     out: &mut Vec<u8, A>,
 ) -> Result<Stand, Refusal>
     requires { length octets.now < 2 ^ 62 }
-    ensures well { IfOk result (WritesAll octets.now seam out.old.items out.new.items) }
-    ensures bad { IfErr result (IsRefused octets.now) }
+    ensures well { IfOk result (WritesBelow octets.now seam out.old.items out.new.items) }
+    ensures bad { IfErr result (IsWithoutForm octets.now) }
 {
     let mut progress = Progress {
         stand: seam.stand().led_if(blank_at(octets, 0)),
@@ -218,7 +218,7 @@ pub(crate) fn write_all<A: Allocator>(
 pub fn format<A: Allocator>(octets: &[u8], out: &mut Vec<u8, A>) -> Result<(), Refusal>
     requires { length octets.now < 2 ^ 62 }
     ensures well { IfOk result (λ _. Formats octets.now out.old.items out.new.items) }
-    ensures bad { IfErr result (IsRefused octets.now) }
+    ensures bad { IfErr result (IsWithoutForm octets.now) }
 {
     format_last(Seam::first(), octets, out)?;
     Ok(())

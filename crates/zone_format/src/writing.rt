@@ -2,7 +2,7 @@
 ghost use Rattle.std.specs.Prelude.{◌≡◌, ◌+◌, ◌-◌, ◌++◌, ◌<◌, ◌≤◌, ◌^◌, IfOk, OnOk, length, replicate};
 ghost use Rattle.std.specs.List.{flat_map};
 ghost use Rattle.zone_format.specs.Marks.{gap_mark};
-ghost use Rattle.zone_format.specs.Writing.{before, ended, Fits, Moves};
+ghost use Rattle.zone_format.specs.Writing.{blanks_before, last_line_end, LineFits, Moves};
 ghost use Rattle.zone_format.specs.Writing.{PushesNote, PushesParenthesis, PushesToken};
 
 use crate::columns::width;
@@ -27,7 +27,7 @@ fn push_before<A: Allocator>(
 ) -> Result<(), AllocError>
     requires room { stand.end + 1 < 2 ^ 64 }
     requires narrow { column < stand.end + 100 }
-    ensures { OnOk result (out.new.items ≡ out.old.items ++ before stand column) }
+    ensures { OnOk result (out.new.items ≡ out.old.items ++ blanks_before stand column) }
 {
     if stand.turn.is_start() && matches!(stand.above, Above::Gap) {
         out.extend_from_slice(b"\n")?;
@@ -42,7 +42,7 @@ pub(crate) fn push_token<A: Allocator>(
     is_glued: bool,
     token: &[u8],
 ) -> Result<Stand, AllocError>
-    requires fits { Fits out.old.items stand }
+    requires fits { LineFits out.old.items stand }
     requires room { length token.now < 2 ^ 62 }
     ensures { IfOk result (PushesToken out.old.items stand is_glued token.now out.new.items) }
 {
@@ -59,7 +59,7 @@ pub(crate) fn push_note<A: Allocator>(
     stand: Stand,
     comment: &[u8],
 ) -> Result<Stand, AllocError>
-    requires { Fits out.old.items stand }
+    requires { LineFits out.old.items stand }
     ensures { IfOk result (PushesNote out.old.items stand comment.now out.new.items) }
 {
     let column = stand.turn.note_column(stand.noted, stand.end, comment);
@@ -75,7 +75,7 @@ fn push_parenthesis<A: Allocator>(
     octet: u8,
     depth: usize,
 ) -> Result<Stand, AllocError>
-    requires { Fits out.old.items stand }
+    requires { LineFits out.old.items stand }
     ensures { IfOk result (PushesParenthesis out.old.items stand octet depth out.new.items) }
 {
     let column = stand.turn.parenthesis_column(stand.end);
@@ -86,7 +86,7 @@ fn push_parenthesis<A: Allocator>(
 
 /// Appends the end of a line that is not empty.
 pub(crate) fn push_end<A: Allocator>(out: &mut Vec<u8, A>, stand: Stand) -> Result<(), AllocError>
-    ensures { OnOk result (out.new.items ≡ out.old.items ++ ended stand) }
+    ensures { OnOk result (out.new.items ≡ out.old.items ++ last_line_end stand) }
 {
     if stand.turn.is_start() {
         Ok(())
@@ -101,7 +101,7 @@ fn push_gap_octet<A: Allocator>(
     stand: Stand,
     octet: u8,
 ) -> Result<Stand, AllocError>
-    requires fits { Fits out.old.items stand }
+    requires fits { LineFits out.old.items stand }
     requires depth { stand.depth + 1 < 2 ^ 64 }
     ensures { IfOk result (Moves (gap_mark octet) out.old.items stand 1 out.new.items) }
 {
@@ -122,7 +122,7 @@ pub(crate) fn push_gap<A: Allocator>(
     stand: Stand,
     gap: &[u8],
 ) -> Result<Stand, AllocError>
-    requires fits { Fits out.old.items stand }
+    requires fits { LineFits out.old.items stand }
     requires depth { stand.depth + length gap.now < 2 ^ 64 }
     ensures { IfOk result (Moves (flat_map gap_mark gap.now) out.old.items stand (length gap.now) out.new.items) }
 {

@@ -13,7 +13,7 @@ use Rattle.dns_split.proofs.OctetsOnce.{given_once, run_given}
 use Rattle.zone_format.specs.Blocks.{AreEntries, FormatsEntries, FormatsLast, FormedTo, first_seam}
 use Rattle.zone_format.specs.Formats.{Formats}
 use Rattle.zone_format.proofs.Seams.{none_formed}
-use Rattle.zone_format.specs.Refusal.{HasToken, IsRefused, IsToken, begins_order_mark}
+use Rattle.zone_format.specs.Refusal.{HasToken, IsWithoutForm, IsTokenBetween, begins_order_mark}
 use Rattle.zone_format.specs.declared.refusal.Refusal.TheVariants.{Nul as NulAt, OrderMark as OrderMarkAt, Wrong as WrongAt}
 use Rattle.zone_format.specs.declared.stand.Seam.{Seam}
 use Rattle.zonetext_lib.specs.Blocks.{EndsEntry, Holds, IsHeld, Releases, Settled, TakesBlock}
@@ -87,13 +87,13 @@ has_behind s e (QuoteAt p ∷ front) rest h = inr (has_behind s e front rest h)
 has_behind s e (CommentAt p ∷ front) rest h = has_behind s e front rest h
 has_behind s e (EndAt p ∷ front) rest h = has_behind s e front rest h
 
-token_after : (before x : List ℕ) (s e : ℕ) → AreOctets before → AreOctets x → EndsEntry before → IsToken x s e → IsToken (before ++ x) (length before + s) (length before + e)
+token_after : (before x : List ℕ) (s e : ℕ) → AreOctets before → AreOctets x → EndsEntry before → IsTokenBetween x s e → IsTokenBetween (before ++ x) (length before + s) (length before + e)
 token_after before x s e b o ends t =
     let r = read_on before x t.0 b o ends t.1 in
     let n : ℕ = length before in
     (map Ok r.front ++ later n t.0, r.is, has_behind (n + s) (n + e) r.front (later n t.0) (has_later n s e t.0 t.2))
 
-token_ended : (x z : List ℕ) (s e : ℕ) → AreOctets x → AreOctets z → EndsEntry x → IsToken x s e → IsToken (x ++ z) s e
+token_ended : (x z : List ℕ) (s e : ℕ) → AreOctets x → AreOctets z → EndsEntry x → IsTokenBetween x s e → IsTokenBetween (x ++ z) s e
 token_ended x z s e o y ends t =
     let read : (given : List (Result Piece Fault)) × IsGiven z given = (_, run_given z y) in
     let r = read_on x z read.0 o y ends read.1 in
@@ -101,7 +101,7 @@ token_ended x z s e o y ends t =
     let there : HasToken s e own = subst (HasToken s e) (given_once x t.0 own t.1 r.own) t.2 in
     (map Ok r.front ++ later (length x) read.0, r.is, has_front s e (length x) r.front (later (length x) read.0) there)
 
-token_bad : (x more : List ℕ) (f : Fault) (s e : ℕ) → AreOctets x → AreOctets more → Settled x (Err f) → IsToken x s e → IsToken (x ++ more) s e
+token_bad : (x more : List ℕ) (f : Fault) (s e : ℕ) → AreOctets x → AreOctets more → Settled x (Err f) → IsTokenBetween x s e → IsTokenBetween (x ++ more) s e
 token_bad x more f s e o m b t =
     let own : List (Result Piece Fault) = map Ok b.0 ++ Err f ∷ [] in
     (own, faults_stay x more b.0 f o m b.1 b.2, subst (HasToken s e) (given_once x t.0 own t.1 b.1) t.2)
@@ -111,11 +111,11 @@ between_first x z s e h k =
     ap (take (e - s)) (drop-append-le s x z (omega (arith, h, k))) ∙ take-append-le (e - s) (drop s x) z (omega (arith, length-drop s x, h, k))
 
 -- octets between others, with what is refused of them alone, where their tokens stay
-module _ (before x z : List ℕ) (stays : (s e : ℕ) → IsToken x s e → IsToken (before ++ (x ++ z)) (length before + s) (length before + e)) where
+module _ (before x z : List ℕ) (stays : (s e : ℕ) → IsTokenBetween x s e → IsTokenBetween (before ++ (x ++ z)) (length before + s) (length before + e)) where
   abbrev all : List ℕ
   all = before ++ (x ++ z)
 
-  nul_stays : (at : ℕ) → IsRefused x (NulAt at) → IsRefused all (NulAt (length before + at))
+  nul_stays : (at : ℕ) → IsWithoutForm x (NulAt at) → IsWithoutForm all (NulAt (length before + at))
   nul_stays at h = (
     length before + h.0,
     length before + h.1,
@@ -126,7 +126,7 @@ module _ (before x z : List ℕ) (stays : (s e : ℕ) → IsToken x s e → IsTo
     get_or-append-add before (x ++ z) at 0 ∙ get_or_append_left x z 0 at (omega (arith, h.4, h.5)) ∙ h.6,
   )
 
-  mark_stays : (at : ℕ) → IsRefused x (OrderMarkAt at) → IsRefused all (OrderMarkAt (length before + at))
+  mark_stays : (at : ℕ) → IsWithoutForm x (OrderMarkAt at) → IsWithoutForm all (OrderMarkAt (length before + at))
   mark_stays at h = (
     length before + h.0,
     stays at h.0 h.1,
@@ -138,21 +138,21 @@ module _ (before x z : List ℕ) (stays : (s e : ℕ) → IsToken x s e → IsTo
   place_stays : (at : ℕ) (p : Position) → at ≤ length x → IsAt 0 (before ++ take at x) p → IsAt 0 (take (length before + at) all) p
   place_stays at p w h = subst (λ l. IsAt 0 l p) (sym (take-append-add before (x ++ z) at ∙ ap (λ l. before ++ l) (take-append-le at x z w))) h
 
-  pub nul_there : (at : ℕ) (p : Position) → IsRefused x (NulAt at) → IsAt 0 (before ++ take at x) p → (i : ℕ) × IsRefused all (NulAt i) × IsAt 0 (take i all) p
+  pub nul_there : (at : ℕ) (p : Position) → IsWithoutForm x (NulAt at) → IsAt 0 (before ++ take at x) p → (i : ℕ) × IsWithoutForm all (NulAt i) × IsAt 0 (take i all) p
   nul_there at p h k = (length before + at, nul_stays at h, place_stays at p (omega (arith, h.4, h.5)) k)
 
-  pub mark_there : (at : ℕ) (p : Position) → IsRefused x (OrderMarkAt at) → IsAt 0 (before ++ take at x) p → (i : ℕ) × IsRefused all (OrderMarkAt i) × IsAt 0 (take i all) p
+  pub mark_there : (at : ℕ) (p : Position) → IsWithoutForm x (OrderMarkAt at) → IsAt 0 (before ++ take at x) p → (i : ℕ) × IsWithoutForm all (OrderMarkAt i) × IsAt 0 (take i all) p
   mark_there at p h k = (length before + at, mark_stays at h, place_stays at p (omega (arith, h.2, h.3)) k)
 
 -- in what is settled
-stays_settled : (before octets more : List ℕ) (cut : ℕ) → AreOctets before → AreOctets octets → AreOctets more → EndsEntry before → Settled octets (Ok cut) → (s e : ℕ) → IsToken (take cut octets) s e
-    → IsToken (before ++ (take cut octets ++ (drop cut octets ++ more))) (length before + s) (length before + e)
+stays_settled : (before octets more : List ℕ) (cut : ℕ) → AreOctets before → AreOctets octets → AreOctets more → EndsEntry before → Settled octets (Ok cut) → (s e : ℕ) → IsTokenBetween (take cut octets) s e
+    → IsTokenBetween (before ++ (take cut octets ++ (drop cut octets ++ more))) (length before + s) (length before + e)
 stays_settled before octets more cut b o m ends settled s e t =
     let x = take cut octets in
     let z = drop cut octets ++ more in
     let ox = take_octets cut octets o in
     let oz = both_octets (drop cut octets) more (back_octets x (drop cut octets) (subst AreOctets (sym (take-append-drop cut octets)) o)) m in
-    subst (λ l. IsToken l (length before + s) (length before + e)) (append_assoc before x z)
+    subst (λ l. IsTokenBetween l (length before + s) (length before + e)) (append_assoc before x z)
     (token_ended (before ++ x) z (length before + s) (length before + e) (both_octets before x b ox) oz (ended_at before octets cut b o ends settled) (token_after before x s e b ox ends t))
 
 pub whole_settled : (all more : List ℕ) (h : Held) (x : Holds all h) (cut : ℕ) → x.before ++ (take cut h.octets ++ (drop cut h.octets ++ more)) ≡ all ++ more
@@ -164,51 +164,51 @@ whole_held : (all more : List ℕ) (h : Held) (x : Holds all h) → x.before ++ 
 whole_held all more h x = sym (append_assoc x.before h.octets more) ∙ ap (λ l. l ++ more) (sym x.is)
 
 abbrev HasNul : List ℕ → Position → Type 0
-HasNul all p = (i : ℕ) × IsRefused all (NulAt i) × IsAt 0 (take i all) p
+HasNul all p = (i : ℕ) × IsWithoutForm all (NulAt i) × IsAt 0 (take i all) p
 
 abbrev HasMark : List ℕ → Position → Type 0
-HasMark all p = (i : ℕ) × IsRefused all (OrderMarkAt i) × IsAt 0 (take i all) p
+HasMark all p = (i : ℕ) × IsWithoutForm all (OrderMarkAt i) × IsAt 0 (take i all) p
 
 abbrev StandsAt : Held → List ℕ → ℕ → Position → Type 0
 StandsAt h octets at p = HasPosition h.place octets at p
 
-pub settled_nul : (all more : List ℕ) (h : Held) (cut at : ℕ) (p : Position) → AreOctets h.octets → Settled h.octets (Ok cut) → IsRefused (take cut h.octets) (NulAt at) → StandsAt h (take cut h.octets) at p
+pub settled_nul : (all more : List ℕ) (h : Held) (cut at : ℕ) (p : Position) → AreOctets h.octets → Settled h.octets (Ok cut) → IsWithoutForm (take cut h.octets) (NulAt at) → StandsAt h (take cut h.octets) at p
     → Holds all h → AreOctets more → HasNul (all ++ more) p
 settled_nul all more h cut at p o s r k x m =
     subst (λ l. HasNul l p) (whole_settled all more h x cut)
     (nul_there x.before (take cut h.octets) (drop cut h.octets ++ more) (stays_settled x.before h.octets more cut x.octets o m x.ended s) at p r (k x.before x.position))
 
-pub settled_mark : (all more : List ℕ) (h : Held) (cut at : ℕ) (p : Position) → AreOctets h.octets → Settled h.octets (Ok cut) → IsRefused (take cut h.octets) (OrderMarkAt at) → StandsAt h (take cut h.octets) at p
+pub settled_mark : (all more : List ℕ) (h : Held) (cut at : ℕ) (p : Position) → AreOctets h.octets → Settled h.octets (Ok cut) → IsWithoutForm (take cut h.octets) (OrderMarkAt at) → StandsAt h (take cut h.octets) at p
     → Holds all h → AreOctets more → HasMark (all ++ more) p
 settled_mark all more h cut at p o s r k x m =
     subst (λ l. HasMark l p) (whole_settled all more h x cut)
     (mark_there x.before (take cut h.octets) (drop cut h.octets ++ more) (stays_settled x.before h.octets more cut x.octets o m x.ended s) at p r (k x.before x.position))
 
 -- before a fault that stays
-stays_bad : (before octets more : List ℕ) (f : Fault) → AreOctets before → AreOctets octets → AreOctets more → EndsEntry before → Settled octets (Err f) → (s e : ℕ) → IsToken octets s e
-    → IsToken (before ++ (octets ++ more)) (length before + s) (length before + e)
+stays_bad : (before octets more : List ℕ) (f : Fault) → AreOctets before → AreOctets octets → AreOctets more → EndsEntry before → Settled octets (Err f) → (s e : ℕ) → IsTokenBetween octets s e
+    → IsTokenBetween (before ++ (octets ++ more)) (length before + s) (length before + e)
 stays_bad before octets more f b o m ends bad s e t = token_after before (octets ++ more) s e b (both_octets octets more o m) ends (token_bad octets more f s e o m bad t)
 
-pub bad_nul : (all more : List ℕ) (h : Held) (f : Fault) (at : ℕ) (p : Position) → AreOctets h.octets → Settled h.octets (Err f) → IsRefused h.octets (NulAt at) → StandsAt h h.octets at p → Holds all h → AreOctets more → HasNul (all ++ more) p
+pub bad_nul : (all more : List ℕ) (h : Held) (f : Fault) (at : ℕ) (p : Position) → AreOctets h.octets → Settled h.octets (Err f) → IsWithoutForm h.octets (NulAt at) → StandsAt h h.octets at p → Holds all h → AreOctets more → HasNul (all ++ more) p
 bad_nul all more h f at p o s r k x m =
     subst (λ l. HasNul l p) (whole_held all more h x) (nul_there x.before h.octets more (stays_bad x.before h.octets more f x.octets o m x.ended s) at p r (k x.before x.position))
 
-pub bad_mark : (all more : List ℕ) (h : Held) (f : Fault) (at : ℕ) (p : Position) → AreOctets h.octets → Settled h.octets (Err f) → IsRefused h.octets (OrderMarkAt at) → StandsAt h h.octets at p → Holds all h → AreOctets more → HasMark (all ++ more) p
+pub bad_mark : (all more : List ℕ) (h : Held) (f : Fault) (at : ℕ) (p : Position) → AreOctets h.octets → Settled h.octets (Err f) → IsWithoutForm h.octets (OrderMarkAt at) → StandsAt h h.octets at p → Holds all h → AreOctets more → HasMark (all ++ more) p
 bad_mark all more h f at p o s r k x m =
     subst (λ l. HasMark l p) (whole_held all more h x) (mark_there x.before h.octets more (stays_bad x.before h.octets more f x.octets o m x.ended s) at p r (k x.before x.position))
 
 -- at the end
-stays_last : (before octets : List ℕ) → AreOctets before → AreOctets octets → EndsEntry before → (s e : ℕ) → IsToken octets s e → IsToken (before ++ (octets ++ [])) (length before + s) (length before + e)
+stays_last : (before octets : List ℕ) → AreOctets before → AreOctets octets → EndsEntry before → (s e : ℕ) → IsTokenBetween octets s e → IsTokenBetween (before ++ (octets ++ [])) (length before + s) (length before + e)
 stays_last before octets b o ends s e t =
-    subst (λ l. IsToken (before ++ l) (length before + s) (length before + e)) (sym (append-nil octets)) (token_after before octets s e b o ends t)
+    subst (λ l. IsTokenBetween (before ++ l) (length before + s) (length before + e)) (sym (append-nil octets)) (token_after before octets s e b o ends t)
 
 last_is : (all : List ℕ) (h : Held) (x : Holds all h) → x.before ++ (h.octets ++ []) ≡ all
 last_is all h x = ap (λ l. x.before ++ l) (append-nil h.octets) ∙ sym x.is
 
-pub last_nul : (all : List ℕ) (h : Held) (at : ℕ) (p : Position) → AreOctets h.octets → IsRefused h.octets (NulAt at) → StandsAt h h.octets at p → Holds all h → HasNul all p
+pub last_nul : (all : List ℕ) (h : Held) (at : ℕ) (p : Position) → AreOctets h.octets → IsWithoutForm h.octets (NulAt at) → StandsAt h h.octets at p → Holds all h → HasNul all p
 last_nul all h at p o r k x = subst (λ l. HasNul l p) (last_is all h x) (nul_there x.before h.octets [] (stays_last x.before h.octets x.octets o x.ended) at p r (k x.before x.position))
 
-pub last_mark : (all : List ℕ) (h : Held) (at : ℕ) (p : Position) → AreOctets h.octets → IsRefused h.octets (OrderMarkAt at) → StandsAt h h.octets at p → Holds all h → HasMark all p
+pub last_mark : (all : List ℕ) (h : Held) (at : ℕ) (p : Position) → AreOctets h.octets → IsWithoutForm h.octets (OrderMarkAt at) → StandsAt h h.octets at p → Holds all h → HasMark all p
 last_mark all h at p o r k x = subst (λ l. HasMark l p) (last_is all h x) (mark_there x.before h.octets [] (stays_last x.before h.octets x.octets o x.ended) at p r (k x.before x.position))
 
 -- what is settled has no fault
@@ -252,5 +252,5 @@ given_back old mid new s block count n is place left k =
 pub formed_last : (h : Held) (s : Seam) (from to : List ℕ) → FormatsLast h.octets s from to → (all written : List ℕ) → FormedSoFar all written (forming h s) → (more : List ℕ) × (to ≡ from ++ more) × Formats all [] (written ++ more)
 formed_last h s from to l all written x = (l.0, l.1, subst (λ k. Formats k [] (written ++ l.0)) (sym x.held.is) (l.2 x.held.before written x.formed))
 
-pub ended_fault : (all : List ℕ) (h : Held) (f : Fault) → Holds all h → AreOctets h.octets → IsRefused h.octets (WrongAt f) → IsZone all → ⊥
+pub ended_fault : (all : List ℕ) (h : Held) (f : Fault) → Holds all h → AreOctets h.octets → IsWithoutForm h.octets (WrongAt f) → IsZone all → ⊥
 ended_fault all h f x o r zone = still_well all h f x o (record { within = r.0; is = r.1 }) zone

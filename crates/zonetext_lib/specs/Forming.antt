@@ -5,7 +5,7 @@ use Rattle.dns_split.specs.declared.pieces.Fault.{Fault}
 use Rattle.dns_split.specs.declared.position.Position.{Position}
 use Rattle.zone_format.specs.Blocks.{FormatsEntries, FormedTo}
 use Rattle.zone_format.specs.Formats.{Formats}
-use Rattle.zone_format.specs.Refusal.{IsRefused}
+use Rattle.zone_format.specs.Refusal.{IsWithoutForm}
 use Rattle.zone_format.specs.declared.refusal.Refusal.TheVariants.{Nul as NulAt, OrderMark as OrderMarkAt}
 use Rattle.zonetext_lib.specs.declared.formatter.FormedCut.{FormedCut}
 use Rattle.zonetext_lib.specs.declared.formatter.NoForm.{NoForm}
@@ -35,16 +35,16 @@ HasPosition place octets at p = (before : List ℕ) → IsAt 0 before place.posi
 -- why octets have no form, and where
 abbrev pub HasNoForm : List ℕ → NoForm → Type 0
 HasNoForm all (Wrong f) = IsFound all 0 f
-HasNoForm all (Nul p) = (at : ℕ) × IsRefused all (NulAt at) × IsAt 0 (take at all) p
-HasNoForm all (OrderMark p) = (at : ℕ) × IsRefused all (OrderMarkAt at) × IsAt 0 (take at all) p
+HasNoForm all (Nul p) = (at : ℕ) × IsWithoutForm all (NulAt at) × IsAt 0 (take at all) p
+HasNoForm all (OrderMark p) = (at : ℕ) × IsWithoutForm all (OrderMarkAt at) × IsAt 0 (take at all) p
 HasNoForm all OutOfMemory = ⊤
 HasNoForm all TooLong = ⊥
 
 -- why octets that stand after others have no form, and where among all
 abbrev pub HasNoFormAfter : Place → List ℕ → NoForm → Type 0
 HasNoFormAfter place octets (Wrong r) = (f : Fault) × IsOctetFault octets f
-HasNoFormAfter place octets (Nul p) = (at : ℕ) × IsRefused octets (NulAt at) × HasPosition place octets at p
-HasNoFormAfter place octets (OrderMark p) = (at : ℕ) × IsRefused octets (OrderMarkAt at) × HasPosition place octets at p
+HasNoFormAfter place octets (Nul p) = (at : ℕ) × IsWithoutForm octets (NulAt at) × HasPosition place octets at p
+HasNoFormAfter place octets (OrderMark p) = (at : ℕ) × IsWithoutForm octets (OrderMarkAt at) × HasPosition place octets at p
 HasNoFormAfter place octets OutOfMemory = ⊤
 HasNoFormAfter place octets TooLong = ⊥
 

@@ -1,6 +1,6 @@
 //! The form of zone text that comes in blocks.
 ghost use Rattle.std.specs.Prelude.{◌≡◌, ◌+◌, ◌<◌, ◌≤◌, ◌^◌, ℕ, [], List, length, IfErr, IfOk};
-ghost use Rattle.zone_format.specs.Refusal.{IsRefused};
+ghost use Rattle.zone_format.specs.Refusal.{IsWithoutForm};
 ghost use Rattle.zonetext_lib.specs.Blocks.{Holds};
 ghost use Rattle.zonetext_lib.specs.Forming.{AddsForm, FormedSoFar, FormsAll, FormsSettled};
 ghost use Rattle.zonetext_lib.specs.Forming.{HasNoForm, HasNoFormAfter, HasPosition};
@@ -62,7 +62,7 @@ fn why_after(place: Place, octets: &[u8], refusal: Refusal) -> NoForm
     requires room { place.at + length octets.now + 2 < 2 ^ 64 }
     requires line { place.position.line ≤ place.at + 1 }
     requires column { place.position.column ≤ place.at + 1 }
-    requires refused { IsRefused octets.now refusal }
+    requires refused { IsWithoutForm octets.now refusal }
     ensures { HasNoFormAfter place octets.now result }
 {
     match refusal {
@@ -183,7 +183,7 @@ impl<A: Allocator> Formatter<A> {
 
     /// Why all octets have no form.
     fn why_last(&self, refusal: Refusal) -> NoForm
-        requires { IsRefused self.now.held.octets refusal }
+        requires { IsWithoutForm self.now.held.octets refusal }
         ensures { (all : List ℕ) → Holds all self.now.held → HasNoForm all result }
     {
         let (place, held) = (self.checker.place(), self.checker.held());

@@ -1,7 +1,7 @@
 use Rattle.std.proofs.Common.{◌≡◌, ◌++◌, sym, ap, ◌∙◌, subst, arith, append_assoc}
 use Rattle.std.proofs.lemmas.List.Sums.{count_by-le-length}
 use Rattle.zone_format.specs.Columns.{starts_character}
-use Rattle.zone_format.specs.Writing.{Fits, before, token_before}
+use Rattle.zone_format.specs.Writing.{LineFits, blanks_before, token_before}
 use Rattle.zone_format.proofs.Fitting.{token_fits}
 use Rattle.zone_format.proofs.writing.push_token.Goals as goal
 
@@ -15,9 +15,9 @@ returns g c =
     let x = c.args.token.now in
     let glued = c.args.is_glued in
     let out : c.extend_from_slice.new.self.items ≡ old ++ (token_before s glued x ++ x) =
-    c.in_ok-extend_from_slice.ensures.items ∙ ap (λ l. l ++ x) (c.in_ok-push_before.ensures ∙ ap (λ n. old ++ before s n) c.token_column-column.ensures.column) ∙ append_assoc old (token_before s glued x) x in
+    c.in_ok-extend_from_slice.ensures.items ∙ ap (λ l. l ++ x) (c.in_ok-push_before.ensures ∙ ap (λ n. old ++ blanks_before s n) c.token_column-column.ensures.column) ∙ append_assoc old (token_before s glued x) x in
     record {
       stand = c.after_token.ensures;
       out = out;
-      fits = subst (Fits c.extend_from_slice.new.self.items) (sym c.after_token.ensures) (token_fits old s glued x c.extend_from_slice.new.self.items (count_by-le-length starts_character x) c.requires.fits out);
+      fits = subst (LineFits c.extend_from_slice.new.self.items) (sym c.after_token.ensures) (token_fits old s glued x c.extend_from_slice.new.self.items (count_by-le-length starts_character x) c.requires.fits out);
     }

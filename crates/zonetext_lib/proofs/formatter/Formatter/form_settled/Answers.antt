@@ -1,7 +1,7 @@
 use Rattle.std.proofs.Common.{subst, take}
 use Rattle.std.specs.Prelude.{Ok, Err}
 use Rattle.zone_format.specs.Blocks.{FormatsEntries}
-use Rattle.zone_format.specs.Refusal.{IsRefused}
+use Rattle.zone_format.specs.Refusal.{IsWithoutForm}
 use Rattle.zone_format.specs.declared.refusal.Refusal.TheVariants.{Nul as NulAt, OrderMark as OrderMarkAt}
 use Rattle.zonetext_lib.specs.Forming.{FormsSettled, HasNoFormAfter, HasPosition}
 use Rattle.zonetext_lib.specs.HeldForm.{Forming}
@@ -38,7 +38,7 @@ returns-in-Err-Nul g c =
     let from = c.args.out.now.items in
     let to = c.format_last.new.out.items in
     let bad = c.in-Err.ensures.settled in
-    let r = subst (λ l. IsRefused l (NulAt at)) c.held-held.ensures.held (subst (IsRefused c.held-held.result.now) c.in-Err-Nul.field-0-is c.in-Err-Nul.ensures.bad) in
+    let r = subst (λ l. IsWithoutForm l (NulAt at)) c.held-held.ensures.held (subst (IsWithoutForm c.held-held.result.now) c.in-Err-Nul.field-0-is c.in-Err-Nul.ensures.bad) in
     let k = subst (λ (q : Place). HasPosition q h.octets at p) c.place-place.ensures.place (subst (λ l. HasPosition c.place-place.result l at p) c.held-held.ensures.held c.position_in.ensures) in
     subst (λ (f : Forming). FormsSettled f from to (Err (Nul p))) c.self.view_is (λ all more x m. bad_nul all more h bad.0 at p c.held-held.ensures.octets bad.1 r k x m)
 
@@ -50,6 +50,6 @@ returns-in-Err-OrderMark g c =
     let from = c.args.out.now.items in
     let to = c.format_last.new.out.items in
     let bad = c.in-Err.ensures.settled in
-    let r = subst (λ l. IsRefused l (OrderMarkAt at)) c.held-held.ensures.held (subst (IsRefused c.held-held.result.now) c.in-Err-OrderMark.field-0-is c.in-Err-OrderMark.ensures.bad) in
+    let r = subst (λ l. IsWithoutForm l (OrderMarkAt at)) c.held-held.ensures.held (subst (IsWithoutForm c.held-held.result.now) c.in-Err-OrderMark.field-0-is c.in-Err-OrderMark.ensures.bad) in
     let k = subst (λ (q : Place). HasPosition q h.octets at p) c.place-place.ensures.place (subst (λ l. HasPosition c.place-place.result l at p) c.held-held.ensures.held c.position_in-in-Err-OrderMark.ensures) in
     subst (λ (f : Forming). FormsSettled f from to (Err (OrderMark p))) c.self.view_is (λ all more x m. bad_mark all more h bad.0 at p c.held-held.ensures.octets bad.1 r k x m)
