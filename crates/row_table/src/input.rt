@@ -74,7 +74,7 @@ impl Inputs {
 }
 
 /// The number that decimal digits spell.
-fn number_of(digits: &[u8]) -> Option<usize> {
+pub fn number_of(digits: &[u8]) -> Option<usize> {
     str::from_utf8(digits).ok()?.parse::<usize>().ok()
 }
 
