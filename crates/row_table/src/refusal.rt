@@ -30,36 +30,18 @@ enum Refusal {
     Wrong,
 }
 
-/// The texts of a refusal for lack of memory.
-const SHORT: [&str; 4] = [
-    "buffer size exceeded",
-    "short buffer",
-    "refused: short buffer",
-    "refused: invalid domain name",
-];
-
-/// Whether a text begins with one of these.
-fn begins_short(text: &str) -> bool {
-    for short in &SHORT {
-        if text.starts_with(*short) {
-            return true;
-        }
-    }
-    false
-}
-
 /// Whether an answer is one for lack of memory, after a beginning of the wanted one.
-fn is_short(answer: &str, wanted: &str) -> bool {
+fn is_short<C: Calls>(calls: &C, answer: &str, wanted: &str) -> bool {
     match answer.split_once('!') {
-        Some((made, text)) => wanted.starts_with(made) && begins_short(text),
+        Some((made, refusal)) => wanted.starts_with(made) && calls.lacks_memory(refusal),
         None => false,
     }
 }
 
 /// Whether an answer is the wanted one or one for lack of memory.
-fn is_known(answer: &Result<String, Failure>, wanted: &str) -> bool {
+fn is_known<C: Calls>(calls: &C, answer: &Result<String, Failure>, wanted: &str) -> bool {
     match answer {
-        Ok(text) => text.as_str() == wanted || is_short(text.as_str(), wanted),
+        Ok(text) => text.as_str() == wanted || is_short(calls, text.as_str(), wanted),
         Err(failure) => *failure == Failure::OutOfMemory,
     }
 }
@@ -76,7 +58,7 @@ fn refuse<C: Calls>(
     let heap = Refusing::new(alloc, nth);
     let answer = answer_of(calls, alloc, &heap, name, inputs);
     match heap.has_refused() {
-        true if is_known(&answer, wanted) => Refusal::Met,
+        true if is_known(calls, &answer, wanted) => Refusal::Met,
         false if matches!(&answer, Ok(text) if text.as_str() == wanted) => Refusal::NotMet,
         _ => Refusal::Wrong,
     }

@@ -1,10 +1,14 @@
 //! The calls that rows name.
+mod build;
 mod charstr;
 mod dnstext;
 mod encoding;
 mod format;
+mod label;
 mod name;
+mod octets;
 mod pieces;
+mod scan;
 mod steps;
 mod symbol;
 mod tally;
@@ -17,9 +21,22 @@ use row_table::{Answer, Calls, Failure, Inputs};
 /// The calls of the library.
 pub struct Library;
 
+/// The beginnings of refusals that lack of memory brings.
+const SHORT: [&str; 5] = [
+    "buffer size exceeded",
+    "short buffer",
+    "invalid domain name",
+    "refused: short buffer",
+    "refused: invalid domain name",
+];
+
 impl Calls for Library {
     fn call(&self, name: &str, inputs: &Inputs, answer: &mut Answer<'_>) {
         call(name, inputs, answer);
+    }
+
+    fn lacks_memory(&self, refusal: &str) -> bool {
+        SHORT.iter().any(|short| refusal.starts_with(*short))
     }
 }
 
@@ -32,7 +49,10 @@ fn call(name: &str, inputs: &Inputs, answer: &mut Answer) {
         "base16" => encoding::call(Base::Base16, name, inputs, answer),
         "base32" => encoding::call(Base::Base32, name, inputs, answer),
         "base64" => encoding::call(Base::Base64, name, inputs, answer),
+        "label" => label::call(name, inputs, answer),
         "name" => name::call(name, inputs, answer),
+        "octets" => octets::call(name, inputs, answer),
+        "scan" => scan::call(name, inputs, answer),
         "zone" => zone::call(name, inputs, answer),
         "format" => format::call(name, inputs, answer),
         "zonetext" => zonetext::call(name, inputs, answer),

@@ -1,8 +1,13 @@
 //! Character strings.
+use super::build;
+use super::name::room_of;
 use arrayvec::ArrayVec;
-use dns_charstr::charstr::{CharStr, CharStrBuilder, DisplayQuoted, DisplayUnquoted, FromStrError};
-use dns_octets::{AsOctets, CanonicalOrd, Parser};
+use dns_charstr::charstr::{
+    CharStr, CharStrBuilder, DisplayQuoted, DisplayUnquoted, FromStrError, PresentationError,
+};
+use dns_octets::{AsOctets, CanonicalOrd, OctetsFrom, Parser, ShortBuf};
 use dns_split::token::is_token;
+use dns_symbol::symbol::{BadSymbol, SymbolCharsError};
 use row_table::{Answer, Failure, Heap, Inputs};
 use std::alloc::AllocError;
 use std::cmp::Ordering;
@@ -28,6 +33,11 @@ pub fn call(name: &str, inputs: &Inputs, answer: &mut Answer) {
         "parse" => parse(inputs.octets(answer), answer),
         "skip" => skip(inputs.octets(answer), answer),
         "compose" => compose(inputs.octets(answer), answer),
+        "compose_into" => compose_into(inputs.octets_and_number(answer), answer),
+        "copy" => copy(inputs.octets(answer), answer),
+        "copy_into_two" => copy_into_two(inputs.octets(answer), answer),
+        "steps" => build::string(inputs.all(), answer),
+        "error" => error(inputs.text(answer), answer),
         _ => answer.fail(Failure::NoCall),
     }
 }
@@ -130,7 +140,7 @@ fn upper_hex(octets: &[u8], answer: &mut Answer) {
     answer.add_shown(&string.display_upper_hex());
 }
 
-fn order_name(order: Ordering) -> &'static str {
+pub fn order_name(order: Ordering) -> &'static str {
     match order {
         Ordering::Less => "less",
         Ordering::Equal => "equal",
@@ -166,7 +176,10 @@ fn canonical((one, other): (&[u8], &[u8]), answer: &mut Answer) {
 /// The character string that a wire form begins with, a bar, and what is left.
 fn parse(octets: &[u8], answer: &mut Answer) {
     let mut parser = Parser::from_slice(octets);
-    match CharStr::parse(&mut parser) {
+    let mut other = Parser::from_slice(octets);
+    let made = CharStr::parse(&mut parser);
+    answer.check(CharStr::parse_slice(&mut other) == made && other.pos() == parser.pos());
+    match made {
         Ok(string) => answer.add(string.as_slice()),
         Err(error) => answer.refuse(&error),
     }
@@ -193,4 +206,68 @@ fn compose(octets: &[u8], answer: &mut Answer) {
         Err(error) => answer.refuse(&error),
     }
     answer.check(target.len() == usize::from(string.compose_len()));
+}
+
+/// What of a wire form goes into so much room: whether all did, a bar, and the octets.
+fn compose_into((octets, left): (&[u8], usize), answer: &mut Answer) {
+    let string = string(octets, answer);
+    let mut room = room_of(left);
+    let taken = room.len();
+    if let Err(error) = string.compose(&mut room) {
+        answer.refuse(&error);
+    }
+    answer.add_text("|");
+    answer.add(AsOctets::as_slice(&room).get(taken..).unwrap_or_default());
+}
+
+/// A copy, or the refusal.
+fn tell_copy<O: AsOctets + Drop>(copy: Result<CharStr<O>, ShortBuf>, answer: &mut Answer) {
+    match copy {
+        Ok(copy) => answer.add(copy.as_slice()),
+        Err(error) => answer.refuse(&error),
+    }
+}
+
+/// A copy of octets, in a vector and in an array.
+fn copy(octets: &[u8], answer: &mut Answer) {
+    let string = string(octets, answer);
+    let mut other = answer.another();
+    tell_copy(
+        CharStr::<ArrayVec<u8, 255>>::try_octets_from((), string.for_slice()),
+        &mut other,
+    );
+    tell_copy(
+        CharStr::<Octets>::try_octets_from(answer.heap(), string.for_slice()),
+        answer,
+    );
+    answer.check_same(&other);
+}
+
+/// A copy of octets, in the room of two.
+fn copy_into_two(octets: &[u8], answer: &mut Answer) {
+    let string = string(octets, answer);
+    tell_copy(
+        CharStr::<ArrayVec<u8, 2>>::try_octets_from((), string),
+        answer,
+    );
+}
+
+/// What an error below becomes, in one step or in two.
+fn refuse_presentation(one: FromStrError, other: PresentationError, answer: &mut Answer) {
+    answer.check(one == FromStrError::from(other));
+    answer.refuse(&one);
+}
+
+/// The refusal that an error below becomes.
+fn error(name: &str, answer: &mut Answer) {
+    let short = SymbolCharsError::ShortInput;
+    let bad = SymbolCharsError::BadEscape;
+    let foreign = BadSymbol::NonAscii;
+    match name {
+        "ShortInput" => refuse_presentation(short.into(), short.into(), answer),
+        "BadEscape" => refuse_presentation(bad.into(), bad.into(), answer),
+        "NonAscii" => refuse_presentation(foreign.into(), foreign.into(), answer),
+        "ShortBuf" => answer.refuse(&FromStrError::from(ShortBuf)),
+        _ => answer.fail(Failure::BadInputs),
+    }
 }

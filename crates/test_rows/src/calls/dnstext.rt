@@ -1,14 +1,15 @@
 //! The command `dnstext`.
 use dnstext_lib::program;
-use row_table::{Answer, Heap};
-use std::alloc::AllocError;
+use row_table::Answer;
+use std::alloc::{AllocError, Allocator};
 use std::str;
 
-fn words_of<'a>(
-    heap: &'a Heap,
+/// Inputs as words.
+pub fn words_of<'a, A: Allocator>(
+    alloc: A,
     inputs: &'a [Vec<u8>],
-) -> Result<Vec<&'a str, &'a Heap>, AllocError> {
-    let mut words = Vec::new(heap);
+) -> Result<Vec<&'a str, A>, AllocError> {
+    let mut words = Vec::new(alloc);
     for input in inputs {
         words.push(str::from_utf8(input.as_slice()).unwrap_or(""))?;
     }

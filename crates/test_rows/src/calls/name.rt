@@ -1,12 +1,22 @@
 //! Names.
+use super::build;
+use arrayvec::ArrayVec;
+use dns_name::chain::{Chain, LongChainError};
 use dns_name::name::{FromStrError, UncertainName};
-use dns_wire::ZoneName;
+use dns_octets::{AsOctets, OctetsBuilder, ShortBuf};
+use dns_wire::{
+    DisplayWithDot, DisplayWithoutDot, FlattenInto, Label, Name, RelativeName, ToLabelIter,
+    ToRelativeName, ZoneName,
+};
+use row_table::input::number_of;
 use row_table::{Answer, Failure, Heap, Inputs};
 use std::hash::{DefaultHasher, Hash, Hasher};
 use std::str;
 
-/// A name in memory of which one growth may be refused.
-type Vector<'a> = UncertainName<Vec<u8, &'a Heap>>;
+/// Octets in memory of which one growth may be refused.
+type Octets<'a> = Vec<u8, &'a Heap>;
+
+type Vector<'a> = UncertainName<Octets<'a>>;
 
 pub fn call(name: &str, inputs: &Inputs, answer: &mut Answer) {
     match name {
@@ -15,7 +25,14 @@ pub fn call(name: &str, inputs: &Inputs, answer: &mut Answer) {
         "zone" => zone(inputs.octets(answer), answer),
         "of" => of(inputs.octets(answer), answer),
         "are_equal" => are_equal(inputs.two(answer), answer),
-        "chain" => chain(inputs.two(answer), answer),
+        "absolute" => absolute(inputs.octets(answer), answer),
+        "relative" => relative(inputs.octets(answer), answer),
+        "labels" => labels(inputs.octets(answer), answer),
+        "build" => build::name(inputs.all(), answer),
+        "chain" => chain(inputs.all(), answer),
+        "chain_labels" => chain_labels(inputs.two(answer), answer),
+        "flatten" => flatten(inputs.two(answer), answer),
+        "compose_into" => compose_into(inputs.all(), answer),
         _ => answer.fail(Failure::NoCall),
     }
 }
@@ -98,11 +115,110 @@ fn are_equal((one, other): (&[u8], &[u8]), answer: &mut Answer) {
     }
 }
 
-/// The text of a chain of two names, a bar, and its text with a dot.
-fn chain((one, other): (&[u8], &[u8]), answer: &mut Answer) {
-    let UncertainName::Absolute(right) = name_of(other, answer) else {
-        return answer.fail(Failure::BadInputs);
-    };
+/// The text of octets as an absolute name, a bar, and its text with a dot.
+fn absolute(octets: &[u8], answer: &mut Answer) {
+    match Name::from_octets(octets) {
+        Ok(name) => {
+            answer.add_shown(&name);
+            answer.add_text("|");
+            answer.add_shown(&DisplayWithDot::new(&name));
+            let mut other = answer.another();
+            other.add_shown(&DisplayWithoutDot::new(&name));
+            other.add_text("|");
+            other.add_shown(&UncertainName::from(name));
+            answer.check_same(&other);
+        }
+        Err(error) => answer.refuse(&error),
+    }
+}
+
+/// The text of octets as a relative name.
+fn relative(octets: &[u8], answer: &mut Answer) {
+    match RelativeName::from_octets(octets) {
+        Ok(name) => {
+            answer.add_shown(&name);
+            let mut other = answer.another();
+            other.add_shown(&UncertainName::from(name));
+            answer.check_same(&other);
+        }
+        Err(error) => answer.refuse(&error),
+    }
+}
+
+/// Adds a label and a bar.
+fn add_label(label: Label, answer: &mut Answer) {
+    answer.add(label.as_slice());
+    answer.add_text("|");
+}
+
+/// Adds a label, if there is one.
+fn add_next(label: Option<Label>, answer: &mut Answer) {
+    if let Some(label) = label {
+        add_label(label, answer);
+    }
+}
+
+/// The most labels that a name has, and one more.
+const MANY: usize = 129;
+
+/// The labels of a name from the front, from the back, and from both ends in turn.
+fn labels(octets: &[u8], answer: &mut Answer) {
+    let name = name_of(octets, answer);
+    for label in &name {
+        add_label(label, answer);
+    }
+    answer.add_text("/");
+    let mut left = name.iter_labels();
+    for _ in 0..MANY {
+        add_next(left.next_back(), answer);
+    }
+    answer.add_text("/");
+    let mut left = name.iter_labels();
+    for _ in 0..MANY {
+        add_next(left.next(), answer);
+        match left.clone() {
+            Ok(copy) => left = copy,
+            Err(_) => answer.fail_for_memory(),
+        }
+        add_next(left.next_back(), answer);
+    }
+}
+
+/// A relative name, which octets that are none are not.
+fn relative_of<'a>(octets: &'a [u8], answer: &mut Answer) -> RelativeName<&'a [u8]> {
+    let made = RelativeName::from_octets(octets);
+    if made.is_err() {
+        answer.fail(Failure::BadInputs);
+    }
+    made.unwrap_or(RelativeName::empty_ref())
+}
+
+/// An absolute name, which octets that are none are not.
+fn absolute_of<'a>(octets: &'a [u8], answer: &mut Answer) -> Name<&'a [u8]> {
+    let made = Name::from_octets(octets);
+    if made.is_err() {
+        answer.fail(Failure::BadInputs);
+    }
+    made.unwrap_or(Name::root_ref())
+}
+
+/// The text of a chain, a bar, and its text with a dot.
+fn add_chain<L: ToRelativeName + Drop, R: ToLabelIter + Drop>(
+    made: Result<Chain<L, R>, LongChainError>,
+    answer: &mut Answer,
+) {
+    match made {
+        Ok(chain) => {
+            answer.add_shown(&chain);
+            answer.add_text("|");
+            answer.add_shown(&chain.fmt_with_dot());
+        }
+        Err(error) => answer.refuse(&error),
+    }
+}
+
+/// The same of a chain after a name that is absolute or relative.
+fn add_uncertain_chain(one: &[u8], right: &Name<&[u8]>, answer: &mut Answer) {
     match name_of(one, answer).chain(right) {
         Ok(chain) => {
             answer.add_shown(&chain);
@@ -111,4 +227,179 @@ fn chain((one, other): (&[u8], &[u8]), answer: &mut Answer) {
         }
         Err(error) => answer.refuse(&error),
     }
+}
+
+/// The text of a chain of two names, which all kinds of chains have.
+fn chain_of_two(one: &[u8], other: &[u8], answer: &mut Answer) {
+    let right = name_of(other, answer);
+    let mut uncertain = answer.another();
+    if let UncertainName::Absolute(right) = &right {
+        add_uncertain_chain(one, right, &mut uncertain);
+    }
+    match name_of(one, answer) {
+        UncertainName::Relative(left) => add_chain(Chain::new(left, &right), answer),
+        UncertainName::Absolute(_) => return add_uncertain_chain(
+            one,
+            &absolute_of(other, answer),
+            answer,
+        ),
+    }
+    if right.is_absolute() {
+        answer.check_same(&uncertain);
+    }
+}
+
+/// The text of a chain of three names, of which the first two are relative.
+fn chain_of_three(one: &[u8], middle: &[u8], other: &[u8], answer: &mut Answer) {
+    let left = relative_of(one, answer);
+    let middle = relative_of(middle, answer);
+    let right = name_of(other, answer);
+    let chain = match Chain::new(&left, &middle) {
+        Ok(chain) => chain,
+        Err(error) => return answer.refuse(&error),
+    };
+    let mut other = answer.another();
+    match chain.clone() {
+        Ok(copy) => add_chain(copy.chain(&right), &mut other),
+        Err(_) => answer.fail_for_memory(),
+    }
+    add_chain(chain.chain(&right), answer);
+    answer.check_same(&other);
+}
+
+fn chain(names: &[Vec<u8>], answer: &mut Answer) {
+    match names {
+        [one, other] => chain_of_two(one.as_slice(), other.as_slice(), answer),
+        [one, middle, other] => {
+            chain_of_three(one.as_slice(), middle.as_slice(), other.as_slice(), answer)
+        }
+        _ => answer.fail(Failure::BadInputs),
+    }
+}
+
+/// The labels of a chain after a relative name from the front, from the back, and from both ends
+/// in turn.
+fn add_chain_labels(
+    chain: &Chain<RelativeName<&[u8]>, &UncertainName<&[u8]>>,
+    answer: &mut Answer,
+) {
+    for label in chain.iter_labels() {
+        add_label(label, answer);
+    }
+    answer.add_text("/");
+    let mut left = chain.iter_labels();
+    for _ in 0..MANY {
+        add_next(left.next_back(), answer);
+    }
+    answer.add_text("/");
+    let mut left = chain.iter_labels();
+    for _ in 0..MANY {
+        add_next(left.next(), answer);
+        match left.clone() {
+            Ok(copy) => left = copy,
+            Err(_) => answer.fail_for_memory(),
+        }
+        add_next(left.next_back(), answer);
+    }
+}
+
+/// The same of a chain after an absolute name.
+fn add_absolute_labels(one: &[u8], other: &[u8], answer: &mut Answer) {
+    let right = absolute_of(other, answer);
+    let Ok(chain) = name_of(one, answer).chain(&right) else {
+        return answer.fail(Failure::BadInputs);
+    };
+    for label in chain.iter_labels() {
+        add_label(label, answer);
+    }
+    answer.add_text("/");
+    let mut left = chain.iter_labels();
+    for _ in 0..MANY {
+        add_next(left.next_back(), answer);
+    }
+}
+
+fn chain_labels((one, other): (&[u8], &[u8]), answer: &mut Answer) {
+    let right = name_of(other, answer);
+    match name_of(one, answer) {
+        UncertainName::Relative(left) => match Chain::new(left, &right) {
+            Ok(chain) => add_chain_labels(&chain, answer),
+            Err(_) => answer.fail(Failure::BadInputs),
+        },
+        UncertainName::Absolute(_) => add_absolute_labels(one, other, answer),
+    }
+}
+
+/// A name that was made of labels, or the refusal.
+fn tell_flat(made: Result<Name<Octets>, ShortBuf>, answer: &mut Answer) {
+    match made {
+        Ok(name) => answer.add(name.as_slice()),
+        Err(error) => answer.refuse(&error),
+    }
+}
+
+/// The wire form of a name is the answer so far.
+fn check_composed<N: ToLabelIter>(name: &N, answer: &mut Answer) {
+    let mut wire = Vec::new(answer.alloc());
+    answer.check(name.compose(&mut wire).is_ok());
+    answer.check(wire.len() == usize::from(name.compose_len()));
+    let mut composed = answer.another();
+    composed.add(wire.as_slice());
+    answer.check_same(&composed);
+}
+
+/// A chain after a relative name makes the answer so far.
+fn check_flat(left: RelativeName<&[u8]>, right: &Name<&[u8]>, answer: &mut Answer) {
+    let Ok(chain) = Chain::new(left, right) else {
+        return answer.fail(Failure::BadInputs);
+    };
+    check_composed(&chain, answer);
+    let mut flat = answer.another();
+    tell_flat(chain.try_flatten_into(answer.heap()), &mut flat);
+    answer.check_same(&flat);
+}
+
+/// The octets of a chain, as a name that is made of it and in wire form.
+fn flatten((one, other): (&[u8], &[u8]), answer: &mut Answer) {
+    let right = absolute_of(other, answer);
+    let Ok(chain) = name_of(one, answer).chain(&right) else {
+        return answer.fail(Failure::BadInputs);
+    };
+    tell_flat((&chain).try_flatten_into(answer.heap()), answer);
+    check_composed(&chain, answer);
+    let (left, _) = chain.unwrap();
+    answer.check(*left.as_slice() == *one);
+    if let UncertainName::Relative(left) = left {
+        check_flat(left, &right, answer);
+    }
+}
+
+/// The room of a composed name.
+pub type Room = ArrayVec<u8, 255>;
+
+/// Room that is left of an array, whose other octets are taken.
+pub fn room_of(left: usize) -> Room {
+    let mut room = Room::new();
+    for _ in left..255 {
+        let _ = room.append_slice(&[0]);
+    }
+    room
+}
+
+/// What of a chain goes into so much room: whether all did, a bar, and the octets.
+fn compose_into(inputs: &[Vec<u8>], answer: &mut Answer) {
+    let [one, other, digits] = inputs else {
+        return answer.fail(Failure::BadInputs);
+    };
+    let right = absolute_of(other.as_slice(), answer);
+    let Ok(chain) = name_of(one.as_slice(), answer).chain(&right) else {
+        return answer.fail(Failure::BadInputs);
+    };
+    let mut room = room_of(number_of(digits.as_slice()).unwrap_or(0));
+    let taken = room.len();
+    if let Err(error) = chain.compose(&mut room) {
+        answer.refuse(&error);
+    }
+    answer.add_text("|");
+    answer.add(AsOctets::as_slice(&room).get(taken..).unwrap_or_default());
 }

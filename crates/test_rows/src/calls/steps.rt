@@ -1,5 +1,6 @@
 //! Encodings, one character or symbol after another.
 use super::encoding::{Base, Octets};
+use arrayvec::ArrayVec;
 use dns_codec::base::Encoding;
 use dns_codec::base64::DecodeError;
 use dns_codec::decoder::Decoder;
@@ -23,10 +24,26 @@ fn step<C: ConvertSymbols<EntrySymbol, StrError>>(
     }
 }
 
+/// The same step by the call that lends what it made.
+fn lending_step<C: ConvertSymbols<EntrySymbol, StrError>>(
+    converter: &mut C,
+    symbol: Symbol,
+) -> Result<Option<&[u8]>, StrError> {
+    match symbol {
+        Symbol::Char('$') => converter.process_tail(),
+        Symbol::Char('|') => converter.process_symbol(EntrySymbol::EndOfToken),
+        _ => converter.process_symbol(EntrySymbol::Symbol(symbol)),
+    }
+}
+
 /// Whether two steps come to the same.
-fn are_alike(one: &Result<(), StrError>, other: &Result<(), StrError>) -> bool {
+fn are_alike(
+    one: Result<Option<&[u8]>, StrError>,
+    other: &Result<(), StrError>,
+    octets: &[u8],
+) -> bool {
     match (one, other) {
-        (Ok(()), Ok(())) => true,
+        (Ok(lent), Ok(())) => *lent.unwrap_or_default() == *octets,
         (Err(one), Err(other)) => one.as_str() == other.as_str(),
         _ => false,
     }
@@ -42,7 +59,8 @@ fn step_alike<C: ConvertSymbols<EntrySymbol, StrError> + Clone>(
     let made = step(converter, symbol);
     match copy {
         Ok(mut copy) => {
-            answer.check(are_alike(&step(&mut copy, symbol), &made));
+            let lent = lending_step(&mut copy, symbol);
+            answer.check(are_alike(lent, &made, converter.lent()));
             answer.check(*copy.lent() == *converter.lent());
         }
         Err(_) => answer.fail_for_memory(),
@@ -67,12 +85,24 @@ fn convert_by<C: ConvertSymbols<EntrySymbol, StrError> + Clone>(
     answer.check(symbols.ok().is_ok());
 }
 
+/// The same of a new converter and of a default one.
+fn convert_alike<C: ConvertSymbols<EntrySymbol, StrError> + Clone + Default>(
+    converter: C,
+    text: &str,
+    answer: &mut Answer,
+) {
+    let mut other = answer.another();
+    convert_by(C::default(), text, &mut other);
+    convert_by(converter, text, answer);
+    answer.check_same(&other);
+}
+
 /// The same of an encoding.
 pub fn convert(base: Base, text: &str, answer: &mut Answer) {
     match base {
-        Base::Base16 => convert_by(base16::SymbolConverter::new(), text, answer),
-        Base::Base32 => convert_by(base32::SymbolConverter::new(), text, answer),
-        Base::Base64 => convert_by(base64::SymbolConverter::new(), text, answer),
+        Base::Base16 => convert_alike(base16::SymbolConverter::new(), text, answer),
+        Base::Base32 => convert_alike(base32::SymbolConverter::new(), text, answer),
+        Base::Base64 => convert_alike(base64::SymbolConverter::new(), text, answer),
     }
 }
 
@@ -102,12 +132,28 @@ where
     }
 }
 
+/// The most octets that a default decoder is pushed into.
+type Array = ArrayVec<u8, 64>;
+
+/// A default decoder makes the same.
+fn push_alike<K: Encoding>(decoder: Decoder<Array, K>, text: &str, answer: &mut Answer) {
+    let mut other = answer.another();
+    push_by(decoder, text, &mut other);
+    answer.check_same(&other);
+}
+
 /// The same of an encoding.
 pub fn push(base: Base, text: &str, answer: &mut Answer) {
     let heap = answer.heap();
     match base {
-        Base::Base16 => push_by(base16::Decoder::<Octets>::new(heap), text, answer),
+        Base::Base16 => {
+            push_by(base16::Decoder::<Octets>::new(heap), text, answer);
+            push_alike(base16::Decoder::<Array>::default(), text, answer);
+        }
         Base::Base32 => push_by(base32::Decoder::<Octets>::new_hex(heap), text, answer),
-        Base::Base64 => push_by(base64::Decoder::<Octets>::new(heap), text, answer),
+        Base::Base64 => {
+            push_by(base64::Decoder::<Octets>::new(heap), text, answer);
+            push_alike(base64::Decoder::<Array>::default(), text, answer);
+        }
     }
 }

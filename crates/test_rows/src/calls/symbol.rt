@@ -2,6 +2,7 @@
 use dns_symbol::form::{Form, Plain, Quoted, Unquoted, write_octets};
 use dns_symbol::symbol::Symbol;
 use dns_symbol::symbols::Symbols;
+use row_table::input::number_of;
 use row_table::{Answer, Failure, Inputs};
 use std::marker::PhantomData;
 use std::{fmt, str};
@@ -15,6 +16,8 @@ pub fn call(name: &str, inputs: &Inputs, answer: &mut Answer) {
         "ascii" => ascii(inputs.octets(answer), answer),
         "char" => character(inputs.octets(answer), answer),
         "digit" => digit(inputs.octets_and_number(answer), answer),
+        "walk" => walk(inputs.two(answer), answer),
+        "is_plain_word_char" => is_plain_word_char(inputs.text(answer), answer),
         "is_word_char" => is_word_char(inputs.octets(answer), answer),
         "plain" => print::<Plain>(inputs.octets(answer), answer),
         "quoted" => print::<Quoted>(inputs.octets(answer), answer),
@@ -66,9 +69,17 @@ fn first(text: &str, answer: &mut Answer) {
 /// The symbols of a text with a bar after each, and what ended them.
 fn each(text: &str, answer: &mut Answer) {
     let mut symbols = Symbols::new(text.chars());
-    for symbol in &mut symbols {
-        answer.add_shown(&symbol);
-        answer.add_text("|");
+    for _ in 0..=text.len() {
+        let copy = symbols.clone();
+        let next = symbols.next();
+        match copy {
+            Ok(mut copy) => answer.check(copy.next() == next),
+            Err(_) => answer.fail_for_memory(),
+        }
+        if let Some(symbol) = next {
+            answer.add_shown(&symbol);
+            answer.add_text("|");
+        }
     }
     if let Err(error) = symbols.ok() {
         answer.refuse(&error);
@@ -117,6 +128,37 @@ fn digit((octets, base): (&[u8], usize), answer: &mut Answer) {
         Ok(digit) => answer.add_number(digit as usize),
         Err(error) => answer.refuse(&error),
     }
+}
+
+/// Whether a character that stands for itself is one of a word.
+fn is_plain_word_char(text: &str, answer: &mut Answer) {
+    let mut chars = text.chars();
+    match (chars.next(), chars.next()) {
+        (Some(c), None) => answer.add_bool(Symbol::from(c).is_word_char()),
+        _ => answer.fail(Failure::BadInputs),
+    }
+}
+
+/// Whether a character, alone in octets, is read as itself.
+fn is_itself(c: char) -> bool {
+    let mut buffer = [0; 4];
+    let text = c.encode_utf8(&mut buffer);
+    let read = Symbol::from_slice_index(text.as_bytes(), 0);
+    read == Ok(Some((Symbol::Char(c), text.len())))
+}
+
+/// How many characters from one number to another are read as themselves.
+fn walk((first, last): (&[u8], &[u8]), answer: &mut Answer) {
+    let (Some(first), Some(last)) = (number_of(first), number_of(last)) else {
+        return answer.fail(Failure::BadInputs);
+    };
+    let mut count: usize = 0;
+    for code in first..=last.min(0x10_FFFF) {
+        if char::from_u32(code as u32).is_some_and(is_itself) {
+            count = count.saturating_add(1);
+        }
+    }
+    answer.add_number(count);
 }
 
 fn is_word_char(octets: &[u8], answer: &mut Answer) {

@@ -1,0 +1,287 @@
+//! Scanning, one step after another.
+//!
+//! A text of steps with commas between says what is scanned in turn: `octets,u8,end`.
+use super::dnstext::words_of;
+use arrayvec::ArrayVec;
+use dns_charstr::charstr::CharStr;
+use dns_codec::{base16, base32, base64};
+use dns_iter::entry::{EntryScanner, entry_at, entry_scanner};
+use dns_iter::scanner::IterScanner;
+use dns_octets::{AsOctets, Str, Ttl};
+use dns_scan::{Scan, Scanner, ScannerError, StrError, expect_end, scan_rest};
+use dns_split::splitting::split;
+use dns_symbol::symbol::{EntrySymbol, Symbol};
+use row_table::{Answer, Failure, Heap, Inputs};
+use std::iter::Copied;
+use std::slice::Iter;
+use std::{fmt, str};
+
+/// Tokens as they are spelled.
+type Words<'a> = Copied<Iter<'a, &'a str>>;
+
+/// Octets in memory of which one growth may be refused.
+type Octets<'a> = Vec<u8, &'a Heap>;
+
+type WordScanner<'a> = IterScanner<Words<'a>, Octets<'a>>;
+
+type FourScanner<'a> = IterScanner<Words<'a>, ArrayVec<u8, 4>>;
+
+pub fn call(name: &str, inputs: &Inputs, answer: &mut Answer) {
+    match name {
+        "tokens" => tokens(inputs.all(), answer),
+        "four" => four(inputs.all(), answer),
+        "entry" => entry(inputs.all(), answer),
+        "text" => text(inputs.two(answer), answer),
+        _ => answer.fail(Failure::NoCall),
+    }
+}
+
+/// Octets that were scanned, or the refusal.
+fn tell<O: AsOctets + Drop>(made: Result<O, StrError>, answer: &mut Answer) {
+    match made {
+        Ok(octets) => answer.add(octets.as_slice()),
+        Err(error) => answer.refuse(&error),
+    }
+}
+
+/// The same of a value that prints.
+fn tell_value<T: fmt::Display + Drop>(made: Result<T, StrError>, answer: &mut Answer) {
+    match made {
+        Ok(value) => match value.to_string(answer.alloc()) {
+            Ok(text) => answer.add_text(text.as_str()),
+            Err(_) => answer.fail_for_memory(),
+        },
+        Err(error) => answer.refuse(&error),
+    }
+}
+
+/// The same of a text.
+fn tell_text<O: AsOctets + Drop>(made: Result<Str<O>, StrError>, answer: &mut Answer) {
+    match made {
+        Ok(text) => answer.add_text(text.as_str()),
+        Err(error) => answer.refuse(&error),
+    }
+}
+
+/// The same of a step that makes nothing.
+fn tell_end(made: Result<(), StrError>, answer: &mut Answer) {
+    match made {
+        Ok(()) => answer.add_text("ok"),
+        Err(error) => answer.refuse(&error),
+    }
+}
+
+/// Scans octets of one kind or another.
+fn take_octets<S: Scanner<Error = StrError>>(scanner: &mut S, step: &str, answer: &mut Answer)
+where
+    S::Octets: Drop,
+    S::Name: AsOctets + Drop,
+    requires { S.can_scan scanner.old }
+    ensures { S.can_scan scanner.new }
+{
+    match step {
+        "octets" => tell(scanner.scan_octets(), answer),
+        "text" => tell_text(scanner.scan_string(), answer),
+        "name" => tell(scanner.scan_name(), answer),
+        "charstr" => tell(CharStr::scan(scanner), answer),
+        "strings" => tell(scanner.scan_charstr_entry(), answer),
+        "parameters" => tell(scanner.scan_svcb_octets(), answer),
+        "rest" => tell(scan_rest::<_, _, u8>(answer.heap(), scanner), answer),
+        _ => answer.fail(Failure::BadInputs),
+    }
+}
+
+/// Scans a number, or else octets.
+fn take_number<S: Scanner<Error = StrError>>(scanner: &mut S, step: &str, answer: &mut Answer)
+where
+    S::Octets: Drop,
+    S::Name: AsOctets + Drop,
+    requires { S.can_scan scanner.old }
+    ensures { S.can_scan scanner.new }
+{
+    match step {
+        "u8" => tell_value(u8::scan(scanner), answer),
+        "u16" => tell_value(u16::scan(scanner), answer),
+        "u32" => tell_value(u32::scan(scanner), answer),
+        "u64" => tell_value(u64::scan(scanner), answer),
+        "u128" => tell_value(u128::scan(scanner), answer),
+        "ttl" => tell_value(Ttl::scan(scanner).map(|ttl| ttl.as_secs()), answer),
+        _ => take_octets(scanner, step, answer),
+    }
+}
+
+/// Scans by a converter, or else a number or octets.
+fn convert<S: Scanner<Error = StrError>>(scanner: &mut S, step: &str, answer: &mut Answer)
+where
+    S::Octets: Drop,
+    S::Name: AsOctets + Drop,
+    requires { S.can_scan scanner.old }
+    ensures { S.can_scan scanner.new }
+{
+    match step {
+        "hex" => tell(
+            scanner.convert_token(base16::SymbolConverter::new()),
+            answer,
+        ),
+        "base32hex" => tell(
+            scanner.convert_token(base32::SymbolConverter::new()),
+            answer,
+        ),
+        "base64" => tell(
+            scanner.convert_token(base64::SymbolConverter::new()),
+            answer,
+        ),
+        "hex_rest" => tell(
+            scanner.convert_entry(base16::SymbolConverter::new()),
+            answer,
+        ),
+        "base32hex_rest" => tell(
+            scanner.convert_entry(base32::SymbolConverter::new()),
+            answer,
+        ),
+        "base64_rest" => tell(
+            scanner.convert_entry(base64::SymbolConverter::new()),
+            answer,
+        ),
+        _ => take_number(scanner, step, answer),
+    }
+}
+
+/// Adds a symbol with a bar, and refuses one that is a dollar sign.
+fn take_symbol(symbol: Symbol, answer: &mut Answer) -> Result<(), StrError> {
+    if symbol == Symbol::Char('$') {
+        return Err(StrError::custom("enough"));
+    }
+    answer.add_shown(&symbol);
+    answer.add_text("|");
+    Ok(())
+}
+
+/// Adds the symbols of a token, up to a dollar sign.
+fn hand_over<S: Scanner<Error = StrError>>(scanner: &mut S, answer: &mut Answer)
+    requires { S.can_scan scanner.old }
+    ensures { S.can_scan scanner.new }
+{
+    let mut op = |symbol: Symbol| -> Result<(), StrError> { take_symbol(symbol, answer) };
+    let ended = scanner.scan_symbols(&mut op);
+    tell_end(ended, answer);
+}
+
+/// Adds the symbols of all tokens with a slash after each token, up to a dollar sign.
+fn hand_all_over<S: Scanner<Error = StrError>>(scanner: &mut S, answer: &mut Answer)
+    requires { S.can_scan scanner.old }
+    ensures { S.can_scan scanner.new }
+{
+    let mut op = |symbol: EntrySymbol| -> Result<(), StrError> {
+        match symbol {
+            EntrySymbol::Symbol(symbol) => take_symbol(symbol, answer),
+            EntrySymbol::EndOfToken => {
+                answer.add_text("/");
+                Ok(())
+            }
+        }
+    };
+    let ended = scanner.scan_entry_symbols(&mut op);
+    tell_end(ended, answer);
+}
+
+/// Takes a step: a question or symbols, or else what `convert` takes.
+fn take_step<S: Scanner<Error = StrError>>(scanner: &mut S, step: &str, answer: &mut Answer)
+where
+    S::Octets: Drop,
+    S::Name: AsOctets + Drop,
+    requires { S.can_scan scanner.old }
+    ensures { S.can_scan scanner.new }
+{
+    match step {
+        "continues" => answer.add_bool(scanner.continues()),
+        "space" => answer.add_bool(scanner.has_space()),
+        "marker" => tell_value(scanner.scan_opt_unknown_marker(), answer),
+        "ascii" => tell_value(scanner.scan_ascii_str(|text| Ok(text.len())), answer),
+        "symbols" => hand_over(scanner, answer),
+        "entry_symbols" => hand_all_over(scanner, answer),
+        "end" => tell_end(expect_end(scanner), answer),
+        _ => convert(scanner, step, answer),
+    }
+}
+
+/// Takes steps, and adds what each made with a comma after it.
+fn take_steps<S: Scanner<Error = StrError>>(scanner: &mut S, steps: &str, answer: &mut Answer)
+where
+    S::Octets: Drop,
+    S::Name: AsOctets + Drop,
+    requires { S.can_scan scanner.old }
+    ensures { S.can_scan scanner.new }
+{
+    for step in steps.split(',') {
+        take_step(scanner, step, answer);
+        answer.add_text(",");
+    }
+}
+
+/// The steps and the tokens of a row.
+fn steps_and_words<'a>(inputs: &'a [Vec<u8>], answer: &mut Answer) -> (&'a str, &'a [Vec<u8>]) {
+    match inputs {
+        [steps, words @ ..] => (str::from_utf8(steps.as_slice()).unwrap_or(""), words),
+        [] => {
+            answer.fail(Failure::BadInputs);
+            ("", &[])
+        }
+    }
+}
+
+/// Scans tokens as they are spelled.
+fn tokens(inputs: &[Vec<u8>], answer: &mut Answer) {
+    let (steps, words) = steps_and_words(inputs, answer);
+    let Ok(words) = words_of(answer.heap(), words) else {
+        return answer.fail_for_memory();
+    };
+    let mut scanner: WordScanner = IterScanner::new(answer.heap(), words.iter().copied());
+    take_steps(&mut scanner, steps, answer);
+    let is_left = scanner.continues();
+    answer.check(scanner.is_exhausted() != is_left);
+}
+
+/// The same into at most four octets.
+fn four(inputs: &[Vec<u8>], answer: &mut Answer) {
+    let (steps, words) = steps_and_words(inputs, answer);
+    let Ok(words) = words_of(answer.alloc(), words) else {
+        return answer.fail_for_memory();
+    };
+    let mut scanner: FourScanner = IterScanner::new((), words.iter().copied());
+    take_steps(&mut scanner, steps, answer);
+}
+
+/// Scans the tokens of an entry that began with a blank.
+fn entry(inputs: &[Vec<u8>], answer: &mut Answer) {
+    let (steps, words) = steps_and_words(inputs, answer);
+    let Ok(words) = words_of(answer.heap(), words) else {
+        return answer.fail_for_memory();
+    };
+    let mut scanner: EntryScanner<'_, &str, Octets> = entry_scanner(
+        answer.heap(),
+        words.as_slice(),
+        true,
+    );
+    take_steps(&mut scanner, steps, answer);
+}
+
+/// Scans each entry of zone text by the same steps, with a slash after each.
+fn text((steps, text): (&[u8], &[u8]), answer: &mut Answer) {
+    let steps = str::from_utf8(steps).unwrap_or("");
+    let Ok(entries) = split(answer.alloc(), str::from_utf8(text).unwrap_or("")) else {
+        return answer.fail_for_memory();
+    };
+    for place in 0..=entries.len() {
+        let found: Option<EntryScanner<'_, String, Octets>> = entry_at(
+            answer.heap(),
+            entries.as_slice(),
+            place,
+        );
+        answer.check(found.is_some() == (place < entries.len()));
+        if let Some(mut scanner) = found {
+            take_steps(&mut scanner, steps, answer);
+            answer.add_text("/");
+        }
+    }
+}
