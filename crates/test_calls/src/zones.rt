@@ -2,7 +2,6 @@
 mod documents;
 mod entry_lines;
 mod example;
-mod formatter;
 mod growths;
 mod in_a_row;
 mod joints;
