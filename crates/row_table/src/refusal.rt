@@ -32,10 +32,25 @@ enum Refusal {
 
 /// Whether an answer is one for lack of memory, after a beginning of the wanted one.
 fn is_short<C: Calls>(calls: &C, answer: &str, wanted: &str) -> bool {
-    match answer.split_once('!') {
-        Some((made, refusal)) => wanted.starts_with(made) && calls.lacks_memory(refusal),
-        None => false,
+    let mut found = answer;
+    let mut left = wanted;
+    for _ in 0..=answer.len() {
+        let Some((made, refusal)) = found.split_once('!') else {
+            return false;
+        };
+        let Some(rest) = left.strip_prefix(made) else {
+            return false;
+        };
+        if calls.lacks_memory(refusal) {
+            return true;
+        }
+        let Some(after) = rest.strip_prefix('!') else {
+            return false;
+        };
+        found = refusal;
+        left = after;
     }
+    false
 }
 
 /// Whether an answer is the wanted one or one for lack of memory.
