@@ -15,6 +15,7 @@ pub fn call(name: &str, inputs: &Inputs, answer: &mut Answer) {
         "zone" => zone(inputs.octets(answer), answer),
         "of" => of(inputs.octets(answer), answer),
         "are_equal" => are_equal(inputs.two(answer), answer),
+        "into_absolute" => super::absolute::into_absolute(inputs.octets(answer), answer),
         "chain" => chain(inputs.two(answer), answer),
         _ => answer.fail(Failure::NoCall),
     }
