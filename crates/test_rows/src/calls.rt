@@ -1,4 +1,5 @@
 //! The calls that rows name.
+mod absolute;
 mod build;
 mod charstr;
 mod dnstext;

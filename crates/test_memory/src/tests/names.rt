@@ -2,56 +2,9 @@
 use super::{Call, Heap, Hostile, Missed, Told, answered, both, holds, keeps};
 use dns_name::chain::Chain;
 use dns_name::name::UncertainName;
-use dns_octets::{OctetsFrom, ShortBuf};
-use dns_wire::{FlattenInto, Name, PushError, RelativeName};
+use dns_octets::ShortBuf;
+use dns_wire::{FlattenInto, Name, RelativeName};
 use std::alloc::{AllocError, Global};
-
-/// A relative name is made absolute, its octets in as much room as they need, and again as one that
-/// is uncertain.
-#[derive(Drop)]
-struct MakesAbsolute<'a> {
-    relative: &'a [u8],
-    absolute: &'a [u8],
-}
-
-/// The relative name of these octets.
-fn relative<'a>(heap: &'a Heap, octets: &[u8]) -> Result<RelativeName<Hostile<'a>>, Missed> {
-    match OctetsFrom::try_octets_from(heap, octets) {
-        Ok(copy) => match RelativeName::from_octets(copy) {
-            Ok(name) => Ok(name),
-            Err(_) => Err(Missed::Wrong),
-        },
-        Err(ShortBuf) => Err(Missed::Short),
-    }
-}
-
-impl Call for MakesAbsolute<'_> {
-    fn call(&self, heap: &Heap) -> Told {
-        let short = PushError::ShortBuf;
-        let name = relative(heap, self.relative)?;
-        let first = answered(name.into_absolute(), Ok(self.absolute), short);
-        let name = UncertainName::relative(relative(heap, self.relative)?);
-        both(
-            first,
-            answered(name.into_absolute(), Ok(self.absolute), short),
-        )
-    }
-}
-
-#[test]
-fn names_are_made_absolute(rt: HostRuntime) {
-    let alloc = rt.alloc();
-    let rows: [(&[u8], &[u8]); 2] = [
-        (b"\x07sevenx7", b"\x07sevenx7\x00"),
-        (
-            b"\x03www\x03www\x03www\x03www",
-            b"\x03www\x03www\x03www\x03www\x00",
-        ),
-    ];
-    for (relative, absolute) in rows {
-        assert!(rt; keeps(alloc, &MakesAbsolute { relative, absolute }, 4));
-    }
-}
 
 /// The root is made, as a name that is uncertain and as one that isn't.
 #[derive(Drop)]

@@ -1,12 +1,12 @@
 //! What is left of an entry, and the entries that the cursor gives.
-use super::{Call, Heap, Hostile, Told, holds, keeps, told_ample, told_refusal};
+use super::{Call, Heap, Hostile, Told, keeps, told_ample, told_refusal};
 use dns_charstr::charstr::CharStr;
 use dns_codec::base16;
 use dns_iter::{EntryScanner, StrError, TokenText, entry_scanner};
 use dns_octets::AsOctets;
 use dns_scan::{RestOf, Scan, Scanner, ScannerError, scan_rest, strings_rest};
 use dns_split::pieces::{Piece, Pieces};
-use std::alloc::{AllocError, Allocator, Global};
+use std::alloc::{Allocator, Global};
 
 const SHORT: &str = "short buffer";
 
@@ -184,18 +184,6 @@ fn rests_are_read(rt: HostRuntime) {
     assert!(rt; is_read(alloc, &[], Rest::Strings(&[]), 0));
     assert!(rt; is_read(alloc, &["66", "6F6F6", "2"], Rest::Hex(b"foob"), 1));
     assert!(rt; is_read(alloc, &[], Rest::Hex(b""), 0));
-}
-
-/// Whether so many numbers are read, in a list that grows as often as that at least.
-fn is_long_rest_read(alloc: Global, count: usize, least: u64) -> Result<bool, AllocError> {
-    let tokens = ["7"].repeat(alloc, count)?;
-    let values = [7].repeat(alloc, count)?;
-    Ok(is_read(alloc, &tokens, Rest::Numbers(&values), least))
-}
-
-#[test]
-fn long_rests_are_read(rt: HostRuntime) {
-    holds(&rt, is_long_rest_read(rt.alloc(), 1000, 8), "numbers");
 }
 
 #[test]

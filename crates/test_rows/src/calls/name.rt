@@ -1,5 +1,5 @@
 //! Names.
-use super::build;
+use super::{absolute, build};
 use arrayvec::ArrayVec;
 use dns_name::chain::{Chain, LongChainError};
 use dns_name::name::{FromStrError, UncertainName};
@@ -25,6 +25,7 @@ pub fn call(name: &str, inputs: &Inputs, answer: &mut Answer) {
         "zone" => zone(inputs.octets(answer), answer),
         "of" => of(inputs.octets(answer), answer),
         "are_equal" => are_equal(inputs.two(answer), answer),
+        "into_absolute" => absolute::into_absolute(inputs.octets(answer), answer),
         "absolute" => absolute(inputs.octets(answer), answer),
         "relative" => relative(inputs.octets(answer), answer),
         "labels" => labels(inputs.octets(answer), answer),
