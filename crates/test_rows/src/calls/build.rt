@@ -91,7 +91,7 @@ fn take_name_step<B: OctetsBuilder + AsOctetsMut>(
 ) {
     let made = match step {
         [b'+', octets @ ..] => push_all(builder, octets),
-        [b'=', label @ ..] => builder.append_label(label),
+        [b'=', label @ ..] if !label.is_empty() => builder.append_label(label),
         b"." => {
             builder.end_label();
             Ok(())

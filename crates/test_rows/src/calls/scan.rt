@@ -11,18 +11,14 @@ use dns_octets::{AsOctets, Str, Ttl};
 use dns_scan::{Scan, Scanner, ScannerError, StrError, expect_end, scan_rest};
 use dns_split::splitting::split;
 use dns_symbol::symbol::{EntrySymbol, Symbol};
-use row_table::{Answer, Failure, Heap, Inputs};
+use row_table::{Answer, Failure, Inputs};
+use std::alloc::Allocator;
 use std::iter::Copied;
 use std::slice::Iter;
 use std::{fmt, str};
 
 /// Tokens as they are spelled.
 type Words<'a> = Copied<Iter<'a, &'a str>>;
-
-/// Octets in memory of which one growth may be refused.
-type Octets<'a> = Vec<u8, &'a Heap>;
-
-type WordScanner<'a> = IterScanner<Words<'a>, Octets<'a>>;
 
 type FourScanner<'a> = IterScanner<Words<'a>, ArrayVec<u8, 4>>;
 
@@ -91,6 +87,15 @@ where
     }
 }
 
+/// Scans a time to live.
+fn scan_seconds<S: Scanner>(scanner: &mut S) -> Result<u32, S::Error>
+    requires { S.can_scan scanner.old }
+    ensures { S.can_scan scanner.new }
+{
+    let ttl = Ttl::scan(scanner)?;
+    Ok(ttl.as_secs())
+}
+
 /// Scans a number, or else octets.
 fn take_number<S: Scanner<Error = StrError>>(scanner: &mut S, step: &str, answer: &mut Answer)
 where
@@ -105,7 +110,7 @@ where
         "u32" => tell_value(u32::scan(scanner), answer),
         "u64" => tell_value(u64::scan(scanner), answer),
         "u128" => tell_value(u128::scan(scanner), answer),
-        "ttl" => tell_value(Ttl::scan(scanner).map(|ttl| ttl.as_secs()), answer),
+        "ttl" => tell_value(scan_seconds(scanner), answer),
         _ => take_octets(scanner, step, answer),
     }
 }
@@ -219,10 +224,15 @@ where
     }
 }
 
+/// Octets as a text, or none.
+fn text_of(octets: &[u8]) -> &str {
+    str::from_utf8(octets).unwrap_or("")
+}
+
 /// The steps and the tokens of a row.
 fn steps_and_words<'a>(inputs: &'a [Vec<u8>], answer: &mut Answer) -> (&'a str, &'a [Vec<u8>]) {
     match inputs {
-        [steps, words @ ..] => (str::from_utf8(steps.as_slice()).unwrap_or(""), words),
+        [steps, words @ ..] => (text_of(steps.as_slice()), words),
         [] => {
             answer.fail(Failure::BadInputs);
             ("", &[])
@@ -230,16 +240,20 @@ fn steps_and_words<'a>(inputs: &'a [Vec<u8>], answer: &mut Answer) -> (&'a str, 
     }
 }
 
-/// Scans tokens as they are spelled.
-fn tokens(inputs: &[Vec<u8>], answer: &mut Answer) {
-    let (steps, words) = steps_and_words(inputs, answer);
-    let Ok(words) = words_of(answer.heap(), words) else {
-        return answer.fail_for_memory();
-    };
-    let mut scanner: WordScanner = IterScanner::new(answer.heap(), words.iter().copied());
+/// Scans tokens as they are spelled, into memory of an allocator.
+fn scan_words<A: Allocator + Copy>(alloc: A, words: &[&str], steps: &str, answer: &mut Answer) {
+    let mut scanner: IterScanner<_, Vec<u8, A>> = IterScanner::new(alloc, words.iter().copied());
     take_steps(&mut scanner, steps, answer);
     let is_left = scanner.continues();
     answer.check(scanner.is_exhausted() != is_left);
+}
+
+fn tokens(inputs: &[Vec<u8>], answer: &mut Answer) {
+    let (steps, words) = steps_and_words(inputs, answer);
+    match words_of(answer.heap(), words) {
+        Ok(words) => scan_words(answer.heap(), words.as_slice(), steps, answer),
+        Err(_) => answer.fail_for_memory(),
+    }
 }
 
 /// The same into at most four octets.
@@ -252,36 +266,43 @@ fn four(inputs: &[Vec<u8>], answer: &mut Answer) {
     take_steps(&mut scanner, steps, answer);
 }
 
-/// Scans the tokens of an entry that began with a blank.
-fn entry(inputs: &[Vec<u8>], answer: &mut Answer) {
-    let (steps, words) = steps_and_words(inputs, answer);
-    let Ok(words) = words_of(answer.heap(), words) else {
-        return answer.fail_for_memory();
-    };
-    let mut scanner: EntryScanner<'_, &str, Octets> = entry_scanner(
-        answer.heap(),
-        words.as_slice(),
-        true,
-    );
+/// Scans the tokens of an entry that began with a blank, into memory of an allocator.
+fn scan_entry<A: Allocator + Copy>(alloc: A, words: &[&str], steps: &str, answer: &mut Answer) {
+    let mut scanner: EntryScanner<'_, &str, Vec<u8, A>> = entry_scanner(alloc, words, true);
     take_steps(&mut scanner, steps, answer);
 }
 
-/// Scans each entry of zone text by the same steps, with a slash after each.
+fn entry(inputs: &[Vec<u8>], answer: &mut Answer) {
+    let (steps, words) = steps_and_words(inputs, answer);
+    match words_of(answer.heap(), words) {
+        Ok(words) => scan_entry(answer.heap(), words.as_slice(), steps, answer),
+        Err(_) => answer.fail_for_memory(),
+    }
+}
+
+/// Scans the entry at a place, if it is there, with a slash after it.
+fn scan_entry_at<A: Allocator + Copy>(
+    alloc: A,
+    entries: &[Vec<String>],
+    place: usize,
+    steps: &str,
+    answer: &mut Answer,
+) {
+    let found: Option<EntryScanner<'_, String, Vec<u8, A>>> = entry_at(alloc, entries, place);
+    answer.check(found.is_some() == (place < entries.len()));
+    if let Some(mut scanner) = found {
+        take_steps(&mut scanner, steps, answer);
+        answer.add_text("/");
+    }
+}
+
+/// Scans each entry of zone text by the same steps.
 fn text((steps, text): (&[u8], &[u8]), answer: &mut Answer) {
-    let steps = str::from_utf8(steps).unwrap_or("");
-    let Ok(entries) = split(answer.alloc(), str::from_utf8(text).unwrap_or("")) else {
+    let Ok(entries) = split(answer.alloc(), text_of(text)) else {
         return answer.fail_for_memory();
     };
     for place in 0..=entries.len() {
-        let found: Option<EntryScanner<'_, String, Octets>> = entry_at(
-            answer.heap(),
-            entries.as_slice(),
-            place,
-        );
-        answer.check(found.is_some() == (place < entries.len()));
-        if let Some(mut scanner) = found {
-            take_steps(&mut scanner, steps, answer);
-            answer.add_text("/");
-        }
+        let heap = answer.heap();
+        scan_entry_at(heap, entries.as_slice(), place, text_of(steps), answer);
     }
 }
