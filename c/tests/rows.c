@@ -1,0 +1,136 @@
+/* The rows of crates/test_rows/stdin whose call the library has: each with no room, with one octet
+ * too few, and with just what is needed. Says at the end which calls it has not. */
+#include <dnstext.h>
+#include <stdio.h>
+#include <stdlib.h>
+#include <string.h>
+
+enum { MOST = 1 << 20, CALLS = 200 };
+
+typedef uint32_t (*call)(const uint8_t *, size_t, uint8_t *, size_t, struct dns_outcome *);
+
+static uint32_t name_read(const uint8_t *text, size_t text_len, uint8_t *name, size_t name_len,
+                          struct dns_outcome *outcome) {
+    size_t is_absolute;
+    return dns_name_read(text, text_len, name, name_len, &is_absolute, outcome);
+}
+
+static const struct {
+    const char *name;
+    call f;
+    size_t longest; /* of longer inputs the library's call says something else */
+} known[] = {
+    {"charstr.read", dns_charstr_read, MOST},
+    {"charstr.octets", dns_charstr_read_octets, MOST},
+    {"charstr.plain", dns_charstr_print, 255},
+    {"charstr.quoted", dns_charstr_print_quoted, 255},
+    {"charstr.unquoted", dns_charstr_print_unquoted, 255},
+    {"name.read", name_read, MOST},
+    {"name.plain", dns_name_print_dotted, MOST},
+    {"name.zone", dns_name_print_zone, MOST},
+    {"base16.print", dns_base16_print, MOST},
+    {"base16.read", dns_base16_read, MOST},
+    {"base32.print", dns_base32hex_print, MOST},
+    {"base32.read", dns_base32hex_read, MOST},
+    {"base64.print", dns_base64_print, MOST},
+    {"base64.read", dns_base64_read, MOST},
+};
+
+static char line[MOST];
+static char unknown[CALLS][40];
+static size_t unknowns;
+
+static unsigned digit(char c) {
+    return c <= '9' ? (unsigned)(c - '0') : (unsigned)(c - 'A') + 10;
+}
+
+/* The octets that a field spells, in memory of just their number; `%` and two digits are one. */
+static uint8_t *octets_of(const char *field, size_t *length) {
+    uint8_t *octets = (uint8_t *)malloc(strlen(field) + 1);
+    size_t count = 0;
+    while (*field != '\0') {
+        if (*field == '%') {
+            octets[count++] = (uint8_t)(16 * digit(field[1]) + digit(field[2]));
+            field += 3;
+        } else {
+            octets[count++] = (uint8_t)*field++;
+        }
+    }
+    *length = count;
+    return (uint8_t *)realloc(octets, count != 0 ? count : 1);
+}
+
+/* Whether the call gives these octets, or refuses where there are none; -1 for too long an input. */
+static int agrees(call f, size_t longest, const char *input, const char *wanted) {
+    struct dns_outcome outcome = {0, 0};
+    int is_well, is_refused = *wanted == '!';
+    size_t from_len, wanted_len, needed;
+    uint8_t *from = octets_of(input, &from_len);
+    uint8_t *octets = octets_of(is_refused ? "" : wanted, &wanted_len);
+    uint8_t *to;
+    uint32_t status = f(from, from_len, NULL, 0, &outcome);
+    needed = status == DNS_NO_ROOM ? outcome.length : 0;
+    to = (uint8_t *)malloc(needed != 0 ? needed : 1);
+    is_well = needed == 0 || f(from, from_len, to, needed - 1, &outcome) == DNS_NO_ROOM;
+    status = f(from, from_len, to, needed, &outcome);
+    if (is_refused)
+        is_well = is_well && status != DNS_OK && status != DNS_NO_ROOM && outcome.length == 0;
+    else
+        is_well = is_well && status == DNS_OK && outcome.length == wanted_len &&
+                  (wanted_len == 0 || memcmp(to, octets, wanted_len) == 0);
+    if (from_len > longest)
+        is_well = -1;
+    free(from);
+    free(octets);
+    free(to);
+    return is_well;
+}
+
+static void remember(const char *name) {
+    size_t i;
+    for (i = 0; i < unknowns; i++)
+        if (strcmp(unknown[i], name) == 0)
+            return;
+    if (unknowns < CALLS && strlen(name) < sizeof *unknown)
+        strcpy(unknown[unknowns++], name);
+}
+
+/* Runs a row: 1 where it agrees, 0 where it differs, -1 where the library has no such call. */
+static int run(char *row) {
+    char *fields[3];
+    size_t count = 0, i;
+    char *at = row;
+    while (at != NULL && count < 3) {
+        fields[count++] = at;
+        at = strchr(at, '\t');
+        if (at != NULL)
+            *at++ = '\0';
+    }
+    for (i = 0; i < sizeof known / sizeof *known; i++)
+        if (count == 3 && at == NULL && strcmp(known[i].name, fields[0]) == 0)
+            return agrees(known[i].f, known[i].longest, fields[1], fields[2]);
+    remember(fields[0]);
+    return -1;
+}
+
+int main(void) {
+    size_t count = 0, differ = 0, i;
+    while (fgets(line, sizeof line, stdin) != NULL) {
+        int found;
+        line[strcspn(line, "\n")] = '\0';
+        if (*line == '\0' || *line == '#')
+            continue;
+        found = run(line);
+        count += found >= 0;
+        if (found == 0) {
+            differ++;
+            fprintf(stderr, "tests/rows.c: differs: %.200s\n", line);
+        }
+    }
+    printf("rows: %lu agree, %lu differ; calls that are not the library's:", (unsigned long)(count - differ),
+           (unsigned long)differ);
+    for (i = 0; i < unknowns; i++)
+        printf(" %s", unknown[i]);
+    printf("\n");
+    return differ != 0 || count == 0;
+}
