@@ -5,6 +5,7 @@ mod charstr;
 mod dnstext;
 mod encoding;
 mod format;
+mod kinds;
 mod label;
 mod name;
 mod octets;
@@ -50,6 +51,7 @@ fn call(name: &str, inputs: &Inputs, answer: &mut Answer) {
         "base16" => encoding::call(Base::Base16, name, inputs, answer),
         "base32" => encoding::call(Base::Base32, name, inputs, answer),
         "base64" => encoding::call(Base::Base64, name, inputs, answer),
+        "kinds" => kinds::call(name, inputs, answer),
         "label" => label::call(name, inputs, answer),
         "name" => name::call(name, inputs, answer),
         "octets" => octets::call(name, inputs, answer),
