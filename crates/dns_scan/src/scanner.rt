@@ -47,7 +47,7 @@ pub trait Scanner {
     // The state before, the token that is taken if one is left, and the state after.
     ghost next_token: { Self → Option Token → Self → Type 0 };
 
-    // What reading a token as a name answers.
+    // What reading a token as a name returns.
     ghost reads_name: { Token → Result Self.Name Self.Error → Type 0 };
 
     // Whether white space stands before the next token.

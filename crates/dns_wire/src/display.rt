@@ -34,7 +34,7 @@ impl form::Form for InLabel {
     }
 }
 
-// Puts the characters of an octet in zone text into a text at a place, and answers the place after
+// Puts the characters of an octet in zone text into a text at a place, and returns the place after
 // them: a letter, a digit, `-`, `_` or `*` alone, another octet by its decimal value.
 #[inline(always)]
 fn put_zone_octet(octet: u8, text: &mut [u8], at: usize) -> usize
@@ -74,7 +74,7 @@ pub enum Form {
     Zone,
 }
 
-// Puts the characters of a label into a text at a place, and answers the place after them.
+// Puts the characters of a label into a text at a place, and returns the place after them.
 fn put_label(label: &[u8], form: Form, text: &mut [u8], at: usize) -> usize
     requires room { at + 4 * length label.now ≤ length text.old }
     ensures text { take result text.new ≡ take at text.old ++ form_text form label.now }

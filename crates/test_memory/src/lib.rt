@@ -1,4 +1,4 @@
-//! Tests alone: whichever growth is refused, a call answers as with ample memory or says that it
+//! Tests alone: whichever growth is refused, a call returns as with ample memory or says that it
 //! was short of memory.
 #![tactic(auto)]
 

@@ -74,7 +74,7 @@ impl<'a> Printer<'a> {
         }
     }
 
-    /// Writes what was made, unless memory was lacking, and answers what was answered.
+    /// Writes what was made, unless memory was lacking, and returns the result.
     fn print(&mut self, answer: Result<(), Halt>) -> Result<(), Ended> {
         if answer != Err(Halt::OutOfMemory) {
             if let Err(error) = self.rt.stdout().write_all(self.out.as_slice()) {

@@ -109,7 +109,7 @@ fn parsed<'a>(alloc: Global, words: &'a [&'a str]) -> Result<ArgMatches<'a>, Err
     command_line(alloc)?.try_get_matches_from(words)
 }
 
-/// Runs what the words ask for, and answers the exit status.
+/// Runs what the words ask for, and returns the exit status.
 pub fn run(rt: &HostRuntime, alloc: Global, words: &[&str]) -> io::Result<u8> {
     let matches = match parsed(alloc, words) {
         Ok(matches) => matches,

@@ -20,7 +20,7 @@ fn reason(wrong: Wrong) -> &'static str {
     }
 }
 
-/// Says where a file is no zone text, and answers the exit status.
+/// Says where a file is no zone text, and returns the exit status.
 pub fn report(rt: &HostRuntime, file: &str, found: Found) -> io::Result<u8> {
     let why = reason(found.fault.wrong);
     let (line, column) = (found.position.line, found.position.column);
@@ -34,7 +34,7 @@ pub fn report(rt: &HostRuntime, file: &str, found: Found) -> io::Result<u8> {
     Ok(1)
 }
 
-/// Says why a file was not gone through to its end, and answers the exit status.
+/// Says why a file was not gone through to its end, and returns the exit status.
 fn conclude(rt: &HostRuntime, file: &str, answer: Result<(), Ended>) -> io::Result<u8> {
     match answer {
         Ok(()) => Ok(0),
@@ -51,7 +51,7 @@ fn conclude(rt: &HostRuntime, file: &str, answer: Result<(), Ended>) -> io::Resu
     }
 }
 
-/// Gives a file to what takes its blocks, and answers the exit status.
+/// Gives a file to what takes its blocks, and returns the exit status.
 fn run<T: Take>(rt: &HostRuntime, file: &str, is_quiet: bool, taker: &mut T) -> io::Result<u8> {
     let mut progress = Progress::new(rt, file, is_quiet)?;
     let answer = go_through_file(rt, file, taker, &mut progress);

@@ -12,7 +12,7 @@ mod progress;
 use std::process::ExitCode;
 use std::{env, io};
 
-/// Runs the program on its arguments, and answers the exit status.
+/// Runs the program on its arguments, and returns the exit status.
 fn run_arguments(rt: &HostRuntime) -> io::Result<u8> {
     let alloc = rt.alloc();
     let mut arguments: Vec<String> = Vec::new(alloc);

@@ -76,7 +76,7 @@ impl<A: Allocator + Copy> Comparer<A> {
         }
     }
 
-    /// Adds octets of the first, and answers whether so many are held that it is worth while to
+    /// Adds octets of the first, and returns whether so many are held that it is worth while to
     /// compare. Where memory is lacking nothing is added.
     pub fn add_first(&mut self, block: &[u8]) -> Result<bool, Halt>
         ensures first { TakesBlock self.old.first self.new.first block.now result }

@@ -1,7 +1,7 @@
 //! What the commands of `zonetext` do over zone files, of octets.
 //!
-//! - [`check::check`] answers whether octets are zone text, or the first fault with its position.
-//! - [`blocks::Checker`] answers the same of octets that come in blocks, and holds few of them.
+//! - [`check::check`] returns whether octets are zone text, or the first fault with its position.
+//! - [`blocks::Checker`] returns the same of octets that come in blocks, and holds few of them.
 //! - [`tokens::tokens`] writes a row for each token, with its position.
 //! - [`layout::lay_out`] writes a line for each entry.
 //! - [`writer::Writer`] writes either of octets that come in blocks.

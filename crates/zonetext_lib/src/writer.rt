@@ -192,7 +192,7 @@ impl<A: Allocator> Writer<A> {
     /// of the entries that have ended.
     ///
     /// A fault is answered once it is known, whatever octets follow, after what is written before
-    /// it; the octets are added then too, and [`Writer::finish`] answers it again. Where memory is
+    /// it; the octets are added then too, and [`Writer::finish`] returns it again. Where memory is
     /// lacking nothing is added, and nothing is said of `out`.
     pub fn add(&mut self, block: &[u8], out: &mut Vec<u8, A>) -> Result<(), Halt>
         ensures output { self.new.output ≡ self.old.output }
@@ -236,7 +236,7 @@ impl<A: Allocator> Writer<A> {
         }
     }
 
-    /// Appends to `out` what is left to write, and answers whether all octets that were added are
+    /// Appends to `out` what is left to write, and returns whether all octets that were added are
     /// zone text, or the first fault.
     ///
     /// Where memory is lacking nothing is said of `out`.

@@ -6,7 +6,7 @@ use std::alloc::{AllocError, Global};
 use std::fmt;
 use std::process::Abort;
 
-/// What the program writes and answers.
+/// What the program writes and returns.
 #[derive(Drop)]
 struct Ran {
     out: String,

@@ -12,7 +12,7 @@ use dns_symbol::symbols::Symbols;
 use row_table::Answer;
 use std::alloc::AllocError;
 
-/// What a converter answers to a symbol; `|` is the end of a token, and `$` the end of them all.
+/// What a converter returns to a symbol; `|` is the end of a token, and `$` the end of them all.
 fn step<C: ConvertSymbols<EntrySymbol, StrError>>(
     converter: &mut C,
     symbol: Symbol,
@@ -49,7 +49,7 @@ fn are_alike(
     }
 }
 
-/// The same, which a clone of the converter answers as well.
+/// The same, which a clone of the converter returns as well.
 fn step_alike<C: ConvertSymbols<EntrySymbol, StrError> + Clone>(
     converter: &mut C,
     symbol: Symbol,
@@ -106,7 +106,7 @@ pub fn convert(base: Base, text: &str, answer: &mut Answer) {
     }
 }
 
-/// The error that a decoder answers.
+/// The error that a decoder returns.
 fn add_error(pushed: Result<(), DecodeError>, answer: &mut Answer) {
     if let Err(error) = pushed {
         answer.refuse(&error);
@@ -114,7 +114,7 @@ fn add_error(pushed: Result<(), DecodeError>, answer: &mut Answer) {
     answer.add_text(",");
 }
 
-/// What a decoder answers to each character of a text, with a comma after each, and at the end.
+/// What a decoder returns to each character of a text, with a comma after each, and at the end.
 fn push_by<B: OctetsBuilder + FreezeBuilder + Drop, K: Encoding>(
     mut decoder: Decoder<B, K>,
     text: &str,
