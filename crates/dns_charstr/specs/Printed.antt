@@ -1,12 +1,11 @@
 -- What the display types show, and the texts that they print.
-use Rattle.std.specs.Prelude.{ℕ, ◌/◌, ◌%◌, List, [], ◌∷◌, ◌++◌, codes, slice_index}
+use Rattle.std.specs.Prelude.{Bool, if◌then◌else◌, ℕ, ◌/◌, ◌%◌, List, [], ◌∷◌, ◌++◌, codes, slice_index}
 use Rattle.std.specs.List.{flat_map}
 use Rattle.dns_symbol.specs.Characters.{double_quote}
 use Rattle.dns_symbol.specs.Printed.{text_of, is_quoted_escape}
 use Rattle.dns_charstr.specs.declared.charstr.display.DisplayQuoted.{DisplayQuoted}
 use Rattle.dns_charstr.specs.declared.charstr.display.DisplayUnquoted.{DisplayUnquoted}
-use Rattle.dns_charstr.specs.declared.charstr.display.LowerHexDisplay.{LowerHexDisplay}
-use Rattle.dns_charstr.specs.declared.charstr.display.UpperHexDisplay.{UpperHexDisplay}
+use Rattle.dns_charstr.specs.declared.charstr.display.HexDisplay.{HexDisplay}
 
 -- the octets that each of them shows
 abbrev pub quoted_octets : DisplayQuoted → List ℕ
@@ -15,11 +14,8 @@ quoted_octets d = d.octets.now
 abbrev pub unquoted_octets : DisplayUnquoted → List ℕ
 unquoted_octets d = d.octets.now
 
-abbrev pub lower_hex_octets : LowerHexDisplay → List ℕ
-lower_hex_octets d = d.octets.now
-
-abbrev pub upper_hex_octets : UpperHexDisplay → List ℕ
-upper_hex_octets d = d.octets.now
+abbrev pub octets_in_hex : {is_upper : ℕ} → HexDisplay is_upper → List ℕ
+octets_in_hex d = d.octets.now
 
 -- the characters of the quoted form, with a double quote at each end
 abbrev pub quoted_text : List ℕ → List ℕ
@@ -34,3 +30,7 @@ lower_digits = codes "0123456789abcdef"
 
 abbrev pub upper_digits : List ℕ
 upper_digits = codes "0123456789ABCDEF"
+
+-- the digits in a case
+abbrev pub hex_digits : Bool → List ℕ
+hex_digits is_upper = if is_upper then upper_digits else lower_digits

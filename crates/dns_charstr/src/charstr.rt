@@ -11,7 +11,7 @@ mod wire;
 
 use crate::octet_text::octet_at;
 pub use builder::CharStrBuilder;
-pub use display::{DisplayQuoted, DisplayUnquoted, LowerHexDisplay, UpperHexDisplay};
+pub use display::{DisplayQuoted, DisplayUnquoted, HexDisplay, LowerHexDisplay, UpperHexDisplay};
 use dns_octets::{
     AsOctets, AsOctetsMut, EmptyBuilder, FreezeBuilder, FromBuilder, IntoBuilder, OctetsBuilder,
     OctetsFrom, ShortBuf,

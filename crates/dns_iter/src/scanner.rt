@@ -1,6 +1,7 @@
 //! A scanner over an iterator of tokens.
-ghost use Rattle.std.specs.Prelude.{◌≡◌, ℕ, List, [], Option, Some, None, Bool, true, false, ⊤, OnSome, ◌<◌, ◌≤◌, ◌↔◌, IsTrue, option_map, is_none};
+ghost use Rattle.std.specs.Prelude.{◌≡◌, ℕ, List, [], Option, Some, None, Bool, true, false, ⊤, OnSome, OnErr, IfOk, IfErr, ◌<◌, ◌≤◌, ◌↔◌, IsTrue, option_map, is_none};
 ghost use Rattle.std.specs.Iterator.{IsFinite, AlwaysYields};
+ghost use Rattle.dns_symbol.specs.Cause.{end_of_entry};
 ghost use Rattle.dns_scan.specs.Entries.{ScansEntry};
 ghost use Rattle.dns_scan.specs.Stands.{HasTokens};
 ghost use Rattle.dns_scan.specs.Tokens.{Token, Peeks};
@@ -154,6 +155,20 @@ impl<'a, Iter: Iterator<Item = &'a str>, Octets: FromBuilder, E: ScannerError> I
 where
     Octets::Builder: EmptyBuilder,
 {
+    // Takes the next token. Refused where none is left.
+    fn take_one(&mut self) -> Result<&'a str, E>
+        requires { IsReady Iter.can_next Iter.remaining self.old.iter self.old.ahead }
+        ensures ready { IsReady Iter.can_next Iter.remaining self.new.iter self.new.ahead }
+        ensures takes { IfOk result (λ t. token_next Iter.next_gives self.old (Some t.now) self.new) }
+        ensures ends { OnErr result (token_next Iter.next_gives self.old None self.new) }
+        ensures cause { IfErr result (λ e. E.cause e ≡ end_of_entry) }
+    {
+        match self.take() {
+            Some(token) => Ok(token),
+            None => Err(E::end_of_entry()),
+        }
+    }
+
     // Hands over each token that is left.
     fn each_token<T: TakeToken<E, B>, B>(&mut self, take: &mut T, built: &mut B) -> Result<(), E>
         requires ready { IsReady Iter.can_next Iter.remaining self.old.iter self.old.ahead }
@@ -206,10 +221,8 @@ where
     where
         F: FnMut(Symbol) -> Result<(), E>,
     {
-        match self.take() {
-            Some(token) => each_symbol::<Symbol, F, (), E>(token, op, &mut ()),
-            None => Err(E::end_of_entry()),
-        }
+        let token = self.take_one()?;
+        each_symbol::<Symbol, F, (), E>(token, op, &mut ())
     }
 
     fn scan_entry_symbols<F>(&mut self, op: &mut F) -> Result<(), E>
@@ -220,10 +233,8 @@ where
     }
 
     fn convert_token<C: ConvertSymbols<Symbol, E>>(&mut self, convert: C) -> Result<Octets, E> {
-        match self.take() {
-            Some(token) => token_converted::<C, Octets::Builder, E>(token, convert, self.alloc),
-            None => Err(E::end_of_entry()),
-        }
+        let token = self.take_one()?;
+        token_converted::<C, Octets::Builder, E>(token, convert, self.alloc)
     }
 
     fn convert_entry<C: ConvertSymbols<EntrySymbol, E>>(
@@ -238,41 +249,31 @@ where
     }
 
     fn scan_octets(&mut self) -> Result<Octets, E> {
-        match self.take() {
-            Some(token) => token_octets::<Octets::Builder, E>(token, self.alloc),
-            None => Err(E::end_of_entry()),
-        }
+        let token = self.take_one()?;
+        token_octets::<Octets::Builder, E>(token, self.alloc)
     }
 
     fn scan_ascii_str<F, T>(&mut self, op: F) -> Result<T, E>
     where
         F: FnOnce(&str) -> Result<T, E>,
     {
-        match self.take() {
-            Some(token) => token_ascii::<Octets::Builder, E, T, F>(token, self.alloc, op),
-            None => Err(E::end_of_entry()),
-        }
+        let token = self.take_one()?;
+        token_ascii::<Octets::Builder, E, T, F>(token, self.alloc, op)
     }
 
     fn scan_name(&mut self) -> Result<Name<Octets>, E> {
-        match self.take() {
-            Some(token) => token_name::<Octets, E>(token, self.alloc),
-            None => Err(E::end_of_entry()),
-        }
+        let token = self.take_one()?;
+        token_name::<Octets, E>(token, self.alloc)
     }
 
     fn scan_charstr(&mut self) -> Result<CharStr<Octets>, E> {
-        match self.take() {
-            Some(token) => token_charstr::<Octets::Builder, E>(token, self.alloc),
-            None => Err(E::end_of_entry()),
-        }
+        let token = self.take_one()?;
+        token_charstr::<Octets::Builder, E>(token, self.alloc)
     }
 
     fn scan_string(&mut self) -> Result<Str<Octets>, E> {
-        match self.take() {
-            Some(token) => token_text::<Octets::Builder, E>(token, self.alloc),
-            None => Err(E::end_of_entry()),
-        }
+        let token = self.take_one()?;
+        token_text::<Octets::Builder, E>(token, self.alloc)
     }
 
     fn scan_charstr_entry(&mut self) -> Result<Octets, E> {

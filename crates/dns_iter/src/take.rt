@@ -1,7 +1,5 @@
 //! What the symbols of a token are handed to.
 ghost use Rattle.std.specs.Prelude.{◌≡◌, ◌≤◌, ◌-◌, ◌++◌, ℕ, IsOk, OnErr, OnOk, Result, length, ⊤};
-ghost use Rattle.dns_symbol.specs.declared.symbol.Symbol.{Symbol as PlainSymbol};
-ghost use Rattle.dns_symbol.specs.declared.symbol.EntrySymbol.TheVariants.{Symbol as Of};
 ghost use Rattle.dns_scan.specs.Entries.{AsksToken, ConvertInEntry, ConvertStep, ConvertTail, StringStep};
 ghost use Rattle.dns_scan.specs.Steps.{Adds, GivesStep, octet_given, text_given};
 ghost use Rattle.dns_scan.specs.Tokens.{Token};
@@ -11,30 +9,6 @@ use dns_charstr::charstr::CharStrBuilder;
 use dns_octets::{EmptyBuilder, OctetsBuilder, ShortBuf};
 use dns_scan::{ConvertSymbols, ScannerError};
 use dns_symbol::symbol::{EntrySymbol, Symbol};
-
-/// What a symbol is handed over as.
-pub(crate) trait OfSymbol {
-    ghost of: { PlainSymbol → Self };
-
-    fn of_symbol(symbol: Symbol) -> Self
-        ensures { result ≡ of symbol };
-}
-
-impl OfSymbol for Symbol {
-    ghost of = { λ s. s };
-
-    fn of_symbol(symbol: Symbol) -> Self {
-        symbol
-    }
-}
-
-impl OfSymbol for EntrySymbol {
-    ghost of = { λ s. Of s };
-
-    fn of_symbol(symbol: Symbol) -> Self {
-        EntrySymbol::Symbol(symbol)
-    }
-}
 
 /// What the symbols of a token are handed to, one by one, beside what is built of them.
 ///

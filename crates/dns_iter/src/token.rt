@@ -9,8 +9,9 @@ ghost use Rattle.dns_scan.specs.Asks.{CallsEachSymbol, Builds};
 ghost use Rattle.dns_scan.specs.Entries.{AsciiText, Converts, ConvertToken};
 ghost use Rattle.dns_scan.specs.Steps.{GivesStep, octet_given, text_given};
 ghost use Rattle.dns_charstr.specs.Limits.{max_string};
+ghost use Rattle.dns_iter.specs.Handed.{HandedAs};
 
-use crate::take::{AsOctet, AsText, OfSymbol, TakeSymbol, Through};
+use crate::take::{AsOctet, AsText, TakeSymbol, Through};
 use dns_charstr::charstr::{CharStr, CharStrBuilder};
 use dns_octets::{EmptyBuilder, FreezeBuilder, Str};
 use dns_scan::{ConvertSymbols, ScannerError};
@@ -29,21 +30,21 @@ fn escape_text(error: SymbolOctetsError) -> &'static str
 /// Hands over each symbol of a token. In line, since out of line a token of a number costs a third
 /// more.
 #[inline(always)]
-pub(crate) fn each_symbol<Sym: OfSymbol, T: TakeSymbol<Sym, E, B>, B, E: ScannerError>(
+pub(crate) fn each_symbol<Sym: From<Symbol>, T: TakeSymbol<Sym, E, B>, B, E: ScannerError>(
     token: &str,
     take: &mut T,
     built: &mut B,
 ) -> Result<(), E>
     requires { T.can_take take.old }
     ensures ready { T.can_take take.new }
-    ensures asks { CallsEachSymbol E.cause (λ p x r q. T.step p (Sym.of x) r q) token.now (take.old, built.old) result (take.new, built.new) }
+    ensures asks { CallsEachSymbol E.cause (HandedAs Sym.from_gives T.step) token.now (take.old, built.old) result (take.new, built.new) }
 {
     let text = token.as_bytes();
     let mut pos = 0;
     loop {
         match Symbol::from_slice_index(text, pos) {
             Ok(Some((symbol, next))) => {
-                take.take_symbol(built, Sym::of_symbol(symbol))?;
+                take.take_symbol(built, Sym::from(symbol))?;
                 pos = next;
             }
             Ok(None) => return Ok(()),

@@ -97,7 +97,7 @@ one_day d e h k same = (year, month, day)
         let months : days_before_month d.year d.month ≡ days_before_month d.year e.month = ap (days_before_month d.year) month in
         omega (arith, both, months, h.from_first, k.from_first)
 
-one_date : (d e : Date) → IsDate d → IsDate e → seconds_at d ≡ seconds_at e → d ≡ e
+pub one_date : (d e : Date) → IsDate d → IsDate e → seconds_at d ≡ seconds_at e → d ≡ e
 one_date d e h k is =
     let parts = same_parts (days_at d) (days_at e) d.hour e.hour d.minute e.minute d.second e.second h.hour k.hour h.minute k.minute h.second k.second is in
     let days = one_day d e h k parts.0 in

@@ -2,8 +2,11 @@ pub mod AddressLaws
 pub mod Calendar
 pub mod CodeLaws
 pub mod DateLaws
+pub mod DatesAt
 pub mod EuiLaws
+pub mod GroupLemmas
 pub mod HexLaws
+pub mod LocatorLaws
 pub mod NumberLemmas
 pub mod PeriodLemmas
 pub mod Periods

@@ -1,7 +1,7 @@
 -- The texts of the refusals.
 use Rattle.std.specs.Prelude.{ℕ, List, codes}
 use Rattle.dns_kinds.specs.declared.error.KindError.{KindError}
-use Rattle.dns_kinds.specs.declared.error.KindError.TheVariants.{ExpectedNumber, NumberOverflow, ExpectedIpv4, ExpectedIpv6, ExpectedTtl, ExpectedInterval, ExpectedTime, UnknownType, UnknownClass, UnknownAlgorithm, UnknownCertificate, ExpectedEui48, ExpectedEui64, ExpectedSalt}
+use Rattle.dns_kinds.specs.declared.error.KindError.TheVariants.{ExpectedNumber, NumberOverflow, ExpectedIpv4, ExpectedIpv6, ExpectedTtl, ExpectedInterval, ExpectedTime, UnknownType, UnknownClass, UnknownAlgorithm, UnknownCertificate, ExpectedEui48, ExpectedEui64, ExpectedLocator, ExpectedSalt}
 
 abbrev pub kind_error_text : KindError → List ℕ
 kind_error_text ExpectedNumber = codes "expected decimal number"
@@ -17,4 +17,5 @@ kind_error_text UnknownAlgorithm = codes "unknown algorithm"
 kind_error_text UnknownCertificate = codes "unknown certificate type"
 kind_error_text ExpectedEui48 = codes "expected EUI-48"
 kind_error_text ExpectedEui64 = codes "expected EUI-64"
+kind_error_text ExpectedLocator = codes "expected locator"
 kind_error_text ExpectedSalt = codes "expected salt"

@@ -5,6 +5,7 @@ pub mod Eui
 pub mod Hex
 pub mod Kind
 pub mod KindError
+pub mod Locator
 pub mod Numbers
 pub mod Registry
 pub mod Rows

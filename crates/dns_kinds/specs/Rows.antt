@@ -1,13 +1,15 @@
 -- Worked rows of the definitions, each computed.
 use Rattle.std.specs.Prelude.{◌≡◌, true, false, [], ◌∷◌, ◌++◌, map, Some, None, codes, decimal, refl}
+use Rattle.std.specs.Fmt.{digits}
 use Rattle.std.specs.Net.Text.{ipv4_text}
 use Rattle.dns_kinds.specs.Addresses.{has_ipv4_end, shown_ipv6}
 use Rattle.dns_kinds.specs.Algorithms.{algorithm_rows, certificate_rows}
 use Rattle.dns_kinds.specs.Classes.{class_rows, class_prefix}
 use Rattle.dns_kinds.specs.Eui.{dashed_text}
+use Rattle.dns_kinds.specs.Locator.{locator_text}
 use Rattle.dns_kinds.specs.Registry.{row_code, code_text}
 use Rattle.dns_kinds.specs.Salt.{salt_text}
-use Rattle.dns_kinds.specs.Time.{is_leap, month_days, seconds_at, date_of, date_text}
+use Rattle.dns_kinds.specs.Time.{is_leap, month_days, seconds_at, date_of, date_text, date_at, year_at, month_at, holding}
 use Rattle.dns_kinds.specs.Ttl.{unit_seconds, Period, period_text, period_seconds}
 use Rattle.dns_kinds.specs.Types.{type_rows, type_prefix}
 
@@ -40,6 +42,11 @@ february = refl
 seconds : map (λ text. seconds_at (date_of text)) (codes "20030322173103" ∷ codes "21060207062815" ∷ codes "21060207062816" ∷ []) ≡ 1048354263 ∷ 4294967295 ∷ 4294967296 ∷ []
 seconds = refl
 
+-- the first second, the first and the last of a leap day, and the last of 32 bits
+dates : map date_at (0 ∷ 951782400 ∷ 951868799 ∷ 4294967295 ∷ []) ≡ map date_of (codes "19700101000000" ∷ codes "20000229000000" ∷ codes "20000229235959" ∷ codes "21060207062815" ∷ [])
+unfolding date_at year_at month_at holding
+dates = refl
+
 printed_date : date_text (date_of (codes "20030322173103")) ≡ codes "20030322173103"
 printed_date = refl
 
@@ -67,6 +74,11 @@ certificates = refl
 -- the example of RFC 7043 section 3.2
 eui48 : dashed_text (0 ∷ 0 ∷ 0x5e ∷ 0 ∷ 0x53 ∷ 0x2a ∷ []) ≡ codes "00-00-5e-00-53-2a"
 eui48 = refl
+
+-- the example of RFC 6742 section 2.1
+locator : locator_text (0 ∷ 0x14 ∷ 0x4f ∷ 0xff ∷ 0xff ∷ 0x20 ∷ 0xee ∷ 0x64 ∷ []) ≡ codes "14:4fff:ff20:ee64"
+unfolding digits
+locator = refl
 
 salts : map salt_text ([] ∷ (0xaa ∷ 0xbb ∷ 0xcc ∷ 0xdd ∷ []) ∷ []) ≡ codes "-" ∷ codes "AABBCCDD" ∷ []
 salts = refl

@@ -1,5 +1,6 @@
 -- Times of signatures, in the calendar and in seconds since 1970 began (RFC 4034 section 3.2).
-use Rattle.std.specs.Prelude.{ℕ, zero, suc, ◌≡◌, ◌<◌, ◌≤◌, ◌*◌, ◌+◌, ◌-◌, ◌/◌, ◌%◌, ◌^◌, ◌⊎◌, ◌==◌, ◌||◌, ◌&&◌, not, Bool, List, [], ◌∷◌, ◌++◌, length, sum, take, Option, MatchOption, slice_index, slice_range, if◌then◌else◌}
+use Rattle.std.specs.Prelude.{ℕ, zero, suc, ◌≡◌, ◌<◌, ◌≤◌, ◌*◌, ◌+◌, ◌-◌, ◌/◌, ◌%◌, ◌^◌, ◌⊎◌, ◌==◌, ◌||◌, ◌&&◌, not, Bool, List, [], ◌∷◌, ◌++◌, length, sum, take, Option, MatchOption, slice_index, slice_range, nat_lt, find, unwrap_or, if◌then◌else◌}
+use Rattle.std.specs.List.{range_with_len}
 use Rattle.std.specs.Str.Parse.{AllDigits, digits_value}
 use Rattle.dns_kinds.specs.Kind.{IsKind}
 use Rattle.dns_kinds.specs.Numbers.{SpellsNumber}
@@ -82,6 +83,40 @@ date_text d = four_digits_of d.year ++ two_digits d.month ++ two_digits d.day ++
 abbrev pub IsTime : List ℕ → ℕ → Type 0
 IsTime text seconds =
     (IsDateText text × (seconds ≡ seconds_at (date_of text) % 2 ^ 32)) ⊎ ((length text ≤ 10) × SpellsNumber text seconds × (seconds < 2 ^ 32))
+
+-- the first of so many numbers, from one on, before whose end a day lies, by the days before each
+unfoldable pub holding : (ℕ → ℕ) → ℕ → ℕ → ℕ → ℕ
+holding days_before from count day = unwrap_or (find (λ k. nat_lt day (days_before (k + 1))) (range_with_len from count)) from
+
+-- the year of a day, by the days since 1970 began
+unfoldable pub year_at : ℕ → ℕ
+year_at day = holding days_before_year 1970 137 day
+
+-- the month of a day of a year, by the days since the year began
+unfoldable pub month_at : ℕ → ℕ → ℕ
+month_at year day = holding (days_before_month year) 1 12 day
+
+-- the date of so many seconds since 1970 began, below 2^32
+unfoldable pub date_at : ℕ → Date
+date_at n =
+    let day = n / 86400 in
+    let year = year_at day in
+    let day_of_year = day - days_before_year year in
+    let month = month_at year day_of_year in
+    record {
+      year = year;
+      month = month;
+      day = day_of_year - days_before_month year month + 1;
+      hour = n % 86400 / 3600;
+      minute = n % 3600 / 60;
+      second = n % 60;
+    }
+
+-- each second of 32 bits has a date, and is the second of that date alone
+pub record SecondsHaveDates : Type 0 where
+  pub valid : (n : ℕ) → n < 2 ^ 32 → IsDate (date_at n)
+  pub same : (n : ℕ) → n < 2 ^ 32 → seconds_at (date_at n) ≡ n
+  pub alone : (d : Date) → IsDate d → seconds_at d < 2 ^ 32 → date_at (seconds_at d) ≡ d
 
 abbrev pub FindsSeconds : List ℕ → Option ℕ → Type 0
 FindsSeconds text r = MatchOption r ((seconds : ℕ) → IsTime text seconds → ⊥) (IsTime text)

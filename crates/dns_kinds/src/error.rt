@@ -34,6 +34,8 @@ pub enum KindError {
     ExpectedEui48,
     /// The text is no EUI-64.
     ExpectedEui64,
+    /// The text is no locator or identifier of 64 bits.
+    ExpectedLocator,
     /// The text is no salt.
     ExpectedSalt,
 }
@@ -57,6 +59,7 @@ impl KindError {
             KindError::UnknownCertificate => "unknown certificate type",
             KindError::ExpectedEui48 => "expected EUI-48",
             KindError::ExpectedEui64 => "expected EUI-64",
+            KindError::ExpectedLocator => "expected locator",
             KindError::ExpectedSalt => "expected salt",
         }
     }

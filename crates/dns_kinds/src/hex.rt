@@ -7,7 +7,7 @@ ghost use Rattle.dns_kinds.specs.Hex.{pair_digit, IsHex, WritesOctets, pair_text
 use std::fmt;
 
 /// The value of a hexadecimal digit, in either case.
-fn value_of(digit: u8) -> Option<u8>
+pub(crate) fn value_of(digit: u8) -> Option<u8>
     ensures { SomeIff result (digit_value digit < 16) (digit_value digit) }
 {
     match digit {

@@ -2,7 +2,7 @@
 ghost use Rattle.std.specs.Prelude.{◌≡◌, ◌<◌, ◌≤◌, ◌+◌, ◌-◌, ◌*◌, ◌/◌, ◌%◌, ◌^◌, ◌↔◌, length, IsTrue, Some, SomeIff};
 ghost use Rattle.std.specs.Str.Parse.{AllDigits, digits_value};
 ghost use Rattle.dns_kinds.specs.Kind.{ReadsKind};
-ghost use Rattle.dns_kinds.specs.Time.{is_leap, month_days, year_days, days_before_year, days_before_month, IsDate, seconds_at, field_at, date_of, IsDateText, date_text, FindsSeconds, SpellsDate, DatesAreKind};
+ghost use Rattle.dns_kinds.specs.Time.{is_leap, month_days, year_days, days_before_year, days_before_month, IsDate, seconds_at, field_at, date_of, IsDateText, date_text, FindsSeconds, SpellsDate, date_at, SecondsHaveDates, DatesAreKind};
 ghost use Rattle.dns_kinds.specs.declared.error.KindError.TheVariants.{ExpectedTime};
 
 use crate::error::KindError;
@@ -112,6 +112,7 @@ impl Date {
     pub fn from_seconds(seconds: u32) -> Self
         ensures valid { IsDate result }
         ensures same { seconds_at result ≡ seconds }
+        ensures date { result ≡ date_at seconds }
     {
         let (year, day_of_year) = year_of(seconds / 86400);
         let (month, day) = month_of(year, day_of_year);
@@ -260,4 +261,9 @@ fn seconds_from_text(text: &[u8]) -> Option<u32>
 /// States that a time is read as it is printed, and does nothing else.
 pub fn times_are_read_back()
     ensures { DatesAreKind }
+{}
+
+/// States that each second has a date, and a date its second, and does nothing else.
+pub fn seconds_have_dates()
+    ensures { SecondsHaveDates }
 {}

@@ -1,12 +1,10 @@
 -- Bits of octets by their place from the left.
-use Rattle.std.proofs.Common.{◌≡◌, ◌≢◌, ℕ, ◌+◌, ◌-◌, ◌*◌, ◌/◌, ◌%◌, ◌^◌, ◌<◌, ◌==◌, Bool, true, false, cond, ◌||◌, List, [], ◌∷◌, length, get_or, set, take, inl, inr, refl, sym, ap, ◌∙◌, arith, bit_or, zero, suc, w8, replicate}
+use Rattle.std.proofs.Common.{◌≡◌, ◌≢◌, ℕ, ◌+◌, ◌-◌, ◌*◌, ◌/◌, ◌%◌, ◌^◌, ◌<◌, ◌==◌, Bool, true, false, cond, ◌||◌, List, [], ◌∷◌, length, get_or, set, inl, inr, refl, sym, ap, ◌∙◌, arith, bit_or, zero, suc, w8}
 use Rattle.std.specs.Int.{bit_at}
-use Rattle.std.proofs.lemmas.List.{get_or-set_same, get_or-set_other, ext_get_or, get_or_past, get_or-replicate}
+use Rattle.std.proofs.lemmas.List.{get_or-set_same, get_or-set_other, ext_get_or}
 use Rattle.std.proofs.lemmas.List.FromFn.{get_or-map-range_with_len, length-map-range_with_len}
-use Rattle.std.proofs.lemmas.List.Folds.{list_any_more}
-use Rattle.std.proofs.lemmas.Bool.{cases_eq, cases_lt, eq-eqb, ne_eqb}
-use Rattle.std.proofs.lemmas.Nat.{or_of_8}
-use Rattle.std.proofs.lemmas.Nat.Bits.{bit_at-zero, bit_at_set_same, bit_at_set_other, same_from_bits_below}
+use Rattle.std.proofs.lemmas.Bool.{cases_eq, eq-eqb, ne_eqb}
+use Rattle.std.proofs.lemmas.Nat.Bits.{bit_at_set_same, bit_at_set_other, same_from_bits_below}
 use Rattle.dns_lists.specs.Bitmap.{has, one_if, bit_in, types_octet, window_octets_of}
 
 bit_small : (b : Bool) → one_if b < 2
@@ -118,36 +116,9 @@ set_place xs q p l = elim (cases_eq q p) [
   ]) ∙ sym (ap (λ b. cond b 1 (bit_in xs p)) (ne_eqb q p n))
 ]
 
-pub no_bits : (p : ℕ) → p < 256 → bit_in (replicate 32 0) p ≡ 0
-no_bits p l = ap (λ x. bit_at x (7 - p % 8)) (get_or-replicate 32 (p / 8) 0 0 (omega arith)) ∙ bit_at-zero (7 - p % 8)
-
-one_more : (types : List ℕ) (i t : ℕ) → i < length types → has (take (i + 1) types) t ≡ (has (take i types) t || (get_or types i 0 == t))
-one_more types i t l = list_any_more (λ u. u == t) types i 0 l
-
-or_true : (b : Bool) → (b || true) ≡ true
-or_true true = refl
-or_true false = refl
-
-or_false : (b : Bool) → (b || false) ≡ b
+pub or_false : (b : Bool) → (b || false) ≡ b
 or_false true = refl
 or_false false = refl
-
-now_has : (types : List ℕ) (i t : ℕ) → i < length types → get_or types i 0 ≡ t → has (take (i + 1) types) t ≡ true
-now_has types i t l e = one_more types i t l ∙ ap (λ b. has (take i types) t || b) (eq-eqb (get_or types i 0) t e) ∙ or_true (has (take i types) t)
-
-pub has_as_before : (types : List ℕ) (i t : ℕ) → i < length types → (get_or types i 0 ≡ t → ⊥) → has (take (i + 1) types) t ≡ has (take i types) t
-has_as_before types i t l n = one_more types i t l ∙ ap (λ b. has (take i types) t || b) (ne_eqb (get_or types i 0) t n) ∙ or_false (has (take i types) t)
-
--- a type of the window sets its bit
-pub bit_for_type : (types xs : List ℕ) (i window q p : ℕ) → i < length types → length xs ≡ 32 → q < 256 → get_or types i 0 ≡ 256 * window + q
-    → bit_in xs p ≡ one_if (has (take i types) (256 * window + p))
-    → bit_in (set xs (q / 8) (bit_or (get_or xs (q / 8) 0) (1 * 2 ^ (7 - q % 8) % 2 ^ 8))) p ≡ one_if (has (take (i + 1) types) (256 * window + p))
-bit_for_type types xs i window q p l n small e h = elim (cases_eq q p) [
-  | inl same ↦ set_place xs q p (omega arith) ∙ ap (λ b. cond b 1 (bit_in xs p)) (eq-eqb q p same)
-      ∙ ap one_if (sym (now_has types i (256 * window + p) l (omega arith)))
-  | inr other ↦ set_place xs q p (omega arith) ∙ ap (λ b. cond b 1 (bit_in xs p)) (ne_eqb q p other)
-      ∙ h ∙ ap one_if (sym (has_as_before types i (256 * window + p) l (λ z. other (omega arith))))
-]
 
 -- all 32 octets are known by their bits
 pub octets_by_bits : (types xs : List ℕ) (window : ℕ) → length xs ≡ 32 → ((k : ℕ) → get_or xs k 0 < 256)
@@ -156,19 +127,3 @@ octets_by_bits types xs window n small h =
     ext_get_or 0 xs (window_octets_of types window) (n ∙ sym (octets_length types window)) (λ k l.
     same_octet xs (window_octets_of types window) k (small k) (octets_small types window k (omega arith)) (λ p at.
     let below : p < 256 = omega arith in h p below ∙ sym (bit_of_place types window p below)))
-
--- a set bit leaves octets octets
-pub set_small : (xs : List ℕ) (q k : ℕ) → q / 8 < length xs → ((k : ℕ) → get_or xs k 0 < 256)
-    → get_or (set xs (q / 8) (bit_or (get_or xs (q / 8) 0) (1 * 2 ^ (7 - q % 8) % 2 ^ 8))) k 0 < 256
-set_small xs q k l small = elim (cases_eq k (q / 8)) [
-  | inl e ↦ (let v = bit_or (get_or xs (q / 8) 0) (1 * 2 ^ (7 - q % 8) % 2 ^ 8) in
-      let is : get_or (set xs (q / 8) v) k 0 ≡ v = ap (λ j. get_or (set xs (q / 8) v) j 0) e ∙ get_or-set_same xs (q / 8) v 0 l in
-      let low : v < 2 ^ 8 = or_of_8 (get_or xs (q / 8) 0) (1 * 2 ^ (7 - q % 8) % 2 ^ 8) (small (q / 8)) (omega arith) in omega arith)
-  | inr n ↦ (let is = get_or-set_other xs (q / 8) k (bit_or (get_or xs (q / 8) 0) (1 * 2 ^ (7 - q % 8) % 2 ^ 8)) 0 n in let low = small k in omega arith)
-]
-
-pub zeros_small : (k : ℕ) → get_or (replicate 32 0) k 0 < 256
-zeros_small k = elim (cases_lt k 32) [
-  | inl l ↦ omega (arith, get_or-replicate {A = ℕ} 32 k 0 0 l)
-  | inr l ↦ omega (arith, get_or_past {X = ℕ} (replicate 32 0) k 0 l)
-]

@@ -1,26 +1,15 @@
 -- Values of service parameters, step by step.
-use Rattle.std.proofs.Common.{◌≡◌, ℕ, ◌+◌, ◌-◌, ◌*◌, ◌<◌, ◌≤◌, ◌==◌, ◌||◌, Bool, true, false, cond, List, [], ◌∷◌, ◌++◌, length, take, drop, get_or, Option, Some, IsSome, refl, sym, ap, ◌∙◌, arith, subst, suc}
-use Rattle.std.specs.Option.{is_some}
-use Rattle.std.specs.List.{flat_map, list_any}
+use Rattle.std.proofs.Common.{◌≡◌, ℕ, ◌+◌, ◌-◌, ◌*◌, ◌<◌, ◌≤◌, List, [], ◌∷◌, ◌++◌, length, take, drop, get_or, IsSome, sym, ap, ◌∙◌, arith, subst, suc}
+use Rattle.std.specs.List.{flat_map}
 use Rattle.std.proofs.lemmas.List.{take-append-drop, take_rest, length-take-le, drop_at, length-append}
 use Rattle.std.proofs.lemmas.List.Elements.{All-cons, All-head, All-tail}
-use Rattle.dns_lists.specs.Params.{pairs, value_at}
+use Rattle.dns_lists.specs.Params.{value_at}
 use Rattle.dns_lists.specs.Values.{AreWireStrings, AreKeys}
-use Rattle.dns_lists.specs.declared.params.Param.{Param}
 
 -- one holds exactly if the other does
 pub record Exactly (P Q : Type 0) : Type 0 where
   pub front : P → Q
   pub back : Q → P
-
-any_or : (b : Bool) (v : List ℕ) (rest : Bool) (o : Option (List ℕ)) → rest ≡ is_some o → (b || rest) ≡ is_some (cond b (Some v) o)
-any_or true v rest o e = refl
-any_or false v rest o e = e
-
--- a key stands in one of the parameters exactly if it has a value
-pub some_value : (params : List Param) (key : ℕ) → list_any (λ p. p.key == key) params ≡ is_some (value_at (pairs params) key)
-some_value [] key = refl
-some_value (p ∷ params) key = any_or (p.key == key) p.value.now (list_any (λ q. q.key == key) params) (value_at (pairs params) key) (some_value params key)
 
 string_front : (n : ℕ) (ys : List ℕ) → 0 < n → n < 256 → n ≤ length ys → AreWireStrings (drop n ys) → AreWireStrings (n ∷ ys)
 string_front n ys some small l (strings, each, is) =

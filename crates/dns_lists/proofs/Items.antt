@@ -2,7 +2,7 @@
 use Rattle.std.proofs.Common.{◌≡◌, ◌≢◌, ℕ, ◌+◌, ◌-◌, ◌<◌, ◌≤◌, ◌⊎◌, Bool, true, false, cond, List, [], ◌∷◌, ◌++◌, length, take, drop, get_or, All, refl, sym, ap, ◌∙◌, arith, inl, inr, append_assoc, append-nil}
 use Rattle.std.proofs.lemmas.List.{take_rest, length-append}
 use Rattle.std.proofs.lemmas.List.Concat.{flat_map-append}
-use Rattle.std.proofs.lemmas.List.Elements.{All-head, All-tail, All-cons, All-append}
+use Rattle.std.proofs.lemmas.List.Elements.{All-tail, All-cons, All-append}
 use Rattle.std.proofs.lemmas.Bool.{both_ways, eqb-true}
 use Rattle.dns_lists.specs.Texts.{is_special, item_octet, item_text, later_text, list_text, wire_strings, IsItem, IsList, EndsItem, SplitsItem}
 
@@ -51,7 +51,7 @@ ends_empty xs e = no_octet xs (λ l. let n = ap length e in absurd (omega arith)
 pub ends_comma : (more : List ℕ) → EndsItem (44 ∷ more)
 ends_comma more = no_octet (44 ∷ more) (λ l. refl) (λ l e. absurd (omega arith))
 
-same_first : (a b : ℕ) (r s : List ℕ) → item_octet a ++ r ≡ item_octet b ++ s → (a ≡ b) × (r ≡ s)
+pub same_first : (a b : ℕ) (r s : List ℕ) → item_octet a ++ r ≡ item_octet b ++ s → (a ≡ b) × (r ≡ s)
 same_first a b r s e = elim (shape a r) [
   | inl h ↦ (elim (shape b s) [
     | inl k ↦ (let j : 92 ∷ a ∷ r ≡ 92 ∷ b ∷ s = sym h.1 ∙ e ∙ k.1 in (cc, cc))
@@ -84,9 +84,6 @@ pub record TakesItem (text front rest : List ℕ) : Type 0 where
   pub split : text ≡ item_text front ++ rest
   pub short : length front + length rest ≤ length text
 
-pub takes_none : (text : List ℕ) → TakesItem text [] text
-takes_none text = record { split = refl; short = omega arith }
-
 pub takes_more : (text front rest after : List ℕ) (o : ℕ) → TakesItem text front rest → rest ≡ item_octet o ++ after → TakesItem text (front ++ o ∷ []) after
 takes_more text front rest after o h e = record {
   split = h.split ∙ ap (λ r. item_text front ++ r) e ∙ sym (append_assoc (item_text front) (item_octet o) after)
@@ -103,29 +100,6 @@ later_ends (item ∷ items) = ends_comma (item_text item ++ later_text items)
 pub other_count : (text front rest item more : List ℕ) → SplitsItem text front rest → SplitsItem text item more → length item ≡ length front
 other_count text front rest item more a b = ap length (one_item item front more rest (sym b.0 ∙ a.0) b.1 a.1).0
 
--- the list so far, and no other begins so
-pub record TakesList (text rest old new : List ℕ) : Type 0 where
-  pub items : List (List ℕ)
-  pub is_list : IsList items
-  pub split : text ≡ list_text items ++ rest
-  pub strings : new ≡ old ++ wire_strings items
-  pub only : (others : List (List ℕ)) → IsList others → list_text others ≡ text → (later : List (List ℕ)) × All IsItem later × (rest ≡ later_text later)
-
-only_first : (text item rest : List ℕ) → SplitsItem text item rest → (others : List (List ℕ)) → IsList others → list_text others ≡ text
-    → (later : List (List ℕ)) × All IsItem later × (rest ≡ later_text later)
-only_first text item rest s [] is e = absurd (is.some refl)
-only_first text item rest s (o ∷ later) is e =
-    (later, All-tail IsItem o later is.each, (one_item item o rest (later_text later) (sym s.0 ∙ sym e) s.1 (later_ends later)).1)
-
-pub list_first : (text rest old new item : List ℕ) → IsItem item → SplitsItem text item rest → new ≡ old ++ (length item ∷ item) → TakesList text rest old new
-list_first text rest old new item is s e = record {
-  items = item ∷ [];
-  is_list = record { some = λ z. absurd cc; each = All-cons IsItem item [] is (λ k d l. absurd (omega arith)) };
-  split = s.0 ∙ ap (λ x. x ++ rest) (sym (append-nil (item_text item)));
-  strings = e ∙ ap (λ x. old ++ x) (sym (append-nil (length item ∷ item)));
-  only = only_first text item rest s;
-}
-
 pub list_push : (items : List (List ℕ)) (item after : List ℕ) → items ≢ [] → list_text (items ++ item ∷ []) ++ after ≡ list_text items ++ (44 ∷ item_text item ++ after)
 list_push [] item after n = absurd (n refl)
 list_push (i ∷ is) item after n =
@@ -133,21 +107,25 @@ list_push (i ∷ is) item after n =
     ∙ ap (λ x. x ++ after) (sym (append_assoc (item_text i) (later_text is) (44 ∷ item_text item)))
     ∙ append_assoc (item_text i ++ later_text is) (44 ∷ item_text item) after
 
-later_first : (rest tail : List ℕ) (later : List (List ℕ)) → rest ≡ 44 ∷ tail → All IsItem later → rest ≡ later_text later
-    → (l : List ℕ) × (ls : List (List ℕ)) × IsItem l × All IsItem ls × (tail ≡ item_text l ++ later_text ls)
-later_first rest tail [] e each is = absurd cc
-later_first rest tail (l ∷ ls) e each is = (l, ls, All-head IsItem l ls each, All-tail IsItem l ls each, (let j : 44 ∷ tail ≡ 44 ∷ item_text l ++ later_text ls = sym e ∙ is in cc))
-
-only_more : (tail item after : List ℕ) → SplitsItem tail item after → ((l : List ℕ) × (ls : List (List ℕ)) × IsItem l × All IsItem ls × (tail ≡ item_text l ++ later_text ls))
-    → (later : List (List ℕ)) × All IsItem later × (after ≡ later_text later)
-only_more tail item after s (l, ls, is, each, e) = (ls, each, (one_item item l after (later_text ls) (sym s.0 ∙ e) s.1 (later_ends ls)).1)
-
-only_next : (rest tail item after : List ℕ) → rest ≡ 44 ∷ tail → SplitsItem tail item after → ((later : List (List ℕ)) × All IsItem later × (rest ≡ later_text later))
-    → (later : List (List ℕ)) × All IsItem later × (after ≡ later_text later)
-only_next rest tail item after e s (later, each, is) = only_more tail item after s (later_first rest tail later e each is)
-
 pub pushed_some : (items : List (List ℕ)) (item : List ℕ) → items ++ item ∷ [] ≢ []
 pushed_some items item e = let l = ap length e in let m = length-append items (item ∷ []) in omega arith
+
+-- the list so far
+pub record TakesList (text rest old new : List ℕ) : Type 0 where
+  pub items : List (List ℕ)
+  pub is_list : IsList items
+  pub split : text ≡ list_text items ++ rest
+  pub strings : new ≡ old ++ wire_strings items
+  pub ends : EndsItem rest
+
+pub list_first : (text rest old new item : List ℕ) → IsItem item → SplitsItem text item rest → new ≡ old ++ (length item ∷ item) → TakesList text rest old new
+list_first text rest old new item is s e = record {
+  items = item ∷ [];
+  is_list = record { some = λ z. absurd cc; each = All-cons IsItem item [] is (λ k d l. absurd (omega arith)) };
+  split = s.0 ∙ ap (λ x. x ++ rest) (sym (append-nil (item_text item)));
+  strings = e ∙ ap (λ x. old ++ x) (sym (append-nil (length item ∷ item)));
+  ends = s.1;
+}
 
 pub list_more : (text rest tail after old mid new item : List ℕ) → TakesList text rest old mid → rest ≡ 44 ∷ tail → IsItem item → SplitsItem tail item after
     → new ≡ mid ++ (length item ∷ item) → TakesList text after old new
@@ -157,35 +135,8 @@ list_more text rest tail after old mid new item h e is s n = record {
   split = h.split ∙ ap (λ r. list_text h.items ++ r) (e ∙ ap (λ t. 44 ∷ t) s.0) ∙ sym (list_push h.items item after h.is_list.some);
   strings = n ∙ ap (λ x. x ++ (length item ∷ item)) h.strings ∙ append_assoc old (wire_strings h.items) (length item ∷ item)
       ∙ ap (λ x. old ++ (wire_strings h.items ++ x)) (sym (append-nil (length item ∷ item))) ∙ ap (λ x. old ++ x) (sym (flat_map-append (λ i. length i ∷ i) h.items (item ∷ [])));
-  only = λ others o e2. only_next rest tail item after e s (h.only others o e2);
+  ends = s.1;
 }
-
-no_first_by : (text : List ℕ) → ((item rest : List ℕ) → IsItem item → SplitsItem text item rest → ⊥) → (others : List (List ℕ)) → IsList others → list_text others ≢ text
-no_first_by text none [] is e = is.some refl
-no_first_by text none (o ∷ later) is e = none o (later_text later) (All-head IsItem o later is.each) (sym e, later_ends later)
-
--- with no item in front, a text is no list
-pub no_first : (text : List ℕ) → ((item rest : List ℕ) → IsItem item → SplitsItem text item rest → ⊥) → (others : List (List ℕ)) → IsList others → list_text others ≢ text
-no_first = no_first_by
-
-no_later : (rest : List ℕ) → rest ≢ [] → get_or rest 0 0 ≢ 44 → ((later : List (List ℕ)) × All IsItem later × (rest ≡ later_text later)) → ⊥
-no_later rest some n ([], each, e) = some e
-no_later rest some n (l ∷ ls, each, e) = n (ap (λ r. get_or r 0 0) e)
-
-pub no_comma : (text rest old new : List ℕ) → TakesList text rest old new → rest ≢ [] → get_or rest 0 0 ≢ 44 → (others : List (List ℕ)) → IsList others → list_text others ≢ text
-no_comma text rest old new h some n others is e = no_later rest some n (h.only others is e)
-
-no_next_by : (tail : List ℕ) → ((item rest : List ℕ) → IsItem item → SplitsItem tail item rest → ⊥)
-    → ((l : List ℕ) × (ls : List (List ℕ)) × IsItem l × All IsItem ls × (tail ≡ item_text l ++ later_text ls)) → ⊥
-no_next_by tail none (l, ls, is, each, e) = none l (later_text ls) is (e, later_ends ls)
-
-no_next_at : (rest tail : List ℕ) → rest ≡ 44 ∷ tail → ((item rest : List ℕ) → IsItem item → SplitsItem tail item rest → ⊥)
-    → ((later : List (List ℕ)) × All IsItem later × (rest ≡ later_text later)) → ⊥
-no_next_at rest tail e none (later, each, is) = no_next_by tail none (later_first rest tail later e each is)
-
-pub no_next : (text rest tail old new : List ℕ) → TakesList text rest old new → rest ≡ 44 ∷ tail
-    → ((item rest : List ℕ) → IsItem item → SplitsItem tail item rest → ⊥) → (others : List (List ℕ)) → IsList others → list_text others ≢ text
-no_next text rest tail old new h e none others is e2 = no_next_at rest tail e none (h.only others is e2)
 
 pub comma_split : (rest : List ℕ) → 0 < length rest → get_or rest 0 0 ≡ 44 → rest ≡ 44 ∷ take (length rest - 1) (drop 1 rest)
 comma_split [] l e = absurd (omega arith)

@@ -4,9 +4,17 @@ pub mod Blocks
 pub mod Windows
 pub mod Taking
 pub mod Telling
+pub mod Places
+pub mod TypesOf
+pub mod Sets
+pub mod Faults
 pub mod Entries
 pub mod Reading
+pub mod ParamLists
+pub mod Settling
+pub mod InOrder
 pub mod Checking
 pub mod Items
 pub mod Printing
 pub mod Queries
+pub mod ListFaults

@@ -10,9 +10,6 @@ use Rattle.std.proofs.lemmas.Nat.{be_bytes_2, from_be_bytes-to_be_bytes_2}
 use Rattle.dns_lists.specs.Params.{param, param_if, params_from, params_wire, value_at, HasAscendingKeys, HasFittingValues}
 use Rattle.dns_lists.proofs.Entries.{entries_none, entries_first, entries_same, entries_more, keys_skipped, value_new}
 
-number_length : (n : ℕ) → length (to_be_bytes w16 n) ≡ 2
-number_length n = refl
-
 same_front : (xs ys us vs : List ℕ) → length xs ≡ length ys → xs ++ us ≡ ys ++ vs → (xs ≡ ys) × (us ≡ vs)
 same_front xs ys us vs l e = (
   sym (take_at xs us (length xs) refl) ∙ ap (take (length xs)) e ∙ take_at ys vs (length xs) (sym l),

@@ -1,31 +1,15 @@
 -- Types that are taken from a bitmap, window by window.
-use Rattle.std.proofs.Common.{◌≡◌, ◌≢◌, ℕ, ◌+◌, ◌-◌, ◌*◌, ◌/◌, ◌%◌, ◌<◌, ◌≤◌, ◌⊎◌, ◌==◌, ◌||◌, Bool, true, false, List, [], ◌∷◌, ◌++◌, length, get_or, take, drop, All, refl, sym, ap, ◌∙◌, arith, suc, inl, inr, append-nil, append_assoc}
+use Rattle.std.proofs.Common.{◌≡◌, ◌≢◌, ℕ, ◌+◌, ◌-◌, ◌*◌, ◌/◌, ◌%◌, ◌<◌, ◌≤◌, ◌⊎◌, false, List, [], ◌∷◌, ◌++◌, length, get_or, take, drop, All, refl, sym, ap, ◌∙◌, arith, suc, inl, inr, append-nil, append_assoc}
 use Rattle.std.proofs.lemmas.List.{get_or_past, get_or-take, get_or-drop, take_at, drop_at, take-append-drop, take_rest, length-take-le, length-drop}
-use Rattle.std.proofs.lemmas.List.Folds.{list_any-append}
-use Rattle.std.proofs.lemmas.List.Elements.{All-weaker, All-push, All-from_get_or}
-use Rattle.std.proofs.lemmas.List.Quantifiers.{all_pairs_push}
-use Rattle.std.proofs.lemmas.Bool.{cases_lt, cases_eq, ne_eqb, eq-eqb}
+use Rattle.std.proofs.lemmas.List.Elements.{All-weaker, All-from_get_or}
+use Rattle.std.proofs.lemmas.Bool.{cases_lt}
 use Rattle.std.proofs.lemmas.Nat.Bits.{bit_at-zero}
 use Rattle.std.specs.Int.{bit_at}
-use Rattle.dns_lists.specs.Bitmap.{has, one_if, bit_in, window_octets_of, window_block, window_blocks, bitmap, IsData, TakesWindow, IsAscending}
+use Rattle.dns_lists.specs.Bitmap.{has, one_if, bit_in, window_octets_of, window_block, window_blocks, bitmap, IsData, IsAscending}
 use Rattle.dns_lists.proofs.Bits.{octets_length, octets_small, bit_of_place}
 use Rattle.dns_lists.proofs.Trimmed.{HasNoZeroLast, trimmed_at, trimmed_last, trimmed_length}
 use Rattle.dns_lists.proofs.Blocks.{blocks_none, Begins, begins, blocks_last, blocks_same}
 use Rattle.dns_lists.proofs.Windows.{window_of, window_is, has_none, skipped}
-
-or_no : (b : Bool) → (b || (false || false)) ≡ b
-or_no true = refl
-or_no false = refl
-
-or_yes : (b : Bool) → (b || (true || false)) ≡ true
-or_yes true = refl
-or_yes false = refl
-
-pub pushed_same : (types : List ℕ) (code : ℕ) → has (types ++ code ∷ []) code ≡ true
-pushed_same types code = list_any-append (λ t. t == code) types (code ∷ []) ∙ ap (λ b. has types code || (b || false)) (eq-eqb code code refl) ∙ or_yes (has types code)
-
-pub pushed_other : (types : List ℕ) (code t : ℕ) → (code ≡ t → ⊥) → has (types ++ code ∷ []) t ≡ has types t
-pushed_other types code t n = list_any-append (λ u. u == t) types (code ∷ []) ∙ ap (λ b. has types t || (b || false)) (ne_eqb code t n) ∙ or_no (has types t)
 
 pub none_above : (types : List ℕ) (n code : ℕ) → All (λ t. t < n) types → n ≤ code → has types code ≡ false
 none_above types n code h l = has_none types code (All-weaker (λ t. t < n) (λ t. t ≢ code) (λ t below e. omega arith) types h)
@@ -72,9 +56,16 @@ data_small xs d k = elim (cases_lt k (length xs)) [
   | inr l ↦ (let e = get_or_past xs k 0 l in omega arith)
 ]
 
-block_is : (w : ℕ) (xs : List ℕ) → 0 < length xs → window_block w xs ≡ w ∷ length xs ∷ xs
+pub block_is : (w : ℕ) (xs : List ℕ) → 0 < length xs → window_block w xs ≡ w ∷ length xs ∷ xs
 block_is w [] l = absurd (omega arith)
 block_is w (x ∷ xs) l = refl
+
+-- new is old with the types of a window behind it
+pub record TakesWindow (old : List ℕ) (window : ℕ) (octets new : List ℕ) : Type 0 where
+  pub kept : (code : ℕ) → code / 256 ≢ window → has new code ≡ has old code
+  pub bits : (place : ℕ) → place < 256 → one_if (has new (256 * window + place)) ≡ bit_in octets place
+  pub ascending : IsAscending new
+  pub below : All (λ t. t < 256 * (window + 1)) new
 
 -- one block more
 pub taken_more : (octets rest after old new xs : List ℕ) (next window : ℕ) → next ≤ window → All (λ t. t < 256 * next) old
@@ -159,58 +150,6 @@ block_data xs n m e l some short last small =
       last = λ z. last (ap (λ j. get_or xs j 0) (omega arith) ∙ sym (get_or-drop 2 xs (length (take m (drop 2 xs)) - 1) 0)
           ∙ sym (get_or-take m (drop 2 xs) (length (take m (drop 2 xs)) - 1) 0 (omega arith)) ∙ z);
     }
-
--- the types of the places before one
-pub record TakesPlaces (old : List ℕ) (window : ℕ) (octets : List ℕ) (end : ℕ) (types : List ℕ) : Type 0 where
-  pub kept : (code : ℕ) → code / 256 ≢ window → has types code ≡ has old code
-  pub bits : (place : ℕ) → place < end → one_if (has types (256 * window + place)) ≡ bit_in octets place
-  pub ascending : IsAscending types
-  pub below : All (λ t. t < 256 * window + end) types
-
-pub no_place : (old : List ℕ) (window : ℕ) (octets : List ℕ) → IsAscending old → All (λ t. t < 256 * window) old → TakesPlaces old window octets 0 old
-no_place old window octets up below = record {
-  kept = λ code n. refl;
-  bits = λ p l. absurd (omega arith);
-  ascending = up;
-  below = All-weaker (λ t. t < 256 * window) (λ t. t < 256 * window + 0) (λ t h. omega arith) old below;
-}
-
-pub place_set : (old : List ℕ) (window : ℕ) (octets : List ℕ) (p : ℕ) (types : List ℕ) → p < 256 → TakesPlaces old window octets p types → 1 ≡ bit_in octets p
-    → TakesPlaces old window octets (p + 1) (types ++ (256 * window + p) ∷ [])
-place_set old window octets p types l h set = record {
-  kept = λ code n. pushed_other types (256 * window + p) code (λ e. n (omega arith)) ∙ h.kept code n;
-  bits = λ q m. elim (cases_eq q p) [
-    | inl e ↦ ap (λ c. one_if (has (types ++ (256 * window + p) ∷ []) (256 * window + c))) e ∙ ap one_if (pushed_same types (256 * window + p)) ∙ set ∙ ap (bit_in octets) (sym e)
-    | inr n ↦ ap one_if (pushed_other types (256 * window + p) (256 * window + q) (λ e. n (omega arith))) ∙ h.bits q (omega arith)
-  ];
-  ascending = all_pairs_push (λ a b. a < b) types (256 * window + p) h.ascending (λ k d inside. h.below k d inside);
-  below = All-push (λ t. t < 256 * window + (p + 1)) types (256 * window + p)
-      (All-weaker (λ t. t < 256 * window + p) (λ t. t < 256 * window + (p + 1)) (λ t b. omega arith) types h.below) (omega arith);
-}
-
-pub place_clear : (old : List ℕ) (window : ℕ) (octets : List ℕ) (p : ℕ) (types : List ℕ) → TakesPlaces old window octets p types → 0 ≡ bit_in octets p
-    → TakesPlaces old window octets (p + 1) types
-place_clear old window octets p types h clear = record {
-  kept = h.kept;
-  bits = λ q m. elim (cases_eq q p) [
-    | inl e ↦ ap one_if (none_above types (256 * window + p) (256 * window + q) h.below (omega arith)) ∙ clear ∙ ap (bit_in octets) (sym e)
-    | inr n ↦ h.bits q (omega arith)
-  ];
-  ascending = h.ascending;
-  below = All-weaker (λ t. t < 256 * window + p) (λ t. t < 256 * window + (p + 1)) (λ t b. omega arith) types h.below;
-}
-
-pub places_taken : (old : List ℕ) (window : ℕ) (octets : List ℕ) (end : ℕ) (types : List ℕ) → 8 * length octets ≤ end → end ≤ 256
-    → TakesPlaces old window octets end types → TakesWindow old window octets types
-places_taken old window octets end types l high h = record {
-  kept = h.kept;
-  bits = λ p small. elim (cases_lt p end) [
-    | inl below ↦ h.bits p below
-    | inr above ↦ ap one_if (none_above types (256 * window + end) (256 * window + p) h.below (omega arith)) ∙ sym (bit_past octets p (omega arith))
-  ];
-  ascending = h.ascending;
-  below = All-weaker (λ t. t < 256 * window + end) (λ t. t < 256 * (window + 1)) (λ t b. omega arith) types h.below;
-}
 
 -- the blocks before a window are read, and no types have other blocks there
 pub record ReadsBlocks (octets types rest : List ℕ) (next : ℕ) : Type 0 where

@@ -31,7 +31,7 @@ blocks_tell f g w (suc n) v e l h =
       | inr later ↦ blocks_tell f g (w + 1) n v first.1 (omega arith) (omega arith)
     ]
 
-same_bit : (a b : Bool) → one_if a ≡ one_if b → a ≡ b
+pub same_bit : (a b : Bool) → one_if a ≡ one_if b → a ≡ b
 same_bit true true e = refl
 same_bit false false e = refl
 same_bit true false e = absurd (omega arith)
@@ -48,16 +48,16 @@ same_members a b code e l =
     ∙ same_bit (has a (256 * w + p)) (has b (256 * w + p)) (sym (window_bits a w p in_window) ∙ ap (λ x. bit_in x p) octets ∙ window_bits b w p in_window)
     ∙ ap (has b) code_is
 
-has_first : (x : ℕ) (xs : List ℕ) → has (x ∷ xs) x ≡ true
+pub has_first : (x : ℕ) (xs : List ℕ) → has (x ∷ xs) x ≡ true
 has_first x xs = ap (λ b. b || has xs x) (eq-eqb x x refl)
 
-has_later : (x t : ℕ) (xs : List ℕ) → (x ≡ t → ⊥) → has (x ∷ xs) t ≡ has xs t
+pub has_later : (x t : ℕ) (xs : List ℕ) → (x ≡ t → ⊥) → has (x ∷ xs) t ≡ has xs t
 has_later x t xs n = ap (λ b. b || has xs t) (ne_eqb x t n)
 
-above_first : (x : ℕ) (xs : List ℕ) → IsAscending (x ∷ xs) → All (λ t. x < t) xs
+pub above_first : (x : ℕ) (xs : List ℕ) → IsAscending (x ∷ xs) → All (λ t. x < t) xs
 above_first x xs up k d l = up zero (suc k) d (omega arith) (omega arith)
 
-rest_ascends : (x : ℕ) (xs : List ℕ) → IsAscending (x ∷ xs) → IsAscending xs
+pub rest_ascends : (x : ℕ) (xs : List ℕ) → IsAscending (x ∷ xs) → IsAscending xs
 rest_ascends x xs up i j d l m = up (suc i) (suc j) d (omega arith) (omega arith)
 
 not_below : (x y : ℕ) (ys : List ℕ) → IsAscending (y ∷ ys) → x < y → has (y ∷ ys) x ≡ false

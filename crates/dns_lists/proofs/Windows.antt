@@ -1,11 +1,11 @@
 -- The octets of a window, from its bits, and windows with no member.
-use Rattle.std.proofs.Common.{◌≡◌, ◌≢◌, ℕ, ◌+◌, ◌-◌, ◌*◌, ◌/◌, ◌%◌, ◌<◌, ◌≤◌, ◌⊎◌, ◌==◌, false, List, [], ◌++◌, length, get_or, All, sym, ap, ◌∙◌, arith, inl, inr, append-nil, Option, None, Some, MatchOption}
+use Rattle.std.proofs.Common.{◌≡◌, ◌≢◌, ℕ, ◌+◌, ◌-◌, ◌*◌, ◌/◌, ◌%◌, ◌<◌, ◌≤◌, ◌⊎◌, ◌==◌, false, List, [], ◌++◌, length, get_or, All, sym, ap, ◌∙◌, arith, inl, inr, append-nil}
 use Rattle.std.proofs.lemmas.List.{get_or_past}
 use Rattle.std.proofs.lemmas.List.Folds.{list_any_none}
 use Rattle.std.proofs.lemmas.List.Elements.{All-weaker}
 use Rattle.std.proofs.lemmas.Bool.{cases_lt, ne_eqb}
 use Rattle.std.proofs.lemmas.Nat.Bits.{bit_at-zero}
-use Rattle.dns_lists.specs.Bitmap.{has, one_if, bit_in, window_octets_of, trimmed, window_blocks, bitmap}
+use Rattle.dns_lists.specs.Bitmap.{has, one_if, bit_in, window_octets_of, trimmed, window_blocks}
 use Rattle.dns_lists.proofs.Bits.{octets_length, octets_small, same_octet, bit_of_place}
 use Rattle.dns_lists.proofs.Trimmed.{HasNoZeroLast, trimmed_at, trimmed_last, one_list}
 use Rattle.dns_lists.proofs.Blocks.{blocks_split, blocks_empty}
@@ -43,11 +43,3 @@ skipped types a b l h =
     ∙ ap (λ xs. window_blocks (window_of types) 0 a ++ xs) (blocks_empty (window_of types) (0 + a) (b - a) (λ v low high.
     window_empty types v (λ p small. has_none types (256 * v + p) (All-weaker (λ t. (t / 256 < a) ⊎ (b ≤ t / 256)) (λ t. t ≢ 256 * v + p) (λ t e same. omega arith) types h))))
     ∙ append-nil (window_blocks (window_of types) 0 a)
-
--- after the blocks before a window, those up to the next with a type
-pub up_to_next : (types old new : List ℕ) (from : ℕ) (next : Option ℕ) → from ≤ 256 → new ≡ old ++ window_blocks (window_of types) 0 from
-    → MatchOption next (All (λ t. t / 256 < from) types) (λ window. (from ≤ window) × (window < 256) × All (λ t. (t / 256 < from) ⊎ (window ≤ t / 256)) types)
-    → MatchOption next (new ≡ old ++ bitmap types) (λ window. (window < 256) × (new ≡ old ++ window_blocks (window_of types) 0 window))
-up_to_next types old new from None l e h =
-    e ∙ ap (λ xs. old ++ xs) (sym (skipped types from 256 l (All-weaker (λ t. t / 256 < from) (λ t. (t / 256 < from) ⊎ (256 ≤ t / 256)) (λ t below. inl below) types h)))
-up_to_next types old new from (Some window) l e h = (h.1, e ∙ ap (λ xs. old ++ xs) (sym (skipped types from window h.0 h.2)))

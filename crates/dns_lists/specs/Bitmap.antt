@@ -1,7 +1,9 @@
 -- The bitmap of a list of types (RFC 4034 section 4.1.2).
-use Rattle.std.specs.Prelude.{ℕ, zero, ◌+◌, ◌-◌, ◌*◌, ◌/◌, ◌%◌, ◌==◌, ◌<◌, ◌≤◌, ◌≡◌, ◌≢◌, All, Bool, cond, List, [], ◌∷◌, length, map, slice_index}
+use Rattle.std.specs.Prelude.{ℕ, zero, suc, ◌+◌, ◌-◌, ◌*◌, ◌/◌, ◌%◌, ◌==◌, ◌<◌, ◌≤◌, ◌≡◌, ◌≢◌, ◌⊎◌, All, Bool, cond, List, [], ◌∷◌, ◌++◌, length, map, take, drop, slice_index}
 use Rattle.std.specs.Int.{bit_at}
 use Rattle.std.specs.List.{list_any, flat_map, range_with_len, AllPairs}
+use Rattle.dns_lists.specs.declared.bitmap.BitmapError.{BitmapError}
+use Rattle.dns_lists.specs.declared.bitmap.BitmapError.TheVariants.{Order, Length, TrailingZero, Short}
 
 -- whether a code is in the list
 abbrev pub has : List ℕ → ℕ → Bool
@@ -58,9 +60,45 @@ pub record IsData (octets : List ℕ) : Type 0 where
   pub small : All (λ octet. octet < 256) octets
   pub last : slice_index octets (length octets - 1) ≢ 0
 
--- new is old with the types of a window behind it
-pub record TakesWindow (old : List ℕ) (window : ℕ) (octets new : List ℕ) : Type 0 where
-  pub kept : (code : ℕ) → code / 256 ≢ window → has new code ≡ has old code
-  pub bits : (place : ℕ) → place < 256 → one_if (has new (256 * window + place)) ≡ bit_in octets place
-  pub ascending : IsAscending new
-  pub below : All (λ t. t < 256 * (window + 1)) new
+-- octets that are the bitmap of some types
+abbrev pub IsBitmap : List ℕ → Type 0
+IsBitmap octets = (types : List ℕ) × (bitmap types ≡ octets)
+
+-- the same types are in both lists
+abbrev pub SameTypes : List ℕ → List ℕ → Type 0
+SameTypes a b = (code : ℕ) → code < 65536 → has a code ≡ has b code
+
+-- the places whose bits are set, of so many from the first on
+unfoldable pub set_places : List ℕ → ℕ → ℕ → List ℕ
+set_places octets first count = flat_map (λ place. cond (bit_in octets place == 1) (place ∷ []) []) (range_with_len first count)
+
+-- the types of a window from a place on
+abbrev pub types_in : ℕ → List ℕ → ℕ → List ℕ
+types_in window octets place = map (λ p. 256 * window + p) (set_places octets place (256 - place))
+
+-- the types of so many blocks or fewer: of each its window's number, how many octets, and these
+unfoldable pub block_types : ℕ → List ℕ → List ℕ
+block_types (suc count) (window ∷ size ∷ octets) = types_in window (take size octets) 0 ++ block_types count (drop size octets)
+block_types zero octets = []
+block_types (suc count) [] = []
+block_types (suc count) (window ∷ []) = []
+
+-- the types that a bitmap has, in ascending order
+abbrev pub types_of : List ℕ → List ℕ
+types_of octets = block_types (length octets) octets
+
+-- a bitmap, and such octets after it
+abbrev pub GoesWrong : (List ℕ → Type 0) → List ℕ → Type 0
+GoesWrong Is octets = (types rest : List ℕ) × (octets ≡ bitmap types ++ rest) × Is rest
+
+-- how many octets a block has
+abbrev pub IsBlockSize : ℕ → Type 0
+IsBlockSize size = (0 < size) × (size ≤ 32)
+
+-- what stands in front, with its error: two blocks of which the second is not above the first; a size of none or
+-- too many octets; a last octet of zero; no size, or fewer octets than it says
+abbrev pub IsWrongBlock : BitmapError → List ℕ → Type 0
+IsWrongBlock Order octets = (a b : ℕ) × (xs ys after : List ℕ) × (octets ≡ window_block a xs ++ (window_block b ys ++ after)) × IsData xs × IsData ys × (b ≤ a)
+IsWrongBlock Length octets = (2 ≤ length octets) × ¬ IsBlockSize (slice_index octets 1)
+IsWrongBlock TrailingZero octets = IsBlockSize (slice_index octets 1) × (2 + slice_index octets 1 ≤ length octets) × (slice_index octets (1 + slice_index octets 1) ≡ 0)
+IsWrongBlock Short octets = (length octets ≡ 1) ⊎ (IsBlockSize (slice_index octets 1) × (2 ≤ length octets) × (length octets < 2 + slice_index octets 1))

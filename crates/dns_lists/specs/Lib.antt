@@ -3,4 +3,7 @@ pub mod Params
 pub mod Rows
 pub mod Values
 pub mod Texts
-pub mod Extends
+pub mod TextFaults
+pub mod ParamsFaults
+pub mod Left
+pub mod Members

@@ -1,16 +1,13 @@
 -- Service parameters (RFC 9460 section 2.2).
-use Rattle.std.specs.Prelude.{ℕ, ◌==◌, ◌<◌, ◌≢◌, All, Option, None, Some, List, [], ◌++◌, length, map}
-use Rattle.std.specs.Int.{w16, to_be_bytes}
-use Rattle.std.specs.List.{flat_map, range_with_len, AllPairs}
+use Rattle.std.specs.Prelude.{◌≡◌, ◌≢◌, ℕ, zero, suc, ◌==◌, ◌<◌, ◌≤◌, All, cond, nat_lt, Option, None, Some, List, [], ◌∷◌, ◌++◌, length, take, drop}
+use Rattle.std.specs.Int.{w16, to_be_bytes, from_be_bytes}
+use Rattle.std.specs.List.{flat_map, range_with_len, AllPairs, Any}
 use Rattle.std.specs.Map.{lookup}
 use Rattle.dns_lists.specs.declared.params.Param.{Param}
 
 -- a key and the octets of its value
 abbrev pub pair : Param → ℕ × List ℕ
 pair p = (p.key, p.value.now)
-
-abbrev pub pairs : List Param → List (ℕ × List ℕ)
-pairs params = map pair params
 
 -- the value of a key: of several, the first
 abbrev pub value_at : List (ℕ × List ℕ) → ℕ → Option (List ℕ)
@@ -40,6 +37,43 @@ HasAscendingKeys params = AllPairs (λ p q. p.0 < q.0) params
 abbrev pub HasFittingValues : List (ℕ × List ℕ) → Type 0
 HasFittingValues params = All (λ p. length p.1 < 65536) params
 
--- no key stands twice
-abbrev pub HasDistinctKeys : List Param → Type 0
-HasDistinctKeys params = AllPairs (λ p q. p.key ≢ q.key) params
+-- octets that are the wire form of parameters, which then stand in order
+abbrev pub IsParams : List ℕ → Type 0
+IsParams octets = (params : List (ℕ × List ℕ)) × HasAscendingKeys params × HasFittingValues params × All (λ p. p.0 < 65536) params × (params_wire params ≡ octets)
+
+abbrev pub param_first : ℕ → ℕ → List ℕ → List (ℕ × List ℕ) → List (ℕ × List ℕ)
+param_first key size octets later = cond (nat_lt (length octets) size) [] ((key, take size octets) ∷ later)
+
+-- so many parameters or fewer, up to one that is cut off
+unfoldable pub param_list : ℕ → List ℕ → List (ℕ × List ℕ)
+param_list (suc count) (a ∷ b ∷ c ∷ d ∷ octets) =
+    param_first (from_be_bytes w16 (a ∷ b ∷ [])) (from_be_bytes w16 (c ∷ d ∷ [])) octets (param_list count (drop (from_be_bytes w16 (c ∷ d ∷ [])) octets))
+param_list zero octets = []
+param_list (suc count) [] = []
+param_list (suc count) (a ∷ []) = []
+param_list (suc count) (a ∷ b ∷ []) = []
+param_list (suc count) (a ∷ b ∷ c ∷ []) = []
+
+-- the parameters whose wire form octets are
+abbrev pub params_of : List ℕ → List (ℕ × List ℕ)
+params_of octets = param_list (length octets) octets
+
+-- no parameter stands in front
+abbrev pub BeginsNoParam : List ℕ → Type 0
+BeginsNoParam octets = (key : ℕ) (value rest : List ℕ) → length value < 65536 → octets ≢ param key value ++ rest
+
+-- no parameters have this wire form
+abbrev pub IsNoParams : List ℕ → Type 0
+IsNoParams octets = (others : List (ℕ × List ℕ)) → HasFittingValues others → params_wire others ≢ octets
+
+-- the octets are in no wire form: behind some parameters stands what is none
+abbrev pub IsCutOff : List ℕ → Type 0
+IsCutOff octets = (params : List (ℕ × List ℕ)) × (rest : List ℕ) × HasFittingValues params × (octets ≡ params_wire params ++ rest) × (rest ≢ []) × BeginsNoParam rest
+
+-- behind some parameters stands one whose key is not above each of theirs
+abbrev pub StandsOutOfOrder : ℕ → List ℕ → Type 0
+StandsOutOfOrder key octets = (params : List (ℕ × List ℕ)) × (value after : List ℕ) × HasFittingValues params × (octets ≡ params_wire params ++ (param key value ++ after)) × Any (λ p. key ≤ p.0) params
+
+-- behind the wire form of parameters stands one more, whose two length octets say nothing yet
+abbrev pub IsUnsettled : List (ℕ × List ℕ) → ℕ → List ℕ → List ℕ → Type 0
+IsUnsettled params key value octets = (size : List ℕ) × (length size ≡ 2) × (octets ≡ params_wire params ++ (to_be_bytes w16 key ++ (size ++ value)))

@@ -1,7 +1,7 @@
 -- Worked rows of the definitions, each computed.
 use Rattle.std.specs.Prelude.{◌≡◌, [], ◌∷◌, ◌++◌, codes, refl}
-use Rattle.dns_lists.specs.Bitmap.{types_octet, window_octets_of, trimmed, window_block}
-use Rattle.dns_lists.specs.Params.{param}
+use Rattle.dns_lists.specs.Bitmap.{types_octet, window_octets_of, trimmed, window_block, set_places, block_types, types_of}
+use Rattle.dns_lists.specs.Params.{param, param_list, params_of}
 use Rattle.dns_lists.specs.Texts.{item_octet, list_text, wire_strings}
 
 -- the example of RFC 4034 section 4.3: A, MX, RRSIG and NSEC in the first window, TYPE1234 in the
@@ -19,10 +19,20 @@ empty_window : window_block 7 (trimmed (window_octets_of [] 7)) ≡ []
 unfolding types_octet window_octets_of trimmed
 empty_window = refl
 
+-- and read back
+types : types_of (0 ∷ 6 ∷ 64 ∷ 1 ∷ 0 ∷ 0 ∷ 0 ∷ 3 ∷ 4 ∷ 27 ∷ 0 ∷ 0 ∷ 0 ∷ 0 ∷ 0 ∷ 0 ∷ 0 ∷ 0 ∷ 0 ∷ 0 ∷ 0 ∷ 0 ∷ 0 ∷ 0 ∷ 0 ∷ 0 ∷ 0 ∷ 0 ∷ 0 ∷ 0 ∷ 0 ∷ 0 ∷ 0 ∷ 0 ∷ 0 ∷ 0 ∷ 32 ∷ []) ≡ 1 ∷ 15 ∷ 46 ∷ 47 ∷ 1234 ∷ []
+unfolding set_places block_types
+types = refl
+
 -- port 53
 port : param 3 (0 ∷ 53 ∷ []) ≡ 0 ∷ 3 ∷ 0 ∷ 2 ∷ 0 ∷ 53 ∷ []
 unfolding param
 port = refl
+
+-- no-default-alpn and port 53; the last is cut off
+read_params : params_of (0 ∷ 2 ∷ 0 ∷ 0 ∷ 0 ∷ 3 ∷ 0 ∷ 2 ∷ 0 ∷ 53 ∷ 0 ∷ 4 ∷ 0 ∷ 4 ∷ 1 ∷ []) ≡ (2, []) ∷ (3, 0 ∷ 53 ∷ []) ∷ []
+unfolding param_list
+read_params = refl
 
 -- the example of RFC 9460 appendix D.2, behind the escapes of its character string
 list : list_text (codes "f\\oo,bar" ∷ codes "h2" ∷ []) ≡ codes "f\\\\oo\\,bar,h2"

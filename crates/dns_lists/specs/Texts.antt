@@ -40,3 +40,11 @@ EndsItem rest = (octet : ℕ) (more : List ℕ) → rest ≢ item_octet octet ++
 -- the text is that of an item, and then the rest
 abbrev pub SplitsItem : List ℕ → List ℕ → List ℕ → Type 0
 SplitsItem text item rest = (text ≡ item_text item ++ rest) × EndsItem rest
+
+-- no string stands in front, behind its length
+abbrev pub BeginsNoString : List ℕ → Type 0
+BeginsNoString octets = (item rest : List ℕ) → IsItem item → octets ≢ length item ∷ item ++ rest
+
+-- items, each with a comma behind it
+abbrev pub front_text : List (List ℕ) → List ℕ
+front_text items = flat_map (λ item. item_text item ++ 44 ∷ []) items

@@ -1,110 +1,33 @@
-//! Lists of types as bitmaps (RFC 4034 section 4.1.2).
+//! Lists of types as bitmaps (RFC 4034 section 4.1.2), read without memory.
 //!
 //! The codes from 0 to 65535 stand in 256 windows of 256. A window with a member is a block: its
 //! number, how many octets follow, and the octets, of which the first bit from the left is that of
 //! the window's first code. Octets of zeros at the end are left out.
-ghost use Rattle.std.specs.Prelude.{◌≡◌, ◌≢◌, ℕ, ◌+◌, ◌*◌, ◌/◌, ◌%◌, ◌<◌, ◌≤◌, List, ◌∷◌, ◌++◌, ◌⊎◌, All, OnErr, OnOk, IfErr, MatchOption, MatchResult, length, take};
-ghost use Rattle.dns_lists.specs.Bitmap.{one_if, bit_in, window_octets_of, trimmed, window_block, bitmap, IsAscending, IsData, TakesWindow};
-ghost use Rattle.dns_lists.specs.Extends.{Extends};
-ghost use Rattle.dns_lists.specs.declared.bitmap.BitmapError.TheVariants.{Memory};
+ghost use Rattle.std.specs.Prelude.{◌≡◌, ◌≢◌, ℕ, ◌+◌, ◌-◌, ◌*◌, ◌/◌, ◌<◌, ◌≤◌, List, [], ◌∷◌, ◌++◌, OnOk, IfErr, MatchOption, MatchResult, length};
+ghost use Rattle.dns_lists.specs.Bitmap.{one_if, bit_in, set_places, types_of, IsBitmap, IsData, GoesWrong, IsWrongBlock};
+ghost use Rattle.dns_lists.specs.Left.{types_left, moved_on};
 
-use std::alloc::AllocError;
+use std::marker::Model;
+use thiserror::Error;
 
-/// Octets of one window: bits by their place from the left.
+/// The most octets that a block has.
 const WINDOW_OCTETS: usize = 32;
 
-/// The 32 octets of a window.
-fn window_octets(types: &[u16], window: u8) -> [u8; 32]
-    ensures { result ≡ window_octets_of types.now window }
-{
-    let mut octets = [0; 32];
-    for code in types {
-        if *code / 256 == u16::from(window) {
-            let place = usize::from(*code % 256);
-            octets[place / 8] |= 1 << (7 - place % 8);
-        }
-    }
-    octets
-}
-
-/// How many octets there are up to the last that is not zero.
-fn used(octets: &[u8]) -> usize
-    ensures within { result ≤ length octets.now }
-    ensures trimmed { take result octets.now ≡ trimmed octets.now }
-{
-    let mut count = octets.len();
-    while count > 0 && octets[count - 1] == 0 {
-        count -= 1;
-    }
-    count
-}
-
-/// The first window from `from` on in which one of the types is.
-fn next_window(types: &[u16], from: u16) -> Option<u8>
-    ensures { MatchOption result (All (λ t. t / 256 < from) types.now)
-        (λ window. (from ≤ window) × (window < 256) × All (λ t. (t / 256 < from) ⊎ (window ≤ t / 256)) types.now) }
-{
-    let mut found = None;
-    let mut least = 256;
-    for code in types {
-        let window = *code / 256;
-        if from <= window && window < least {
-            least = window;
-            found = Some(window as u8);
-        }
-    }
-    found
-}
-
-/// Appends the block of a window, if one of the types is in it.
-fn append_window(types: &[u16], window: u8, target: &mut Vec<u8>) -> Result<(), AllocError>
-    ensures ok { OnOk result (target.new.items ≡ target.old.items ++ window_block window (trimmed (window_octets_of types.now window))) }
-    ensures err { OnErr result (Extends target.old.items target.new.items) }
-{
-    let octets = window_octets(types, window);
-    let count = used(&octets);
-    if count > 0 {
-        target.push(window)?;
-        target.push(count as u8)?;
-        target.extend_from_slice(&octets[..count])?;
-    }
-    Ok(())
-}
-
-/// Appends the bitmap of types, which may stand in any order and more than once.
-pub fn append_bitmap(types: &[u16], target: &mut Vec<u8>) -> Result<(), AllocError>
-    ensures ok { OnOk result (target.new.items ≡ target.old.items ++ bitmap types.now) }
-    ensures err { OnErr result (Extends target.old.items target.new.items) }
-{
-    let mut next = next_window(types, 0);
-    while let Some(window) = next {
-        append_window(types, window, target)?;
-        next = next_window(types, u16::from(window) + 1);
-    }
-    Ok(())
-}
-
-/// Why octets are no bitmap, or that memory ran out.
-#[derive(Clone, Copy, Debug, PartialEq, Eq)]
+/// Why octets are no bitmap.
+#[derive(Clone, Copy, Debug, PartialEq, Eq, Error)]
 pub enum BitmapError {
     /// A window is not above the one before it.
+    #[error("windows out of order in a type bitmap")]
     Order,
-    /// A block is to have 1 to 32 octets.
+    /// A block has no octets or more than 32.
+    #[error("a block of a type bitmap needs 1 to 32 octets")]
     Length,
     /// The last octet of a block is zero.
+    #[error("a block of a type bitmap ends with a zero octet")]
     TrailingZero,
     /// A block is cut off.
+    #[error("a type bitmap is cut off")]
     Short,
-    /// Memory ran out.
-    Memory,
-}
-
-impl From<AllocError> for BitmapError {
-    ghost from_gives = { λ _ e. e ≡ Memory };
-
-    fn from(_error: AllocError) -> Self {
-        BitmapError::Memory
-    }
 }
 
 /// A block: the window, its octets, and what stands after it.
@@ -118,9 +41,10 @@ struct Block<'a> {
 /// The block in front of octets.
 fn first_block(octets: &[u8]) -> Result<Block<'_>, BitmapError>
     requires { 0 < length octets.now }
-    ensures { MatchResult result
+    ensures cases { MatchResult result
         (λ b. (octets.now ≡ b.window ∷ length b.octets.now ∷ b.octets.now ++ b.rest.now) × (b.window < 256) × IsData b.octets.now)
-        (λ e. (e ≢ Memory) × ((window : ℕ) (xs rest : List ℕ) → IsData xs → octets.now ≢ window ∷ length xs ∷ xs ++ rest)) }
+        (λ e. (window : ℕ) (xs rest : List ℕ) → IsData xs → octets.now ≢ window ∷ length xs ∷ xs ++ rest) }
+    ensures wrong { IfErr result (λ e. IsWrongBlock e octets.now) }
 {
     if octets.len() < 2 {
         return Err(BitmapError::Short);
@@ -142,35 +66,13 @@ fn first_block(octets: &[u8]) -> Result<Block<'_>, BitmapError>
     })
 }
 
-/// Whether the bit at a place is set.
-fn is_set(octets: &[u8], place: usize) -> bool
-    requires { place / 8 < length octets.now }
-    ensures { one_if result ≡ bit_in octets.now place }
+/// Says whether octets are the bitmap of a list of types, which may be empty, and else the first
+/// reason why they aren't.
+pub fn check_bitmap(octets: &[u8]) -> Result<(), BitmapError>
+    ensures ok { OnOk result (IsBitmap octets.now) }
+    ensures err { IfErr result (λ _. ¬ IsBitmap octets.now) }
+    ensures wrong { IfErr result (λ e. GoesWrong (IsWrongBlock e) octets.now) }
 {
-    (octets[place / 8] >> (7 - place % 8)) & 1 == 1
-}
-
-/// Appends the types of a block, in ascending order.
-fn append_types(window: u8, octets: &[u8], types: &mut Vec<u16>) -> Result<(), AllocError>
-    requires short { length octets.now ≤ 32 }
-    requires below { All (λ t. t < 256 * window) types.old.items }
-    requires ascending { IsAscending types.old.items }
-    ensures { OnOk result (TakesWindow types.old.items window octets.now types.new.items) }
-{
-    for place in 0..8 * octets.len() {
-        if is_set(octets, place) {
-            types.push(256 * u16::from(window) + place as u16)?;
-        }
-    }
-    Ok(())
-}
-
-/// Reads the types of a bitmap, in ascending order, in place of what the list held.
-pub fn read_bitmap(octets: &[u8], types: &mut Vec<u16>) -> Result<(), BitmapError>
-    ensures ok { OnOk result (IsAscending types.new.items × (bitmap types.new.items ≡ octets.now)) }
-    ensures err { IfErr result (λ e. (e ≡ Memory) ⊎ ((others : List ℕ) → bitmap others ≢ octets.now)) }
-{
-    types.clear();
     let mut rest = octets;
     let mut next = 0;
     while !rest.is_empty() {
@@ -178,9 +80,127 @@ pub fn read_bitmap(octets: &[u8], types: &mut Vec<u16>) -> Result<(), BitmapErro
         if u16::from(block.window) < next {
             return Err(BitmapError::Order);
         }
-        append_types(block.window, block.octets, types)?;
         next = u16::from(block.window) + 1;
         rest = block.rest;
     }
     Ok(())
+}
+
+/// Whether the bit at a place is set.
+pub(crate) fn is_set(octets: &[u8], place: usize) -> bool
+    requires { place / 8 < length octets.now }
+    ensures { one_if result ≡ bit_in octets.now place }
+{
+    (octets[place / 8] >> (7 - place % 8)) & 1 == 1
+}
+
+/// The first place of a window from one on whose bit is set.
+fn next_set(octets: &[u8], from: usize) -> Option<usize>
+    requires { from ≤ 256 }
+    ensures { MatchOption result (set_places octets.now from (256 - from) ≡ [])
+        (λ place. (place < 256) × (set_places octets.now from (256 - from) ≡ place ∷ set_places octets.now (place + 1) (256 - (place + 1)))) }
+{
+    let end = 8 * octets.len().min(WINDOW_OCTETS);
+    for place in from..end {
+        if is_set(octets, place) {
+            return Some(place);
+        }
+    }
+    None
+}
+
+/// Where an iterator stands: in a window, at a place of its octets, with blocks after it.
+#[derive(Clone, Copy)]
+struct Cursor<'a> {
+    window: u8,
+    octets: &'a [u8],
+    place: usize,
+    rest: &'a [u8],
+}
+
+/// The first octets of a block, at whose first place the cursor then stands.
+fn enter_block(rest: &[u8]) -> Cursor<'_>
+    requires { 2 ≤ length rest.now }
+    ensures left { types_left result ≡ types_of rest.now }
+    ensures place { result.place ≡ 0 }
+    ensures shorter { length result.rest.now < length rest.now }
+{
+    let end = rest.len().min(2 + usize::from(rest[1]));
+    Cursor {
+        window: rest[0],
+        octets: &rest[2..end],
+        place: 0,
+        rest: &rest[end..],
+    }
+}
+
+/// The cursor at the next type.
+fn find_type(from: Cursor<'_>) -> Option<Cursor<'_>>
+    requires { from.place ≤ 256 }
+    ensures { MatchOption result (types_left from.entry ≡ [])
+        (λ c. (c.place < 256) × (types_left from.entry ≡ (256 * c.window + c.place) ∷ types_left (moved_on c))) }
+{
+    let mut cursor = from;
+    loop {
+        if let Some(place) = next_set(cursor.octets, cursor.place) {
+            cursor.place = place;
+            return Some(cursor);
+        }
+        if cursor.rest.len() < 2 {
+            return None;
+        }
+        cursor = enter_block(cursor.rest);
+    }
+}
+
+/// The types of a bitmap, in ascending order.
+#[derive(Drop)]
+pub struct BitmapTypes<'a> {
+    at: Cursor<'a>,
+}
+
+impl<'a> Model for BitmapTypes<'a> {
+    ghost use Rattle.std.specs.Prelude.{List, ℕ, ◌≤◌};
+    ghost use Rattle.dns_lists.specs.Left.{types_left};
+
+    ghost Value = { List ℕ };
+
+    ghost view = { λ t. types_left t.at };
+
+    ghost invariant = { λ t. t.at.place ≤ 256 };
+}
+
+impl<'a> BitmapTypes<'a> {
+    /// The types of a bitmap. Of octets that are none it gives what can be read.
+    pub fn new(octets: &'a [u8]) -> Self
+        ensures { result ≡ types_of octets.now }
+    {
+        BitmapTypes {
+            at: Cursor {
+                window: 0,
+                octets: &octets[..0],
+                place: 256,
+                rest: octets,
+            },
+        }
+    }
+}
+
+impl<'a> Iterator for BitmapTypes<'a> {
+    type Item = u16;
+
+    ghost use Rattle.std.specs.Iterator.{YieldsFirst, item_count};
+
+    ghost next_gives = { YieldsFirst (λ left. left) };
+
+    ghost remaining = { item_count (λ left. left) };
+
+    fn next(&mut self) -> Option<u16> {
+        let found = find_type(self.at)?;
+        self.at = Cursor {
+            place: found.place + 1,
+            ..found
+        };
+        Some(256 * u16::from(found.window) + found.place as u16)
+    }
 }

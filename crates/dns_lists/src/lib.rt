@@ -6,9 +6,11 @@ pub mod bitmap;
 pub mod laws;
 pub mod params;
 pub mod texts;
+pub mod type_set;
 pub mod values;
 
-pub use bitmap::{BitmapError, append_bitmap, read_bitmap};
-pub use params::{Param, ParamsError, append_params, read_params};
+pub use bitmap::{BitmapError, BitmapTypes, check_bitmap};
+pub use params::{Param, Params, ParamsFault, SettleError, settle_last};
 pub use texts::{ListError, append_list, append_list_text};
-pub use values::wrong_value;
+pub use type_set::TypeSet;
+pub use values::{check_params, wrong_value};

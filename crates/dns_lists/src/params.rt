@@ -1,14 +1,13 @@
-//! Service parameters as octets (RFC 9460 section 2.2).
+//! Service parameters as octets (RFC 9460 section 2.2), without memory.
 //!
 //! A parameter is a key of two octets, the length of its value in two octets, and the value. Keys
 //! ascend, so that no key stands twice.
-ghost use Rattle.std.specs.Prelude.{◌≡◌, ◌≢◌, ℕ, ◌+◌, ◌<◌, ◌≤◌, ◌==◌, List, Some, MatchBool, ◌++◌, ◌⊎◌, All, IfErr, OnErr, OnOk, IfOk, MatchOption, MatchResult, length};
-ghost use Rattle.std.specs.List.{Any, list_any};
-ghost use Rattle.dns_lists.specs.Params.{pairs, pair, value_at, param, params_wire, HasAscendingKeys, HasFittingValues, HasDistinctKeys};
-ghost use Rattle.dns_lists.specs.Extends.{Extends};
-ghost use Rattle.dns_lists.specs.declared.params.ParamsError.TheVariants.{Memory, Order, Short, Long};
+ghost use Rattle.std.specs.Prelude.{◌≡◌, ◌≢◌, ℕ, ◌+◌, ◌-◌, ◌<◌, ◌≤◌, List, None, [], ◌∷◌, ◌++◌, IfOk, IfErr, OnErr, OnOk, MatchOption, MatchResult, length, take, drop};
+ghost use Rattle.dns_lists.specs.Params.{pair, value_at, param, params_from, params_wire, params_of, BeginsNoParam, HasFittingValues, IsParams, IsUnsettled};
+ghost use Rattle.dns_lists.specs.ParamsFaults.{IsFormFault, SettlesLast, FindsPlace};
 
-use std::alloc::{AllocError, AllocFailed};
+use std::marker::Model;
+use thiserror::Error;
 
 /// A key with the octets of its value.
 #[derive(Clone, Copy)]
@@ -17,130 +16,43 @@ pub struct Param<'a> {
     pub value: &'a [u8],
 }
 
-/// Why parameters are refused, or that memory ran out.
-#[derive(Clone, Copy, Debug, PartialEq, Eq)]
-pub enum ParamsError {
-    /// A key is not above the one before it, or stands twice.
-    Order,
+/// Why octets are no parameters.
+#[derive(Clone, Copy, Debug, PartialEq, Eq, Error)]
+pub enum ParamsFault {
     /// A parameter is cut off.
+    #[error("service parameters are cut off")]
     Short,
-    /// A value is longer than 65535 octets.
+    /// This key is not above those before it.
+    #[error("key {0} of a service parameter is out of order")]
+    Order(u16),
+    /// The value of this key is not what it has to be.
+    #[error("key {0} of a service parameter has a wrong value")]
+    Value(u16),
+}
+
+/// Why a parameter can't be added to others.
+#[derive(Clone, Copy, Debug, PartialEq, Eq, Error)]
+pub enum SettleError {
+    /// The value is longer than 65535 octets.
+    #[error("a service parameter's value is too long")]
     Long,
-    /// Memory ran out.
-    Memory,
-}
-
-impl From<AllocError> for ParamsError {
-    ghost from_gives = { λ _ e. e ≡ Memory };
-
-    fn from(_error: AllocError) -> Self {
-        ParamsError::Memory
-    }
-}
-
-impl<T: Drop> From<AllocFailed<T>> for ParamsError {
-    ghost from_gives = { λ _ e. e ≡ Memory };
-
-    fn from(_error: AllocFailed<T>) -> Self {
-        ParamsError::Memory
-    }
-}
-
-/// Of the parameters whose key is `from` or above, the one with the least.
-fn next_param<'a>(params: &[Param<'a>], from: u32) -> Option<Param<'a>>
-    ensures { MatchOption result (All (λ p. (p.key < from) ⊎ (65536 ≤ p.key)) params.now)
-        (λ next. (from ≤ next.key) × (next.key < 65536) × (value_at (pairs params.now) next.key ≡ Some next.value.now)
-        × All (λ p. (p.key < from) ⊎ (next.key ≤ p.key)) params.now) }
-{
-    let mut found: Option<Param<'a>> = None;
-    let mut least = 65536;
-    for param in params {
-        let key = u32::from(param.key);
-        if from <= key && key < least {
-            least = key;
-            found = Some(*param);
-        }
-    }
-    found
-}
-
-/// Appends a parameter.
-fn append_param(added: &Param<'_>, target: &mut Vec<u8>) -> Result<(), ParamsError>
-    ensures ok { OnOk result (target.new.items ≡ target.old.items ++ param added.now.key added.now.value.now) }
-    ensures err { IfErr result (λ e. (e ≡ Memory) ⊎ ((e ≡ Long) × (65535 < length added.now.value.now))) }
-    ensures extends { OnErr result (Extends target.old.items target.new.items) }
-{
-    if added.value.len() > 65535 {
-        return Err(ParamsError::Long);
-    }
-    let length = added.value.len() as u16;
-    target.extend_from_slice(&added.key.to_be_bytes())?;
-    target.extend_from_slice(&length.to_be_bytes())?;
-    target.extend_from_slice(added.value)?;
-    Ok(())
-}
-
-/// Appends the parameters in the order of their keys. Of a key that stands more than once, the
-/// first is taken.
-fn append_in_order(params: &[Param<'_>], target: &mut Vec<u8>) -> Result<(), ParamsError>
-    ensures ok { OnOk result (target.new.items ≡ target.old.items ++ params_wire (pairs params.now)) }
-    ensures err { IfErr result (λ e. (e ≡ Memory) ⊎ ((e ≡ Long) × Any (λ p. 65535 < length p.value.now) params.now)) }
-    ensures extends { OnErr result (Extends target.old.items target.new.items) }
-{
-    let mut next = next_param(params, 0);
-    while let Some(param) = next {
-        append_param(&param, target)?;
-        next = next_param(params, u32::from(param.key) + 1);
-    }
-    Ok(())
-}
-
-/// Whether one of the parameters has a key.
-pub(crate) fn has_key(params: &[Param<'_>], key: u16) -> bool
-    ensures { result ≡ list_any (λ p. p.key == key) params.now }
-{
-    params.iter().any(|param| param.key == key)
-}
-
-/// Whether a key stands more than once.
-fn repeats_key(params: &[Param<'_>]) -> bool
-    ensures { MatchBool result (¬ HasDistinctKeys params.now) (HasDistinctKeys params.now) }
-{
-    for (i, param) in params.iter().enumerate() {
-        if has_key(&params[..i], param.key) {
-            return true;
-        }
-    }
-    false
-}
-
-/// Appends parameters, which may stand in any order, by ascending keys. A key that stands twice is
-/// refused.
-pub fn append_params(params: &[Param<'_>], target: &mut Vec<u8>) -> Result<(), ParamsError>
-    ensures ok { OnOk result (target.new.items ≡ target.old.items ++ params_wire (pairs params.now)) }
-    ensures distinct { OnOk result (HasDistinctKeys params.now) }
-    ensures err { IfErr result (λ e. (e ≡ Memory) ⊎ (((e ≡ Order) × ¬ HasDistinctKeys params.now)
-        ⊎ ((e ≡ Long) × Any (λ p. 65535 < length p.value.now) params.now))) }
-    ensures extends { OnErr result (Extends target.old.items target.new.items) }
-{
-    if repeats_key(params) {
-        return Err(ParamsError::Order);
-    }
-    append_in_order(params, target)
+    /// The key stands already.
+    #[error("a key of a service parameter stands twice")]
+    Repeated,
 }
 
 /// A parameter, and what stands after it.
 #[derive(Clone, Copy)]
-struct Front<'a> {
-    param: Param<'a>,
-    rest: &'a [u8],
+pub(crate) struct Front<'a> {
+    pub(crate) param: Param<'a>,
+    pub(crate) rest: &'a [u8],
 }
 
 /// The parameter in front of octets.
-fn first_param(octets: &[u8]) -> Option<Front<'_>>
-    ensures { MatchOption result
-        ((key : ℕ) (value rest : List ℕ) → length value < 65536 → octets.now ≢ param key value ++ rest)
+pub(crate) fn first_param(octets: &[u8]) -> Option<Front<'_>>
+    ensures cases { MatchOption result (BeginsNoParam octets.now)
         (λ f. (octets.now ≡ param f.param.key f.param.value.now ++ f.rest.now) × (f.param.key < 65536) × (length f.param.value.now < 65536)) }
+    ensures list { MatchOption result (params_of octets.now ≡ []) (λ f. params_of octets.now ≡ pair f.param ∷ params_of f.rest.now) }
 {
     if octets.len() < 4 {
         return None;
@@ -157,27 +69,107 @@ fn first_param(octets: &[u8]) -> Option<Front<'_>>
     })
 }
 
-/// Reads parameters, in place of what the list held.
-pub fn read_params<'a>(octets: &'a [u8], params: &mut Vec<Param<'a>>) -> Result<(), ParamsError>
-    ensures ascending { OnOk result (HasAscendingKeys (pairs params.new.items) × HasFittingValues (pairs params.new.items)) }
-    ensures ok { OnOk result (params_wire (pairs params.new.items) ≡ octets.now) }
-    ensures err { IfErr result (λ e. (e ≡ Memory)
-        ⊎ ((others : List (ℕ × List ℕ)) → HasFittingValues others → params_wire others ≢ octets.now)) }
+/// The parameters of a wire form, one after another.
+#[derive(Drop)]
+pub struct Params<'a> {
+    rest: &'a [u8],
+}
+
+impl<'a> Model for Params<'a> {
+    ghost use Rattle.std.specs.Prelude.{List, ℕ};
+    ghost use Rattle.dns_lists.specs.Params.{params_of};
+
+    // Keys with the octets of their values.
+    ghost Value = { List (ℕ × List ℕ) };
+
+    ghost view = { λ p. params_of p.rest.now };
+}
+
+impl<'a> Params<'a> {
+    /// The parameters that octets are. Of octets that are none it gives what can be read.
+    pub fn new(octets: &'a [u8]) -> Self
+        ensures { result ≡ params_of octets.now }
+    {
+        Params { rest: octets }
+    }
+}
+
+impl<'a> Iterator for Params<'a> {
+    type Item = Param<'a>;
+
+    ghost use Rattle.std.specs.Iterator.{YieldsFirstBy, item_count};
+    ghost use Rattle.dns_lists.specs.Params.{pair};
+
+    ghost next_gives = { YieldsFirstBy pair (λ left. left) };
+
+    ghost remaining = { item_count (λ left. left) };
+
+    fn next(&mut self) -> Option<Param<'a>> {
+        let front = first_param(self.rest)?;
+        self.rest = front.rest;
+        Some(front.param)
+    }
+}
+
+/// Says whether octets are the wire form of parameters, whose values may be any.
+pub(crate) fn check_form(octets: &[u8]) -> Result<(), ParamsFault>
+    ensures ok { OnOk result (IsParams octets.now) }
+    ensures err { IfErr result (λ fault. IsFormFault fault octets.now) }
 {
-    params.clear();
     let mut rest = octets;
     let mut next = 0;
     while !rest.is_empty() {
         let Some(front) = first_param(rest) else {
-            return Err(ParamsError::Short);
+            return Err(ParamsFault::Short);
         };
         let key = u32::from(front.param.key);
         if key < next {
-            return Err(ParamsError::Order);
+            return Err(ParamsFault::Order(front.param.key));
         }
-        params.push(front.param)?;
         next = key + 1;
         rest = front.rest;
     }
+    Ok(())
+}
+
+/// Where among parameters one with a key would stand.
+fn find_place(octets: &[u8], key: u16) -> Result<usize, SettleError>
+    ensures within { IfOk result (λ place. place ≤ length octets.now) }
+    ensures place { (params : List (ℕ × List ℕ)) → HasFittingValues params → octets.now ≡ params_wire params → FindsPlace params key octets.now result }
+{
+    let mut place = 0;
+    while let Some(front) = first_param(&octets[place..]) {
+        if key < front.param.key {
+            break;
+        }
+        if key == front.param.key {
+            return Err(SettleError::Repeated);
+        }
+        place = octets.len() - front.rest.len();
+    }
+    Ok(place)
+}
+
+/// Brings a parameter that was appended behind others to its place by its key, and sets its length.
+///
+/// The others are the first `at` octets. Behind them stand the key in two octets, two octets for
+/// the length, which may be any, and the value up to the end. Refused, nothing is changed.
+pub fn settle_last(octets: &mut [u8], at: usize) -> Result<(), SettleError>
+    requires { at + 4 ≤ length octets.old }
+    ensures settled { (params : List (ℕ × List ℕ)) (key : ℕ) (value : List ℕ) → HasFittingValues params → key < 65536 → at ≡ length (params_wire params)
+        → IsUnsettled params key value octets.old → SettlesLast params key value octets.new result }
+    ensures err { OnErr result (octets.new ≡ octets.old) }
+{
+    let behind = octets.len() - at;
+    if behind - 4 > 65535 {
+        return Err(SettleError::Long);
+    }
+    let key = u16::from_be_bytes([octets[at], octets[at + 1]]);
+    let place = find_place(&octets[..at], key)?;
+    let size = ((behind - 4) as u16).to_be_bytes();
+    octets[at + 2] = size[0];
+    octets[at + 3] = size[1];
+    let moved = &mut octets[place..];
+    moved.rotate_left(at - place);
     Ok(())
 }

@@ -2,38 +2,35 @@
 //!
 //! Items stand between commas. In an item a comma and a backslash stand behind a backslash. This is
 //! the text that a character string holds, whose own escapes are gone.
-ghost use Rattle.std.specs.Prelude.{◌≡◌, ◌≢◌, ℕ, ◌<◌, List, [], ◌∷◌, ◌++◌, ◌⊎◌, IfOk, IfErr, OnErr, OnOk, MatchOption, MatchResult, length};
+ghost use Rattle.std.specs.Prelude.{◌≡◌, ◌≢◌, ℕ, ◌<◌, List, [], ◌∷◌, ◌++◌, ◌⊎◌, IfOk, IfErr, OnErr, OnOk, MatchOption, length};
+ghost use Rattle.dns_octets.specs.Appending.{Extends, LacksRoom};
 ghost use Rattle.dns_lists.specs.Values.{AreWireStrings};
-ghost use Rattle.dns_lists.specs.Texts.{is_special, item_octet, item_text, list_text, wire_strings, IsList, EndsItem, SplitsItem, IsItem};
-ghost use Rattle.dns_lists.specs.Extends.{Extends};
-ghost use Rattle.dns_lists.specs.declared.texts.ListError.TheVariants.{Memory};
+ghost use Rattle.dns_lists.specs.Texts.{is_special, item_octet, item_text, list_text, wire_strings, IsList, EndsItem, SplitsItem, IsItem, BeginsNoString};
+ghost use Rattle.dns_lists.specs.TextFaults.{IsItemFault, IsListFault, IsStringsFault};
+ghost use Rattle.dns_lists.specs.declared.texts.ListError.TheVariants.{ShortBuf as NoRoom};
 
-use std::alloc::{AllocError, AllocFailed};
+use dns_octets::OctetsBuilder;
+use thiserror::Error;
 
-/// Why a text is no list, or that memory ran out.
-#[derive(Clone, Copy, Debug, PartialEq, Eq)]
+/// Why a text or octets are no list, or that they didn't fit.
+#[derive(Clone, Copy, Debug, PartialEq, Eq, Error)]
 pub enum ListError {
     /// A string is to have 1 to 255 octets.
+    #[error("a string of a list needs 1 to 255 octets")]
     Length,
     /// A backslash stands in front of something else than a comma or a backslash.
+    #[error("illegal escape in a list")]
     Escape,
-    /// Memory ran out.
-    Memory,
+    /// There was no room, or no memory.
+    #[error("buffer size exceeded")]
+    ShortBuf,
 }
 
-impl From<AllocError> for ListError {
-    ghost from_gives = { λ _ e. e ≡ Memory };
+impl From<dns_octets::ShortBuf> for ListError {
+    ghost from_gives = { λ _ e. e ≡ NoRoom };
 
-    fn from(_error: AllocError) -> Self {
-        ListError::Memory
-    }
-}
-
-impl<T: Drop> From<AllocFailed<T>> for ListError {
-    ghost from_gives = { λ _ e. e ≡ Memory };
-
-    fn from(_error: AllocFailed<T>) -> Self {
-        ListError::Memory
+    fn from(_error: dns_octets::ShortBuf) -> Self {
+        ListError::ShortBuf
     }
 }
 
@@ -95,41 +92,44 @@ fn count_item(text: &[u8]) -> usize
 }
 
 /// Appends the octets of the item in front of a text, and gives what stands after it.
-fn copy_item<'a>(text: &'a [u8], target: &mut Vec<u8>) -> Result<&'a [u8], ListError>
-    ensures ok { IfOk result (λ rest. (item : List ℕ) × SplitsItem text.now item rest.now × (target.new.items ≡ target.old.items ++ item)) }
-    ensures err { IfErr result (λ e. e ≡ Memory) }
-    ensures extends { OnErr result (Extends target.old.items target.new.items) }
+fn copy_item<'a, B: OctetsBuilder>(
+    text: &'a [u8],
+    target: &mut B,
+) -> Result<&'a [u8], dns_octets::ShortBuf>
+    ensures ok { IfOk result (λ rest. (item : List ℕ) × SplitsItem text.now item rest.now × (B.octets target.new ≡ B.octets target.old ++ item)) }
+    ensures extends { OnErr result (Extends (B.octets target.old) (B.octets target.new)) }
+    ensures lacks { OnErr result (LacksRoom B.room (λ item. (rest : List ℕ) × SplitsItem text.now item rest) (B.octets target.old)) }
 {
     let mut rest = text;
     while let Some(first) = first_octet(rest) {
-        target.push(first.octet)?;
+        target.append_slice(&[first.octet])?;
         rest = first.rest;
     }
     Ok(rest)
 }
 
 /// Appends the item in front of a text behind its length, and gives what stands after it.
-fn append_item<'a>(text: &'a [u8], target: &mut Vec<u8>) -> Result<&'a [u8], ListError>
+fn append_item<'a, B: OctetsBuilder>(text: &'a [u8], target: &mut B) -> Result<&'a [u8], ListError>
     ensures ok { IfOk result (λ rest. (item : List ℕ) × IsItem item × SplitsItem text.now item rest.now
-        × (target.new.items ≡ target.old.items ++ (length item ∷ item))) }
-    ensures err { IfErr result (λ e. (e ≡ Memory) ⊎ ((item rest : List ℕ) → IsItem item → SplitsItem text.now item rest → ⊥)) }
-    ensures extends { OnErr result (Extends target.old.items target.new.items) }
+        × (B.octets target.new ≡ B.octets target.old ++ (length item ∷ item))) }
+    ensures fault { IfErr result (λ e. IsItemFault B.room (B.octets target.old) text.now e) }
+    ensures extends { OnErr result (Extends (B.octets target.old) (B.octets target.new)) }
 {
     let count = count_item(text);
     if count == 0 || count > 255 {
         return Err(ListError::Length);
     }
-    target.push(count as u8)?;
+    target.append_slice(&[count as u8])?;
     let rest = copy_item(text, target)?;
     Ok(rest)
 }
 
 /// Appends the strings of a list, each behind its length.
-pub fn append_list(text: &[u8], target: &mut Vec<u8>) -> Result<(), ListError>
+fn append_items<B: OctetsBuilder>(text: &[u8], target: &mut B) -> Result<(), ListError>
     ensures ok { OnOk result ((items : List (List ℕ)) × IsList items × (list_text items ≡ text.now)
-        × (target.new.items ≡ target.old.items ++ wire_strings items)) }
-    ensures err { IfErr result (λ e. (e ≡ Memory) ⊎ ((items : List (List ℕ)) → IsList items → list_text items ≢ text.now)) }
-    ensures extends { OnErr result (Extends target.old.items target.new.items) }
+        × (B.octets target.new ≡ B.octets target.old ++ wire_strings items)) }
+    ensures fault { IfErr result (λ e. IsListFault B.room (B.octets target.old) text.now e) }
+    ensures extends { OnErr result (Extends (B.octets target.old) (B.octets target.new)) }
 {
     let mut rest = append_item(text, target)?;
     while !rest.is_empty() {
@@ -141,22 +141,40 @@ pub fn append_list(text: &[u8], target: &mut Vec<u8>) -> Result<(), ListError>
     Ok(())
 }
 
+/// Appends the strings of a list, each behind its length. Refused, the target has its old octets,
+/// and perhaps a beginning of the strings after them.
+pub fn append_list<B: OctetsBuilder>(text: &[u8], target: &mut B) -> Result<(), ListError>
+    ensures ok { OnOk result ((items : List (List ℕ)) × IsList items × (list_text items ≡ text.now)
+        × (B.octets target.new ≡ B.octets target.old ++ wire_strings items)) }
+    ensures fault { IfErr result (λ e. IsListFault B.room (B.octets target.old) text.now e) }
+    ensures err { IfErr result (λ e. ((e ≡ NoRoom) × LacksRoom B.room (λ octets. (items : List (List ℕ)) × IsList items × (list_text items ≡ text.now) × (octets ≡ wire_strings items)) (B.octets target.old))
+        ⊎ ((items : List (List ℕ)) → IsList items → list_text items ≢ text.now)) }
+    ensures extends { OnErr result (Extends (B.octets target.old) (B.octets target.new)) }
+{
+    append_items(text, target)
+}
+
 /// Appends an octet of an item.
-fn append_octet(octet: u8, target: &mut Vec<u8>) -> Result<(), AllocError>
-    ensures ok { OnOk result (target.new.items ≡ target.old.items ++ item_octet octet) }
-    ensures extends { OnErr result (Extends target.old.items target.new.items) }
+fn append_octet<B: OctetsBuilder>(octet: u8, target: &mut B) -> Result<(), dns_octets::ShortBuf>
+    ensures ok { OnOk result (B.octets target.new ≡ B.octets target.old ++ item_octet octet) }
+    ensures extends { OnErr result (Extends (B.octets target.old) (B.octets target.new)) }
+    ensures lacks { OnErr result (LacksRoom B.room (λ octets. octets ≡ item_octet octet) (B.octets target.old)) }
 {
     if is_escaped(octet) {
-        target.push(b'\\')?;
+        target.append_slice(&[b'\\', octet])
+    } else {
+        target.append_slice(&[octet])
     }
-    target.push(octet)?;
-    Ok(())
 }
 
 /// Appends the text of an item.
-fn append_item_text(item: &[u8], target: &mut Vec<u8>) -> Result<(), AllocError>
-    ensures ok { OnOk result (target.new.items ≡ target.old.items ++ item_text item.now) }
-    ensures extends { OnErr result (Extends target.old.items target.new.items) }
+fn append_item_text<B: OctetsBuilder>(
+    item: &[u8],
+    target: &mut B,
+) -> Result<(), dns_octets::ShortBuf>
+    ensures ok { OnOk result (B.octets target.new ≡ B.octets target.old ++ item_text item.now) }
+    ensures extends { OnErr result (Extends (B.octets target.old) (B.octets target.new)) }
+    ensures lacks { OnErr result (LacksRoom B.room (λ text. text ≡ item_text item.now) (B.octets target.old)) }
 {
     for octet in item {
         append_octet(*octet, target)?;
@@ -164,35 +182,76 @@ fn append_item_text(item: &[u8], target: &mut Vec<u8>) -> Result<(), AllocError>
     Ok(())
 }
 
-/// Appends the text of the string in front of octets, and gives what stands after it.
-fn append_string_text<'a>(octets: &'a [u8], target: &mut Vec<u8>) -> Result<&'a [u8], ListError>
-    ensures ok { IfOk result (λ rest. (item : List ℕ) × IsItem item × (octets.now ≡ length item ∷ item ++ rest.now)
-        × (target.new.items ≡ target.old.items ++ item_text item)) }
-    ensures err { IfErr result (λ e. (e ≡ Memory) ⊎ ((octets.now ≡ []) ⊎ ¬ AreWireStrings octets.now)) }
-    ensures extends { OnErr result (Extends target.old.items target.new.items) }
+/// Appends a comma, and the text of an item.
+fn append_later_text<B: OctetsBuilder>(
+    item: &[u8],
+    target: &mut B,
+) -> Result<(), dns_octets::ShortBuf>
+    ensures ok { OnOk result (B.octets target.new ≡ B.octets target.old ++ (44 ∷ item_text item.now)) }
+    ensures extends { OnErr result (Extends (B.octets target.old) (B.octets target.new)) }
+    ensures lacks { OnErr result (LacksRoom B.room (λ text. text ≡ 44 ∷ item_text item.now) (B.octets target.old)) }
+{
+    target.append_slice(b",")?;
+    append_item_text(item, target)?;
+    Ok(())
+}
+
+/// A string, and the octets after it.
+#[derive(Clone, Copy)]
+struct FirstString<'a> {
+    string: &'a [u8],
+    rest: &'a [u8],
+}
+
+/// The string in front of octets.
+fn first_string(octets: &[u8]) -> Option<FirstString<'_>>
+    ensures { MatchOption result (BeginsNoString octets.now)
+        (λ s. (octets.now ≡ length s.string.now ∷ s.string.now ++ s.rest.now) × IsItem s.string.now) }
 {
     if octets.is_empty() {
-        return Err(ListError::Length);
+        return None;
     }
     let count = usize::from(octets[0]);
     if count == 0 || octets.len() < 1 + count {
-        return Err(ListError::Length);
+        return None;
     }
-    append_item_text(&octets[1..1 + count], target)?;
-    Ok(&octets[1 + count..])
+    Some(FirstString {
+        string: &octets[1..1 + count],
+        rest: &octets[1 + count..],
+    })
 }
 
-/// Appends the text of a list of strings, each of which stands behind its length.
-pub fn append_list_text(octets: &[u8], target: &mut Vec<u8>) -> Result<(), ListError>
+/// Appends the text of strings, each of which stands behind its length.
+fn append_strings_text<B: OctetsBuilder>(octets: &[u8], target: &mut B) -> Result<(), ListError>
     ensures ok { OnOk result ((items : List (List ℕ)) × IsList items × (octets.now ≡ wire_strings items)
-        × (target.new.items ≡ target.old.items ++ list_text items)) }
-    ensures err { IfErr result (λ e. (e ≡ Memory) ⊎ ((octets.now ≡ []) ⊎ ¬ AreWireStrings octets.now)) }
-    ensures extends { OnErr result (Extends target.old.items target.new.items) }
+        × (B.octets target.new ≡ B.octets target.old ++ list_text items)) }
+    ensures fault { IfErr result (λ e. IsStringsFault B.room (B.octets target.old) octets.now e) }
+    ensures extends { OnErr result (Extends (B.octets target.old) (B.octets target.new)) }
 {
-    let mut rest = append_string_text(octets, target)?;
+    let Some(first) = first_string(octets) else {
+        return Err(ListError::Length);
+    };
+    append_item_text(first.string, target)?;
+    let mut rest = first.rest;
     while !rest.is_empty() {
-        target.push(b',')?;
-        rest = append_string_text(rest, target)?;
+        let Some(next) = first_string(rest) else {
+            return Err(ListError::Length);
+        };
+        append_later_text(next.string, target)?;
+        rest = next.rest;
     }
     Ok(())
+}
+
+/// Appends the text of a list of strings, each of which stands behind its length. Refused, the
+/// target has its old octets, and perhaps a beginning of the text after them.
+pub fn append_list_text<B: OctetsBuilder>(octets: &[u8], target: &mut B) -> Result<(), ListError>
+    ensures ok { OnOk result ((items : List (List ℕ)) × IsList items × (octets.now ≡ wire_strings items)
+        × (B.octets target.new ≡ B.octets target.old ++ list_text items)) }
+    ensures fault { IfErr result (λ e. IsStringsFault B.room (B.octets target.old) octets.now e) }
+    ensures err { IfErr result (λ e. ((e ≡ NoRoom) × LacksRoom B.room (λ text. (items : List (List ℕ)) × IsList items × (octets.now ≡ wire_strings items) × (text ≡ list_text items)) (B.octets target.old))
+        ⊎ ((octets.now ≡ []) ⊎ ¬ AreWireStrings octets.now)) }
+    ensures extends { OnErr result (Extends (B.octets target.old) (B.octets target.new)) }
+{
+    append_strings_text(octets, target)
 }

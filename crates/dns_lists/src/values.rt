@@ -1,10 +1,10 @@
 //! The values of service parameters (RFC 9460 sections 7 and 8, RFC 9461 section 5).
-ghost use Rattle.std.specs.Prelude.{◌≡◌, ◌≢◌, ℕ, [], MatchBool, MatchOption, All, is_some, length};
-ghost use Rattle.std.specs.List.{Any};
-ghost use Rattle.dns_lists.specs.Params.{pairs, value_at};
+ghost use Rattle.std.specs.Prelude.{◌≡◌, ◌≢◌, ℕ, [], MatchBool, MatchOption, All, IfErr, OnOk, is_some, length};
+ghost use Rattle.dns_lists.specs.Params.{params_of, value_at};
+ghost use Rattle.dns_lists.specs.ParamsFaults.{IsRight, IsFirstWrong, AreRightParams, IsParamsFault};
 ghost use Rattle.dns_lists.specs.Values.{AreWireStrings, AreKeys, AreGroups, HoldsQuery, IsParamValue};
 
-use crate::params::{Param, has_key};
+use crate::params::{ParamsFault, check_form, first_param};
 
 pub const MANDATORY: u16 = 0;
 
@@ -45,17 +45,24 @@ fn are_groups(octets: &[u8], size: usize) -> bool
     !octets.is_empty() && octets.len() % size == 0
 }
 
-/// Whether one of the parameters has a key.
-fn has_value(params: &[Param<'_>], key: u16) -> bool
-    ensures { result ≡ is_some (value_at (pairs params.now) key) }
+/// Whether one of the parameters, which are octets, has a key.
+fn has_value(params: &[u8], key: u16) -> bool
+    ensures { result ≡ is_some (value_at (params_of params.now) key) }
 {
-    has_key(params, key)
+    let mut rest = params;
+    while let Some(front) = first_param(rest) {
+        if front.param.key == key {
+            return true;
+        }
+        rest = front.rest;
+    }
+    false
 }
 
 /// Whether octets are keys of two octets, each above the one before it, and above 0, and one of
 /// the parameters.
-fn are_keys(params: &[Param<'_>], octets: &[u8]) -> bool
-    ensures { MatchBool result (AreKeys (pairs params.now) 0 octets.now) (¬ AreKeys (pairs params.now) 0 octets.now) }
+fn are_keys(params: &[u8], octets: &[u8]) -> bool
+    ensures { MatchBool result (AreKeys (params_of params.now) 0 octets.now) (¬ AreKeys (params_of params.now) 0 octets.now) }
 {
     let mut above = 0;
     let mut rest = octets;
@@ -88,8 +95,8 @@ fn holds_query(octets: &[u8]) -> bool
 }
 
 /// Whether the value of a key is what it has to be.
-fn is_value(params: &[Param<'_>], key: u16, value: &[u8]) -> bool
-    ensures { MatchBool result (IsParamValue (pairs params.now) key value.now) (¬ IsParamValue (pairs params.now) key value.now) }
+fn is_value(params: &[u8], key: u16, value: &[u8]) -> bool
+    ensures { MatchBool result (IsParamValue (params_of params.now) key value.now) (¬ IsParamValue (params_of params.now) key value.now) }
 {
     match key {
         MANDATORY => !value.is_empty() && are_keys(params, value),
@@ -104,15 +111,30 @@ fn is_value(params: &[Param<'_>], key: u16, value: &[u8]) -> bool
     }
 }
 
-/// The first key whose value is not what it has to be.
-pub fn wrong_value(params: &[Param<'_>]) -> Option<u16>
-    ensures { MatchOption result (All (λ p. IsParamValue (pairs params.now) p.key p.value.now) params.now)
-        (λ key. Any (λ p. (p.key ≡ key) × ¬ IsParamValue (pairs params.now) p.key p.value.now) params.now) }
+/// Of octets that are parameters, the first key whose value is not what it has to be.
+pub fn wrong_value(params: &[u8]) -> Option<u16>
+    ensures { MatchOption result (All (IsRight (params_of params.now)) (params_of params.now)) (λ key. IsFirstWrong key (params_of params.now)) }
 {
-    for param in params {
-        if !is_value(params, param.key, param.value) {
-            return Some(param.key);
+    let mut rest = params;
+    while let Some(front) = first_param(rest) {
+        if !is_value(params, front.param.key, front.param.value) {
+            return Some(front.param.key);
         }
+        rest = front.rest;
     }
     None
+}
+
+/// Says whether octets are the wire form of parameters, each of whose values is what its key asks
+/// for. The form is looked at first.
+pub fn check_params(octets: &[u8]) -> Result<(), ParamsFault>
+    ensures ok { OnOk result (AreRightParams octets.now) }
+    ensures fault { IfErr result (λ fault. IsParamsFault fault octets.now) }
+    ensures err { IfErr result (λ _. ¬ AreRightParams octets.now) }
+{
+    check_form(octets)?;
+    match wrong_value(octets) {
+        None => Ok(()),
+        Some(key) => Err(ParamsFault::Value(key)),
+    }
 }

@@ -1,3 +1,4 @@
+pub mod Appending
 pub mod Lowered
 pub mod Octets
 pub mod Parsing

@@ -8,6 +8,7 @@ use Rattle.dns_zone.specs.Layout.{Step, token, begin, comment, line_width, comme
 use Rattle.dns_zone.specs.Multiline.{MultilineStands, MultilineStep}
 use Rattle.dns_zone.specs.Sinks.{Counts, CountsTo}
 use Rattle.dns_zone.specs.declared.zonefile_fmt.multiline.MultiLineWriter.{MultiLineWriter}
+use Rattle.dns_zone.specs.declared.zonefile_fmt.blocks.Blocks.{Blocks}
 use Rattle.dns_zone.specs.declared.zonefile_fmt.sink.Line.{Line}
 
 -- what stands before a word
@@ -69,7 +70,7 @@ module _ {W : Type 0} (most : ℕ) (took : W → List ℕ → W → Type 0) wher
       record {
         next = record {
           first = refl;
-          blocks = p.blocks ∙ h.blocks;
+          blocks = ap (λ b. b.count) p.blocks ∙ h.blocks;
           block_indent = p.block_indent ∙ h.block_indent;
           column = counts_some v.column n _ e at.0;
         };
@@ -97,8 +98,8 @@ module _ {W : Type 0} (most : ℕ) (took : W → List ℕ → W → Type 0) wher
       → ((n : ℕ) → CountsTo most t.line.column n → CountsTo most o (n + 1)) → o ≡ None → MultilineStands s past → most < indent (begin ∷ past)
   begin_too_wide s t o past p k e h = rw e at (begin_counted s t o past p k h)
 
-  pub multiline_begin : (s t : MultiLineWriter W) (o : Option ℕ) (n b : ℕ) → MultilineStep took s (token (open_parenthesis ∷ [])) t
-      → ((n : ℕ) → CountsTo most t.line.column n → CountsTo most o (n + 1)) → o ≡ Some n → b ≡ s.blocks + 1
+  pub multiline_begin : (s t : MultiLineWriter W) (o : Option ℕ) (n : ℕ) (b : Blocks) → MultilineStep took s (token (open_parenthesis ∷ [])) t
+      → ((n : ℕ) → CountsTo most t.line.column n → CountsTo most o (n + 1)) → o ≡ Some n → b.count ≡ s.blocks.count + 1
       → MultilineStep took s begin (record { first = t.first; blocks = b; block_indent = Some n; line = t.line })
   multiline_begin s t o n b p k e opened past h =
       let at = p past h in

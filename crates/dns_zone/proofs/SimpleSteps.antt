@@ -1,5 +1,5 @@
 -- The simple writer's steps.
-use Rattle.std.proofs.Common.{◌≡◌, ℕ, List, [], ◌∷◌, false, cond, refl, ◌∙◌}
+use Rattle.std.proofs.Common.{◌≡◌, ℕ, List, [], ◌∷◌, false, cond, refl, ap, ◌∙◌}
 use Rattle.std.specs.Fmt.{WritesInCalls}
 use Rattle.std.proofs.Output.{writes_in_calls_append}
 use Rattle.dns_symbol.specs.Characters.{space}
@@ -16,6 +16,6 @@ module _ {W : Type 0} (took : W → List ℕ → W → Type 0) where
   pub simple_token : (s t : SimpleWriter W) (v : W) (bs : List ℕ) → SpaceWritten took s t → WritesInCalls took t.writer bs v
       → SimpleStep took s (token bs) (record { first = false; blocks = t.blocks; writer = v })
   simple_token s t v bs p q past h = record {
-    next = record { first = refl; blocks = p.blocks ∙ h.blocks };
+    next = record { first = refl; blocks = ap (λ b. b.count) p.blocks ∙ h.blocks };
     wrote = rw (← h.first) (writes_in_calls_append took _ _ t.writer _ v p.wrote q);
   }

@@ -1,5 +1,5 @@
 -- The tabbed writer's steps.
-use Rattle.std.proofs.Common.{◌≡◌, ℕ, ◌<◌, ◌==◌, ◌||◌, List, [], ◌∷◌, Bool, false, cond, zero, suc, refl, ◌∙◌, arith}
+use Rattle.std.proofs.Common.{◌≡◌, ℕ, ◌<◌, ◌==◌, ◌||◌, List, [], ◌∷◌, Bool, false, cond, zero, suc, refl, ap, ◌∙◌, arith}
 use Rattle.std.specs.Fmt.{WritesInCalls}
 use Rattle.std.proofs.Output.{writes_in_calls_append}
 use Rattle.dns_symbol.specs.Characters.{space, tab}
@@ -9,7 +9,7 @@ use Rattle.dns_zone.specs.declared.zonefile_fmt.tabbed.TabbedWriter.{TabbedWrite
 
 -- what stands before a token, by what the writer holds
 abbrev pub held_gap : {W : Type 0} → TabbedWriter W → List ℕ
-held_gap s = cond s.first [] (cond (s.blocks == 0 || s.first_block) (tab ∷ []) (space ∷ []))
+held_gap s = cond s.first [] (cond (s.blocks.count == 0 || s.first_block) (tab ∷ []) (space ∷ []))
 
 -- t is s after the gap before a token
 pub record GapWritten {W : Type 0} (took : W → List ℕ → W → Type 0) (s t : TabbedWriter W) : Type 0 where
@@ -29,7 +29,7 @@ module _ {W : Type 0} (took : W → List ℕ → W → Type 0) where
   pub tabbed_token : (s t : TabbedWriter W) (v : W) (bs : List ℕ) → GapWritten took s t → WritesInCalls took t.writer bs v
       → TabbedStep took s (token bs) (record { first = false; first_block = false; blocks = t.blocks; writer = v })
   tabbed_token s t v bs p q past h = record {
-    next = record { first = refl; blocks = p.blocks ∙ h.blocks; first_block = λ _. refl };
+    next = record { first = refl; blocks = ap (λ b. b.count) p.blocks ∙ h.blocks; first_block = λ _. refl };
     wrote =
         let e : held_gap s ≡ tabbed_gap past = gap_is _ _ _ _ _ _ h.first h.blocks h.first_block in
         rw (← e) (writes_in_calls_append took _ _ t.writer _ v p.wrote q);

@@ -10,12 +10,12 @@ multiline_sink w = w.line.writer
 
 -- the number of its open blocks
 abbrev pub multiline_blocks : {W : Type 0} → MultiLineWriter W → ℕ
-multiline_blocks w = w.blocks
+multiline_blocks w = w.blocks.count
 
 -- the writer holds what follows from the steps so far, the last one first
 pub record MultilineStands {W : Type 0} (w : MultiLineWriter W) (past : List Step) : Type 0 where
   pub first : w.first ≡ is_row_start past
-  pub blocks : w.blocks ≡ depth past
+  pub blocks : w.blocks.count ≡ depth past
   pub block_indent : w.block_indent ≡ (if is_shown past then Some (indent past) else None)
   pub column : w.line.column ≡ Some (line_width past)
 

@@ -10,12 +10,12 @@ simple_sink w = w.writer
 
 -- the number of its open blocks
 abbrev pub simple_blocks : {W : Type 0} → SimpleWriter W → ℕ
-simple_blocks w = w.blocks
+simple_blocks w = w.blocks.count
 
 -- the writer holds what follows from the steps so far, the last one first
 pub record SimpleStands {W : Type 0} (w : SimpleWriter W) (past : List Step) : Type 0 where
   pub first : w.first ≡ is_line_start past
-  pub blocks : w.blocks ≡ depth past
+  pub blocks : w.blocks.count ≡ depth past
 
 -- a step that went well: after whatever steps the writer stands, the text of this one is appended
 abbrev pub SimpleStep : {W : Type 0} → (W → List ℕ → W → Type 0) → SimpleWriter W → Step → SimpleWriter W → Type 0

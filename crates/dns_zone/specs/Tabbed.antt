@@ -10,12 +10,12 @@ tabbed_sink w = w.writer
 
 -- the number of its open blocks
 abbrev pub tabbed_blocks : {W : Type 0} → TabbedWriter W → ℕ
-tabbed_blocks w = w.blocks
+tabbed_blocks w = w.blocks.count
 
 -- the writer holds what follows from the steps so far, the last one first
 pub record TabbedStands {W : Type 0} (w : TabbedWriter W) (past : List Step) : Type 0 where
   pub first : w.first ≡ is_line_start past
-  pub blocks : w.blocks ≡ depth past
+  pub blocks : w.blocks.count ≡ depth past
   pub first_block : 0 < depth past → w.first_block ≡ is_block_start past
 
 -- a step that went well: after whatever steps the writer stands, the text of this one is appended

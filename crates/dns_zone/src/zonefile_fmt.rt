@@ -5,6 +5,7 @@ ghost use Rattle.dns_zone.specs.Displayed.{displayed_value, displayed_kind};
 ghost use Rattle.dns_zone.specs.Nesting.{Fits, IsNested};
 ghost use Rattle.dns_zone.specs.Writers.{WritesStep, WritesSteps};
 
+mod blocks;
 mod display;
 mod multiline;
 mod simple;

@@ -1,5 +1,6 @@
 //! The printed forms of character strings (RFC 1035 section 5.1).
 ghost use Rattle.std.specs.Prelude.{◌≡◌};
+ghost use Rattle.dns_charstr.specs.Printed.{hex_digits};
 
 use crate::charstr::CharStr;
 use dns_octets::AsOctets;
@@ -19,7 +20,7 @@ impl<Octs: AsOctets> fmt::Display for CharStr<Octs> {
 }
 
 impl<Octs: AsOctets> CharStr<Octs> {
-    ghost use Rattle.dns_charstr.specs.Printed.{quoted_octets, unquoted_octets, lower_hex_octets, upper_hex_octets};
+    ghost use Rattle.dns_charstr.specs.Printed.{quoted_octets, unquoted_octets, octets_in_hex};
 
     /// The octets between double quotes.
     pub fn display_quoted(&self) -> DisplayQuoted<'_>
@@ -37,14 +38,14 @@ impl<Octs: AsOctets> CharStr<Octs> {
 
     /// Two lower case hexadecimal digits an octet.
     pub fn display_lower_hex(&self) -> LowerHexDisplay<'_>
-        ensures { lower_hex_octets result ≡ self.now }
+        ensures { octets_in_hex result ≡ self.now }
     {
         LowerHexDisplay::from_slice(self.as_slice())
     }
 
     /// Two upper case hexadecimal digits an octet.
     pub fn display_upper_hex(&self) -> UpperHexDisplay<'_>
-        ensures { upper_hex_octets result ≡ self.now }
+        ensures { octets_in_hex result ≡ self.now }
     {
         UpperHexDisplay::from_slice(self.as_slice())
     }
@@ -109,65 +110,48 @@ impl fmt::Display for DisplayUnquoted<'_> {
     }
 }
 
-/// Octets that print as lower case hexadecimal digits.
+/// Octets that print as hexadecimal digits, in upper case or in lower case.
 #[derive(Drop)]
-pub struct LowerHexDisplay<'a> {
+pub struct HexDisplay<'a, const IS_UPPER: bool> {
     octets: &'a [u8],
 }
 
-impl<'a> LowerHexDisplay<'a> {
-    ghost use Rattle.dns_charstr.specs.Printed.{lower_hex_octets};
-
-    /// Prints these octets, however many they are.
-    pub fn from_slice(octets: &'a [u8]) -> Self
-        ensures { lower_hex_octets result ≡ octets.now }
-    {
-        LowerHexDisplay { octets }
-    }
-}
-
-impl fmt::Display for LowerHexDisplay<'_> {
-    ghost use Rattle.std.specs.Prelude.{Some, encode_utf8_all};
-    ghost use Rattle.dns_charstr.specs.Printed.{lower_hex_octets, hex_text, lower_digits};
-
-    ghost output = { λ d. Some (encode_utf8_all (hex_text lower_digits (lower_hex_octets d))) };
-
-    fn fmt<W: fmt::Write>(&self, f: &mut fmt::Formatter<W>) -> fmt::Result {
-        let digits = b"0123456789abcdef";
-        for octet in self.octets {
-            let high = char::from(digits[(*octet / 16) as usize]);
-            let low = char::from(digits[(*octet % 16) as usize]);
-            write!(f, "{high}{low}")?;
-        }
-        Ok(())
-    }
-}
+/// Octets that print as lower case hexadecimal digits.
+pub type LowerHexDisplay<'a> = HexDisplay<'a, false>;
 
 /// Octets that print as upper case hexadecimal digits.
-#[derive(Drop)]
-pub struct UpperHexDisplay<'a> {
-    octets: &'a [u8],
-}
+pub type UpperHexDisplay<'a> = HexDisplay<'a, true>;
 
-impl<'a> UpperHexDisplay<'a> {
-    ghost use Rattle.dns_charstr.specs.Printed.{upper_hex_octets};
+impl<'a, const IS_UPPER: bool> HexDisplay<'a, IS_UPPER> {
+    ghost use Rattle.dns_charstr.specs.Printed.{octets_in_hex};
 
     /// Prints these octets, however many they are.
     pub fn from_slice(octets: &'a [u8]) -> Self
-        ensures { upper_hex_octets result ≡ octets.now }
+        ensures { octets_in_hex result ≡ octets.now }
     {
-        UpperHexDisplay { octets }
+        HexDisplay { octets }
     }
 }
 
-impl fmt::Display for UpperHexDisplay<'_> {
-    ghost use Rattle.std.specs.Prelude.{Some, encode_utf8_all};
-    ghost use Rattle.dns_charstr.specs.Printed.{upper_hex_octets, hex_text, upper_digits};
+// The hexadecimal digits in a case.
+fn digits_of(is_upper: bool) -> &'static [u8; 16]
+    ensures { result.now ≡ hex_digits is_upper }
+{
+    if is_upper {
+        b"0123456789ABCDEF"
+    } else {
+        b"0123456789abcdef"
+    }
+}
 
-    ghost output = { λ d. Some (encode_utf8_all (hex_text upper_digits (upper_hex_octets d))) };
+impl<const IS_UPPER: bool> fmt::Display for HexDisplay<'_, IS_UPPER> {
+    ghost use Rattle.std.specs.Prelude.{Some, encode_utf8_all};
+    ghost use Rattle.dns_charstr.specs.Printed.{octets_in_hex, hex_text, hex_digits};
+
+    ghost output = { λ d. Some (encode_utf8_all (hex_text (hex_digits IS_UPPER) (octets_in_hex d))) };
 
     fn fmt<W: fmt::Write>(&self, f: &mut fmt::Formatter<W>) -> fmt::Result {
-        let digits = b"0123456789ABCDEF";
+        let digits = digits_of(IS_UPPER);
         for octet in self.octets {
             let high = char::from(digits[(*octet / 16) as usize]);
             let low = char::from(digits[(*octet % 16) as usize]);

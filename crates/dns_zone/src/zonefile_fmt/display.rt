@@ -4,26 +4,37 @@ ghost use Rattle.std.specs.Fmt.{WritesInCalls};
 ghost use Rattle.dns_zone.specs.Layout.{layout, simple_piece, tabbed_piece, multiline_piece};
 ghost use Rattle.dns_zone.specs.Displayed.{displayed_value, displayed_kind};
 ghost use Rattle.dns_zone.specs.Printed.{printed};
+ghost use Rattle.dns_zone.specs.Nesting.{Fits};
+ghost use Rattle.dns_zone.specs.Writers.{WritesSteps};
 
 use crate::zonefile_fmt::{
-    DisplayKind, MultiLineWriter, SimpleWriter, TabbedWriter, ZoneFileDisplay, ZonefileFmt,
+    DisplayKind, FormatWriter, MultiLineWriter, SimpleWriter, TabbedWriter, ZoneFileDisplay,
+    ZonefileFmt,
 };
 use std::fmt;
 use std::fmt::Display;
+
+// Prints a value's document on the writer of a layout.
+fn print_in<T: ZonefileFmt, F: FormatWriter>(value: &T, writer: &mut F) -> fmt::Result
+    requires { Fits (T.document value.now) (F.blocks writer.old) }
+    ensures { OnOk result (WritesSteps F.blocks F.step_gives writer.old (T.document value.now) writer.new) }
+{
+    match value.fmt(writer) {
+        Ok(()) => Ok(()),
+        Err(_) => Err(fmt::Error),
+    }
+}
 
 /// Prints a value's document in the simple layout.
 fn print_simple<T: ZonefileFmt, W: fmt::Write>(value: &T, sink: &mut W) -> fmt::Result
     ensures { OnOk result (WritesInCalls W.write_str_gives sink.old (layout simple_piece (T.document value.now)) sink.new) }
 {
     let mut writer = SimpleWriter::new(sink);
-    let result = value.fmt(&mut writer);
+    let result = print_in(value, &mut writer);
     // No effect at run time: the proof reads what the sink holds from the reference that comes
     // back.
     writer.into_inner();
-    match result {
-        Ok(()) => Ok(()),
-        Err(_) => Err(fmt::Error),
-    }
+    result
 }
 
 /// Prints a value's document in the tabbed layout.
@@ -31,12 +42,9 @@ fn print_tabbed<T: ZonefileFmt, W: fmt::Write>(value: &T, sink: &mut W) -> fmt::
     ensures { OnOk result (WritesInCalls W.write_str_gives sink.old (layout tabbed_piece (T.document value.now)) sink.new) }
 {
     let mut writer = TabbedWriter::new(sink);
-    let result = value.fmt(&mut writer);
+    let result = print_in(value, &mut writer);
     writer.into_inner();
-    match result {
-        Ok(()) => Ok(()),
-        Err(_) => Err(fmt::Error),
-    }
+    result
 }
 
 /// Prints a value's document in the multiline layout.
@@ -44,12 +52,9 @@ fn print_multiline<T: ZonefileFmt, W: fmt::Write>(value: &T, sink: &mut W) -> fm
     ensures { OnOk result (WritesInCalls W.write_str_gives sink.old (layout multiline_piece (T.document value.now)) sink.new) }
 {
     let mut writer = MultiLineWriter::new(sink);
-    let result = value.fmt(&mut writer);
+    let result = print_in(value, &mut writer);
     writer.into_inner();
-    match result {
-        Ok(()) => Ok(()),
-        Err(_) => Err(fmt::Error),
-    }
+    result
 }
 
 impl<T: ZonefileFmt> Display for ZoneFileDisplay<'_, T> {

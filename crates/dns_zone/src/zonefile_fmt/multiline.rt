@@ -7,6 +7,7 @@ ghost use Rattle.dns_zone.specs.Multiline.{MultilineStands, MultilineStep, Inden
 ghost use Rattle.dns_zone.specs.Sinks.{greatest_usize};
 ghost use Rattle.dns_zone.specs.Writers.{WritesStep};
 
+use crate::zonefile_fmt::blocks::Blocks;
 use crate::zonefile_fmt::sink::count_on;
 use crate::zonefile_fmt::{
     CLOSE_PARENTHESIS, COMMENT_MARK, Error, FormatWriter, LINE_FEED, Line, OPEN_PARENTHESIS,
@@ -28,7 +29,7 @@ pub struct MultiLineWriter<W> {
     /// The line has no word yet.
     first: bool,
     /// The open blocks.
-    blocks: usize,
+    blocks: Blocks,
     /// Where the last block mark is a begin, the spaces that stand after a comment.
     block_indent: Option<usize>,
     line: Line<W>,
@@ -42,7 +43,7 @@ impl<W> MultiLineWriter<W> {
     {
         MultiLineWriter {
             first: true,
-            blocks: 0,
+            blocks: Blocks::none(),
             block_indent: None,
             line: Line {
                 column: Some(0),
@@ -117,9 +118,7 @@ impl<W: Sink> FormatWriter for MultiLineWriter<W> {
         ensures counted { OnOk result (multiline_blocks self.old < usize.MAX) }
         ensures indented { OnOk result (IndentFits usize.MAX self.old) }
     {
-        let Some(blocks) = self.blocks.checked_add(1) else {
-            return Err(Error);
-        };
+        let blocks = self.blocks.begin()?;
         self.fmt_token(OPEN_PARENTHESIS)?;
         let Some(indent) = count_on(self.line.column, 1) else {
             return Err(Error);
@@ -132,7 +131,7 @@ impl<W: Sink> FormatWriter for MultiLineWriter<W> {
     fn end_block(&mut self) -> Result {
         self.fmt_token(CLOSE_PARENTHESIS)?;
         self.block_indent = None;
-        self.blocks -= 1;
+        self.blocks = self.blocks.end();
         Ok(())
     }
 
@@ -163,6 +162,6 @@ impl<W: Sink> FormatWriter for MultiLineWriter<W> {
     }
 
     fn open_blocks(&self) -> usize {
-        self.blocks
+        self.blocks.open()
     }
 }

@@ -5,7 +5,8 @@ ghost use Rattle.dns_zone.specs.Sinks.{greatest_usize};
 ghost use Rattle.dns_zone.specs.Writers.{WritesStep};
 ghost use Rattle.dns_zone.specs.Simple.{SimpleStands, SimpleStep, SimpleFails, simple_sink, simple_blocks};
 
-use crate::zonefile_fmt::{Error, FormatWriter, LINE_FEED, Result, SPACE, Sink};
+use crate::zonefile_fmt::blocks::Blocks;
+use crate::zonefile_fmt::{FormatWriter, LINE_FEED, Result, SPACE, Sink};
 use std::fmt::Display;
 
 /// Prints each entry on one line, its tokens apart by a space. Block marks and comments print
@@ -15,7 +16,7 @@ pub struct SimpleWriter<W> {
     /// The line has no token yet.
     first: bool,
     /// The open blocks.
-    blocks: usize,
+    blocks: Blocks,
     writer: W,
 }
 
@@ -27,7 +28,7 @@ impl<W> SimpleWriter<W> {
     {
         SimpleWriter {
             first: true,
-            blocks: 0,
+            blocks: Blocks::none(),
             writer,
         }
     }
@@ -61,13 +62,8 @@ impl<W: Sink> FormatWriter for SimpleWriter<W> {
         ensures fails { OnErr result (SimpleFails W.refused greatest_usize self.old begin) }
         ensures counted { IsOk result ↔ (simple_blocks self.old < usize.MAX) }
     {
-        match self.blocks.checked_add(1) {
-            Some(blocks) => {
-                self.blocks = blocks;
-                Ok(())
-            }
-            None => Err(Error),
-        }
+        self.blocks = self.blocks.begin()?;
+        Ok(())
     }
 
     fn end_block(&mut self) -> Result
@@ -76,7 +72,7 @@ impl<W: Sink> FormatWriter for SimpleWriter<W> {
         ensures gives { OnOk result (WritesStep simple_blocks (SimpleStep W.write_str_gives) self.old end self.new) }
         ensures fails { OnErr result (SimpleFails W.refused greatest_usize self.old end) }
     {
-        self.blocks -= 1;
+        self.blocks = self.blocks.end();
         Ok(())
     }
 
@@ -97,6 +93,6 @@ impl<W: Sink> FormatWriter for SimpleWriter<W> {
     }
 
     fn open_blocks(&self) -> usize {
-        self.blocks
+        self.blocks.open()
     }
 }

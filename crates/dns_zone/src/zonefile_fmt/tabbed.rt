@@ -6,7 +6,8 @@ ghost use Rattle.dns_zone.specs.Sinks.{greatest_usize};
 ghost use Rattle.dns_zone.specs.Writers.{WritesStep};
 ghost use Rattle.dns_zone.specs.Tabbed.{TabbedStands, TabbedStep, TabbedFails, tabbed_sink, tabbed_blocks};
 
-use crate::zonefile_fmt::{Error, FormatWriter, LINE_FEED, Result, SPACE, Sink, TAB};
+use crate::zonefile_fmt::blocks::Blocks;
+use crate::zonefile_fmt::{FormatWriter, LINE_FEED, Result, SPACE, Sink, TAB};
 use std::fmt::Display;
 
 /// Prints each entry on one line. Before each token but a line's first stands a tab outside blocks,
@@ -19,7 +20,7 @@ pub struct TabbedWriter<W> {
     /// The outermost open block has no token yet.
     first_block: bool,
     /// The open blocks.
-    blocks: usize,
+    blocks: Blocks,
     writer: W,
 }
 
@@ -32,7 +33,7 @@ impl<W> TabbedWriter<W> {
         TabbedWriter {
             first: true,
             first_block: true,
-            blocks: 0,
+            blocks: Blocks::none(),
             writer,
         }
     }
@@ -62,7 +63,7 @@ impl<W: Sink> FormatWriter for TabbedWriter<W> {
     fn fmt_token<T: Display + Drop>(&mut self, text: T) -> Result {
         if !self.first {
             self.writer
-                .put_str(gap((self.blocks == 0) | self.first_block))?;
+                .put_str(gap((self.blocks.open() == 0) | self.first_block))?;
         }
         self.first = false;
         self.first_block = false;
@@ -75,16 +76,12 @@ impl<W: Sink> FormatWriter for TabbedWriter<W> {
         ensures fails { OnErr result (TabbedFails W.refused greatest_usize self.old begin) }
         ensures counted { IsOk result ↔ (tabbed_blocks self.old < usize.MAX) }
     {
-        match self.blocks.checked_add(1) {
-            Some(blocks) => {
-                if self.blocks == 0 {
-                    self.first_block = true;
-                }
-                self.blocks = blocks;
-                Ok(())
-            }
-            None => Err(Error),
+        let blocks = self.blocks.begin()?;
+        if self.blocks.open() == 0 {
+            self.first_block = true;
         }
+        self.blocks = blocks;
+        Ok(())
     }
 
     fn end_block(&mut self) -> Result
@@ -93,7 +90,7 @@ impl<W: Sink> FormatWriter for TabbedWriter<W> {
         ensures gives { OnOk result (WritesStep tabbed_blocks (TabbedStep W.write_str_gives) self.old end self.new) }
         ensures fails { OnErr result (TabbedFails W.refused greatest_usize self.old end) }
     {
-        self.blocks -= 1;
+        self.blocks = self.blocks.end();
         Ok(())
     }
 
@@ -114,6 +111,6 @@ impl<W: Sink> FormatWriter for TabbedWriter<W> {
     }
 
     fn open_blocks(&self) -> usize {
-        self.blocks
+        self.blocks.open()
     }
 }

@@ -4,6 +4,7 @@ use dns_kinds::algorithms::{Algorithm, CertificateType};
 use dns_kinds::classes::Class;
 use dns_kinds::error::KindError;
 use dns_kinds::eui::{Eui48, Eui64};
+use dns_kinds::locator::Locator;
 use dns_kinds::numbers::{u8_from_text, u16_from_text, u32_from_text};
 use dns_kinds::salt::Salt;
 use dns_kinds::time::Date;
@@ -23,6 +24,7 @@ pub fn call(name: &str, inputs: &Inputs, answer: &mut Answer) {
         "type" => record_type(text, answer),
         "eui48" => tell(Eui48::from_text(text), answer),
         "eui64" => tell(Eui64::from_text(text), answer),
+        "locator" => tell(Locator::from_text(text), answer),
         "salt" => tell(Salt::from_text(text), answer),
         _ => number(name, text, answer),
     }

@@ -2,8 +2,8 @@ use Rattle.std.proofs.Common.{◌+◌, ◌-◌, arith}
 use Rattle.dns_lists.proofs.Taking.{split_block, block_data}
 use Rattle.dns_lists.proofs.bitmap.first_block.Goals as goal
 
-pub returns : goal.returns
-returns c =
+pub returns-clause-cases : goal.returns-clause-cases
+returns-clause-cases c =
     let n = c.from-count.result in let xs = c.args.octets.now in (
       split_block xs n (2 + n - 2) (2 + n) (omega arith) (omega arith) (omega arith) (omega (arith, c.from-count.ensures)),
       omega arith,

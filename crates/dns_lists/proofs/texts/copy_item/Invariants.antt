@@ -3,7 +3,7 @@ use Rattle.dns_lists.proofs.Items.{TakesItem}
 use Rattle.dns_lists.proofs.texts.copy_item.Given as goal
 
 abbrev pub invariant-loop-first : goal.invariant-loop-first
-invariant-loop-first l = (front : List ℕ) × TakesItem l.text front l.rest × (l.target.items ≡ l.fn.target.items ++ front)
+invariant-loop-first g l = (front : List ℕ) × TakesItem l.text front l.rest × (g.B.AsOctets.octets l.target ≡ g.B.AsOctets.octets l.initial.target ++ front)
 
 abbrev pub decreases-loop-first : goal.decreases-loop-first
-decreases-loop-first l = length l.rest
+decreases-loop-first g l = length l.rest

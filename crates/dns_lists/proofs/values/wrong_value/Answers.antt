@@ -1,18 +1,23 @@
-use Rattle.std.proofs.Common.{[], List, subst, All, arith}
-use Rattle.std.proofs.lemmas.List.{take_all}
-use Rattle.std.proofs.lemmas.List.Elements.{All-more}
-use Rattle.dns_lists.specs.Params.{pairs}
-use Rattle.dns_lists.specs.Values.{IsParamValue}
-use Rattle.dns_lists.specs.declared.params.Param.{Param}
+use Rattle.std.proofs.Common.{[], refl, arith}
+use Rattle.dns_lists.specs.Params.{params_of}
+use Rattle.dns_lists.proofs.ParamLists.{shorter_param, right_more, wrong_here, all_right}
 use Rattle.dns_lists.proofs.values.wrong_value.Goals as goal
 
-pub loop-param-preserved : goal.loop-param-preserved
-loop-param-preserved c =
-    let nothing : Param = record { key = 0; value = record { ref_ptr = (0, 0); now = [] } } in
-    All-more (λ p. IsParamValue (pairs c.args.params.now) p.key p.value.now) c.args.params.now c.loop-param.param-index nothing
-    c.loop-param-test.true c.loop-param.invariant c.if-not-is_value.ensures
+pub loop-front-init : goal.loop-front-init
+loop-front-init c = ([], (λ k d l. absurd (omega arith)), refl)
+
+pub loop-front-smaller : goal.loop-front-smaller
+loop-front-smaller c = let f = c.in-Some.front in shorter_param c.loop-front.rest.now f.rest.now f.param.value.now f.param.key c.in-Some.ensures.cases.0
+
+pub loop-front-preserved : goal.loop-front-preserved
+loop-front-preserved c =
+    let f = c.in-Some.front in let all = params_of c.args.params.now in
+    right_more all all c.loop-front.rest.now f.rest.now f.param.value.now f.param.key c.loop-front.invariant c.in-Some.ensures.cases.0 c.in-Some.ensures.cases.1 c.in-Some.ensures.cases.2 c.if-not-is_value.ensures
+
+pub returns-then-not-is_value : goal.returns-then-not-is_value
+returns-then-not-is_value c =
+    let f = c.in-Some.front in
+    wrong_here (params_of c.args.params.now) c.loop-front.rest.now f.rest.now f.param.value.now f.param.key c.loop-front.invariant c.in-Some.ensures.cases.0 c.in-Some.ensures.cases.1 c.in-Some.ensures.cases.2 c.if-not-is_value.ensures
 
 pub returns : goal.returns
-returns c =
-    let P : List Param → Type 0 = λ ps. All (λ p. IsParamValue (pairs c.args.params.now) p.key p.value.now) ps in
-    subst P (take_all c.loop-param.param-index c.args.params.now (omega arith)) c.loop-param.invariant
+returns c = let all = params_of c.args.params.now in all_right all all c.loop-front.rest.now c.loop-front.invariant c.in_default.ensures.list

@@ -1,7 +1,10 @@
-use Rattle.std.proofs.Common.{take, All}
-use Rattle.dns_lists.specs.Params.{pairs}
-use Rattle.dns_lists.specs.Values.{IsParamValue}
+use Rattle.std.proofs.Common.{length}
+use Rattle.dns_lists.specs.Params.{params_of}
+use Rattle.dns_lists.proofs.ParamLists.{RightSoFar}
 use Rattle.dns_lists.proofs.values.wrong_value.Given as goal
 
-abbrev pub invariant-loop-param : goal.invariant-loop-param
-invariant-loop-param l = All (λ p. IsParamValue (pairs l.params) p.key p.value.now) (take l.param-index l.params)
+abbrev pub invariant-loop-front : goal.invariant-loop-front
+invariant-loop-front l = RightSoFar (params_of l.params) (params_of l.params) l.rest
+
+abbrev pub decreases-loop-front : goal.decreases-loop-front
+decreases-loop-front l = length l.rest

@@ -1,0 +1,7 @@
+pub mod Spelling
+pub mod GroupLemmas
+pub mod Pieces
+pub mod TakenDigit
+pub mod Blocks
+pub mod Together
+pub mod TokenLemmas

@@ -1,0 +1,21 @@
+-- How long digests are, by the number in front of them.
+use Rattle.std.specs.Prelude.{ℕ, ◌≡◌, ◌≤◌, ◌==◌, List, [], ◌∷◌, MatchOption}
+use Rattle.std.specs.Map.{lookup}
+use Rattle.dns_digits.specs.declared.digests.Digests.{Digests}
+use Rattle.dns_digits.specs.declared.digests.Digests.TheVariants.{Ds, Sshfp, Zonemd}
+
+-- the numbers that are named, with the octets of their digests: RFC 4034, 4509 and 6605; RFC 4255 and 6594; RFC 8976
+abbrev pub digest_rows : Digests → List (ℕ × ℕ)
+digest_rows Ds = (1, 20) ∷ (2, 32) ∷ (4, 48) ∷ []
+digest_rows Sshfp = (1, 20) ∷ (2, 32) ∷ []
+digest_rows Zonemd = (1, 48) ∷ (2, 64) ∷ []
+
+-- the fewest octets of a digest behind another number
+abbrev pub least_digest : Digests → ℕ
+least_digest Ds = 1
+least_digest Sshfp = 1
+least_digest Zonemd = 12
+
+-- so many octets are a digest behind this number
+abbrev pub IsDigestLength : Digests → ℕ → ℕ → Type 0
+IsDigestLength digests number octets = MatchOption (lookup (λ n. n == number) (digest_rows digests)) (least_digest digests ≤ octets) (λ length. octets ≡ length)

@@ -1,0 +1,26 @@
+-- Octets behind an octet that has their number, as hashes and salts are (RFC 5155 section 3.2).
+use Rattle.std.specs.Prelude.{ℕ, ◌≡◌, ◌<◌, ◌==◌, ◌||◌, not, nat_lt, if◌then◌else◌, List, ◌∷◌, length, slice_index}
+use Rattle.dns_codec.specs.Base.{base32hex}
+use Rattle.dns_codec.specs.Grammar.{may_end_after}
+use Rattle.dns_digits.specs.Spelled.{SpellsDigits}
+use Rattle.dns_digits.specs.declared.error.DigitsError.{DigitsError}
+use Rattle.dns_digits.specs.declared.error.DigitsError.TheVariants.{LongHash, ShortBase32, IllegalBase32}
+
+-- the octet in front, or 0 of none
+abbrev pub first_octet : List ℕ → ℕ
+first_octet octets = slice_index octets 0
+
+-- why a text is no hash: 255 octets have 408 digits
+abbrev pub hash_refusal : List ℕ → DigitsError
+hash_refusal text =
+    if nat_lt 408 (length text) then LongHash
+    else if (length text == 0) || not (may_end_after base32hex (length text)) then ShortBase32
+    else IllegalBase32
+
+-- the text is a hash of 1 to 255 octets in base 32 hex, and the octets are its wire form
+pub record SpellsHash (text octets : List ℕ) : Type 0 where
+  pub hash : List ℕ
+  pub spelled : SpellsDigits base32hex text hash
+  pub some : 0 < length hash
+  pub short : length hash < 256
+  pub wire_is : octets ≡ length hash ∷ hash

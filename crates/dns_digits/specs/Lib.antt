@@ -1,0 +1,6 @@
+pub mod DigestLengths
+pub mod DigitsError
+pub mod Hashes
+pub mod Reading
+pub mod Spelled
+pub mod Tokens

@@ -1,0 +1,55 @@
+-- Digits that come in pieces: what is held between two pieces, and what a piece makes of it.
+use Rattle.std.specs.Prelude.{ℕ, ◌≡◌, ◌≢◌, ◌<◌, ◌%◌, ◌⊎◌, Bool, true, false, List, [], ◌++◌, length}
+use Rattle.dns_octets.specs.Room.{Room}
+use Rattle.dns_octets.specs.Appending.{LacksRoom}
+use Rattle.dns_codec.specs.Base.{Base}
+use Rattle.dns_digits.specs.Spelled.{SpellsDigits, opens_group, base_of, illegal}
+use Rattle.dns_digits.specs.declared.kind.DigitsKind.{DigitsKind}
+use Rattle.dns_digits.specs.declared.error.DigitsError.{DigitsError}
+use Rattle.dns_digits.specs.declared.error.DigitsError.TheVariants.{TrailingBase64, ShortBuf}
+
+pub record DigitsState : Type 0 where
+  pub kind : DigitsKind
+  -- the digits of a group that is not whole yet
+  pub begun : List ℕ
+  -- a padded group was read, and nothing may follow it
+  pub ended : Bool
+
+-- of a text in pieces so much was read: whole groups, which spell these octets, and what is begun of one more, which some
+-- text goes on with
+pub record HasRead (s : DigitsState) (text octets : List ℕ) : Type 0 where
+  pub groups : List ℕ
+  pub split : text ≡ groups ++ s.begun
+  pub spelled : SpellsDigits (base_of s.kind) groups octets
+  pub whole : length groups % (base_of s.kind).group ≡ 0
+  pub few : length s.begun < (base_of s.kind).group
+  pub ended : s.ended ≡ opens_group (base_of s.kind) octets
+  pub last : s.ended ≡ true → s.begun ≡ []
+  pub goes_on : (rest : List ℕ) × (more : List ℕ) × SpellsDigits (base_of s.kind) (s.begun ++ rest) more
+
+-- a piece was read behind what was begun, and these octets were gained. After a padded group only an empty one is
+pub record TakesPiece (old : DigitsState) (piece gained : List ℕ) (new : DigitsState) : Type 0 where
+  pub kept : new.kind ≡ old.kind
+  pub none : piece ≡ [] → (gained ≡ []) × (new ≡ old)
+  pub read : piece ≢ [] → (old.ended ≡ false) × HasRead new (old.begun ++ piece) gained
+
+-- the octets that a piece, and what may follow it, can still gain
+abbrev pub MayGain : DigitsState → List ℕ → List ℕ → Type 0
+MayGain s piece gained = (s.ended ≡ false) × ((rest : List ℕ) × SpellsDigits (base_of s.kind) (s.begun ++ piece ++ rest) gained)
+
+-- something stands behind a padded group of a text
+abbrev pub PaddedBefore : Base → List ℕ → Type 0
+PaddedBefore b text = (front rest octets : List ℕ) × (text ≡ front ++ rest) × (rest ≢ []) × SpellsDigits b front octets × (opens_group b octets ≡ true)
+
+-- a padded group was read before, or stands in what is begun and a piece, and something stands behind it
+abbrev pub FollowsPadding : DigitsState → List ℕ → Type 0
+FollowsPadding s piece = ((s.ended ≡ true) × (piece ≢ []))
+    ⊎ ((s.ended ≡ false) × PaddedBefore (base_of s.kind) (s.begun ++ piece))
+
+-- a piece is refused, and it isn't empty: its octets don't surely fit behind those that the target had, or whatever follows,
+-- there are none
+pub record RefusesPiece (room : Room) (s : DigitsState) (piece old : List ℕ) (error : DigitsError) : Type 0 where
+  pub some : piece ≢ []
+  pub why : (error ≡ ShortBuf) ⊎ (((error ≡ illegal s.kind) × (FollowsPadding s piece → ⊥)) ⊎ ((error ≡ TrailingBase64) × FollowsPadding s piece))
+  pub lacks : error ≡ ShortBuf → LacksRoom room (MayGain s piece) old
+  pub none : error ≢ ShortBuf → (gained : List ℕ) → MayGain s piece gained → ⊥

@@ -1,0 +1,35 @@
+-- Octets in digits: the texts that spell them.
+use Rattle.std.specs.Prelude.{ℕ, ◌≡◌, ◌<◌, ◌*◌, ◌%◌, ◌==◌, not, Bool, All, List, length, map, if◌then◌else◌}
+use Rattle.dns_codec.specs.Base.{Base, base16, base64, capital, encoded}
+use Rattle.dns_digits.specs.declared.kind.DigitsKind.{DigitsKind}
+use Rattle.dns_digits.specs.declared.kind.DigitsKind.TheVariants.{Hex, Base64}
+use Rattle.dns_digits.specs.declared.error.DigitsError.{DigitsError}
+use Rattle.dns_digits.specs.declared.error.DigitsError.TheVariants.{ExpectedHex, UnevenHex, IllegalBase64, IncompleteBase64}
+
+-- capitals for small letters, in an encoding that has them alike
+abbrev pub case_folded : Base → List ℕ → List ℕ
+case_folded b text = if b.folds_case then map capital text else text
+
+-- the text is what the octets print, in letters of either case where the encoding has them alike
+pub record SpellsDigits (b : Base) (text octets : List ℕ) : Type 0 where
+  pub bytes : All (λ o. o < 256) octets
+  pub text_is : case_folded b text ≡ encoded b octets
+
+-- the octets leave the last group open, so that it is padded in base 64
+abbrev pub opens_group : Base → List ℕ → Bool
+opens_group b octets = not (8 * length octets % (b.width * b.group) == 0)
+
+-- the encodings that come in pieces
+abbrev pub base_of : DigitsKind → Base
+base_of Hex = base16
+base_of Base64 = base64
+
+-- why a beginning is refused that no text of octets has
+abbrev pub illegal : DigitsKind → DigitsError
+illegal Hex = ExpectedHex
+illegal Base64 = IllegalBase64
+
+-- why a text is refused that ends within a group
+abbrev pub unfinished : DigitsKind → DigitsError
+unfinished Hex = UnevenHex
+unfinished Base64 = IncompleteBase64

@@ -1,0 +1,33 @@
+//! Digests by their lengths: the data of DS, CDS, DLV, SSHFP and ZONEMD say in an octet which
+//! digest follows.
+ghost use Rattle.std.specs.Prelude.{IsTrue, ◌↔◌};
+ghost use Rattle.dns_digits.specs.DigestLengths.{IsDigestLength};
+
+/// The lists of digests.
+#[derive(Clone, Copy, Debug, PartialEq, Eq)]
+pub enum Digests {
+    /// Digest types of DS, CDS and DLV: 1 SHA-1, 2 SHA-256 (RFC 4509) and 4 SHA-384 (RFC 6605).
+    Ds,
+    /// Fingerprint types of SSHFP: 1 SHA-1 (RFC 4255) and 2 SHA-256 (RFC 6594).
+    Sshfp,
+    /// Hash algorithms of ZONEMD: 1 SHA-384 and 2 SHA-512 (RFC 8976).
+    Zonemd,
+}
+
+/// Whether a digest of so many octets may stand behind a number: the length of a number that the
+/// list names, and else any but none, and in ZONEMD 12 or more (RFC 8976 section 2.2.4).
+pub fn is_digest_length(digests: Digests, number: u8, length: usize) -> bool
+    ensures { IsTrue result ↔ IsDigestLength digests number length }
+{
+    match (digests, number) {
+        (Digests::Ds, 1) => length == 20,
+        (Digests::Ds, 2) => length == 32,
+        (Digests::Ds, 4) => length == 48,
+        (Digests::Sshfp, 1) => length == 20,
+        (Digests::Sshfp, 2) => length == 32,
+        (Digests::Zonemd, 1) => length == 48,
+        (Digests::Zonemd, 2) => length == 64,
+        (Digests::Zonemd, _) => length >= 12,
+        _ => length > 0,
+    }
+}

@@ -1,0 +1,163 @@
+//! Whole groups of digits, read into slices.
+ghost use Rattle.std.specs.Prelude.{◌≡◌, ◌≢◌, ℕ, List, ◌+◌, ◌*◌, ◌%◌, ◌<◌, ◌≤◌, false, [], ◌∷◌, ◌++◌, map, length, take, replicate, slice_index, ◌-◌, ◌==◌, if◌then◌else◌, IfSome, MatchBool, MatchOption};
+ghost use Rattle.dns_codec.specs.Base.{base16, base32hex, base64, capital};
+ghost use Rattle.dns_digits.specs.Spelled.{base_of, opens_group, SpellsDigits};
+
+use crate::kind::DigitsKind;
+use dns_codec::{base16, base32, base64};
+
+/// The capital of a small letter.
+fn capital(digit: u8) -> u8
+    ensures { result ≡ capital digit }
+{
+    match digit {
+        b'a'..=b'z' => digit - 32,
+        _ => digit,
+    }
+}
+
+/// Whether a text is digits in capitals, but for the case of its letters.
+fn is_folded(text: &[u8], digits: &[u8]) -> bool
+    ensures { MatchBool result (map capital text.now ≡ digits.now) (map capital text.now ≢ digits.now) }
+{
+    if text.len() != digits.len() {
+        return false;
+    }
+    for (index, digit) in text.iter().enumerate() {
+        if capital(*digit) != digits[index] {
+            return false;
+        }
+    }
+    true
+}
+
+/// Reads hexadecimal digits into the start of a slice, and returns how many octets.
+pub(crate) fn read_hex(text: &[u8], octets: &mut [u8]) -> Option<usize>
+    requires { length text.now ≤ 2 * length octets.old }
+    ensures { MatchOption result ((v : List ℕ) → SpellsDigits base16 text.now v → ⊥)
+        (λ n. SpellsDigits base16 text.now (take n octets.new) × (n ≤ length octets.new)) }
+{
+    base16::decode_slice(text, octets)
+}
+
+/// Reads a group of base 64 into the start of a slice, and returns how many octets.
+pub(crate) fn read_base64_group(group: &[u8], octets: &mut [u8]) -> Option<usize>
+    requires group { length group.now ≡ 4 }
+    requires room { length octets.old ≡ 3 }
+    ensures { MatchOption result ((v : List ℕ) → SpellsDigits base64 group.now v → ⊥)
+        (λ n. SpellsDigits base64 group.now (take n octets.new) × (n ≤ length octets.new)) }
+{
+    let count = base64::decode_slice(group, octets)?;
+    let mut printed = [0; 4];
+    let Ok(length) = base64::encode_slice(&octets[..count], &mut printed) else {
+        return None;
+    };
+    if &printed[..length] == group {
+        Some(count)
+    } else {
+        None
+    }
+}
+
+/// Reads base 32 hex into the start of a slice, and returns how many octets.
+pub(crate) fn read_base32hex(text: &[u8], octets: &mut [u8]) -> Option<usize>
+    requires { length octets.old ≡ 255 }
+    ensures { MatchOption result ((v : List ℕ) → SpellsDigits base32hex text.now v → 255 < length v)
+        (λ n. SpellsDigits base32hex text.now (take n octets.new) × (n ≤ length octets.new)) }
+{
+    let count = base32::decode_slice_hex(text, octets)?;
+    let mut printed = [0; 408];
+    let Ok(length) = base32::encode_slice_hex(&octets[..count], &mut printed) else {
+        return None;
+    };
+    if is_folded(text, &printed[..length]) {
+        Some(count)
+    } else {
+        None
+    }
+}
+
+/// Reads a group into the start of a slice, and returns how many octets.
+pub(crate) fn read_group(kind: DigitsKind, group: &[u8], octets: &mut [u8]) -> Option<usize>
+    requires group { length group.now ≡ (base_of kind).group }
+    requires room { length octets.old ≡ 3 }
+    ensures { MatchOption result ((v : List ℕ) → SpellsDigits (base_of kind) group.now v → ⊥)
+        (λ n. SpellsDigits (base_of kind) group.now (take n octets.new) × (n ≤ length octets.new)) }
+{
+    match kind {
+        DigitsKind::Hex => read_hex(group, octets),
+        DigitsKind::Base64 => read_base64_group(group, octets),
+    }
+}
+
+/// Reads whole groups of base 64 without padding, if that is what the text is.
+fn read_base64_block(text: &[u8], octets: &mut [u8]) -> Option<usize>
+    ensures { IfSome result (λ n. SpellsDigits base64 text.now (take n octets.new) × (n ≤ length octets.new)
+        × (opens_group base64 (take n octets.new) ≡ false)) }
+{
+    let count = base64::decode_slice(text, octets)?;
+    if count / 3 * 4 == text.len() {
+        Some(count)
+    } else {
+        None
+    }
+}
+
+/// Reads whole groups without padding into the start of a slice, if that is what the text is, and
+/// returns how many octets.
+pub(crate) fn read_block(kind: DigitsKind, text: &[u8], octets: &mut [u8]) -> Option<usize>
+    requires { length text.now ≤ length octets.old }
+    ensures { IfSome result (λ n. SpellsDigits (base_of kind) text.now (take n octets.new) × (n ≤ length octets.new)
+        × (opens_group (base_of kind) (take n octets.new) ≡ false)) }
+{
+    match kind {
+        DigitsKind::Hex => read_hex(text, octets),
+        DigitsKind::Base64 => read_base64_block(text, octets),
+    }
+}
+
+/// Whether a digit is the first of a pair.
+fn starts_pair(digit: u8) -> bool
+    ensures { MatchBool result ((rest : List ℕ) × (v : List ℕ) × SpellsDigits base16 (digit ∷ rest) v)
+        ((rest v : List ℕ) → SpellsDigits base16 (digit ∷ rest) v → ⊥) }
+{
+    let mut octet = [0; 1];
+    read_hex(&[digit, b'0'], &mut octet).is_some()
+}
+
+/// A group of base 64 that begins so, filled with `=` behind one and with zeros else.
+fn filled(begun: &[u8]) -> [u8; 4]
+    requires { (0 < length begun.now) × (length begun.now < 4) }
+    ensures { result ≡ begun.now ++ replicate (4 - length begun.now) (if slice_index begun.now (length begun.now - 1) == 61 then 61 else 65) }
+{
+    let filling = if begun[begun.len() - 1] == b'=' {
+        b'='
+    } else {
+        b'A'
+    };
+    let mut group = [filling; 4];
+    group[..begun.len()].copy_from_slice(begun);
+    group
+}
+
+/// Whether digits are the first of a group of base 64.
+fn starts_quartet(begun: &[u8]) -> bool
+    requires { (0 < length begun.now) × (length begun.now < 4) }
+    ensures { MatchBool result ((rest : List ℕ) × (v : List ℕ) × SpellsDigits base64 (begun.now ++ rest) v)
+        ((rest v : List ℕ) → SpellsDigits base64 (begun.now ++ rest) v → ⊥) }
+{
+    let mut octets = [0; 3];
+    read_base64_group(&filled(begun), &mut octets).is_some()
+}
+
+/// Whether digits are the first of a group.
+pub(crate) fn starts_group(kind: DigitsKind, begun: &[u8]) -> bool
+    requires { (0 < length begun.now) × (length begun.now < (base_of kind).group) }
+    ensures { MatchBool result ((rest : List ℕ) × (v : List ℕ) × SpellsDigits (base_of kind) (begun.now ++ rest) v)
+        ((rest v : List ℕ) → SpellsDigits (base_of kind) (begun.now ++ rest) v → ⊥) }
+{
+    match kind {
+        DigitsKind::Hex => starts_pair(begun[0]),
+        DigitsKind::Base64 => starts_quartet(begun),
+    }
+}

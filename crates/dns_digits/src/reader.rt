@@ -1,0 +1,201 @@
+//! Digits that come in pieces, as the tokens of an entry do.
+ghost use Rattle.std.specs.Prelude.{◌≡◌, ◌≢◌, ℕ, List, ◌%◌, ◌+◌, ◌<◌, ◌≤◌, false, true, [], ◌∷◌, ◌++◌, length, take, IfOk, IfErr, OnOk, OnErr, MatchResult};
+ghost use Rattle.dns_octets.specs.Appending.{Extends};
+ghost use Rattle.dns_digits.specs.Spelled.{base_of, unfinished, opens_group, SpellsDigits};
+ghost use Rattle.dns_digits.specs.Reading.{HasRead, TakesPiece, RefusesPiece};
+
+use crate::error::DigitsError;
+use crate::groups::{read_block, read_group, starts_group};
+use crate::kind::DigitsKind;
+use dns_octets::{OctetsBuilder, ShortBuf};
+use std::marker::Model;
+
+/// How many digits are read at a time.
+const BLOCK: usize = 320;
+
+/// Reads digits that come in pieces, one after another, into a target.
+///
+/// A piece may end anywhere, also within a group.
+#[derive(Drop)]
+pub struct DigitsReader {
+    kind: DigitsKind,
+    held: [u8; 4],
+    count: usize,
+    ended: bool,
+}
+
+impl Model for DigitsReader {
+    ghost use Rattle.std.specs.Prelude.{◌≡◌, ◌<◌, true, take};
+    ghost use Rattle.dns_digits.specs.Spelled.{base_of};
+    ghost use Rattle.dns_digits.specs.Reading.{DigitsState};
+
+    ghost Value = { DigitsState };
+
+    ghost view = { λ r. record { kind = r.kind; begun = take r.count r.held; ended = r.ended } };
+
+    ghost invariant = { λ r. (r.count < (base_of r.kind).group) × (r.ended ≡ true → r.count ≡ 0) };
+}
+
+/// Appends the octets of whole groups at the start of digits, a block at a time, and returns how
+/// many digits these are. The last digit is not among them.
+fn append_blocks<B: OctetsBuilder>(
+    kind: DigitsKind,
+    digits: &[u8],
+    target: &mut B,
+) -> Result<usize, ShortBuf>
+    requires { 0 < length digits.now }
+    ensures ok { IfOk result (λ n. (n < length digits.now) × (length (take n digits.now) % (base_of kind).group ≡ 0)
+        × ((gained : List ℕ) × SpellsDigits (base_of kind) (take n digits.now) gained × (opens_group (base_of kind) gained ≡ false)
+        × (B.octets target.new ≡ B.octets target.old ++ gained))) }
+    ensures err { OnErr result ((n : ℕ) × (n < length digits.now) × (length (take n digits.now) % (base_of kind).group ≡ 0)
+        × ((gained : List ℕ) × SpellsDigits (base_of kind) (take n digits.now) gained × (opens_group (base_of kind) gained ≡ false)
+        × (B.room.fits < length (B.octets target.old) + length gained))) }
+    ensures extends { OnErr result (Extends (B.octets target.old) (B.octets target.new)) }
+{
+    let size = kind.group();
+    let mut octets = [0; BLOCK];
+    let mut at = 0;
+    while digits.len() - at > size {
+        let length = (digits.len() - at - 1).min(BLOCK) / size * size;
+        let Some(count) = read_block(kind, &digits[at..at + length], &mut octets) else {
+            return Ok(at);
+        };
+        target.append_slice(&octets[..count])?;
+        at += length;
+    }
+    Ok(at)
+}
+
+impl DigitsReader {
+    /// A reader that no piece was given to.
+    pub fn new(kind: DigitsKind) -> DigitsReader
+        ensures kind { result.kind ≡ kind }
+        ensures read { HasRead result [] [] }
+    {
+        DigitsReader {
+            kind,
+            held: [0; 4],
+            count: 0,
+            ended: false,
+        }
+    }
+
+    /// Takes one digit. Refused, it changes nothing.
+    fn take_digit<B: OctetsBuilder>(&mut self, digit: u8, target: &mut B) -> Result<(), DigitsError>
+        ensures ok { OnOk result ((gained : List ℕ) × TakesPiece self.old (digit ∷ []) gained self.new
+            × (B.octets target.new ≡ B.octets target.old ++ gained)) }
+        ensures err { IfErr result (λ e. RefusesPiece B.room self.old (digit ∷ []) (B.octets target.old) e) }
+        ensures kept { OnErr result (B.octets target.new ≡ B.octets target.old) }
+    {
+        if self.ended {
+            return Err(DigitsError::TrailingBase64);
+        }
+        let kind = self.kind;
+        let mut group = self.held;
+        let count = self.count + 1;
+        group[self.count] = digit;
+        if count < kind.group() {
+            if !starts_group(kind, &group[..count]) {
+                return Err(kind.illegal());
+            }
+            self.held = group;
+            self.count = count;
+            return Ok(());
+        }
+        let mut octets = [0; 3];
+        let Some(length) = read_group(kind, &group[..count], &mut octets) else {
+            return Err(kind.illegal());
+        };
+        if target.append_slice(&octets[..length]).is_err() {
+            return Err(DigitsError::ShortBuf);
+        }
+        self.count = 0;
+        self.ended = kind.opens_group(length);
+        Ok(())
+    }
+
+    /// Takes digits one by one.
+    fn take_digits<B: OctetsBuilder>(
+        &mut self,
+        digits: &[u8],
+        target: &mut B,
+    ) -> Result<(), DigitsError>
+        ensures ok { OnOk result ((gained : List ℕ) × TakesPiece self.old digits.now gained self.new
+            × (B.octets target.new ≡ B.octets target.old ++ gained)) }
+        ensures err { IfErr result (λ e. RefusesPiece B.room self.old digits.now (B.octets target.old) e) }
+        ensures extends { OnErr result (Extends (B.octets target.old) (B.octets target.new)) }
+    {
+        for digit in digits {
+            self.take_digit(*digit, target)?;
+        }
+        Ok(())
+    }
+
+    /// How many digits the group wants that is begun.
+    fn wanted(&self) -> usize {
+        if self.count == 0 {
+            0
+        } else {
+            self.kind.group() - self.count
+        }
+    }
+
+    /// Takes whole groups in front of digits, where no group is begun, and returns how many digits
+    /// these are.
+    fn take_blocks<B: OctetsBuilder>(
+        &self,
+        digits: &[u8],
+        target: &mut B,
+    ) -> Result<usize, DigitsError>
+        ensures ok { IfOk result (λ n. (n ≤ length digits.now) × ((gained : List ℕ) × TakesPiece self.now (take n digits.now) gained self.now
+            × (B.octets target.new ≡ B.octets target.old ++ gained))) }
+        ensures err { IfErr result (λ e. RefusesPiece B.room self.now digits.now (B.octets target.old) e) }
+        ensures extends { OnErr result (Extends (B.octets target.old) (B.octets target.new)) }
+    {
+        if self.ended || self.count > 0 || digits.is_empty() {
+            return Ok(0);
+        }
+        match append_blocks(self.kind, digits, target) {
+            Ok(count) => Ok(count),
+            Err(ShortBuf) => Err(DigitsError::ShortBuf),
+        }
+    }
+
+    /// Takes a piece, and appends the octets of each group that is whole then. An error leaves the
+    /// target with its old octets, and perhaps more behind them, and the reader is done with.
+    ///
+    /// A digit that may not stand in its place is [`DigitsError::ExpectedHex`] or
+    /// [`DigitsError::IllegalBase64`], as soon as it comes; what follows a padded group is
+    /// [`DigitsError::TrailingBase64`]. Octets that the target refuses are
+    /// [`DigitsError::ShortBuf`].
+    pub fn push<B: OctetsBuilder>(
+        &mut self,
+        piece: &[u8],
+        target: &mut B,
+    ) -> Result<(), DigitsError>
+        ensures ok { OnOk result ((gained : List ℕ) × TakesPiece self.old piece.now gained self.new
+            × (B.octets target.new ≡ B.octets target.old ++ gained)) }
+        ensures err { IfErr result (λ e. RefusesPiece B.room self.old piece.now (B.octets target.old) e) }
+        ensures extends { OnErr result (Extends (B.octets target.old) (B.octets target.new)) }
+    {
+        let (front, rest) = piece.split_at(self.wanted().min(piece.len()));
+        self.take_digits(front, target)?;
+        let count = self.take_blocks(rest, target)?;
+        let last = &rest[count..];
+        self.take_digits(last, target)
+    }
+
+    /// Ends the text, which is refused within a group: [`DigitsError::UnevenHex`] or
+    /// [`DigitsError::IncompleteBase64`].
+    pub fn finish(&self) -> Result<(), DigitsError>
+        ensures begun { MatchResult result (λ _. self.now.begun ≡ []) (λ e. (self.now.begun ≢ []) × (e ≡ unfinished self.now.kind)) }
+        ensures whole { (text octets : List ℕ) → HasRead self.now text octets
+            → MatchResult result (λ _. SpellsDigits (base_of self.now.kind) text octets) (λ _. (v : List ℕ) → SpellsDigits (base_of self.now.kind) text v → ⊥) }
+    {
+        if self.count == 0 {
+            Ok(())
+        } else {
+            Err(self.kind.unfinished())
+        }
+    }
+}

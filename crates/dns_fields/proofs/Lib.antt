@@ -1,0 +1,4 @@
+pub mod FormLaws
+pub mod Refusals
+pub mod Takings
+pub mod Tokens

@@ -1,0 +1,111 @@
+-- Fields taken one after another.
+use Rattle.std.proofs.Common.{ℕ, Option, zero, suc, replicate, Some, ◌≡◌, ◌<◌, ◌≤◌, ◌+◌, arith, Err, List, [], ◌∷◌, ◌++◌, length, take, get_or, refl, sym, subst, ap, ◌∙◌}
+use Rattle.std.proofs.Math.Seq.{take-suc, take-length}
+use Rattle.std.proofs.lemmas.List.{append_assoc, append-nil, length-replicate}
+use Rattle.std.specs.Prelude.{slice_get}
+use Rattle.dns_split.specs.EntryTokens.{TokenSeen}
+use Rattle.std.proofs.lemmas.Option.{slice_get-get_or}
+use Rattle.dns_octets.specs.Room.{Room}
+use Rattle.dns_octets.specs.Appending.{Gains}
+use Rattle.dns_fields.specs.declared.field.Field.{Field}
+use Rattle.dns_fields.specs.declared.taking.Refusal.{Refusal}
+use Rattle.dns_fields.specs.Source.{next_place}
+use Rattle.dns_fields.specs.Taking.{SpellsField, SpellsFields, HasTaken, RefusesAField, RefusesNext, SpellsEach, TakesField}
+
+module _ (origin : Option (List (List ℕ))) where
+  pub none_taken : (tokens : List TokenSeen) (old : List ℕ) → HasTaken origin [] tokens old tokens old
+  none_taken tokens old = record { taken = []; octets = []; whole = refl; spelled = refl; gained = sym (append-nil old) }
+
+  spells_more : (fields : List Field) (tokens : List TokenSeen) (octets : List ℕ) (f : Field) (t : TokenSeen) (more : List ℕ) → SpellsFields origin fields tokens octets → SpellsField origin f t more
+      → SpellsFields origin (fields ++ f ∷ []) (tokens ++ t ∷ []) (octets ++ more)
+  spells_more [] [] octets f t more h k = (more, [], ap (λ o. o ++ more) h ∙ sym (append-nil more), k, refl)
+  spells_more [] (u ∷ us) octets f t more h k = absurd h
+  spells_more (g ∷ gs) [] octets f t more h k = absurd h
+  spells_more (g ∷ gs) (u ∷ us) octets f t more h k =
+      (h.0, h.1 ++ more, ap (λ o. o ++ more) h.2 ∙ append_assoc h.0 h.1 more, h.3, spells_more gs us h.1 f t more h.4 k)
+
+  pub one_more : (fields : List Field) (f : Field) (t : TokenSeen) (tokens left rest : List TokenSeen) (old middle new : List ℕ) → HasTaken origin fields tokens old left middle → left ≡ t ∷ rest
+      → Gains (SpellsField origin f t) middle new → HasTaken origin (fields ++ f ∷ []) tokens old rest new
+  one_more fields f t tokens left rest old middle new h is gains = record {
+    taken = h.taken ++ t ∷ [];
+    octets = h.octets ++ gains.0;
+    whole = h.whole ∙ ap (λ l. h.taken ++ l) is ∙ sym (append_assoc h.taken (t ∷ []) rest);
+    spelled = spells_more fields h.taken h.octets f t gains.0 h.spelled gains.1;
+    gained = gains.2 ∙ ap (λ o. o ++ gains.0) h.gained ∙ append_assoc old h.octets gains.0;
+  }
+
+  pub taken_next : (fields : List Field) (place : ℕ) (d : Field) (t : TokenSeen) (tokens left rest : List TokenSeen) (old middle new : List ℕ) → place < length fields
+      → HasTaken origin (take place fields) tokens old left middle → left ≡ t ∷ rest → Gains (SpellsField origin (get_or fields place d) t) middle new → HasTaken origin (take (place + 1) fields) tokens old rest new
+  taken_next fields place d t tokens left rest old middle new here h is gains =
+      let next : suc place ≡ place + 1 = omega arith in
+      subst (λ fs. HasTaken origin fs tokens old rest new) (sym (take-suc fields place d here) ∙ ap (λ n. take n fields) next) (one_more (take place fields) (get_or fields place d) t tokens left rest old middle new h is gains)
+
+  pub all_taken : (fields : List Field) (place : ℕ) (tokens left : List TokenSeen) (old new : List ℕ) → length fields ≤ place → place ≤ length fields → HasTaken origin (take place fields) tokens old left new → HasTaken origin fields tokens old left new
+  all_taken fields place tokens left old new from to h =
+      let same : place ≡ length fields = omega (arith, from, to) in subst (λ fs. HasTaken origin fs tokens old left new) (ap (λ n. take n fields) same ∙ take-length fields) h
+
+  pub refused_at : (room : Room) (fields : List Field) (d : Field) (begun end : ℕ) (tokens left rest : List TokenSeen) (old middle new : List ℕ) (place : ℕ) (r : Refusal) → end ≡ begun → place < length fields
+      → HasTaken origin (take place fields) tokens old left middle → TakesField origin room (get_or fields place d) end left middle (Err r) rest new
+      → RefusesAField origin room fields begun tokens old (record { field = place; refusal = r }) rest new
+  refused_at room fields d begun end tokens left rest old middle new place r same here h k = record {
+    field = get_or fields place d;
+    is_field = slice_get-get_or fields place d here;
+    middle = middle;
+    before = subst (λ l. HasTaken origin (take place fields) tokens old l middle) (sym k.0) h;
+    at = k.1 ∙ ap (λ l. next_place l end) (sym k.0) ∙ ap (next_place rest) same;
+    why = subst (λ l. RefusesNext origin room (get_or fields place d) l middle r.why) (sym k.0) k.2;
+    extends = k.3;
+  }
+
+  replicate_more : {A : Type 0} (count : ℕ) (x : A) → replicate count x ++ x ∷ [] ≡ replicate (suc count) x
+  replicate_more zero x = refl
+  replicate_more (suc count) x = ap (λ xs. x ∷ xs) (replicate_more count x)
+
+  as_many : (fields : List Field) (tokens : List TokenSeen) (octets : List ℕ) → SpellsFields origin fields tokens octets → length fields ≡ length tokens
+  as_many [] [] octets h = refl
+  as_many [] (t ∷ ts) octets h = absurd h
+  as_many (f ∷ fs) [] octets h = absurd h
+  as_many (f ∷ fs) (t ∷ ts) octets h = ap suc (as_many fs ts h.1 h.4)
+
+  take_last : {A : Type 0} (count : ℕ) (x : A) → take count (replicate (suc count) x) ≡ replicate count x
+  take_last zero x = refl
+  take_last (suc count) x = ap (λ xs. x ∷ xs) (take_last count x)
+
+  get_last : {A : Type 0} (count : ℕ) (x : A) → slice_get (replicate (suc count) x) count ≡ Some x
+  get_last zero x = refl
+  get_last (suc count) x = get_last count x
+
+  refused_last : (f : Field) (tokens : List TokenSeen) (old : List ℕ) (room : Room) (count begun end : ℕ) (left rest : List TokenSeen) (middle new : List ℕ) (r : Refusal) → end ≡ begun
+      → HasTaken origin (replicate count f) tokens old left middle → TakesField origin room f end left middle (Err r) rest new → RefusesAField origin room (replicate (suc count) f) begun tokens old (record { field = count; refusal = r }) rest new
+  refused_last f tokens old room count begun end left rest middle new r same h k = record {
+    field = f;
+    is_field = get_last count f;
+    middle = middle;
+    before = subst (λ fs. HasTaken origin fs tokens old rest middle) (sym (take_last count f)) (subst (λ l. HasTaken origin (replicate count f) tokens old l middle) (sym k.0) h);
+    at = k.1 ∙ ap (λ l. next_place l end) (sym k.0) ∙ ap (next_place rest) same;
+    why = subst (λ l. RefusesNext origin room f l middle r.why) (sym k.0) k.2;
+    extends = k.3;
+  }
+
+  -- so many tokens are taken, each as the same field
+  abbrev pub HasTakenSome : Field → List TokenSeen → List ℕ → List TokenSeen → List ℕ → Type 0
+  HasTakenSome f tokens old left new = (count : ℕ) × HasTaken origin (replicate count f) tokens old left new
+
+  module _ (f : Field) (tokens : List TokenSeen) (old : List ℕ) where
+    pub some_none : HasTakenSome f tokens old tokens old
+    some_none = (0, none_taken tokens old)
+
+    pub some_more : (left rest : List TokenSeen) (middle new : List ℕ) → HasTakenSome f tokens old left middle → (t : TokenSeen) × (left ≡ t ∷ rest) × Gains (SpellsField origin f t) middle new
+        → HasTakenSome f tokens old rest new
+    some_more left rest middle new h k =
+        (suc h.0, subst (λ fs. HasTaken origin fs tokens old rest new) (replicate_more h.0 f) (one_more (replicate h.0 f) f k.0 tokens left rest old middle new h.1 k.1 k.2))
+
+    pub some_all : (left : List TokenSeen) (new : List ℕ) → left ≡ [] → HasTakenSome f tokens old left new → Gains (SpellsEach origin f tokens) old new
+    some_all left new none h =
+        let whole : tokens ≡ h.1.taken = h.1.whole ∙ ap (λ l. h.1.taken ++ l) none ∙ append-nil h.1.taken in
+        let same : h.0 ≡ length h.1.taken = sym (length-replicate h.0 f) ∙ as_many (replicate h.0 f) h.1.taken h.1.octets h.1.spelled in
+        (h.1.octets, subst (λ ts. SpellsEach origin f ts h.1.octets) (sym whole) (subst (λ n. SpellsFields origin (replicate n f) h.1.taken h.1.octets) same h.1.spelled), h.1.gained)
+
+    pub some_refused : (room : Room) (begun end : ℕ) (left rest : List TokenSeen) (middle new : List ℕ) (r : Refusal) → end ≡ begun → HasTakenSome f tokens old left middle
+        → TakesField origin room f end left middle (Err r) rest new → (count : ℕ) × RefusesAField origin room (replicate (suc count) f) begun tokens old (record { field = count; refusal = r }) rest new
+    some_refused room begun end left rest middle new r same h k = (h.0, refused_last f tokens old room h.0 begun end left rest middle new r same h.1 k)

@@ -1,0 +1,18 @@
+use Rattle.std.proofs.Common.{◌∙◌, sym}
+use Rattle.dns_fields.proofs.Tokens.{none_left}
+use Rattle.dns_fields.proofs.Takings.{some_more, some_all, some_refused}
+use Rattle.dns_fields.proofs.taking.take_each.Goals as goal
+
+pub returns-in-Err-clause-takes : goal.returns-in-Err-clause-takes
+returns-in-Err-clause-takes g c = some_refused _ c.args.field _ _ g.B.OctetsBuilder.room _ _ _ _ _ _ c.in-Err.refusal c.loop-field.invariant.end c.loop-field.invariant.taken c.in-Err.ensures.takes
+
+pub loop-field-preserved : goal.loop-field-preserved
+loop-field-preserved g c = record {
+  taken = some_more _ c.args.field _ _ _ _ _ _ c.loop-field.invariant.taken c.in_default.ensures.takes;
+  end = c.take_field.ensures.end ∙ c.loop-field.invariant.end;
+}
+
+pub returns-clause-takes : goal.returns-clause-takes
+returns-clause-takes g c =
+    let none = none_left c.current.result (g.S.TokenSource.left c.loop-field.source) c.current.ensures (sym c.is_some.ensures ∙ c.loop-field-test.false) in
+    (none, some_all _ c.args.field _ _ _ _ none c.loop-field.invariant.taken)

@@ -1,0 +1,27 @@
+use Rattle.std.proofs.Common.{refl, ◌∙◌}
+use Rattle.dns_fields.proofs.Takings.{none_taken, taken_next, all_taken, refused_at}
+use Rattle.dns_fields.proofs.taking.take_fields.Goals as goal
+
+pub loop-place-init : goal.loop-place-init
+loop-place-init g c = record { taken = none_taken _ _ _; end = refl }
+
+pub returns-in-Err-clause-takes : goal.returns-in-Err-clause-takes
+returns-in-Err-clause-takes g c =
+    refused_at _ g.B.OctetsBuilder.room c.args.fields.now _ _ _ _ _ _ _ _ _ c.loop-place.place c.in-Err.refusal c.loop-place.invariant.end c.loop-place-test.true c.loop-place.invariant.taken c.in-Err.ensures.takes
+
+pub returns-in-Err-clause-end : goal.returns-in-Err-clause-end
+returns-in-Err-clause-end g c = c.take_field.ensures.end ∙ c.loop-place.invariant.end
+
+pub loop-place-preserved : goal.loop-place-preserved
+loop-place-preserved g c =
+    let t = c.in_default.ensures.takes in
+    record {
+      taken = taken_next _ c.args.fields.now c.loop-place.place _ t.0 _ _ _ _ _ _ c.loop-place-test.true c.loop-place.invariant.taken t.1 t.2;
+      end = c.take_field.ensures.end ∙ c.loop-place.invariant.end;
+    }
+
+pub returns-clause-takes : goal.returns-clause-takes
+returns-clause-takes g c = all_taken _ c.args.fields.now c.loop-place.place _ _ _ _ c.loop-place-test.false c.loop-place.auto.place-end c.loop-place.invariant.taken
+
+pub returns-clause-end : goal.returns-clause-end
+returns-clause-end g c = c.loop-place.invariant.end

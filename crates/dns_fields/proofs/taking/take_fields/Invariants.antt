@@ -1,0 +1,14 @@
+use Rattle.std.proofs.Common.{◌≡◌, take}
+use Rattle.std.specs.Option.{option_copied}
+use Rattle.dns_fields.specs.Taking.{HasTaken}
+use Rattle.dns_fields.proofs.taking.take_fields.Given as goal
+
+-- the fields before the place are taken
+abbrev pub invariant-loop-place : goal.invariant-loop-place
+invariant-loop-place g l =
+    let left = g.S.TokenSource.left in
+    let octets = g.B.AsOctets.octets in
+    record {
+      taken : HasTaken (option_copied l.origin) (take l.place l.fields) (left l.fn.source) (octets l.fn.target) (left l.source) (octets l.target);
+      end : g.S.TokenSource.end l.source ≡ g.S.TokenSource.end l.fn.source;
+    }

@@ -1,0 +1,134 @@
+-- What a field of record data is: the tokens that spell it, its octets on the wire, and the token
+-- that it is printed as.
+use Rattle.std.specs.Prelude.{ℕ, ◌≡◌, ◌<◌, ◌⊎◌, Bool, true, false, if◌then◌else◌, List, [], ◌∷◌, ◌++◌, length, drop, Option, Result, OnOk, OnErr, IfErr}
+use Rattle.dns_octets.specs.Room.{Room}
+use Rattle.dns_octets.specs.Appending.{Extends, Gains, LacksRoom}
+use Rattle.dns_symbol.specs.Characters.{double_quote}
+use Rattle.dns_spelling.specs.Spelling.{AreOctetValues, SpellsToBadEscape, SpellsOctetList}
+use Rattle.dns_spelling.specs.Forms.{StandInFront, IsWireString, SpellsString, IsTag, IsWireTag, SpellsTag}
+use Rattle.dns_spelling.specs.NameSpelling.{SpellsName, IsWireName, WhyNoName}
+use Rattle.dns_spelling.specs.PrintedNames.{wire_name_text}
+use Rattle.dns_spelling.specs.declared.error.SpellingError.{SpellingError}
+use Rattle.dns_spelling.specs.Shown.{string_in_quotes, tag_text}
+use Rattle.dns_spelling.specs.declared.error.SpellingError.TheVariants.{BadEscape, LongString, BadTag}
+use Rattle.dns_kinds.specs.Salt.{SpellsSalt, salt_text}
+use Rattle.dns_kinds.specs.declared.error.KindError.TheVariants.{ExpectedSalt}
+use Rattle.dns_kinds.specs.declared.error.KindError.{KindError}
+use Rattle.dns_fields.specs.declared.error.FieldError.{FieldError}
+use Rattle.dns_fields.specs.declared.error.FieldError.TheVariants.{ShortBuf, EndOfEntry, Quoted, Kind, Spelling}
+use Rattle.dns_fields.specs.Words.{SpellsAs, AreOctetsOf}
+
+pub record FieldForm : Type 1 where
+  -- a token, by whether it is a quoted text and by what it holds, spells a field of these octets
+  pub spells : Bool → List ℕ → List ℕ → Type 0
+  -- why a token that spells none is refused
+  pub reason : Bool → List ℕ → FieldError → Type 0
+  -- the octets that a field can have
+  pub is_wire : List ℕ → Type 0
+  -- whether it is printed as a quoted text, and what that token holds
+  pub quotes : Bool
+  pub printed : List ℕ → List ℕ
+
+-- the token that a field is printed as
+abbrev pub token_text : FieldForm → List ℕ → List ℕ
+token_text f octets = if f.quotes then double_quote ∷ (f.printed octets ++ double_quote ∷ []) else f.printed octets
+
+-- Each token spells octets of a field, and those of one. What a field is printed as spells it. And
+-- a field stands in front of octets in one way.
+pub record IsFieldForm (f : FieldForm) : Type 0 where
+  pub are_wire : (quoted : Bool) (text octets : List ℕ) → AreOctetValues text → f.spells quoted text octets → f.is_wire octets
+  pub back : (octets : List ℕ) → f.is_wire octets → f.spells f.quotes (f.printed octets) octets
+  pub once : (quoted : Bool) (text a b : List ℕ) → f.spells quoted text a → f.spells quoted text b → a ≡ b
+  pub in_front : StandInFront f.is_wire
+
+-- why a word is refused: it is a quoted text; or it spells no value of its kind
+abbrev pub WordReason : (List ℕ → KindError → Type 0) → Bool → List ℕ → FieldError → Type 0
+WordReason reason quoted text ShortBuf = ⊥
+WordReason reason quoted text EndOfEntry = ⊥
+WordReason reason quoted text Quoted = quoted ≡ true
+WordReason reason quoted text (Kind e) = (quoted ≡ false) × reason text e
+WordReason reason quoted text (Spelling e) = ⊥
+
+-- a word of a kind whose values have so many octets
+abbrev pub word_form : {V : Type 0} → ℕ → (V → Type 0) → (List ℕ → V → Type 0) → (List ℕ → KindError → Type 0) → (V → List ℕ) → (List ℕ → List ℕ) → FieldForm
+word_form width valid spells reason wire printed = record {
+  spells = λ quoted text octets. (quoted ≡ false) × SpellsAs valid spells wire text octets;
+  reason = WordReason reason;
+  is_wire = AreOctetsOf width;
+  quotes = false;
+  printed = printed;
+}
+
+-- why a text spells no character string: it has a bad escape, or spells too many octets
+abbrev pub StringReason : Bool → List ℕ → FieldError → Type 0
+StringReason quoted text ShortBuf = ⊥
+StringReason quoted text EndOfEntry = ⊥
+StringReason quoted text Quoted = ⊥
+StringReason quoted text (Kind e) = ⊥
+StringReason quoted text (Spelling BadEscape) = SpellsToBadEscape text
+StringReason quoted text (Spelling LongString) = (octets : List ℕ) × SpellsOctetList text octets × (255 < length octets)
+StringReason quoted text (Spelling e) = ⊥
+
+-- a character string, whether in quotes or not; it is printed in quotes
+abbrev pub string_form : FieldForm
+string_form = record {
+  spells = λ quoted text octets. SpellsString text octets;
+  reason = StringReason;
+  is_wire = IsWireString;
+  quotes = true;
+  printed = string_in_quotes;
+}
+
+-- why a token is no tag
+abbrev pub TagReason : Bool → List ℕ → FieldError → Type 0
+TagReason quoted text e = ((e ≡ Quoted) × (quoted ≡ true)) ⊎ ((e ≡ Spelling BadTag) × (quoted ≡ false) × (IsTag text → ⊥))
+
+-- a tag, without quotes
+abbrev pub tag_form : FieldForm
+tag_form = record {
+  spells = λ quoted text octets. (quoted ≡ false) × SpellsTag text octets;
+  reason = TagReason;
+  is_wire = IsWireTag;
+  quotes = false;
+  printed = tag_text;
+}
+
+-- a text spells a salt, whose octets stand behind their length
+pub record SpellsWireSalt (text form : List ℕ) : Type 0 where
+  pub octets : List ℕ
+  pub spelled : SpellsSalt text octets
+  pub whole : form ≡ length octets ∷ octets
+
+abbrev pub salt_form : FieldForm
+salt_form = record {
+  spells = λ quoted text octets. (quoted ≡ false) × SpellsWireSalt text octets;
+  reason = WordReason (λ _ e. e ≡ ExpectedSalt);
+  is_wire = IsWireString;
+  quotes = false;
+  printed = λ form. salt_text (drop 1 form);
+}
+
+-- why a token is no name: it is a quoted text; or something is wrong with the text
+abbrev pub NameReason : Option (List (List ℕ)) → Bool → List ℕ → FieldError → Type 0
+NameReason origin quoted text e = ((e ≡ Quoted) × (quoted ≡ true)) ⊎ ((why : SpellingError) × (e ≡ Spelling why) × (quoted ≡ false) × WhyNoName origin text why)
+
+-- a name, without quotes; a relative one stands before the origin
+abbrev pub name_form : Option (List (List ℕ)) → FieldForm
+name_form origin = record {
+  spells = λ quoted text octets. (quoted ≡ false) × SpellsName origin text octets;
+  reason = NameReason origin;
+  is_wire = IsWireName;
+  quotes = false;
+  printed = wire_name_text;
+}
+
+-- why a token was not taken as a field: its octets don't surely fit; or it spells none, and this is why
+abbrev pub RefusesField : Room → (List ℕ → Type 0) → (FieldError → Type 0) → List ℕ → FieldError → Type 0
+RefusesField room spelled reason old e = ((e ≡ ShortBuf) × LacksRoom room spelled old) ⊎ (reason e × ((octets : List ℕ) → spelled octets → ⊥))
+
+-- A token is read as a field: the target gains the octets that it spells; or it is refused, and the
+-- target has what it had, with more behind it.
+pub record ReadsField (room : Room) (f : FieldForm) (quoted : Bool) (text old : List ℕ) (r : Result (Unit {0}) FieldError) (new : List ℕ) : Type 0 where
+  pub gains : OnOk r (Gains (f.spells quoted text) old new)
+  pub refused : IfErr r (RefusesField room (f.spells quoted text) (f.reason quoted text) old)
+  pub extends : OnErr r (Extends old new)

@@ -1,0 +1,66 @@
+-- Fields that are read of the tokens of an entry, one token each.
+use Rattle.std.specs.Prelude.{ℕ, Option, suc, length, replicate, ◌≡◌, List, [], ◌∷◌, ◌++◌, take, slice_get, Some, Result, Ok, Err}
+use Rattle.dns_octets.specs.Room.{Room}
+use Rattle.dns_octets.specs.Appending.{Extends, Gains}
+use Rattle.dns_split.specs.EntryTokens.{TokenSeen}
+use Rattle.dns_fields.specs.declared.error.FieldError.{FieldError}
+use Rattle.dns_fields.specs.declared.error.FieldError.TheVariants.{EndOfEntry}
+use Rattle.dns_fields.specs.declared.field.Field.{Field}
+use Rattle.dns_fields.specs.declared.taking.FieldRefusal.{FieldRefusal}
+use Rattle.dns_fields.specs.declared.taking.Refusal.{Refusal}
+use Rattle.dns_fields.specs.Fields.{field_form}
+use Rattle.dns_fields.specs.Forms.{RefusesField}
+use Rattle.dns_fields.specs.Source.{next_place}
+
+-- the token spells the field
+abbrev pub SpellsField : Option (List (List ℕ)) → Field → TokenSeen → List ℕ → Type 0
+SpellsField origin f t = (field_form origin f).spells t.is_quoted t.text
+
+-- the tokens spell the fields, one each, and the octets are theirs, one after another
+abbrev pub SpellsFields : Option (List (List ℕ)) → List Field → List TokenSeen → List ℕ → Type 0
+SpellsFields origin [] [] octets = octets ≡ []
+SpellsFields origin [] (t ∷ ts) octets = ⊥
+SpellsFields origin (f ∷ fs) [] octets = ⊥
+SpellsFields origin (f ∷ fs) (t ∷ ts) octets = (front : List ℕ) × (back : List ℕ) × (octets ≡ front ++ back) × SpellsField origin f t front × SpellsFields origin fs ts back
+
+-- why the next token is not taken as a field: there is none; or it is refused
+abbrev pub RefusesNext : Option (List (List ℕ)) → Room → Field → List TokenSeen → List ℕ → FieldError → Type 0
+RefusesNext origin room f [] old e = e ≡ EndOfEntry
+RefusesNext origin room f (t ∷ ts) old e = RefusesField room (SpellsField origin f t) ((field_form origin f).reason t.is_quoted t.text) old e
+
+-- the next token is taken as a field; or it is refused at its place, and nothing is taken
+abbrev pub TakesField : Option (List (List ℕ)) → Room → Field → ℕ → List TokenSeen → List ℕ → Result (Unit {0}) Refusal → List TokenSeen → List ℕ → Type 0
+TakesField origin room f end tokens old (Ok _) left new = (t : TokenSeen) × (tokens ≡ t ∷ left) × Gains (SpellsField origin f t) old new
+TakesField origin room f end tokens old (Err r) left new = (left ≡ tokens) × (r.at ≡ next_place tokens end) × RefusesNext origin room f tokens old r.why × Extends old new
+
+-- the first of the tokens are taken as the fields, one each, and the target gained their octets
+pub record HasTaken (origin : Option (List (List ℕ))) (fields : List Field) (tokens : List TokenSeen) (old : List ℕ) (left : List TokenSeen) (new : List ℕ) : Type 0 where
+  pub taken : List TokenSeen
+  pub octets : List ℕ
+  pub whole : tokens ≡ taken ++ left
+  pub spelled : SpellsFields origin fields taken octets
+  pub gained : new ≡ old ++ octets
+
+-- the fields before one are taken, and that one is refused
+pub record RefusesAField (origin : Option (List (List ℕ))) (room : Room) (fields : List Field) (end : ℕ) (tokens : List TokenSeen) (old : List ℕ) (r : FieldRefusal) (left : List TokenSeen) (new : List ℕ) : Type 0 where
+  pub field : Field
+  pub is_field : slice_get fields r.field ≡ Some field
+  pub middle : List ℕ
+  pub before : HasTaken origin (take r.field fields) tokens old left middle
+  pub at : r.refusal.at ≡ next_place left end
+  pub why : RefusesNext origin room field left middle r.refusal.why
+  pub extends : Extends middle new
+
+-- all fields are taken; or one is refused
+abbrev pub TakesAllFields : Option (List (List ℕ)) → Room → List Field → ℕ → List TokenSeen → List ℕ → Result (Unit {0}) FieldRefusal → List TokenSeen → List ℕ → Type 0
+TakesAllFields origin room fields end tokens old (Ok _) left new = HasTaken origin fields tokens old left new
+TakesAllFields origin room fields end tokens old (Err r) left new = RefusesAField origin room fields end tokens old r left new
+
+-- each of the tokens spells the field, and the octets are theirs, one after another
+abbrev pub SpellsEach : Option (List (List ℕ)) → Field → List TokenSeen → List ℕ → Type 0
+SpellsEach origin f tokens octets = SpellsFields origin (replicate (length tokens) f) tokens octets
+
+-- all tokens are taken; or one is refused
+abbrev pub TakesEachAs : Option (List (List ℕ)) → Room → Field → ℕ → List TokenSeen → List ℕ → Result (Unit {0}) Refusal → List TokenSeen → List ℕ → Type 0
+TakesEachAs origin room f end tokens old (Ok _) left new = (left ≡ []) × Gains (SpellsEach origin f tokens) old new
+TakesEachAs origin room f end tokens old (Err r) left new = (count : ℕ) × RefusesAField origin room (replicate (suc count) f) end tokens old (record { field = count; refusal = r }) left new

@@ -1,0 +1,151 @@
+//! The kinds of fields that are one token.
+ghost use Rattle.std.specs.Prelude.{None};
+ghost use Rattle.std.specs.Option.{option_copied};
+ghost use Rattle.std.specs.Fmt.{WritesOnOk};
+ghost use Rattle.dns_spelling.specs.Forms.{FindsWidth};
+ghost use Rattle.dns_fields.specs.Fields.{field_form};
+ghost use Rattle.dns_fields.specs.Forms.{ReadsField, token_text};
+
+use crate::error::FieldError;
+use crate::texts::{
+    append_name_field, append_salt_field, append_string_field, append_tag_field, write_salt,
+    write_string, write_tag,
+};
+use crate::word::{append_word, word_width, write_word};
+use crate::words::{AlgorithmNumber, Interval};
+use dns_kinds::{Algorithm, CertificateType, Date, Eui48, Eui64, Ipv6Shown, Locator, RecordType};
+use dns_octets::{AsOctets, OctetsBuilder};
+use dns_spelling::{NameText, name_width, string_width, tag_width};
+use dns_split::entry_tokens::EntryToken;
+use dns_wire::Name;
+use std::fmt;
+use std::net::Ipv4Addr;
+
+/// A kind of field that is one token of an entry.
+#[derive(Clone, Copy, Debug, PartialEq, Eq)]
+pub enum Field {
+    /// A number of 8 bits.
+    Number8,
+    /// A number of 16 bits.
+    Number16,
+    /// A number of 32 bits.
+    Number32,
+    /// A number of seconds, which may have units.
+    Interval,
+    /// An IPv4 address.
+    Ipv4,
+    /// An IPv6 address.
+    Ipv6,
+    /// A type of records.
+    RecordType,
+    /// An algorithm of keys and signatures, which prints as its number.
+    Algorithm,
+    /// The same, which prints as its name.
+    NamedAlgorithm,
+    /// A type of certificates.
+    CertificateType,
+    /// An EUI-48.
+    Eui48,
+    /// An EUI-64.
+    Eui64,
+    /// A time of a signature, which prints as a date.
+    Time,
+    /// A locator or an identifier of 64 bits.
+    Locator,
+    /// A character string, in quotes or not.
+    String,
+    /// A tag of letters and digits.
+    Tag,
+    /// A salt.
+    Salt,
+    /// A name, absolute or before the origin.
+    Name,
+}
+
+/// Appends the octets of the field that a token spells. A relative name stands before the origin.
+pub fn append_field<Octets: AsOctets, B: OctetsBuilder>(
+    field: Field,
+    token: &EntryToken<'_>,
+    origin: Option<&Name<Octets>>,
+    target: &mut B,
+) -> Result<(), FieldError>
+    ensures { ReadsField B.room (field_form (option_copied origin.entry) field) token.now.is_quoted token.now.text.now (B.octets target.old) result (B.octets target.new) }
+{
+    match field {
+        Field::Number8 => append_word::<u8, B>(token, target),
+        Field::Number16 => append_word::<u16, B>(token, target),
+        Field::Number32 => append_word::<u32, B>(token, target),
+        Field::Interval => append_word::<Interval, B>(token, target),
+        Field::Ipv4 => append_word::<Ipv4Addr, B>(token, target),
+        Field::Ipv6 => append_word::<Ipv6Shown, B>(token, target),
+        Field::RecordType => append_word::<RecordType, B>(token, target),
+        Field::Algorithm => append_word::<AlgorithmNumber, B>(token, target),
+        Field::NamedAlgorithm => append_word::<Algorithm, B>(token, target),
+        Field::CertificateType => append_word::<CertificateType, B>(token, target),
+        Field::Eui48 => append_word::<Eui48, B>(token, target),
+        Field::Eui64 => append_word::<Eui64, B>(token, target),
+        Field::Time => append_word::<Date, B>(token, target),
+        Field::Locator => append_word::<Locator, B>(token, target),
+        Field::String => append_string_field(token, target),
+        Field::Tag => append_tag_field(token, target),
+        Field::Salt => append_salt_field(token, target),
+        Field::Name => append_name_field(token, origin, target),
+    }
+}
+
+/// How many of the octets in front are a field.
+pub fn field_width(field: Field, octets: &[u8]) -> Option<usize>
+    ensures { FindsWidth (field_form None field).is_wire octets.now result }
+{
+    match field {
+        Field::Number8 => word_width::<u8>(octets),
+        Field::Number16 => word_width::<u16>(octets),
+        Field::Number32 => word_width::<u32>(octets),
+        Field::Interval => word_width::<Interval>(octets),
+        Field::Ipv4 => word_width::<Ipv4Addr>(octets),
+        Field::Ipv6 => word_width::<Ipv6Shown>(octets),
+        Field::RecordType => word_width::<RecordType>(octets),
+        Field::Algorithm => word_width::<AlgorithmNumber>(octets),
+        Field::NamedAlgorithm => word_width::<Algorithm>(octets),
+        Field::CertificateType => word_width::<CertificateType>(octets),
+        Field::Eui48 => word_width::<Eui48>(octets),
+        Field::Eui64 => word_width::<Eui64>(octets),
+        Field::Time => word_width::<Date>(octets),
+        Field::Locator => word_width::<Locator>(octets),
+        Field::String => string_width(octets),
+        Field::Tag => tag_width(octets),
+        Field::Salt => string_width(octets),
+        Field::Name => name_width(octets),
+    }
+}
+
+/// Prints the token of a field.
+pub fn write_field<W: fmt::Write>(
+    field: Field,
+    octets: &[u8],
+    f: &mut fmt::Formatter<W>,
+) -> fmt::Result
+    requires { (field_form None field).is_wire octets.now }
+    ensures { WritesOnOk W.write_str_gives f.old result (token_text (field_form None field) octets.now) f.new }
+{
+    match field {
+        Field::Number8 => write_word::<u8, W>(octets, f),
+        Field::Number16 => write_word::<u16, W>(octets, f),
+        Field::Number32 => write_word::<u32, W>(octets, f),
+        Field::Interval => write_word::<Interval, W>(octets, f),
+        Field::Ipv4 => write_word::<Ipv4Addr, W>(octets, f),
+        Field::Ipv6 => write_word::<Ipv6Shown, W>(octets, f),
+        Field::RecordType => write_word::<RecordType, W>(octets, f),
+        Field::Algorithm => write_word::<AlgorithmNumber, W>(octets, f),
+        Field::NamedAlgorithm => write_word::<Algorithm, W>(octets, f),
+        Field::CertificateType => write_word::<CertificateType, W>(octets, f),
+        Field::Eui48 => write_word::<Eui48, W>(octets, f),
+        Field::Eui64 => write_word::<Eui64, W>(octets, f),
+        Field::Time => write_word::<Date, W>(octets, f),
+        Field::Locator => write_word::<Locator, W>(octets, f),
+        Field::String => write_string(octets, f),
+        Field::Tag => write_tag(octets, f),
+        Field::Salt => write_salt(octets, f),
+        Field::Name => write!(f, "{}", NameText(octets)),
+    }
+}

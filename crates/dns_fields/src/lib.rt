@@ -1,0 +1,19 @@
+//! The fields of record data: the texts that spell each, its octets on the wire, and how it is
+//! printed.
+#![tactic(auto)]
+
+pub mod error;
+pub mod field;
+pub mod laws;
+pub mod source;
+pub mod taking;
+mod texts;
+pub mod word;
+pub mod words;
+
+pub use error::FieldError;
+pub use field::{Field, append_field, field_width, write_field};
+pub use source::{TokenList, TokenSource};
+pub use taking::{FieldRefusal, Refusal, take_each, take_field, take_fields};
+pub use word::{Word, append_word};
+pub use words::{AlgorithmNumber, Interval};

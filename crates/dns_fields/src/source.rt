@@ -1,0 +1,76 @@
+//! Where the tokens of an entry come from.
+ghost use Rattle.std.specs.Prelude.{◌≡◌, ℕ, List, option_map, slice_get, drop};
+ghost use Rattle.dns_split.specs.EntryTokens.{TokenSeen, token_seen};
+ghost use Rattle.dns_fields.specs.Source.{next_place};
+
+use dns_split::entry_tokens::EntryToken;
+
+/// The tokens of one entry, taken one by one.
+///
+/// A token's text need live only until the next is taken.
+pub trait TokenSource {
+    // The tokens that are left.
+    ghost left: { Self → List TokenSeen };
+
+    // Where the entry ends.
+    ghost end: { Self → ℕ };
+
+    /// The token that comes next, if one is left.
+    fn current(&self) -> Option<EntryToken<'_>>
+        ensures { option_map token_seen result ≡ slice_get (left self.now) 0 };
+
+    /// The place of the token that comes next, or of the entry's end.
+    fn place(&self) -> usize
+        ensures { result ≡ next_place (left self.now) (end self.now) };
+
+    /// Takes the token that comes next.
+    fn advance(&mut self)
+        ensures left { left self.new ≡ drop 1 (left self.old) }
+        ensures end { end self.new ≡ end self.old };
+}
+
+/// The tokens of a list.
+#[derive(Drop)]
+pub struct TokenList<'t> {
+    tokens: &'t [EntryToken<'t>],
+    end: usize,
+}
+
+impl<'t> TokenList<'t> {
+    ghost use Rattle.std.specs.Prelude.{map};
+    ghost use Rattle.dns_fields.specs.Source.{listed, listed_end};
+
+    /// The tokens of an entry that ends at a place.
+    pub fn new(tokens: &'t [EntryToken<'t>], end: usize) -> TokenList<'t>
+        ensures left { listed result ≡ map token_seen tokens.now }
+        ensures end { listed_end result ≡ end }
+    {
+        TokenList { tokens, end }
+    }
+}
+
+impl<'t> TokenSource for TokenList<'t> {
+    ghost use Rattle.dns_fields.specs.Source.{listed, listed_end};
+
+    ghost left = { listed };
+
+    ghost end = { listed_end };
+
+    fn current(&self) -> Option<EntryToken<'_>> {
+        self.tokens.first().copied()
+    }
+
+    fn place(&self) -> usize {
+        match self.tokens.first() {
+            Some(token) => token.at,
+            None => self.end,
+        }
+    }
+
+    fn advance(&mut self) {
+        let tokens = self.tokens;
+        if !tokens.is_empty() {
+            self.tokens = &tokens[1..];
+        }
+    }
+}

@@ -1,0 +1,88 @@
+//! Fields of the tokens of an entry.
+ghost use Rattle.std.specs.Prelude.{◌≡◌};
+ghost use Rattle.std.specs.Option.{option_copied};
+ghost use Rattle.dns_fields.specs.Taking.{TakesField, TakesAllFields, TakesEachAs};
+
+use crate::error::FieldError;
+use crate::field::{Field, append_field};
+use crate::source::TokenSource;
+use dns_octets::{AsOctets, OctetsBuilder};
+use dns_wire::Name;
+
+/// A token that is refused, by its place, and why. Where none is left, the place is the entry's end.
+#[derive(Clone, Copy, Debug, PartialEq, Eq)]
+pub struct Refusal {
+    pub at: usize,
+    pub why: FieldError,
+}
+
+/// A field that is refused, by its place among the fields of a record, and why.
+#[derive(Clone, Copy, Debug, PartialEq, Eq)]
+pub struct FieldRefusal {
+    pub field: usize,
+    pub refusal: Refusal,
+}
+
+/// Takes the next token, and appends the octets of the field that it spells. A relative name
+/// stands before the origin.
+pub fn take_field<S: TokenSource, Octets: AsOctets, B: OctetsBuilder>(
+    field: Field,
+    origin: Option<&Name<Octets>>,
+    source: &mut S,
+    target: &mut B,
+) -> Result<(), Refusal>
+    ensures takes { TakesField (option_copied origin.entry) B.room field (S.end source.old) (S.left source.old) (B.octets target.old) result (S.left source.new) (B.octets target.new) }
+    ensures end { S.end source.new ≡ S.end source.old }
+{
+    let at = source.place();
+    let Some(token) = source.current() else {
+        let why = FieldError::EndOfEntry;
+        return Err(Refusal { at, why });
+    };
+    if let Err(why) = append_field(field, &token, origin, target) {
+        return Err(Refusal { at, why });
+    }
+    source.advance();
+    Ok(())
+}
+
+/// Takes a token for each of the fields, and appends their octets one after another. Where one is
+/// refused, those before it are taken.
+pub fn take_fields<S: TokenSource, Octets: AsOctets, B: OctetsBuilder>(
+    fields: &[Field],
+    origin: Option<&Name<Octets>>,
+    source: &mut S,
+    target: &mut B,
+) -> Result<(), FieldRefusal>
+    ensures takes { TakesAllFields (option_copied origin.entry) B.room fields.now (S.end source.old) (S.left source.old) (B.octets target.old) result (S.left source.new) (B.octets target.new) }
+    ensures end { S.end source.new ≡ S.end source.old }
+{
+    for (place, field) in fields.iter().enumerate() {
+        if let Err(refusal) = take_field(*field, origin, source, target) {
+            return Err(FieldRefusal {
+                field: place,
+                refusal,
+            });
+        }
+    }
+    Ok(())
+}
+
+/// Takes the tokens that are left, each as the same field, and appends their octets one after
+/// another. Where one is refused, those before it are taken.
+pub fn take_each<S: TokenSource, Octets: AsOctets, B: OctetsBuilder>(
+    field: Field,
+    origin: Option<&Name<Octets>>,
+    source: &mut S,
+    target: &mut B,
+) -> Result<(), Refusal>
+    ensures takes { TakesEachAs (option_copied origin.entry) B.room field (S.end source.old) (S.left source.old) (B.octets target.old) result (S.left source.new) (B.octets target.new) }
+    ensures end { S.end source.new ≡ S.end source.old }
+{
+    while source.current().is_some() {
+        if let Err(refusal) = take_field(field, origin, source, target) {
+            return Err(refusal);
+        }
+    }
+    Ok(())
+}

@@ -1,0 +1,103 @@
+//! Fields that are octets in a token: character strings, tags and salts.
+ghost use Rattle.std.specs.Option.{option_copied};
+ghost use Rattle.std.specs.Fmt.{WritesOnOk};
+ghost use Rattle.dns_spelling.specs.Forms.{IsWireString, IsWireTag};
+ghost use Rattle.dns_fields.specs.Forms.{ReadsField, token_text, name_form, salt_form, string_form, tag_form};
+
+use crate::error::FieldError;
+use dns_kinds::Salt;
+use dns_octets::{AsOctets, OctetsBuilder};
+use dns_spelling::{QuotedOctets, TagText, append_name, append_string, append_tag};
+use dns_split::entry_tokens::EntryToken;
+use dns_wire::Name;
+use std::fmt;
+
+/// Appends the character string that a token spells.
+pub(crate) fn append_string_field<B: OctetsBuilder>(
+    token: &EntryToken<'_>,
+    target: &mut B,
+) -> Result<(), FieldError>
+    ensures { ReadsField B.room string_form token.now.is_quoted token.now.text.now (B.octets target.old) result (B.octets target.new) }
+{
+    match append_string(token.text, target) {
+        Ok(()) => Ok(()),
+        Err(why) => Err(FieldError::from(why)),
+    }
+}
+
+/// Appends the tag that a word is.
+pub(crate) fn append_tag_field<B: OctetsBuilder>(
+    token: &EntryToken<'_>,
+    target: &mut B,
+) -> Result<(), FieldError>
+    ensures { ReadsField B.room tag_form token.now.is_quoted token.now.text.now (B.octets target.old) result (B.octets target.new) }
+{
+    if token.is_quoted {
+        return Err(FieldError::Quoted);
+    }
+    append_tag(token.text, target)?;
+    Ok(())
+}
+
+/// Appends the salt that a word spells: its length, and its octets.
+pub(crate) fn append_salt_field<B: OctetsBuilder>(
+    token: &EntryToken<'_>,
+    target: &mut B,
+) -> Result<(), FieldError>
+    ensures { ReadsField B.room salt_form token.now.is_quoted token.now.text.now (B.octets target.old) result (B.octets target.new) }
+{
+    if token.is_quoted {
+        return Err(FieldError::Quoted);
+    }
+    let salt = Salt::from_text(token.text)?;
+    let octets = salt.as_slice();
+    target.append_slice(&[octets.len() as u8])?;
+    target.append_slice(octets)?;
+    Ok(())
+}
+
+/// Appends the name that a word spells.
+pub(crate) fn append_name_field<Octets: AsOctets, B: OctetsBuilder>(
+    token: &EntryToken<'_>,
+    origin: Option<&Name<Octets>>,
+    target: &mut B,
+) -> Result<(), FieldError>
+    ensures { ReadsField B.room (name_form (option_copied origin.entry)) token.now.is_quoted token.now.text.now (B.octets target.old) result (B.octets target.new) }
+{
+    if token.is_quoted {
+        return Err(FieldError::Quoted);
+    }
+    match append_name(token.text, origin, target) {
+        Ok(()) => Ok(()),
+        Err(why) => Err(FieldError::from(why)),
+    }
+}
+
+/// Prints a character string in quotes.
+pub(crate) fn write_string<W: fmt::Write>(octets: &[u8], f: &mut fmt::Formatter<W>) -> fmt::Result
+    requires { IsWireString octets.now }
+    ensures { WritesOnOk W.write_str_gives f.old result (token_text string_form octets.now) f.new }
+{
+    let string = &octets[1..];
+    write!(f, "{}", QuotedOctets(string))
+}
+
+/// Prints a tag.
+pub(crate) fn write_tag<W: fmt::Write>(octets: &[u8], f: &mut fmt::Formatter<W>) -> fmt::Result
+    requires { IsWireTag octets.now }
+    ensures { WritesOnOk W.write_str_gives f.old result (token_text tag_form octets.now) f.new }
+{
+    let tag = &octets[1..];
+    write!(f, "{}", TagText(tag))
+}
+
+/// Prints a salt.
+pub(crate) fn write_salt<W: fmt::Write>(octets: &[u8], f: &mut fmt::Formatter<W>) -> fmt::Result
+    requires { IsWireString octets.now }
+    ensures { WritesOnOk W.write_str_gives f.old result (token_text salt_form octets.now) f.new }
+{
+    match Salt::from_octets(&octets[1..]) {
+        Some(salt) => write!(f, "{salt}"),
+        None => Err(fmt::Error),
+    }
+}

@@ -1,0 +1,51 @@
+-- Locators and identifiers of 64 bits (RFC 6742 section 2).
+use Rattle.std.specs.Prelude.{ℕ, ◌≡◌, ◌<◌, ◌≤◌, false, List, [], ◌∷◌, ◌++◌, length, All, slice_index, Option, MatchOption}
+use Rattle.std.specs.Char.{digit_value}
+use Rattle.std.specs.Fmt.{digits}
+use Rattle.std.specs.Net.Addr.{segments_of, octets_of}
+use Rattle.std.specs.Net.Grammar.{IsGroup, IsGroups}
+use Rattle.dns_kinds.specs.Kind.{IsKind}
+use Rattle.dns_kinds.specs.declared.locator.Locator.{Locator}
+use Rattle.dns_kinds.specs.declared.locator.Group.{Group}
+
+-- four groups of one to four hexadecimal digits with colons between them, each of which writes two octets
+pub record SpellsLocator (text : List ℕ) (l : Locator) : Type 0 where
+  pub groups : List ℕ
+  pub four : length groups ≡ 4
+  pub written : IsGroups false text groups
+  pub octets : l.0 ≡ octets_of groups
+
+-- a text begins with a group, and goes on otherwise than with a digit
+pub record BeginsWithGroup (text : List ℕ) (number : ℕ) (rest : List ℕ) : Type 0 where
+  pub group : List ℕ
+  pub written : text ≡ group ++ rest
+  pub value : IsGroup group number
+  pub end : 16 ≤ digit_value (slice_index rest 0)
+
+-- the same behind a colon
+abbrev pub GoesOnWith : List ℕ → ℕ → List ℕ → Type 0
+GoesOnWith text number rest = (more : List ℕ) × (text ≡ 58 ∷ more) × BeginsWithGroup more number rest
+
+-- the result is a group and what follows it, or there is none
+abbrev pub TakesGroup : (List ℕ → ℕ → List ℕ → Type 0) → List ℕ → Option Group → Type 0
+TakesGroup Has text r = MatchOption r ((number : ℕ) (rest : List ℕ) → Has text number rest → ⊥) (λ g. Has text g.number g.rest.now)
+
+-- the four groups of a text, if it has so many
+abbrev pub FindsGroups : List ℕ → Option (List ℕ) → Type 0
+FindsGroups text r = MatchOption r ((groups : List ℕ) → length groups ≡ 4 → IsGroups false text groups → ⊥) (λ groups. (length groups ≡ 4) × IsGroups false text groups)
+
+-- hexadecimal digits in small letters without leading zeros
+abbrev pub group_text : ℕ → List ℕ
+group_text n = digits 16 false n
+
+-- groups, and colons between them
+abbrev pub joined_groups : List ℕ → List ℕ
+joined_groups [] = []
+joined_groups (n ∷ []) = group_text n
+joined_groups (n ∷ m ∷ more) = group_text n ++ 58 ∷ joined_groups (m ∷ more)
+
+abbrev pub locator_text : List ℕ → List ℕ
+locator_text octets = joined_groups (segments_of octets)
+
+abbrev pub LocatorsAreKind : Type 0
+LocatorsAreKind = IsKind (λ l. (length l.0 ≡ 8) × All (λ o. o < 256) l.0) SpellsLocator (λ l. locator_text l.0)

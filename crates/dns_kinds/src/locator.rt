@@ -1,0 +1,125 @@
+//! Locators and identifiers of 64 bits, as groups of hexadecimal digits (RFC 6742 section 2).
+ghost use Rattle.std.specs.Prelude.{◌≡◌, ◌<◌, ◌≤◌, ◌^◌, length, take, slice_index, Some};
+ghost use Rattle.std.specs.Char.{digit_value};
+ghost use Rattle.std.specs.Str.Parse.{AllDigits, digits_value};
+ghost use Rattle.dns_kinds.specs.Kind.{ReadsKind};
+ghost use Rattle.dns_kinds.specs.Locator.{BeginsWithGroup, GoesOnWith, TakesGroup, FindsGroups, SpellsLocator, locator_text, LocatorsAreKind};
+ghost use Rattle.dns_kinds.specs.declared.error.KindError.TheVariants.{ExpectedLocator};
+
+use crate::error::KindError;
+use crate::hex::value_of;
+use std::fmt;
+
+/// A locator or an identifier of 64 bits. It prints in small letters, without leading zeros.
+#[derive(Clone, Copy, Debug, PartialEq, Eq)]
+pub struct Locator(pub [u8; 8]);
+
+/// The number of a group, and the text after it.
+#[derive(Clone, Copy)]
+struct Group<'a> {
+    number: u16,
+    rest: &'a [u8],
+}
+
+/// How many hexadecimal digits a text begins with.
+#[tactic(auto, using(std::proofs::lemmas::Int::Digits::digits_more))]
+fn count_digits(text: &[u8]) -> usize
+    ensures within { result ≤ length text.now }
+    ensures digits { AllDigits 16 (take result text.now) }
+    ensures end { 16 ≤ digit_value (slice_index text.now result) }
+{
+    for (index, byte) in text.iter().enumerate() {
+        if value_of(*byte).is_none() {
+            return index;
+        }
+    }
+    text.len()
+}
+
+/// The number that at most four hexadecimal digits write.
+#[tactic(auto, using(crate::proofs::GroupLemmas::group_more))]
+fn number_of(digits: &[u8]) -> u16
+    requires digits { AllDigits 16 digits.now }
+    requires few { length digits.now ≤ 4 }
+    ensures { result ≡ digits_value 16 digits.now }
+{
+    let mut number = 0;
+    for digit in digits {
+        number = number * 16 + u16::from(value_of(*digit).unwrap_or(0));
+    }
+    number
+}
+
+/// The group that a text begins with.
+fn first_group(text: &[u8]) -> Option<Group<'_>>
+    ensures { TakesGroup BeginsWithGroup text.now result }
+{
+    let count = count_digits(text);
+    if count == 0 || count > 4 {
+        return None;
+    }
+    Some(Group {
+        number: number_of(&text[..count]),
+        rest: &text[count..],
+    })
+}
+
+/// The group behind the colon that a text begins with.
+fn next_group(text: &[u8]) -> Option<Group<'_>>
+    ensures { TakesGroup GoesOnWith text.now result }
+{
+    if text.is_empty() || text[0] != b':' {
+        return None;
+    }
+    first_group(&text[1..])
+}
+
+/// The four groups of a text.
+fn groups_of(text: &[u8]) -> Option<[u16; 4]>
+    ensures { FindsGroups text.now result }
+{
+    let a = first_group(text)?;
+    let b = next_group(a.rest)?;
+    let c = next_group(b.rest)?;
+    let d = next_group(c.rest)?;
+    if d.rest.is_empty() {
+        Some([a.number, b.number, c.number, d.number])
+    } else {
+        None
+    }
+}
+
+impl Locator {
+    /// The locator that a text writes, with letters in either case: `2001:0DB8:1140:1000`.
+    pub fn from_text(text: &[u8]) -> Result<Locator, KindError>
+        ensures { ReadsKind SpellsLocator ExpectedLocator text.now result }
+    {
+        let Some(groups) = groups_of(text) else {
+            return Err(KindError::ExpectedLocator);
+        };
+        let [first, second, third, fourth] = groups;
+        let [a, b] = first.to_be_bytes();
+        let [c, d] = second.to_be_bytes();
+        let [e, f] = third.to_be_bytes();
+        let [g, h] = fourth.to_be_bytes();
+        Ok(Locator([a, b, c, d, e, f, g, h]))
+    }
+}
+
+impl fmt::Display for Locator {
+    ghost output = { λ l. Some (locator_text l.0) };
+
+    fn fmt<W: fmt::Write>(&self, f: &mut fmt::Formatter<W>) -> fmt::Result {
+        let [a, b, c, d, e, g, h, i] = self.0;
+        let first = u16::from_be_bytes([a, b]);
+        let second = u16::from_be_bytes([c, d]);
+        let third = u16::from_be_bytes([e, g]);
+        let fourth = u16::from_be_bytes([h, i]);
+        write!(f, "{first:x}:{second:x}:{third:x}:{fourth:x}")
+    }
+}
+
+/// States that locators are read as they are printed, and does nothing else.
+pub fn locators_are_read_back()
+    ensures { LocatorsAreKind }
+{}

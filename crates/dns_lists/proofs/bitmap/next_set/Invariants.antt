@@ -1,0 +1,7 @@
+use Rattle.std.proofs.Common.{◌≡◌, ◌-◌, ◌≤◌}
+use Rattle.dns_lists.specs.Bitmap.{set_places}
+use Rattle.dns_lists.proofs.bitmap.next_set.Given as goal
+
+-- no bit is set before the place, which may be behind the end from the start
+abbrev pub invariant-loop-place : goal.invariant-loop-place
+invariant-loop-place l = (l.place ≤ 256) × (set_places l.octets l.from (256 - l.from) ≡ set_places l.octets l.place (256 - l.place))

@@ -1,0 +1,45 @@
+-- Why octets are no service parameters, and why one can't be added.
+use Rattle.std.specs.Prelude.{◌≡◌, ℕ, ◌+◌, ◌-◌, ◌<◌, ◌≤◌, All, None, IsSome, List, [], ◌∷◌, ◌++◌, length, take, drop, Result, Ok, Err}
+use Rattle.dns_lists.specs.Params.{value_at, params_from, params_wire, params_of, IsParams, IsNoParams, IsCutOff, StandsOutOfOrder}
+use Rattle.dns_lists.specs.Values.{IsParamValue}
+use Rattle.dns_lists.specs.declared.params.ParamsFault.{ParamsFault}
+use Rattle.dns_lists.specs.declared.params.ParamsFault.TheVariants.{Short, Order, Value}
+use Rattle.dns_lists.specs.declared.params.SettleError.{SettleError}
+use Rattle.dns_lists.specs.declared.params.SettleError.TheVariants.{Long, Repeated}
+
+-- why octets are no wire form of parameters
+abbrev pub IsFormFault : ParamsFault → List ℕ → Type 0
+IsFormFault Short octets = IsNoParams octets × IsCutOff octets
+IsFormFault (Order key) octets = IsNoParams octets × StandsOutOfOrder key octets
+IsFormFault (Value key) octets = ⊥
+
+-- a value that is right beside these parameters
+abbrev pub IsRight : List (ℕ × List ℕ) → ℕ × List ℕ → Type 0
+IsRight params p = IsParamValue params p.0 p.1
+
+-- the first of the parameters whose value is wrong has this key
+abbrev pub IsFirstWrong : ℕ → List (ℕ × List ℕ) → Type 0
+IsFirstWrong key params = (front back : List (ℕ × List ℕ)) × (value : List ℕ) × (params ≡ front ++ (key, value) ∷ back) × All (IsRight params) front × ¬ IsParamValue params key value
+
+-- octets that are parameters, with right values
+abbrev pub AreRightParams : List ℕ → Type 0
+AreRightParams octets = IsParams octets × All (IsRight (params_of octets)) (params_of octets)
+
+-- why octets are no parameters with right values
+abbrev pub IsParamsFault : ParamsFault → List ℕ → Type 0
+IsParamsFault Short octets = IsNoParams octets × IsCutOff octets
+IsParamsFault (Order key) octets = IsNoParams octets × StandsOutOfOrder key octets
+IsParamsFault (Value key) octets = IsParams octets × IsFirstWrong key (params_of octets)
+
+-- where a key would stand among parameters, if it is not there
+abbrev pub FindsPlace : List (ℕ × List ℕ) → ℕ → List ℕ → Result ℕ SettleError → Type 0
+FindsPlace params key octets (Ok place) =
+    (value_at params key ≡ None) × (take place octets ≡ params_from (value_at params) 0 key)
+    × (drop place octets ≡ params_from (value_at params) (key + 1) (65536 - (key + 1)))
+FindsPlace params key octets (Err e) = (e ≡ Repeated) × IsSome (value_at params key)
+
+-- one parameter more, whose value fits and whose key is new
+abbrev pub SettlesLast : List (ℕ × List ℕ) → ℕ → List ℕ → List ℕ → Result (Unit {0}) SettleError → Type 0
+SettlesLast params key value octets (Ok done) = (length value < 65536) × (value_at params key ≡ None) × (octets ≡ params_wire (params ++ (key, value) ∷ []))
+SettlesLast params key value octets (Err Long) = 65536 ≤ length value
+SettlesLast params key value octets (Err Repeated) = (length value < 65536) × IsSome (value_at params key)

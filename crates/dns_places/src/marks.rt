@@ -1,0 +1,42 @@
+//! Texts around a mark.
+ghost use Rattle.std.specs.Prelude.{◌≡◌, ◌∷◌, ◌++◌, MatchOption};
+ghost use Rattle.dns_places.specs.Marks.{LacksMark};
+
+/// A text before a mark and behind it.
+#[derive(Clone, Copy)]
+pub(crate) struct Parts<'a> {
+    pub(crate) before: &'a [u8],
+    pub(crate) after: &'a [u8],
+}
+
+/// A text around the first such mark in it.
+pub(crate) fn around_first(text: &[u8], mark: u8) -> Option<Parts<'_>>
+    ensures { MatchOption result (LacksMark mark text.now) (λ p. (text.now ≡ p.before.now ++ mark ∷ p.after.now) × LacksMark mark p.before.now) }
+{
+    for (index, byte) in text.iter().enumerate() {
+        if *byte == mark {
+            return Some(Parts {
+                before: &text[..index],
+                after: &text[index + 1..],
+            });
+        }
+    }
+    None
+}
+
+/// A text around the last such mark in it.
+pub(crate) fn around_last(text: &[u8], mark: u8) -> Option<Parts<'_>>
+    ensures { MatchOption result (LacksMark mark text.now) (λ p. (text.now ≡ p.before.now ++ mark ∷ p.after.now) × LacksMark mark p.after.now) }
+{
+    let mut end = text.len();
+    while end > 0 {
+        if text[end - 1] == mark {
+            return Some(Parts {
+                before: &text[..end - 1],
+                after: &text[end..],
+            });
+        }
+        end -= 1;
+    }
+    None
+}

@@ -1,0 +1,10 @@
+pub mod FormLaws
+pub mod Fronts
+pub mod LabelParts
+pub mod NameAnswers
+pub mod NameFronts
+pub mod NameLaws
+pub mod NameReadings
+pub mod NameWords
+pub mod PrintedLabels
+pub mod Spellings

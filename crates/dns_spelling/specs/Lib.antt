@@ -1,0 +1,6 @@
+pub mod Forms
+pub mod NameSpelling
+pub mod PrintedNames
+pub mod Shown
+pub mod Spelling
+pub mod SpellingError

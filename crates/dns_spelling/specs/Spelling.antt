@@ -1,0 +1,70 @@
+-- Octets as text with escapes (RFC 1035 section 5.1).
+use Rattle.std.specs.Prelude.{ℕ, ◌≡◌, ◌≢◌, ◌⊎◌, ◌<◌, ◌==◌, Bool, true, not, nat_lt, List, [], ◌∷◌, ◌++◌, length, map, All}
+use Rattle.std.specs.List.{flat_map, list_all}
+use Rattle.dns_octets.specs.Room.{Room}
+use Rattle.dns_octets.specs.Appending.{LacksRoom}
+use Rattle.dns_symbol.specs.Characters.{backslash}
+use Rattle.dns_symbol.specs.Symbol.{spell, is_digit}
+use Rattle.dns_symbol.specs.declared.symbol.Symbol.{Symbol}
+use Rattle.dns_symbol.specs.declared.symbol.Symbol.TheVariants.{Char, SimpleEscape, DecimalEscape}
+use Rattle.dns_spelling.specs.declared.error.SpellingError.{SpellingError}
+use Rattle.dns_spelling.specs.declared.error.SpellingError.TheVariants.{BadEscape, LongString, BadTag, EmptyLabel, LongLabel, LongName, NoOrigin, ShortBuf}
+
+-- the octet that a symbol stands for
+abbrev pub octet_for : Symbol → ℕ
+octet_for (Char o) = o
+octet_for (SimpleEscape o) = o
+octet_for (DecimalEscape o) = o
+
+-- an octet is spelled by itself, but for the backslash; behind a backslash, but for a digit; by its three digits behind a backslash
+abbrev pub is_spelling : Symbol → Bool
+is_spelling (Char o) = not (o == backslash)
+is_spelling (SimpleEscape o) = not (is_digit o)
+is_spelling (DecimalEscape o) = nat_lt o 256
+
+-- a text spells octets one after another, and goes on with the rest
+pub record SpellsFront (text octets rest : List ℕ) : Type 0 where
+  pub symbols : List Symbol
+  pub each : list_all is_spelling symbols ≡ true
+  pub whole : text ≡ flat_map spell symbols ++ rest
+  pub octets_are : octets ≡ map octet_for symbols
+
+-- a text spells octets, any number of them
+abbrev pub SpellsOctetList : List ℕ → List ℕ → Type 0
+SpellsOctetList text octets = SpellsFront text octets []
+
+-- no octet is spelled in front of what is left
+pub record BeginsBadEscape (rest : List ℕ) : Type 0 where
+  pub some : 0 < length rest
+  pub none : (s : Symbol) (more : List ℕ) → is_spelling s ≡ true → rest ≢ spell s ++ more
+
+-- a text spells octets up to a bad escape
+abbrev pub SpellsToBadEscape : List ℕ → Type 0
+SpellsToBadEscape text = (octets rest : List ℕ) × SpellsFront text octets rest × BeginsBadEscape rest
+
+-- octets on the wire
+abbrev pub AreOctetValues : List ℕ → Type 0
+AreOctetValues octets = All (λ o. o < 256) octets
+
+-- why octets that a text spells were not appended
+abbrev pub RefusesOctets : Room → List ℕ → List ℕ → SpellingError → Type 0
+RefusesOctets room text old BadEscape = SpellsToBadEscape text × ((octets : List ℕ) → ¬ SpellsOctetList text octets)
+RefusesOctets room text old ShortBuf = LacksRoom room (SpellsOctetList text) old
+RefusesOctets room text old LongString = ⊥
+RefusesOctets room text old BadTag = ⊥
+RefusesOctets room text old EmptyLabel = ⊥
+RefusesOctets room text old LongLabel = ⊥
+RefusesOctets room text old LongName = ⊥
+RefusesOctets room text old NoOrigin = ⊥
+
+-- octets that a text spells, behind an octet that tells a count
+pub record SpellsBehind (count : ℕ) (text form : List ℕ) : Type 0 where
+  pub octets : List ℕ
+  pub spelled : SpellsOctetList text octets
+  pub whole : form ≡ count ∷ octets
+
+-- why they were not appended
+abbrev pub RefusesBehind : ℕ → Room → List ℕ → List ℕ → SpellingError → Type 0
+RefusesBehind count room text old why =
+    ((why ≡ BadEscape) × (SpellsToBadEscape text × ((octets : List ℕ) → ¬ SpellsOctetList text octets)))
+    ⊎ ((why ≡ ShortBuf) × LacksRoom room (SpellsBehind count text) old)

@@ -1,0 +1,25 @@
+//! Octets and names as text with escapes (RFC 1035 section 5.1): from the octets of a token to
+//! octets on the wire, and back.
+//!
+//! An octet other than the backslash spells itself. A backslash and an octet that is no digit spell
+//! that octet, and a backslash and three decimal digits spell the octet of that number.
+#![tactic(auto)]
+
+pub mod error;
+pub mod laws;
+pub mod name_text;
+pub mod names;
+pub mod quoted;
+pub mod spelled;
+pub mod strings;
+pub mod tags;
+pub mod widths;
+
+pub use error::SpellingError;
+pub use name_text::NameText;
+pub use names::append_name;
+pub use quoted::QuotedOctets;
+pub use spelled::append_spelled;
+pub use strings::{append_string, string_width};
+pub use tags::{TagText, append_tag, tag_width};
+pub use widths::name_width;

@@ -1,0 +1,137 @@
+//! Names as text (RFC 1035 section 5.1).
+ghost use Rattle.std.specs.Prelude.{ℕ, ◌≡◌, ◌≢◌, ◌⊎◌, ◌<◌, ◌≤◌, List, [], ◌∷◌, length, MatchBool, MatchResult, IfOk, IfErr, OnOk, OnErr};
+ghost use Rattle.std.specs.Option.{option_copied};
+ghost use Rattle.dns_octets.specs.Appending.{Extends, Gains};
+ghost use Rattle.std.specs.List.{flat_map};
+ghost use Rattle.dns_symbol.specs.Symbol.{spell};
+ghost use Rattle.dns_symbol.specs.declared.symbol.Symbol.{Symbol};
+ghost use Rattle.dns_spelling.specs.NameSpelling.{SpellsName, OpensLabel, EndsLabel, RefusesFrontLabel, HasBadLabel, RefusesName, GainsLabels, LacksRoomForLabels};
+ghost use Rattle.dns_spelling.specs.declared.error.SpellingError.TheVariants.{ShortBuf};
+
+use crate::error::SpellingError;
+use crate::spelled::{append_behind, first_spelled};
+use dns_octets::{AsOctets, OctetsBuilder};
+use dns_wire::{MAX_LABEL, MAX_NAME, MAX_RELATIVE, Name};
+
+/// A label in front of a text: its own text, how many octets it has, and what follows.
+#[derive(Clone, Copy)]
+struct FrontLabel<'a> {
+    text: &'a [u8],
+    count: usize,
+    rest: &'a [u8],
+}
+
+/// The label in front of a text, in a name that has room for so many octets.
+fn front_label(text: &[u8], room: usize) -> Result<FrontLabel<'_>, SpellingError>
+    ensures { MatchResult result
+        (λ l. (part : List Symbol) × OpensLabel text.now room part l.rest.now × EndsLabel l.rest.now
+        × (l.text.now ≡ flat_map spell part) × (l.count ≡ length part) × (0 < l.count))
+        (RefusesFrontLabel room text.now) }
+{
+    let mut rest = text;
+    let mut count = 0;
+    while !rest.is_empty() && rest[0] != b'.' {
+        let first = first_spelled(rest)?;
+        if count == MAX_LABEL {
+            return Err(SpellingError::LongLabel);
+        }
+        if count + 2 > room {
+            return Err(SpellingError::LongName);
+        }
+        rest = first.rest;
+        count += 1;
+    }
+    if count == 0 {
+        return Err(SpellingError::EmptyLabel);
+    }
+    Ok(FrontLabel {
+        text: &text[..text.len() - rest.len()],
+        count,
+        rest,
+    })
+}
+
+/// How many octets the labels of a text have on the wire, and whether a dot stands behind the last.
+#[derive(Clone, Copy)]
+struct Labels {
+    count: usize,
+    is_absolute: bool,
+}
+
+/// Appends the labels of a text.
+fn append_labels<B: OctetsBuilder>(text: &[u8], target: &mut B) -> Result<Labels, SpellingError>
+    ensures ok { IfOk result (λ l. GainsLabels text.now (B.octets target.old) (B.octets target.new) l.count l.is_absolute) }
+    ensures err { IfErr result (λ e. ((e ≡ ShortBuf) × LacksRoomForLabels B.room text.now (B.octets target.old)) ⊎ HasBadLabel text.now e) }
+    ensures extends { OnErr result (Extends (B.octets target.old) (B.octets target.new)) }
+{
+    let mut rest = text;
+    let mut count = 0;
+    'labels: loop {
+        let label = front_label(rest, MAX_RELATIVE - count)?;
+        append_behind(label.count, label.text, target)?;
+        count += 1 + label.count;
+        if label.rest.is_empty() {
+            return Ok(Labels {
+                count,
+                is_absolute: false,
+            });
+        }
+        if label.rest.len() == 1 {
+            return Ok(Labels {
+                count,
+                is_absolute: true,
+            });
+        }
+        rest = &label.rest[1..];
+    }
+}
+
+/// Whether a text is this octet alone.
+fn is_lone(text: &[u8], octet: u8) -> bool
+    ensures { MatchBool result (text.now ≡ octet ∷ []) (text.now ≢ octet ∷ []) }
+{
+    text.len() == 1 && text[0] == octet
+}
+
+/// Appends the wire form of the absolute name that a word spells.
+///
+/// The labels of a text without a dot at its end stand before those of the origin; `@` is the
+/// origin, and `.` the root. Of all that is wrong with a text, the first is the error:
+/// [`SpellingError::BadEscape`], [`SpellingError::EmptyLabel`], [`SpellingError::LongLabel`] at the
+/// 64th octet of a label, [`SpellingError::LongName`] at the octet that has no room before the root,
+/// or at the end where the origin's labels have none, and there [`SpellingError::NoOrigin`]. Some
+/// labels may have been appended by then.
+pub fn append_name<Octets: AsOctets, B: OctetsBuilder>(
+    text: &[u8],
+    origin: Option<&Name<Octets>>,
+    target: &mut B,
+) -> Result<(), SpellingError>
+    ensures ok { OnOk result (Gains (SpellsName (option_copied origin.entry) text.now) (B.octets target.old) (B.octets target.new)) }
+    ensures err { IfErr result (RefusesName B.room (option_copied origin.entry) text.now (B.octets target.old)) }
+    ensures extends { OnErr result (Extends (B.octets target.old) (B.octets target.new)) }
+{
+    if is_lone(text, b'.') {
+        target.append_slice(&[0])?;
+        return Ok(());
+    }
+    if is_lone(text, b'@') {
+        let Some(origin) = origin else {
+            return Err(SpellingError::NoOrigin);
+        };
+        target.append_slice(origin.as_slice())?;
+        return Ok(());
+    }
+    let labels = append_labels(text, target)?;
+    if labels.is_absolute {
+        target.append_slice(&[0])?;
+        return Ok(());
+    }
+    let Some(origin) = origin else {
+        return Err(SpellingError::NoOrigin);
+    };
+    if labels.count + origin.len() > MAX_NAME {
+        return Err(SpellingError::LongName);
+    }
+    target.append_slice(origin.as_slice())?;
+    Ok(())
+}

@@ -1,0 +1,25 @@
+//! Octets as quoted text.
+ghost use Rattle.std.specs.Prelude.{Some};
+ghost use Rattle.dns_spelling.specs.Shown.{quoted_shown, octets_in_quotes};
+
+use dns_octets::AsOctets;
+use dns_symbol::form::{Quoted, write_octets};
+use std::fmt;
+
+/// Octets that print between double quotes.
+///
+/// The double quote and the backslash stand behind a backslash, other octets from 0x20 to 0x7E as
+/// they are, and all others by their three digits behind a backslash.
+#[derive(Clone, Copy)]
+pub struct QuotedOctets<'a>(pub &'a [u8]);
+
+impl fmt::Display for QuotedOctets<'_> {
+    ghost output = { λ shown. Some (octets_in_quotes (quoted_shown shown)) };
+
+    fn fmt<W: fmt::Write>(&self, f: &mut fmt::Formatter<W>) -> fmt::Result {
+        let octets = self.0.as_slice();
+        f.write_str("\"")?;
+        write_octets::<Quoted, W>(octets, f)?;
+        f.write_str("\"")
+    }
+}

@@ -1,0 +1,137 @@
+//! Octets that a text spells.
+ghost use Rattle.std.specs.Prelude.{ℕ, ◌≡◌, ◌≢◌, ◌<◌, ◌≤◌, List, [], ◌∷◌, length, slice_index, MatchResult, MatchOption, IfErr, OnOk, OnErr};
+ghost use Rattle.dns_octets.specs.Appending.{Extends, Gains};
+ghost use Rattle.dns_symbol.specs.Symbol.{spell};
+ghost use Rattle.dns_symbol.specs.Characters.{backslash};
+ghost use Rattle.dns_symbol.specs.declared.symbol.Symbol.TheVariants.{DecimalEscape};
+ghost use Rattle.dns_spelling.specs.Spelling.{SpellsFront, SpellsOctetList, BeginsBadEscape, SpellsToBadEscape, RefusesOctets, SpellsBehind, RefusesBehind};
+ghost use Rattle.dns_spelling.specs.declared.error.SpellingError.TheVariants.{BadEscape};
+
+use crate::error::SpellingError;
+use dns_octets::OctetsBuilder;
+
+/// An octet that is spelled in front of a text, and the text after it.
+#[derive(Clone, Copy)]
+pub(crate) struct Spelled<'a> {
+    pub(crate) octet: u8,
+    pub(crate) rest: &'a [u8],
+}
+
+/// The number of three decimal digits, up to 255.
+fn octet_of_digits(hundreds: u8, tens: u8, ones: u8) -> Option<u8>
+    ensures { MatchOption result
+        ((o : ℕ) → o < 256 → spell (DecimalEscape o) ≢ 92 ∷ hundreds ∷ tens ∷ ones ∷ [])
+        (λ o. (o < 256) × (spell (DecimalEscape o) ≡ 92 ∷ hundreds ∷ tens ∷ ones ∷ [])) }
+{
+    if !(hundreds.is_ascii_digit() && tens.is_ascii_digit() && ones.is_ascii_digit()) {
+        return None;
+    }
+    let number = u16::from(hundreds - b'0') * 100
+        + u16::from(tens - b'0') * 10
+        + u16::from(ones - b'0');
+    if number > 255 {
+        return None;
+    }
+    Some(number as u8)
+}
+
+/// The octet that is spelled in front of a text.
+pub(crate) fn first_spelled(text: &[u8]) -> Result<Spelled<'_>, SpellingError>
+    requires { 0 < length text.now }
+    ensures { MatchResult result (λ s. SpellsFront text.now (s.octet ∷ []) s.rest.now) (λ e. (e ≡ BadEscape) × BeginsBadEscape text.now) }
+{
+    let first = text[0];
+    if first != b'\\' {
+        return Ok(Spelled {
+            octet: first,
+            rest: &text[1..],
+        });
+    }
+    if text.len() < 2 {
+        return Err(SpellingError::BadEscape);
+    }
+    let second = text[1];
+    if !second.is_ascii_digit() {
+        return Ok(Spelled {
+            octet: second,
+            rest: &text[2..],
+        });
+    }
+    if text.len() < 4 {
+        return Err(SpellingError::BadEscape);
+    }
+    match octet_of_digits(second, text[2], text[3]) {
+        Some(octet) => Ok(Spelled {
+            octet,
+            rest: &text[4..],
+        }),
+        None => Err(SpellingError::BadEscape),
+    }
+}
+
+/// How many octets a text spells.
+pub(crate) fn count_spelled(text: &[u8]) -> Result<usize, SpellingError>
+    ensures { MatchResult result (λ count. (octets : List ℕ) × SpellsOctetList text.now octets × (count ≡ length octets))
+        (λ e. (e ≡ BadEscape) × (SpellsToBadEscape text.now × ((octets : List ℕ) → ¬ SpellsOctetList text.now octets))) }
+{
+    let mut count = 0;
+    let mut rest = text;
+    while !rest.is_empty() {
+        let first = first_spelled(rest)?;
+        rest = first.rest;
+        count += 1;
+    }
+    Ok(count)
+}
+
+/// How many octets stand before the first backslash.
+fn plain_count(text: &[u8]) -> usize
+    ensures within { result ≤ length text.now }
+    ensures plain { (k : ℕ) → k < result → slice_index text.now k ≢ backslash }
+{
+    for (place, octet) in text.iter().enumerate() {
+        if *octet == b'\\' {
+            return place;
+        }
+    }
+    text.len()
+}
+
+/// Appends the octets that a text spells, any number of them.
+///
+/// Where the text has a bad escape, or the octets don't fit, those before may have been appended.
+pub fn append_spelled<B: OctetsBuilder>(text: &[u8], target: &mut B) -> Result<(), SpellingError>
+    ensures ok { OnOk result (Gains (SpellsOctetList text.now) (B.octets target.old) (B.octets target.new)) }
+    ensures err { IfErr result (RefusesOctets B.room text.now (B.octets target.old)) }
+    ensures extends { OnErr result (Extends (B.octets target.old) (B.octets target.new)) }
+{
+    let mut rest = text;
+    while !rest.is_empty() {
+        let count = plain_count(rest);
+        if count > 0 {
+            target.append_slice(&rest[..count])?;
+            rest = &rest[count..];
+        } else {
+            let first = first_spelled(rest)?;
+            target.append_slice(&[first.octet])?;
+            rest = first.rest;
+        }
+    }
+    Ok(())
+}
+
+/// Appends an octet that tells a count, and the octets that a text spells.
+pub(crate) fn append_behind<B: OctetsBuilder>(
+    count: usize,
+    text: &[u8],
+    target: &mut B,
+) -> Result<(), SpellingError>
+    requires { count < 256 }
+    ensures ok { OnOk result (Gains (SpellsBehind count text.now) (B.octets target.old) (B.octets target.new)) }
+    ensures err { IfErr result (RefusesBehind count B.room text.now (B.octets target.old)) }
+    ensures extends { OnErr result (Extends (B.octets target.old) (B.octets target.new)) }
+{
+    target.append_slice(&[count as u8])?;
+    append_spelled(text, target)?;
+    Ok(())
+}

@@ -1,0 +1,25 @@
+//! Names in front of octets.
+ghost use Rattle.dns_spelling.specs.Forms.{FindsWidth};
+ghost use Rattle.dns_spelling.specs.NameSpelling.{IsWireName};
+
+use dns_wire::{MAX_LABEL, MAX_NAME};
+
+/// How many octets the name in front of octets has, with its root, or none where none is in front.
+pub fn name_width(octets: &[u8]) -> Option<usize>
+    ensures { FindsWidth IsWireName octets.now result }
+{
+    let mut width = 0;
+    let mut rest = octets;
+    while !rest.is_empty() {
+        let count = usize::from(rest[0]);
+        if count > MAX_LABEL || rest.len() < 1 + count || width + 1 + count > MAX_NAME {
+            return None;
+        }
+        width += 1 + count;
+        if count == 0 {
+            return Some(width);
+        }
+        rest = &rest[1 + count..];
+    }
+    None
+}
