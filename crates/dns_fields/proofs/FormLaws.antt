@@ -1,20 +1,24 @@
 -- Each kind of field is spelled, printed and found as its form says.
-use Rattle.std.proofs.Common.{ℕ, ◌≡◌, ◌<◌, ◌≤◌, List, ◌∷◌, ◌++◌, length, drop, inl, inr, refl, sym, subst, ap, arith, ◌∙◌, Option, Some, None}
+use Rattle.std.proofs.Common.{ℕ, suc, ◌≡◌, ◌<◌, ◌≤◌, List, ◌∷◌, ◌++◌, length, take, drop, inl, inr, refl, sym, subst, ap, arith, ◌∙◌, Option, Some, None}
 use Rattle.std.proofs.lemmas.List.{length-take-le}
 use Rattle.std.proofs.lemmas.List.Elements.{All-from_get_or, All-nil}
 use Rattle.dns_kinds.specs.Salt.{SpellsSalt, salt_text}
-use Rattle.std.specs.Prelude.{All}
+use Rattle.std.specs.Prelude.{All, Bool}
 use Rattle.dns_kinds.specs.declared.error.KindError.{KindError}
 use Rattle.dns_kinds.proofs.SaltLaws.{salts_are_kind}
-use Rattle.dns_spelling.specs.Forms.{FindsWidth, StandInFront}
+use Rattle.dns_spelling.specs.Forms.{FindsWidth, StandInFront, IsWireString}
+use Rattle.dns_codec.specs.Base.{base32hex, encoded, IsEncoding}
+use Rattle.dns_digits.specs.Spelled.{SpellsDigits}
+use Rattle.dns_digits.proofs.Spelling.{spells_once, printed_spells}
 use Rattle.dns_spelling.specs.NameSpelling.{IsOrigin}
 use Rattle.dns_spelling.proofs.NameLaws.{names_spelled}
+use Rattle.dns_spelling.proofs.NameReadings.{name_once}
 use Rattle.dns_spelling.proofs.NameFronts.{names_in_front}
 use Rattle.dns_spelling.proofs.FormLaws.{strings_spelled, strings_in_front, tags_spelled, tags_in_front}
 use Rattle.dns_fields.specs.declared.field.Field.{Field}
-use Rattle.dns_fields.specs.declared.field.Field.TheVariants.{Number8 as OfNumber8, Number16 as OfNumber16, Number32 as OfNumber32, Interval as OfInterval, Ipv4 as OfIpv4, Ipv6 as OfIpv6, RecordType as OfRecordType, Algorithm as OfAlgorithm, NamedAlgorithm as OfNamedAlgorithm, CertificateType as OfCertificateType, Eui48 as OfEui48, Eui64 as OfEui64, Time as OfTime, Locator as OfLocator, String as OfString, Tag as OfTag, Salt as OfSalt, Name as OfName}
+use Rattle.dns_fields.specs.declared.field.Field.TheVariants.{Number8 as OfNumber8, Number16 as OfNumber16, Number32 as OfNumber32, Interval as OfInterval, Ipv4 as OfIpv4, Ipv6 as OfIpv6, RecordType as OfRecordType, Algorithm as OfAlgorithm, NamedAlgorithm as OfNamedAlgorithm, CertificateType as OfCertificateType, Eui48 as OfEui48, Eui64 as OfEui64, Time as OfTime, Locator as OfLocator, String as OfString, Tag as OfTag, Salt as OfSalt, Hash as OfHash, Name as OfName}
 use Rattle.dns_fields.specs.Fields.{field_form}
-use Rattle.dns_fields.specs.Forms.{IsFieldForm, word_form, string_form, tag_form, salt_form, name_form}
+use Rattle.dns_fields.specs.Forms.{IsFieldForm, IsWireHash, word_form, string_form, tag_form, salt_form, hash_form, name_form}
 use Rattle.dns_fields.specs.Words.{AreOctetsOf, IsWordKind}
 use Rattle.dns_fields.specs.WordLaws.{number8_is_kind, number16_is_kind, number32_is_kind, interval_is_kind, ipv4_is_word, ipv6_is_word, type_is_word, algorithm_is_word, certificate_is_word, named_algorithm_is_word, eui48_is_word, eui64_is_word, date_is_word, locator_is_word}
 
@@ -67,6 +71,51 @@ salt_is_form = record {
   in_front = strings_in_front;
 }
 
+hash_is_string : (form : List ℕ) → IsWireHash form → IsWireString form
+hash_is_string form h = record { octets = h.octets; values = h.values; short = h.short; whole = h.whole }
+
+-- a character string in front of two octets or more is a hash
+pub hash_front : (octets : List ℕ) (width : ℕ) → FindsWidth IsWireString octets (Some width) → 2 ≤ width → FindsWidth IsWireHash octets (Some width)
+hash_front octets width h long =
+    let s = h.1 in
+    let size : width ≡ suc (length s.octets) = sym (length-take-le width octets h.0) ∙ ap length s.whole in
+    (h.0, record { octets = s.octets; values = s.values; some = omega (arith, size, long); short = s.short; whole = s.whole })
+
+-- no hash stands in front of no character string, and of one without octets
+pub no_string_front : (octets : List ℕ) → FindsWidth IsWireString octets None → FindsWidth IsWireHash octets None
+no_string_front octets h form rest is = h form rest (hash_is_string form is)
+
+pub empty_front : (octets : List ℕ) (width : ℕ) → FindsWidth IsWireString octets (Some width) → width < 2 → FindsWidth IsWireHash octets None
+empty_front octets width h short form rest is whole =
+    let there : Some width ≡ Some (length form) = strings_in_front.width form rest (Some width) (hash_is_string form is) (subst (λ o. FindsWidth IsWireString o (Some width)) whole h) in
+    let same : width ≡ length form = cc there in
+    let size : length form ≡ suc (length is.octets) = ap length is.whole in
+    omega (arith, same, size, is.some, short)
+
+hash_at : (form rest : List ℕ) (found : Option ℕ) → IsWireHash form → FindsWidth IsWireHash (form ++ rest) found → found ≡ Some (length form)
+hash_at form rest None is finds = absurd (finds form rest is refl)
+hash_at form rest (Some width) is finds = strings_in_front.width form rest (Some width) (hash_is_string form is) (finds.0, hash_is_string (take width (form ++ rest)) finds.1)
+
+is_base32hex : IsEncoding base32hex
+is_base32hex = inr (inl refl)
+
+hash_is_form : IsFieldForm hash_form
+hash_is_form = record {
+  are_wire = λ quoted text octets values h. record { octets = h.1.hash; values = h.1.spelled.bytes; some = h.1.some; short = omega (arith, h.1.short); whole = h.1.wire_is };
+  back = λ form h. (
+    refl,
+    record {
+      hash = h.octets;
+      spelled = subst (λ o. SpellsDigits base32hex (encoded base32hex o) h.octets) (sym (ap (drop 1) h.whole)) (printed_spells base32hex is_base32hex h.octets h.values);
+      some = h.some;
+      short = omega (arith, h.short);
+      wire_is = h.whole;
+    },
+  );
+  once = λ quoted text a b h j. h.1.wire_is ∙ ap (λ o. length o ∷ o) (spells_once base32hex is_base32hex text h.1.hash j.1.hash h.1.spelled j.1.spelled) ∙ sym j.1.wire_is;
+  in_front = record { width = hash_at };
+}
+
 name_is_form : (origin : Option (List (List ℕ))) → IsOrigin origin → IsFieldForm (name_form origin)
 name_is_form origin is = let k = names_spelled origin is in record {
   are_wire = λ quoted text octets values h. k.spelled text octets values h.1;
@@ -93,4 +142,27 @@ fields_are_forms origin is OfLocator = word_is_form _ _ _ _ _ _ locator_is_word
 fields_are_forms origin is OfString = string_is_form
 fields_are_forms origin is OfTag = tag_is_form
 fields_are_forms origin is OfSalt = salt_is_form
+fields_are_forms origin is OfHash = hash_is_form
 fields_are_forms origin is OfName = name_is_form origin is
+
+-- a token spells one field, whatever the origin is
+pub fields_once : (origin : Option (List (List ℕ))) (f : Field) (quoted : Bool) (text a b : List ℕ) → (field_form origin f).spells quoted text a → (field_form origin f).spells quoted text b → a ≡ b
+fields_once origin OfNumber8 quoted text a b h k = (fields_are_forms None tt OfNumber8).once quoted text a b h k
+fields_once origin OfNumber16 quoted text a b h k = (fields_are_forms None tt OfNumber16).once quoted text a b h k
+fields_once origin OfNumber32 quoted text a b h k = (fields_are_forms None tt OfNumber32).once quoted text a b h k
+fields_once origin OfInterval quoted text a b h k = (fields_are_forms None tt OfInterval).once quoted text a b h k
+fields_once origin OfIpv4 quoted text a b h k = (fields_are_forms None tt OfIpv4).once quoted text a b h k
+fields_once origin OfIpv6 quoted text a b h k = (fields_are_forms None tt OfIpv6).once quoted text a b h k
+fields_once origin OfRecordType quoted text a b h k = (fields_are_forms None tt OfRecordType).once quoted text a b h k
+fields_once origin OfAlgorithm quoted text a b h k = (fields_are_forms None tt OfAlgorithm).once quoted text a b h k
+fields_once origin OfNamedAlgorithm quoted text a b h k = (fields_are_forms None tt OfNamedAlgorithm).once quoted text a b h k
+fields_once origin OfCertificateType quoted text a b h k = (fields_are_forms None tt OfCertificateType).once quoted text a b h k
+fields_once origin OfEui48 quoted text a b h k = (fields_are_forms None tt OfEui48).once quoted text a b h k
+fields_once origin OfEui64 quoted text a b h k = (fields_are_forms None tt OfEui64).once quoted text a b h k
+fields_once origin OfTime quoted text a b h k = (fields_are_forms None tt OfTime).once quoted text a b h k
+fields_once origin OfLocator quoted text a b h k = (fields_are_forms None tt OfLocator).once quoted text a b h k
+fields_once origin OfString quoted text a b h k = (fields_are_forms None tt OfString).once quoted text a b h k
+fields_once origin OfTag quoted text a b h k = (fields_are_forms None tt OfTag).once quoted text a b h k
+fields_once origin OfSalt quoted text a b h k = (fields_are_forms None tt OfSalt).once quoted text a b h k
+fields_once origin OfHash quoted text a b h k = (fields_are_forms None tt OfHash).once quoted text a b h k
+fields_once origin OfName quoted text a b h k = name_once origin text a b h.1 k.1

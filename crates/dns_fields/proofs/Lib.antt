@@ -1,4 +1,5 @@
 pub mod FormLaws
 pub mod Refusals
+pub mod Refused
 pub mod Takings
 pub mod Tokens

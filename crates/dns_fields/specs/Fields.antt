@@ -14,11 +14,11 @@ use Rattle.dns_kinds.specs.Types.{SpellsType, type_text}
 use Rattle.dns_kinds.specs.declared.addresses.Ipv6Shown.{Ipv6Shown}
 use Rattle.dns_kinds.specs.declared.error.KindError.TheVariants.{ExpectedIpv4, ExpectedIpv6, ExpectedInterval, UnknownType, UnknownAlgorithm, UnknownCertificate, ExpectedEui48, ExpectedEui64, ExpectedTime, ExpectedLocator}
 use Rattle.dns_fields.specs.declared.field.Field.{Field}
-use Rattle.dns_fields.specs.declared.field.Field.TheVariants.{Number8 as OfNumber8, Number16 as OfNumber16, Number32 as OfNumber32, Interval as OfInterval, Ipv4 as OfIpv4, Ipv6 as OfIpv6, RecordType as OfRecordType, Algorithm as OfAlgorithm, NamedAlgorithm as OfNamedAlgorithm, CertificateType as OfCertificateType, Eui48 as OfEui48, Eui64 as OfEui64, Time as OfTime, Locator as OfLocator, String as OfString, Tag as OfTag, Salt as OfSalt, Name as OfName}
+use Rattle.dns_fields.specs.declared.field.Field.TheVariants.{Number8 as OfNumber8, Number16 as OfNumber16, Number32 as OfNumber32, Interval as OfInterval, Ipv4 as OfIpv4, Ipv6 as OfIpv6, RecordType as OfRecordType, Algorithm as OfAlgorithm, NamedAlgorithm as OfNamedAlgorithm, CertificateType as OfCertificateType, Eui48 as OfEui48, Eui64 as OfEui64, Time as OfTime, Locator as OfLocator, String as OfString, Tag as OfTag, Salt as OfSalt, Hash as OfHash, Name as OfName}
 use Rattle.dns_fields.specs.declared.words.AlgorithmNumber.{AlgorithmNumber as NumberOfAlgorithm}
 use Rattle.dns_fields.specs.declared.words.Interval.{Interval as Seconds}
 use Rattle.dns_spelling.specs.NameSpelling.{IsOrigin}
-use Rattle.dns_fields.specs.Forms.{FieldForm, IsFieldForm, word_form, string_form, tag_form, salt_form, name_form}
+use Rattle.dns_fields.specs.Forms.{FieldForm, IsFieldForm, word_form, string_form, tag_form, salt_form, hash_form, name_form}
 use Rattle.dns_fields.specs.Words.{SpellsBelow, NumberReason}
 
 -- the form of each kind, where relative names stand before an origin
@@ -40,6 +40,7 @@ field_form origin OfLocator = word_form 8 (λ l. AreEuiOctets 8 l.0) SpellsLocat
 field_form origin OfString = string_form
 field_form origin OfTag = tag_form
 field_form origin OfSalt = salt_form
+field_form origin OfHash = hash_form
 field_form origin OfName = name_form origin
 
 -- each kind of field is spelled, printed and found as its form says

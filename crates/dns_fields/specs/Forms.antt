@@ -1,6 +1,6 @@
 -- What a field of record data is: the tokens that spell it, its octets on the wire, and the token
 -- that it is printed as.
-use Rattle.std.specs.Prelude.{ℕ, ◌≡◌, ◌<◌, ◌⊎◌, Bool, true, false, if◌then◌else◌, List, [], ◌∷◌, ◌++◌, length, drop, Option, Result, OnOk, OnErr, IfErr}
+use Rattle.std.specs.Prelude.{ℕ, ◌≡◌, ◌<◌, ◌≤◌, ◌⊎◌, Bool, true, false, if◌then◌else◌, List, [], ◌∷◌, ◌++◌, length, drop, Option, Result, OnOk, OnErr, IfErr}
 use Rattle.dns_octets.specs.Room.{Room}
 use Rattle.dns_octets.specs.Appending.{Extends, Gains, LacksRoom}
 use Rattle.dns_symbol.specs.Characters.{double_quote}
@@ -11,11 +11,13 @@ use Rattle.dns_spelling.specs.PrintedNames.{wire_name_text}
 use Rattle.dns_spelling.specs.declared.error.SpellingError.{SpellingError}
 use Rattle.dns_spelling.specs.Shown.{string_in_quotes, tag_text}
 use Rattle.dns_spelling.specs.declared.error.SpellingError.TheVariants.{BadEscape, LongString, BadTag}
+use Rattle.dns_codec.specs.Base.{base32hex, encoded}
+use Rattle.dns_digits.specs.Hashes.{SpellsHash, hash_refusal}
 use Rattle.dns_kinds.specs.Salt.{SpellsSalt, salt_text}
 use Rattle.dns_kinds.specs.declared.error.KindError.TheVariants.{ExpectedSalt}
 use Rattle.dns_kinds.specs.declared.error.KindError.{KindError}
 use Rattle.dns_fields.specs.declared.error.FieldError.{FieldError}
-use Rattle.dns_fields.specs.declared.error.FieldError.TheVariants.{ShortBuf, EndOfEntry, Quoted, Kind, Spelling}
+use Rattle.dns_fields.specs.declared.error.FieldError.TheVariants.{ShortBuf, EndOfEntry, Quoted, Kind, Spelling, Digits}
 use Rattle.dns_fields.specs.Words.{SpellsAs, AreOctetsOf}
 
 pub record FieldForm : Type 1 where
@@ -48,6 +50,7 @@ WordReason reason quoted text EndOfEntry = ⊥
 WordReason reason quoted text Quoted = quoted ≡ true
 WordReason reason quoted text (Kind e) = (quoted ≡ false) × reason text e
 WordReason reason quoted text (Spelling e) = ⊥
+WordReason reason quoted text (Digits e) = ⊥
 
 -- a word of a kind whose values have so many octets
 abbrev pub word_form : {V : Type 0} → ℕ → (V → Type 0) → (List ℕ → V → Type 0) → (List ℕ → KindError → Type 0) → (V → List ℕ) → (List ℕ → List ℕ) → FieldForm
@@ -68,6 +71,7 @@ StringReason quoted text (Kind e) = ⊥
 StringReason quoted text (Spelling BadEscape) = SpellsToBadEscape text
 StringReason quoted text (Spelling LongString) = (octets : List ℕ) × SpellsOctetList text octets × (255 < length octets)
 StringReason quoted text (Spelling e) = ⊥
+StringReason quoted text (Digits e) = ⊥
 
 -- a character string, whether in quotes or not; it is printed in quotes
 abbrev pub string_form : FieldForm
@@ -106,6 +110,28 @@ salt_form = record {
   is_wire = IsWireString;
   quotes = false;
   printed = λ form. salt_text (drop 1 form);
+}
+
+-- the octets of a hash, 1 to 255 of them, behind their number
+pub record IsWireHash (form : List ℕ) : Type 0 where
+  pub octets : List ℕ
+  pub values : AreOctetValues octets
+  pub some : 0 < length octets
+  pub short : length octets ≤ 255
+  pub whole : form ≡ length octets ∷ octets
+
+-- why a token is no hash: it is a quoted text; or its digits are none of a hash
+abbrev pub HashReason : Bool → List ℕ → FieldError → Type 0
+HashReason quoted text e = ((e ≡ Quoted) × (quoted ≡ true)) ⊎ ((e ≡ Digits (hash_refusal text)) × (quoted ≡ false))
+
+-- a hash in base 32 hex without padding, as one word
+abbrev pub hash_form : FieldForm
+hash_form = record {
+  spells = λ quoted text octets. (quoted ≡ false) × SpellsHash text octets;
+  reason = HashReason;
+  is_wire = IsWireHash;
+  quotes = false;
+  printed = λ form. encoded base32hex (drop 1 form);
 }
 
 -- why a token is no name: it is a quoted text; or something is wrong with the text

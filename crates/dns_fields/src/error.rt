@@ -1,8 +1,9 @@
 //! Why a field was not read.
 ghost use Rattle.std.specs.Prelude.{◌≡◌, Some};
-ghost use Rattle.dns_fields.specs.Errors.{of_spelling, field_error_text};
+ghost use Rattle.dns_fields.specs.Errors.{of_spelling, of_digits, field_error_text};
 ghost use Rattle.dns_fields.specs.declared.error.FieldError.TheVariants.{Kind, ShortBuf as NoRoom};
 
+use dns_digits::DigitsError;
 use dns_kinds::KindError;
 use dns_octets::ShortBuf;
 use dns_spelling::SpellingError;
@@ -22,6 +23,8 @@ pub enum FieldError {
     Kind(KindError),
     /// A token spells no octets of its kind.
     Spelling(SpellingError),
+    /// Digits spell no octets.
+    Digits(DigitsError),
 }
 
 impl FieldError {
@@ -35,6 +38,7 @@ impl FieldError {
             FieldError::Quoted => "expected word without quotes",
             FieldError::Kind(why) => why.as_str(),
             FieldError::Spelling(why) => why.as_str(),
+            FieldError::Digits(why) => why.as_str(),
         }
     }
 }
@@ -72,6 +76,17 @@ impl From<SpellingError> for FieldError {
         match why {
             SpellingError::ShortBuf => FieldError::ShortBuf,
             _ => FieldError::Spelling(why),
+        }
+    }
+}
+
+impl From<DigitsError> for FieldError {
+    ghost from_gives = { λ why e. e ≡ of_digits why };
+
+    fn from(why: DigitsError) -> Self {
+        match why {
+            DigitsError::ShortBuf => FieldError::ShortBuf,
+            _ => FieldError::Digits(why),
         }
     }
 }

@@ -8,8 +8,8 @@ ghost use Rattle.dns_fields.specs.Forms.{ReadsField, token_text};
 
 use crate::error::FieldError;
 use crate::texts::{
-    append_name_field, append_salt_field, append_string_field, append_tag_field, write_salt,
-    write_string, write_tag,
+    append_hash_field, append_name_field, append_salt_field, append_string_field, append_tag_field,
+    hash_field_width, write_hash, write_salt, write_string, write_tag,
 };
 use crate::word::{append_word, word_width, write_word};
 use crate::words::{AlgorithmNumber, Interval};
@@ -58,6 +58,8 @@ pub enum Field {
     Tag,
     /// A salt.
     Salt,
+    /// A hash in base 32 hex.
+    Hash,
     /// A name, absolute or before the origin.
     Name,
 }
@@ -89,6 +91,7 @@ pub fn append_field<Octets: AsOctets, B: OctetsBuilder>(
         Field::String => append_string_field(token, target),
         Field::Tag => append_tag_field(token, target),
         Field::Salt => append_salt_field(token, target),
+        Field::Hash => append_hash_field(token, target),
         Field::Name => append_name_field(token, origin, target),
     }
 }
@@ -115,6 +118,7 @@ pub fn field_width(field: Field, octets: &[u8]) -> Option<usize>
         Field::String => string_width(octets),
         Field::Tag => tag_width(octets),
         Field::Salt => string_width(octets),
+        Field::Hash => hash_field_width(octets),
         Field::Name => name_width(octets),
     }
 }
@@ -146,6 +150,7 @@ pub fn write_field<W: fmt::Write>(
         Field::String => write_string(octets, f),
         Field::Tag => write_tag(octets, f),
         Field::Salt => write_salt(octets, f),
+        Field::Hash => write_hash(octets, f),
         Field::Name => write!(f, "{}", NameText(octets)),
     }
 }

@@ -1,5 +1,5 @@
 //! Fields of the tokens of an entry.
-ghost use Rattle.std.specs.Prelude.{◌≡◌};
+ghost use Rattle.std.specs.Prelude.{◌≡◌, ◌≢◌, [], OnErr};
 ghost use Rattle.std.specs.Option.{option_copied};
 ghost use Rattle.dns_fields.specs.Taking.{TakesField, TakesAllFields, TakesEachAs};
 
@@ -77,6 +77,7 @@ pub fn take_each<S: TokenSource, Octets: AsOctets, B: OctetsBuilder>(
     target: &mut B,
 ) -> Result<(), Refusal>
     ensures takes { TakesEachAs (option_copied origin.entry) B.room field (S.end source.old) (S.left source.old) (B.octets target.old) result (S.left source.new) (B.octets target.new) }
+    ensures left { OnErr result (S.left source.new ≢ []) }
     ensures end { S.end source.new ≡ S.end source.old }
 {
     while source.current().is_some() {

@@ -1,13 +1,15 @@
 //! Fields that are octets in a token: character strings, tags and salts.
 ghost use Rattle.std.specs.Option.{option_copied};
 ghost use Rattle.std.specs.Fmt.{WritesOnOk};
-ghost use Rattle.dns_spelling.specs.Forms.{IsWireString, IsWireTag};
-ghost use Rattle.dns_fields.specs.Forms.{ReadsField, token_text, name_form, salt_form, string_form, tag_form};
+ghost use Rattle.dns_spelling.specs.Forms.{FindsWidth, IsWireString, IsWireTag};
+ghost use Rattle.dns_fields.specs.Forms.{IsWireHash, ReadsField, token_text, hash_form, name_form, salt_form, string_form, tag_form};
 
 use crate::error::FieldError;
+use dns_codec::base32;
+use dns_digits::append_base32hex;
 use dns_kinds::Salt;
 use dns_octets::{AsOctets, OctetsBuilder};
-use dns_spelling::{QuotedOctets, TagText, append_name, append_string, append_tag};
+use dns_spelling::{QuotedOctets, TagText, append_name, append_string, append_tag, string_width};
 use dns_split::entry_tokens::EntryToken;
 use dns_wire::Name;
 use std::fmt;
@@ -56,6 +58,33 @@ pub(crate) fn append_salt_field<B: OctetsBuilder>(
     Ok(())
 }
 
+/// Appends the hash that a word spells: its length, and its octets.
+pub(crate) fn append_hash_field<B: OctetsBuilder>(
+    token: &EntryToken<'_>,
+    target: &mut B,
+) -> Result<(), FieldError>
+    ensures { ReadsField B.room hash_form token.now.is_quoted token.now.text.now (B.octets target.old) result (B.octets target.new) }
+{
+    if token.is_quoted {
+        return Err(FieldError::Quoted);
+    }
+    match append_base32hex(token.text, target) {
+        Ok(()) => Ok(()),
+        Err(why) => Err(FieldError::from(why)),
+    }
+}
+
+/// How many of the octets in front are a hash.
+pub(crate) fn hash_field_width(octets: &[u8]) -> Option<usize>
+    ensures { FindsWidth IsWireHash octets.now result }
+{
+    let width = string_width(octets)?;
+    if width < 2 {
+        return None;
+    }
+    Some(width)
+}
+
 /// Appends the name that a word spells.
 pub(crate) fn append_name_field<Octets: AsOctets, B: OctetsBuilder>(
     token: &EntryToken<'_>,
@@ -100,4 +129,12 @@ pub(crate) fn write_salt<W: fmt::Write>(octets: &[u8], f: &mut fmt::Formatter<W>
         Some(salt) => write!(f, "{salt}"),
         None => Err(fmt::Error),
     }
+}
+
+/// Prints a hash in base 32 hex.
+pub(crate) fn write_hash<W: fmt::Write>(octets: &[u8], f: &mut fmt::Formatter<W>) -> fmt::Result
+    requires { IsWireHash octets.now }
+    ensures { WritesOnOk W.write_str_gives f.old result (token_text hash_form octets.now) f.new }
+{
+    write!(f, "{}", base32::encode_display_hex(&octets[1..]))
 }

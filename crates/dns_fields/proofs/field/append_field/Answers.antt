@@ -51,5 +51,8 @@ returns-in-Tag g c = rw c.in-Tag.is c.append_tag_field.ensures
 pub returns-in-Salt : goal.returns-in-Salt
 returns-in-Salt g c = rw c.in-Salt.is c.append_salt_field.ensures
 
+pub returns-in-Hash : goal.returns-in-Hash
+returns-in-Hash g c = rw c.in-Hash.is c.append_hash_field.ensures
+
 pub returns-in-Name : goal.returns-in-Name
 returns-in-Name g c = rw c.in-Name.is c.append_name_field.ensures

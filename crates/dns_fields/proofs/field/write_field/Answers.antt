@@ -10,3 +10,6 @@ write_tag-requires g c = subst (λ f. (field_form None f).is_wire c.args.octets.
 
 pub write_salt-requires : goal.write_salt-requires
 write_salt-requires g c = subst (λ f. (field_form None f).is_wire c.args.octets.now) c.in-Salt.is c.requires
+
+pub write_hash-requires : goal.write_hash-requires
+write_hash-requires g c = subst (λ f. (field_form None f).is_wire c.args.octets.now) c.in-Hash.is c.requires
