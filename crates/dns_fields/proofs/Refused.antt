@@ -1,11 +1,14 @@
 -- Tokens of which one was refused as a field spell no fields, but for lack of room.
-use Rattle.std.proofs.Common.{ℕ, zero, suc, Option, Some, None, ◌≡◌, ◌<◌, ◌+◌, ◌⊎◌, List, [], ◌∷◌, ◌++◌, length, take, drop, refl, sym, ap, subst, ◌∙◌, inl, inr, arith, length-append}
+use Rattle.std.proofs.Common.{ℕ, zero, suc, replicate, Option, Some, None, ◌≡◌, ◌≢◌, ◌<◌, ◌+◌, ◌⊎◌, List, [], ◌∷◌, ◌++◌, length, take, drop, refl, sym, ap, subst, ◌∙◌, inl, inr, arith, length-append}
 use Rattle.std.proofs.lemmas.List.{append_assoc}
 use Rattle.std.proofs.lemmas.Option.{none-some}
 use Rattle.std.specs.Prelude.{slice_get}
 use Rattle.dns_octets.specs.Room.{Room}
 use Rattle.dns_split.specs.EntryTokens.{TokenSeen}
-use Rattle.dns_fields.specs.Taking.{SpellsField, SpellsFields, HasTaken, RefusesAField, RefusesNext}
+use Rattle.dns_fields.proofs.Takings.{as_many, take_last, get_last}
+use Rattle.dns_fields.specs.declared.taking.Refusal.{Refusal}
+use Rattle.std.proofs.lemmas.List.{length-replicate}
+use Rattle.dns_fields.specs.Taking.{SpellsEach, SpellsField, SpellsFields, HasTaken, RefusesAField, RefusesNext}
 use Rattle.dns_fields.specs.declared.error.FieldError.{FieldError}
 use Rattle.dns_fields.specs.declared.error.FieldError.TheVariants.{ShortBuf}
 use Rattle.dns_fields.specs.declared.field.Field.{Field}
@@ -72,6 +75,44 @@ module _ (origin : Option (List (List ℕ))) where
       let next = stands_next (take r.field fields) (drop (suc r.field) fields) h.field b.taken left first last b.octets octets b.spelled (subst (λ fs. SpellsFields origin fs first octets) split sp) (sym is ∙ b.whole) in
       let n = next.3 in
       let lacks = refused_next room h.field left h.middle r.refusal.why next.0 next.1 n.mid h.why next.2 n.spelled in
+      let middle_length = ap length b.gained ∙ length-append old b.octets in
+      let all = ap length n.whole ∙ length-append b.octets (n.mid ++ n.back) in
+      let rest = length-append n.mid n.back in
+      (lacks.0, omega (arith, lacks.1, middle_length, all, rest))
+
+  each_next : (f : Field) (taken left : List TokenSeen) (o octets : List ℕ) → left ≢ [] → SpellsEach origin f taken o → SpellsEach origin f (taken ++ left) octets
+      → (t : TokenSeen) × (ts : List TokenSeen) × (left ≡ t ∷ ts) × IsNext f t o octets
+  each_next f [] [] o octets some h k = absurd (some refl)
+  each_next f [] (t ∷ ts) o octets some h k = (t, ts, refl, record { mid = k.0; back = k.1; whole = k.2 ∙ ap (λ z. z ++ (k.0 ++ k.1)) (sym h); spelled = k.3 })
+  each_next f (v ∷ vs) left o octets some h k =
+      let next = each_next f vs left h.1 k.1 some h.4 k.4 in
+      let front : k.0 ≡ h.0 = field_once f v k.0 h.0 k.3 h.3 in
+      (
+        next.0,
+        next.1,
+        next.2,
+        subst (λ z. IsNext f next.0 o z) (sym k.2) (subst (λ z. IsNext f next.0 z (k.0 ++ k.1)) (sym h.2) (subst (λ z. IsNext f next.0 (z ++ h.1) (k.0 ++ k.1)) front (behind f next.0 k.0 h.1 k.1 next.3))),
+      )
+
+  pub same_field : (count : ℕ) (f g : Field) → slice_get (replicate (suc count) f) count ≡ Some g → f ≡ g
+  same_field count f g h = let same : Some f ≡ Some g = sym (get_last origin count f) ∙ h in cc same
+
+  -- the tokens before one that is refused are each of the field
+  pub each_before : (room : Room) (f : Field) (end count : ℕ) (tokens : List TokenSeen) (old : List ℕ) (r : Refusal) (left : List TokenSeen) (new : List ℕ)
+      → (h : RefusesAField origin room (replicate (suc count) f) end tokens old (record { field = count; refusal = r }) left new) → SpellsEach origin f h.before.taken h.before.octets
+  each_before room f end count tokens old r left new h =
+      let spelled : SpellsFields origin (replicate count f) h.before.taken h.before.octets = subst (λ fs. SpellsFields origin fs h.before.taken h.before.octets) (take_last origin count f) h.before.spelled in
+      let many : count ≡ length h.before.taken = sym (length-replicate count f) ∙ as_many origin (replicate count f) h.before.taken h.before.octets spelled in
+      subst (λ n. SpellsFields origin (replicate n f) h.before.taken h.before.octets) many spelled
+
+  pub each_only_room : (room : Room) (f : Field) (end count : ℕ) (tokens : List TokenSeen) (old : List ℕ) (r : Refusal) (left : List TokenSeen) (new octets : List ℕ) → left ≢ []
+      → RefusesAField origin room (replicate (suc count) f) end tokens old (record { field = count; refusal = r }) left new → SpellsEach origin f tokens octets → (r.why ≡ ShortBuf) × (room.fits < length old + length octets)
+  each_only_room room f end count tokens old r left new octets some h sp =
+      let b = h.before in
+      let next = each_next f b.taken left b.octets octets some (each_before room f end count tokens old r left new h) (subst (λ ts. SpellsEach origin f ts octets) b.whole sp) in
+      let n = next.3 in
+      let same = same_field count f h.field h.is_field in
+      let lacks = refused_next room h.field left h.middle r.why next.0 next.1 n.mid h.why next.2 (subst (λ g. SpellsField origin g next.0 n.mid) same n.spelled) in
       let middle_length = ap length b.gained ∙ length-append old b.octets in
       let all = ap length n.whole ∙ length-append b.octets (n.mid ++ n.back) in
       let rest = length-append n.mid n.back in

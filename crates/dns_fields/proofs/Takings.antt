@@ -61,17 +61,17 @@ module _ (origin : Option (List (List ℕ))) where
   replicate_more zero x = refl
   replicate_more (suc count) x = ap (λ xs. x ∷ xs) (replicate_more count x)
 
-  as_many : (fields : List Field) (tokens : List TokenSeen) (octets : List ℕ) → SpellsFields origin fields tokens octets → length fields ≡ length tokens
+  pub as_many : (fields : List Field) (tokens : List TokenSeen) (octets : List ℕ) → SpellsFields origin fields tokens octets → length fields ≡ length tokens
   as_many [] [] octets h = refl
   as_many [] (t ∷ ts) octets h = absurd h
   as_many (f ∷ fs) [] octets h = absurd h
   as_many (f ∷ fs) (t ∷ ts) octets h = ap suc (as_many fs ts h.1 h.4)
 
-  take_last : {A : Type 0} (count : ℕ) (x : A) → take count (replicate (suc count) x) ≡ replicate count x
+  pub take_last : {A : Type 0} (count : ℕ) (x : A) → take count (replicate (suc count) x) ≡ replicate count x
   take_last zero x = refl
   take_last (suc count) x = ap (λ xs. x ∷ xs) (take_last count x)
 
-  get_last : {A : Type 0} (count : ℕ) (x : A) → slice_get (replicate (suc count) x) count ≡ Some x
+  pub get_last : {A : Type 0} (count : ℕ) (x : A) → slice_get (replicate (suc count) x) count ≡ Some x
   get_last zero x = refl
   get_last (suc count) x = get_last count x
 

@@ -1,0 +1,13 @@
+use Rattle.std.proofs.Common.{ap, length, replicate}
+use Rattle.std.specs.Option.{option_copied}
+use Rattle.dns_fields.proofs.Refused.{all_once}
+use Rattle.dns_fields.specs.declared.field.Field.TheVariants.{String as OfString}
+use Rattle.dns_data.specs.RestKinds.{strings_form}
+use Rattle.dns_data.proofs.Somes.{some_taken}
+use Rattle.dns_data.proofs.rest.take_some_strings.Goals as goal
+
+pub returns-clause-takes : goal.returns-clause-takes
+returns-clause-takes g c =
+    let origin = option_copied c.args.origin in
+    some_taken (strings_form origin) g.B.OctetsBuilder.room _ _ _ c.want_more.result _ _ _ _ (λ a b h k. all_once origin _ _ a b h k) c.take_strings.ensures.end (ap length c.as_slice-length.ensures.value) c.in_ok-take_strings.ensures.takes
+    c.want_more.ensures

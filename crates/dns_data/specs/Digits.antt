@@ -1,0 +1,57 @@
+-- Octets in digits to the end of an entry.
+use Rattle.std.specs.Prelude.{ℕ, ◌≡◌, ◌⊎◌, true, false, List, [], ◌∷◌, ◌++◌}
+use Rattle.std.specs.List.{AllByRecursion}
+use Rattle.dns_codec.specs.Base.{Base, encoded}
+use Rattle.dns_digits.specs.Reading.{PaddedBefore}
+use Rattle.dns_digits.specs.Spelled.{SpellsDigits, base_of, illegal, unfinished}
+use Rattle.dns_digits.specs.Tokens.{DigitsGoOn}
+use Rattle.dns_digits.specs.declared.error.DigitsError.{DigitsError}
+use Rattle.dns_digits.specs.declared.error.DigitsError.TheVariants.{TrailingBase64}
+use Rattle.dns_digits.specs.declared.kind.DigitsKind.{DigitsKind}
+use Rattle.dns_fields.specs.Errors.{of_digits}
+use Rattle.dns_fields.specs.declared.error.FieldError.TheVariants.{Quoted}
+use Rattle.dns_spelling.specs.Spelling.{AreOctetValues}
+use Rattle.dns_split.specs.EntryTokens.{TokenSeen}
+use Rattle.dns_data.specs.Rests.{RestForm, PrintedToken}
+use Rattle.dns_data.specs.declared.error.DataError.{DataError}
+use Rattle.dns_data.specs.declared.error.DataError.TheVariants.{Field}
+
+-- what words hold, one behind the other
+abbrev pub joined_text : List TokenSeen → List ℕ
+joined_text [] = []
+joined_text (t ∷ ts) = t.text ++ joined_text ts
+
+abbrev pub AreUnquoted : List TokenSeen → Type 0
+AreUnquoted tokens = AllByRecursion (λ t. t.is_quoted ≡ false) tokens
+
+-- words spell octets in digits, wherever these are cut
+abbrev pub SpellsJoined : Base → List TokenSeen → List ℕ → Type 0
+SpellsJoined b tokens octets = AreUnquoted tokens × SpellsDigits b (joined_text tokens) octets
+
+-- why digits spell no octets: they end within a group; or whatever follows they spell none, and then whether something
+-- stands behind a padded group
+abbrev pub IsDigitsFault : DigitsKind → List ℕ → DigitsError → Type 0
+IsDigitsFault kind text e =
+    ((e ≡ unfinished kind) × DigitsGoOn kind text)
+    ⊎ ((((e ≡ illegal kind) × (PaddedBefore (base_of kind) text → ⊥)) ⊎ ((e ≡ TrailingBase64) × PaddedBefore (base_of kind) text)) × (DigitsGoOn kind text → ⊥))
+
+-- behind words, why the next token is refused: it is a quoted text; or the digits up to its end have a fault
+abbrev pub DigitsReason : DigitsKind → List TokenSeen → List TokenSeen → DataError → Type 0
+DigitsReason kind before [] e = (d : DigitsError) × (e ≡ Field (of_digits d)) × IsDigitsFault kind (joined_text before) d
+DigitsReason kind before (t ∷ ts) e =
+    ((e ≡ Field Quoted) × (t.is_quoted ≡ true))
+    ⊎ ((t.is_quoted ≡ false) × ((d : DigitsError) × (e ≡ Field (of_digits d)) × IsDigitsFault kind (joined_text (before ++ t ∷ [])) d))
+
+-- octets are printed as one word, and none as no word
+abbrev pub printed_digits : Base → List ℕ → List PrintedToken
+printed_digits b [] = []
+printed_digits b (o ∷ os) = record { is_quoted = false; text = encoded b (o ∷ os) } ∷ []
+
+-- octets in hexadecimal or base 64, any number of them
+abbrev pub digits_form : DigitsKind → RestForm
+digits_form kind = record {
+  spells = SpellsJoined (base_of kind);
+  reason = λ before left e. AreUnquoted before × DigitsReason kind before left e;
+  is_wire = AreOctetValues;
+  printed = printed_digits (base_of kind);
+}

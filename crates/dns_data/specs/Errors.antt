@@ -1,0 +1,17 @@
+-- Why record data is refused.
+use Rattle.std.specs.Prelude.{ℕ, List, codes}
+use Rattle.dns_fields.specs.Errors.{field_error_text}
+use Rattle.dns_fields.specs.declared.error.FieldError.TheVariants.{ShortBuf}
+use Rattle.dns_data.specs.declared.error.DataError.{DataError}
+use Rattle.dns_data.specs.declared.error.DataError.TheVariants.{Field, TrailingToken, NotQuoted, TypeZero}
+
+-- there was no room for the octets, or no memory
+abbrev pub no_room : DataError
+no_room = Field ShortBuf
+
+-- the texts of the refusals
+abbrev pub data_error_text : DataError → List ℕ
+data_error_text (Field e) = field_error_text e
+data_error_text TrailingToken = codes "unexpected token behind the data"
+data_error_text NotQuoted = codes "expected text in quotes"
+data_error_text TypeZero = codes "type 0 in a list of types"

@@ -1,0 +1,61 @@
+-- The kinds of what goes to the end of an entry.
+use Rattle.std.specs.Prelude.{ℕ, zero, suc, ◌≡◌, ◌≤◌, true, false, Option, List, [], ◌∷◌, ◌++◌, map, take, drop, length}
+use Rattle.std.specs.List.{AllByRecursion}
+use Rattle.dns_spelling.specs.Shown.{text_in_quotes}
+use Rattle.dns_spelling.specs.Spelling.{AreOctetValues}
+use Rattle.dns_digits.specs.declared.kind.DigitsKind.TheVariants.{Hex as InHex, Base64 as InBase64}
+use Rattle.dns_fields.specs.Forms.{StringReason}
+use Rattle.dns_fields.specs.Taking.{SpellsEach}
+use Rattle.dns_fields.specs.declared.error.FieldError.{FieldError}
+use Rattle.dns_fields.specs.declared.field.Field.TheVariants.{String as OfString}
+use Rattle.dns_split.specs.EntryTokens.{TokenSeen}
+use Rattle.dns_data.specs.Digits.{digits_form}
+use Rattle.dns_data.specs.Rests.{RestForm, PrintedToken, some_form}
+use Rattle.dns_data.specs.Texts.{nothing_form, text_form}
+use Rattle.dns_data.specs.TypeLists.{types_form}
+use Rattle.dns_data.specs.declared.error.DataError.{DataError}
+use Rattle.dns_data.specs.declared.error.DataError.TheVariants.{Field}
+use Rattle.dns_data.specs.declared.rest.Rest.{Rest}
+use Rattle.dns_data.specs.declared.rest.Rest.TheVariants.{Nothing, Strings, Hex, Base64, Types, SomeTypes, Text, QuotedText}
+
+-- why the next token is no character string
+abbrev pub StringsReason : List TokenSeen → List TokenSeen → DataError → Type 0
+StringsReason before [] e = ⊥
+StringsReason before (t ∷ ts) e = (why : FieldError) × (e ≡ Field why) × StringReason t.is_quoted t.text why
+
+-- strings behind their lengths, one after another
+abbrev pub strings_wire : List (List ℕ) → List ℕ
+strings_wire [] = []
+strings_wire (s ∷ ss) = length s ∷ (s ++ strings_wire ss)
+
+abbrev pub AreShortStrings : List (List ℕ) → Type 0
+AreShortStrings strings = AllByRecursion (λ s. AreOctetValues s × (length s ≤ 255)) strings
+
+-- the strings of so many lengths or fewer
+abbrev pub string_parts : ℕ → List ℕ → List (List ℕ)
+string_parts zero octets = []
+string_parts (suc count) [] = []
+string_parts (suc count) (size ∷ octets) = take size octets ∷ string_parts count (drop size octets)
+
+abbrev pub strings_of : List ℕ → List (List ℕ)
+strings_of octets = string_parts (length octets) octets
+
+-- character strings, any number of them; each is printed in quotes
+abbrev pub strings_form : Option (List (List ℕ)) → RestForm
+strings_form origin = record {
+  spells = SpellsEach origin OfString;
+  reason = StringsReason;
+  is_wire = λ octets. (strings : List (List ℕ)) × AreShortStrings strings × (octets ≡ strings_wire strings);
+  printed = λ octets. map (λ s. record { is_quoted = true; text = text_in_quotes s }) (strings_of octets);
+}
+
+-- each kind, where relative names stand before an origin
+abbrev pub rest_form : Option (List (List ℕ)) → Rest → RestForm
+rest_form origin Nothing = nothing_form
+rest_form origin Strings = some_form (strings_form origin)
+rest_form origin Hex = some_form (digits_form InHex)
+rest_form origin Base64 = some_form (digits_form InBase64)
+rest_form origin Types = types_form
+rest_form origin SomeTypes = some_form types_form
+rest_form origin Text = text_form false
+rest_form origin QuotedText = text_form true

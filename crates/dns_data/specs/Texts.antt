@@ -1,0 +1,53 @@
+-- Text of any length, as the one token that is left.
+use Rattle.std.specs.Prelude.{ℕ, ◌≡◌, ◌⊎◌, Bool, true, false, List, [], ◌∷◌, Result, Ok, Err}
+use Rattle.dns_fields.specs.Source.{next_place}
+use Rattle.dns_fields.specs.declared.error.FieldError.TheVariants.{EndOfEntry, Spelling}
+use Rattle.dns_spelling.specs.Shown.{text_in_quotes}
+use Rattle.dns_spelling.specs.Spelling.{AreOctetValues, SpellsOctetList, SpellsToBadEscape}
+use Rattle.dns_spelling.specs.declared.error.SpellingError.TheVariants.{BadEscape}
+use Rattle.dns_split.specs.EntryTokens.{TokenSeen}
+use Rattle.dns_data.specs.Rests.{RestForm, PrintedToken}
+use Rattle.dns_data.specs.declared.error.DataError.{DataError}
+use Rattle.dns_data.specs.declared.error.DataError.TheVariants.{Field, TrailingToken, NotQuoted}
+use Rattle.dns_data.specs.declared.error.DataRefusal.{DataRefusal}
+
+-- no token is left, or the next is refused
+abbrev pub TakesNothing : ℕ → List TokenSeen → Result (Unit {0}) DataRefusal → List TokenSeen → Type 0
+TakesNothing end tokens (Ok _) left = (tokens ≡ []) × (left ≡ [])
+TakesNothing end [] (Err r) left = ⊥
+TakesNothing end (t ∷ ts) (Err r) left = (left ≡ t ∷ ts) × (r ≡ record { at = t.at; why = TrailingToken })
+
+-- no tokens and no octets
+abbrev pub nothing_form : RestForm
+nothing_form = record {
+  spells = λ tokens octets. (tokens ≡ []) × (octets ≡ []);
+  reason = λ before left e. (before ≡ []) × (e ≡ TrailingToken);
+  is_wire = λ octets. octets ≡ [];
+  printed = λ octets. [];
+}
+
+-- a token, in quotes where they are wanted, spells the octets
+abbrev pub SpellsText : Bool → TokenSeen → List ℕ → Type 0
+SpellsText wants_quotes t octets = (wants_quotes ≡ true → t.is_quoted ≡ true) × SpellsOctetList t.text octets
+
+-- the one token does
+abbrev pub AreText : Bool → List TokenSeen → List ℕ → Type 0
+AreText wants_quotes [] octets = ⊥
+AreText wants_quotes (t ∷ []) octets = SpellsText wants_quotes t octets
+AreText wants_quotes (t ∷ u ∷ ts) octets = ⊥
+
+-- why: there is no token; it is a word where quotes are wanted; it has a bad escape; or another is left behind it
+abbrev pub TextReason : Bool → List TokenSeen → List TokenSeen → DataError → Type 0
+TextReason wants_quotes [] [] e = e ≡ Field EndOfEntry
+TextReason wants_quotes [] (t ∷ ts) e =
+    ((e ≡ NotQuoted) × (wants_quotes ≡ true) × (t.is_quoted ≡ false)) ⊎ ((e ≡ Field (Spelling BadEscape)) × SpellsToBadEscape t.text)
+TextReason wants_quotes (t ∷ ts) left e = (ts ≡ []) × (e ≡ TrailingToken)
+
+-- text without a length; it is printed in quotes
+abbrev pub text_form : Bool → RestForm
+text_form wants_quotes = record {
+  spells = AreText wants_quotes;
+  reason = TextReason wants_quotes;
+  is_wire = AreOctetValues;
+  printed = λ octets. record { is_quoted = true; text = text_in_quotes octets } ∷ [];
+}

@@ -1,0 +1,98 @@
+//! Why record data was not read.
+ghost use Rattle.std.specs.Prelude.{◌≡◌, Some};
+ghost use Rattle.dns_fields.specs.Errors.{of_spelling, of_digits};
+ghost use Rattle.dns_data.specs.Errors.{data_error_text};
+ghost use Rattle.dns_data.specs.declared.error.DataError.TheVariants.{Field};
+ghost use Rattle.dns_fields.specs.declared.error.FieldError.TheVariants.{Kind, ShortBuf as NoRoom};
+
+use dns_digits::DigitsError;
+use dns_fields::FieldError;
+use dns_kinds::KindError;
+use dns_octets::ShortBuf;
+use dns_spelling::SpellingError;
+use std::error::Error;
+use std::fmt;
+
+/// Why record data was not read.
+#[derive(Clone, Copy, Debug, PartialEq, Eq)]
+pub enum DataError {
+    /// A token spells no field of its kind, or none is left.
+    Field(FieldError),
+    /// A token is left behind the data.
+    TrailingToken,
+    /// Text that has to stand in quotes does not.
+    NotQuoted,
+    /// Type 0 stands in a list of types.
+    TypeZero,
+}
+
+/// A token that is refused, by its place, and why. Where none is left, the place is the entry's end.
+#[derive(Clone, Copy, Debug, PartialEq, Eq)]
+pub struct DataRefusal {
+    pub at: usize,
+    pub why: DataError,
+}
+
+impl DataError {
+    /// The text of the error.
+    pub fn as_str(&self) -> &'static str
+        ensures { result.now ≡ data_error_text self.now }
+    {
+        match self {
+            DataError::Field(why) => why.as_str(),
+            DataError::TrailingToken => "unexpected token behind the data",
+            DataError::NotQuoted => "expected text in quotes",
+            DataError::TypeZero => "type 0 in a list of types",
+        }
+    }
+}
+
+impl fmt::Display for DataError {
+    ghost output = { λ e. Some (data_error_text e) };
+
+    fn fmt<W: fmt::Write>(&self, f: &mut fmt::Formatter<W>) -> fmt::Result {
+        f.write_str(self.as_str())
+    }
+}
+
+impl Error for DataError {}
+
+impl From<FieldError> for DataError {
+    ghost from_gives = { λ why e. e ≡ Field why };
+
+    fn from(why: FieldError) -> Self {
+        DataError::Field(why)
+    }
+}
+
+impl From<DigitsError> for DataError {
+    ghost from_gives = { λ why e. e ≡ Field (of_digits why) };
+
+    fn from(why: DigitsError) -> Self {
+        DataError::Field(FieldError::from(why))
+    }
+}
+
+impl From<SpellingError> for DataError {
+    ghost from_gives = { λ why e. e ≡ Field (of_spelling why) };
+
+    fn from(why: SpellingError) -> Self {
+        DataError::Field(FieldError::from(why))
+    }
+}
+
+impl From<KindError> for DataError {
+    ghost from_gives = { λ why e. e ≡ Field (Kind why) };
+
+    fn from(why: KindError) -> Self {
+        DataError::Field(FieldError::from(why))
+    }
+}
+
+impl From<ShortBuf> for DataError {
+    ghost from_gives = { λ _ e. e ≡ Field NoRoom };
+
+    fn from(_: ShortBuf) -> Self {
+        DataError::Field(FieldError::ShortBuf)
+    }
+}

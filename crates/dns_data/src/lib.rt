@@ -1,0 +1,15 @@
+//! Record data: the tokens that spell data of a type, their octets on the wire, and how they are
+//! printed.
+#![tactic(auto)]
+
+pub mod digits;
+pub mod error;
+pub mod rest;
+pub mod texts;
+pub mod type_lists;
+
+pub use digits::take_digits;
+pub use error::{DataError, DataRefusal};
+pub use rest::{Rest, take_rest};
+pub use texts::{take_nothing, take_text};
+pub use type_lists::take_types;

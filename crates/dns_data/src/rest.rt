@@ -1,0 +1,137 @@
+//! What goes to the end of an entry, after the fields that are one token each.
+ghost use Rattle.std.specs.Prelude.{◌≡◌};
+ghost use Rattle.std.specs.Option.{option_copied};
+ghost use Rattle.dns_data.specs.Digits.{digits_form};
+ghost use Rattle.dns_data.specs.Rests.{TakesRest, WantsMore, some_form};
+ghost use Rattle.dns_data.specs.RestKinds.{rest_form, strings_form};
+ghost use Rattle.dns_data.specs.TypeLists.{types_form};
+
+use crate::digits::take_digits;
+use crate::error::{DataError, DataRefusal};
+use crate::texts::{take_no_token, take_text};
+use crate::type_lists::take_types;
+use dns_digits::DigitsKind;
+use dns_fields::{Field, FieldError, TokenSource, take_each};
+use dns_octets::{AsOctets, OctetsBuilder};
+use dns_wire::Name;
+
+/// A kind of what goes to the end of an entry.
+#[derive(Clone, Copy, Debug, PartialEq, Eq)]
+pub enum Rest {
+    /// Nothing.
+    Nothing,
+    /// One character string or more.
+    Strings,
+    /// One octet or more, in hexadecimal.
+    Hex,
+    /// One octet or more, in base 64.
+    Base64,
+    /// Any number of types.
+    Types,
+    /// One type or more.
+    SomeTypes,
+    /// Text of any length, in quotes or not.
+    Text,
+    /// Text of any length, in quotes.
+    QuotedText,
+}
+
+/// Sees that octets were appended behind so many.
+fn want_more<S: TokenSource, B: OctetsBuilder>(
+    length: usize,
+    source: &S,
+    target: &B,
+) -> Result<(), DataRefusal>
+    ensures { WantsMore length (S.end source.now) (S.left source.now) (B.octets target.now) result }
+{
+    if target.as_slice().len() == length {
+        let at = source.place();
+        let why = DataError::Field(FieldError::EndOfEntry);
+        return Err(DataRefusal { at, why });
+    }
+    Ok(())
+}
+
+/// Takes the character strings that are left.
+fn take_strings<S: TokenSource, Octets: AsOctets, B: OctetsBuilder>(
+    origin: Option<&Name<Octets>>,
+    source: &mut S,
+    target: &mut B,
+) -> Result<(), DataRefusal>
+    ensures takes { TakesRest B.room (strings_form (option_copied origin.entry)) (S.end source.old) (S.left source.old) (B.octets target.old) result (S.left source.new) (B.octets target.new) }
+    ensures end { S.end source.new ≡ S.end source.old }
+{
+    match take_each(Field::String, origin, source, target) {
+        Ok(()) => Ok(()),
+        Err(refusal) => {
+            let why = DataError::Field(refusal.why);
+            Err(DataRefusal {
+                at: refusal.at,
+                why,
+            })
+        }
+    }
+}
+
+/// Takes one character string or more.
+fn take_some_strings<S: TokenSource, Octets: AsOctets, B: OctetsBuilder>(
+    origin: Option<&Name<Octets>>,
+    source: &mut S,
+    target: &mut B,
+) -> Result<(), DataRefusal>
+    ensures takes { TakesRest B.room (some_form (strings_form (option_copied origin.entry))) (S.end source.old) (S.left source.old) (B.octets target.old) result (S.left source.new) (B.octets target.new) }
+    ensures end { S.end source.new ≡ S.end source.old }
+{
+    let length = target.as_slice().len();
+    take_strings(origin, source, target)?;
+    want_more(length, source, target)
+}
+
+/// Takes one octet or more in digits.
+fn take_some_digits<S: TokenSource, B: OctetsBuilder>(
+    kind: DigitsKind,
+    source: &mut S,
+    target: &mut B,
+) -> Result<(), DataRefusal>
+    ensures takes { TakesRest B.room (some_form (digits_form kind)) (S.end source.old) (S.left source.old) (B.octets target.old) result (S.left source.new) (B.octets target.new) }
+    ensures end { S.end source.new ≡ S.end source.old }
+{
+    let length = target.as_slice().len();
+    take_digits(kind, source, target)?;
+    want_more(length, source, target)
+}
+
+/// Takes one type or more.
+fn take_some_types<S: TokenSource, B: OctetsBuilder>(
+    source: &mut S,
+    target: &mut B,
+) -> Result<(), DataRefusal>
+    ensures takes { TakesRest B.room (some_form types_form) (S.end source.old) (S.left source.old) (B.octets target.old) result (S.left source.new) (B.octets target.new) }
+    ensures end { S.end source.new ≡ S.end source.old }
+{
+    let length = target.as_slice().len();
+    take_types(source, target)?;
+    want_more(length, source, target)
+}
+
+/// Takes the tokens that are left, and appends the octets that they spell.
+pub fn take_rest<S: TokenSource, Octets: AsOctets, B: OctetsBuilder>(
+    rest: Rest,
+    origin: Option<&Name<Octets>>,
+    source: &mut S,
+    target: &mut B,
+) -> Result<(), DataRefusal>
+    ensures takes { TakesRest B.room (rest_form (option_copied origin.entry) rest) (S.end source.old) (S.left source.old) (B.octets target.old) result (S.left source.new) (B.octets target.new) }
+    ensures end { S.end source.new ≡ S.end source.old }
+{
+    match rest {
+        Rest::Nothing => take_no_token(source, target),
+        Rest::Strings => take_some_strings(origin, source, target),
+        Rest::Hex => take_some_digits(DigitsKind::Hex, source, target),
+        Rest::Base64 => take_some_digits(DigitsKind::Base64, source, target),
+        Rest::Types => take_types(source, target),
+        Rest::SomeTypes => take_some_types(source, target),
+        Rest::Text => take_text(false, source, target),
+        Rest::QuotedText => take_text(true, source, target),
+    }
+}

@@ -1,0 +1,61 @@
+//! Text of any length, which stands at the end of an entry as one token.
+ghost use Rattle.std.specs.Prelude.{◌≡◌};
+ghost use Rattle.dns_data.specs.Rests.{TakesRest};
+ghost use Rattle.dns_data.specs.Texts.{TakesNothing, nothing_form, text_form};
+
+use crate::error::{DataError, DataRefusal};
+use dns_fields::{FieldError, TokenSource};
+use dns_octets::OctetsBuilder;
+use dns_spelling::append_spelled;
+
+/// Sees that no token is left.
+pub fn take_nothing<S: TokenSource>(source: &mut S) -> Result<(), DataRefusal>
+    ensures takes { TakesNothing (S.end source.old) (S.left source.old) result (S.left source.new) }
+    ensures end { S.end source.new ≡ S.end source.old }
+{
+    if source.current().is_some() {
+        let at = source.place();
+        let why = DataError::TrailingToken;
+        return Err(DataRefusal { at, why });
+    }
+    Ok(())
+}
+
+/// Sees that no token is left, and appends nothing.
+pub(crate) fn take_no_token<S: TokenSource, B: OctetsBuilder>(
+    source: &mut S,
+    _target: &mut B,
+) -> Result<(), DataRefusal>
+    ensures takes { TakesRest B.room nothing_form (S.end source.old) (S.left source.old) (B.octets _target.old) result (S.left source.new) (B.octets _target.new) }
+    ensures end { S.end source.new ≡ S.end source.old }
+{
+    take_nothing(source)
+}
+
+/// Takes the one token that is left, and appends the octets that it spells, without a length (the
+/// value of CAA, RFC 8659 section 4.1.1; the target of URI, RFC 7553 section 4.4). Where quotes are
+/// wanted, a word is refused.
+pub fn take_text<S: TokenSource, B: OctetsBuilder>(
+    wants_quotes: bool,
+    source: &mut S,
+    target: &mut B,
+) -> Result<(), DataRefusal>
+    ensures takes { TakesRest B.room (text_form wants_quotes) (S.end source.old) (S.left source.old) (B.octets target.old) result (S.left source.new) (B.octets target.new) }
+    ensures end { S.end source.new ≡ S.end source.old }
+{
+    let at = source.place();
+    let Some(token) = source.current() else {
+        let why = DataError::Field(FieldError::EndOfEntry);
+        return Err(DataRefusal { at, why });
+    };
+    if wants_quotes && !token.is_quoted {
+        let why = DataError::NotQuoted;
+        return Err(DataRefusal { at, why });
+    }
+    if let Err(error) = append_spelled(token.text, target) {
+        let why = DataError::from(error);
+        return Err(DataRefusal { at, why });
+    }
+    source.advance();
+    take_nothing(source)
+}
