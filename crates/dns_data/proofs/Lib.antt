@@ -1,5 +1,6 @@
 pub mod Joinings
 pub mod Namings
+pub mod Reading
 pub mod Somes
 pub mod Sources
 pub mod Strings

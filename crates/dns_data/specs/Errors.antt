@@ -3,7 +3,7 @@ use Rattle.std.specs.Prelude.{ℕ, List, codes}
 use Rattle.dns_fields.specs.Errors.{field_error_text}
 use Rattle.dns_fields.specs.declared.error.FieldError.TheVariants.{ShortBuf}
 use Rattle.dns_data.specs.declared.error.DataError.{DataError}
-use Rattle.dns_data.specs.declared.error.DataError.TheVariants.{Field, TrailingToken, NotQuoted, TypeZero}
+use Rattle.dns_data.specs.declared.error.DataError.TheVariants.{Field, TrailingToken, NotQuoted, TypeZero, WrongLength}
 
 -- there was no room for the octets, or no memory
 abbrev pub no_room : DataError
@@ -15,3 +15,4 @@ data_error_text (Field e) = field_error_text e
 data_error_text TrailingToken = codes "unexpected token behind the data"
 data_error_text NotQuoted = codes "expected text in quotes"
 data_error_text TypeZero = codes "type 0 in a list of types"
+data_error_text WrongLength = codes "wrong number of octets"

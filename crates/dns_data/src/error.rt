@@ -24,6 +24,8 @@ pub enum DataError {
     NotQuoted,
     /// Type 0 stands in a list of types.
     TypeZero,
+    /// A digest or a hash has not as many octets as its number asks for.
+    WrongLength,
 }
 
 /// A token that is refused, by its place, and why. Where none is left, the place is the entry's end.
@@ -43,6 +45,7 @@ impl DataError {
             DataError::TrailingToken => "unexpected token behind the data",
             DataError::NotQuoted => "expected text in quotes",
             DataError::TypeZero => "type 0 in a list of types",
+            DataError::WrongLength => "wrong number of octets",
         }
     }
 }

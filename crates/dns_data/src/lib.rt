@@ -5,11 +5,13 @@
 pub mod digits;
 pub mod error;
 pub mod rest;
+pub mod shape;
 pub mod texts;
 pub mod type_lists;
 
 pub use digits::take_digits;
 pub use error::{DataError, DataRefusal};
 pub use rest::{Rest, take_rest};
+pub use shape::{Length, PartRefusal, Shape, read_data};
 pub use texts::{take_nothing, take_text};
 pub use type_lists::take_types;

@@ -117,3 +117,20 @@ module _ (origin : Option (List (List ℕ))) where
       let all = ap length n.whole ∙ length-append b.octets (n.mid ++ n.back) in
       let rest = length-append n.mid n.back in
       (lacks.0, omega (arith, lacks.1, middle_length, all, rest))
+
+  -- the same fields in front of the same tokens are of the same ones
+  pub fields_front : (fields : List Field) (first last taken left : List TokenSeen) (a b : List ℕ) → SpellsFields origin fields first a → SpellsFields origin fields taken b → first ++ last ≡ taken ++ left
+      → (first ≡ taken) × (last ≡ left) × (a ≡ b)
+  fields_front [] [] last [] left a b h k is = (refl, is, h ∙ sym k)
+  fields_front [] [] last (v ∷ vs) left a b h k is = absurd k
+  fields_front [] (u ∷ us) last taken left a b h k is = absurd h
+  fields_front (f ∷ fs) [] last taken left a b h k is = absurd h
+  fields_front (f ∷ fs) (u ∷ us) last [] left a b h k is = absurd k
+  fields_front (f ∷ fs) (u ∷ us) last (v ∷ vs) left a b h k is =
+      let head : u ≡ v = cc is in
+      let tail : us ++ last ≡ vs ++ left = cc is in
+      let rest = fields_front fs us last vs left h.1 k.1 h.4 k.4 tail in
+      let front : h.0 ≡ k.0 = field_once f v h.0 k.0 (subst (λ t. SpellsField origin f t h.0) head h.3) k.3 in
+      let tokens : us ≡ vs = rest.0 in
+      let all : u ∷ us ≡ v ∷ vs = cc (head, tokens) in
+      (all, rest.1, h.2 ∙ ap (λ o. o ++ h.1) front ∙ ap (λ o. k.0 ++ o) rest.2 ∙ sym k.2)

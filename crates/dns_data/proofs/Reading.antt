@@ -1,0 +1,109 @@
+-- Tokens that are refused as data of a shape.
+use Rattle.std.specs.Prelude.{Err}
+use Rattle.std.proofs.Common.{ℕ, Option, true, false, ◌≡◌, ◌<◌, ◌+◌, ◌-◌, ◌⊎◌, List, [], ◌∷◌, ◌++◌, length, take, drop, refl, sym, ap, subst, ◌∙◌, inl, inr, arith, length-append}
+use Rattle.std.proofs.Math.Seq.{drop-append_seam}
+use Rattle.std.proofs.lemmas.List.{append_assoc}
+use Rattle.dns_octets.specs.Room.{Room}
+use Rattle.dns_octets.specs.Appending.{Extends, Gains}
+use Rattle.dns_digits.specs.declared.kind.DigitsKind.TheVariants.{Hex as InHex, Base64 as InBase64}
+use Rattle.dns_digits.proofs.Pieces.{rest_of}
+use Rattle.dns_fields.specs.Source.{next_place}
+use Rattle.dns_fields.specs.Taking.{HasTaken, RefusesAField}
+use Rattle.dns_fields.specs.declared.field.Field.TheVariants.{String as OfString}
+use Rattle.dns_fields.specs.declared.taking.FieldRefusal.{FieldRefusal}
+use Rattle.dns_fields.proofs.Refused.{only_room_lacks, fields_front, all_once}
+use Rattle.dns_spelling.proofs.FormLaws.{octets_spelled}
+use Rattle.dns_split.specs.EntryTokens.{TokenSeen}
+use Rattle.dns_data.specs.Data.{HasLength, SpellsData, RefusesBehindFields, ReadsData}
+use Rattle.dns_data.specs.Errors.{no_room}
+use Rattle.dns_data.specs.Rests.{RestForm, RefusesAs, RefusesRest}
+use Rattle.dns_data.specs.RestKinds.{rest_form}
+use Rattle.dns_data.specs.Texts.{AreText}
+use Rattle.dns_data.specs.declared.error.DataError.TheVariants.{Field as OfField, WrongLength}
+use Rattle.dns_data.specs.declared.error.DataRefusal.{DataRefusal}
+use Rattle.dns_data.specs.declared.rest.Rest.{Rest}
+use Rattle.dns_data.specs.declared.rest.Rest.TheVariants.{Nothing, Strings, Hex, Base64, Types, SomeTypes, Text, QuotedText}
+use Rattle.dns_data.specs.declared.shape.PartRefusal.{PartRefusal}
+use Rattle.dns_data.specs.declared.shape.Shape.{Shape}
+use Rattle.dns_data.proofs.Joinings.{joined_once}
+use Rattle.dns_data.proofs.Namings.{types_once}
+
+-- what was gained, as it is cut off
+pub gained_is : (begun : ℕ) (old new shown : List ℕ) → begun ≡ length old → shown ≡ new → take (length shown - begun) (drop begun shown) ≡ drop (length old) new
+gained_is begun old new shown start is = rest_of begun shown ∙ ap (λ n. drop n shown) start ∙ ap (drop (length old)) is
+
+text_once : (wants_quotes : _) (tokens : List TokenSeen) (a b : List ℕ) → AreText wants_quotes tokens a → AreText wants_quotes tokens b → a ≡ b
+text_once wants_quotes [] a b h k = absurd h
+text_once wants_quotes (t ∷ []) a b h k = octets_spelled.once t.text a b h.1 k.1
+text_once wants_quotes (t ∷ u ∷ ts) a b h k = absurd h
+
+-- tokens spell what comes behind fields in one way
+pub rest_once : (origin : Option (List (List ℕ))) (r : Rest) (tokens : List TokenSeen) (a b : List ℕ) → (rest_form origin r).spells tokens a → (rest_form origin r).spells tokens b → a ≡ b
+rest_once origin Nothing tokens a b h k = h.1 ∙ sym k.1
+rest_once origin Strings tokens a b h k = all_once origin _ tokens a b h.0 k.0
+rest_once origin Hex tokens a b h k = joined_once InHex tokens a b h.0 k.0
+rest_once origin Base64 tokens a b h k = joined_once InBase64 tokens a b h.0 k.0
+rest_once origin Types tokens a b h k = types_once tokens a b h k
+rest_once origin SomeTypes tokens a b h k = types_once tokens a b h.0 k.0
+rest_once origin Text tokens a b h k = text_once false tokens a b h k
+rest_once origin QuotedText tokens a b h k = text_once true tokens a b h k
+
+module _ (origin : Option (List (List ℕ))) (room : Room) (shape : Shape) (end : ℕ) (tokens : List TokenSeen) (old : List ℕ) where
+  pub field_refused : (f : FieldRefusal) (left : List TokenSeen) (new : List ℕ) → RefusesAField origin room shape.fields.now end tokens old f left new
+      → ReadsData origin room shape end tokens old (Err (record { part = f.field; at = f.refusal.at; why = OfField f.refusal.why })) left new
+  field_refused f left new h =
+      let b = h.before in
+      (
+        inl (f.refusal.why, refl, h),
+        λ octets sp. (
+          let lacks = only_room_lacks origin room shape.fields.now end tokens old f left new sp.first sp.last sp.front h sp.tokens_are sp.fields in
+          let sum = ap length sp.octets_are ∙ length-append sp.front sp.back in
+          (ap OfField lacks.0, omega (arith, lacks.1, sum))
+        ),
+        (b.octets ++ h.extends.0, h.extends.1 ∙ ap (λ o. o ++ h.extends.0) b.gained ∙ append_assoc old b.octets h.extends.0),
+      )
+
+  module _ (behind : List TokenSeen) (middle : List ℕ) (t : HasTaken origin shape.fields.now tokens old behind middle) where
+    -- what tokens spell of data, behind the fields that were taken
+    parts : (octets : List ℕ) (sp : SpellsData origin shape tokens octets) → (rest_form origin shape.rest).spells behind sp.back × (octets ≡ t.octets ++ sp.back)
+    parts octets sp =
+        let same = fields_front origin shape.fields.now sp.first sp.last t.taken behind sp.front t.octets sp.fields t.spelled (sym sp.tokens_are ∙ t.whole) in
+        (subst (λ l. (rest_form origin shape.rest).spells l sp.back) same.1 sp.rest, sp.octets_are ∙ ap (λ o. o ++ sp.back) same.2)
+
+    extends_on : (new : List ℕ) → Extends middle new → Extends old new
+    extends_on new h = (t.octets ++ h.0, h.1 ∙ ap (λ o. o ++ h.0) t.gained ∙ append_assoc old t.octets h.0)
+
+    only_room : (before left : List TokenSeen) (e : _) (octets : List ℕ) → RefusesAs room (rest_form origin shape.rest) behind middle before left e → SpellsData origin shape tokens octets
+        → (e ≡ no_room) × (room.fits < length old + length octets)
+    only_room before left e octets (inl h) sp =
+        let p = parts octets sp in
+        let lacks = h.1 sp.back p.0 in
+        let sum = ap length p.1 ∙ length-append t.octets sp.back in
+        let start = ap length t.gained ∙ length-append old t.octets in
+        (h.0, omega (arith, lacks, sum, start))
+    only_room before left e octets (inr h) sp = absurd (h.1 sp.back (parts octets sp).0)
+
+    pub rest_refused : (begun part : ℕ) (r : DataRefusal) (left : List TokenSeen) (new : List ℕ) → begun ≡ end → part ≡ length shape.fields.now → RefusesRest room (rest_form origin shape.rest) begun behind middle r left new
+        → ReadsData origin room shape end tokens old (Err (record { part = part; at = r.at; why = r.why })) left new
+    rest_refused begun part r left new ends is h = (
+      inr (record { behind = behind; middle = middle; taken = t; part = is; why = inl (subst (λ e. RefusesRest room (rest_form origin shape.rest) e behind middle r left new) ends h) }),
+      λ octets sp. only_room h.before left r.why octets h.why sp,
+      extends_on new h.extends,
+    )
+
+    pub length_refused : (begun part at : ℕ) (left : List TokenSeen) (new : List ℕ) → begun ≡ end → part ≡ length shape.fields.now → at ≡ next_place behind begun
+        → (left ≡ []) × Gains ((rest_form origin shape.rest).spells behind) middle new → (HasLength shape.length (drop (length old) new) → ⊥)
+        → ReadsData origin room shape end tokens old (Err (record { part = part; at = at; why = WrongLength })) left new
+    length_refused begun part at left new ends is place h wrong =
+        let back : List ℕ = h.1.0 in
+        let all : drop (length old) new ≡ t.octets ++ back = ap (drop (length old)) (h.1.2 ∙ ap (λ o. o ++ back) t.gained ∙ append_assoc old t.octets back) ∙ drop-append_seam old (t.octets ++ back) in
+        let bad : HasLength shape.length (t.octets ++ back) → ⊥ = λ l. wrong (subst (HasLength shape.length) (sym all) l) in
+        (
+          inr (record { behind = behind; middle = middle; taken = t; part = is; why = inr (refl, place ∙ ap (next_place behind) ends, h.0, (back, (h.1.1, bad), h.1.2)) }),
+          λ octets sp. (
+            let p = parts octets sp in
+            let same : sp.back ≡ back = rest_once origin shape.rest behind sp.back back p.0 h.1.1 in
+            absurd (bad (subst (HasLength shape.length) (p.1 ∙ ap (λ o. t.octets ++ o) same) sp.lengths))
+          ),
+          extends_on new (back, h.1.2),
+        )

@@ -1,0 +1,21 @@
+use Rattle.std.proofs.Common.{ℕ, true≢false, length, refl, sym, ap, subst}
+use Rattle.dns_data.specs.Data.{HasLength}
+use Rattle.std.specs.Option.{option_copied}
+use Rattle.dns_data.proofs.Reading.{field_refused, rest_refused, length_refused, gained_is}
+use Rattle.dns_data.proofs.shape.read_data.Goals as goal
+
+pub returns-in-Err-clause-reads : goal.returns-in-Err-clause-reads
+returns-in-Err-clause-reads g c = field_refused (option_copied c.args.origin) g.B.OctetsBuilder.room c.args.shape.now _ _ _ c.in-Err.refused _ _ c.in-Err.ensures.takes
+
+pub returns-in-Err-take_rest-clause-reads : goal.returns-in-Err-take_rest-clause-reads
+returns-in-Err-take_rest-clause-reads g c =
+    rest_refused (option_copied c.args.origin) g.B.OctetsBuilder.room c.args.shape.now _ _ _ _ _ c.in_default.ensures.takes _ _ c.in-Err-take_rest.refusal _ _ c.take_fields.ensures.end refl c.in-Err-take_rest.ensures.takes
+
+pub returns-then-not-has_length-clause-reads : goal.returns-then-not-has_length-clause-reads
+returns-then-not-has_length-clause-reads g c =
+    let octets = g.B.AsOctets.octets in
+    let shape = c.args.shape.now in
+    let begun : ℕ = length c.as_slice-begun.result.now in
+    let is = gained_is begun (octets c.args.target.now) (octets c.take_rest.new.target) c.as_slice.result.now (ap length c.as_slice-begun.ensures.value) c.as_slice.ensures.value in
+    length_refused (option_copied c.args.origin) g.B.OctetsBuilder.room shape _ _ _ _ _ c.in_default.ensures.takes _ _ c.place-at.result _ _ c.take_fields.ensures.end refl c.place-at.ensures c.in_default-take_rest.ensures.takes
+    (λ l. true≢false (sym (c.if-not-has_length.ensures.1 (subst (HasLength shape.length) (sym is) l))))

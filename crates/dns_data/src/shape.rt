@@ -1,0 +1,110 @@
+//! Shapes of record data: fields that are one token each, and what goes to the entry's end.
+ghost use Rattle.std.specs.Prelude.{◌≡◌, ◌↔◌, IsTrue, slice_index};
+ghost use Rattle.std.specs.Option.{option_copied};
+ghost use Rattle.dns_data.specs.Data.{HasLength, ReadsData};
+
+use crate::error::DataError;
+use crate::rest::{Rest, take_rest};
+use dns_digits::{Digests, is_digest_length};
+use dns_fields::{Field, TokenSource, take_fields};
+use dns_octets::{AsOctets, OctetsBuilder};
+use dns_wire::Name;
+
+/// The lengths that octets of the data ask for.
+#[derive(Clone, Copy, Debug, PartialEq, Eq)]
+pub enum Length {
+    /// None.
+    Any,
+    /// The digest that goes to the end has as many octets as the number before it asks for, which
+    /// stands at this place.
+    Digest(Digests, u8),
+    /// The hash of NSEC3 has 20 octets where its algorithm is 1 (RFC 5155 section 11).
+    Hash,
+}
+
+/// What data of a type consists of.
+#[derive(Clone, Copy)]
+pub struct Shape {
+    /// The fields that are one token each.
+    pub fields: &'static [Field],
+    /// What comes behind them.
+    pub rest: Rest,
+    /// The lengths that are asked for.
+    pub length: Length,
+}
+
+/// A part of record data that is refused, the place of the token, and why. A field is told by its
+/// place among the fields, and what comes behind them by their count.
+#[derive(Clone, Copy, Debug, PartialEq, Eq)]
+pub struct PartRefusal {
+    pub part: usize,
+    pub at: usize,
+    pub why: DataError,
+}
+
+/// The octet at a place, or 0 behind the end.
+fn octet_at(octets: &[u8], place: usize) -> u8
+    ensures { result ≡ slice_index octets.now place }
+{
+    if place < octets.len() {
+        octets[place]
+    } else {
+        0
+    }
+}
+
+/// Whether data has the lengths that it asks for.
+pub(crate) fn has_length(length: Length, octets: &[u8]) -> bool
+    ensures { IsTrue result ↔ HasLength length octets.now }
+{
+    match length {
+        Length::Any => true,
+        Length::Digest(digests, place) => {
+            let place = usize::from(place);
+            let count = octets.len().saturating_sub(place + 1);
+            is_digest_length(digests, octet_at(octets, place), count)
+        }
+        Length::Hash => {
+            let place = 5 + usize::from(octet_at(octets, 4));
+            octet_at(octets, 0) != 1 || octet_at(octets, place) == 20
+        }
+    }
+}
+
+/// Takes the tokens that are left as data of a shape, and appends its octets. A relative name stands
+/// before the origin.
+pub fn read_data<S: TokenSource, Octets: AsOctets, B: OctetsBuilder>(
+    shape: &Shape,
+    origin: Option<&Name<Octets>>,
+    source: &mut S,
+    target: &mut B,
+) -> Result<(), PartRefusal>
+    ensures reads { ReadsData (option_copied origin.entry) B.room shape.now (S.end source.old) (S.left source.old) (B.octets target.old) result (S.left source.new) (B.octets target.new) }
+    ensures end { S.end source.new ≡ S.end source.old }
+{
+    let begun = target.as_slice().len();
+    if let Err(refused) = take_fields(shape.fields, origin, source, target) {
+        return Err(PartRefusal {
+            part: refused.field,
+            at: refused.refusal.at,
+            why: DataError::Field(refused.refusal.why),
+        });
+    }
+    let part = shape.fields.len();
+    let at = source.place();
+    if let Err(refusal) = take_rest(shape.rest, origin, source, target) {
+        return Err(PartRefusal {
+            part,
+            at: refusal.at,
+            why: refusal.why,
+        });
+    }
+    if !has_length(shape.length, &target.as_slice()[begun..]) {
+        return Err(PartRefusal {
+            part,
+            at,
+            why: DataError::WrongLength,
+        });
+    }
+    Ok(())
+}
