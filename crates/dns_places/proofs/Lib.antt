@@ -1,5 +1,10 @@
+pub mod AngleLemmas
+pub mod DecimalLemmas
 pub mod GatewayLaws
+pub mod HeightLemmas
 pub mod ItemLemmas
+pub mod LocationLemmas
+pub mod LocationOnce
 pub mod MarkLemmas
 pub mod PrefixLaws
 pub mod PrefixLemmas
