@@ -12,8 +12,8 @@ use Rattle.dns_places.specs.declared.location.Sizes.{Sizes}
 use Rattle.dns_places.specs.declared.location.Location.{Location}
 use Rattle.dns_places.specs.declared.location_error.LocationError.{LocationError}
 use Rattle.dns_places.specs.declared.location_error.LocationError.TheVariants.{ExpectedLatitude, ExpectedLongitude, ExpectedAltitude, ExpectedSize, ExpectedEnd, ShortBuf}
-use Rattle.dns_places.specs.Locations.{SpellsDegrees, SpellsMinutes, SpellsSeconds, SpellsSide, SpellsAltitude, SpellsSize, BeginsWith, BeginsWithAngle, GoesOnWithMinutes, GoesOnWithSeconds, BeginsWithSize, AreSizes, AreLocation, Finds, usual_size, usual_horizontal, usual_vertical}
-use Rattle.dns_places.specs.LocationTaking.{SpellsPart, Lacks, FindsNext, TakesPart, TakesSeconds, TakesMinutes, TakesAngle, StopsAtSize, StopsInSizes, GoesOnBehindSizes, RefusesSizes, BeginsWithAngles, BeginsWithPoint, RefusesTokens}
+use Rattle.dns_places.specs.Locations.{SpellsDegrees, SpellsMinutes, SpellsSeconds, SpellsSide, SpellsAltitude, SpellsSize, BeginsWithWord, BeginsWithAngle, GoesOnWithMinutes, GoesOnWithSeconds, BeginsWithSize, AreSizes, AreLocation, Finds, usual_size, usual_horizontal, usual_vertical}
+use Rattle.dns_places.specs.LocationTaking.{SpellsPart, LacksWord, FindsNext, TakesWord, TakesSeconds, TakesMinutes, TakesAngle, StopsAtSize, StopsInSizes, GoesOnBehindSizes, RefusesSizes, BeginsWithAngles, BeginsWithPoint, RefusesTokens}
 
 pub same_token : (t u : TokenSeen) (tokens rest more : List TokenSeen) → tokens ≡ t ∷ rest → tokens ≡ u ∷ more → t ≡ u
 same_token t u tokens rest more h k = ap (λ ts. get_or ts 0 t) (sym h ∙ k)
@@ -33,16 +33,16 @@ some_here (Some t) left h some is = none-some (token_seen t) (sym (h ∙ ap (λ 
 
 -- ---- angles
 
-pub seconds_taken : (axis : Axis) (before : ℕ) (tokens middle left : List TokenSeen) (angle : ℕ) (r : Option ℕ) → BeginsWith (SpellsSeconds axis before) tokens angle middle → TakesPart (Side axis angle) middle r left → TakesSeconds axis before tokens r left
+pub seconds_taken : (axis : Axis) (before : ℕ) (tokens middle left : List TokenSeen) (angle : ℕ) (r : Option ℕ) → BeginsWithWord (SpellsSeconds axis before) tokens angle middle → TakesWord (Side axis angle) middle r left → TakesSeconds axis before tokens r left
 seconds_taken axis before tokens middle left angle (Some n) h k = (angle, middle, h, k)
-seconds_taken axis before tokens middle left angle None h k = inr (angle, subst (λ l. BeginsWith (SpellsSeconds axis before) tokens angle l) (sym k.0) h, subst (Lacks (SpellsSide axis angle)) (sym k.0) k.1)
+seconds_taken axis before tokens middle left angle None h k = inr (angle, subst (λ l. BeginsWithWord (SpellsSeconds axis before) tokens angle l) (sym k.0) h, subst (LacksWord (SpellsSide axis angle)) (sym k.0) k.1)
 
-pub minutes_taken : (axis : Axis) (before : ℕ) (tokens more middle left : List TokenSeen) (angle : ℕ) (r : Option ℕ) → BeginsWith (SpellsMinutes axis before) tokens angle more → (middle ≡ more) × Lacks (SpellsSide axis angle) more
+pub minutes_taken : (axis : Axis) (before : ℕ) (tokens more middle left : List TokenSeen) (angle : ℕ) (r : Option ℕ) → BeginsWithWord (SpellsMinutes axis before) tokens angle more → (middle ≡ more) × LacksWord (SpellsSide axis angle) more
     → TakesSeconds axis angle middle r left → TakesMinutes axis before tokens r left
 minutes_taken axis before tokens more middle left angle (Some n) h k s = (angle, more, h, inr (subst (λ l. GoesOnWithSeconds axis angle l n left) k.0 s))
 minutes_taken axis before tokens more middle left angle None h k s = inr (angle, more, h, k.1, subst (λ l. TakesSeconds axis angle l None left) k.0 s)
 
-pub angle_taken : (axis : Axis) (tokens more middle left : List TokenSeen) (angle : ℕ) (r : Option ℕ) → BeginsWith (SpellsDegrees axis) tokens angle more → (middle ≡ more) × Lacks (SpellsSide axis angle) more
+pub angle_taken : (axis : Axis) (tokens more middle left : List TokenSeen) (angle : ℕ) (r : Option ℕ) → BeginsWithWord (SpellsDegrees axis) tokens angle more → (middle ≡ more) × LacksWord (SpellsSide axis angle) more
     → TakesMinutes axis angle middle r left → TakesAngle axis tokens r left
 angle_taken axis tokens more middle left angle (Some n) h k s = (angle, more, h, inr (subst (λ l. GoesOnWithMinutes axis angle l n left) k.0 s))
 angle_taken axis tokens more middle left angle None h k s = inr (angle, more, h, k.1, subst (λ l. TakesMinutes axis angle l None left) k.0 s)
@@ -50,7 +50,7 @@ angle_taken axis tokens more middle left angle None h k s = inr (angle, more, h,
 -- ---- sizes
 
 -- a size stands where tokens are left behind it
-stands : (usual octet : ℕ) (tokens rest : List TokenSeen) → BeginsWithSize usual tokens octet rest → (rest ≡ [] → ⊥) → BeginsWith SpellsSize tokens octet rest
+stands : (usual octet : ℕ) (tokens rest : List TokenSeen) → BeginsWithSize usual tokens octet rest → (rest ≡ [] → ⊥) → BeginsWithWord SpellsSize tokens octet rest
 stands usual octet tokens rest (inl h) some = h
 stands usual octet tokens rest (inr h) some = absurd (some h.1)
 
@@ -69,7 +69,7 @@ pub third_stops : (usual other size horizontal : ℕ) (tokens more most left : L
 third_stops usual other size horizontal tokens more most left h j k =
     let second = stands other horizontal more most j k.1.0 in
     let first = stands usual size tokens more h (some_before other horizontal more most j k.1.0) in
-    (subst StopsAtSize (sym k.0) k.1, inr (size, more, first, inr (horizontal, subst (λ l. BeginsWith SpellsSize more horizontal l) (sym k.0) second)))
+    (subst StopsAtSize (sym k.0) k.1, inr (size, more, first, inr (horizontal, subst (λ l. BeginsWithWord SpellsSize more horizontal l) (sym k.0) second)))
 
 pub behind_sizes : (usual other last size horizontal vertical : ℕ) (tokens more most left : List TokenSeen) → BeginsWithSize usual tokens size more → BeginsWithSize other more horizontal most → BeginsWithSize last most vertical left → (left ≡ [] → ⊥) → GoesOnBehindSizes tokens left
 behind_sizes usual other last size horizontal vertical tokens more most left h j k some =

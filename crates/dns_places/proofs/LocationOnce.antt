@@ -10,8 +10,8 @@ use Rattle.dns_places.specs.declared.location.Sizes.{Sizes}
 use Rattle.dns_places.specs.declared.location.Location.{Location}
 use Rattle.dns_places.specs.declared.location_error.LocationError.{LocationError}
 use Rattle.dns_places.specs.declared.location_error.LocationError.TheVariants.{ExpectedLatitude, ExpectedLongitude, ExpectedAltitude, ExpectedSize, ExpectedEnd, ShortBuf}
-use Rattle.dns_places.specs.Locations.{SpellsDegrees, SpellsMinutes, SpellsSeconds, SpellsSide, SpellsAltitude, SpellsSize, BeginsWith, BeginsWithAngle, GoesOnWithMinutes, GoesOnWithSeconds, BeginsWithSize, AreSizes, AreLocation, SpellsLocation, location_octets}
-use Rattle.dns_places.specs.LocationTaking.{Lacks, StopsInSeconds, StopsInMinutes, StopsInAngle, StopsAtSize, StopsInSizes, GoesOnBehindSizes, BeginsWithAngles, BeginsWithPoint, RefusesTokens}
+use Rattle.dns_places.specs.Locations.{SpellsDegrees, SpellsMinutes, SpellsSeconds, SpellsSide, SpellsAltitude, SpellsSize, BeginsWithWord, BeginsWithAngle, GoesOnWithMinutes, GoesOnWithSeconds, BeginsWithSize, AreSizes, AreLocation, SpellsLocation, location_octets}
+use Rattle.dns_places.specs.LocationTaking.{LacksWord, StopsInSeconds, StopsInMinutes, StopsInAngle, StopsAtSize, StopsInSizes, GoesOnBehindSizes, BeginsWithAngles, BeginsWithPoint, RefusesTokens}
 use Rattle.dns_places.proofs.AngleLemmas.{one_degrees, one_minutes, one_seconds, one_side, side_no_number, side_no_decimal}
 use Rattle.dns_places.proofs.HeightLemmas.{one_altitude, one_size}
 use Rattle.dns_places.proofs.LocationLemmas.{same_token}
@@ -21,25 +21,25 @@ abbrev Same : ℕ → ℕ → List TokenSeen → List TokenSeen → Type 0
 Same n m rest other = (n ≡ m) × (rest ≡ other)
 
 one_next : (Spells : List ℕ → ℕ → Type 0) → ((text : List ℕ) (n m : ℕ) → Spells text n → Spells text m → n ≡ m) → (tokens : List TokenSeen) (n m : ℕ) (rest other : List TokenSeen)
-    → BeginsWith Spells tokens n rest → BeginsWith Spells tokens m other → Same n m rest other
+    → BeginsWithWord Spells tokens n rest → BeginsWithWord Spells tokens m other → Same n m rest other
 one_next Spells once tokens n m rest other h k =
     let same = same_token h.0 k.0 tokens rest other h.1 k.1 in
     (once k.0.text n m (subst (λ t. Spells t.text n) same h.3) k.3, ap (drop 1) (sym h.1 ∙ k.1))
 
 apart : (Spells Others : List ℕ → ℕ → Type 0) → ((text : List ℕ) (n m : ℕ) → Spells text n → Others text m → ⊥) → (tokens : List TokenSeen) (n m : ℕ) (rest other : List TokenSeen)
-    → BeginsWith Spells tokens n rest → BeginsWith Others tokens m other → ⊥
+    → BeginsWithWord Spells tokens n rest → BeginsWithWord Others tokens m other → ⊥
 apart Spells Others never tokens n m rest other h k = never k.0.text n m (subst (λ t. Spells t.text n) (same_token h.0 k.0 tokens rest other h.1 k.1) h.3) k.3
 
 -- a side behind one angle stands behind the same
-side_at : (axis : Axis) (angle other n : ℕ) (tokens more rest : List TokenSeen) → Same angle other tokens more → BeginsWith (SpellsSide axis angle) tokens n rest → BeginsWith (SpellsSide axis other) more n rest
-side_at axis angle other n tokens more rest same h = subst (λ ts. BeginsWith (SpellsSide axis other) ts n rest) same.1 (subst (λ a. BeginsWith (SpellsSide axis a) tokens n rest) same.0 h)
+side_at : (axis : Axis) (angle other n : ℕ) (tokens more rest : List TokenSeen) → Same angle other tokens more → BeginsWithWord (SpellsSide axis angle) tokens n rest → BeginsWithWord (SpellsSide axis other) more n rest
+side_at axis angle other n tokens more rest same h = subst (λ ts. BeginsWithWord (SpellsSide axis other) ts n rest) same.1 (subst (λ a. BeginsWithWord (SpellsSide axis a) tokens n rest) same.0 h)
 
-one_side_next : (axis : Axis) (angle : ℕ) (tokens : List TokenSeen) (n m : ℕ) (rest other : List TokenSeen) → BeginsWith (SpellsSide axis angle) tokens n rest → BeginsWith (SpellsSide axis angle) tokens m other → Same n m rest other
+one_side_next : (axis : Axis) (angle : ℕ) (tokens : List TokenSeen) (n m : ℕ) (rest other : List TokenSeen) → BeginsWithWord (SpellsSide axis angle) tokens n rest → BeginsWithWord (SpellsSide axis angle) tokens m other → Same n m rest other
 one_side_next axis angle = one_next (SpellsSide axis angle) (one_side axis angle)
 
 -- ---- seconds
 
-one_seconds_next : (axis : Axis) (before : ℕ) (tokens : List TokenSeen) (n m : ℕ) (rest other : List TokenSeen) → BeginsWith (SpellsSeconds axis before) tokens n rest → BeginsWith (SpellsSeconds axis before) tokens m other → Same n m rest other
+one_seconds_next : (axis : Axis) (before : ℕ) (tokens : List TokenSeen) (n m : ℕ) (rest other : List TokenSeen) → BeginsWithWord (SpellsSeconds axis before) tokens n rest → BeginsWithWord (SpellsSeconds axis before) tokens m other → Same n m rest other
 one_seconds_next axis before = one_next (SpellsSeconds axis before) (one_seconds axis before)
 
 one_with_seconds : (axis : Axis) (before : ℕ) (tokens : List TokenSeen) (n m : ℕ) (rest other : List TokenSeen) → GoesOnWithSeconds axis before tokens n rest → GoesOnWithSeconds axis before tokens m other → Same n m rest other
@@ -55,11 +55,11 @@ stops_seconds axis before tokens left (inr h) n rest k =
 
 -- ---- minutes
 
-side_or_seconds : (axis : Axis) (angle before : ℕ) (tokens : List TokenSeen) (n m : ℕ) (rest other : List TokenSeen) → BeginsWith (SpellsSide axis angle) tokens n rest → GoesOnWithSeconds axis before tokens m other → ⊥
+side_or_seconds : (axis : Axis) (angle before : ℕ) (tokens : List TokenSeen) (n m : ℕ) (rest other : List TokenSeen) → BeginsWithWord (SpellsSide axis angle) tokens n rest → GoesOnWithSeconds axis before tokens m other → ⊥
 side_or_seconds axis angle before tokens n m rest other h k =
     apart (SpellsSide axis angle) (SpellsSeconds axis before) (λ text a b side seconds. side_no_decimal axis angle text a 3 seconds.0 side seconds.1) tokens n k.0 rest k.1 h k.2
 
-one_minutes_next : (axis : Axis) (before : ℕ) (tokens : List TokenSeen) (n m : ℕ) (rest other : List TokenSeen) → BeginsWith (SpellsMinutes axis before) tokens n rest → BeginsWith (SpellsMinutes axis before) tokens m other → Same n m rest other
+one_minutes_next : (axis : Axis) (before : ℕ) (tokens : List TokenSeen) (n m : ℕ) (rest other : List TokenSeen) → BeginsWithWord (SpellsMinutes axis before) tokens n rest → BeginsWithWord (SpellsMinutes axis before) tokens m other → Same n m rest other
 one_minutes_next axis before = one_next (SpellsMinutes axis before) (one_minutes axis before)
 
 seconds_at : (axis : Axis) (angle other n : ℕ) (tokens more rest : List TokenSeen) → Same angle other tokens more → GoesOnWithSeconds axis angle tokens n rest → GoesOnWithSeconds axis other more n rest
@@ -67,7 +67,7 @@ seconds_at axis angle other n tokens more rest same h = subst (λ ts. GoesOnWith
 
 -- what may follow minutes
 abbrev BehindMinutes : Axis → ℕ → List TokenSeen → ℕ → List TokenSeen → Type 0
-BehindMinutes axis angle tokens n rest = BeginsWith (SpellsSide axis angle) tokens n rest ⊎ GoesOnWithSeconds axis angle tokens n rest
+BehindMinutes axis angle tokens n rest = BeginsWithWord (SpellsSide axis angle) tokens n rest ⊎ GoesOnWithSeconds axis angle tokens n rest
 
 one_behind_minutes : (axis : Axis) (angle : ℕ) (tokens : List TokenSeen) (n m : ℕ) (rest other : List TokenSeen) → BehindMinutes axis angle tokens n rest → BehindMinutes axis angle tokens m other → Same n m rest other
 one_behind_minutes axis angle tokens n m rest other (inl h) (inl k) = one_side_next axis angle tokens n m rest other h k
@@ -80,7 +80,7 @@ one_with_minutes axis before tokens n m rest other h k =
     let same = one_minutes_next axis before tokens h.0 k.0 h.1 k.1 h.2 k.2 in
     one_behind_minutes axis k.0 k.1 n m rest other (subst (λ ts. BehindMinutes axis k.0 ts n rest) same.1 (subst (λ a. BehindMinutes axis a h.1 n rest) same.0 h.3)) k.3
 
-stops_behind_minutes : (axis : Axis) (angle : ℕ) (tokens left : List TokenSeen) → Lacks (SpellsSide axis angle) tokens → StopsInSeconds axis angle tokens left → (n : ℕ) (rest : List TokenSeen) → BehindMinutes axis angle tokens n rest → ⊥
+stops_behind_minutes : (axis : Axis) (angle : ℕ) (tokens left : List TokenSeen) → LacksWord (SpellsSide axis angle) tokens → StopsInSeconds axis angle tokens left → (n : ℕ) (rest : List TokenSeen) → BehindMinutes axis angle tokens n rest → ⊥
 stops_behind_minutes axis angle tokens left lacks stops n rest (inl h) = lacks n rest h
 stops_behind_minutes axis angle tokens left lacks stops n rest (inr h) = stops_seconds axis angle tokens left stops n rest h
 
@@ -92,16 +92,16 @@ stops_minutes axis before tokens left (inr h) n rest k =
 
 -- ---- degrees
 
-one_degrees_next : (axis : Axis) (tokens : List TokenSeen) (n m : ℕ) (rest other : List TokenSeen) → BeginsWith (SpellsDegrees axis) tokens n rest → BeginsWith (SpellsDegrees axis) tokens m other → Same n m rest other
+one_degrees_next : (axis : Axis) (tokens : List TokenSeen) (n m : ℕ) (rest other : List TokenSeen) → BeginsWithWord (SpellsDegrees axis) tokens n rest → BeginsWithWord (SpellsDegrees axis) tokens m other → Same n m rest other
 one_degrees_next axis = one_next (SpellsDegrees axis) (one_degrees axis)
 
-side_or_minutes : (axis : Axis) (angle before : ℕ) (tokens : List TokenSeen) (n m : ℕ) (rest other : List TokenSeen) → BeginsWith (SpellsSide axis angle) tokens n rest → GoesOnWithMinutes axis before tokens m other → ⊥
+side_or_minutes : (axis : Axis) (angle before : ℕ) (tokens : List TokenSeen) (n m : ℕ) (rest other : List TokenSeen) → BeginsWithWord (SpellsSide axis angle) tokens n rest → GoesOnWithMinutes axis before tokens m other → ⊥
 side_or_minutes axis angle before tokens n m rest other h k =
     apart (SpellsSide axis angle) (SpellsMinutes axis before) (λ text a b side minutes. side_no_number axis angle text a minutes.0 side minutes.1) tokens n k.0 rest k.1 h k.2
 
 -- what may follow degrees
 abbrev BehindDegrees : Axis → ℕ → List TokenSeen → ℕ → List TokenSeen → Type 0
-BehindDegrees axis angle tokens n rest = BeginsWith (SpellsSide axis angle) tokens n rest ⊎ GoesOnWithMinutes axis angle tokens n rest
+BehindDegrees axis angle tokens n rest = BeginsWithWord (SpellsSide axis angle) tokens n rest ⊎ GoesOnWithMinutes axis angle tokens n rest
 
 one_behind_degrees : (axis : Axis) (angle : ℕ) (tokens : List TokenSeen) (n m : ℕ) (rest other : List TokenSeen) → BehindDegrees axis angle tokens n rest → BehindDegrees axis angle tokens m other → Same n m rest other
 one_behind_degrees axis angle tokens n m rest other (inl h) (inl k) = one_side_next axis angle tokens n m rest other h k
@@ -114,7 +114,7 @@ one_angle axis tokens n m rest other h k =
     let same = one_degrees_next axis tokens h.0 k.0 h.1 k.1 h.2 k.2 in
     one_behind_degrees axis k.0 k.1 n m rest other (subst (λ ts. BehindDegrees axis k.0 ts n rest) same.1 (subst (λ a. BehindDegrees axis a h.1 n rest) same.0 h.3)) k.3
 
-stops_behind_degrees : (axis : Axis) (angle : ℕ) (tokens left : List TokenSeen) → Lacks (SpellsSide axis angle) tokens → StopsInMinutes axis angle tokens left → (n : ℕ) (rest : List TokenSeen) → BehindDegrees axis angle tokens n rest → ⊥
+stops_behind_degrees : (axis : Axis) (angle : ℕ) (tokens left : List TokenSeen) → LacksWord (SpellsSide axis angle) tokens → StopsInMinutes axis angle tokens left → (n : ℕ) (rest : List TokenSeen) → BehindDegrees axis angle tokens n rest → ⊥
 stops_behind_degrees axis angle tokens left lacks stops n rest (inl h) = lacks n rest h
 stops_behind_degrees axis angle tokens left lacks stops n rest (inr h) = stops_minutes axis angle tokens left stops n rest h
 
@@ -175,7 +175,7 @@ behind_angles tokens more l h k =
 behind_point : (tokens more : List TokenSeen) (l : Location) → BeginsWithPoint tokens more → (k : AreLocation tokens l) → more ≡ k.behind_altitude
 behind_point tokens more l h k =
     let at = behind_angles tokens h.1 l h.2 k in
-    let third = one_next SpellsAltitude one_altitude k.behind_longitude h.0 l.altitude more k.behind_altitude (subst (λ ts. BeginsWith SpellsAltitude ts h.0 more) at h.3) k.altitude in
+    let third = one_next SpellsAltitude one_altitude k.behind_longitude h.0 l.altitude more k.behind_altitude (subst (λ ts. BeginsWithWord SpellsAltitude ts h.0 more) at h.3) k.altitude in
     third.1
 
 -- tokens that are refused are no location
@@ -184,7 +184,7 @@ refused_none ExpectedLatitude tokens left h l k = stops_angle Latitude tokens le
 refused_none ExpectedLongitude tokens left h l k =
     let first = one_angle Latitude tokens l.latitude h.0 k.behind_latitude h.1 k.latitude h.2 in
     stops_angle Longitude h.1 left h.3 l.longitude k.behind_longitude (subst (λ ts. BeginsWithAngle Longitude ts l.longitude k.behind_longitude) first.1 k.longitude)
-refused_none ExpectedAltitude tokens left h l k = h.1 l.altitude k.behind_altitude (subst (λ ts. BeginsWith SpellsAltitude ts l.altitude k.behind_altitude) (sym (behind_angles tokens left l h.0 k)) k.altitude)
+refused_none ExpectedAltitude tokens left h l k = h.1 l.altitude k.behind_altitude (subst (λ ts. BeginsWithWord SpellsAltitude ts l.altitude k.behind_altitude) (sym (behind_angles tokens left l h.0 k)) k.altitude)
 refused_none ExpectedSize tokens left h l k = stops_sizes h.0 left l.sizes h.2 (subst (λ ts. AreSizes ts l.sizes) (sym (behind_point tokens h.0 l h.1 k)) k.sizes)
 refused_none ExpectedEnd tokens left h l k = goes_on h.0 left l.sizes h.2 (subst (λ ts. AreSizes ts l.sizes) (sym (behind_point tokens h.0 l h.1 k)) k.sizes)
 refused_none ShortBuf tokens left h l k = h
@@ -194,7 +194,7 @@ pub one_location : (tokens : List TokenSeen) (l m : Location) → AreLocation to
 one_location tokens l m h k =
     let first = one_angle Latitude tokens l.latitude m.latitude h.behind_latitude k.behind_latitude h.latitude k.latitude in
     let second = one_angle Longitude k.behind_latitude l.longitude m.longitude h.behind_longitude k.behind_longitude (subst (λ ts. BeginsWithAngle Longitude ts l.longitude h.behind_longitude) first.1 h.longitude) k.longitude in
-    let third = one_next SpellsAltitude one_altitude k.behind_longitude l.altitude m.altitude h.behind_altitude k.behind_altitude (subst (λ ts. BeginsWith SpellsAltitude ts l.altitude h.behind_altitude) second.1 h.altitude) k.altitude in
+    let third = one_next SpellsAltitude one_altitude k.behind_longitude l.altitude m.altitude h.behind_altitude k.behind_altitude (subst (λ ts. BeginsWithWord SpellsAltitude ts l.altitude h.behind_altitude) second.1 h.altitude) k.altitude in
     let last = one_sizes k.behind_altitude l.sizes m.sizes (subst (λ ts. AreSizes ts l.sizes) third.1 h.sizes) k.sizes in
     λ i. record { sizes = last i; latitude = first.0 i; longitude = second.0 i; altitude = third.0 i }
 

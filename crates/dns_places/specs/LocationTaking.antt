@@ -13,7 +13,7 @@ use Rattle.dns_places.specs.declared.location.LocationRefusal.{LocationRefusal}
 use Rattle.dns_places.specs.declared.location.Sizes.{Sizes}
 use Rattle.dns_places.specs.declared.location_error.LocationError.{LocationError}
 use Rattle.dns_places.specs.declared.location_error.LocationError.TheVariants.{ExpectedLatitude, ExpectedLongitude, ExpectedAltitude, ExpectedSize, ExpectedEnd, ShortBuf}
-use Rattle.dns_places.specs.Locations.{most_angle, SpellsDegrees, SpellsMinutes, SpellsSeconds, SpellsSide, SpellsAltitude, SpellsSize, BeginsWith, GoesOnWithSeconds, GoesOnWithMinutes, BeginsWithAngle, BeginsWithSize, usual_size, usual_horizontal, usual_vertical, AreSizes, AreLocation, SpellsLocation}
+use Rattle.dns_places.specs.Locations.{most_angle, SpellsDegrees, SpellsMinutes, SpellsSeconds, SpellsSide, SpellsAltitude, SpellsSize, BeginsWithWord, GoesOnWithSeconds, GoesOnWithMinutes, BeginsWithAngle, BeginsWithSize, usual_size, usual_horizontal, usual_vertical, AreSizes, AreLocation, SpellsLocation}
 
 -- a word of a part spells a number
 abbrev pub SpellsPart : Part → List ℕ → ℕ → Type 0
@@ -34,34 +34,34 @@ IsBounded Altitude = Unit {0}
 IsBounded Size = Unit {0}
 
 -- tokens don't begin with such a one
-abbrev pub Lacks : (List ℕ → ℕ → Type 0) → List TokenSeen → Type 0
-Lacks Spells tokens = (n : ℕ) (rest : List TokenSeen) → BeginsWith Spells tokens n rest → ⊥
+abbrev pub LacksWord : (List ℕ → ℕ → Type 0) → List TokenSeen → Type 0
+LacksWord Spells tokens = (n : ℕ) (rest : List TokenSeen) → BeginsWithWord Spells tokens n rest → ⊥
 
 abbrev pub FindsNext : Part → List TokenSeen → Option ℕ → Type 0
-FindsNext part tokens r = MatchOption r (Lacks (SpellsPart part) tokens) (λ n. (rest : List TokenSeen) × BeginsWith (SpellsPart part) tokens n rest)
+FindsNext part tokens r = MatchOption r (LacksWord (SpellsPart part) tokens) (λ n. (rest : List TokenSeen) × BeginsWithWord (SpellsPart part) tokens n rest)
 
 -- the next token is taken as a part; or it is none, and stays
-abbrev pub TakesPart : Part → List TokenSeen → Option ℕ → List TokenSeen → Type 0
-TakesPart part tokens r left = MatchOption r ((left ≡ tokens) × Lacks (SpellsPart part) tokens) (λ n. BeginsWith (SpellsPart part) tokens n left)
+abbrev pub TakesWord : Part → List TokenSeen → Option ℕ → List TokenSeen → Type 0
+TakesWord part tokens r left = MatchOption r ((left ≡ tokens) × LacksWord (SpellsPart part) tokens) (λ n. BeginsWithWord (SpellsPart part) tokens n left)
 
 -- ---- where an angle goes wrong
 
 -- at its seconds; or behind them, where no side stands
 abbrev pub StopsInSeconds : Axis → ℕ → List TokenSeen → List TokenSeen → Type 0
 StopsInSeconds axis before tokens left =
-    ((left ≡ tokens) × Lacks (SpellsSeconds axis before) tokens) ⊎ ((angle : ℕ) × BeginsWith (SpellsSeconds axis before) tokens angle left × Lacks (SpellsSide axis angle) left)
+    ((left ≡ tokens) × LacksWord (SpellsSeconds axis before) tokens) ⊎ ((angle : ℕ) × BeginsWithWord (SpellsSeconds axis before) tokens angle left × LacksWord (SpellsSide axis angle) left)
 
 -- at its minutes; or behind them, where no side stands and no seconds go on to one
 abbrev pub StopsInMinutes : Axis → ℕ → List TokenSeen → List TokenSeen → Type 0
 StopsInMinutes axis before tokens left =
-    ((left ≡ tokens) × Lacks (SpellsMinutes axis before) tokens)
-    ⊎ ((angle : ℕ) × (more : List TokenSeen) × BeginsWith (SpellsMinutes axis before) tokens angle more × Lacks (SpellsSide axis angle) more × StopsInSeconds axis angle more left)
+    ((left ≡ tokens) × LacksWord (SpellsMinutes axis before) tokens)
+    ⊎ ((angle : ℕ) × (more : List TokenSeen) × BeginsWithWord (SpellsMinutes axis before) tokens angle more × LacksWord (SpellsSide axis angle) more × StopsInSeconds axis angle more left)
 
 -- at its degrees; or behind them, where no side stands and no minutes go on to one
 abbrev pub StopsInAngle : Axis → List TokenSeen → List TokenSeen → Type 0
 StopsInAngle axis tokens left =
-    ((left ≡ tokens) × Lacks (SpellsDegrees axis) tokens)
-    ⊎ ((angle : ℕ) × (more : List TokenSeen) × BeginsWith (SpellsDegrees axis) tokens angle more × Lacks (SpellsSide axis angle) more × StopsInMinutes axis angle more left)
+    ((left ≡ tokens) × LacksWord (SpellsDegrees axis) tokens)
+    ⊎ ((angle : ℕ) × (more : List TokenSeen) × BeginsWithWord (SpellsDegrees axis) tokens angle more × LacksWord (SpellsSide axis angle) more × StopsInMinutes axis angle more left)
 
 abbrev pub TakesSeconds : Axis → ℕ → List TokenSeen → Option ℕ → List TokenSeen → Type 0
 TakesSeconds axis before tokens r left = MatchOption r (StopsInSeconds axis before tokens left) (λ n. GoesOnWithSeconds axis before tokens n left)
@@ -76,19 +76,19 @@ TakesAngle axis tokens r left = MatchOption r (StopsInAngle axis tokens left) (�
 
 -- a token is left that is no size
 abbrev pub StopsAtSize : List TokenSeen → Type 0
-StopsAtSize tokens = (tokens ≡ [] → ⊥) × Lacks SpellsSize tokens
+StopsAtSize tokens = (tokens ≡ [] → ⊥) × LacksWord SpellsSize tokens
 
 abbrev pub TakesSize : ℕ → List TokenSeen → Option ℕ → List TokenSeen → Type 0
 TakesSize usual tokens r left = MatchOption r ((left ≡ tokens) × StopsAtSize tokens) (λ n. BeginsWithSize usual tokens n left)
 
 -- where sizes go wrong: none, one or two of them stand, and then a token that is none
 abbrev pub StopsInSizes : List TokenSeen → List TokenSeen → Type 0
-StopsInSizes tokens left = StopsAtSize left × ((left ≡ tokens) ⊎ ((size : ℕ) × (more : List TokenSeen) × BeginsWith SpellsSize tokens size more × ((left ≡ more) ⊎ ((horizontal : ℕ) × BeginsWith SpellsSize more horizontal left))))
+StopsInSizes tokens left = StopsAtSize left × ((left ≡ tokens) ⊎ ((size : ℕ) × (more : List TokenSeen) × BeginsWithWord SpellsSize tokens size more × ((left ≡ more) ⊎ ((horizontal : ℕ) × BeginsWithWord SpellsSize more horizontal left))))
 
 -- three sizes stand, and then more
 abbrev pub GoesOnBehindSizes : List TokenSeen → List TokenSeen → Type 0
 GoesOnBehindSizes tokens left =
-    (left ≡ [] → ⊥) × (size : ℕ) × (more : List TokenSeen) × (horizontal : ℕ) × (most : List TokenSeen) × (vertical : ℕ) × BeginsWith SpellsSize tokens size more × BeginsWith SpellsSize more horizontal most × BeginsWith SpellsSize most vertical left
+    (left ≡ [] → ⊥) × (size : ℕ) × (more : List TokenSeen) × (horizontal : ℕ) × (most : List TokenSeen) × (vertical : ℕ) × BeginsWithWord SpellsSize tokens size more × BeginsWithWord SpellsSize more horizontal most × BeginsWithWord SpellsSize most vertical left
 
 -- why sizes are refused, and which tokens are left then
 abbrev pub RefusesSizes : LocationError → List TokenSeen → List TokenSeen → Type 0
@@ -111,13 +111,13 @@ BeginsWithAngles tokens rest = (latitude : ℕ) × (longitude : ℕ) × (more : 
 
 -- and go on with an altitude
 abbrev pub BeginsWithPoint : List TokenSeen → List TokenSeen → Type 0
-BeginsWithPoint tokens rest = (altitude : ℕ) × (more : List TokenSeen) × BeginsWithAngles tokens more × BeginsWith SpellsAltitude more altitude rest
+BeginsWithPoint tokens rest = (altitude : ℕ) × (more : List TokenSeen) × BeginsWithAngles tokens more × BeginsWithWord SpellsAltitude more altitude rest
 
 -- Why tokens are refused as a location, and which are left then: the first part that goes wrong.
 abbrev pub RefusesTokens : LocationError → List TokenSeen → List TokenSeen → Type 0
 RefusesTokens ExpectedLatitude tokens left = StopsInAngle Latitude tokens left
 RefusesTokens ExpectedLongitude tokens left = (latitude : ℕ) × (more : List TokenSeen) × BeginsWithAngle Latitude tokens latitude more × StopsInAngle Longitude more left
-RefusesTokens ExpectedAltitude tokens left = BeginsWithAngles tokens left × Lacks SpellsAltitude left
+RefusesTokens ExpectedAltitude tokens left = BeginsWithAngles tokens left × LacksWord SpellsAltitude left
 RefusesTokens ExpectedSize tokens left = (more : List TokenSeen) × BeginsWithPoint tokens more × StopsInSizes more left
 RefusesTokens ExpectedEnd tokens left = (more : List TokenSeen) × BeginsWithPoint tokens more × GoesOnBehindSizes more left
 RefusesTokens ShortBuf tokens left = ⊥

@@ -70,25 +70,25 @@ SpellsSize text octet = (n : ℕ) × SpellsLength text n × (n < 9000000100) × 
 -- ---- tokens
 
 -- tokens begin with one without quotes that spells a number, and go on with others
-abbrev pub BeginsWith : (List ℕ → ℕ → Type 0) → List TokenSeen → ℕ → List TokenSeen → Type 0
-BeginsWith Spells tokens number rest = (t : TokenSeen) × (tokens ≡ t ∷ rest) × (t.is_quoted ≡ false) × Spells t.text number
+abbrev pub BeginsWithWord : (List ℕ → ℕ → Type 0) → List TokenSeen → ℕ → List TokenSeen → Type 0
+BeginsWithWord Spells tokens number rest = (t : TokenSeen) × (tokens ≡ t ∷ rest) × (t.is_quoted ≡ false) × Spells t.text number
 
 -- tokens begin with an angle: `d1 [m1 [s1]] {"N"|"S"}` or `d2 [m2 [s2]] {"E"|"W"}`
 abbrev pub GoesOnWithSeconds : Axis → ℕ → List TokenSeen → ℕ → List TokenSeen → Type 0
 GoesOnWithSeconds axis before tokens number rest =
-    (angle : ℕ) × (side : List TokenSeen) × BeginsWith (SpellsSeconds axis before) tokens angle side × BeginsWith (SpellsSide axis angle) side number rest
+    (angle : ℕ) × (side : List TokenSeen) × BeginsWithWord (SpellsSeconds axis before) tokens angle side × BeginsWithWord (SpellsSide axis angle) side number rest
 
 abbrev pub GoesOnWithMinutes : Axis → ℕ → List TokenSeen → ℕ → List TokenSeen → Type 0
 GoesOnWithMinutes axis before tokens number rest =
-    (angle : ℕ) × (more : List TokenSeen) × BeginsWith (SpellsMinutes axis before) tokens angle more × (BeginsWith (SpellsSide axis angle) more number rest ⊎ GoesOnWithSeconds axis angle more number rest)
+    (angle : ℕ) × (more : List TokenSeen) × BeginsWithWord (SpellsMinutes axis before) tokens angle more × (BeginsWithWord (SpellsSide axis angle) more number rest ⊎ GoesOnWithSeconds axis angle more number rest)
 
 abbrev pub BeginsWithAngle : Axis → List TokenSeen → ℕ → List TokenSeen → Type 0
 BeginsWithAngle axis tokens number rest =
-    (angle : ℕ) × (more : List TokenSeen) × BeginsWith (SpellsDegrees axis) tokens angle more × (BeginsWith (SpellsSide axis angle) more number rest ⊎ GoesOnWithMinutes axis angle more number rest)
+    (angle : ℕ) × (more : List TokenSeen) × BeginsWithWord (SpellsDegrees axis) tokens angle more × (BeginsWithWord (SpellsSide axis angle) more number rest ⊎ GoesOnWithMinutes axis angle more number rest)
 
 -- tokens begin with a size; or none is left, and this is the usual one
 abbrev pub BeginsWithSize : ℕ → List TokenSeen → ℕ → List TokenSeen → Type 0
-BeginsWithSize usual tokens octet rest = BeginsWith SpellsSize tokens octet rest ⊎ ((tokens ≡ []) × (rest ≡ []) × (octet ≡ usual))
+BeginsWithSize usual tokens octet rest = BeginsWithWord SpellsSize tokens octet rest ⊎ ((tokens ≡ []) × (rest ≡ []) × (octet ≡ usual))
 
 -- 1 m, 10000 m and 10 m
 abbrev pub usual_size : ℕ
@@ -115,7 +115,7 @@ pub record AreLocation (tokens : List TokenSeen) (l : Location) : Type 0 where
   pub behind_altitude : List TokenSeen
   pub latitude : BeginsWithAngle Latitude tokens l.latitude behind_latitude
   pub longitude : BeginsWithAngle Longitude behind_latitude l.longitude behind_longitude
-  pub altitude : BeginsWith SpellsAltitude behind_longitude l.altitude behind_altitude
+  pub altitude : BeginsWithWord SpellsAltitude behind_longitude l.altitude behind_altitude
   pub sizes : AreSizes behind_altitude l.sizes
 
 -- ---- octets

@@ -2,7 +2,7 @@
 ghost use Rattle.std.specs.Prelude.{◌≡◌, ◌≤◌, [], OnOk, OnErr, IfErr};
 ghost use Rattle.dns_octets.specs.Appending.{Gains};
 ghost use Rattle.dns_places.specs.Locations.{most_angle, Finds, SpellsLocation, location_octets};
-ghost use Rattle.dns_places.specs.LocationTaking.{SpellsPart, IsBounded, FindsNext, TakesPart, TakesAngle, TakesMinutes, TakesSeconds, TakesSize, TakesSizes, TakesLocation, RefusesLocation};
+ghost use Rattle.dns_places.specs.LocationTaking.{SpellsPart, IsBounded, FindsNext, TakesWord, TakesAngle, TakesMinutes, TakesSeconds, TakesSize, TakesSizes, TakesLocation, RefusesLocation};
 
 use crate::angles::{
     Axis, degrees_from_text, minutes_from_text, seconds_from_text, side_from_text,
@@ -112,7 +112,7 @@ fn next_part<S: TokenSource>(part: Part, source: &S) -> Option<u32>
 /// Takes the next token as a part, if it is one.
 fn take_part<S: TokenSource>(part: Part, source: &mut S) -> Option<u32>
     requires { IsBounded part }
-    ensures takes { TakesPart part (S.left source.old) result (S.left source.new) }
+    ensures takes { TakesWord part (S.left source.old) result (S.left source.new) }
     ensures end { S.end source.new ≡ S.end source.old }
 {
     let number = next_part(part, source)?;
