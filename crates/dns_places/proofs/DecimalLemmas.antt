@@ -1,10 +1,10 @@
 -- Decimals are read in one way.
-use Rattle.std.proofs.Common.{ℕ, zero, suc, Option, Some, None, lit<, ◌≡◌, ◌<◌, ◌≤◌, ◌+◌, ◌-◌, ◌*◌, ◌^◌, ◌⊎◌, List, [], ◌∷◌, ◌++◌, length, refl, sym, subst, arith, ap, ◌∙◌, inl, inr}
+use Rattle.std.proofs.Common.{ℕ, zero, suc, Option, Some, None, lit<, ◌≡◌, ◌<◌, ◌≤◌, ◌+◌, ◌-◌, ◌*◌, ◌^◌, List, [], ◌∷◌, ◌++◌, length, refl, sym, subst, arith, ap, ◌∙◌, inl, inr}
 use Rattle.std.proofs.Math.Nat.{lt_of_mul-lt-mul_right, pow-le-pow_right}
 use Rattle.std.proofs.lemmas.Int.Digits.{digits_value-lt}
 use Rattle.dns_kinds.specs.Numbers.{SpellsNumber}
 use Rattle.dns_places.specs.Marks.{LacksMark}
-use Rattle.dns_places.specs.Decimals.{HasPoint, SpellsDecimal, FindsDecimal, SpellsLength, FindsLength}
+use Rattle.dns_places.specs.Decimals.{SpellsDecimal, FindsDecimal, SpellsLength, FindsLength}
 use Rattle.dns_places.proofs.MarkLemmas.{digits_lack, one_first, at_mark}
 
 whole_small : (whole unit more n : ℕ) → n < 2 ^ 32 * unit → n ≡ whole * unit + more → whole < 2 ^ 32

@@ -1,5 +1,5 @@
 -- The words of an altitude and of sizes are read in one way.
-use Rattle.std.proofs.Common.{ℕ, lit<, ◌≡◌, ◌<◌, ◌≤◌, ◌+◌, ◌-◌, ◌*◌, ◌/◌, ◌^◌, ◌⊎◌, Option, Some, None, List, [], ◌∷◌, ◌++◌, length, get_or, take, drop, refl, sym, subst, arith, ap, ◌∙◌, inl, inr, append-nil, add-one, ⊎_elim}
+use Rattle.std.proofs.Common.{ℕ, lit<, ◌≡◌, ◌<◌, ◌≤◌, ◌+◌, ◌-◌, ◌*◌, ◌/◌, ◌^◌, ◌⊎◌, Option, Some, None, List, [], ◌∷◌, length, get_or, take, drop, refl, sym, subst, arith, ap, ◌∙◌, inl, inr, append-nil, add-one, ⊎_elim}
 use Rattle.std.proofs.Math.Nat.{pow-le-pow_right, pow-suc, mul-le-mul_right}
 use Rattle.std.proofs.lemmas.Bool.{cases_lt}
 use Rattle.std.proofs.lemmas.List.{take_all}
@@ -182,13 +182,24 @@ one_size text n m h k =
     let one = one_first_digit k.0 h.3.0 h.3.1 k.3.0 k.3.1 own k.3.2 in
     omega (arith, h.3.3, k.3.3, one.0, one.1)
 
+-- at most nine digits follow the first
+pub behind_short : (n digit behind : ℕ) → n < 9000000100 → HasFirstDigit n digit behind → behind ≤ 9
+behind_short n digit behind small h = elim (cases_lt behind 10) [
+  | inl few ↦ omega (arith, few)
+  | inr many ↦
+      let some : 1 ≤ digit = ⊎_elim (λ none. let zero = h.zero (omega (arith, none)) in absurd (omega (arith, zero, many))) (λ h. h) (cases_lt digit 1) in
+      let unit : 10 ^ 10 ≤ 10 ^ behind = pow-le-pow_right {n = 10} (lit< tt) many in
+      let product : 1 * 10 ^ behind ≤ digit * 10 ^ behind = mul-le-mul_right (10 ^ behind) some in
+      absurd (omega (arith, unit, product, h.least, small))
+]
+
 -- a size is one octet
 pub size_few : (text : List ℕ) (octet : ℕ) → SpellsSize text octet → octet < 256
-size_few text octet h = elim (cases_lt h.3.1 10) [
-  | inl few ↦ omega (arith, few, h.3.2.is_digit, h.3.3)
-  | inr many ↦
-      let some : 1 ≤ h.3.0 = ⊎_elim (λ none. let zero = h.3.2.zero (omega (arith, none)) in absurd (omega (arith, zero, many))) (λ h. h) (cases_lt h.3.0 1) in
-      let unit : 10 ^ 10 ≤ 10 ^ h.3.1 = pow-le-pow_right {n = 10} (lit< tt) many in
-      let product : 1 * 10 ^ h.3.1 ≤ h.3.0 * 10 ^ h.3.1 = mul-le-mul_right (10 ^ h.3.1) some in
-      absurd (omega (arith, unit, product, h.3.2.least, h.2))
-]
+size_few text octet h = let short = behind_short h.0 h.3.0 h.3.1 h.2 h.3.2 in omega (arith, short, h.3.2.is_digit, h.3.3)
+
+pub zeros_fit : (digit zeros a b : ℕ) → digit < 256 → zeros ≤ 15 → a ≡ digit → b ≡ 10 ^ zeros → a * b < 2 ^ 64
+zeros_fit digit zeros a b small few is unit =
+    let most : 10 ^ zeros ≤ 10 ^ 15 = pow-le-pow_right {n = 10} (lit< tt) few in
+    let first : digit * 10 ^ zeros ≤ 255 * 10 ^ zeros = mul-le-mul_right (10 ^ zeros) (omega (arith, small)) in
+    let product : a * b ≡ digit * 10 ^ zeros = λ i. is i * unit i in
+    omega (arith, most, first, product)

@@ -3,6 +3,7 @@ pub mod DecimalLemmas
 pub mod GatewayLaws
 pub mod HeightLemmas
 pub mod ItemLemmas
+pub mod LocationLaws
 pub mod LocationLemmas
 pub mod LocationOnce
 pub mod MarkLemmas

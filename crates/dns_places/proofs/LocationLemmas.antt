@@ -1,19 +1,17 @@
 -- Parts of a location are taken one after another.
-use Rattle.std.proofs.Common.{ℕ, ◌≡◌, ◌⊎◌, Bool, true, false, true≢false, Option, Some, None, Result, Ok, Err, List, [], ◌∷◌, length, get_or, drop, refl, sym, subst, arith, ap, ◌∙◌, inl, inr}
+use Rattle.std.proofs.Common.{ℕ, ◌≡◌, true, false, true≢false, Option, Some, None, List, [], ◌∷◌, length, get_or, drop, refl, sym, subst, arith, ap, ◌∙◌, inl, inr}
 use Rattle.std.specs.Prelude.{slice_get, is_some, is_none, option_map}
 use Rattle.std.proofs.lemmas.Option.{none-some}
 use Rattle.dns_split.specs.EntryTokens.{TokenSeen, token_seen}
 use Rattle.dns_split.specs.declared.entry_tokens.EntryToken.{EntryToken}
 use Rattle.dns_places.specs.declared.angles.Axis.{Axis}
-use Rattle.dns_places.specs.declared.angles.Axis.TheVariants.{Latitude, Longitude}
 use Rattle.dns_places.specs.declared.location.Part.{Part}
-use Rattle.dns_places.specs.declared.location.Part.TheVariants.{Side, Altitude}
+use Rattle.dns_places.specs.declared.location.Part.TheVariants.{Side}
 use Rattle.dns_places.specs.declared.location.Sizes.{Sizes}
-use Rattle.dns_places.specs.declared.location.Location.{Location}
 use Rattle.dns_places.specs.declared.location_error.LocationError.{LocationError}
 use Rattle.dns_places.specs.declared.location_error.LocationError.TheVariants.{ExpectedLatitude, ExpectedLongitude, ExpectedAltitude, ExpectedSize, ExpectedEnd, ShortBuf}
-use Rattle.dns_places.specs.Locations.{SpellsDegrees, SpellsMinutes, SpellsSeconds, SpellsSide, SpellsAltitude, SpellsSize, BeginsWithWord, BeginsWithAngle, GoesOnWithMinutes, GoesOnWithSeconds, BeginsWithSize, AreSizes, AreLocation, Finds, usual_size, usual_horizontal, usual_vertical}
-use Rattle.dns_places.specs.LocationTaking.{SpellsPart, LacksWord, FindsNext, TakesWord, TakesSeconds, TakesMinutes, TakesAngle, StopsAtSize, StopsInSizes, GoesOnBehindSizes, RefusesSizes, BeginsWithAngles, BeginsWithPoint, RefusesTokens}
+use Rattle.dns_places.specs.Locations.{SpellsDegrees, SpellsMinutes, SpellsSeconds, SpellsSide, SpellsSize, BeginsWithWord, GoesOnWithMinutes, GoesOnWithSeconds, BeginsWithSize, AreSizes, Finds, usual_size, usual_horizontal, usual_vertical}
+use Rattle.dns_places.specs.LocationTaking.{SpellsPart, LacksWord, FindsNext, TakesWord, TakesSeconds, TakesMinutes, TakesAngle, StopsAtSize, StopsInSizes, GoesOnBehindSizes, RefusesSizes, BeginsWithPoint, RefusesTokens}
 
 pub same_token : (t u : TokenSeen) (tokens rest more : List TokenSeen) → tokens ≡ t ∷ rest → tokens ≡ u ∷ more → t ≡ u
 same_token t u tokens rest more h k = ap (λ ts. get_or ts 0 t) (sym h ∙ k)

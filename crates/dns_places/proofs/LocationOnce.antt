@@ -1,8 +1,5 @@
 -- Tokens spell one location, and where they are refused none.
-use Rattle.std.proofs.Common.{ℕ, ◌≡◌, ◌⊎◌, Result, Ok, Err, List, [], ◌∷◌, length, get_or, drop, refl, sym, subst, arith, ap, ◌∙◌, inl, inr, ⊎_elim}
-use Rattle.std.specs.Result.{IfErr}
-use Rattle.dns_octets.specs.Room.{Room}
-use Rattle.dns_octets.specs.Appending.{LacksRoom}
+use Rattle.std.proofs.Common.{ℕ, ◌≡◌, ◌⊎◌, List, [], ◌∷◌, length, drop, sym, subst, arith, ap, ◌∙◌, inl, inr}
 use Rattle.dns_split.specs.EntryTokens.{TokenSeen}
 use Rattle.dns_places.specs.declared.angles.Axis.{Axis}
 use Rattle.dns_places.specs.declared.angles.Axis.TheVariants.{Latitude, Longitude}

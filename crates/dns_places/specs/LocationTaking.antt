@@ -13,7 +13,7 @@ use Rattle.dns_places.specs.declared.location.LocationRefusal.{LocationRefusal}
 use Rattle.dns_places.specs.declared.location.Sizes.{Sizes}
 use Rattle.dns_places.specs.declared.location_error.LocationError.{LocationError}
 use Rattle.dns_places.specs.declared.location_error.LocationError.TheVariants.{ExpectedLatitude, ExpectedLongitude, ExpectedAltitude, ExpectedSize, ExpectedEnd, ShortBuf}
-use Rattle.dns_places.specs.Locations.{most_angle, SpellsDegrees, SpellsMinutes, SpellsSeconds, SpellsSide, SpellsAltitude, SpellsSize, BeginsWithWord, GoesOnWithSeconds, GoesOnWithMinutes, BeginsWithAngle, BeginsWithSize, usual_size, usual_horizontal, usual_vertical, AreSizes, AreLocation, SpellsLocation}
+use Rattle.dns_places.specs.Locations.{most_angle, SpellsDegrees, SpellsMinutes, SpellsSeconds, SpellsSide, SpellsAltitude, SpellsSize, BeginsWithWord, GoesOnWithSeconds, GoesOnWithMinutes, BeginsWithAngle, BeginsWithSize, AreSizes, AreLocation, SpellsLocation}
 
 -- a word of a part spells a number
 abbrev pub SpellsPart : Part → List ℕ → ℕ → Type 0

@@ -1,5 +1,5 @@
 -- Locations (RFC 1876): words of a latitude, a longitude, an altitude and sizes, and their octets.
-use Rattle.std.specs.Prelude.{ℕ, ◌≡◌, ◌<◌, ◌≤◌, ◌+◌, ◌*◌, ◌^◌, ◌⊎◌, false, List, [], ◌∷◌, ◌++◌, length, codes, Option, MatchOption}
+use Rattle.std.specs.Prelude.{ℕ, ◌≡◌, ◌<◌, ◌≤◌, ◌+◌, ◌*◌, ◌^◌, ◌⊎◌, false, List, [], ◌∷◌, ◌++◌, codes, Option, MatchOption}
 use Rattle.std.specs.Int.{to_be_bytes, w32}
 use Rattle.dns_kinds.specs.Numbers.{SpellsNumber}
 use Rattle.dns_split.specs.EntryTokens.{TokenSeen}

@@ -20,7 +20,7 @@ pub(crate) const DEGREE: u32 = 3_600_000;
 pub(crate) const MINUTE: u32 = 60_000;
 
 /// The most degrees of an angle.
-fn most_degrees(axis: Axis) -> u32
+pub(crate) fn most_degrees(axis: Axis) -> u32
     ensures { result ≡ most_degrees axis }
 {
     match axis {
@@ -78,7 +78,7 @@ pub(crate) fn seconds_from_text(axis: Axis, before: u32, text: &[u8]) -> Option<
 }
 
 /// The word of the side on which an angle is added.
-pub(crate) fn upper_side(axis: Axis) -> &'static str
+fn upper_side(axis: Axis) -> &'static str
     ensures { result.now ≡ upper_side axis }
 {
     match axis {
@@ -88,7 +88,7 @@ pub(crate) fn upper_side(axis: Axis) -> &'static str
 }
 
 /// The word of the side on which an angle is subtracted.
-pub(crate) fn lower_side(axis: Axis) -> &'static str
+fn lower_side(axis: Axis) -> &'static str
     ensures { result.now ≡ lower_side axis }
 {
     match axis {

@@ -12,6 +12,8 @@ pub mod gateway;
 mod heights;
 pub mod location;
 pub mod location_error;
+pub mod location_text;
+pub mod location_wire;
 mod marks;
 
 pub use apl::{Prefix, append_prefix, item_width};
@@ -19,3 +21,5 @@ pub use error::PlaceError;
 pub use gateway::Gateway;
 pub use location::{LocationRefusal, take_location};
 pub use location_error::LocationError;
+pub use location_text::{LocationWord, location_words};
+pub use location_wire::is_location;

@@ -1,4 +1,4 @@
-use Rattle.std.proofs.Common.{rules, sym, subst}
+use Rattle.std.proofs.Common.{sym, subst}
 use Rattle.dns_places.specs.Locations.{Finds, SpellsSeconds}
 use Rattle.dns_places.proofs.AngleLemmas.{no_seconds, many_seconds, seconds_bounded}
 use Rattle.dns_places.proofs.angles.seconds_from_text.Goals as goal

@@ -1,4 +1,4 @@
-use Rattle.std.proofs.Common.{rules, arith, sym, subst}
+use Rattle.std.proofs.Common.{rules, sym, subst}
 use Rattle.dns_places.specs.Locations.{FindsBelow, SpellsHeight}
 use Rattle.dns_places.proofs.HeightLemmas.{no_height, too_high}
 use Rattle.dns_places.proofs.heights.height_from_text.Goals as goal

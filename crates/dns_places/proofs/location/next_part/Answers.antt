@@ -1,4 +1,3 @@
-use Rattle.std.proofs.Common.{rules}
 use Rattle.dns_split.specs.EntryTokens.{token_seen}
 use Rattle.dns_fields.proofs.Tokens.{first_taken}
 use Rattle.dns_places.proofs.LocationLemmas.{finds_next}
