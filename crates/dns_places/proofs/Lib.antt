@@ -1,5 +1,11 @@
+pub mod AngleLemmas
+pub mod DecimalLemmas
 pub mod GatewayLaws
+pub mod HeightLemmas
 pub mod ItemLemmas
+pub mod LocationLaws
+pub mod LocationLemmas
+pub mod LocationOnce
 pub mod MarkLemmas
 pub mod PrefixLaws
 pub mod PrefixLemmas

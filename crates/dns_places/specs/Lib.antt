@@ -1,4 +1,9 @@
+pub mod Decimals
 pub mod Gateways
+pub mod LocationErrors
+pub mod LocationTaking
+pub mod LocationWords
+pub mod Locations
 pub mod Marks
 pub mod PlaceError
 pub mod Prefixes

@@ -1,0 +1,134 @@
+-- How a location is taken of the tokens of an entry, part by part.
+use Rattle.std.specs.Prelude.{ℕ, ◌≡◌, ◌≤◌, ◌⊎◌, List, [], Option, MatchOption, Result, Ok, Err}
+use Rattle.dns_octets.specs.Room.{Room}
+use Rattle.dns_octets.specs.Appending.{LacksRoom}
+use Rattle.dns_split.specs.EntryTokens.{TokenSeen}
+use Rattle.dns_fields.specs.Source.{next_place}
+use Rattle.dns_places.specs.declared.angles.Axis.{Axis}
+use Rattle.dns_places.specs.declared.angles.Axis.TheVariants.{Latitude, Longitude}
+use Rattle.dns_places.specs.declared.location.Location.{Location}
+use Rattle.dns_places.specs.declared.location.Part.{Part}
+use Rattle.dns_places.specs.declared.location.Part.TheVariants.{Degrees, Minutes, Seconds, Side, Altitude, Size}
+use Rattle.dns_places.specs.declared.location.LocationRefusal.{LocationRefusal}
+use Rattle.dns_places.specs.declared.location.Sizes.{Sizes}
+use Rattle.dns_places.specs.declared.location_error.LocationError.{LocationError}
+use Rattle.dns_places.specs.declared.location_error.LocationError.TheVariants.{ExpectedLatitude, ExpectedLongitude, ExpectedAltitude, ExpectedSize, ExpectedEnd, ShortBuf}
+use Rattle.dns_places.specs.Locations.{most_angle, SpellsDegrees, SpellsMinutes, SpellsSeconds, SpellsSide, SpellsAltitude, SpellsSize, BeginsWithWord, GoesOnWithSeconds, GoesOnWithMinutes, BeginsWithAngle, BeginsWithSize, AreSizes, AreLocation, SpellsLocation}
+
+-- a word of a part spells a number
+abbrev pub SpellsPart : Part → List ℕ → ℕ → Type 0
+SpellsPart (Degrees axis) text n = SpellsDegrees axis text n
+SpellsPart (Minutes axis before) text n = SpellsMinutes axis before text n
+SpellsPart (Seconds axis before) text n = SpellsSeconds axis before text n
+SpellsPart (Side axis angle) text n = SpellsSide axis angle text n
+SpellsPart Altitude text n = SpellsAltitude text n
+SpellsPart Size text n = SpellsSize text n
+
+-- what came before is no greater than an angle can be
+abbrev pub IsBounded : Part → Type 0
+IsBounded (Degrees axis) = Unit {0}
+IsBounded (Minutes axis before) = before ≤ most_angle axis
+IsBounded (Seconds axis before) = before ≤ most_angle axis
+IsBounded (Side axis angle) = angle ≤ most_angle axis
+IsBounded Altitude = Unit {0}
+IsBounded Size = Unit {0}
+
+-- tokens don't begin with such a one
+abbrev pub LacksWord : (List ℕ → ℕ → Type 0) → List TokenSeen → Type 0
+LacksWord Spells tokens = (n : ℕ) (rest : List TokenSeen) → BeginsWithWord Spells tokens n rest → ⊥
+
+abbrev pub FindsNext : Part → List TokenSeen → Option ℕ → Type 0
+FindsNext part tokens r = MatchOption r (LacksWord (SpellsPart part) tokens) (λ n. (rest : List TokenSeen) × BeginsWithWord (SpellsPart part) tokens n rest)
+
+-- the next token is taken as a part; or it is none, and stays
+abbrev pub TakesWord : Part → List TokenSeen → Option ℕ → List TokenSeen → Type 0
+TakesWord part tokens r left = MatchOption r ((left ≡ tokens) × LacksWord (SpellsPart part) tokens) (λ n. BeginsWithWord (SpellsPart part) tokens n left)
+
+-- ---- where an angle goes wrong
+
+-- at its seconds; or behind them, where no side stands
+abbrev pub StopsInSeconds : Axis → ℕ → List TokenSeen → List TokenSeen → Type 0
+StopsInSeconds axis before tokens left =
+    ((left ≡ tokens) × LacksWord (SpellsSeconds axis before) tokens) ⊎ ((angle : ℕ) × BeginsWithWord (SpellsSeconds axis before) tokens angle left × LacksWord (SpellsSide axis angle) left)
+
+-- at its minutes; or behind them, where no side stands and no seconds go on to one
+abbrev pub StopsInMinutes : Axis → ℕ → List TokenSeen → List TokenSeen → Type 0
+StopsInMinutes axis before tokens left =
+    ((left ≡ tokens) × LacksWord (SpellsMinutes axis before) tokens)
+    ⊎ ((angle : ℕ) × (more : List TokenSeen) × BeginsWithWord (SpellsMinutes axis before) tokens angle more × LacksWord (SpellsSide axis angle) more × StopsInSeconds axis angle more left)
+
+-- at its degrees; or behind them, where no side stands and no minutes go on to one
+abbrev pub StopsInAngle : Axis → List TokenSeen → List TokenSeen → Type 0
+StopsInAngle axis tokens left =
+    ((left ≡ tokens) × LacksWord (SpellsDegrees axis) tokens)
+    ⊎ ((angle : ℕ) × (more : List TokenSeen) × BeginsWithWord (SpellsDegrees axis) tokens angle more × LacksWord (SpellsSide axis angle) more × StopsInMinutes axis angle more left)
+
+abbrev pub TakesSeconds : Axis → ℕ → List TokenSeen → Option ℕ → List TokenSeen → Type 0
+TakesSeconds axis before tokens r left = MatchOption r (StopsInSeconds axis before tokens left) (λ n. GoesOnWithSeconds axis before tokens n left)
+
+abbrev pub TakesMinutes : Axis → ℕ → List TokenSeen → Option ℕ → List TokenSeen → Type 0
+TakesMinutes axis before tokens r left = MatchOption r (StopsInMinutes axis before tokens left) (λ n. GoesOnWithMinutes axis before tokens n left)
+
+abbrev pub TakesAngle : Axis → List TokenSeen → Option ℕ → List TokenSeen → Type 0
+TakesAngle axis tokens r left = MatchOption r (StopsInAngle axis tokens left) (λ n. BeginsWithAngle axis tokens n left)
+
+-- ---- sizes
+
+-- a token is left that is no size
+abbrev pub StopsAtSize : List TokenSeen → Type 0
+StopsAtSize tokens = (tokens ≡ [] → ⊥) × LacksWord SpellsSize tokens
+
+abbrev pub TakesSize : ℕ → List TokenSeen → Option ℕ → List TokenSeen → Type 0
+TakesSize usual tokens r left = MatchOption r ((left ≡ tokens) × StopsAtSize tokens) (λ n. BeginsWithSize usual tokens n left)
+
+-- where sizes go wrong: none, one or two of them stand, and then a token that is none
+abbrev pub StopsInSizes : List TokenSeen → List TokenSeen → Type 0
+StopsInSizes tokens left = StopsAtSize left × ((left ≡ tokens) ⊎ ((size : ℕ) × (more : List TokenSeen) × BeginsWithWord SpellsSize tokens size more × ((left ≡ more) ⊎ ((horizontal : ℕ) × BeginsWithWord SpellsSize more horizontal left))))
+
+-- three sizes stand, and then more
+abbrev pub GoesOnBehindSizes : List TokenSeen → List TokenSeen → Type 0
+GoesOnBehindSizes tokens left =
+    (left ≡ [] → ⊥) × (size : ℕ) × (more : List TokenSeen) × (horizontal : ℕ) × (most : List TokenSeen) × (vertical : ℕ) × BeginsWithWord SpellsSize tokens size more × BeginsWithWord SpellsSize more horizontal most × BeginsWithWord SpellsSize most vertical left
+
+-- why sizes are refused, and which tokens are left then
+abbrev pub RefusesSizes : LocationError → List TokenSeen → List TokenSeen → Type 0
+RefusesSizes ExpectedLatitude tokens left = ⊥
+RefusesSizes ExpectedLongitude tokens left = ⊥
+RefusesSizes ExpectedAltitude tokens left = ⊥
+RefusesSizes ExpectedSize tokens left = StopsInSizes tokens left
+RefusesSizes ExpectedEnd tokens left = GoesOnBehindSizes tokens left
+RefusesSizes ShortBuf tokens left = ⊥
+
+abbrev pub TakesSizes : List TokenSeen → Result Sizes LocationError → List TokenSeen → Type 0
+TakesSizes tokens (Ok s) left = (left ≡ []) × AreSizes tokens s
+TakesSizes tokens (Err e) left = RefusesSizes e tokens left
+
+-- ---- the whole
+
+-- tokens begin with a latitude and a longitude
+abbrev pub BeginsWithAngles : List TokenSeen → List TokenSeen → Type 0
+BeginsWithAngles tokens rest = (latitude : ℕ) × (longitude : ℕ) × (more : List TokenSeen) × BeginsWithAngle Latitude tokens latitude more × BeginsWithAngle Longitude more longitude rest
+
+-- and go on with an altitude
+abbrev pub BeginsWithPoint : List TokenSeen → List TokenSeen → Type 0
+BeginsWithPoint tokens rest = (altitude : ℕ) × (more : List TokenSeen) × BeginsWithAngles tokens more × BeginsWithWord SpellsAltitude more altitude rest
+
+-- Why tokens are refused as a location, and which are left then: the first part that goes wrong.
+abbrev pub RefusesTokens : LocationError → List TokenSeen → List TokenSeen → Type 0
+RefusesTokens ExpectedLatitude tokens left = StopsInAngle Latitude tokens left
+RefusesTokens ExpectedLongitude tokens left = (latitude : ℕ) × (more : List TokenSeen) × BeginsWithAngle Latitude tokens latitude more × StopsInAngle Longitude more left
+RefusesTokens ExpectedAltitude tokens left = BeginsWithAngles tokens left × LacksWord SpellsAltitude left
+RefusesTokens ExpectedSize tokens left = (more : List TokenSeen) × BeginsWithPoint tokens more × StopsInSizes more left
+RefusesTokens ExpectedEnd tokens left = (more : List TokenSeen) × BeginsWithPoint tokens more × GoesOnBehindSizes more left
+RefusesTokens ShortBuf tokens left = ⊥
+
+-- all tokens are taken as a location; or they are refused
+abbrev pub TakesLocation : List TokenSeen → Result Location LocationError → List TokenSeen → Type 0
+TakesLocation tokens (Ok l) left = (left ≡ []) × AreLocation tokens l
+TakesLocation tokens (Err e) left = RefusesTokens e tokens left
+
+-- A refusal is at the first token that is left, or at the entry's end. Either the tokens spell no
+-- location, as this reason says; or the octets of theirs don't surely fit.
+abbrev pub RefusesLocation : Room → ℕ → List TokenSeen → List TokenSeen → List ℕ → LocationRefusal → Type 0
+RefusesLocation room end tokens left old r =
+    (r.at ≡ next_place left end) × ((RefusesTokens r.why tokens left × ((octets : List ℕ) → SpellsLocation tokens octets → ⊥)) ⊎ ((r.why ≡ ShortBuf) × (left ≡ []) × ((octets : List ℕ) × SpellsLocation tokens octets) × LacksRoom room (SpellsLocation tokens) old))

@@ -1,0 +1,245 @@
+//! Locations (RFC 1876), read of the tokens of an entry.
+ghost use Rattle.std.specs.Prelude.{◌≡◌, ◌≤◌, [], OnOk, OnErr, IfErr};
+ghost use Rattle.dns_octets.specs.Appending.{Gains};
+ghost use Rattle.dns_places.specs.Locations.{most_angle, Finds, SpellsLocation, location_octets};
+ghost use Rattle.dns_places.specs.LocationTaking.{SpellsPart, IsBounded, FindsNext, TakesWord, TakesAngle, TakesMinutes, TakesSeconds, TakesSize, TakesSizes, TakesLocation, RefusesLocation};
+
+use crate::angles::{
+    Axis, degrees_from_text, minutes_from_text, seconds_from_text, side_from_text,
+};
+use crate::heights::{altitude_from_text, size_from_text};
+use crate::location_error::LocationError;
+use dns_fields::TokenSource;
+use dns_octets::OctetsBuilder;
+
+/// A token that is refused, by its place, and why. Where none is left, the place is the entry's end.
+#[derive(Clone, Copy, Debug, PartialEq, Eq)]
+pub struct LocationRefusal {
+    pub at: usize,
+    pub why: LocationError,
+}
+
+/// The sizes of a location: its diameter, and its horizontal and vertical precision, each as an octet.
+#[derive(Clone, Copy)]
+pub(crate) struct Sizes {
+    pub(crate) size: u8,
+    pub(crate) horizontal: u8,
+    pub(crate) vertical: u8,
+}
+
+/// A location, by the numbers of its octets.
+#[derive(Clone, Copy)]
+pub(crate) struct Location {
+    pub(crate) sizes: Sizes,
+    pub(crate) latitude: u32,
+    pub(crate) longitude: u32,
+    pub(crate) altitude: u32,
+}
+
+/// The sizes that are not said: 1 m, 10000 m and 10 m.
+const SIZE: u8 = 0x12;
+
+const HORIZONTAL: u8 = 0x16;
+
+const VERTICAL: u8 = 0x13;
+
+/// The octets of a location.
+fn octets_of(location: &Location) -> [u8; 16]
+    ensures { result ≡ location_octets location.now }
+{
+    let [a, b, c, d] = location.latitude.to_be_bytes();
+    let [e, f, g, h] = location.longitude.to_be_bytes();
+    let [i, j, k, l] = location.altitude.to_be_bytes();
+    let sizes = location.sizes;
+    [
+        0,
+        sizes.size,
+        sizes.horizontal,
+        sizes.vertical,
+        a,
+        b,
+        c,
+        d,
+        e,
+        f,
+        g,
+        h,
+        i,
+        j,
+        k,
+        l,
+    ]
+}
+
+/// What a word of a location can be, with the angle before it.
+#[derive(Clone, Copy)]
+enum Part {
+    Degrees(Axis),
+    Minutes(Axis, u32),
+    Seconds(Axis, u32),
+    Side(Axis, u32),
+    Altitude,
+    Size,
+}
+
+/// The number of a part that a word writes.
+fn part_from_text(part: Part, text: &[u8]) -> Option<u32>
+    requires { IsBounded part }
+    ensures { Finds (SpellsPart part) text.now result }
+{
+    match part {
+        Part::Degrees(axis) => degrees_from_text(axis, text),
+        Part::Minutes(axis, before) => minutes_from_text(axis, before, text),
+        Part::Seconds(axis, before) => seconds_from_text(axis, before, text),
+        Part::Side(axis, angle) => side_from_text(axis, angle, text),
+        Part::Altitude => altitude_from_text(text),
+        Part::Size => size_from_text(text),
+    }
+}
+
+/// The number of a part that the next token writes.
+fn next_part<S: TokenSource>(part: Part, source: &S) -> Option<u32>
+    requires { IsBounded part }
+    ensures { FindsNext part (S.left source.now) result }
+{
+    let token = source.current()?;
+    if token.is_quoted {
+        return None;
+    }
+    part_from_text(part, token.text)
+}
+
+/// Takes the next token as a part, if it is one.
+fn take_part<S: TokenSource>(part: Part, source: &mut S) -> Option<u32>
+    requires { IsBounded part }
+    ensures takes { TakesWord part (S.left source.old) result (S.left source.new) }
+    ensures end { S.end source.new ≡ S.end source.old }
+{
+    let number = next_part(part, source)?;
+    source.advance();
+    Some(number)
+}
+
+/// Takes the tokens of an angle. Refused, the source stands at the token that goes wrong.
+fn take_angle<S: TokenSource>(axis: Axis, source: &mut S) -> Option<u32>
+    ensures takes { TakesAngle axis (S.left source.old) result (S.left source.new) }
+    ensures end { S.end source.new ≡ S.end source.old }
+{
+    let degrees = take_part(Part::Degrees(axis), source)?;
+    if let Some(number) = take_part(Part::Side(axis, degrees), source) {
+        return Some(number);
+    }
+    take_minutes(axis, degrees, source)
+}
+
+/// Takes the tokens of an angle behind its degrees, of which the next is no side.
+fn take_minutes<S: TokenSource>(axis: Axis, degrees: u32, source: &mut S) -> Option<u32>
+    requires { degrees ≤ most_angle axis }
+    ensures takes { TakesMinutes axis degrees (S.left source.old) result (S.left source.new) }
+    ensures end { S.end source.new ≡ S.end source.old }
+{
+    let minutes = take_part(Part::Minutes(axis, degrees), source)?;
+    if let Some(number) = take_part(Part::Side(axis, minutes), source) {
+        return Some(number);
+    }
+    take_seconds(axis, minutes, source)
+}
+
+/// Takes the tokens of an angle behind its minutes, of which the next is no side.
+fn take_seconds<S: TokenSource>(axis: Axis, minutes: u32, source: &mut S) -> Option<u32>
+    requires { minutes ≤ most_angle axis }
+    ensures takes { TakesSeconds axis minutes (S.left source.old) result (S.left source.new) }
+    ensures end { S.end source.new ≡ S.end source.old }
+{
+    let seconds = take_part(Part::Seconds(axis, minutes), source)?;
+    take_part(Part::Side(axis, seconds), source)
+}
+
+/// Takes the next token as a size; or, where none is left, the usual one.
+fn take_size<S: TokenSource>(usual: u8, source: &mut S) -> Option<u8>
+    ensures takes { TakesSize usual (S.left source.old) result (S.left source.new) }
+    ensures end { S.end source.new ≡ S.end source.old }
+{
+    if source.current().is_none() {
+        return Some(usual);
+    }
+    let octet = take_part(Part::Size, source)?;
+    Some(octet as u8)
+}
+
+/// Takes the tokens that are left as sizes.
+fn take_sizes<S: TokenSource>(source: &mut S) -> Result<Sizes, LocationError>
+    ensures takes { TakesSizes (S.left source.old) result (S.left source.new) }
+    ensures end { S.end source.new ≡ S.end source.old }
+{
+    let Some(size) = take_size(SIZE, source) else {
+        return Err(LocationError::ExpectedSize);
+    };
+    let Some(horizontal) = take_size(HORIZONTAL, source) else {
+        return Err(LocationError::ExpectedSize);
+    };
+    let Some(vertical) = take_size(VERTICAL, source) else {
+        return Err(LocationError::ExpectedSize);
+    };
+    if source.current().is_some() {
+        return Err(LocationError::ExpectedEnd);
+    }
+    Ok(Sizes {
+        size,
+        horizontal,
+        vertical,
+    })
+}
+
+/// Takes the tokens that are left as a location.
+fn read_location<S: TokenSource>(source: &mut S) -> Result<Location, LocationError>
+    ensures takes { TakesLocation (S.left source.old) result (S.left source.new) }
+    ensures end { S.end source.new ≡ S.end source.old }
+{
+    let Some(latitude) = take_angle(Axis::Latitude, source) else {
+        return Err(LocationError::ExpectedLatitude);
+    };
+    let Some(longitude) = take_angle(Axis::Longitude, source) else {
+        return Err(LocationError::ExpectedLongitude);
+    };
+    let Some(altitude) = take_part(Part::Altitude, source) else {
+        return Err(LocationError::ExpectedAltitude);
+    };
+    let sizes = match take_sizes(source) {
+        Ok(sizes) => sizes,
+        Err(why) => return Err(why),
+    };
+    Ok(Location {
+        latitude,
+        longitude,
+        altitude,
+        sizes,
+    })
+}
+
+/// Takes the tokens of a location that are left, and appends its octets. Refused, the target is as
+/// it was, and the source stands at the token that is refused, or at the entry's end.
+pub fn take_location<S: TokenSource, B: OctetsBuilder>(
+    source: &mut S,
+    target: &mut B,
+) -> Result<(), LocationRefusal>
+    ensures ok { OnOk result (Gains (SpellsLocation (S.left source.old)) (B.octets target.old) (B.octets target.new)) }
+    ensures taken { OnOk result (S.left source.new ≡ []) }
+    ensures err { OnErr result (B.octets target.new ≡ B.octets target.old) }
+    ensures why { IfErr result (RefusesLocation B.room (S.end source.old) (S.left source.old) (S.left source.new) (B.octets target.old)) }
+    ensures end { S.end source.new ≡ S.end source.old }
+{
+    match read_location(source) {
+        Ok(location) => match target.append_slice(&octets_of(&location)) {
+            Ok(()) => Ok(()),
+            Err(_) => Err(LocationRefusal {
+                at: source.place(),
+                why: LocationError::ShortBuf,
+            }),
+        },
+        Err(why) => Err(LocationRefusal {
+            at: source.place(),
+            why,
+        }),
+    }
+}
