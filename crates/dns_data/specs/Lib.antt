@@ -6,3 +6,4 @@ pub mod RestKinds
 pub mod Rests
 pub mod Texts
 pub mod TypeLists
+pub mod Types
