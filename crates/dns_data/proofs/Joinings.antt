@@ -87,11 +87,9 @@ module _ (kind : DigitsKind) (first s : DigitsState) (same : first.kind ≡ kind
       let unspelled : (v : List ℕ) → SpellsDigits (base_of kind) (joined_text h.before) v → ⊥ =
       subst (λ (k : DigitsKind). (v : List ℕ) → SpellsDigits (base_of k) (joined_text h.before) v → ⊥) kept (never (joined_text h.before) h.gained read) in
       record {
-        before = h.before;
-        whole = h.whole;
         at = place ∙ ap (next_place left) ends;
         why = inr (
-            (h.unquoted, subst (λ l. DigitsReason kind h.before l (Field (of_digits e))) (sym none) (e, refl, inl (is ∙ ap unfinished kept, goes))),
+            (h.before, h.whole, (h.unquoted, subst (λ l. DigitsReason kind h.before l (Field (of_digits e))) (sym none) (e, refl, inl (is ∙ ap unfinished kept, goes)))),
             λ octets sp. unspelled octets (subst (λ ts. SpellsJoined (base_of kind) ts octets) (all_before none) sp).1,
         );
         extends = (h.gained, h.octets);
@@ -104,7 +102,7 @@ module _ (kind : DigitsKind) (first s : DigitsState) (same : first.kind ≡ kind
   ]
 
   refused_digits : (room : Room) (t : TokenSeen) (ts : List TokenSeen) (d : DigitsError) → left ≡ t ∷ ts → t.is_quoted ≡ false → RefusesPiece room s t.text new d
-      → RefusesAs room (digits_form kind) tokens old h.before (t ∷ ts) (Field (of_digits d))
+      → RefusesAs room (digits_form kind) tokens old (t ∷ ts) (Field (of_digits d))
   refused_digits room t ts d is plain r =
       let text : List ℕ = joined_text h.before ++ t.text in
       let all : joined_text tokens ≡ text ++ joined_text ts = ap joined_text (h.whole ∙ ap (λ l. h.before ++ l) is) ∙ joined_parts h.before (t ∷ ts) ∙ sym (append_assoc (joined_text h.before) t.text (joined_text ts)) in
@@ -118,32 +116,30 @@ module _ (kind : DigitsKind) (first s : DigitsState) (same : first.kind ≡ kind
       elim (is_short d) [
         | inl short ↦ inl (ap (λ e. Field (of_digits e)) short, λ octets sp. (let lacks = (only octets sp).1 in subst (λ (o : List ℕ). room.fits < length old + length o) (sym lacks.1) lacks.2))
         | inr other ↦ inr (
-              (h.unquoted, inr (plain, (d, refl, subst (λ z. IsDigitsFault kind z d) (sym (joined_last h.before t)) (fault_of room text d other token)))),
+              (h.before, h.whole ∙ ap (λ l. h.before ++ l) is, (h.unquoted, inr (plain, (d, refl, subst (λ z. IsDigitsFault kind z d) (sym (joined_last h.before t)) (fault_of room text d other token))))),
               λ octets sp. other (only octets sp).0,
           )
       ]
 
-  refused_why : (room : Room) (rest : List TokenSeen) (e : DataError) → left ≡ rest → rest ≢ [] → RefusesPush room s rest new e → RefusesAs room (digits_form kind) tokens old h.before rest e
+  refused_why : (room : Room) (rest : List TokenSeen) (e : DataError) → left ≡ rest → rest ≢ [] → RefusesPush room s rest new e → RefusesAs room (digits_form kind) tokens old rest e
   refused_why room [] e is some r = absurd (some refl)
   refused_why room (t ∷ ts) e is some (inl k) =
-      inr ((h.unquoted, inl k), λ octets sp. (
+      inr ((h.before, h.whole ∙ ap (λ l. h.before ++ l) is, (h.unquoted, inl k)), λ octets sp. (
         let plain = unquoted_at h.before ts t (subst AreUnquoted (h.whole ∙ ap (λ l. h.before ++ l) is) sp.0) in
         true≢false (sym k.1 ∙ plain)
         ))
   refused_why room (t ∷ ts) e is some (inr k) =
-      subst (λ e. RefusesAs room (digits_form kind) tokens old h.before (t ∷ ts) e) (sym k.1.1) (refused_digits room t ts k.1.0 is k.0 k.1.2)
+      subst (λ e. RefusesAs room (digits_form kind) tokens old (t ∷ ts) e) (sym k.1.1) (refused_digits room t ts k.1.0 is k.0 k.1.2)
 
   pub push_refused : (room : Room) (begun end : ℕ) (rest : List TokenSeen) (final : List ℕ) (r : DataRefusal) → end ≡ begun → left ≢ []
       → (rest ≡ left) × (r.at ≡ next_place left end) × RefusesPush room s left new r.why × Extends new final
       → RefusesRest room (digits_form kind) begun tokens old r rest final
   push_refused room begun end rest final r ends some k =
       let same_left : rest ≡ left = k.0 in
-      let refused : RefusesAs room (digits_form kind) tokens old h.before left r.why = refused_why room left r.why refl some k.2 in
+      let refused : RefusesAs room (digits_form kind) tokens old left r.why = refused_why room left r.why refl some k.2 in
       record {
-        before = h.before;
-        whole = h.whole ∙ ap (λ l. h.before ++ l) (sym same_left);
         at = k.1 ∙ ap (λ l. next_place l end) (sym same_left) ∙ ap (next_place rest) ends;
-        why = subst (λ l. RefusesAs room (digits_form kind) tokens old h.before l r.why) (sym same_left) refused;
+        why = subst (λ l. RefusesAs room (digits_form kind) tokens old l r.why) (sym same_left) refused;
         extends = (h.gained ++ k.3.0, k.3.1 ∙ ap (λ o. o ++ k.3.0) h.octets ∙ append_assoc old h.gained k.3.0);
       }
 

@@ -79,8 +79,6 @@ types_gained set tokens left old new h none is =
 pub types_lack : (room : Room) (set : List ℕ) (tokens left : List TokenSeen) (old new : List ℕ) (begun end at : ℕ) (h : HasNamed set tokens left) → left ≡ [] → end ≡ begun → at ≡ next_place left end
     → LacksRoom room (λ octets. octets ≡ bitmap set) old → Extends old new → RefusesRest room types_form begun tokens old (record { at = at; why = no_room }) left new
 types_lack room set tokens left old new begun end at h none ends place lacks extends = record {
-  before = h.before;
-  whole = h.whole;
   at = place ∙ ap (next_place left) ends;
   why = inl (refl, λ octets sp. (
         let same = names_once tokens h.types sp.0 (all_named set tokens left h none) sp.1 in
@@ -92,10 +90,8 @@ types_lack room set tokens left old new begun end at h none ends place lacks ext
 type_refused : (room : Room) (set : List ℕ) (tokens left rest : List TokenSeen) (old : List ℕ) (begun end : ℕ) (r : DataRefusal) (h : HasNamed set tokens left) → end ≡ begun
     → (t : TokenSeen) × (ts : List TokenSeen) × (left ≡ t ∷ ts) × (rest ≡ t ∷ ts) × (r.at ≡ t.at) × NamesNone t r.why → RefusesRest room types_form begun tokens old r rest old
 type_refused room set tokens left rest old begun end r h ends k = let t = k.0 in let ts = k.1 in let is : left ≡ t ∷ ts = k.2 in let rest_is : rest ≡ t ∷ ts = k.3 in record {
-  before = h.before;
-  whole = h.whole ∙ ap (λ l. h.before ++ l) (is ∙ sym rest_is);
   at = k.4 ∙ ap (λ l. next_place l begun) (sym rest_is);
-  why = subst (λ l. RefusesAs room types_form tokens old h.before l r.why) (sym rest_is) (inr (k.5, λ octets sp. (
+  why = subst (λ l. RefusesAs room types_form tokens old l r.why) (sym rest_is) (inr ((h.before, h.whole ∙ ap (λ l. h.before ++ l) is, k.5), λ octets sp. (
         let at = names_at h.before ts t sp.0 (subst (λ z. NameTypes z sp.0) (h.whole ∙ ap (λ l. h.before ++ l) is) sp.1) in
         never_both t r.why at.0 k.5 at.1
         )));

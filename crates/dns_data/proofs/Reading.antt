@@ -73,21 +73,21 @@ module _ (origin : Option (List (List ℕ))) (room : Room) (shape : Shape) (end 
     extends_on : (new : List ℕ) → Extends middle new → Extends old new
     extends_on new h = (t.octets ++ h.0, h.1 ∙ ap (λ o. o ++ h.0) t.gained ∙ append_assoc old t.octets h.0)
 
-    only_room : (before left : List TokenSeen) (e : _) (octets : List ℕ) → RefusesAs room (rest_form origin shape.rest) behind middle before left e → SpellsData origin shape tokens octets
+    only_room : (left : List TokenSeen) (e : _) (octets : List ℕ) → RefusesAs room (rest_form origin shape.rest) behind middle left e → SpellsData origin shape tokens octets
         → (e ≡ no_room) × (room.fits < length old + length octets)
-    only_room before left e octets (inl h) sp =
+    only_room left e octets (inl h) sp =
         let p = parts octets sp in
         let lacks = h.1 sp.back p.0 in
         let sum = ap length p.1 ∙ length-append t.octets sp.back in
         let start = ap length t.gained ∙ length-append old t.octets in
         (h.0, omega (arith, lacks, sum, start))
-    only_room before left e octets (inr h) sp = absurd (h.1 sp.back (parts octets sp).0)
+    only_room left e octets (inr h) sp = absurd (h.1 sp.back (parts octets sp).0)
 
     pub rest_refused : (begun part : ℕ) (r : DataRefusal) (left : List TokenSeen) (new : List ℕ) → begun ≡ end → part ≡ length shape.fields.now → RefusesRest room (rest_form origin shape.rest) begun behind middle r left new
         → ReadsData origin room shape end tokens old (Err (record { part = part; at = r.at; why = r.why })) left new
     rest_refused begun part r left new ends is h = (
       inr (record { behind = behind; middle = middle; taken = t; part = is; why = inl (subst (λ e. RefusesRest room (rest_form origin shape.rest) e behind middle r left new) ends h) }),
-      λ octets sp. only_room h.before left r.why octets h.why sp,
+      λ octets sp. only_room left r.why octets h.why sp,
       extends_on new h.extends,
     )
 

@@ -16,12 +16,12 @@ some_gained : (old octets new : List ℕ) → new ≡ old ++ octets → length n
 some_gained old octets new is more none = more (ap length (is ∙ ap (λ o. old ++ o) none ∙ append-nil old))
 
 module _ (f : RestForm) (room : Room) (begun : ℕ) (tokens : List TokenSeen) (old : List ℕ) where
-  refused_as : (before left : List TokenSeen) (e : _) → RefusesAs room f tokens old before left e → RefusesAs room (some_form f) tokens old before left e
-  refused_as before left e (inl h) = inl (h.0, λ octets sp. h.1 octets sp.0)
-  refused_as before left e (inr h) = inr (inl h.0, λ octets sp. h.1 octets sp.0)
+  refused_as : (left : List TokenSeen) (e : _) → RefusesAs room f tokens old left e → RefusesAs room (some_form f) tokens old left e
+  refused_as left e (inl h) = inl (h.0, λ octets sp. h.1 octets sp.0)
+  refused_as left e (inr h) = inr (inl h.0, λ octets sp. h.1 octets sp.0)
 
   pub some_refused : (r : DataRefusal) (left : List TokenSeen) (new : List ℕ) → RefusesRest room f begun tokens old r left new → RefusesRest room (some_form f) begun tokens old r left new
-  some_refused r left new h = record { before = h.before; whole = h.whole; at = h.at; why = refused_as h.before left r.why h.why; extends = h.extends }
+  some_refused r left new h = record { at = h.at; why = refused_as left r.why h.why; extends = h.extends }
 
   pub some_taken : (r : Result (Unit {0}) DataRefusal) (end count : ℕ) (left : List TokenSeen) (new : List ℕ) → ((a b : List ℕ) → f.spells tokens a → f.spells tokens b → a ≡ b) → end ≡ begun → count ≡ length old
       → (left ≡ []) × Gains (f.spells tokens) old new → WantsMore count end left new r → TakesRest room (some_form f) begun tokens old r left new
@@ -31,8 +31,6 @@ module _ (f : RestForm) (room : Room) (begun : ℕ) (tokens : List TokenSeen) (o
       let none : taken.1.0 ≡ [] = none_gained old taken.1.0 new taken.1.2 (want.0 ∙ size) in
       let spelled : f.spells tokens [] = subst (f.spells tokens) none taken.1.1 in
       record {
-        before = tokens;
-        whole = sym (append-nil tokens) ∙ ap (λ l. tokens ++ l) (sym taken.0);
         at = ap (λ (r : DataRefusal). r.at) want.1 ∙ ap (next_place left) ends;
         why = inr (inr (ap (λ (r : DataRefusal). r.why) want.1, taken.0, spelled), λ octets sp. sp.1 (once octets [] sp.0 spelled));
         extends = (taken.1.0, taken.1.2);

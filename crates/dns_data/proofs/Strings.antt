@@ -34,13 +34,11 @@ module _ (origin : Option (List (List ℕ))) (room : Room) (end : ℕ) (tokens :
       let only : (octets : List ℕ) → SpellsEach origin OfString tokens octets → (r.why ≡ ShortBuf) × (room.fits < length old + length octets) =
       λ octets sp. each_only_room origin room OfString end h.0 tokens old r left new octets some a sp in
       let why : (r.why ≡ ShortBuf) ⊎ StringsReason b.taken left (OfField r.why) = string_why r b.taken left a.middle some (subst (λ f. RefusesNext origin room f left a.middle r.why) (sym same) a.why) in
-      let refused : RefusesAs room (strings_form origin) tokens old b.taken left (OfField r.why) = elim why [
+      let refused : RefusesAs room (strings_form origin) tokens old left (OfField r.why) = elim why [
         | inl short ↦ inl (ap OfField short, λ octets sp. (only octets sp).1)
-        | inr reason ↦ inr (reason, λ octets sp. not_short b.taken left r.why reason (only octets sp).0)
+        | inr reason ↦ inr ((b.taken, b.whole, reason), λ octets sp. not_short b.taken left r.why reason (only octets sp).0)
       ] in
       record {
-        before = b.taken;
-        whole = b.whole;
         at = a.at;
         why = refused;
         extends = (b.octets ++ a.extends.0, a.extends.1 ∙ ap (λ o. o ++ a.extends.0) b.gained ∙ append_assoc old b.octets a.extends.0);

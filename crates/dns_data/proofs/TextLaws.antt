@@ -21,21 +21,17 @@ pub nothing_taken : (room : Room) (end : ℕ) (tokens left : List TokenSeen) (ol
 nothing_taken room end tokens left old new (Ok x) is h = (h.1, ([], (h.0, refl), is ∙ sym (append-nil old)))
 nothing_taken room end [] left old new (Err r) is h = absurd h
 nothing_taken room end (t ∷ ts) left old new (Err r) is h = record {
-  before = [];
-  whole = sym h.0;
   at = ap (λ (r : DataRefusal). r.at) h.1 ∙ ap (λ l. next_place l end) (sym h.0);
-  why = inr ((refl, ap (λ (r : DataRefusal). r.why) h.1), λ octets sp. (let bad : t ∷ ts ≡ [] = sp.0 in cc bad));
+  why = inr ((h.0, ap (λ (r : DataRefusal). r.why) h.1), λ octets sp. (let bad : t ∷ ts ≡ [] = sp.0 in cc bad));
   extends = ([], is ∙ sym (append-nil old));
 }
 
 module _ (wants_quotes : Bool) (room : Room) (end : ℕ) (t : TokenSeen) (tokens rest : List TokenSeen) (old : List ℕ) (is : tokens ≡ t ∷ rest) where
-  at_first : (at : ℕ) (e : DataError) (left : List TokenSeen) (new : List ℕ) → at ≡ next_place tokens end → left ≡ tokens → RefusesAs room (text_form wants_quotes) tokens old [] (t ∷ rest) e → Extends old new
+  at_first : (at : ℕ) (e : DataError) (left : List TokenSeen) (new : List ℕ) → at ≡ next_place tokens end → left ≡ tokens → RefusesAs room (text_form wants_quotes) tokens old (t ∷ rest) e → Extends old new
       → RefusesRest room (text_form wants_quotes) end tokens old (record { at = at; why = e }) left new
   at_first at e left new place same why extends = record {
-    before = [];
-    whole = sym same;
     at = place ∙ ap (λ l. next_place l end) (sym same);
-    why = subst (λ l. RefusesAs room (text_form wants_quotes) tokens old [] l e) (sym (same ∙ is)) why;
+    why = subst (λ l. RefusesAs room (text_form wants_quotes) tokens old l e) (sym (same ∙ is)) why;
     extends = extends;
   }
 
@@ -49,11 +45,11 @@ module _ (wants_quotes : Bool) (room : Room) (end : ℕ) (t : TokenSeen) (tokens
   pub unquoted_refused : (at : ℕ) → wants_quotes ≡ true → t.is_quoted ≡ false → at ≡ next_place tokens end → RefusesRest room (text_form wants_quotes) end tokens old (record { at = at; why = NotQuoted }) tokens old
   unquoted_refused at wants plain place =
       at_first at NotQuoted tokens old place refl
-      (inr (inl (refl, wants, plain), λ octets sp. true≢false (sym ((of_first octets sp).0 wants) ∙ plain)))
+      (inr (([], is, inl (refl, wants, plain)), λ octets sp. true≢false (sym ((of_first octets sp).0 wants) ∙ plain)))
       ([], sym (append-nil old))
 
-  spelling_refused : (e : SpellingError) → RefusesOctets room t.text old e → RefusesAs room (text_form wants_quotes) tokens old [] (t ∷ rest) (Field (of_spelling e))
-  spelling_refused BadEscape h = inr (inr (refl, h.0), λ octets sp. h.1 octets (of_first octets sp).1)
+  spelling_refused : (e : SpellingError) → RefusesOctets room t.text old e → RefusesAs room (text_form wants_quotes) tokens old (t ∷ rest) (Field (of_spelling e))
+  spelling_refused BadEscape h = inr (([], is, inr (refl, h.0)), λ octets sp. h.1 octets (of_first octets sp).1)
   spelling_refused ShortBuf h = inl (refl, λ octets sp. h octets (of_first octets sp).1)
   spelling_refused LongString h = absurd h
   spelling_refused BadTag h = absurd h
@@ -75,9 +71,7 @@ module _ (wants_quotes : Bool) (room : Room) (end : ℕ) (t : TokenSeen) (tokens
   text_taken (Err r) begun (u ∷ us) left new ends same quotes gains h =
       let all : tokens ≡ t ∷ u ∷ us = is ∙ ap (λ l. t ∷ l) (sym same) in
       record {
-        before = t ∷ [];
-        whole = all ∙ ap (λ l. t ∷ l) (sym h.0);
         at = ap (λ (r : DataRefusal). r.at) h.1 ∙ ap (λ l. next_place l end) (sym h.0);
-        why = inr ((refl, ap (λ (r : DataRefusal). r.why) h.1), λ octets sp. subst (λ ts. AreText wants_quotes ts octets) all sp);
+        why = inr ((t ∷ [], all ∙ ap (λ l. t ∷ l) (sym h.0), (refl, ap (λ (r : DataRefusal). r.why) h.1)), λ octets sp. subst (λ ts. AreText wants_quotes ts octets) all sp);
         extends = (gains.0, gains.2);
       }

@@ -12,7 +12,7 @@ use Rattle.dns_fields.specs.Errors.{of_digits}
 use Rattle.dns_fields.specs.declared.error.FieldError.TheVariants.{Quoted}
 use Rattle.dns_spelling.specs.Spelling.{AreOctetValues}
 use Rattle.dns_split.specs.EntryTokens.{TokenSeen}
-use Rattle.dns_data.specs.Rests.{RestForm, PrintedToken}
+use Rattle.dns_data.specs.Rests.{RestForm, PrintedToken, BehindSome}
 use Rattle.dns_data.specs.declared.error.DataError.{DataError}
 use Rattle.dns_data.specs.declared.error.DataError.TheVariants.{Field}
 
@@ -51,7 +51,7 @@ printed_digits b (o ∷ os) = record { is_quoted = false; text = encoded b (o �
 abbrev pub digits_form : DigitsKind → RestForm
 digits_form kind = record {
   spells = SpellsJoined (base_of kind);
-  reason = λ before left e. AreUnquoted before × DigitsReason kind before left e;
+  reason = BehindSome (λ before left e. AreUnquoted before × DigitsReason kind before left e);
   is_wire = AreOctetValues;
   printed = printed_digits (base_of kind);
 }

@@ -10,7 +10,7 @@ use Rattle.dns_fields.specs.declared.error.FieldError.{FieldError}
 use Rattle.dns_fields.specs.declared.field.Field.TheVariants.{String as OfString}
 use Rattle.dns_split.specs.EntryTokens.{TokenSeen}
 use Rattle.dns_data.specs.Digits.{digits_form}
-use Rattle.dns_data.specs.Rests.{RestForm, PrintedToken, some_form}
+use Rattle.dns_data.specs.Rests.{RestForm, PrintedToken, BehindSome, some_form}
 use Rattle.dns_data.specs.Texts.{nothing_form, text_form}
 use Rattle.dns_data.specs.TypeLists.{types_form}
 use Rattle.dns_data.specs.declared.error.DataError.{DataError}
@@ -44,7 +44,7 @@ strings_of octets = string_parts (length octets) octets
 abbrev pub strings_form : Option (List (List ℕ)) → RestForm
 strings_form origin = record {
   spells = SpellsEach origin OfString;
-  reason = StringsReason;
+  reason = BehindSome StringsReason;
   is_wire = λ octets. (strings : List (List ℕ)) × AreShortStrings strings × (octets ≡ strings_wire strings);
   printed = λ octets. map (λ s. record { is_quoted = true; text = text_in_quotes s }) (strings_of octets);
 }

@@ -25,23 +25,25 @@ ArePrinted (p ∷ ps) (t ∷ ts) = (t.is_quoted ≡ p.is_quoted) × (t.text ≡ 
 pub record RestForm : Type 1 where
   -- tokens, all that an entry has left, spell these octets
   pub spells : List TokenSeen → List ℕ → Type 0
-  -- once some are taken, why the next is refused, or that none is left
+  -- why the first of those that are left of tokens is refused, or that none is left
   pub reason : List TokenSeen → List TokenSeen → DataError → Type 0
   -- the octets that it can have
   pub is_wire : List ℕ → Type 0
   pub printed : List ℕ → List PrintedToken
 
+-- some of the tokens are taken, and this is why the next is refused
+abbrev pub BehindSome : (List TokenSeen → List TokenSeen → DataError → Type 0) → List TokenSeen → List TokenSeen → DataError → Type 0
+BehindSome Why tokens left e = (before : List TokenSeen) × (tokens ≡ before ++ left) × Why before left e
+
 -- why tokens were not taken: the octets don't surely fit; or none are spelled, and this is why
-abbrev pub RefusesAs : Room → RestForm → List TokenSeen → List ℕ → List TokenSeen → List TokenSeen → DataError → Type 0
-RefusesAs room f tokens old before left e =
-    ((e ≡ no_room) × LacksRoom room (f.spells tokens) old) ⊎ (f.reason before left e × ((octets : List ℕ) → f.spells tokens octets → ⊥))
+abbrev pub RefusesAs : Room → RestForm → List TokenSeen → List ℕ → List TokenSeen → DataError → Type 0
+RefusesAs room f tokens old left e =
+    ((e ≡ no_room) × LacksRoom room (f.spells tokens) old) ⊎ (f.reason tokens left e × ((octets : List ℕ) → f.spells tokens octets → ⊥))
 
 -- some tokens are taken, and the next is refused, or the entry's end is
 pub record RefusesRest (room : Room) (f : RestForm) (end : ℕ) (tokens : List TokenSeen) (old : List ℕ) (r : DataRefusal) (left : List TokenSeen) (new : List ℕ) : Type 0 where
-  pub before : List TokenSeen
-  pub whole : tokens ≡ before ++ left
   pub at : r.at ≡ next_place left end
-  pub why : RefusesAs room f tokens old before left r.why
+  pub why : RefusesAs room f tokens old left r.why
   pub extends : Extends old new
 
 -- all tokens are taken, and the target gained the octets that they spell; or one is refused
@@ -53,7 +55,7 @@ TakesRest room f end tokens old (Err r) left new = RefusesRest room f end tokens
 abbrev pub some_form : RestForm → RestForm
 some_form f = record {
   spells = λ tokens octets. f.spells tokens octets × (octets ≢ []);
-  reason = λ before left e. f.reason before left e ⊎ ((e ≡ Field EndOfEntry) × (left ≡ []) × f.spells before []);
+  reason = λ tokens left e. f.reason tokens left e ⊎ ((e ≡ Field EndOfEntry) × (left ≡ []) × f.spells tokens []);
   is_wire = λ octets. f.is_wire octets × (octets ≢ []);
   printed = f.printed;
 }

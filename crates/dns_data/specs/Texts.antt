@@ -6,7 +6,7 @@ use Rattle.dns_spelling.specs.Shown.{text_in_quotes}
 use Rattle.dns_spelling.specs.Spelling.{AreOctetValues, SpellsOctetList, SpellsToBadEscape}
 use Rattle.dns_spelling.specs.declared.error.SpellingError.TheVariants.{BadEscape}
 use Rattle.dns_split.specs.EntryTokens.{TokenSeen}
-use Rattle.dns_data.specs.Rests.{RestForm, PrintedToken}
+use Rattle.dns_data.specs.Rests.{RestForm, PrintedToken, BehindSome}
 use Rattle.dns_data.specs.declared.error.DataError.{DataError}
 use Rattle.dns_data.specs.declared.error.DataError.TheVariants.{Field, TrailingToken, NotQuoted}
 use Rattle.dns_data.specs.declared.error.DataRefusal.{DataRefusal}
@@ -21,7 +21,7 @@ TakesNothing end (t ∷ ts) (Err r) left = (left ≡ t ∷ ts) × (r ≡ record 
 abbrev pub nothing_form : RestForm
 nothing_form = record {
   spells = λ tokens octets. (tokens ≡ []) × (octets ≡ []);
-  reason = λ before left e. (before ≡ []) × (e ≡ TrailingToken);
+  reason = λ tokens left e. (left ≡ tokens) × (e ≡ TrailingToken);
   is_wire = λ octets. octets ≡ [];
   printed = λ octets. [];
 }
@@ -47,7 +47,7 @@ TextReason wants_quotes (t ∷ ts) left e = (ts ≡ []) × (e ≡ TrailingToken)
 abbrev pub text_form : Bool → RestForm
 text_form wants_quotes = record {
   spells = AreText wants_quotes;
-  reason = TextReason wants_quotes;
+  reason = BehindSome (TextReason wants_quotes);
   is_wire = AreOctetValues;
   printed = λ octets. record { is_quoted = true; text = text_in_quotes octets } ∷ [];
 }

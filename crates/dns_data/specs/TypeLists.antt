@@ -7,7 +7,7 @@ use Rattle.dns_kinds.specs.declared.error.KindError.TheVariants.{UnknownType}
 use Rattle.dns_kinds.specs.declared.types.RecordType.{RecordType}
 use Rattle.dns_lists.specs.Bitmap.{bitmap, has, types_of, IsBitmap, SameTypes}
 use Rattle.dns_split.specs.EntryTokens.{TokenSeen}
-use Rattle.dns_data.specs.Rests.{RestForm, PrintedToken}
+use Rattle.dns_data.specs.Rests.{RestForm, PrintedToken, BehindSome}
 use Rattle.dns_data.specs.declared.error.DataError.{DataError}
 use Rattle.dns_data.specs.declared.error.DataError.TheVariants.{Field, TypeZero}
 use Rattle.dns_data.specs.declared.error.DataRefusal.{DataRefusal}
@@ -44,7 +44,7 @@ TypesReason before (t ∷ ts) e = NamesNone t e
 abbrev pub types_form : RestForm
 types_form = record {
   spells = λ tokens octets. (types : List ℕ) × NameTypes tokens types × (octets ≡ bitmap types);
-  reason = TypesReason;
+  reason = BehindSome TypesReason;
   is_wire = λ octets. IsBitmap octets × (has (types_of octets) 0 ≡ false);
   printed = λ octets. map (λ code. record { is_quoted = false; text = type_text (record { 0 = code }) }) (types_of octets);
 }
