@@ -1,0 +1,13 @@
+use Rattle.dns_canonical.proofs.FieldWalks.{forms_alike, forms_behind, forms_some, forms_same, forms_long, forms_begin, forms_again}
+use Rattle.dns_canonical.proofs.laws.data_has_one_canonical_form.Goals as goal
+
+pub returns : goal.returns
+returns c = record {
+  some = λ fields octets. (forms_some fields octets, λ h. forms_begin fields octets h.0 h.1);
+  one = forms_same;
+  length = forms_long;
+  fields = λ fields octets form h. forms_begin fields form form (forms_again fields octets form h);
+  alike = forms_alike;
+  behind = forms_behind;
+  again = forms_again;
+}

@@ -1,0 +1,41 @@
+-- The canonical form of record data (RFC 4034 section 6.2).
+use Rattle.std.specs.Prelude.{◌≡◌, ⊤, ℕ, List, [], ◌∷◌, ◌++◌, None}
+use Rattle.dns_octets.specs.Appending.{LacksRoom}
+use Rattle.dns_octets.specs.Lowered.{lowered}
+use Rattle.dns_octets.specs.Room.{Room}
+use Rattle.dns_fields.specs.Fields.{field_form}
+use Rattle.dns_fields.specs.declared.field.Field.{Field}
+use Rattle.dns_fields.specs.declared.field.Field.TheVariants.{Name as OfName}
+use Rattle.dns_canonical.specs.declared.fields.CanonicalError.{CanonicalError}
+use Rattle.dns_canonical.specs.declared.fields.CanonicalError.TheVariants.{BadData, ShortBuf}
+
+-- the types whose data has its names in lower case: NS, MD, MF, CNAME, SOA, MB, MG, MR; PTR, MINFO, MX, RP, AFSDB, RT; SIG, PX, NXT, SRV, NAPTR, KX, A6, DNAME, RRSIG
+abbrev pub lowered_types : List ℕ
+lowered_types =
+    2 ∷ 3 ∷ 4 ∷ 5 ∷ 6 ∷ 7 ∷ 8 ∷ 9 ∷ 12 ∷ 14 ∷ 15 ∷ 17 ∷ 18 ∷ 21 ∷ 24 ∷ 26 ∷ 30 ∷ 33 ∷ 35 ∷ 36 ∷ 38 ∷ 39 ∷ 46 ∷ []
+
+-- the octets of a field in canonical form: those of a name in lower case, and any other as they are
+abbrev pub canonical_field : Field → List ℕ → List ℕ
+canonical_field OfName octets = lowered octets
+canonical_field field octets = octets
+
+-- the octets are such a field
+abbrev pub IsFieldWire : Field → List ℕ → Type 0
+IsFieldWire field = (field_form None field).is_wire
+
+-- the octets begin with these fields, one after another
+abbrev pub BeginsWithFields : List Field → List ℕ → Type 0
+BeginsWithFields [] octets = ⊤
+BeginsWithFields (f ∷ fs) octets = (part rest : List ℕ) × IsFieldWire f part × (octets ≡ part ++ rest) × BeginsWithFields fs rest
+
+-- data that begins with these fields, and its canonical form: each field in canonical form, and what
+-- is behind them as it is
+abbrev pub CanonicalFields : List Field → List ℕ → List ℕ → Type 0
+CanonicalFields [] octets form = form ≡ octets
+CanonicalFields (f ∷ fs) octets form =
+    (part rest others : List ℕ) × IsFieldWire f part × (octets ≡ part ++ rest) × (form ≡ canonical_field f part ++ others) × CanonicalFields fs rest others
+
+-- why no canonical form was appended: the data doesn't begin with the fields, or the octets don't surely fit
+abbrev pub RefusesFields : Room → List Field → List ℕ → List ℕ → CanonicalError → Type 0
+RefusesFields room fields octets old BadData = BeginsWithFields fields octets → ⊥
+RefusesFields room fields octets old ShortBuf = LacksRoom room (CanonicalFields fields octets) old

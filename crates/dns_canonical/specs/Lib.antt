@@ -1,0 +1,5 @@
+pub mod FieldForms
+pub mod Names
+pub mod Records
+pub mod Rows
+pub mod Walks

@@ -1,0 +1,22 @@
+-- What the walks over the labels of a name need and give. It follows the code.
+use Rattle.std.specs.Prelude.{◌≡◌, ℕ, ◌≤◌, List, ◌++◌, length}
+use Rattle.std.specs.Ordering.{ordering_then}
+use Rattle.std.specs.declared.cmp.Ordering.{Ordering}
+use Rattle.dns_wire.specs.Wire.{wire, wire_label}
+use Rattle.dns_canonical.specs.Names.{name_order}
+
+-- a label is in front of the octets
+abbrev pub BeginsWithLabel : List ℕ → Type 0
+BeginsWithLabel octets = (label rest : List ℕ) × (octets ≡ wire_label label ++ rest)
+
+-- the octets are those of labels, so many at least
+abbrev pub HasLabels : ℕ → List ℕ → Type 0
+HasLabels count octets = (labels : List (List ℕ)) × (octets ≡ wire labels) × (count ≤ length labels)
+
+-- both are octets of labels, of as many
+abbrev pub AreLevel : List ℕ → List ℕ → Type 0
+AreLevel left right = (a b : List (List ℕ)) × (left ≡ wire a) × (right ≡ wire b) × (length a ≡ length b)
+
+-- their order, or another one where that is equal
+abbrev pub IsLevelOrder : List ℕ → List ℕ → Ordering → Ordering → Type 0
+IsLevelOrder left right otherwise order = (a b : List (List ℕ)) → left ≡ wire a → right ≡ wire b → order ≡ ordering_then (name_order a b) otherwise

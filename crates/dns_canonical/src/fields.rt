@@ -1,0 +1,87 @@
+//! The canonical form of record data (RFC 4034 section 6.2, RFC 6840 section 5.1).
+ghost use Rattle.std.specs.Prelude.{◌≡◌, ◌↔◌, ◌<◌, ◌+◌, ◌++◌, length, Contains, IsTrue, OnOk, OnErr, IfErr};
+ghost use Rattle.dns_octets.specs.Appending.{Extends, Gains};
+ghost use Rattle.dns_canonical.specs.FieldForms.{lowered_types, canonical_field, CanonicalFields, RefusesFields};
+ghost use Rattle.dns_canonical.specs.declared.fields.CanonicalError.TheVariants.{ShortBuf as NoRoom};
+
+use crate::names::append_lowered;
+use dns_fields::{Field, field_width};
+use dns_octets::{OctetsBuilder, ShortBuf};
+use thiserror::Error;
+
+/// Why data has no canonical form, or that it didn't fit.
+#[derive(Clone, Copy, Debug, PartialEq, Eq, Error)]
+pub enum CanonicalError {
+    /// The data doesn't begin with the fields.
+    #[error("record data without its fields")]
+    BadData,
+    /// There was no room, or no memory.
+    #[error("buffer size exceeded")]
+    ShortBuf,
+}
+
+impl From<ShortBuf> for CanonicalError {
+    ghost from_gives = { λ _ e. e ≡ NoRoom };
+
+    fn from(_: ShortBuf) -> Self {
+        CanonicalError::ShortBuf
+    }
+}
+
+/// The types whose data has its names in lower case: NS, MD, MF, CNAME, SOA, MB, MG, MR, PTR,
+/// MINFO, MX, RP, AFSDB, RT, SIG, PX, NXT, SRV, NAPTR, KX, A6, DNAME and RRSIG.
+const LOWERED: [u16; 23] = [
+    2, 3, 4, 5, 6, 7, 8, 9, 12, 14, 15, 17, 18, 21, 24, 26, 30, 33, 35, 36, 38, 39, 46,
+];
+
+/// Whether the names in data of a type are in lower case in its canonical form: in the types of RFC
+/// 4034 section 6.2 but NSEC (RFC 6840 section 5.1), and in no others. HINFO, which the RFC lists
+/// too, has no names.
+pub fn lowers_names(record_type: u16) -> bool
+    ensures { IsTrue result ↔ Contains lowered_types record_type }
+{
+    LOWERED.contains(&record_type)
+}
+
+/// Appends the octets of a field in canonical form.
+fn append_canonical_field<B: OctetsBuilder>(
+    field: Field,
+    octets: &[u8],
+    target: &mut B,
+) -> Result<(), ShortBuf>
+    ensures ok { OnOk result (B.octets target.new ≡ B.octets target.old ++ canonical_field field octets.now) }
+    ensures err { OnErr result (B.room.fits < length (B.octets target.old) + length octets.now) }
+    ensures extends { OnErr result (Extends (B.octets target.old) (B.octets target.new)) }
+{
+    match field {
+        Field::Name => append_lowered(octets, target),
+        _ => target.append_slice(octets),
+    }
+}
+
+/// Appends the canonical form of record data that begins with these fields: the names among them in
+/// lower case, and all other octets as they stand, also those behind the fields.
+///
+/// The fields are those of the type up to the last name, and none where the type doesn't
+/// [lower its names](lowers_names). Data that doesn't begin with them is
+/// [`CanonicalError::BadData`]. After an error some octets may have been appended.
+pub fn append_canonical_fields<B: OctetsBuilder>(
+    fields: &[Field],
+    octets: &[u8],
+    target: &mut B,
+) -> Result<(), CanonicalError>
+    ensures ok { OnOk result (Gains (CanonicalFields fields.now octets.now) (B.octets target.old) (B.octets target.new)) }
+    ensures err { IfErr result (RefusesFields B.room fields.now octets.now (B.octets target.old)) }
+    ensures extends { OnErr result (Extends (B.octets target.old) (B.octets target.new)) }
+{
+    let mut rest = octets;
+    for field in fields {
+        let Some(width) = field_width(*field, rest) else {
+            return Err(CanonicalError::BadData);
+        };
+        append_canonical_field(*field, &rest[..width], target)?;
+        rest = &rest[width..];
+    }
+    target.append_slice(rest)?;
+    Ok(())
+}

@@ -1,0 +1,58 @@
+//! What holds of all names, record data and records.
+ghost use Rattle.std.specs.Prelude.{ℕ, ◌≡◌, ◌↔◌, List, ◌∷◌, ◌++◌, length};
+ghost use Rattle.std.specs.Cmp.{IsTotalOrder};
+ghost use Rattle.std.specs.declared.cmp.Ordering.TheVariants.{Less, Equal};
+ghost use Rattle.dns_octets.specs.Lowered.{lowered};
+ghost use Rattle.dns_wire.specs.Order.{lowered_wire};
+ghost use Rattle.dns_wire.specs.Wire.{wire, IsName};
+ghost use Rattle.dns_spelling.specs.NameSpelling.{IsWireName};
+ghost use Rattle.dns_fields.specs.declared.field.Field.{Field};
+ghost use Rattle.dns_canonical.specs.FieldForms.{BeginsWithFields, CanonicalFields};
+ghost use Rattle.dns_canonical.specs.Names.{octet_order, name_order};
+ghost use Rattle.dns_canonical.specs.Records.{RecordKey, record_order};
+
+/// To lower all octets of a name on the wire lowers its labels and nothing else, since no length
+/// octet is a letter. The result is a name, and doing it again changes nothing.
+pub fn names_are_lowered_by_labels()
+    ensures labels { (labels : List (List ℕ)) → IsName labels → lowered (wire labels) ≡ lowered_wire labels }
+    ensures name { (form : List ℕ) → IsWireName form → IsWireName (lowered form) }
+    ensures again { (octets : List ℕ) → lowered (lowered octets) ≡ lowered octets }
+{}
+
+/// The order of names is total, and equal exactly where the canonical forms are the same. A name
+/// stands before the names below it.
+pub fn names_are_ordered()
+    ensures total { IsTotalOrder name_order }
+    ensures equal { (a b : List (List ℕ)) → IsName a → IsName b → (name_order a b ≡ Equal) ↔ (lowered (wire a) ≡ lowered (wire b)) }
+    ensures below { (name : List (List ℕ)) (label : List ℕ) → name_order name (label ∷ name) ≡ Less }
+{}
+
+/// The order of octets is total, and equal exactly where they are the same. Octets stand before
+/// those that go on after them.
+pub fn octets_are_ordered()
+    ensures total { IsTotalOrder octet_order }
+    ensures equal { (a b : List ℕ) → (octet_order a b ≡ Equal) ↔ (a ≡ b) }
+    ensures absent { (octets : List ℕ) (octet : ℕ) (more : List ℕ) → octet_order octets (octets ++ octet ∷ more) ≡ Less }
+{}
+
+/// The order of records is total, and equal exactly where the owners' is and class, type and data
+/// are the same.
+pub fn records_are_ordered()
+    ensures total { IsTotalOrder record_order }
+    ensures equal { (a b : RecordKey) → (record_order a b ≡ Equal)
+        ↔ ((name_order a.owner b.owner ≡ Equal) × (a.class ≡ b.class) × (a.record_type ≡ b.record_type) × (a.octets ≡ b.octets)) }
+{}
+
+/// Data that begins with fields has one canonical form, and no other data has one. The form has as
+/// many octets and is the same but for the case of letters; it begins with these fields, and is its
+/// own canonical form. Octets behind the fields stay.
+pub fn data_has_one_canonical_form()
+    ensures some { (fields : List Field) (octets : List ℕ) → BeginsWithFields fields octets ↔ ((form : List ℕ) × CanonicalFields fields octets form) }
+    ensures one { (fields : List Field) (octets a b : List ℕ) → CanonicalFields fields octets a → CanonicalFields fields octets b → a ≡ b }
+    ensures length { (fields : List Field) (octets form : List ℕ) → CanonicalFields fields octets form → length form ≡ length octets }
+    ensures fields { (fields : List Field) (octets form : List ℕ) → CanonicalFields fields octets form → BeginsWithFields fields form }
+    ensures alike { (fields : List Field) (octets form : List ℕ) → CanonicalFields fields octets form → lowered form ≡ lowered octets }
+    ensures behind { (fields : List Field) (octets form more : List ℕ) → CanonicalFields fields octets form
+        → CanonicalFields fields (octets ++ more) (form ++ more) }
+    ensures again { (fields : List Field) (octets form : List ℕ) → CanonicalFields fields octets form → CanonicalFields fields form form }
+{}

@@ -1,0 +1,11 @@
+//! The canonical form and order of names, record data and records (RFC 4034 sections 6.1 to 6.3).
+#![tactic(auto)]
+
+pub mod fields;
+pub mod laws;
+pub mod names;
+pub mod records;
+
+pub use fields::{CanonicalError, append_canonical_fields, lowers_names};
+pub use names::{append_lowered, compare_names};
+pub use records::{RecordParts, compare_octets, compare_records};

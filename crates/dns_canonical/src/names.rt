@@ -1,0 +1,130 @@
+//! The canonical form and order of names (RFC 4034 sections 6.1 and 6.2).
+ghost use Rattle.std.specs.Prelude.{ℕ, ◌≡◌, ◌<◌, ◌≤◌, ◌+◌, List, ◌++◌, length, drop, OnOk, OnErr};
+ghost use Rattle.dns_octets.specs.Appending.{Extends};
+ghost use Rattle.dns_octets.specs.Lowered.{lowered};
+ghost use Rattle.dns_wire.specs.Wire.{wire, wire_label};
+ghost use Rattle.dns_spelling.specs.NameSpelling.{IsWireName};
+ghost use Rattle.dns_canonical.specs.Names.{IsNameOrder};
+ghost use Rattle.dns_canonical.specs.Walks.{BeginsWithLabel, HasLabels, AreLevel, IsLevelOrder};
+
+use dns_octets::lowered::compare_lowered;
+use dns_octets::{OctetsBuilder, ShortBuf};
+use std::cmp::Ordering;
+
+/// How many octets are lowered at once.
+const BLOCK: usize = 64;
+
+/// Appends a block of octets in lower case, or changes nothing.
+fn append_block<B: OctetsBuilder>(octets: &[u8], target: &mut B) -> Result<(), ShortBuf>
+    requires { length octets.now ≤ BLOCK }
+    ensures ok { OnOk result (B.octets target.new ≡ B.octets target.old ++ lowered octets.now) }
+    ensures err { OnErr result (B.octets target.new ≡ B.octets target.old) }
+    ensures fits { OnErr result (B.room.fits < length (B.octets target.old) + length octets.now) }
+{
+    let mut block = [0; BLOCK];
+    let small = &mut block[..octets.len()];
+    small.copy_from_slice(octets);
+    small.make_ascii_lowercase();
+    target.append_slice(small)
+}
+
+/// Appends octets with the letters A to Z in lower case. Of a name on the wire this is the canonical
+/// form (RFC 4034 section 6.2), since its length octets are no letters.
+///
+/// Where the octets don't fit, the first of them may have been appended.
+pub fn append_lowered<B: OctetsBuilder>(octets: &[u8], target: &mut B) -> Result<(), ShortBuf>
+    ensures ok { OnOk result (B.octets target.new ≡ B.octets target.old ++ lowered octets.now) }
+    ensures err { OnErr result (B.room.fits < length (B.octets target.old) + length octets.now) }
+    ensures extends { OnErr result (Extends (B.octets target.old) (B.octets target.new)) }
+{
+    let mut rest = octets;
+    while !rest.is_empty() {
+        let count = rest.len().min(BLOCK);
+        append_block(&rest[..count], target)?;
+        rest = &rest[count..];
+    }
+    Ok(())
+}
+
+/// A label in front of octets, and the octets behind it.
+#[derive(Clone, Copy)]
+struct FrontLabel<'a> {
+    label: &'a [u8],
+    rest: &'a [u8],
+}
+
+/// The label in front of octets.
+fn front_label(octets: &[u8]) -> FrontLabel<'_>
+    requires { BeginsWithLabel octets.now }
+    ensures { octets.now ≡ wire_label result.label.now ++ result.rest.now }
+{
+    let behind = 1 + usize::from(octets[0]);
+    FrontLabel {
+        label: &octets[1..behind],
+        rest: &octets[behind..],
+    }
+}
+
+/// How many labels octets are.
+fn count_labels(octets: &[u8]) -> usize
+    requires { HasLabels 0 octets.now }
+    ensures { (labels : List (List ℕ)) → octets.now ≡ wire labels → result ≡ length labels }
+{
+    let mut count = 0;
+    let mut rest = octets;
+    while !rest.is_empty() {
+        rest = front_label(rest).rest;
+        count += 1;
+    }
+    count
+}
+
+/// The octets behind so many labels.
+fn behind_labels(octets: &[u8], count: usize) -> &[u8]
+    requires { HasLabels count octets.now }
+    ensures { (labels : List (List ℕ)) → octets.now ≡ wire labels → result.now ≡ wire (drop count labels) }
+{
+    let mut rest = octets;
+    for _ in 0..count {
+        rest = front_label(rest).rest;
+    }
+    rest
+}
+
+/// The order of names that have as many labels, or the order that is given where they are the same.
+fn compare_level(left: &[u8], right: &[u8], otherwise: Ordering) -> Ordering
+    requires { AreLevel left.now right.now }
+    ensures { IsLevelOrder left.now right.now otherwise result }
+{
+    let mut order = otherwise;
+    let mut left_rest = left;
+    let mut right_rest = right;
+    while !left_rest.is_empty() {
+        let first = front_label(left_rest);
+        let second = front_label(right_rest);
+        order = compare_lowered(first.label, second.label).then(order);
+        left_rest = first.rest;
+        right_rest = second.rest;
+    }
+    order
+}
+
+/// The canonical order of two names on the wire (RFC 4034 section 6.1).
+///
+/// The labels are compared from the root on, each in lower case and octet by octet. A label or an
+/// octet that is absent stands before any. The order is equal where the names are the same but for
+/// the case of letters.
+pub fn compare_names(left: &[u8], right: &[u8]) -> Ordering
+    requires left { IsWireName left.now }
+    requires right { IsWireName right.now }
+    ensures { IsNameOrder left.now right.now result }
+{
+    let left_count = count_labels(left);
+    let right_count = count_labels(right);
+    let shared = left_count.min(right_count);
+    compare_level(
+        behind_labels(left, left_count - shared),
+        behind_labels(right, right_count - shared),
+        left_count.cmp(&right_count),
+    )
+}

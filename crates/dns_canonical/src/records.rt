@@ -1,0 +1,39 @@
+//! The order of record data and of records (RFC 4034 section 6.3).
+ghost use Rattle.std.specs.Prelude.{◌≡◌};
+ghost use Rattle.dns_spelling.specs.NameSpelling.{IsWireName};
+ghost use Rattle.dns_canonical.specs.Names.{octet_order};
+ghost use Rattle.dns_canonical.specs.Records.{IsRecordOrder};
+
+use crate::names::compare_names;
+use std::cmp::Ordering;
+
+/// The canonical order of record data (RFC 4034 section 6.3): octet by octet, as unsigned numbers.
+/// An absent octet stands before a zero.
+pub fn compare_octets(left: &[u8], right: &[u8]) -> Ordering
+    ensures { result ≡ octet_order left.now right.now }
+{
+    left.cmp(right)
+}
+
+/// What a record is sorted by: its owner on the wire, its class and type, and its data, whose
+/// canonical form is meant.
+#[derive(Clone, Copy)]
+pub struct RecordParts<'a> {
+    pub owner: &'a [u8],
+    pub class: u16,
+    pub record_type: u16,
+    pub data: &'a [u8],
+}
+
+/// The order of two records: by their owners, then by class and by type as numbers, and then by
+/// their data (RFC 4034 section 6, RFC 8976 section 3.3.1).
+pub fn compare_records(left: &RecordParts<'_>, right: &RecordParts<'_>) -> Ordering
+    requires left { IsWireName left.now.owner.now }
+    requires right { IsWireName right.now.owner.now }
+    ensures { IsRecordOrder left.now right.now result }
+{
+    compare_names(left.owner, right.owner)
+        .then(left.class.cmp(&right.class))
+        .then(left.record_type.cmp(&right.record_type))
+        .then_with(|| compare_octets(left.data, right.data))
+}
