@@ -1,6 +1,6 @@
 -- Rows of a text, and when the text is whole.
-use Rattle.std.specs.Prelude.{ℕ, ◌==◌, Bool, false, not, List, [], ◌∷◌}
-use Rattle.std.specs.List.{ends_with, filter}
+use Rattle.std.specs.Prelude.{ℕ, ◌==◌, ◌≡◌, ◌++◌, Bool, false, not, List, [], ◌∷◌}
+use Rattle.std.specs.List.{filter}
 use Rattle.std.specs.Str.Lines.{lines}
 
 -- a line is a row: it is not empty, and begins with no `#`
@@ -12,6 +12,10 @@ is_row (c ∷ _) = not (c == 35)
 abbrev pub rows : List ℕ → List (List ℕ)
 rows text = filter is_row (lines text)
 
--- a text is whole: it ends with a line feed, so its last row is not cut off
-abbrev pub is_whole : List ℕ → Bool
-is_whole text = ends_with (λ a b. a == b) text (10 ∷ [])
+-- the line `# end`, after another
+abbrev pub end_mark : List ℕ
+end_mark = 10 ∷ 35 ∷ 32 ∷ 101 ∷ 110 ∷ 100 ∷ 10 ∷ []
+
+-- a text is whole: it ends in that line, and has it nowhere before
+abbrev pub IsWhole : List ℕ → Type 0
+IsWhole text = ((front : List ℕ) × (text ≡ front ++ end_mark)) × ((before after : List ℕ) → text ≡ before ++ (end_mark ++ after) → after ≡ [])

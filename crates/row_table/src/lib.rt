@@ -1,14 +1,15 @@
 //! Rows of data: calls with their inputs and what is wanted of them, one a line.
 //!
 //! A row is the name of a call, its inputs and the wanted answer, with tabs between. A line that is
-//! empty or begins with `#` is none. `%` and two hexadecimal capitals are an octet, and all else
-//! stands for itself. Here wide spaces are tabs:
+//! empty or begins with `#` is none, and the last line is `# end`. `%` and two hexadecimal capitals
+//! are an octet, and all else stands for itself. Here wide spaces are tabs:
 //!
 //! ```text
 //! # character strings that are read or refused
 //! charstr.read     foo\112   foop
 //! charstr.read     0\2       !unexpected end of input
 //! charstr.quoted   f%0Aoo    "f\010oo"
+//! # end
 //! ```
 //!
 //! A program of rows says by a [`Calls`] what each call makes of its inputs, and hands it to

@@ -1,6 +1,6 @@
 //! Rows, one after another.
-ghost use Rattle.std.specs.Prelude.{◌≡◌, ◌↔◌, IfOk, IsTrue, MatchResult, length, map, string_bytes};
-ghost use Rattle.row_table.specs.Rows.{is_row, is_whole, rows};
+ghost use Rattle.std.specs.Prelude.{◌≡◌, ◌↔◌, ◌<◌, IfOk, IsTrue, MatchResult, length, map, string_bytes};
+ghost use Rattle.row_table.specs.Rows.{IsWhole, is_row, rows};
 ghost use Rattle.row_table.specs.declared.table.Outcome.TheVariants.{Agrees, NotRun};
 
 use crate::answer::Failure;
@@ -9,6 +9,10 @@ use crate::input::{Inputs, fields_of};
 use crate::refusal::{answer_of, refused_growths};
 use refusing_heap::Refusing;
 use std::alloc::{AllocError, Global};
+use std::fmt;
+
+/// The end of each text of rows: a line of its own, which stands nowhere before.
+const END: &str = "\n# end\n";
 
 /// What became of a row.
 #[derive(Drop)]
@@ -18,20 +22,32 @@ enum Outcome {
     NotRun(Failure),
 }
 
-/// How many rows a text has, how many of them agreed, and whether the text is whole.
+/// How many rows a text has, how many of them agreed, how many growths of theirs were refused, and
+/// whether the text is whole.
 #[derive(Clone, Copy, PartialEq, Eq)]
 pub struct Tally {
     pub rows: usize,
     pub agreeing: usize,
+    pub growths: u64,
     pub is_whole: bool,
 }
 
 impl Tally {
-    /// Whether each row agreed, and the text is whole.
+    /// Whether there are rows, each agreed, and the text is whole.
     pub fn passes(&self) -> bool
-        ensures { IsTrue result ↔ (IsTrue self.now.is_whole × (self.now.agreeing ≡ self.now.rows)) }
+        ensures { IsTrue result ↔ (IsTrue self.now.is_whole × (0 < self.now.rows) × (self.now.agreeing ≡ self.now.rows)) }
     {
-        self.is_whole && self.agreeing == self.rows
+        self.is_whole && self.rows > 0 && self.agreeing == self.rows
+    }
+}
+
+impl fmt::Display for Tally {
+    fn fmt<W: fmt::Write>(&self, f: &mut fmt::Formatter<W>) -> fmt::Result {
+        write!(
+            f,
+            "{} rows, {} agree, {} growths refused",
+            self.rows, self.agreeing, self.growths
+        )
     }
 }
 
@@ -162,24 +178,33 @@ fn run_rows<C: Calls>(
     Ok((agreeing, all_growths))
 }
 
-/// Whether a text is whole.
+/// Whether a text is whole: it has the end mark once, at its end.
 fn is_whole(text: &str) -> bool
-    ensures { result ≡ is_whole text.now }
+    ensures { IsTrue result ↔ IsWhole text.now }
 {
-    text.ends_with("\n")
+    match text.split_once(END) {
+        Some((_, after)) => after.is_empty(),
+        None => false,
+    }
 }
 
-/// Says of a text that isn't whole what is wrong with it.
-fn tell_cut(is_whole: bool, out: &mut String) -> Result<(), AllocError> {
-    if !is_whole {
-        out.push_str("cut off: the last line has no end\n")?;
+/// Says that all rows agree, or what is wrong with a text as a whole.
+fn tell_end(tally: &Tally, out: &mut String) -> Result<(), AllocError> {
+    if !tally.is_whole {
+        out.push_str("cut off: the last line is not the only `# end`\n")?;
+    }
+    if tally.rows == 0 {
+        out.push_str("no rows\n")?;
+    }
+    if tally.passes() {
+        out.push_str("all rows agree\n")?;
     }
     Ok(())
 }
 
-/// Runs the rows of a text. Says of each that does not agree what was found, then whether the text
-/// is cut off, and at the end how many rows there were, how many agreed and how many growths of
-/// theirs were refused, each in a call of its own.
+/// Runs the rows of a text. Says of each that does not agree what was found, and at the end that
+/// all agree, or what is wrong with the text: it has to end in the line `# end`, which stands
+/// nowhere before, and to have rows.
 pub fn report<C: Calls>(
     calls: &C,
     alloc: Global,
@@ -187,18 +212,16 @@ pub fn report<C: Calls>(
     out: &mut String,
 ) -> Result<Tally, AllocError>
     ensures counts { IfOk result (λ t. t.rows ≡ length (rows text.now)) }
-    ensures whole { IfOk result (λ t. t.is_whole ≡ is_whole text.now) }
+    ensures whole { IfOk result (λ t. IsTrue t.is_whole ↔ IsWhole text.now) }
 {
     let rows = rows_of(alloc, text)?;
     let (agreeing, growths) = run_rows(calls, alloc, rows.as_slice(), out)?;
-    let is_whole = is_whole(text);
-    tell_cut(is_whole, out)?;
-    let count = rows.len();
-    let last = format!(in alloc; "{count} rows, {agreeing} agree, {growths} growths refused\n")?;
-    out.push_str(last.as_str())?;
-    Ok(Tally {
-        rows: count,
+    let tally = Tally {
+        rows: rows.len(),
         agreeing,
-        is_whole,
-    })
+        growths,
+        is_whole: is_whole(text),
+    };
+    tell_end(&tally, out)?;
+    Ok(tally)
 }

@@ -1,0 +1,52 @@
+//! The calls that rows name.
+mod apl;
+mod bitmap;
+mod class;
+mod digits;
+mod field;
+mod fields;
+mod gateway;
+mod kind;
+mod list;
+mod params;
+mod spelling;
+mod tell;
+
+use row_table::{Answer, Calls, Failure, Inputs};
+
+/// The calls of record data.
+pub struct Records;
+
+/// The beginning of refusals that lack of memory brings.
+const SHORT: &str = "buffer size exceeded";
+
+impl Calls for Records {
+    fn call(&self, name: &str, inputs: &Inputs, answer: &mut Answer<'_>) {
+        call(name, inputs, answer);
+    }
+
+    fn lacks_memory(&self, refusal: &str) -> bool {
+        refusal.starts_with(SHORT)
+    }
+}
+
+/// Makes an answer of a call's inputs.
+fn call(name: &str, inputs: &Inputs, answer: &mut Answer) {
+    let (group, name) = name.split_once('.').unwrap_or((name, ""));
+    match group {
+        "field" => field::call(name, inputs, answer),
+        "fields" => fields::call(name, inputs, answer),
+        "name" => spelling::name(name, inputs, answer),
+        "string" => spelling::string(name, inputs, answer),
+        "tag" => spelling::tag(name, inputs, answer),
+        "octets" => spelling::octets(name, inputs, answer),
+        "digits" => digits::call(name, inputs, answer),
+        "bitmap" => bitmap::call(name, inputs, answer),
+        "list" => list::call(name, inputs, answer),
+        "params" => params::call(name, inputs, answer),
+        "apl" => apl::call(name, inputs, answer),
+        "gateway" => gateway::call(name, inputs, answer),
+        "class" => class::call(name, inputs, answer),
+        _ => answer.fail(Failure::NoCall),
+    }
+}

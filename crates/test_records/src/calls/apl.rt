@@ -1,0 +1,28 @@
+//! Items of address prefix lists.
+use super::tell::{Octets, tell, tell_width};
+use dns_places::{PlaceError, Prefix, append_prefix, item_width};
+use row_table::{Answer, Failure, Inputs};
+
+pub fn call(name: &str, inputs: &Inputs, answer: &mut Answer) {
+    match name {
+        "item" => item(inputs.octets(answer), answer),
+        "print" => print(inputs.octets(answer), answer),
+        "width" => tell_width(item_width(inputs.octets(answer)), answer),
+        _ => answer.fail(Failure::NoCall),
+    }
+}
+
+/// The octets of an item.
+fn item(text: &[u8], answer: &mut Answer) {
+    let mut target: Octets = Vec::new(answer.heap());
+    let made = append_prefix(text, &mut target);
+    tell(made, target.as_slice(), answer);
+}
+
+/// The item that octets are.
+fn print(octets: &[u8], answer: &mut Answer) {
+    match Prefix::from_octets(octets) {
+        Some(item) if item_width(octets) == Some(octets.len()) => answer.add_shown(&item),
+        _ => answer.refuse(&PlaceError::ExpectedPrefix),
+    }
+}

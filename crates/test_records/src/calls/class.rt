@@ -1,0 +1,17 @@
+//! Classes, which stand in no field.
+use super::tell::number16;
+use dns_kinds::Class;
+use row_table::{Answer, Failure, Inputs};
+
+pub fn call(name: &str, inputs: &Inputs, answer: &mut Answer) {
+    match name {
+        "print" => print(inputs.octets(answer), answer),
+        _ => answer.fail(Failure::NoCall),
+    }
+}
+
+/// The class of a number.
+fn print(digits: &[u8], answer: &mut Answer) {
+    let class = Class(number16(digits, answer));
+    answer.add_shown(&class);
+}

@@ -1,0 +1,84 @@
+//! Octets in digits, and how long hashes, salts and digests are.
+use super::tell::{Octets, number8, tell, tell_width};
+use dns_digits::{
+    Digests, DigitsError, DigitsKind, DigitsReader, append_base32hex, append_base64, append_hex,
+    hash_width, is_digest_length, salt_width,
+};
+use row_table::input::number_of;
+use row_table::{Answer, Failure, Inputs};
+
+pub fn call(name: &str, inputs: &Inputs, answer: &mut Answer) {
+    match name {
+        "hex" => pieces(DigitsKind::Hex, inputs.all(), answer),
+        "base64" => pieces(DigitsKind::Base64, inputs.all(), answer),
+        "base32hex" => hash(inputs.octets(answer), answer),
+        "hash_width" => tell_width(hash_width(inputs.octets(answer)), answer),
+        "salt_width" => tell_width(salt_width(inputs.octets(answer)), answer),
+        "digest" => digest(inputs.all(), answer),
+        _ => answer.fail(Failure::NoCall),
+    }
+}
+
+/// Takes pieces one by one.
+fn take(kind: DigitsKind, pieces: &[Vec<u8>], target: &mut Octets<'_>) -> Result<(), DigitsError> {
+    let mut reader = DigitsReader::new(kind);
+    for piece in pieces {
+        reader.push(piece.as_slice(), target)?;
+    }
+    reader.finish()
+}
+
+/// The octets that pieces have, which a piece alone has as a token too.
+fn pieces(kind: DigitsKind, pieces: &[Vec<u8>], answer: &mut Answer) {
+    let mut target: Octets = Vec::new(answer.heap());
+    let made = take(kind, pieces, &mut target);
+    tell(made, target.as_slice(), answer);
+    if let [piece] = pieces {
+        let mut other = answer.another();
+        token(kind, piece.as_slice(), &mut other);
+        answer.check_same(&other);
+    }
+}
+
+/// The octets that a token has.
+fn token(kind: DigitsKind, text: &[u8], answer: &mut Answer) {
+    let mut target: Octets = Vec::new(answer.heap());
+    let made = match kind {
+        DigitsKind::Hex => append_hex(text, &mut target),
+        DigitsKind::Base64 => append_base64(text, &mut target),
+    };
+    tell(made, target.as_slice(), answer);
+}
+
+/// The octets of a hash behind its length.
+fn hash(text: &[u8], answer: &mut Answer) {
+    let mut target: Octets = Vec::new(answer.heap());
+    let made = append_base32hex(text, &mut target);
+    tell(made, target.as_slice(), answer);
+}
+
+/// The list of digests with a name.
+fn digests_of(name: &[u8]) -> Option<Digests> {
+    match name {
+        b"ds" => Some(Digests::Ds),
+        b"sshfp" => Some(Digests::Sshfp),
+        b"zonemd" => Some(Digests::Zonemd),
+        _ => None,
+    }
+}
+
+/// Whether a digest of such a number may have so many octets.
+fn digest(inputs: &[Vec<u8>], answer: &mut Answer) {
+    let [name, number, length] = inputs else {
+        return answer.fail(Failure::BadInputs);
+    };
+    let Some(digests) = digests_of(name.as_slice()) else {
+        return answer.fail(Failure::BadInputs);
+    };
+    let Some(length) = number_of(length.as_slice()) else {
+        return answer.fail(Failure::BadInputs);
+    };
+    let number = number8(number.as_slice(), answer);
+    let may = is_digest_length(digests, number, length);
+    answer.add_text(if may { "yes" } else { "no" });
+}

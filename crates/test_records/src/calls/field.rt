@@ -1,0 +1,63 @@
+//! Fields that are one token.
+use super::kind::field_of;
+use super::tell::{Octets, origin_of, tell, tell_width};
+use dns_fields::{Field, append_field, field_width, write_field};
+use dns_split::entry_tokens::EntryToken;
+use row_table::{Answer, Failure, Inputs};
+use std::fmt;
+
+pub fn call(name: &str, inputs: &Inputs, answer: &mut Answer) {
+    match name {
+        "plain" => read(false, inputs.all(), answer),
+        "quoted" => read(true, inputs.all(), answer),
+        "width" => width(inputs.two(answer), answer),
+        "print" => print(inputs.two(answer), answer),
+        _ => answer.fail(Failure::NoCall),
+    }
+}
+
+/// The octets of the field that a token spells.
+fn read(is_quoted: bool, inputs: &[Vec<u8>], answer: &mut Answer) {
+    let [kind, text, origin @ ..] = inputs else {
+        return answer.fail(Failure::BadInputs);
+    };
+    let field = field_of(kind.as_slice(), answer);
+    let origin = origin_of(origin, answer);
+    let token = EntryToken {
+        text: text.as_slice(),
+        is_quoted,
+        is_glued: false,
+        at: 0,
+    };
+    let mut target: Octets = Vec::new(answer.heap());
+    let made = append_field(field, &token, origin.as_ref(), &mut target);
+    tell(made, target.as_slice(), answer);
+}
+
+/// How many octets in front are a field.
+fn width((kind, octets): (&[u8], &[u8]), answer: &mut Answer) {
+    let field = field_of(kind, answer);
+    tell_width(field_width(field, octets), answer);
+}
+
+/// A field in front of octets, which prints as its token.
+#[derive(Clone, Copy)]
+struct Shown<'a> {
+    field: Field,
+    octets: &'a [u8],
+}
+
+impl fmt::Display for Shown<'_> {
+    fn fmt<W: fmt::Write>(&self, f: &mut fmt::Formatter<W>) -> fmt::Result {
+        match field_width(self.field, self.octets) {
+            Some(width) => write_field(self.field, &self.octets[..width], f),
+            None => f.write_str("none"),
+        }
+    }
+}
+
+/// The token that a field prints as, or `none`.
+fn print((kind, octets): (&[u8], &[u8]), answer: &mut Answer) {
+    let field = field_of(kind, answer);
+    answer.add_shown(&Shown { field, octets });
+}

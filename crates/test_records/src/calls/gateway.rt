@@ -1,0 +1,38 @@
+//! Gateways that are no names.
+use super::tell::{Octets, number8, tell};
+use dns_places::{Gateway, PlaceError};
+use row_table::{Answer, Failure, Inputs};
+
+pub fn call(name: &str, inputs: &Inputs, answer: &mut Answer) {
+    let (number, input) = inputs.two(answer);
+    let number = number8(number, answer);
+    match name {
+        "octets" => octets(number, input, answer),
+        "print" => print(number, input, answer),
+        _ => answer.fail(Failure::NoCall),
+    }
+}
+
+/// Appends the octets of the gateway that a text writes.
+fn append(number: u8, text: &[u8], target: &mut Octets<'_>) -> Result<(), PlaceError> {
+    let gateway = Gateway::from_text(number, text)?;
+    gateway.compose(target)?;
+    Ok(())
+}
+
+fn octets(number: u8, text: &[u8], answer: &mut Answer) {
+    let mut target: Octets = Vec::new(answer.heap());
+    let made = append(number, text, &mut target);
+    tell(made, target.as_slice(), answer);
+}
+
+/// The gateway that octets begin with.
+fn print(number: u8, octets: &[u8], answer: &mut Answer) {
+    match Gateway::from_octets(number, octets) {
+        Some(gateway) => {
+            answer.hold(gateway.number() == number);
+            answer.add_shown(&gateway);
+        }
+        None => answer.refuse(&PlaceError::ExpectedGateway),
+    }
+}

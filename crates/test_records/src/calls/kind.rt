@@ -1,0 +1,44 @@
+//! The names that rows have for kinds of fields.
+use dns_fields::Field;
+use row_table::{Answer, Failure};
+
+/// The kind of a word of digits or an address.
+fn number_kind(name: &[u8]) -> Option<Field> {
+    match name {
+        b"u8" => Some(Field::Number8),
+        b"u16" => Some(Field::Number16),
+        b"u32" => Some(Field::Number32),
+        b"interval" => Some(Field::Interval),
+        b"time" => Some(Field::Time),
+        b"ipv4" => Some(Field::Ipv4),
+        b"ipv6" => Some(Field::Ipv6),
+        b"eui48" => Some(Field::Eui48),
+        b"eui64" => Some(Field::Eui64),
+        b"locator" => Some(Field::Locator),
+        _ => None,
+    }
+}
+
+/// The kind with a name.
+fn kind_of(name: &[u8]) -> Option<Field> {
+    match name {
+        b"type" => Some(Field::RecordType),
+        b"algorithm" => Some(Field::Algorithm),
+        b"named_algorithm" => Some(Field::NamedAlgorithm),
+        b"certificate" => Some(Field::CertificateType),
+        b"string" => Some(Field::String),
+        b"tag" => Some(Field::Tag),
+        b"salt" => Some(Field::Salt),
+        b"name" => Some(Field::Name),
+        _ => number_kind(name),
+    }
+}
+
+/// The kind with a name, of a row that is not run where there is none.
+pub fn field_of(name: &[u8], answer: &mut Answer) -> Field {
+    let found = kind_of(name);
+    if found.is_none() {
+        answer.fail(Failure::BadInputs);
+    }
+    found.unwrap_or(Field::Number8)
+}

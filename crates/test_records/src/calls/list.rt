@@ -1,0 +1,26 @@
+//! Lists of strings as one text.
+use super::tell::{Octets, tell};
+use dns_lists::{append_list, append_list_text};
+use row_table::{Answer, Failure, Inputs};
+
+pub fn call(name: &str, inputs: &Inputs, answer: &mut Answer) {
+    match name {
+        "read" => read(inputs.octets(answer), answer),
+        "print" => print(inputs.octets(answer), answer),
+        _ => answer.fail(Failure::NoCall),
+    }
+}
+
+/// The strings of a text, each behind its length.
+fn read(text: &[u8], answer: &mut Answer) {
+    let mut target: Octets = Vec::new(answer.heap());
+    let made = append_list(text, &mut target);
+    tell(made, target.as_slice(), answer);
+}
+
+/// The text of strings.
+fn print(octets: &[u8], answer: &mut Answer) {
+    let mut target: Octets = Vec::new(answer.heap());
+    let made = append_list_text(octets, &mut target);
+    tell(made, target.as_slice(), answer);
+}

@@ -1,0 +1,80 @@
+//! Service parameters as octets.
+use super::tell::{Octets, add_comma, number16, tell};
+use dns_lists::{Params, check_params, settle_last};
+use dns_octets::{OctetsBuilder, ShortBuf};
+use row_table::{Answer, Failure, Inputs};
+
+pub fn call(name: &str, inputs: &Inputs, answer: &mut Answer) {
+    match name {
+        "check" => check(inputs.octets(answer), answer),
+        "parse" => parse(inputs.octets(answer), answer),
+        "settle" => settle(inputs.all(), answer),
+        _ => answer.fail(Failure::NoCall),
+    }
+}
+
+/// Whether octets are parameters.
+fn check(octets: &[u8], answer: &mut Answer) {
+    tell(check_params(octets), b"ok", answer);
+}
+
+/// Parameters as `KEY=VALUE` with commas between.
+fn parse(octets: &[u8], answer: &mut Answer) {
+    let mut is_first = true;
+    for param in Params::new(octets) {
+        add_comma(is_first, answer);
+        answer.add_number(usize::from(param.key));
+        answer.add_text("=");
+        answer.add(param.value);
+        is_first = false;
+    }
+}
+
+/// A parameter `KEY=VALUE`, in its parts.
+fn parts_of<'a>(param: &'a [u8], answer: &mut Answer) -> (u16, &'a [u8]) {
+    let Some(at) = param.iter().position(|octet| *octet == b'=') else {
+        answer.fail(Failure::BadInputs);
+        return (0, &[]);
+    };
+    let key = number16(param.get(..at).unwrap_or_default(), answer);
+    (key, param.get(at + 1..).unwrap_or_default())
+}
+
+/// Appends a parameter behind others, with no length yet.
+fn append(key: u16, value: &[u8], target: &mut Octets<'_>) -> Result<(), ShortBuf> {
+    target.append_slice(&key.to_be_bytes())?;
+    target.append_slice(&[0, 0])?;
+    target.append_slice(value)
+}
+
+/// Adds a parameter in its place. Returns whether it was added.
+fn add(param: &[u8], target: &mut Octets<'_>, answer: &mut Answer) -> bool {
+    let (key, value) = parts_of(param, answer);
+    let at = target.len();
+    if append(key, value, target).is_err() {
+        answer.fail_for_memory();
+        return false;
+    }
+    if target.len().saturating_sub(at) < 4 {
+        answer.hold(false);
+        return false;
+    }
+    match settle_last(target.as_mut_slice(), at) {
+        Ok(()) => true,
+        Err(error) => {
+            answer.refuse(&error);
+            false
+        }
+    }
+}
+
+/// The octets of parameters, which are added in their order.
+fn settle(inputs: &[Vec<u8>], answer: &mut Answer) {
+    let mut target: Octets = Vec::new(answer.heap());
+    for param in inputs {
+        if !add(param.as_slice(), &mut target, answer) {
+            return;
+        }
+    }
+    answer.add(target.as_slice());
+}

@@ -1,0 +1,66 @@
+//! What calls take and what they made, as rows spell it.
+use dns_wire::Name;
+use row_table::input::number_of;
+use row_table::{Answer, Failure, Heap};
+use std::fmt;
+
+/// Octets in memory of which one growth may be refused.
+pub type Octets<'a> = Vec<u8, &'a Heap>;
+
+/// What was appended, or the refusal.
+pub fn tell<E: fmt::Display + Drop>(made: Result<(), E>, target: &[u8], answer: &mut Answer) {
+    match made {
+        Ok(()) => answer.add(target),
+        Err(error) => answer.refuse(&error),
+    }
+}
+
+/// How many octets stand in front, or `none`.
+pub fn tell_width(width: Option<usize>, answer: &mut Answer) {
+    match width {
+        Some(width) => answer.add_number(width),
+        None => answer.add_text("none"),
+    }
+}
+
+/// A comma, but not in front of what is first.
+pub fn add_comma(is_first: bool, answer: &mut Answer) {
+    answer.add_text(if is_first { "" } else { "," });
+}
+
+/// A number of 16 bits in decimal digits.
+pub fn number16(digits: &[u8], answer: &mut Answer) -> u16 {
+    let number = number_of(digits).unwrap_or(usize::MAX);
+    let made = u16::try_from(number);
+    if made.is_err() {
+        answer.fail(Failure::BadInputs);
+    }
+    made.unwrap_or(0)
+}
+
+/// A number of 8 bits in decimal digits.
+pub fn number8(digits: &[u8], answer: &mut Answer) -> u8 {
+    let made = u8::try_from(number16(digits, answer));
+    if made.is_err() {
+        answer.fail(Failure::BadInputs);
+    }
+    made.unwrap_or(0)
+}
+
+/// The origin, if a row has one.
+pub fn origin_of<'a>(inputs: &'a [Vec<u8>], answer: &mut Answer) -> Option<Name<&'a [u8]>> {
+    match inputs {
+        [] => None,
+        [origin] => {
+            let made = Name::from_octets(origin.as_slice()).ok();
+            if made.is_none() {
+                answer.fail(Failure::BadInputs);
+            }
+            made
+        }
+        _ => {
+            answer.fail(Failure::BadInputs);
+            None
+        }
+    }
+}
