@@ -26,8 +26,8 @@ ghost use Rattle.dns_scan.specs.Stands.{HasTokens};
 ghost use Rattle.dns_scan.specs.Tokens.{Token};
 ghost use Rattle.dns_iter.specs.Contents.{HaveContents, HoldsAt, HoldsOnly};
 
-use crate::scanner::IterScanner;
-use dns_octets::{AsOctetsMut, EmptyBuilder, FreezeBuilder, FromBuilder, Truncate};
+use crate::scanner::{IterScanner, ScanOctets};
+use dns_octets::EmptyBuilder;
 use dns_scan::{Scanner, ScannerError, StrError};
 use dns_split::token::content;
 use std::alloc::Allocator;
@@ -109,13 +109,11 @@ pub type EntryScanner<'a, T, Octets, E = StrError> = IterScanner<Contents<'a, T>
 ///
 /// `spaced` says whether the entry began with a blank: [`Scanner::has_space`] returns it until the
 /// first token is taken. Octets are allocated from `alloc`.
-pub fn entry_scanner<'a, T: TokenText, Octets: FromBuilder + Drop, E: ScannerError>(
+pub fn entry_scanner<'a, T: TokenText, Octets: ScanOctets, E: ScannerError>(
     alloc: <Octets::Builder as EmptyBuilder>::Alloc,
     tokens: &'a [T],
     spaced: bool,
 ) -> EntryScanner<'a, T, Octets, E>
-where
-    Octets::Builder: EmptyBuilder + AsOctetsMut + Truncate + FreezeBuilder<Octets = Octets> + Drop,
     ensures ready { ⟦<EntryScanner<'a, T, Octets, E> as Scanner>⟧.can_scan result }
     ensures stands { (contents : List (List ℕ)) → HaveContents (map T.text tokens.now) contents
         → HasTokens (⟦<EntryScanner<'a, T, Octets, E> as Scanner>⟧.next_token) result contents }
@@ -130,13 +128,11 @@ where
 /// Of entries that a text splits into, it stands before what the tokens of that entry hold: one
 /// list of texts, each of them symbols throughout. `split` does not tell whether an entry began
 /// with a blank, so [`Scanner::has_space`] is false.
-pub fn entry_at<'a, A: Allocator, Octets: FromBuilder + Drop, E: ScannerError>(
+pub fn entry_at<'a, A: Allocator, Octets: ScanOctets, E: ScannerError>(
     alloc: <Octets::Builder as EmptyBuilder>::Alloc,
     entries: &'a [Vec<String<A>, A>],
     place: usize,
 ) -> Option<EntryScanner<'a, String<A>, Octets, E>>
-where
-    Octets::Builder: EmptyBuilder + AsOctetsMut + Truncate + FreezeBuilder<Octets = Octets> + Drop,
     ensures none { IsNone result ↔ (length entries.now ≤ place) }
     ensures ready { IfSome result (λ s. ⟦<EntryScanner<'a, String<A>, Octets, E> as Scanner>⟧.can_scan s) }
     ensures stands { (contents : List Token) → HoldsAt (entries_of entries.now) place contents

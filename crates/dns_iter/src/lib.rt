@@ -10,4 +10,4 @@ mod token;
 
 pub use dns_scan::StrError;
 pub use entry::{EntryScanner, TokenText, entry_at, entry_scanner};
-pub use scanner::IterScanner;
+pub use scanner::{IterScanner, ScanOctets};

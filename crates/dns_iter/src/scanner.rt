@@ -21,6 +21,18 @@ use dns_symbol::symbol::{EntrySymbol, Symbol};
 use dns_wire::Name;
 use std::marker::PhantomData;
 
+/// Octets that a scan can make: their builder begins empty, can be cut short, and is let go where a
+/// scan refuses. It stands for these bounds, and each type that meets them has it.
+pub trait ScanOctets: FromBuilder<
+    Builder: EmptyBuilder + AsOctetsMut + Truncate + FreezeBuilder<Octets = Self> + Drop,
+>
+    + Drop {}
+
+impl<Octets: FromBuilder + Drop> ScanOctets for Octets
+where
+    Octets::Builder: EmptyBuilder + AsOctetsMut + Truncate + FreezeBuilder<Octets = Octets> + Drop,
+{}
+
 /// What is known of the next token.
 #[derive(Drop)]
 enum Ahead<X> {
@@ -44,14 +56,11 @@ where
     error: PhantomData<E>,
 }
 
-impl<'a, Iter: Iterator<Item = &'a str>, Octets: FromBuilder + Drop, E: ScannerError> IterScanner<
+impl<'a, Iter: Iterator<Item = &'a str>, Octets: ScanOctets, E: ScannerError> IterScanner<
     Iter,
     Octets,
     E,
->
-where
-    Octets::Builder: EmptyBuilder + AsOctetsMut + Truncate + FreezeBuilder<Octets = Octets> + Drop,
-{
+> {
     /// A scanner of the iterator's tokens. Octets are allocated from `alloc`.
     pub fn new(alloc: <Octets::Builder as EmptyBuilder>::Alloc, iter: Iter) -> Self
         requires can { Iter.can_next iter }
@@ -184,11 +193,8 @@ where
     }
 }
 
-impl<'a, Iter: Iterator<Item = &'a str>, Octets: FromBuilder + Drop, E: ScannerError> Scanner
-    for IterScanner<Iter, Octets, E>
-where
-    Octets::Builder: EmptyBuilder + AsOctetsMut + Truncate + FreezeBuilder<Octets = Octets> + Drop,
-{
+impl<'a, Iter: Iterator<Item = &'a str>, Octets: ScanOctets, E: ScannerError> Scanner
+    for IterScanner<Iter, Octets, E> {
     type Octets = Octets;
 
     type OctetsBuilder = Octets::Builder;

@@ -4,8 +4,7 @@ ghost use Rattle.dns_scan.specs.Stands.{TakesOne};
 ghost use Rattle.dns_wire.specs.Wire.{wire_length};
 ghost use Rattle.dns_laws.specs.Names.{GivesName, NameBack};
 
-use dns_iter::IterScanner;
-use dns_octets::{AsOctetsMut, EmptyBuilder, FreezeBuilder, FromBuilder, Truncate};
+use dns_iter::{IterScanner, ScanOctets};
 use dns_scan::{Scanner, ScannerError};
 use dns_wire::Name;
 
@@ -15,11 +14,9 @@ use dns_wire::Name;
 pub fn names_are_scanned_back<
     'a,
     Iter: Iterator<Item = &'a str>,
-    Octets: FromBuilder + Drop,
+    Octets: ScanOctets,
     E: ScannerError,
 >(scanner: &mut IterScanner<Iter, Octets, E>) -> Result<Name<Octets>, E>
-where
-    Octets::Builder: EmptyBuilder + AsOctetsMut + Truncate + FreezeBuilder<Octets = Octets> + Drop,
     requires { ⟦<IterScanner<Iter, Octets, E> as Scanner>⟧.can_scan scanner.old }
     ensures ready { ⟦<IterScanner<Iter, Octets, E> as Scanner>⟧.can_scan scanner.new }
     ensures takes { TakesOne (⟦<IterScanner<Iter, Octets, E> as Scanner>⟧.next_token) scanner.old scanner.new
@@ -33,11 +30,9 @@ where
 pub fn fitting_names_are_answered<
     'a,
     Iter: Iterator<Item = &'a str>,
-    Octets: FromBuilder + Drop,
+    Octets: ScanOctets,
     E: ScannerError,
 >(scanner: &mut IterScanner<Iter, Octets, E>) -> Result<Name<Octets>, E>
-where
-    Octets::Builder: EmptyBuilder + AsOctetsMut + Truncate + FreezeBuilder<Octets = Octets> + Drop,
     requires { ⟦<IterScanner<Iter, Octets, E> as Scanner>⟧.can_scan scanner.old }
     ensures ready { ⟦<IterScanner<Iter, Octets, E> as Scanner>⟧.can_scan scanner.new }
     ensures takes { TakesOne (⟦<IterScanner<Iter, Octets, E> as Scanner>⟧.next_token) scanner.old scanner.new

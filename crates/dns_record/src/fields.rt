@@ -10,8 +10,8 @@ ghost use Rattle.dns_record.specs.ReadsBack.{FieldBack, TakesFields, five_values
 ghost use Rattle.dns_record.specs.Values.{Value, number8, number16, number32, name, string, AreValues, AreTexts};
 
 use dns_charstr::charstr::CharStr;
-use dns_iter::IterScanner;
-use dns_octets::{AsOctets, AsOctetsMut, EmptyBuilder, FreezeBuilder, FromBuilder, Truncate, Ttl};
+use dns_iter::{IterScanner, ScanOctets};
+use dns_octets::{AsOctets, Ttl};
 use dns_scan::{Scan, Scanner, ScannerError};
 use dns_wire::Name;
 use dns_zone::zonefile_fmt::{self, FormatWriter, Formatter};
@@ -115,12 +115,9 @@ impl<S: Scanner, A: Field<S> + Drop, B: Field<S>> Field<S> for (A, B) {
     ghost back = { both_back S.OctetsBuilder.room A.values B.values A.scan_reads B.scan_reads A.back B.back };
 }
 
-impl<'a, Iter: Iterator<Item = &'a str>, Octets: FromBuilder + Drop, E: ScannerError> Field<
+impl<'a, Iter: Iterator<Item = &'a str>, Octets: ScanOctets, E: ScannerError> Field<
     IterScanner<Iter, Octets, E>,
-> for Name<Octets>
-where
-    Octets::Builder: EmptyBuilder + AsOctetsMut + Truncate + FreezeBuilder<Octets = Octets> + Drop,
-{
+> for Name<Octets> {
     ghost back = { name_read Octets E.cause Octets.Builder.room };
 }
 

@@ -8,9 +8,10 @@ ghost use Rattle.dns_record.specs.Parts.{Part, IsLaidOut, steps_of, values_of};
 ghost use Rattle.dns_record.specs.ReadsBack.{Lacks, ReadsBack, generic_data};
 ghost use Rattle.dns_record.specs.Values.{AreFields, AreTexts, SomeMayLack};
 
+use dns_iter::ScanOctets;
 use dns_iter::entry::{EntryScanner, TokenText, entry_scanner};
 use dns_laws::layouts::values_split;
-use dns_octets::{AsOctetsMut, EmptyBuilder, FreezeBuilder, FromBuilder, Truncate};
+use dns_octets::EmptyBuilder;
 use dns_scan::{Scanner, ScannerError};
 use dns_split::splitting::split;
 use dns_zone::zonefile_fmt::{DisplayKind, ZonefileFmt};
@@ -20,10 +21,7 @@ use std::alloc::Allocator;
 ///
 /// It states the parts of its text, prints them as one entry, and is scanned from what the tokens
 /// of an entry hold.
-pub trait RecordData<Octets: FromBuilder + Drop, A: Allocator + Copy>: ZonefileFmt
-where
-    Octets::Builder: EmptyBuilder + AsOctetsMut + Truncate + FreezeBuilder<Octets = Octets> + Drop,
-{
+pub trait RecordData<Octets: ScanOctets, A: Allocator + Copy>: ZonefileFmt {
     // The parts of the text.
     ghost parts: { Self → List Part };
 
@@ -74,16 +72,11 @@ pub fn expect_no_marker<S: Scanner>(scanner: &mut S) -> Result<(), S::Error>
 /// type: no value is read of RFC 3597's generic form, nor is the form taken for the type's own. The
 /// scanner has what tokens hold, so a quoted text that holds `\#` counts as well. No value prints
 /// such a text: a backslash is printed as two.
-pub fn scan_record<
-    'a,
-    R,
-    T: TokenText,
-    Octets: FromBuilder + Drop,
-    A: Allocator + Copy,
-    E: ScannerError,
->(alloc: A, scanner: &mut EntryScanner<'a, T, Octets, E>) -> Result<R, E>
+pub fn scan_record<'a, R, T: TokenText, Octets: ScanOctets, A: Allocator + Copy, E: ScannerError>(
+    alloc: A,
+    scanner: &mut EntryScanner<'a, T, Octets, E>,
+) -> Result<R, E>
 where
-    Octets::Builder: EmptyBuilder + AsOctetsMut + Truncate + FreezeBuilder<Octets = Octets> + Drop,
     R: RecordData<Octets, A> + Drop,
     requires { ⟦<EntryScanner<'a, T, Octets, E> as Scanner>⟧.can_scan scanner.old }
     ensures ready { ⟦<EntryScanner<'a, T, Octets, E> as Scanner>⟧.can_scan scanner.new }
@@ -104,14 +97,13 @@ where
 
 /// The text that a value prints in a layout splits into one entry, and scanning that entry gives a
 /// value of the same fields, where memory and room suffice.
-pub fn record_reads_back<R, Octets: FromBuilder + Drop, A: Allocator + Copy, E: ScannerError>(
+pub fn record_reads_back<R, Octets: ScanOctets, A: Allocator + Copy, E: ScannerError>(
     alloc: A,
     octets_alloc: <Octets::Builder as EmptyBuilder>::Alloc,
     value: &R,
     kind: DisplayKind,
 ) -> Result<R, E>
 where
-    Octets::Builder: EmptyBuilder + AsOctetsMut + Truncate + FreezeBuilder<Octets = Octets> + Drop,
     R: RecordData<Octets, A> + Drop,
     ensures { IsOkAnd result (λ y. values_of (R.parts y) ≡ values_of (R.parts value.now)) ⊎ Lacks E.cause result }
 {
@@ -124,19 +116,13 @@ where
 /// The same, or none where the text or the list of its tokens finds no memory. So room or memory
 /// lacks only where a field has more octets than surely fit, or stands in a list: a record of
 /// numbers, names and character strings over 255 octets of capacity is always read.
-pub fn record_reads_back_in_room<
-    R,
-    Octets: FromBuilder + Drop,
-    A: Allocator + Copy,
-    E: ScannerError,
->(
+pub fn record_reads_back_in_room<R, Octets: ScanOctets, A: Allocator + Copy, E: ScannerError>(
     alloc: A,
     octets_alloc: <Octets::Builder as EmptyBuilder>::Alloc,
     value: &R,
     kind: DisplayKind,
 ) -> Option<Result<R, E>>
 where
-    Octets::Builder: EmptyBuilder + AsOctetsMut + Truncate + FreezeBuilder<Octets = Octets> + Drop,
     R: RecordData<Octets, A> + Drop,
     ensures { IfSome result (λ r. IsOkAnd r (λ y. values_of (R.parts y) ≡ values_of (R.parts value.now))
         ⊎ (Lacks E.cause r × SomeMayLack Octets.Builder.room (values_of (R.parts value.now)))) }

@@ -5,8 +5,8 @@ ghost use Rattle.dns_records.specs.Parts.{caa_parts};
 
 use dns_text::charstr::CharStr;
 use dns_text::record::{FieldValue, RecordData, scan_three, write_unquoted};
-use dns_text::scan::{EntryScanner, ScannerError, TokenText};
-use dns_text::wire::{AsOctets, AsOctetsMut, EmptyBuilder, FreezeBuilder, FromBuilder, Truncate};
+use dns_text::scan::{EntryScanner, ScanOctets, ScannerError, TokenText};
+use dns_text::wire::AsOctets;
 use dns_text::zonefile_fmt::{self, FormatWriter, Formatter, ZonefileFmt};
 use std::alloc::Allocator;
 
@@ -32,10 +32,7 @@ impl<Octets: AsOctets> ZonefileFmt for Caa<Octets> {
     }
 }
 
-impl<Octets: FromBuilder + Drop, A: Allocator + Copy> RecordData<Octets, A> for Caa<Octets>
-where
-    Octets::Builder: EmptyBuilder + AsOctetsMut + Truncate + FreezeBuilder<Octets = Octets> + Drop,
-{
+impl<Octets: ScanOctets, A: Allocator + Copy> RecordData<Octets, A> for Caa<Octets> {
     ghost parts = { caa_parts };
 
     fn known(&self) {

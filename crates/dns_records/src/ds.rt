@@ -5,8 +5,8 @@ ghost use Rattle.dns_records.specs.Parts.{ds_parts};
 
 use dns_text::base16;
 use dns_text::record::{FieldValue, RecordData, SomeOctets, hex_rest, scan_three};
-use dns_text::scan::{EntryScanner, ScannerError, TokenText};
-use dns_text::wire::{AsOctets, AsOctetsMut, EmptyBuilder, FreezeBuilder, FromBuilder, Truncate};
+use dns_text::scan::{EntryScanner, ScanOctets, ScannerError, TokenText};
+use dns_text::wire::AsOctets;
 use dns_text::zonefile_fmt::{self, FormatWriter, Formatter, ZonefileFmt};
 use std::alloc::Allocator;
 
@@ -35,10 +35,7 @@ impl<Octets: AsOctets> ZonefileFmt for Ds<Octets> {
     }
 }
 
-impl<Octets: FromBuilder + Drop, A: Allocator + Copy> RecordData<Octets, A> for Ds<Octets>
-where
-    Octets::Builder: EmptyBuilder + AsOctetsMut + Truncate + FreezeBuilder<Octets = Octets> + Drop,
-{
+impl<Octets: ScanOctets, A: Allocator + Copy> RecordData<Octets, A> for Ds<Octets> {
     ghost parts = { ds_parts };
 
     fn known(&self) {

@@ -4,10 +4,8 @@ ghost use Rattle.dns_record.specs.Parts.{steps_of};
 ghost use Rattle.dns_records.specs.Parts.{mx_parts};
 
 use dns_text::record::{FieldValue, RecordData, scan_fields};
-use dns_text::scan::{EntryScanner, ScannerError, TokenText};
-use dns_text::wire::{
-    AsOctets, AsOctetsMut, EmptyBuilder, FreezeBuilder, FromBuilder, Name, Truncate, ZoneName,
-};
+use dns_text::scan::{EntryScanner, ScanOctets, ScannerError, TokenText};
+use dns_text::wire::{AsOctets, Name, ZoneName};
 use dns_text::zonefile_fmt::{self, FormatWriter, Formatter, ZonefileFmt};
 use std::alloc::Allocator;
 
@@ -32,10 +30,7 @@ impl<Octets: AsOctets> ZonefileFmt for Mx<Octets> {
     }
 }
 
-impl<Octets: FromBuilder + Drop, A: Allocator + Copy> RecordData<Octets, A> for Mx<Octets>
-where
-    Octets::Builder: EmptyBuilder + AsOctetsMut + Truncate + FreezeBuilder<Octets = Octets> + Drop,
-{
+impl<Octets: ScanOctets, A: Allocator + Copy> RecordData<Octets, A> for Mx<Octets> {
     ghost parts = { mx_parts };
 
     fn known(&self) {

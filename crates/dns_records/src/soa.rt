@@ -5,10 +5,8 @@ ghost use Rattle.dns_record.specs.ReadsBack.{TakesFields};
 ghost use Rattle.dns_records.specs.Parts.{soa_numbers, soa_number_values, soa_parts, soa_times};
 
 use dns_text::record::{FieldValue, RecordData, scan_fields, scan_five};
-use dns_text::scan::{EntryScanner, Scanner, ScannerError, TokenText};
-use dns_text::wire::{
-    AsOctets, AsOctetsMut, EmptyBuilder, FreezeBuilder, FromBuilder, Name, Truncate, Ttl, ZoneName,
-};
+use dns_text::scan::{EntryScanner, ScanOctets, Scanner, ScannerError, TokenText};
+use dns_text::wire::{AsOctets, Name, Ttl, ZoneName};
 use dns_text::zonefile_fmt::{self, FormatWriter, Formatter, ZonefileFmt};
 use std::alloc::Allocator;
 
@@ -90,10 +88,7 @@ fn scan_numbers<S: Scanner>(scanner: &mut S) -> Result<(u32, Ttl, Ttl, Ttl, Ttl)
     scan_five(scanner)
 }
 
-impl<Octets: FromBuilder + Drop, A: Allocator + Copy> RecordData<Octets, A> for Soa<Octets>
-where
-    Octets::Builder: EmptyBuilder + AsOctetsMut + Truncate + FreezeBuilder<Octets = Octets> + Drop,
-{
+impl<Octets: ScanOctets, A: Allocator + Copy> RecordData<Octets, A> for Soa<Octets> {
     ghost parts = { soa_parts };
 
     fn known(&self) {

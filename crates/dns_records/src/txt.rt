@@ -3,8 +3,8 @@ ghost use Rattle.dns_record.specs.Several.{string_steps, strings_laid_out, strin
 ghost use Rattle.dns_records.specs.Parts.{txt_parts};
 
 use dns_text::record::{RecordData, Strings, strings_rest};
-use dns_text::scan::{EntryScanner, ScannerError, TokenText};
-use dns_text::wire::{AsOctets, AsOctetsMut, EmptyBuilder, FreezeBuilder, FromBuilder, Truncate};
+use dns_text::scan::{EntryScanner, ScanOctets, ScannerError, TokenText};
+use dns_text::wire::AsOctets;
 use dns_text::zonefile_fmt::{self, FormatWriter, ZonefileFmt};
 use std::alloc::Allocator;
 
@@ -24,10 +24,7 @@ impl<Octets: AsOctets, A: Allocator> ZonefileFmt for Txt<Octets, A> {
     }
 }
 
-impl<Octets: FromBuilder + Drop, A: Allocator + Copy> RecordData<Octets, A> for Txt<Octets, A>
-where
-    Octets::Builder: EmptyBuilder + AsOctetsMut + Truncate + FreezeBuilder<Octets = Octets> + Drop,
-{
+impl<Octets: ScanOctets, A: Allocator + Copy> RecordData<Octets, A> for Txt<Octets, A> {
     ghost parts = { txt_parts };
 
     fn known(&self) {

@@ -66,7 +66,7 @@ pub mod record {
 /// Typed values out of the tokens of an entry.
 pub mod scan {
     pub use dns_iter::entry::{EntryScanner, TokenText, entry_at, entry_scanner};
-    pub use dns_iter::{IterScanner, StrError};
+    pub use dns_iter::{IterScanner, ScanOctets, StrError};
     pub use dns_scan::{
         ConvertSymbols, Kind, RestOf, Scan, Scanned, Scanner, ScannerError, expect_end, scan_rest,
     };

@@ -1,12 +1,13 @@
 //! What each command does with files.
 use crate::blocks::{Ended, Printer, Take, go_through_file};
-use crate::pair::{Which, compare_files};
+use crate::pair::compare_files;
 use crate::progress::Progress;
 use dns_split::pieces::Wrong;
 use std::io;
 use std::io::{ErrorKind, Write};
 use zonetext_lib::blocks::{Checker, Halt};
 use zonetext_lib::check::Found;
+use zonetext_lib::comparer::Side;
 use zonetext_lib::diff::Comparison;
 use zonetext_lib::writer::Output;
 
@@ -89,7 +90,7 @@ pub fn compare(rt: &HostRuntime, first: &str, second: &str, is_quiet: bool) -> i
         }
         Ok(Comparison::FirstWrong(found)) => report(rt, first, found),
         Ok(Comparison::SecondWrong(found)) => report(rt, second, found),
-        Err((Which::First, ended)) => conclude(rt, first, Err(ended)),
-        Err((Which::Second, ended)) => conclude(rt, second, Err(ended)),
+        Err((Side::First, ended)) => conclude(rt, first, Err(ended)),
+        Err((Side::Second, ended)) => conclude(rt, second, Err(ended)),
     }
 }

@@ -1,13 +1,13 @@
 -- The form of octets that come in blocks, and why others have none.
-use Rattle.std.proofs.Common.{◌≡◌, ℕ, ◌+◌, ◌-◌, ◌<◌, ◌≤◌, ◌^◌, Bool, false, true, List, [], ◌∷◌, ◌++◌, length, take, drop, get_or, refl, sym, ap, ◌∙◌, subst, arith, inl, inr, append-nil, append_assoc, length-append, length-drop, length-take-le}
-use Rattle.std.specs.Prelude.{◌⊎◌, map, Result, Ok, Err, encode_utf8_all}
+use Rattle.std.proofs.Common.{◌≡◌, ℕ, ◌+◌, ◌-◌, ◌<◌, ◌≤◌, ◌^◌, false, List, [], ◌∷◌, ◌++◌, length, take, drop, refl, sym, ap, ◌∙◌, subst, arith, inl, inr, append-nil, append_assoc, length-append, length-drop}
+use Rattle.std.specs.Prelude.{map, Result, Ok, Err}
 use Rattle.std.proofs.lemmas.List.{drop-append-le, get_or-append-add, get_or_append_left, take-append-drop, take-append-le}
 use Rattle.std.proofs.Math.Seq.{take-append-add, take-append_seam}
 use Rattle.dns_split.specs.declared.pieces.Piece.{Piece}
 use Rattle.dns_split.specs.declared.pieces.Piece.TheVariants.{Word as WordAt, Quote as QuoteAt, Comment as CommentAt, End as EndAt}
 use Rattle.dns_split.specs.declared.pieces.Fault.{Fault}
 use Rattle.dns_split.specs.declared.position.Position.{Position}
-use Rattle.dns_split.specs.Pieces.{AreOctets, EachWithin, IsGiven, between, end_at, later}
+use Rattle.dns_split.specs.Pieces.{AreOctets, IsGiven, between, end_at, later}
 use Rattle.dns_split.proofs.Blocks.{faults_stay}
 use Rattle.dns_split.proofs.OctetsOnce.{given_once, run_given}
 use Rattle.zone_format.specs.Blocks.{AreEntries, FormatsEntries, FormatsLast, FormedTo, first_seam}
@@ -22,13 +22,12 @@ use Rattle.zonetext_lib.specs.declared.blocks.Halt.{Halt}
 use Rattle.zonetext_lib.specs.declared.blocks.Halt.TheVariants.{Wrong as WrongHalt, OutOfMemory as OutOfMemoryHalt, TooLong as TooLongHalt}
 use Rattle.zonetext_lib.specs.declared.formatter.NoForm.{NoForm}
 use Rattle.zonetext_lib.specs.declared.formatter.NoForm.TheVariants.{Wrong, Nul, OrderMark, OutOfMemory, TooLong}
-use Rattle.zonetext_lib.specs.Forming.{AddsForm, FormedSoFar, FormsSettled, HasNoForm, HasNoFormAfter, HasPosition, as_no_form}
+use Rattle.zonetext_lib.specs.Forming.{AddsForm, FormedSoFar, FormsSettled, HasNoFormAfter, HasPosition, as_no_form}
 use Rattle.zonetext_lib.specs.Held.{Held}
 use Rattle.zonetext_lib.specs.HeldForm.{Forming}
 use Rattle.zonetext_lib.specs.Place.{IsAt}
-use Rattle.zonetext_lib.specs.declared.place.Place.{Place}
 use Rattle.zonetext_lib.proofs.After.{entry_line}
-use Rattle.zonetext_lib.proofs.Cuts.{back_octets, both_octets, cut_given, read_on, take_octets}
+use Rattle.zonetext_lib.proofs.Cuts.{back_octets, both_octets, read_on, take_octets}
 use Rattle.zonetext_lib.proofs.Following.{between_back}
 use Rattle.zonetext_lib.proofs.Holding.{added, ended_at, held_at, let_go}
 use Rattle.zonetext_lib.proofs.Made.{cut_whole, whole_not_bad}

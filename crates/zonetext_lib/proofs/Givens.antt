@@ -42,7 +42,7 @@ pub moved_oks : (g : ℕ → ℕ) (found : List Piece) → map (moved g) (map Ok
 moved_oks g [] = refl
 moved_oks g (p ∷ found) = ap (λ l. Ok (moved_piece g p) ∷ l) (moved_oks g found)
 
-pieces_of_oks : (found : List Piece) → pieces_in (map Ok found) ≡ found
+pub pieces_of_oks : (found : List Piece) → pieces_in (map Ok found) ≡ found
 pieces_of_oks [] = refl
 pieces_of_oks (p ∷ found) = ap (λ l. p ∷ l) (pieces_of_oks found)
 

@@ -1,9 +1,21 @@
 -- Two zone texts that come in blocks, and are compared.
-use Rattle.std.specs.Prelude.{ℕ, ◌+◌, ◌≤◌, ◌⊎◌, List, [], ◌∷◌, Option, Some, Ok, Err, take}
+use Rattle.std.specs.Prelude.{ℕ, ◌+◌, ◌≤◌, ◌⊎◌, List, [], ◌∷◌, Option, Some, Ok, Err, encode_utf8_all, take}
+use Rattle.dns_split.specs.Viable.{IsViable}
 use Rattle.dns_split.specs.declared.pieces.Fault.{Fault}
+use Rattle.zonetext_lib.specs.declared.comparer.Side.{Side}
+use Rattle.zonetext_lib.specs.declared.comparer.Side.TheVariants.{First as FirstSide, Second as SecondSide}
 use Rattle.zonetext_lib.specs.Blocks.{Holds, EndsEntryAt, Settled}
 use Rattle.zonetext_lib.specs.Entries.{ComparedPart, Token, Ends, HasTokenEntries}
-use Rattle.zonetext_lib.specs.Held.{Both}
+use Rattle.zonetext_lib.specs.Held.{Both, Held}
+
+-- what is held on one side, and the other side
+abbrev pub on_side : Side → Both → Held
+on_side FirstSide c = c.first
+on_side SecondSide c = c.second
+
+abbrev pub opposite : Side → Side
+opposite FirstSide = SecondSide
+opposite SecondSide = FirstSide
 
 -- of both texts these are held; what came before has the same entries with tokens
 pub record Compared (one other : List ℕ) (c : Both) : Type 0 where
@@ -26,6 +38,10 @@ EndTwice octets = (at : ℕ) × (es : List ComparedPart) × EndsEntryAt octets a
 -- or there is a fault that stays
 abbrev pub Suffices : List ℕ → Type 0
 Suffices octets = EndTwice octets ⊎ ((f : Fault) × Settled octets (Err f))
+
+-- what follows may still make zone text of it, and decides how it compares
+abbrev pub NeedsMore : List ℕ → Type 0
+NeedsMore octets = IsViable (encode_utf8_all octets) × (EndTwice octets → ⊥)
 
 -- the same entries with tokens end here in both, and something follows in both
 abbrev pub SameUntil : List ℕ → List ℕ → ℕ → ℕ → Type 0

@@ -1,8 +1,8 @@
 //! How two zone texts compare that come in blocks.
-ghost use Rattle.std.specs.Prelude.{◌≡◌, ◌+◌, ◌-◌, ◌<◌, ◌^◌, [], ℕ, List, false, true};
+ghost use Rattle.std.specs.Prelude.{◌≡◌, ◌+◌, ◌-◌, ◌<◌, ◌^◌, ◌↔◌, [], ℕ, List, false, true};
 ghost use Rattle.zonetext_lib.specs.Blocks.{TakesBlock};
 ghost use Rattle.zonetext_lib.specs.Compare.{Compares};
-ghost use Rattle.zonetext_lib.specs.Comparing.{Compared, EndTwice, Suffices};
+ghost use Rattle.zonetext_lib.specs.Comparing.{Compared, EndTwice, NeedsMore, Suffices, on_side, opposite};
 
 use crate::blocks::{Checker, Halt};
 use crate::diff::{Comparison, diff, same_until};
@@ -13,7 +13,7 @@ use std::marker::Model;
 
 /// Whether two entries that have tokens end, and something follows them.
 fn end_twice(octets: &[u8]) -> bool
-    ensures { result ≡ true → EndTwice octets.now }
+    ensures { (result ≡ true) ↔ EndTwice octets.now }
 {
     let mut count: usize = 0;
     let mut has_tokens = false;
@@ -47,6 +47,13 @@ fn after_lines(lines_before: usize, position: Position) -> Position
     }
 }
 
+/// One of two texts.
+#[derive(Clone, Copy, Debug, PartialEq, Eq)]
+pub enum Side {
+    First,
+    Second,
+}
+
 /// Two zone texts that are added block by block, and compared.
 ///
 /// Those entries are let go that have ended in both and are the same, and with them those without
@@ -76,40 +83,38 @@ impl<A: Allocator + Copy> Comparer<A> {
         }
     }
 
-    /// Adds octets of the first, and returns whether so many are held that it is worth while to
-    /// compare. Where memory is lacking nothing is added.
-    pub fn add_first(&mut self, block: &[u8]) -> Result<bool, Halt>
-        ensures first { TakesBlock self.old.first self.new.first block.now result }
-        ensures second { self.new.second ≡ self.old.second }
+    /// The octets of one of them.
+    fn on(&self, side: Side) -> &Checker<A>
+        ensures { result.now ≡ on_side side self.now }
     {
-        self.first.take(block)
-    }
-
-    /// The same of the second.
-    pub fn add_second(&mut self, block: &[u8]) -> Result<bool, Halt>
-        ensures first { self.new.first ≡ self.old.first }
-        ensures second { TakesBlock self.old.second self.new.second block.now result }
-    {
-        self.second.take(block)
-    }
-
-    /// Whether more of the first may be needed to compare: not where two entries with tokens have
-    /// ended that are held, and not where there is a fault that stays whatever follows.
-    pub fn wants_first(&self) -> bool
-        ensures { result ≡ false → Suffices self.now.first.octets }
-    {
-        match self.first.settle() {
-            Ok(_) => !end_twice(self.first.held()),
-            Err(_) => false,
+        match side {
+            Side::First => &self.first,
+            Side::Second => &self.second,
         }
     }
 
-    /// The same of the second.
-    pub fn wants_second(&self) -> bool
-        ensures { result ≡ false → Suffices self.now.second.octets }
+    /// Adds octets on one side, and returns whether so many are held there that it is worth while to
+    /// compare. Where memory is lacking nothing is added. The other side stays as it is.
+    pub fn add(&mut self, side: Side, block: &[u8]) -> Result<bool, Halt>
+        ensures added { TakesBlock (on_side side self.old) (on_side side self.new) block.now result }
+        ensures other { on_side (opposite side) self.new ≡ on_side (opposite side) self.old }
     {
-        match self.second.settle() {
-            Ok(_) => !end_twice(self.second.held()),
+        match side {
+            Side::First => self.first.take(block),
+            Side::Second => self.second.take(block),
+        }
+    }
+
+    /// Whether more is needed on one side to compare: not where two entries with tokens have ended
+    /// that are held, and something follows them; and not where there is a fault that stays whatever
+    /// follows.
+    pub fn wants_more(&self, side: Side) -> bool
+        ensures enough { result ≡ false → Suffices (on_side side self.now).octets }
+        ensures more { result ≡ true → NeedsMore (on_side side self.now).octets }
+    {
+        let text = self.on(side);
+        match text.settle() {
+            Ok(_) => !end_twice(text.held()),
             Err(_) => false,
         }
     }

@@ -19,20 +19,20 @@ struct Hunks {
     /// The lines of the open hunk, with their marks.
     body: Vec<u8>,
     is_open: bool,
-    old: Side,
-    new: Side,
+    old: LineCount,
+    new: LineCount,
 }
 
 /// Where the lines of one text stand.
 #[derive(Clone, Copy)]
-struct Side {
+struct LineCount {
     /// How many lines were passed.
     passed: u64,
     /// How many of them stood before the open hunk.
     before: u64,
 }
 
-impl Side {
+impl LineCount {
     /// The lines of the open hunk: the number of the first, and how many there are.
     fn range(self, ahead: u64) -> (u64, u64) {
         let count = self
@@ -57,7 +57,7 @@ fn push_line(body: &mut Vec<u8>, mark: u8, line: &[u8]) -> Result<(), AllocError
 
 impl Hunks {
     fn new(alloc: Global) -> Hunks {
-        let none = Side {
+        let none = LineCount {
             passed: 0,
             before: 0,
         };

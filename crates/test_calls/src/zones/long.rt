@@ -9,7 +9,7 @@ use std::process::Abort;
 use std::test::Fail;
 use zonetext_lib::blocks::{Checker, Halt};
 use zonetext_lib::check::{Found, check};
-use zonetext_lib::comparer::Comparer;
+use zonetext_lib::comparer::{Comparer, Side};
 use zonetext_lib::diff::{Comparison, diff};
 use zonetext_lib::layout::{Gap, lay_out};
 use zonetext_lib::tokens::{Form, Stop, tokens};
@@ -111,31 +111,18 @@ fn write_block(
     answer
 }
 
-/// Adds a block of a length to the first text, if more of it is wanted. Returns what is left.
-fn add_first<'o>(
+/// Adds a block of a length on one side, if more is wanted there. Returns what is left.
+fn add_block<'o>(
     comparer: &mut Comparer<Global>,
+    side: Side,
     octets: &'o [u8],
     size: usize,
 ) -> Result<&'o [u8], Halt> {
-    if !comparer.wants_first() {
+    if !comparer.wants_more(side) {
         return Ok(octets);
     }
     let (block, rest) = octets.split_at(size.min(octets.len()));
-    comparer.add_first(block)?;
-    Ok(rest)
-}
-
-/// The same of the second.
-fn add_second<'o>(
-    comparer: &mut Comparer<Global>,
-    octets: &'o [u8],
-    size: usize,
-) -> Result<&'o [u8], Halt> {
-    if !comparer.wants_second() {
-        return Ok(octets);
-    }
-    let (block, rest) = octets.split_at(size.min(octets.len()));
-    comparer.add_second(block)?;
+    comparer.add(side, block)?;
     Ok(rest)
 }
 
@@ -149,8 +136,8 @@ fn compare_in_blocks(
     let mut comparer = Comparer::new(alloc);
     let (mut ours, mut theirs) = (first, second);
     for _ in 0..u64::MAX {
-        let our_rest = add_first(&mut comparer, ours, size)?;
-        let their_rest = add_second(&mut comparer, theirs, size)?;
+        let our_rest = add_block(&mut comparer, Side::First, ours, size)?;
+        let their_rest = add_block(&mut comparer, Side::Second, theirs, size)?;
         if our_rest.len() == ours.len() && their_rest.len() == theirs.len() {
             break;
         }

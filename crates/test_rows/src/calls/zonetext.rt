@@ -6,7 +6,7 @@ use row_table::{Answer, Failure, Heap, Inputs};
 use std::alloc::{AllocError, Allocator, Global};
 use zonetext_lib::blocks::{Checker, Halt};
 use zonetext_lib::check::{Found, check};
-use zonetext_lib::comparer::Comparer;
+use zonetext_lib::comparer::{Comparer, Side};
 use zonetext_lib::diff::{Comparison, diff};
 use zonetext_lib::layout::{Gap, lay_out};
 use zonetext_lib::tokens::{Form, Stop, tokens};
@@ -267,39 +267,31 @@ fn write_after(output: Output, inputs: &Inputs, answer: &mut Answer) {
     }
 }
 
-/// Adds a block to the first text, and once more where memory was lacking.
-fn add_first<A: Allocator + Copy>(comparer: &mut Comparer<A>, block: &[u8]) -> Result<(), Halt> {
-    match comparer.add_first(block) {
-        Err(Halt::OutOfMemory) => comparer.add_first(block).map(|_| ()),
+/// Adds a block on one side, and once more where memory was lacking.
+fn add_twice<A: Allocator + Copy>(
+    comparer: &mut Comparer<A>,
+    side: Side,
+    block: &[u8],
+) -> Result<(), Halt> {
+    match comparer.add(side, block) {
+        Err(Halt::OutOfMemory) => comparer.add(side, block).map(|_| ()),
         told => told.map(|_| ()),
     }
 }
 
-/// The same of the second.
-fn add_second<A: Allocator + Copy>(comparer: &mut Comparer<A>, block: &[u8]) -> Result<(), Halt> {
-    match comparer.add_second(block) {
-        Err(Halt::OutOfMemory) => comparer.add_second(block).map(|_| ()),
-        told => told.map(|_| ()),
-    }
-}
-
-/// Adds a block of a length to a text of which more is wanted. What is left.
+/// Adds a block of a length on one side, if more is wanted there. What is left.
 fn add_block<'o, A: Allocator + Copy>(
     comparer: &mut Comparer<A>,
-    is_first: bool,
+    side: Side,
     octets: &'o [u8],
     size: usize,
 ) -> Result<&'o [u8], Halt> {
+    if !comparer.wants_more(side) {
+        return Ok(octets);
+    }
     let (block, rest) = octets.split_at(size.min(octets.len()));
-    if is_first && comparer.wants_first() {
-        add_first(comparer, block)?;
-        return Ok(rest);
-    }
-    if !is_first && comparer.wants_second() {
-        add_second(comparer, block)?;
-        return Ok(rest);
-    }
-    Ok(octets)
+    add_twice(comparer, side, block)?;
+    Ok(rest)
 }
 
 /// How two texts compare that come in blocks of a length, until no more is wanted of either.
@@ -312,8 +304,8 @@ fn compare_blocks<A: Allocator + Copy>(
     let mut comparer = Comparer::new(alloc);
     let (mut ours, mut theirs) = (one, other);
     for _ in 0..u64::MAX {
-        let our_rest = add_block(&mut comparer, true, ours, size)?;
-        let their_rest = add_block(&mut comparer, false, theirs, size)?;
+        let our_rest = add_block(&mut comparer, Side::First, ours, size)?;
+        let their_rest = add_block(&mut comparer, Side::Second, theirs, size)?;
         if our_rest.len() == ours.len() && their_rest.len() == theirs.len() {
             break;
         }
