@@ -1,3 +1,4 @@
+pub mod GenericLaws
 pub mod Joinings
 pub mod Namings
 pub mod Reading

@@ -1,6 +1,7 @@
 pub mod Data
 pub mod Digits
 pub mod Errors
+pub mod Generic
 pub mod Pieces
 pub mod RestKinds
 pub mod Rests

@@ -4,6 +4,7 @@
 
 pub mod digits;
 pub mod error;
+pub mod generic;
 pub mod rest;
 pub mod shape;
 pub mod texts;
@@ -12,6 +13,7 @@ pub mod types;
 
 pub use digits::take_digits;
 pub use error::{DataError, DataRefusal};
+pub use generic::{begins_generic, take_generic};
 pub use rest::{Rest, take_rest};
 pub use shape::{Length, PartRefusal, Shape, read_data};
 pub use texts::{take_nothing, take_text};

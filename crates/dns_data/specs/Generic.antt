@@ -1,0 +1,64 @@
+-- Record data in the generic form (RFC 3597 section 5).
+use Rattle.std.specs.Prelude.{ℕ, ◌≡◌, ◌≢◌, ◌⊎◌, ◌^◌, true, false, List, [], ◌∷◌, length, codes, decimal, Result, Ok, Err}
+use Rattle.dns_codec.specs.Base.{base16, encoded}
+use Rattle.dns_digits.specs.declared.kind.DigitsKind.TheVariants.{Hex}
+use Rattle.dns_fields.specs.Source.{next_place}
+use Rattle.dns_fields.specs.Words.{SpellsBelow, NumberReason}
+use Rattle.dns_fields.specs.declared.error.FieldError.TheVariants.{EndOfEntry, Quoted, Kind}
+use Rattle.dns_kinds.specs.declared.error.KindError.{KindError}
+use Rattle.dns_spelling.specs.Spelling.{AreOctetValues}
+use Rattle.dns_split.specs.EntryTokens.{TokenSeen}
+use Rattle.dns_data.specs.Digits.{SpellsJoined, digits_form, printed_digits}
+use Rattle.dns_data.specs.Rests.{RestForm, PrintedToken}
+use Rattle.dns_data.specs.declared.error.DataError.{DataError}
+use Rattle.dns_data.specs.declared.error.DataError.TheVariants.{Field, WrongLength}
+use Rattle.dns_data.specs.declared.error.DataRefusal.{DataRefusal}
+
+-- a backslash and a number sign, without quotes
+abbrev pub IsGenericMark : TokenSeen → Type 0
+IsGenericMark t = (t.is_quoted ≡ false) × (t.text ≡ codes "\\#")
+
+abbrev pub BeginsGeneric : List TokenSeen → Type 0
+BeginsGeneric [] = ⊥
+BeginsGeneric (t ∷ ts) = IsGenericMark t
+
+-- a word that is a number of 16 bits
+abbrev pub IsCount : TokenSeen → ℕ → Type 0
+IsCount t count = (t.is_quoted ≡ false) × SpellsBelow (2 ^ 16) t.text count
+
+-- why a token is none
+abbrev pub IsNoCount : TokenSeen → DataError → Type 0
+IsNoCount t e =
+    ((e ≡ Field Quoted) × (t.is_quoted ≡ true))
+    ⊎ ((t.is_quoted ≡ false) × ((why : KindError) × (e ≡ Field (Kind why)) × NumberReason (2 ^ 16) t.text why × ((n : ℕ) → SpellsBelow (2 ^ 16) t.text n → ⊥)))
+
+abbrev pub WhyNoCount : List TokenSeen → DataError → Type 0
+WhyNoCount [] e = e ≡ Field EndOfEntry
+WhyNoCount (t ∷ ts) e = IsNoCount t e
+
+-- the next token is taken as a number; or it is refused, and none is taken
+abbrev pub TakesCount : ℕ → List TokenSeen → Result ℕ DataRefusal → List TokenSeen → Type 0
+TakesCount end tokens (Ok count) left = (t : TokenSeen) × (tokens ≡ t ∷ left) × IsCount t count
+TakesCount end tokens (Err r) left = (left ≡ tokens) × (r.at ≡ next_place tokens end) × WhyNoCount tokens r.why
+
+-- the mark, how many octets there are, and these in hexadecimal
+abbrev pub SpellsGeneric : List TokenSeen → List ℕ → Type 0
+SpellsGeneric [] octets = ⊥
+SpellsGeneric (mark ∷ []) octets = ⊥
+SpellsGeneric (mark ∷ count ∷ digits) octets = IsGenericMark mark × IsCount count (length octets) × SpellsJoined base16 digits octets
+
+-- behind the mark, why tokens are refused: the first is no number; the others are no octets in digits; or they are not so many
+abbrev pub GenericReason : List TokenSeen → List TokenSeen → DataError → Type 0
+GenericReason [] left e = ⊥
+GenericReason (mark ∷ tokens) left e =
+    ((left ≡ tokens) × WhyNoCount tokens e)
+    ⊎ ((count : TokenSeen) × (digits : List TokenSeen) × (tokens ≡ count ∷ digits) × ((digits_form Hex).reason digits left e ⊎ ((e ≡ WrongLength) × (left ≡ []))))
+
+-- the mark and the number are printed as words, and the octets as one
+abbrev pub generic_form : RestForm
+generic_form = record {
+  spells = SpellsGeneric;
+  reason = GenericReason;
+  is_wire = AreOctetValues;
+  printed = λ octets. record { is_quoted = false; text = codes "\\#" } ∷ record { is_quoted = false; text = decimal (length octets) } ∷ printed_digits base16 octets;
+}

@@ -1,0 +1,69 @@
+//! Record data in the generic form, for types of any code (RFC 3597 section 5).
+ghost use Rattle.std.specs.Prelude.{◌≡◌, MatchBool};
+ghost use Rattle.dns_data.specs.Generic.{BeginsGeneric, TakesCount, generic_form};
+ghost use Rattle.dns_data.specs.Rests.{TakesRest};
+
+use crate::digits::take_digits;
+use crate::error::{DataError, DataRefusal};
+use dns_digits::DigitsKind;
+use dns_fields::{FieldError, TokenSource, Word};
+use dns_octets::OctetsBuilder;
+
+/// Whether the token that comes next is the mark of the generic form, `\#` without quotes.
+pub fn begins_generic<S: TokenSource>(source: &S) -> bool
+    ensures { MatchBool result (BeginsGeneric (S.left source.now)) (BeginsGeneric (S.left source.now) → ⊥) }
+{
+    match source.current() {
+        Some(token) => !token.is_quoted && token.text == b"\\#".as_slice(),
+        None => false,
+    }
+}
+
+/// Takes the word that comes next as a number of 16 bits.
+fn take_count<S: TokenSource>(source: &mut S) -> Result<u16, DataRefusal>
+    ensures takes { TakesCount (S.end source.old) (S.left source.old) result (S.left source.new) }
+    ensures end { S.end source.new ≡ S.end source.old }
+{
+    let at = source.place();
+    let Some(token) = source.current() else {
+        let why = DataError::Field(FieldError::EndOfEntry);
+        return Err(DataRefusal { at, why });
+    };
+    if token.is_quoted {
+        let why = DataError::Field(FieldError::Quoted);
+        return Err(DataRefusal { at, why });
+    }
+    match u16::from_text(token.text) {
+        Ok(count) => {
+            source.advance();
+            Ok(count)
+        }
+        Err(error) => {
+            let why = DataError::from(error);
+            Err(DataRefusal { at, why })
+        }
+    }
+}
+
+/// Takes the tokens that are left as data in the generic form, and appends its octets: the mark,
+/// which comes next, how many octets there are, and these in hexadecimal.
+pub fn take_generic<S: TokenSource, B: OctetsBuilder>(
+    source: &mut S,
+    target: &mut B,
+) -> Result<(), DataRefusal>
+    requires { BeginsGeneric (S.left source.old) }
+    ensures takes { TakesRest B.room generic_form (S.end source.old) (S.left source.old) (B.octets target.old) result (S.left source.new) (B.octets target.new) }
+    ensures end { S.end source.new ≡ S.end source.old }
+{
+    source.advance();
+    let count = take_count(source)?;
+    let begun = target.as_slice().len();
+    take_digits(DigitsKind::Hex, source, target)?;
+    let gained = target.as_slice().len() - begun;
+    if gained != usize::from(count) {
+        let at = source.place();
+        let why = DataError::WrongLength;
+        return Err(DataRefusal { at, why });
+    }
+    Ok(())
+}
