@@ -1,5 +1,6 @@
 pub mod GenericLaws
 pub mod Joinings
+pub mod LocationLemmas
 pub mod Namings
 pub mod Reading
 pub mod Somes

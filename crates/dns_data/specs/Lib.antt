@@ -2,6 +2,7 @@ pub mod Data
 pub mod Digits
 pub mod Errors
 pub mod Generic
+pub mod LocationRest
 pub mod Pieces
 pub mod RestKinds
 pub mod Rests

@@ -4,7 +4,7 @@ use Rattle.dns_digits.specs.declared.digests.Digests.TheVariants.{Ds, Sshfp, Zon
 use Rattle.dns_fields.specs.declared.field.Field.{Field}
 use Rattle.dns_fields.specs.declared.field.Field.TheVariants.{Number8, Number16, Number32, Interval, Ipv4, Ipv6, RecordType, Algorithm, NamedAlgorithm, CertificateType, Eui48, Eui64, Time, Locator, String, Tag, Salt, Hash, Name}
 use Rattle.dns_data.specs.declared.rest.Rest.{Rest}
-use Rattle.dns_data.specs.declared.rest.Rest.TheVariants.{Base64, Hex, Nothing, QuotedText, SomeTypes, Strings, Text, Types}
+use Rattle.dns_data.specs.declared.rest.Rest.TheVariants.{Base64, Hex, Location as OfLocation, Nothing, QuotedText, SomeTypes, Strings, Text, Types}
 use Rattle.dns_data.specs.declared.shape.Length.{Length}
 use Rattle.dns_data.specs.declared.shape.Length.TheVariants.{Any, Digest, Hash as HashLength}
 use Rattle.dns_data.specs.declared.types.TypeRow.{TypeRow}
@@ -69,6 +69,8 @@ type_shapes =
     type_shape 25 (Number16 ∷ Number8 ∷ Algorithm ∷ []) Base64 Any ∷
     -- AAAA
     type_shape 28 (Ipv6 ∷ []) Nothing Any ∷
+    -- LOC
+    type_shape 29 [] OfLocation Any ∷
     -- SRV
     type_shape 33 (Number16 ∷ Number16 ∷ Number16 ∷ Name ∷ []) Nothing Any ∷
     -- NAPTR

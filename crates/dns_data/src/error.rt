@@ -1,7 +1,7 @@
 //! Why record data was not read.
 ghost use Rattle.std.specs.Prelude.{◌≡◌, Some};
 ghost use Rattle.dns_fields.specs.Errors.{of_spelling, of_digits};
-ghost use Rattle.dns_data.specs.Errors.{data_error_text};
+ghost use Rattle.dns_data.specs.Errors.{data_error_text, of_location};
 ghost use Rattle.dns_data.specs.declared.error.DataError.TheVariants.{Field};
 ghost use Rattle.dns_fields.specs.declared.error.FieldError.TheVariants.{Kind, ShortBuf as NoRoom};
 
@@ -9,6 +9,7 @@ use dns_digits::DigitsError;
 use dns_fields::FieldError;
 use dns_kinds::KindError;
 use dns_octets::ShortBuf;
+use dns_places::LocationError;
 use dns_spelling::SpellingError;
 use std::error::Error;
 use std::fmt;
@@ -24,6 +25,8 @@ pub enum DataError {
     NotQuoted,
     /// Type 0 stands in a list of types.
     TypeZero,
+    /// Words are no location.
+    Location(LocationError),
     /// A digest or a hash has not as many octets as its number asks for.
     WrongLength,
 }
@@ -45,6 +48,7 @@ impl DataError {
             DataError::TrailingToken => "unexpected token behind the data",
             DataError::NotQuoted => "expected text in quotes",
             DataError::TypeZero => "type 0 in a list of types",
+            DataError::Location(why) => why.as_str(),
             DataError::WrongLength => "wrong number of octets",
         }
     }
@@ -97,5 +101,16 @@ impl From<ShortBuf> for DataError {
 
     fn from(_: ShortBuf) -> Self {
         DataError::Field(FieldError::ShortBuf)
+    }
+}
+
+impl From<LocationError> for DataError {
+    ghost from_gives = { λ why e. e ≡ of_location why };
+
+    fn from(why: LocationError) -> Self {
+        match why {
+            LocationError::ShortBuf => DataError::Field(FieldError::ShortBuf),
+            _ => DataError::Location(why),
+        }
     }
 }

@@ -5,6 +5,7 @@
 pub mod digits;
 pub mod error;
 pub mod generic;
+mod locations;
 pub mod rest;
 pub mod shape;
 pub mod texts;

@@ -8,6 +8,7 @@ ghost use Rattle.dns_data.specs.TypeLists.{types_form};
 
 use crate::digits::take_digits;
 use crate::error::{DataError, DataRefusal};
+use crate::locations::take_place;
 use crate::texts::{take_no_token, take_text};
 use crate::type_lists::take_types;
 use dns_digits::DigitsKind;
@@ -34,6 +35,8 @@ pub enum Rest {
     Text,
     /// Text of any length, in quotes.
     QuotedText,
+    /// A location.
+    Location,
 }
 
 /// Sees that octets were appended behind so many.
@@ -133,5 +136,6 @@ pub fn take_rest<S: TokenSource, Octets: AsOctets, B: OctetsBuilder>(
         Rest::SomeTypes => take_some_types(source, target),
         Rest::Text => take_text(false, source, target),
         Rest::QuotedText => take_text(true, source, target),
+        Rest::Location => take_place(source, target),
     }
 }

@@ -19,7 +19,7 @@ pub struct TypeRow(
 );
 
 /// The types, by code.
-pub static TYPES: [TypeRow; 49] = [
+pub static TYPES: [TypeRow; 50] = [
     // A (RFC 1035 section 3.4.1).
     TypeRow(1, &[Field::Ipv4], Rest::Nothing, Length::Any, &["address"]),
     // NS (RFC 1035 section 3.3.11).
@@ -58,6 +58,8 @@ pub static TYPES: [TypeRow; 49] = [
     TypeRow(25, &[Field::Number16, Field::Number8, Field::Algorithm], Rest::Base64, Length::Any, &["flags", "protocol", "algorithm", "key"]),
     // AAAA (RFC 3596 section 2.2).
     TypeRow(28, &[Field::Ipv6], Rest::Nothing, Length::Any, &["address"]),
+    // LOC (RFC 1876 section 2).
+    TypeRow(29, &[], Rest::Location, Length::Any, &["location"]),
     // SRV (RFC 2782).
     TypeRow(33, &[Field::Number16, Field::Number16, Field::Number16, Field::Name], Rest::Nothing, Length::Any, &["priority", "weight", "port", "target"]),
     // NAPTR (RFC 3403 section 4.1).

@@ -21,19 +21,19 @@ pub struct LocationRefusal {
 
 /// The sizes of a location: its diameter, and its horizontal and vertical precision, each as an octet.
 #[derive(Clone, Copy)]
-pub(crate) struct Sizes {
-    pub(crate) size: u8,
-    pub(crate) horizontal: u8,
-    pub(crate) vertical: u8,
+pub struct Sizes {
+    pub size: u8,
+    pub horizontal: u8,
+    pub vertical: u8,
 }
 
 /// A location, by the numbers of its octets.
 #[derive(Clone, Copy)]
-pub(crate) struct Location {
-    pub(crate) sizes: Sizes,
-    pub(crate) latitude: u32,
-    pub(crate) longitude: u32,
-    pub(crate) altitude: u32,
+pub struct Location {
+    pub sizes: Sizes,
+    pub latitude: u32,
+    pub longitude: u32,
+    pub altitude: u32,
 }
 
 /// The sizes that are not said: 1 m, 10000 m and 10 m.

@@ -1,0 +1,28 @@
+-- Locations (RFC 1876), which go to the end of an entry.
+use Rattle.std.specs.Prelude.{ℕ, ◌≡◌, false, List, [], ◌∷◌, map, take, drop, slice_index}
+use Rattle.std.specs.Int.{from_be_bytes, w32}
+use Rattle.dns_places.specs.LocationTaking.{RefusesTokens}
+use Rattle.dns_places.specs.LocationWords.{IsLocation, location_words}
+use Rattle.dns_places.specs.Locations.{SpellsLocation}
+use Rattle.dns_places.specs.declared.location.Location.{Location}
+use Rattle.dns_places.specs.declared.location.Sizes.{Sizes}
+use Rattle.dns_places.specs.declared.location_error.LocationError.{LocationError}
+use Rattle.dns_data.specs.Errors.{of_location}
+use Rattle.dns_data.specs.Rests.{RestForm, PrintedToken}
+
+-- the location of 16 octets: a version, three sizes, and three numbers
+abbrev pub location_at : List ℕ → Location
+location_at octets = record {
+  sizes = record { size = slice_index octets 1; horizontal = slice_index octets 2; vertical = slice_index octets 3 };
+  latitude = from_be_bytes w32 (take 4 (drop 4 octets));
+  longitude = from_be_bytes w32 (take 4 (drop 8 octets));
+  altitude = from_be_bytes w32 (take 4 (drop 12 octets));
+}
+
+abbrev pub location_form : RestForm
+location_form = record {
+  spells = SpellsLocation;
+  reason = λ tokens left e. (why : LocationError) × (e ≡ of_location why) × RefusesTokens why tokens left;
+  is_wire = λ octets. (l : Location) × IsLocation octets l;
+  printed = λ octets. map (λ word. record { is_quoted = false; text = word }) (location_words (location_at octets));
+}

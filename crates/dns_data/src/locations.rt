@@ -1,0 +1,26 @@
+//! Locations (RFC 1876) to the end of an entry.
+ghost use Rattle.std.specs.Prelude.{◌≡◌};
+ghost use Rattle.dns_data.specs.LocationRest.{location_form};
+ghost use Rattle.dns_data.specs.Rests.{TakesRest};
+
+use crate::error::{DataError, DataRefusal};
+use dns_fields::TokenSource;
+use dns_octets::OctetsBuilder;
+use dns_places::take_location;
+
+/// Takes the tokens that are left as a location, and appends its octets.
+pub(crate) fn take_place<S: TokenSource, B: OctetsBuilder>(
+    source: &mut S,
+    target: &mut B,
+) -> Result<(), DataRefusal>
+    ensures takes { TakesRest B.room location_form (S.end source.old) (S.left source.old) (B.octets target.old) result (S.left source.new) (B.octets target.new) }
+    ensures end { S.end source.new ≡ S.end source.old }
+{
+    match take_location(source, target) {
+        Ok(()) => Ok(()),
+        Err(refusal) => Err(DataRefusal {
+            at: refusal.at,
+            why: DataError::from(refusal.why),
+        }),
+    }
+}
