@@ -1,3 +1,4 @@
+pub mod FieldFronts
 pub mod Joinings
 pub mod Namings
 pub mod Reading
@@ -5,3 +6,5 @@ pub mod Somes
 pub mod Sources
 pub mod Strings
 pub mod TextLaws
+pub mod WireStrings
+pub mod WireTypes

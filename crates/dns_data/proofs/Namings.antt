@@ -82,10 +82,13 @@ types_lack room set tokens left old new begun end at h none ends place lacks ext
   before = h.before;
   whole = h.whole;
   at = place ∙ ap (next_place left) ends;
-  why = inl (refl, λ octets sp. (
+  why = inl (
+    refl,
+    λ octets sp. (
         let same = names_once tokens h.types sp.0 (all_named set tokens left h none) sp.1 in
         lacks octets (sp.2 ∙ ap bitmap (sym same) ∙ sym (same_bitmap set h.types h.same))
-        ));
+        ),
+  );
   extends = extends;
 }
 
@@ -95,10 +98,13 @@ type_refused room set tokens left rest old begun end r h ends k = let t = k.0 in
   before = h.before;
   whole = h.whole ∙ ap (λ l. h.before ++ l) (is ∙ sym rest_is);
   at = k.4 ∙ ap (λ l. next_place l begun) (sym rest_is);
-  why = subst (λ l. RefusesAs room types_form tokens old h.before l r.why) (sym rest_is) (inr (k.5, λ octets sp. (
+  why = subst (λ l. RefusesAs room types_form tokens old h.before l r.why) (sym rest_is) (inr (
+    k.5,
+    λ octets sp. (
         let at = names_at h.before ts t sp.0 (subst (λ z. NameTypes z sp.0) (h.whole ∙ ap (λ l. h.before ++ l) is) sp.1) in
         never_both t r.why at.0 k.5 at.1
-        )));
+        ),
+  ));
   extends = ([], sym (append-nil old));
 }
 

@@ -1,8 +1,11 @@
 pub mod Data
+pub mod DataLaws
 pub mod Digits
 pub mod Errors
 pub mod Pieces
 pub mod RestKinds
+pub mod RestLaws
 pub mod Rests
 pub mod Texts
 pub mod TypeLists
+pub mod Wire

@@ -8,6 +8,7 @@ pub mod rest;
 pub mod shape;
 pub mod texts;
 pub mod type_lists;
+pub mod wire;
 
 pub use digits::take_digits;
 pub use error::{DataError, DataRefusal};
@@ -15,3 +16,4 @@ pub use rest::{Rest, take_rest};
 pub use shape::{Length, PartRefusal, Shape, read_data};
 pub use texts::{take_nothing, take_text};
 pub use type_lists::take_types;
+pub use wire::check_data;
