@@ -1,4 +1,5 @@
 pub mod GenericLaws
+pub mod FieldFronts
 pub mod Joinings
 pub mod LocationLemmas
 pub mod Namings
@@ -7,3 +8,5 @@ pub mod Somes
 pub mod Sources
 pub mod Strings
 pub mod TextLaws
+pub mod WireStrings
+pub mod WireTypes

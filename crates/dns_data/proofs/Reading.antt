@@ -54,14 +54,13 @@ module _ (origin : Option (List (List ℕ))) (room : Room) (shape : Shape) (end 
   pub field_refused : (f : FieldRefusal) (left : List TokenSeen) (new : List ℕ) → RefusesAField origin room shape.fields.now end tokens old f left new
       → ReadsData origin room shape end tokens old (Err (record { part = f.field; at = f.refusal.at; why = OfField f.refusal.why })) left new
   field_refused f left new h =
-      let b = h.before in
-      (
+      let b = h.before in (
         inl (f.refusal.why, refl, h),
         λ octets sp. (
-          let lacks = only_room_lacks origin room shape.fields.now end tokens old f left new sp.first sp.last sp.front h sp.tokens_are sp.fields in
-          let sum = ap length sp.octets_are ∙ length-append sp.front sp.back in
-          (ap OfField lacks.0, omega (arith, lacks.1, sum))
-        ),
+            let lacks = only_room_lacks origin room shape.fields.now end tokens old f left new sp.first sp.last sp.front h sp.tokens_are sp.fields in
+            let sum = ap length sp.octets_are ∙ length-append sp.front sp.back in
+            (ap OfField lacks.0, omega (arith, lacks.1, sum))
+            ),
         (b.octets ++ h.extends.0, h.extends.1 ∙ ap (λ o. o ++ h.extends.0) b.gained ∙ append_assoc old b.octets h.extends.0),
       )
 
@@ -99,13 +98,12 @@ module _ (origin : Option (List (List ℕ))) (room : Room) (shape : Shape) (end 
     length_refused begun part at left new ends is place h wrong =
         let back : List ℕ = h.1.0 in
         let all : drop (length old) new ≡ t.octets ++ back = ap (drop (length old)) (h.1.2 ∙ ap (λ o. o ++ back) t.gained ∙ append_assoc old t.octets back) ∙ drop-append_seam old (t.octets ++ back) in
-        let bad : HasLength shape.length (t.octets ++ back) → ⊥ = λ l. wrong (subst (HasLength shape.length) (sym all) l) in
-        (
+        let bad : HasLength shape.length (t.octets ++ back) → ⊥ = λ l. wrong (subst (HasLength shape.length) (sym all) l) in (
           inr (record { behind = behind; middle = middle; taken = t; part = is; why = inr (refl, place ∙ ap (next_place behind) ends, h.0, (back, (h.1.1, bad), h.1.2)) }),
           λ octets sp. (
-            let p = parts octets sp in
-            let same : sp.back ≡ back = rest_once origin shape.rest behind sp.back back p.0 h.1.1 in
-            absurd (bad (subst (HasLength shape.length) (p.1 ∙ ap (λ o. t.octets ++ o) same) sp.lengths))
-          ),
+              let p = parts octets sp in
+              let same : sp.back ≡ back = rest_once origin shape.rest behind sp.back back p.0 h.1.1 in
+              absurd (bad (subst (HasLength shape.length) (p.1 ∙ ap (λ o. t.octets ++ o) same) sp.lengths))
+              ),
           extends_on new (back, h.1.2),
         )

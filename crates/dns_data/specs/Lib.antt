@@ -1,11 +1,14 @@
 pub mod Data
+pub mod DataLaws
 pub mod Digits
 pub mod Errors
 pub mod Generic
 pub mod LocationRest
 pub mod Pieces
 pub mod RestKinds
+pub mod RestLaws
 pub mod Rests
 pub mod Texts
 pub mod TypeLists
 pub mod Types
+pub mod Wire

@@ -32,6 +32,9 @@ strings_wire (s ∷ ss) = length s ∷ (s ++ strings_wire ss)
 abbrev pub AreShortStrings : List (List ℕ) → Type 0
 AreShortStrings strings = AllByRecursion (λ s. AreOctetValues s × (length s ≤ 255)) strings
 
+abbrev pub AreCharacterStrings : List ℕ → Type 0
+AreCharacterStrings octets = (strings : List (List ℕ)) × AreShortStrings strings × (octets ≡ strings_wire strings)
+
 -- the strings of so many lengths or fewer
 abbrev pub string_parts : ℕ → List ℕ → List (List ℕ)
 string_parts zero octets = []
@@ -46,7 +49,7 @@ abbrev pub strings_form : Option (List (List ℕ)) → RestForm
 strings_form origin = record {
   spells = SpellsEach origin OfString;
   reason = BehindSome StringsReason;
-  is_wire = λ octets. (strings : List (List ℕ)) × AreShortStrings strings × (octets ≡ strings_wire strings);
+  is_wire = AreCharacterStrings;
   printed = λ octets. map (λ s. record { is_quoted = true; text = text_in_quotes s }) (strings_of octets);
 }
 

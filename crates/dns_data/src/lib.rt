@@ -11,6 +11,7 @@ pub mod shape;
 pub mod texts;
 pub mod type_lists;
 pub mod types;
+pub mod wire;
 
 pub use digits::take_digits;
 pub use error::{DataError, DataRefusal};
@@ -20,3 +21,4 @@ pub use shape::{Length, PartRefusal, Shape, read_data};
 pub use texts::{take_nothing, take_text};
 pub use type_lists::take_types;
 pub use types::{TypeRow, type_row};
+pub use wire::check_data;

@@ -1,0 +1,14 @@
+use Rattle.std.proofs.Common.{◌≡◌, ◌∙◌, sym, subst, true≢false}
+use Rattle.std.proofs.Common.{None}
+use Rattle.dns_data.specs.Data.{IsDataOf}
+use Rattle.dns_data.specs.RestKinds.{rest_form}
+use Rattle.dns_data.proofs.FieldFronts.{fields_begin_once}
+use Rattle.dns_data.proofs.wire.check_data.Goals as goal
+
+pub returns-else-is_rest : goal.returns-else-is_rest
+returns-else-is_rest c =
+    let shape = c.args.shape.now in
+    let rest = c.in-Some.rest.now in (
+      λ is. absurd (true≢false (sym is ∙ c.if-is_rest.false)),
+      λ h. c.is_rest.ensures.1 (subst (rest_form None shape.rest).is_wire (fields_begin_once shape.fields.now c.args.octets.now h.back rest h.fields c.in-Some.ensures) h.rest),
+    )

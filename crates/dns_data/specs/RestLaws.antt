@@ -1,0 +1,22 @@
+-- What holds of each kind of what goes to the end of an entry.
+use Rattle.std.specs.Prelude.{ℕ, Option, ◌≡◌, List}
+use Rattle.std.specs.List.{AllByRecursion}
+use Rattle.dns_spelling.specs.NameSpelling.{IsOrigin}
+use Rattle.dns_spelling.specs.Spelling.{AreOctetValues}
+use Rattle.dns_split.specs.EntryTokens.{TokenSeen}
+use Rattle.dns_data.specs.Rests.{RestForm}
+use Rattle.dns_data.specs.RestKinds.{rest_form}
+use Rattle.dns_data.specs.declared.rest.Rest.{Rest}
+
+-- what tokens hold are octets
+abbrev pub HoldOctets : List TokenSeen → Type 0
+HoldOctets tokens = AllByRecursion (λ t. AreOctetValues t.text) tokens
+
+-- What tokens spell are octets that it can have; and tokens spell it in one way.
+pub record IsRestForm (f : RestForm) : Type 0 where
+  pub are_wire : (tokens : List TokenSeen) (octets : List ℕ) → HoldOctets tokens → f.spells tokens octets → f.is_wire octets
+  pub once : (tokens : List TokenSeen) (a b : List ℕ) → f.spells tokens a → f.spells tokens b → a ≡ b
+
+-- each kind is spelled as its form says
+abbrev pub AreRestForms : Type 0
+AreRestForms = (origin : Option (List (List ℕ))) → IsOrigin origin → (r : Rest) → IsRestForm (rest_form origin r)

@@ -1,0 +1,86 @@
+//! Whether octets are data of a shape.
+ghost use Rattle.std.specs.Prelude.{◌≡◌, ◌↔◌, IsTrue, None, MatchOption, List, ℕ};
+ghost use Rattle.dns_lists.specs.Bitmap.{has, types_of, IsBitmap};
+ghost use Rattle.dns_data.specs.Data.{IsDataOf};
+ghost use Rattle.dns_data.specs.RestKinds.{rest_form, AreCharacterStrings};
+ghost use Rattle.dns_data.specs.TypeLists.{types_form};
+ghost use Rattle.dns_data.specs.Wire.{BeginsWithFields};
+
+use crate::rest::Rest;
+use crate::shape::{Shape, has_length};
+use dns_fields::{Field, field_width};
+use dns_lists::{BitmapTypes, check_bitmap};
+use dns_places::is_location;
+use dns_spelling::string_width;
+
+/// What stands behind the fields that octets begin with, or none where they don't begin with these.
+pub(crate) fn split_fields<'a>(fields: &[Field], octets: &'a [u8]) -> Option<&'a [u8]>
+    ensures { MatchOption result ((rest : List ℕ) → BeginsWithFields fields.now octets.now rest → ⊥) (λ rest. BeginsWithFields fields.now octets.now rest.now) }
+{
+    let mut left = octets;
+    for field in fields {
+        let width = field_width(*field, left)?;
+        left = &left[width..];
+    }
+    Some(left)
+}
+
+/// Whether octets are character strings, one behind another.
+fn are_strings(octets: &[u8]) -> bool
+    ensures { IsTrue result ↔ AreCharacterStrings octets.now }
+{
+    let mut left = octets;
+    while !left.is_empty() {
+        let Some(width) = string_width(left) else {
+            return false;
+        };
+        left = &left[width..];
+    }
+    true
+}
+
+/// Whether type 0 is among the types of a bitmap, where it is the first.
+fn has_type_zero(octets: &[u8]) -> bool
+    requires { IsBitmap octets.now }
+    ensures { result ≡ has (types_of octets.now) 0 }
+{
+    let mut types = BitmapTypes::new(octets);
+    match types.next() {
+        Some(code) => code == 0,
+        None => false,
+    }
+}
+
+/// Whether octets are the bitmap of types other than 0.
+fn are_types(octets: &[u8]) -> bool
+    ensures { IsTrue result ↔ types_form.is_wire octets.now }
+{
+    check_bitmap(octets).is_ok() && !has_type_zero(octets)
+}
+
+/// Whether octets are what goes to the end of an entry.
+pub(crate) fn is_rest(rest: Rest, octets: &[u8]) -> bool
+    ensures { IsTrue result ↔ (rest_form None rest).is_wire octets.now }
+{
+    match rest {
+        Rest::Nothing => octets.is_empty(),
+        Rest::Strings => are_strings(octets) && !octets.is_empty(),
+        Rest::Hex => !octets.is_empty(),
+        Rest::Base64 => !octets.is_empty(),
+        Rest::Types => are_types(octets),
+        Rest::SomeTypes => are_types(octets) && !octets.is_empty(),
+        Rest::Text => true,
+        Rest::QuotedText => true,
+        Rest::Location => is_location(octets),
+    }
+}
+
+/// Whether octets are data of a shape.
+pub fn check_data(shape: &Shape, octets: &[u8]) -> bool
+    ensures { IsTrue result ↔ IsDataOf shape.now octets.now }
+{
+    match split_fields(shape.fields, octets) {
+        Some(rest) => is_rest(shape.rest, rest) && has_length(shape.length, octets),
+        None => false,
+    }
+}
