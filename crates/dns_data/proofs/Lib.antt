@@ -8,5 +8,6 @@ pub mod Somes
 pub mod Sources
 pub mod Strings
 pub mod TextLaws
+pub mod TypeLaws
 pub mod WireStrings
 pub mod WireTypes

@@ -6,7 +6,7 @@ use Rattle.dns_places.specs.LocationErrors.{location_error_text}
 use Rattle.dns_places.specs.declared.location_error.LocationError.{LocationError}
 use Rattle.dns_places.specs.declared.location_error.LocationError.TheVariants.{ExpectedLatitude, ExpectedLongitude, ExpectedAltitude, ExpectedSize, ExpectedEnd, ShortBuf as NoRoomForLocation}
 use Rattle.dns_data.specs.declared.error.DataError.{DataError}
-use Rattle.dns_data.specs.declared.error.DataError.TheVariants.{Field, TrailingToken, NotQuoted, TypeZero, Location, WrongLength}
+use Rattle.dns_data.specs.declared.error.DataError.TheVariants.{Field, TrailingToken, NotQuoted, TypeZero, Location, NotOfType, NoDataType, NoTextForm, WrongLength}
 
 -- there was no room for the octets, or no memory
 abbrev pub no_room : DataError
@@ -28,4 +28,7 @@ data_error_text TrailingToken = codes "unexpected token behind the data"
 data_error_text NotQuoted = codes "expected text in quotes"
 data_error_text TypeZero = codes "type 0 in a list of types"
 data_error_text (Location e) = location_error_text e
+data_error_text NotOfType = codes "these octets are no data of the type"
+data_error_text NoDataType = codes "type has no data in zones"
+data_error_text NoTextForm = codes "give its data as \\#"
 data_error_text WrongLength = codes "wrong number of octets"

@@ -1,3 +1,4 @@
+pub mod ByType
 pub mod Data
 pub mod DataLaws
 pub mod Digits

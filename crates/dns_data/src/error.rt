@@ -27,6 +27,12 @@ pub enum DataError {
     TypeZero,
     /// Words are no location.
     Location(LocationError),
+    /// The octets are no data of the type.
+    NotOfType,
+    /// Records of the type cannot stand in a zone.
+    NoDataType,
+    /// Data of the type has no text form but the generic one.
+    NoTextForm,
     /// A digest or a hash has not as many octets as its number asks for.
     WrongLength,
 }
@@ -49,6 +55,9 @@ impl DataError {
             DataError::NotQuoted => "expected text in quotes",
             DataError::TypeZero => "type 0 in a list of types",
             DataError::Location(why) => why.as_str(),
+            DataError::NotOfType => "these octets are no data of the type",
+            DataError::NoDataType => "type has no data in zones",
+            DataError::NoTextForm => "give its data as \\#",
             DataError::WrongLength => "wrong number of octets",
         }
     }

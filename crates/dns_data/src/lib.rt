@@ -2,6 +2,7 @@
 //! printed.
 #![tactic(auto)]
 
+pub mod by_type;
 pub mod digits;
 pub mod error;
 pub mod generic;
@@ -13,6 +14,7 @@ pub mod type_lists;
 pub mod types;
 pub mod wire;
 
+pub use by_type::{TypeRefusal, is_data_type, read_type};
 pub use digits::take_digits;
 pub use error::{DataError, DataRefusal};
 pub use generic::{begins_generic, take_generic};

@@ -137,6 +137,13 @@ impl TypeRow {
     }
 }
 
+impl TypeRow {
+    /// The name of a part, by its place.
+    pub(crate) fn part_name(&self, part: usize) -> Option<&'static str> {
+        self.4.get(part).copied()
+    }
+}
+
 /// The row of a code in a table.
 fn find_row(table: &'static [TypeRow], code: u16) -> Option<&'static TypeRow>
     ensures { FindsShape (row_shapes table.now) code (option_copied result) }
