@@ -2,6 +2,7 @@
 mod apl;
 mod bitmap;
 mod class;
+mod data;
 mod digits;
 mod field;
 mod fields;
@@ -46,6 +47,7 @@ fn call(name: &str, inputs: &Inputs, answer: &mut Answer) {
         "params" => params::call(name, inputs, answer),
         "apl" => apl::call(name, inputs, answer),
         "gateway" => gateway::call(name, inputs, answer),
+        "data" => data::call(name, inputs, answer),
         "class" => class::call(name, inputs, answer),
         _ => answer.fail(Failure::NoCall),
     }
