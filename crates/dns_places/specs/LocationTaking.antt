@@ -38,6 +38,7 @@ IsBounded Size = Unit {0}
 abbrev pub LacksWord : (List ℕ → ℕ → Type 0) → List TokenSeen → Type 0
 LacksWord Spells tokens = (n : ℕ) (rest : List TokenSeen) → BeginsWithWord Spells tokens n rest → ⊥
 
+-- the next token is such a part, or not
 abbrev pub FindsNext : Part → List TokenSeen → Option ℕ → Type 0
 FindsNext part tokens r = MatchOption r (LacksWord (SpellsPart part) tokens) (λ n. (rest : List TokenSeen) × BeginsWithWord (SpellsPart part) tokens n rest)
 
