@@ -6,6 +6,7 @@ pub mod ItemLemmas
 pub mod LocationLaws
 pub mod LocationLemmas
 pub mod LocationOnce
+pub mod LocationPlaceLemmas
 pub mod MarkLemmas
 pub mod PrefixLaws
 pub mod PrefixLemmas

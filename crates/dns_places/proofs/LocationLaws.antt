@@ -1,5 +1,5 @@
 -- Locations are read as they are printed, and octets are those of one.
-use Rattle.std.proofs.Common.{ℕ, suc, lit<, ◌≡◌, ◌<◌, ◌≤◌, ◌+◌, ◌-◌, ◌*◌, ◌/◌, ◌%◌, ◌^◌, ◌⊎◌, false, if◌then◌else◌, List, [], ◌∷◌, ◌++◌, length, map, get_or, take, drop, refl, sym, subst, arith, ap, ◌∙◌, inl, inr, append_assoc, decimal}
+use Rattle.std.proofs.Common.{ℕ, suc, lit<, ◌≡◌, ◌<◌, ◌≤◌, ◌+◌, ◌-◌, ◌*◌, ◌/◌, ◌%◌, ◌^◌, ◌⊎◌, Bool, false, Option, Some, None, if◌then◌else◌, List, [], ◌∷◌, ◌++◌, length, map, get_or, take, drop, refl, sym, subst, arith, ap, ◌∙◌, inl, inr, append_assoc, decimal}
 use Rattle.std.proofs.Math.Nat.{pow-suc, pow-le-pow_right, mul-le-mul_right}
 use Rattle.std.proofs.lemmas.Bool.{cases_lt, lt-ltb, le-ltb}
 use Rattle.std.proofs.lemmas.Bool.Decides.{nat_tests}
@@ -8,7 +8,7 @@ use Rattle.std.proofs.lemmas.List.{get_or-map, length-map}
 use Rattle.std.proofs.lemmas.Nat.{from_be_bytes-to_be_bytes_4}
 use Rattle.std.specs.Char.{digit_value}
 use Rattle.std.specs.Int.{from_be_bytes, w32}
-use Rattle.std.specs.Prelude.{nat_lt}
+use Rattle.std.specs.Prelude.{nat_lt, is_some, MatchBool, MatchOption}
 use Rattle.dns_kinds.specs.Numbers.{SpellsNumber}
 use Rattle.dns_split.specs.EntryTokens.{TokenSeen}
 use Rattle.dns_places.specs.Decimals.{SpellsDecimal, SpellsLength}
@@ -281,6 +281,27 @@ one octets l m h k =
     let altitude : l.altitude ≡ m.altitude =
     sym (from_be_bytes-to_be_bytes_4 l.altitude h.0.altitude) ∙ ap (number_from 12) same ∙ from_be_bytes-to_be_bytes_4 m.altitude k.0.altitude in
     λ i. record { sizes = record { size = size i; horizontal = horizontal i; vertical = vertical i }; latitude = latitude i; longitude = longitude i; altitude = altitude i }
+
+-- ---- octets of a location are spelled
+
+plain : List ℕ → TokenSeen
+plain text = record { text = text; is_quoted = false; is_glued = false; at = 0 }
+
+plain_words : (words : List (List ℕ)) → AreWords (map plain words) words
+unfolding plain
+plain_words [] = tt
+plain_words (w ∷ ws) = (refl, refl, plain_words ws)
+
+said : (octets : List ℕ) (l : Location) → IsLocation octets l → (tokens : List TokenSeen) × SpellsLocation tokens octets
+said octets l h = (map plain (location_words l), spelled octets l (map plain (location_words l)) h (plain_words (location_words l)))
+
+-- tokens spell these octets, or none do
+abbrev AreSpelled : List ℕ → Bool → Type 0
+AreSpelled octets b = MatchBool b ((tokens : List TokenSeen) × SpellsLocation tokens octets) ((tokens : List TokenSeen) → SpellsLocation tokens octets → ⊥)
+
+pub are_spelled : (octets : List ℕ) (r : Option Location) (b : Bool) → b ≡ is_some r → MatchOption r ((l : Location) → IsLocation octets l → ⊥) (IsLocation octets) → AreSpelled octets b
+are_spelled octets (Some l) b is h = subst (AreSpelled octets) (sym is) (said octets l h)
+are_spelled octets None b is none = subst (AreSpelled octets) (sym is) (λ tokens k. none k.0 (possible tokens k.0 k.1, k.2))
 
 pub locations_are_read : LocationsAreRead
 locations_are_read = record { spelled = spelled; once = one_octets; valid = λ tokens octets h. (h.0, (possible tokens h.0 h.1, h.2)); one = one }

@@ -63,7 +63,7 @@ seconds_at : (axis : Axis) (angle other n : ℕ) (tokens more rest : List TokenS
 seconds_at axis angle other n tokens more rest same h = subst (λ ts. GoesOnWithSeconds axis other ts n rest) same.1 (subst (λ a. GoesOnWithSeconds axis a tokens n rest) same.0 h)
 
 -- what may follow minutes
-abbrev BehindMinutes : Axis → ℕ → List TokenSeen → ℕ → List TokenSeen → Type 0
+abbrev pub BehindMinutes : Axis → ℕ → List TokenSeen → ℕ → List TokenSeen → Type 0
 BehindMinutes axis angle tokens n rest = BeginsWithWord (SpellsSide axis angle) tokens n rest ⊎ GoesOnWithSeconds axis angle tokens n rest
 
 one_behind_minutes : (axis : Axis) (angle : ℕ) (tokens : List TokenSeen) (n m : ℕ) (rest other : List TokenSeen) → BehindMinutes axis angle tokens n rest → BehindMinutes axis angle tokens m other → Same n m rest other
@@ -97,7 +97,7 @@ side_or_minutes axis angle before tokens n m rest other h k =
     apart (SpellsSide axis angle) (SpellsMinutes axis before) (λ text a b side minutes. side_no_number axis angle text a minutes.0 side minutes.1) tokens n k.0 rest k.1 h k.2
 
 -- what may follow degrees
-abbrev BehindDegrees : Axis → ℕ → List TokenSeen → ℕ → List TokenSeen → Type 0
+abbrev pub BehindDegrees : Axis → ℕ → List TokenSeen → ℕ → List TokenSeen → Type 0
 BehindDegrees axis angle tokens n rest = BeginsWithWord (SpellsSide axis angle) tokens n rest ⊎ GoesOnWithMinutes axis angle tokens n rest
 
 one_behind_degrees : (axis : Axis) (angle : ℕ) (tokens : List TokenSeen) (n m : ℕ) (rest other : List TokenSeen) → BehindDegrees axis angle tokens n rest → BehindDegrees axis angle tokens m other → Same n m rest other

@@ -1,6 +1,7 @@
 pub mod Decimals
 pub mod Gateways
 pub mod LocationErrors
+pub mod LocationPlaces
 pub mod LocationTaking
 pub mod LocationWords
 pub mod Locations

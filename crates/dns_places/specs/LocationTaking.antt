@@ -13,6 +13,7 @@ use Rattle.dns_places.specs.declared.location.LocationRefusal.{LocationRefusal}
 use Rattle.dns_places.specs.declared.location.Sizes.{Sizes}
 use Rattle.dns_places.specs.declared.location_error.LocationError.{LocationError}
 use Rattle.dns_places.specs.declared.location_error.LocationError.TheVariants.{ExpectedLatitude, ExpectedLongitude, ExpectedAltitude, ExpectedSize, ExpectedEnd, ShortBuf}
+use Rattle.dns_places.specs.LocationPlaces.{IsFirstRefused}
 use Rattle.dns_places.specs.Locations.{most_angle, SpellsDegrees, SpellsMinutes, SpellsSeconds, SpellsSide, SpellsAltitude, SpellsSize, BeginsWithWord, GoesOnWithSeconds, GoesOnWithMinutes, BeginsWithAngle, BeginsWithSize, AreSizes, AreLocation, SpellsLocation}
 
 -- a word of a part spells a number
@@ -37,6 +38,7 @@ IsBounded Size = Unit {0}
 abbrev pub LacksWord : (List ℕ → ℕ → Type 0) → List TokenSeen → Type 0
 LacksWord Spells tokens = (n : ℕ) (rest : List TokenSeen) → BeginsWithWord Spells tokens n rest → ⊥
 
+-- the next token is such a part, or not
 abbrev pub FindsNext : Part → List TokenSeen → Option ℕ → Type 0
 FindsNext part tokens r = MatchOption r (LacksWord (SpellsPart part) tokens) (λ n. (rest : List TokenSeen) × BeginsWithWord (SpellsPart part) tokens n rest)
 
@@ -128,7 +130,8 @@ TakesLocation tokens (Ok l) left = (left ≡ []) × AreLocation tokens l
 TakesLocation tokens (Err e) left = RefusesTokens e tokens left
 
 -- A refusal is at the first token that is left, or at the entry's end. Either the tokens spell no
--- location, as this reason says; or the octets of theirs don't surely fit.
+-- location: that token is the first that is wrong, for this reason. Or the octets of theirs don't surely
+-- fit.
 abbrev pub RefusesLocation : Room → ℕ → List TokenSeen → List TokenSeen → List ℕ → LocationRefusal → Type 0
 RefusesLocation room end tokens left old r =
-    (r.at ≡ next_place left end) × ((RefusesTokens r.why tokens left × ((octets : List ℕ) → SpellsLocation tokens octets → ⊥)) ⊎ ((r.why ≡ ShortBuf) × (left ≡ []) × ((octets : List ℕ) × SpellsLocation tokens octets) × LacksRoom room (SpellsLocation tokens) old))
+    (r.at ≡ next_place left end) × ((RefusesTokens r.why tokens left × IsFirstRefused tokens left × ((octets : List ℕ) → SpellsLocation tokens octets → ⊥)) ⊎ ((r.why ≡ ShortBuf) × (left ≡ []) × ((octets : List ℕ) × SpellsLocation tokens octets) × LacksRoom room (SpellsLocation tokens) old))

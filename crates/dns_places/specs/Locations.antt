@@ -28,6 +28,7 @@ abbrev pub lower_side : Axis → List ℕ
 lower_side Latitude = codes "S"
 lower_side Longitude = codes "W"
 
+-- degrees in decimal, at most so many
 abbrev pub SpellsDegrees : Axis → List ℕ → ℕ → Type 0
 SpellsDegrees axis text angle = (degrees : ℕ) × SpellsNumber text degrees × (angle ≡ degrees * 3600000) × (angle ≤ most_angle axis)
 
@@ -43,7 +44,8 @@ SpellsSeconds axis before text angle = (seconds : ℕ) × SpellsDecimal 3 text s
 abbrev pub SpellsSide : Axis → ℕ → List ℕ → ℕ → Type 0
 SpellsSide axis angle text number = ((text ≡ upper_side axis) × (number ≡ 2 ^ 31 + angle)) ⊎ ((text ≡ lower_side axis) × (number + angle ≡ 2 ^ 31))
 
--- centimetres above 100000 m below the reference spheroid, of metres above it or, with a `-`, below it
+-- An altitude is in centimetres from 100000 m below the reference spheroid. It is written in metres above
+-- that, or below it behind a `-`.
 abbrev pub SpellsHeight : List ℕ → ℕ → Type 0
 SpellsHeight text number = (above : ℕ) × SpellsLength text above × (number ≡ 10000000 + above)
 
@@ -60,10 +62,11 @@ pub record HasFirstDigit (n digit behind : ℕ) : Type 0 where
   pub most : n < (digit + 1) * 10 ^ behind
   pub zero : digit ≡ 0 → behind ≡ 0
 
--- a size below 90000001 m, by the first digit of its centimetres and how many follow, in half an octet each
+-- both, in half an octet each
 abbrev pub IsSizeOctet : ℕ → ℕ → Type 0
 IsSizeOctet n octet = (digit : ℕ) × (behind : ℕ) × HasFirstDigit n digit behind × (octet ≡ digit * 16 + behind)
 
+-- a size below 90000001 m, by the first digit of its centimetres
 abbrev pub SpellsSize : List ℕ → ℕ → Type 0
 SpellsSize text octet = (n : ℕ) × SpellsLength text n × (n < 9000000100) × IsSizeOctet n octet
 
@@ -73,15 +76,18 @@ SpellsSize text octet = (n : ℕ) × SpellsLength text n × (n < 9000000100) × 
 abbrev pub BeginsWithWord : (List ℕ → ℕ → Type 0) → List TokenSeen → ℕ → List TokenSeen → Type 0
 BeginsWithWord Spells tokens number rest = (t : TokenSeen) × (tokens ≡ t ∷ rest) × (t.is_quoted ≡ false) × Spells t.text number
 
--- tokens begin with an angle: `d1 [m1 [s1]] {"N"|"S"}` or `d2 [m2 [s2]] {"E"|"W"}`
+-- An angle is `d1 [m1 [s1]] {"N"|"S"}` or `d2 [m2 [s2]] {"E"|"W"}`. So behind minutes may come seconds and
+-- a side,
 abbrev pub GoesOnWithSeconds : Axis → ℕ → List TokenSeen → ℕ → List TokenSeen → Type 0
 GoesOnWithSeconds axis before tokens number rest =
     (angle : ℕ) × (side : List TokenSeen) × BeginsWithWord (SpellsSeconds axis before) tokens angle side × BeginsWithWord (SpellsSide axis angle) side number rest
 
+-- behind degrees minutes, and a side or those seconds,
 abbrev pub GoesOnWithMinutes : Axis → ℕ → List TokenSeen → ℕ → List TokenSeen → Type 0
 GoesOnWithMinutes axis before tokens number rest =
     (angle : ℕ) × (more : List TokenSeen) × BeginsWithWord (SpellsMinutes axis before) tokens angle more × (BeginsWithWord (SpellsSide axis angle) more number rest ⊎ GoesOnWithSeconds axis angle more number rest)
 
+-- and tokens begin with degrees, and a side or those minutes
 abbrev pub BeginsWithAngle : Axis → List TokenSeen → ℕ → List TokenSeen → Type 0
 BeginsWithAngle axis tokens number rest =
     (angle : ℕ) × (more : List TokenSeen) × BeginsWithWord (SpellsDegrees axis) tokens angle more × (BeginsWithWord (SpellsSide axis angle) more number rest ⊎ GoesOnWithMinutes axis angle more number rest)
@@ -130,6 +136,7 @@ SpellsLocation tokens octets = (l : Location) × AreLocation tokens l × (octets
 
 -- ---- what is found
 
+-- a number that the text spells, or there is none
 abbrev pub Finds : (List ℕ → ℕ → Type 0) → List ℕ → Option ℕ → Type 0
 Finds Spells text r = MatchOption r ((n : ℕ) → Spells text n → ⊥) (Spells text)
 

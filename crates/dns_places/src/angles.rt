@@ -14,9 +14,10 @@ pub(crate) enum Axis {
 /// The number of the equator and of the prime meridian.
 pub(crate) const ZERO_ANGLE: u32 = 2_147_483_648;
 
-/// The thousandths of a second in a degree, and in a minute.
+/// The thousandths of a second in a degree.
 pub(crate) const DEGREE: u32 = 3_600_000;
 
+/// The thousandths of a second in a minute.
 pub(crate) const MINUTE: u32 = 60_000;
 
 /// The most degrees of an angle.

@@ -36,11 +36,13 @@ pub struct Location {
     pub altitude: u32,
 }
 
-/// The sizes that are not said: 1 m, 10000 m and 10 m.
+/// The size that is not said, 1 m.
 const SIZE: u8 = 0x12;
 
+/// The horizontal precision that is not said, 10000 m.
 const HORIZONTAL: u8 = 0x16;
 
+/// The vertical precision that is not said, 10 m.
 const VERTICAL: u8 = 0x13;
 
 /// The octets of a location.

@@ -1,7 +1,8 @@
 //! Locations as octets.
-ghost use Rattle.std.specs.Prelude.{◌≡◌, ◌<◌, ◌≤◌, ◌+◌, ◌^◌, IfSome, MatchBool, MatchOption, length, take, drop};
+ghost use Rattle.std.specs.Prelude.{◌≡◌, ◌<◌, ◌≤◌, ◌+◌, ◌^◌, List, IfSome, MatchBool, MatchOption, length, take, drop};
 ghost use Rattle.std.specs.Int.{to_be_bytes, w32};
-ghost use Rattle.dns_places.specs.Locations.{location_octets};
+ghost use Rattle.dns_split.specs.EntryTokens.{TokenSeen};
+ghost use Rattle.dns_places.specs.Locations.{SpellsLocation, location_octets};
 ghost use Rattle.dns_places.specs.LocationWords.{IsAngleNumber, IsSize, ArePossible, IsPossible, IsLocation};
 ghost use Rattle.dns_places.specs.declared.location.Location.{Location};
 
@@ -87,7 +88,8 @@ pub(crate) fn location_of(octets: &[u8]) -> Option<Location>
 /// Whether these are the octets of a location, which tokens can spell: version 0, sizes of decimal
 /// digits, and angles within bounds.
 pub fn is_location(octets: &[u8]) -> bool
-    ensures { MatchBool result ((l : Location) × IsLocation octets.now l) ((l : Location) → IsLocation octets.now l → ⊥) }
+    ensures possible { MatchBool result ((l : Location) × IsLocation octets.now l) ((l : Location) → IsLocation octets.now l → ⊥) }
+    ensures spelled { MatchBool result ((tokens : List TokenSeen) × SpellsLocation tokens octets.now) ((tokens : List TokenSeen) → SpellsLocation tokens octets.now → ⊥) }
 {
     location_of(octets).is_some()
 }

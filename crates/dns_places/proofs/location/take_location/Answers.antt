@@ -1,11 +1,12 @@
 use Rattle.std.proofs.Common.{ap, inl, ◌∙◌}
 use Rattle.dns_fields.specs.Source.{next_place}
 use Rattle.dns_places.proofs.LocationOnce.{refused_none}
+use Rattle.dns_places.proofs.LocationPlaceLemmas.{first_refused}
 use Rattle.dns_places.proofs.location.take_location.Goals as goal
 
 pub returns-in-Err-clause-why : goal.returns-in-Err-clause-why
 returns-in-Err-clause-why g c =
     let h = c.in-Err.ensures.takes in (
       c.place-in-Err.ensures ∙ ap (next_place (g.S.TokenSource.left c.read_location.new.source)) c.in-Err.ensures.end,
-      inl (h, λ octets k. refused_none c.in-Err.why _ _ h k.0 k.1),
+      inl (h, first_refused c.in-Err.why _ _ h, λ octets k. refused_none c.in-Err.why _ _ h k.0 k.1),
     )

@@ -1,0 +1,17 @@
+-- Which of the tokens of an entry is refused as a location.
+use Rattle.std.specs.Prelude.{ℕ, ◌≡◌, List, [], ◌∷◌, ◌++◌}
+use Rattle.dns_split.specs.EntryTokens.{TokenSeen}
+use Rattle.dns_places.specs.Locations.{SpellsLocation}
+
+-- some location begins with these tokens
+abbrev pub BeginsLocation : List TokenSeen → Type 0
+BeginsLocation tokens = (more : List TokenSeen) × (octets : List ℕ) × SpellsLocation (tokens ++ more) octets
+
+-- with the next token none does; or, where none is left, these are none
+abbrev pub NoLocationGoesOn : List TokenSeen → List TokenSeen → Type 0
+NoLocationGoesOn taken [] = (octets : List ℕ) → SpellsLocation taken octets → ⊥
+NoLocationGoesOn taken (t ∷ ts) = BeginsLocation (taken ++ t ∷ []) → ⊥
+
+-- the first token that is left, or the end, is the first that is wrong
+abbrev pub IsFirstRefused : List TokenSeen → List TokenSeen → Type 0
+IsFirstRefused tokens left = (taken : List TokenSeen) × (tokens ≡ taken ++ left) × BeginsLocation taken × NoLocationGoesOn taken left
