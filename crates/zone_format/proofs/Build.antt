@@ -220,7 +220,7 @@ after_note cs ds (Word s ss ∷ ls) plan a d led h = cc
 after_note cs ds (Quote ss ∷ ls) plan a d led h = cc
 after_note cs ds (Note es ∷ ls) plan a d led h = cc
 
-valid_parts : (l : Lexeme) (ls : List Lexeme) → are_lexemes (l ∷ ls) ≡ true → (is_lexeme l ≡ true) × (may_precede l ls ≡ true) × (are_lexemes ls ≡ true)
+pub valid_parts : (l : Lexeme) (ls : List Lexeme) → are_lexemes (l ∷ ls) ≡ true → (is_lexeme l ≡ true) × (may_precede l ls ≡ true) × (are_lexemes ls ≡ true)
 valid_parts l ls v =
     let q = and_parts (is_lexeme l && may_precede l ls) (are_lexemes ls) v in
     let p = and_parts (is_lexeme l) (may_precede l ls) q.0 in (p.0, p.1, q.1)

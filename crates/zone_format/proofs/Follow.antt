@@ -49,7 +49,7 @@ reads_ordered text given (inr f) =
     let first = f.settled.first viable.tail whole.0 whole.1 in
     subst (Follows 0) (sym f.is) (front_ordered 0 f.found first.0 f.fault (subst (λ l. Follows 0 (map Ok l)) first.1 (pieces_ordered _ whole.0 whole.1)))
 
-back : (octets : List ℕ) (i j : ℕ) → i ≤ length octets → place_of octets i ≤ place_of octets j → i ≤ j
+pub back : (octets : List ℕ) (i j : ℕ) → i ≤ length octets → place_of octets i ≤ place_of octets j → i ≤ j
 back octets i j within h = elim (cases_lt j i) [ inl less ↦ absurd (omega (arith, mono octets j i less within)) | inr most ↦ most ]
 
 octets_ordered : (octets : List ℕ) (n : ℕ) (given : List (Result Piece Fault)) → n ≤ length octets → EachWithin (length octets) given

@@ -15,6 +15,10 @@ pieces_in [] = []
 pieces_in (Ok p ∷ given) = p ∷ pieces_in given
 pieces_in (Err f ∷ given) = pieces_in given
 
+pub pieces_after : (xs : List Piece) (given : List (Result Piece Fault)) → pieces_in (map Ok xs ++ given) ≡ xs ++ pieces_in given
+pieces_after [] given = refl
+pieces_after (x ∷ xs) given = ap (λ l. x ∷ l) (pieces_after xs given)
+
 pub moved_first : (g : ℕ → ℕ) (given : List (Result Piece Fault)) → first_fault (map (moved g) given) ≡ option_map (moved_fault g) (first_fault given)
 moved_first g [] = refl
 moved_first g (Ok p ∷ given) = moved_first g given
@@ -37,7 +41,7 @@ pub moved_oks : (g : ℕ → ℕ) (found : List Piece) → map (moved g) (map Ok
 moved_oks g [] = refl
 moved_oks g (p ∷ found) = ap (λ l. Ok (moved_piece g p) ∷ l) (moved_oks g found)
 
-pieces_of_oks : (found : List Piece) → pieces_in (map Ok found) ≡ found
+pub pieces_of_oks : (found : List Piece) → pieces_in (map Ok found) ≡ found
 pieces_of_oks [] = refl
 pieces_of_oks (p ∷ found) = ap (λ l. p ∷ l) (pieces_of_oks found)
 

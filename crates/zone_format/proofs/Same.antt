@@ -27,7 +27,7 @@ use Rattle.zone_format.proofs.Reading.{all_marks, rewritten, text_marks}
 use Rattle.zone_format.proofs.Respelling.{count, deep, end_if, first_of, gap_unless, lead_in, next, respelt, space, sq}
 use Rattle.zone_format.proofs.Short.{short_encoded}
 
-place_sum : (octets : List ℕ) (s n : ℕ) → place_of octets (s + n) ≡ place_of octets s + length (encode_utf8_all (take n (drop s octets)))
+pub place_sum : (octets : List ℕ) (s n : ℕ) → place_of octets (s + n) ≡ place_of octets s + length (encode_utf8_all (take n (drop s octets)))
 place_sum octets s n =
     ap (λ l. length (encode_utf8_all l)) (take-add s n octets) ∙ ap length (encodes-append (take s octets) (take n (drop s octets)))
     ∙ length-append (encode_utf8_all (take s octets)) (encode_utf8_all (take n (drop s octets)))
@@ -288,13 +288,13 @@ same_mark Lead CloseMark e = cc
 same_mark Lead Feed e = cc
 same_mark Lead Lead e = e
 
-abbrev head_of : Mark → List Mark → Mark
-head_of p [] = p
-head_of p (x ∷ xs) = x
+abbrev pub head_of : {A : Type 0} → A → List A → A
+head_of x [] = x
+head_of x (y ∷ ys) = y
 
-abbrev rest_of : List Mark → List Mark
+abbrev pub rest_of : {A : Type 0} → List A → List A
 rest_of [] = []
-rest_of (x ∷ xs) = xs
+rest_of (y ∷ ys) = ys
 
 pub same_marks : (xs ys : List Mark) → map encoded_mark xs ≡ map encoded_mark ys → xs ≡ ys
 same_marks [] [] e = refl

@@ -1,6 +1,5 @@
 -- What was written of blocks in a row.
-use Rattle.std.proofs.Common.{◌≡◌, ℕ, ◌+◌, ◌-◌, Bool, true, false, ◌&&◌, List, [], ◌∷◌, ◌++◌, refl, sym, ap, ◌∙◌, subst, inl, append-nil, append_assoc}
-use Rattle.std.specs.List.{list_all}
+use Rattle.std.proofs.Common.{◌≡◌, ℕ, ◌+◌, ◌-◌, true, false, ◌&&◌, List, [], ◌∷◌, ◌++◌, refl, sym, ap, ◌∙◌, inl, append-nil, append_assoc}
 use Rattle.std.proofs.lemmas.Bool.{and_parts}
 use Rattle.dns_symbol.specs.Characters.{open_parenthesis, close_parenthesis}
 use Rattle.zone_format.specs.declared.columns.Turn.TheVariants.{Edge}
@@ -12,7 +11,7 @@ use Rattle.zone_format.specs.Blocks.{FormatsEntries, FormatsLast, FormedTo, Writ
 use Rattle.zone_format.specs.Form.{form, forms, lines}
 use Rattle.zone_format.specs.Formats.{Formats}
 use Rattle.zone_format.specs.Marks.{Mark, Token, Note, Open, Close, Feed, Lead}
-use Rattle.zone_format.specs.Refusal.{has_form, mark_has_no_nul}
+use Rattle.zone_format.specs.Refusal.{has_form}
 use Rattle.zone_format.specs.Writing.{accepts, accepts_from, last_line_end, fed, led, note_before, parenthesis_before, pushed_note, pushed_parenthesis, pushed_token, stands_after, token_before, written_from}
 use Rattle.zone_format.proofs.Accepted.{accepted, settled}
 use Rattle.zone_format.proofs.Formed.{both, from_start}

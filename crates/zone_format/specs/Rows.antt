@@ -1,7 +1,7 @@
 -- Worked lines and their forms.
-use Rattle.std.specs.Prelude.{◌≡◌, ℕ, true, false, List, [], ◌∷◌, codes, refl}
+use Rattle.std.specs.Prelude.{◌≡◌, ℕ, true, false, [], ◌∷◌, codes, refl}
 use Rattle.zone_format.specs.Form.{Before, form, line_form}
-use Rattle.zone_format.specs.Marks.{Mark, Token, Note, Close, Feed, Lead}
+use Rattle.zone_format.specs.Marks.{Token, Note, Close, Feed, Lead}
 use Rattle.zone_format.specs.Squeezed.{squeezed}
 
 abbrev before : ℕ → ℕ → Before

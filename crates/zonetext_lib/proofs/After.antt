@@ -26,7 +26,7 @@ use Rattle.zonetext_lib.specs.Found.{IsFound, IsOctetFault, IsOpenedAfter}
 use Rattle.zonetext_lib.specs.Place.{IsAt}
 use Rattle.zonetext_lib.specs.declared.check.Found.{Found}
 use Rattle.zonetext_lib.proofs.Cuts.{fault_after}
-use Rattle.zonetext_lib.proofs.Givens.{whole_of, pieces_after, pieces_in}
+use Rattle.zone_format.proofs.Givens.{whole_of, pieces_after, pieces_in}
 
 -- where the entry before the last ends
 abbrev last_but_one : ℕ → ℕ → List Piece → ℕ

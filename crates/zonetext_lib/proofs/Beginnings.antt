@@ -13,7 +13,8 @@ use Rattle.zonetext_lib.specs.Blocks.{EndsEntry, Holds}
 use Rattle.zonetext_lib.specs.Found.{IsOctetFault, IsZone}
 use Rattle.zonetext_lib.specs.Held.{Held}
 use Rattle.zonetext_lib.proofs.Cuts.{first_on, read_on, zone_on}
-use Rattle.zonetext_lib.proofs.Givens.{all_ok, fault_of, first_fault, first_of_oks, pieces_in, whole_of}
+use Rattle.zone_format.proofs.Givens.{all_ok, first_fault, first_of_oks, pieces_in, whole_of}
+use Rattle.zonetext_lib.proofs.Givens.{fault_of}
 
 -- nothing has to follow what splits
 split_viable : (text : List ℕ) (e : Entries) → Splits text e → IsViable text

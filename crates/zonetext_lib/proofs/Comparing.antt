@@ -12,17 +12,12 @@ use Rattle.zonetext_lib.specs.Found.{IsOctetFault}
 use Rattle.zonetext_lib.specs.Compare.{part, says, start_of, is_passed, SkipsToPart, ComesNext, GoesOnWithPart, DifferAt, NoCommon}
 use Rattle.zonetext_lib.specs.Place.{IsAt}
 use Rattle.std.proofs.lemmas.List.{append_cancel_left, map-append, take_all}
-use Rattle.zonetext_lib.proofs.Givens.{first_fault, pieces_after, pieces_in, whole_of, fault_of}
+use Rattle.zone_format.proofs.Givens.{first_fault, pieces_after, pieces_in, whole_of}
+use Rattle.zonetext_lib.proofs.Givens.{fault_of}
+use Rattle.zonetext_lib.proofs.Cuts.{fault_after}
 use Rattle.zonetext_lib.proofs.Once.{entries_once}
 use Rattle.zonetext_lib.proofs.Parts.{ended_append, says_append}
-
-fault_after : (xs : List Piece) (given : List (Result Piece Fault)) → first_fault (map Ok xs ++ given) ≡ first_fault given
-fault_after [] given = refl
-fault_after (x ∷ xs) given = fault_after xs given
-
-within_after : (n : ℕ) (xs : List Piece) (given : List (Result Piece Fault)) → EachWithin n (map Ok xs ++ given) → EachWithin n given
-within_after n [] given w = w
-within_after n (x ∷ xs) given w = within_after n xs given w.1
+use Rattle.zonetext_lib.proofs.Passing.{within_after}
 
 -- zone text has the entries of its pieces
 pub zone_tokens : (octets : List ℕ) (given : List (Result Piece Fault)) → ReadsOctets octets given → first_fault given ≡ None → HasTokenEntries octets (says octets None (pieces_in given))

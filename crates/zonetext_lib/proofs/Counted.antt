@@ -13,7 +13,8 @@ use Rattle.zonetext_lib.specs.Blocks.{EndsEntryAt}
 use Rattle.zonetext_lib.specs.Compare.{says}
 use Rattle.zonetext_lib.specs.Comparing.{EndTwice, ends}
 use Rattle.zonetext_lib.specs.Entries.{ComparedPart, Token, Ends, HasTokenEntries, ended_after_pieces, ended_by, with_tokens}
-use Rattle.zonetext_lib.proofs.Givens.{pieces_after, pieces_in, pieces_of_oks}
+use Rattle.zone_format.proofs.Same.{head_of, rest_of}
+use Rattle.zone_format.proofs.Givens.{pieces_after, pieces_in, pieces_of_oks}
 use Rattle.zonetext_lib.proofs.Once.{entries_once}
 use Rattle.zonetext_lib.proofs.Parts.{ended_append, says_append}
 use Rattle.zonetext_lib.proofs.Passing.{oks_length}
@@ -27,14 +28,6 @@ pub record Counted (octets : List ℕ) (given left : List (Result Piece Fault)) 
   pub begun : is_some (ended_after_pieces None found) ≡ some
   pub last : 2 ≤ count → (at : ℕ) × EndsHere found at
   pub few : (xs ys : List Piece) → found ≡ xs ++ ys → 0 < length ys → ends (says octets None xs) < 2
-
-abbrev head_of : {A : Type 0} → A → List A → A
-head_of x [] = x
-head_of x (y ∷ ys) = y
-
-abbrev rest_of : {A : Type 0} → List A → List A
-rest_of [] = []
-rest_of (y ∷ ys) = ys
 
 abbrev ok : Piece → Result Piece Fault
 ok p = Ok p

@@ -6,25 +6,18 @@ use Rattle.std.proofs.lemmas.List.{take-append-drop, map-append}
 use Rattle.dns_split.specs.declared.pieces.Piece.{Piece}
 use Rattle.dns_split.specs.declared.pieces.Fault.{Fault}
 use Rattle.dns_split.specs.Pieces.{AreOctets, IsGiven, end_at, later, moved_piece, moved_fault}
-use Rattle.dns_split.proofs.Blocks.{entries_stay, faults_stay, nothing_given}
+use Rattle.dns_split.proofs.Blocks.{both_octets, entries_stay, faults_stay, nothing_given}
 use Rattle.dns_split.proofs.OctetsOnce.{run_given}
 use Rattle.zonetext_lib.specs.Blocks.{EndsEntry, EndsEntryAt}
 use Rattle.zonetext_lib.specs.Found.{IsZone, IsOctetFault}
-use Rattle.zonetext_lib.proofs.Givens.{first_fault, first_of_oks, moved_first, moved_oks, pieces_in, whole_of, fault_of}
+use Rattle.zone_format.proofs.Givens.{first_fault, first_of_oks, moved_first, moved_oks, pieces_in, whole_of}
+use Rattle.zonetext_lib.proofs.Givens.{fault_of}
 use Rattle.std.proofs.lemmas.Bool.{and_parts, and_from}
 use Rattle.std.specs.Prelude.{nat_lt}
-
-pub both_octets : (xs ys : List ℕ) → AreOctets xs → AreOctets ys → AreOctets (xs ++ ys)
-both_octets [] ys h k = k
-both_octets (x ∷ xs) ys h k = let p = and_parts (nat_lt x 256) _ h in and_from _ _ p.0 (both_octets xs ys p.1 k)
 
 pub front_octets : (xs ys : List ℕ) → AreOctets (xs ++ ys) → AreOctets xs
 front_octets [] ys h = refl
 front_octets (x ∷ xs) ys h = let p = and_parts (nat_lt x 256) _ h in and_from _ _ p.0 (front_octets xs ys p.1)
-
-pub back_octets : (xs ys : List ℕ) → AreOctets (xs ++ ys) → AreOctets ys
-back_octets [] ys h = h
-back_octets (x ∷ xs) ys h = back_octets xs ys (and_parts (nat_lt x 256) _ h).1
 
 pub take_octets : (n : ℕ) (xs : List ℕ) → AreOctets xs → AreOctets (take n xs)
 take_octets n xs h = front_octets (take n xs) (drop n xs) (subst AreOctets (sym (take-append-drop n xs)) h)

@@ -8,7 +8,7 @@ use Rattle.dns_split.specs.declared.pieces.Piece.TheVariants.{Word as WordAt, Qu
 use Rattle.dns_split.specs.declared.pieces.Fault.{Fault}
 use Rattle.dns_split.specs.declared.position.Position.{Position}
 use Rattle.dns_split.specs.Pieces.{AreOctets, IsGiven, between, end_at, later}
-use Rattle.dns_split.proofs.Blocks.{faults_stay}
+use Rattle.dns_split.proofs.Blocks.{back_octets, both_octets, faults_stay}
 use Rattle.dns_split.proofs.OctetsOnce.{given_once, run_given}
 use Rattle.zone_format.specs.Blocks.{AreEntries, FormatsEntries, FormatsLast, FormedTo, first_seam}
 use Rattle.zone_format.specs.Formats.{Formats}
@@ -27,7 +27,7 @@ use Rattle.zonetext_lib.specs.Held.{Held}
 use Rattle.zonetext_lib.specs.HeldForm.{Forming}
 use Rattle.zonetext_lib.specs.Place.{IsAt}
 use Rattle.zonetext_lib.proofs.After.{entry_line}
-use Rattle.zonetext_lib.proofs.Cuts.{back_octets, both_octets, read_on, take_octets}
+use Rattle.zonetext_lib.proofs.Cuts.{read_on, take_octets}
 use Rattle.zonetext_lib.proofs.Following.{between_back}
 use Rattle.zonetext_lib.proofs.Holding.{added, ended_at, held_at, let_go}
 use Rattle.zonetext_lib.proofs.Made.{cut_whole, whole_not_bad}

@@ -11,7 +11,8 @@ use Rattle.zonetext_lib.specs.Place.{IsAt}
 use Rattle.zonetext_lib.specs.declared.check.Found.{Found}
 use Rattle.zonetext_lib.specs.declared.place.Place.{Place}
 use Rattle.zonetext_lib.proofs.After.{found_on}
-use Rattle.zonetext_lib.proofs.Cuts.{both_octets, take_octets, ended_on, zone_on, fault_on, fault_alone, fault_stays_on}
+use Rattle.dns_split.proofs.Blocks.{both_octets}
+use Rattle.zonetext_lib.proofs.Cuts.{take_octets, ended_on, zone_on, fault_on, fault_alone, fault_stays_on}
 
 abbrev pub held_at : List ℕ → Place → ℕ → Held
 held_at octets place left = record { octets = octets; place = place; left = left }

@@ -4,7 +4,7 @@ use Rattle.std.specs.Prelude.{⊤, map, Option, Some, None, Ok, option_map, enco
 use Rattle.std.specs.List.{flat_map}
 use Rattle.std.specs.Option.{is_some}
 use lib.Utf8.{encode}
-use Rattle.std.proofs.lemmas.Bool.{and_parts, and_from, eq-eqb, ne_eqb}
+use Rattle.std.proofs.lemmas.Bool.{and_from, eq-eqb, ne_eqb}
 use Rattle.std.proofs.lemmas.Grind.{flat_map-append}
 use Rattle.std.proofs.lemmas.Str.{encodes-append, length-encode, len_utf8_bounds}
 use Rattle.dns_symbol.specs.Characters.{tab, line_feed, carriage_return, space, open_parenthesis, close_parenthesis, semicolon}
@@ -20,7 +20,8 @@ use Rattle.zonetext_lib.specs.declared.layout.Gap.{Gap}
 use Rattle.zonetext_lib.specs.declared.layout.Gap.TheVariants.{Space, Tab}
 use Rattle.zonetext_lib.specs.Entries.{ComparedPart, Token, Ends, begins_glued, parts, parts_after, HasEntries}
 use Rattle.zonetext_lib.specs.Layout.{gap_if, leads, feed_before, laid_out}
-use Rattle.zonetext_lib.proofs.Givens.{first_fault, pieces_in, all_ok, moved_first, moved_oks, first_of_oks}
+use Rattle.zone_format.proofs.Build.{valid_parts}
+use Rattle.zone_format.proofs.Givens.{first_fault, pieces_in, all_ok, moved_first, moved_oks, first_of_oks}
 use Rattle.zonetext_lib.proofs.Once.{encoded, moved_parts, octets_start, same_parts}
 
 -- the parts of lexemes, directly after a token or not
@@ -141,48 +142,27 @@ closed (Note cs ∷ ls) g d b = closed ls false d b
 closed (Word s ss ∷ ls) g d b = closed ls true d b
 closed (Quote ss ∷ ls) g d b = closed ls true d b
 
--- whether a lexeme may precede others that begin so
-may_one : (k x : Lexeme) (ls : List Lexeme) → may_precede k (x ∷ ls) ≡ true → may_precede k (x ∷ []) ≡ true
-may_one (Word s ss) (Word a b) ls h = cc
-may_one (Word s ss) (Quote a) ls h = refl
-may_one (Word s ss) (Blank a) ls h = refl
-may_one (Word s ss) (Line a) ls h = refl
-may_one (Word s ss) Open ls h = refl
-may_one (Word s ss) Close ls h = refl
-may_one (Word s ss) (Note a) ls h = refl
-may_one (Note cs) (Word a b) ls h = cc
-may_one (Note cs) (Quote a) ls h = cc
-may_one (Note cs) (Blank a) ls h = cc
-may_one (Note cs) (Line a) ls h = refl
-may_one (Note cs) Open ls h = cc
-may_one (Note cs) Close ls h = cc
-may_one (Note cs) (Note a) ls h = cc
-may_one (Quote ss) x ls h = refl
-may_one (Blank a) x ls h = refl
-may_one (Line a) x ls h = refl
-may_one Open x ls h = refl
-may_one Close x ls h = refl
-
-may_more : (k x : Lexeme) (ls : List Lexeme) → may_precede k (x ∷ []) ≡ true → may_precede k (x ∷ ls) ≡ true
-may_more (Word s ss) (Word a b) ls h = cc
-may_more (Word s ss) (Quote a) ls h = refl
-may_more (Word s ss) (Blank a) ls h = refl
-may_more (Word s ss) (Line a) ls h = refl
-may_more (Word s ss) Open ls h = refl
-may_more (Word s ss) Close ls h = refl
-may_more (Word s ss) (Note a) ls h = refl
-may_more (Note cs) (Word a b) ls h = cc
-may_more (Note cs) (Quote a) ls h = cc
-may_more (Note cs) (Blank a) ls h = cc
-may_more (Note cs) (Line a) ls h = refl
-may_more (Note cs) Open ls h = cc
-may_more (Note cs) Close ls h = cc
-may_more (Note cs) (Note a) ls h = cc
-may_more (Quote ss) x ls h = refl
-may_more (Blank a) x ls h = refl
-may_more (Line a) x ls h = refl
-may_more Open x ls h = refl
-may_more Close x ls h = refl
+-- whether a lexeme may precede others depends on the first of them alone
+may_first : (k x : Lexeme) (ls : List Lexeme) → may_precede k (x ∷ ls) ≡ may_precede k (x ∷ [])
+may_first (Word s ss) (Word a b) ls = refl
+may_first (Word s ss) (Quote a) ls = refl
+may_first (Word s ss) (Blank a) ls = refl
+may_first (Word s ss) (Line a) ls = refl
+may_first (Word s ss) Open ls = refl
+may_first (Word s ss) Close ls = refl
+may_first (Word s ss) (Note a) ls = refl
+may_first (Note cs) (Word a b) ls = refl
+may_first (Note cs) (Quote a) ls = refl
+may_first (Note cs) (Blank a) ls = refl
+may_first (Note cs) (Line a) ls = refl
+may_first (Note cs) Open ls = refl
+may_first (Note cs) Close ls = refl
+may_first (Note cs) (Note a) ls = refl
+may_first (Quote ss) x ls = refl
+may_first (Blank a) x ls = refl
+may_first (Line a) x ls = refl
+may_first Open x ls = refl
+may_first Close x ls = refl
 
 -- lexemes follow the token that comes before them, if there is one
 abbrev Follows : Option Lexeme → List Lexeme → Type 0
@@ -191,28 +171,25 @@ Follows (Some k) ls = may_precede k ls ≡ true
 
 may_follow_one : (o : Option Lexeme) (x : Lexeme) (ls : List Lexeme) → Follows o (x ∷ ls) → may_glue o x ≡ true
 may_follow_one None x ls h = absurd h
-may_follow_one (Some k) x ls h = may_one k x ls h
-
-rest_valid : (l : Lexeme) (ls : List Lexeme) → are_lexemes (l ∷ ls) ≡ true → (is_lexeme l ≡ true) × (may_precede l ls ≡ true) × (are_lexemes ls ≡ true)
-rest_valid l ls v = let q = and_parts (is_lexeme l && may_precede l ls) (are_lexemes ls) v in let r = and_parts (is_lexeme l) (may_precede l ls) q.0 in (r.0, r.1, q.1)
+may_follow_one (Some k) x ls h = sym (may_first k x ls) ∙ h
 
 never : {A : Type 0} → false ≡ true → A
 never e = cc
 
 spelled : (ls : List Lexeme) (g : Bool) (o : Option Lexeme) (d : ℕ) (b : Bool) → are_lexemes ls ≡ true → (g ≡ true → Follows o ls) → Spelled o (parts_of g d b ls)
 spelled [] g o d b v f = tt
-spelled (Open ∷ ls) g o d b v f = spelled ls false o (suc d) b (rest_valid Open ls v).2 (λ e. never e)
-spelled (Close ∷ ls) g o zero b v f = spelled ls false o zero b (rest_valid Close ls v).2 (λ e. never e)
-spelled (Close ∷ ls) g o (suc d) b v f = spelled ls false o d b (rest_valid Close ls v).2 (λ e. never e)
-spelled (Line r ∷ ls) g o zero b v f = spelled ls false None zero (begins_blank ls) (rest_valid (Line r) ls v).2 (λ e. never e)
-spelled (Line r ∷ ls) g o (suc d) b v f = spelled ls false o (suc d) b (rest_valid (Line r) ls v).2 (λ e. never e)
-spelled (Blank t ∷ ls) g o d b v f = spelled ls false o d b (rest_valid (Blank t) ls v).2 (λ e. never e)
-spelled (Note cs ∷ ls) g o d b v f = spelled ls false o d b (rest_valid (Note cs) ls v).2 (λ e. never e)
+spelled (Open ∷ ls) g o d b v f = spelled ls false o (suc d) b (valid_parts Open ls v).2 (λ e. never e)
+spelled (Close ∷ ls) g o zero b v f = spelled ls false o zero b (valid_parts Close ls v).2 (λ e. never e)
+spelled (Close ∷ ls) g o (suc d) b v f = spelled ls false o d b (valid_parts Close ls v).2 (λ e. never e)
+spelled (Line r ∷ ls) g o zero b v f = spelled ls false None zero (begins_blank ls) (valid_parts (Line r) ls v).2 (λ e. never e)
+spelled (Line r ∷ ls) g o (suc d) b v f = spelled ls false o (suc d) b (valid_parts (Line r) ls v).2 (λ e. never e)
+spelled (Blank t ∷ ls) g o d b v f = spelled ls false o d b (valid_parts (Blank t) ls v).2 (λ e. never e)
+spelled (Note cs ∷ ls) g o d b v f = spelled ls false o d b (valid_parts (Note cs) ls v).2 (λ e. never e)
 spelled (Word s ss ∷ ls) g o d b v f =
-    let r = rest_valid (Word s ss) ls v in
+    let r = valid_parts (Word s ss) ls v in
     (record { lexeme = Word s ss; token = refl; valid = r.0; is = refl }, λ e. may_follow_one o (Word s ss) ls (f e), spelled ls true (Some (Word s ss)) d b r.2 (λ e. r.1))
 spelled (Quote ss ∷ ls) g o d b v f =
-    let r = rest_valid (Quote ss) ls v in
+    let r = valid_parts (Quote ss) ls v in
     (record { lexeme = Quote ss; token = refl; valid = r.0; is = refl }, λ e. may_follow_one o (Quote ss) ls (f e), spelled ls true (Some (Quote ss)) d b r.2 (λ e. r.1))
 
 -- the lexemes of what is laid out
@@ -280,7 +257,7 @@ may_follow (Note a) ls t n = cc
 
 after_token : (gap : Gap) (l : Lexeme) (es : List ComparedPart) (s : Spelled (Some l) es) → is_token l ≡ true → may_precede l (build gap (Some l) es s) ≡ true
 after_token gap l [] s t = may_follow l [] t refl
-after_token gap l (Token true u ∷ es) s t = may_more l s.0.lexeme (build gap (Some s.0.lexeme) es s.2) (s.1 refl)
+after_token gap l (Token true u ∷ es) s t = may_first l s.0.lexeme (build gap (Some s.0.lexeme) es s.2) ∙ s.1 refl
 after_token gap l (Token false u ∷ es) s t = may_follow l (Blank (is_tab gap) ∷ s.0.lexeme ∷ build gap (Some s.0.lexeme) es s.2) t refl
 after_token gap l (Ends b ∷ []) s t = may_follow l [] t refl
 after_token gap l (Ends b ∷ e ∷ es) s t = may_follow l (Line false ∷ build gap None (e ∷ es) s) t refl

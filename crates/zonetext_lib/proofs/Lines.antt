@@ -8,7 +8,7 @@ use Rattle.dns_split.specs.declared.pieces.Piece.TheVariants.{Word as WordAt, Qu
 use Rattle.dns_split.specs.declared.pieces.Fault.{Fault}
 use Rattle.dns_split.specs.Pieces.{ReadsOctets, EachWithin, moved, next_blank, place_of}
 use Rattle.dns_split.proofs.PieceSplit.{closes, given_close}
-use Rattle.zonetext_lib.proofs.Givens.{first_fault, pieces_in}
+use Rattle.zone_format.proofs.Givens.{first_fault, pieces_in}
 use Rattle.zonetext_lib.specs.Entries.{parts_after}
 use Rattle.zonetext_lib.specs.declared.layout.Gap.{Gap}
 use Rattle.zonetext_lib.specs.Entries.{ComparedPart, Token, Ends}

@@ -22,7 +22,8 @@ use Rattle.zonetext_lib.specs.Layout.{laid_out}
 use Rattle.zonetext_lib.specs.Place.{feeds}
 use Rattle.zonetext_lib.specs.Tokens.{Appended, rows_after}
 use Rattle.zonetext_lib.specs.Writing.{EndsAt, FaultAfter, HasLines, WritesOutput, Until, has_end}
-use Rattle.zonetext_lib.proofs.Givens.{fault_of, first_fault, first_of_oks, moved_oks, pieces_after, pieces_in, whole_of}
+use Rattle.zone_format.proofs.Givens.{first_fault, first_of_oks, moved_oks, pieces_after, pieces_in, whole_of}
+use Rattle.zonetext_lib.proofs.Givens.{fault_of}
 use Rattle.zonetext_lib.proofs.Cuts.{EndedFront, cut_given, fault_after, first_on, none_given, read_on}
 use Rattle.zonetext_lib.proofs.Following.{lines_joined, parts_back, parts_front, rows_follow, rows_front}
 use Rattle.zonetext_lib.proofs.Parts.{parts_append, parts_ended, rows_append}

@@ -1,11 +1,9 @@
 -- Octets have one list of entries at most.
-use Rattle.std.proofs.Common.{◌≡◌, ℕ, zero, suc, ◌+◌, ◌-◌, ◌<◌, ◌≤◌, ◌==◌, Bool, List, [], ◌∷◌, length, take, drop, refl, sym, ap, ◌∙◌, subst, arith, inl, inr, length-append, take_all}
+use Rattle.std.proofs.Common.{◌≡◌, ℕ, zero, suc, ◌+◌, ◌-◌, ◌<◌, ◌≤◌, ◌==◌, Bool, List, [], ◌∷◌, length, refl, sym, ap, ◌∙◌, subst, arith, inl, inr, length-append, take_all}
 use Rattle.std.specs.Prelude.{⊤, map, option_map, Option, Some, None, encode_utf8_all}
 use Rattle.std.specs.List.{flat_map}
 use Rattle.std.proofs.lemmas.Bool.{cases_lt, cases_eq, eq-eqb, ne_eqb}
-use Rattle.std.proofs.lemmas.List.{take-append-drop}
-use Rattle.std.proofs.lemmas.Str.{encodes-append, encodes_same}
-use Rattle.std.proofs.Math.Seq.{take-add, take-append_seam, drop-append_seam}
+use Rattle.std.proofs.lemmas.Str.{encodes_same}
 use Rattle.dns_split.specs.declared.pieces.Piece.{Piece}
 use Rattle.dns_split.specs.declared.pieces.Piece.TheVariants.{Word as WordAt, Quote as QuoteAt, Comment as CommentAt, End as EndAt}
 use Rattle.dns_split.specs.Lexeme.{Lexeme, Blank, Line, Open, Close, Note, Word, Quote, lexeme_bytes}
@@ -13,43 +11,13 @@ use Rattle.dns_split.specs.Pieces.{IsOctetPieces, begins_blank, between, moved_p
 use Rattle.dns_split.proofs.Complete.{word_some, quote_some}
 use Rattle.dns_split.proofs.PieceMoved.{mono}
 use Rattle.dns_split.proofs.PieceSplit.{pieces_one_way}
+use Rattle.zone_format.proofs.Same.{head_of, moved_between, place_sum, rest_of}
 use Rattle.zonetext_lib.specs.Entries.{ComparedPart, Token, Ends, begins_glued, parts, parts_after, HasEntries}
 
 -- the same part of the text of which each octet is a character
 abbrev pub encoded : ComparedPart → ComparedPart
 encoded (Token g t) = Token g (encode_utf8_all t)
 encoded (Ends b) = Ends b
-
-place_sum : (octets : List ℕ) (s n : ℕ) → place_of octets (s + n) ≡ place_of octets s + length (encode_utf8_all (take n (drop s octets)))
-place_sum octets s n =
-    ap (λ l. length (encode_utf8_all l)) (take-add s n octets) ∙ ap length (encodes-append (take s octets) (take n (drop s octets)))
-    ∙ length-append (encode_utf8_all (take s octets)) (encode_utf8_all (take n (drop s octets)))
-
-dropped : (octets : List ℕ) (s : ℕ) → drop (place_of octets s) (encode_utf8_all octets) ≡ encode_utf8_all (drop s octets)
-dropped octets s =
-    ap (λ l. drop (place_of octets s) (encode_utf8_all l)) (sym (take-append-drop s octets)) ∙ ap (drop (place_of octets s)) (encodes-append (take s octets) (drop s octets))
-    ∙ drop-append_seam (encode_utf8_all (take s octets)) (encode_utf8_all (drop s octets))
-
-taken_front : (xs : List ℕ) (n : ℕ) → take (length (encode_utf8_all (take n xs))) (encode_utf8_all xs) ≡ encode_utf8_all (take n xs)
-taken_front xs n =
-    ap (λ l. take (length (encode_utf8_all (take n xs))) (encode_utf8_all l)) (sym (take-append-drop n xs))
-    ∙ ap (take (length (encode_utf8_all (take n xs)))) (encodes-append (take n xs) (drop n xs)) ∙ take-append_seam (encode_utf8_all (take n xs)) (encode_utf8_all (drop n xs))
-
-pub moved_between : (octets : List ℕ) (s e : ℕ) → between (encode_utf8_all octets) (place_of octets s) (place_of octets e) ≡ encode_utf8_all (between octets s e)
-moved_between octets s e = elim (cases_lt e s) [
-  | inl less ↦
-      let m : s ≡ e + (s - e) = omega (arith, less) in
-      let p = ap (place_of octets) m ∙ place_sum octets e (s - e) in
-      let none : place_of octets e - place_of octets s ≡ 0 = omega (arith, p) in
-      let nothing : e - s ≡ 0 = omega (arith, less) in
-      ap (λ n. take n (drop (place_of octets s) (encode_utf8_all octets))) none ∙ ap (λ n. encode_utf8_all (take n (drop s octets))) (sym nothing)
-  | inr most ↦
-      let m : e ≡ s + (e - s) = omega (arith, most) in
-      let p = ap (place_of octets) m ∙ place_sum octets s (e - s) in
-      let n : place_of octets e - place_of octets s ≡ length (encode_utf8_all (take (e - s) (drop s octets))) = omega (arith, p) in
-      ap (λ k. take k (drop (place_of octets s) (encode_utf8_all octets))) n ∙ ap (take (length (encode_utf8_all (take (e - s) (drop s octets))))) (dropped octets s)
-      ∙ taken_front (drop s octets) (e - s)
-]
 
 -- no other place is that of an octet
 place_once : (octets : List ℕ) (e s : ℕ) → s < length octets → place_of octets e ≡ place_of octets s → e ≡ s
@@ -144,14 +112,6 @@ text_of (Ends b) = []
 abbrev glue_of : ComparedPart → Bool
 glue_of (Token g t) = g
 glue_of (Ends b) = b
-
-abbrev head_of : ComparedPart → List ComparedPart → ComparedPart
-head_of p [] = p
-head_of p (x ∷ xs) = x
-
-abbrev rest_of : List ComparedPart → List ComparedPart
-rest_of [] = []
-rest_of (x ∷ xs) = xs
 
 same_part : (x y : ComparedPart) → encoded x ≡ encoded y → x ≡ y
 same_part (Token g t) (Token h u) e = ap (λ x. Token x t) (ap glue_of e) ∙ ap (Token h) (encodes_same t u (ap text_of e))

@@ -1,14 +1,13 @@
 -- The tokens that the cursor gives stand in order.
 use Rattle.std.proofs.Common.{◌≡◌, ℕ, zero, suc, ◌≤◌, Bool, List, [], ◌∷◌, ◌++◌, length, take, refl, sym, subst, arith, inl, inr}
 use Rattle.std.specs.Prelude.{⊤, map, Result, Ok, Err, encode_utf8_all}
-use Rattle.std.proofs.lemmas.Bool.{cases_lt}
 use Rattle.dns_split.specs.declared.pieces.Piece.{Piece}
 use Rattle.dns_split.specs.declared.pieces.Piece.TheVariants.{Word as WordAt, Quote as QuoteAt, Comment as CommentAt, End as EndAt}
 use Rattle.dns_split.specs.declared.pieces.Fault.{Fault}
 use Rattle.dns_split.specs.Lexeme.{Lexeme, Blank, Line, Open, Close, Note, Word, Quote}
 use Rattle.dns_split.specs.Pieces.{pieces, begins_blank, IsPieces, Reads, ReadsOctets, EachWithin, moved, place_of}
-use Rattle.dns_split.proofs.PieceMoved.{mono}
 use Rattle.dns_split.proofs.PieceSplit.{split_pieces}
+use Rattle.zone_format.proofs.Follow.{back}
 
 -- each token begins where the one before it began, or later, and nothing follows a fault
 abbrev pub InOrder : ℕ → List (Result Piece Fault) → Type 0
@@ -48,9 +47,6 @@ reads_ordered text given (inr f) =
     let whole = split_pieces (take f.fault.at text ++ viable.tail) viable.found viable.splits in
     let first = f.settled.first viable.tail whole.0 whole.1 in
     subst (InOrder 0) (sym f.is) (front_ordered 0 f.found first.0 f.fault (subst (λ l. InOrder 0 (map Ok l)) first.1 (pieces_ordered _ whole.0 whole.1)))
-
-back : (octets : List ℕ) (i j : ℕ) → i ≤ length octets → place_of octets i ≤ place_of octets j → i ≤ j
-back octets i j within h = elim (cases_lt j i) [ inl less ↦ absurd (omega (arith, mono octets j i less within)) | inr most ↦ most ]
 
 none : (octets : List ℕ) (given : List (Result Piece Fault)) → map (moved (place_of octets)) given ≡ [] → given ≡ []
 none octets [] e = refl

@@ -15,7 +15,7 @@ use Rattle.zonetext_lib.specs.Writing.{EndsAt}
 use Rattle.zonetext_lib.proofs.Comparing.{PassedOver, Taken, skipped}
 use Rattle.zonetext_lib.proofs.Cuts.{cut_given, none_given}
 use Rattle.zonetext_lib.proofs.Following.{parts_front}
-use Rattle.zonetext_lib.proofs.Givens.{pieces_after, pieces_in}
+use Rattle.zone_format.proofs.Givens.{pieces_after, pieces_in}
 use Rattle.zonetext_lib.proofs.Made.{given_zone}
 use Rattle.zonetext_lib.proofs.Parts.{ended_none, parts_append, says_append}
 use Rattle.zonetext_lib.proofs.Passing.{oks_length, within_after}

@@ -22,7 +22,8 @@ use Rattle.zonetext_lib.proofs.Comparing.{no_common}
 use Rattle.zonetext_lib.proofs.Cuts.{ReadOn, first_on, none_given, read_on, take_octets}
 use Rattle.zonetext_lib.proofs.Feeds.{column_after, ends_feed, feeds_after}
 use Rattle.zonetext_lib.proofs.Following.{parts_back, parts_front, token_back}
-use Rattle.zonetext_lib.proofs.Givens.{fault_of, first_fault, moved_oks, pieces_after, pieces_in, whole_of}
+use Rattle.zone_format.proofs.Givens.{first_fault, moved_oks, pieces_after, pieces_in, whole_of}
+use Rattle.zonetext_lib.proofs.Givens.{fault_of}
 use Rattle.zonetext_lib.proofs.Holding.{let_go}
 use Rattle.zonetext_lib.proofs.Made.{given_zone, pieces_moved, zone_is, zone_none, zone_not_bad}
 use Rattle.zonetext_lib.proofs.Parts.{ended_append, ended_none, says_ended}

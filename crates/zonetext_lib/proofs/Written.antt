@@ -10,8 +10,9 @@ use Rattle.zonetext_lib.specs.Blocks.{Releases, Settled}
 use Rattle.zonetext_lib.specs.Held.{Held, Writing}
 use Rattle.zonetext_lib.specs.Place.{IsAt, feeds}
 use Rattle.zonetext_lib.specs.Writing.{MadeAfter, WritesOutput, WritesAll, WritesSettled, Wrote}
-use Rattle.zonetext_lib.proofs.Cuts.{both_octets, read_on, take_octets}
-use Rattle.zonetext_lib.proofs.Givens.{moved_oks}
+use Rattle.dns_split.proofs.Blocks.{both_octets}
+use Rattle.zonetext_lib.proofs.Cuts.{read_on, take_octets}
+use Rattle.zone_format.proofs.Givens.{moved_oks}
 use Rattle.zonetext_lib.proofs.Holding.{added, let_go}
 use Rattle.zonetext_lib.proofs.Made.{made_stays, makes_follow}
 

@@ -1,5 +1,5 @@
 use Rattle.std.proofs.Common.{◌≡◌}
-use Rattle.zonetext_lib.proofs.Givens.{first_fault}
+use Rattle.zone_format.proofs.Givens.{first_fault}
 use Rattle.zonetext_lib.proofs.check.check.Given as goal
 
 abbrev pub invariant-loop-piece : goal.invariant-loop-piece

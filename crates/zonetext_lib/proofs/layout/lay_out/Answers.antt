@@ -4,7 +4,8 @@ use Rattle.std.specs.Option.{is_some}
 use Rattle.dns_split.specs.declared.pieces.Piece.{Piece}
 use Rattle.dns_split.specs.declared.pieces.Piece.TheVariants.{Word as WordAt, Quote as QuoteAt}
 use Rattle.zonetext_lib.specs.Entries.{Token, begins_glued, parts, parts_after}
-use Rattle.zonetext_lib.proofs.Givens.{first_fault, pieces_in, whole_of, fault_of}
+use Rattle.zone_format.proofs.Givens.{first_fault, pieces_in, whole_of}
+use Rattle.zonetext_lib.proofs.Givens.{fault_of}
 use Rattle.zonetext_lib.proofs.Lines.{left, left_none, token_turn, octets_close}
 use Rattle.zonetext_lib.proofs.layout.lay_out.Goals as goal
 

@@ -5,7 +5,7 @@ use Rattle.dns_split.proofs.PieceSplit.{closes}
 use Rattle.dns_split.specs.Pieces.{EachWithin}
 use Rattle.zonetext_lib.specs.Entries.{parts, parts_after}
 use Rattle.zonetext_lib.specs.Layout.{laid_out}
-use Rattle.zonetext_lib.proofs.Givens.{first_fault, pieces_in}
+use Rattle.zone_format.proofs.Givens.{first_fault, pieces_in}
 use Rattle.zonetext_lib.proofs.Lines.{left}
 use Rattle.zonetext_lib.proofs.layout.lay_out.Given as goal
 

@@ -2,7 +2,8 @@ use Rattle.std.proofs.Common.{◌≡◌, ◌++◌, ◌∷◌, [], length, refl, 
 use Rattle.std.specs.Prelude.{Some, None, Err}
 use Rattle.dns_split.specs.Pieces.{ReadsOctets, EachWithin, IsGiven}
 use Rattle.zonetext_lib.specs.Tokens.{rows_after}
-use Rattle.zonetext_lib.proofs.Givens.{first_fault, pieces_in, whole_of, fault_of}
+use Rattle.zone_format.proofs.Givens.{first_fault, pieces_in, whole_of}
+use Rattle.zonetext_lib.proofs.Givens.{fault_of}
 use Rattle.zonetext_lib.proofs.Order.{InOrder, in_order}
 use Rattle.zonetext_lib.proofs.tokens.tokens.Goals as goal
 

@@ -3,7 +3,7 @@ use Rattle.std.specs.Prelude.{None}
 use Rattle.dns_split.specs.Pieces.{EachWithin}
 use Rattle.zonetext_lib.specs.Place.{Stands}
 use Rattle.zonetext_lib.specs.Tokens.{rows_after}
-use Rattle.zonetext_lib.proofs.Givens.{first_fault}
+use Rattle.zone_format.proofs.Givens.{first_fault}
 use Rattle.zonetext_lib.proofs.Order.{InOrder}
 use Rattle.zonetext_lib.proofs.tokens.tokens.Given as goal
 
