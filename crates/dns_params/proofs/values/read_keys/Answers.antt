@@ -1,0 +1,10 @@
+use Rattle.std.proofs.Common.{sym, ◌∙◌}
+use Rattle.std.specs.Option.{option_copied}
+use Rattle.dns_params.proofs.KeySets.{keys_more}
+use Rattle.dns_params.proofs.values.read_keys.Goals as goal
+
+pub loop-left-preserved : goal.loop-left-preserved
+loop-left-preserved c =
+    let split = c.split_first-split in let key = c.in-Some-key_from_text in
+    keys_more c.args.text.now c.in-Some.rest.now split.result.before.now c.loop-left.keys c.insert.new.self (option_copied split.result.behind) key.key.code (rw c.in-Some.is at c.loop-left.invariant)
+    split.ensures.without split.ensures.split (key.key.kind, key.ensures.0) key.ensures.1 (sym c.contains.ensures ∙ c.if-contains.false) c.insert.ensures
