@@ -4,3 +4,4 @@ pub mod KeySets
 pub mod ListTexts
 pub mod ParamParts
 pub mod Params
+pub mod ShownItems

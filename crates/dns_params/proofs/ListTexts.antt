@@ -16,9 +16,13 @@ use Rattle.dns_lists.proofs.Items.{list_push, pushed_some}
 use Rattle.dns_params.specs.ListItems.{EndsAtComma}
 use Rattle.dns_params.specs.ParamValues.{SpellsStrings}
 
-special_octet : (o : ℕ) → is_special o ≡ true → item_octet o ≡ 92 ∷ o ∷ []
+pub special_octet : (o : ℕ) → is_special o ≡ true → item_octet o ≡ 92 ∷ o ∷ []
 unfolding item_octet
 special_octet o e = ap (λ b. cond b (92 ∷ o ∷ []) (o ∷ [])) e
+
+pub unspecial_octet : (o : ℕ) → is_special o ≡ false → item_octet o ≡ o ∷ []
+unfolding item_octet
+unspecial_octet o e = ap (λ b. cond b (92 ∷ o ∷ []) (o ∷ [])) e
 
 is_plain : (o : ℕ) → o ≢ 44 → o ≢ 92 → is_special o ≡ false
 is_plain o a b = rw (ne_eqb o 44 a, ne_eqb o 92 b) refl

@@ -5,4 +5,5 @@ pub mod ListItems
 pub mod ParamValues
 pub mod ParamTokens
 pub mod ParamSteps
+pub mod ShownParams
 pub mod Rows

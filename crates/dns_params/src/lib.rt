@@ -4,12 +4,14 @@
 
 pub mod error;
 mod items;
-mod keys;
+pub mod keys;
+pub mod shown;
 mod strings;
 pub mod taking;
 mod values;
 
 pub use error::ParamError;
+pub use shown::{KeyText, ParamText};
 pub use taking::{ParamRefusal, take_params};
 
 #[cfg(test)]

@@ -1,8 +1,9 @@
 //! Parameters of RFC 9460 appendix D, and what servers take and refuse.
 use super::*;
-use arrayvec::ArrayVec;
+use arrayvec::{ArrayString, ArrayVec};
 use dns_fields::TokenList;
 use dns_split::entry_tokens::EntryToken;
+use std::fmt::Write;
 use std::process::Abort;
 
 /// A word.
@@ -127,4 +128,47 @@ fn refusals(rt: HostRuntime) {
         &[word(b"mandatory=port")],
         ParamError::Params(dns_lists::ParamsFault::Value(0)),
     );
+}
+
+/// Prints a parameter, and compares the text.
+fn assert_shown(rt: &impl Abort, key: u16, value: &[u8], wanted: &str) {
+    let mut text: ArrayString<100> = ArrayString::new();
+    let written = write!(text, "{}", ParamText { key, value });
+    assert_eq!(rt; written.is_ok(), true);
+    assert_eq!(rt; text.as_str(), wanted);
+}
+
+#[test]
+fn texts(rt: HostRuntime) {
+    assert_shown(
+        &rt,
+        0,
+        b"\x00\x01\x00\x04\x00\x07",
+        "mandatory=alpn,ipv4hint,key7",
+    );
+    assert_shown(&rt, 1, b"\x02h2\x05h3-19", "alpn=h2,h3-19");
+    assert_shown(
+        &rt,
+        1,
+        b"\x08f\\oo,bar\x02h2",
+        "alpn=f\\\\\\\\oo\\\\,bar,h2",
+    );
+    assert_shown(&rt, 2, b"", "no-default-alpn");
+    assert_shown(&rt, 3, b"\x00\x35", "port=53");
+    assert_shown(
+        &rt,
+        4,
+        b"\xc0\x00\x02\x01\xc0\x00\x02\x02",
+        "ipv4hint=192.0.2.1,192.0.2.2",
+    );
+    assert_shown(&rt, 5, b"\x01\x02\x03", "ech=AQID");
+    assert_shown(
+        &rt,
+        6,
+        b"\x20\x01\x0d\xb8\0\0\0\0\0\0\0\0\0\0\0\x01",
+        "ipv6hint=2001:db8::1",
+    );
+    assert_shown(&rt, 7, b"/q{?dns}", "key7=/q{?dns}");
+    assert_shown(&rt, 667, b"hello\xd2 q", "key667=hello\\210\\ q");
+    assert_shown(&rt, 667, b"", "key667");
 }
