@@ -6,7 +6,7 @@ use Rattle.std.proofs.lemmas.List.Concat.{flat_map-append}
 use Rattle.std.proofs.lemmas.List.Elements.{All-nil, All-cons, All-append}
 use Rattle.dns_octets.specs.Appending.{Gains}
 use Rattle.dns_params.specs.Items.{IsWithout, SpellsApart, with_commas, left_text}
-use Rattle.dns_params.specs.ParamValues.{SpellsEach}
+use Rattle.dns_params.specs.ParamValues.{SpellsValues}
 
 -- the texts so far, and what is left
 pub record TakesApart {V : Type 0} (spells : List ℕ → V → Type 0) (text : List ℕ) (values : List V) (left : Option (List ℕ)) : Type 0 where
@@ -28,7 +28,7 @@ zip_push R (a ∷ xs) (b ∷ ys) x y h r = (h.0, zip_push R xs ys x y h.1 r)
 abbrev pub IsSplit : List ℕ → List ℕ → Option (List ℕ) → Type 0
 IsSplit rest before behind = MatchOption behind (rest ≡ before) (λ b. rest ≡ before ++ 44 ∷ b)
 
-split_left : (rest before : List ℕ) (behind : Option (List ℕ)) → IsSplit rest before behind → rest ++ 44 ∷ [] ≡ (before ++ 44 ∷ []) ++ left_text behind
+pub split_left : (rest before : List ℕ) (behind : Option (List ℕ)) → IsSplit rest before behind → rest ++ 44 ∷ [] ≡ (before ++ 44 ∷ []) ++ left_text behind
 split_left rest before None e = ap (λ r. r ++ 44 ∷ []) e ∙ sym (append-nil (before ++ 44 ∷ []))
 split_left rest before (Some b) e =
     ap (λ r. r ++ 44 ∷ []) e ∙ append_assoc before (44 ∷ b) (44 ∷ []) ∙ sym (append_assoc before (44 ∷ []) (b ++ 44 ∷ []))
@@ -65,6 +65,6 @@ each_more spells text rest before old middle new behind h without split gains = 
       ∙ ap (λ x. old ++ x) (ap (λ x. flat_map (λ v. v) h.values ++ x) (sym (append-nil gains.0)) ∙ sym (flat_map-append (λ v. v) h.values (gains.0 ∷ [])));
 }
 
-pub each_all : (spells : List ℕ → List ℕ → Type 0) (text old new : List ℕ) → TakesEach spells text None old new → Gains (SpellsEach spells text) old new
+pub each_all : (spells : List ℕ → List ℕ → Type 0) (text old new : List ℕ) → TakesEach spells text None old new → Gains (SpellsValues spells text) old new
 each_all spells text old new h =
     (flat_map (λ v. v) h.values, record { values = h.values; spelled = apart_all spells text h.values h.taken; whole = refl }, h.gained)

@@ -55,11 +55,11 @@ keys_more text rest before set new behind code h without split named small absen
   same = λ c l. is c l ∙ ap (λ b. (code == c) || b) (h.same c l) ∙ turned (code == c) (has h.keys c) ∙ sym (list_any-append (λ t. t == c) h.keys (code ∷ []));
 }
 
-keys_first : (keys : List ℕ) (w n : ℕ) → keys_from keys w (suc n) ≡ cond (has keys w) (to_be_bytes w16 w) [] ++ keys_from keys (w + 1) n
+pub keys_first : (keys : List ℕ) (w n : ℕ) → keys_from keys w (suc n) ≡ cond (has keys w) (to_be_bytes w16 w) [] ++ keys_from keys (w + 1) n
 unfolding keys_from
 keys_first keys w n = refl
 
-keys_zero : (keys : List ℕ) (w : ℕ) → keys_from keys w 0 ≡ []
+pub keys_zero : (keys : List ℕ) (w : ℕ) → keys_from keys w 0 ≡ []
 unfolding keys_from
 keys_zero keys w = refl
 
@@ -77,7 +77,7 @@ pub spells_keys : (text set old new spelled : List ℕ) → SpellsApart NamesAKe
 spells_keys text set old new spelled named once same e =
     (keys_wire set, record { keys = spelled; named = named; once = once; whole = same_octets set spelled 0 65536 same (omega arith) }, e)
 
-last_of : (keys : List ℕ) (w n : ℕ) → keys_from keys w (n + 1) ≡ keys_from keys w n ++ cond (has keys (w + n)) (to_be_bytes w16 (w + n)) []
+pub last_of : (keys : List ℕ) (w n : ℕ) → keys_from keys w (n + 1) ≡ keys_from keys w n ++ cond (has keys (w + n)) (to_be_bytes w16 (w + n)) []
 last_of keys w zero =
     ap (keys_from keys w) (omega arith) ∙ keys_first keys w zero ∙ ap (λ x. cond (has keys w) (to_be_bytes w16 w) [] ++ x) (keys_zero keys (w + 1))
     ∙ append-nil (cond (has keys w) (to_be_bytes w16 w) []) ∙ ap (λ v. cond (has keys v) (to_be_bytes w16 v) []) (omega arith) ∙ ap (λ x. x ++ cond (has keys (w + zero)) (to_be_bytes w16 (w + zero)) []) (sym (keys_zero keys w))

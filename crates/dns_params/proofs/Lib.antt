@@ -5,3 +5,7 @@ pub mod ListTexts
 pub mod ParamParts
 pub mod Params
 pub mod ShownItems
+pub mod Refusals
+pub mod KeyRefusals
+pub mod ValueRefusals
+pub mod ListRefusals

@@ -24,7 +24,7 @@ pub unspecial_octet : (o : ℕ) → is_special o ≡ false → item_octet o ≡ 
 unfolding item_octet
 unspecial_octet o e = ap (λ b. cond b (92 ∷ o ∷ []) (o ∷ [])) e
 
-is_plain : (o : ℕ) → o ≢ 44 → o ≢ 92 → is_special o ≡ false
+pub is_plain : (o : ℕ) → o ≢ 44 → o ≢ 92 → is_special o ≡ false
 is_plain o a b = rw (ne_eqb o 44 a, ne_eqb o 92 b) refl
 
 plain_octet : (o : ℕ) → o ≢ 44 → o ≢ 92 → item_octet o ≡ o ∷ []
@@ -85,7 +85,7 @@ one_same text r s a b (x ∷ z ∷ xs) (y ∷ ys) p q e f i j = absurd cc
 one_same text r s a b (x ∷ []) (y ∷ z ∷ ys) p q e f i j = absurd cc
 
 -- a text that is at its end or spells a comma, and spells an octet, spells a comma
-comma_is : (rest tail : List ℕ) (o : ℕ) → EndsAtComma rest → 0 < length rest → SpellsFront rest (o ∷ []) tail → o ≡ 44
+pub comma_is : (rest tail : List ℕ) (o : ℕ) → EndsAtComma rest → 0 < length rest → SpellsFront rest (o ∷ []) tail → o ≡ 44
 comma_is rest tail o (inl e) some h = absurd (omega (arith, some, ap length e))
 comma_is rest tail o (inr k) some h = (one_same rest tail k.0 o 44 h.symbols k.1.symbols h.each k.1.each h.whole k.1.whole h.octets_are k.1.octets_are).0
 

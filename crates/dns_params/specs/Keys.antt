@@ -57,5 +57,5 @@ abbrev pub FindsKey : (ℕ → ValueKind → Type 0) → Option SpelledKey → T
 FindsKey names r = MatchOption r ((code : ℕ) (kind : ValueKind) → names code kind → ⊥) (λ k. names k.code k.kind × (k.code < 2 ^ 16))
 
 -- the number that a text is in decimal
-abbrev pub FindsNumber : List ℕ → Option ℕ → Type 0
-FindsNumber text r = MatchOption r ((n : ℕ) → n < 2 ^ 16 → text ≢ decimal n) (λ n. (n < 2 ^ 16) × (text ≡ decimal n))
+abbrev pub FindsKeyNumber : List ℕ → Option ℕ → Type 0
+FindsKeyNumber text r = MatchOption r ((n : ℕ) → n < 2 ^ 16 → text ≢ decimal n) (λ n. (n < 2 ^ 16) × (text ≡ decimal n))

@@ -35,7 +35,7 @@ pub record SpellsKeys (text octets : List ℕ) : Type 0 where
   pub whole : octets ≡ keys_wire keys
 
 -- values apart by commas, whose octets are one after another
-pub record SpellsEach (spells : List ℕ → List ℕ → Type 0) (text octets : List ℕ) : Type 0 where
+pub record SpellsValues (spells : List ℕ → List ℕ → Type 0) (text octets : List ℕ) : Type 0 where
   pub values : List (List ℕ)
   pub spelled : SpellsApart spells text values
   pub whole : octets ≡ flat_map (λ v. v) values
@@ -65,7 +65,7 @@ SpellsValue Keys text octets = SpellsKeys text octets
 SpellsValue Strings text octets = SpellsStrings text octets
 SpellsValue Nothing text octets = (text ≡ []) × (octets ≡ [])
 SpellsValue Port text octets = SpellsPort text octets
-SpellsValue Ipv4 text octets = SpellsEach SpellsIpv4 text octets
+SpellsValue Ipv4 text octets = SpellsValues SpellsIpv4 text octets
 SpellsValue Digits text octets = SpellsDigits base64 text octets
-SpellsValue Ipv6 text octets = SpellsEach SpellsIpv6 text octets
+SpellsValue Ipv6 text octets = SpellsValues SpellsIpv6 text octets
 SpellsValue Octets text octets = SpellsOctetList text octets

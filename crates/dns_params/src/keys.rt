@@ -1,6 +1,6 @@
 //! Names of keys (RFC 9460 section 2.1).
 ghost use Rattle.std.specs.Prelude.{◌≡◌, MatchBool};
-ghost use Rattle.dns_params.specs.Keys.{rows_of, FindsKey, FindsNumber, HasZeros, IsNumberedKey, NamesKey, NamesKeyOf};
+ghost use Rattle.dns_params.specs.Keys.{rows_of, FindsKey, FindsKeyNumber, HasZeros, IsNumberedKey, NamesKey, NamesKeyOf};
 ghost use Rattle.dns_params.specs.declared.keys.ValueKind.TheVariants.{Octets as AnyOctets};
 
 use dns_kinds::numbers::u16_from_text;
@@ -61,7 +61,7 @@ fn has_zeros(digits: &[u8]) -> bool
 
 /// The number of decimal digits without zeros in front.
 fn number_of(digits: &[u8]) -> Option<u16>
-    ensures { FindsNumber digits.now result }
+    ensures { FindsKeyNumber digits.now result }
 {
     if has_zeros(digits) {
         return None;

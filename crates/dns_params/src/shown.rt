@@ -2,10 +2,11 @@
 ghost use Rattle.std.specs.Prelude.{◌≡◌, ◌<◌, ◌++◌, Some, length};
 ghost use Rattle.std.specs.Fmt.{WritesOnOk};
 ghost use Rattle.dns_symbol.specs.Printed.{text_of, is_unquoted_escape};
-ghost use Rattle.dns_lists.specs.Texts.{is_special, item_text, item_octet};
+ghost use Rattle.dns_lists.specs.Texts.{item_text, item_octet};
 ghost use Rattle.dns_params.specs.ShownParams.{comma_if, key_text, key_shown, param_text, param_shown, shown_kind, item_width, value_item_text, items_text, value_text};
 
 use crate::keys::ValueKind;
+use crate::strings::is_escaped;
 use dns_codec::base64;
 use dns_fields::word::write_word;
 use dns_kinds::Ipv6Shown;
@@ -58,13 +59,6 @@ fn write_unquoted<W: fmt::Write>(octets: &[u8], f: &mut fmt::Formatter<W>) -> fm
 {
     let octets = octets.as_slice();
     write_octets::<Unquoted, W>(octets, f)
-}
-
-/// Whether an octet stands behind a backslash in a list's item.
-fn is_escaped(octet: u8) -> bool
-    ensures { result ≡ is_special octet }
-{
-    octet == b',' || octet == b'\\'
 }
 
 /// Prints an octet of a list's item.

@@ -1,12 +1,14 @@
 //! Values of parameters (RFC 9460 sections 7 and 8).
-ghost use Rattle.std.specs.Prelude.{◌≡◌, ◌≢◌, ℕ, ◌++◌, [], List, OnOk, OnErr, cond};
+ghost use Rattle.std.specs.Prelude.{◌≡◌, ◌≢◌, ℕ, ◌++◌, [], List, IfErr, OnOk, OnErr, cond};
 ghost use Rattle.std.specs.Int.{w16, to_be_bytes};
 ghost use Rattle.std.specs.List.{AllPairs};
-ghost use Rattle.dns_octets.specs.Appending.{Extends, Gains};
+ghost use Rattle.dns_octets.specs.Appending.{Extends, Gains, LacksRoom};
 ghost use Rattle.dns_fields.specs.Words.{SpellsAs};
 ghost use Rattle.dns_lists.specs.Bitmap.{SameTypes, has};
 ghost use Rattle.dns_params.specs.Items.{SpellsApart};
-ghost use Rattle.dns_params.specs.ParamValues.{NamesAKey, SpellsKeys, SpellsEach, SpellsValue, keys_wire};
+ghost use Rattle.dns_params.specs.ParamRefusals.{KeysReason, OfKind, RefusesSpelled, ValueReason};
+ghost use Rattle.dns_params.specs.declared.error.ParamError.TheVariants.{UnexpectedValue as NoValue};
+ghost use Rattle.dns_params.specs.ParamValues.{NamesAKey, SpellsKeys, SpellsValues, SpellsValue, keys_wire};
 
 use crate::error::ParamError;
 use crate::items::split_first;
@@ -26,7 +28,8 @@ fn append_one<W: Word + Drop, B: OctetsBuilder>(
     target: &mut B,
 ) -> Result<(), ParamError>
     ensures ok { OnOk result (Gains (SpellsAs W.valid W.spells W.wire text.now) (B.octets target.old) (B.octets target.new)) }
-    ensures err { OnErr result (B.octets target.new ≡ B.octets target.old) }
+    ensures err { IfErr result (RefusesSpelled B.room (SpellsAs W.valid W.spells W.wire text.now) (OfKind (W.reason text.now)) (B.octets target.old)) }
+    ensures extends { OnErr result (Extends (B.octets target.old) (B.octets target.new)) }
 {
     let value = W::from_text(text)?;
     value.append(target)?;
@@ -38,7 +41,8 @@ fn append_each<W: Word + Drop, B: OctetsBuilder>(
     text: &[u8],
     target: &mut B,
 ) -> Result<(), ParamError>
-    ensures ok { OnOk result (Gains (SpellsEach (SpellsAs W.valid W.spells W.wire) text.now) (B.octets target.old) (B.octets target.new)) }
+    ensures ok { OnOk result (Gains (SpellsValues (SpellsAs W.valid W.spells W.wire) text.now) (B.octets target.old) (B.octets target.new)) }
+    ensures err { IfErr result (RefusesSpelled B.room (SpellsValues (SpellsAs W.valid W.spells W.wire) text.now) (λ e. (item : List ℕ) × OfKind (W.reason item) e) (B.octets target.old)) }
     ensures extends { OnErr result (Extends (B.octets target.old) (B.octets target.new)) }
 {
     let mut left = Some(text);
@@ -54,6 +58,7 @@ fn append_each<W: Word + Drop, B: OctetsBuilder>(
 fn read_keys(text: &[u8], keys: &mut TypeSet) -> Result<(), ParamError>
     requires { keys.old ≡ [] }
     ensures ok { OnOk result ((spelled : List ℕ) × SpellsApart NamesAKey text.now spelled × AllPairs (λ a b. a ≢ b) spelled × SameTypes keys.new spelled) }
+    ensures err { IfErr result (λ e. KeysReason e × ((spelled : List ℕ) → SpellsApart NamesAKey text.now spelled → ¬ AllPairs (λ a b. a ≢ b) spelled)) }
 {
     let mut left = Some(text);
     while let Some(rest) = left {
@@ -74,6 +79,7 @@ fn read_keys(text: &[u8], keys: &mut TypeSet) -> Result<(), ParamError>
 fn append_if<B: OctetsBuilder>(keys: &TypeSet, key: u16, target: &mut B) -> Result<(), ShortBuf>
     ensures ok { OnOk result (B.octets target.new ≡ B.octets target.old ++ cond (has keys.now key) (to_be_bytes w16 key) []) }
     ensures err { OnErr result (B.octets target.new ≡ B.octets target.old) }
+    ensures lacks { OnErr result (LacksRoom B.room (λ octets. octets ≡ cond (has keys.now key) (to_be_bytes w16 key) []) (B.octets target.old)) }
 {
     if keys.contains(key) {
         target.append_slice(&key.to_be_bytes())?;
@@ -84,6 +90,7 @@ fn append_if<B: OctetsBuilder>(keys: &TypeSet, key: u16, target: &mut B) -> Resu
 /// Appends the keys of a set, in ascending order.
 fn append_set<B: OctetsBuilder>(keys: &TypeSet, target: &mut B) -> Result<(), ShortBuf>
     ensures ok { OnOk result (B.octets target.new ≡ B.octets target.old ++ keys_wire keys.now) }
+    ensures lacks { OnErr result (LacksRoom B.room (λ octets. octets ≡ keys_wire keys.now) (B.octets target.old)) }
     ensures extends { OnErr result (Extends (B.octets target.old) (B.octets target.new)) }
 {
     for key in 0..65536_u32 {
@@ -95,6 +102,7 @@ fn append_set<B: OctetsBuilder>(keys: &TypeSet, target: &mut B) -> Result<(), Sh
 /// Appends the keys that names apart by commas spell, in ascending order.
 fn append_keys<B: OctetsBuilder>(text: &[u8], target: &mut B) -> Result<(), ParamError>
     ensures ok { OnOk result (Gains (SpellsKeys text.now) (B.octets target.old) (B.octets target.new)) }
+    ensures err { IfErr result (RefusesSpelled B.room (SpellsKeys text.now) KeysReason (B.octets target.old)) }
     ensures extends { OnErr result (Extends (B.octets target.old) (B.octets target.new)) }
 {
     let mut keys = TypeSet::new();
@@ -105,7 +113,8 @@ fn append_keys<B: OctetsBuilder>(text: &[u8], target: &mut B) -> Result<(), Para
 
 /// Refuses a value.
 fn take_nothing(text: &[u8]) -> Result<(), ParamError>
-    ensures { OnOk result (text.now ≡ []) }
+    ensures ok { OnOk result (text.now ≡ []) }
+    ensures err { IfErr result (λ e. (e ≡ NoValue) × (text.now ≢ [])) }
 {
     if text.is_empty() {
         Ok(())
@@ -121,6 +130,7 @@ pub(crate) fn append_value<B: OctetsBuilder>(
     target: &mut B,
 ) -> Result<(), ParamError>
     ensures ok { OnOk result (Gains (SpellsValue kind text.now) (B.octets target.old) (B.octets target.new)) }
+    ensures err { IfErr result (RefusesSpelled B.room (SpellsValue kind text.now) (ValueReason kind text.now) (B.octets target.old)) }
     ensures extends { OnErr result (Extends (B.octets target.old) (B.octets target.new)) }
 {
     match kind {
