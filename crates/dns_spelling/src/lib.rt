@@ -19,7 +19,7 @@ pub use error::SpellingError;
 pub use name_text::NameText;
 pub use names::append_name;
 pub use quoted::QuotedOctets;
-pub use spelled::append_spelled;
+pub use spelled::{Spelled, append_spelled, first_spelled};
 pub use strings::{append_string, string_width};
 pub use tags::{TagText, append_tag, tag_width};
 pub use widths::name_width;

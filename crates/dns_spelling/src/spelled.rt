@@ -12,9 +12,9 @@ use dns_octets::OctetsBuilder;
 
 /// An octet that is spelled in front of a text, and the text after it.
 #[derive(Clone, Copy)]
-pub(crate) struct Spelled<'a> {
-    pub(crate) octet: u8,
-    pub(crate) rest: &'a [u8],
+pub struct Spelled<'a> {
+    pub octet: u8,
+    pub rest: &'a [u8],
 }
 
 /// The number of three decimal digits, up to 255.
@@ -35,8 +35,8 @@ fn octet_of_digits(hundreds: u8, tens: u8, ones: u8) -> Option<u8>
     Some(number as u8)
 }
 
-/// The octet that is spelled in front of a text.
-pub(crate) fn first_spelled(text: &[u8]) -> Result<Spelled<'_>, SpellingError>
+/// The octet that is spelled in front of a text, which is not empty.
+pub fn first_spelled(text: &[u8]) -> Result<Spelled<'_>, SpellingError>
     requires { 0 < length text.now }
     ensures { MatchResult result (λ s. SpellsFront text.now (s.octet ∷ []) s.rest.now) (λ e. (e ≡ BadEscape) × BeginsBadEscape text.now) }
 {

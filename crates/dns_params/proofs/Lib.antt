@@ -1,0 +1,11 @@
+pub mod KeyNames
+pub mod Apart
+pub mod KeySets
+pub mod ListTexts
+pub mod ParamParts
+pub mod Params
+pub mod ShownItems
+pub mod Refusals
+pub mod KeyRefusals
+pub mod ValueRefusals
+pub mod ListRefusals

@@ -1,0 +1,17 @@
+use Rattle.std.proofs.Common.{refl}
+use Rattle.std.proofs.lemmas.Result.{err_from_is_err_and}
+use Rattle.dns_params.proofs.KeySets.{keys_begin, keys_next}
+use Rattle.dns_params.proofs.KeyRefusals.{keys_lack}
+use Rattle.dns_params.proofs.values.append_set.Goals as goal
+
+pub loop-key-init : goal.loop-key-init
+loop-key-init g c = keys_begin c.args.keys.now (g.B.AsOctets.octets c.args.target.now)
+
+pub loop-key-preserved : goal.loop-key-preserved
+loop-key-preserved g c =
+    keys_next c.args.keys.now (g.B.AsOctets.octets c.args.target.now) (g.B.AsOctets.octets c.loop-key.target) (g.B.AsOctets.octets c.append_if.new.target) c.loop-key.key c.loop-key.invariant c.in_ok-append_if.ensures.ok
+
+pub returns-in_err-append_if-clause-lacks : goal.returns-in_err-append_if-clause-lacks
+returns-in_err-append_if-clause-lacks g c =
+    let p = err_from_is_err_and c.from_residual.result c.from_residual.ensures.1 in
+    rw p.1 (keys_lack c.args.keys.now (g.B.AsOctets.octets c.args.target.now) (g.B.AsOctets.octets c.loop-key.target) g.B.OctetsBuilder.room.fits c.loop-key.key c.loop-key.invariant c.loop-key-test.true (c.in_err-append_if.ensures.lacks _ refl))

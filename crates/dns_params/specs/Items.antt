@@ -1,0 +1,24 @@
+-- Texts apart by commas.
+use Rattle.std.specs.Prelude.{◌≡◌, ◌≢◌, ℕ, ◌<◌, List, [], ◌∷◌, ◌++◌, length, All, slice_index, Option, Some, None}
+use Rattle.std.specs.List.{flat_map, AllZip}
+
+-- a text has no such mark
+abbrev pub IsWithout : ℕ → List ℕ → Type 0
+IsWithout mark text = (k : ℕ) → k < length text → slice_index text k ≢ mark
+
+-- each with a comma behind it
+abbrev pub with_commas : List (List ℕ) → List ℕ
+with_commas = flat_map (λ item. item ++ 44 ∷ [])
+
+-- a text, and a comma behind it, are texts that have none, each with a comma behind it; each of
+-- them spells one of the values
+pub record SpellsApart {V : Type 0} (spells : List ℕ → V → Type 0) (text : List ℕ) (values : List V) : Type 0 where
+  pub texts : List (List ℕ)
+  pub apart : All (IsWithout 44) texts
+  pub whole : text ++ 44 ∷ [] ≡ with_commas texts
+  pub each : AllZip spells texts values
+
+-- what is left of a text, with a comma behind it
+abbrev pub left_text : Option (List ℕ) → List ℕ
+left_text None = []
+left_text (Some rest) = rest ++ 44 ∷ []

@@ -1,0 +1,10 @@
+pub mod ParamError
+pub mod Items
+pub mod Keys
+pub mod ParamValues
+pub mod ParamTokens
+pub mod ParamSteps
+pub mod ParamRefusals
+pub mod ListItems
+pub mod ShownParams
+pub mod Rows

@@ -1,0 +1,41 @@
+-- A list's text behind the escapes of a token.
+use Rattle.std.specs.Prelude.{ℕ, ◌≡◌, ◌≢◌, ◌+◌, ◌<◌, ◌⊎◌, true, List, [], ◌∷◌, ◌++◌, length}
+use Rattle.dns_octets.specs.Room.{Room}
+use Rattle.dns_spelling.specs.Spelling.{SpellsFront, SpellsOctetList}
+use Rattle.dns_lists.specs.Texts.{is_special, item_text, IsItem}
+use Rattle.dns_params.specs.declared.error.ParamError.{ParamError}
+use Rattle.dns_params.specs.declared.error.ParamError.TheVariants.{ShortBuf}
+use Rattle.dns_params.specs.ParamRefusals.{StringsReason}
+
+-- a text is at its end, or spells a comma in front
+abbrev pub EndsAtComma : List ℕ → Type 0
+EndsAtComma text = (text ≡ []) ⊎ ((rest : List ℕ) × SpellsFront text (44 ∷ []) rest)
+
+-- an octet that stands behind a backslash is not in front
+abbrev pub BeginsUnspecial : List ℕ → Type 0
+BeginsUnspecial list = (o : ℕ) (more : List ℕ) → is_special o ≡ true → list ≢ o ∷ more
+
+-- a backslash that escapes nothing is in front
+abbrev pub BeginsBadItem : List ℕ → Type 0
+BeginsBadItem list = (rest : List ℕ) × (list ≡ 92 ∷ rest) × BeginsUnspecial rest
+
+-- a list goes on to its next item, or is at its end
+abbrev pub GoesOnToItem : List ℕ → Type 0
+GoesOnToItem rest = (rest ≡ []) ⊎ ((more : List ℕ) × (rest ≡ 44 ∷ more))
+
+-- a list begins with an item
+abbrev pub BeginsItem : List ℕ → List ℕ → List ℕ → Type 0
+BeginsItem list item rest = IsItem item × GoesOnToItem rest × (list ≡ item_text item ++ rest)
+
+-- what holds of each list that a text spells
+abbrev pub EachList : List ℕ → (List ℕ → Type 0) → Type 0
+EachList text P = (list : List ℕ) → SpellsOctetList text list → P list
+
+abbrev pub BeginsNoItem : List ℕ → Type 0
+BeginsNoItem list = (item rest : List ℕ) → BeginsItem list item rest → ⊥
+
+-- the item in front doesn't surely fit behind its length; or there is none
+abbrev pub RefusesItem : Room → List ℕ → List ℕ → ParamError → Type 0
+RefusesItem room text old e =
+    ((e ≡ ShortBuf) × EachList text (λ list. (item rest : List ℕ) → BeginsItem list item rest → room.fits < length old + length (length item ∷ item)))
+    ⊎ (StringsReason e × EachList text BeginsNoItem)

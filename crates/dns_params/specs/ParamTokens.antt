@@ -1,0 +1,62 @@
+-- Service parameters of the tokens of an entry (RFC 9460 section 2.1).
+use Rattle.std.specs.Prelude.{ℕ, ◌≡◌, ◌≢◌, ◌⊎◌, true, false, List, [], ◌∷◌, ◌++◌}
+use Rattle.std.specs.List.{AllPairs}
+use Rattle.dns_split.specs.EntryTokens.{TokenSeen}
+use Rattle.dns_lists.specs.Params.{params_wire, HasFittingValues}
+use Rattle.dns_lists.specs.ParamsFaults.{AreRightParams}
+use Rattle.dns_params.specs.Items.{IsWithout}
+use Rattle.dns_params.specs.Keys.{NamesKey}
+use Rattle.dns_params.specs.ParamValues.{SpellsValue}
+use Rattle.dns_params.specs.declared.keys.ValueKind.{ValueKind}
+
+-- the text of a key and that of a value spell a key and octets
+abbrev pub SpellsParam : List ℕ → List ℕ → ℕ × List ℕ → Type 0
+SpellsParam name value p = (kind : ValueKind) × NamesKey name p.0 kind × SpellsValue kind value p.1
+
+-- a word that is a key alone, whose value is empty; or a key, an equals sign, and a value
+abbrev pub SplitsWord : List ℕ → List ℕ → List ℕ → Type 0
+SplitsWord word name value = IsWithout 61 name × (((word ≡ name) × (value ≡ [])) ⊎ (word ≡ name ++ 61 ∷ value))
+
+-- a word that ends in its first equals sign
+abbrev pub IsOpenWord : List ℕ → List ℕ → Type 0
+IsOpenWord word name = IsWithout 61 name × (word ≡ name ++ 61 ∷ [])
+
+-- a word that does not touch the token before it
+abbrev pub StandsApart : TokenSeen → Type 0
+StandsApart t = (t.is_quoted ≡ false) × (t.is_glued ≡ false)
+
+-- a quoted text that touches the token before it
+abbrev pub IsGluedText : TokenSeen → Type 0
+IsGluedText t = (t.is_quoted ≡ true) × (t.is_glued ≡ true)
+
+-- the tokens behind a word: none of them is its value; or its value is a quoted text that touches it
+abbrev pub SplitsValue : TokenSeen → List TokenSeen → List ℕ → List ℕ → List TokenSeen → Type 0
+SplitsValue t tokens name value rest =
+    (SplitsWord t.text name value × (rest ≡ tokens))
+    ⊎ (IsOpenWord t.text name × ((q : TokenSeen) × IsGluedText q × (tokens ≡ q ∷ rest) × (value ≡ q.text)))
+
+-- the tokens in front that are one parameter, and those behind it
+abbrev pub SplitsParam : List TokenSeen → List ℕ → List ℕ → List TokenSeen → Type 0
+SplitsParam [] name value rest = ⊥
+SplitsParam (t ∷ tokens) name value rest = StandsApart t × SplitsValue t tokens name value rest
+
+pub record SpellsFrontParam (tokens : List TokenSeen) (p : ℕ × List ℕ) (rest : List TokenSeen) : Type 0 where
+  pub name : List ℕ
+  pub value : List ℕ
+  pub split : SplitsParam tokens name value rest
+  pub spelled : SpellsParam name value p
+
+-- the tokens in front are these parameters, one after another
+abbrev pub SpellsFrontParams : List TokenSeen → List (ℕ × List ℕ) → List TokenSeen → Type 0
+SpellsFrontParams tokens [] rest = tokens ≡ rest
+SpellsFrontParams tokens (p ∷ params) rest = (middle : List TokenSeen) × SpellsFrontParam tokens p middle × SpellsFrontParams middle params rest
+
+-- Tokens spell parameters in any order, each key once. On the wire they stand in the order of their
+-- keys, and each value is what its key asks for beside the others.
+pub record SpellsParams (tokens : List TokenSeen) (octets : List ℕ) : Type 0 where
+  pub params : List (ℕ × List ℕ)
+  pub spelled : SpellsFrontParams tokens params []
+  pub once : AllPairs (λ p q. p.0 ≢ q.0) params
+  pub fitting : HasFittingValues params
+  pub whole : octets ≡ params_wire params
+  pub right : AreRightParams octets

@@ -1,0 +1,30 @@
+//! Texts apart by commas.
+ghost use Rattle.std.specs.Prelude.{◌≡◌, ◌∷◌, ◌++◌, MatchOption};
+ghost use Rattle.std.specs.Option.{option_copied};
+ghost use Rattle.dns_params.specs.Items.{IsWithout};
+
+/// A text before a mark and behind it.
+#[derive(Clone, Copy)]
+pub(crate) struct Split<'a> {
+    pub(crate) before: &'a [u8],
+    pub(crate) behind: Option<&'a [u8]>,
+}
+
+/// A text up to the first such mark, and what stands behind it.
+pub(crate) fn split_first(text: &[u8], mark: u8) -> Split<'_>
+    ensures without { IsWithout mark result.before.now }
+    ensures split { MatchOption (option_copied result.behind) (text.now ≡ result.before.now) (λ behind. text.now ≡ result.before.now ++ mark ∷ behind) }
+{
+    for (index, octet) in text.iter().enumerate() {
+        if *octet == mark {
+            return Split {
+                before: &text[..index],
+                behind: Some(&text[index + 1..]),
+            };
+        }
+    }
+    Split {
+        before: text,
+        behind: None,
+    }
+}

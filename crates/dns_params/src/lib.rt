@@ -1,0 +1,18 @@
+//! The service parameters of SVCB and HTTPS records (RFC 9460 sections 2.1, 7 and 8, RFC 9461
+//! section 5): from the tokens of an entry to octets on the wire, and back to text.
+#![tactic(auto)]
+
+pub mod error;
+mod items;
+pub mod keys;
+pub mod shown;
+mod strings;
+pub mod taking;
+mod values;
+
+pub use error::ParamError;
+pub use shown::{KeyText, ParamText};
+pub use taking::{ParamRefusal, take_params};
+
+#[cfg(test)]
+mod tests;

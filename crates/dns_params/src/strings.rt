@@ -1,0 +1,126 @@
+//! The list of strings that `alpn` holds (RFC 9460 appendix A.1), behind the escapes of a token.
+//!
+//! A text is read in both layers at once: each octet that the token spells is a comma, a backslash
+//! or another octet of the list's text. So what is kept is one item, of at most 255 octets, and
+//! the target has room for nothing but the list on the wire.
+ghost use Rattle.std.specs.Prelude.{◌≡◌, ℕ, ◌<◌, true, ◌∷◌, ◌++◌, [], List, length, IfOk, IfErr, OnOk, OnErr, MatchOption};
+ghost use Rattle.dns_octets.specs.Appending.{Extends, Gains};
+ghost use Rattle.dns_spelling.specs.Spelling.{SpellsFront};
+ghost use Rattle.dns_lists.specs.Texts.{IsItem, is_special, item_octet, item_text};
+ghost use Rattle.dns_params.specs.ListItems.{EndsAtComma, EachList, BeginsUnspecial, BeginsBadItem, BeginsNoItem, RefusesItem};
+ghost use Rattle.dns_params.specs.ParamRefusals.{RefusesSpelled, StringsReason};
+ghost use Rattle.dns_params.specs.ParamValues.{SpellsStrings};
+
+use crate::error::ParamError;
+use arrayvec::ArrayVec;
+use dns_lists::ListError;
+use dns_octets::OctetsBuilder;
+use dns_spelling::first_spelled;
+
+/// The most octets of an item.
+const MOST: usize = 255;
+
+/// An octet of an item, and the text after it.
+#[derive(Clone, Copy)]
+struct ItemOctet<'a> {
+    octet: u8,
+    rest: &'a [u8],
+}
+
+/// Whether an octet stands behind a backslash in an item.
+pub(crate) fn is_escaped(octet: u8) -> bool
+    ensures { result ≡ is_special octet }
+{
+    octet == b',' || octet == b'\\'
+}
+
+/// The octet of an item behind a backslash in front of it.
+fn behind_backslash(text: &[u8]) -> Result<ItemOctet<'_>, ParamError>
+    ensures ok { IfOk result (λ o. SpellsFront (text.now) (o.octet ∷ []) o.rest.now × (is_special o.octet ≡ true)) }
+    ensures err { IfErr result (λ e. StringsReason e × EachList text.now BeginsUnspecial) }
+{
+    if text.is_empty() {
+        return Err(ParamError::List(ListError::Escape));
+    }
+    let second = first_spelled(text)?;
+    if !is_escaped(second.octet) {
+        return Err(ParamError::List(ListError::Escape));
+    }
+    Ok(ItemOctet {
+        octet: second.octet,
+        rest: second.rest,
+    })
+}
+
+/// The octet of an item in front of a text: none at a comma and at the end.
+fn first_of_item(text: &[u8]) -> Result<Option<ItemOctet<'_>>, ParamError>
+    ensures ok { IfOk result (λ first. MatchOption first (EndsAtComma text.now) (λ o. SpellsFront text.now (item_octet o.octet) o.rest.now)) }
+    ensures err { IfErr result (λ e. StringsReason e × EachList text.now BeginsBadItem) }
+{
+    if text.is_empty() {
+        return Ok(None);
+    }
+    let first = first_spelled(text)?;
+    if first.octet == b',' {
+        return Ok(None);
+    }
+    if first.octet == b'\\' {
+        let escaped = behind_backslash(first.rest)?;
+        return Ok(Some(escaped));
+    }
+    Ok(Some(ItemOctet {
+        octet: first.octet,
+        rest: first.rest,
+    }))
+}
+
+/// Reads the item in front of a text, and gives what stands after it.
+fn read_item<'a>(text: &'a [u8], item: &mut ArrayVec<u8, MOST>) -> Result<&'a [u8], ParamError>
+    requires { item.old.items ≡ [] }
+    ensures ok { IfOk result (λ rest. IsItem item.new.items × SpellsFront text.now (item_text item.new.items) rest.now × EndsAtComma rest.now) }
+    ensures err { IfErr result (λ e. StringsReason e × EachList text.now BeginsNoItem) }
+{
+    let mut rest = text;
+    while let Some(first) = first_of_item(rest)? {
+        let Ok(()) = item.try_push(first.octet) else {
+            return Err(ParamError::List(ListError::Length));
+        };
+        rest = first.rest;
+    }
+    let count = item.len();
+    if count == 0 {
+        return Err(ParamError::List(ListError::Length));
+    }
+    Ok(rest)
+}
+
+/// Appends the item in front of a text behind its length, and gives what stands after it.
+fn append_item<'a, B: OctetsBuilder>(text: &'a [u8], target: &mut B) -> Result<&'a [u8], ParamError>
+    ensures ok { IfOk result (λ rest. (item : List ℕ) × IsItem item × SpellsFront text.now (item_text item) rest.now × EndsAtComma rest.now
+        × (B.octets target.new ≡ B.octets target.old ++ (length item ∷ item))) }
+    ensures err { IfErr result (RefusesItem B.room text.now (B.octets target.old)) }
+    ensures extends { OnErr result (Extends (B.octets target.old) (B.octets target.new)) }
+{
+    let mut item = ArrayVec::new();
+    let rest = read_item(text, &mut item)?;
+    target.append_slice(&[item.len() as u8])?;
+    target.append_slice(item.as_slice())?;
+    Ok(rest)
+}
+
+/// Appends the strings of a list, each behind its length.
+pub(crate) fn append_strings<B: OctetsBuilder>(
+    text: &[u8],
+    target: &mut B,
+) -> Result<(), ParamError>
+    ensures ok { OnOk result (Gains (SpellsStrings text.now) (B.octets target.old) (B.octets target.new)) }
+    ensures err { IfErr result (RefusesSpelled B.room (SpellsStrings text.now) StringsReason (B.octets target.old)) }
+    ensures extends { OnErr result (Extends (B.octets target.old) (B.octets target.new)) }
+{
+    let mut rest = append_item(text, target)?;
+    while !rest.is_empty() {
+        let comma = first_spelled(rest)?;
+        rest = append_item(comma.rest, target)?;
+    }
+    Ok(())
+}

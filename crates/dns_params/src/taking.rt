@@ -1,0 +1,181 @@
+//! Parameters of the tokens of an entry.
+ghost use Rattle.std.specs.Prelude.{◌≡◌, ◌≢◌, ℕ, ◌+◌, ◌≤◌, ◌<◌, List, [], ◌∷◌, ◌++◌, IfOk, IfErr, OnOk, OnErr, length};
+ghost use Rattle.std.specs.Int.{w16, to_be_bytes};
+ghost use Rattle.dns_octets.specs.Appending.{Extends, Gains};
+ghost use Rattle.dns_split.specs.EntryTokens.{token_seen};
+ghost use Rattle.dns_lists.specs.Params.{params_wire, value_at, HasFittingValues, IsUnsettled};
+ghost use Rattle.dns_params.specs.ParamTokens.{SpellsFrontParam, SpellsParams};
+ghost use Rattle.dns_params.specs.ParamSteps.{ReadsWord, TakesWord, TakesQuoted, SettlesBehind, GainsParam, param_head};
+
+use crate::error::ParamError;
+use crate::items::split_first;
+use crate::keys::{SpelledKey, ValueKind, key_from_text};
+use crate::values::append_value;
+use dns_fields::TokenSource;
+use dns_lists::{SettleError, check_params, settle_last};
+use dns_octets::{AsOctetsMut, OctetsBuilder, ShortBuf};
+use dns_split::entry_tokens::EntryToken;
+
+/// A parameter that is refused, by the place of its first token, and why. Where the parameters
+/// together are refused, the place is the entry's end.
+#[derive(Clone, Copy, Debug, PartialEq, Eq)]
+pub struct ParamRefusal {
+    pub at: usize,
+    pub why: ParamError,
+}
+
+/// What a word says of a parameter: its key, and the text of its value, or none where the word ends
+/// in the equals sign.
+#[derive(Clone, Copy)]
+pub(crate) struct ParamWord<'a> {
+    pub(crate) key: SpelledKey,
+    pub(crate) value: Option<&'a [u8]>,
+}
+
+/// What a word says of a parameter.
+fn read_word<'a>(token: &EntryToken<'a>) -> Result<ParamWord<'a>, ParamError>
+    ensures ok { IfOk result (ReadsWord (token_seen token.now)) }
+{
+    if token.is_glued {
+        return Err(ParamError::Glued);
+    }
+    if token.is_quoted {
+        return Err(ParamError::Quoted);
+    }
+    let split = split_first(token.text, b'=');
+    let Some(key) = key_from_text(split.before) else {
+        return Err(ParamError::UnknownKey);
+    };
+    let Some(value) = split.behind else {
+        return Ok(ParamWord {
+            key,
+            value: Some(b""),
+        });
+    };
+    if value.is_empty() {
+        return Ok(ParamWord { key, value: None });
+    }
+    Ok(ParamWord {
+        key,
+        value: Some(value),
+    })
+}
+
+/// Appends a key, and two octets for the length of its value.
+fn append_head<B: OctetsBuilder>(key: u16, target: &mut B) -> Result<(), ShortBuf>
+    ensures ok { OnOk result (B.octets target.new ≡ B.octets target.old ++ param_head key) }
+    ensures err { OnErr result (B.octets target.new ≡ B.octets target.old) }
+{
+    let [high, low] = key.to_be_bytes();
+    target.append_slice(&[high, low, 0, 0])
+}
+
+/// Appends the key of a word, two octets, and its value. Where the word ends in the equals sign,
+/// it gives what its value is, and appends none.
+fn take_word<B: OctetsBuilder>(
+    token: &EntryToken<'_>,
+    target: &mut B,
+) -> Result<Option<ValueKind>, ParamError>
+    ensures ok { IfOk result (TakesWord (token_seen token.now) (B.octets target.old) (B.octets target.new)) }
+    ensures extends { OnErr result (Extends (B.octets target.old) (B.octets target.new)) }
+{
+    let word = read_word(token)?;
+    append_head(word.key.code, target)?;
+    let Some(value) = word.value else {
+        return Ok(Some(word.key.kind));
+    };
+    append_value(word.key.kind, value, target)?;
+    Ok(None)
+}
+
+/// Appends the value behind a word that ends in the equals sign: the quoted text that touches it,
+/// or else none.
+fn take_quoted<S: TokenSource, B: OctetsBuilder>(
+    kind: ValueKind,
+    source: &mut S,
+    target: &mut B,
+) -> Result<(), ParamError>
+    ensures ok { OnOk result (TakesQuoted kind (S.left source.old) (S.left source.new) (B.octets target.old) (B.octets target.new)) }
+    ensures extends { OnErr result (Extends (B.octets target.old) (B.octets target.new)) }
+    ensures end { S.end source.new ≡ S.end source.old }
+{
+    match source.current() {
+        Some(token) if token.is_glued && token.is_quoted => {
+            append_value(kind, token.text, target)?;
+        }
+        _ => return append_value(kind, b"", target),
+    }
+    source.advance();
+    Ok(())
+}
+
+/// Brings the parameter at a place to its place among those that begin at `start`, and sets its
+/// length.
+fn settle<B: OctetsBuilder + AsOctetsMut>(
+    start: usize,
+    at: usize,
+    target: &mut B,
+) -> Result<(), SettleError>
+    requires behind { start ≤ at }
+    requires within { at + 4 ≤ length (B.octets target.old) }
+    ensures settled { (base octets : List ℕ) (params : List (ℕ × List ℕ)) (key : ℕ) (value : List ℕ) → HasFittingValues params → key < 65536 → start ≡ length base
+        → at ≡ length base + length (params_wire params) → B.octets target.old ≡ base ++ octets → IsUnsettled params key value octets → SettlesBehind base params key value (B.octets target.new) result }
+    ensures err { OnErr result (B.octets target.new ≡ B.octets target.old) }
+{
+    let octets = target.as_slice_mut();
+    settle_last(&mut octets[start..], at - start)
+}
+
+/// Takes the tokens of a parameter, and settles it among those that begin at `start`.
+fn take_param<S: TokenSource, B: OctetsBuilder + AsOctetsMut>(
+    start: usize,
+    source: &mut S,
+    target: &mut B,
+) -> Result<(), ParamError>
+    requires some { S.left source.old ≢ [] }
+    requires start { start ≤ length (B.octets target.old) }
+    ensures ok { OnOk result ((p : ℕ × List ℕ) × SpellsFrontParam (S.left source.old) p (S.left source.new)
+        × GainsParam p start (B.octets target.old) (B.octets target.new)) }
+    ensures extends { (base octets : List ℕ) → start ≡ length base → B.octets target.old ≡ base ++ octets → OnErr result (Extends base (B.octets target.new)) }
+    ensures end { S.end source.new ≡ S.end source.old }
+{
+    let at = target.as_slice().len();
+    let Some(token) = source.current() else {
+        return Ok(());
+    };
+    let open = take_word(&token, target)?;
+    source.advance();
+    if let Some(kind) = open {
+        take_quoted(kind, source, target)?;
+    }
+    settle(start, at, target)?;
+    Ok(())
+}
+
+/// Takes the parameters that the tokens that are left spell, and appends their octets, in ascending
+/// order of keys.
+pub fn take_params<S: TokenSource, B: OctetsBuilder + AsOctetsMut>(
+    source: &mut S,
+    target: &mut B,
+) -> Result<(), ParamRefusal>
+    ensures ok { OnOk result (Gains (SpellsParams (S.left source.old)) (B.octets target.old) (B.octets target.new)) }
+    ensures taken { OnOk result (S.left source.new ≡ []) }
+    ensures extends { OnErr result (Extends (B.octets target.old) (B.octets target.new)) }
+    ensures end { S.end source.new ≡ S.end source.old }
+{
+    let start = target.as_slice().len();
+    while source.current().is_some() {
+        let at = source.place();
+        if let Err(why) = take_param(start, source, target) {
+            return Err(ParamRefusal { at, why });
+        }
+    }
+    let at = source.place();
+    match check_params(&target.as_slice()[start..]) {
+        Ok(()) => Ok(()),
+        Err(fault) => Err(ParamRefusal {
+            at,
+            why: ParamError::Params(fault),
+        }),
+    }
+}

@@ -1,0 +1,152 @@
+//! Values of parameters (RFC 9460 sections 7 and 8).
+ghost use Rattle.std.specs.Prelude.{◌≡◌, ◌≢◌, ℕ, ◌++◌, [], List, IfErr, OnOk, OnErr, cond};
+ghost use Rattle.std.specs.Int.{w16, to_be_bytes};
+ghost use Rattle.std.specs.List.{AllPairs};
+ghost use Rattle.dns_octets.specs.Appending.{Extends, Gains, LacksRoom};
+ghost use Rattle.dns_fields.specs.Words.{SpellsAs};
+ghost use Rattle.dns_lists.specs.Bitmap.{SameTypes, has};
+ghost use Rattle.dns_params.specs.Items.{SpellsApart};
+ghost use Rattle.dns_params.specs.ParamRefusals.{KeysReason, OfKind, RefusesSpelled, ValueReason};
+ghost use Rattle.dns_params.specs.declared.error.ParamError.TheVariants.{UnexpectedValue as NoValue};
+ghost use Rattle.dns_params.specs.ParamValues.{NamesAKey, SpellsKeys, SpellsValues, SpellsValue, keys_wire};
+
+use crate::error::ParamError;
+use crate::items::split_first;
+use crate::keys::{ValueKind, key_from_text};
+use crate::strings::append_strings;
+use dns_digits::append_base64;
+use dns_fields::Word;
+use dns_kinds::Ipv6Shown;
+use dns_lists::TypeSet;
+use dns_octets::{OctetsBuilder, ShortBuf};
+use dns_spelling::append_spelled;
+use std::net::Ipv4Addr;
+
+/// Appends the value that a word spells.
+fn append_one<W: Word + Drop, B: OctetsBuilder>(
+    text: &[u8],
+    target: &mut B,
+) -> Result<(), ParamError>
+    ensures ok { OnOk result (Gains (SpellsAs W.valid W.spells W.wire text.now) (B.octets target.old) (B.octets target.new)) }
+    ensures err { IfErr result (RefusesSpelled B.room (SpellsAs W.valid W.spells W.wire text.now) (OfKind (W.reason text.now)) (B.octets target.old)) }
+    ensures extends { OnErr result (Extends (B.octets target.old) (B.octets target.new)) }
+{
+    let value = W::from_text(text)?;
+    value.append(target)?;
+    Ok(())
+}
+
+/// Appends the values that words apart by commas spell.
+fn append_each<W: Word + Drop, B: OctetsBuilder>(
+    text: &[u8],
+    target: &mut B,
+) -> Result<(), ParamError>
+    ensures ok { OnOk result (Gains (SpellsValues (SpellsAs W.valid W.spells W.wire) text.now) (B.octets target.old) (B.octets target.new)) }
+    ensures err { IfErr result (RefusesSpelled B.room (SpellsValues (SpellsAs W.valid W.spells W.wire) text.now) (λ e. (item : List ℕ) × OfKind (W.reason item) e) (B.octets target.old)) }
+    ensures extends { OnErr result (Extends (B.octets target.old) (B.octets target.new)) }
+{
+    let mut left = Some(text);
+    while let Some(rest) = left {
+        let split = split_first(rest, b',');
+        append_one::<W, B>(split.before, target)?;
+        left = split.behind;
+    }
+    Ok(())
+}
+
+/// Adds the keys that names apart by commas spell to a set of none.
+fn read_keys(text: &[u8], keys: &mut TypeSet) -> Result<(), ParamError>
+    requires { keys.old ≡ [] }
+    ensures ok { OnOk result ((spelled : List ℕ) × SpellsApart NamesAKey text.now spelled × AllPairs (λ a b. a ≢ b) spelled × SameTypes keys.new spelled) }
+    ensures err { IfErr result (λ e. KeysReason e × ((spelled : List ℕ) → SpellsApart NamesAKey text.now spelled → ¬ AllPairs (λ a b. a ≢ b) spelled)) }
+{
+    let mut left = Some(text);
+    while let Some(rest) = left {
+        let split = split_first(rest, b',');
+        let Some(key) = key_from_text(split.before) else {
+            return Err(ParamError::UnknownKey);
+        };
+        if keys.contains(key.code) {
+            return Err(ParamError::RepeatedKey);
+        }
+        keys.insert(key.code);
+        left = split.behind;
+    }
+    Ok(())
+}
+
+/// Appends a key in two octets if it is in a set.
+fn append_if<B: OctetsBuilder>(keys: &TypeSet, key: u16, target: &mut B) -> Result<(), ShortBuf>
+    ensures ok { OnOk result (B.octets target.new ≡ B.octets target.old ++ cond (has keys.now key) (to_be_bytes w16 key) []) }
+    ensures err { OnErr result (B.octets target.new ≡ B.octets target.old) }
+    ensures lacks { OnErr result (LacksRoom B.room (λ octets. octets ≡ cond (has keys.now key) (to_be_bytes w16 key) []) (B.octets target.old)) }
+{
+    if keys.contains(key) {
+        target.append_slice(&key.to_be_bytes())?;
+    }
+    Ok(())
+}
+
+/// Appends the keys of a set, in ascending order.
+fn append_set<B: OctetsBuilder>(keys: &TypeSet, target: &mut B) -> Result<(), ShortBuf>
+    ensures ok { OnOk result (B.octets target.new ≡ B.octets target.old ++ keys_wire keys.now) }
+    ensures lacks { OnErr result (LacksRoom B.room (λ octets. octets ≡ keys_wire keys.now) (B.octets target.old)) }
+    ensures extends { OnErr result (Extends (B.octets target.old) (B.octets target.new)) }
+{
+    for key in 0..65536_u32 {
+        append_if(keys, key as u16, target)?;
+    }
+    Ok(())
+}
+
+/// Appends the keys that names apart by commas spell, in ascending order.
+fn append_keys<B: OctetsBuilder>(text: &[u8], target: &mut B) -> Result<(), ParamError>
+    ensures ok { OnOk result (Gains (SpellsKeys text.now) (B.octets target.old) (B.octets target.new)) }
+    ensures err { IfErr result (RefusesSpelled B.room (SpellsKeys text.now) KeysReason (B.octets target.old)) }
+    ensures extends { OnErr result (Extends (B.octets target.old) (B.octets target.new)) }
+{
+    let mut keys = TypeSet::new();
+    read_keys(text, &mut keys)?;
+    append_set(&keys, target)?;
+    Ok(())
+}
+
+/// Refuses a value.
+fn take_nothing(text: &[u8]) -> Result<(), ParamError>
+    ensures ok { OnOk result (text.now ≡ []) }
+    ensures err { IfErr result (λ e. (e ≡ NoValue) × (text.now ≢ [])) }
+{
+    if text.is_empty() {
+        Ok(())
+    } else {
+        Err(ParamError::UnexpectedValue)
+    }
+}
+
+/// Appends the octets of a value.
+pub(crate) fn append_value<B: OctetsBuilder>(
+    kind: ValueKind,
+    text: &[u8],
+    target: &mut B,
+) -> Result<(), ParamError>
+    ensures ok { OnOk result (Gains (SpellsValue kind text.now) (B.octets target.old) (B.octets target.new)) }
+    ensures err { IfErr result (RefusesSpelled B.room (SpellsValue kind text.now) (ValueReason kind text.now) (B.octets target.old)) }
+    ensures extends { OnErr result (Extends (B.octets target.old) (B.octets target.new)) }
+{
+    match kind {
+        ValueKind::Keys => append_keys(text, target),
+        ValueKind::Strings => append_strings(text, target),
+        ValueKind::Nothing => take_nothing(text),
+        ValueKind::Port => append_one::<u16, B>(text, target),
+        ValueKind::Ipv4 => append_each::<Ipv4Addr, B>(text, target),
+        ValueKind::Digits => match append_base64(text, target) {
+            Ok(()) => Ok(()),
+            Err(why) => Err(ParamError::from(why)),
+        },
+        ValueKind::Ipv6 => append_each::<Ipv6Shown, B>(text, target),
+        ValueKind::Octets => match append_spelled(text, target) {
+            Ok(()) => Ok(()),
+            Err(why) => Err(ParamError::from(why)),
+        },
+    }
+}
