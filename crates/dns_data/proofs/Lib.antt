@@ -1,7 +1,9 @@
+pub mod DataForms
 pub mod FieldFronts
 pub mod Joinings
 pub mod Namings
 pub mod Reading
+pub mod RestForms
 pub mod Somes
 pub mod Sources
 pub mod Strings

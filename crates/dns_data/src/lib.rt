@@ -4,6 +4,7 @@
 
 pub mod digits;
 pub mod error;
+pub mod laws;
 pub mod rest;
 pub mod shape;
 pub mod texts;
