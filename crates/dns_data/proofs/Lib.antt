@@ -1,9 +1,11 @@
 pub mod GenericLaws
+pub mod DataForms
 pub mod FieldFronts
 pub mod Joinings
 pub mod LocationLemmas
 pub mod Namings
 pub mod Reading
+pub mod RestForms
 pub mod Somes
 pub mod Sources
 pub mod Strings

@@ -7,6 +7,7 @@ pub mod digits;
 pub mod error;
 pub mod generic;
 mod locations;
+pub mod laws;
 pub mod rest;
 pub mod shape;
 pub mod texts;
