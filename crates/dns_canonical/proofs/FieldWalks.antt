@@ -10,7 +10,7 @@ use Rattle.dns_spelling.specs.Forms.{FindsWidth}
 use Rattle.dns_fields.specs.declared.field.Field.{Field}
 use Rattle.dns_fields.specs.declared.field.Field.TheVariants.{Name as OfName}
 use Rattle.dns_fields.proofs.FormLaws.{fields_are_forms}
-use Rattle.dns_canonical.specs.FieldForms.{canonical_field, IsFieldWire, BeginsWithFields, CanonicalFields}
+use Rattle.dns_canonical.specs.FieldForms.{canonical_field, IsFieldWire, StartsWithFields, CanonicalFields}
 use Rattle.dns_canonical.proofs.LoweredNames.{length_lowered, lowered_again, lowered_name}
 
 pub length_canonical : (f : Field) (octets : List ℕ) → length (canonical_field f octets) ≡ length octets
@@ -51,11 +51,11 @@ forms_again [] octets form h = refl
 forms_again (f ∷ fs) octets form h =
     (canonical_field f h.0, h.2, h.2, canonical_wire f h.0 h.3, h.5, h.5 ∙ ap (λ p. p ++ h.2) (sym (canonical_again f h.0)), forms_again fs h.1 h.2 h.6)
 
-pub forms_some : (fields : List Field) (octets : List ℕ) → BeginsWithFields fields octets → (form : List ℕ) × CanonicalFields fields octets form
+pub forms_some : (fields : List Field) (octets : List ℕ) → StartsWithFields fields octets → (form : List ℕ) × CanonicalFields fields octets form
 forms_some [] octets h = (octets, refl)
 forms_some (f ∷ fs) octets h = let more = forms_some fs h.1 h.4 in (canonical_field f h.0 ++ more.0, (h.0, h.1, more.0, h.2, h.3, refl, more.1))
 
-pub forms_begin : (fields : List Field) (octets form : List ℕ) → CanonicalFields fields octets form → BeginsWithFields fields octets
+pub forms_begin : (fields : List Field) (octets form : List ℕ) → CanonicalFields fields octets form → StartsWithFields fields octets
 forms_begin [] octets form h = tt
 forms_begin (f ∷ fs) octets form h = (h.0, h.1, h.3, h.4, forms_begin fs h.1 h.2 h.6)
 
@@ -88,7 +88,7 @@ pub record FieldWalk (fields left : List Field) (octets rest old new : List ℕ)
   pub done : List ℕ
   pub gained : new ≡ old ++ done
   pub forms : (others : List ℕ) → CanonicalFields left rest others → CanonicalFields fields octets (done ++ others)
-  pub fronts : BeginsWithFields fields octets → BeginsWithFields left rest
+  pub fronts : StartsWithFields fields octets → StartsWithFields left rest
   pub long : length octets ≡ length done + length rest
 
 pub fields_none : (fields : List Field) (octets old : List ℕ) → FieldWalk fields fields octets octets old old
@@ -107,7 +107,7 @@ fields_more fields left f octets rest old middle new width count w found gained 
       gained = gained ∙ ap (λ t. t ++ canonical_field f part) w.gained ∙ append_assoc old w.done (canonical_field f part);
       forms = λ others h. subst (CanonicalFields fields octets) (sym (append_assoc w.done (canonical_field f part) others))
           (w.forms (canonical_field f part ++ others) (part, after, others, found.1, whole, refl, h));
-      fronts = λ h. let k = w.fronts h in subst (BeginsWithFields left) (part_same f k.0 part k.1 after k.2 found.1 (sym k.3 ∙ whole)).1 k.4;
+      fronts = λ h. let k = w.fronts h in subst (StartsWithFields left) (part_same f k.0 part k.1 after k.2 found.1 (sym k.3 ∙ whole)).1 k.4;
       long = omega (arith, w.long, ap length whole, length-append part after, length-append w.done (canonical_field f part), length_canonical f part);
     }
 

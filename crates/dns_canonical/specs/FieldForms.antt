@@ -24,9 +24,9 @@ abbrev pub IsFieldWire : Field → List ℕ → Type 0
 IsFieldWire field = (field_form None field).is_wire
 
 -- the octets begin with these fields, one after another
-abbrev pub BeginsWithFields : List Field → List ℕ → Type 0
-BeginsWithFields [] octets = ⊤
-BeginsWithFields (f ∷ fs) octets = (part rest : List ℕ) × IsFieldWire f part × (octets ≡ part ++ rest) × BeginsWithFields fs rest
+abbrev pub StartsWithFields : List Field → List ℕ → Type 0
+StartsWithFields [] octets = ⊤
+StartsWithFields (f ∷ fs) octets = (part rest : List ℕ) × IsFieldWire f part × (octets ≡ part ++ rest) × StartsWithFields fs rest
 
 -- data that begins with these fields, and its canonical form: each field in canonical form, and what
 -- is behind them as it is
@@ -37,5 +37,5 @@ CanonicalFields (f ∷ fs) octets form =
 
 -- why no canonical form was appended: the data doesn't begin with the fields, or the octets don't surely fit
 abbrev pub RefusesFields : Room → List Field → List ℕ → List ℕ → CanonicalError → Type 0
-RefusesFields room fields octets old BadData = BeginsWithFields fields octets → ⊥
+RefusesFields room fields octets old BadData = StartsWithFields fields octets → ⊥
 RefusesFields room fields octets old ShortBuf = LacksRoom room (CanonicalFields fields octets) old

@@ -7,7 +7,7 @@ ghost use Rattle.dns_wire.specs.Order.{lowered_wire};
 ghost use Rattle.dns_wire.specs.Wire.{wire, IsName};
 ghost use Rattle.dns_spelling.specs.NameSpelling.{IsWireName};
 ghost use Rattle.dns_fields.specs.declared.field.Field.{Field};
-ghost use Rattle.dns_canonical.specs.FieldForms.{BeginsWithFields, CanonicalFields};
+ghost use Rattle.dns_canonical.specs.FieldForms.{StartsWithFields, CanonicalFields};
 ghost use Rattle.dns_canonical.specs.Names.{octet_order, name_order};
 ghost use Rattle.dns_canonical.specs.Records.{RecordKey, record_order};
 
@@ -47,10 +47,10 @@ pub fn records_are_ordered()
 /// many octets and is the same but for the case of letters; it begins with these fields, and is its
 /// own canonical form. Octets behind the fields stay.
 pub fn data_has_one_canonical_form()
-    ensures some { (fields : List Field) (octets : List ℕ) → BeginsWithFields fields octets ↔ ((form : List ℕ) × CanonicalFields fields octets form) }
+    ensures some { (fields : List Field) (octets : List ℕ) → StartsWithFields fields octets ↔ ((form : List ℕ) × CanonicalFields fields octets form) }
     ensures one { (fields : List Field) (octets a b : List ℕ) → CanonicalFields fields octets a → CanonicalFields fields octets b → a ≡ b }
     ensures length { (fields : List Field) (octets form : List ℕ) → CanonicalFields fields octets form → length form ≡ length octets }
-    ensures fields { (fields : List Field) (octets form : List ℕ) → CanonicalFields fields octets form → BeginsWithFields fields form }
+    ensures fields { (fields : List Field) (octets form : List ℕ) → CanonicalFields fields octets form → StartsWithFields fields form }
     ensures alike { (fields : List Field) (octets form : List ℕ) → CanonicalFields fields octets form → lowered form ≡ lowered octets }
     ensures behind { (fields : List Field) (octets form more : List ℕ) → CanonicalFields fields octets form
         → CanonicalFields fields (octets ++ more) (form ++ more) }

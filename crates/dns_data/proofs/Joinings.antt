@@ -18,8 +18,8 @@ use Rattle.dns_fields.specs.Errors.{of_digits}
 use Rattle.dns_fields.specs.Source.{next_place}
 use Rattle.dns_fields.specs.declared.error.FieldError.TheVariants.{Quoted}
 use Rattle.dns_split.specs.EntryTokens.{TokenSeen}
-use Rattle.dns_data.specs.Digits.{joined_text, AreUnquoted, SpellsJoined, IsDigitsFault, DigitsReason, digits_form}
-use Rattle.dns_data.specs.Pieces.{PushesToken, RefusesPush, PushesNext}
+use Rattle.dns_data.specs.Digits.{joined_words, AreUnquoted, SpellsJoined, IsDigitsFault, JoinedReason, digits_form}
+use Rattle.dns_data.specs.Pieces.{PushesDigits, RefusesPush, PushesNext}
 use Rattle.dns_data.specs.Rests.{RefusesAs, RefusesRest, TakesRest}
 use Rattle.dns_data.specs.declared.error.DataError.{DataError}
 use Rattle.dns_data.specs.declared.error.DataError.TheVariants.{Field}
@@ -31,15 +31,15 @@ pub record HasJoined (first s : DigitsState) (tokens : List TokenSeen) (old : Li
   pub whole : tokens ≡ before ++ left
   pub unquoted : AreUnquoted before
   pub gained : List ℕ
-  pub pieces : TakesPiece first (joined_text before) gained s
+  pub pieces : TakesPiece first (joined_words before) gained s
   pub octets : new ≡ old ++ gained
 
-joined_parts : (xs ys : List TokenSeen) → joined_text (xs ++ ys) ≡ joined_text xs ++ joined_text ys
+joined_parts : (xs ys : List TokenSeen) → joined_words (xs ++ ys) ≡ joined_words xs ++ joined_words ys
 joined_parts [] ys = refl
-joined_parts (x ∷ xs) ys = ap (λ t. x.text ++ t) (joined_parts xs ys) ∙ sym (append_assoc x.text (joined_text xs) (joined_text ys))
+joined_parts (x ∷ xs) ys = ap (λ t. x.text ++ t) (joined_parts xs ys) ∙ sym (append_assoc x.text (joined_words xs) (joined_words ys))
 
-joined_last : (xs : List TokenSeen) (t : TokenSeen) → joined_text (xs ++ t ∷ []) ≡ joined_text xs ++ t.text
-joined_last xs t = joined_parts xs (t ∷ []) ∙ ap (λ z. joined_text xs ++ z) (append-nil t.text)
+joined_last : (xs : List TokenSeen) (t : TokenSeen) → joined_words (xs ++ t ∷ []) ≡ joined_words xs ++ t.text
+joined_last xs t = joined_parts xs (t ∷ []) ∙ ap (λ z. joined_words xs ++ z) (append-nil t.text)
 
 unquoted_more : (xs : List TokenSeen) (t : TokenSeen) → AreUnquoted xs → t.is_quoted ≡ false → AreUnquoted (xs ++ t ∷ [])
 unquoted_more [] t h plain = (plain, tt)
@@ -53,13 +53,13 @@ pub none_joined : (s : DigitsState) (tokens : List TokenSeen) (old : List ℕ) �
 none_joined s tokens old = record { before = []; whole = refl; unquoted = tt; gained = []; pieces = takes_none s; octets = sym (append-nil old) }
 
 pub more_joined : (first s pushed : DigitsState) (tokens left rest : List TokenSeen) (old middle new : List ℕ) → HasJoined first s tokens old left middle
-    → (t : TokenSeen) × (left ≡ t ∷ rest) × PushesToken s t middle pushed new → HasJoined first pushed tokens old rest new
+    → (t : TokenSeen) × (left ≡ t ∷ rest) × PushesDigits s t middle pushed new → HasJoined first pushed tokens old rest new
 more_joined first s pushed tokens left rest old middle new h k = let t = k.0 in let is = k.1 in let p = k.2 in record {
   before = h.before ++ t ∷ [];
   whole = h.whole ∙ ap (λ l. h.before ++ l) is ∙ sym (append_assoc h.before (t ∷ []) rest);
   unquoted = unquoted_more h.before t h.unquoted p.plain;
   gained = h.gained ++ p.gained;
-  pieces = subst (λ text. TakesPiece first text (h.gained ++ p.gained) pushed) (sym (joined_last h.before t)) (takes_on first s pushed (joined_text h.before) t.text h.gained p.gained h.pieces p.piece);
+  pieces = subst (λ text. TakesPiece first text (h.gained ++ p.gained) pushed) (sym (joined_last h.before t)) (takes_on first s pushed (joined_words h.before) t.text h.gained p.gained h.pieces p.piece);
   octets = p.octets ∙ ap (λ o. o ++ p.gained) h.octets ∙ append_assoc old h.gained p.gained;
 }
 
@@ -67,29 +67,29 @@ module _ (kind : DigitsKind) (first s : DigitsState) (same : first.kind ≡ kind
   kept : s.kind ≡ kind
   kept = h.pieces.kept ∙ same
 
-  read : HasRead s (joined_text h.before) h.gained
-  read = reads_on first s [] [] (joined_text h.before) h.gained fresh h.pieces
+  read : HasRead s (joined_words h.before) h.gained
+  read = reads_on first s [] [] (joined_words h.before) h.gained fresh h.pieces
 
   all_before : left ≡ [] → tokens ≡ h.before
   all_before none = h.whole ∙ ap (λ l. h.before ++ l) none ∙ append-nil h.before
 
   pub all_joined : left ≡ [] → ((text octets : List ℕ) → HasRead s text octets → SpellsDigits (base_of s.kind) text octets) → Gains (SpellsJoined (base_of kind) tokens) old new
   all_joined none spelled =
-      let digits : SpellsDigits (base_of kind) (joined_text h.before) h.gained = subst (λ k. SpellsDigits (base_of k) (joined_text h.before) h.gained) kept (spelled (joined_text h.before) h.gained read) in
+      let digits : SpellsDigits (base_of kind) (joined_words h.before) h.gained = subst (λ k. SpellsDigits (base_of k) (joined_words h.before) h.gained) kept (spelled (joined_words h.before) h.gained read) in
       (h.gained, subst (λ ts. SpellsJoined (base_of kind) ts h.gained) (sym (all_before none)) (h.unquoted, digits), h.octets)
 
   pub ends_within : (room : Room) (begun end at : ℕ) (e : DigitsError) → end ≡ begun → left ≡ [] → at ≡ next_place left end → e ≡ unfinished s.kind
       → ((text octets : List ℕ) → HasRead s text octets → (v : List ℕ) → SpellsDigits (base_of s.kind) text v → ⊥)
       → RefusesRest room (digits_form kind) begun tokens old (record { at = at; why = Field (of_digits e) }) left new
   ends_within room begun end at e ends none place is never =
-      let on = reads_goes_on s (joined_text h.before) h.gained read in
-      let goes : DigitsGoOn kind (joined_text h.before) = subst (λ k. DigitsGoOn k (joined_text h.before)) kept (on.0, h.gained ++ on.1, on.2) in
-      let unspelled : (v : List ℕ) → SpellsDigits (base_of kind) (joined_text h.before) v → ⊥ =
-      subst (λ (k : DigitsKind). (v : List ℕ) → SpellsDigits (base_of k) (joined_text h.before) v → ⊥) kept (never (joined_text h.before) h.gained read) in
+      let on = reads_goes_on s (joined_words h.before) h.gained read in
+      let goes : DigitsGoOn kind (joined_words h.before) = subst (λ k. DigitsGoOn k (joined_words h.before)) kept (on.0, h.gained ++ on.1, on.2) in
+      let unspelled : (v : List ℕ) → SpellsDigits (base_of kind) (joined_words h.before) v → ⊥ =
+      subst (λ (k : DigitsKind). (v : List ℕ) → SpellsDigits (base_of k) (joined_words h.before) v → ⊥) kept (never (joined_words h.before) h.gained read) in
       record {
         at = place ∙ ap (next_place left) ends;
         why = inr (
-            (h.before, h.whole, (h.unquoted, subst (λ l. DigitsReason kind h.before l (Field (of_digits e))) (sym none) (e, refl, inl (is ∙ ap unfinished kept, goes)))),
+            (h.before, h.whole, (h.unquoted, subst (λ l. JoinedReason kind h.before l (Field (of_digits e))) (sym none) (e, refl, inl (is ∙ ap unfinished kept, goes)))),
             λ octets sp. unspelled octets (subst (λ ts. SpellsJoined (base_of kind) ts octets) (all_before none) sp).1,
         );
         extends = (h.gained, h.octets);
@@ -104,14 +104,14 @@ module _ (kind : DigitsKind) (first s : DigitsState) (same : first.kind ≡ kind
   refused_digits : (room : Room) (t : TokenSeen) (ts : List TokenSeen) (d : DigitsError) → left ≡ t ∷ ts → t.is_quoted ≡ false → RefusesPiece room s t.text new d
       → RefusesAs room (digits_form kind) tokens old (t ∷ ts) (Field (of_digits d))
   refused_digits room t ts d is plain r =
-      let text : List ℕ = joined_text h.before ++ t.text in
-      let all : joined_text tokens ≡ text ++ joined_text ts = ap joined_text (h.whole ∙ ap (λ l. h.before ++ l) is) ∙ joined_parts h.before (t ∷ ts) ∙ sym (append_assoc (joined_text h.before) t.text (joined_text ts)) in
-      let behind : RefusesPiece room first text old d = refuses_behind room first s (joined_text h.before) t.text h.gained old new d h.pieces h.octets r in
+      let text : List ℕ = joined_words h.before ++ t.text in
+      let all : joined_words tokens ≡ text ++ joined_words ts = ap joined_words (h.whole ∙ ap (λ l. h.before ++ l) is) ∙ joined_parts h.before (t ∷ ts) ∙ sym (append_assoc (joined_words h.before) t.text (joined_words ts)) in
+      let behind : RefusesPiece room first text old d = refuses_behind room first s (joined_words h.before) t.text h.gained old new d h.pieces h.octets r in
       let token : RefusesToken kind room text old d = token_refused room first text old d fresh behind kind same in
       let only : (octets : List ℕ) → SpellsJoined (base_of kind) tokens octets → (d ≡ ShortBuf) × ((later : List ℕ) × (octets ≡ [] ++ later) × (room.fits < length old + length later)) =
       λ octets sp. (
-        let digits : SpellsDigits (base_of first.kind) (text ++ joined_text ts) octets = subst (λ k. SpellsDigits (base_of k) (text ++ joined_text ts) octets) (sym same) (subst (λ z. SpellsDigits (base_of kind) z octets) all sp.1) in
-        only_room room first [] text (joined_text ts) octets [] old d digits fresh behind
+        let digits : SpellsDigits (base_of first.kind) (text ++ joined_words ts) octets = subst (λ k. SpellsDigits (base_of k) (text ++ joined_words ts) octets) (sym same) (subst (λ z. SpellsDigits (base_of kind) z octets) all sp.1) in
+        only_room room first [] text (joined_words ts) octets [] old d digits fresh behind
         ) in
       elim (is_short d) [
         | inl short ↦ inl (ap (λ e. Field (of_digits e)) short, λ octets sp. (let lacks = (only octets sp).1 in subst (λ (o : List ℕ). room.fits < length old + length o) (sym lacks.1) lacks.2))
@@ -144,4 +144,4 @@ module _ (kind : DigitsKind) (first s : DigitsState) (same : first.kind ≡ kind
       }
 
 pub joined_once : (kind : DigitsKind) (tokens : List TokenSeen) (a b : List ℕ) → SpellsJoined (base_of kind) tokens a → SpellsJoined (base_of kind) tokens b → a ≡ b
-joined_once kind tokens a b h k = spells_once (base_of kind) (known kind) (joined_text tokens) a b h.1 k.1
+joined_once kind tokens a b h k = spells_once (base_of kind) (known kind) (joined_words tokens) a b h.1 k.1

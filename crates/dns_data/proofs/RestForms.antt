@@ -14,7 +14,8 @@ use Rattle.dns_data.specs.RestLaws.{HoldOctets, IsRestForm, AreRestForms}
 use Rattle.dns_data.specs.Texts.{AreText}
 use Rattle.dns_data.specs.TypeLists.{NameTypes, types_form}
 use Rattle.dns_data.specs.declared.rest.Rest.{Rest}
-use Rattle.dns_data.specs.declared.rest.Rest.TheVariants.{Nothing, Strings, Hex, Base64, Types, SomeTypes, Text, QuotedText}
+use Rattle.dns_data.specs.declared.rest.Rest.TheVariants.{Nothing, Strings, Hex, Base64, Types, SomeTypes, Text, QuotedText, Location as OfLocation}
+use Rattle.dns_places.proofs.LocationLaws.{locations_are_read}
 use Rattle.dns_data.proofs.Reading.{rest_once}
 use Rattle.dns_data.proofs.WireStrings.{no_strings, string_before}
 
@@ -48,6 +49,7 @@ rest_is_wire origin is Types tokens octets h k = types_are_wire tokens octets k
 rest_is_wire origin is SomeTypes tokens octets h k = (types_are_wire tokens octets k.0, k.1)
 rest_is_wire origin is Text tokens octets h k = text_is_wire false tokens octets h k
 rest_is_wire origin is QuotedText tokens octets h k = text_is_wire true tokens octets h k
+rest_is_wire origin is OfLocation tokens octets h k = locations_are_read.valid tokens octets k
 
 pub rests_are_forms : AreRestForms
 rests_are_forms origin is r = record { are_wire = rest_is_wire origin is r; once = rest_once origin r }
@@ -62,3 +64,4 @@ wire_of_rest origin Types octets h = h
 wire_of_rest origin SomeTypes octets h = h
 wire_of_rest origin Text octets h = h
 wire_of_rest origin QuotedText octets h = h
+wire_of_rest origin OfLocation octets h = h

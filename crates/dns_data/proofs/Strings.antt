@@ -12,15 +12,15 @@ use Rattle.dns_fields.specs.declared.taking.Refusal.{Refusal}
 use Rattle.dns_fields.proofs.Refused.{each_only_room, same_field}
 use Rattle.dns_split.specs.EntryTokens.{TokenSeen}
 use Rattle.dns_data.specs.Rests.{RefusesAs, RefusesRest}
-use Rattle.dns_data.specs.RestKinds.{StringsReason, strings_form}
+use Rattle.dns_data.specs.RestKinds.{StringTokensReason, strings_form}
 use Rattle.dns_data.specs.declared.error.DataError.TheVariants.{Field as OfField}
 
-not_short : (before left : List TokenSeen) (e : FieldError) → StringsReason before left (OfField e) → e ≡ ShortBuf → ⊥
+not_short : (before left : List TokenSeen) (e : FieldError) → StringTokensReason before left (OfField e) → e ≡ ShortBuf → ⊥
 not_short before [] e h is = absurd h
 not_short before (t ∷ ts) e h is = let same : e ≡ h.0 = cc h.1 in subst (λ w. StringReason t.is_quoted t.text w) (sym same ∙ is) h.2
 
 module _ (origin : Option (List (List ℕ))) (room : Room) (end : ℕ) (tokens : List TokenSeen) (old : List ℕ) where
-  string_why : (r : Refusal) (before left : List TokenSeen) (middle : List ℕ) → left ≢ [] → RefusesNext origin room OfString left middle r.why → (r.why ≡ ShortBuf) ⊎ StringsReason before left (OfField r.why)
+  string_why : (r : Refusal) (before left : List TokenSeen) (middle : List ℕ) → left ≢ [] → RefusesNext origin room OfString left middle r.why → (r.why ≡ ShortBuf) ⊎ StringTokensReason before left (OfField r.why)
   string_why r before [] middle some h = absurd (some refl)
   string_why r before (t ∷ ts) middle some (inl h) = inl h.0
   string_why r before (t ∷ ts) middle some (inr h) = inr (r.why, refl, h.0)
@@ -33,7 +33,7 @@ module _ (origin : Option (List (List ℕ))) (room : Room) (end : ℕ) (tokens :
       let same = same_field origin h.0 OfString a.field a.is_field in
       let only : (octets : List ℕ) → SpellsEach origin OfString tokens octets → (r.why ≡ ShortBuf) × (room.fits < length old + length octets) =
       λ octets sp. each_only_room origin room OfString end h.0 tokens old r left new octets some a sp in
-      let why : (r.why ≡ ShortBuf) ⊎ StringsReason b.taken left (OfField r.why) = string_why r b.taken left a.middle some (subst (λ f. RefusesNext origin room f left a.middle r.why) (sym same) a.why) in
+      let why : (r.why ≡ ShortBuf) ⊎ StringTokensReason b.taken left (OfField r.why) = string_why r b.taken left a.middle some (subst (λ f. RefusesNext origin room f left a.middle r.why) (sym same) a.why) in
       let refused : RefusesAs room (strings_form origin) tokens old left (OfField r.why) = elim why [
         | inl short ↦ inl (ap OfField short, λ octets sp. (only octets sp).1)
         | inr reason ↦ inr ((b.taken, b.whole, reason), λ octets sp. not_short b.taken left r.why reason (only octets sp).0)

@@ -11,13 +11,13 @@ use Rattle.dns_spelling.specs.declared.error.SpellingError.TheVariants.{BadEscap
 use Rattle.dns_split.specs.EntryTokens.{TokenSeen}
 use Rattle.dns_data.specs.Errors.{no_room}
 use Rattle.dns_data.specs.Rests.{RefusesAs, RefusesRest, TakesRest}
-use Rattle.dns_data.specs.Texts.{AreText, TakesNothing, TextReason, text_form, nothing_form}
+use Rattle.dns_data.specs.Texts.{AreText, TakesNoToken, TextReason, text_form, nothing_form}
 use Rattle.dns_data.specs.declared.error.DataError.{DataError}
 use Rattle.dns_data.specs.declared.error.DataError.TheVariants.{Field, TrailingToken, NotQuoted}
 use Rattle.dns_data.specs.declared.error.DataRefusal.{DataRefusal}
 
 -- nothing is left and nothing gained
-pub nothing_taken : (room : Room) (end : ℕ) (tokens left : List TokenSeen) (old new : List ℕ) (r : Result (Unit {0}) DataRefusal) → new ≡ old → TakesNothing end tokens r left → TakesRest room nothing_form end tokens old r left new
+pub nothing_taken : (room : Room) (end : ℕ) (tokens left : List TokenSeen) (old new : List ℕ) (r : Result (Unit {0}) DataRefusal) → new ≡ old → TakesNoToken end tokens r left → TakesRest room nothing_form end tokens old r left new
 nothing_taken room end tokens left old new (Ok x) is h = (h.1, ([], (h.0, refl), is ∙ sym (append-nil old)))
 nothing_taken room end [] left old new (Err r) is h = absurd h
 nothing_taken room end (t ∷ ts) left old new (Err r) is h = record {
@@ -63,7 +63,7 @@ module _ (wants_quotes : Bool) (room : Room) (end : ℕ) (t : TokenSeen) (tokens
   escape_refused at e new why place extends = at_first at (Field (of_spelling e)) tokens new place refl (spelling_refused e why) extends
 
   pub text_taken : (r : Result (Unit {0}) DataRefusal) (begun : ℕ) (middle left : List TokenSeen) (new : List ℕ) → begun ≡ end → middle ≡ rest → (wants_quotes ≡ true → t.is_quoted ≡ true) → Gains (SpellsOctetList t.text) old new
-      → TakesNothing begun middle r left → TakesRest room (text_form wants_quotes) end tokens old r left new
+      → TakesNoToken begun middle r left → TakesRest room (text_form wants_quotes) end tokens old r left new
   text_taken (Ok x) begun middle left new ends same quotes gains h =
       let one : tokens ≡ t ∷ [] = is ∙ ap (λ l. t ∷ l) (sym same ∙ h.0) in
       (h.1, (gains.0, subst (λ ts. AreText wants_quotes ts gains.0) (sym one) (quotes, gains.1), gains.2))

@@ -37,8 +37,8 @@ abbrev pub SpellsGenericData : Option TypeShape → List TokenSeen → List ℕ 
 SpellsGenericData found tokens octets = SpellsGeneric tokens octets × ((shape : Shape) → HasShape found shape → IsDataOf shape octets)
 
 -- tokens spell data of a type: in the generic form, or else in the type's own
-abbrev pub SpellsType : Option (List (List ℕ)) → ℕ → List TokenSeen → List ℕ → Type 0
-SpellsType origin code tokens octets =
+abbrev pub SpellsTypeData : Option (List (List ℕ)) → ℕ → List TokenSeen → List ℕ → Type 0
+SpellsTypeData origin code tokens octets =
     IsDataType code
     × (SpellsGenericData (shape_of_code code) tokens octets
       ⊎ ((BeginsGeneric tokens → ⊥) × ((shape : Shape) × HasShape (shape_of_code code) shape × SpellsData origin shape tokens octets)))
@@ -64,5 +64,5 @@ RefusesType origin room code end tokens old r left new =
 
 -- all tokens are taken, and the target gained the data that they spell; or they are refused
 abbrev pub ReadsType : Option (List (List ℕ)) → Room → ℕ → ℕ → List TokenSeen → List ℕ → Result (Unit {0}) TypeRefusal → List TokenSeen → List ℕ → Type 0
-ReadsType origin room code end tokens old (Ok _) left new = (left ≡ []) × Gains (SpellsType origin code tokens) old new
+ReadsType origin room code end tokens old (Ok _) left new = (left ≡ []) × Gains (SpellsTypeData origin code tokens) old new
 ReadsType origin room code end tokens old (Err r) left new = RefusesType origin room code end tokens old r left new

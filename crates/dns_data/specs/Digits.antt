@@ -17,16 +17,16 @@ use Rattle.dns_data.specs.declared.error.DataError.{DataError}
 use Rattle.dns_data.specs.declared.error.DataError.TheVariants.{Field}
 
 -- what words hold, one behind the other
-abbrev pub joined_text : List TokenSeen → List ℕ
-joined_text [] = []
-joined_text (t ∷ ts) = t.text ++ joined_text ts
+abbrev pub joined_words : List TokenSeen → List ℕ
+joined_words [] = []
+joined_words (t ∷ ts) = t.text ++ joined_words ts
 
 abbrev pub AreUnquoted : List TokenSeen → Type 0
 AreUnquoted tokens = AllByRecursion (λ t. t.is_quoted ≡ false) tokens
 
 -- words spell octets in digits, wherever these are cut
 abbrev pub SpellsJoined : Base → List TokenSeen → List ℕ → Type 0
-SpellsJoined b tokens octets = AreUnquoted tokens × SpellsDigits b (joined_text tokens) octets
+SpellsJoined b tokens octets = AreUnquoted tokens × SpellsDigits b (joined_words tokens) octets
 
 -- why digits spell no octets: they end within a group; or whatever follows they spell none, and then whether something
 -- stands behind a padded group
@@ -36,11 +36,11 @@ IsDigitsFault kind text e =
     ⊎ ((((e ≡ illegal kind) × (PaddedBefore (base_of kind) text → ⊥)) ⊎ ((e ≡ TrailingBase64) × PaddedBefore (base_of kind) text)) × (DigitsGoOn kind text → ⊥))
 
 -- behind words, why the next token is refused: it is a quoted text; or the digits up to its end have a fault
-abbrev pub DigitsReason : DigitsKind → List TokenSeen → List TokenSeen → DataError → Type 0
-DigitsReason kind before [] e = (d : DigitsError) × (e ≡ Field (of_digits d)) × IsDigitsFault kind (joined_text before) d
-DigitsReason kind before (t ∷ ts) e =
+abbrev pub JoinedReason : DigitsKind → List TokenSeen → List TokenSeen → DataError → Type 0
+JoinedReason kind before [] e = (d : DigitsError) × (e ≡ Field (of_digits d)) × IsDigitsFault kind (joined_words before) d
+JoinedReason kind before (t ∷ ts) e =
     ((e ≡ Field Quoted) × (t.is_quoted ≡ true))
-    ⊎ ((t.is_quoted ≡ false) × ((d : DigitsError) × (e ≡ Field (of_digits d)) × IsDigitsFault kind (joined_text (before ++ t ∷ [])) d))
+    ⊎ ((t.is_quoted ≡ false) × ((d : DigitsError) × (e ≡ Field (of_digits d)) × IsDigitsFault kind (joined_words (before ++ t ∷ [])) d))
 
 -- octets are printed as one word, and none as no word
 abbrev pub printed_digits : Base → List ℕ → List PrintedToken
@@ -51,7 +51,7 @@ printed_digits b (o ∷ os) = record { is_quoted = false; text = encoded b (o �
 abbrev pub digits_form : DigitsKind → RestForm
 digits_form kind = record {
   spells = SpellsJoined (base_of kind);
-  reason = BehindSome (λ before left e. AreUnquoted before × DigitsReason kind before left e);
+  reason = BehindSome (λ before left e. AreUnquoted before × JoinedReason kind before left e);
   is_wire = AreOctetValues;
   printed = printed_digits (base_of kind);
 }

@@ -13,7 +13,7 @@ use Rattle.dns_data.specs.declared.error.DataError.TheVariants.{Field}
 use Rattle.dns_data.specs.declared.error.DataRefusal.{DataRefusal}
 
 -- the next token is pushed as a piece, and the target gained the octets of its groups
-pub record PushesToken (s : DigitsState) (t : TokenSeen) (old : List ℕ) (pushed : DigitsState) (new : List ℕ) : Type 0 where
+pub record PushesDigits (s : DigitsState) (t : TokenSeen) (old : List ℕ) (pushed : DigitsState) (new : List ℕ) : Type 0 where
   pub plain : t.is_quoted ≡ false
   pub gained : List ℕ
   pub piece : TakesPiece s t.text gained pushed
@@ -28,5 +28,5 @@ RefusesPush room s (t ∷ ts) old e =
 
 -- the next token is pushed and taken; or it is refused, and none is taken
 abbrev pub PushesNext : Room → DigitsState → ℕ → List TokenSeen → List ℕ → Result (Unit {0}) DataRefusal → DigitsState → List TokenSeen → List ℕ → Type 0
-PushesNext room s end tokens old (Ok _) pushed left new = (t : TokenSeen) × (tokens ≡ t ∷ left) × PushesToken s t old pushed new
+PushesNext room s end tokens old (Ok _) pushed left new = (t : TokenSeen) × (tokens ≡ t ∷ left) × PushesDigits s t old pushed new
 PushesNext room s end tokens old (Err r) pushed left new = (left ≡ tokens) × (r.at ≡ next_place tokens end) × RefusesPush room s tokens old r.why × Extends old new

@@ -20,9 +20,9 @@ use Rattle.dns_data.specs.declared.rest.Rest.{Rest}
 use Rattle.dns_data.specs.declared.rest.Rest.TheVariants.{Nothing, Strings, Hex, Base64, Types, SomeTypes, Text, QuotedText, Location as OfLocation}
 
 -- why the next token is no character string
-abbrev pub StringsReason : List TokenSeen → List TokenSeen → DataError → Type 0
-StringsReason before [] e = ⊥
-StringsReason before (t ∷ ts) e = (why : FieldError) × (e ≡ Field why) × StringReason t.is_quoted t.text why
+abbrev pub StringTokensReason : List TokenSeen → List TokenSeen → DataError → Type 0
+StringTokensReason before [] e = ⊥
+StringTokensReason before (t ∷ ts) e = (why : FieldError) × (e ≡ Field why) × StringReason t.is_quoted t.text why
 
 -- strings behind their lengths, one after another
 abbrev pub strings_wire : List (List ℕ) → List ℕ
@@ -36,21 +36,21 @@ abbrev pub AreCharacterStrings : List ℕ → Type 0
 AreCharacterStrings octets = (strings : List (List ℕ)) × AreShortStrings strings × (octets ≡ strings_wire strings)
 
 -- the strings of so many lengths or fewer
-abbrev pub string_parts : ℕ → List ℕ → List (List ℕ)
-string_parts zero octets = []
-string_parts (suc count) [] = []
-string_parts (suc count) (size ∷ octets) = take size octets ∷ string_parts count (drop size octets)
+abbrev pub strings_in : ℕ → List ℕ → List (List ℕ)
+strings_in zero octets = []
+strings_in (suc count) [] = []
+strings_in (suc count) (size ∷ octets) = take size octets ∷ strings_in count (drop size octets)
 
-abbrev pub strings_of : List ℕ → List (List ℕ)
-strings_of octets = string_parts (length octets) octets
+abbrev pub strings_in_octets : List ℕ → List (List ℕ)
+strings_in_octets octets = strings_in (length octets) octets
 
 -- character strings, any number of them; each is printed in quotes
 abbrev pub strings_form : Option (List (List ℕ)) → RestForm
 strings_form origin = record {
   spells = SpellsEach origin OfString;
-  reason = BehindSome StringsReason;
+  reason = BehindSome StringTokensReason;
   is_wire = AreCharacterStrings;
-  printed = λ octets. map (λ s. record { is_quoted = true; text = text_in_quotes s }) (strings_of octets);
+  printed = λ octets. map (λ s. record { is_quoted = true; text = text_in_quotes s }) (strings_in_octets octets);
 }
 
 -- each kind, where relative names stand before an origin

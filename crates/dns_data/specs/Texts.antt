@@ -12,10 +12,10 @@ use Rattle.dns_data.specs.declared.error.DataError.TheVariants.{Field, TrailingT
 use Rattle.dns_data.specs.declared.error.DataRefusal.{DataRefusal}
 
 -- no token is left, or the next is refused
-abbrev pub TakesNothing : ℕ → List TokenSeen → Result (Unit {0}) DataRefusal → List TokenSeen → Type 0
-TakesNothing end tokens (Ok _) left = (tokens ≡ []) × (left ≡ [])
-TakesNothing end [] (Err r) left = ⊥
-TakesNothing end (t ∷ ts) (Err r) left = (left ≡ t ∷ ts) × (r ≡ record { at = t.at; why = TrailingToken })
+abbrev pub TakesNoToken : ℕ → List TokenSeen → Result (Unit {0}) DataRefusal → List TokenSeen → Type 0
+TakesNoToken end tokens (Ok _) left = (tokens ≡ []) × (left ≡ [])
+TakesNoToken end [] (Err r) left = ⊥
+TakesNoToken end (t ∷ ts) (Err r) left = (left ≡ t ∷ ts) × (r ≡ record { at = t.at; why = TrailingToken })
 
 -- no tokens and no octets
 abbrev pub nothing_form : RestForm

@@ -1,7 +1,7 @@
 //! Text of any length, which stands at the end of an entry as one token.
 ghost use Rattle.std.specs.Prelude.{◌≡◌};
 ghost use Rattle.dns_data.specs.Rests.{TakesRest};
-ghost use Rattle.dns_data.specs.Texts.{TakesNothing, nothing_form, text_form};
+ghost use Rattle.dns_data.specs.Texts.{TakesNoToken, nothing_form, text_form};
 
 use crate::error::{DataError, DataRefusal};
 use dns_fields::{FieldError, TokenSource};
@@ -10,7 +10,7 @@ use dns_spelling::append_spelled;
 
 /// Sees that no token is left.
 pub fn take_nothing<S: TokenSource>(source: &mut S) -> Result<(), DataRefusal>
-    ensures takes { TakesNothing (S.end source.old) (S.left source.old) result (S.left source.new) }
+    ensures takes { TakesNoToken (S.end source.old) (S.left source.old) result (S.left source.new) }
     ensures end { S.end source.new ≡ S.end source.old }
 {
     if source.current().is_some() {

@@ -13,7 +13,7 @@ use Rattle.dns_lists.specs.Params.{params_wire, params_from, value_at, HasFittin
 use Rattle.dns_lists.specs.ParamsFaults.{AreRightParams}
 use Rattle.dns_lists.proofs.Entries.{entries_none, entries_first}
 use Rattle.dns_params.specs.ParamTokens.{SplitsParam, SplitsValue, SpellsFrontParam, SpellsFrontParams, SpellsParams}
-use Rattle.dns_params.specs.ParamSteps.{TakesWord, TakesQuoted, IsValueBehind, SettlesBehind, GainsParam, param_head}
+use Rattle.dns_params.specs.ParamSteps.{TakesParamWord, TakesQuoted, IsValueBehind, SettlesBehind, GainsParam, param_head}
 use Rattle.dns_params.specs.declared.keys.ValueKind.{ValueKind}
 
 -- the tokens in front are a parameter, and its key, two octets and its value are gained
@@ -23,7 +23,7 @@ pub record TakesTokens (tokens left : List TokenSeen) (old new : List ℕ) : Typ
   pub small : param.0 < 65536
   pub gained : new ≡ old ++ (param_head param.0 ++ param.1)
 
-pub word_tokens : (t : TokenSeen) (tokens rest : List TokenSeen) (old new : List ℕ) → tokens ≡ t ∷ rest → TakesWord t old new None → TakesTokens tokens rest old new
+pub word_tokens : (t : TokenSeen) (tokens rest : List TokenSeen) (old new : List ℕ) → tokens ≡ t ∷ rest → TakesParamWord t old new None → TakesTokens tokens rest old new
 word_tokens t tokens rest old new e h =
     let w = h.1 in
     record {
@@ -33,7 +33,7 @@ word_tokens t tokens rest old new e h =
       gained = w.6;
     }
 
-pub quoted_tokens : (t : TokenSeen) (tokens rest left : List TokenSeen) (old mid new : List ℕ) (kind : ValueKind) → tokens ≡ t ∷ rest → TakesWord t old mid (Some kind)
+pub quoted_tokens : (t : TokenSeen) (tokens rest left : List TokenSeen) (old mid new : List ℕ) (kind : ValueKind) → tokens ≡ t ∷ rest → TakesParamWord t old mid (Some kind)
     → TakesQuoted kind rest left mid new → TakesTokens tokens left old new
 quoted_tokens t tokens rest left old mid new kind e h k =
     let w = h.1 in

@@ -10,11 +10,11 @@ use Rattle.dns_digits.specs.Tokens.{RefusesToken}
 use Rattle.dns_digits.specs.declared.kind.DigitsKind.TheVariants.{Base64}
 use Rattle.dns_digits.specs.declared.error.DigitsError.{DigitsError}
 use Rattle.dns_digits.specs.declared.error.DigitsError.TheVariants.{ExpectedHex, UnevenHex, IllegalBase64, TrailingBase64, IncompleteBase64, IllegalBase32, ShortBase32, LongHash, ShortBuf as NoDigitsRoom}
-use Rattle.dns_params.specs.ParamError.{of_digits}
+use Rattle.dns_params.specs.ParamError.{of_value_digits}
 use Rattle.dns_params.specs.declared.error.ParamError.{ParamError}
 use Rattle.dns_params.specs.ParamRefusals.{RefusesSpelled, DigitsReason, OfKind}
 
-pub digits_refused : (room : Room) (text old : List ℕ) (why : DigitsError) → RefusesToken Base64 room text old why → RefusesSpelled room (SpellsDigits base64 text) DigitsReason old (of_digits why)
+pub digits_refused : (room : Room) (text old : List ℕ) (why : DigitsError) → RefusesToken Base64 room text old why → RefusesSpelled room (SpellsDigits base64 text) DigitsReason old (of_value_digits why)
 digits_refused room text old NoDigitsRoom h = inl (refl, h.lacks refl)
 digits_refused room text old ExpectedHex h = inr ((ExpectedHex, refl), h.none (λ e. absurd cc))
 digits_refused room text old UnevenHex h = inr ((UnevenHex, refl), h.none (λ e. absurd cc))

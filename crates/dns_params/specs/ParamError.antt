@@ -17,16 +17,16 @@ use Rattle.dns_params.specs.declared.error.ParamError.{ParamError}
 use Rattle.dns_params.specs.declared.error.ParamError.TheVariants.{ShortBuf, Quoted, Glued, UnknownKey, UnexpectedValue, RepeatedKey, LongValue, RepeatedParam, Kind, Digits, Spelling, List as OfList, Params}
 
 -- lack of room is one reason, whatever the kind
-abbrev pub of_digits : DigitsError → ParamError
-of_digits NoDigitsRoom = ShortBuf
-of_digits ExpectedHex = Digits ExpectedHex
-of_digits UnevenHex = Digits UnevenHex
-of_digits IllegalBase64 = Digits IllegalBase64
-of_digits TrailingBase64 = Digits TrailingBase64
-of_digits IncompleteBase64 = Digits IncompleteBase64
-of_digits IllegalBase32 = Digits IllegalBase32
-of_digits ShortBase32 = Digits ShortBase32
-of_digits LongHash = Digits LongHash
+abbrev pub of_value_digits : DigitsError → ParamError
+of_value_digits NoDigitsRoom = ShortBuf
+of_value_digits ExpectedHex = Digits ExpectedHex
+of_value_digits UnevenHex = Digits UnevenHex
+of_value_digits IllegalBase64 = Digits IllegalBase64
+of_value_digits TrailingBase64 = Digits TrailingBase64
+of_value_digits IncompleteBase64 = Digits IncompleteBase64
+of_value_digits IllegalBase32 = Digits IllegalBase32
+of_value_digits ShortBase32 = Digits ShortBase32
+of_value_digits LongHash = Digits LongHash
 
 abbrev pub of_spelled : SpellingError → ParamError
 of_spelled NoSpellingRoom = ShortBuf

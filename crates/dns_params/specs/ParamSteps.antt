@@ -21,10 +21,10 @@ abbrev pub param_head : ℕ → List ℕ
 param_head key = to_be_bytes w16 key ++ (0 ∷ 0 ∷ [])
 
 -- octets gained a key, two octets and a value; behind an open word the value is still to come
-abbrev pub TakesWord : TokenSeen → List ℕ → List ℕ → Option ValueKind → Type 0
-TakesWord t old new None =
+abbrev pub TakesParamWord : TokenSeen → List ℕ → List ℕ → Option ValueKind → Type 0
+TakesParamWord t old new None =
     StandsApart t × ((name value : List ℕ) × (p : ℕ × List ℕ) × SplitsWord t.text name value × SpellsParam name value p × (p.0 < 2 ^ 16) × (new ≡ old ++ (param_head p.0 ++ p.1)))
-TakesWord t old new (Some kind) =
+TakesParamWord t old new (Some kind) =
     StandsApart t × ((name : List ℕ) × (key : ℕ) × IsOpenWord t.text name × NamesKey name key kind × (key < 2 ^ 16) × (new ≡ old ++ param_head key))
 
 -- the value behind an open word: none, or a quoted text that touches it

@@ -1,6 +1,6 @@
 //! Why service parameters are refused.
 ghost use Rattle.std.specs.Prelude.{◌≡◌, Some};
-ghost use Rattle.dns_params.specs.ParamError.{param_error_text, list_error_text, params_fault_text, of_digits, of_list, of_spelled, of_settled};
+ghost use Rattle.dns_params.specs.ParamError.{param_error_text, list_error_text, params_fault_text, of_value_digits, of_list, of_spelled, of_settled};
 ghost use Rattle.dns_params.specs.declared.error.ParamError.TheVariants.{ShortBuf as NoRoom, Kind};
 
 use dns_digits::DigitsError;
@@ -114,7 +114,7 @@ impl From<KindError> for ParamError {
 }
 
 impl From<DigitsError> for ParamError {
-    ghost from_gives = { λ why e. e ≡ of_digits why };
+    ghost from_gives = { λ why e. e ≡ of_value_digits why };
 
     fn from(why: DigitsError) -> Self {
         match why {

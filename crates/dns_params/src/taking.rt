@@ -5,7 +5,7 @@ ghost use Rattle.dns_octets.specs.Appending.{Extends, Gains};
 ghost use Rattle.dns_split.specs.EntryTokens.{token_seen};
 ghost use Rattle.dns_lists.specs.Params.{params_wire, value_at, HasFittingValues, IsUnsettled};
 ghost use Rattle.dns_params.specs.ParamTokens.{SpellsFrontParam, SpellsParams};
-ghost use Rattle.dns_params.specs.ParamSteps.{ReadsWord, TakesWord, TakesQuoted, SettlesBehind, GainsParam, param_head};
+ghost use Rattle.dns_params.specs.ParamSteps.{ReadsWord, TakesParamWord, TakesQuoted, SettlesBehind, GainsParam, param_head};
 
 use crate::error::ParamError;
 use crate::items::split_first;
@@ -76,7 +76,7 @@ fn take_word<B: OctetsBuilder>(
     token: &EntryToken<'_>,
     target: &mut B,
 ) -> Result<Option<ValueKind>, ParamError>
-    ensures ok { IfOk result (TakesWord (token_seen token.now) (B.octets target.old) (B.octets target.new)) }
+    ensures ok { IfOk result (TakesParamWord (token_seen token.now) (B.octets target.old) (B.octets target.new)) }
     ensures extends { OnErr result (Extends (B.octets target.old) (B.octets target.new)) }
 {
     let word = read_word(token)?;
