@@ -35,10 +35,6 @@ type_shapes =
     type_shape 1 (Ipv4 ∷ []) Nothing Any ∷
     -- NS
     type_shape 2 (Name ∷ []) Nothing Any ∷
-    -- MD
-    type_shape 3 (Name ∷ []) Nothing Any ∷
-    -- MF
-    type_shape 4 (Name ∷ []) Nothing Any ∷
     -- CNAME
     type_shape 5 (Name ∷ []) Nothing Any ∷
     -- SOA

@@ -19,15 +19,11 @@ pub struct TypeRow(
 );
 
 /// The types, by code.
-pub static TYPES: [TypeRow; 50] = [
+pub static TYPES: [TypeRow; 48] = [
     // A (RFC 1035 section 3.4.1).
     TypeRow(1, &[Field::Ipv4], Rest::Nothing, Length::Any, &["address"]),
     // NS (RFC 1035 section 3.3.11).
     TypeRow(2, &[Field::Name], Rest::Nothing, Length::Any, &["name server"]),
-    // MD (RFC 1035 section 3.3.4).
-    TypeRow(3, &[Field::Name], Rest::Nothing, Length::Any, &["host"]),
-    // MF (RFC 1035 section 3.3.5).
-    TypeRow(4, &[Field::Name], Rest::Nothing, Length::Any, &["host"]),
     // CNAME (RFC 1035 section 3.3.1).
     TypeRow(5, &[Field::Name], Rest::Nothing, Length::Any, &["target"]),
     // SOA (RFC 1035 section 3.3.13).
