@@ -1,5 +1,5 @@
 -- Worked rows of the definitions, each computed.
-use Rattle.std.specs.Prelude.{◌≡◌, [], ◌∷◌, ◌++◌, codes, refl}
+use Rattle.std.specs.Prelude.{◌≡◌, [], ◌∷◌, codes, refl}
 use Rattle.dns_data.specs.RestKinds.{strings_wire, strings_of}
 
 -- strings behind their lengths; one without octets is its length alone
