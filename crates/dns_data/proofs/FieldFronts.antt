@@ -1,7 +1,7 @@
 -- Fields in front of octets.
-use Rattle.std.proofs.Common.{ℕ, suc, Option, Some, None, ◌≡◌, ◌<◌, ◌≤◌, ◌+◌, ◌-◌, List, [], ◌∷◌, ◌++◌, length, take, drop, get_or, refl, sym, ap, subst, ◌∙◌, arith, length-append, add-one}
+use Rattle.std.proofs.Common.{ℕ, Some, None, ◌≡◌, ◌<◌, ◌+◌, ◌-◌, List, [], ◌∷◌, ◌++◌, length, take, drop, get_or, refl, sym, ap, subst, ◌∙◌, arith, length-append, add-one}
 use Rattle.std.proofs.Math.Seq.{drop-append_seam, take-append_seam, drop-cons}
-use Rattle.std.proofs.lemmas.List.{take-append-drop, drop_all}
+use Rattle.std.proofs.lemmas.List.{take-append-drop}
 use Rattle.dns_digits.proofs.Pieces.{rest_of}
 use Rattle.dns_spelling.specs.Forms.{FindsWidth, StandInFront}
 use Rattle.dns_fields.specs.Fields.{field_form}

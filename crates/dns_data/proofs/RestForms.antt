@@ -1,8 +1,8 @@
 -- What tokens spell of each kind are octets of its form.
-use Rattle.std.proofs.Common.{ℕ, Option, Some, None, true, false, ◌≡◌, List, [], ◌∷◌, ◌++◌, refl, sym, ap, subst, ◌∙◌, arith}
+use Rattle.std.proofs.Common.{ℕ, Option, None, true, false, ◌≡◌, List, [], ◌∷◌, refl, sym, ap, subst, ◌∙◌, arith}
 use Rattle.dns_fields.specs.Taking.{SpellsEach}
 use Rattle.dns_fields.specs.declared.field.Field.TheVariants.{String as OfString}
-use Rattle.dns_lists.specs.Bitmap.{bitmap, has, types_of}
+use Rattle.dns_lists.specs.Bitmap.{has, types_of}
 use Rattle.dns_lists.proofs.Telling.{has_later}
 use Rattle.dns_lists.proofs.TypesOf.{types_of_same}
 use Rattle.dns_spelling.specs.NameSpelling.{IsOrigin}
@@ -10,7 +10,7 @@ use Rattle.dns_spelling.specs.Spelling.{AreOctetValues}
 use Rattle.dns_spelling.proofs.FormLaws.{octets_spelled, strings_spelled}
 use Rattle.dns_split.specs.EntryTokens.{TokenSeen}
 use Rattle.dns_data.specs.RestKinds.{rest_form, AreCharacterStrings}
-use Rattle.dns_data.specs.RestLaws.{HoldOctets, IsRestForm, AreRestForms}
+use Rattle.dns_data.specs.RestLaws.{HoldOctets, AreRestForms}
 use Rattle.dns_data.specs.Texts.{AreText}
 use Rattle.dns_data.specs.TypeLists.{NameTypes, types_form}
 use Rattle.dns_data.specs.declared.rest.Rest.{Rest}

@@ -1,10 +1,10 @@
 -- Character strings one behind another.
-use Rattle.std.proofs.Common.{ℕ, zero, suc, Option, Some, None, ◌≡◌, ◌≢◌, ◌<◌, ◌≤◌, ◌-◌, List, [], ◌∷◌, ◌++◌, length, take, drop, refl, sym, ap, subst, ◌∙◌, arith}
+use Rattle.std.proofs.Common.{ℕ, zero, suc, Some, None, ◌≡◌, ◌≢◌, ◌<◌, ◌-◌, List, [], ◌∷◌, ◌++◌, length, take, drop, refl, sym, ap, subst, ◌∙◌, arith}
 use Rattle.std.proofs.lemmas.List.{take-append-drop}
 use Rattle.dns_digits.proofs.Pieces.{rest_of}
 use Rattle.dns_spelling.specs.Forms.{FindsWidth, IsWireString}
 use Rattle.dns_spelling.proofs.FormLaws.{strings_in_front}
-use Rattle.dns_data.specs.RestKinds.{AreCharacterStrings, AreShortStrings, strings_wire}
+use Rattle.dns_data.specs.RestKinds.{AreCharacterStrings, strings_wire}
 use Rattle.dns_data.proofs.FieldFronts.{behind_front}
 
 pub string_before : (form more : List ℕ) → IsWireString form → AreCharacterStrings more → AreCharacterStrings (form ++ more)

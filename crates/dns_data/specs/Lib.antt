@@ -9,6 +9,7 @@ pub mod Pieces
 pub mod RestKinds
 pub mod RestLaws
 pub mod Rests
+pub mod Rows
 pub mod Texts
 pub mod TypeLists
 pub mod Types

@@ -1,6 +1,5 @@
-use Rattle.std.proofs.Common.{◌≡◌, ◌∙◌, sym, subst, true≢false}
+use Rattle.std.proofs.Common.{◌∙◌, sym, subst, true≢false}
 use Rattle.std.proofs.Common.{None}
-use Rattle.dns_data.specs.Data.{IsDataOf}
 use Rattle.dns_data.specs.RestKinds.{rest_form}
 use Rattle.dns_data.proofs.FieldFronts.{fields_begin_once}
 use Rattle.dns_data.proofs.wire.check_data.Goals as goal

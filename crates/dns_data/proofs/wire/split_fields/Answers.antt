@@ -1,5 +1,5 @@
 use Rattle.std.proofs.Common.{refl}
-use Rattle.dns_data.proofs.FieldFronts.{none_split, one_split, not_split, all_split, field_next}
+use Rattle.dns_data.proofs.FieldFronts.{one_split, not_split, field_next}
 use Rattle.dns_data.proofs.wire.split_fields.Goals as goal
 
 pub returns-in_err-width : goal.returns-in_err-width
