@@ -1,11 +1,11 @@
 -- Worked rows of the definitions, each computed.
 use Rattle.std.specs.Prelude.{◌≡◌, [], ◌∷◌, codes, refl}
-use Rattle.dns_data.specs.RestKinds.{strings_wire, strings_of}
+use Rattle.dns_data.specs.RestKinds.{strings_wire, strings_in_octets}
 
 -- strings behind their lengths; one without octets is its length alone
 wire : strings_wire (codes "a" ∷ [] ∷ codes "bc" ∷ []) ≡ 1 ∷ 97 ∷ 0 ∷ 2 ∷ 98 ∷ 99 ∷ []
 wire = refl
 
 -- and read back
-read_strings : strings_of (1 ∷ 97 ∷ 0 ∷ 2 ∷ 98 ∷ 99 ∷ []) ≡ codes "a" ∷ [] ∷ codes "bc" ∷ []
+read_strings : strings_in_octets (1 ∷ 97 ∷ 0 ∷ 2 ∷ 98 ∷ 99 ∷ []) ≡ codes "a" ∷ [] ∷ codes "bc" ∷ []
 read_strings = refl
