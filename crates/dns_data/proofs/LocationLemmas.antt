@@ -13,7 +13,7 @@ pub location_refused : (room : Room) (end : ℕ) (tokens left : List TokenSeen) 
 location_refused room end tokens left old new r same h = record {
   at = h.0;
   why = elim h.1 [
-    | inl none ↦ inr ((r.why, refl, none.0), none.1)
+    | inl none ↦ inr ((r.why, refl, none.0, none.1), none.2)
     | inr lacks ↦ inl (ap of_location lacks.0, lacks.3)
   ];
   extends = ([], same ∙ sym (append-nil old));

@@ -1,6 +1,7 @@
 -- Locations (RFC 1876), which go to the end of an entry.
 use Rattle.std.specs.Prelude.{ℕ, ◌≡◌, false, List, [], ◌∷◌, map, take, drop, slice_index}
 use Rattle.std.specs.Int.{from_be_bytes, w32}
+use Rattle.dns_places.specs.LocationPlaces.{IsFirstRefused}
 use Rattle.dns_places.specs.LocationTaking.{RefusesTokens}
 use Rattle.dns_places.specs.LocationWords.{IsLocation, location_words}
 use Rattle.dns_places.specs.Locations.{SpellsLocation}
@@ -22,7 +23,7 @@ location_at octets = record {
 abbrev pub location_form : RestForm
 location_form = record {
   spells = SpellsLocation;
-  reason = λ tokens left e. (why : LocationError) × (e ≡ of_location why) × RefusesTokens why tokens left;
+  reason = λ tokens left e. (why : LocationError) × (e ≡ of_location why) × RefusesTokens why tokens left × IsFirstRefused tokens left;
   is_wire = λ octets. (l : Location) × IsLocation octets l;
   printed = λ octets. map (λ word. record { is_quoted = false; text = word }) (location_words (location_at octets));
 }
