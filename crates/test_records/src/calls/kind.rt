@@ -29,6 +29,7 @@ fn kind_of(name: &[u8]) -> Option<Field> {
         b"string" => Some(Field::String),
         b"tag" => Some(Field::Tag),
         b"salt" => Some(Field::Salt),
+        b"hash" => Some(Field::Hash),
         b"name" => Some(Field::Name),
         _ => number_kind(name),
     }
