@@ -4,6 +4,7 @@ pub mod DataLaws
 pub mod Digits
 pub mod Errors
 pub mod Generic
+pub mod Limits
 pub mod LocationRest
 pub mod Pieces
 pub mod RestKinds

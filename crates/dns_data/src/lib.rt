@@ -2,6 +2,7 @@
 //! printed.
 #![tactic(auto)]
 
+pub mod builder;
 pub mod by_type;
 pub mod digits;
 pub mod error;
@@ -15,6 +16,7 @@ pub mod type_lists;
 pub mod types;
 pub mod wire;
 
+pub use builder::{DataBuilder, MAX_DATA};
 pub use by_type::{TypeRefusal, is_data_type, read_type};
 pub use digits::take_digits;
 pub use error::{DataError, DataRefusal};
