@@ -22,12 +22,12 @@ wrong_count room begun end at count (m ∷ ts) first left final old new mark is 
     let octets : List ℕ = gained.1.0 in
     let size : length new ≡ length old + length octets = ap length gained.1.2 ∙ length-append old octets in
     let never : (v : List ℕ) → SpellsGeneric (m ∷ ts) v → ⊥ = λ v sp. (
-      let s = subst (λ z. SpellsGeneric (m ∷ z) v) all sp in
-      let same : v ≡ octets = joined_once Hex left v octets s.2 gained.1.1 in
-      let many : length v ≡ count = s.1.1.0.1 ∙ sym counted.2.1.0.1 in
-      let lengths : length v ≡ length octets = ap length same in
-      wrong (omega (arith, size, many, lengths))
-      ) in
+    let s = subst (λ z. SpellsGeneric (m ∷ z) v) all sp in
+    let same : v ≡ octets = joined_once Hex left v octets s.2 gained.1.1 in
+    let many : length v ≡ count = s.1.1.0.1 ∙ sym counted.2.1.0.1 in
+    let lengths : length v ≡ length octets = ap length same in
+    wrong (omega (arith, size, many, lengths))
+    ) in
     record {
       at = place ∙ ap (next_place final) ends;
       why = inr (inr (t, left, all, inr (refl, gained.0)), never);

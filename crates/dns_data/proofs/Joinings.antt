@@ -89,8 +89,8 @@ module _ (kind : DigitsKind) (first s : DigitsState) (same : first.kind ≡ kind
       record {
         at = place ∙ ap (next_place left) ends;
         why = inr (
-            (h.before, h.whole, (h.unquoted, subst (λ l. JoinedReason kind h.before l (Field (of_digits e))) (sym none) (e, refl, inl (is ∙ ap unfinished kept, goes)))),
-            λ octets sp. unspelled octets (subst (λ ts. SpellsJoined (base_of kind) ts octets) (all_before none) sp).1,
+          (h.before, h.whole, (h.unquoted, subst (λ l. JoinedReason kind h.before l (Field (of_digits e))) (sym none) (e, refl, inl (is ∙ ap unfinished kept, goes)))),
+          λ octets sp. unspelled octets (subst (λ ts. SpellsJoined (base_of kind) ts octets) (all_before none) sp).1,
         );
         extends = (h.gained, h.octets);
       }
@@ -110,24 +110,27 @@ module _ (kind : DigitsKind) (first s : DigitsState) (same : first.kind ≡ kind
       let token : RefusesToken kind room text old d = token_refused room first text old d fresh behind kind same in
       let only : (octets : List ℕ) → SpellsJoined (base_of kind) tokens octets → (d ≡ ShortBuf) × ((later : List ℕ) × (octets ≡ [] ++ later) × (room.fits < length old + length later)) =
       λ octets sp. (
-        let digits : SpellsDigits (base_of first.kind) (text ++ joined_words ts) octets = subst (λ k. SpellsDigits (base_of k) (text ++ joined_words ts) octets) (sym same) (subst (λ z. SpellsDigits (base_of kind) z octets) all sp.1) in
-        only_room room first [] text (joined_words ts) octets [] old d digits fresh behind
-        ) in
+      let digits : SpellsDigits (base_of first.kind) (text ++ joined_words ts) octets = subst (λ k. SpellsDigits (base_of k) (text ++ joined_words ts) octets) (sym same) (subst (λ z. SpellsDigits (base_of kind) z octets) all sp.1) in
+      only_room room first [] text (joined_words ts) octets [] old d digits fresh behind
+      ) in
       elim (is_short d) [
         | inl short ↦ inl (ap (λ e. Field (of_digits e)) short, λ octets sp. (let lacks = (only octets sp).1 in subst (λ (o : List ℕ). room.fits < length old + length o) (sym lacks.1) lacks.2))
         | inr other ↦ inr (
-              (h.before, h.whole ∙ ap (λ l. h.before ++ l) is, (h.unquoted, inr (plain, (d, refl, subst (λ z. IsDigitsFault kind z d) (sym (joined_last h.before t)) (fault_of room text d other token))))),
-              λ octets sp. other (only octets sp).0,
-          )
+          (h.before, h.whole ∙ ap (λ l. h.before ++ l) is, (h.unquoted, inr (plain, (d, refl, subst (λ z. IsDigitsFault kind z d) (sym (joined_last h.before t)) (fault_of room text d other token))))),
+          λ octets sp. other (only octets sp).0,
+        )
       ]
 
   refused_why : (room : Room) (rest : List TokenSeen) (e : DataError) → left ≡ rest → rest ≢ [] → RefusesPush room s rest new e → RefusesAs room (digits_form kind) tokens old rest e
   refused_why room [] e is some r = absurd (some refl)
   refused_why room (t ∷ ts) e is some (inl k) =
-      inr ((h.before, h.whole ∙ ap (λ l. h.before ++ l) is, (h.unquoted, inl k)), λ octets sp. (
-        let plain = unquoted_at h.before ts t (subst AreUnquoted (h.whole ∙ ap (λ l. h.before ++ l) is) sp.0) in
-        true≢false (sym k.1 ∙ plain)
-        ))
+      inr (
+        (h.before, h.whole ∙ ap (λ l. h.before ++ l) is, (h.unquoted, inl k)),
+        λ octets sp. (
+            let plain = unquoted_at h.before ts t (subst AreUnquoted (h.whole ∙ ap (λ l. h.before ++ l) is) sp.0) in
+            true≢false (sym k.1 ∙ plain)
+            ),
+      )
   refused_why room (t ∷ ts) e is some (inr k) =
       subst (λ e. RefusesAs room (digits_form kind) tokens old (t ∷ ts) e) (sym k.1.1) (refused_digits room t ts k.1.0 is k.0 k.1.2)
 

@@ -80,10 +80,13 @@ pub types_lack : (room : Room) (set : List ℕ) (tokens left : List TokenSeen) (
     → LacksRoom room (λ octets. octets ≡ bitmap set) old → Extends old new → RefusesRest room types_form begun tokens old (record { at = at; why = no_room }) left new
 types_lack room set tokens left old new begun end at h none ends place lacks extends = record {
   at = place ∙ ap (next_place left) ends;
-  why = inl (refl, λ octets sp. (
+  why = inl (
+    refl,
+    λ octets sp. (
         let same = names_once tokens h.types sp.0 (all_named set tokens left h none) sp.1 in
         lacks octets (sp.2 ∙ ap bitmap (sym same) ∙ sym (same_bitmap set h.types h.same))
-        ));
+        ),
+  );
   extends = extends;
 }
 
@@ -91,10 +94,13 @@ type_refused : (room : Room) (set : List ℕ) (tokens left rest : List TokenSeen
     → (t : TokenSeen) × (ts : List TokenSeen) × (left ≡ t ∷ ts) × (rest ≡ t ∷ ts) × (r.at ≡ t.at) × NamesNone t r.why → RefusesRest room types_form begun tokens old r rest old
 type_refused room set tokens left rest old begun end r h ends k = let t = k.0 in let ts = k.1 in let is : left ≡ t ∷ ts = k.2 in let rest_is : rest ≡ t ∷ ts = k.3 in record {
   at = k.4 ∙ ap (λ l. next_place l begun) (sym rest_is);
-  why = subst (λ l. RefusesAs room types_form tokens old l r.why) (sym rest_is) (inr ((h.before, h.whole ∙ ap (λ l. h.before ++ l) is, k.5), λ octets sp. (
+  why = subst (λ l. RefusesAs room types_form tokens old l r.why) (sym rest_is) (inr (
+    (h.before, h.whole ∙ ap (λ l. h.before ++ l) is, k.5),
+    λ octets sp. (
         let at = names_at h.before ts t sp.0 (subst (λ z. NameTypes z sp.0) (h.whole ∙ ap (λ l. h.before ++ l) is) sp.1) in
         never_both t r.why at.0 k.5 at.1
-        )));
+        ),
+  ));
   extends = ([], sym (append-nil old));
 }
 

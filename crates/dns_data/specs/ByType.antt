@@ -41,7 +41,7 @@ abbrev pub SpellsTypeData : Option (List (List ℕ)) → ℕ → List TokenSeen 
 SpellsTypeData origin code tokens octets =
     IsDataType code
     × (SpellsGenericData (shape_of_code code) tokens octets
-      ⊎ ((BeginsGeneric tokens → ⊥) × ((shape : Shape) × HasShape (shape_of_code code) shape × SpellsData origin shape tokens octets)))
+    ⊎ ((BeginsGeneric tokens → ⊥) × ((shape : Shape) × HasShape (shape_of_code code) shape × SpellsData origin shape tokens octets)))
 
 -- tokens in the generic form are refused: they spell no octets, or none of the type
 abbrev pub RefusesGeneric : Option TypeShape → Room → ℕ → List TokenSeen → List ℕ → TypeRefusal → List TokenSeen → List ℕ → Type 0

@@ -1,15 +1,18 @@
 //! Record data by the type of the record.
-ghost use Rattle.std.specs.Prelude.{◌≡◌, ◌↔◌, IsTrue, Option, option_copied};
-ghost use Rattle.dns_data.specs.ByType.{IsDataType, ReadsGeneric, ReadsType};
+ghost use Rattle.std.specs.Prelude.{◌≡◌, ◌≤◌, ◌↔◌, ℕ, List, [], length, IfOk, IfErr, IsTrue, Option, option_copied};
+ghost use Rattle.dns_octets.specs.Room.{within};
+ghost use Rattle.dns_data.specs.Limits.{max_data};
+ghost use Rattle.dns_data.specs.ByType.{IsDataType, ReadsGeneric, ReadsType, RefusesType, SpellsTypeData};
 ghost use Rattle.dns_data.specs.Generic.{BeginsGeneric};
 
+use crate::builder::DataBuilder;
 use crate::error::DataError;
 use crate::generic::{begins_generic, take_generic};
 use crate::shape::read_data;
 use crate::types::{TypeRow, type_row};
 use crate::wire::check_data;
 use dns_fields::TokenSource;
-use dns_octets::{AsOctets, OctetsBuilder};
+use dns_octets::{AsOctets, EmptyBuilder, FreezeBuilder, OctetsBuilder};
 use dns_wire::Name;
 
 /// A part of a record's data that is refused, by its name, the place of the token, and why. Data in
@@ -92,4 +95,25 @@ pub fn read_type<S: TokenSource, Octets: AsOctets, B: OctetsBuilder>(
             why: refused.why,
         }),
     }
+}
+
+/// The octets that the tokens that are left spell as data of a type: at most 65,535. More are
+/// refused at the token with which they get too long, as lack of memory is.
+pub fn data_of_type<
+    S: TokenSource,
+    Octets: AsOctets,
+    B: OctetsBuilder + EmptyBuilder + FreezeBuilder + Drop,
+>(
+    alloc: B::Alloc,
+    code: u16,
+    origin: Option<&Name<Octets>>,
+    source: &mut S,
+) -> Result<B::Octets, TypeRefusal>
+    ensures ok { IfOk result (λ octets. (S.left source.new ≡ []) × SpellsTypeData (option_copied origin.entry) code (S.left source.old) (B.Octets.octets octets) × (length (B.Octets.octets octets) ≤ max_data)) }
+    ensures err { IfErr result (λ refusal. (new : List ℕ) × RefusesType (option_copied origin.entry) (within max_data B.room) code (S.end source.old) (S.left source.old) [] refusal (S.left source.new) new) }
+    ensures end { S.end source.new ≡ S.end source.old }
+{
+    let mut target = DataBuilder::<B>::new(alloc);
+    read_type(code, origin, source, &mut target)?;
+    Ok(target.finish())
 }

@@ -7,8 +7,8 @@ pub mod by_type;
 pub mod digits;
 pub mod error;
 pub mod generic;
-mod locations;
 pub mod laws;
+mod locations;
 pub mod rest;
 pub mod shape;
 pub mod texts;
@@ -17,7 +17,7 @@ pub mod types;
 pub mod wire;
 
 pub use builder::{DataBuilder, MAX_DATA};
-pub use by_type::{TypeRefusal, is_data_type, read_type};
+pub use by_type::{TypeRefusal, data_of_type, is_data_type, read_type};
 pub use digits::take_digits;
 pub use error::{DataError, DataRefusal};
 pub use generic::{begins_generic, take_generic};
