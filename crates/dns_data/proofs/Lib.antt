@@ -1,7 +1,12 @@
 pub mod Joinings
 pub mod Namings
+pub mod PrintedBack
+pub mod PrintedFields
+pub mod PrintedStrings
 pub mod Reading
+pub mod Sizes
 pub mod Somes
 pub mod Sources
 pub mod Strings
 pub mod TextLaws
+pub mod Tokens

@@ -1,29 +1,23 @@
 -- Record data of a shape: fields that are one token each, and what goes to the entry's end.
-use Rattle.std.specs.Prelude.{ℕ, ◌≡◌, ◌⊎◌, ◌<◌, ◌+◌, ◌-◌, ⊤, Option, None, List, [], ◌∷◌, ◌++◌, length, slice_index, Result, Ok, Err}
+use Rattle.std.specs.Prelude.{ℕ, ◌≡◌, ◌⊎◌, ◌<◌, ◌+◌, ◌-◌, ⊤, Option, None, List, [], ◌++◌, length, slice_index, Result, Ok, Err}
 use Rattle.dns_digits.specs.DigestLengths.{IsDigestLength}
 use Rattle.dns_octets.specs.Room.{Room}
 use Rattle.dns_octets.specs.Appending.{Extends, Gains}
-use Rattle.dns_fields.specs.Fields.{field_form}
 use Rattle.dns_fields.specs.Source.{next_place}
 use Rattle.dns_fields.specs.Taking.{SpellsFields, RefusesAField, HasTaken}
 use Rattle.dns_fields.specs.declared.error.FieldError.{FieldError}
-use Rattle.dns_fields.specs.declared.field.Field.{Field}
 use Rattle.dns_fields.specs.declared.taking.FieldRefusal.{FieldRefusal}
 use Rattle.dns_split.specs.EntryTokens.{TokenSeen}
 use Rattle.dns_data.specs.Errors.{no_room}
 use Rattle.dns_data.specs.Rests.{RefusesRest}
 use Rattle.dns_data.specs.RestKinds.{rest_form}
+use Rattle.dns_data.specs.Wire.{BeginsWithFields}
 use Rattle.dns_data.specs.declared.error.DataError.TheVariants.{Field as OfField, WrongLength}
 use Rattle.dns_data.specs.declared.error.DataRefusal.{DataRefusal}
 use Rattle.dns_data.specs.declared.shape.Length.{Length}
 use Rattle.dns_data.specs.declared.shape.Length.TheVariants.{Any, Digest, Hash}
 use Rattle.dns_data.specs.declared.shape.PartRefusal.{PartRefusal}
 use Rattle.dns_data.specs.declared.shape.Shape.{Shape}
-
--- the octets are those of the fields, one after another
-abbrev pub AreFields : List Field → List ℕ → Type 0
-AreFields [] octets = octets ≡ []
-AreFields (f ∷ fs) octets = (front : List ℕ) × (back : List ℕ) × (octets ≡ front ++ back) × (field_form None f).is_wire front × AreFields fs back
 
 -- the lengths that octets of the data ask for: none; behind the octet at a place, which names it, comes a digest; and the hash of NSEC3, behind
 -- algorithm, flags, iterations and salt, has 20 octets if the algorithm is 1
@@ -46,10 +40,8 @@ pub record SpellsData (origin : Option (List (List ℕ))) (shape : Shape) (token
 
 -- octets are data of a shape
 pub record IsDataOf (shape : Shape) (octets : List ℕ) : Type 0 where
-  pub front : List ℕ
   pub back : List ℕ
-  pub octets_are : octets ≡ front ++ back
-  pub fields : AreFields shape.fields.now front
+  pub fields : BeginsWithFields shape.fields.now octets back
   pub rest : (rest_form None shape.rest).is_wire back
   pub lengths : HasLength shape.length octets
 

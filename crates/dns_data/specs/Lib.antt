@@ -2,7 +2,10 @@ pub mod Data
 pub mod Digits
 pub mod Errors
 pub mod Pieces
+pub mod PrintLaws
+pub mod Printing
 pub mod RestKinds
 pub mod Rests
 pub mod Texts
 pub mod TypeLists
+pub mod Wire

@@ -4,6 +4,9 @@
 
 pub mod digits;
 pub mod error;
+pub mod field_text;
+pub mod print;
+pub mod print_laws;
 pub mod rest;
 pub mod shape;
 pub mod texts;
@@ -11,6 +14,8 @@ pub mod type_lists;
 
 pub use digits::take_digits;
 pub use error::{DataError, DataRefusal};
+pub use field_text::FieldText;
+pub use print::write_data;
 pub use rest::{Rest, take_rest};
 pub use shape::{Length, PartRefusal, Shape, read_data};
 pub use texts::{take_nothing, take_text};
