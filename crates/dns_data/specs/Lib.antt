@@ -3,6 +3,7 @@ pub mod Digits
 pub mod Errors
 pub mod Pieces
 pub mod PrintLaws
+pub mod PrintRows
 pub mod Printing
 pub mod RestKinds
 pub mod Rests
