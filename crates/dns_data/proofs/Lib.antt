@@ -4,8 +4,12 @@ pub mod FieldFronts
 pub mod Joinings
 pub mod LocationLemmas
 pub mod Namings
+pub mod PrintedBack
+pub mod PrintedFields
+pub mod PrintedStrings
 pub mod Reading
 pub mod RestForms
+pub mod Sizes
 pub mod Somes
 pub mod Sources
 pub mod Strings
@@ -13,3 +17,4 @@ pub mod TextLaws
 pub mod TypeLaws
 pub mod WireStrings
 pub mod WireTypes
+pub mod Tokens

@@ -1,5 +1,5 @@
 -- Record data of a shape: fields that are one token each, and what goes to the entry's end.
-use Rattle.std.specs.Prelude.{ℕ, ◌≡◌, ◌⊎◌, ◌<◌, ◌+◌, ◌-◌, ⊤, Option, None, List, [], ◌∷◌, ◌++◌, length, slice_index, Result, Ok, Err}
+use Rattle.std.specs.Prelude.{ℕ, ◌≡◌, ◌⊎◌, ◌<◌, ◌+◌, ◌-◌, ⊤, Option, None, List, [], ◌++◌, length, slice_index, Result, Ok, Err}
 use Rattle.dns_digits.specs.DigestLengths.{IsDigestLength}
 use Rattle.dns_octets.specs.Room.{Room}
 use Rattle.dns_octets.specs.Appending.{Extends, Gains}

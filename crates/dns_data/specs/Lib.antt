@@ -7,6 +7,9 @@ pub mod Generic
 pub mod Limits
 pub mod LocationRest
 pub mod Pieces
+pub mod PrintLaws
+pub mod PrintRows
+pub mod Printing
 pub mod RestKinds
 pub mod RestLaws
 pub mod Rests

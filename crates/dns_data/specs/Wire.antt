@@ -1,5 +1,5 @@
 -- Fields in front of octets.
-use Rattle.std.specs.Prelude.{ℕ, Option, None, ◌≡◌, List, [], ◌∷◌, ◌++◌}
+use Rattle.std.specs.Prelude.{ℕ, None, ◌≡◌, List, [], ◌∷◌, ◌++◌}
 use Rattle.dns_fields.specs.Fields.{field_form}
 use Rattle.dns_fields.specs.declared.field.Field.{Field}
 

@@ -1,0 +1,24 @@
+use Rattle.std.proofs.Common.{sym, refl, arith}
+use Rattle.std.proofs.lemmas.List.{length-take-le}
+use Rattle.dns_data.proofs.PrintedFields.{front_field, field_printed, parts_printed}
+use Rattle.dns_data.proofs.print.write_data.Goals as goal
+
+pub front_width-width-requires : goal.front_width-width-requires
+front_width-width-requires g c =
+    let begins = c.loop-field.invariant.begins in
+    front_field c.args.shape.now.fields.now c.loop-field.field-index _ c.loop-field.rest.now begins.0 (omega arith) begins.1
+
+pub slice_bounds-write_token-end : goal.slice_bounds-write_token-end
+slice_bounds-write_token-end g c = sym (length-take-le c.front_width-width.result c.loop-field.rest.now c.front_width-width.ensures.fits)
+
+pub loop-field-preserved : goal.loop-field-preserved
+loop-field-preserved g c =
+    let begins = c.loop-field.invariant.begins in
+    let next =
+    field_printed _ _ _ _ c.args.shape.now.fields.now c.loop-field.field-index c.args.shape.now.rest _ c.loop-field.rest.now begins.0 c.front_width-width.result _ _ _ (omega arith)
+    c.front_width-width.ensures.size refl begins.1 c.loop-field.invariant.printed c.in_ok-write_token.ensures.blocks c.in_ok-write_token.ensures.gives in
+    record { printed = next.0; begins = next.1 }
+
+pub returns : goal.returns
+returns g c =
+    parts_printed _ _ _ _ c.args.shape.now.fields.now c.loop-field.field-index c.args.shape.now.rest c.write_rest.result c.loop-field.rest.now _ _ (omega arith) c.loop-field.invariant.printed c.write_rest.ensures

@@ -1,0 +1,12 @@
+use Rattle.std.proofs.Common.{map, false, ap}
+use Rattle.dns_kinds.specs.Types.{type_text}
+use Rattle.dns_data.proofs.Tokens.{more_printed}
+use Rattle.dns_data.proofs.print.write_types.Goals as goal
+
+pub loop-code-preserved : goal.loop-code-preserved
+loop-code-preserved g c = (
+  tt,
+  tt,
+  more_printed _ _ _ _ _ _ _ _ _ c.loop-code.invariant.2 (ap (map (λ code. record { is_quoted = false; text = type_text (record { 0 = code }) })) c.in-Some.ensures.steps)
+      c.in_ok-write_token.ensures.blocks c.in_ok-write_token.ensures.gives,
+)

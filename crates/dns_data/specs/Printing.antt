@@ -1,0 +1,66 @@
+-- Record data as the tokens that it is printed as.
+use Rattle.std.specs.Prelude.{ℕ, zero, suc, None, ◌+◌, if◌then◌else◌, List, [], ◌∷◌, ◌++◌, map, length, take, drop, slice_index}
+use Rattle.dns_symbol.specs.Characters.{double_quote}
+use Rattle.dns_zone.specs.Layout.{Step, token}
+use Rattle.dns_fields.specs.Fields.{field_form}
+use Rattle.dns_fields.specs.declared.field.Field.{Field}
+use Rattle.dns_fields.specs.declared.field.Field.TheVariants.{Number8, Number16, Number32, Interval, Ipv4, Ipv6, RecordType, Algorithm, NamedAlgorithm, CertificateType, Eui48, Eui64, Time, Locator, String, Tag, Salt, Hash, Name}
+use Rattle.dns_data.specs.Rests.{PrintedToken}
+use Rattle.dns_data.specs.RestKinds.{rest_form}
+use Rattle.dns_data.specs.declared.rest.Rest.{Rest}
+use Rattle.dns_data.specs.declared.shape.Shape.{Shape}
+
+-- as many octets as the first one tells, and that one
+abbrev pub counted_size : List ℕ → ℕ
+counted_size octets = 1 + slice_index octets 0
+
+-- the octets of labels in front, each behind its length, up to the empty one and with it; so many labels or fewer
+abbrev pub labels_size : ℕ → List ℕ → ℕ
+labels_size zero octets = 0
+labels_size (suc count) [] = 0
+labels_size (suc count) (zero ∷ octets) = 1
+labels_size (suc count) (suc size ∷ octets) = 2 + size + labels_size count (drop (suc size) octets)
+
+-- how many octets a field in front has
+abbrev pub field_size : Field → List ℕ → ℕ
+field_size Number8 octets = 1
+field_size Number16 octets = 2
+field_size Number32 octets = 4
+field_size Interval octets = 4
+field_size Ipv4 octets = 4
+field_size Ipv6 octets = 16
+field_size RecordType octets = 2
+field_size Algorithm octets = 1
+field_size NamedAlgorithm octets = 1
+field_size CertificateType octets = 2
+field_size Eui48 octets = 6
+field_size Eui64 octets = 8
+field_size Time octets = 4
+field_size Locator octets = 8
+field_size String octets = counted_size octets
+field_size Tag octets = counted_size octets
+field_size Salt octets = counted_size octets
+field_size Hash octets = counted_size octets
+field_size Name octets = labels_size (length octets) octets
+
+-- the token of a field
+abbrev pub printed_field : Field → List ℕ → PrintedToken
+printed_field f form = record { is_quoted = (field_form None f).quotes; text = (field_form None f).printed form }
+
+-- the tokens of the fields in front, one after another, and behind them those of the rest
+abbrev pub printed_parts : List Field → Rest → List ℕ → List PrintedToken
+printed_parts [] rest octets = (rest_form None rest).printed octets
+printed_parts (f ∷ fs) rest octets = printed_field f (take (field_size f octets) octets) ∷ printed_parts fs rest (drop (field_size f octets) octets)
+
+abbrev pub printed_data : Shape → List ℕ → List PrintedToken
+printed_data shape octets = printed_parts shape.fields.now shape.rest octets
+
+-- a token as it stands in zone text: what a quoted text holds stands between double quotes
+abbrev pub token_bytes : PrintedToken → List ℕ
+token_bytes t = if t.is_quoted then double_quote ∷ (t.text ++ double_quote ∷ []) else t.text
+
+abbrev pub token_step : PrintedToken → Step
+token_step t = token (token_bytes t)
+
+abbrev pub token_steps : List PrintedToken → List Step
+token_steps tokens = map token_step tokens

@@ -1,0 +1,103 @@
+//! Record data as zone text.
+ghost use Rattle.std.specs.Prelude.{◌≡◌, ◌≤◌, ℕ, List, [], ◌∷◌, None, length, take, OnOk};
+ghost use Rattle.dns_zone.specs.Writers.{WritesSteps};
+ghost use Rattle.dns_fields.specs.Fields.{field_form};
+ghost use Rattle.dns_data.specs.Data.{IsDataOf};
+ghost use Rattle.dns_data.specs.Digits.{digits_form};
+ghost use Rattle.dns_data.specs.Printing.{field_size, printed_data, token_steps};
+ghost use Rattle.dns_data.specs.RestKinds.{rest_form, strings_form};
+ghost use Rattle.dns_data.specs.TypeLists.{types_form};
+ghost use Rattle.dns_data.specs.Wire.{BeginsWithFields};
+
+use crate::field_text::FieldText;
+use crate::rest::Rest;
+use crate::shape::Shape;
+use dns_codec::{base16, base64};
+use dns_digits::DigitsKind;
+use dns_fields::{Field, field_width};
+use dns_kinds::RecordType;
+use dns_lists::BitmapTypes;
+use dns_spelling::QuotedOctets;
+use dns_zone::zonefile_fmt::{self, FormatWriter, Formatter};
+
+/// How many of the octets in front are a field. There is one.
+fn front_width(field: Field, octets: &[u8]) -> usize
+    requires { (rest : List ℕ) × BeginsWithFields (field ∷ []) octets.now rest }
+    ensures size { result ≡ field_size field octets.now }
+    ensures wire { (field_form None field).is_wire (take result octets.now) }
+    ensures fits { result ≤ length octets.now }
+{
+    match field_width(field, octets) {
+        Some(width) => width,
+        None => unreachable!(),
+    }
+}
+
+/// Prints character strings, each behind its length, between double quotes.
+fn write_strings<F: FormatWriter>(octets: &[u8], p: &mut F) -> zonefile_fmt::Result
+    ensures { OnOk result (WritesSteps F.blocks F.step_gives p.old (token_steps ((strings_form None).printed octets.now)) p.new) }
+{
+    let mut rest = octets;
+    while !rest.is_empty() {
+        let count = usize::from(rest[0]).min(rest.len() - 1);
+        p.write_token(QuotedOctets(&rest[1..1 + count]))?;
+        rest = &rest[1 + count..];
+    }
+    Ok(())
+}
+
+/// Prints octets in digits as one word, and none as no word.
+fn write_digits<F: FormatWriter>(kind: DigitsKind, octets: &[u8], p: &mut F) -> zonefile_fmt::Result
+    ensures { OnOk result (WritesSteps F.blocks F.step_gives p.old (token_steps ((digits_form kind).printed octets.now)) p.new) }
+{
+    if octets.is_empty() {
+        return Ok(());
+    }
+    match kind {
+        DigitsKind::Hex => p.write_token(base16::encode_display(octets)),
+        DigitsKind::Base64 => p.write_token(base64::encode_display(octets)),
+    }
+}
+
+/// Prints the types of a bitmap, each as a word.
+fn write_types<F: FormatWriter>(octets: &[u8], p: &mut F) -> zonefile_fmt::Result
+    ensures { OnOk result (WritesSteps F.blocks F.step_gives p.old (token_steps (types_form.printed octets.now)) p.new) }
+{
+    for code in BitmapTypes::new(octets) {
+        p.write_token(RecordType(code))?;
+    }
+    Ok(())
+}
+
+/// Prints what goes to the end of an entry.
+fn write_rest<F: FormatWriter>(rest: Rest, octets: &[u8], p: &mut F) -> zonefile_fmt::Result
+    ensures { OnOk result (WritesSteps F.blocks F.step_gives p.old (token_steps ((rest_form None rest).printed octets.now)) p.new) }
+{
+    match rest {
+        Rest::Nothing => Ok(()),
+        Rest::Strings => write_strings(octets, p),
+        Rest::Hex => write_digits(DigitsKind::Hex, octets, p),
+        Rest::Base64 => write_digits(DigitsKind::Base64, octets, p),
+        Rest::Types | Rest::SomeTypes => write_types(octets, p),
+        Rest::Text | Rest::QuotedText => p.write_token(QuotedOctets(octets)),
+    }
+}
+
+/// Prints data of a shape: a token for each of its fields, and then the tokens of what goes to the
+/// end of an entry. Names print absolute, character strings and text between double quotes, octets
+/// in digits as one word, and types in ascending order.
+pub fn write_data<F: FormatWriter>(shape: &Shape, octets: &[u8], p: &mut F) -> zonefile_fmt::Result
+    requires { IsDataOf shape.now octets.now }
+    ensures { OnOk result (WritesSteps F.blocks F.step_gives p.old (token_steps (printed_data shape.now octets.now)) p.new) }
+{
+    let mut rest = octets;
+    for field in shape.fields {
+        let width = front_width(*field, rest);
+        p.write_token(FieldText {
+            field: *field,
+            octets: &rest[..width],
+        })?;
+        rest = &rest[width..];
+    }
+    write_rest(shape.rest, rest, p)
+}
