@@ -4,6 +4,7 @@ ghost use Rattle.dns_zone.specs.Writers.{WritesSteps};
 ghost use Rattle.dns_fields.specs.Fields.{field_form};
 ghost use Rattle.dns_data.specs.Data.{IsDataOf};
 ghost use Rattle.dns_data.specs.Digits.{digits_form};
+ghost use Rattle.dns_data.specs.LocationRest.{location_form};
 ghost use Rattle.dns_data.specs.Printing.{field_size, printed_data, token_steps};
 ghost use Rattle.dns_data.specs.RestKinds.{rest_form, strings_form};
 ghost use Rattle.dns_data.specs.TypeLists.{types_form};
@@ -17,6 +18,7 @@ use dns_digits::DigitsKind;
 use dns_fields::{Field, field_width};
 use dns_kinds::RecordType;
 use dns_lists::BitmapTypes;
+use dns_places::location_words;
 use dns_spelling::QuotedOctets;
 use dns_zone::zonefile_fmt::{self, FormatWriter, Formatter};
 
@@ -69,6 +71,19 @@ fn write_types<F: FormatWriter>(octets: &[u8], p: &mut F) -> zonefile_fmt::Resul
     Ok(())
 }
 
+/// Prints the words of a location.
+fn write_location<F: FormatWriter>(octets: &[u8], p: &mut F) -> zonefile_fmt::Result
+    ensures { OnOk result (WritesSteps F.blocks F.step_gives p.old (token_steps (location_form.printed octets.now)) p.new) }
+{
+    let Some(words) = location_words(octets) else {
+        return Err(zonefile_fmt::Error);
+    };
+    for word in words.iter() {
+        p.write_token(*word)?;
+    }
+    Ok(())
+}
+
 /// Prints what goes to the end of an entry.
 fn write_rest<F: FormatWriter>(rest: Rest, octets: &[u8], p: &mut F) -> zonefile_fmt::Result
     ensures { OnOk result (WritesSteps F.blocks F.step_gives p.old (token_steps ((rest_form None rest).printed octets.now)) p.new) }
@@ -80,6 +95,7 @@ fn write_rest<F: FormatWriter>(rest: Rest, octets: &[u8], p: &mut F) -> zonefile
         Rest::Base64 => write_digits(DigitsKind::Base64, octets, p),
         Rest::Types | Rest::SomeTypes => write_types(octets, p),
         Rest::Text | Rest::QuotedText => p.write_token(QuotedOctets(octets)),
+        Rest::Location => write_location(octets, p),
     }
 }
 
