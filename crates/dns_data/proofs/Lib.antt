@@ -1,7 +1,10 @@
+pub mod GatewayLaws
 pub mod Joinings
 pub mod Namings
+pub mod PrefixListLaws
 pub mod Reading
 pub mod Somes
 pub mod Sources
 pub mod Strings
 pub mod TextLaws
+pub mod TokenRests

@@ -2,12 +2,21 @@
 use Rattle.std.specs.Prelude.{ℕ, List, codes}
 use Rattle.dns_fields.specs.Errors.{field_error_text}
 use Rattle.dns_fields.specs.declared.error.FieldError.TheVariants.{ShortBuf}
+use Rattle.dns_places.specs.PlaceError.{place_error_text}
+use Rattle.dns_places.specs.declared.error.PlaceError.{PlaceError}
+use Rattle.dns_places.specs.declared.error.PlaceError.TheVariants.{ExpectedPrefix, ExpectedGateway, ShortBuf as NoRoomForPlace}
 use Rattle.dns_data.specs.declared.error.DataError.{DataError}
-use Rattle.dns_data.specs.declared.error.DataError.TheVariants.{Field, TrailingToken, NotQuoted, TypeZero, WrongLength}
+use Rattle.dns_data.specs.declared.error.DataError.TheVariants.{Field, TrailingToken, NotQuoted, TypeZero, WrongLength, Place, UnknownGateway}
 
 -- there was no room for the octets, or no memory
 abbrev pub no_room : DataError
 no_room = Field ShortBuf
+
+-- lack of room is one reason, whatever the kind
+abbrev pub of_place : PlaceError → DataError
+of_place NoRoomForPlace = no_room
+of_place ExpectedPrefix = Place ExpectedPrefix
+of_place ExpectedGateway = Place ExpectedGateway
 
 -- the texts of the refusals
 abbrev pub data_error_text : DataError → List ℕ
@@ -16,3 +25,5 @@ data_error_text TrailingToken = codes "unexpected token behind the data"
 data_error_text NotQuoted = codes "expected text in quotes"
 data_error_text TypeZero = codes "type 0 in a list of types"
 data_error_text WrongLength = codes "wrong number of octets"
+data_error_text (Place e) = place_error_text e
+data_error_text UnknownGateway = codes "unknown gateway type"

@@ -1,9 +1,13 @@
 pub mod Data
 pub mod Digits
 pub mod Errors
+pub mod GatewayKeys
 pub mod Pieces
+pub mod PlaceRows
+pub mod PrefixLists
 pub mod RestKinds
 pub mod Rests
 pub mod Texts
+pub mod TokenForms
 pub mod TypeLists
 pub mod Types

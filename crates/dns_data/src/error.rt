@@ -1,7 +1,7 @@
 //! Why record data was not read.
 ghost use Rattle.std.specs.Prelude.{◌≡◌, Some};
 ghost use Rattle.dns_fields.specs.Errors.{of_spelling, of_digits};
-ghost use Rattle.dns_data.specs.Errors.{data_error_text};
+ghost use Rattle.dns_data.specs.Errors.{data_error_text, of_place};
 ghost use Rattle.dns_data.specs.declared.error.DataError.TheVariants.{Field};
 ghost use Rattle.dns_fields.specs.declared.error.FieldError.TheVariants.{Kind, ShortBuf as NoRoom};
 
@@ -9,6 +9,7 @@ use dns_digits::DigitsError;
 use dns_fields::FieldError;
 use dns_kinds::KindError;
 use dns_octets::ShortBuf;
+use dns_places::PlaceError;
 use dns_spelling::SpellingError;
 use std::error::Error;
 use std::fmt;
@@ -26,6 +27,10 @@ pub enum DataError {
     TypeZero,
     /// A digest or a hash has not as many octets as its number asks for.
     WrongLength,
+    /// A word spells no field of its kind.
+    Place(PlaceError),
+    /// The type of a gateway is above 3.
+    UnknownGateway,
 }
 
 /// A token that is refused, by its place, and why. Where none is left, the place is the entry's end.
@@ -46,6 +51,8 @@ impl DataError {
             DataError::NotQuoted => "expected text in quotes",
             DataError::TypeZero => "type 0 in a list of types",
             DataError::WrongLength => "wrong number of octets",
+            DataError::Place(why) => why.as_str(),
+            DataError::UnknownGateway => "unknown gateway type",
         }
     }
 }
@@ -89,6 +96,17 @@ impl From<KindError> for DataError {
 
     fn from(why: KindError) -> Self {
         DataError::Field(FieldError::from(why))
+    }
+}
+
+impl From<PlaceError> for DataError {
+    ghost from_gives = { λ why e. e ≡ of_place why };
+
+    fn from(why: PlaceError) -> Self {
+        match why {
+            PlaceError::ShortBuf => DataError::Field(FieldError::ShortBuf),
+            _ => DataError::Place(why),
+        }
     }
 }
 

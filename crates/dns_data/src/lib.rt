@@ -4,6 +4,8 @@
 
 pub mod digits;
 pub mod error;
+pub mod gateways;
+pub mod prefixes;
 pub mod rest;
 pub mod shape;
 pub mod texts;
@@ -12,6 +14,8 @@ pub mod types;
 
 pub use digits::take_digits;
 pub use error::{DataError, DataRefusal};
+pub use gateways::take_gateway_key;
+pub use prefixes::take_prefixes;
 pub use rest::{Rest, take_rest};
 pub use shape::{Length, PartRefusal, Shape, read_data};
 pub use texts::{take_nothing, take_text};

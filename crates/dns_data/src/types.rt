@@ -19,7 +19,7 @@ pub struct TypeRow(
 );
 
 /// The types, by code.
-pub static TYPES: [TypeRow; 49] = [
+pub static TYPES: [TypeRow; 51] = [
     // A (RFC 1035 section 3.4.1).
     TypeRow(1, &[Field::Ipv4], Rest::Nothing, Length::Any, &["address"]),
     // NS (RFC 1035 section 3.3.11).
@@ -68,10 +68,14 @@ pub static TYPES: [TypeRow; 49] = [
     TypeRow(37, &[Field::CertificateType, Field::Number16, Field::NamedAlgorithm], Rest::Base64, Length::Any, &["type", "key tag", "algorithm", "certificate"]),
     // DNAME (RFC 6672 section 2.1).
     TypeRow(39, &[Field::Name], Rest::Nothing, Length::Any, &["target"]),
+    // APL (RFC 3123 section 4).
+    TypeRow(42, &[], Rest::Prefixes, Length::Any, &["prefixes"]),
     // DS (RFC 4034 section 5.1).
     TypeRow(43, &[Field::Number16, Field::Algorithm, Field::Number8], Rest::Hex, Length::Digest(Digests::Ds, 3), &["key tag", "algorithm", "digest type", "digest"]),
     // SSHFP (RFC 4255 section 3.1).
     TypeRow(44, &[Field::Number8, Field::Number8], Rest::Hex, Length::Digest(Digests::Sshfp, 1), &["algorithm", "fingerprint type", "fingerprint"]),
+    // IPSECKEY (RFC 4025 section 2.1).
+    TypeRow(45, &[Field::Number8], Rest::GatewayKey, Length::Any, &["precedence", "gateway and key"]),
     // RRSIG (RFC 4034 section 3.1).
     TypeRow(46, &[Field::RecordType, Field::Algorithm, Field::Number8, Field::Number32, Field::Time, Field::Time, Field::Number16, Field::Name], Rest::Base64, Length::Any, &["type covered", "algorithm", "labels", "original TTL", "expiration", "inception", "key tag", "signer", "signature"]),
     // NSEC (RFC 4034 section 4.1).
