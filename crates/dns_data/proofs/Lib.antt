@@ -1,6 +1,7 @@
 pub mod GatewayLaws
 pub mod Joinings
 pub mod Namings
+pub mod PlacesBack
 pub mod PrefixListLaws
 pub mod Reading
 pub mod Somes
