@@ -1,12 +1,16 @@
 pub mod GenericLaws
 pub mod DataForms
 pub mod FieldFronts
+pub mod GatewayLaws
 pub mod Joinings
 pub mod LocationLemmas
 pub mod Namings
 pub mod PrintedBack
 pub mod PrintedFields
 pub mod PrintedStrings
+pub mod PlacesBack
+pub mod PlacesWire
+pub mod PrefixListLaws
 pub mod Reading
 pub mod RestForms
 pub mod Sizes
@@ -18,3 +22,4 @@ pub mod TypeLaws
 pub mod WireStrings
 pub mod WireTypes
 pub mod Tokens
+pub mod TokenRests

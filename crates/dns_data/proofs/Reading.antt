@@ -22,10 +22,12 @@ use Rattle.dns_data.specs.Texts.{AreText}
 use Rattle.dns_data.specs.declared.error.DataError.TheVariants.{Field as OfField, WrongLength}
 use Rattle.dns_data.specs.declared.error.DataRefusal.{DataRefusal}
 use Rattle.dns_data.specs.declared.rest.Rest.{Rest}
-use Rattle.dns_data.specs.declared.rest.Rest.TheVariants.{Nothing, Strings, Hex, Base64, Types, SomeTypes, Text, QuotedText, Location as OfLocation}
+use Rattle.dns_data.specs.declared.rest.Rest.TheVariants.{Nothing, Strings, Hex, Base64, Types, SomeTypes, Text, QuotedText, Location as OfLocation, Prefixes, GatewayKey}
 use Rattle.dns_data.specs.declared.shape.PartRefusal.{PartRefusal}
 use Rattle.dns_data.specs.declared.shape.Shape.{Shape}
 use Rattle.dns_places.proofs.LocationLaws.{locations_are_read}
+use Rattle.dns_data.proofs.GatewayLaws.{gateway_key_once}
+use Rattle.dns_data.proofs.PrefixListLaws.{prefixes_once}
 use Rattle.dns_data.proofs.Joinings.{joined_once}
 use Rattle.dns_data.proofs.Namings.{types_once}
 
@@ -49,6 +51,8 @@ rest_once origin SomeTypes tokens a b h k = types_once tokens a b h.0 k.0
 rest_once origin Text tokens a b h k = text_once false tokens a b h k
 rest_once origin QuotedText tokens a b h k = text_once true tokens a b h k
 rest_once origin OfLocation tokens a b h k = locations_are_read.once tokens a b h k
+rest_once origin Prefixes tokens a b h k = prefixes_once tokens a b h k
+rest_once origin GatewayKey tokens a b h k = gateway_key_once origin tokens a b h k
 
 module _ (origin : Option (List (List ℕ))) (room : Room) (shape : Shape) (end : ℕ) (tokens : List TokenSeen) (old : List ℕ) where
   pub field_refused : (f : FieldRefusal) (left : List TokenSeen) (new : List ℕ) → RefusesAField origin room shape.fields.now end tokens old f left new

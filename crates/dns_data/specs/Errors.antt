@@ -6,7 +6,10 @@ use Rattle.dns_places.specs.LocationErrors.{location_error_text}
 use Rattle.dns_places.specs.declared.location_error.LocationError.{LocationError}
 use Rattle.dns_places.specs.declared.location_error.LocationError.TheVariants.{ExpectedLatitude, ExpectedLongitude, ExpectedAltitude, ExpectedSize, ExpectedEnd, ShortBuf as NoRoomForLocation}
 use Rattle.dns_data.specs.declared.error.DataError.{DataError}
-use Rattle.dns_data.specs.declared.error.DataError.TheVariants.{Field, TrailingToken, NotQuoted, TypeZero, Location, NotOfType, NoDataType, NoTextForm, WrongLength}
+use Rattle.dns_data.specs.declared.error.DataError.TheVariants.{Field, TrailingToken, NotQuoted, TypeZero, Location, NotOfType, NoDataType, NoTextForm, WrongLength, Place, UnknownGateway}
+use Rattle.dns_places.specs.PlaceError.{place_error_text}
+use Rattle.dns_places.specs.declared.error.PlaceError.{PlaceError}
+use Rattle.dns_places.specs.declared.error.PlaceError.TheVariants.{ExpectedPrefix, ExpectedGateway, ShortBuf as NoRoomForPlace}
 
 -- there was no room for the octets, or no memory
 abbrev pub no_room : DataError
@@ -21,6 +24,11 @@ of_location ExpectedAltitude = Location ExpectedAltitude
 of_location ExpectedSize = Location ExpectedSize
 of_location ExpectedEnd = Location ExpectedEnd
 
+abbrev pub of_place : PlaceError → DataError
+of_place NoRoomForPlace = no_room
+of_place ExpectedPrefix = Place ExpectedPrefix
+of_place ExpectedGateway = Place ExpectedGateway
+
 -- the texts of the refusals
 abbrev pub data_error_text : DataError → List ℕ
 data_error_text (Field e) = field_error_text e
@@ -32,3 +40,5 @@ data_error_text NotOfType = codes "these octets are no data of the type"
 data_error_text NoDataType = codes "type has no data in zones"
 data_error_text NoTextForm = codes "give its data as \\#"
 data_error_text WrongLength = codes "wrong number of octets"
+data_error_text (Place e) = place_error_text e
+data_error_text UnknownGateway = codes "unknown gateway type"

@@ -10,11 +10,15 @@ pub mod Pieces
 pub mod PrintLaws
 pub mod PrintRows
 pub mod Printing
+pub mod GatewayKeys
+pub mod PlaceRows
+pub mod PrefixLists
 pub mod RestKinds
 pub mod RestLaws
 pub mod Rests
 pub mod Rows
 pub mod Texts
+pub mod TokenForms
 pub mod TypeLists
 pub mod Types
 pub mod Wire

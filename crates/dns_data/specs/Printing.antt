@@ -5,6 +5,7 @@ use Rattle.dns_zone.specs.Layout.{Step, token}
 use Rattle.dns_fields.specs.Fields.{field_form}
 use Rattle.dns_fields.specs.declared.field.Field.{Field}
 use Rattle.dns_fields.specs.declared.field.Field.TheVariants.{Number8, Number16, Number32, Interval, Ipv4, Ipv6, RecordType, Algorithm, NamedAlgorithm, CertificateType, Eui48, Eui64, Time, Locator, String, Tag, Salt, Hash, Name}
+use Rattle.dns_data.specs.GatewayKeys.{labels_size}
 use Rattle.dns_data.specs.Rests.{PrintedToken}
 use Rattle.dns_data.specs.RestKinds.{rest_form}
 use Rattle.dns_data.specs.declared.rest.Rest.{Rest}
@@ -13,13 +14,6 @@ use Rattle.dns_data.specs.declared.shape.Shape.{Shape}
 -- as many octets as the first one tells, and that one
 abbrev pub counted_size : List ℕ → ℕ
 counted_size octets = 1 + slice_index octets 0
-
--- the octets of labels in front, each behind its length, up to the empty one and with it; so many labels or fewer
-abbrev pub labels_size : ℕ → List ℕ → ℕ
-labels_size zero octets = 0
-labels_size (suc count) [] = 0
-labels_size (suc count) (zero ∷ octets) = 1
-labels_size (suc count) (suc size ∷ octets) = 2 + size + labels_size count (drop (suc size) octets)
 
 -- how many octets a field in front has
 abbrev pub field_size : Field → List ℕ → ℕ

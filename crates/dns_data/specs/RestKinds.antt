@@ -10,6 +10,8 @@ use Rattle.dns_fields.specs.declared.error.FieldError.{FieldError}
 use Rattle.dns_fields.specs.declared.field.Field.TheVariants.{String as OfString}
 use Rattle.dns_split.specs.EntryTokens.{TokenSeen}
 use Rattle.dns_data.specs.Digits.{digits_form}
+use Rattle.dns_data.specs.GatewayKeys.{gateway_key_form}
+use Rattle.dns_data.specs.PrefixLists.{prefixes_form}
 use Rattle.dns_data.specs.Rests.{RestForm, PrintedToken, BehindSome, some_form}
 use Rattle.dns_data.specs.LocationRest.{location_form}
 use Rattle.dns_data.specs.Texts.{nothing_form, text_form}
@@ -17,7 +19,7 @@ use Rattle.dns_data.specs.TypeLists.{types_form}
 use Rattle.dns_data.specs.declared.error.DataError.{DataError}
 use Rattle.dns_data.specs.declared.error.DataError.TheVariants.{Field}
 use Rattle.dns_data.specs.declared.rest.Rest.{Rest}
-use Rattle.dns_data.specs.declared.rest.Rest.TheVariants.{Nothing, Strings, Hex, Base64, Types, SomeTypes, Text, QuotedText, Location as OfLocation}
+use Rattle.dns_data.specs.declared.rest.Rest.TheVariants.{Nothing, Strings, Hex, Base64, Types, SomeTypes, Text, QuotedText, Location as OfLocation, Prefixes, GatewayKey}
 
 -- why the next token is no character string
 abbrev pub StringTokensReason : List TokenSeen → List TokenSeen → DataError → Type 0
@@ -64,3 +66,5 @@ rest_form origin SomeTypes = some_form types_form
 rest_form origin Text = text_form false
 rest_form origin QuotedText = text_form true
 rest_form origin OfLocation = location_form
+rest_form origin Prefixes = prefixes_form
+rest_form origin GatewayKey = gateway_key_form origin

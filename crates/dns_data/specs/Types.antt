@@ -4,7 +4,7 @@ use Rattle.dns_digits.specs.declared.digests.Digests.TheVariants.{Ds, Sshfp, Zon
 use Rattle.dns_fields.specs.declared.field.Field.{Field}
 use Rattle.dns_fields.specs.declared.field.Field.TheVariants.{Number8, Number16, Number32, Interval, Ipv4, Ipv6, RecordType, Algorithm, NamedAlgorithm, CertificateType, Eui48, Eui64, Time, Locator, String, Tag, Salt, Hash, Name}
 use Rattle.dns_data.specs.declared.rest.Rest.{Rest}
-use Rattle.dns_data.specs.declared.rest.Rest.TheVariants.{Base64, Hex, Location as OfLocation, Nothing, QuotedText, SomeTypes, Strings, Text, Types}
+use Rattle.dns_data.specs.declared.rest.Rest.TheVariants.{Base64, GatewayKey, Hex, Location as OfLocation, Nothing, Prefixes, QuotedText, SomeTypes, Strings, Text, Types}
 use Rattle.dns_data.specs.declared.shape.Length.{Length}
 use Rattle.dns_data.specs.declared.shape.Length.TheVariants.{Any, Digest, Hash as HashLength}
 use Rattle.dns_data.specs.declared.types.TypeRow.{TypeRow}
@@ -77,10 +77,14 @@ type_shapes =
     type_shape 37 (CertificateType ∷ Number16 ∷ NamedAlgorithm ∷ []) Base64 Any ∷
     -- DNAME
     type_shape 39 (Name ∷ []) Nothing Any ∷
+    -- APL
+    type_shape 42 [] Prefixes Any ∷
     -- DS
     type_shape 43 (Number16 ∷ Algorithm ∷ Number8 ∷ []) Hex (Digest Ds 3) ∷
     -- SSHFP
     type_shape 44 (Number8 ∷ Number8 ∷ []) Hex (Digest Sshfp 1) ∷
+    -- IPSECKEY
+    type_shape 45 (Number8 ∷ []) GatewayKey Any ∷
     -- RRSIG
     type_shape 46 (RecordType ∷ Algorithm ∷ Number8 ∷ Number32 ∷ Time ∷ Time ∷ Number16 ∷ Name ∷ []) Base64 Any ∷
     -- NSEC

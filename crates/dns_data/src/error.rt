@@ -1,7 +1,7 @@
 //! Why record data was not read.
 ghost use Rattle.std.specs.Prelude.{◌≡◌, Some};
 ghost use Rattle.dns_fields.specs.Errors.{of_spelling, of_digits};
-ghost use Rattle.dns_data.specs.Errors.{data_error_text, of_location};
+ghost use Rattle.dns_data.specs.Errors.{data_error_text, of_location, of_place};
 ghost use Rattle.dns_data.specs.declared.error.DataError.TheVariants.{Field};
 ghost use Rattle.dns_fields.specs.declared.error.FieldError.TheVariants.{Kind, ShortBuf as NoRoom};
 
@@ -9,7 +9,7 @@ use dns_digits::DigitsError;
 use dns_fields::FieldError;
 use dns_kinds::KindError;
 use dns_octets::ShortBuf;
-use dns_places::LocationError;
+use dns_places::{LocationError, PlaceError};
 use dns_spelling::SpellingError;
 use std::error::Error;
 use std::fmt;
@@ -35,6 +35,10 @@ pub enum DataError {
     NoTextForm,
     /// A digest or a hash has not as many octets as its number asks for.
     WrongLength,
+    /// A word spells no field of its kind.
+    Place(PlaceError),
+    /// The type of a gateway is above 3.
+    UnknownGateway,
 }
 
 /// A token that is refused, by its place, and why. Where none is left, the place is the entry's end.
@@ -59,6 +63,8 @@ impl DataError {
             DataError::NoDataType => "type has no data in zones",
             DataError::NoTextForm => "give its data as \\#",
             DataError::WrongLength => "wrong number of octets",
+            DataError::Place(why) => why.as_str(),
+            DataError::UnknownGateway => "unknown gateway type",
         }
     }
 }
@@ -102,6 +108,17 @@ impl From<KindError> for DataError {
 
     fn from(why: KindError) -> Self {
         DataError::Field(FieldError::from(why))
+    }
+}
+
+impl From<PlaceError> for DataError {
+    ghost from_gives = { λ why e. e ≡ of_place why };
+
+    fn from(why: PlaceError) -> Self {
+        match why {
+            PlaceError::ShortBuf => DataError::Field(FieldError::ShortBuf),
+            _ => DataError::Place(why),
+        }
     }
 }
 

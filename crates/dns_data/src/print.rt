@@ -96,6 +96,7 @@ fn write_rest<F: FormatWriter>(rest: Rest, octets: &[u8], p: &mut F) -> zonefile
         Rest::Types | Rest::SomeTypes => write_types(octets, p),
         Rest::Text | Rest::QuotedText => p.write_token(QuotedOctets(octets)),
         Rest::Location => write_location(octets, p),
+        Rest::Prefixes | Rest::GatewayKey => Err(zonefile_fmt::Error),
     }
 }
 

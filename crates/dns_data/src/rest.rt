@@ -9,6 +9,8 @@ ghost use Rattle.dns_data.specs.TypeLists.{types_form};
 use crate::digits::take_digits;
 use crate::error::{DataError, DataRefusal};
 use crate::locations::take_place;
+use crate::gateways::take_gateway_key;
+use crate::prefixes::take_prefixes;
 use crate::texts::{take_no_token, take_text};
 use crate::type_lists::take_types;
 use dns_digits::DigitsKind;
@@ -37,6 +39,10 @@ pub enum Rest {
     QuotedText,
     /// A location.
     Location,
+    /// Any number of items of an address prefix list.
+    Prefixes,
+    /// The type of a gateway, an algorithm, the gateway, and a key in base 64.
+    GatewayKey,
 }
 
 /// Sees that octets were appended behind so many.
@@ -91,7 +97,7 @@ fn take_some_strings<S: TokenSource, Octets: AsOctets, B: OctetsBuilder>(
 }
 
 /// Takes one octet or more in digits.
-fn take_some_digits<S: TokenSource, B: OctetsBuilder>(
+pub(crate) fn take_some_digits<S: TokenSource, B: OctetsBuilder>(
     kind: DigitsKind,
     source: &mut S,
     target: &mut B,
@@ -137,5 +143,7 @@ pub fn take_rest<S: TokenSource, Octets: AsOctets, B: OctetsBuilder>(
         Rest::Text => take_text(false, source, target),
         Rest::QuotedText => take_text(true, source, target),
         Rest::Location => take_place(source, target),
+        Rest::Prefixes => take_prefixes(source, target),
+        Rest::GatewayKey => take_gateway_key(origin, source, target),
     }
 }

@@ -6,6 +6,8 @@ ghost use Rattle.dns_data.specs.RestKinds.{rest_form, AreCharacterStrings};
 ghost use Rattle.dns_data.specs.TypeLists.{types_form};
 ghost use Rattle.dns_data.specs.Wire.{BeginsWithFields};
 
+use crate::gateways::is_gateway_key;
+use crate::prefixes::are_prefixes;
 use crate::rest::Rest;
 use crate::shape::{Shape, has_length};
 use dns_fields::{Field, field_width};
@@ -72,6 +74,8 @@ pub(crate) fn is_rest(rest: Rest, octets: &[u8]) -> bool
         Rest::Text => true,
         Rest::QuotedText => true,
         Rest::Location => is_location(octets),
+        Rest::Prefixes => are_prefixes(octets),
+        Rest::GatewayKey => is_gateway_key(octets),
     }
 }
 

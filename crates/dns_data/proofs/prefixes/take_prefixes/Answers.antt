@@ -1,0 +1,26 @@
+use Rattle.std.proofs.Common.{refl, ◌∙◌, sym}
+use Rattle.dns_fields.proofs.Tokens.{none_left}
+use Rattle.dns_data.specs.PrefixLists.{prefix_form}
+use Rattle.dns_data.proofs.PrefixListLaws.{prefix_once}
+use Rattle.dns_data.proofs.Sources.{some_left}
+use Rattle.dns_data.proofs.TokenRests.{none_yet, each_more, all_each, each_refused}
+use Rattle.dns_data.proofs.prefixes.take_prefixes.Goals as goal
+
+pub loop-source-init : goal.loop-source-init
+loop-source-init g c = record { taken = none_yet prefix_form _ _; end = refl }
+
+pub loop-source-preserved : goal.loop-source-preserved
+loop-source-preserved g c = record {
+  taken = each_more prefix_form _ _ _ _ _ _ c.loop-source.invariant.taken c.in_default.ensures.takes;
+  end = c.take_prefix.ensures.end ∙ c.loop-source.invariant.end;
+}
+
+pub returns-in-Err-clause-takes : goal.returns-in-Err-clause-takes
+returns-in-Err-clause-takes g c =
+    let some = some_left c.current.result (g.S.TokenSource.left c.loop-source.source) c.current.ensures (sym c.is_some.ensures ∙ c.loop-source-test.true) in
+    each_refused prefix_form prefix_once g.B.OctetsBuilder.room _ _ _ _ _ _ _ _ c.in-Err.refusal c.loop-source.invariant.taken c.loop-source.invariant.end some c.in-Err.ensures.takes
+
+pub returns-clause-takes : goal.returns-clause-takes
+returns-clause-takes g c =
+    let none = none_left c.current.result (g.S.TokenSource.left c.loop-source.source) c.current.ensures (sym c.is_some.ensures ∙ c.loop-source-test.false) in
+    (none, all_each prefix_form _ _ _ _ c.loop-source.invariant.taken none)

@@ -1,0 +1,102 @@
+-- A gateway and a public key (IPSECKEY, RFC 4025 section 2.1), behind the precedence.
+use Rattle.std.specs.Prelude.{ℕ, zero, suc, ◌≡◌, ◌≢◌, ◌⊎◌, ◌<◌, ◌≤◌, ◌+◌, ◌==◌, if◌then◌else◌, true, false, Option, None, Result, Ok, Err, List, [], ◌∷◌, ◌++◌, drop, length, slice_index, codes}
+use Rattle.std.specs.Net.Addr.{segments_of}
+use Rattle.std.specs.Net.Text.{ipv4_text}
+use Rattle.dns_octets.specs.Room.{Room}
+use Rattle.dns_digits.specs.declared.kind.DigitsKind.TheVariants.{Base64 as InBase64}
+use Rattle.dns_fields.specs.Fields.{field_form}
+use Rattle.dns_fields.specs.Taking.{SpellsField}
+use Rattle.dns_fields.specs.declared.error.FieldError.TheVariants.{Quoted}
+use Rattle.dns_fields.specs.declared.field.Field.TheVariants.{Number8 as OfNumber8, Name as OfName}
+use Rattle.dns_kinds.specs.Addresses.{shown_ipv6}
+use Rattle.dns_places.specs.Gateways.{IsGateway, gateway_type, SpellsGateway, gateway_octets}
+use Rattle.dns_places.specs.declared.error.PlaceError.TheVariants.{ExpectedGateway}
+use Rattle.dns_places.specs.declared.gateway.Gateway.{Gateway}
+use Rattle.dns_spelling.specs.NameSpelling.{IsWireName}
+use Rattle.dns_spelling.specs.PrintedNames.{wire_name_text}
+use Rattle.dns_split.specs.EntryTokens.{TokenSeen}
+use Rattle.dns_data.specs.Digits.{digits_form}
+use Rattle.dns_data.specs.Rests.{RestForm, PrintedToken, some_form}
+use Rattle.dns_data.specs.TokenForms.{TokenForm, FieldReason, TakesTokenAs, then_form}
+use Rattle.dns_data.specs.declared.error.DataError.{DataError}
+use Rattle.dns_data.specs.declared.error.DataError.TheVariants.{Field, Place, UnknownGateway}
+use Rattle.dns_data.specs.declared.error.DataRefusal.{DataRefusal}
+
+abbrev pub plain_word : List ℕ → PrintedToken
+plain_word text = record { is_quoted = false; text = text }
+
+-- a number of 8 bits
+abbrev pub octet_form : TokenForm
+octet_form = record {
+  spells = SpellsField None OfNumber8;
+  reason = FieldReason None OfNumber8;
+  is_wire = (field_form None OfNumber8).is_wire;
+  width = λ octets. 1;
+  printed = λ octets. plain_word ((field_form None OfNumber8).printed octets);
+}
+
+-- why a token is no type of a gateway: it is no number; or a greater one
+abbrev pub GatewayTypeReason : TokenSeen → DataError → Type 0
+GatewayTypeReason t e = octet_form.reason t e ⊎ ((e ≡ UnknownGateway) × ((octets : List ℕ) × octet_form.spells t octets × (3 < slice_index octets 0)))
+
+-- the type of a gateway: 0 for none, 1 for an IPv4 address, 2 for an IPv6 address, 3 for a name
+abbrev pub gateway_type_form : TokenForm
+gateway_type_form = record {
+  spells = λ t octets. octet_form.spells t octets × (slice_index octets 0 ≤ 3);
+  reason = GatewayTypeReason;
+  is_wire = λ octets. octet_form.is_wire octets × (slice_index octets 0 ≤ 3);
+  width = octet_form.width;
+  printed = octet_form.printed;
+}
+
+-- the type that a token names, or why it names none
+abbrev pub ReadsGatewayType : TokenSeen → Result ℕ DataError → Type 0
+ReadsGatewayType t (Ok number) = gateway_type_form.spells t (number ∷ [])
+ReadsGatewayType t (Err e) = GatewayTypeReason t e × ((octets : List ℕ) → gateway_type_form.spells t octets → ⊥)
+
+-- the type that the next token names is appended, and the token taken; or it is refused
+abbrev pub TakesGatewayType : Room → ℕ → List TokenSeen → List ℕ → Result ℕ DataRefusal → List TokenSeen → List ℕ → Type 0
+TakesGatewayType room end tokens old (Ok number) left new = (t : TokenSeen) × (tokens ≡ t ∷ left) × gateway_type_form.spells t (number ∷ []) × (new ≡ old ++ number ∷ [])
+TakesGatewayType room end tokens old (Err r) left new = TakesTokenAs room gateway_type_form.spells gateway_type_form.reason end tokens old (Err r) left new
+
+-- ---- the gateway of a type
+
+-- a word spells a gateway that is no name
+abbrev pub SpellsAddress : ℕ → TokenSeen → List ℕ → Type 0
+SpellsAddress number t octets = (t.is_quoted ≡ false) × ((g : Gateway) × SpellsGateway number t.text g × (octets ≡ gateway_octets g))
+
+-- why a token spells none: it is a quoted text, or none of the type
+abbrev pub AddressReason : TokenSeen → DataError → Type 0
+AddressReason t e = ((e ≡ Field Quoted) × (t.is_quoted ≡ true)) ⊎ ((e ≡ Place ExpectedGateway) × (t.is_quoted ≡ false))
+
+-- the octets of a gateway that is no name
+abbrev pub IsAddressOf : ℕ → List ℕ → Type 0
+IsAddressOf number octets = (g : Gateway) × IsGateway g × (gateway_type g ≡ number) × (octets ≡ gateway_octets g)
+
+-- the octets of labels in front, each behind its length, up to the empty one and with it; so many labels or fewer
+abbrev pub labels_size : ℕ → List ℕ → ℕ
+labels_size zero octets = 0
+labels_size (suc count) [] = 0
+labels_size (suc count) (zero ∷ octets) = 1
+labels_size (suc count) (suc size ∷ octets) = 2 + size + labels_size count (drop (suc size) octets)
+
+abbrev pub gateway_size : ℕ → List ℕ → ℕ
+gateway_size number octets = if number == 0 then 0 else if number == 1 then 4 else if number == 2 then 16 else labels_size (length octets) octets
+
+abbrev pub gateway_word : ℕ → List ℕ → List ℕ
+gateway_word number octets = if number == 0 then codes "." else if number == 1 then ipv4_text octets else if number == 2 then shown_ipv6 (segments_of octets) else wire_name_text octets
+
+-- a gateway as a word; a relative name stands before the origin
+abbrev pub gateway_form : Option (List (List ℕ)) → ℕ → TokenForm
+gateway_form origin number = record {
+  spells = λ t octets. ((number ≡ 3) × SpellsField origin OfName t octets) ⊎ SpellsAddress number t octets;
+  reason = λ t e. ((number ≡ 3) × FieldReason origin OfName t e) ⊎ ((number ≢ 3) × AddressReason t e);
+  is_wire = λ octets. ((number ≡ 3) × IsWireName octets) ⊎ IsAddressOf number octets;
+  width = gateway_size number;
+  printed = λ octets. plain_word (gateway_word number octets);
+}
+
+-- the type of the gateway, the algorithm of the key, the gateway, and the key in base 64, of one octet at least
+abbrev pub gateway_key_form : Option (List (List ℕ)) → RestForm
+gateway_key_form origin =
+    then_form gateway_type_form (λ number. then_form octet_form (λ algorithm. then_form (gateway_form origin (slice_index number 0)) (λ gateway. some_form (digits_form InBase64))))

@@ -1,0 +1,53 @@
+-- Address prefix lists to the end of an entry (RFC 3123).
+use Rattle.std.specs.Prelude.{ℕ, ◌≡◌, ◌⊎◌, ◌+◌, ◌-◌, ◌%◌, ◌==◌, nat_le, if◌then◌else◌, true, false, List, ◌++◌, length, drop, replicate, slice_index}
+use Rattle.std.specs.Net.Addr.{segments_of}
+use Rattle.std.specs.declared.net.ip_addr.IpAddr.{IpAddr}
+use Rattle.std.specs.declared.net.ip_addr.IpAddr.TheVariants.{V4, V6}
+use Rattle.dns_fields.specs.declared.error.FieldError.TheVariants.{Quoted}
+use Rattle.dns_places.specs.Prefixes.{SpellsItem, IsPrefix, IsPrefixWire, prefix_text}
+use Rattle.dns_places.specs.declared.apl.Prefix.{Prefix}
+use Rattle.dns_places.specs.declared.error.PlaceError.TheVariants.{ExpectedPrefix}
+use Rattle.dns_split.specs.EntryTokens.{TokenSeen}
+use Rattle.dns_data.specs.Rests.{RestForm}
+use Rattle.dns_data.specs.TokenForms.{TokenForm, each_form}
+use Rattle.dns_data.specs.declared.error.DataError.{DataError}
+use Rattle.dns_data.specs.declared.error.DataError.TheVariants.{Field, Place}
+
+-- why a token is no item: it is a quoted text; or it spells none
+abbrev pub PrefixReason : TokenSeen → DataError → Type 0
+PrefixReason t e = ((e ≡ Field Quoted) × (t.is_quoted ≡ true)) ⊎ ((e ≡ Place ExpectedPrefix) × (t.is_quoted ≡ false))
+
+-- the octets of an item
+abbrev pub IsPrefixItem : List ℕ → Type 0
+IsPrefixItem octets = (p : Prefix) × IsPrefix p × IsPrefixWire p octets
+
+-- ---- the item that octets are
+
+-- octets, and zeros up to so many
+abbrev pub with_zeros : ℕ → List ℕ → List ℕ
+with_zeros size part = part ++ replicate (size - length part) 0
+
+-- the address of a family, all but the zeros at its end
+abbrev pub family_address : ℕ → List ℕ → IpAddr
+family_address family part = if family == 1 then V4 (record { octets = with_zeros 4 part }) else V6 (record { segments = segments_of (with_zeros 16 part) })
+
+abbrev pub item_prefix : List ℕ → Prefix
+item_prefix octets = record { negated = nat_le 128 (slice_index octets 3); address = family_address (slice_index octets 1) (drop 4 octets); bits = slice_index octets 2 }
+
+-- behind four octets, as many as the last of these counts beside the exclusion
+abbrev pub item_size : List ℕ → ℕ
+item_size octets = 4 + slice_index octets 3 % 128
+
+-- an item as a word
+abbrev pub prefix_form : TokenForm
+prefix_form = record {
+  spells = λ t octets. (t.is_quoted ≡ false) × SpellsItem t.text octets;
+  reason = PrefixReason;
+  is_wire = IsPrefixItem;
+  width = item_size;
+  printed = λ octets. record { is_quoted = false; text = prefix_text (item_prefix octets) };
+}
+
+-- items, any number of them
+abbrev pub prefixes_form : RestForm
+prefixes_form = each_form prefix_form

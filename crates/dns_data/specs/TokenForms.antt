@@ -1,0 +1,103 @@
+-- What one token is read as, and what goes to the end of an entry as such tokens.
+use Rattle.std.specs.Prelude.{ℕ, zero, suc, ◌≡◌, ◌⊎◌, Option, List, [], ◌∷◌, ◌++◌, take, drop, length, Result, Ok, Err}
+use Rattle.std.specs.List.{AllByRecursion, concat}
+use Rattle.dns_octets.specs.Room.{Room}
+use Rattle.dns_octets.specs.Appending.{Extends, Gains, LacksRoom}
+use Rattle.dns_fields.specs.Fields.{field_form}
+use Rattle.dns_fields.specs.Source.{next_place}
+use Rattle.dns_fields.specs.declared.error.FieldError.{FieldError}
+use Rattle.dns_fields.specs.declared.error.FieldError.TheVariants.{EndOfEntry}
+use Rattle.dns_fields.specs.declared.field.Field.{Field}
+use Rattle.dns_split.specs.EntryTokens.{TokenSeen}
+use Rattle.dns_data.specs.Errors.{no_room}
+use Rattle.dns_data.specs.Rests.{RestForm, PrintedToken, BehindSome}
+use Rattle.dns_data.specs.declared.error.DataError.{DataError}
+use Rattle.dns_data.specs.declared.error.DataError.TheVariants.{Field as OfField}
+use Rattle.dns_data.specs.declared.error.DataRefusal.{DataRefusal}
+
+pub record TokenForm : Type 1 where
+  -- a token spells these octets
+  pub spells : TokenSeen → List ℕ → Type 0
+  -- why a token that spells none is refused
+  pub reason : TokenSeen → DataError → Type 0
+  -- the octets that it can have
+  pub is_wire : List ℕ → Type 0
+  -- how many of octets are those in front
+  pub width : List ℕ → ℕ
+  pub printed : List ℕ → PrintedToken
+
+-- why a token is no field
+abbrev pub FieldReason : Option (List (List ℕ)) → Field → TokenSeen → DataError → Type 0
+FieldReason origin f t e = (why : FieldError) × (e ≡ OfField why) × (field_form origin f).reason t.is_quoted t.text why
+
+-- why the next token was not taken: there is none; its octets don't surely fit; or it spells none, and this is why
+abbrev pub RefusesTokenAs : Room → (TokenSeen → List ℕ → Type 0) → (TokenSeen → DataError → Type 0) → List TokenSeen → List ℕ → DataError → Type 0
+RefusesTokenAs room Spells Reason [] old e = e ≡ OfField EndOfEntry
+RefusesTokenAs room Spells Reason (t ∷ ts) old e = ((e ≡ no_room) × LacksRoom room (Spells t) old) ⊎ (Reason t e × ((octets : List ℕ) → Spells t octets → ⊥))
+
+-- the next token is taken, and the target gained the octets that it spells; or it is refused, and none is taken
+abbrev pub TakesTokenAs : Room → (TokenSeen → List ℕ → Type 0) → (TokenSeen → DataError → Type 0) → ℕ → List TokenSeen → List ℕ → Result (Unit {0}) DataRefusal → List TokenSeen → List ℕ → Type 0
+TakesTokenAs room Spells Reason end tokens old (Ok _) left new = (t : TokenSeen) × (tokens ≡ t ∷ left) × Gains (Spells t) old new
+TakesTokenAs room Spells Reason end tokens old (Err r) left new = (left ≡ tokens) × (r.at ≡ next_place tokens end) × RefusesTokenAs room Spells Reason tokens old r.why × Extends old new
+
+-- ---- any number of tokens of one form
+
+-- each token spells octets, and these stand one after another
+abbrev pub SpellOctets : TokenForm → List TokenSeen → List ℕ → Type 0
+SpellOctets f [] octets = octets ≡ []
+SpellOctets f (t ∷ ts) octets = (front : List ℕ) × (back : List ℕ) × (octets ≡ front ++ back) × f.spells t front × SpellOctets f ts back
+
+-- tokens spell octets, and behind them the next is refused
+abbrev pub ReasonBehind : TokenForm → List TokenSeen → List TokenSeen → DataError → Type 0
+ReasonBehind f before [] e = ⊥
+ReasonBehind f before (t ∷ ts) e = ((octets : List ℕ) × SpellOctets f before octets) × f.reason t e
+
+-- octets of a form, one after another to the end
+abbrev pub AreParts : (List ℕ → Type 0) → List ℕ → Type 0
+AreParts Is octets = (parts : List (List ℕ)) × AllByRecursion Is parts × (octets ≡ concat parts)
+
+-- so many tokens or fewer of the octets in front
+abbrev pub printed_each : TokenForm → ℕ → List ℕ → List PrintedToken
+printed_each f zero octets = []
+printed_each f (suc count) [] = []
+printed_each f (suc count) (o ∷ os) = let octets = o ∷ os in f.printed (take (f.width octets) octets) ∷ printed_each f count (drop (f.width octets) octets)
+
+abbrev pub each_form : TokenForm → RestForm
+each_form f = record {
+  spells = SpellOctets f;
+  reason = BehindSome (ReasonBehind f);
+  is_wire = AreParts f.is_wire;
+  printed = λ octets. printed_each f (length octets) octets;
+}
+
+-- ---- one token, and behind it what its octets ask for
+
+pub record SpellsThen (f : TokenForm) (behind : List ℕ → RestForm) (tokens : List TokenSeen) (octets : List ℕ) : Type 0 where
+  pub first : TokenSeen
+  pub last : List TokenSeen
+  pub front : List ℕ
+  pub back : List ℕ
+  pub tokens_are : tokens ≡ first ∷ last
+  pub octets_are : octets ≡ front ++ back
+  pub spelled : f.spells first front
+  pub rest : (behind front).spells last back
+
+-- there is no token; the first is refused; or it spells octets, and what is behind it is refused
+abbrev pub ThenReason : TokenForm → (List ℕ → RestForm) → List TokenSeen → List TokenSeen → DataError → Type 0
+ThenReason f behind [] left e = (left ≡ []) × (e ≡ OfField EndOfEntry)
+ThenReason f behind (t ∷ ts) left e = ((left ≡ t ∷ ts) × f.reason t e) ⊎ ((front : List ℕ) × f.spells t front × (behind front).reason ts left e)
+
+pub record IsThen (f : TokenForm) (behind : List ℕ → RestForm) (octets : List ℕ) : Type 0 where
+  pub front : List ℕ
+  pub back : List ℕ
+  pub octets_are : octets ≡ front ++ back
+  pub is_wire : f.is_wire front
+  pub rest : (behind front).is_wire back
+
+abbrev pub then_form : TokenForm → (List ℕ → RestForm) → RestForm
+then_form f behind = record {
+  spells = SpellsThen f behind;
+  reason = ThenReason f behind;
+  is_wire = IsThen f behind;
+  printed = λ octets. let front = take (f.width octets) octets in f.printed front ∷ (behind front).printed (drop (f.width octets) octets);
+}

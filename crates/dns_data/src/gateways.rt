@@ -1,0 +1,187 @@
+//! A gateway and a public key (IPSECKEY, RFC 4025 section 2.1), behind the precedence.
+ghost use Rattle.std.specs.Prelude.{◌≡◌, ◌↔◌, IsTrue, None};
+ghost use Rattle.std.specs.Option.{option_copied};
+ghost use Rattle.dns_fields.specs.Taking.{SpellsField};
+ghost use Rattle.dns_spelling.specs.Forms.{FindsWidth};
+ghost use Rattle.dns_split.specs.EntryTokens.{token_seen};
+ghost use Rattle.dns_data.specs.GatewayKeys.{ReadsGatewayType, TakesGatewayType, SpellsAddress, AddressReason, IsAddressOf, gateway_form, gateway_key_form};
+ghost use Rattle.dns_data.specs.Rests.{TakesRest};
+ghost use Rattle.dns_data.specs.TokenForms.{FieldReason, TakesTokenAs};
+
+use crate::error::{DataError, DataRefusal};
+use crate::rest::take_some_digits;
+use dns_digits::DigitsKind;
+use dns_fields::{Field, FieldError, TokenSource, take_field};
+use dns_kinds::numbers::u8_from_text;
+use dns_octets::{AsOctets, OctetsBuilder};
+use dns_places::Gateway;
+use dns_spelling::name_width;
+use dns_split::entry_tokens::EntryToken;
+use dns_wire::Name;
+
+/// The greatest type of a gateway, that of a name.
+const NAME: u8 = 3;
+
+/// Takes the next token as a field.
+fn take_one<S: TokenSource, Octets: AsOctets, B: OctetsBuilder>(
+    field: Field,
+    origin: Option<&Name<Octets>>,
+    source: &mut S,
+    target: &mut B,
+) -> Result<(), DataRefusal>
+    ensures takes { TakesTokenAs B.room (SpellsField (option_copied origin.entry) field) (FieldReason (option_copied origin.entry) field) (S.end source.old) (S.left source.old) (B.octets target.old) result (S.left source.new) (B.octets target.new) }
+    ensures end { S.end source.new ≡ S.end source.old }
+{
+    match take_field(field, origin, source, target) {
+        Ok(()) => Ok(()),
+        Err(refusal) => {
+            let why = DataError::Field(refusal.why);
+            Err(DataRefusal {
+                at: refusal.at,
+                why,
+            })
+        }
+    }
+}
+
+/// The type of a gateway that a token names.
+fn gateway_type(token: &EntryToken<'_>) -> Result<u8, DataError>
+    ensures { ReadsGatewayType (token_seen token.now) result }
+{
+    if token.is_quoted {
+        return Err(DataError::Field(FieldError::Quoted));
+    }
+    match u8_from_text(token.text) {
+        Ok(number) if number <= NAME => Ok(number),
+        Ok(_) => Err(DataError::UnknownGateway),
+        Err(error) => Err(DataError::from(error)),
+    }
+}
+
+/// Takes the next token as the type of a gateway, and appends it.
+fn take_gateway_type<S: TokenSource, B: OctetsBuilder>(
+    source: &mut S,
+    target: &mut B,
+) -> Result<u8, DataRefusal>
+    ensures takes { TakesGatewayType B.room (S.end source.old) (S.left source.old) (B.octets target.old) result (S.left source.new) (B.octets target.new) }
+    ensures end { S.end source.new ≡ S.end source.old }
+{
+    let at = source.place();
+    let Some(token) = source.current() else {
+        let why = DataError::Field(FieldError::EndOfEntry);
+        return Err(DataRefusal { at, why });
+    };
+    let number = match gateway_type(&token) {
+        Ok(number) => number,
+        Err(why) => return Err(DataRefusal { at, why }),
+    };
+    if let Err(error) = target.append_slice(&[number]) {
+        let why = DataError::from(error);
+        return Err(DataRefusal { at, why });
+    }
+    source.advance();
+    Ok(number)
+}
+
+/// Takes the next word as a gateway that is no name.
+fn take_address<S: TokenSource, B: OctetsBuilder>(
+    number: u8,
+    source: &mut S,
+    target: &mut B,
+) -> Result<(), DataRefusal>
+    ensures takes { TakesTokenAs B.room (SpellsAddress number) AddressReason (S.end source.old) (S.left source.old) (B.octets target.old) result (S.left source.new) (B.octets target.new) }
+    ensures end { S.end source.new ≡ S.end source.old }
+{
+    let at = source.place();
+    let Some(token) = source.current() else {
+        let why = DataError::Field(FieldError::EndOfEntry);
+        return Err(DataRefusal { at, why });
+    };
+    if token.is_quoted {
+        let why = DataError::Field(FieldError::Quoted);
+        return Err(DataRefusal { at, why });
+    }
+    let gateway = match Gateway::from_text(number, token.text) {
+        Ok(gateway) => gateway,
+        Err(error) => {
+            let why = DataError::from(error);
+            return Err(DataRefusal { at, why });
+        }
+    };
+    if let Err(error) = gateway.compose(target) {
+        let why = DataError::from(error);
+        return Err(DataRefusal { at, why });
+    }
+    source.advance();
+    Ok(())
+}
+
+/// Takes the next word as a gateway of a type.
+fn take_gateway<S: TokenSource, Octets: AsOctets, B: OctetsBuilder>(
+    number: u8,
+    origin: Option<&Name<Octets>>,
+    source: &mut S,
+    target: &mut B,
+) -> Result<(), DataRefusal>
+    ensures takes { TakesTokenAs B.room (gateway_form (option_copied origin.entry) number).spells (gateway_form (option_copied origin.entry) number).reason (S.end source.old) (S.left source.old) (B.octets target.old) result (S.left source.new) (B.octets target.new) }
+    ensures end { S.end source.new ≡ S.end source.old }
+{
+    if number == NAME {
+        take_one(Field::Name, origin, source, target)
+    } else {
+        take_address(number, source, target)
+    }
+}
+
+/// Takes the tokens that are left as the type of a gateway (0 for none, 1 for an IPv4 address, 2 for
+/// an IPv6 address, 3 for a name), an algorithm, the gateway, and a key of one octet or more in base
+/// 64, and appends their octets. A gateway of type 0 is written `.`. A name stands uncompressed,
+/// and a relative one before the origin. Other types are refused.
+pub fn take_gateway_key<S: TokenSource, Octets: AsOctets, B: OctetsBuilder>(
+    origin: Option<&Name<Octets>>,
+    source: &mut S,
+    target: &mut B,
+) -> Result<(), DataRefusal>
+    ensures takes { TakesRest B.room (gateway_key_form (option_copied origin.entry)) (S.end source.old) (S.left source.old) (B.octets target.old) result (S.left source.new) (B.octets target.new) }
+    ensures end { S.end source.new ≡ S.end source.old }
+{
+    let number = take_gateway_type(source, target)?;
+    take_one(Field::Number8, origin, source, target)?;
+    take_gateway(number, origin, source, target)?;
+    take_some_digits(DigitsKind::Base64, source, target)
+}
+
+/// How many of the octets in front are a gateway of a type that is no name.
+fn address_width(number: u8, octets: &[u8]) -> Option<usize>
+    ensures { FindsWidth (IsAddressOf number) octets.now result }
+{
+    match Gateway::from_octets(number, octets)? {
+        Gateway::Nothing => Some(0),
+        Gateway::Ipv4(_) => Some(4),
+        Gateway::Ipv6(_) => Some(16),
+    }
+}
+
+/// How many of the octets in front are a gateway of a type.
+fn gateway_width(number: u8, octets: &[u8]) -> Option<usize>
+    ensures { FindsWidth (gateway_form None number).is_wire octets.now result }
+{
+    if number == NAME {
+        name_width(octets)
+    } else {
+        address_width(number, octets)
+    }
+}
+
+/// Whether octets are a gateway and a key, behind the gateway's type and the algorithm.
+pub(crate) fn is_gateway_key(octets: &[u8]) -> bool
+    ensures { IsTrue result ↔ (gateway_key_form None).is_wire octets.now }
+{
+    if octets.len() < 2 {
+        return false;
+    }
+    match gateway_width(octets[0], &octets[2..]) {
+        Some(width) => width < octets.len() - 2,
+        None => false,
+    }
+}
