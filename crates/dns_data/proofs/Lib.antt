@@ -2,6 +2,7 @@ pub mod Joinings
 pub mod Namings
 pub mod PrintedBack
 pub mod PrintedFields
+pub mod PrintedQuotes
 pub mod PrintedStrings
 pub mod Reading
 pub mod Sizes
