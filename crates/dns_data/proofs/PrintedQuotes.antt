@@ -1,6 +1,6 @@
 -- What is printed in quotes is a quoted text.
-use Rattle.std.proofs.Common.{ℕ, ◌≡◌, ◌<◌, Bool, true, false, true≢false, Option, None, List, [], ◌∷◌, ◌++◌, length, take, drop, map, refl, sym, ap, subst, ◌∙◌, arith}
-use Rattle.std.specs.Prelude.{All, if◌then◌else◌}
+use Rattle.std.proofs.Common.{ℕ, ◌≡◌, ◌<◌, Bool, true, false, true≢false, None, List, [], ◌∷◌, ◌++◌, length, take, drop, map, refl, sym, ap, subst, ◌∙◌, arith}
+use Rattle.std.specs.Prelude.{if◌then◌else◌}
 use Rattle.std.specs.List.{list_all, AllByRecursion}
 use Rattle.std.proofs.Math.Seq.{take-append_seam, drop-append_seam}
 use Rattle.std.proofs.lemmas.Bool.Decides.{nat_tests}
@@ -27,7 +27,6 @@ use Rattle.dns_data.specs.Digits.{printed_digits}
 use Rattle.dns_data.specs.PrintLaws.{IsQuotedWell}
 use Rattle.dns_data.specs.Printing.{field_size, printed_field, printed_parts, printed_data}
 use Rattle.dns_data.specs.RestKinds.{rest_form, strings_of, AreShortStrings}
-use Rattle.dns_data.specs.Rests.{PrintedToken}
 use Rattle.dns_data.specs.Wire.{BeginsWithFields}
 use Rattle.dns_data.specs.declared.rest.Rest.{Rest}
 use Rattle.dns_data.specs.declared.rest.Rest.TheVariants.{Nothing, Strings, Hex, Base64, Types, SomeTypes, Text, QuotedText}
@@ -111,8 +110,7 @@ parts_well (f ∷ fs) r octets back b is =
     let more : List ℕ = b.1 in
     let sized : field_size f octets ≡ length form = ap (field_size f) b.2 ∙ field_sized f form more b.3 in
     let cut : take (field_size f octets) octets ≡ form = ap (λ n. take n octets) sized ∙ ap (take (length form)) b.2 ∙ take-append_seam form more in
-    let behind : drop (field_size f octets) octets ≡ more = ap (λ n. drop n octets) sized ∙ ap (drop (length form)) b.2 ∙ drop-append_seam form more in
-    (
+    let behind : drop (field_size f octets) octets ≡ more = ap (λ n. drop n octets) sized ∙ ap (drop (length form)) b.2 ∙ drop-append_seam form more in (
       subst (λ o. IsQuotedWell (printed_field f o)) (sym cut) (field_well f form b.3),
       subst (λ o. AllByRecursion IsQuotedWell (printed_parts fs r o)) (sym behind) (parts_well fs r more back b.4 is),
     )
