@@ -7,6 +7,7 @@ pub mod LocationLemmas
 pub mod Namings
 pub mod PrintedBack
 pub mod PrintedFields
+pub mod PrintedQuotes
 pub mod PrintedStrings
 pub mod PlacesBack
 pub mod PlacesWire

@@ -59,7 +59,7 @@ digits_back kind (o ∷ os) (t ∷ []) values p = (
 digits_back kind (o ∷ os) (t ∷ u ∷ ts) values p = absurd p.3
 
 -- the strings of their wire form
-strings_again : (strings : List (List ℕ)) → strings_in_octets (strings_wire strings) ≡ strings
+pub strings_again : (strings : List (List ℕ)) → strings_in_octets (strings_wire strings) ≡ strings
 strings_again [] = refl
 strings_again (s ∷ ss) =
     front_string (length s) (s ++ strings_wire ss)

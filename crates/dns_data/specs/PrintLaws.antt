@@ -1,13 +1,22 @@
--- What record data is printed as spells the data again.
-use Rattle.std.specs.Prelude.{ℕ, Option, List}
+-- What record data is printed as spells the data again, and what stands in quotes stays in them.
+use Rattle.std.specs.Prelude.{ℕ, ◌≡◌, true, Option, List}
+use Rattle.std.specs.List.{AllByRecursion}
 use Rattle.dns_spelling.specs.NameSpelling.{IsOrigin}
 use Rattle.dns_split.specs.EntryTokens.{TokenSeen}
+use Rattle.dns_split.specs.Token.{IsQuote}
 use Rattle.dns_data.specs.Data.{IsDataOf, SpellsData}
-use Rattle.dns_data.specs.Printing.{printed_data}
-use Rattle.dns_data.specs.Rests.{ArePrinted}
+use Rattle.dns_data.specs.Printing.{printed_data, token_bytes}
+use Rattle.dns_data.specs.Rests.{ArePrinted, PrintedToken}
 use Rattle.dns_data.specs.declared.shape.Shape.{Shape}
 
 -- whatever the origin is, the tokens that data is printed as spell it
 abbrev pub IsDataReadBack : Type 0
 IsDataReadBack = (origin : Option (List (List ℕ))) (shape : Shape) (octets : List ℕ) (tokens : List TokenSeen) → IsOrigin origin → IsDataOf shape octets
     → ArePrinted (printed_data shape octets) tokens → SpellsData origin shape tokens octets
+
+-- a token that is printed as a quoted text is one of zone text
+abbrev pub IsQuotedWell : PrintedToken → Type 0
+IsQuotedWell t = t.is_quoted ≡ true → IsQuote (token_bytes t)
+
+abbrev pub IsDataQuotedWell : Type 0
+IsDataQuotedWell = (shape : Shape) (octets : List ℕ) → IsDataOf shape octets → AllByRecursion IsQuotedWell (printed_data shape octets)
