@@ -1,5 +1,5 @@
 -- What items, and gateways with keys, are printed as spells them again.
-use Rattle.std.proofs.Common.{ℕ, zero, suc, true, false, ◌≡◌, ◌≢◌, ◌<◌, ◌≤◌, ◌+◌, ◌-◌, ◌*◌, ◌%◌, ◌⊎◌, Bool, Option, None, List, [], ◌∷◌, ◌++◌, length, take, drop, replicate, get_or, refl, sym, ap, subst, ◌∙◌, inl, inr, arith, length-append}
+use Rattle.std.proofs.Common.{ℕ, zero, suc, true, false, ◌≡◌, ◌≤◌, ◌+◌, ◌-◌, ◌%◌, Bool, Option, None, List, [], ◌∷◌, ◌++◌, length, take, drop, replicate, get_or, refl, sym, ap, subst, ◌∙◌, inl, inr, arith, length-append}
 use Rattle.std.proofs.Math.Seq.{take-append_seam, drop-append_seam}
 use Rattle.std.proofs.lemmas.Bool.Decides.{nat_tests}
 use Rattle.std.specs.List.{AllByRecursion, concat}
@@ -141,9 +141,9 @@ item_sized p front more valid wire =
 prefix_back : IsBack prefix_form prefix_form.spells
 prefix_back = record {
   back = λ octets t is quoted text. (
-    let written = text ∙ ap prefix_text (prefix_is is.0 octets is.1 is.2) in
-    (quoted, (is.0, subst (λ x. SpellsPrefix x is.0) (sym written) (prefixes_are_read.spelled is.0 is.1), is.2))
-  );
+      let written = text ∙ ap prefix_text (prefix_is is.0 octets is.1 is.2) in
+      (quoted, (is.0, subst (λ x. SpellsPrefix x is.0) (sym written) (prefixes_are_read.spelled is.0 is.1), is.2))
+      );
   sized = λ front more is. item_sized is.0 front more is.1 is.2;
 }
 
@@ -158,9 +158,9 @@ prefixes_back octets tokens is p = each_back prefix_form prefix_back no_item oct
 octet_back : IsBack octet_form octet_form.spells
 octet_back = record {
   back = λ octets t is quoted text. (
-    let law : SpellsField None OfNumber8 (record t { is_quoted = false; text = (field_form None OfNumber8).printed octets }) octets = (fields_are_forms None tt OfNumber8).back octets is in
-    subst (λ q. (field_form None OfNumber8).spells q t.text octets) (sym quoted) (subst (λ x. (field_form None OfNumber8).spells false x octets) (sym text) law)
-  );
+      let law : SpellsField None OfNumber8 (record t { is_quoted = false; text = (field_form None OfNumber8).printed octets }) octets = (fields_are_forms None tt OfNumber8).back octets is in
+      subst (λ q. (field_form None OfNumber8).spells q t.text octets) (sym quoted) (subst (λ x. (field_form None OfNumber8).spells false x octets) (sym text) law)
+      );
   sized = λ front more is. sym is.0;
 }
 
@@ -179,7 +179,7 @@ size_is (Ipv6 a) number octets valid n = ap (λ n. gateway_size n octets) n ∙ 
 
 -- names in front of octets are as many as their labels take, and digits are read as they are printed
 module _ (origin : Option (List (List ℕ))) (known : IsOrigin origin) (names : (form more : List ℕ) → IsWireName form → labels_size (length (form ++ more)) (form ++ more) ≡ length form)
-  (digits : (octets : List ℕ) (tokens : List TokenSeen) → AreOctetValues octets → ArePrinted (printed_digits base64 octets) tokens → SpellsJoined base64 tokens octets) where
+    (digits : (octets : List ℕ) (tokens : List TokenSeen) → AreOctetValues octets → ArePrinted (printed_digits base64 octets) tokens → SpellsJoined base64 tokens octets) where
   gateway_spelled : (number : ℕ) (octets : List ℕ) (t : TokenSeen) → (gateway_form None number).is_wire octets → t.is_quoted ≡ false → t.text ≡ gateway_word number octets → (gateway_form origin number).spells t octets
   gateway_spelled number octets t (inl name) quoted text =
       let law : (field_form origin OfName).spells false ((field_form origin OfName).printed octets) octets = (fields_are_forms origin known OfName).back octets name.1 in

@@ -35,7 +35,7 @@ pub enum DataError {
     NoTextForm,
     /// A digest or a hash has not as many octets as its number asks for.
     WrongLength,
-    /// A word spells no field of its kind.
+    /// A word is no item of an address prefix list, or no gateway of its type.
     Place(PlaceError),
     /// The type of a gateway is above 3.
     UnknownGateway,
