@@ -37,7 +37,7 @@ use Rattle.dns_data.specs.declared.shape.Shape.{Shape}
 use Rattle.dns_data.proofs.LocationLemmas.{location_back}
 use Rattle.dns_data.proofs.PlacesBack.{prefixes_back, gateway_key_back}
 use Rattle.dns_data.proofs.PrintedStrings.{front_string, quoted_token}
-use Rattle.dns_data.proofs.Sizes.{field_sized}
+use Rattle.dns_data.proofs.Sizes.{field_sized, name_sized}
 
 text_back : (wants_quotes : Bool) (octets : List ℕ) (tokens : List TokenSeen) → AreOctetValues octets → ArePrinted ((text_form wants_quotes).printed octets) tokens → AreText wants_quotes tokens octets
 text_back wants_quotes octets [] values p = absurd p
@@ -145,7 +145,7 @@ module _ (origin : Option (List (List ℕ))) (known : IsOrigin origin) where
   rest_back QuotedText octets tokens is p = text_back true octets tokens is p
   rest_back OfLocation octets tokens is p = location_back octets tokens is p
   rest_back Prefixes octets tokens is p = prefixes_back octets tokens is p
-  rest_back GatewayKey octets tokens is p = gateway_key_back origin known octets tokens is p
+  rest_back GatewayKey octets tokens is p = gateway_key_back origin known name_sized (digits_back InBase64) octets tokens is p
 
   -- tokens are those of fields, and of the rest behind them
   record PartsBack (fields : List Field) (r : Rest) (octets back : List ℕ) (tokens : List TokenSeen) : Type 0 where

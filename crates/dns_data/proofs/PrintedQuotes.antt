@@ -1,5 +1,5 @@
 -- What is printed in quotes is a quoted text.
-use Rattle.std.proofs.Common.{ℕ, ◌≡◌, ◌<◌, Bool, true, false, true≢false, None, List, [], ◌∷◌, ◌++◌, length, take, drop, map, refl, sym, ap, subst, ◌∙◌, arith}
+use Rattle.std.proofs.Common.{ℕ, zero, suc, ◌≡◌, ◌<◌, Bool, true, false, true≢false, None, List, [], ◌∷◌, ◌++◌, length, take, drop, map, refl, sym, ap, subst, ◌∙◌, arith}
 use Rattle.std.specs.Prelude.{if◌then◌else◌}
 use Rattle.std.specs.List.{list_all, AllByRecursion}
 use Rattle.std.proofs.Math.Seq.{take-append_seam, drop-append_seam}
@@ -22,6 +22,10 @@ use Rattle.dns_symbol.specs.Symbol.{is_printable}
 use Rattle.dns_symbol.specs.Printed.{symbol_of, is_quoted_escape}
 use Rattle.dns_symbol.specs.declared.symbol.Symbol.TheVariants.{Char, SimpleEscape, DecimalEscape}
 use Rattle.dns_symbol.proofs.PrintedForms.{printed_ascii, printed_bytes}
+use Rattle.dns_places.specs.LocationWords.{location_words}
+use Rattle.dns_data.specs.LocationRest.{location_at}
+use Rattle.dns_data.specs.PrefixLists.{prefix_form, item_size}
+use Rattle.dns_data.specs.TokenForms.{printed_each}
 use Rattle.dns_data.specs.Data.{IsDataOf}
 use Rattle.dns_data.specs.Digits.{printed_digits}
 use Rattle.dns_data.specs.PrintLaws.{IsQuotedWell}
@@ -29,7 +33,7 @@ use Rattle.dns_data.specs.Printing.{field_size, printed_field, printed_parts, pr
 use Rattle.dns_data.specs.RestKinds.{rest_form, strings_in_octets, AreShortStrings}
 use Rattle.dns_data.specs.Wire.{BeginsWithFields}
 use Rattle.dns_data.specs.declared.rest.Rest.{Rest}
-use Rattle.dns_data.specs.declared.rest.Rest.TheVariants.{Nothing, Strings, Hex, Base64, Types, SomeTypes, Text, QuotedText}
+use Rattle.dns_data.specs.declared.rest.Rest.TheVariants.{Nothing, Strings, Hex, Base64, Types, SomeTypes, Text, QuotedText, Location as OfLocation, Prefixes, GatewayKey}
 use Rattle.dns_data.specs.declared.shape.Shape.{Shape}
 use Rattle.dns_data.proofs.PrintedBack.{strings_again}
 use Rattle.dns_data.proofs.PrintedStrings.{quoted_token}
@@ -91,6 +95,15 @@ types_well : (types : List ℕ) → AllByRecursion IsQuotedWell (map (λ code. r
 types_well [] = tt
 types_well (code ∷ types) = (plain_well (type_text (record { 0 = code })), types_well types)
 
+words_well : (words : List (List ℕ)) → AllByRecursion IsQuotedWell (map (λ word. record { is_quoted = false; text = word }) words)
+words_well [] = tt
+words_well (w ∷ ws) = (plain_well w, words_well ws)
+
+prefixes_well : (count : ℕ) (octets : List ℕ) → AllByRecursion IsQuotedWell (printed_each prefix_form count octets)
+prefixes_well zero octets = tt
+prefixes_well (suc count) [] = tt
+prefixes_well (suc count) (o ∷ os) = (plain_well _, prefixes_well count (drop (item_size (o ∷ os)) (o ∷ os)))
+
 rest_well : (r : Rest) (octets : List ℕ) → (rest_form None r).is_wire octets → AllByRecursion IsQuotedWell ((rest_form None r).printed octets)
 rest_well Nothing octets is = tt
 rest_well Strings octets is =
@@ -102,6 +115,9 @@ rest_well Types octets is = types_well (types_of octets)
 rest_well SomeTypes octets is = types_well (types_of octets)
 rest_well Text octets is = ((λ quoted. quote_of octets is), tt)
 rest_well QuotedText octets is = ((λ quoted. quote_of octets is), tt)
+rest_well OfLocation octets is = words_well (location_words (location_at octets))
+rest_well Prefixes octets is = prefixes_well (length octets) octets
+rest_well GatewayKey octets is = (plain_well _, (plain_well _, (plain_well _, digits_well InBase64 _)))
 
 parts_well : (fields : List Field) (r : Rest) (octets back : List ℕ) → BeginsWithFields fields octets back → (rest_form None r).is_wire back → AllByRecursion IsQuotedWell (printed_parts fields r octets)
 parts_well [] r octets back b is = subst (λ o. AllByRecursion IsQuotedWell ((rest_form None r).printed o)) (sym b) (rest_well r back is)

@@ -20,7 +20,8 @@ use Rattle.dns_fields.specs.Forms.{IsWireHash}
 use Rattle.dns_fields.specs.declared.field.Field.{Field}
 use Rattle.dns_fields.specs.declared.field.Field.TheVariants.{Number8, Number16, Number32, Interval, Ipv4, Ipv6, RecordType, Algorithm, NamedAlgorithm, CertificateType, Eui48, Eui64, Time, Locator, String, Tag, Salt, Hash, Name}
 use Rattle.dns_fields.proofs.FormLaws.{fields_are_forms}
-use Rattle.dns_data.specs.Printing.{field_size, counted_size, labels_size}
+use Rattle.dns_data.specs.GatewayKeys.{labels_size}
+use Rattle.dns_data.specs.Printing.{field_size, counted_size}
 use Rattle.dns_data.specs.Wire.{BeginsWithFields}
 
 counted_sized : (xs form more : List ℕ) → form ≡ length xs ∷ xs → counted_size (form ++ more) ≡ length form
@@ -42,7 +43,7 @@ labels_sized ((x ∷ xs) ∷ ls) more (suc count) p few =
     ap (labels_size (suc count)) (append_assoc (wire_label l) (wire name) more)
     ∙ (ap (λ o. 2 + length xs + labels_size count o) off ∙ omega (arith, later, length-append l (wire name)))
 
-name_sized : (form more : List ℕ) → IsWireName form → labels_size (length (form ++ more)) (form ++ more) ≡ length form
+pub name_sized : (form more : List ℕ) → IsWireName form → labels_size (length (form ++ more)) (form ++ more) ≡ length form
 name_sized form more h =
     let front = h.absolute.0 in
     let whole : form ≡ wire (front ++ [] ∷ []) = h.whole ∙ ap wire h.absolute.1 in
