@@ -8,8 +8,8 @@ ghost use Rattle.dns_data.specs.TypeLists.{types_form};
 
 use crate::digits::take_digits;
 use crate::error::{DataError, DataRefusal};
-use crate::locations::take_place;
 use crate::gateways::take_gateway_key;
+use crate::locations::take_place;
 use crate::prefixes::take_prefixes;
 use crate::texts::{take_no_token, take_text};
 use crate::type_lists::take_types;

@@ -86,8 +86,7 @@ module _ (origin : Option (List (List ℕ))) where
   each_next f [] (t ∷ ts) o octets some h k = (t, ts, refl, record { mid = k.0; back = k.1; whole = k.2 ∙ ap (λ z. z ++ (k.0 ++ k.1)) (sym h); spelled = k.3 })
   each_next f (v ∷ vs) left o octets some h k =
       let next = each_next f vs left h.1 k.1 some h.4 k.4 in
-      let front : k.0 ≡ h.0 = field_once f v k.0 h.0 k.3 h.3 in
-      (
+      let front : k.0 ≡ h.0 = field_once f v k.0 h.0 k.3 h.3 in (
         next.0,
         next.1,
         next.2,
