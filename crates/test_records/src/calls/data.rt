@@ -12,18 +12,22 @@ use std::fmt;
 /// The origin of rows that name none: `example.`.
 const ORIGIN: &[u8] = b"\x07example\x00";
 
-pub fn call(name: &str, inputs: &Inputs, answer: &mut Answer) {
-    match name {
-        "" => read(inputs.all(), tell_octets, tell_refused, answer),
-        "why" => read(inputs.all(), tell_octets, tell_why, answer),
-        "print" => read(inputs.all(), tell_printed, tell_refused, answer),
-        _ => answer.fail(Failure::NoCall),
-    }
+/// What is asked of a text: the octets of data; the same, or why there are none; or the text that
+/// they print as.
+#[derive(Clone, Copy)]
+enum Wanted {
+    Octets,
+    Why,
+    Text,
 }
 
-/// The octets of data.
-fn tell_octets(_code: RecordType, octets: &[u8], answer: &mut Answer) {
-    answer.add(octets);
+pub fn call(name: &str, inputs: &Inputs, answer: &mut Answer) {
+    match name {
+        "" => read(inputs.all(), Wanted::Octets, answer),
+        "why" => read(inputs.all(), Wanted::Why, answer),
+        "print" => read(inputs.all(), Wanted::Text, answer),
+        _ => answer.fail(Failure::NoCall),
+    }
 }
 
 /// Data that print as tokens with a blank between.
@@ -57,8 +61,24 @@ fn tell_printed(code: RecordType, octets: &[u8], answer: &mut Answer) {
     }
 }
 
+/// What is wanted of data that were read.
+fn tell_read(wanted: Wanted, code: RecordType, octets: &[u8], answer: &mut Answer) {
+    match wanted {
+        Wanted::Text => tell_printed(code, octets, answer),
+        _ => answer.add(octets),
+    }
+}
+
+/// What is wanted of a refusal.
+fn tell_refusal(wanted: Wanted, code: RecordType, refusal: TypeRefusal, answer: &mut Answer) {
+    match wanted {
+        Wanted::Why => tell_why(code, refusal, answer),
+        _ => tell_refused(refusal, answer),
+    }
+}
+
 /// Says of a refusal that it is one, or that memory was lacking.
-fn tell_refused(_code: RecordType, refusal: TypeRefusal, answer: &mut Answer) {
+fn tell_refused(refusal: TypeRefusal, answer: &mut Answer) {
     match refusal.why {
         DataError::Field(FieldError::ShortBuf) => answer.refuse(&refusal.why),
         _ => answer.refuse_text("refused"),
@@ -93,12 +113,7 @@ fn tell_why(code: RecordType, refusal: TypeRefusal, answer: &mut Answer) {
 }
 
 /// Reads the text of data of a type.
-fn read(
-    inputs: &[Vec<u8>],
-    tell: fn(RecordType, &[u8], &mut Answer),
-    refuse: fn(RecordType, TypeRefusal, &mut Answer),
-    answer: &mut Answer,
-) {
+fn read(inputs: &[Vec<u8>], wanted: Wanted, answer: &mut Answer) {
     let [name, text, origin @ ..] = inputs else {
         return answer.fail(Failure::BadInputs);
     };
@@ -114,7 +129,7 @@ fn read(
     let mut source = TokenList::new(tokens.as_slice(), text.len());
     let mut target: Octets = Vec::new(answer.heap());
     match read_type(code.0, origin.as_ref(), &mut source, &mut target) {
-        Ok(()) => tell(code, target.as_slice(), answer),
-        Err(refusal) => refuse(code, refusal, answer),
+        Ok(()) => tell_read(wanted, code, target.as_slice(), answer),
+        Err(refusal) => tell_refusal(wanted, code, refusal, answer),
     }
 }
