@@ -1,5 +1,6 @@
 -- What items, and gateways with keys, are printed as spells them again.
-use Rattle.std.proofs.Common.{ℕ, zero, suc, true, false, ◌≡◌, ◌≤◌, ◌+◌, ◌-◌, ◌%◌, Bool, Option, None, List, [], ◌∷◌, ◌++◌, length, take, drop, replicate, get_or, refl, sym, ap, subst, ◌∙◌, inl, inr, arith, length-append}
+use Rattle.std.proofs.lemmas.List.{take-append-drop, length-take-le, length-drop}
+use Rattle.std.proofs.Common.{ℕ, zero, suc, true, false, ◌≡◌, ◌<◌, ◌≤◌, ◌+◌, ◌-◌, ◌%◌, Bool, Option, None, List, [], ◌∷◌, ◌++◌, length, take, drop, replicate, get_or, refl, sym, ap, subst, ◌∙◌, inl, inr, arith, length-append}
 use Rattle.std.proofs.Math.Seq.{take-append_seam, drop-append_seam}
 use Rattle.std.proofs.lemmas.Bool.Decides.{nat_tests}
 use Rattle.std.specs.List.{AllByRecursion, concat}
@@ -13,7 +14,7 @@ use Rattle.dns_fields.specs.Taking.{SpellsField}
 use Rattle.dns_fields.specs.declared.field.Field.TheVariants.{Number8 as OfNumber8, Name as OfName}
 use Rattle.dns_fields.proofs.FormLaws.{fields_are_forms}
 use Rattle.dns_places.specs.Gateways.{IsGateway, gateway_type, gateway_octets, gateway_text, SpellsGateway}
-use Rattle.dns_places.specs.Prefixes.{IsAddress, IsAddressPart, IsPrefix, IsPrefixWire, SpellsPrefix, address_octets, exclusion_bit, family_of, prefix_text}
+use Rattle.dns_places.specs.Prefixes.{IsAddress, IsAddressPart, IsPrefix, IsPrefixWire, SpellsPrefix, address_octets, exclusion_bit, family_of, prefix_text, BeginsWithItem, IsItemOf}
 use Rattle.dns_places.specs.declared.apl.Prefix.{Prefix}
 use Rattle.dns_places.specs.declared.gateway.Gateway.{Gateway}
 use Rattle.dns_places.specs.declared.gateway.Gateway.TheVariants.{Nothing, Ipv4, Ipv6}
@@ -121,7 +122,7 @@ negated_back : (b : Bool) (n : ℕ) → n ≤ 16 → nat_le 128 (exclusion_bit b
 negated_back true n few = grind (arith, nat_tests)
 negated_back false n few = grind (arith, nat_tests)
 
-prefix_is : (p : Prefix) (octets : List ℕ) → IsPrefix p → IsPrefixWire p octets → item_prefix octets ≡ p
+pub prefix_is : (p : Prefix) (octets : List ℕ) → IsPrefix p → IsPrefixWire p octets → item_prefix octets ≡ p
 prefix_is p octets valid wire =
     let few = few_octets p.address wire.part valid.0 wire.is_part in
     let negated = negated_back p.negated (length wire.part) few in
@@ -132,7 +133,7 @@ counted : (b : Bool) (n : ℕ) → n ≤ 16 → (exclusion_bit b + n) % 128 ≡ 
 counted true n few = omega (arith, few)
 counted false n few = omega (arith, few)
 
-item_sized : (p : Prefix) (front more : List ℕ) → IsPrefix p → IsPrefixWire p front → item_size (front ++ more) ≡ length front
+pub item_sized : (p : Prefix) (front more : List ℕ) → IsPrefix p → IsPrefixWire p front → item_size (front ++ more) ≡ length front
 item_sized p front more valid wire =
     let few = few_octets p.address wire.part valid.0 wire.is_part in
     let count = counted p.negated (length wire.part) few in
@@ -211,3 +212,35 @@ module _ (origin : Option (List (List ℕ))) (known : IsOrigin origin) (names : 
   pub gateway_key_back : (octets : List ℕ) (tokens : List TokenSeen) → (gateway_key_form None).is_wire octets → ArePrinted ((gateway_key_form None).printed octets) tokens → (gateway_key_form origin).spells tokens octets
   gateway_key_back octets tokens is p =
       then_back gateway_type_form gateway_type_form type_back (λ number. behind_type None (slice_index number 0)) (λ number. behind_type origin (slice_index number 0)) (λ front. behind_back (slice_index front 0)) octets tokens is p
+
+-- ---- printing items
+
+pub no_more_items : (count : ℕ) → printed_each prefix_form count [] ≡ []
+no_more_items zero = refl
+no_more_items (suc count) = refl
+
+-- the next item is printed, and those behind it are left
+pub record NextItem (count : ℕ) (octets rest : List ℕ) (item : Prefix) : Type 0 where
+  pub fewer : ℕ
+  pub enough : length rest ≤ fewer
+  pub is : printed_each prefix_form count octets ≡ record { is_quoted = false; text = prefix_text item } ∷ printed_each prefix_form fewer rest
+
+pub next_item : (count : ℕ) (octets : List ℕ) (width : ℕ) (item : Prefix) → 0 < length octets → length octets ≤ count → (p : Prefix) × IsItemOf octets p width → BeginsWithItem octets item → NextItem count octets (drop width octets) item
+next_item zero octets width item some few found begins = absurd (omega (arith, some, few))
+next_item (suc count) [] width item some few found begins = absurd (omega (arith, some))
+next_item (suc count) (o ∷ os) width item some few found begins =
+    let all : List ℕ = o ∷ os in
+    let front : List ℕ = take width all in
+    let parts : front ++ drop width all ≡ all = take-append-drop width all in
+    let here : BeginsWithItem all found.0 = record { valid = found.1.0; item = front; rest = drop width all; wire = found.1.2; split = sym parts } in
+    let same : found.0 ≡ item = prefixes_are_read.one_item all found.0 item here begins in
+    let size : item_size all ≡ width = ap item_size (sym parts) ∙ item_sized found.0 front (drop width all) found.1.0 found.1.2 ∙ length-take-le width all found.1.1 in
+    let written = ap length found.1.2.written in
+    let long : length front ≡ width = length-take-le width all found.1.1 in
+    let shorter = length-drop width all in
+    record {
+      fewer = count;
+      enough = omega (arith, few, written, long, shorter);
+      is = ap (λ n. prefix_form.printed (take n all) ∷ printed_each prefix_form count (drop n all)) size
+          ∙ ap (λ q. record { is_quoted = false; text = prefix_text q } ∷ printed_each prefix_form count (drop width all)) (prefix_is found.0 front found.1.0 found.1.2 ∙ same);
+    }

@@ -5,6 +5,7 @@ ghost use Rattle.dns_fields.specs.Fields.{field_form};
 ghost use Rattle.dns_data.specs.Data.{IsDataOf};
 ghost use Rattle.dns_data.specs.Digits.{digits_form};
 ghost use Rattle.dns_data.specs.LocationRest.{location_form};
+ghost use Rattle.dns_data.specs.PrefixLists.{prefixes_form};
 ghost use Rattle.dns_data.specs.Printing.{field_size, printed_data, token_steps};
 ghost use Rattle.dns_data.specs.RestKinds.{rest_form, strings_form};
 ghost use Rattle.dns_data.specs.TypeLists.{types_form};
@@ -18,7 +19,7 @@ use dns_digits::DigitsKind;
 use dns_fields::{Field, field_width};
 use dns_kinds::RecordType;
 use dns_lists::BitmapTypes;
-use dns_places::location_words;
+use dns_places::{Prefix, item_width, location_words};
 use dns_spelling::QuotedOctets;
 use dns_zone::zonefile_fmt::{self, FormatWriter, Formatter};
 
@@ -71,6 +72,24 @@ fn write_types<F: FormatWriter>(octets: &[u8], p: &mut F) -> zonefile_fmt::Resul
     Ok(())
 }
 
+/// Prints the items of an address prefix list, each as a word.
+fn write_prefixes<F: FormatWriter>(octets: &[u8], p: &mut F) -> zonefile_fmt::Result
+    ensures { OnOk result (WritesSteps F.blocks F.step_gives p.old (token_steps (prefixes_form.printed octets.now)) p.new) }
+{
+    let mut rest = octets;
+    while !rest.is_empty() {
+        let Some(width) = item_width(rest) else {
+            return Err(zonefile_fmt::Error);
+        };
+        let Some(item) = Prefix::from_octets(rest) else {
+            return Err(zonefile_fmt::Error);
+        };
+        p.write_token(item)?;
+        rest = &rest[width..];
+    }
+    Ok(())
+}
+
 /// Prints the words of a location.
 fn write_location<F: FormatWriter>(octets: &[u8], p: &mut F) -> zonefile_fmt::Result
     ensures { OnOk result (WritesSteps F.blocks F.step_gives p.old (token_steps (location_form.printed octets.now)) p.new) }
@@ -96,7 +115,8 @@ fn write_rest<F: FormatWriter>(rest: Rest, octets: &[u8], p: &mut F) -> zonefile
         Rest::Types | Rest::SomeTypes => write_types(octets, p),
         Rest::Text | Rest::QuotedText => p.write_token(QuotedOctets(octets)),
         Rest::Location => write_location(octets, p),
-        Rest::Prefixes | Rest::GatewayKey => Err(zonefile_fmt::Error),
+        Rest::Prefixes => write_prefixes(octets, p),
+        Rest::GatewayKey => Err(zonefile_fmt::Error),
     }
 }
 
