@@ -9,3 +9,6 @@ pub mod Refusals
 pub mod KeyRefusals
 pub mod ValueRefusals
 pub mod ListRefusals
+pub mod Fronts
+pub mod Sizes
+pub mod ParamRefusals

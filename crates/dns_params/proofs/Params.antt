@@ -1,69 +1,27 @@
 -- Parameters of tokens, one after another.
-use Rattle.std.proofs.Common.{ℕ, zero, suc, ◌≡◌, ◌≢◌, ◌<◌, ◌≤◌, ◌+◌, ◌-◌, ◌==◌, Bool, true, false, cond, List, [], ◌∷◌, ◌++◌, length, take, drop, get_or, refl, sym, subst, ap, ◌∙◌, arith, Option, Some, None, Ok, append_assoc, append-nil, inl, inr}
-use Rattle.std.specs.Prelude.{All}
+use Rattle.std.proofs.Common.{ℕ, zero, suc, ◌≡◌, ◌≢◌, ◌<◌, ◌≤◌, ◌+◌, ◌-◌, ◌==◌, Bool, true, false, true≢false, cond, List, [], ◌∷◌, ◌++◌, length, take, drop, get_or, refl, sym, subst, ap, ◌∙◌, arith, Option, Some, None, Ok, append_assoc, append-nil, inl, inr}
+use Rattle.std.specs.Prelude.{All, is_some, option_map, slice_get}
+use Rattle.std.proofs.lemmas.Option.{none-some}
+use Rattle.dns_split.specs.EntryTokens.{token_seen}
+use Rattle.dns_split.specs.declared.entry_tokens.EntryToken.{EntryToken}
 use Rattle.std.specs.Int.{w16, to_be_bytes}
 use Rattle.std.specs.List.{AllPairs}
 use Rattle.std.proofs.lemmas.Bool.{eq-eqb}
 use Rattle.std.proofs.lemmas.List.{length-append}
-use Rattle.std.proofs.lemmas.List.Elements.{All-nil, All-cons, All-append}
+use Rattle.std.proofs.lemmas.List.Elements.{All-nil, All-cons, All-append, All-head, All-tail}
 use Rattle.std.proofs.lemmas.List.Quantifiers.{all_pairs_push}
 use Rattle.dns_octets.specs.Appending.{Gains}
 use Rattle.dns_split.specs.EntryTokens.{TokenSeen}
 use Rattle.dns_lists.specs.Params.{params_wire, params_from, value_at, HasFittingValues, IsUnsettled}
 use Rattle.dns_lists.specs.ParamsFaults.{AreRightParams}
 use Rattle.dns_lists.proofs.Entries.{entries_none, entries_first}
-use Rattle.dns_params.specs.ParamTokens.{SplitsParam, SplitsValue, SpellsFrontParam, SpellsFrontParams, SpellsParams}
-use Rattle.dns_params.specs.ParamSteps.{TakesParamWord, TakesQuoted, IsValueBehind, SettlesBehind, GainsParam, param_head}
-use Rattle.dns_params.specs.declared.keys.ValueKind.{ValueKind}
-
--- the tokens in front are a parameter, and its key, two octets and its value are gained
-pub record TakesTokens (tokens left : List TokenSeen) (old new : List ℕ) : Type 0 where
-  pub param : ℕ × List ℕ
-  pub spelled : SpellsFrontParam tokens param left
-  pub small : param.0 < 65536
-  pub gained : new ≡ old ++ (param_head param.0 ++ param.1)
-
-pub word_tokens : (t : TokenSeen) (tokens rest : List TokenSeen) (old new : List ℕ) → tokens ≡ t ∷ rest → TakesParamWord t old new None → TakesTokens tokens rest old new
-word_tokens t tokens rest old new e h =
-    let w = h.1 in
-    record {
-      param = w.2;
-      spelled = record { name = w.0; value = w.1; split = subst (λ ts. SplitsParam ts w.0 w.1 rest) (sym e) (h.0, inl (w.3, refl)); spelled = w.4 };
-      small = w.5;
-      gained = w.6;
-    }
-
-pub quoted_tokens : (t : TokenSeen) (tokens rest left : List TokenSeen) (old mid new : List ℕ) (kind : ValueKind) → tokens ≡ t ∷ rest → TakesParamWord t old mid (Some kind)
-    → TakesQuoted kind rest left mid new → TakesTokens tokens left old new
-quoted_tokens t tokens rest left old mid new kind e h k =
-    let w = h.1 in
-    record {
-      param = (w.1, k.1);
-      spelled = record { name = w.0; value = k.0; split = subst (λ ts. SplitsParam ts w.0 k.0 left) (sym e) (h.0, behind k.2); spelled = (kind, w.3, k.3) };
-      small = w.4;
-      gained = k.4 ∙ ap (λ x. x ++ k.1) w.5 ∙ append_assoc old (param_head w.1) k.1;
-    }
-  where
-    behind : IsValueBehind rest k.0 left → SplitsValue t rest h.1.0 k.0 left
-    behind (inl n) = inl ((h.1.2.0, inr (h.1.2.1 ∙ ap (λ v. h.1.0 ++ 61 ∷ v) (sym n.0))), n.1)
-    behind (inr q) = inr (h.1.2, (q.0, q.1, q.2, q.3))
-
--- what settling a parameter says of all that stands there
-abbrev pub Settles : ℕ → ℕ → List ℕ → List ℕ → Type 0
-Settles start at mid new =
-    (base octets : List ℕ) (params : List (ℕ × List ℕ)) (key : ℕ) (value : List ℕ) → HasFittingValues params → key < 65536 → start ≡ length base
-    → at ≡ length base + length (params_wire params) → mid ≡ base ++ octets → IsUnsettled params key value octets → SettlesBehind base params key value new (Ok tt)
-
-pub settled_tokens : (tokens left : List TokenSeen) (start at : ℕ) (old mid new : List ℕ) → TakesTokens tokens left old mid → at ≡ length old → Settles start at mid new
-    → (p : ℕ × List ℕ) × SpellsFrontParam tokens p left × GainsParam p start old new
-settled_tokens tokens left start at old mid new h is settles = (h.param, h.spelled, λ base params fit begins e. gains base params fit begins e)
-  where
-    gains : GainsParam h.param start old new
-    gains base params fit begins e =
-        let key = h.param.0 in let value = h.param.1 in
-        let s = settles base (params_wire params ++ (param_head key ++ value)) params key value fit h.small begins (is ∙ ap length e ∙ length-append base (params_wire params))
-        (h.gained ∙ ap (λ x. x ++ (param_head key ++ value)) e ∙ append_assoc base (params_wire params) (param_head key ++ value)) ((0 ∷ 0 ∷ []), refl, refl) in
-        (s.2.0, s.2.1, s.1 ∙ ap (λ x. base ++ x) s.2.2)
+use Rattle.dns_octets.specs.Room.{Room}
+use Rattle.dns_params.specs.ParamRefusals.{ParamReason, ParamsReason, RefusesSpelled}
+use Rattle.dns_params.specs.ParamSteps.{param_head, GainsParam, IsOnlyFront, RefusesNew, SpellsNew}
+use Rattle.dns_params.specs.ParamTokens.{SplitsParam, SpellsFrontParam, SpellsFrontParams, SpellsParams}
+use Rattle.dns_params.specs.declared.error.ParamError.{ParamError}
+use Rattle.dns_params.proofs.Fronts.{front_goes_on, goes_on_apart}
+use Rattle.dns_params.proofs.Sizes.{new_of_all, small_key, wire_longer}
 
 -- parameters so far
 pub record TakesParams (tokens left : List TokenSeen) (old new : List ℕ) : Type 0 where
@@ -72,6 +30,7 @@ pub record TakesParams (tokens left : List TokenSeen) (old new : List ℕ) : Typ
   pub once : AllPairs (λ p q. p.0 ≢ q.0) params
   pub fitting : HasFittingValues params
   pub gained : new ≡ old ++ params_wire params
+  pub go_on : (all : List (ℕ × List ℕ)) → SpellsFrontParams tokens all [] → (more : List (ℕ × List ℕ)) × (all ≡ params ++ more) × SpellsFrontParams left more []
 
 wire_by : (w n : ℕ) → params_from (λ _. None) w n ≡ []
 wire_by w zero = entries_none (λ _. None) w
@@ -84,6 +43,7 @@ params_none tokens old = record {
   once = λ i j d l m. absurd (omega (arith, m));
   fitting = All-nil (λ p. length p.1 < 65536);
   gained = sym (append-nil old) ∙ ap (λ x. old ++ x) (sym (wire_by 0 65536));
+  go_on = λ all h. (all, refl, h);
 }
 
 fronts_more : (tokens mid left : List TokenSeen) (params : List (ℕ × List ℕ)) (p : ℕ × List ℕ) → SpellsFrontParams tokens params mid → SpellsFrontParam mid p left → SpellsFrontParams tokens (params ++ p ∷ []) left
@@ -105,15 +65,18 @@ no_key (q ∷ qs) key h zero d l e = none_by q (q.0 == key) (value_at qs key) h 
 no_key (q ∷ qs) key h (suc k) d l e = no_key qs key (none_rest q (q.0 == key) (value_at qs key) h) k d (omega (arith, l)) e
 
 pub params_more : (tokens mid left : List TokenSeen) (start : ℕ) (old now new : List ℕ) (p : ℕ × List ℕ) → TakesParams tokens mid old now → start ≡ length old
-    → SpellsFrontParam mid p left → GainsParam p start now new → TakesParams tokens left old new
-params_more tokens mid left start old now new p h begins spelled gains =
-    let g = gains old h.params h.fitting begins h.gained in
+    → mid ≢ [] → SpellsFrontParam mid p left → IsOnlyFront mid p left → GainsParam p start now new → TakesParams tokens left old new
+params_more tokens mid left start old now new p h begins some spelled only gains =
+    let g = gains old h.params (record { fitting = h.fitting; begins = begins; whole = h.gained }) in
     record {
       params = h.params ++ p ∷ [];
       spelled = fronts_more tokens mid left h.params p h.spelled spelled;
-      once = all_pairs_push (λ p q. p.0 ≢ q.0) h.params p h.once (no_key h.params p.0 g.1);
-      fitting = All-append (λ p. length p.1 < 65536) h.params (p ∷ []) h.fitting (All-cons (λ p. length p.1 < 65536) p [] g.0 (All-nil (λ p. length p.1 < 65536)));
-      gained = g.2;
+      once = all_pairs_push (λ p q. p.0 ≢ q.0) h.params p h.once (no_key h.params p.0 g.0.1);
+      fitting = All-append (λ p. length p.1 < 65536) h.params (p ∷ []) h.fitting (All-cons (λ p. length p.1 < 65536) p [] g.0.0 (All-nil (λ p. length p.1 < 65536)));
+      gained = g.1;
+      go_on = λ all k.
+          let on = h.go_on all k in let front = front_goes_on mid left p on.0 some only on.2 in
+          (front.0, on.1 ∙ ap (λ ps. h.params ++ ps) front.1 ∙ sym (append_assoc h.params (p ∷ []) front.0), front.2);
     }
 
 pub params_all : (tokens left : List TokenSeen) (old new part : List ℕ) → TakesParams tokens left old new → left ≡ [] → ((octets : List ℕ) → new ≡ old ++ octets → part ≡ octets) → AreRightParams part → Gains (SpellsParams tokens) old new
@@ -137,3 +100,51 @@ fewer_tokens (t ∷ tokens) left name value h = elim h.1 [
   | inl w ↦ (let e = ap length w.1 in omega (arith, e))
   | inr q ↦ (let e = ap length q.1.2 in omega (arith, e))
 ]
+
+-- the next parameter is refused
+pub next_refused : (room : Room) (tokens mid left : List TokenSeen) (start : ℕ) (old now : List ℕ) (e : ParamError) → TakesParams tokens mid old now → start ≡ length old → mid ≢ []
+    → RefusesNew room start mid (ParamReason left) now e → RefusesSpelled room (SpellsParams tokens) (ParamsReason left) old e
+next_refused room tokens mid left start old now e h begins some refuses = by (refuses old h.params (record { fitting = h.fitting; begins = begins; whole = h.gained }))
+  where
+    fits_behind : (ps : List (ℕ × List ℕ)) (p : ℕ × List ℕ) (more : List (ℕ × List ℕ)) → HasFittingValues (ps ++ p ∷ more) → length p.1 < 65536
+    fits_behind [] p more k = All-head (λ p. length p.1 < 65536) p more k
+    fits_behind (q ∷ ps) p more k = fits_behind ps p more (All-tail (λ p. length p.1 < 65536) q (ps ++ p ∷ more) k)
+
+    next_of : (octets : List ℕ) (s : SpellsParams tokens octets) (more : List (ℕ × List ℕ)) → s.params ≡ h.params ++ more → SpellsFrontParams mid more []
+        → (new : List ℕ) × SpellsNew h.params mid new × (length (params_wire h.params) + length new ≤ length octets)
+    next_of octets s [] is k = absurd (some k)
+    next_of octets s (p ∷ more) is k =
+        let once : AllPairs (λ p q. p.0 ≢ q.0) (h.params ++ p ∷ more) = subst (λ ps. AllPairs (λ p q. p.0 ≢ q.0) ps) is s.once in
+        let fitting : HasFittingValues (h.params ++ p ∷ more) = subst HasFittingValues is s.fitting in
+        let none = new_of_all h.params more p once in
+        let small = small_key k.1.name p.0 k.1.spelled.0 k.1.spelled.1 in
+        let longer = wire_longer h.params more p small none in (
+          param_head p.0 ++ p.1,
+          (p, k.0, k.1, goes_on_apart k.0 more k.2, (fits_behind h.params p more fitting, none), refl),
+          omega (arith, longer, length-append (param_head p.0) p.1, ap length s.whole, ap (λ ps. length (params_wire ps)) is),
+        )
+
+    of : (octets : List ℕ) → SpellsParams tokens octets → (new : List ℕ) × SpellsNew h.params mid new × (length (params_wire h.params) + length new ≤ length octets)
+    of octets s = let on = h.go_on s.params s.spelled in next_of octets s on.0 on.1 on.2
+
+    by : RefusesSpelled room (SpellsNew h.params mid) (ParamReason left) now e → RefusesSpelled room (SpellsParams tokens) (ParamsReason left) old e
+    by (inl l) = inl (l.0, λ octets s. (let n = of octets s in let few = l.1 n.0 n.1 in omega (arith, few, n.2, ap length h.gained, length-append old (params_wire h.params))))
+    by (inr n) = inr (inl n.0, λ octets s. (let k = of octets s in n.1 k.0 k.1))
+
+-- parameters that are wrong together
+pub none_right : (tokens left : List TokenSeen) (old new part : List ℕ) → TakesParams tokens left old new → left ≡ [] → ((octets : List ℕ) → new ≡ old ++ octets → part ≡ octets) → ¬ AreRightParams part
+    → (octets : List ℕ) → SpellsParams tokens octets → ⊥
+none_right tokens left old new part h e is wrong octets s =
+    let on = h.go_on s.params s.spelled in
+    let all = no_more on.0 (subst (λ ts. SpellsFrontParams ts on.0 []) e on.2) in
+    let same : s.params ≡ h.params = on.1 ∙ ap (λ ps. h.params ++ ps) all ∙ append-nil h.params in
+    wrong (subst AreRightParams (s.whole ∙ ap params_wire same ∙ sym (is (params_wire h.params) h.gained)) s.right)
+  where
+    no_more : (more : List (ℕ × List ℕ)) → SpellsFrontParams [] more [] → more ≡ []
+    no_more [] k = refl
+    no_more (p ∷ more) k = absurd k.1.split
+
+pub some_left : (o : Option EntryToken) (left : List TokenSeen) → option_map token_seen o ≡ slice_get left 0 → is_some o ≡ true → left ≢ []
+some_left None left h some = absurd (true≢false (sym some))
+some_left (Some t) [] h some = absurd (none-some (token_seen t) (sym h))
+some_left (Some t) (u ∷ left) h some = λ is. cc is

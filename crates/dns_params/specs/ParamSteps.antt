@@ -1,46 +1,112 @@
 -- Steps of reading service parameters.
-use Rattle.std.specs.Prelude.{ℕ, ◌≡◌, ◌<◌, ◌⊎◌, ◌^◌, Option, Some, None, Result, MatchOption, List, [], ◌∷◌, ◌++◌, length}
+use Rattle.std.specs.Prelude.{ℕ, ◌≡◌, ◌+◌, ◌<◌, ◌⊎◌, ◌^◌, Option, Some, None, Result, MatchOption, List, [], ◌∷◌, ◌++◌, length}
 use Rattle.std.specs.Int.{w16, to_be_bytes}
+use Rattle.dns_octets.specs.Room.{Room}
 use Rattle.dns_split.specs.EntryTokens.{TokenSeen}
 use Rattle.dns_lists.specs.Params.{params_wire, value_at, HasFittingValues}
 use Rattle.dns_lists.specs.ParamsFaults.{SettlesLast}
 use Rattle.dns_lists.specs.declared.params.SettleError.{SettleError}
 use Rattle.dns_params.specs.Keys.{NamesKey}
 use Rattle.dns_params.specs.ParamValues.{SpellsValue}
-use Rattle.dns_params.specs.ParamTokens.{SplitsWord, IsOpenWord, StandsApart, IsGluedText, SpellsParam}
+use Rattle.dns_params.specs.ParamRefusals.{RefusesSpelled, WordFault}
+use Rattle.dns_params.specs.ParamTokens.{SplitsWord, IsOpenWord, StandsApart, IsGluedText, SpellsParam, SpellsFrontParam}
+use Rattle.dns_params.specs.declared.error.ParamError.{ParamError}
 use Rattle.dns_params.specs.declared.keys.ValueKind.{ValueKind}
 use Rattle.dns_params.specs.declared.taking.ParamWord.{ParamWord}
+
+-- a word does not end in its first equals sign
+abbrev pub IsClosedWord : List ℕ → Type 0
+IsClosedWord word = (name : List ℕ) → IsOpenWord word name → ⊥
 
 -- what a word says of a parameter
 abbrev pub ReadsWord : TokenSeen → ParamWord → Type 0
 ReadsWord t w = StandsApart t × ((name : List ℕ) × NamesKey name w.key.code w.key.kind × (w.key.code < 2 ^ 16)
-    × MatchOption w.value (IsOpenWord t.text name) (λ value. SplitsWord t.text name value.now))
+    × MatchOption w.value (IsOpenWord t.text name) (λ value. SplitsWord t.text name value.now × IsClosedWord t.text))
+
+-- a token begins no parameter, and this is why
+abbrev pub NamesNoParam : TokenSeen → ParamError → Type 0
+NamesNoParam t e = WordFault t e × ((name value : List ℕ) → StandsApart t → SplitsWord t.text name value → (key : ℕ) (kind : ValueKind) → NamesKey name key kind → ⊥)
 
 -- a key, and two octets that say nothing yet
 abbrev pub param_head : ℕ → List ℕ
 param_head key = to_be_bytes w16 key ++ (0 ∷ 0 ∷ [])
 
--- octets gained a key, two octets and a value; behind an open word the value is still to come
-abbrev pub TakesParamWord : TokenSeen → List ℕ → List ℕ → Option ValueKind → Type 0
-TakesParamWord t old new None =
-    StandsApart t × ((name value : List ℕ) × (p : ℕ × List ℕ) × SplitsWord t.text name value × SpellsParam name value p × (p.0 < 2 ^ 16) × (new ≡ old ++ (param_head p.0 ++ p.1)))
-TakesParamWord t old new (Some kind) =
-    StandsApart t × ((name : List ℕ) × (key : ℕ) × IsOpenWord t.text name × NamesKey name key kind × (key < 2 ^ 16) × (new ≡ old ++ param_head key))
+-- behind other octets stand parameters
+pub record StandsBehind (base : List ℕ) (params : List (ℕ × List ℕ)) (start : ℕ) (octets : List ℕ) : Type 0 where
+  pub fitting : HasFittingValues params
+  pub begins : start ≡ length base
+  pub whole : octets ≡ base ++ params_wire params
 
--- the value behind an open word: none, or a quoted text that touches it
-abbrev pub IsValueBehind : List TokenSeen → List ℕ → List TokenSeen → Type 0
-IsValueBehind tokens value left = ((value ≡ []) × (left ≡ tokens)) ⊎ ((q : TokenSeen) × IsGluedText q × (tokens ≡ q ∷ left) × (value ≡ q.text))
+-- and behind these, at a place, a key and two octets that say nothing yet
+pub record StandsOpen (base : List ℕ) (params : List (ℕ × List ℕ)) (key start at : ℕ) (octets : List ℕ) : Type 0 where
+  pub fitting : HasFittingValues params
+  pub small : key < 65536
+  pub begins : start ≡ length base
+  pub place : at ≡ length base + length (params_wire params)
+  pub whole : octets ≡ base ++ (params_wire params ++ param_head key)
 
--- octets gained that value
-abbrev pub TakesQuoted : ValueKind → List TokenSeen → List TokenSeen → List ℕ → List ℕ → Type 0
-TakesQuoted kind tokens left old new = (value octets : List ℕ) × IsValueBehind tokens value left × SpellsValue kind value octets × (new ≡ old ++ octets)
+-- a parameter can be added to others
+abbrev pub CanBeAdded : List (ℕ × List ℕ) → ℕ → List ℕ → Type 0
+CanBeAdded params key value = (length value < 65536) × (value_at params key ≡ None)
+
+-- of octets that are others and the wire form of parameters, the latter gained one parameter
+abbrev pub GainsParam : ℕ × List ℕ → ℕ → List ℕ → List ℕ → Type 0
+GainsParam p start old new =
+    (base : List ℕ) (params : List (ℕ × List ℕ)) → StandsBehind base params start old → CanBeAdded params p.0 p.1 × (new ≡ base ++ params_wire (params ++ p ∷ []))
 
 -- behind other octets, one parameter more
 abbrev pub SettlesBehind : List ℕ → List (ℕ × List ℕ) → ℕ → List ℕ → List ℕ → Result (Unit {0}) SettleError → Type 0
 SettlesBehind base params key value new r = (octets : List ℕ) × (new ≡ base ++ octets) × SettlesLast params key value octets r
 
--- of octets that are others and the wire form of parameters, the latter gained one parameter
-abbrev pub GainsParam : ℕ × List ℕ → ℕ → List ℕ → List ℕ → Type 0
-GainsParam p start old new =
-    (base : List ℕ) (params : List (ℕ × List ℕ)) → HasFittingValues params → start ≡ length base → old ≡ base ++ params_wire params
-    → (length p.1 < 65536) × (value_at params p.0 ≡ None) × (new ≡ base ++ params_wire (params ++ p ∷ []))
+-- the parameter that was begun has this value
+abbrev pub SettlesValue : ℕ → ℕ → List ℕ → List ℕ → List ℕ → Type 0
+SettlesValue start at value old new =
+    (base : List ℕ) (params : List (ℕ × List ℕ)) (key : ℕ) → StandsOpen base params key start at old
+    → CanBeAdded params key value × (new ≡ base ++ params_wire (params ++ (key, value) ∷ []))
+
+-- no such value is given to the parameter that was begun
+abbrev pub RefusesBegun : Room → ℕ → ℕ → (List ℕ → Type 0) → (ParamError → Type 0) → List ℕ → ParamError → Type 0
+RefusesBegun room start at spelled reason old e =
+    (base : List ℕ) (params : List (ℕ × List ℕ)) (key : ℕ) → StandsOpen base params key start at old
+    → RefusesSpelled room (λ value. spelled value × CanBeAdded params key value) reason old e
+
+-- octets gained a parameter that a word spells; behind an open word the value is still to come
+abbrev pub TakesParamWord : ℕ → TokenSeen → List ℕ → List ℕ → Option ValueKind → Type 0
+TakesParamWord start t old new None =
+    StandsApart t × ((name value : List ℕ) × (p : ℕ × List ℕ) × SplitsWord t.text name value × IsClosedWord t.text × SpellsParam name value p × (p.0 < 2 ^ 16) × GainsParam p start old new)
+TakesParamWord start t old new (Some kind) =
+    StandsApart t × ((name : List ℕ) × (key : ℕ) × IsOpenWord t.text name × NamesKey name key kind × (key < 2 ^ 16) × (new ≡ old ++ param_head key))
+
+-- no quoted text in front touches the token before it
+abbrev pub BeginsUnglued : List TokenSeen → Type 0
+BeginsUnglued tokens = (q : TokenSeen) (more : List TokenSeen) → tokens ≡ q ∷ more → IsGluedText q → ⊥
+
+-- the value behind an open word: a quoted text that touches it, or else none
+abbrev pub IsValueBehind : List TokenSeen → List ℕ → List TokenSeen → Type 0
+IsValueBehind tokens value left = ((value ≡ []) × (left ≡ tokens) × BeginsUnglued tokens) ⊎ ((q : TokenSeen) × IsGluedText q × (tokens ≡ q ∷ left) × (value ≡ q.text))
+
+-- that value was given to the parameter that was begun
+abbrev pub TakesQuoted : ℕ → ℕ → ValueKind → List TokenSeen → List TokenSeen → List ℕ → List ℕ → Type 0
+TakesQuoted start at kind tokens left old new = (value octets : List ℕ) × IsValueBehind tokens value left × SpellsValue kind value octets × SettlesValue start at octets old new
+
+-- that value spells octets
+abbrev pub SpellsOpenValue : ValueKind → List TokenSeen → List ℕ → Type 0
+SpellsOpenValue kind tokens octets = (value : List ℕ) × (left : List TokenSeen) × IsValueBehind tokens value left × SpellsValue kind value octets
+
+-- nothing is left, or what begins a parameter may stand there
+abbrev pub GoesOnApart : List TokenSeen → Type 0
+GoesOnApart left = (t : TokenSeen) (more : List TokenSeen) → left ≡ t ∷ more → StandsApart t
+
+-- the tokens in front are one parameter alone
+abbrev pub IsOnlyFront : List TokenSeen → ℕ × List ℕ → List TokenSeen → Type 0
+IsOnlyFront tokens p left = (q : ℕ × List ℕ) (rest : List TokenSeen) → SpellsFrontParam tokens q rest → GoesOnApart rest → (q ≡ p) × (rest ≡ left)
+
+-- the tokens in front spell a parameter that can be added to others; its octets, whose length is not set yet
+abbrev pub SpellsNew : List (ℕ × List ℕ) → List TokenSeen → List ℕ → Type 0
+SpellsNew params tokens octets =
+    (p : ℕ × List ℕ) × (left : List TokenSeen) × SpellsFrontParam tokens p left × GoesOnApart left × CanBeAdded params p.0 p.1 × (octets ≡ param_head p.0 ++ p.1)
+
+-- no parameter is added
+abbrev pub RefusesNew : Room → ℕ → List TokenSeen → (ParamError → Type 0) → List ℕ → ParamError → Type 0
+RefusesNew room start tokens reason old e =
+    (base : List ℕ) (params : List (ℕ × List ℕ)) → StandsBehind base params start old → RefusesSpelled room (SpellsNew params tokens) reason old e

@@ -1,11 +1,12 @@
 //! Parameters of the tokens of an entry.
 ghost use Rattle.std.specs.Prelude.{◌≡◌, ◌≢◌, ℕ, ◌+◌, ◌≤◌, ◌<◌, List, [], ◌∷◌, ◌++◌, IfOk, IfErr, OnOk, OnErr, length};
-ghost use Rattle.std.specs.Int.{w16, to_be_bytes};
-ghost use Rattle.dns_octets.specs.Appending.{Extends, Gains};
-ghost use Rattle.dns_split.specs.EntryTokens.{token_seen};
-ghost use Rattle.dns_lists.specs.Params.{params_wire, value_at, HasFittingValues, IsUnsettled};
+ghost use Rattle.dns_octets.specs.Appending.{Extends, Gains, LacksRoom};
+ghost use Rattle.dns_split.specs.EntryTokens.{TokenSeen, token_seen};
+ghost use Rattle.dns_lists.specs.Params.{params_wire, HasFittingValues, IsUnsettled};
 ghost use Rattle.dns_params.specs.ParamTokens.{SpellsFrontParam, SpellsParams};
-ghost use Rattle.dns_params.specs.ParamSteps.{ReadsWord, TakesParamWord, TakesQuoted, SettlesBehind, GainsParam, param_head};
+ghost use Rattle.dns_params.specs.ParamRefusals.{NewReason, ParamReason, RefusesParams, ValueFault, FirstTokenReason};
+ghost use Rattle.dns_params.specs.ParamValues.{SpellsValue};
+ghost use Rattle.dns_params.specs.ParamSteps.{param_head, GainsParam, IsOnlyFront, ReadsWord, NamesNoParam, RefusesBegun, RefusesNew, SettlesBehind, SettlesValue, SpellsOpenValue, TakesParamWord, TakesQuoted};
 
 use crate::error::ParamError;
 use crate::items::split_first;
@@ -16,8 +17,9 @@ use dns_lists::{SettleError, check_params, settle_last};
 use dns_octets::{AsOctetsMut, OctetsBuilder, ShortBuf};
 use dns_split::entry_tokens::EntryToken;
 
-/// A parameter that is refused, by the place of its first token, and why. Where the parameters
-/// together are refused, the place is the entry's end.
+/// A token that is refused, by its place, and why. Where the value behind an equals sign is missing,
+/// the place is where it should stand. Where the parameters together are refused, it is the entry's
+/// end.
 #[derive(Clone, Copy, Debug, PartialEq, Eq)]
 pub struct ParamRefusal {
     pub at: usize,
@@ -35,6 +37,7 @@ pub(crate) struct ParamWord<'a> {
 /// What a word says of a parameter.
 fn read_word<'a>(token: &EntryToken<'a>) -> Result<ParamWord<'a>, ParamError>
     ensures ok { IfOk result (ReadsWord (token_seen token.now)) }
+    ensures err { IfErr result (NamesNoParam (token_seen token.now)) }
 {
     if token.is_glued {
         return Err(ParamError::Glued);
@@ -65,48 +68,10 @@ fn read_word<'a>(token: &EntryToken<'a>) -> Result<ParamWord<'a>, ParamError>
 fn append_head<B: OctetsBuilder>(key: u16, target: &mut B) -> Result<(), ShortBuf>
     ensures ok { OnOk result (B.octets target.new ≡ B.octets target.old ++ param_head key) }
     ensures err { OnErr result (B.octets target.new ≡ B.octets target.old) }
+    ensures lacks { OnErr result (LacksRoom B.room (λ octets. octets ≡ param_head key) (B.octets target.old)) }
 {
     let [high, low] = key.to_be_bytes();
     target.append_slice(&[high, low, 0, 0])
-}
-
-/// Appends the key of a word, two octets, and its value. Where the word ends in the equals sign,
-/// it gives what its value is, and appends none.
-fn take_word<B: OctetsBuilder>(
-    token: &EntryToken<'_>,
-    target: &mut B,
-) -> Result<Option<ValueKind>, ParamError>
-    ensures ok { IfOk result (TakesParamWord (token_seen token.now) (B.octets target.old) (B.octets target.new)) }
-    ensures extends { OnErr result (Extends (B.octets target.old) (B.octets target.new)) }
-{
-    let word = read_word(token)?;
-    append_head(word.key.code, target)?;
-    let Some(value) = word.value else {
-        return Ok(Some(word.key.kind));
-    };
-    append_value(word.key.kind, value, target)?;
-    Ok(None)
-}
-
-/// Appends the value behind a word that ends in the equals sign: the quoted text that touches it,
-/// or else none.
-fn take_quoted<S: TokenSource, B: OctetsBuilder>(
-    kind: ValueKind,
-    source: &mut S,
-    target: &mut B,
-) -> Result<(), ParamError>
-    ensures ok { OnOk result (TakesQuoted kind (S.left source.old) (S.left source.new) (B.octets target.old) (B.octets target.new)) }
-    ensures extends { OnErr result (Extends (B.octets target.old) (B.octets target.new)) }
-    ensures end { S.end source.new ≡ S.end source.old }
-{
-    match source.current() {
-        Some(token) if token.is_glued && token.is_quoted => {
-            append_value(kind, token.text, target)?;
-        }
-        _ => return append_value(kind, b"", target),
-    }
-    source.advance();
-    Ok(())
 }
 
 /// Brings the parameter at a place to its place among those that begin at `start`, and sets its
@@ -126,7 +91,80 @@ fn settle<B: OctetsBuilder + AsOctetsMut>(
     settle_last(&mut octets[start..], at - start)
 }
 
-/// Takes the tokens of a parameter, and settles it among those that begin at `start`.
+/// Appends the value of the parameter whose key stands at a place, and settles the parameter among
+/// those that begin at `start`.
+fn take_value<B: OctetsBuilder + AsOctetsMut>(
+    start: usize,
+    at: usize,
+    kind: ValueKind,
+    text: &[u8],
+    target: &mut B,
+) -> Result<(), ParamError>
+    requires behind { start ≤ at }
+    requires within { at + 4 ≤ length (B.octets target.old) }
+    ensures ok { OnOk result ((value : List ℕ) × SpellsValue kind text.now value × SettlesValue start at value (B.octets target.old) (B.octets target.new)) }
+    ensures err { IfErr result (RefusesBegun B.room start at (SpellsValue kind text.now) (NewReason kind text.now) (B.octets target.old)) }
+    ensures extends { OnErr result (Extends (B.octets target.old) (B.octets target.new)) }
+{
+    append_value(kind, text, target)?;
+    match settle(start, at, target) {
+        Ok(()) => Ok(()),
+        Err(why) => Err(ParamError::from(why)),
+    }
+}
+
+/// Takes the parameter of a word among those that begin at `start`. Where the word ends in the equals
+/// sign, it appends its key and two octets, and gives what its value is.
+fn take_word<B: OctetsBuilder + AsOctetsMut>(
+    start: usize,
+    token: &EntryToken<'_>,
+    target: &mut B,
+) -> Result<Option<ValueKind>, ParamError>
+    requires { start ≤ length (B.octets target.old) }
+    ensures ok { IfOk result (TakesParamWord start (token_seen token.now) (B.octets target.old) (B.octets target.new)) }
+    ensures err { IfErr result (λ e. (rest : List TokenSeen) → RefusesNew B.room start (token_seen token.now ∷ rest) (FirstTokenReason (token_seen token.now)) (B.octets target.old) e) }
+    ensures extends { OnErr result (Extends (B.octets target.old) (B.octets target.new)) }
+{
+    let at = target.as_slice().len();
+    let word = read_word(token)?;
+    if let Err(why) = append_head(word.key.code, target) {
+        return Err(ParamError::from(why));
+    }
+    let Some(value) = word.value else {
+        return Ok(Some(word.key.kind));
+    };
+    take_value(start, at, word.key.kind, value, target)?;
+    Ok(None)
+}
+
+/// Takes the value behind a word that ends in the equals sign: the quoted text that touches it, or
+/// else none.
+fn take_quoted<S: TokenSource, B: OctetsBuilder + AsOctetsMut>(
+    start: usize,
+    at: usize,
+    kind: ValueKind,
+    source: &mut S,
+    target: &mut B,
+) -> Result<(), ParamError>
+    requires behind { start ≤ at }
+    requires within { at + 4 ≤ length (B.octets target.old) }
+    ensures ok { OnOk result (TakesQuoted start at kind (S.left source.old) (S.left source.new) (B.octets target.old) (B.octets target.new)) }
+    ensures err { IfErr result (RefusesBegun B.room start at (SpellsOpenValue kind (S.left source.old)) ValueFault (B.octets target.old)) }
+    ensures extends { OnErr result (Extends (B.octets target.old) (B.octets target.new)) }
+    ensures end { S.end source.new ≡ S.end source.old }
+{
+    match source.current() {
+        Some(token) if token.is_glued && token.is_quoted => {
+            take_value(start, at, kind, token.text, target)?;
+        }
+        _ => return take_value(start, at, kind, b"", target),
+    }
+    source.advance();
+    Ok(())
+}
+
+/// Takes the tokens of a parameter, and settles it among those that begin at `start`. The token that
+/// is refused is left.
 fn take_param<S: TokenSource, B: OctetsBuilder + AsOctetsMut>(
     start: usize,
     source: &mut S,
@@ -135,47 +173,48 @@ fn take_param<S: TokenSource, B: OctetsBuilder + AsOctetsMut>(
     requires some { S.left source.old ≢ [] }
     requires start { start ≤ length (B.octets target.old) }
     ensures ok { OnOk result ((p : ℕ × List ℕ) × SpellsFrontParam (S.left source.old) p (S.left source.new)
-        × GainsParam p start (B.octets target.old) (B.octets target.new)) }
-    ensures extends { (base octets : List ℕ) → start ≡ length base → B.octets target.old ≡ base ++ octets → OnErr result (Extends base (B.octets target.new)) }
+        × IsOnlyFront (S.left source.old) p (S.left source.new) × GainsParam p start (B.octets target.old) (B.octets target.new)) }
+    ensures err { IfErr result (RefusesNew B.room start (S.left source.old) (ParamReason (S.left source.new)) (B.octets target.old)) }
+    ensures extends { OnErr result (Extends (B.octets target.old) (B.octets target.new)) }
     ensures end { S.end source.new ≡ S.end source.old }
 {
     let at = target.as_slice().len();
     let Some(token) = source.current() else {
         return Ok(());
     };
-    let open = take_word(&token, target)?;
+    let open = take_word(start, &token, target)?;
     source.advance();
     if let Some(kind) = open {
-        take_quoted(kind, source, target)?;
+        take_quoted(start, at, kind, source, target)?;
     }
-    settle(start, at, target)?;
     Ok(())
 }
 
 /// Takes the parameters that the tokens that are left spell, and appends their octets, in ascending
-/// order of keys.
+/// order of keys. Refused, the target has its old octets, and perhaps more behind them.
 pub fn take_params<S: TokenSource, B: OctetsBuilder + AsOctetsMut>(
     source: &mut S,
     target: &mut B,
 ) -> Result<(), ParamRefusal>
     ensures ok { OnOk result (Gains (SpellsParams (S.left source.old)) (B.octets target.old) (B.octets target.new)) }
     ensures taken { OnOk result (S.left source.new ≡ []) }
+    ensures err { IfErr result (λ r. RefusesParams B.room (S.end source.old) (S.left source.old) (B.octets target.old) r (S.left source.new)) }
     ensures extends { OnErr result (Extends (B.octets target.old) (B.octets target.new)) }
     ensures end { S.end source.new ≡ S.end source.old }
 {
     let start = target.as_slice().len();
     while source.current().is_some() {
-        let at = source.place();
         if let Err(why) = take_param(start, source, target) {
+            let at = source.place();
             return Err(ParamRefusal { at, why });
         }
     }
-    let at = source.place();
     match check_params(&target.as_slice()[start..]) {
         Ok(()) => Ok(()),
-        Err(fault) => Err(ParamRefusal {
-            at,
-            why: ParamError::Params(fault),
-        }),
+        Err(fault) => {
+            let at = source.place();
+            let why = ParamError::Params(fault);
+            Err(ParamRefusal { at, why })
+        }
     }
 }

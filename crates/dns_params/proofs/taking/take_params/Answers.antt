@@ -1,7 +1,9 @@
-use Rattle.std.proofs.Common.{ap, sym, refl, ◌∙◌, length}
+use Rattle.std.proofs.Common.{ap, inl, inr, length, refl, sym, ◌∙◌}
+use Rattle.dns_fields.specs.Source.{next_place}
 use Rattle.dns_fields.proofs.Tokens.{none_left}
 use Rattle.dns_params.proofs.ParamParts.{part_behind}
-use Rattle.dns_params.proofs.Params.{params_none, params_more, params_all, fewer_tokens}
+use Rattle.dns_params.proofs.Params.{fewer_tokens, next_refused, none_right, params_all, params_more, params_none, some_left}
+use Rattle.dns_params.proofs.Refusals.{more_extends}
 use Rattle.dns_params.proofs.taking.take_params.Goals as goal
 
 pub loop-source-init : goal.loop-source-init
@@ -19,12 +21,25 @@ loop-source-smaller g c =
 pub loop-source-preserved : goal.loop-source-preserved
 loop-source-preserved g c =
     let ok = c.in_default.ensures.ok in let i = c.loop-source.invariant in
+    let some = some_left c.current.result (g.S.TokenSource.left c.loop-source.source) c.current.ensures (sym c.is_some.ensures ∙ c.loop-source-test.true) in
     record {
       taken = params_more (g.S.TokenSource.left c.args.source.now) (g.S.TokenSource.left c.loop-source.source) (g.S.TokenSource.left c.take_param.new.source) (length c.as_slice-start.result.now)
-          (g.B.AsOctets.octets c.args.target.now) (g.B.AsOctets.octets c.loop-source.target) (g.B.AsOctets.octets c.take_param.new.target) ok.0 i.taken i.start ok.1 ok.2;
+          (g.B.AsOctets.octets c.args.target.now) (g.B.AsOctets.octets c.loop-source.target) (g.B.AsOctets.octets c.take_param.new.target) ok.0 i.taken i.start some ok.1 ok.2 ok.3;
       start = i.start;
       end = c.take_param.ensures.end ∙ i.end;
     }
+
+pub returns-in-Err-clause-err : goal.returns-in-Err-clause-err
+returns-in-Err-clause-err g c =
+    let left = g.S.TokenSource.left in let octets = g.B.AsOctets.octets in let i = c.loop-source.invariant in
+    let some = some_left c.current.result (left c.loop-source.source) c.current.ensures (sym c.is_some.ensures ∙ c.loop-source-test.true) in (
+      c.place-at.ensures ∙ ap (next_place (left c.take_param.new.source)) (c.take_param.ensures.end ∙ i.end),
+      next_refused g.B.OctetsBuilder.room (left c.args.source.now) (left c.loop-source.source) (left c.take_param.new.source) (length c.as_slice-start.result.now) (octets c.args.target.now) (octets c.loop-source.target)
+          c.in-Err.why i.taken i.start some c.in-Err.ensures.err,
+    )
+
+pub returns-in-Err-clause-extends : goal.returns-in-Err-clause-extends
+returns-in-Err-clause-extends g c = more_extends _ _ _ _ c.loop-source.invariant.taken.gained c.in-Err.ensures.extends
 
 pub returns-in-Ok-clause-ok : goal.returns-in-Ok-clause-ok
 returns-in-Ok-clause-ok g c =
@@ -33,3 +48,19 @@ returns-in-Ok-clause-ok g c =
     let none = none_left c.current.result left c.current.ensures (sym c.is_some.ensures ∙ c.loop-source-test.false) in
     params_all (g.S.TokenSource.left c.args.source.now) left old new _ i.taken none
     (λ octets e. part_behind new c.as_slice.result.now old octets (length c.as_slice-start.result.now) c.as_slice.ensures.value e i.start) c.in-Ok.ensures.ok
+
+pub returns-in-Ok-clause-taken : goal.returns-in-Ok-clause-taken
+returns-in-Ok-clause-taken g c = none_left c.current.result (g.S.TokenSource.left c.loop-source.source) c.current.ensures (sym c.is_some.ensures ∙ c.loop-source-test.false)
+
+pub returns-in-Err-check_params-clause-err : goal.returns-in-Err-check_params-clause-err
+returns-in-Err-check_params-clause-err g c =
+    let old = g.B.AsOctets.octets c.args.target.now in let new = g.B.AsOctets.octets c.loop-source.target in
+    let i = c.loop-source.invariant in let left = g.S.TokenSource.left c.loop-source.source in
+    let none = none_left c.current.result left c.current.ensures (sym c.is_some.ensures ∙ c.loop-source-test.false) in (
+      c.place-at-in-Err-check_params.ensures ∙ ap (next_place left) i.end,
+      inr (
+        inr (none, (c.in-Err-check_params.fault, refl)),
+        none_right (g.S.TokenSource.left c.args.source.now) left old new _ i.taken none
+            (λ octets e. part_behind new c.as_slice.result.now old octets (length c.as_slice-start.result.now) c.as_slice.ensures.value e i.start) c.in-Err-check_params.ensures.err,
+      ),
+    )
