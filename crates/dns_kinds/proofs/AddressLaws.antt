@@ -45,7 +45,7 @@ shown : (segments : List ℕ) → length segments ≡ 8 → ((k : ℕ) → get_o
 shown segments eight small = by (has_ipv4_end segments) refl
   where
     by : (b : Bool) → has_ipv4_end segments ≡ b → IsColonHex (cond b (codes "::" ++ ipv4_text (octets_of (drop 6 segments))) (ipv6_text segments)) segments
-    by true e = ends segments eight small (and_parts (bytes_eq (take 6 segments) (replicate 6 0)) (nat_lt 1 (get_or segments 6 0 * 65536 + get_or segments 7 0)) e).0
+    by true e = ends segments eight small (and_parts (bytes_eq (take 6 segments) (replicate 6 0)) (nat_lt 0 (get_or segments 6 0)) e).0
     by false e = IsColonHex-ipv6_text segments eight small
 
 pub ipv6_is_kind : Ipv6IsKind

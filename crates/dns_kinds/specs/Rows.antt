@@ -83,9 +83,9 @@ locator = refl
 salts : map salt_text ([] ∷ (0xaa ∷ 0xbb ∷ 0xcc ∷ 0xdd ∷ []) ∷ []) ≡ codes "-" ∷ codes "AABBCCDD" ∷ []
 salts = refl
 
--- ::192.0.2.1, ::255.255.0.1, ::1, ::2 and 64:ff9b::c000:221
-ipv4_ends : map has_ipv4_end ((0 ∷ 0 ∷ 0 ∷ 0 ∷ 0 ∷ 0 ∷ 0xc000 ∷ 0x0201 ∷ []) ∷ (0 ∷ 0 ∷ 0 ∷ 0 ∷ 0 ∷ 0 ∷ 0xffff ∷ 1 ∷ []) ∷ (0 ∷ 0 ∷ 0 ∷ 0 ∷ 0 ∷ 0 ∷ 0 ∷ 1 ∷ []) ∷ (0 ∷ 0 ∷ 0 ∷ 0 ∷ 0 ∷ 0 ∷ 0 ∷ 2 ∷ []) ∷ (0x64 ∷ 0xff9b ∷ 0 ∷ 0 ∷ 0 ∷ 0 ∷ 0xc000 ∷ 0x221 ∷ []) ∷ [])
-    ≡ true ∷ true ∷ false ∷ true ∷ false ∷ []
+-- ::192.0.2.1, ::255.255.0.1, ::1, ::2, ::0.1.0.0 and 64:ff9b::c000:221
+ipv4_ends : map has_ipv4_end ((0 ∷ 0 ∷ 0 ∷ 0 ∷ 0 ∷ 0 ∷ 0xc000 ∷ 0x0201 ∷ []) ∷ (0 ∷ 0 ∷ 0 ∷ 0 ∷ 0 ∷ 0 ∷ 0xffff ∷ 1 ∷ []) ∷ (0 ∷ 0 ∷ 0 ∷ 0 ∷ 0 ∷ 0 ∷ 0 ∷ 1 ∷ []) ∷ (0 ∷ 0 ∷ 0 ∷ 0 ∷ 0 ∷ 0 ∷ 0 ∷ 2 ∷ []) ∷ (0 ∷ 0 ∷ 0 ∷ 0 ∷ 0 ∷ 0 ∷ 1 ∷ 0 ∷ []) ∷ (0x64 ∷ 0xff9b ∷ 0 ∷ 0 ∷ 0 ∷ 0 ∷ 0xc000 ∷ 0x221 ∷ []) ∷ [])
+    ≡ true ∷ true ∷ false ∷ false ∷ true ∷ false ∷ []
 ipv4_ends = refl
 
 ipv6 : shown_ipv6 (0 ∷ 0 ∷ 0 ∷ 0 ∷ 0 ∷ 0 ∷ 0xc000 ∷ 0x0201 ∷ []) ≡ codes "::" ++ ipv4_text (192 ∷ 0 ∷ 2 ∷ 1 ∷ [])

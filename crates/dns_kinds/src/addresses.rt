@@ -30,18 +30,17 @@ pub fn ipv6_from_text(text: &[u8]) -> Result<Ipv6Addr, KindError>
     }
 }
 
-/// Whether all segments but the last two are zero, and these are above 1.
+/// Whether the first six segments are zero, and the next is not.
 fn has_ipv4_end(segments: &[u16; 8]) -> bool
     ensures { result ≡ has_ipv4_end segments.now }
 {
-    let [a, b, c, d, e, f, g, h] = *segments;
-    let begin = [a, b, c, d, e, f];
-    let end = u32::from(g) * 65536 + u32::from(h);
-    begin == [0; 6] && end > 1
+    let [a, b, c, d, e, f, g, _] = *segments;
+    [a, b, c, d, e, f] == [0; 6] && g > 0
 }
 
 /// An IPv6 address that prints as name servers print it: as RFC 5952 has it, but with an IPv4
-/// address at the end where all other bits are zero, as in `::192.0.2.1`.
+/// address at the end where all other bits are zero and the first 16 of its own are not, as in
+/// `::192.0.2.1`.
 #[derive(Clone, Copy)]
 pub struct Ipv6Shown(pub Ipv6Addr);
 

@@ -1,5 +1,5 @@
 -- What is seen of what is left where a reader stands.
-use Rattle.std.proofs.Common.{◌≡◌, ℕ, ◌+◌, ◌<◌, true, false, Bool, List, [], ◌∷◌, length, drop, cond, refl, inl, inr, sym, ap, ◌∙◌, subst, arith}
+use Rattle.std.proofs.Common.{◌≡◌, ℕ, ◌+◌, ◌<◌, ◌≤◌, true, false, Bool, List, [], ◌∷◌, length, drop, cond, refl, inl, inr, sym, ap, ◌∙◌, subst, arith}
 use Rattle.std.specs.Prelude.{⊤, Option, Some, None, option_map, is_some, IfSome, Result, Ok, Err}
 use Rattle.std.specs.Iterator.{YieldsFirstBy}
 use Rattle.dns_split.specs.declared.entry_tokens.EntryPart.{EntryPart}
@@ -14,9 +14,9 @@ use Rattle.dns_split.specs.Reader.{step, may_end}
 use Rattle.dns_split.specs.Pieces.{AreOctets, end_at, next_blank}
 use Rattle.dns_split.specs.Run.{before, blank_after, closed_piece, fault, finished, open_piece, run, start_after, wrong_at_end}
 use Rattle.dns_split.specs.Standing.{Takes, ahead, at_entry, began_after, blank_at, with_answer}
-use Rattle.dns_split.specs.EntryTokens.{IsInEntries, IsOpen, IsSeen, IsWide, PartSeen, StandsIn, answer_seen, ended_after, seen_from, seen_of}
+use Rattle.dns_split.specs.EntryTokens.{IsInEntries, IsOpen, IsSeen, IsSeenFrom, IsWide, PartSeen, StandsIn, answer_seen, ended_after, seen_from, seen_of}
 use Rattle.dns_split.proofs.PieceSteps.{run_step, run_stop}
-use Rattle.dns_split.proofs.Standings.{left_ahead, left_blank, left_once}
+use Rattle.dns_split.proofs.Standings.{entry_left, left_ahead, left_blank, left_once}
 use Rattle.dns_split.proofs.EntrySpans.{left_quoted, quoted_wide}
 use Rattle.dns_split.proofs.OctetsOnce.{run_given}
 
@@ -52,6 +52,10 @@ module _ (octets : List ℕ) (s t : Standing) (ok : AreOctets octets) where
 pub starts : (octets : List ℕ) → AreOctets octets → IsSeen octets (seen_from octets 0 None (ahead octets (at_entry 0)))
 starts octets ok = (ahead octets (at_entry 0), run_given octets ok, refl)
 
+-- and from an entry's beginning on
+pub starts_from : (octets : List ℕ) (at : ℕ) → AreOctets octets → IsSeenFrom octets at (seen_from octets at None (ahead octets (at_entry at)))
+starts_from octets at ok = (ahead octets (at_entry at), entry_left octets at ok (ahead octets (at_entry at)) (left_ahead octets (at_entry at) ok), refl)
+
 -- a piece that is taken is seen, or passed over
 pub seen_taken : (octets : List ℕ) (s t : Standing) (ended : Option ℕ) (x : Result Piece Fault) → AreOctets octets → Takes octets s (Some x) t → t.began ≡ began_after x s.began
     → seen_from octets s.began ended (ahead octets s) ≡ with_seen (seen_of octets (blank_at octets s.began) ended x) (seen_from octets t.began (ended_after x ended) (ahead octets t))
@@ -80,8 +84,8 @@ passed_part None old new h e = e
 pub fewer : (octets : List ℕ) (s t : Standing) (x : Result Piece Fault) → AreOctets octets → Takes octets s (Some x) t → length (ahead octets t) < length (ahead octets s)
 fewer octets s t x ok takes = omega (arith, ap length (takes_ahead octets s t ok (Some x) takes))
 
-pub stands_at_start : (octets : List ℕ) → AreOctets octets → StandsIn octets (at_entry 0)
-stands_at_start octets ok = record { are_octets = ok; deep = omega arith; within = omega arith }
+pub stands_at : (octets : List ℕ) (at : ℕ) → AreOctets octets → at ≤ length octets → StandsIn octets (at_entry at)
+stands_at octets at ok within = record { are_octets = ok; deep = omega arith; within = within }
 
 -- what the reader gives has an end, or a fault, which is the last
 abbrev Closes : List (Result Piece Fault) → Type 0

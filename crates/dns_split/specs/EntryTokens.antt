@@ -14,7 +14,7 @@ use Rattle.dns_split.specs.declared.entry_tokens.NextEntryError.{NextEntryError}
 use Rattle.dns_split.specs.declared.entry_tokens.NextEntryError.TheVariants.{BadText, ShortBuf}
 use Rattle.dns_split.specs.Splitting.{Entries, with_token}
 use Rattle.dns_split.specs.Pieces.{AreOctets, IsGiven, between}
-use Rattle.dns_split.specs.Standing.{blank_at}
+use Rattle.dns_split.specs.Standing.{IsGivenFrom, blank_at}
 
 -- what a token holds, whether it is a quoted text, whether it begins where the token before it in its entry ended, and where it begins
 pub record TokenSeen : Type 0 where
@@ -55,6 +55,10 @@ seen_from octets began ended (Err f ∷ given) = Err f ∷ seen_from octets bega
 -- what is seen of octets
 abbrev pub IsSeen : List ℕ → List (Result PartSeen Fault) → Type 0
 IsSeen octets seen = (given : List (Result Piece Fault)) × IsGiven octets given × (seen ≡ seen_from octets 0 None given)
+
+-- and of those from an entry's beginning on, with the places among all
+abbrev pub IsSeenFrom : List ℕ → ℕ → List (Result PartSeen Fault) → Type 0
+IsSeenFrom octets at seen = (given : List (Result Piece Fault)) × IsGivenFrom octets at given × (seen ≡ seen_from octets at None given)
 
 -- a token as it is spelled
 abbrev pub spelled : TokenSeen → List ℕ

@@ -4,11 +4,12 @@
 //! one before it is one thing with it (`alpn="h2,h3"`, RFC 9460), an entry that begins with a blank
 //! takes the owner of the one before (RFC 1035 section 5.1), and what is wrong with a token is
 //! wrong at a place. So each token comes with these.
-ghost use Rattle.std.specs.Prelude.{◌≡◌, length, option_map};
+ghost use Rattle.std.specs.Prelude.{◌≡◌, ◌≤◌, length, option_map};
 ghost use Rattle.std.specs.Iterator.{YieldsFirstBy};
 ghost use Rattle.dns_split.specs.Pieces.{IsWithin};
-ghost use Rattle.dns_split.specs.EntryTokens.{GivesEntry, IsInEntries, IsSeen, IsWide, answer_seen};
-ghost use Rattle.dns_split.specs.EntryTokens.{ended_after, ends_at, seen_of, token_at, token_seen};
+ghost use Rattle.dns_split.specs.EntryTokens.{GivesEntry, IsInEntries, IsSeen, IsSeenFrom, IsWide};
+ghost use Rattle.dns_split.specs.EntryTokens.{answer_seen, ended_after, ends_at, seen_of, token_at};
+ghost use Rattle.dns_split.specs.EntryTokens.{token_seen};
 
 use crate::pieces::{EndOfEntry, Fault, Piece};
 use crate::standing::{Standing, next_of_octets};
@@ -179,6 +180,20 @@ impl<'t> EntryTokens<'t> {
         EntryTokens {
             octets,
             standing: Standing::at_entry(0),
+            ended: None,
+        }
+    }
+
+    /// The same from an entry's beginning on, with places among all octets.
+    ///
+    /// `at` is where the end of another entry was given, unless that was the last part.
+    pub fn of_octets_starting_at(octets: &'t [u8], at: usize) -> EntryTokens<'t>
+        requires { at ≤ length octets.now }
+        ensures { IsSeenFrom octets.now at result }
+    {
+        EntryTokens {
+            octets,
+            standing: Standing::at_entry(at),
             ended: None,
         }
     }

@@ -1,11 +1,12 @@
-use Rattle.dns_split.proofs.EntryParts.{starts, stands_at_start}
+use Rattle.std.proofs.Common.{arith}
+use Rattle.dns_split.proofs.EntryParts.{starts, stands_at}
 use Rattle.dns_split.proofs.OctetsOnce.{are_octets}
 use Rattle.dns_split.proofs.entry_tokens.EntryTokens.of_octets.Goals as goal
 
 pub invariant_of-result : goal.invariant_of-result
 invariant_of-result c =
     let octets = c.args.octets.now in
-    rw c.at_entry.ensures (stands_at_start octets (are_octets octets (λ k. (c.type_inv.octets k).fits)))
+    rw c.at_entry.ensures (stands_at octets 0 (are_octets octets (λ k. (c.type_inv.octets k).fits)) (omega arith))
 
 pub returns : goal.returns
 returns c =
