@@ -157,7 +157,7 @@ pub sixteen_octets : (a : Ipv6Addr) → IsGateway (Ipv6 a) → length (gateway_o
 sixteen_octets a h = length_octets_of (ipv6_segments a) ∙ ap (λ n. 2 * n) h.0
 
 -- the octets of a gateway stand in front in one way
-gateway_width_is : (number : ℕ) (form rest : List ℕ) (found : Option ℕ) → (gateway_form None number).is_wire form → FindsWidth (gateway_form None number).is_wire (form ++ rest) found → found ≡ Some (length form)
+pub gateway_width_is : (number : ℕ) (form rest : List ℕ) (found : Option ℕ) → (gateway_form None number).is_wire form → FindsWidth (gateway_form None number).is_wire (form ++ rest) found → found ≡ Some (length form)
 gateway_width_is number form rest None is finds = absurd (finds form rest is refl)
 gateway_width_is number form rest (Some w) (inl name) (within, inl found) = names_in_front.width form rest (Some w) name.1 (within, found.1)
 gateway_width_is number form rest (Some w) (inl name) (within, inr found) = absurd (no_name number found.0 name.0 found.2)
@@ -182,12 +182,12 @@ abbrev IsOctet : ℕ → Type 0
 IsOctet o = o < 256
 
 -- octets are a gateway and a key, behind two others
-record IsKeyed (a b : ℕ) (octets : List ℕ) : Type 0 where
-  gateway : List ℕ
-  key : List ℕ
-  split : octets ≡ gateway ++ key
-  is_wire : (gateway_form None a).is_wire gateway
-  some : key ≢ []
+pub record IsKeyed (a b : ℕ) (octets : List ℕ) : Type 0 where
+  pub gateway : List ℕ
+  pub key : List ℕ
+  pub split : octets ≡ gateway ++ key
+  pub is_wire : (gateway_form None a).is_wire gateway
+  pub some : key ≢ []
 
 one_octet : (front : List ℕ) → length front ≡ 1 → front ≡ slice_index front 0 ∷ []
 one_octet [] h = absurd (omega (arith, h))
@@ -202,7 +202,7 @@ one_front a octets front back h is =
     let tail : back ≡ octets = cc all in
     (head, tail)
 
-keyed : (a b : ℕ) (octets : List ℕ) → (gateway_key_form None).is_wire (a ∷ b ∷ octets) → IsKeyed a b octets
+pub keyed : (a b : ℕ) (octets : List ℕ) → (gateway_key_form None).is_wire (a ∷ b ∷ octets) → IsKeyed a b octets
 keyed a b octets h =
     let first = one_front a (b ∷ octets) h.front h.back h.is_wire.0.0 h.octets_are in
     let k = h.rest in
@@ -251,7 +251,7 @@ module _ (a b : ℕ) (octets : List ℕ) where
       }
 
 -- the octets of a list of two or more
-two_in_front : (octets : List ℕ) → 2 ≤ length octets → octets ≡ slice_index octets 0 ∷ slice_index octets 1 ∷ drop 2 octets
+pub two_in_front : (octets : List ℕ) → 2 ≤ length octets → octets ≡ slice_index octets 0 ∷ slice_index octets 1 ∷ drop 2 octets
 two_in_front [] h = absurd (omega (arith, h))
 two_in_front (a ∷ []) h = absurd (omega (arith, h))
 two_in_front (a ∷ b ∷ octets) h = refl

@@ -168,7 +168,7 @@ octet_back = record {
 type_back : IsBack gateway_type_form gateway_type_form.spells
 type_back = record { back = λ octets t is quoted text. (octet_back.back octets t is.0 quoted text, is.1); sized = λ front more is. octet_back.sized front more is.0 }
 
-word_is : (g : Gateway) (number : ℕ) (octets : List ℕ) → number ≡ gateway_type g → octets ≡ gateway_octets g → gateway_word number octets ≡ gateway_text g
+pub word_is : (g : Gateway) (number : ℕ) (octets : List ℕ) → number ≡ gateway_type g → octets ≡ gateway_octets g → gateway_word number octets ≡ gateway_text g
 word_is Nothing number octets n is = ap (λ n. gateway_word n octets) n
 word_is (Ipv4 a) number octets n is = ap (λ n. gateway_word n octets) n ∙ ap (gateway_word 1) is
 word_is (Ipv6 a) number octets n is = ap (λ n. gateway_word n octets) n ∙ ap (gateway_word 2) is ∙ ap (λ s. gateway_text (Ipv6 (record { segments = s }))) (segments_back (ipv6_segments a))
@@ -178,7 +178,13 @@ size_is Nothing number octets valid n = ap (λ n. gateway_size n octets) n
 size_is (Ipv4 a) number octets valid n = ap (λ n. gateway_size n octets) n ∙ sym (four_octets a valid)
 size_is (Ipv6 a) number octets valid n = ap (λ n. gateway_size n octets) n ∙ sym (sixteen_octets a valid)
 
--- names in front of octets are as many as their labels take, and digits are read as they are printed
+-- names in front of octets are as many as their labels take
+module _ (names : (form more : List ℕ) → IsWireName form → labels_size (length (form ++ more)) (form ++ more) ≡ length form) where
+  pub gateway_sized : (number : ℕ) (front more : List ℕ) → (gateway_form None number).is_wire front → gateway_size number (front ++ more) ≡ length front
+  gateway_sized number front more (inl name) = ap (λ n. gateway_size n (front ++ more)) name.0 ∙ names front more name.1
+  gateway_sized number front more (inr own) = size_is own.0 number (front ++ more) own.1 (sym own.2) ∙ sym (ap length own.3)
+
+-- and digits are read as they are printed
 module _ (origin : Option (List (List ℕ))) (known : IsOrigin origin) (names : (form more : List ℕ) → IsWireName form → labels_size (length (form ++ more)) (form ++ more) ≡ length form)
     (digits : (octets : List ℕ) (tokens : List TokenSeen) → AreOctetValues octets → ArePrinted (printed_digits base64 octets) tokens → SpellsJoined base64 tokens octets) where
   gateway_spelled : (number : ℕ) (octets : List ℕ) (t : TokenSeen) → (gateway_form None number).is_wire octets → t.is_quoted ≡ false → t.text ≡ gateway_word number octets → (gateway_form origin number).spells t octets
@@ -191,12 +197,8 @@ module _ (origin : Option (List (List ℕ))) (known : IsOrigin origin) (names : 
       let written = text ∙ word_is g number octets (sym own.2) own.3 in
       inr (quoted, (g, subst (λ x. SpellsGateway number x g) (sym written) (subst (λ n. SpellsGateway n (gateway_text g) g) own.2 (gateways_are_read.spelled g own.1)), own.3))
 
-  gateway_sized : (number : ℕ) (front more : List ℕ) → (gateway_form None number).is_wire front → gateway_size number (front ++ more) ≡ length front
-  gateway_sized number front more (inl name) = ap (λ n. gateway_size n (front ++ more)) name.0 ∙ names front more name.1
-  gateway_sized number front more (inr own) = size_is own.0 number (front ++ more) own.1 (sym own.2) ∙ sym (ap length own.3)
-
   gateway_back : (number : ℕ) → IsBack (gateway_form None number) (gateway_form origin number).spells
-  gateway_back number = record { back = gateway_spelled number; sized = gateway_sized number }
+  gateway_back number = record { back = gateway_spelled number; sized = gateway_sized names number }
 
   key_back : (octets : List ℕ) (tokens : List TokenSeen) → key_form.is_wire octets → ArePrinted (key_form.printed octets) tokens → key_form.spells tokens octets
   key_back octets tokens is p = (digits octets tokens is.0 p, is.1)

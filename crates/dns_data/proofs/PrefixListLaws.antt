@@ -44,7 +44,7 @@ module _ (left : List ℕ) (p : Prefix) (width : ℕ) (found : IsItemOf left p w
       let long : length item ≡ width = ap length is ∙ length-take-le width left found.1 in
       (is, sym (drop-append_seam item rest) ∙ ap (drop (length item)) (sym split) ∙ ap (λ n. drop n left) long)
 
-  behind_item : left ≢ [] → AreParts IsPrefixItem left → AreParts IsPrefixItem (drop width left)
+  pub behind_item : left ≢ [] → AreParts IsPrefixItem left → AreParts IsPrefixItem (drop width left)
   behind_item some ([], each, whole) = absurd (some whole)
   behind_item some (item ∷ items, each, whole) = (items, each.1, sym (one_item item (concat items) each.0 whole).1)
 

@@ -32,9 +32,10 @@ use Rattle.dns_data.specs.Texts.{AreText, text_form}
 use Rattle.dns_data.specs.TypeLists.{NameTypes, types_form}
 use Rattle.dns_data.specs.Wire.{BeginsWithFields}
 use Rattle.dns_data.specs.declared.rest.Rest.{Rest}
-use Rattle.dns_data.specs.declared.rest.Rest.TheVariants.{Nothing, Strings, Hex, Base64, Types, SomeTypes, Text, QuotedText, Location as OfLocation, Prefixes, GatewayKey}
+use Rattle.dns_data.specs.declared.rest.Rest.TheVariants.{Nothing, Strings, Hex, Base64, Types, SomeTypes, Text, QuotedText, Location as OfLocation, Prefixes, GatewayKey, Params}
 use Rattle.dns_data.specs.declared.shape.Shape.{Shape}
 use Rattle.dns_data.proofs.LocationLemmas.{location_back}
+use Rattle.dns_data.proofs.ParamsRestLaws.{params_back}
 use Rattle.dns_data.proofs.PlacesBack.{prefixes_back, gateway_key_back}
 use Rattle.dns_data.proofs.PrintedStrings.{front_string, quoted_token}
 use Rattle.dns_data.proofs.Sizes.{field_sized, name_sized}
@@ -146,6 +147,7 @@ module _ (origin : Option (List (List ℕ))) (known : IsOrigin origin) where
   rest_back OfLocation octets tokens is p = location_back octets tokens is p
   rest_back Prefixes octets tokens is p = prefixes_back octets tokens is p
   rest_back GatewayKey octets tokens is p = gateway_key_back origin known name_sized (digits_back InBase64) octets tokens is p
+  rest_back Params octets tokens is p = params_back octets tokens is p
 
   -- tokens are those of fields, and of the rest behind them
   record PartsBack (fields : List Field) (r : Rest) (octets back : List ℕ) (tokens : List TokenSeen) : Type 0 where

@@ -22,7 +22,10 @@ use Rattle.dns_symbol.specs.Symbol.{is_printable}
 use Rattle.dns_symbol.specs.Printed.{symbol_of, is_quoted_escape}
 use Rattle.dns_symbol.specs.declared.symbol.Symbol.TheVariants.{Char, SimpleEscape, DecimalEscape}
 use Rattle.dns_symbol.proofs.PrintedForms.{printed_ascii, printed_bytes}
+use Rattle.dns_lists.specs.Params.{params_of}
+use Rattle.dns_params.specs.ShownParams.{param_text}
 use Rattle.dns_places.specs.LocationWords.{location_words}
+use Rattle.dns_data.specs.GatewayKeys.{plain_word}
 use Rattle.dns_data.specs.LocationRest.{location_at}
 use Rattle.dns_data.specs.PrefixLists.{prefix_form, item_size}
 use Rattle.dns_data.specs.TokenForms.{printed_each}
@@ -33,7 +36,7 @@ use Rattle.dns_data.specs.Printing.{field_size, printed_field, printed_parts, pr
 use Rattle.dns_data.specs.RestKinds.{rest_form, strings_in_octets, AreShortStrings}
 use Rattle.dns_data.specs.Wire.{BeginsWithFields}
 use Rattle.dns_data.specs.declared.rest.Rest.{Rest}
-use Rattle.dns_data.specs.declared.rest.Rest.TheVariants.{Nothing, Strings, Hex, Base64, Types, SomeTypes, Text, QuotedText, Location as OfLocation, Prefixes, GatewayKey}
+use Rattle.dns_data.specs.declared.rest.Rest.TheVariants.{Nothing, Strings, Hex, Base64, Types, SomeTypes, Text, QuotedText, Location as OfLocation, Prefixes, GatewayKey, Params}
 use Rattle.dns_data.specs.declared.shape.Shape.{Shape}
 use Rattle.dns_data.proofs.PrintedBack.{strings_again}
 use Rattle.dns_data.proofs.PrintedStrings.{quoted_token}
@@ -99,6 +102,10 @@ words_well : (words : List (List ℕ)) → AllByRecursion IsQuotedWell (map (λ 
 words_well [] = tt
 words_well (w ∷ ws) = (plain_well w, words_well ws)
 
+params_well : (params : List (ℕ × List ℕ)) → AllByRecursion IsQuotedWell (map (λ p. plain_word (param_text p)) params)
+params_well [] = tt
+params_well (p ∷ ps) = (plain_well (param_text p), params_well ps)
+
 prefixes_well : (count : ℕ) (octets : List ℕ) → AllByRecursion IsQuotedWell (printed_each prefix_form count octets)
 prefixes_well zero octets = tt
 prefixes_well (suc count) [] = tt
@@ -118,6 +125,7 @@ rest_well QuotedText octets is = ((λ quoted. quote_of octets is), tt)
 rest_well OfLocation octets is = words_well (location_words (location_at octets))
 rest_well Prefixes octets is = prefixes_well (length octets) octets
 rest_well GatewayKey octets is = (plain_well _, (plain_well _, (plain_well _, digits_well InBase64 _)))
+rest_well Params octets is = params_well (params_of octets)
 
 parts_well : (fields : List Field) (r : Rest) (octets back : List ℕ) → BeginsWithFields fields octets back → (rest_form None r).is_wire back → AllByRecursion IsQuotedWell (printed_parts fields r octets)
 parts_well [] r octets back b is = subst (λ o. AllByRecursion IsQuotedWell ((rest_form None r).printed o)) (sym b) (rest_well r back is)

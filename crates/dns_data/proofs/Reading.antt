@@ -1,6 +1,6 @@
 -- Tokens that are refused as data of a shape.
 use Rattle.std.specs.Prelude.{Err}
-use Rattle.std.proofs.Common.{ℕ, Option, true, false, ◌≡◌, ◌<◌, ◌+◌, ◌-◌, ◌⊎◌, List, [], ◌∷◌, ◌++◌, length, take, drop, refl, sym, ap, subst, ◌∙◌, inl, inr, arith, length-append}
+use Rattle.std.proofs.Common.{ℕ, Option, true, false, ◌≡◌, ◌<◌, ◌+◌, ◌-◌, List, [], ◌∷◌, ◌++◌, length, take, drop, refl, sym, ap, subst, ◌∙◌, inl, inr, arith, length-append}
 use Rattle.std.proofs.Math.Seq.{drop-append_seam}
 use Rattle.std.proofs.lemmas.List.{append_assoc}
 use Rattle.dns_octets.specs.Room.{Room}
@@ -9,22 +9,21 @@ use Rattle.dns_digits.specs.declared.kind.DigitsKind.TheVariants.{Hex as InHex, 
 use Rattle.dns_digits.proofs.Pieces.{rest_of}
 use Rattle.dns_fields.specs.Source.{next_place}
 use Rattle.dns_fields.specs.Taking.{HasTaken, RefusesAField}
-use Rattle.dns_fields.specs.declared.field.Field.TheVariants.{String as OfString}
 use Rattle.dns_fields.specs.declared.taking.FieldRefusal.{FieldRefusal}
 use Rattle.dns_fields.proofs.Refused.{only_room_lacks, fields_front, all_once}
 use Rattle.dns_spelling.proofs.FormLaws.{octets_spelled}
 use Rattle.dns_split.specs.EntryTokens.{TokenSeen}
-use Rattle.dns_data.specs.Data.{HasLength, SpellsData, RefusesBehindFields, ReadsData}
+use Rattle.dns_data.specs.Data.{HasLength, SpellsData, ReadsData}
 use Rattle.dns_data.specs.Errors.{no_room}
-use Rattle.dns_data.specs.Rests.{RestForm, RefusesAs, RefusesRest}
+use Rattle.dns_data.specs.Rests.{RefusesAs, RefusesRest}
 use Rattle.dns_data.specs.RestKinds.{rest_form}
 use Rattle.dns_data.specs.Texts.{AreText}
 use Rattle.dns_data.specs.declared.error.DataError.TheVariants.{Field as OfField, WrongLength}
 use Rattle.dns_data.specs.declared.error.DataRefusal.{DataRefusal}
 use Rattle.dns_data.specs.declared.rest.Rest.{Rest}
-use Rattle.dns_data.specs.declared.rest.Rest.TheVariants.{Nothing, Strings, Hex, Base64, Types, SomeTypes, Text, QuotedText, Location as OfLocation, Prefixes, GatewayKey}
-use Rattle.dns_data.specs.declared.shape.PartRefusal.{PartRefusal}
+use Rattle.dns_data.specs.declared.rest.Rest.TheVariants.{Nothing, Strings, Hex, Base64, Types, SomeTypes, Text, QuotedText, Location as OfLocation, Prefixes, GatewayKey, Params}
 use Rattle.dns_data.specs.declared.shape.Shape.{Shape}
+use Rattle.dns_params.proofs.ParamLaws.{all_params_once}
 use Rattle.dns_places.proofs.LocationLaws.{locations_are_read}
 use Rattle.dns_data.proofs.GatewayLaws.{gateway_key_once}
 use Rattle.dns_data.proofs.PrefixListLaws.{prefixes_once}
@@ -53,6 +52,7 @@ rest_once origin QuotedText tokens a b h k = text_once true tokens a b h k
 rest_once origin OfLocation tokens a b h k = locations_are_read.once tokens a b h k
 rest_once origin Prefixes tokens a b h k = prefixes_once tokens a b h k
 rest_once origin GatewayKey tokens a b h k = gateway_key_once origin tokens a b h k
+rest_once origin Params tokens a b h k = all_params_once tokens a b h k
 
 module _ (origin : Option (List (List ℕ))) (room : Room) (shape : Shape) (end : ℕ) (tokens : List TokenSeen) (old : List ℕ) where
   pub field_refused : (f : FieldRefusal) (left : List TokenSeen) (new : List ℕ) → RefusesAField origin room shape.fields.now end tokens old f left new
@@ -111,3 +111,23 @@ module _ (origin : Option (List (List ℕ))) (room : Room) (shape : Shape) (end 
               ),
           extends_on new (back, h.1.2),
         )
+
+    -- behind the fields comes what it should
+    pub data_taken : (left : List TokenSeen) (new : List ℕ) → (left ≡ []) × Gains ((rest_form origin shape.rest).spells behind) middle new → HasLength shape.length (drop (length old) new)
+        → (left ≡ []) × Gains (SpellsData origin shape tokens) old new
+    data_taken left new h long =
+        let back : List ℕ = h.1.0 in
+        let whole : new ≡ old ++ (t.octets ++ back) = h.1.2 ∙ ap (λ o. o ++ back) t.gained ∙ append_assoc old t.octets back in
+        let all : drop (length old) new ≡ t.octets ++ back = ap (drop (length old)) whole ∙ drop-append_seam old (t.octets ++ back) in
+        let spelled : SpellsData origin shape tokens (t.octets ++ back) = record {
+          first = t.taken;
+          last = behind;
+          front = t.octets;
+          back = back;
+          tokens_are = t.whole;
+          octets_are = refl;
+          fields = t.spelled;
+          rest = h.1.1;
+          lengths = subst (HasLength shape.length) all long;
+        } in
+        (h.0, (t.octets ++ back, spelled, whole))

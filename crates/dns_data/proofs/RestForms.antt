@@ -14,7 +14,8 @@ use Rattle.dns_data.specs.RestLaws.{HoldOctets, AreRestForms}
 use Rattle.dns_data.specs.Texts.{AreText}
 use Rattle.dns_data.specs.TypeLists.{NameTypes, types_form}
 use Rattle.dns_data.specs.declared.rest.Rest.{Rest}
-use Rattle.dns_data.specs.declared.rest.Rest.TheVariants.{Nothing, Strings, Hex, Base64, Types, SomeTypes, Text, QuotedText, Location as OfLocation, Prefixes, GatewayKey}
+use Rattle.dns_data.specs.declared.rest.Rest.TheVariants.{Nothing, Strings, Hex, Base64, Types, SomeTypes, Text, QuotedText, Location as OfLocation, Prefixes, GatewayKey, Params}
+use Rattle.dns_params.proofs.ParamLaws.{params_values}
 use Rattle.dns_places.proofs.LocationLaws.{locations_are_read}
 use Rattle.dns_data.proofs.PlacesWire.{prefixes_are_wire, gateway_key_is_wire, same_key_wire}
 use Rattle.dns_data.proofs.Reading.{rest_once}
@@ -53,6 +54,7 @@ rest_is_wire origin is QuotedText tokens octets h k = text_is_wire true tokens o
 rest_is_wire origin is OfLocation tokens octets h k = locations_are_read.valid tokens octets k
 rest_is_wire origin is Prefixes tokens octets h k = prefixes_are_wire tokens octets h k
 rest_is_wire origin is GatewayKey tokens octets h k = gateway_key_is_wire origin is tokens octets h k
+rest_is_wire origin is Params tokens octets h k = (params_values tokens octets h k, k.right)
 
 pub rests_are_forms : AreRestForms
 rests_are_forms origin is r = record { are_wire = rest_is_wire origin is r; once = rest_once origin r }
@@ -70,3 +72,4 @@ wire_of_rest origin QuotedText octets h = h
 wire_of_rest origin OfLocation octets h = h
 wire_of_rest origin Prefixes octets h = h
 wire_of_rest origin GatewayKey octets h = same_key_wire origin octets h
+wire_of_rest origin Params octets h = h

@@ -11,6 +11,7 @@ pub mod PrintLaws
 pub mod PrintRows
 pub mod Printing
 pub mod GatewayKeys
+pub mod ParamsRest
 pub mod PlaceRows
 pub mod PrefixLists
 pub mod RestKinds

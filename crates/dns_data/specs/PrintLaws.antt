@@ -1,9 +1,9 @@
--- What record data is printed as spells the data again, and what stands in quotes stays in them.
-use Rattle.std.specs.Prelude.{ℕ, ◌≡◌, true, Option, List}
+-- What record data is printed as spells the data again, and each of its tokens is one of zone text.
+use Rattle.std.specs.Prelude.{ℕ, ◌≡◌, true, false, Option, List}
 use Rattle.std.specs.List.{AllByRecursion}
 use Rattle.dns_spelling.specs.NameSpelling.{IsOrigin}
 use Rattle.dns_split.specs.EntryTokens.{TokenSeen}
-use Rattle.dns_split.specs.Token.{IsQuote}
+use Rattle.dns_split.specs.Token.{IsQuote, IsToken, IsWord}
 use Rattle.dns_data.specs.Data.{IsDataOf, SpellsData}
 use Rattle.dns_data.specs.Printing.{printed_data, token_bytes}
 use Rattle.dns_data.specs.Rests.{ArePrinted, PrintedToken}
@@ -20,3 +20,14 @@ IsQuotedWell t = t.is_quoted ≡ true → IsQuote (token_bytes t)
 
 abbrev pub IsDataQuotedWell : Type 0
 IsDataQuotedWell = (shape : Shape) (octets : List ℕ) → IsDataOf shape octets → AllByRecursion IsQuotedWell (printed_data shape octets)
+
+-- and one that is printed without quotes is a word
+abbrev pub IsWordWell : PrintedToken → Type 0
+IsWordWell t = t.is_quoted ≡ false → IsWord (token_bytes t)
+
+abbrev pub IsDataWordedWell : Type 0
+IsDataWordedWell = (shape : Shape) (octets : List ℕ) → IsDataOf shape octets → AllByRecursion IsWordWell (printed_data shape octets)
+
+-- so each is a token of zone text
+abbrev pub IsDataOfTokens : Type 0
+IsDataOfTokens = (shape : Shape) (octets : List ℕ) → IsDataOf shape octets → AllByRecursion (λ t. IsToken (token_bytes t)) (printed_data shape octets)

@@ -1,11 +1,12 @@
 -- Worked rows of the definitions, each computed.
-use Rattle.std.specs.Prelude.{◌≡◌, true, false, [], ◌∷◌, ◌++◌, codes, refl}
+use Rattle.std.specs.Prelude.{◌≡◌, ℕ, true, false, List, [], ◌∷◌, ◌++◌, codes, refl}
 use Rattle.std.specs.Fmt.{digits}
 use Rattle.dns_kinds.specs.Types.{type_rows}
 use Rattle.dns_lists.specs.Bitmap.{set_places, block_types}
 use Rattle.dns_spelling.specs.PrintedNames.{labels_in_octets}
 use Rattle.dns_fields.specs.declared.field.Field.TheVariants.{Number16, String, Name}
-use Rattle.dns_data.specs.Printing.{printed_parts, token_bytes}
+use Rattle.dns_zone.specs.Layout.{Step}
+use Rattle.dns_data.specs.Printing.{FailsInSteps, printed_parts, token_bytes}
 use Rattle.dns_data.specs.declared.rest.Rest.TheVariants.{Nothing, Strings, Hex, Types}
 
 -- a preference and a host, as in MX
@@ -32,3 +33,7 @@ next_name : printed_parts (Name ∷ []) Types (4 ∷ codes "host" ++ 7 ∷ codes
     ∷ record { is_quoted = false; text = codes "NSEC" } ∷ []
 unfolding labels_in_octets set_places block_types type_rows
 next_name = refl
+
+-- a writer that fails at no step takes all steps
+never_fails : {F : Type 0} (blocks : F → ℕ) (gives : F → Step → F → Type 0) (fails : F → Step → Type 0) (w : F) (xs : List Step) → ((v : F) (x : Step) → fails v x → ⊥) → FailsInSteps blocks gives fails w xs → ⊥
+never_fails blocks gives fails w xs none h = none h.stands h.next h.failed

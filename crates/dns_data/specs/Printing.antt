@@ -1,7 +1,8 @@
 -- Record data as the tokens that it is printed as.
-use Rattle.std.specs.Prelude.{ℕ, zero, suc, None, ◌+◌, if◌then◌else◌, List, [], ◌∷◌, ◌++◌, map, length, take, drop, slice_index}
+use Rattle.std.specs.Prelude.{ℕ, None, ◌≡◌, ◌+◌, if◌then◌else◌, List, [], ◌∷◌, ◌++◌, map, length, take, drop, slice_index}
 use Rattle.dns_symbol.specs.Characters.{double_quote}
 use Rattle.dns_zone.specs.Layout.{Step, token}
+use Rattle.dns_zone.specs.Writers.{WritesSteps}
 use Rattle.dns_fields.specs.Fields.{field_form}
 use Rattle.dns_fields.specs.declared.field.Field.{Field}
 use Rattle.dns_fields.specs.declared.field.Field.TheVariants.{Number8, Number16, Number32, Interval, Ipv4, Ipv6, RecordType, Algorithm, NamedAlgorithm, CertificateType, Eui48, Eui64, Time, Locator, String, Tag, Salt, Hash, Name}
@@ -58,3 +59,13 @@ token_step t = token (token_bytes t)
 
 abbrev pub token_steps : List PrintedToken → List Step
 token_steps tokens = map token_step tokens
+
+-- a writer took the first steps of a list, and failed at the next
+pub record FailsInSteps {F : Type 0} (blocks : F → ℕ) (step_gives : F → Step → F → Type 0) (step_fails : F → Step → Type 0) (w : F) (xs : List Step) : Type 0 where
+  pub taken : List Step
+  pub next : Step
+  pub left : List Step
+  pub steps_are : xs ≡ taken ++ next ∷ left
+  pub stands : F
+  pub steps : WritesSteps blocks step_gives w taken stands
+  pub failed : step_fails stands next

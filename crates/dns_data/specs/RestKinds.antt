@@ -11,15 +11,16 @@ use Rattle.dns_fields.specs.declared.field.Field.TheVariants.{String as OfString
 use Rattle.dns_split.specs.EntryTokens.{TokenSeen}
 use Rattle.dns_data.specs.Digits.{digits_form}
 use Rattle.dns_data.specs.GatewayKeys.{gateway_key_form}
+use Rattle.dns_data.specs.ParamsRest.{params_form}
 use Rattle.dns_data.specs.PrefixLists.{prefixes_form}
-use Rattle.dns_data.specs.Rests.{RestForm, PrintedToken, BehindSome, some_form}
+use Rattle.dns_data.specs.Rests.{RestForm, BehindSome, some_form}
 use Rattle.dns_data.specs.LocationRest.{location_form}
 use Rattle.dns_data.specs.Texts.{nothing_form, text_form}
 use Rattle.dns_data.specs.TypeLists.{types_form}
 use Rattle.dns_data.specs.declared.error.DataError.{DataError}
 use Rattle.dns_data.specs.declared.error.DataError.TheVariants.{Field}
 use Rattle.dns_data.specs.declared.rest.Rest.{Rest}
-use Rattle.dns_data.specs.declared.rest.Rest.TheVariants.{Nothing, Strings, Hex, Base64, Types, SomeTypes, Text, QuotedText, Location as OfLocation, Prefixes, GatewayKey}
+use Rattle.dns_data.specs.declared.rest.Rest.TheVariants.{Nothing, Strings, Hex, Base64, Types, SomeTypes, Text, QuotedText, Location as OfLocation, Prefixes, GatewayKey, Params}
 
 -- why the next token is no character string
 abbrev pub StringTokensReason : List TokenSeen → List TokenSeen → DataError → Type 0
@@ -68,3 +69,4 @@ rest_form origin QuotedText = text_form true
 rest_form origin OfLocation = location_form
 rest_form origin Prefixes = prefixes_form
 rest_form origin GatewayKey = gateway_key_form origin
+rest_form origin Params = params_form

@@ -1,10 +1,10 @@
 -- The types whose data have a text form.
-use Rattle.std.specs.Prelude.{ℕ, ◌≡◌, ◌==◌, Bool, find, map, Option, option_map, List, [], ◌∷◌}
+use Rattle.std.specs.Prelude.{ℕ, ◌≡◌, ◌==◌, find, map, Option, option_map, List, [], ◌∷◌}
 use Rattle.dns_digits.specs.declared.digests.Digests.TheVariants.{Ds, Sshfp, Zonemd}
 use Rattle.dns_fields.specs.declared.field.Field.{Field}
 use Rattle.dns_fields.specs.declared.field.Field.TheVariants.{Number8, Number16, Number32, Interval, Ipv4, Ipv6, RecordType, Algorithm, NamedAlgorithm, CertificateType, Eui48, Eui64, Time, Locator, String, Tag, Salt, Hash, Name}
 use Rattle.dns_data.specs.declared.rest.Rest.{Rest}
-use Rattle.dns_data.specs.declared.rest.Rest.TheVariants.{Base64, GatewayKey, Hex, Location as OfLocation, Nothing, Prefixes, QuotedText, SomeTypes, Strings, Text, Types}
+use Rattle.dns_data.specs.declared.rest.Rest.TheVariants.{Base64, GatewayKey, Hex, Location as OfLocation, Nothing, Params, Prefixes, QuotedText, SomeTypes, Strings, Text, Types}
 use Rattle.dns_data.specs.declared.shape.Length.{Length}
 use Rattle.dns_data.specs.declared.shape.Length.TheVariants.{Any, Digest, Hash as HashLength}
 use Rattle.dns_data.specs.declared.types.TypeRow.{TypeRow}
@@ -111,6 +111,10 @@ type_shapes =
     type_shape 62 (Number32 ∷ Number16 ∷ []) Types Any ∷
     -- ZONEMD
     type_shape 63 (Number32 ∷ Number8 ∷ Number8 ∷ []) Hex (Digest Zonemd 5) ∷
+    -- SVCB
+    type_shape 64 (Number16 ∷ Name ∷ []) Params Any ∷
+    -- HTTPS
+    type_shape 65 (Number16 ∷ Name ∷ []) Params Any ∷
     -- SPF
     type_shape 99 [] Strings Any ∷
     -- NID

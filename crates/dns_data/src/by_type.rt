@@ -12,7 +12,7 @@ use crate::shape::read_data;
 use crate::types::{TypeRow, type_row};
 use crate::wire::check_data;
 use dns_fields::TokenSource;
-use dns_octets::{AsOctets, EmptyBuilder, FreezeBuilder, OctetsBuilder};
+use dns_octets::{AsOctets, AsOctetsMut, EmptyBuilder, FreezeBuilder, OctetsBuilder};
 use dns_wire::Name;
 
 /// A part of a record's data that is refused, by its name, the place of the token, and why. Data in
@@ -64,7 +64,7 @@ fn read_generic<S: TokenSource, B: OctetsBuilder>(
 
 /// Takes the tokens that are left as data of a type, in its text form or in the generic one, and
 /// appends its octets. A relative name stands before the origin.
-pub fn read_type<S: TokenSource, Octets: AsOctets, B: OctetsBuilder>(
+pub fn read_type<S: TokenSource, Octets: AsOctets, B: OctetsBuilder + AsOctetsMut>(
     code: u16,
     origin: Option<&Name<Octets>>,
     source: &mut S,
@@ -102,7 +102,7 @@ pub fn read_type<S: TokenSource, Octets: AsOctets, B: OctetsBuilder>(
 pub fn data_of_type<
     S: TokenSource,
     Octets: AsOctets,
-    B: OctetsBuilder + EmptyBuilder + FreezeBuilder + Drop,
+    B: OctetsBuilder + AsOctetsMut + EmptyBuilder + FreezeBuilder + Drop,
 >(
     alloc: B::Alloc,
     code: u16,

@@ -1,7 +1,7 @@
 //! Why record data was not read.
 ghost use Rattle.std.specs.Prelude.{◌≡◌, Some};
 ghost use Rattle.dns_fields.specs.Errors.{of_spelling, of_digits};
-ghost use Rattle.dns_data.specs.Errors.{data_error_text, of_location, of_place};
+ghost use Rattle.dns_data.specs.Errors.{data_error_text, of_location, of_params, of_place};
 ghost use Rattle.dns_data.specs.declared.error.DataError.TheVariants.{Field};
 ghost use Rattle.dns_fields.specs.declared.error.FieldError.TheVariants.{Kind, ShortBuf as NoRoom};
 
@@ -9,6 +9,7 @@ use dns_digits::DigitsError;
 use dns_fields::FieldError;
 use dns_kinds::KindError;
 use dns_octets::ShortBuf;
+use dns_params::ParamError;
 use dns_places::{LocationError, PlaceError};
 use dns_spelling::SpellingError;
 use std::error::Error;
@@ -39,6 +40,8 @@ pub enum DataError {
     Place(PlaceError),
     /// The type of a gateway is above 3.
     UnknownGateway,
+    /// Tokens are no service parameters.
+    Params(ParamError),
 }
 
 /// A token that is refused, by its place, and why. Where none is left, the place is the entry's end.
@@ -65,6 +68,7 @@ impl DataError {
             DataError::WrongLength => "wrong number of octets",
             DataError::Place(why) => why.as_str(),
             DataError::UnknownGateway => "unknown gateway type",
+            DataError::Params(why) => why.as_str(),
         }
     }
 }
@@ -137,6 +141,17 @@ impl From<LocationError> for DataError {
         match why {
             LocationError::ShortBuf => DataError::Field(FieldError::ShortBuf),
             _ => DataError::Location(why),
+        }
+    }
+}
+
+impl From<ParamError> for DataError {
+    ghost from_gives = { λ why e. e ≡ of_params why };
+
+    fn from(why: ParamError) -> Self {
+        match why {
+            ParamError::ShortBuf => DataError::Field(FieldError::ShortBuf),
+            _ => DataError::Params(why),
         }
     }
 }

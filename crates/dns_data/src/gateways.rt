@@ -20,7 +20,7 @@ use dns_split::entry_tokens::EntryToken;
 use dns_wire::Name;
 
 /// The greatest type of a gateway, that of a name.
-const NAME: u8 = 3;
+pub(crate) const NAME: u8 = 3;
 
 /// Takes the next token as a field.
 fn take_one<S: TokenSource, Octets: AsOctets, B: OctetsBuilder>(
@@ -163,7 +163,7 @@ fn address_width(number: u8, octets: &[u8]) -> Option<usize>
 }
 
 /// How many of the octets in front are a gateway of a type.
-fn gateway_width(number: u8, octets: &[u8]) -> Option<usize>
+pub(crate) fn gateway_width(number: u8, octets: &[u8]) -> Option<usize>
     ensures { FindsWidth (gateway_form None number).is_wire octets.now result }
 {
     if number == NAME {

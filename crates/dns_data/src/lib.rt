@@ -11,6 +11,7 @@ pub mod gateways;
 pub mod generic;
 pub mod laws;
 mod locations;
+mod params;
 pub mod prefixes;
 pub mod print;
 pub mod print_laws;

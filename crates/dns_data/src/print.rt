@@ -1,26 +1,30 @@
 //! Record data as zone text.
-ghost use Rattle.std.specs.Prelude.{◌≡◌, ◌≤◌, ℕ, List, [], ◌∷◌, None, length, take, OnOk};
+ghost use Rattle.std.specs.Prelude.{◌≡◌, ◌≤◌, ◌+◌, ℕ, List, [], ◌∷◌, None, length, take, drop, slice_index, OnOk, OnErr};
 ghost use Rattle.dns_zone.specs.Writers.{WritesSteps};
 ghost use Rattle.dns_fields.specs.Fields.{field_form};
 ghost use Rattle.dns_data.specs.Data.{IsDataOf};
 ghost use Rattle.dns_data.specs.Digits.{digits_form};
+ghost use Rattle.dns_data.specs.GatewayKeys.{gateway_form, gateway_key_form, gateway_size};
 ghost use Rattle.dns_data.specs.LocationRest.{location_form};
+ghost use Rattle.dns_data.specs.ParamsRest.{params_form};
 ghost use Rattle.dns_data.specs.PrefixLists.{prefixes_form};
-ghost use Rattle.dns_data.specs.Printing.{field_size, printed_data, token_steps};
+ghost use Rattle.dns_data.specs.Printing.{FailsInSteps, field_size, printed_data, token_step, token_steps};
 ghost use Rattle.dns_data.specs.RestKinds.{rest_form, strings_form};
 ghost use Rattle.dns_data.specs.TypeLists.{types_form};
 ghost use Rattle.dns_data.specs.Wire.{BeginsWithFields};
 
 use crate::field_text::FieldText;
+use crate::gateways::{NAME, gateway_width};
 use crate::rest::Rest;
 use crate::shape::Shape;
 use dns_codec::{base16, base64};
 use dns_digits::DigitsKind;
 use dns_fields::{Field, field_width};
 use dns_kinds::RecordType;
-use dns_lists::BitmapTypes;
-use dns_places::{Prefix, item_width, location_words};
-use dns_spelling::QuotedOctets;
+use dns_lists::{BitmapTypes, Params};
+use dns_params::ParamText;
+use dns_places::{Gateway, Prefix, item_width, location_words};
+use dns_spelling::{NameText, QuotedOctets};
 use dns_zone::zonefile_fmt::{self, FormatWriter, Formatter};
 
 /// How many of the octets in front are a field. There is one.
@@ -38,7 +42,8 @@ fn front_width(field: Field, octets: &[u8]) -> usize
 
 /// Prints character strings, each behind its length, between double quotes.
 fn write_strings<F: FormatWriter>(octets: &[u8], p: &mut F) -> zonefile_fmt::Result
-    ensures { OnOk result (WritesSteps F.blocks F.step_gives p.old (token_steps ((strings_form None).printed octets.now)) p.new) }
+    ensures gives { OnOk result (WritesSteps F.blocks F.step_gives p.old (token_steps ((strings_form None).printed octets.now)) p.new) }
+    ensures fails { OnErr result (FailsInSteps F.blocks F.step_gives F.step_fails p.old (token_steps ((strings_form None).printed octets.now))) }
 {
     let mut rest = octets;
     while !rest.is_empty() {
@@ -51,7 +56,8 @@ fn write_strings<F: FormatWriter>(octets: &[u8], p: &mut F) -> zonefile_fmt::Res
 
 /// Prints octets in digits as one word, and none as no word.
 fn write_digits<F: FormatWriter>(kind: DigitsKind, octets: &[u8], p: &mut F) -> zonefile_fmt::Result
-    ensures { OnOk result (WritesSteps F.blocks F.step_gives p.old (token_steps ((digits_form kind).printed octets.now)) p.new) }
+    ensures gives { OnOk result (WritesSteps F.blocks F.step_gives p.old (token_steps ((digits_form kind).printed octets.now)) p.new) }
+    ensures fails { OnErr result (FailsInSteps F.blocks F.step_gives F.step_fails p.old (token_steps ((digits_form kind).printed octets.now))) }
 {
     if octets.is_empty() {
         return Ok(());
@@ -64,7 +70,8 @@ fn write_digits<F: FormatWriter>(kind: DigitsKind, octets: &[u8], p: &mut F) -> 
 
 /// Prints the types of a bitmap, each as a word.
 fn write_types<F: FormatWriter>(octets: &[u8], p: &mut F) -> zonefile_fmt::Result
-    ensures { OnOk result (WritesSteps F.blocks F.step_gives p.old (token_steps (types_form.printed octets.now)) p.new) }
+    ensures gives { OnOk result (WritesSteps F.blocks F.step_gives p.old (token_steps (types_form.printed octets.now)) p.new) }
+    ensures fails { OnErr result (FailsInSteps F.blocks F.step_gives F.step_fails p.old (token_steps (types_form.printed octets.now))) }
 {
     for code in BitmapTypes::new(octets) {
         p.write_token(RecordType(code))?;
@@ -74,15 +81,17 @@ fn write_types<F: FormatWriter>(octets: &[u8], p: &mut F) -> zonefile_fmt::Resul
 
 /// Prints the items of an address prefix list, each as a word.
 fn write_prefixes<F: FormatWriter>(octets: &[u8], p: &mut F) -> zonefile_fmt::Result
-    ensures { OnOk result (WritesSteps F.blocks F.step_gives p.old (token_steps (prefixes_form.printed octets.now)) p.new) }
+    requires { prefixes_form.is_wire octets.now }
+    ensures gives { OnOk result (WritesSteps F.blocks F.step_gives p.old (token_steps (prefixes_form.printed octets.now)) p.new) }
+    ensures fails { OnErr result (FailsInSteps F.blocks F.step_gives F.step_fails p.old (token_steps (prefixes_form.printed octets.now))) }
 {
     let mut rest = octets;
     while !rest.is_empty() {
         let Some(width) = item_width(rest) else {
-            return Err(zonefile_fmt::Error);
+            unreachable!()
         };
         let Some(item) = Prefix::from_octets(rest) else {
-            return Err(zonefile_fmt::Error);
+            unreachable!()
         };
         p.write_token(item)?;
         rest = &rest[width..];
@@ -92,10 +101,12 @@ fn write_prefixes<F: FormatWriter>(octets: &[u8], p: &mut F) -> zonefile_fmt::Re
 
 /// Prints the words of a location.
 fn write_location<F: FormatWriter>(octets: &[u8], p: &mut F) -> zonefile_fmt::Result
-    ensures { OnOk result (WritesSteps F.blocks F.step_gives p.old (token_steps (location_form.printed octets.now)) p.new) }
+    requires { location_form.is_wire octets.now }
+    ensures gives { OnOk result (WritesSteps F.blocks F.step_gives p.old (token_steps (location_form.printed octets.now)) p.new) }
+    ensures fails { OnErr result (FailsInSteps F.blocks F.step_gives F.step_fails p.old (token_steps (location_form.printed octets.now))) }
 {
     let Some(words) = location_words(octets) else {
-        return Err(zonefile_fmt::Error);
+        unreachable!()
     };
     for word in words.iter() {
         p.write_token(*word)?;
@@ -103,9 +114,69 @@ fn write_location<F: FormatWriter>(octets: &[u8], p: &mut F) -> zonefile_fmt::Re
     Ok(())
 }
 
+/// How many of the octets behind the algorithm are the gateway.
+fn gateway_front(octets: &[u8]) -> usize
+    requires { (gateway_key_form None).is_wire octets.now }
+    ensures size { result ≡ gateway_size (slice_index octets.now 0) (drop 2 octets.now) }
+    ensures wire { (gateway_form None (slice_index octets.now 0)).is_wire (take result (drop 2 octets.now)) }
+    ensures fits { 2 + result ≤ length octets.now }
+{
+    match gateway_width(octets[0], &octets[2..]) {
+        Some(width) => width,
+        None => unreachable!(),
+    }
+}
+
+/// Prints a gateway of a type as a word.
+fn write_gateway<F: FormatWriter>(number: u8, octets: &[u8], p: &mut F) -> zonefile_fmt::Result
+    requires { (gateway_form None number).is_wire octets.now }
+    ensures blocks { OnOk result (F.blocks p.new ≡ F.blocks p.old) }
+    ensures gives { OnOk result (F.step_gives p.old (token_step ((gateway_form None number).printed octets.now)) p.new) }
+    ensures fails { OnErr result (F.step_fails p.old (token_step ((gateway_form None number).printed octets.now))) }
+{
+    if number == NAME {
+        return p.write_token(NameText(octets));
+    }
+    match Gateway::from_octets(number, octets) {
+        Some(gateway) => p.write_token(gateway),
+        None => unreachable!(),
+    }
+}
+
+/// Prints the type of a gateway, an algorithm, the gateway, and the key as one word.
+fn write_gateway_key<F: FormatWriter>(octets: &[u8], p: &mut F) -> zonefile_fmt::Result
+    requires { (gateway_key_form None).is_wire octets.now }
+    ensures gives { OnOk result (WritesSteps F.blocks F.step_gives p.old (token_steps ((gateway_key_form None).printed octets.now)) p.new) }
+    ensures fails { OnErr result (FailsInSteps F.blocks F.step_gives F.step_fails p.old (token_steps ((gateway_key_form None).printed octets.now))) }
+{
+    let width = gateway_front(octets);
+    let number = octets[0];
+    let rest = &octets[2..];
+    p.write_token(number)?;
+    p.write_token(octets[1])?;
+    write_gateway(number, &rest[..width], p)?;
+    write_digits(DigitsKind::Base64, &rest[width..], p)
+}
+
+/// Prints service parameters, each as a word.
+fn write_params<F: FormatWriter>(octets: &[u8], p: &mut F) -> zonefile_fmt::Result
+    ensures gives { OnOk result (WritesSteps F.blocks F.step_gives p.old (token_steps (params_form.printed octets.now)) p.new) }
+    ensures fails { OnErr result (FailsInSteps F.blocks F.step_gives F.step_fails p.old (token_steps (params_form.printed octets.now))) }
+{
+    for param in Params::new(octets) {
+        p.write_token(ParamText {
+            key: param.key,
+            value: param.value,
+        })?;
+    }
+    Ok(())
+}
+
 /// Prints what goes to the end of an entry.
 fn write_rest<F: FormatWriter>(rest: Rest, octets: &[u8], p: &mut F) -> zonefile_fmt::Result
-    ensures { OnOk result (WritesSteps F.blocks F.step_gives p.old (token_steps ((rest_form None rest).printed octets.now)) p.new) }
+    requires { (rest_form None rest).is_wire octets.now }
+    ensures gives { OnOk result (WritesSteps F.blocks F.step_gives p.old (token_steps ((rest_form None rest).printed octets.now)) p.new) }
+    ensures fails { OnErr result (FailsInSteps F.blocks F.step_gives F.step_fails p.old (token_steps ((rest_form None rest).printed octets.now))) }
 {
     match rest {
         Rest::Nothing => Ok(()),
@@ -116,16 +187,19 @@ fn write_rest<F: FormatWriter>(rest: Rest, octets: &[u8], p: &mut F) -> zonefile
         Rest::Text | Rest::QuotedText => p.write_token(QuotedOctets(octets)),
         Rest::Location => write_location(octets, p),
         Rest::Prefixes => write_prefixes(octets, p),
-        Rest::GatewayKey => Err(zonefile_fmt::Error),
+        Rest::GatewayKey => write_gateway_key(octets, p),
+        Rest::Params => write_params(octets, p),
     }
 }
 
 /// Prints data of a shape: a token for each of its fields, and then the tokens of what goes to the
 /// end of an entry. Names print absolute, character strings and text between double quotes, octets
-/// in digits as one word, and types in ascending order.
+/// in digits as one word, and types in ascending order. An error comes from the writer alone: it
+/// failed at one of these tokens, once those before it were printed.
 pub fn write_data<F: FormatWriter>(shape: &Shape, octets: &[u8], p: &mut F) -> zonefile_fmt::Result
     requires { IsDataOf shape.now octets.now }
-    ensures { OnOk result (WritesSteps F.blocks F.step_gives p.old (token_steps (printed_data shape.now octets.now)) p.new) }
+    ensures gives { OnOk result (WritesSteps F.blocks F.step_gives p.old (token_steps (printed_data shape.now octets.now)) p.new) }
+    ensures fails { OnErr result (FailsInSteps F.blocks F.step_gives F.step_fails p.old (token_steps (printed_data shape.now octets.now))) }
 {
     let mut rest = octets;
     for field in shape.fields {

@@ -1,5 +1,5 @@
 //! What holds of record data that is printed.
-ghost use Rattle.dns_data.specs.PrintLaws.{IsDataReadBack, IsDataQuotedWell};
+ghost use Rattle.dns_data.specs.PrintLaws.{IsDataOfTokens, IsDataQuotedWell, IsDataReadBack, IsDataWordedWell};
 
 /// States that the tokens that data is printed as spell it, whatever the origin is. It does nothing
 /// else.
@@ -11,4 +11,11 @@ pub fn printed_data_is_read_back()
 /// octet ends it, and none breaks its line. It does nothing else.
 pub fn printed_quotes_are_tokens()
     ensures { IsDataQuotedWell }
+{}
+
+/// States that each token that data is printed as is a token of zone text: without quotes a word of one
+/// character or more, none of which ends it, and in quotes a quoted text. It does nothing else.
+pub fn printed_data_is_tokens()
+    ensures words { IsDataWordedWell }
+    ensures tokens { IsDataOfTokens }
 {}

@@ -10,12 +10,13 @@ use crate::digits::take_digits;
 use crate::error::{DataError, DataRefusal};
 use crate::gateways::take_gateway_key;
 use crate::locations::take_place;
+use crate::params::take_service_params;
 use crate::prefixes::take_prefixes;
 use crate::texts::{take_no_token, take_text};
 use crate::type_lists::take_types;
 use dns_digits::DigitsKind;
 use dns_fields::{Field, FieldError, TokenSource, take_each};
-use dns_octets::{AsOctets, OctetsBuilder};
+use dns_octets::{AsOctets, AsOctetsMut, OctetsBuilder};
 use dns_wire::Name;
 
 /// A kind of what goes to the end of an entry.
@@ -43,6 +44,8 @@ pub enum Rest {
     Prefixes,
     /// The type of a gateway, an algorithm, the gateway, and a key in base 64.
     GatewayKey,
+    /// Any number of service parameters.
+    Params,
 }
 
 /// Sees that octets were appended behind so many.
@@ -124,7 +127,7 @@ fn take_some_types<S: TokenSource, B: OctetsBuilder>(
 }
 
 /// Takes the tokens that are left, and appends the octets that they spell.
-pub fn take_rest<S: TokenSource, Octets: AsOctets, B: OctetsBuilder>(
+pub fn take_rest<S: TokenSource, Octets: AsOctets, B: OctetsBuilder + AsOctetsMut>(
     rest: Rest,
     origin: Option<&Name<Octets>>,
     source: &mut S,
@@ -145,5 +148,6 @@ pub fn take_rest<S: TokenSource, Octets: AsOctets, B: OctetsBuilder>(
         Rest::Location => take_place(source, target),
         Rest::Prefixes => take_prefixes(source, target),
         Rest::GatewayKey => take_gateway_key(origin, source, target),
+        Rest::Params => take_service_params(source, target),
     }
 }

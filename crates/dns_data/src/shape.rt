@@ -7,7 +7,7 @@ use crate::error::DataError;
 use crate::rest::{Rest, take_rest};
 use dns_digits::{Digests, is_digest_length};
 use dns_fields::{Field, TokenSource, take_fields};
-use dns_octets::{AsOctets, OctetsBuilder};
+use dns_octets::{AsOctets, AsOctetsMut, OctetsBuilder};
 use dns_wire::Name;
 
 /// The lengths that octets of the data ask for.
@@ -73,7 +73,7 @@ pub(crate) fn has_length(length: Length, octets: &[u8]) -> bool
 
 /// Takes the tokens that are left as data of a shape, and appends its octets. A relative name stands
 /// before the origin.
-pub fn read_data<S: TokenSource, Octets: AsOctets, B: OctetsBuilder>(
+pub fn read_data<S: TokenSource, Octets: AsOctets, B: OctetsBuilder + AsOctetsMut>(
     shape: &Shape,
     origin: Option<&Name<Octets>>,
     source: &mut S,

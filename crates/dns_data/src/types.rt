@@ -19,7 +19,7 @@ pub struct TypeRow(
 );
 
 /// The types, by code.
-pub static TYPES: [TypeRow; 50] = [
+pub static TYPES: [TypeRow; 52] = [
     // A (RFC 1035 section 3.4.1).
     TypeRow(1, &[Field::Ipv4], Rest::Nothing, Length::Any, &["address"]),
     // NS (RFC 1035 section 3.3.11).
@@ -332,6 +332,22 @@ pub static TYPES: [TypeRow; 50] = [
         Rest::Hex,
         Length::Digest(Digests::Zonemd, 5),
         &["serial", "scheme", "hash algorithm", "digest"],
+    ),
+    // SVCB (RFC 9460 section 2.1).
+    TypeRow(
+        64,
+        &[Field::Number16, Field::Name],
+        Rest::Params,
+        Length::Any,
+        &["priority", "target", "parameter"],
+    ),
+    // HTTPS (RFC 9460 section 9).
+    TypeRow(
+        65,
+        &[Field::Number16, Field::Name],
+        Rest::Params,
+        Length::Any,
+        &["priority", "target", "parameter"],
     ),
     // SPF (RFC 7208 section 3.1).
     TypeRow(99, &[], Rest::Strings, Length::Any, &["text"]),

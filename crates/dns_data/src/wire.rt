@@ -7,6 +7,7 @@ ghost use Rattle.dns_data.specs.TypeLists.{types_form};
 ghost use Rattle.dns_data.specs.Wire.{BeginsWithFields};
 
 use crate::gateways::is_gateway_key;
+use crate::params::are_params;
 use crate::prefixes::are_prefixes;
 use crate::rest::Rest;
 use crate::shape::{Shape, has_length};
@@ -76,6 +77,7 @@ pub(crate) fn is_rest(rest: Rest, octets: &[u8]) -> bool
         Rest::Location => is_location(octets),
         Rest::Prefixes => are_prefixes(octets),
         Rest::GatewayKey => is_gateway_key(octets),
+        Rest::Params => are_params(octets),
     }
 }
 

@@ -1,5 +1,5 @@
 -- The tokens in front are a parameter in one way.
-use Rattle.std.proofs.Common.{ℕ, zero, suc, ◌≡◌, ◌≢◌, ◌<◌, ◌≤◌, ◌+◌, ◌⊎◌, true, false, true≢false, List, [], ◌∷◌, ◌++◌, length, refl, sym, subst, ap, ◌∙◌, arith, inl, inr, Option, Some, None}
+use Rattle.std.proofs.Common.{ℕ, suc, ◌≡◌, ◌≢◌, ◌<◌, true≢false, List, [], ◌∷◌, ◌++◌, length, refl, sym, subst, ap, ◌∙◌, arith, inl, inr, Option, Some, None}
 use Rattle.dns_codec.specs.Base.{base64}
 use Rattle.std.specs.Int.{w16, to_be_bytes}
 use Rattle.std.specs.Net.Addr.{ipv4_octets, ipv6_octets, IsIpv4Addr, IsIpv6Addr}
@@ -16,8 +16,8 @@ use Rattle.dns_params.specs.Items.{IsWithout}
 use Rattle.dns_params.specs.Keys.{NamesKey}
 use Rattle.std.specs.Prelude.{MatchOption}
 use Rattle.dns_params.specs.ParamRefusals.{NamesNoKey}
-use Rattle.dns_params.specs.ParamSteps.{GoesOnApart, IsClosedWord, IsOnlyFront, IsValueBehind, BeginsUnglued}
-use Rattle.dns_params.specs.ParamTokens.{SplitsWord, IsOpenWord, IsGluedText, StandsApart, SplitsValue, SpellsParam, SpellsFrontParam, SpellsFrontParams}
+use Rattle.dns_params.specs.ParamSteps.{GoesOnApart, IsClosedWord, IsOnlyFront, IsValueBehind}
+use Rattle.dns_params.specs.ParamTokens.{SplitsWord, IsOpenWord, StandsApart, SplitsValue, SpellsParam, SpellsFrontParams}
 use Rattle.dns_params.specs.ParamValues.{SpellsValue, SpellsStrings, SpellsIpv4, SpellsIpv6}
 use Rattle.dns_params.specs.declared.keys.ValueKind.{ValueKind}
 use Rattle.dns_params.specs.declared.keys.ValueKind.TheVariants.{Keys, Strings, Nothing, Port, Ipv4, Digits, Ipv6, Octets}
@@ -87,7 +87,7 @@ module _ (t : TokenSeen) (rest : List TokenSeen) where
       (sym same.0, inl (sym same.1, k.1, λ q more e glued. true≢false (sym glued.1 ∙ (apart q more (k.1 ∙ e)).1)))
   open_once name m u mid o (inr k) apart = (sym (first_mark 61 name m [] [] o.0 k.0.0 (sym o.1 ∙ k.0.1)).0, inr k.1)
 
-heads : (a b : TokenSeen) (xs ys : List TokenSeen) → a ∷ xs ≡ b ∷ ys → (a ≡ b) × (xs ≡ ys)
+pub heads : (a b : TokenSeen) (xs ys : List TokenSeen) → a ∷ xs ≡ b ∷ ys → (a ≡ b) × (xs ≡ ys)
 heads a b xs ys e = (cc, cc)
 
 pub behind_once : (rest : List TokenSeen) (v u : List ℕ) (left mid : List TokenSeen) → IsValueBehind rest v left → IsValueBehind rest u mid → (u ≡ v) × (mid ≡ left)

@@ -12,3 +12,8 @@ pub mod ListRefusals
 pub mod Fronts
 pub mod Sizes
 pub mod ParamRefusals
+pub mod ParamLaws
+pub mod ShownKeys
+pub mod ShownValues
+pub mod ShownBack
+pub mod ShownWords

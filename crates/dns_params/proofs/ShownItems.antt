@@ -1,8 +1,8 @@
 -- Items of values as they are printed.
-use Rattle.std.proofs.Common.{ℕ, zero, suc, ◌≡◌, ◌≢◌, ◌<◌, ◌≤◌, ◌+◌, ◌-◌, Bool, true, false, List, [], ◌∷◌, ◌++◌, length, map, take, drop, get_or, refl, sym, subst, ap, ◌∙◌, arith, append_assoc, append-nil}
+use Rattle.std.proofs.Common.{ℕ, zero, suc, ◌≡◌, ◌<◌, ◌≤◌, ◌+◌, ◌-◌, List, [], ◌∷◌, ◌++◌, length, map, take, drop, get_or, refl, sym, ap, ◌∙◌, arith, append_assoc, append-nil}
 use Rattle.std.specs.Prelude.{All, encode_utf8_all}
 use Rattle.std.proofs.lemmas.Str.{encodes-IsAscii}
-use Rattle.std.proofs.lemmas.List.{take_more, length-drop, take_all, drop_all}
+use Rattle.std.proofs.lemmas.List.{take_more, length-drop, take_all}
 use Rattle.std.proofs.lemmas.List.Concat.{flat_map-append}
 use Rattle.dns_symbol.specs.Printed.{text_of, is_unquoted_escape, symbol_of}
 use Rattle.dns_symbol.specs.Symbol.{spell}
@@ -10,7 +10,7 @@ use Rattle.dns_symbol.proofs.PrintedForms.{printed_ascii}
 use Rattle.dns_lists.specs.Texts.{item_text, item_octet}
 use Rattle.dns_params.specs.declared.keys.ValueKind.{ValueKind}
 use Rattle.dns_params.specs.declared.keys.ValueKind.TheVariants.{Keys, Strings, Nothing, Port, Ipv4, Digits, Ipv6, Octets}
-use Rattle.dns_params.specs.ShownParams.{item_width, front_items, value_items, value_item_text, items_text, behind_commas, between_commas}
+use Rattle.dns_params.specs.ShownParams.{item_width, front_items, value_items, value_item_text, behind_commas, between_commas}
 
 pub unquoted_bytes : (shown octets : List ℕ) → shown ≡ octets → All (λ o. o < 256) octets → encode_utf8_all (text_of is_unquoted_escape shown) ≡ text_of is_unquoted_escape octets
 unquoted_bytes shown octets e h = ap (λ o. encode_utf8_all (text_of is_unquoted_escape o)) e ∙ encodes-IsAscii (text_of is_unquoted_escape octets) (printed_ascii is_unquoted_escape octets h)
@@ -25,7 +25,7 @@ string_more string i d here =
     ∙ ap (text_of is_unquoted_escape) (flat_map-append item_octet (take i string) (get_or string i d ∷ []) ∙ ap (λ x. item_text (take i string) ++ x) (append-nil (item_octet (get_or string i d))))
     ∙ flat_map-append (λ o. spell (symbol_of is_unquoted_escape o)) (item_text (take i string)) (item_octet (get_or string i d))
 
-some_width : (kind : ValueKind) (octets : List ℕ) → 0 < item_width kind octets
+pub some_width : (kind : ValueKind) (octets : List ℕ) → 0 < item_width kind octets
 some_width Keys octets = omega arith
 some_width Strings octets = omega arith
 some_width Nothing octets = omega arith

@@ -7,4 +7,5 @@ pub mod ParamSteps
 pub mod ParamRefusals
 pub mod ListItems
 pub mod ShownParams
+pub mod ParamsBack
 pub mod Rows

@@ -5,6 +5,7 @@
 pub mod error;
 mod items;
 pub mod keys;
+pub mod laws;
 pub mod shown;
 mod strings;
 pub mod taking;

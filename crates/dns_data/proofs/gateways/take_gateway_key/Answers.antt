@@ -1,10 +1,17 @@
-use Rattle.std.specs.Prelude.{Err}
+use Rattle.std.specs.Prelude.{Err, slice_index}
 use Rattle.std.specs.Option.{option_copied}
 use Rattle.std.proofs.lemmas.Result.{err_from_is_err_and}
-use Rattle.dns_data.specs.GatewayKeys.{octet_form, gateway_form}
-use Rattle.dns_data.proofs.GatewayLaws.{key_form, behind_algorithm, type_before, algorithm_before, gateway_before}
+use Rattle.dns_data.specs.GatewayKeys.{octet_form, gateway_type_form, gateway_form}
+use Rattle.dns_data.proofs.GatewayLaws.{key_form, behind_algorithm, behind_type, type_before, algorithm_before, gateway_before}
 use Rattle.dns_data.proofs.TokenRests.{first_refused}
 use Rattle.dns_data.proofs.gateways.take_gateway_key.Goals as goal
+
+pub returns-in_err-number-clause-takes : goal.returns-in_err-number-clause-takes
+returns-in_err-number-clause-takes g c =
+    let origin = option_copied c.args.origin in
+    let why = c.in_err-number.field-0.0 in
+    let p = err_from_is_err_and c.from_residual.result c.from_residual.ensures.1 in
+    rw (p.1, p.2) (first_refused gateway_type_form (λ number. behind_type origin (slice_index number 0)) g.B.OctetsBuilder.room _ _ _ why _ _ c.in_err-number.ensures.takes)
 
 pub returns-in_err-take_one-clause-takes : goal.returns-in_err-take_one-clause-takes
 returns-in_err-take_one-clause-takes g c =

@@ -1,13 +1,13 @@
 use Rattle.std.proofs.Common.{ℕ, ◌≤◌, length}
-use Rattle.dns_data.specs.PrefixLists.{prefix_form, prefixes_form}
-use Rattle.dns_data.specs.TokenForms.{printed_each}
+use Rattle.dns_data.specs.PrefixLists.{IsPrefixItem, prefix_form, prefixes_form}
+use Rattle.dns_data.specs.TokenForms.{AreParts, printed_each}
 use Rattle.dns_data.proofs.Tokens.{HasPrinted}
 use Rattle.dns_data.proofs.print.write_prefixes.Given as goal
 
--- the items so far are printed
+-- the items so far are printed, and items are left
 abbrev pub invariant-loop-rest : goal.invariant-loop-rest
 invariant-loop-rest g l =
-    (count : ℕ) × (length l.rest ≤ count) × HasPrinted g.F.FormatWriter.blocks g.F.FormatWriter.step_gives l.fn.p (prefixes_form.printed l.octets) (printed_each prefix_form count l.rest) l.p
+    (count : ℕ) × (length l.rest ≤ count) × AreParts IsPrefixItem l.rest × HasPrinted g.F.FormatWriter.blocks g.F.FormatWriter.step_gives l.fn.p (prefixes_form.printed l.octets) (printed_each prefix_form count l.rest) l.p
 
 abbrev pub decreases-loop-rest : goal.decreases-loop-rest
 decreases-loop-rest g l = length l.rest

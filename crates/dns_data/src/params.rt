@@ -1,0 +1,35 @@
+//! Service parameters (RFC 9460) to the end of an entry.
+ghost use Rattle.std.specs.Prelude.{◌≡◌, ◌↔◌, IsTrue};
+ghost use Rattle.dns_data.specs.ParamsRest.{params_form};
+ghost use Rattle.dns_data.specs.Rests.{TakesRest};
+
+use crate::error::{DataError, DataRefusal};
+use dns_fields::TokenSource;
+use dns_lists::check_params;
+use dns_octets::{AsOctetsMut, OctetsBuilder};
+use dns_params::take_params;
+
+/// Takes the tokens that are left as service parameters, and appends their octets in ascending order
+/// of keys.
+pub(crate) fn take_service_params<S: TokenSource, B: OctetsBuilder + AsOctetsMut>(
+    source: &mut S,
+    target: &mut B,
+) -> Result<(), DataRefusal>
+    ensures takes { TakesRest B.room params_form (S.end source.old) (S.left source.old) (B.octets target.old) result (S.left source.new) (B.octets target.new) }
+    ensures end { S.end source.new ≡ S.end source.old }
+{
+    match take_params(source, target) {
+        Ok(()) => Ok(()),
+        Err(refusal) => Err(DataRefusal {
+            at: refusal.at,
+            why: DataError::from(refusal.why),
+        }),
+    }
+}
+
+/// Whether octets are service parameters in ascending order of keys, each with a right value.
+pub(crate) fn are_params(octets: &[u8]) -> bool
+    ensures { IsTrue result ↔ params_form.is_wire octets.now }
+{
+    check_params(octets).is_ok()
+}
