@@ -1,0 +1,139 @@
+-- The canonical form of data by type.
+use Rattle.std.proofs.Common.{ℕ, zero, suc, Bool, true, false, ◌≡◌, ◌<◌, ◌==◌, ◌||◌, ◌+◌, Option, Some, None, List, [], ◌∷◌, ◌++◌, length, take, drop, refl, sym, ap, subst, ◌∙◌, arith, append_assoc, length-append}
+use Rattle.std.specs.Prelude.{Contains, if◌then◌else◌, slice_index_or}
+use Rattle.std.specs.Int.{to_be_bytes, w16, w32}
+use Rattle.std.specs.List.{list_any}
+use Rattle.std.proofs.Math.Seq.{take-append_seam, drop-append_seam}
+use Rattle.std.proofs.lemmas.Bool.{eqb-true, eq-eqb}
+use Rattle.dns_octets.specs.Appending.{Gains}
+use Rattle.dns_octets.specs.Lowered.{lowered}
+use Rattle.dns_octets.specs.Room.{Room}
+use Rattle.dns_wire.specs.Wire.{wire}
+use Rattle.dns_fields.specs.declared.field.Field.{Field}
+use Rattle.dns_canonical.specs.FieldForms.{canonical_field, IsFieldWire, StartsWithFields, CanonicalFields, RefusesFields, lowered_types}
+use Rattle.dns_canonical.specs.declared.fields.CanonicalError.{CanonicalError}
+use Rattle.dns_canonical.specs.declared.fields.CanonicalError.TheVariants.{BadData, ShortBuf}
+use Rattle.dns_canonical.proofs.FieldWalks.{forms_some, forms_long}
+use Rattle.dns_canonical.proofs.LoweredNames.{length_lowered}
+use Rattle.dns_data.specs.ByType.{HasShape, shape_of_code}
+use Rattle.dns_data.specs.Printing.{field_size}
+use Rattle.dns_data.specs.Types.{TypeShape}
+use Rattle.dns_data.specs.Wire.{BeginsWithFields}
+use Rattle.dns_data.proofs.Sizes.{field_sized}
+use Rattle.dns_resource.specs.CanonicalData.{behind_owner, canonical_data, canonical_record, fields_of_shape, fields_to_lower, lowered_in}
+use Rattle.dns_resource.specs.Records.{data_of}
+use Rattle.dns_resource.specs.TypeData.{IsTypeData}
+use Rattle.dns_resource.specs.declared.record.Record.{Record}
+use Rattle.dns_resource.proofs.DataBack.{shape_with}
+
+-- ---- which types are lowered
+
+pub any_contains : (xs : List ℕ) (x : ℕ) → list_any (λ y. y == x) xs ≡ true → Contains xs x
+any_contains [] x h = cc
+any_contains (y ∷ ys) x h = by (y == x) refl h (any_contains ys x)
+  where
+    by : (b : Bool) → (y == x) ≡ b → (b || list_any (λ z. z == x) ys) ≡ true → (list_any (λ z. z == x) ys ≡ true → Contains ys x) → Contains (y ∷ ys) x
+    by true same h more = (0, omega arith, eqb-true y x same)
+    by false same h more = let later = more h in (suc later.0, omega (arith, later.1), later.2)
+
+pub contains_any : (xs : List ℕ) (x : ℕ) → Contains xs x → list_any (λ y. y == x) xs ≡ true
+contains_any [] x h = absurd (omega (arith, h.1))
+contains_any (y ∷ ys) x h = by h.0 h.1 h.2 (contains_any ys x)
+  where
+    later : (b : Bool) → list_any (λ z. z == x) ys ≡ true → (b || list_any (λ z. z == x) ys) ≡ true
+    later true h = refl
+    later false h = h
+
+    by : (k : ℕ) → k < length (y ∷ ys) → slice_index_or (y ∷ ys) k x ≡ x → (Contains ys x → list_any (λ z. z == x) ys ≡ true) → list_any (λ z. z == x) (y ∷ ys) ≡ true
+    by zero within is more = ap (λ b. b || list_any (λ z. z == x) ys) (eq-eqb y x is)
+    by (suc k) within is more = later (y == x) (more (k, omega (arith, within), is))
+
+-- the fields of a type whose names are lowered, and of another
+pub fields_lowered : (code : ℕ) → Contains lowered_types code → fields_of_shape (shape_of_code code) ≡ fields_to_lower code
+fields_lowered code h = sym (ap (λ b. if b then fields_of_shape (shape_of_code code) else []) (contains_any lowered_types code h))
+
+pub fields_kept : (code : ℕ) → (Contains lowered_types code → ⊥) → [] ≡ fields_to_lower code
+fields_kept code h = by (list_any (λ t. t == code) lowered_types) refl
+  where
+    by : (b : Bool) → list_any (λ t. t == code) lowered_types ≡ b → [] ≡ (if b then fields_of_shape (shape_of_code code) else [])
+    by true is = absurd (h (any_contains lowered_types code is))
+    by false is = refl
+
+-- ---- one form
+
+-- the field in front by its size, and what is behind it
+pub front_cut : (f : Field) (octets part rest : List ℕ) → IsFieldWire f part → octets ≡ part ++ rest → (take (field_size f octets) octets ≡ part) × (drop (field_size f octets) octets ≡ rest)
+front_cut f octets part rest h is =
+    let sized : field_size f octets ≡ length part = ap (field_size f) is ∙ field_sized f part rest h in (
+      ap (λ n. take n octets) sized ∙ ap (take (length part)) is ∙ take-append_seam part rest,
+      ap (λ n. drop n octets) sized ∙ ap (drop (length part)) is ∙ drop-append_seam part rest,
+    )
+
+pub form_is : (fields : List Field) (octets form : List ℕ) → CanonicalFields fields octets form → form ≡ lowered_in fields octets
+form_is [] octets form h = h
+form_is (f ∷ fs) octets form h =
+    let cut = front_cut f octets h.0 h.1 h.3 h.4 in
+    h.5 ∙ ap (λ o. canonical_field f h.0 ++ o) (form_is fs h.1 h.2 h.6) ∙ ap (λ o. canonical_field f h.0 ++ lowered_in fs o) (sym cut.1) ∙ ap (λ o. canonical_field f o ++ lowered_in fs (drop (field_size f octets) octets)) (sym cut.0)
+
+pub form_of : (fields : List Field) (octets : List ℕ) → StartsWithFields fields octets → CanonicalFields fields octets (lowered_in fields octets)
+form_of fields octets h = let some = forms_some fields octets h in subst (CanonicalFields fields octets) (form_is fields octets some.0 some.1) some.1
+
+pub begins_start : (fields : List Field) (octets back : List ℕ) → BeginsWithFields fields octets back → StartsWithFields fields octets
+begins_start [] octets back h = tt
+begins_start (f ∷ fs) octets back h = (h.0, h.1, h.3, h.2, begins_start fs h.1 back h.4)
+
+-- ---- data of a type
+
+pub data_starts : (code : ℕ) (octets : List ℕ) → IsTypeData code octets → StartsWithFields (fields_to_lower code) octets
+data_starts code octets is = by (list_any (λ t. t == code) lowered_types) (shape_of_code code) refl
+  where
+    by : (b : Bool) (found : Option TypeShape) → shape_of_code code ≡ found → StartsWithFields (if b then fields_of_shape found else []) octets
+    by false found same = tt
+    by true None same = tt
+    by true (Some s) same =
+        let own = is.shaped (shape_with s) (subst (λ f. HasShape f (shape_with s)) (sym same) (refl, refl, refl)) in
+        begins_start s.fields octets own.back own.fields
+
+pub data_form : (code : ℕ) (octets : List ℕ) → IsTypeData code octets → CanonicalFields (fields_to_lower code) octets (canonical_data code octets)
+data_form code octets is = form_of (fields_to_lower code) octets (data_starts code octets is)
+
+pub data_long : (code : ℕ) (octets : List ℕ) → IsTypeData code octets → length (canonical_data code octets) ≡ length octets
+data_long code octets is = forms_long (fields_to_lower code) octets (canonical_data code octets) (data_form code octets is)
+
+-- ---- what is appended
+
+-- the form that is gained is that of the type
+pub form_gained : (code : ℕ) (fields : List Field) (octets old new : List ℕ) → fields ≡ fields_to_lower code → Gains (CanonicalFields fields octets) old new → new ≡ old ++ canonical_data code octets
+form_gained code fields octets old new same h = h.2 ∙ ap (λ o. old ++ o) (form_is fields octets h.0 h.1 ∙ ap (λ fs. lowered_in fs octets) same)
+
+-- data of a type has a form, which doesn't surely fit where that is refused
+pub form_lacks : (room : Room) (code : ℕ) (octets old : List ℕ) (e : CanonicalError) → IsTypeData code octets → RefusesFields room (fields_to_lower code) octets old e → room.fits < length old + length octets
+form_lacks room code octets old BadData is h = absurd (h (data_starts code octets is))
+form_lacks room code octets old ShortBuf is h = let few = h (canonical_data code octets) (data_form code octets is) in omega (arith, few, data_long code octets is)
+
+abbrev pub middle : ℕ → ℕ → ℕ → ℕ → List ℕ
+middle code class ttl count = to_be_bytes w16 code ++ to_be_bytes w16 class ++ to_be_bytes w32 ttl ++ to_be_bytes w16 count
+
+three_parts : (a b c d : List ℕ) → ((a ++ b) ++ c) ++ d ≡ a ++ (b ++ (c ++ d))
+three_parts a b c d = append_assoc (a ++ b) c d ∙ append_assoc a b (c ++ d)
+
+module _ {N O : Type 0} (r : Record N O) (is : IsTypeData (data_of r).code (data_of r).octets) where
+  -- the parts that are appended are the record's form
+  pub record_gained : (old first second new owner : List ℕ) (code count : ℕ) → owner ≡ wire r.owner → code ≡ (data_of r).code → count ≡ length (data_of r).octets → first ≡ old ++ lowered owner
+      → second ≡ first ++ middle code r.class r.ttl count → new ≡ second ++ canonical_data (data_of r).code (data_of r).octets → new ≡ old ++ canonical_record r
+  record_gained old first second new owner code count p q n a b c =
+      let form = canonical_data (data_of r).code (data_of r).octets in
+      let count_is : count ≡ length form = n ∙ sym (data_long (data_of r).code (data_of r).octets is) in
+      c ∙ ap (λ t. t ++ form) (b ∙ ap (λ t. t ++ middle code r.class r.ttl count) a) ∙ three_parts old (lowered owner) (middle code r.class r.ttl count) form
+      ∙ (λ i. old ++ (lowered (p i) ++ (middle (q i) r.class r.ttl (count_is i) ++ form)))
+
+  pub record_long : length (canonical_record r) ≡ length (wire r.owner) + 10 + length (data_of r).octets
+  record_long =
+      let form = canonical_data (data_of r).code (data_of r).octets in
+      let owner = lowered (wire r.owner) in
+      omega (arith, length-append owner (behind_owner (data_of r).code r.class r.ttl form), length_lowered (wire r.owner), data_long (data_of r).code (data_of r).octets is)
+
+  pub record_lacks : (room : Room) (old first second owner part : List ℕ) → owner ≡ wire r.owner → first ≡ old ++ lowered owner → second ≡ first ++ part → length part ≡ 10
+      → room.fits < length second + length (data_of r).octets → room.fits < length old + length (canonical_record r)
+  record_lacks room old first second owner part p a b ten few =
+      omega (arith, few, ten, record_long, ap length p, ap length a, ap length b, length-append old (lowered owner), length-append first part, length_lowered owner)

@@ -1,0 +1,67 @@
+-- What record data is printed as spells it again.
+use Rattle.std.proofs.Common.{ℕ, ◌≡◌, ◌≤◌, ◌^◌, Option, Some, None, List, [], ◌∷◌, refl, sym, subst, ◌∙◌, arith, inl, inr, length, append-nil, decimal}
+use Rattle.std.proofs.lemmas.Fmt.{decimal_is_IsNumeral}
+use Rattle.dns_codec.specs.Base.{base16}
+use Rattle.dns_digits.specs.Spelled.{SpellsDigits}
+use Rattle.dns_digits.specs.declared.kind.DigitsKind.TheVariants.{Hex}
+use Rattle.dns_digits.proofs.Pieces.{nothing_spelled}
+use Rattle.dns_digits.proofs.Spelling.{printed_spells}
+use Rattle.dns_fields.specs.Words.{SpellsBelow}
+use Rattle.dns_spelling.specs.NameSpelling.{IsOrigin}
+use Rattle.dns_spelling.specs.Spelling.{AreOctetValues}
+use Rattle.dns_split.specs.EntryTokens.{TokenSeen}
+use Rattle.dns_data.specs.ByType.{HasShape, shape_of_code, SpellsTypeData}
+use Rattle.dns_data.specs.Digits.{SpellsJoined, printed_digits}
+use Rattle.dns_data.specs.Generic.{SpellsGeneric, generic_form}
+use Rattle.dns_data.specs.Printing.{printed_parts}
+use Rattle.dns_data.specs.Rests.{ArePrinted}
+use Rattle.dns_data.specs.Types.{TypeShape}
+use Rattle.dns_data.specs.declared.shape.Shape.{Shape}
+use Rattle.dns_data.proofs.PrintedBack.{data_back}
+use Rattle.dns_resource.specs.DataBack.{IsTypeDataReadBack}
+use Rattle.dns_resource.specs.DataTokens.{tokens_of_shape}
+use Rattle.dns_resource.specs.TypeData.{IsTypeData}
+use Rattle.dns_resource.proofs.Unmarked.{from_generic, shape_unmarked}
+
+hex_back : (octets : List ℕ) (tokens : List TokenSeen) → AreOctetValues octets → ArePrinted (printed_digits base16 octets) tokens → SpellsJoined base16 tokens octets
+hex_back [] [] values p = (tt, nothing_spelled Hex)
+hex_back [] (t ∷ ts) values p = absurd p
+hex_back (o ∷ os) [] values p = absurd p
+hex_back (o ∷ os) (t ∷ []) values p = (
+  (p.0, tt),
+  subst (λ text. SpellsDigits base16 text (o ∷ os)) (sym (append-nil t.text ∙ p.1)) (printed_spells base16 (inl refl) (o ∷ os) values),
+)
+hex_back (o ∷ os) (t ∷ u ∷ ts) values p = absurd p.3
+
+count_back : (text : List ℕ) (count : ℕ) → count ≤ 65535 → text ≡ decimal count → SpellsBelow (2 ^ 16) text count
+count_back text count few is =
+    let d = decimal_is_IsNumeral count (omega (arith, few)) in
+    subst (λ t. SpellsBelow (2 ^ 16) t count) (sym is) ((d.0, sym d.1), omega (arith, few))
+
+generic_back : (octets : List ℕ) (tokens : List TokenSeen) → AreOctetValues octets → length octets ≤ 65535 → ArePrinted (generic_form.printed octets) tokens → SpellsGeneric tokens octets
+generic_back octets [] values short p = absurd p
+generic_back octets (mark ∷ []) values short p = absurd p.3
+generic_back octets (mark ∷ count ∷ digits) values short p =
+    ((p.0, p.1), (p.3.0, count_back count.text (length octets) short p.3.1), hex_back octets digits values p.3.3)
+
+-- a shape with the parts of a row
+abbrev pub shape_with : TypeShape → Shape
+shape_with s = record { fields = record { ref_ptr = (0, 0); now = s.fields }; rest = s.rest; length = s.lengths }
+
+shape_back : (origin : Option (List (List ℕ))) (code : ℕ) (octets : List ℕ) (tokens : List TokenSeen) → IsOrigin origin → AreOctetValues octets → IsTypeData code octets
+    → (found : Option TypeShape) → shape_of_code code ≡ found → ArePrinted (tokens_of_shape found octets) tokens → SpellsTypeData origin code tokens octets
+shape_back origin code octets tokens known values is None found p =
+    (is.in_zones, inl (generic_back octets tokens values is.short p, λ shape has. absurd (subst (λ f. HasShape f shape) found has)))
+shape_back origin code octets tokens known values is (Some s) found p =
+    let shape : Shape = shape_with s in
+    let has : HasShape (shape_of_code code) shape = subst (λ f. HasShape f shape) (sym found) (refl, refl, refl) in
+    let own = is.shaped shape has in (
+      is.in_zones,
+      inr (
+        λ generic. shape_unmarked code s octets own.back found own.fields own.rest (from_generic (printed_parts s.fields s.rest octets) tokens p generic),
+        (shape, has, data_back origin known shape octets tokens own p),
+      ),
+    )
+
+pub type_data_back : IsTypeDataReadBack
+type_data_back origin code octets tokens known values is p = shape_back origin code octets tokens known values is (shape_of_code code) refl p

@@ -1,0 +1,9 @@
+pub mod CanonicalForms
+pub mod CanonicalOrders
+pub mod DataBack
+pub mod MailParts
+pub mod PartWalks
+pub mod RecordBack
+pub mod SameForms
+pub mod TypeDatas
+pub mod Unmarked

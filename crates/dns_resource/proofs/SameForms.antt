@@ -1,0 +1,56 @@
+-- Records are equal in order where their canonical forms are the same.
+use Rattle.std.proofs.Common.{ℕ, ◌≡◌, ◌<◌, ◌^◌, ◌/◌, ◌%◌, List, ◌++◌, drop, ap, arith, get_or}
+use Rattle.std.specs.Prelude.{◌↔◌}
+use Rattle.std.specs.Cmp.{IsTotalOrder}
+use Rattle.std.specs.declared.cmp.Ordering.TheVariants.{Equal}
+use Rattle.std.proofs.lemmas.Cmp.{nat_cmp_total, on_total, then_total}
+use Rattle.dns_octets.specs.Lowered.{lowered}
+use Rattle.dns_wire.specs.Wire.{wire}
+use Rattle.dns_fields.specs.declared.field.Field.TheVariants.{Name as OfName}
+use Rattle.dns_canonical.specs.Records.{record_order}
+use Rattle.dns_canonical.proofs.LoweredNames.{lowered_name}
+use Rattle.dns_canonical.proofs.Orders.{octets_total, names_tied, records_tied}
+use Rattle.dns_resource.specs.CanonicalData.{behind_owner, canonical_data, canonical_with_ttl, data_order, record_key}
+use Rattle.dns_resource.specs.Records.{data_of}
+use Rattle.dns_resource.specs.RecordLaws.{AreRecordValues}
+use Rattle.dns_resource.specs.declared.record.Record.{Record}
+use Rattle.dns_resource.proofs.CanonicalOrders.{front_same}
+
+pub data_total : IsTotalOrder data_order
+data_total = then_total (on_total (λ d. d.code) nat_cmp_total) (on_total (λ d. canonical_data d.code d.octets) octets_total)
+
+same_number : (a b : ℕ) → a < 2 ^ 16 → b < 2 ^ 16 → a / 256 % 256 ≡ b / 256 % 256 → a % 256 ≡ b % 256 → a ≡ b
+same_number a b p q h k = omega (arith, p, q, h, k)
+
+-- what is behind the owner is of the same numbers and data
+record AreSame (code others class classes : ℕ) (form other : List ℕ) : Type 0 where
+  pub codes : code ≡ others
+  pub both : class ≡ classes
+  pub forms : form ≡ other
+
+same_behind : (code others class classes ttl : ℕ) (form other : List ℕ) → code < 2 ^ 16 → others < 2 ^ 16 → class < 2 ^ 16 → classes < 2 ^ 16 → behind_owner code class ttl form ≡ behind_owner others classes ttl other
+    → AreSame code others class classes form other
+same_behind code others class classes ttl form other p q r s e = record {
+  codes = same_number code others p q (ap (λ l. get_or l 0 0) e) (ap (λ l. get_or l 1 0) e);
+  both = same_number class classes r s (ap (λ l. get_or l 2 0) e) (ap (λ l. get_or l 3 0) e);
+  forms = ap (drop 10) e;
+}
+
+module _ {N O M P : Type 0} (a : Record N O) (b : Record M P) (p : AreRecordValues a) (q : AreRecordValues b) (ttl : ℕ) where
+  tied_from_forms : canonical_with_ttl ttl a ≡ canonical_with_ttl ttl b → record_order (record_key a) (record_key b) ≡ Equal
+  tied_from_forms e =
+      let first = lowered (wire a.owner) in
+      let second = lowered (wire b.owner) in
+      let parts = front_same OfName first second (behind_owner (data_of a).code a.class ttl (canonical_data (data_of a).code (data_of a).octets)) (behind_owner (data_of b).code b.class ttl (canonical_data (data_of b).code (data_of b).octets))
+      (lowered_name (wire a.owner) p.owner) (lowered_name (wire b.owner) q.owner) e in
+      let rest = same_behind (data_of a).code (data_of b).code a.class b.class ttl (canonical_data (data_of a).code (data_of a).octets) (canonical_data (data_of b).code (data_of b).octets) p.type q.type p.class q.class parts.1 in
+      (records_tied (record_key a) (record_key b)).1 ((names_tied a.owner b.owner p.owner_is q.owner_is).1 parts.0, rest.both, rest.codes, rest.forms)
+
+  forms_from_tied : record_order (record_key a) (record_key b) ≡ Equal → canonical_with_ttl ttl a ≡ canonical_with_ttl ttl b
+  forms_from_tied h =
+      let t = (records_tied (record_key a) (record_key b)).0 h in
+      let owner : lowered (wire a.owner) ≡ lowered (wire b.owner) = (names_tied a.owner b.owner p.owner_is q.owner_is).0 t.0 in
+      λ i. owner i ++ behind_owner (t.2 i) (t.1 i) ttl (t.3 i)
+
+  pub tied_by_form : (record_order (record_key a) (record_key b) ≡ Equal) ↔ (canonical_with_ttl ttl a ≡ canonical_with_ttl ttl b)
+  tied_by_form = (forms_from_tied, tied_from_forms)

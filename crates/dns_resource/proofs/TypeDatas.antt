@@ -1,0 +1,70 @@
+-- Data of types by their rows.
+use Rattle.std.proofs.Common.{ℕ, ◌≡◌, ◌≤◌, ◌⊎◌, Option, Some, None, List, sym, ap, subst, ◌∙◌, arith, length, inl, inr}
+use Rattle.dns_spelling.specs.NameSpelling.{IsOrigin}
+use Rattle.dns_split.specs.EntryTokens.{TokenSeen}
+use Rattle.dns_data.specs.ByType.{IsDataType, IsShapeOf, HasShape, shape_of_code, SpellsGenericData, SpellsTypeData}
+use Rattle.dns_data.specs.Data.{HasLength, IsDataOf, SpellsData}
+use Rattle.dns_data.specs.Generic.{BeginsGeneric}
+use Rattle.dns_data.specs.Limits.{max_data}
+use Rattle.dns_data.specs.Printing.{printed_data, printed_parts}
+use Rattle.dns_data.specs.RestKinds.{rest_form}
+use Rattle.dns_data.specs.RestLaws.{HoldOctets}
+use Rattle.dns_data.specs.Types.{TypeShape, row_shape}
+use Rattle.dns_data.specs.Wire.{BeginsWithFields}
+use Rattle.dns_data.specs.declared.shape.Shape.{Shape}
+use Rattle.dns_data.specs.declared.types.TypeRow.{TypeRow}
+use Rattle.dns_data.proofs.DataForms.{data_are_spelled}
+use Rattle.dns_data.proofs.TypeLaws.{has_shape}
+use Rattle.dns_resource.specs.DataTokens.{data_tokens, tokens_of_shape}
+use Rattle.dns_resource.specs.TypeData.{IsTypeData}
+use Rattle.dns_resource.specs.WireErrors.{RefusesWire}
+use Rattle.dns_resource.specs.declared.error.WireError.{WireError}
+use Rattle.dns_resource.specs.declared.error.WireError.TheVariants.{NoDataType, LongData, NotOfType}
+
+-- all shapes of a type have the same data
+same_data : (found : Option TypeShape) (a b : Shape) (octets : List ℕ) → HasShape found a → HasShape found b → IsDataOf a octets → IsDataOf b octets
+same_data None a b octets h k own = absurd h
+same_data (Some s) a b octets h k own = record {
+  back = own.back;
+  fields = subst (λ fs. BeginsWithFields fs octets own.back) (h.0 ∙ sym k.0) own.fields;
+  rest = subst (λ r. (rest_form None r).is_wire own.back) (h.1 ∙ sym k.1) own.rest;
+  lengths = subst (λ l. HasLength l octets) (h.2 ∙ sym k.2) own.lengths;
+}
+
+-- data of a type without a row, and with one
+pub without_row : (code : ℕ) (octets : List ℕ) → IsDataType code → length octets ≤ max_data → None ≡ shape_of_code code → IsTypeData code octets
+without_row code octets is short none = record { in_zones = is; short = short; shaped = λ shape has. absurd (subst (λ f. HasShape f shape) (sym none) has) }
+
+pub with_row : (code : ℕ) (octets : List ℕ) (row : TypeRow) (shape : Shape) → IsDataType code → length octets ≤ max_data → Some (row_shape row) ≡ shape_of_code code → IsShapeOf (row_shape row) shape → IsDataOf shape octets
+    → IsTypeData code octets
+with_row code octets row shape is short found same own = record {
+  in_zones = is;
+  short = short;
+  shaped = λ other has. same_data (shape_of_code code) shape other octets (has_shape (shape_of_code code) row shape found same) has own;
+}
+
+pub no_data_of_row : (code : ℕ) (octets : List ℕ) (row : TypeRow) (shape : Shape) → IsDataType code → length octets ≤ max_data → Some (row_shape row) ≡ shape_of_code code → IsShapeOf (row_shape row) shape
+    → (IsDataOf shape octets → ⊥) → RefusesWire code octets NotOfType
+no_data_of_row code octets row shape is short found same other = (is, short, (shape, has_shape (shape_of_code code) row shape found same, other))
+
+-- what is refused is no data of the type
+pub refused_is_none : (code : ℕ) (octets : List ℕ) (e : WireError) → RefusesWire code octets e → IsTypeData code octets → ⊥
+refused_is_none code octets NoDataType h is = h is.in_zones
+refused_is_none code octets LongData h is = omega (arith, h.1, is.short)
+refused_is_none code octets NotOfType h is = h.2.2 (is.shaped h.2.0 h.2.1)
+
+-- what tokens spell is data of the type
+pub spelled_is_type_data : (origin : Option (List (List ℕ))) (code : ℕ) (tokens : List TokenSeen) (octets : List ℕ) → IsOrigin origin → HoldOctets tokens → length octets ≤ max_data → SpellsTypeData origin code tokens octets
+    → IsTypeData code octets
+spelled_is_type_data origin code tokens octets known held short sp = record { in_zones = sp.0; short = short; shaped = by sp.1 }
+  where
+    by : SpellsGenericData (shape_of_code code) tokens octets ⊎ ((BeginsGeneric tokens → ⊥) × ((shape : Shape) × HasShape (shape_of_code code) shape × SpellsData origin shape tokens octets)) → (shape : Shape) → HasShape (shape_of_code code) shape → IsDataOf shape octets
+    by (inl generic) shape has = generic.1 shape has
+    by (inr own) shape has =
+        let spelled : Shape = own.1.0 in
+        same_data (shape_of_code code) spelled shape octets own.1.1 has ((data_are_spelled origin known spelled).are_data tokens octets held own.1.2)
+
+-- the tokens of a row
+pub row_tokens : (code : ℕ) (octets : List ℕ) (row : TypeRow) (shape : Shape) → Some (row_shape row) ≡ shape_of_code code → IsShapeOf (row_shape row) shape → printed_data shape octets ≡ data_tokens code octets
+row_tokens code octets row shape found same =
+    ap (λ fs. printed_parts fs shape.rest octets) same.0 ∙ ap (λ r. printed_parts (row_shape row).fields r octets) same.1 ∙ ap (λ f. tokens_of_shape f octets) found

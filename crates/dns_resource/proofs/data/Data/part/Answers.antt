@@ -1,0 +1,10 @@
+use Rattle.std.proofs.Common.{sym, subst}
+use Rattle.dns_resource.specs.TypeData.{IsTypeData}
+use Rattle.dns_resource.proofs.PartWalks.{row_starts}
+use Rattle.dns_resource.proofs.data.Data.part.Goals as goal
+
+pub part_in_front-requires : goal.part_in_front-requires
+part_in_front-requires g c =
+    let octets = c.args.self.now.octets in
+    let own = subst (λ k. IsTypeData k octets) (sym c.code.ensures) c.as_slice.ensures.is_data in
+    rw c.as_slice.ensures.value (row_starts c.code.result octets c.in_ok-row.row.now c.shape.result c.in_ok-row.ensures (c.shape.ensures.fields, c.shape.ensures.rest, c.shape.ensures.length) own)

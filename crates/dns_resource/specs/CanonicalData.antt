@@ -1,0 +1,56 @@
+-- The canonical form of record data by its type (RFC 4034 section 6.2, RFC 6840 section 5.1), and of records.
+use Rattle.std.specs.Prelude.{ℕ, ◌==◌, if◌then◌else◌, Option, Some, None, List, [], ◌∷◌, ◌++◌, length, take, drop}
+use Rattle.std.specs.Int.{to_be_bytes, w16, w32}
+use Rattle.std.specs.List.{list_any}
+use Rattle.std.specs.Ordering.{nat_cmp, ordering_then}
+use Rattle.std.specs.declared.cmp.Ordering.{Ordering}
+use Rattle.dns_octets.specs.Lowered.{lowered}
+use Rattle.dns_wire.specs.Wire.{wire}
+use Rattle.dns_fields.specs.declared.field.Field.{Field}
+use Rattle.dns_canonical.specs.FieldForms.{lowered_types, canonical_field}
+use Rattle.dns_canonical.specs.Names.{octet_order}
+use Rattle.dns_canonical.specs.Records.{RecordKey}
+use Rattle.dns_data.specs.ByType.{shape_of_code}
+use Rattle.dns_data.specs.Printing.{field_size}
+use Rattle.dns_data.specs.Types.{TypeShape}
+use Rattle.dns_resource.specs.Records.{data_of}
+use Rattle.dns_resource.specs.TypeData.{TypeData}
+use Rattle.dns_resource.specs.declared.record.Record.{Record}
+
+abbrev pub fields_of_shape : Option TypeShape → List Field
+fields_of_shape None = []
+fields_of_shape (Some s) = s.fields
+
+-- the fields of a type whose names are lowered, and none of another type
+abbrev pub fields_to_lower : ℕ → List Field
+fields_to_lower code = if list_any (λ t. t == code) lowered_types then fields_of_shape (shape_of_code code) else []
+
+-- octets with each of these fields in front in canonical form, and what is behind them as it is
+abbrev pub lowered_in : List Field → List ℕ → List ℕ
+lowered_in [] octets = octets
+lowered_in (f ∷ fs) octets = canonical_field f (take (field_size f octets) octets) ++ lowered_in fs (drop (field_size f octets) octets)
+
+-- data with its names in lower case where the type wants that
+abbrev pub canonical_data : ℕ → List ℕ → List ℕ
+canonical_data code octets = lowered_in (fields_to_lower code) octets
+
+-- type, class, time to live, the number of octets of the data, and these
+abbrev pub behind_owner : ℕ → ℕ → ℕ → List ℕ → List ℕ
+behind_owner code class ttl form = to_be_bytes w16 code ++ (to_be_bytes w16 class ++ (to_be_bytes w32 ttl ++ (to_be_bytes w16 (length form) ++ form)))
+
+-- the owner in lower case, and behind it the data in canonical form
+abbrev pub canonical_with_ttl : {N O : Type 0} → ℕ → Record N O → List ℕ
+canonical_with_ttl ttl r = lowered (wire r.owner) ++ behind_owner (data_of r).code r.class ttl (canonical_data (data_of r).code (data_of r).octets)
+
+abbrev pub canonical_record : {N O : Type 0} → Record N O → List ℕ
+canonical_record r = canonical_with_ttl r.ttl r
+
+-- ---- order
+
+-- by the type, then by the octets in canonical form
+abbrev pub data_order : TypeData → TypeData → Ordering
+data_order a b = ordering_then (nat_cmp a.code b.code) (octet_order (canonical_data a.code a.octets) (canonical_data b.code b.octets))
+
+-- what a record is sorted by
+abbrev pub record_key : {N O : Type 0} → Record N O → RecordKey
+record_key r = record { owner = r.owner; class = r.class; record_type = (data_of r).code; octets = canonical_data (data_of r).code (data_of r).octets }

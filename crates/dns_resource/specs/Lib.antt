@@ -1,0 +1,9 @@
+pub mod CanonicalData
+pub mod DataBack
+pub mod DataTokens
+pub mod Parts
+pub mod RecordLaws
+pub mod Records
+pub mod Rows
+pub mod TypeData
+pub mod WireErrors

@@ -1,0 +1,16 @@
+-- The fields of record data.
+use Rattle.std.specs.Prelude.{ℕ, zero, suc, Option, Some, None, List, [], ◌∷◌, take, drop}
+use Rattle.dns_fields.specs.declared.field.Field.{Field}
+use Rattle.dns_data.specs.ByType.{shape_of_code}
+use Rattle.dns_data.specs.Printing.{field_size}
+use Rattle.dns_resource.specs.CanonicalData.{fields_of_shape}
+use Rattle.dns_resource.specs.TypeData.{TypeData}
+
+-- the octets of the field at a place, among fields in front
+abbrev pub field_part : List Field → ℕ → List ℕ → Option (List ℕ)
+field_part [] place octets = None
+field_part (f ∷ fs) zero octets = Some (take (field_size f octets) octets)
+field_part (f ∷ fs) (suc place) octets = field_part fs place (drop (field_size f octets) octets)
+
+abbrev pub data_part : TypeData → ℕ → Option (List ℕ)
+data_part d place = field_part (fields_of_shape (shape_of_code d.code)) place d.octets

@@ -1,0 +1,35 @@
+-- Records, and the tokens that they are printed as.
+use Rattle.std.specs.Prelude.{List, [], ◌∷◌, ◌++◌, decimal}
+use Rattle.dns_kinds.specs.Classes.{class_text}
+use Rattle.dns_kinds.specs.Types.{type_text}
+use Rattle.dns_spelling.specs.PrintedNames.{wire_name_text}
+use Rattle.dns_wire.specs.Wire.{wire}
+use Rattle.dns_zone.specs.Layout.{Step, begin, end}
+use Rattle.dns_zone.specs.Nesting.{IsNested, nested_in_block}
+use Rattle.dns_data.specs.GatewayKeys.{plain_word}
+use Rattle.dns_data.specs.Printing.{token_steps}
+use Rattle.dns_data.specs.Rests.{PrintedToken}
+use Rattle.dns_resource.specs.DataTokens.{data_tokens, data_document, data_nests, tokens_have_no_line}
+use Rattle.dns_resource.specs.TypeData.{TypeData}
+use Rattle.dns_resource.specs.declared.record.Record.{Record}
+
+abbrev pub data_of : {N O : Type 0} → Record N O → TypeData
+data_of r = r.«data»
+
+-- the owner, the time to live, the class and the type, each a word
+abbrev pub head_tokens : {N O : Type 0} → Record N O → List PrintedToken
+head_tokens r =
+    plain_word (wire_name_text (wire r.owner)) ∷ plain_word (decimal r.ttl) ∷ plain_word (class_text (record { 0 = r.class }))
+    ∷ plain_word (type_text (record { 0 = (data_of r).code })) ∷ []
+
+-- and behind them the data
+abbrev pub record_tokens : {N O : Type 0} → Record N O → List PrintedToken
+record_tokens r = head_tokens r ++ data_tokens (data_of r).code (data_of r).octets
+
+-- the data stands in a block
+abbrev pub record_document : {N O : Type 0} → Record N O → List Step
+record_document r = token_steps (head_tokens r) ++ begin ∷ (data_document (data_of r) ++ end ∷ [])
+
+pub record_nests : {N O : Type 0} (r : Record N O) → IsNested (record_document r)
+record_nests r =
+    nested_in_block (data_document (data_of r)) (data_nests (data_of r)) (tokens_have_no_line (data_tokens (data_of r).code (data_of r).octets))

@@ -1,0 +1,93 @@
+-- Worked rows of the definitions, each computed.
+use Rattle.std.specs.Prelude.{◌≡◌, ℕ, List, [], ◌∷◌, ◌++◌, codes, refl}
+use Rattle.std.specs.Fmt.{digits}
+use Rattle.std.specs.declared.cmp.Ordering.TheVariants.{Less, Equal, Greater}
+use Rattle.dns_codec.specs.Base.{base16, encoded}
+use Rattle.dns_kinds.specs.Types.{type_rows}
+use Rattle.dns_spelling.specs.PrintedNames.{labels_in_octets}
+use Rattle.dns_wire.specs.Wire.{wire}
+use Rattle.dns_zone.specs.Layout.{layout, simple_piece, tabbed_piece, multiline_piece}
+use Rattle.dns_data.specs.GatewayKeys.{plain_word}
+use Rattle.dns_data.specs.Types.{type_shapes}
+use Rattle.dns_resource.specs.CanonicalData.{canonical_data, canonical_record, data_order}
+use Rattle.dns_resource.specs.DataTokens.{data_tokens}
+use Rattle.dns_resource.specs.Records.{record_document}
+use Rattle.dns_resource.specs.TypeData.{TypeData}
+use Rattle.dns_resource.specs.declared.record.Record.{Record}
+
+-- names on the wire
+abbrev below_example : List ℕ → List (List ℕ)
+below_example label = label ∷ codes "example" ∷ [] ∷ []
+
+-- a preference and a host (MX, RFC 1035 section 3.3.9)
+mail_row : data_tokens 15 (0 ∷ 10 ∷ wire (below_example (codes "mail"))) ≡ plain_word (codes "10") ∷ plain_word (codes "mail.example.") ∷ []
+unfolding type_shapes labels_in_octets digits
+mail_row = refl
+
+-- the examples of RFC 3597 section 5
+generic_row : data_tokens 731 (0xab ∷ 0xcd ∷ 0xef ∷ 0x01 ∷ 0x23 ∷ 0x45 ∷ [])
+    ≡ plain_word (codes "\\#") ∷ plain_word (codes "6") ∷ plain_word (encoded base16 (0xab ∷ 0xcd ∷ 0xef ∷ 0x01 ∷ 0x23 ∷ 0x45 ∷ [])) ∷ []
+unfolding type_shapes digits
+generic_row = refl
+
+no_octets_row : data_tokens 62347 [] ≡ plain_word (codes "\\#") ∷ plain_word (codes "0") ∷ []
+unfolding type_shapes digits
+no_octets_row = refl
+
+-- data of MX in a record
+abbrev mail_record : Record ℕ ℕ
+mail_record = record { owner = below_example (codes "a"); ttl = 3600; class = 1; «data» = record { code = 15; octets = 0 ∷ 10 ∷ wire (below_example (codes "mail")) } }
+
+simple_row : layout simple_piece (record_document mail_record) ≡ codes "a.example. 3600 IN MX 10 mail.example."
+unfolding type_shapes type_rows labels_in_octets digits
+simple_row = refl
+
+tabbed_row : layout tabbed_piece (record_document mail_record) ≡ codes "a.example.\t3600\tIN\tMX\t10 mail.example."
+unfolding type_shapes type_rows labels_in_octets digits
+tabbed_row = refl
+
+multiline_row : layout multiline_piece (record_document mail_record) ≡ codes "a.example. 3600 IN MX ( 10 mail.example. )"
+unfolding type_shapes type_rows labels_in_octets digits
+multiline_row = refl
+
+-- a name in data of NS is lowered, and none in data of NSEC (RFC 6840 section 5.1)
+lowered_row : canonical_data 2 (wire (below_example (codes "NS"))) ≡ wire (below_example (codes "ns"))
+unfolding type_shapes
+lowered_row = refl
+
+kept_row : canonical_data 47 (wire (below_example (codes "NS")) ++ 0 ∷ 1 ∷ 64 ∷ []) ≡ wire (below_example (codes "NS")) ++ 0 ∷ 1 ∷ 64 ∷ []
+unfolding type_shapes
+kept_row = refl
+
+-- the numbers of NAPTR and its strings stay, and its name is lowered
+last_name_row : canonical_data 35 (0 ∷ 65 ∷ 0 ∷ 66 ∷ 1 ∷ 85 ∷ 0 ∷ 0 ∷ wire (below_example (codes "SIP"))) ≡ 0 ∷ 65 ∷ 0 ∷ 66 ∷ 1 ∷ 85 ∷ 0 ∷ 0 ∷ wire (below_example (codes "sip"))
+unfolding type_shapes
+last_name_row = refl
+
+-- owner, type, class, time to live, length and data, as signatures cover them (RFC 4034 section 3.1.8.1)
+abbrev server_record : Record ℕ ℕ
+server_record = record { owner = below_example (codes "A"); ttl = 3600; class = 1; «data» = record { code = 2; octets = wire (below_example (codes "NS")) } }
+
+signed_row : canonical_record server_record
+    ≡ wire (below_example (codes "a")) ++ 0 ∷ 2 ∷ 0 ∷ 1 ∷ 0 ∷ 0 ∷ 14 ∷ 16 ∷ 0 ∷ 12 ∷ wire (below_example (codes "ns"))
+unfolding type_shapes
+signed_row = refl
+
+abbrev named_data : ℕ → List ℕ → TypeData
+named_data code label = record { code = code; octets = wire (below_example label) }
+
+-- the case of names counts in LP and not in NS, and the type decides first
+alike_row : data_order (named_data 2 (codes "NS")) (named_data 2 (codes "ns")) ≡ Equal
+unfolding type_shapes
+alike_row = refl
+
+abbrev preferred_data : List ℕ → TypeData
+preferred_data label = record { code = 107; octets = 0 ∷ 10 ∷ wire (below_example label) }
+
+apart_row : data_order (preferred_data (codes "NS")) (preferred_data (codes "ns")) ≡ Less
+unfolding type_shapes
+apart_row = refl
+
+type_row : data_order (named_data 5 (codes "a")) (named_data 2 (codes "b")) ≡ Greater
+unfolding type_shapes
+type_row = refl

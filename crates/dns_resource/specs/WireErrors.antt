@@ -1,0 +1,19 @@
+-- Why octets are no data of a type.
+use Rattle.std.specs.Prelude.{ℕ, ◌<◌, ◌≤◌, List, length, codes}
+use Rattle.dns_data.specs.ByType.{IsDataType, HasShape, shape_of_code}
+use Rattle.dns_data.specs.Data.{IsDataOf}
+use Rattle.dns_data.specs.Limits.{max_data}
+use Rattle.dns_data.specs.declared.shape.Shape.{Shape}
+use Rattle.dns_resource.specs.declared.error.WireError.{WireError}
+use Rattle.dns_resource.specs.declared.error.WireError.TheVariants.{NoDataType, LongData, NotOfType}
+
+-- of all reasons the first
+abbrev pub RefusesWire : ℕ → List ℕ → WireError → Type 0
+RefusesWire code octets NoDataType = IsDataType code → ⊥
+RefusesWire code octets LongData = IsDataType code × (max_data < length octets)
+RefusesWire code octets NotOfType = IsDataType code × (length octets ≤ max_data) × ((shape : Shape) × HasShape (shape_of_code code) shape × (IsDataOf shape octets → ⊥))
+
+abbrev pub wire_error_text : WireError → List ℕ
+wire_error_text NoDataType = codes "type has no data in zones"
+wire_error_text LongData = codes "record data with more than 65535 octets"
+wire_error_text NotOfType = codes "these octets are no data of the type"

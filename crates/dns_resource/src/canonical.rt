@@ -1,0 +1,91 @@
+//! The canonical form of record data by its type, and of records (RFC 4034 section 6.2, RFC 6840
+//! section 5.1).
+ghost use Rattle.std.specs.Prelude.{◌≡◌, ◌<◌, ◌+◌, ◌++◌, length, OnOk, OnErr, IfErr};
+ghost use Rattle.std.specs.Int.{to_be_bytes, w16, w32};
+ghost use Rattle.dns_octets.specs.Appending.{Extends};
+ghost use Rattle.dns_canonical.specs.FieldForms.{RefusesFields};
+ghost use Rattle.dns_resource.specs.CanonicalData.{fields_to_lower, canonical_data, canonical_record};
+
+use crate::data::Data;
+use crate::record::{Record, name_octets};
+use dns_canonical::{CanonicalError, append_canonical_fields, append_lowered, lowers_names};
+use dns_data::type_row;
+use dns_fields::Field;
+use dns_octets::{AsOctets, OctetsBuilder, ShortBuf};
+
+/// The fields of a type whose names are lowered, and none of another type.
+pub(crate) fn lowered_fields(code: u16) -> &'static [Field]
+    ensures { result.now ≡ fields_to_lower code }
+{
+    if !lowers_names(code) {
+        return &[];
+    }
+    match type_row(code) {
+        Some(row) => row.shape().fields,
+        None => &[],
+    }
+}
+
+/// Appends the canonical form of data of a type: its names in lower case where
+/// [`lowers_names`] says so, and all other octets as they stand.
+///
+/// The fields are those of the type's text form; data of a type without one stands as it is (RFC
+/// 3597 section 7). Octets that don't begin with the fields are [`CanonicalError::BadData`]. After
+/// an error some octets may have been appended.
+pub fn append_canonical_data<B: OctetsBuilder>(
+    code: u16,
+    octets: &[u8],
+    target: &mut B,
+) -> Result<(), CanonicalError>
+    ensures ok { OnOk result (B.octets target.new ≡ B.octets target.old ++ canonical_data code octets.now) }
+    ensures err { IfErr result (RefusesFields B.room (fields_to_lower code) octets.now (B.octets target.old)) }
+    ensures extends { OnErr result (Extends (B.octets target.old) (B.octets target.new)) }
+{
+    append_canonical_fields(lowered_fields(code), octets, target)
+}
+
+/// The octets between owner and data of a record on the wire: type, class, time to live, and how
+/// many octets the data has.
+fn middle_octets(code: u16, class: u16, ttl: u32, count: u16) -> [u8; 10]
+    ensures { result ≡ to_be_bytes w16 code ++ to_be_bytes w16 class ++ to_be_bytes w32 ttl ++ to_be_bytes w16 count }
+{
+    let code = code.to_be_bytes();
+    let class = class.to_be_bytes();
+    let ttl = ttl.to_be_bytes();
+    let count = count.to_be_bytes();
+    [
+        code[0], code[1], class[0], class[1], ttl[0], ttl[1], ttl[2], ttl[3], count[0], count[1],
+    ]
+}
+
+impl<Octets: AsOctets> Data<Octets> {
+    /// Appends the canonical form of the data, as [`append_canonical_data`] does. Where it doesn't
+    /// fit, the first octets of it may have been appended.
+    pub fn append_canonical<B: OctetsBuilder>(&self, target: &mut B) -> Result<(), ShortBuf>
+        ensures ok { OnOk result (B.octets target.new ≡ B.octets target.old ++ canonical_data self.now.code self.now.octets) }
+        ensures err { OnErr result (B.room.fits < length (B.octets target.old) + length self.now.octets) }
+        ensures extends { OnErr result (Extends (B.octets target.old) (B.octets target.new)) }
+    {
+        match append_canonical_data(self.code(), self.as_slice(), target) {
+            Ok(()) => Ok(()),
+            Err(_) => Err(ShortBuf),
+        }
+    }
+}
+
+impl<Owner: AsOctets, Octets: AsOctets> Record<Owner, Octets> {
+    /// Appends the record in canonical form (RFC 4034 section 6.2): the owner in lower case, type,
+    /// class, time to live, the number of octets of the data, and these in canonical form. Where
+    /// it doesn't fit, the first octets of it may have been appended.
+    pub fn append_canonical<B: OctetsBuilder>(&self, target: &mut B) -> Result<(), ShortBuf>
+        ensures ok { OnOk result (B.octets target.new ≡ B.octets target.old ++ canonical_record self.now) }
+        ensures err { OnErr result (B.room.fits < length (B.octets target.old) + length (canonical_record self.now)) }
+        ensures extends { OnErr result (Extends (B.octets target.old) (B.octets target.new)) }
+    {
+        let code = self.data.code();
+        let count = self.data.as_slice().len() as u16;
+        append_lowered(name_octets(&self.owner), target)?;
+        target.append_slice(&middle_octets(code, self.class, self.ttl, count))?;
+        self.data.append_canonical(target)
+    }
+}

@@ -1,0 +1,102 @@
+//! Record data of a type.
+ghost use Rattle.std.specs.Prelude.{◌≡◌, ◌↔◌, ◌-◌, ◌≤◌, ◌++◌, ℕ, length, IsOk, IfOk, IfErr, OnOk, OnErr, MatchResult};
+ghost use Rattle.dns_spelling.specs.Spelling.{AreOctetValues};
+ghost use Rattle.dns_resource.specs.TypeData.{IsTypeData};
+ghost use Rattle.dns_resource.specs.WireErrors.{RefusesWire};
+
+use crate::error::WireError;
+use dns_data::{MAX_DATA, check_data, is_data_type, type_row};
+use dns_octets::{AsOctets, OctetsBuilder, ShortBuf};
+use std::marker::Model;
+
+/// The data of a record: the code of its type and its octets on the wire.
+///
+/// The octets are at most 65,535, and the wire form of the type where the type has a text form. Of
+/// a type without one they are any octets (RFC 3597).
+#[derive(Drop)]
+pub struct Data<Octets: AsOctets> {
+    code: u16,
+    octets: Octets,
+}
+
+impl<Octets: AsOctets> Model for Data<Octets> {
+    ghost use Rattle.dns_resource.specs.TypeData.{IsTypeData, TypeData};
+
+    ghost Value = { TypeData };
+
+    ghost view = { λ d. record { code = d.code; octets = Octets.octets d.octets } };
+
+    ghost invariant = { λ d. IsTypeData d.code (Octets.octets d.octets) };
+}
+
+/// Whether octets are data of a type, or why they are none.
+fn check_octets(code: u16, octets: &[u8]) -> Result<(), WireError>
+    ensures { MatchResult result (λ _. IsTypeData code octets.now) (RefusesWire code octets.now) }
+{
+    if !is_data_type(code) {
+        return Err(WireError::NoDataType);
+    }
+    if octets.len() > MAX_DATA {
+        return Err(WireError::LongData);
+    }
+    let Some(row) = type_row(code) else {
+        return Ok(());
+    };
+    if !check_data(&row.shape(), octets) {
+        return Err(WireError::NotOfType);
+    }
+    Ok(())
+}
+
+impl<Octets: AsOctets> Data<Octets> {
+    /// The data of a type that has these octets on the wire, without pointers in names.
+    ///
+    /// A type that has no data in zones is [`WireError::NoDataType`], more than 65,535 octets are
+    /// [`WireError::LongData`], and octets that are not the wire form of the type
+    /// [`WireError::NotOfType`]; the first of these is returned.
+    pub fn from_octets(code: u16, octets: Octets) -> Result<Self, WireError>
+    where
+        Octets: Drop,
+        ensures ok { IfOk result (λ d. d ≡ record { code = code; octets = Octets.octets octets }) }
+        ensures accepts { IsOk result ↔ IsTypeData code (Octets.octets octets) }
+        ensures err { IfErr result (RefusesWire code (Octets.octets octets)) }
+    {
+        match check_octets(code, octets.as_slice()) {
+            Ok(()) => Ok(Data { code, octets }),
+            Err(why) => Err(why),
+        }
+    }
+
+    /// The code of the type.
+    pub fn code(&self) -> u16
+        ensures { result ≡ self.now.code }
+    {
+        self.code
+    }
+
+    /// The octets on the wire.
+    pub fn as_slice(&self) -> &[u8]
+        ensures value { result.now ≡ self.now.octets }
+        ensures bytes { AreOctetValues self.now.octets }
+        ensures is_data { IsTypeData self.now.code self.now.octets }
+    {
+        self.octets.as_slice()
+    }
+
+    /// The octets, in the type that holds them.
+    pub fn into_octets(self) -> Octets
+        ensures { Octets.octets result ≡ self.octets }
+    {
+        self.octets
+    }
+
+    /// Appends the octets, or changes nothing.
+    pub fn compose<B: OctetsBuilder>(&self, target: &mut B) -> Result<(), ShortBuf>
+        ensures ok { OnOk result (B.octets target.new ≡ B.octets target.old ++ self.now.octets) }
+        ensures err { OnErr result (B.octets target.new ≡ B.octets target.old) }
+        ensures fits { length self.now.octets ≤ B.room.fits - length (B.octets target.old) → IsOk result }
+        ensures within { OnOk result (length (B.octets target.new) ≤ B.room.capacity) }
+    {
+        target.append_slice(self.as_slice())
+    }
+}

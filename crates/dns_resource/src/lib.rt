@@ -1,0 +1,22 @@
+//! Record data and records as values: made from octets or from the tokens of zone text, printed,
+//! and compared.
+#![tactic(auto)]
+
+pub mod canonical;
+pub mod data;
+pub mod error;
+mod fronts;
+pub mod laws;
+pub mod order;
+pub mod parts;
+pub mod print;
+pub mod reading;
+pub mod record;
+pub mod typed;
+
+pub use canonical::append_canonical_data;
+pub use data::Data;
+pub use error::WireError;
+pub use reading::data_of_tokens;
+pub use record::Record;
+pub use typed::TypedData;

@@ -1,0 +1,80 @@
+//! The canonical order of record data and of records (RFC 4034 section 6.3, RFC 8976 section
+//! 3.3.1).
+ghost use Rattle.std.specs.Prelude.{◌≡◌};
+ghost use Rattle.dns_canonical.specs.FieldForms.{StartsWithFields, canonical_field};
+ghost use Rattle.dns_canonical.specs.Names.{octet_order};
+ghost use Rattle.dns_canonical.specs.Records.{record_order};
+ghost use Rattle.dns_resource.specs.CanonicalData.{data_order, lowered_in, record_key};
+
+use crate::canonical::lowered_fields;
+use crate::data::Data;
+use crate::fronts::front_width;
+use crate::record::{Record, name_octets};
+use dns_canonical::{compare_names, compare_octets};
+use dns_fields::Field;
+use dns_octets::AsOctets;
+use dns_octets::lowered::compare_lowered;
+use std::cmp::Ordering;
+
+/// The order of the canonical forms of two fields of one kind.
+fn compare_field(field: Field, left: &[u8], right: &[u8]) -> Ordering
+    ensures { result ≡ octet_order (canonical_field field left.now) (canonical_field field right.now) }
+{
+    match field {
+        Field::Name => compare_lowered(left, right),
+        _ => compare_octets(left, right),
+    }
+}
+
+/// The order of octets that begin with fields, whose names are lowered.
+fn compare_in_fields(fields: &[Field], left: &[u8], right: &[u8]) -> Ordering
+    requires left { StartsWithFields fields.now left.now }
+    requires right { StartsWithFields fields.now right.now }
+    ensures { result ≡ octet_order (lowered_in fields.now left.now) (lowered_in fields.now right.now) }
+{
+    let mut left_rest = left;
+    let mut right_rest = right;
+    for field in fields {
+        let left_width = front_width(*field, left_rest);
+        let right_width = front_width(*field, right_rest);
+        let order = compare_field(*field, &left_rest[..left_width], &right_rest[..right_width]);
+        if order.is_ne() {
+            return order;
+        }
+        left_rest = &left_rest[left_width..];
+        right_rest = &right_rest[right_width..];
+    }
+    compare_octets(left_rest, right_rest)
+}
+
+impl<Octets: AsOctets> Data<Octets> {
+    /// The canonical order: by the code of the type, and then by the octets of the canonical form,
+    /// as unsigned numbers. It takes no memory.
+    pub fn compare<Others: AsOctets>(&self, other: &Data<Others>) -> Ordering
+        ensures { result ≡ data_order self.now other.now }
+    {
+        match self.code().cmp(&other.code()) {
+            Ordering::Equal => compare_in_fields(
+                lowered_fields(self.code()),
+                self.as_slice(),
+                other.as_slice(),
+            ),
+            order => order,
+        }
+    }
+}
+
+impl<Owner: AsOctets, Octets: AsOctets> Record<Owner, Octets> {
+    /// The canonical order: by the owners, then by class and type as numbers, and then by the
+    /// octets of the data in canonical form. Times to live don't count. It takes no memory.
+    pub fn compare<Owners: AsOctets, Others: AsOctets>(
+        &self,
+        other: &Record<Owners, Others>,
+    ) -> Ordering
+        ensures { result ≡ record_order (record_key self.now) (record_key other.now) }
+    {
+        compare_names(name_octets(&self.owner), name_octets(&other.owner))
+            .then(self.class.cmp(&other.class))
+            .then_with(|| self.data.compare(&other.data))
+    }
+}

@@ -1,0 +1,40 @@
+//! The fields of record data.
+ghost use Rattle.std.specs.Prelude.{◌≡◌, Some, None, MatchOption};
+ghost use Rattle.dns_canonical.specs.FieldForms.{StartsWithFields};
+ghost use Rattle.dns_resource.specs.Parts.{data_part, field_part};
+
+use crate::data::Data;
+use crate::fronts::front_width;
+use dns_data::type_row;
+use dns_fields::Field;
+use dns_octets::AsOctets;
+
+/// The octets of the field at a place among those in front.
+fn part_in_front<'a>(fields: &[Field], place: usize, octets: &'a [u8]) -> Option<&'a [u8]>
+    requires { StartsWithFields fields.now octets.now }
+    ensures { MatchOption result (field_part fields.now place octets.now ≡ None) (λ part. field_part fields.now place octets.now ≡ Some part.now) }
+{
+    let mut rest = octets;
+    let mut count = place;
+    for field in fields {
+        let width = front_width(*field, rest);
+        if count == 0 {
+            return Some(&rest[..width]);
+        }
+        rest = &rest[width..];
+        count -= 1;
+    }
+    None
+}
+
+impl<Octets: AsOctets> Data<Octets> {
+    /// The octets of the field at a place, which counts from 0: of data of MX the preference at 0,
+    /// and the exchange at 1. Behind the fields that are one token each there is none, and data of a
+    /// type without a text form has none.
+    pub fn part(&self, place: usize) -> Option<&[u8]>
+        ensures { MatchOption result (data_part self.now place ≡ None) (λ part. data_part self.now place ≡ Some part.now) }
+    {
+        let row = type_row(self.code())?;
+        part_in_front(row.shape().fields, place, self.as_slice())
+    }
+}

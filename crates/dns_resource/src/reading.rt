@@ -1,0 +1,56 @@
+//! Record data of the tokens of zone text.
+ghost use Rattle.std.specs.Prelude.{◌≡◌, ℕ, List, [], IfOk, IfErr, option_copied};
+ghost use Rattle.dns_octets.specs.Room.{within};
+ghost use Rattle.dns_spelling.specs.NameSpelling.{IsOrigin};
+ghost use Rattle.dns_data.specs.ByType.{RefusesType, SpellsTypeData};
+ghost use Rattle.dns_data.specs.Limits.{max_data};
+ghost use Rattle.dns_data.specs.RestLaws.{HoldOctets};
+
+use crate::data::Data;
+use dns_data::{DataError, TypeRefusal, data_of_type};
+use dns_fields::TokenSource;
+use dns_octets::{AsOctets, AsOctetsMut, EmptyBuilder, FreezeBuilder, OctetsBuilder};
+use dns_wire::Name;
+
+/// Does nothing but to state that an origin has octets.
+fn know_origin<Octets: AsOctets>(origin: Option<&Name<Octets>>)
+    ensures { IsOrigin (option_copied origin.entry) }
+{
+    if let Some(name) = origin {
+        let _octets = AsOctets::as_slice(name);
+    }
+}
+
+/// The data of a type that the tokens that are left spell, in the text form of the type or as `\#`.
+/// A relative name stands before the origin.
+///
+/// What is refused is told as by [`data_of_type`], of tokens that hold octets, as those of every text
+/// do.
+pub fn data_of_tokens<S: TokenSource, Origin: AsOctets, B>(
+    alloc: B::Alloc,
+    code: u16,
+    origin: Option<&Name<Origin>>,
+    source: &mut S,
+) -> Result<Data<B::Octets>, TypeRefusal>
+where
+    B: OctetsBuilder + AsOctetsMut + EmptyBuilder + FreezeBuilder + Drop,
+    B::Octets: Drop,
+    ensures ok { IfOk result (λ d. (d.code ≡ code) × (S.left source.new ≡ []) × SpellsTypeData (option_copied origin.entry) code (S.left source.old) d.octets) }
+    ensures err { HoldOctets (S.left source.old) → IfErr result (λ refusal. (new : List ℕ) × RefusesType (option_copied origin.entry) (within max_data B.room) code (S.end source.old) (S.left source.old) [] refusal (S.left source.new) new) }
+    ensures end { S.end source.new ≡ S.end source.old }
+{
+    know_origin(origin);
+    let at = source.place();
+    let octets = match data_of_type::<S, Origin, B>(alloc, code, origin, source) {
+        Ok(octets) => octets,
+        Err(refusal) => return Err(refusal),
+    };
+    match Data::from_octets(code, octets) {
+        Ok(data) => Ok(data),
+        Err(_) => Err(TypeRefusal {
+            part: None,
+            at,
+            why: DataError::NotOfType,
+        }),
+    }
+}

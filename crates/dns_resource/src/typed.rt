@@ -1,0 +1,146 @@
+//! Record data whose type a program knows.
+ghost use Rattle.std.specs.Prelude.{◌≡◌, ◌↔◌, Some, IsOk, IfOk, IfErr};
+ghost use Rattle.std.specs.Int.{to_be_bytes, w16};
+ghost use Rattle.dns_spelling.specs.NameSpelling.{IsWireName};
+ghost use Rattle.dns_resource.specs.Parts.{data_part};
+
+use crate::data::Data;
+use dns_octets::AsOctets;
+use std::marker::Model;
+
+/// Data of the type that has this code.
+#[derive(Drop)]
+pub struct TypedData<const CODE: u16, Octets: AsOctets> {
+    data: Data<Octets>,
+}
+
+impl<const CODE: u16, Octets: AsOctets> Model for TypedData<CODE, Octets> {
+    ghost use Rattle.std.specs.Prelude.{◌≡◌};
+    ghost use Rattle.dns_resource.specs.TypeData.{TypeData};
+
+    ghost Value = { TypeData };
+
+    ghost view = { λ t. t.«data» };
+
+    ghost invariant = { λ t. t.«data».code ≡ CODE };
+}
+
+impl<const CODE: u16, Octets: AsOctets> TypedData<CODE, Octets> {
+    /// The data, if it has the type. Data of another type comes back.
+    pub fn new(data: Data<Octets>) -> Result<Self, Data<Octets>>
+        ensures ok { IfOk result (λ t. t ≡ «data») }
+        ensures accepts { IsOk result ↔ («data».code ≡ CODE) }
+        ensures err { IfErr result (λ d. d ≡ «data») }
+    {
+        if data.code() != CODE {
+            return Err(data);
+        }
+        Ok(TypedData { data })
+    }
+
+    /// The data.
+    pub fn as_data(&self) -> &Data<Octets>
+        ensures value { result.now ≡ self.now }
+        ensures code { self.now.code ≡ CODE }
+    {
+        &self.data
+    }
+
+    /// The data.
+    pub fn into_data(self) -> Data<Octets>
+        ensures { result ≡ self }
+    {
+        self.data
+    }
+}
+
+/// Data of A (RFC 1035 section 3.4.1).
+pub type A<Octets> = TypedData<1, Octets>;
+
+/// Data of NS (RFC 1035 section 3.3.11).
+pub type Ns<Octets> = TypedData<2, Octets>;
+
+/// Data of CNAME (RFC 1035 section 3.3.1).
+pub type Cname<Octets> = TypedData<5, Octets>;
+
+/// Data of SOA (RFC 1035 section 3.3.13).
+pub type Soa<Octets> = TypedData<6, Octets>;
+
+/// Data of PTR (RFC 1035 section 3.3.12).
+pub type Ptr<Octets> = TypedData<12, Octets>;
+
+/// Data of MX (RFC 1035 section 3.3.9).
+pub type Mx<Octets> = TypedData<15, Octets>;
+
+/// The preference in data of MX.
+fn preference_of<Octets: AsOctets>(mail: &Data<Octets>) -> u16
+    requires { mail.now.code ≡ 15 }
+    ensures { data_part mail.now 0 ≡ Some (to_be_bytes w16 result) }
+{
+    // No effect at run time: the proof reads that the octets are data of the type.
+    let _octets = mail.as_slice();
+    match mail.part(0) {
+        Some(octets) => u16::from_be_bytes([octets[0], octets[1]]),
+        None => unreachable!(),
+    }
+}
+
+/// The host in data of MX.
+fn exchange_of<Octets: AsOctets>(mail: &Data<Octets>) -> &[u8]
+    requires { mail.now.code ≡ 15 }
+    ensures part { data_part mail.now 1 ≡ Some result.now }
+    ensures name { IsWireName result.now }
+{
+    let _octets = mail.as_slice();
+    match mail.part(1) {
+        Some(octets) => octets,
+        None => unreachable!(),
+    }
+}
+
+impl<Octets: AsOctets> Mx<Octets> {
+    /// The preference among the hosts that take mail: the lowest comes first.
+    pub fn preference(&self) -> u16
+        ensures { data_part self.now 0 ≡ Some (to_be_bytes w16 result) }
+    {
+        preference_of(&self.data)
+    }
+
+    /// The host that takes mail, as a name on the wire.
+    pub fn exchange(&self) -> &[u8]
+        ensures part { data_part self.now 1 ≡ Some result.now }
+        ensures name { IsWireName result.now }
+    {
+        exchange_of(&self.data)
+    }
+}
+
+/// Data of TXT (RFC 1035 section 3.3.14).
+pub type Txt<Octets> = TypedData<16, Octets>;
+
+/// Data of AAAA (RFC 3596 section 2.2).
+pub type Aaaa<Octets> = TypedData<28, Octets>;
+
+/// Data of SRV (RFC 2782).
+pub type Srv<Octets> = TypedData<33, Octets>;
+
+/// Data of DNAME (RFC 6672 section 2.1).
+pub type Dname<Octets> = TypedData<39, Octets>;
+
+/// Data of DS (RFC 4034 section 5.1).
+pub type Ds<Octets> = TypedData<43, Octets>;
+
+/// Data of RRSIG (RFC 4034 section 3.1).
+pub type Rrsig<Octets> = TypedData<46, Octets>;
+
+/// Data of NSEC (RFC 4034 section 4.1).
+pub type Nsec<Octets> = TypedData<47, Octets>;
+
+/// Data of DNSKEY (RFC 4034 section 2.1).
+pub type Dnskey<Octets> = TypedData<48, Octets>;
+
+/// Data of NSEC3 (RFC 5155 section 3.2).
+pub type Nsec3<Octets> = TypedData<50, Octets>;
+
+/// Data of CAA (RFC 8659 section 4.1).
+pub type Caa<Octets> = TypedData<257, Octets>;
