@@ -1,0 +1,150 @@
+-- Heads are found in one way, and an entry says one thing.
+use Rattle.std.proofs.Common.{◌≡◌, ℕ, Bool, true, false, List, [], ◌∷◌, inl, inr, Option, Some, None, Result, Ok, Err, refl, sym, ap, subst, ◌∙◌}
+use Rattle.std.specs.Prelude.{◌≢◌, is_none}
+use Rattle.dns_fields.specs.Source.{next_place}
+use Rattle.dns_split.specs.EntryTokens.{TokenSeen}
+use Rattle.dns_heads.specs.Arguments.{TakesDefaultTtl, TakesEnd, TakesTtl, WhyNoTtl}
+use Rattle.dns_heads.specs.Directives.{TakesDirective, directive_of}
+use Rattle.dns_heads.specs.EntrySays.{EntryMeaning, says_default_ttl, says_record, says_refused, DirectiveSays, EntrySays, RecordSays, FirstSays}
+use Rattle.dns_heads.specs.HeadLaws.{HeadsFoundOnce, WordsFoundOnce, EntriesSayOnce, EntriesSayTaken}
+use Rattle.dns_heads.specs.HeadWords.{SaysTtl, SaysClass, SaysType}
+use Rattle.dns_heads.specs.Heads.{WhyNoType, TakesWords}
+use Rattle.dns_heads.specs.declared.directive.Directive.{Directive}
+use Rattle.dns_heads.specs.declared.directive.Directive.TheVariants.{Origin, Ttl, Include}
+use Rattle.dns_heads.specs.declared.error.HeadError.{HeadError}
+use Rattle.dns_heads.specs.declared.error.HeadRefusal.{HeadRefusal}
+use Rattle.dns_heads.specs.declared.head.Words.{Words}
+use Rattle.dns_heads.specs.declared.head.WordsRefusal.{WordsRefusal}
+use Rattle.dns_heads.proofs.Once.{heads_once}
+use Rattle.dns_heads.proofs.WordLemmas.{ttl_once, class_once, type_once, apart}
+
+pub heads_found_once : HeadsFoundOnce
+heads_found_once = heads_once SaysTtl SaysClass ttl_once class_once apart.ttl_and_class
+
+why_once : (b : Bool) (tokens : List TokenSeen) (e f : HeadError) → WhyNoType b tokens e → WhyNoType b tokens f → e ≡ f
+why_once b [] e f h k = h ∙ sym k
+why_once b (t ∷ ts) e f h k = h.0 ∙ sym k.0
+
+same_token : {T : Type 0} (t u : T) (ts us : List T) → t ∷ ts ≡ u ∷ us → (t ≡ u) × (ts ≡ us)
+same_token t u ts us h = (cc, cc)
+
+no_type : (end : ℕ) (tokens left rest : List TokenSeen) (w : Words) (r : WordsRefusal) → TakesWords end tokens (Ok w) left → TakesWords end tokens (Err r) rest → ⊥
+no_type end tokens left rest w r h k =
+    let same = heads_found_once tokens (h.0 ∷ left) rest w.ttl w.class r.ttl r.class h.1 k.0 in
+    let why : WhyNoType (is_none r.ttl) (h.0 ∷ left) r.why = subst (λ l. WhyNoType (is_none r.ttl) l r.why) (sym same.2) k.2 in
+    why.1 w.code h.2
+
+pub words_found_once : WordsFoundOnce
+words_found_once end tokens left rest (Ok w) (Ok v) h k =
+    let same = heads_found_once tokens (h.0 ∷ left) (k.0 ∷ rest) w.ttl w.class v.ttl v.class h.1 k.1 in
+    let parts = same_token h.0 k.0 left rest same.2 in
+    let code = type_once k.0 w.code v.code (subst (λ t. SaysType t w.code) parts.0 h.2) k.2 in
+    let words : w ≡ v = λ i. record { ttl = same.0 i; class = same.1 i; code = code i } in
+    (ap Ok words, parts.1)
+words_found_once end tokens left rest (Ok w) (Err s) h k = absurd (no_type end tokens left rest w s h k)
+words_found_once end tokens left rest (Err r) (Ok v) h k = absurd (no_type end tokens rest left v r k h)
+words_found_once end tokens left rest (Err r) (Err s) h k =
+    let same = heads_found_once tokens left rest r.ttl r.class s.ttl s.class h.0 k.0 in
+    let at : r.at ≡ s.at = h.1 ∙ ap (λ l. next_place l end) same.2 ∙ sym k.1 in
+    let first : WhyNoType (is_none s.ttl) rest r.why = subst (λ l. WhyNoType (is_none s.ttl) l r.why) same.2 (subst (λ o. WhyNoType (is_none o) left r.why) same.0 h.2) in
+    let why = why_once (is_none s.ttl) rest r.why s.why first k.2 in
+    let refused : r ≡ s = λ i. record { at = at i; why = why i; ttl = same.0 i; class = same.1 i } in
+    (ap Err refused, same.2)
+
+-- ---- `$TTL`
+
+why_no_ttl_once : (tokens : List TokenSeen) (e f : HeadError) → WhyNoTtl tokens e → WhyNoTtl tokens f → e ≡ f
+why_no_ttl_once [] e f h k = h ∙ sym k
+why_no_ttl_once (t ∷ ts) e f h k = h.0 ∙ sym k.0
+
+refused_once : (r s : HeadRefusal) → r.at ≡ s.at → r.why ≡ s.why → r ≡ s
+refused_once r s at why = λ i. record { at = at i; why = why i }
+
+ends_once : (tokens left rest : List TokenSeen) (r s : HeadRefusal) → TakesEnd tokens (Err r) left → TakesEnd tokens (Err s) rest → r ≡ s
+ends_once [] left rest r s h k = absurd h
+ends_once (t ∷ ts) left rest r s h k = h.1 ∙ sym k.1
+
+no_end : (tokens left : List TokenSeen) (r : HeadRefusal) → tokens ≡ [] → TakesEnd tokens (Err r) left → ⊥
+no_end [] left r e h = h
+no_end (t ∷ ts) left r e h = cc
+
+no_ttl : (end : ℕ) (tokens left rest : List TokenSeen) (n : ℕ) (r : HeadRefusal) → TakesTtl end tokens (Ok n) left → TakesTtl end tokens (Err r) rest → ⊥
+no_ttl end tokens left rest n r h k =
+    let why : WhyNoTtl (h.0 ∷ left) r.why = subst (λ l. WhyNoTtl l r.why) h.1 k.2 in
+    why.1 n h.2
+
+ttl_taken_once : (end : ℕ) (tokens left rest : List TokenSeen) (n m : ℕ) → TakesTtl end tokens (Ok n) left → TakesTtl end tokens (Ok m) rest → (n ≡ m) × (left ≡ rest)
+ttl_taken_once end tokens left rest n m h k =
+    let parts = same_token h.0 k.0 left rest (sym h.1 ∙ k.1) in
+    (ttl_once k.0 n m (subst (λ t. SaysTtl t n) parts.0 h.2) k.2, parts.1)
+
+-- one default is taken, and none is refused
+not_refused : (end : ℕ) (tokens rest : List TokenSeen) (n : ℕ) (r : HeadRefusal) → TakesTtl end tokens (Ok n) [] → TakesDefaultTtl end tokens (Err r) rest → ⊥
+not_refused end tokens rest n r h (inl k) = no_ttl end tokens [] rest n r h k
+not_refused end tokens rest n r h (inr k) = no_end rest rest r (sym (ttl_taken_once end tokens [] rest n k.0 h k.1).1) k.2
+
+refusals_once : (end : ℕ) (tokens left rest : List TokenSeen) (r s : HeadRefusal) → TakesDefaultTtl end tokens (Err r) left → TakesDefaultTtl end tokens (Err s) rest → r ≡ s
+refusals_once end tokens left rest r s (inl h) (inl k) = refused_once r s (h.1 ∙ sym k.1) (why_no_ttl_once tokens r.why s.why h.2 k.2)
+refusals_once end tokens left rest r s (inl h) (inr k) = absurd (no_ttl end tokens rest left k.0 r k.1 h)
+refusals_once end tokens left rest r s (inr h) (inl k) = absurd (no_ttl end tokens left rest h.0 s h.1 k)
+refusals_once end tokens left rest r s (inr h) (inr k) =
+    let same = (ttl_taken_once end tokens left rest h.0 k.0 h.1 k.1).1 in
+    ends_once rest left rest r s (subst (λ l. TakesEnd l (Err r) left) same h.2) k.2
+
+default_ttl_once : (end : ℕ) (tokens left rest : List TokenSeen) (r s : Result ℕ HeadRefusal) → TakesDefaultTtl end tokens r left → TakesDefaultTtl end tokens s rest → r ≡ s
+default_ttl_once end tokens left rest (Ok n) (Ok m) h k = ap Ok (ttl_taken_once end tokens [] [] n m h.0 k.0).0
+default_ttl_once end tokens left rest (Ok n) (Err s) h k = absurd (not_refused end tokens rest n s h.0 k)
+default_ttl_once end tokens left rest (Err r) (Ok m) h k = absurd (not_refused end tokens left m r k.0 h)
+default_ttl_once end tokens left rest (Err r) (Err s) h k = ap Err (refusals_once end tokens left rest r s h k)
+
+-- ---- entries
+
+directive_says_once : (d : Directive) (end : ℕ) (tokens : List TokenSeen) (m n : EntryMeaning) → DirectiveSays d end tokens m → DirectiveSays d end tokens n → m ≡ n
+directive_says_once Origin end [] m n h k = h ∙ sym k
+directive_says_once Origin end (name ∷ []) m n h k = h ∙ sym k
+directive_says_once Origin end (name ∷ t ∷ ts) m n h k = h ∙ sym k
+directive_says_once Ttl end tokens m n h k = h.3 ∙ ap says_default_ttl (default_ttl_once end tokens h.1 k.1 h.0 k.0 h.2 k.2) ∙ sym k.3
+directive_says_once Include end [] m n h k = h ∙ sym k
+directive_says_once Include end (file ∷ []) m n h k = h ∙ sym k
+directive_says_once Include end (file ∷ origin ∷ []) m n h k = h ∙ sym k
+directive_says_once Include end (file ∷ origin ∷ t ∷ ts) m n h k = h ∙ sym k
+
+record_says_once : (owner : Option TokenSeen) (end : ℕ) (tokens : List TokenSeen) (m n : EntryMeaning) → RecordSays owner end tokens m → RecordSays owner end tokens n → m ≡ n
+record_says_once owner end tokens m n h k =
+    let same = words_found_once end tokens h.1 k.1 h.0 k.0 h.2 k.2 in
+    let meaning : says_record owner h.0 h.1 ≡ says_record owner k.0 k.1 = λ i. says_record owner (same.0 i) (same.1 i) in
+    h.3 ∙ meaning ∙ sym k.3
+
+first_says_once : (found : Option (Result Directive HeadError)) (end : ℕ) (t : TokenSeen) (ts : List TokenSeen) (m n : EntryMeaning) → FirstSays found end t ts m → FirstSays found end t ts n → m ≡ n
+first_says_once None end t ts m n h k = record_says_once (Some t) end ts m n h k
+first_says_once (Some (Ok d)) end t ts m n h k = directive_says_once d end ts m n h k
+first_says_once (Some (Err why)) end t ts m n h k = h ∙ sym k
+
+pub entries_say_once : EntriesSayOnce
+entries_say_once blank end [] m n h k = h ∙ sym k
+entries_say_once true end (t ∷ ts) m n h k = record_says_once None end (t ∷ ts) m n h k
+entries_say_once false end (t ∷ ts) m n h k = first_says_once (directive_of t) end t ts m n h k
+
+-- ---- what is taken is what is said
+
+blank_says : (end : ℕ) (tokens left : List TokenSeen) (r : Result Words WordsRefusal) → tokens ≢ [] → TakesWords end tokens r left → EntrySays true end tokens (says_record None r left)
+blank_says end [] left r some h = absurd (some refl)
+blank_says end (t ∷ ts) left r some h = (r, left, h, refl)
+
+owner_says : (end : ℕ) (t : TokenSeen) (ts rest left : List TokenSeen) (r : Result Words WordsRefusal) → TakesDirective false end (t ∷ ts) (Ok None) rest → TakesWords end ts r left
+    → EntrySays false end (t ∷ ts) (says_record (Some t) r left)
+owner_says end t ts rest left r none h = subst (λ found. FirstSays found end t ts (says_record (Some t) r left)) (sym none.1) (r, left, h, refl)
+
+directive_says : (blank : Bool) (end : ℕ) (tokens left : List TokenSeen) (d : Directive) (m : EntryMeaning) → TakesDirective blank end tokens (Ok (Some d)) left → DirectiveSays d end left m → EntrySays blank end tokens m
+directive_says true end tokens left d m h k = let e = h.1 in cc
+directive_says false end [] left d m h k = let e = h.1 in cc
+directive_says false end (t ∷ ts) left d m h k = subst (λ found. FirstSays found end t ts m) (sym h.1) (subst (λ l. DirectiveSays d end l m) h.0 k)
+
+refused_says : (blank : Bool) (end : ℕ) (tokens left : List TokenSeen) (r : HeadRefusal) → TakesDirective blank end tokens (Err r) left → EntrySays blank end tokens (says_refused r)
+refused_says true end tokens left r h = let e = h.1 in cc
+refused_says false end [] left r h = let e = h.1 in cc
+refused_says false end (t ∷ ts) left r h =
+    subst (λ found. FirstSays found end t ts (says_refused r)) (sym h.1) (ap says_refused (refused_once r (record { at = t.at; why = r.why }) h.2 refl))
+
+pub entries_say_taken : EntriesSayTaken
+entries_say_taken = record { blank = blank_says; owner = owner_says; directive = directive_says; refused = refused_says }

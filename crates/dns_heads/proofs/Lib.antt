@@ -1,0 +1,5 @@
+pub mod EntryLaws
+pub mod EntryRows
+pub mod HeadLemmas
+pub mod Once
+pub mod WordLemmas

@@ -1,0 +1,42 @@
+-- The words in front of a record's data, and which tokens are one.
+use Rattle.std.specs.Prelude.{ℕ, ◌≡◌, ◌&&◌, Bool, false, if◌then◌else◌, List, [], ◌∷◌, Option, MatchOption}
+use Rattle.std.specs.Char.{is_ascii_digit}
+use Rattle.dns_fields.specs.declared.error.FieldError.TheVariants.{Quoted, Kind}
+use Rattle.dns_kinds.specs.Classes.{SpellsClass}
+use Rattle.dns_kinds.specs.Ttl.{SpellsTtl}
+use Rattle.dns_kinds.specs.Types.{SpellsType}
+use Rattle.dns_kinds.specs.declared.error.KindError.TheVariants.{ExpectedTtl, UnknownType}
+use Rattle.dns_split.specs.EntryTokens.{TokenSeen}
+use Rattle.dns_heads.specs.declared.error.HeadError.{HeadError}
+use Rattle.dns_heads.specs.declared.error.HeadError.TheVariants.{Field}
+
+-- a token without quotes spells a time to live, of so many seconds
+abbrev pub SaysTtl : TokenSeen → ℕ → Type 0
+SaysTtl t ttl = (t.is_quoted ≡ false) × SpellsTtl t.text ttl
+
+-- or a class, or a type, of such a code
+abbrev pub SaysClass : TokenSeen → ℕ → Type 0
+SaysClass t code = (t.is_quoted ≡ false) × SpellsClass t.text (record { 0 = code })
+
+abbrev pub SaysType : TokenSeen → ℕ → Type 0
+SaysType t code = (t.is_quoted ≡ false) × SpellsType t.text (record { 0 = code })
+
+-- what a token says of a kind, if it says anything
+abbrev pub FindsWord : (TokenSeen → ℕ → Type 0) → TokenSeen → Option ℕ → Type 0
+FindsWord Says t r = MatchOption r ((n : ℕ) → Says t n → ⊥) (Says t)
+
+abbrev pub begins_with_digit : List ℕ → Bool
+begins_with_digit [] = false
+begins_with_digit (c ∷ cs) = is_ascii_digit c
+
+-- why a token that is no type is refused: it is a quoted text; it looks like a time to live, where it may be one; or it names no type
+abbrev pub type_refusal : Bool → TokenSeen → HeadError
+type_refusal may_be_ttl t =
+    if t.is_quoted then Field Quoted
+    else (if may_be_ttl && begins_with_digit t.text then Field (Kind ExpectedTtl) else Field (Kind UnknownType))
+
+-- no word is two of them
+pub record HeadWordsApart : Type 0 where
+  pub ttl_and_class : (t : TokenSeen) (ttl code : ℕ) → SaysTtl t ttl → SaysClass t code → ⊥
+  pub ttl_and_type : (t : TokenSeen) (ttl code : ℕ) → SaysTtl t ttl → SaysType t code → ⊥
+  pub class_and_type : (t : TokenSeen) (class code : ℕ) → SaysClass t class → SaysType t code → ⊥

@@ -1,0 +1,61 @@
+-- What stands in front of a record's data: a time to live and a class, each at most once and in either order, and the type.
+use Rattle.std.specs.Prelude.{⊤, ℕ, ◌≡◌, ◌⊎◌, Bool, is_none, List, [], ◌∷◌, ◌++◌, Option, Some, None, Result, Ok, Err}
+use Rattle.dns_fields.specs.Source.{next_place}
+use Rattle.dns_fields.specs.declared.error.FieldError.TheVariants.{EndOfEntry}
+use Rattle.dns_split.specs.EntryTokens.{TokenSeen}
+use Rattle.dns_heads.specs.HeadWords.{SaysTtl, SaysClass, SaysType, type_refusal}
+use Rattle.dns_heads.specs.declared.error.HeadError.{HeadError}
+use Rattle.dns_heads.specs.declared.error.HeadError.TheVariants.{Field}
+use Rattle.dns_heads.specs.declared.error.HeadRefusal.{HeadRefusal}
+use Rattle.dns_heads.specs.declared.head.Words.{Words}
+use Rattle.dns_heads.specs.declared.head.WordsRefusal.{WordsRefusal}
+
+-- one token that says this, or none
+abbrev pub SaysOne : {T : Type 0} → (T → ℕ → Type 0) → List T → Option ℕ → Type 0
+SaysOne Says [] v = v ≡ None
+SaysOne Says (t ∷ []) (Some n) = Says t n
+SaysOne Says _ _ = ⊥
+
+-- the next token says nothing of the kind
+abbrev pub NoneNext : {T : Type 0} → (T → ℕ → Type 0) → List T → Type 0
+NoneNext Says [] = ⊤
+NoneNext Says (t ∷ ts) = (n : ℕ) → Says t n → ⊥
+
+-- the first token is taken if it says something of the kind
+abbrev pub TakesSaid : {T : Type 0} → (T → ℕ → Type 0) → List T → Option ℕ → List T → Type 0
+TakesSaid {T} Says tokens (Some n) left = (t : T) × (tokens ≡ t ∷ left) × Says t n
+TakesSaid Says tokens None left = (left ≡ tokens) × NoneNext Says tokens
+
+module _ {T : Type 0} (SaysTtl SaysClass : T → ℕ → Type 0) where
+  -- a time to live and a class, each at most once, in either order
+  pub record IsHead (tokens : List T) (ttl class : Option ℕ) : Type 0 where
+    pub front : List T
+    pub back : List T
+    pub whole : tokens ≡ front ++ back
+    pub order : (SaysOne SaysTtl front ttl × SaysOne SaysClass back class) ⊎ (SaysOne SaysClass front class × SaysOne SaysTtl back ttl)
+
+  -- what was not said is not said by the next token
+  abbrev pub EndsHead : Option ℕ → Option ℕ → List T → Type 0
+  EndsHead ttl class left = (ttl ≡ None → NoneNext SaysTtl left) × (class ≡ None → NoneNext SaysClass left)
+
+  -- these are in front of other tokens, and no more of them
+  pub record TakesHead (tokens : List T) (ttl class : Option ℕ) (left : List T) : Type 0 where
+    pub head : List T
+    pub whole : tokens ≡ head ++ left
+    pub is : IsHead head ttl class
+    pub ends : EndsHead ttl class left
+
+-- why there is no type: no token is left; or the next is none
+abbrev pub WhyNoType : Bool → List TokenSeen → HeadError → Type 0
+WhyNoType may_be_ttl [] e = e ≡ Field EndOfEntry
+WhyNoType may_be_ttl (t ∷ ts) e = (e ≡ type_refusal may_be_ttl t) × ((code : ℕ) → SaysType t code → ⊥)
+
+-- the next token is taken as a type; or it is refused at its place, and none is taken
+abbrev pub TakesType : Bool → ℕ → List TokenSeen → Result ℕ HeadRefusal → List TokenSeen → Type 0
+TakesType may_be_ttl end tokens (Ok code) left = (t : TokenSeen) × (tokens ≡ t ∷ left) × SaysType t code
+TakesType may_be_ttl end tokens (Err r) left = (left ≡ tokens) × (r.at ≡ next_place tokens end) × WhyNoType may_be_ttl tokens r.why
+
+-- behind a time to live and a class comes the type; or there is none, and this is why
+abbrev pub TakesWords : ℕ → List TokenSeen → Result Words WordsRefusal → List TokenSeen → Type 0
+TakesWords end tokens (Ok w) left = (t : TokenSeen) × TakesHead SaysTtl SaysClass tokens w.ttl w.class (t ∷ left) × SaysType t w.code
+TakesWords end tokens (Err r) left = TakesHead SaysTtl SaysClass tokens r.ttl r.class left × (r.at ≡ next_place left end) × WhyNoType (is_none r.ttl) left r.why

@@ -1,0 +1,8 @@
+pub mod Arguments
+pub mod Directives
+pub mod EntrySays
+pub mod HeadErrors
+pub mod HeadLaws
+pub mod HeadWords
+pub mod Heads
+pub mod Rows

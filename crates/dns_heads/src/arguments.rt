@@ -1,0 +1,89 @@
+//! The arguments of directives.
+ghost use Rattle.std.specs.Prelude.{◌≡◌};
+ghost use Rattle.dns_split.specs.EntryTokens.{token_seen};
+ghost use Rattle.dns_heads.specs.Arguments.{TakesDefaultTtl, TakesEnd, TakesFile, TakesTtl, ttl_refusal};
+
+use crate::error::{HeadError, HeadRefusal};
+use crate::words::ttl_word;
+use dns_fields::{FieldError, TokenSource};
+use dns_kinds::KindError;
+use dns_octets::OctetsBuilder;
+use dns_split::entry_tokens::EntryToken;
+
+/// Sees that no token is left behind a directive's arguments.
+pub fn take_end<S: TokenSource>(source: &mut S) -> Result<(), HeadRefusal>
+    ensures takes { TakesEnd (S.left source.old) result (S.left source.new) }
+    ensures end { S.end source.new ≡ S.end source.old }
+{
+    if source.current().is_some() {
+        let at = source.place();
+        let why = HeadError::TrailingToken;
+        return Err(HeadRefusal { at, why });
+    }
+    Ok(())
+}
+
+/// Why a token that is no time to live is refused.
+fn ttl_refusal(token: &EntryToken<'_>) -> HeadError
+    ensures { result ≡ ttl_refusal (token_seen token.now) }
+{
+    if token.is_quoted {
+        return HeadError::Field(FieldError::Quoted);
+    }
+    HeadError::Field(FieldError::Kind(KindError::ExpectedTtl))
+}
+
+/// Takes the next token as a time to live.
+fn take_ttl_argument<S: TokenSource>(source: &mut S) -> Result<u32, HeadRefusal>
+    ensures takes { TakesTtl (S.end source.old) (S.left source.old) result (S.left source.new) }
+    ensures end { S.end source.new ≡ S.end source.old }
+{
+    let at = source.place();
+    let Some(token) = source.current() else {
+        let why = HeadError::Field(FieldError::EndOfEntry);
+        return Err(HeadRefusal { at, why });
+    };
+    let Some(ttl) = ttl_word(&token) else {
+        let why = ttl_refusal(&token);
+        return Err(HeadRefusal { at, why });
+    };
+    source.advance();
+    Ok(ttl)
+}
+
+/// Takes the argument of `$TTL` (RFC 2308 section 4), which is one token: seconds below 2^31, as a
+/// number or as periods such as `1h30m`.
+///
+/// A token that is no time to live is refused, and left. So is one behind it.
+pub fn take_default_ttl<S: TokenSource>(source: &mut S) -> Result<u32, HeadRefusal>
+    ensures takes { TakesDefaultTtl (S.end source.old) (S.left source.old) result (S.left source.new) }
+    ensures end { S.end source.new ≡ S.end source.old }
+{
+    let ttl = take_ttl_argument(source)?;
+    take_end(source)?;
+    Ok(ttl)
+}
+
+/// Takes the file of `$INCLUDE`, in quotes or not, and appends its octets as they are written: no
+/// backslash is an escape here. An origin may be left.
+///
+/// Where the octets don't fit, the target is as it was, and the token is left.
+pub fn take_file<S: TokenSource, B: OctetsBuilder>(
+    source: &mut S,
+    target: &mut B,
+) -> Result<(), HeadRefusal>
+    ensures takes { TakesFile B.room (S.end source.old) (S.left source.old) (B.octets target.old) result (S.left source.new) (B.octets target.new) }
+    ensures end { S.end source.new ≡ S.end source.old }
+{
+    let at = source.place();
+    let Some(token) = source.current() else {
+        let why = HeadError::Field(FieldError::EndOfEntry);
+        return Err(HeadRefusal { at, why });
+    };
+    if target.append_slice(token.text).is_err() {
+        let why = HeadError::Field(FieldError::ShortBuf);
+        return Err(HeadRefusal { at, why });
+    }
+    source.advance();
+    Ok(())
+}

@@ -1,0 +1,16 @@
+//! What the tokens of an entry of a zone file are (RFC 1035 section 5.1): a directive and its
+//! arguments; or a record's owner, time to live, class, type and data.
+#![tactic(auto)]
+
+pub mod arguments;
+pub mod directive;
+pub mod error;
+pub mod head;
+pub mod laws;
+pub mod words;
+
+pub use arguments::{take_default_ttl, take_end, take_file};
+pub use directive::{Directive, directive_word, take_directive};
+pub use error::{HeadError, HeadRefusal};
+pub use head::{Words, WordsRefusal, take_words};
+pub use words::{class_word, ttl_word, type_word};
