@@ -1,0 +1,16 @@
+use Rattle.std.proofs.Common.{◌≡◌, length}
+use Rattle.std.specs.Prelude.{is_some}
+use Rattle.dns_reader.specs.Source.{IsOpenBefore, behind_left, source_seen}
+use Rattle.dns_reader.proofs.source.EntrySource.finish.Given as goal
+
+abbrev pub invariant-tokens : goal.invariant-tokens
+invariant-tokens l = record {
+  goes_on : IsOpenBefore l.self-inside.next l.self-inside.tokens;
+  began : l.self-inside.began ≡ l.initial.self-inside.began;
+  some : is_some l.self-inside.next ≡ is_some l.initial.self-inside.next;
+  behind : behind_left (source_seen l.self-inside.began l.self-inside.next l.self-inside.tokens)
+      ≡ behind_left (source_seen l.initial.self-inside.began l.initial.self-inside.next l.initial.self-inside.tokens);
+}
+
+abbrev pub decreases-tokens : goal.decreases-tokens
+decreases-tokens l = length l.self-inside.tokens

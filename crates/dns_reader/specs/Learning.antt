@@ -1,0 +1,68 @@
+-- What a state learns where an entry says something.
+use Rattle.std.specs.Prelude.{◌≡◌, ℕ, List, [], ◌∷◌, ◌++◌, slice_get, Option, Some, None, Result, Ok, Err}
+use Rattle.dns_octets.specs.Room.{exactly}
+use Rattle.dns_wire.specs.Limits.{max_name}
+use Rattle.dns_wire.specs.Wire.{wire}
+use Rattle.dns_split.specs.EntryTokens.{TokenSeen}
+use Rattle.dns_fields.specs.Source.{next_place}
+use Rattle.dns_fields.specs.Taking.{SpellsField, RefusesNext}
+use Rattle.dns_fields.specs.declared.field.Field.TheVariants.{Name as OfName}
+use Rattle.dns_fields.specs.declared.taking.Refusal.{Refusal}
+use Rattle.dns_reader.specs.Past.{Said, IsOriginAfter, IsOwnerAfter, IsRecordTtl, Knows, NamedBy, said_of_ttl, ttls_said}
+use Rattle.dns_reader.specs.declared.known.Known.{Known}
+use Rattle.dns_reader.specs.declared.known.Known.TheVariants.{Unsaid, Name, Refused}
+use Rattle.dns_reader.specs.declared.owner_error.OwnerError.{OwnerError}
+use Rattle.dns_reader.specs.declared.owner_error.OwnerError.TheVariants.{NoOwner, Refused as OwnerRefused}
+use Rattle.dns_reader.specs.declared.state.Mark.{Mark}
+use Rattle.dns_reader.specs.declared.state.State.{State}
+use Rattle.dns_reader.specs.declared.ttl.RecordTtl.{RecordTtl}
+use Rattle.dns_reader.specs.declared.ttl.RecordTtl.TheVariants.{Own, Default, Last, Minimum}
+
+-- what was left by the past is now left by it and by what is said now
+abbrev pub Learns : List Said → State → State → Type 0
+Learns said old new = (start : State) (past : List Said) → Knows start past old → Knows start (past ++ said) new
+
+-- The next token is taken as a name; or it is refused at its place, for a reason that a name of at
+-- most 255 octets is refused for, and stays, and no name is there.
+abbrev pub TakesName : Option (List (List ℕ)) → ℕ → List TokenSeen → Result (List (List ℕ)) Refusal → List TokenSeen → Type 0
+TakesName origin end tokens (Ok labels) left = (t : TokenSeen) × (tokens ≡ t ∷ left) × SpellsField origin OfName t (wire labels)
+TakesName origin end tokens (Err r) left =
+    (left ≡ tokens) × (r.at ≡ next_place tokens end) × RefusesNext origin (exactly max_name) OfName tokens [] r.why × NamedBy origin (slice_get tokens 0) Refused
+
+-- the name that is taken is known from then on; or it is refused, and so is what is known
+abbrev pub TakesKnown : Option (List (List ℕ)) → ℕ → List TokenSeen → Result (Unit {0}) Refusal → List TokenSeen → Known → Type 0
+TakesKnown origin end tokens (Ok _) left known = (labels : List (List ℕ)) × (known ≡ Name labels) × TakesName origin end tokens (Ok labels) left
+TakesKnown origin end tokens (Err r) left known = (known ≡ Refused) × TakesName origin end tokens (Err r) left
+
+-- why there is no owner
+abbrev pub without_owner : OwnerError → Known
+without_owner NoOwner = Unsaid
+without_owner OwnerRefused = Refused
+
+-- this is the time to live of a record after all that was said
+abbrev pub TellsTtl : Option ℕ → Option ℕ → State → Option RecordTtl → Type 0
+TellsTtl own minimum state ttl = (start : State) (past : List Said) → Knows start past state → IsRecordTtl start past own minimum ttl
+
+-- a record with this time to live says what it does of those after it
+abbrev pub LearnsTtl : State → Option RecordTtl → State → Type 0
+LearnsTtl old ttl new = Learns (said_of_ttl ttl) old new
+
+-- the first that there is
+abbrev pub chosen_ttl : Option ℕ → Option ℕ → Option ℕ → Option ℕ → Option RecordTtl
+chosen_ttl (Some ttl) default last minimum = Some (Own ttl)
+chosen_ttl None (Some ttl) last minimum = Some (Default ttl)
+chosen_ttl None None (Some ttl) minimum = Some (Last ttl)
+chosen_ttl None None None (Some ttl) = Some (Minimum ttl)
+chosen_ttl None None None None = None
+
+-- the names that stood after what was said
+pub record IsMarkAfter (start : State) (past : List Said) (mark : Mark) : Type 0 where
+  pub origin : IsOriginAfter start past mark.origin
+  pub owner : IsOwnerAfter start past mark.owner
+
+abbrev pub MarksPast : State → Mark → Type 0
+MarksPast state mark = (start : State) (past : List Said) → Knows start past state → IsMarkAfter start past mark
+
+-- behind an included text, before which the mark was made, its times to live alone are known
+abbrev pub RestoresPast : Mark → State → State → Type 0
+RestoresPast mark old new = (start : State) (past included : List Said) → IsMarkAfter start past mark → Knows start (past ++ included) old → Knows start (past ++ ttls_said included) new

@@ -1,0 +1,12 @@
+pub mod EntryErrors
+pub mod EntryReading
+pub mod EntrySteps
+pub mod Learning
+pub mod OwnerError
+pub mod Past
+pub mod PastLaws
+pub mod ReadingLaws
+pub mod ReadingRows
+pub mod Rows
+pub mod Source
+pub mod SourceRows

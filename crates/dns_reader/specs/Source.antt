@@ -1,0 +1,86 @@
+-- Where a reader of entries stands among the parts of a text.
+use Rattle.std.specs.Prelude.{⊤, ◌≡◌, ◌≤◌, ℕ, Bool, true, false, if◌then◌else◌, List, [], ◌∷◌, ◌++◌, drop, length, map, Option, Some, None, option_map, is_some, Result, Ok, Err}
+use Rattle.std.specs.Io.BufRead.{drop_through}
+use Rattle.std.specs.Option.{option_to_list}
+use Rattle.dns_symbol.specs.Characters.{line_feed}
+use Rattle.dns_split.specs.declared.pieces.EndOfEntry.{EndOfEntry}
+use Rattle.dns_split.specs.declared.pieces.Fault.{Fault}
+use Rattle.dns_split.specs.declared.entry_tokens.EntryPart.{EntryPart}
+use Rattle.dns_split.specs.EntryTokens.{EndIs, IsOpen, IsSeenFrom, PartSeen, TokenIs, TokenSeen, answer_seen}
+use Rattle.dns_reader.specs.declared.source.StartOfEntry.{StartOfEntry}
+
+-- where the open entry began, or the next one begins; whether one is open; and what is left of the text
+pub record SourceSeen : Type 0 where
+  pub began : ℕ
+  pub is_open : Bool
+  pub parts : List (Result PartSeen Fault)
+
+-- the part that was looked at, if an entry is open, comes before the others
+abbrev pub source_seen : ℕ → Option (Result EntryPart Fault) → List (Result PartSeen Fault) → SourceSeen
+source_seen began next parts = record { began = began; is_open = is_some next; parts = option_to_list (option_map answer_seen next) ++ parts }
+
+-- an entry that is open has an end, or a fault
+abbrev pub IsOpenBefore : Option (Result EntryPart Fault) → List (Result PartSeen Fault) → Type 0
+IsOpenBefore None parts = ⊤
+IsOpenBefore (Some x) parts = (blank : Bool) × IsOpen blank (answer_seen x ∷ parts)
+
+-- the source stands behind the first line feed at a place or after it, or at the octets' end where none is; nothing of what it then reads leans on what stands before
+pub record StartsBehindLine (octets : List ℕ) (at : ℕ) (s : SourceSeen) : Type 0 where
+  pub within : s.began ≤ length octets
+  pub behind : drop s.began octets ≡ drop_through line_feed (drop at octets)
+  pub closed : s.is_open ≡ false
+  pub parts : IsSeenFrom octets s.began s.parts
+
+-- the tokens that come first, and what comes behind them
+abbrev pub tokens_first : List (Result PartSeen Fault) → List TokenSeen
+tokens_first (Ok (TokenIs t b) ∷ parts) = t ∷ tokens_first parts
+tokens_first _ = []
+
+abbrev pub behind_tokens : List (Result PartSeen Fault) → List (Result PartSeen Fault)
+behind_tokens (Ok (TokenIs t b) ∷ parts) = behind_tokens parts
+behind_tokens parts = parts
+
+-- the place of the end, or of the fault, that comes first
+abbrev pub end_first : ℕ → List (Result PartSeen Fault) → ℕ
+end_first at (Ok (EndIs e) ∷ parts) = e.at
+end_first at (Err f ∷ parts) = f.at
+end_first at _ = at
+
+-- the tokens that are left of the open entry, and where it ends, or the fault stands that cuts it off
+abbrev pub entry_left : SourceSeen → List TokenSeen
+entry_left s = if s.is_open then tokens_first s.parts else []
+
+-- and what comes behind them
+abbrev pub behind_left : SourceSeen → List (Result PartSeen Fault)
+behind_left s = if s.is_open then behind_tokens s.parts else s.parts
+
+abbrev pub entry_end : SourceSeen → ℕ
+entry_end s = if s.is_open then end_first s.began (behind_tokens s.parts) else s.began
+
+abbrev pub BeginsToken : List (Result PartSeen Fault) → Type 0
+BeginsToken (Ok (TokenIs t b) ∷ parts) = ⊤
+BeginsToken _ = ⊥
+
+-- the source stands where an entry of tokens begins; or nothing is left; or a fault comes next
+abbrev pub IsAtStart : Result (Option StartOfEntry) Fault → SourceSeen → Type 0
+IsAtStart (Ok (Some start)) s = (s.is_open ≡ true) × (start.at ≡ s.began) × IsOpen start.begins_blank s.parts × BeginsToken s.parts
+IsAtStart (Ok None) s = (s.is_open ≡ false) × (s.parts ≡ [])
+IsAtStart (Err f) s = (s.is_open ≡ true) × (s.parts ≡ Err f ∷ [])
+
+-- where the last of entries ends, the first of which begins at a place
+abbrev pub last_end : ℕ → List EndOfEntry → ℕ
+last_end began [] = began
+last_end began (e ∷ ends) = last_end e.at ends
+
+-- what was left of the open entry is passed over, and entries without tokens are
+pub record BeginsEntry (old : SourceSeen) (result : Result (Option StartOfEntry) Fault) (new : SourceSeen) : Type 0 where
+  pub ends : List EndOfEntry
+  pub passed : behind_left old ≡ map (λ e. Ok (EndIs e)) ends ++ new.parts
+  pub began : new.began ≡ last_end old.began ends
+  pub start : IsAtStart result new
+
+-- what was left of the open entry is taken, and its end; or none is open, and nothing is taken; or a fault comes before the end, and it stays
+abbrev pub FinishesEntry : SourceSeen → Result (Option EndOfEntry) Fault → SourceSeen → Type 0
+FinishesEntry old (Ok (Some end)) new = (old.is_open ≡ true) × (behind_left old ≡ Ok (EndIs end) ∷ new.parts) × (new.is_open ≡ false) × (new.began ≡ end.at)
+FinishesEntry old (Ok None) new = (old.is_open ≡ false) × (new ≡ old)
+FinishesEntry old (Err f) new = (old.is_open ≡ true) × (behind_left old ≡ Err f ∷ []) × (new ≡ record { began = old.began; is_open = true; parts = Err f ∷ [] })

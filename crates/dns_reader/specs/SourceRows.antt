@@ -1,0 +1,106 @@
+-- Worked texts: what is read of each, entry by entry.
+use Rattle.std.specs.Prelude.{◌≡◌, Bool, true, false, ℕ, List, [], ◌∷◌, map, codes, refl, Some, None, Result, Ok, Err}
+use Rattle.std.proofs.Common.{inl, lit≤}
+use lib.Utf8.{encode}
+use Rattle.dns_symbol.specs.declared.symbol.Symbol.TheVariants.{Char}
+use Rattle.dns_split.specs.declared.pieces.EndOfEntry.{EndOfEntry}
+use Rattle.dns_split.specs.declared.pieces.Fault.{Fault}
+use Rattle.dns_split.specs.declared.pieces.Piece.{Piece}
+use Rattle.dns_split.specs.declared.pieces.Wrong.TheVariants.{Closing}
+use Rattle.dns_split.specs.Lexeme.{Blank, Line, Word}
+use Rattle.dns_split.specs.Pieces.{IsGiven, end_at, word_at}
+use Rattle.dns_split.specs.EntryTokens.{EndIs, IsSeen, PartSeen, TokenIs, TokenSeen}
+use Rattle.dns_reader.specs.Source.{BeginsEntry, FinishesEntry, SourceSeen, StartsBehindLine, entry_end, entry_left}
+
+abbrev word : List ℕ → ℕ → TokenSeen
+word text at = record { text = text; is_quoted = false; is_glued = false; at = at }
+
+abbrev end : ℕ → Bool → EndOfEntry
+end at blank = record { at = at; begins_blank = blank }
+
+abbrev source : ℕ → Bool → List (Result PartSeen Fault) → SourceSeen
+source began is_open parts = record { began = began; is_open = is_open; parts = parts }
+
+-- two words, a blank line, and an entry that begins with a blank
+abbrev last_entry : List (Result PartSeen Fault)
+last_entry = Ok (TokenIs (word (codes "c") 6) true) ∷ Ok (EndIs (end 7 true)) ∷ []
+
+abbrev later_entries : List (Result PartSeen Fault)
+later_entries = Ok (EndIs (end 5 false)) ∷ last_entry
+
+abbrev all_entries : List (Result PartSeen Fault)
+all_entries = Ok (TokenIs (word (codes "a") 0) false) ∷ Ok (TokenIs (word (codes "b") 2) false) ∷ Ok (EndIs (end 4 false)) ∷ later_entries
+
+abbrev pieces_of_all : List Piece
+pieces_of_all = word_at 0 1 ∷ word_at 2 3 ∷ end_at 4 false ∷ end_at 5 false ∷ word_at 6 7 ∷ end_at 7 true ∷ []
+
+given_of_all : IsGiven (codes "a b\n\n c") (map Ok pieces_of_all)
+unfolding encode
+given_of_all = (
+  inl (record {
+    found = pieces_of_all;
+    is = refl;
+    placed = record {
+      lexemes = Word (Char 97) [] ∷ Blank false ∷ Word (Char 98) [] ∷ Line false ∷ Line false ∷ Blank false ∷ Word (Char 99) [] ∷ [];
+      spelled = refl;
+      valid = refl;
+      nested = refl;
+      placed = refl;
+    };
+  }),
+  ((lit≤ tt, lit≤ tt), ((lit≤ tt, lit≤ tt), (lit≤ tt, (lit≤ tt, ((lit≤ tt, lit≤ tt), (lit≤ tt, tt)))))),
+)
+
+seen_of_all : IsSeen (codes "a b\n\n c") all_entries
+seen_of_all = (map Ok pieces_of_all, given_of_all, refl)
+
+first_begins : BeginsEntry (source 0 false all_entries) (Ok (Some (record { at = 0; begins_blank = false }))) (source 0 true all_entries)
+first_begins = record { ends = []; passed = refl; began = refl; start = (refl, refl, (refl, (refl, refl)), tt) }
+
+first_is_left : entry_left (source 0 true all_entries) ≡ word (codes "a") 0 ∷ word (codes "b") 2 ∷ []
+first_is_left = refl
+
+first_ends : entry_end (source 0 true all_entries) ≡ 4
+first_ends = refl
+
+first_is_finished : FinishesEntry (source 0 true all_entries) (Ok (Some (end 4 false))) (source 4 false later_entries)
+first_is_finished = (refl, refl, refl, refl)
+
+blank_line_is_passed : BeginsEntry (source 4 false later_entries) (Ok (Some (record { at = 5; begins_blank = true }))) (source 5 true last_entry)
+blank_line_is_passed = record { ends = end 5 false ∷ []; passed = refl; began = refl; start = (refl, refl, (refl, refl), tt) }
+
+nothing_is_left : BeginsEntry (source 5 true last_entry) (Ok None) (source 7 false [])
+nothing_is_left = record { ends = end 7 true ∷ []; passed = refl; began = refl; start = (refl, refl) }
+
+-- a fault cuts an entry off: `a )`
+abbrev cut_off : List (Result PartSeen Fault)
+cut_off = Ok (TokenIs (word (codes "a") 0) false) ∷ Err (record { at = 2; wrong = Closing }) ∷ []
+
+cut_is_left : entry_left (source 0 true cut_off) ≡ word (codes "a") 0 ∷ []
+cut_is_left = refl
+
+cut_ends : entry_end (source 0 true cut_off) ≡ 2
+cut_ends = refl
+
+cut_is_refused : FinishesEntry (source 0 true cut_off) (Err (record { at = 2; wrong = Closing })) (source 0 true (Err (record { at = 2; wrong = Closing }) ∷ []))
+cut_is_refused = (refl, refl, refl)
+
+-- the line behind the fault of `a )`
+given_of_line : IsGiven (codes "b") (map Ok (word_at 0 1 ∷ end_at 1 false ∷ []))
+unfolding encode
+given_of_line = (
+  inl (record {
+    found = word_at 0 1 ∷ end_at 1 false ∷ [];
+    is = refl;
+    placed = record { lexemes = Word (Char 98) [] ∷ []; spelled = refl; valid = refl; nested = refl; placed = refl };
+  }),
+  ((lit≤ tt, lit≤ tt), (lit≤ tt, tt)),
+)
+
+goes_on_behind : StartsBehindLine (codes "a )\nb") 2 (source 4 false (Ok (TokenIs (word (codes "b") 4) false) ∷ Ok (EndIs (end 5 false)) ∷ []))
+goes_on_behind = record {
+  within = lit≤ tt;
+  behind = refl;
+  closed = refl;
+  parts = (map Ok (word_at 4 5 ∷ end_at 5 false ∷ []), (map Ok (word_at 0 1 ∷ end_at 1 false ∷ []), given_of_line, refl), refl);
+}

@@ -1,0 +1,415 @@
+//! What is read of an entry: a directive, or a record.
+ghost use Rattle.std.specs.Prelude.{◌≡◌, ◌≢◌, ◌∷◌, [], None, false};
+ghost use Rattle.std.specs.Option.{option_copied};
+ghost use Rattle.dns_octets.specs.Appending.{Extends};
+ghost use Rattle.dns_fields.specs.Source.{next_place};
+ghost use Rattle.dns_reader.specs.EntryReading.{EndsInNumber, IsMinimum, ReadsZoneEntry, ReadsOwner, ReadsRecord, ReadsRecordData, ReadsWords, minimum_of_record, minimum_of_ttl, own_ttl_of, owner_of_record, record_with, said_of_record, ttl_of_words};
+ghost use Rattle.dns_reader.specs.EntrySteps.{PassesFile, PassesName, ReadsDefaultTtl, ReadsDirective, ReadsLastInclude, ReadsLastOrigin, ReadsRecordTokens, TakesIncludedOrigin, TakesLastName, tokens_behind_owner, only_token, own_or_last, owner_token};
+ghost use Rattle.dns_reader.specs.Learning.{Learns, chosen_ttl};
+ghost use Rattle.dns_reader.specs.Past.{SaysOrigin, known_name};
+
+use crate::entry_error::{
+    EntryError, EntryRefusal, refused_at, refused_data, refused_head, refused_name, refused_words,
+};
+use crate::known::{Known, NameBuffer};
+use crate::state::{State, take_name};
+use crate::ttl::RecordTtl;
+use dns_data::read_type;
+use dns_fields::{FieldError, TokenSource};
+use dns_heads::{
+    Directive, HeadError, Words, WordsRefusal, take_default_ttl, take_directive, take_end,
+    take_file, take_words,
+};
+use dns_octets::{AsOctetsMut, OctetsBuilder};
+
+/// The code of SOA.
+const SOA: u16 = 6;
+
+/// What is read of an entry.
+#[derive(Drop)]
+pub enum EntryRead {
+    /// It has no tokens.
+    Nothing,
+    /// It is `$ORIGIN` or `$TTL`, and the state has changed.
+    Directive,
+    /// It is `$INCLUDE`: the octets that name the file are appended, as they are written. The origin
+    /// is the one that stands where the file begins, if the entry says one.
+    Include {
+        origin: Option<NameBuffer>,
+    },
+    /// It is a record, whose first token stands at this place: its time to live, class and type. Its
+    /// owner is the state's, and the octets of its data are appended.
+    Record {
+        at: usize,
+        ttl: RecordTtl,
+        class: u16,
+        code: u16,
+    },
+}
+
+/// Takes the next token as a name. It is passed over also where it is refused.
+fn pass_name<S: TokenSource>(
+    origin: Option<&NameBuffer>,
+    source: &mut S,
+) -> Result<NameBuffer, EntryRefusal>
+    ensures passes { PassesName (option_copied origin.entry) (S.end source.old) (S.left source.old) result (S.left source.new) }
+    ensures end { S.end source.new ≡ S.end source.old }
+{
+    match take_name(origin, source) {
+        Ok(name) => Ok(name),
+        Err(refusal) => {
+            source.advance();
+            Err(refused_name(refusal))
+        }
+    }
+}
+
+/// Takes the one token that is left as a name. A token behind it is refused before the name is.
+fn take_last_name<S: TokenSource>(
+    origin: Option<&NameBuffer>,
+    source: &mut S,
+) -> Result<NameBuffer, EntryRefusal>
+    ensures takes { TakesLastName (option_copied origin.entry) (S.end source.old) (S.left source.old) result }
+    ensures end { S.end source.new ≡ S.end source.old }
+{
+    let at = source.place();
+    if source.current().is_none() {
+        let why = HeadError::Field(FieldError::EndOfEntry);
+        return Err(refused_at(at, EntryError::Head(why)));
+    }
+    let name = pass_name(origin, source);
+    match take_end(source) {
+        Ok(()) => name,
+        Err(refusal) => Err(refused_head(refusal)),
+    }
+}
+
+/// Reads what stands behind `$ORIGIN`. Where it is refused there is no origin.
+fn read_origin<S: TokenSource>(state: &mut State, source: &mut S) -> Result<EntryRead, EntryRefusal>
+    ensures reads { ReadsLastOrigin (known_name state.old.origin) (S.end source.old) (S.left source.old) result }
+    ensures learns { Learns (SaysOrigin (only_token (S.left source.old)) ∷ []) state.old state.new }
+    ensures end { S.end source.new ≡ S.end source.old }
+{
+    match take_last_name(state.origin.name(), source) {
+        Ok(name) => {
+            state.origin = Known::Name(name);
+            Ok(EntryRead::Directive)
+        }
+        Err(refusal) => {
+            state.origin = Known::Refused;
+            Err(refusal)
+        }
+    }
+}
+
+/// Reads what stands behind `$TTL`.
+fn read_default_ttl<S: TokenSource>(
+    state: &mut State,
+    source: &mut S,
+) -> Result<EntryRead, EntryRefusal>
+    ensures reads { ReadsDefaultTtl (S.end source.old) (S.left source.old) state.old result state.new }
+    ensures end { S.end source.new ≡ S.end source.old }
+{
+    match take_default_ttl(source) {
+        Ok(ttl) => {
+            state.say_default_ttl(ttl);
+            Ok(EntryRead::Directive)
+        }
+        Err(refusal) => Err(refused_head(refusal)),
+    }
+}
+
+/// Takes the file of `$INCLUDE`. Its token is passed over also where the octets don't fit.
+fn pass_file<S: TokenSource, B: OctetsBuilder>(
+    source: &mut S,
+    target: &mut B,
+) -> Result<(), EntryRefusal>
+    ensures passes { PassesFile B.room (S.end source.old) (S.left source.old) (B.octets target.old) result (S.left source.new) (B.octets target.new) }
+    ensures end { S.end source.new ≡ S.end source.old }
+{
+    match take_file(source, target) {
+        Ok(()) => Ok(()),
+        Err(refusal) => {
+            source.advance();
+            Err(refused_head(refusal))
+        }
+    }
+}
+
+/// Takes the origin behind the file of `$INCLUDE`, if a token is left.
+fn take_included_origin<S: TokenSource>(
+    origin: Option<&NameBuffer>,
+    source: &mut S,
+) -> Result<Option<NameBuffer>, EntryRefusal>
+    ensures takes { TakesIncludedOrigin (option_copied origin.entry) (S.end source.old) (S.left source.old) result }
+    ensures end { S.end source.new ≡ S.end source.old }
+{
+    if source.current().is_none() {
+        return Ok(None);
+    }
+    match take_last_name(origin, source) {
+        Ok(name) => Ok(Some(name)),
+        Err(refusal) => Err(refusal),
+    }
+}
+
+/// Reads what stands behind `$INCLUDE`. Of what is refused a token too many comes first, then the
+/// origin, and then a file for which there is no room.
+fn read_include<S: TokenSource, B: OctetsBuilder>(
+    state: &State,
+    source: &mut S,
+    target: &mut B,
+) -> Result<EntryRead, EntryRefusal>
+    ensures reads { ReadsLastInclude (known_name state.now.origin) B.room (S.end source.old) (S.left source.old) (B.octets target.old) result (B.octets target.new) }
+    ensures end { S.end source.new ≡ S.end source.old }
+{
+    let file = pass_file(source, target);
+    match take_included_origin(state.origin.name(), source) {
+        Ok(origin) => match file {
+            Ok(()) => Ok(EntryRead::Include { origin }),
+            Err(refusal) => Err(refusal),
+        },
+        Err(refusal) => Err(refusal),
+    }
+}
+
+/// Reads what stands behind the word of a directive.
+fn read_directive<S: TokenSource, B: OctetsBuilder>(
+    directive: Directive,
+    state: &mut State,
+    source: &mut S,
+    target: &mut B,
+) -> Result<EntryRead, EntryRefusal>
+    ensures reads { ReadsDirective directive B.room (S.end source.old) (S.left source.old) state.old (B.octets target.old) result state.new (B.octets target.new) }
+    ensures end { S.end source.new ≡ S.end source.old }
+{
+    match directive {
+        Directive::Origin => read_origin(state, source),
+        Directive::Ttl => read_default_ttl(state, source),
+        Directive::Include => read_include(state, source, target),
+    }
+}
+
+/// Whether an owner is known for a record that says none.
+fn known_owner(state: &State, at: usize) -> Result<(), EntryRefusal>
+    ensures { ReadsOwner state.now at None result state.now.owner }
+{
+    match state.owner() {
+        Ok(_) => Ok(()),
+        Err(why) => Err(refused_at(at, EntryError::Owner(why))),
+    }
+}
+
+/// Takes the owner that a record says. Where it is refused, it is known as such.
+fn pass_owner<S: TokenSource>(state: &mut State, source: &mut S) -> Result<(), EntryRefusal>
+    ensures reads { S.left source.old ≢ [] → ReadsOwner state.old (next_place (S.left source.old) (S.end source.old)) (owner_token false (S.left source.old)) result state.new.owner }
+    ensures left { S.left source.new ≡ tokens_behind_owner false (S.left source.old) }
+    ensures state { state.new ≡ record state.old { owner = state.new.owner } }
+    ensures learns { S.left source.old ≢ [] → Learns (owner_of_record (owner_token false (S.left source.old))) state.old state.new }
+    ensures end { S.end source.new ≡ S.end source.old }
+{
+    match pass_name(state.origin.name(), source) {
+        Ok(name) => {
+            state.owner = Known::Name(name);
+            Ok(())
+        }
+        Err(refusal) => {
+            state.owner = Known::Refused;
+            Err(refusal)
+        }
+    }
+}
+
+/// The owner of a record, which it says, or which was said before it.
+fn find_owner<S: TokenSource>(
+    state: &mut State,
+    begins_blank: bool,
+    source: &mut S,
+) -> Result<(), EntryRefusal>
+    ensures reads { S.left source.old ≢ [] → ReadsOwner state.old (next_place (S.left source.old) (S.end source.old)) (owner_token begins_blank (S.left source.old)) result state.new.owner }
+    ensures left { S.left source.new ≡ tokens_behind_owner begins_blank (S.left source.old) }
+    ensures state { state.new ≡ record state.old { owner = state.new.owner } }
+    ensures learns { S.left source.old ≢ [] → Learns (owner_of_record (owner_token begins_blank (S.left source.old))) state.old state.new }
+    ensures end { S.end source.new ≡ S.end source.old }
+{
+    if begins_blank {
+        return known_owner(state, source.place());
+    }
+    pass_owner(state, source)
+}
+
+/// A record says this time to live of its own, if any.
+fn say_own_ttl(state: &mut State, own: Option<u32>)
+    ensures state { state.new ≡ record state.old { last_ttl = own_or_last own state.old.last_ttl } }
+    ensures learns { Learns (own_ttl_of own) state.old state.new }
+{
+    match own {
+        Some(ttl) => state.last_ttl = Some(ttl),
+        None => {}
+    }
+}
+
+/// Where a record has its own minimum, this is the default time to live.
+fn say_minimum(state: &mut State, ttl: RecordTtl)
+    ensures owner { state.new.owner ≡ state.old.owner }
+    ensures learns { Learns (minimum_of_ttl ttl) state.old state.new }
+{
+    match ttl {
+        RecordTtl::Minimum(seconds) => state.default_ttl = Some(seconds),
+        RecordTtl::Own(_) => {}
+        RecordTtl::Default(_) => {}
+        RecordTtl::Last(_) => {}
+    }
+}
+
+/// The time to live of a record's own, also of one whose type is refused.
+fn own_ttl(words: &Result<Words, WordsRefusal>) -> Option<u32>
+    ensures { result ≡ ttl_of_words words.now }
+{
+    match words {
+        Ok(words) => words.ttl,
+        Err(refusal) => refusal.ttl,
+    }
+}
+
+/// The number in the last four octets, if there are so many.
+fn last_number(octets: &[u8]) -> Option<u32>
+    ensures { EndsInNumber octets.now result }
+{
+    if octets.len() < 4 {
+        return None;
+    }
+    let mut last = [0; 4];
+    last.copy_from_slice(&octets[octets.len() - 4..]);
+    Some(u32::from_be_bytes(last))
+}
+
+/// The minimum of a record, if it is an SOA (RFC 1035 section 3.3.13).
+fn minimum_of(code: u16, octets: &[u8]) -> Option<u32>
+    ensures { IsMinimum code octets.now result }
+{
+    if code != SOA {
+        return None;
+    }
+    last_number(octets)
+}
+
+/// A record of which all but the time to live is read.
+fn finish_record(
+    state: &mut State,
+    at: usize,
+    words: Words,
+    minimum: Option<u32>,
+) -> Result<EntryRead, EntryRefusal>
+    ensures record { result ≡ record_with state.old at words (chosen_ttl words.ttl state.old.default_ttl state.old.last_ttl minimum) }
+    ensures owner { state.new.owner ≡ state.old.owner }
+    ensures learns { Learns (minimum_of_record result) state.old state.new }
+{
+    let Some(ttl) = state.choose_ttl(words.ttl, minimum) else {
+        return Err(refused_at(at, EntryError::NoTtl));
+    };
+    let class = words.class.unwrap_or(state.class);
+    let code = words.code;
+    say_minimum(state, ttl);
+    Ok(EntryRead::Record {
+        at,
+        ttl,
+        class,
+        code,
+    })
+}
+
+/// Reads the data of a record, and finds its time to live.
+fn read_record_data<S: TokenSource, B: OctetsBuilder + AsOctetsMut>(
+    state: &mut State,
+    at: usize,
+    words: Words,
+    source: &mut S,
+    target: &mut B,
+) -> Result<EntryRead, EntryRefusal>
+    ensures reads { ReadsRecordData state.old B.room at (S.end source.old) words (S.left source.old) (B.octets target.old) result (B.octets target.new) }
+    ensures extends { Extends (B.octets target.old) (B.octets target.new) }
+    ensures owner { state.new.owner ≡ state.old.owner }
+    ensures learns { Learns (minimum_of_record result) state.old state.new }
+    ensures end { S.end source.new ≡ S.end source.old }
+{
+    let begun = target.as_slice().len();
+    match read_type(words.code, state.origin.name(), source, target) {
+        Ok(()) => {
+            let minimum = minimum_of(words.code, &target.as_slice()[begun..]);
+            finish_record(state, at, words, minimum)
+        }
+        Err(refusal) => Err(refused_data(words.code, refusal)),
+    }
+}
+
+/// Reads what stands behind the words of a record, unless it is refused already.
+fn read_behind<S: TokenSource, B: OctetsBuilder + AsOctetsMut>(
+    state: &mut State,
+    at: usize,
+    owner: Result<(), EntryRefusal>,
+    words: Result<Words, WordsRefusal>,
+    source: &mut S,
+    target: &mut B,
+) -> Result<EntryRead, EntryRefusal>
+    ensures reads { ReadsWords state.old B.room at (S.end source.old) owner words (S.left source.old) (B.octets target.old) result (B.octets target.new) }
+    ensures extends { Extends (B.octets target.old) (B.octets target.new) }
+    ensures owner { state.new.owner ≡ state.old.owner }
+    ensures learns { Learns (minimum_of_record result) state.old state.new }
+    ensures end { S.end source.new ≡ S.end source.old }
+{
+    match owner {
+        Ok(()) => match words {
+            Ok(words) => read_record_data(state, at, words, source, target),
+            Err(refusal) => Err(refused_words(refusal)),
+        },
+        Err(refusal) => Err(refusal),
+    }
+}
+
+/// Reads a record. Its time to live is said also where something else of it is refused.
+fn read_record<S: TokenSource, B: OctetsBuilder + AsOctetsMut>(
+    state: &mut State,
+    begins_blank: bool,
+    source: &mut S,
+    target: &mut B,
+) -> Result<EntryRead, EntryRefusal>
+    ensures reads { S.left source.old ≢ [] → ReadsRecordTokens B.room begins_blank (S.end source.old) (S.left source.old) state.old (B.octets target.old) result state.new (B.octets target.new) }
+    ensures end { S.end source.new ≡ S.end source.old }
+{
+    let at = source.place();
+    let owner = find_owner(state, begins_blank, source);
+    let words = take_words(source);
+    say_own_ttl(state, own_ttl(&words));
+    read_behind(state, at, owner, words, source, target)
+}
+
+/// Reads an entry by its tokens, whether it begins with a blank, and the state.
+///
+/// A directive is looked at first. Of a record it is the owner; then the words in front of its data,
+/// which are its time to live, class and type; then the data, whose octets are appended; then the
+/// time to live, if it says none: the first of these that is refused is the refusal. The class is
+/// the record's own or the state's.
+///
+/// After a refusal the state has learned what can be read of it all the same. The owner is that of
+/// the entries that follow, or is refused for them; the time to live is that of the last record.
+/// After a refused `$ORIGIN` there is no origin. Tokens may be left, and `target` may have more octets
+/// than before.
+pub fn read_entry<S: TokenSource, B: OctetsBuilder + AsOctetsMut>(
+    state: &mut State,
+    begins_blank: bool,
+    source: &mut S,
+    target: &mut B,
+) -> Result<EntryRead, EntryRefusal>
+    ensures reads { ReadsZoneEntry B.room begins_blank (S.end source.old) (S.left source.old) state.old (B.octets target.old) result state.new (B.octets target.new) }
+    ensures end { S.end source.new ≡ S.end source.old }
+{
+    if source.current().is_none() {
+        return Ok(EntryRead::Nothing);
+    }
+    match take_directive(begins_blank, source) {
+        Ok(Some(directive)) => read_directive(directive, state, source, target),
+        Ok(None) => read_record(state, begins_blank, source, target),
+        Err(refusal) => Err(refused_head(refusal)),
+    }
+}

@@ -1,0 +1,20 @@
+//! The reader of zone files: the tokens of each entry, and what the entries before it say of it (RFC
+//! 1035 section 5.1, RFC 2308 section 4).
+#![tactic(auto)]
+
+pub mod entry;
+pub mod entry_error;
+pub mod known;
+pub mod owner_error;
+pub mod source;
+pub mod state;
+pub mod state_laws;
+pub mod ttl;
+
+pub use entry::{EntryRead, read_entry};
+pub use entry_error::{EntryError, EntryRefusal};
+pub use known::{Known, NameBuffer};
+pub use owner_error::OwnerError;
+pub use source::{EntrySource, StartOfEntry};
+pub use state::{Mark, State};
+pub use ttl::RecordTtl;

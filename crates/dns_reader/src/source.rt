@@ -1,0 +1,185 @@
+//! The entries of zone text, each read token by token, without memory.
+ghost use Rattle.std.specs.Prelude.{◌≡◌, ◌≤◌, ◌∷◌, [], List, Result, Ok, Err, Some, drop, length, map};
+ghost use Rattle.std.specs.Io.BufRead.{drop_through};
+ghost use Rattle.dns_symbol.specs.Characters.{line_feed};
+ghost use Rattle.dns_split.specs.EntryTokens.{EndIs, GivesEntry, IsSeen, PartSeen, token_seen};
+ghost use Rattle.dns_split.specs.declared.entry_tokens.EntryToken.{EntryToken};
+ghost use Rattle.dns_split.specs.declared.entry_tokens.NextEntryError.TheVariants.{BadText};
+ghost use Rattle.dns_split.specs.declared.pieces.EndOfEntry.{EndOfEntry};
+ghost use Rattle.dns_split.specs.declared.pieces.Fault.{Fault};
+ghost use Rattle.dns_reader.specs.Source.{BeginsEntry, FinishesEntry, behind_left, behind_tokens};
+ghost use Rattle.dns_reader.specs.Source.{StartsBehindLine, tokens_first};
+
+use dns_fields::TokenSource;
+use dns_split::entry_tokens::{EntryPart, EntryToken, EntryTokens};
+use dns_split::pieces::{EndOfEntry, Fault};
+use std::marker::Model;
+
+/// The beginning of an entry.
+#[derive(Clone, Copy, Debug, PartialEq, Eq)]
+pub struct StartOfEntry {
+    /// Where it begins: where the entry before it ended, or the text began.
+    pub at: usize,
+    /// Whether it begins with a blank: a record so written takes the owner of the one before.
+    pub begins_blank: bool,
+}
+
+/// Where the next line begins: behind the first line feed at a place or after it, or at the octets'
+/// end where none is.
+fn next_line(octets: &[u8], at: usize) -> usize
+    ensures within { result ≤ length octets.now }
+    ensures behind { drop result octets.now ≡ drop_through line_feed (drop at octets.now) }
+{
+    let mut place = at;
+    while place < octets.len() {
+        if octets[place] == b'\n' {
+            return place + 1;
+        }
+        place += 1;
+    }
+    octets.len()
+}
+
+/// The entries of a text that are left, and the tokens of the one that is open.
+///
+/// [`EntrySource::begin`] opens an entry, [`TokenSource`] gives its tokens, and
+/// [`EntrySource::finish`] takes what is left of it. A fault of the text ends the tokens of its
+/// entry, and the source stays there.
+#[derive(Drop)]
+pub struct EntrySource<'t> {
+    tokens: EntryTokens<'t>,
+    /// What comes next of the entry that is open.
+    next: Option<Result<EntryPart<'t>, Fault>>,
+    /// Where that entry began, or the next one begins.
+    began: usize,
+}
+
+impl<'t> Model for EntrySource<'t> {
+    ghost use Rattle.dns_reader.specs.Source.{IsOpenBefore, SourceSeen, source_seen};
+
+    ghost Value = { SourceSeen };
+
+    ghost view = { λ s. source_seen s.began s.next s.tokens };
+
+    ghost invariant = { λ s. IsOpenBefore s.next s.tokens };
+}
+
+impl<'t> EntrySource<'t> {
+    ghost use Rattle.std.specs.Prelude.{false};
+
+    /// The entries of octets that need not be UTF-8: each octet counts as a character of its own.
+    pub fn of_octets(octets: &'t [u8]) -> EntrySource<'t>
+        ensures parts { IsSeen octets.now result.parts }
+        ensures closed { result.is_open ≡ false }
+        ensures began { result.began ≡ 0 }
+    {
+        EntrySource {
+            tokens: EntryTokens::of_octets(octets),
+            next: None,
+            began: 0,
+        }
+    }
+
+    /// The entries behind the line on which a fault stands, with their places among all octets.
+    /// Where no line follows, none is left.
+    pub fn after_fault(octets: &'t [u8], fault: Fault) -> EntrySource<'t>
+        ensures { StartsBehindLine octets.now fault.at result }
+    {
+        let began = next_line(octets, fault.at);
+        EntrySource {
+            tokens: EntryTokens::of_octets_starting_at(octets, began),
+            next: None,
+            began,
+        }
+    }
+
+    /// Opens the next entry that has tokens: what is left of the one that is open is passed over,
+    /// and entries without tokens, as blank lines, are. Returns where it begins; or `None` where
+    /// nothing is left; or the fault that comes before its tokens.
+    pub fn begin(&mut self) -> Result<Option<StartOfEntry>, Fault>
+        ensures { BeginsEntry self.old result self.new }
+    {
+        'entries: loop {
+            self.finish()?;
+            self.next = self.tokens.next_token();
+            match self.next {
+                Some(Ok(EntryPart::Token { begins_blank, .. })) => {
+                    let at = self.began;
+                    return Ok(Some(StartOfEntry { at, begins_blank }));
+                }
+                Some(Ok(EntryPart::End(_))) => {}
+                Some(Err(fault)) => return Err(fault),
+                None => return Ok(None),
+            }
+        }
+    }
+
+    /// Takes what is left of the entry that is open, and its end; or `None` where none is open.
+    ///
+    /// Where a fault comes before the end, it is returned, and stays: it is what every later call
+    /// returns.
+    pub fn finish(&mut self) -> Result<Option<EndOfEntry>, Fault>
+        ensures { FinishesEntry self.old result self.new }
+    {
+        'tokens: loop {
+            match self.next {
+                Some(Ok(EntryPart::Token { .. })) => self.next = self.tokens.next_token(),
+                Some(Ok(EntryPart::End(end))) => {
+                    self.next = None;
+                    self.began = end.at;
+                    return Ok(Some(end));
+                }
+                Some(Err(fault)) => return Err(fault),
+                None => return Ok(None),
+            }
+        }
+    }
+}
+
+impl<'t> TokenSource for EntrySource<'t> {
+    ghost use Rattle.dns_reader.specs.Source.{entry_end, entry_left};
+
+    ghost left = { entry_left };
+
+    ghost end = { entry_end };
+
+    fn current(&self) -> Option<EntryToken<'_>> {
+        match self.next {
+            Some(Ok(EntryPart::Token { token, .. })) => Some(token),
+            _ => None,
+        }
+    }
+
+    fn place(&self) -> usize {
+        match self.next {
+            Some(Ok(EntryPart::Token { token, .. })) => token.at,
+            Some(Ok(EntryPart::End(end))) => end.at,
+            Some(Err(fault)) => fault.at,
+            None => self.began,
+        }
+    }
+
+    fn advance(&mut self)
+        ensures left { entry_left self.new ≡ drop 1 (entry_left self.old) }
+        ensures end { entry_end self.new ≡ entry_end self.old }
+        ensures behind { behind_left self.new ≡ behind_left self.old }
+        ensures open { self.new.is_open ≡ self.old.is_open }
+        ensures began { self.new.began ≡ self.old.began }
+    {
+        if let Some(Ok(EntryPart::Token { .. })) = self.next {
+            self.next = self.tokens.next_token();
+        }
+    }
+}
+
+/// What is read of an entry, or before a fault, is what [`EntryTokens::next_entry`] gives of it.
+///
+/// The contract is the law; calling it does nothing.
+pub fn entries_are_given()
+    ensures entry { (old new : List (Result PartSeen Fault)) (tokens : List EntryToken)
+        (end : EndOfEntry) → GivesEntry old tokens (Ok (Some end)) new
+        → (tokens_first old ≡ map token_seen tokens) × (behind_tokens old ≡ Ok (EndIs end) ∷ new) }
+    ensures fault { (old new : List (Result PartSeen Fault)) (tokens : List EntryToken)
+        (fault : Fault) → GivesEntry old tokens (Err (BadText fault)) new
+        → (tokens_first old ≡ map token_seen tokens) × (behind_tokens old ≡ Err fault ∷ []) }
+{}
