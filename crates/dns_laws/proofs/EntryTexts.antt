@@ -20,7 +20,7 @@ use Rattle.dns_laws.proofs.Converted.{is_plain, plain_read, plain_symbols, encod
 use Rattle.dns_laws.proofs.Spelled.{gives_value, gives_only}
 
 -- each part of a plain text is symbols
-plain_parts : (tokens : List Token) → list_all is_plain (concat tokens) ≡ true → AllByRecursion IsSymbols tokens
+pub plain_parts : (tokens : List Token) → list_all is_plain (concat tokens) ≡ true → AllByRecursion IsSymbols tokens
 plain_parts [] h = tt
 plain_parts (t ∷ ts) h =
     let p = and_parts (list_all is_plain t) (list_all is_plain (concat ts)) (sym (list_all-append is_plain t (concat ts)) ∙ h) in

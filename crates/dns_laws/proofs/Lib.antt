@@ -9,3 +9,8 @@ pub mod GrammarOnce
 pub mod DocumentLayouts
 pub mod Normal
 pub mod ZoneNames
+pub mod ReaderSymbols
+pub mod ReaderNames
+pub mod ReaderNumbers
+pub mod ReaderDigits
+pub mod ReaderRows

@@ -163,7 +163,7 @@ module _ (codec : Codec) where
       gives_only cause value room token (Err e) k = tt
 
 -- the characters of plain symbols
-plain_chars : (text : List ℕ) → map char_of (plain_symbols text) ≡ map Ok text
+pub plain_chars : (text : List ℕ) → map char_of (plain_symbols text) ≡ map Ok text
 plain_chars [] = refl
 plain_chars (c ∷ cs) = ap (λ l. Ok c ∷ l) (plain_chars cs)
 

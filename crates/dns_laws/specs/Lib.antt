@@ -4,5 +4,6 @@ pub mod Lines
 pub mod Names
 pub mod NumberLaws
 pub mod Numbers
+pub mod Readers
 pub mod Refusal
 pub mod Rows

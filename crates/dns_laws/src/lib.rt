@@ -8,6 +8,7 @@
 //! - [`encodings`]: what tokens convert to, and [`entries`], what all tokens of an entry do.
 //! - [`names`]: the texts of absolute names.
 //! - [`numbers`]: a printed number is scanned back.
+//! - [`readers`]: what scanners and fields of record data read alike.
 //! - [`strings`]: character strings as tokens of a document.
 #![tactic(auto)]
 
@@ -17,6 +18,7 @@ pub mod layouts;
 pub mod lines;
 pub mod names;
 pub mod numbers;
+pub mod readers;
 pub mod strings;
 
 /// The headline: what is printed means one thing, and is read back as that.
