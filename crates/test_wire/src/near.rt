@@ -1,0 +1,68 @@
+//! Octets that are near given ones.
+use crate::trial::Trial;
+use row_table::{Answer, Failure};
+use std::alloc::{AllocError, Global};
+
+/// Tries octets with each other value of the one at a place.
+fn try_values(trial: &mut Trial, octets: &[u8], place: usize, answer: &mut Answer) {
+    let Ok(mut changed) = octets.to_vec(answer.alloc()) else {
+        return answer.fail_for_memory();
+    };
+    for change in 1..=u8::MAX {
+        if let (Some(octet), Some(old)) = (changed.get_mut(place), octets.get(place)) {
+            *octet = *old ^ change;
+        }
+        trial.take(changed.as_slice(), answer);
+    }
+}
+
+/// How many of the lists in which one octet has another value are data.
+fn tell_changed(mut trial: Trial, octets: &[u8], answer: &mut Answer) {
+    for place in 0..octets.len() {
+        try_values(&mut trial, octets, place, answer);
+    }
+    answer.add_number(trial.count());
+}
+
+/// How many of the beginnings, which are shorter, are data.
+fn tell_cut(mut trial: Trial, octets: &[u8], answer: &mut Answer) {
+    for length in 0..octets.len() {
+        trial.take(&octets[..length], answer);
+    }
+    answer.add_number(trial.count());
+}
+
+/// Octets of which the one at a place stands twice.
+fn doubled(octets: &[u8], place: usize, alloc: Global) -> Result<Vec<u8>, AllocError> {
+    let mut made = octets.get(..=place).unwrap_or_default().to_vec(alloc)?;
+    made.extend_from_slice(octets.get(place..).unwrap_or_default())?;
+    Ok(made)
+}
+
+/// How many of the lists in which one octet stands twice are data.
+fn tell_doubled(mut trial: Trial, octets: &[u8], answer: &mut Answer) {
+    for place in 0..octets.len() {
+        match doubled(octets, place, answer.alloc()) {
+            Ok(octets) => trial.take(octets.as_slice(), answer),
+            Err(_) => answer.fail_for_memory(),
+        }
+    }
+    answer.add_number(trial.count());
+}
+
+/// How many of the octets near given ones are data: of those in which one octet has another value,
+/// of those that are cut off, and of those in which one octet stands twice, with commas between.
+/// The inputs are the type and the octets.
+pub fn damaged(inputs: &[Vec<u8>], answer: &mut Answer) {
+    let [name, octets] = inputs else {
+        return answer.fail(Failure::BadInputs);
+    };
+    let Some(trial) = Trial::new(name.as_slice(), 1) else {
+        return answer.fail(Failure::BadInputs);
+    };
+    tell_changed(trial, octets.as_slice(), answer);
+    answer.add_text(",");
+    tell_cut(trial, octets.as_slice(), answer);
+    answer.add_text(",");
+    tell_doubled(trial, octets.as_slice(), answer);
+}

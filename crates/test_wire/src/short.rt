@@ -1,0 +1,49 @@
+//! All short lists of octets.
+use crate::trial::Trial;
+use row_table::input::number_of;
+use row_table::{Answer, Failure};
+
+/// How many lists of octets have a length, which is at most 3.
+fn lists_of(length: usize) -> Option<u32> {
+    match length {
+        0 => Some(1),
+        1 => Some(1 << 8),
+        2 => Some(1 << 16),
+        3 => Some(1 << 24),
+        _ => None,
+    }
+}
+
+/// How many of the lists of a length are data.
+fn tell_length(mut trial: Trial, length: usize, answer: &mut Answer) {
+    let Some(count) = lists_of(length) else {
+        return answer.fail(Failure::BadInputs);
+    };
+    let front = 4usize.saturating_sub(length);
+    for number in 0..count {
+        let octets = number.to_be_bytes();
+        trial.take(octets.get(front..).unwrap_or_default(), answer);
+    }
+    answer.add_number(trial.count());
+}
+
+/// How many of the lists of no octets, of one, and so on up to a length of at most 3, are data, with
+/// commas between. The inputs are the type, the length, and of how many data of three octets one is
+/// read again; shorter data all are.
+pub fn short(inputs: &[Vec<u8>], answer: &mut Answer) {
+    let [name, greatest, step] = inputs else {
+        return answer.fail(Failure::BadInputs);
+    };
+    let (Some(greatest), Some(step)) = (number_of(greatest.as_slice()), number_of(step.as_slice()))
+    else {
+        return answer.fail(Failure::BadInputs);
+    };
+    for length in 0..=greatest.min(3) {
+        let step = if length < 3 { 1 } else { step };
+        let Some(trial) = Trial::new(name.as_slice(), step) else {
+            return answer.fail(Failure::BadInputs);
+        };
+        answer.add_text(if length == 0 { "" } else { "," });
+        tell_length(trial, length, answer);
+    }
+}

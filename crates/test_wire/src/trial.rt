@@ -1,0 +1,100 @@
+//! Octets that are tried as data of a type.
+use dns_data::{Shape, check_data, read_type, type_row, write_data};
+use dns_fields::TokenList;
+use dns_kinds::RecordType;
+use dns_split::entry_tokens::{EntryToken, EntryTokens};
+use dns_wire::Name;
+use dns_zone::zonefile_fmt::SimpleWriter;
+use row_table::Answer;
+use std::alloc::Global;
+use std::fmt;
+
+/// Data of a shape, which print as their tokens with a blank between.
+#[derive(Drop)]
+struct Shown<'a> {
+    shape: Shape,
+    octets: &'a [u8],
+}
+
+impl fmt::Display for Shown<'_> {
+    fn fmt<W: fmt::Write>(&self, f: &mut fmt::Formatter<W>) -> fmt::Result {
+        if !check_data(&self.shape, self.octets) {
+            return Err(fmt::Error);
+        }
+        let mut writer = SimpleWriter::new(f);
+        match write_data(&self.shape, self.octets, &mut writer) {
+            Ok(()) => Ok(()),
+            Err(_) => Err(fmt::Error),
+        }
+    }
+}
+
+/// A type, how many of the octets that were tried are data of it, and whether all of these that
+/// were read again are the same.
+#[derive(Clone, Copy)]
+pub struct Trial {
+    code: u16,
+    shape: Shape,
+    count: usize,
+    step: usize,
+    are_same: bool,
+}
+
+impl Trial {
+    /// That of the type with a name, with nothing tried. Of the data that is found, each whose
+    /// number is a multiple of the step is read again.
+    pub fn new(name: &[u8], step: usize) -> Option<Trial> {
+        let code = RecordType::from_text(name).ok()?.0;
+        let shape = type_row(code)?.shape();
+        Some(Trial {
+            code,
+            shape,
+            count: 0,
+            step,
+            are_same: true,
+        })
+    }
+
+    /// How many of the octets that were tried are data.
+    pub fn count(&self) -> usize {
+        self.count
+    }
+
+    /// Whether data print as the text of one entry, which is read as the same data.
+    fn reads_again(&self, octets: &[u8], alloc: Global) -> bool {
+        let shown = Shown {
+            shape: self.shape,
+            octets,
+        };
+        let Ok(text) = shown.to_string(alloc) else {
+            return false;
+        };
+        let mut tokens: Vec<EntryToken<'_>> = Vec::new(alloc);
+        let mut entries = EntryTokens::of_octets(text.as_bytes());
+        match entries.next_entry(&mut tokens) {
+            Ok(Some(end)) if end.at == text.len() => {}
+            _ => return false,
+        }
+        let mut source = TokenList::new(tokens.as_slice(), text.len());
+        let mut target: Vec<u8> = Vec::new(alloc);
+        let origin: Option<&Name<&[u8]>> = None;
+        let made = read_type(self.code, origin, &mut source, &mut target);
+        made.is_ok() && target.as_slice() == octets
+    }
+
+    /// Tries octets, and tells of the first data that are not read again as the same.
+    pub fn take(&mut self, octets: &[u8], answer: &mut Answer) {
+        if !self.are_same || !check_data(&self.shape, octets) {
+            return;
+        }
+        self.count = self.count.saturating_add(1);
+        if self.count.checked_rem(self.step) != Some(0) {
+            return;
+        }
+        if !self.reads_again(octets, answer.alloc()) {
+            self.are_same = false;
+            answer.refuse_text("not read again: ");
+            answer.add(octets);
+        }
+    }
+}
