@@ -1,17 +1,23 @@
 //! The calls that rows name.
 mod apl;
 mod bitmap;
+mod canonical;
 mod class;
 mod data;
 mod digits;
 mod field;
 mod fields;
 mod gateway;
+mod head;
 mod kind;
 mod list;
+mod location;
 mod params;
+mod record;
+mod service;
 mod spelling;
 mod tell;
+mod zone;
 
 use row_table::{Answer, Calls, Failure, Inputs};
 
@@ -47,8 +53,13 @@ fn call(name: &str, inputs: &Inputs, answer: &mut Answer) {
         "params" => params::call(name, inputs, answer),
         "apl" => apl::call(name, inputs, answer),
         "gateway" => gateway::call(name, inputs, answer),
+        "loc" => location::call(name, inputs, answer),
         "data" => data::call(name, inputs, answer),
+        "canonical" => canonical::call(name, inputs, answer),
         "class" => class::call(name, inputs, answer),
+        "head" => head::call(name, inputs, answer),
+        "record" => record::call(name, inputs, answer),
+        "zone" => zone::call(name, inputs, answer),
         _ => answer.fail(Failure::NoCall),
     }
 }

@@ -14,8 +14,11 @@ pub fn call(name: &str, inputs: &Inputs, answer: &mut Answer) {
 }
 
 /// The kinds with names, between which there are commas.
-fn fields_of(names: &[u8], answer: &mut Answer) -> Vec<Field> {
+pub fn fields_of(names: &[u8], answer: &mut Answer) -> Vec<Field> {
     let mut fields = Vec::new(answer.alloc());
+    if names.is_empty() {
+        return fields;
+    }
     for name in names.split(|octet| *octet == b',') {
         let field = field_of(name, answer);
         if fields.push(field).is_err() {
@@ -26,7 +29,7 @@ fn fields_of(names: &[u8], answer: &mut Answer) -> Vec<Field> {
 }
 
 /// The tokens of the entry that a text is.
-fn tokens_of<'t>(text: &'t [u8], answer: &mut Answer) -> Vec<EntryToken<'t>> {
+pub fn tokens_of<'t>(text: &'t [u8], answer: &mut Answer) -> Vec<EntryToken<'t>> {
     let mut tokens = Vec::new(answer.alloc());
     let mut entries = EntryTokens::of_octets(text);
     if entries.next_entry(&mut tokens).is_err() {

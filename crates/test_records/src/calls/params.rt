@@ -1,4 +1,5 @@
 //! Service parameters as octets.
+use super::service;
 use super::tell::{Octets, add_comma, number16, tell};
 use dns_lists::{Params, check_params, settle_last};
 use dns_octets::{OctetsBuilder, ShortBuf};
@@ -9,6 +10,8 @@ pub fn call(name: &str, inputs: &Inputs, answer: &mut Answer) {
         "check" => check(inputs.octets(answer), answer),
         "parse" => parse(inputs.octets(answer), answer),
         "settle" => settle(inputs.all(), answer),
+        "read" => service::read(inputs.octets(answer), answer),
+        "print" => service::print(inputs.octets(answer), answer),
         _ => answer.fail(Failure::NoCall),
     }
 }

@@ -1,0 +1,108 @@
+//! The canonical form and order of names, data and records.
+ghost use Rattle.std.specs.Prelude.{IfSome};
+ghost use Rattle.dns_spelling.specs.NameSpelling.{IsWireName};
+
+use super::fields::fields_of;
+use super::tell::{Octets, number16, tell};
+use dns_canonical::{
+    RecordParts, append_canonical_fields, append_lowered, compare_names, compare_octets,
+    compare_records, lowers_names,
+};
+use dns_spelling::name_width;
+use row_table::{Answer, Failure, Inputs};
+use std::cmp::Ordering;
+
+pub fn call(name: &str, inputs: &Inputs, answer: &mut Answer) {
+    match name {
+        "names" => names(inputs.two(answer), answer),
+        "lower" => lower(inputs.octets(answer), answer),
+        "octets" => octets(inputs.two(answer), answer),
+        "data" => data(inputs.two(answer), answer),
+        "lowers" => lowers(inputs.octets(answer), answer),
+        "records" => records(inputs.all(), answer),
+        _ => answer.fail(Failure::NoCall),
+    }
+}
+
+/// What an order is told as.
+fn tell_order(order: Ordering, answer: &mut Answer) {
+    answer.add_text(match order {
+        Ordering::Less => "less",
+        Ordering::Equal => "equal",
+        Ordering::Greater => "greater",
+    });
+}
+
+/// The name that octets are.
+fn name_of(octets: &[u8]) -> Option<&[u8]>
+    ensures { IfSome result (λ name. IsWireName name.now) }
+{
+    let width = name_width(octets)?;
+    if width < octets.len() {
+        return None;
+    }
+    Some(&octets[..width])
+}
+
+/// The order of two names.
+fn names((left, right): (&[u8], &[u8]), answer: &mut Answer) {
+    let Some(left) = name_of(left) else {
+        return answer.fail(Failure::BadInputs);
+    };
+    let Some(right) = name_of(right) else {
+        return answer.fail(Failure::BadInputs);
+    };
+    tell_order(compare_names(left, right), answer);
+}
+
+/// Octets in lower case.
+fn lower(octets: &[u8], answer: &mut Answer) {
+    let mut target: Octets = Vec::new(answer.heap());
+    let made = append_lowered(octets, &mut target);
+    tell(made, target.as_slice(), answer);
+}
+
+/// The order of data of one type.
+fn octets((left, right): (&[u8], &[u8]), answer: &mut Answer) {
+    tell_order(compare_octets(left, right), answer);
+}
+
+/// The canonical form of data that begins with fields, which are named with commas between.
+fn data((kinds, octets): (&[u8], &[u8]), answer: &mut Answer) {
+    let fields = fields_of(kinds, answer);
+    let mut target: Octets = Vec::new(answer.heap());
+    let made = append_canonical_fields(fields.as_slice(), octets, &mut target);
+    tell(made, target.as_slice(), answer);
+}
+
+/// Whether the names in data of a type are lowered.
+fn lowers(digits: &[u8], answer: &mut Answer) {
+    let code = number16(digits, answer);
+    answer.add_text(if lowers_names(code) { "yes" } else { "no" });
+}
+
+/// The order of two records, each an owner, a class, a type and data.
+fn records(inputs: &[Vec<u8>], answer: &mut Answer) {
+    let [a, b, c, d, e, f, g, h] = inputs else {
+        return answer.fail(Failure::BadInputs);
+    };
+    let Some(left_owner) = name_of(a.as_slice()) else {
+        return answer.fail(Failure::BadInputs);
+    };
+    let Some(right_owner) = name_of(e.as_slice()) else {
+        return answer.fail(Failure::BadInputs);
+    };
+    let left = RecordParts {
+        owner: left_owner,
+        class: number16(b.as_slice(), answer),
+        record_type: number16(c.as_slice(), answer),
+        data: d.as_slice(),
+    };
+    let right = RecordParts {
+        owner: right_owner,
+        class: number16(f.as_slice(), answer),
+        record_type: number16(g.as_slice(), answer),
+        data: h.as_slice(),
+    };
+    tell_order(compare_records(&left, &right), answer);
+}

@@ -1,0 +1,139 @@
+//! Heads of entries: what the tokens of an entry are.
+use super::tell::Octets;
+use dns_fields::{TokenList, TokenSource};
+use dns_heads::{
+    Directive, HeadRefusal, take_default_ttl, take_directive, take_end, take_file, take_words,
+};
+use dns_split::entry_tokens::{EntryToken, EntryTokens};
+use row_table::{Answer, Failure, Inputs};
+
+pub fn call(name: &str, inputs: &Inputs, answer: &mut Answer) {
+    match name {
+        "read" => read(inputs.octets(answer), answer),
+        _ => answer.fail(Failure::NoCall),
+    }
+}
+
+/// A number, or `none`.
+fn tell_said(said: Option<usize>, answer: &mut Answer) {
+    match said {
+        Some(number) => answer.add_number(number),
+        None => answer.add_text("none"),
+    }
+}
+
+/// The text of a token, or `none`.
+fn tell_token(token: Option<EntryToken<'_>>, answer: &mut Answer) {
+    match token {
+        Some(token) => answer.add(token.text),
+        None => answer.add_text("none"),
+    }
+}
+
+/// A time to live and a class.
+fn tell_head(ttl: Option<u32>, class: Option<u16>, answer: &mut Answer) {
+    answer.add_text("|");
+    match ttl {
+        Some(ttl) => tell_said(usize::try_from(ttl).ok(), answer),
+        None => tell_said(None, answer),
+    }
+    answer.add_text("|");
+    match class {
+        Some(class) => tell_said(Some(usize::from(class)), answer),
+        None => tell_said(None, answer),
+    }
+}
+
+/// Why a token is refused, and its place.
+fn tell_refusal(refusal: &HeadRefusal, answer: &mut Answer) {
+    answer.refuse(&refusal.why);
+    answer.add_text("|");
+    answer.add_number(refusal.at);
+}
+
+/// A record: its owner, time to live, class and type, and where its data begins.
+fn record(owner: Option<EntryToken<'_>>, source: &mut TokenList<'_>, answer: &mut Answer) {
+    match take_words(source) {
+        Ok(words) => {
+            tell_token(owner, answer);
+            tell_head(words.ttl, words.class, answer);
+            answer.add_text("|");
+            answer.add_number(usize::from(words.code));
+            answer.add_text("|");
+            answer.add_number(source.place());
+        }
+        Err(refusal) => {
+            answer.refuse(&refusal.why);
+            answer.add_text("|");
+            answer.add_number(refusal.at);
+            tell_head(refusal.ttl, refusal.class, answer);
+        }
+    }
+}
+
+/// `$TTL`, and the seconds.
+fn default_ttl(source: &mut TokenList<'_>, answer: &mut Answer) {
+    match take_default_ttl(source) {
+        Ok(ttl) => {
+            answer.add_text("ttl ");
+            tell_said(usize::try_from(ttl).ok(), answer);
+        }
+        Err(refusal) => tell_refusal(&refusal, answer),
+    }
+}
+
+/// `$ORIGIN`, and the token of its name.
+fn origin(name: Option<EntryToken<'_>>, source: &mut TokenList<'_>, answer: &mut Answer) {
+    if name.is_some() {
+        source.advance();
+    }
+    match take_end(source) {
+        Ok(()) => {
+            answer.add_text("origin ");
+            tell_token(name, answer);
+        }
+        Err(refusal) => tell_refusal(&refusal, answer),
+    }
+}
+
+/// `$INCLUDE`, its file, and the token of an origin.
+fn include(origin: Option<EntryToken<'_>>, source: &mut TokenList<'_>, answer: &mut Answer) {
+    let mut file: Octets = Vec::new(answer.heap());
+    if let Err(refusal) = take_file(source, &mut file) {
+        return tell_refusal(&refusal, answer);
+    }
+    if origin.is_some() {
+        source.advance();
+    }
+    match take_end(source) {
+        Ok(()) => {
+            answer.add_text("include ");
+            answer.add(file.as_slice());
+            answer.add_text("|");
+            tell_token(origin, answer);
+        }
+        Err(refusal) => tell_refusal(&refusal, answer),
+    }
+}
+
+/// What the tokens of an entry are, with bars between.
+fn read(text: &[u8], answer: &mut Answer) {
+    let mut tokens = Vec::new(answer.alloc());
+    let mut entries = EntryTokens::of_octets(text);
+    let Ok(Some(end)) = entries.next_entry(&mut tokens) else {
+        return answer.fail(Failure::BadInputs);
+    };
+    let tokens = tokens.as_slice();
+    let mut source = TokenList::new(tokens, text.len());
+    match take_directive(end.begins_blank, &mut source) {
+        Ok(Some(Directive::Origin)) => origin(tokens.get(1).copied(), &mut source, answer),
+        Ok(Some(Directive::Ttl)) => default_ttl(&mut source, answer),
+        Ok(Some(Directive::Include)) => include(tokens.get(2).copied(), &mut source, answer),
+        Ok(None) if end.begins_blank => record(None, &mut source, answer),
+        Ok(None) => {
+            source.advance();
+            record(tokens.first().copied(), &mut source, answer);
+        }
+        Err(refusal) => tell_refusal(&refusal, answer),
+    }
+}

@@ -1,0 +1,88 @@
+//! Locations.
+use super::fields::tokens_of;
+use super::tell::Octets;
+use dns_fields::TokenList;
+use dns_octets::OctetsBuilder;
+use dns_places::{LocationRefusal, LocationWord, is_location, location_words, take_location};
+use dns_split::entry_tokens::EntryToken;
+use row_table::{Answer, Failure, Inputs};
+use std::fmt;
+
+pub fn call(name: &str, inputs: &Inputs, answer: &mut Answer) {
+    match name {
+        "octets" => octets(inputs.octets(answer), answer),
+        "print" => print(inputs.octets(answer), answer),
+        _ => answer.fail(Failure::NoCall),
+    }
+}
+
+/// Appends the octets of the location that tokens spell.
+fn take<B: OctetsBuilder>(
+    tokens: &[EntryToken<'_>],
+    end: usize,
+    target: &mut B,
+) -> Result<(), LocationRefusal> {
+    let mut source = TokenList::new(tokens, end);
+    take_location(&mut source, target)
+}
+
+/// The octets of the location that a text spells; or why it spells none, a bar, and the place.
+fn octets(text: &[u8], answer: &mut Answer) {
+    let tokens = tokens_of(text, answer);
+    let mut target: Octets = Vec::new(answer.heap());
+    match take(tokens.as_slice(), text.len(), &mut target) {
+        Ok(()) => answer.add(target.as_slice()),
+        Err(refusal) => {
+            answer.refuse(&refusal.why);
+            answer.add_text("|");
+            answer.add_number(refusal.at);
+        }
+    }
+}
+
+/// The words of a location, with blanks between.
+#[derive(Drop)]
+struct Shown<'a>(&'a [LocationWord]);
+
+impl fmt::Display for Shown<'_> {
+    fn fmt<W: fmt::Write>(&self, f: &mut fmt::Formatter<W>) -> fmt::Result {
+        let mut is_first = true;
+        for word in self.0 {
+            f.write_str(if is_first { "" } else { " " })?;
+            write!(f, "{word}")?;
+            is_first = false;
+        }
+        Ok(())
+    }
+}
+
+/// Whether a text spells the location of octets.
+fn spells(text: &[u8], octets: &[u8], answer: &mut Answer) -> bool {
+    let tokens = tokens_of(text, answer);
+    let mut target: Vec<u8> = Vec::new(answer.alloc());
+    let made = take(tokens.as_slice(), text.len(), &mut target);
+    made.is_ok() && target.as_slice() == octets
+}
+
+/// The text of the words of a location, which spells it again.
+fn tell_words(words: &[LocationWord], octets: &[u8], answer: &mut Answer) {
+    let shown = Shown(words);
+    answer.add_shown(&shown);
+    match shown.to_string(answer.alloc()) {
+        Ok(text) => {
+            let is_spelled = spells(text.as_bytes(), octets, answer);
+            answer.hold(is_spelled);
+        }
+        Err(_) => answer.hold(false),
+    }
+}
+
+/// The text of the location that octets are, or `none`.
+fn print(octets: &[u8], answer: &mut Answer) {
+    let words = location_words(octets);
+    answer.hold(is_location(octets) == words.is_some());
+    match words {
+        Some(words) => tell_words(words.as_slice(), octets, answer),
+        None => answer.add_text("none"),
+    }
+}

@@ -1,0 +1,165 @@
+//! Records, and their data as values.
+use super::tell::{Octets, number16};
+use dns_data::{DataError, TypeRefusal};
+use dns_fields::{FieldError, TokenList};
+use dns_kinds::RecordType;
+use dns_resource::{Data, Record, data_of_tokens};
+use dns_split::entry_tokens::{EntryToken, EntryTokens};
+use dns_wire::Name;
+use dns_zone::zonefile_fmt::{DisplayKind, ZonefileFmt};
+use row_table::input::number_of;
+use row_table::{Answer, Failure, Inputs};
+use std::cmp::Ordering;
+
+/// The origin of all rows: `example.`.
+const ORIGIN: &[u8] = b"\x07example\x00";
+
+pub fn call(name: &str, inputs: &Inputs, answer: &mut Answer) {
+    match name {
+        "print" => print(inputs.all(), answer),
+        "canonical" => canonical(inputs.all(), answer),
+        "compare" => compare(inputs.all(), answer),
+        "wire" => wire(inputs.two(answer), answer),
+        "part" => part(inputs.all(), answer),
+        _ => answer.fail(Failure::NoCall),
+    }
+}
+
+/// Says of a refusal that it is one, or that memory was lacking.
+fn tell_refused(refusal: TypeRefusal, answer: &mut Answer) {
+    match refusal.why {
+        DataError::Field(FieldError::ShortBuf) => answer.refuse(&refusal.why),
+        _ => answer.refuse_text("refused"),
+    }
+}
+
+/// The code of the type that a text names.
+fn code_of(text: &[u8], answer: &mut Answer) -> u16 {
+    match RecordType::from_text(text) {
+        Ok(named) => named.0,
+        Err(_) => {
+            answer.fail(Failure::BadInputs);
+            0
+        }
+    }
+}
+
+/// The data that a text spells.
+fn data_of<'a>(kind: &[u8], text: &[u8], answer: &mut Answer<'a>) -> Option<Data<Octets<'a>>> {
+    let code = code_of(kind, answer);
+    let mut tokens: Vec<EntryToken<'_>> = Vec::new(answer.alloc());
+    let mut entries = EntryTokens::of_octets(text);
+    if entries.next_entry(&mut tokens).is_err() {
+        answer.fail(Failure::BadInputs);
+        return None;
+    }
+    let origin = Name::from_octets(ORIGIN).ok();
+    let mut source = TokenList::new(tokens.as_slice(), text.len());
+    match data_of_tokens::<_, _, Octets<'a>>(answer.heap(), code, origin.as_ref(), &mut source) {
+        Ok(data) => Some(data),
+        Err(refusal) => {
+            tell_refused(refusal, answer);
+            None
+        }
+    }
+}
+
+/// The record of an owner, a time to live, a class, a type and the text of its data.
+fn record_of<'r, 'a>(
+    fields: &'r [Vec<u8>],
+    answer: &mut Answer<'a>,
+) -> Option<Record<&'r [u8], Octets<'a>>> {
+    let [owner, ttl, class, kind, text] = fields else {
+        answer.fail(Failure::BadInputs);
+        return None;
+    };
+    let Ok(owner) = Name::from_octets(owner.as_slice()) else {
+        answer.fail(Failure::BadInputs);
+        return None;
+    };
+    let ttl = u32::try_from(number_of(ttl.as_slice()).unwrap_or(0)).unwrap_or(0);
+    let class = number16(class.as_slice(), answer);
+    let data = data_of(kind.as_slice(), text.as_slice(), answer)?;
+    Some(Record {
+        owner,
+        ttl,
+        class,
+        data,
+    })
+}
+
+/// The text of a record in a layout.
+fn print(inputs: &[Vec<u8>], answer: &mut Answer) {
+    let [layout, fields @ ..] = inputs else {
+        return answer.fail(Failure::BadInputs);
+    };
+    let Some(record) = record_of(fields, answer) else {
+        return;
+    };
+    match layout.as_slice() {
+        b"simple" => answer.add_shown(&record.display_zonefile(DisplayKind::Simple)),
+        b"tabbed" => answer.add_shown(&record.display_zonefile(DisplayKind::Tabbed)),
+        b"multiline" => answer.add_shown(&record.display_zonefile(DisplayKind::Multiline)),
+        _ => answer.fail(Failure::BadInputs),
+    }
+}
+
+/// The octets of a record in canonical form.
+fn canonical(inputs: &[Vec<u8>], answer: &mut Answer) {
+    let Some(record) = record_of(inputs, answer) else {
+        return;
+    };
+    let mut target: Octets = Vec::new(answer.heap());
+    match record.append_canonical(&mut target) {
+        Ok(()) => answer.add(target.as_slice()),
+        Err(error) => answer.refuse(&error),
+    }
+}
+
+/// The order of two records.
+fn compare(inputs: &[Vec<u8>], answer: &mut Answer) {
+    if inputs.len() != 10 {
+        return answer.fail(Failure::BadInputs);
+    }
+    let Some(left) = record_of(&inputs[..5], answer) else {
+        return;
+    };
+    let Some(right) = record_of(&inputs[5..], answer) else {
+        return;
+    };
+    answer.add_text(match left.compare(&right) {
+        Ordering::Less => "less",
+        Ordering::Equal => "equal",
+        Ordering::Greater => "greater",
+    });
+}
+
+/// Octets as data of a type, and back.
+fn wire((kind, octets): (&[u8], &[u8]), answer: &mut Answer) {
+    let code = code_of(kind, answer);
+    match Data::from_octets(code, octets) {
+        Ok(data) => {
+            let mut target: Octets = Vec::new(answer.heap());
+            match data.compose(&mut target) {
+                Ok(()) => answer.add(target.as_slice()),
+                Err(error) => answer.refuse(&error),
+            }
+        }
+        Err(error) => answer.refuse(&error),
+    }
+}
+
+/// The octets of a field of data, or `none`.
+fn part(inputs: &[Vec<u8>], answer: &mut Answer) {
+    let [kind, text, place] = inputs else {
+        return answer.fail(Failure::BadInputs);
+    };
+    let place = number_of(place.as_slice()).unwrap_or(0);
+    let Some(data) = data_of(kind.as_slice(), text.as_slice(), answer) else {
+        return;
+    };
+    match data.part(place) {
+        Some(octets) => answer.add(octets),
+        None => answer.add_text("none"),
+    }
+}

@@ -1,0 +1,78 @@
+//! Service parameters as tokens.
+use super::tell::Octets;
+use dns_fields::TokenList;
+use dns_lists::Params;
+use dns_octets::{AsOctetsMut, OctetsBuilder};
+use dns_params::{ParamRefusal, ParamText, take_params};
+use dns_split::entry_tokens::{EntryToken, EntryTokens};
+use row_table::Answer;
+use std::fmt;
+
+/// Appends the octets of the parameters that tokens spell.
+fn take<B: OctetsBuilder + AsOctetsMut>(
+    tokens: &[EntryToken<'_>],
+    end: usize,
+    target: &mut B,
+) -> Result<(), ParamRefusal> {
+    let mut source = TokenList::new(tokens, end);
+    take_params(&mut source, target)
+}
+
+/// The octets of the parameters that a text spells, or why it is no zone text or spells none.
+pub fn read(text: &[u8], answer: &mut Answer) {
+    let mut tokens: Vec<EntryToken<'_>> = Vec::new(answer.alloc());
+    let mut entries = EntryTokens::of_octets(text);
+    if let Err(error) = entries.next_entry(&mut tokens) {
+        return answer.refuse(&error);
+    }
+    let mut target: Octets = Vec::new(answer.heap());
+    match take(tokens.as_slice(), text.len(), &mut target) {
+        Ok(()) => answer.add(target.as_slice()),
+        Err(refusal) => answer.refuse(&refusal.why),
+    }
+}
+
+/// Octets, whose parameters print with blanks between.
+#[derive(Drop)]
+struct Shown<'a>(&'a [u8]);
+
+impl fmt::Display for Shown<'_> {
+    fn fmt<W: fmt::Write>(&self, f: &mut fmt::Formatter<W>) -> fmt::Result {
+        let mut is_first = true;
+        for param in Params::new(self.0) {
+            let text = ParamText {
+                key: param.key,
+                value: param.value,
+            };
+            f.write_str(if is_first { "" } else { " " })?;
+            write!(f, "{text}")?;
+            is_first = false;
+        }
+        Ok(())
+    }
+}
+
+/// Whether a text spells the parameters of octets.
+fn spells(text: &[u8], octets: &[u8], answer: &Answer) -> bool {
+    let mut tokens: Vec<EntryToken<'_>> = Vec::new(answer.alloc());
+    let mut entries = EntryTokens::of_octets(text);
+    if entries.next_entry(&mut tokens).is_err() {
+        return false;
+    }
+    let mut target: Vec<u8> = Vec::new(answer.alloc());
+    let made = take(tokens.as_slice(), text.len(), &mut target);
+    made.is_ok() && target.as_slice() == octets
+}
+
+/// The text of parameters, which spells them again.
+pub fn print(octets: &[u8], answer: &mut Answer) {
+    let shown = Shown(octets);
+    answer.add_shown(&shown);
+    match shown.to_string(answer.alloc()) {
+        Ok(text) => {
+            let is_spelled = spells(text.as_bytes(), octets, answer);
+            answer.hold(is_spelled);
+        }
+        Err(_) => answer.hold(false),
+    }
+}
