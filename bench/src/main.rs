@@ -6,6 +6,7 @@
 
 mod chart;
 mod codecs;
+mod data;
 mod documents;
 mod heap;
 mod measure;
@@ -39,6 +40,7 @@ fn main() {
     splitting::add(&mut rows);
     documents::add(&mut rows);
     records::add(&mut rows);
+    data::add(&mut rows);
     let has = |option: &str| options.iter().any(|it| it == option);
     if has("--markdown") {
         print!("{}", table::markdown(&rows.found));

@@ -1,0 +1,58 @@
+//! The tokens of entries, as one would find them by hand.
+use crate::splitting::token_end;
+
+/// A word, or what stands between double quotes.
+#[derive(Clone, Copy)]
+pub struct Token<'t> {
+    pub text: &'t str,
+    pub quoted: bool,
+}
+
+/// Puts the tokens of the entry that begins at a place into a list. Returns where the next begins.
+pub fn entry<'t>(text: &'t str, start: usize, tokens: &mut Vec<Token<'t>>) -> Option<usize> {
+    let octets = text.as_bytes();
+    tokens.clear();
+    let (mut at, mut depth) = (start, 0usize);
+    while let Some(octet) = octets.get(at) {
+        match octet {
+            b'\n' if depth == 0 => return Some(at + 1),
+            b' ' | b'\t' | b'\n' => at += 1,
+            b'\r' if octets.get(at + 1) == Some(&b'\n') => at += 1,
+            b'\r' => return None,
+            b'(' => {
+                depth += 1;
+                at += 1;
+            }
+            b')' => {
+                depth = depth.checked_sub(1)?;
+                at += 1;
+            }
+            b';' => {
+                let rest = &octets[at..];
+                let end = rest.iter().position(|o| matches!(o, b'\n' | b'\r'));
+                at += end.unwrap_or(rest.len());
+            }
+            b'"' => {
+                let end = token_end(octets, at + 1, |o| matches!(o, b'"' | b'\n' | b'\r'))?;
+                if octets.get(end) != Some(&b'"') {
+                    return None;
+                }
+                let text = &text[at + 1..end];
+                tokens.push(Token { text, quoted: true });
+                at = end + 1;
+            }
+            _ => {
+                let end = token_end(octets, at, |o| {
+                    matches!(o, b' ' | b'\t' | b'\n' | b'\r' | b'(' | b')' | b';' | b'"')
+                })?;
+                let text = &text[at..end];
+                tokens.push(Token {
+                    text,
+                    quoted: false,
+                });
+                at = end;
+            }
+        }
+    }
+    (depth == 0).then_some(at)
+}
