@@ -40,7 +40,7 @@ fn read_generic<S: TokenSource, B: OctetsBuilder>(
     target: &mut B,
 ) -> Result<(), TypeRefusal>
     requires { BeginsGeneric (S.left source.old) }
-    ensures reads { ReadsGeneric (option_copied row.entry) B.room (S.end source.old) (S.left source.old) (B.octets target.old) result (S.left source.new) (B.octets target.new) }
+    ensures reads { ReadsGeneric (option_copied row.entry) B.room (S.end source.old).at (S.left source.old) (B.octets target.old) result (S.left source.new) (B.octets target.new) }
     ensures end { S.end source.new ≡ S.end source.old }
 {
     let at = source.place();
@@ -70,7 +70,7 @@ pub fn read_type<S: TokenSource, Octets: AsOctets, B: OctetsBuilder + AsOctetsMu
     source: &mut S,
     target: &mut B,
 ) -> Result<(), TypeRefusal>
-    ensures reads { ReadsType (option_copied origin.entry) B.room code (S.end source.old) (S.left source.old) (B.octets target.old) result (S.left source.new) (B.octets target.new) }
+    ensures reads { ReadsType (option_copied origin.entry) B.room code (S.end source.old).at (S.left source.old) (B.octets target.old) result (S.left source.new) (B.octets target.new) }
     ensures end { S.end source.new ≡ S.end source.old }
 {
     let at = source.place();
@@ -110,7 +110,7 @@ pub fn data_of_type<
     source: &mut S,
 ) -> Result<B::Octets, TypeRefusal>
     ensures ok { IfOk result (λ octets. (S.left source.new ≡ []) × SpellsTypeData (option_copied origin.entry) code (S.left source.old) (B.Octets.octets octets) × (length (B.Octets.octets octets) ≤ max_data)) }
-    ensures err { IfErr result (λ refusal. (new : List ℕ) × RefusesType (option_copied origin.entry) (within max_data B.room) code (S.end source.old) (S.left source.old) [] refusal (S.left source.new) new) }
+    ensures err { IfErr result (λ refusal. (new : List ℕ) × RefusesType (option_copied origin.entry) (within max_data B.room) code (S.end source.old).at (S.left source.old) [] refusal (S.left source.new) new) }
     ensures end { S.end source.new ≡ S.end source.old }
 {
     let mut target = DataBuilder::<B>::new(alloc);

@@ -18,7 +18,7 @@ fn push_next<S: TokenSource, B: OctetsBuilder>(
     source: &mut S,
     target: &mut B,
 ) -> Result<(), DataRefusal>
-    ensures pushes { PushesNext B.room reader.old (S.end source.old) (S.left source.old) (B.octets target.old) result reader.new (S.left source.new) (B.octets target.new) }
+    ensures pushes { PushesNext B.room reader.old (S.end source.old).at (S.left source.old) (B.octets target.old) result reader.new (S.left source.new) (B.octets target.new) }
     ensures end { S.end source.new ≡ S.end source.old }
 {
     let at = source.place();
@@ -45,7 +45,7 @@ pub fn take_digits<S: TokenSource, B: OctetsBuilder>(
     source: &mut S,
     target: &mut B,
 ) -> Result<(), DataRefusal>
-    ensures takes { TakesRest B.room (digits_form kind) (S.end source.old) (S.left source.old) (B.octets target.old) result (S.left source.new) (B.octets target.new) }
+    ensures takes { TakesRest B.room (digits_form kind) (S.end source.old).at (S.left source.old) (B.octets target.old) result (S.left source.new) (B.octets target.new) }
     ensures end { S.end source.new ≡ S.end source.old }
 {
     let mut reader = DigitsReader::new(kind);

@@ -29,7 +29,7 @@ fn take_one<S: TokenSource, Octets: AsOctets, B: OctetsBuilder>(
     source: &mut S,
     target: &mut B,
 ) -> Result<(), DataRefusal>
-    ensures takes { TakesTokenAs B.room (SpellsField (option_copied origin.entry) field) (FieldReason (option_copied origin.entry) field) (S.end source.old) (S.left source.old) (B.octets target.old) result (S.left source.new) (B.octets target.new) }
+    ensures takes { TakesTokenAs B.room (SpellsField (option_copied origin.entry) field) (FieldReason (option_copied origin.entry) field) (S.end source.old).at (S.left source.old) (B.octets target.old) result (S.left source.new) (B.octets target.new) }
     ensures end { S.end source.new ≡ S.end source.old }
 {
     match take_field(field, origin, source, target) {
@@ -63,7 +63,7 @@ fn take_gateway_type<S: TokenSource, B: OctetsBuilder>(
     source: &mut S,
     target: &mut B,
 ) -> Result<u8, DataRefusal>
-    ensures takes { TakesGatewayType B.room (S.end source.old) (S.left source.old) (B.octets target.old) result (S.left source.new) (B.octets target.new) }
+    ensures takes { TakesGatewayType B.room (S.end source.old).at (S.left source.old) (B.octets target.old) result (S.left source.new) (B.octets target.new) }
     ensures end { S.end source.new ≡ S.end source.old }
 {
     let at = source.place();
@@ -89,7 +89,7 @@ fn take_address<S: TokenSource, B: OctetsBuilder>(
     source: &mut S,
     target: &mut B,
 ) -> Result<(), DataRefusal>
-    ensures takes { TakesTokenAs B.room (SpellsAddress number) AddressReason (S.end source.old) (S.left source.old) (B.octets target.old) result (S.left source.new) (B.octets target.new) }
+    ensures takes { TakesTokenAs B.room (SpellsAddress number) AddressReason (S.end source.old).at (S.left source.old) (B.octets target.old) result (S.left source.new) (B.octets target.new) }
     ensures end { S.end source.new ≡ S.end source.old }
 {
     let at = source.place();
@@ -123,7 +123,7 @@ fn take_gateway<S: TokenSource, Octets: AsOctets, B: OctetsBuilder>(
     source: &mut S,
     target: &mut B,
 ) -> Result<(), DataRefusal>
-    ensures takes { TakesTokenAs B.room (gateway_form (option_copied origin.entry) number).spells (gateway_form (option_copied origin.entry) number).reason (S.end source.old) (S.left source.old) (B.octets target.old) result (S.left source.new) (B.octets target.new) }
+    ensures takes { TakesTokenAs B.room (gateway_form (option_copied origin.entry) number).spells (gateway_form (option_copied origin.entry) number).reason (S.end source.old).at (S.left source.old) (B.octets target.old) result (S.left source.new) (B.octets target.new) }
     ensures end { S.end source.new ≡ S.end source.old }
 {
     if number == NAME {
@@ -142,7 +142,7 @@ pub fn take_gateway_key<S: TokenSource, Octets: AsOctets, B: OctetsBuilder>(
     source: &mut S,
     target: &mut B,
 ) -> Result<(), DataRefusal>
-    ensures takes { TakesRest B.room (gateway_key_form (option_copied origin.entry)) (S.end source.old) (S.left source.old) (B.octets target.old) result (S.left source.new) (B.octets target.new) }
+    ensures takes { TakesRest B.room (gateway_key_form (option_copied origin.entry)) (S.end source.old).at (S.left source.old) (B.octets target.old) result (S.left source.new) (B.octets target.new) }
     ensures end { S.end source.new ≡ S.end source.old }
 {
     let number = take_gateway_type(source, target)?;

@@ -21,7 +21,7 @@ pub fn begins_generic<S: TokenSource>(source: &S) -> bool
 
 /// Takes the word that comes next as a number of 16 bits.
 fn take_count<S: TokenSource>(source: &mut S) -> Result<u16, DataRefusal>
-    ensures takes { TakesCount (S.end source.old) (S.left source.old) result (S.left source.new) }
+    ensures takes { TakesCount (S.end source.old).at (S.left source.old) result (S.left source.new) }
     ensures end { S.end source.new ≡ S.end source.old }
 {
     let at = source.place();
@@ -52,7 +52,7 @@ pub fn take_generic<S: TokenSource, B: OctetsBuilder>(
     target: &mut B,
 ) -> Result<(), DataRefusal>
     requires { BeginsGeneric (S.left source.old) }
-    ensures takes { TakesRest B.room generic_form (S.end source.old) (S.left source.old) (B.octets target.old) result (S.left source.new) (B.octets target.new) }
+    ensures takes { TakesRest B.room generic_form (S.end source.old).at (S.left source.old) (B.octets target.old) result (S.left source.new) (B.octets target.new) }
     ensures end { S.end source.new ≡ S.end source.old }
 {
     source.advance();

@@ -54,7 +54,7 @@ fn want_more<S: TokenSource, B: OctetsBuilder>(
     source: &S,
     target: &B,
 ) -> Result<(), DataRefusal>
-    ensures { WantsMore length (S.end source.now) (S.left source.now) (B.octets target.now) result }
+    ensures { WantsMore length (S.end source.now).at (S.left source.now) (B.octets target.now) result }
 {
     if target.as_slice().len() == length {
         let at = source.place();
@@ -70,7 +70,7 @@ fn take_strings<S: TokenSource, Octets: AsOctets, B: OctetsBuilder>(
     source: &mut S,
     target: &mut B,
 ) -> Result<(), DataRefusal>
-    ensures takes { TakesRest B.room (strings_form (option_copied origin.entry)) (S.end source.old) (S.left source.old) (B.octets target.old) result (S.left source.new) (B.octets target.new) }
+    ensures takes { TakesRest B.room (strings_form (option_copied origin.entry)) (S.end source.old).at (S.left source.old) (B.octets target.old) result (S.left source.new) (B.octets target.new) }
     ensures end { S.end source.new ≡ S.end source.old }
 {
     match take_each(Field::String, origin, source, target) {
@@ -91,7 +91,7 @@ fn take_some_strings<S: TokenSource, Octets: AsOctets, B: OctetsBuilder>(
     source: &mut S,
     target: &mut B,
 ) -> Result<(), DataRefusal>
-    ensures takes { TakesRest B.room (some_form (strings_form (option_copied origin.entry))) (S.end source.old) (S.left source.old) (B.octets target.old) result (S.left source.new) (B.octets target.new) }
+    ensures takes { TakesRest B.room (some_form (strings_form (option_copied origin.entry))) (S.end source.old).at (S.left source.old) (B.octets target.old) result (S.left source.new) (B.octets target.new) }
     ensures end { S.end source.new ≡ S.end source.old }
 {
     let length = target.as_slice().len();
@@ -105,7 +105,7 @@ pub(crate) fn take_some_digits<S: TokenSource, B: OctetsBuilder>(
     source: &mut S,
     target: &mut B,
 ) -> Result<(), DataRefusal>
-    ensures takes { TakesRest B.room (some_form (digits_form kind)) (S.end source.old) (S.left source.old) (B.octets target.old) result (S.left source.new) (B.octets target.new) }
+    ensures takes { TakesRest B.room (some_form (digits_form kind)) (S.end source.old).at (S.left source.old) (B.octets target.old) result (S.left source.new) (B.octets target.new) }
     ensures end { S.end source.new ≡ S.end source.old }
 {
     let length = target.as_slice().len();
@@ -118,7 +118,7 @@ fn take_some_types<S: TokenSource, B: OctetsBuilder>(
     source: &mut S,
     target: &mut B,
 ) -> Result<(), DataRefusal>
-    ensures takes { TakesRest B.room (some_form types_form) (S.end source.old) (S.left source.old) (B.octets target.old) result (S.left source.new) (B.octets target.new) }
+    ensures takes { TakesRest B.room (some_form types_form) (S.end source.old).at (S.left source.old) (B.octets target.old) result (S.left source.new) (B.octets target.new) }
     ensures end { S.end source.new ≡ S.end source.old }
 {
     let length = target.as_slice().len();
@@ -133,7 +133,7 @@ pub fn take_rest<S: TokenSource, Octets: AsOctets, B: OctetsBuilder + AsOctetsMu
     source: &mut S,
     target: &mut B,
 ) -> Result<(), DataRefusal>
-    ensures takes { TakesRest B.room (rest_form (option_copied origin.entry) rest) (S.end source.old) (S.left source.old) (B.octets target.old) result (S.left source.new) (B.octets target.new) }
+    ensures takes { TakesRest B.room (rest_form (option_copied origin.entry) rest) (S.end source.old).at (S.left source.old) (B.octets target.old) result (S.left source.new) (B.octets target.new) }
     ensures end { S.end source.new ≡ S.end source.old }
 {
     match rest {

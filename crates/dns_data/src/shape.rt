@@ -79,7 +79,7 @@ pub fn read_data<S: TokenSource, Octets: AsOctets, B: OctetsBuilder + AsOctetsMu
     source: &mut S,
     target: &mut B,
 ) -> Result<(), PartRefusal>
-    ensures reads { ReadsData (option_copied origin.entry) B.room shape.now (S.end source.old) (S.left source.old) (B.octets target.old) result (S.left source.new) (B.octets target.new) }
+    ensures reads { ReadsData (option_copied origin.entry) B.room shape.now (S.end source.old).at (S.left source.old) (B.octets target.old) result (S.left source.new) (B.octets target.new) }
     ensures end { S.end source.new ≡ S.end source.old }
 {
     let begun = target.as_slice().len();

@@ -10,7 +10,7 @@ use dns_spelling::append_spelled;
 
 /// Sees that no token is left.
 pub fn take_nothing<S: TokenSource>(source: &mut S) -> Result<(), DataRefusal>
-    ensures takes { TakesNoToken (S.end source.old) (S.left source.old) result (S.left source.new) }
+    ensures takes { TakesNoToken (S.end source.old).at (S.left source.old) result (S.left source.new) }
     ensures end { S.end source.new ≡ S.end source.old }
 {
     if source.current().is_some() {
@@ -26,7 +26,7 @@ pub(crate) fn take_no_token<S: TokenSource, B: OctetsBuilder>(
     source: &mut S,
     _target: &mut B,
 ) -> Result<(), DataRefusal>
-    ensures takes { TakesRest B.room nothing_form (S.end source.old) (S.left source.old) (B.octets _target.old) result (S.left source.new) (B.octets _target.new) }
+    ensures takes { TakesRest B.room nothing_form (S.end source.old).at (S.left source.old) (B.octets _target.old) result (S.left source.new) (B.octets _target.new) }
     ensures end { S.end source.new ≡ S.end source.old }
 {
     take_nothing(source)
@@ -40,7 +40,7 @@ pub fn take_text<S: TokenSource, B: OctetsBuilder>(
     source: &mut S,
     target: &mut B,
 ) -> Result<(), DataRefusal>
-    ensures takes { TakesRest B.room (text_form wants_quotes) (S.end source.old) (S.left source.old) (B.octets target.old) result (S.left source.new) (B.octets target.new) }
+    ensures takes { TakesRest B.room (text_form wants_quotes) (S.end source.old).at (S.left source.old) (B.octets target.old) result (S.left source.new) (B.octets target.new) }
     ensures end { S.end source.new ≡ S.end source.old }
 {
     let at = source.place();

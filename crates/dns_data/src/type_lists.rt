@@ -11,7 +11,7 @@ use dns_octets::OctetsBuilder;
 
 /// Adds the type that the next word names to a set, and takes the word.
 fn insert_next<S: TokenSource>(types: &mut TypeSet, source: &mut S) -> Result<(), DataRefusal>
-    ensures inserts { InsertsNext types.old (S.end source.old) (S.left source.old) result types.new (S.left source.new) }
+    ensures inserts { InsertsNext types.old (S.end source.old).at (S.left source.old) result types.new (S.left source.new) }
     ensures end { S.end source.new ≡ S.end source.old }
 {
     let at = source.place();
@@ -45,7 +45,7 @@ pub fn take_types<S: TokenSource, B: OctetsBuilder>(
     source: &mut S,
     target: &mut B,
 ) -> Result<(), DataRefusal>
-    ensures takes { TakesRest B.room types_form (S.end source.old) (S.left source.old) (B.octets target.old) result (S.left source.new) (B.octets target.new) }
+    ensures takes { TakesRest B.room types_form (S.end source.old).at (S.left source.old) (B.octets target.old) result (S.left source.new) (B.octets target.new) }
     ensures end { S.end source.new ≡ S.end source.old }
 {
     let mut types = TypeSet::new();

@@ -1,7 +1,7 @@
 //! Where the tokens of an entry come from.
-ghost use Rattle.std.specs.Prelude.{◌≡◌, ℕ, List, option_map, slice_get, drop};
+ghost use Rattle.std.specs.Prelude.{◌≡◌, List, option_map, slice_get, drop};
 ghost use Rattle.dns_split.specs.EntryTokens.{TokenSeen, token_seen};
-ghost use Rattle.dns_fields.specs.Source.{next_place};
+ghost use Rattle.dns_fields.specs.Source.{EntryEnd, next_place};
 
 use dns_split::entry_tokens::EntryToken;
 
@@ -12,8 +12,8 @@ pub trait TokenSource {
     // The tokens that are left.
     ghost left: { Self → List TokenSeen };
 
-    // Where the entry ends.
-    ghost end: { Self → ℕ };
+    // Where the entry ends, and what its text has behind the tokens.
+    ghost end: { Self → EntryEnd };
 
     /// The token that comes next, if one is left.
     fn current(&self) -> Option<EntryToken<'_>>
@@ -21,7 +21,7 @@ pub trait TokenSource {
 
     /// The place of the token that comes next, or of the entry's end.
     fn place(&self) -> usize
-        ensures { result ≡ next_place (left self.now) (end self.now) };
+        ensures { result ≡ next_place (left self.now) (end self.now).at };
 
     /// Takes the token that comes next.
     fn advance(&mut self)
@@ -43,7 +43,7 @@ impl<'t> TokenList<'t> {
     /// The tokens of an entry that ends at a place.
     pub fn new(tokens: &'t [EntryToken<'t>], end: usize) -> TokenList<'t>
         ensures left { listed result ≡ map token_seen tokens.now }
-        ensures end { listed_end result ≡ end }
+        ensures end { (listed_end result).at ≡ end }
     {
         TokenList { tokens, end }
     }

@@ -31,7 +31,7 @@ pub fn take_field<S: TokenSource, Octets: AsOctets, B: OctetsBuilder>(
     source: &mut S,
     target: &mut B,
 ) -> Result<(), Refusal>
-    ensures takes { TakesField (option_copied origin.entry) B.room field (S.end source.old) (S.left source.old) (B.octets target.old) result (S.left source.new) (B.octets target.new) }
+    ensures takes { TakesField (option_copied origin.entry) B.room field (S.end source.old).at (S.left source.old) (B.octets target.old) result (S.left source.new) (B.octets target.new) }
     ensures end { S.end source.new ≡ S.end source.old }
 {
     let at = source.place();
@@ -54,7 +54,7 @@ pub fn take_fields<S: TokenSource, Octets: AsOctets, B: OctetsBuilder>(
     source: &mut S,
     target: &mut B,
 ) -> Result<(), FieldRefusal>
-    ensures takes { TakesAllFields (option_copied origin.entry) B.room fields.now (S.end source.old) (S.left source.old) (B.octets target.old) result (S.left source.new) (B.octets target.new) }
+    ensures takes { TakesAllFields (option_copied origin.entry) B.room fields.now (S.end source.old).at (S.left source.old) (B.octets target.old) result (S.left source.new) (B.octets target.new) }
     ensures end { S.end source.new ≡ S.end source.old }
 {
     for (place, field) in fields.iter().enumerate() {
@@ -76,7 +76,7 @@ pub fn take_each<S: TokenSource, Octets: AsOctets, B: OctetsBuilder>(
     source: &mut S,
     target: &mut B,
 ) -> Result<(), Refusal>
-    ensures takes { TakesEachAs (option_copied origin.entry) B.room field (S.end source.old) (S.left source.old) (B.octets target.old) result (S.left source.new) (B.octets target.new) }
+    ensures takes { TakesEachAs (option_copied origin.entry) B.room field (S.end source.old).at (S.left source.old) (B.octets target.old) result (S.left source.new) (B.octets target.new) }
     ensures left { OnErr result (S.left source.new ≢ []) }
     ensures end { S.end source.new ≡ S.end source.old }
 {

@@ -35,7 +35,7 @@ fn ttl_refusal(token: &EntryToken<'_>) -> HeadError
 
 /// Takes the next token as a time to live.
 fn take_ttl_argument<S: TokenSource>(source: &mut S) -> Result<u32, HeadRefusal>
-    ensures takes { TakesTtl (S.end source.old) (S.left source.old) result (S.left source.new) }
+    ensures takes { TakesTtl (S.end source.old).at (S.left source.old) result (S.left source.new) }
     ensures end { S.end source.new ≡ S.end source.old }
 {
     let at = source.place();
@@ -56,7 +56,7 @@ fn take_ttl_argument<S: TokenSource>(source: &mut S) -> Result<u32, HeadRefusal>
 ///
 /// A token that is no time to live is refused, and left. So is one behind it.
 pub fn take_default_ttl<S: TokenSource>(source: &mut S) -> Result<u32, HeadRefusal>
-    ensures takes { TakesDefaultTtl (S.end source.old) (S.left source.old) result (S.left source.new) }
+    ensures takes { TakesDefaultTtl (S.end source.old).at (S.left source.old) result (S.left source.new) }
     ensures end { S.end source.new ≡ S.end source.old }
 {
     let ttl = take_ttl_argument(source)?;
@@ -72,7 +72,7 @@ pub fn take_file<S: TokenSource, B: OctetsBuilder>(
     source: &mut S,
     target: &mut B,
 ) -> Result<(), HeadRefusal>
-    ensures takes { TakesFile B.room (S.end source.old) (S.left source.old) (B.octets target.old) result (S.left source.new) (B.octets target.new) }
+    ensures takes { TakesFile B.room (S.end source.old).at (S.left source.old) (B.octets target.old) result (S.left source.new) (B.octets target.new) }
     ensures end { S.end source.new ≡ S.end source.old }
 {
     let at = source.place();

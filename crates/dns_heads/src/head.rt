@@ -95,7 +95,7 @@ fn type_refusal(may_be_ttl: bool, token: &EntryToken<'_>) -> HeadError
 
 /// Takes the next token as a type.
 fn take_type<S: TokenSource>(may_be_ttl: bool, source: &mut S) -> Result<u16, HeadRefusal>
-    ensures takes { TakesType may_be_ttl (S.end source.old) (S.left source.old) result (S.left source.new) }
+    ensures takes { TakesType may_be_ttl (S.end source.old).at (S.left source.old) result (S.left source.new) }
     ensures end { S.end source.new ≡ S.end source.old }
 {
     let at = source.place();
@@ -118,7 +118,7 @@ fn take_type<S: TokenSource>(may_be_ttl: bool, source: &mut S) -> Result<u16, He
 /// text; a word that begins with a digit, as no time to live where none was said before it; and any
 /// other word as an unknown type, so also a second time to live. The refused token is left.
 pub fn take_words<S: TokenSource>(source: &mut S) -> Result<Words, WordsRefusal>
-    ensures takes { TakesWords (S.end source.old) (S.left source.old) result (S.left source.new) }
+    ensures takes { TakesWords (S.end source.old).at (S.left source.old) result (S.left source.new) }
     ensures end { S.end source.new ≡ S.end source.old }
 {
     let head = take_head(source);

@@ -198,7 +198,7 @@ pub fn take_params<S: TokenSource, B: OctetsBuilder + AsOctetsMut>(
 ) -> Result<(), ParamRefusal>
     ensures ok { OnOk result (Gains (SpellsParams (S.left source.old)) (B.octets target.old) (B.octets target.new)) }
     ensures taken { OnOk result (S.left source.new ≡ []) }
-    ensures err { IfErr result (λ r. RefusesParams B.room (S.end source.old) (S.left source.old) (B.octets target.old) r (S.left source.new)) }
+    ensures err { IfErr result (λ r. RefusesParams B.room (S.end source.old).at (S.left source.old) (B.octets target.old) r (S.left source.new)) }
     ensures extends { OnErr result (Extends (B.octets target.old) (B.octets target.new)) }
     ensures end { S.end source.new ≡ S.end source.old }
 {

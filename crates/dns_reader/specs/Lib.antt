@@ -7,6 +7,7 @@ pub mod Past
 pub mod PastLaws
 pub mod ReadingLaws
 pub mod ReadingRows
+pub mod Records
 pub mod Rows
 pub mod Source
 pub mod SourceRows

@@ -7,6 +7,7 @@ use Rattle.dns_split.specs.declared.pieces.EndOfEntry.{EndOfEntry}
 use Rattle.dns_split.specs.declared.pieces.Fault.{Fault}
 use Rattle.dns_split.specs.declared.entry_tokens.EntryPart.{EntryPart}
 use Rattle.dns_split.specs.EntryTokens.{EndIs, IsOpen, IsSeenFrom, PartSeen, TokenIs, TokenSeen, answer_seen}
+use Rattle.dns_fields.specs.Source.{EntryEnd}
 use Rattle.dns_reader.specs.declared.source.StartOfEntry.{StartOfEntry}
 
 -- where the open entry began, or the next one begins; whether one is open; and what is left of the text
@@ -46,7 +47,7 @@ end_first at (Ok (EndIs e) ∷ parts) = e.at
 end_first at (Err f ∷ parts) = f.at
 end_first at _ = at
 
--- the tokens that are left of the open entry, and where it ends, or the fault stands that cuts it off
+-- the tokens that are left of the open entry
 abbrev pub entry_left : SourceSeen → List TokenSeen
 entry_left s = if s.is_open then tokens_first s.parts else []
 
@@ -54,8 +55,9 @@ entry_left s = if s.is_open then tokens_first s.parts else []
 abbrev pub behind_left : SourceSeen → List (Result PartSeen Fault)
 behind_left s = if s.is_open then behind_tokens s.parts else s.parts
 
-abbrev pub entry_end : SourceSeen → ℕ
-entry_end s = if s.is_open then end_first s.began (behind_tokens s.parts) else s.began
+-- where it ends, or the fault stands that cuts it off, and what the text has from there on; where none is open, where the last one ended
+abbrev pub entry_end : SourceSeen → EntryEnd
+entry_end s = if s.is_open then record { at = end_first s.began (behind_tokens s.parts); behind = Some (behind_tokens s.parts) } else record { at = s.began; behind = None }
 
 abbrev pub BeginsToken : List (Result PartSeen Fault) → Type 0
 BeginsToken (Ok (TokenIs t b) ∷ parts) = ⊤

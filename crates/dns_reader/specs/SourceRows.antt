@@ -60,7 +60,7 @@ first_begins = record { ends = []; passed = refl; began = refl; start = (refl, r
 first_is_left : entry_left (source 0 true all_entries) ≡ word (codes "a") 0 ∷ word (codes "b") 2 ∷ []
 first_is_left = refl
 
-first_ends : entry_end (source 0 true all_entries) ≡ 4
+first_ends : entry_end (source 0 true all_entries) ≡ record { at = 4; behind = Some (Ok (EndIs (end 4 false)) ∷ later_entries) }
 first_ends = refl
 
 first_is_finished : FinishesEntry (source 0 true all_entries) (Ok (Some (end 4 false))) (source 4 false later_entries)
@@ -79,7 +79,7 @@ cut_off = Ok (TokenIs (word (codes "a") 0) false) ∷ Err (record { at = 2; wron
 cut_is_left : entry_left (source 0 true cut_off) ≡ word (codes "a") 0 ∷ []
 cut_is_left = refl
 
-cut_ends : entry_end (source 0 true cut_off) ≡ 2
+cut_ends : entry_end (source 0 true cut_off) ≡ record { at = 2; behind = Some (Err (record { at = 2; wrong = Closing }) ∷ []) }
 cut_ends = refl
 
 cut_is_refused : FinishesEntry (source 0 true cut_off) (Err (record { at = 2; wrong = Closing })) (source 0 true (Err (record { at = 2; wrong = Closing }) ∷ []))

@@ -52,7 +52,7 @@ fn pass_name<S: TokenSource>(
     origin: Option<&NameBuffer>,
     source: &mut S,
 ) -> Result<NameBuffer, EntryRefusal>
-    ensures passes { PassesName (option_copied origin.entry) (S.end source.old) (S.left source.old) result (S.left source.new) }
+    ensures passes { PassesName (option_copied origin.entry) (S.end source.old).at (S.left source.old) result (S.left source.new) }
     ensures end { S.end source.new ≡ S.end source.old }
 {
     match take_name(origin, source) {
@@ -69,7 +69,7 @@ fn take_last_name<S: TokenSource>(
     origin: Option<&NameBuffer>,
     source: &mut S,
 ) -> Result<NameBuffer, EntryRefusal>
-    ensures takes { TakesLastName (option_copied origin.entry) (S.end source.old) (S.left source.old) result }
+    ensures takes { TakesLastName (option_copied origin.entry) (S.end source.old).at (S.left source.old) result }
     ensures end { S.end source.new ≡ S.end source.old }
 {
     let at = source.place();
@@ -86,7 +86,7 @@ fn take_last_name<S: TokenSource>(
 
 /// Reads what stands behind `$ORIGIN`. Where it is refused there is no origin.
 fn read_origin<S: TokenSource>(state: &mut State, source: &mut S) -> Result<EntryRead, EntryRefusal>
-    ensures reads { ReadsLastOrigin (known_name state.old.origin) (S.end source.old) (S.left source.old) result }
+    ensures reads { ReadsLastOrigin (known_name state.old.origin) (S.end source.old).at (S.left source.old) result }
     ensures learns { Learns (SaysOrigin (only_token (S.left source.old)) ∷ []) state.old state.new }
     ensures end { S.end source.new ≡ S.end source.old }
 {
@@ -107,7 +107,7 @@ fn read_default_ttl<S: TokenSource>(
     state: &mut State,
     source: &mut S,
 ) -> Result<EntryRead, EntryRefusal>
-    ensures reads { ReadsDefaultTtl (S.end source.old) (S.left source.old) state.old result state.new }
+    ensures reads { ReadsDefaultTtl (S.end source.old).at (S.left source.old) state.old result state.new }
     ensures end { S.end source.new ≡ S.end source.old }
 {
     match take_default_ttl(source) {
@@ -124,7 +124,7 @@ fn pass_file<S: TokenSource, B: OctetsBuilder>(
     source: &mut S,
     target: &mut B,
 ) -> Result<(), EntryRefusal>
-    ensures passes { PassesFile B.room (S.end source.old) (S.left source.old) (B.octets target.old) result (S.left source.new) (B.octets target.new) }
+    ensures passes { PassesFile B.room (S.end source.old).at (S.left source.old) (B.octets target.old) result (S.left source.new) (B.octets target.new) }
     ensures end { S.end source.new ≡ S.end source.old }
 {
     match take_file(source, target) {
@@ -141,7 +141,7 @@ fn take_included_origin<S: TokenSource>(
     origin: Option<&NameBuffer>,
     source: &mut S,
 ) -> Result<Option<NameBuffer>, EntryRefusal>
-    ensures takes { TakesIncludedOrigin (option_copied origin.entry) (S.end source.old) (S.left source.old) result }
+    ensures takes { TakesIncludedOrigin (option_copied origin.entry) (S.end source.old).at (S.left source.old) result }
     ensures end { S.end source.new ≡ S.end source.old }
 {
     if source.current().is_none() {
@@ -160,7 +160,7 @@ fn read_include<S: TokenSource, B: OctetsBuilder>(
     source: &mut S,
     target: &mut B,
 ) -> Result<EntryRead, EntryRefusal>
-    ensures reads { ReadsLastInclude (known_name state.now.origin) B.room (S.end source.old) (S.left source.old) (B.octets target.old) result (B.octets target.new) }
+    ensures reads { ReadsLastInclude (known_name state.now.origin) B.room (S.end source.old).at (S.left source.old) (B.octets target.old) result (B.octets target.new) }
     ensures end { S.end source.new ≡ S.end source.old }
 {
     let file = pass_file(source, target);
@@ -180,7 +180,7 @@ fn read_directive<S: TokenSource, B: OctetsBuilder>(
     source: &mut S,
     target: &mut B,
 ) -> Result<EntryRead, EntryRefusal>
-    ensures reads { ReadsDirective directive B.room (S.end source.old) (S.left source.old) state.old (B.octets target.old) result state.new (B.octets target.new) }
+    ensures reads { ReadsDirective directive B.room (S.end source.old).at (S.left source.old) state.old (B.octets target.old) result state.new (B.octets target.new) }
     ensures end { S.end source.new ≡ S.end source.old }
 {
     match directive {
@@ -202,7 +202,7 @@ fn known_owner(state: &State, at: usize) -> Result<(), EntryRefusal>
 
 /// Takes the owner that a record says. Where it is refused, it is known as such.
 fn pass_owner<S: TokenSource>(state: &mut State, source: &mut S) -> Result<(), EntryRefusal>
-    ensures reads { S.left source.old ≢ [] → ReadsOwner state.old (next_place (S.left source.old) (S.end source.old)) (owner_token false (S.left source.old)) result state.new.owner }
+    ensures reads { S.left source.old ≢ [] → ReadsOwner state.old (next_place (S.left source.old) (S.end source.old).at) (owner_token false (S.left source.old)) result state.new.owner }
     ensures left { S.left source.new ≡ tokens_behind_owner false (S.left source.old) }
     ensures state { state.new ≡ record state.old { owner = state.new.owner } }
     ensures learns { S.left source.old ≢ [] → Learns (owner_of_record (owner_token false (S.left source.old))) state.old state.new }
@@ -226,7 +226,7 @@ fn find_owner<S: TokenSource>(
     begins_blank: bool,
     source: &mut S,
 ) -> Result<(), EntryRefusal>
-    ensures reads { S.left source.old ≢ [] → ReadsOwner state.old (next_place (S.left source.old) (S.end source.old)) (owner_token begins_blank (S.left source.old)) result state.new.owner }
+    ensures reads { S.left source.old ≢ [] → ReadsOwner state.old (next_place (S.left source.old) (S.end source.old).at) (owner_token begins_blank (S.left source.old)) result state.new.owner }
     ensures left { S.left source.new ≡ tokens_behind_owner begins_blank (S.left source.old) }
     ensures state { state.new ≡ record state.old { owner = state.new.owner } }
     ensures learns { S.left source.old ≢ [] → Learns (owner_of_record (owner_token begins_blank (S.left source.old))) state.old state.new }
@@ -327,7 +327,7 @@ fn read_record_data<S: TokenSource, B: OctetsBuilder + AsOctetsMut>(
     source: &mut S,
     target: &mut B,
 ) -> Result<EntryRead, EntryRefusal>
-    ensures reads { ReadsRecordData state.old B.room at (S.end source.old) words (S.left source.old) (B.octets target.old) result (B.octets target.new) }
+    ensures reads { ReadsRecordData state.old B.room at (S.end source.old).at words (S.left source.old) (B.octets target.old) result (B.octets target.new) }
     ensures extends { Extends (B.octets target.old) (B.octets target.new) }
     ensures owner { state.new.owner ≡ state.old.owner }
     ensures learns { Learns (minimum_of_record result) state.old state.new }
@@ -352,7 +352,7 @@ fn read_behind<S: TokenSource, B: OctetsBuilder + AsOctetsMut>(
     source: &mut S,
     target: &mut B,
 ) -> Result<EntryRead, EntryRefusal>
-    ensures reads { ReadsWords state.old B.room at (S.end source.old) owner words (S.left source.old) (B.octets target.old) result (B.octets target.new) }
+    ensures reads { ReadsWords state.old B.room at (S.end source.old).at owner words (S.left source.old) (B.octets target.old) result (B.octets target.new) }
     ensures extends { Extends (B.octets target.old) (B.octets target.new) }
     ensures owner { state.new.owner ≡ state.old.owner }
     ensures learns { Learns (minimum_of_record result) state.old state.new }
@@ -374,7 +374,7 @@ fn read_record<S: TokenSource, B: OctetsBuilder + AsOctetsMut>(
     source: &mut S,
     target: &mut B,
 ) -> Result<EntryRead, EntryRefusal>
-    ensures reads { S.left source.old ≢ [] → ReadsRecordTokens B.room begins_blank (S.end source.old) (S.left source.old) state.old (B.octets target.old) result state.new (B.octets target.new) }
+    ensures reads { S.left source.old ≢ [] → ReadsRecordTokens B.room begins_blank (S.end source.old).at (S.left source.old) state.old (B.octets target.old) result state.new (B.octets target.new) }
     ensures end { S.end source.new ≡ S.end source.old }
 {
     let at = source.place();
@@ -401,7 +401,7 @@ pub fn read_entry<S: TokenSource, B: OctetsBuilder + AsOctetsMut>(
     source: &mut S,
     target: &mut B,
 ) -> Result<EntryRead, EntryRefusal>
-    ensures reads { ReadsZoneEntry B.room begins_blank (S.end source.old) (S.left source.old) state.old (B.octets target.old) result state.new (B.octets target.new) }
+    ensures reads { ReadsZoneEntry B.room begins_blank (S.end source.old).at (S.left source.old) state.old (B.octets target.old) result state.new (B.octets target.new) }
     ensures end { S.end source.new ≡ S.end source.old }
 {
     if source.current().is_none() {

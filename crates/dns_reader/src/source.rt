@@ -1,5 +1,5 @@
 //! The entries of zone text, each read token by token, without memory.
-ghost use Rattle.std.specs.Prelude.{◌≡◌, ◌≤◌, ◌∷◌, [], List, Result, Ok, Err, Some, drop, length, map};
+ghost use Rattle.std.specs.Prelude.{◌≡◌, ◌≤◌, ◌∷◌, [], List, Result, Ok, Err, Some, drop, true, length, map};
 ghost use Rattle.std.specs.Io.BufRead.{drop_through};
 ghost use Rattle.dns_symbol.specs.Characters.{line_feed};
 ghost use Rattle.dns_split.specs.EntryTokens.{EndIs, GivesEntry, IsSeen, PartSeen, token_seen};
@@ -8,7 +8,7 @@ ghost use Rattle.dns_split.specs.declared.entry_tokens.NextEntryError.TheVariant
 ghost use Rattle.dns_split.specs.declared.pieces.EndOfEntry.{EndOfEntry};
 ghost use Rattle.dns_split.specs.declared.pieces.Fault.{Fault};
 ghost use Rattle.dns_reader.specs.Source.{BeginsEntry, FinishesEntry, behind_left, behind_tokens};
-ghost use Rattle.dns_reader.specs.Source.{StartsBehindLine, tokens_first};
+ghost use Rattle.dns_reader.specs.Source.{SourceSeen, StartsBehindLine, entry_end, tokens_first};
 
 use dns_fields::TokenSource;
 use dns_split::entry_tokens::{EntryPart, EntryToken, EntryTokens};
@@ -137,7 +137,7 @@ impl<'t> EntrySource<'t> {
 }
 
 impl<'t> TokenSource for EntrySource<'t> {
-    ghost use Rattle.dns_reader.specs.Source.{entry_end, entry_left};
+    ghost use Rattle.dns_reader.specs.Source.{entry_left};
 
     ghost left = { entry_left };
 
@@ -171,6 +171,15 @@ impl<'t> TokenSource for EntrySource<'t> {
         }
     }
 }
+
+/// What keeps an entry's end, as each reader of a [`TokenSource`] does, keeps what the text has
+/// behind the tokens of the entry that is open.
+///
+/// The contract is the law; calling it does nothing.
+pub fn the_rest_is_kept()
+    ensures { (old new : SourceSeen) → entry_end new ≡ entry_end old → old.is_open ≡ true
+        → (new.is_open ≡ true) × (behind_left new ≡ behind_left old) }
+{}
 
 /// What is read of an entry, or before a fault, is what [`EntryTokens::next_entry`] gives of it.
 ///

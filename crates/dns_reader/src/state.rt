@@ -39,7 +39,7 @@ pub(crate) fn take_name<S: TokenSource>(
     origin: Option<&NameBuffer>,
     source: &mut S,
 ) -> Result<NameBuffer, Refusal>
-    ensures takes { TakesName (option_copied origin.entry) (S.end source.old) (S.left source.old) result (S.left source.new) }
+    ensures takes { TakesName (option_copied origin.entry) (S.end source.old).at (S.left source.old) result (S.left source.new) }
     ensures end { S.end source.new ≡ S.end source.old }
 {
     let mut octets: ArrayVec<u8, MAX_NAME> = ArrayVec::new();
@@ -97,7 +97,7 @@ impl State {
     /// [`Known::Refused`] stands then, a caller knows that this is nothing new. Tokens behind the
     /// name are left; a caller that refuses them goes on with [`refuse_origin`](State::refuse_origin).
     pub fn take_origin<S: TokenSource>(&mut self, source: &mut S) -> Result<(), Refusal>
-        ensures takes { TakesKnown (known_name self.old.origin) (S.end source.old) (S.left source.old) result (S.left source.new) self.new.origin }
+        ensures takes { TakesKnown (known_name self.old.origin) (S.end source.old).at (S.left source.old) result (S.left source.new) self.new.origin }
         ensures learns { Learns (SaysOrigin (slice_get (S.left source.old) 0) ∷ []) self.old self.new }
         ensures end { S.end source.new ≡ S.end source.old }
     {
@@ -127,7 +127,7 @@ impl State {
     /// A relative name stands before the origin. After an error the token is left, and
     /// [`owner`](State::owner) is refused until another is said.
     pub fn take_owner<S: TokenSource>(&mut self, source: &mut S) -> Result<(), Refusal>
-        ensures takes { TakesKnown (known_name self.old.origin) (S.end source.old) (S.left source.old) result (S.left source.new) self.new.owner }
+        ensures takes { TakesKnown (known_name self.old.origin) (S.end source.old).at (S.left source.old) result (S.left source.new) self.new.owner }
         ensures learns { Learns (SaysOwner (slice_get (S.left source.old) 0) ∷ []) self.old self.new }
         ensures end { S.end source.new ≡ S.end source.old }
     {

@@ -36,7 +36,7 @@ where
     B: OctetsBuilder + AsOctetsMut + EmptyBuilder + FreezeBuilder + Drop,
     B::Octets: Drop,
     ensures ok { IfOk result (λ d. (d.code ≡ code) × (S.left source.new ≡ []) × SpellsTypeData (option_copied origin.entry) code (S.left source.old) d.octets) }
-    ensures err { HoldOctets (S.left source.old) → IfErr result (λ refusal. (new : List ℕ) × RefusesType (option_copied origin.entry) (within max_data B.room) code (S.end source.old) (S.left source.old) [] refusal (S.left source.new) new) }
+    ensures err { HoldOctets (S.left source.old) → IfErr result (λ refusal. (new : List ℕ) × RefusesType (option_copied origin.entry) (within max_data B.room) code (S.end source.old).at (S.left source.old) [] refusal (S.left source.new) new) }
     ensures end { S.end source.new ≡ S.end source.old }
 {
     know_origin(origin);

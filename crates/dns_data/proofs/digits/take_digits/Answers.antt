@@ -16,7 +16,7 @@ pub returns-in-Err-clause-takes : goal.returns-in-Err-clause-takes
 returns-in-Err-clause-takes g c =
     let j = c.loop-reader.invariant.joined in
     let some = some_left c.current.result (g.S.TokenSource.left c.loop-reader.source) c.current.ensures (sym c.is_some.ensures ∙ c.loop-reader-test.true) in
-    push_refused c.args.kind j.0 c.loop-reader.reader j.1 j.2 _ _ _ _ j.3 g.B.OctetsBuilder.room _ _ _ _ c.in-Err.refusal c.loop-reader.invariant.end some c.in-Err.ensures.pushes
+    push_refused c.args.kind j.0 c.loop-reader.reader j.1 j.2 _ _ _ _ j.3 g.B.OctetsBuilder.room _ _ _ _ c.in-Err.refusal (ap (λ e. e.at) c.loop-reader.invariant.end) some c.in-Err.ensures.pushes
 
 pub loop-reader-preserved : goal.loop-reader-preserved
 loop-reader-preserved g c =
@@ -30,7 +30,7 @@ pub returns-in-Err-finish-clause-takes : goal.returns-in-Err-finish-clause-takes
 returns-in-Err-finish-clause-takes g c =
     let j = c.loop-reader.invariant.joined in
     let none = none_left c.current.result (g.S.TokenSource.left c.loop-reader.source) c.current.ensures (sym c.is_some.ensures ∙ c.loop-reader-test.false) in
-    rw c.from-why.ensures (ends_within c.args.kind j.0 c.loop-reader.reader j.1 j.2 _ _ _ _ j.3 g.B.OctetsBuilder.room _ _ c.place-at.result c.in-Err-finish.error c.loop-reader.invariant.end none c.place-at.ensures
+    rw c.from-why.ensures (ends_within c.args.kind j.0 c.loop-reader.reader j.1 j.2 _ _ _ _ j.3 g.B.OctetsBuilder.room _ _ c.place-at.result c.in-Err-finish.error (ap (λ e. e.at) c.loop-reader.invariant.end) none c.place-at.ensures
     c.in-Err-finish.ensures.begun.1 c.in-Err-finish.ensures.whole)
 
 pub returns-clause-takes : goal.returns-clause-takes

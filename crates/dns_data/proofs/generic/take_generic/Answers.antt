@@ -7,5 +7,5 @@ returns-then-gained-from-clause-takes g c =
     let octets = g.B.AsOctets.octets in
     let before : length c.as_slice-begun.result.now ≡ length (octets c.args.target.now) = ap length c.as_slice-begun.ensures.value in
     let after : length c.as_slice.result.now ≡ length (octets c.take_digits.new.target) = ap length c.as_slice.ensures.value in
-    wrong_count g.B.OctetsBuilder.room _ _ c.place-at.result c.in_ok-count.count _ _ _ _ _ _ c.requires c.advance.ensures.left (c.take_digits.ensures.end ∙ c.take_count.ensures.end ∙ c.advance.ensures.end) c.place-at.ensures
+    wrong_count g.B.OctetsBuilder.room _ _ c.place-at.result c.in_ok-count.count _ _ _ _ _ _ c.requires c.advance.ensures.left (ap (λ e. e.at) (c.take_digits.ensures.end ∙ c.take_count.ensures.end ∙ c.advance.ensures.end)) c.place-at.ensures
     c.in_ok-count.ensures.takes c.in_ok-take_digits.ensures.takes (λ same. c.if-gained-from.true (ap (λ n. n - length c.as_slice-begun.result.now) after ∙ ap (λ n. length (octets c.take_digits.new.target) - n) before ∙ same ∙ sym c.from.ensures))

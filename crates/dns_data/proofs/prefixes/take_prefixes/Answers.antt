@@ -1,4 +1,4 @@
-use Rattle.std.proofs.Common.{refl, ◌∙◌, sym}
+use Rattle.std.proofs.Common.{refl, ◌∙◌, sym, ap}
 use Rattle.dns_fields.proofs.Tokens.{none_left}
 use Rattle.dns_data.specs.PrefixLists.{prefix_form}
 use Rattle.dns_data.proofs.PrefixListLaws.{prefix_once}
@@ -18,7 +18,7 @@ loop-source-preserved g c = record {
 pub returns-in-Err-clause-takes : goal.returns-in-Err-clause-takes
 returns-in-Err-clause-takes g c =
     let some = some_left c.current.result (g.S.TokenSource.left c.loop-source.source) c.current.ensures (sym c.is_some.ensures ∙ c.loop-source-test.true) in
-    each_refused prefix_form prefix_once g.B.OctetsBuilder.room _ _ _ _ _ _ _ _ c.in-Err.refusal c.loop-source.invariant.taken c.loop-source.invariant.end some c.in-Err.ensures.takes
+    each_refused prefix_form prefix_once g.B.OctetsBuilder.room _ _ _ _ _ _ _ _ c.in-Err.refusal c.loop-source.invariant.taken (ap (λ e. e.at) c.loop-source.invariant.end) some c.in-Err.ensures.takes
 
 pub returns-clause-takes : goal.returns-clause-takes
 returns-clause-takes g c =

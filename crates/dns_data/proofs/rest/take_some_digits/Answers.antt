@@ -6,5 +6,5 @@ use Rattle.dns_data.proofs.rest.take_some_digits.Goals as goal
 
 pub returns-clause-takes : goal.returns-clause-takes
 returns-clause-takes g c =
-    some_taken (digits_form c.args.kind) g.B.OctetsBuilder.room _ _ _ c.want_more.result _ _ _ _ (joined_once c.args.kind _) c.take_digits.ensures.end (ap length c.as_slice-length.ensures.value) c.in_ok-take_digits.ensures.takes
+    some_taken (digits_form c.args.kind) g.B.OctetsBuilder.room _ _ _ c.want_more.result _ _ _ _ (joined_once c.args.kind _) (ap (λ e. e.at) c.take_digits.ensures.end) (ap length c.as_slice-length.ensures.value) c.in_ok-take_digits.ensures.takes
     c.want_more.ensures

@@ -9,5 +9,5 @@ use Rattle.dns_data.proofs.rest.take_some_strings.Goals as goal
 pub returns-clause-takes : goal.returns-clause-takes
 returns-clause-takes g c =
     let origin = option_copied c.args.origin in
-    some_taken (strings_form origin) g.B.OctetsBuilder.room _ _ _ c.want_more.result _ _ _ _ (λ a b h k. all_once origin _ _ a b h k) c.take_strings.ensures.end (ap length c.as_slice-length.ensures.value) c.in_ok-take_strings.ensures.takes
+    some_taken (strings_form origin) g.B.OctetsBuilder.room _ _ _ c.want_more.result _ _ _ _ (λ a b h k. all_once origin _ _ a b h k) (ap (λ e. e.at) c.take_strings.ensures.end) (ap length c.as_slice-length.ensures.value) c.in_ok-take_strings.ensures.takes
     c.want_more.ensures

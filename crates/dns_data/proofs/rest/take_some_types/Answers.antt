@@ -12,4 +12,4 @@ returns-in_err-take_types-clause-takes g c =
 
 pub returns-clause-takes : goal.returns-clause-takes
 returns-clause-takes g c =
-    some_taken types_form g.B.OctetsBuilder.room _ _ _ c.want_more.result _ _ _ _ (types_once _) c.take_types.ensures.end (ap length c.as_slice-length.ensures.value) c.in_ok-take_types.ensures.takes c.want_more.ensures
+    some_taken types_form g.B.OctetsBuilder.room _ _ _ c.want_more.result _ _ _ _ (types_once _) (ap (λ e. e.at) c.take_types.ensures.end) (ap length c.as_slice-length.ensures.value) c.in_ok-take_types.ensures.takes c.want_more.ensures

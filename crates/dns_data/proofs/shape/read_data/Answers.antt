@@ -9,7 +9,7 @@ returns-in-Err-clause-reads g c = field_refused (option_copied c.args.origin) g.
 
 pub returns-in-Err-take_rest-clause-reads : goal.returns-in-Err-take_rest-clause-reads
 returns-in-Err-take_rest-clause-reads g c =
-    rest_refused (option_copied c.args.origin) g.B.OctetsBuilder.room c.args.shape.now _ _ _ _ _ c.in_default.ensures.takes _ _ c.in-Err-take_rest.refusal _ _ c.take_fields.ensures.end refl c.in-Err-take_rest.ensures.takes
+    rest_refused (option_copied c.args.origin) g.B.OctetsBuilder.room c.args.shape.now _ _ _ _ _ c.in_default.ensures.takes _ _ c.in-Err-take_rest.refusal _ _ (ap (λ e. e.at) c.take_fields.ensures.end) refl c.in-Err-take_rest.ensures.takes
 
 pub returns-then-not-has_length-clause-reads : goal.returns-then-not-has_length-clause-reads
 returns-then-not-has_length-clause-reads g c =
@@ -17,7 +17,7 @@ returns-then-not-has_length-clause-reads g c =
     let shape = c.args.shape.now in
     let begun : ℕ = length c.as_slice-begun.result.now in
     let is = gained_is begun (octets c.args.target.now) (octets c.take_rest.new.target) c.as_slice.result.now (ap length c.as_slice-begun.ensures.value) c.as_slice.ensures.value in
-    length_refused (option_copied c.args.origin) g.B.OctetsBuilder.room shape _ _ _ _ _ c.in_default.ensures.takes _ _ c.place-at.result _ _ c.take_fields.ensures.end refl c.place-at.ensures c.in_default-take_rest.ensures.takes
+    length_refused (option_copied c.args.origin) g.B.OctetsBuilder.room shape _ _ _ _ _ c.in_default.ensures.takes _ _ c.place-at.result _ _ (ap (λ e. e.at) c.take_fields.ensures.end) refl c.place-at.ensures c.in_default-take_rest.ensures.takes
     (λ l. true≢false (sym (c.if-not-has_length.ensures.1 (subst (HasLength shape.length) (sym is) l))))
 
 pub returns-clause-reads : goal.returns-clause-reads
@@ -27,5 +27,5 @@ returns-clause-reads g c =
     let shape = c.args.shape.now in
     let begun : ℕ = length c.as_slice-begun.result.now in
     let is = gained_is begun (octets c.args.target.now) (octets c.take_rest.new.target) c.as_slice.result.now (ap length c.as_slice-begun.ensures.value) c.as_slice.ensures.value in
-    data_taken (option_copied c.args.origin) g.B.OctetsBuilder.room shape (g.S.TokenSource.end c.args.source.now) (left c.args.source.now) (octets c.args.target.now) (left c.take_fields.new.source) (octets c.take_fields.new.target)
+    data_taken (option_copied c.args.origin) g.B.OctetsBuilder.room shape (g.S.TokenSource.end c.args.source.now).at (left c.args.source.now) (octets c.args.target.now) (left c.take_fields.new.source) (octets c.take_fields.new.target)
     c.in_default.ensures.takes (left c.take_rest.new.source) (octets c.take_rest.new.target) c.in_default-take_rest.ensures.takes (subst (HasLength shape.length) is (c.if-not-has_length.ensures.0 refl))

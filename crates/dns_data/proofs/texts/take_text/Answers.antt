@@ -22,5 +22,5 @@ returns-clause-takes g c =
       | else-wants_quotes-via-then-wants_quotes+else-not-token w ↦ w.if-not-token.false
       | else-wants_quotes-via-else-wants_quotes w ↦ absurd (true≢false (sym wants ∙ w.if-wants_quotes.false))
     ] in
-    text_taken c.args.wants_quotes g.B.OctetsBuilder.room _ t _ _ _ (first_taken t (g.S.TokenSource.left c.args.source.now) c.in-Some.ensures) c.take_nothing.result _ _ _ _ c.advance.ensures.end c.advance.ensures.left quotes
+    text_taken c.args.wants_quotes g.B.OctetsBuilder.room _ t _ _ _ (first_taken t (g.S.TokenSource.left c.args.source.now) c.in-Some.ensures) c.take_nothing.result _ _ _ _ (ap (λ e. e.at) c.advance.ensures.end) c.advance.ensures.left quotes
     c.in_default-append_spelled.ensures.ok c.take_nothing.ensures.takes

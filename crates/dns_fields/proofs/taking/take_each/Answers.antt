@@ -1,10 +1,10 @@
-use Rattle.std.proofs.Common.{◌∙◌, sym}
+use Rattle.std.proofs.Common.{◌∙◌, sym, ap}
 use Rattle.dns_fields.proofs.Tokens.{none_left}
 use Rattle.dns_fields.proofs.Takings.{some_more, some_all, some_refused}
 use Rattle.dns_fields.proofs.taking.take_each.Goals as goal
 
 pub returns-in-Err-clause-takes : goal.returns-in-Err-clause-takes
-returns-in-Err-clause-takes g c = some_refused _ c.args.field _ _ g.B.OctetsBuilder.room _ _ _ _ _ _ c.in-Err.refusal c.loop-field.invariant.end c.loop-field.invariant.taken c.in-Err.ensures.takes
+returns-in-Err-clause-takes g c = some_refused _ c.args.field _ _ g.B.OctetsBuilder.room _ _ _ _ _ _ c.in-Err.refusal (ap (λ e. e.at) c.loop-field.invariant.end) c.loop-field.invariant.taken c.in-Err.ensures.takes
 
 pub loop-field-preserved : goal.loop-field-preserved
 loop-field-preserved g c = record {

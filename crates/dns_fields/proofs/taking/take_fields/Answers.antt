@@ -1,4 +1,4 @@
-use Rattle.std.proofs.Common.{refl, ◌∙◌}
+use Rattle.std.proofs.Common.{refl, ◌∙◌, ap}
 use Rattle.dns_fields.proofs.Takings.{none_taken, taken_next, all_taken, refused_at}
 use Rattle.dns_fields.proofs.taking.take_fields.Goals as goal
 
@@ -7,7 +7,7 @@ loop-place-init g c = record { taken = none_taken _ _ _; end = refl }
 
 pub returns-in-Err-clause-takes : goal.returns-in-Err-clause-takes
 returns-in-Err-clause-takes g c =
-    refused_at _ g.B.OctetsBuilder.room c.args.fields.now _ _ _ _ _ _ _ _ _ c.loop-place.place c.in-Err.refusal c.loop-place.invariant.end c.loop-place-test.true c.loop-place.invariant.taken c.in-Err.ensures.takes
+    refused_at _ g.B.OctetsBuilder.room c.args.fields.now _ _ _ _ _ _ _ _ _ c.loop-place.place c.in-Err.refusal (ap (λ e. e.at) c.loop-place.invariant.end) c.loop-place-test.true c.loop-place.invariant.taken c.in-Err.ensures.takes
 
 pub returns-in-Err-clause-end : goal.returns-in-Err-clause-end
 returns-in-Err-clause-end g c = c.take_field.ensures.end ∙ c.loop-place.invariant.end

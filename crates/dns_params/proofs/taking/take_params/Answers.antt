@@ -33,7 +33,7 @@ pub returns-in-Err-clause-err : goal.returns-in-Err-clause-err
 returns-in-Err-clause-err g c =
     let left = g.S.TokenSource.left in let octets = g.B.AsOctets.octets in let i = c.loop-source.invariant in
     let some = some_left c.current.result (left c.loop-source.source) c.current.ensures (sym c.is_some.ensures ∙ c.loop-source-test.true) in (
-      c.place-at.ensures ∙ ap (next_place (left c.take_param.new.source)) (c.take_param.ensures.end ∙ i.end),
+      c.place-at.ensures ∙ ap (λ e. next_place (left c.take_param.new.source) e.at) (c.take_param.ensures.end ∙ i.end),
       next_refused g.B.OctetsBuilder.room (left c.args.source.now) (left c.loop-source.source) (left c.take_param.new.source) (length c.as_slice-start.result.now) (octets c.args.target.now) (octets c.loop-source.target)
           c.in-Err.why i.taken i.start some c.in-Err.ensures.err,
     )
@@ -57,7 +57,7 @@ returns-in-Err-check_params-clause-err g c =
     let old = g.B.AsOctets.octets c.args.target.now in let new = g.B.AsOctets.octets c.loop-source.target in
     let i = c.loop-source.invariant in let left = g.S.TokenSource.left c.loop-source.source in
     let none = none_left c.current.result left c.current.ensures (sym c.is_some.ensures ∙ c.loop-source-test.false) in (
-      c.place-at-in-Err-check_params.ensures ∙ ap (next_place left) i.end,
+      c.place-at-in-Err-check_params.ensures ∙ ap (λ e. next_place left e.at) i.end,
       inr (
         inr (none, (c.in-Err-check_params.fault, refl)),
         none_right (g.S.TokenSource.left c.args.source.now) left old new _ i.taken none

@@ -7,6 +7,6 @@ use Rattle.dns_places.proofs.location.take_location.Goals as goal
 pub returns-in-Err-clause-why : goal.returns-in-Err-clause-why
 returns-in-Err-clause-why g c =
     let h = c.in-Err.ensures.takes in (
-      c.place-in-Err.ensures ∙ ap (next_place (g.S.TokenSource.left c.read_location.new.source)) c.in-Err.ensures.end,
+      c.place-in-Err.ensures ∙ ap (λ e. next_place (g.S.TokenSource.left c.read_location.new.source) e.at) c.in-Err.ensures.end,
       inl (h, first_refused c.in-Err.why _ _ h, λ octets k. refused_none c.in-Err.why _ _ h k.0 k.1),
     )

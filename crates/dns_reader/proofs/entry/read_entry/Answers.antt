@@ -11,7 +11,7 @@ use Rattle.dns_reader.proofs.entry.read_entry.Goals as goal
 pub returns-then-is_none-clause-reads : goal.returns-then-is_none-clause-reads
 returns-then-is_none-clause-reads g c =
     let tokens = g.S.TokenSource.left c.args.source.now in
-    nothing_read g.B.OctetsBuilder.room c.args.begins_blank (g.S.TokenSource.end c.args.source.now) tokens c.args.state.now (g.B.AsOctets.octets c.args.target.now)
+    nothing_read g.B.OctetsBuilder.room c.args.begins_blank (g.S.TokenSource.end c.args.source.now).at tokens c.args.state.now (g.B.AsOctets.octets c.args.target.now)
     (none_left c.current.result tokens c.current.ensures (c.is_none.ensures ∙ ap not c.if-is_none.true))
 
 pub returns-in-Ok-Some-clause-reads : goal.returns-in-Ok-Some-clause-reads
@@ -26,9 +26,9 @@ returns-in-Ok-Some-clause-reads g c =
     let r = c.read_directive.result in
     let after = c.read_directive.new.state in
     let new = octets c.read_directive.new.target in
-    directive_read room c.args.begins_blank (g.S.TokenSource.end c.args.source.now) (left c.args.source.now) state old r after new d behind
-    (subst (λ o. TakesDirective c.args.begins_blank (g.S.TokenSource.end c.args.source.now) (left c.args.source.now) (Ok o) behind) c.in-Ok-Some.field-0-is c.in-Ok-Some.ensures.takes)
-    (subst (λ n. ReadsDirective d room n behind state old r after new) c.take_directive.ensures.end c.read_directive.ensures.reads)
+    directive_read room c.args.begins_blank (g.S.TokenSource.end c.args.source.now).at (left c.args.source.now) state old r after new d behind
+    (subst (λ o. TakesDirective c.args.begins_blank (g.S.TokenSource.end c.args.source.now).at (left c.args.source.now) (Ok o) behind) c.in-Ok-Some.field-0-is c.in-Ok-Some.ensures.takes)
+    (subst (λ n. ReadsDirective d room n behind state old r after new) (ap (λ e. e.at) c.take_directive.ensures.end) c.read_directive.ensures.reads)
 
 pub returns-in-Ok-None-clause-reads : goal.returns-in-Ok-None-clause-reads
 returns-in-Ok-None-clause-reads g c =
@@ -44,17 +44,17 @@ returns-in-Ok-None-clause-reads g c =
     let r = c.read_record.result in
     let after = c.read_record.new.state in
     let new = octets c.read_record.new.target in
-    let takes = subst (λ o. TakesDirective blank (ends c.args.source.now) tokens (Ok o) behind) c.in-Ok-None.field-0-is c.in-Ok-None.ensures.takes in
+    let takes = subst (λ o. TakesDirective blank (ends c.args.source.now).at tokens (Ok o) behind) c.in-Ok-None.field-0-is c.in-Ok-None.ensures.takes in
     let some = some_left c.current.result tokens c.current.ensures (c.is_none.ensures ∙ ap not c.if-is_none.false) in
-    let reads = subst (λ l. l ≢ [] → ReadsRecordTokens room blank (ends c.take_directive.new.source) l state old r after new) takes.0 c.read_record.ensures.reads some in
-    record_read room blank (ends c.args.source.now) tokens state old r after new behind some takes
-    (subst (λ n. ReadsRecordTokens room blank n tokens state old r after new) c.take_directive.ensures.end reads)
+    let reads = subst (λ l. l ≢ [] → ReadsRecordTokens room blank (ends c.take_directive.new.source).at l state old r after new) takes.0 c.read_record.ensures.reads some in
+    record_read room blank (ends c.args.source.now).at tokens state old r after new behind some takes
+    (subst (λ n. ReadsRecordTokens room blank n tokens state old r after new) (ap (λ e. e.at) c.take_directive.ensures.end) reads)
 
 pub returns-in-Err-clause-reads : goal.returns-in-Err-clause-reads
 returns-in-Err-clause-reads g c =
     let left = g.S.TokenSource.left in
     let room = g.B.OctetsBuilder.room in
-    let end = g.S.TokenSource.end c.args.source.now in
+    let end = (g.S.TokenSource.end c.args.source.now).at in
     let tokens = left c.args.source.now in
     let state = c.args.state.now in
     let old = g.B.AsOctets.octets c.args.target.now in

@@ -1,4 +1,4 @@
-use Rattle.std.proofs.Common.{Err, subst}
+use Rattle.std.proofs.Common.{Err, subst, ap}
 use Rattle.std.specs.Option.{option_copied}
 use Rattle.dns_reader.specs.EntrySteps.{ReadsLastInclude, TakesIncludedOrigin}
 use Rattle.dns_reader.proofs.EntrySteps.{include_refused}
@@ -10,7 +10,7 @@ returns-in-Err-clause-reads g c =
     let left = g.S.TokenSource.left in
     let octets = g.B.AsOctets.octets in
     let origin = option_copied c.name.result in
-    let end = ends c.args.source.now in
+    let end = (ends c.args.source.now).at in
     let tokens = left c.args.source.now in
     let behind = left c.pass_file-file.new.source in
     let old = octets c.args.target.now in
@@ -19,4 +19,4 @@ returns-in-Err-clause-reads g c =
     let r = c.in-Err.refusal in
     subst (λ o. ReadsLastInclude o room end tokens old (Err r) new) c.name.ensures
     (include_refused origin end room old tokens behind c.pass_file-file.result r new c.pass_file-file.ensures.passes
-    (subst (λ n. TakesIncludedOrigin origin n behind (Err r)) c.pass_file-file.ensures.end c.in-Err.ensures.takes))
+    (subst (λ n. TakesIncludedOrigin origin n behind (Err r)) (ap (λ e. e.at) c.pass_file-file.ensures.end) c.in-Err.ensures.takes))

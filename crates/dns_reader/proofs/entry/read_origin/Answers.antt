@@ -12,10 +12,10 @@ returns-in-Ok-clause-learns g c =
     let tokens = g.S.TokenSource.left c.args.source.now in
     let known = known_as c.in-Ok.name in
     origin_learned c.args.state.now (only_token tokens) known
-    (subst (λ o. NamedBy o (only_token tokens) known) c.name.ensures (last_named (option_copied c.name.result) (g.S.TokenSource.end c.args.source.now) tokens c.in-Ok.name c.in-Ok.ensures.takes))
+    (subst (λ o. NamedBy o (only_token tokens) known) c.name.ensures (last_named (option_copied c.name.result) (g.S.TokenSource.end c.args.source.now).at tokens c.in-Ok.name c.in-Ok.ensures.takes))
 
 pub returns-in-Err-clause-learns : goal.returns-in-Err-clause-learns
 returns-in-Err-clause-learns g c =
     let tokens = g.S.TokenSource.left c.args.source.now in
     origin_learned c.args.state.now (only_token tokens) Refused
-    (subst (λ o. NamedBy o (only_token tokens) Refused) c.name.ensures (last_refused (option_copied c.name.result) (g.S.TokenSource.end c.args.source.now) tokens c.in-Err.refusal c.in-Err.ensures.takes))
+    (subst (λ o. NamedBy o (only_token tokens) Refused) c.name.ensures (last_refused (option_copied c.name.result) (g.S.TokenSource.end c.args.source.now).at tokens c.in-Err.refusal c.in-Err.ensures.takes))

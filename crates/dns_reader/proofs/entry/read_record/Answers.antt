@@ -1,4 +1,4 @@
-use Rattle.std.proofs.Common.{◌∙◌, subst}
+use Rattle.std.proofs.Common.{◌∙◌, sym, subst, ap}
 use Rattle.dns_heads.specs.Heads.{TakesWords}
 use Rattle.dns_reader.specs.EntryReading.{ReadsWords}
 use Rattle.dns_reader.specs.EntrySteps.{tokens_behind_owner}
@@ -11,15 +11,15 @@ returns-clause-reads g c =
     let left = g.S.TokenSource.left in
     let octets = g.B.AsOctets.octets in
     let room = g.B.OctetsBuilder.room in
-    let end = ends c.args.source.now in
+    let end = (ends c.args.source.now).at in
     let rest = left c.take_words-words.new.source in
     let words = c.take_words-words.result in
     let first = c.find_owner-owner.result in
-    let same = c.take_words-words.ensures.end ∙ c.find_owner-owner.ensures.end in
+    let same = ap (λ e. e.at) (c.take_words-words.ensures.end ∙ c.find_owner-owner.ensures.end) in
     λ some. record_joined c.args.state.now c.find_owner-owner.new.state c.say_own_ttl.new.state c.read_behind.new.state room c.args.begins_blank c.place-at.result end (left c.args.source.now) rest first words c.own_ttl.result
     (octets c.args.target.now) (octets c.read_behind.new.target) c.read_behind.result c.place-at.ensures (c.find_owner-owner.ensures.reads some) c.find_owner-owner.ensures.state (c.find_owner-owner.ensures.learns some)
-    (subst (λ n. TakesWords n (tokens_behind_owner c.args.begins_blank (left c.args.source.now)) words rest) c.find_owner-owner.ensures.end
-    (subst (λ l. TakesWords (ends c.find_owner-owner.new.source) l words rest) c.find_owner-owner.ensures.left c.take_words-words.ensures.takes))
+    (subst (λ n. TakesWords n (tokens_behind_owner c.args.begins_blank (left c.args.source.now)) words rest) (ap (λ e. e.at) c.find_owner-owner.ensures.end)
+    (subst (λ l. TakesWords (ends c.find_owner-owner.new.source).at l words rest) c.find_owner-owner.ensures.left c.take_words-words.ensures.takes))
     c.own_ttl.ensures c.say_own_ttl.ensures.state c.say_own_ttl.ensures.learns
     (subst (λ n. ReadsWords c.say_own_ttl.new.state room c.place-at.result n first words rest (octets c.args.target.now) c.read_behind.result (octets c.read_behind.new.target)) same c.read_behind.ensures.reads)
     c.read_behind.ensures.extends c.read_behind.ensures.owner c.read_behind.ensures.learns

@@ -11,4 +11,4 @@ returns-in_err-take_field-clause-takes g c =
 pub unreachable-requires : goal.unreachable-requires
 unreachable-requires g c =
     name_is_made (option_copied c.args.origin) _ _ _ c.from_octets.result c.in-Err.field-0
-    (taken_as (option_copied c.args.origin) (g.S.TokenSource.end c.args.source.now) _ _ _ _ tt c.new-octets.ensures c.in_ok-take_field.ensures.takes) c.from_octets.ensures c.in-Err.is
+    (taken_as (option_copied c.args.origin) (g.S.TokenSource.end c.args.source.now).at _ _ _ _ tt c.new-octets.ensures c.in_ok-take_field.ensures.takes) c.from_octets.ensures c.in-Err.is

@@ -13,11 +13,11 @@ returns-in-Ok-clause-learns g c =
     let known = known_as c.in-Ok.name in
     owner_learned c.args.self.now (slice_get tokens 0) known
     (subst (λ o. NamedBy o (slice_get tokens 0) known) c.name.ensures
-    (taken_known (option_copied c.name.result) (g.S.TokenSource.end c.args.source.now) tokens (g.S.TokenSource.left c.take_name.new.source) (Ok tt) known (c.in-Ok.name, refl, c.in-Ok.ensures.takes)))
+    (taken_known (option_copied c.name.result) (g.S.TokenSource.end c.args.source.now).at tokens (g.S.TokenSource.left c.take_name.new.source) (Ok tt) known (c.in-Ok.name, refl, c.in-Ok.ensures.takes)))
 
 pub returns-in-Err-clause-learns : goal.returns-in-Err-clause-learns
 returns-in-Err-clause-learns g c =
     let tokens = g.S.TokenSource.left c.args.source.now in
     owner_learned c.args.self.now (slice_get tokens 0) Refused
     (subst (λ o. NamedBy o (slice_get tokens 0) Refused) c.name.ensures
-    (taken_known (option_copied c.name.result) (g.S.TokenSource.end c.args.source.now) tokens (g.S.TokenSource.left c.take_name.new.source) (Err c.in-Err.refusal) Refused (refl, c.in-Err.ensures.takes)))
+    (taken_known (option_copied c.name.result) (g.S.TokenSource.end c.args.source.now).at tokens (g.S.TokenSource.left c.take_name.new.source) (Err c.in-Err.refusal) Refused (refl, c.in-Err.ensures.takes)))

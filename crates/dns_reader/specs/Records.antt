@@ -1,0 +1,49 @@
+-- The entries of a text, one after another.
+use Rattle.std.specs.Prelude.{◌≡◌, true, false, ℕ, List, [], ◌∷◌, Option, Some, None, Result, Ok, Err}
+use Rattle.dns_octets.specs.Room.{Room}
+use Rattle.dns_split.specs.EntryTokens.{EndIs}
+use Rattle.dns_split.specs.declared.pieces.EndOfEntry.{EndOfEntry}
+use Rattle.dns_split.specs.declared.pieces.Fault.{Fault}
+use Rattle.dns_reader.specs.EntryReading.{ReadsZoneEntry}
+use Rattle.dns_reader.specs.Source.{BeginsEntry, SourceSeen, behind_left, entry_end, entry_left}
+use Rattle.dns_reader.specs.declared.entry.EntryRead.{EntryRead}
+use Rattle.dns_reader.specs.declared.entry_error.EntryRefusal.{EntryRefusal}
+use Rattle.dns_reader.specs.declared.records.RecordReader.{RecordReader}
+use Rattle.dns_reader.specs.declared.records.RecordRefusal.{RecordRefusal}
+use Rattle.dns_reader.specs.declared.records.RecordRefusal.TheVariants.{Text, Entry}
+use Rattle.dns_reader.specs.declared.source.StartOfEntry.{StartOfEntry}
+use Rattle.dns_reader.specs.declared.state.State.{State}
+
+-- what is given of an entry that is read
+abbrev pub given_read : Result EntryRead EntryRefusal → Result EntryRead RecordRefusal
+given_read (Ok e) = Ok e
+given_read (Err r) = Err (Entry r)
+
+-- nothing but the source has moved
+abbrev pub Unread : State → List ℕ → State → List ℕ → Type 0
+Unread before old after new = (after ≡ before) × (new ≡ old)
+
+-- the source stands behind the end of an entry, or at the fault that cuts it off
+abbrev pub StandsAfter : SourceSeen → Result EndOfEntry Fault → SourceSeen → Type 0
+StandsAfter begun (Ok end) after = (behind_left begun ≡ Ok (EndIs end) ∷ after.parts) × (after.is_open ≡ false) × (after.began ≡ end.at)
+StandsAfter begun (Err fault) after = (behind_left begun ≡ Err fault ∷ []) × (after.is_open ≡ true) × (after.parts ≡ Err fault ∷ [])
+
+-- what is given of an entry that has an end; and of one that a fault cuts off
+abbrev pub given_of : Result EndOfEntry Fault → Result EntryRead EntryRefusal → Result EntryRead RecordRefusal
+given_of (Ok end) read = given_read read
+given_of (Err fault) read = Err (Text fault)
+
+-- an entry that is begun is read by its tokens and the state, and taken to its end; or there is none, or a fault in front of it
+abbrev pub ReadsBegun : Room → SourceSeen → Result (Option StartOfEntry) Fault → State → List ℕ → Option (Result EntryRead RecordRefusal) → RecordReader → List ℕ → Type 0
+ReadsBegun room begun (Ok (Some start)) before old result after new =
+    (read : Result EntryRead EntryRefusal) × (end : Result EndOfEntry Fault) × ReadsZoneEntry room start.begins_blank (entry_end begun).at (entry_left begun) before old read after.state new
+    × StandsAfter begun end after.source × (result ≡ Some (given_of end read))
+ReadsBegun room begun (Ok None) before old result after new = (result ≡ None) × (after.source ≡ begun) × Unread before old after.state new
+ReadsBegun room begun (Err fault) before old result after new = (result ≡ Some (Err (Text fault))) × (after.source ≡ begun) × Unread before old after.state new
+
+-- the next entry that has tokens is begun, and read
+pub record ReadsNextEntry (room : Room) (before : RecordReader) (old : List ℕ) (result : Option (Result EntryRead RecordRefusal)) (after : RecordReader) (new : List ℕ) : Type 0 where
+  pub start : Result (Option StartOfEntry) Fault
+  pub begun : SourceSeen
+  pub begins : BeginsEntry before.source start begun
+  pub reads : ReadsBegun room begun start before.state old result after new
