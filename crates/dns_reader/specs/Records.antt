@@ -1,7 +1,7 @@
 -- The entries of a text, one after another.
 use Rattle.std.specs.Prelude.{◌≡◌, true, false, ℕ, List, [], ◌∷◌, Option, Some, None, Result, Ok, Err}
 use Rattle.dns_octets.specs.Room.{Room}
-use Rattle.dns_split.specs.EntryTokens.{EndIs}
+use Rattle.dns_split.specs.EntryTokens.{EndIs, IsSeen}
 use Rattle.dns_split.specs.declared.pieces.EndOfEntry.{EndOfEntry}
 use Rattle.dns_split.specs.declared.pieces.Fault.{Fault}
 use Rattle.dns_reader.specs.EntryReading.{ReadsZoneEntry}
@@ -13,6 +13,12 @@ use Rattle.dns_reader.specs.declared.records.RecordRefusal.{RecordRefusal}
 use Rattle.dns_reader.specs.declared.records.RecordRefusal.TheVariants.{Text, Entry}
 use Rattle.dns_reader.specs.declared.source.StartOfEntry.{StartOfEntry}
 use Rattle.dns_reader.specs.declared.state.State.{State}
+
+-- all entries of a text are left, behind a state
+pub record StartsText (octets : List ℕ) (state : State) (r : RecordReader) : Type 0 where
+  pub parts : IsSeen octets r.source.parts
+  pub closed : r.source.is_open ≡ false
+  pub state_is : r.state ≡ state
 
 -- what is given of an entry that is read
 abbrev pub given_read : Result EntryRead EntryRefusal → Result EntryRead RecordRefusal

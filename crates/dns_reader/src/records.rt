@@ -1,7 +1,6 @@
 //! The entries of a text, each by what those before it say.
-ghost use Rattle.std.specs.Prelude.{◌≡◌, false};
-ghost use Rattle.dns_split.specs.EntryTokens.{IsSeen};
-ghost use Rattle.dns_reader.specs.Records.{ReadsNextEntry, given_read};
+ghost use Rattle.std.specs.Prelude.{◌≡◌};
+ghost use Rattle.dns_reader.specs.Records.{ReadsNextEntry, StartsText, given_read};
 
 use crate::entry::{EntryRead, read_entry};
 use crate::entry_error::EntryRefusal;
@@ -40,9 +39,7 @@ fn given_read(read: Result<EntryRead, EntryRefusal>) -> Result<EntryRead, Record
 impl<'t> RecordReader<'t> {
     /// The entries of octets that need not be UTF-8, behind a state.
     pub fn new(octets: &'t [u8], state: State) -> RecordReader<'t>
-        ensures parts { IsSeen octets.now result.source.parts }
-        ensures closed { result.source.is_open ≡ false }
-        ensures state { result.state ≡ state }
+        ensures { StartsText octets.now state result }
     {
         let source = EntrySource::of_octets(octets);
         RecordReader { source, state }

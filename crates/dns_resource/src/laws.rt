@@ -33,21 +33,21 @@ fn number(value: u16) -> u16
 
 /// States what the values of a record are: a name, numbers, and data of its type. It does nothing of
 /// use.
-pub fn records_hold_values<Owner: AsOctets, Octets: AsOctets>(record: &Record<Owner, Octets>)
-    ensures { AreRecordValues record.now }
+pub fn records_hold_values<Owner: AsOctets, Octets: AsOctets>(one: &Record<Owner, Octets>)
+    ensures { AreRecordValues one.now }
 {
-    let _owner = name_octets(&record.owner);
-    let _class = number(record.class);
-    let _code = record.data.code();
-    let _octets = record.data.as_slice();
+    let _owner = name_octets(&one.owner);
+    let _class = number(one.class);
+    let _code = one.data.code();
+    let _octets = one.data.as_slice();
 }
 
 /// States that the tokens that a record is printed as spell it, whatever the origin is, if its time
 /// to live is below 2^31. It does nothing of use.
-pub fn records_are_read_back<Owner: AsOctets, Octets: AsOctets>(record: &Record<Owner, Octets>)
-    ensures { IsRecordReadBack record.now }
+pub fn records_are_read_back<Owner: AsOctets, Octets: AsOctets>(one: &Record<Owner, Octets>)
+    ensures { IsRecordReadBack one.now }
 {
-    records_hold_values(record);
+    records_hold_values(one);
 }
 
 /// States that data of a type has a canonical form (RFC 4034 section 6.2), which has as many octets.
