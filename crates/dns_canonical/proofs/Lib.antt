@@ -4,3 +4,4 @@ pub mod NameOrders
 pub mod NameWalks
 pub mod Orders
 pub mod Rows
+pub mod UntextedNames

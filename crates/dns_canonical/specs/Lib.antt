@@ -2,4 +2,5 @@ pub mod FieldForms
 pub mod Names
 pub mod Records
 pub mod Rows
+pub mod Untexted
 pub mod Walks

@@ -1,14 +1,15 @@
 -- Worked rows of the orders and forms.
-use Rattle.std.specs.Prelude.{◌≡◌, ℕ, List, [], ◌∷◌, codes, refl}
+use Rattle.std.specs.Prelude.{◌≡◌, ℕ, List, [], ◌∷◌, ◌++◌, replicate, codes, refl}
 use Rattle.std.specs.declared.cmp.Ordering.{Ordering}
 use Rattle.std.specs.declared.cmp.Ordering.TheVariants.{Less, Equal, Greater}
 use Rattle.dns_octets.specs.Lowered.{lowered}
 use Rattle.dns_wire.specs.Wire.{wire}
 use Rattle.dns_wire.specs.Order.{lowered_wire}
-use Rattle.dns_fields.specs.declared.field.Field.TheVariants.{Name as OfName, String as OfString}
+use Rattle.dns_fields.specs.declared.field.Field.TheVariants.{Number8, Name as OfName, String as OfString}
 use Rattle.dns_canonical.specs.FieldForms.{canonical_field}
 use Rattle.dns_canonical.specs.Names.{octet_order, name_order}
 use Rattle.dns_canonical.specs.Records.{RecordKey, record_order}
+use Rattle.dns_canonical.specs.Untexted.{untexted_front}
 
 -- the order of each name and the next one
 abbrev neighbours : List (List (List ℕ)) → List Ordering
@@ -82,3 +83,50 @@ name_field_row = refl
 
 string_field_row : canonical_field OfString (2 ∷ 78 ∷ 83 ∷ []) ≡ 2 ∷ 78 ∷ 83 ∷ []
 string_field_row = refl
+
+-- ---- names in data of types without a text form, with its octets in front and behind
+
+-- the mail host of MD; of NXT (RFC 2535 section 5.2) the types behind the name stay
+abbrev two_letters : List ℕ
+two_letters = 1 ∷ 65 ∷ 1 ∷ 66 ∷ 0 ∷ []
+
+host_row : untexted_front 3 two_letters ≡ OfName ∷ []
+host_row = refl
+
+next_row : untexted_front 30 (two_letters ++ 64 ∷ []) ≡ OfName ∷ []
+next_row = refl
+
+-- two names of PX behind 2 octets (RFC 2163 section 4), the second of which is cut off, or no name
+map_row : untexted_front 26 (65 ∷ 66 ∷ (two_letters ++ two_letters)) ≡ Number8 ∷ Number8 ∷ OfName ∷ OfName ∷ []
+map_row = refl
+
+cut_row : untexted_front 26 (65 ∷ 66 ∷ (two_letters ++ 1 ∷ 65 ∷ [])) ≡ []
+cut_row = refl
+
+pointer_row : untexted_front 26 (65 ∷ 66 ∷ (two_letters ++ 192 ∷ 12 ∷ [])) ≡ []
+pointer_row = refl
+
+-- the signer's name of SIG behind 18 octets (RFC 2535 section 4.1)
+signer_row : untexted_front 24 (replicate 18 65 ++ two_letters) ≡ replicate 18 Number8 ++ OfName ∷ []
+signer_row = refl
+
+-- a prefix of 64 bits leaves 8 octets of the address of A6, one of 61 bits 9, and one of 128 none (RFC 2874 section 3.1)
+prefix_row : untexted_front 38 (64 ∷ (replicate 8 65 ++ two_letters)) ≡ replicate 9 Number8 ++ OfName ∷ []
+prefix_row = refl
+
+partial_row : untexted_front 38 (61 ∷ (replicate 9 65 ++ two_letters)) ≡ replicate 10 Number8 ++ OfName ∷ []
+partial_row = refl
+
+whole_row : untexted_front 38 (128 ∷ two_letters) ≡ Number8 ∷ OfName ∷ []
+whole_row = refl
+
+-- without a prefix there is no name, and no prefix has more bits than an address
+no_prefix_row : untexted_front 38 (0 ∷ replicate 16 65) ≡ []
+no_prefix_row = refl
+
+long_prefix_row : untexted_front 38 (129 ∷ two_letters) ≡ []
+long_prefix_row = refl
+
+-- X25 has no names
+no_names_row : untexted_front 19 two_letters ≡ []
+no_names_row = refl

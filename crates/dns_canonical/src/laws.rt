@@ -10,6 +10,7 @@ ghost use Rattle.dns_fields.specs.declared.field.Field.{Field};
 ghost use Rattle.dns_canonical.specs.FieldForms.{StartsWithFields, CanonicalFields};
 ghost use Rattle.dns_canonical.specs.Names.{octet_order, name_order};
 ghost use Rattle.dns_canonical.specs.Records.{RecordKey, record_order};
+ghost use Rattle.dns_canonical.specs.Untexted.{untexted_front};
 
 /// To lower all octets of a name on the wire lowers its labels and nothing else, since no length
 /// octet is a letter. The result is a name, and doing it again changes nothing.
@@ -45,7 +46,8 @@ pub fn records_are_ordered()
 
 /// Data that begins with fields has one canonical form, and no other data has one. The form has as
 /// many octets and is the same but for the case of letters; it begins with these fields, and is its
-/// own canonical form. Octets behind the fields stay.
+/// own canonical form. Octets behind the fields stay. Data of every type begins with its
+/// [`untexted_fields`](crate::untexted_fields).
 pub fn data_has_one_canonical_form()
     ensures some { (fields : List Field) (octets : List ℕ) → StartsWithFields fields octets ↔ ((form : List ℕ) × CanonicalFields fields octets form) }
     ensures one { (fields : List Field) (octets a b : List ℕ) → CanonicalFields fields octets a → CanonicalFields fields octets b → a ≡ b }
@@ -55,4 +57,5 @@ pub fn data_has_one_canonical_form()
     ensures behind { (fields : List Field) (octets form more : List ℕ) → CanonicalFields fields octets form
         → CanonicalFields fields (octets ++ more) (form ++ more) }
     ensures again { (fields : List Field) (octets form : List ℕ) → CanonicalFields fields octets form → CanonicalFields fields form form }
+    ensures untexted { (code : ℕ) (octets : List ℕ) → StartsWithFields (untexted_front code octets) octets }
 {}

@@ -5,7 +5,9 @@ pub mod fields;
 pub mod laws;
 pub mod names;
 pub mod records;
+pub mod untexted;
 
 pub use fields::{CanonicalError, append_canonical_fields, lowers_names};
 pub use names::{append_lowered, compare_names};
 pub use records::{RecordParts, compare_octets, compare_records};
+pub use untexted::{compare_untexted, untexted_fields};

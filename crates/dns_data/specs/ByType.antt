@@ -1,5 +1,5 @@
 -- Record data by the type of the record.
-use Rattle.std.specs.Prelude.{ℕ, ◌≡◌, ◌≢◌, ◌⊎◌, ◌<◌, ◌+◌, ◌==◌, find, Option, Some, None, option_map, List, [], ◌∷◌, ◌++◌, length, Result, Ok, Err}
+use Rattle.std.specs.Prelude.{ℕ, ◌≡◌, ◌≢◌, ◌⊎◌, ◌<◌, ◌+◌, ◌==◌, find, Option, Some, None, option_map, option_copied, slice_get, List, [], ◌∷◌, ◌++◌, length, Result, Ok, Err}
 use Rattle.dns_octets.specs.Room.{Room}
 use Rattle.dns_octets.specs.Appending.{Extends, Gains}
 use Rattle.dns_fields.specs.Source.{next_place}
@@ -53,14 +53,20 @@ abbrev pub ReadsGeneric : Option TypeRow → Room → ℕ → List TokenSeen →
 ReadsGeneric row room end tokens old (Ok _) left new = (left ≡ []) × Gains (SpellsGenericData (option_map row_shape row) tokens) old new
 ReadsGeneric row room end tokens old (Err r) left new = RefusesGeneric (option_map row_shape row) room end tokens old r left new
 
+-- the name of a part by its place: that of a field, or behind the fields that of the rest
+abbrev pub name_of_part : Option TypeShape → ℕ → Option (List ℕ)
+name_of_part None part = None
+name_of_part (Some s) part = slice_get s.names part
+
 -- why tokens are refused as data of a type, and which are left then: no record of it can stand in a zone; those in the generic form are refused;
--- the type has no other form; or a part of it is refused
+-- the type has no other form; or a part of it is refused, which alone is told by its name
 abbrev pub RefusesType : Option (List (List ℕ)) → Room → ℕ → ℕ → List TokenSeen → List ℕ → TypeRefusal → List TokenSeen → List ℕ → Type 0
 RefusesType origin room code end tokens old r left new =
-    ((r.why ≡ NoDataType) × (r.at ≡ next_place tokens end) × (left ≡ tokens) × (new ≡ old) × (IsDataType code → ⊥))
-    ⊎ (IsDataType code × BeginsGeneric tokens × RefusesGeneric (shape_of_code code) room end tokens old r left new)
-    ⊎ ((r.why ≡ NoTextForm) × (r.at ≡ next_place tokens end) × (left ≡ tokens) × (new ≡ old) × (BeginsGeneric tokens → ⊥) × (shape_of_code code ≡ None))
-    ⊎ ((BeginsGeneric tokens → ⊥) × ((shape : Shape) × (part : ℕ) × HasShape (shape_of_code code) shape × ReadsData origin room shape end tokens old (Err (record { part = part; at = r.at; why = r.why })) left new))
+    ((r.why ≡ NoDataType) × (r.at ≡ next_place tokens end) × (left ≡ tokens) × (new ≡ old) × (IsDataType code → ⊥) × (r.part ≡ None))
+    ⊎ (IsDataType code × BeginsGeneric tokens × RefusesGeneric (shape_of_code code) room end tokens old r left new × (r.part ≡ None))
+    ⊎ ((r.why ≡ NoTextForm) × (r.at ≡ next_place tokens end) × (left ≡ tokens) × (new ≡ old) × (BeginsGeneric tokens → ⊥) × (shape_of_code code ≡ None) × (r.part ≡ None))
+    ⊎ ((BeginsGeneric tokens → ⊥) × ((shape : Shape) × (part : ℕ) × HasShape (shape_of_code code) shape × ReadsData origin room shape end tokens old (Err (record { part = part; at = r.at; why = r.why })) left new
+    × (option_copied r.part ≡ name_of_part (shape_of_code code) part)))
 
 -- all tokens are taken, and the target gained the data that they spell; or they are refused
 abbrev pub ReadsType : Option (List (List ℕ)) → Room → ℕ → ℕ → List TokenSeen → List ℕ → Result (Unit {0}) TypeRefusal → List TokenSeen → List ℕ → Type 0

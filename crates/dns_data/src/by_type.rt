@@ -1,5 +1,5 @@
 //! Record data by the type of the record.
-ghost use Rattle.std.specs.Prelude.{◌≡◌, ◌≤◌, ◌↔◌, ℕ, List, [], length, IfOk, IfErr, IsTrue, Option, option_copied};
+ghost use Rattle.std.specs.Prelude.{◌≡◌, ◌≤◌, ◌↔◌, ℕ, List, [], length, IfOk, IfErr, IsTrue, None, Option, option_copied};
 ghost use Rattle.dns_octets.specs.Room.{within};
 ghost use Rattle.dns_data.specs.Limits.{max_data};
 ghost use Rattle.dns_data.specs.ByType.{IsDataType, ReadsGeneric, ReadsType, RefusesType, SpellsTypeData};
@@ -40,6 +40,7 @@ fn read_generic<S: TokenSource, B: OctetsBuilder>(
     target: &mut B,
 ) -> Result<(), TypeRefusal>
     requires { BeginsGeneric (S.left source.old) }
+    ensures part { IfErr result (λ r. r.part ≡ None) }
     ensures reads { ReadsGeneric (option_copied row.entry) B.room (S.end source.old).at (S.left source.old) (B.octets target.old) result (S.left source.new) (B.octets target.new) }
     ensures end { S.end source.new ≡ S.end source.old }
 {

@@ -1,6 +1,6 @@
 //! The types of records whose data have a text form.
-ghost use Rattle.std.specs.Prelude.{◌≡◌, option_copied};
-ghost use Rattle.dns_data.specs.Types.{row_shapes, FindsShape, type_shapes};
+ghost use Rattle.std.specs.Prelude.{◌≡◌, option_copied, slice_get};
+ghost use Rattle.dns_data.specs.Types.{row_names, row_shapes, FindsShape, type_shapes};
 
 use crate::rest::Rest;
 use crate::shape::{Length, Shape};
@@ -442,7 +442,9 @@ impl TypeRow {
 
 impl TypeRow {
     /// The name of a part, by its place.
-    pub(crate) fn part_name(&self, part: usize) -> Option<&'static str> {
+    pub(crate) fn part_name(&self, part: usize) -> Option<&'static str>
+        ensures { option_copied result ≡ slice_get (row_names self.now) part }
+    {
         self.4.get(part).copied()
     }
 }

@@ -13,14 +13,16 @@ use Rattle.dns_fields.specs.declared.field.Field.{Field}
 use Rattle.dns_canonical.specs.FieldForms.{canonical_field, IsFieldWire, StartsWithFields, CanonicalFields, RefusesFields, lowered_types}
 use Rattle.dns_canonical.specs.declared.fields.CanonicalError.{CanonicalError}
 use Rattle.dns_canonical.specs.declared.fields.CanonicalError.TheVariants.{BadData, ShortBuf}
+use Rattle.dns_canonical.specs.Untexted.{untexted_front}
 use Rattle.dns_canonical.proofs.FieldWalks.{forms_some, forms_long}
 use Rattle.dns_canonical.proofs.LoweredNames.{length_lowered}
+use Rattle.dns_canonical.proofs.UntextedNames.{untexted_starts}
 use Rattle.dns_data.specs.ByType.{HasShape, shape_of_code}
 use Rattle.dns_data.specs.Printing.{field_size}
 use Rattle.dns_data.specs.Types.{TypeShape}
 use Rattle.dns_data.specs.Wire.{BeginsWithFields}
 use Rattle.dns_data.proofs.Sizes.{field_sized}
-use Rattle.dns_resource.specs.CanonicalData.{behind_owner, canonical_data, canonical_record, fields_of_shape, fields_to_lower, lowered_in}
+use Rattle.dns_resource.specs.CanonicalData.{behind_owner, canonical_data, canonical_record, fields_in_data, fields_to_lower, lowered_in}
 use Rattle.dns_resource.specs.Records.{data_of}
 use Rattle.dns_resource.specs.TypeData.{IsTypeData}
 use Rattle.dns_resource.specs.declared.record.Record.{Record}
@@ -49,13 +51,13 @@ contains_any (y ∷ ys) x h = by h.0 h.1 h.2 (contains_any ys x)
     by (suc k) within is more = later (y == x) (more (k, omega (arith, within), is))
 
 -- the fields of a type whose names are lowered, and of another
-pub fields_lowered : (code : ℕ) → Contains lowered_types code → fields_of_shape (shape_of_code code) ≡ fields_to_lower code
-fields_lowered code h = sym (ap (λ b. if b then fields_of_shape (shape_of_code code) else []) (contains_any lowered_types code h))
+pub fields_lowered : (code : ℕ) (octets : List ℕ) → Contains lowered_types code → fields_in_data (shape_of_code code) code octets ≡ fields_to_lower code octets
+fields_lowered code octets h = sym (ap (λ b. if b then fields_in_data (shape_of_code code) code octets else []) (contains_any lowered_types code h))
 
-pub fields_kept : (code : ℕ) → (Contains lowered_types code → ⊥) → [] ≡ fields_to_lower code
-fields_kept code h = by (list_any (λ t. t == code) lowered_types) refl
+pub fields_kept : (code : ℕ) (octets : List ℕ) → (Contains lowered_types code → ⊥) → [] ≡ fields_to_lower code octets
+fields_kept code octets h = by (list_any (λ t. t == code) lowered_types) refl
   where
-    by : (b : Bool) → list_any (λ t. t == code) lowered_types ≡ b → [] ≡ (if b then fields_of_shape (shape_of_code code) else [])
+    by : (b : Bool) → list_any (λ t. t == code) lowered_types ≡ b → [] ≡ (if b then fields_in_data (shape_of_code code) code octets else [])
     by true is = absurd (h (any_contains lowered_types code is))
     by false is = refl
 
@@ -84,30 +86,41 @@ begins_start (f ∷ fs) octets back h = (h.0, h.1, h.3, h.2, begins_start fs h.1
 
 -- ---- data of a type
 
-pub data_starts : (code : ℕ) (octets : List ℕ) → IsTypeData code octets → StartsWithFields (fields_to_lower code) octets
+pub data_starts : (code : ℕ) (octets : List ℕ) → IsTypeData code octets → StartsWithFields (fields_to_lower code octets) octets
 data_starts code octets is = by (list_any (λ t. t == code) lowered_types) (shape_of_code code) refl
   where
-    by : (b : Bool) (found : Option TypeShape) → shape_of_code code ≡ found → StartsWithFields (if b then fields_of_shape found else []) octets
+    by : (b : Bool) (found : Option TypeShape) → shape_of_code code ≡ found → StartsWithFields (if b then fields_in_data found code octets else []) octets
     by false found same = tt
-    by true None same = tt
+    by true None same = untexted_starts code octets
     by true (Some s) same =
         let own = is.shaped (shape_with s) (subst (λ f. HasShape f (shape_with s)) (sym same) (refl, refl, refl)) in
         begins_start s.fields octets own.back own.fields
 
-pub data_form : (code : ℕ) (octets : List ℕ) → IsTypeData code octets → CanonicalFields (fields_to_lower code) octets (canonical_data code octets)
-data_form code octets is = form_of (fields_to_lower code) octets (data_starts code octets is)
+pub data_form : (code : ℕ) (octets : List ℕ) → IsTypeData code octets → CanonicalFields (fields_to_lower code octets) octets (canonical_data code octets)
+data_form code octets is = form_of (fields_to_lower code octets) octets (data_starts code octets is)
 
 pub data_long : (code : ℕ) (octets : List ℕ) → IsTypeData code octets → length (canonical_data code octets) ≡ length octets
-data_long code octets is = forms_long (fields_to_lower code) octets (canonical_data code octets) (data_form code octets is)
+data_long code octets is = forms_long (fields_to_lower code octets) octets (canonical_data code octets) (data_form code octets is)
+
+-- data of a type whose names are not lowered, of one with a text form, and of another
+pub data_kept : (code : ℕ) (octets : List ℕ) → (Contains lowered_types code → ⊥) → octets ≡ canonical_data code octets
+data_kept code octets h = ap (λ fs. lowered_in fs octets) (fields_kept code octets h)
+
+pub data_lowered : (code : ℕ) (octets : List ℕ) (s : TypeShape) (fields : List Field) → Contains lowered_types code → Some s ≡ shape_of_code code → fields ≡ s.fields → lowered_in fields octets ≡ canonical_data code octets
+data_lowered code octets s fields h found same = ap (λ fs. lowered_in fs octets) (same ∙ ap (λ f. fields_in_data f code octets) found ∙ fields_lowered code octets h)
+
+pub untexted_form_is : (code : ℕ) (octets : List ℕ) → IsTypeData code octets → Contains lowered_types code → None ≡ shape_of_code code → CanonicalFields (untexted_front code octets) octets (canonical_data code octets)
+untexted_form_is code octets is h none =
+    subst (λ fs. CanonicalFields fs octets (canonical_data code octets)) (sym (ap (λ f. fields_in_data f code octets) none ∙ fields_lowered code octets h)) (data_form code octets is)
 
 -- ---- what is appended
 
 -- the form that is gained is that of the type
-pub form_gained : (code : ℕ) (fields : List Field) (octets old new : List ℕ) → fields ≡ fields_to_lower code → Gains (CanonicalFields fields octets) old new → new ≡ old ++ canonical_data code octets
+pub form_gained : (code : ℕ) (fields : List Field) (octets old new : List ℕ) → fields ≡ fields_to_lower code octets → Gains (CanonicalFields fields octets) old new → new ≡ old ++ canonical_data code octets
 form_gained code fields octets old new same h = h.2 ∙ ap (λ o. old ++ o) (form_is fields octets h.0 h.1 ∙ ap (λ fs. lowered_in fs octets) same)
 
 -- data of a type has a form, which doesn't surely fit where that is refused
-pub form_lacks : (room : Room) (code : ℕ) (octets old : List ℕ) (e : CanonicalError) → IsTypeData code octets → RefusesFields room (fields_to_lower code) octets old e → room.fits < length old + length octets
+pub form_lacks : (room : Room) (code : ℕ) (octets old : List ℕ) (e : CanonicalError) → IsTypeData code octets → RefusesFields room (fields_to_lower code octets) octets old e → room.fits < length old + length octets
 form_lacks room code octets old BadData is h = absurd (h (data_starts code octets is))
 form_lacks room code octets old ShortBuf is h = let few = h (canonical_data code octets) (data_form code octets is) in omega (arith, few, data_long code octets is)
 

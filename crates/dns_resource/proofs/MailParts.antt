@@ -1,5 +1,6 @@
 -- The parts of data of MX.
 use Rattle.std.proofs.Common.{ℕ, ◌≡◌, ◌<◌, ◌+◌, ◌*◌, ◌/◌, ◌%◌, Option, Some, None, List, [], ◌∷◌, get_or, refl, sym, ap, subst, ◌∙◌, arith}
+use Rattle.std.specs.Prelude.{codes}
 use Rattle.std.specs.Int.{to_be_bytes, w16}
 use Rattle.std.proofs.lemmas.List.Elements.{recursion_from_All}
 use Rattle.dns_spelling.specs.NameSpelling.{IsWireName}
@@ -16,7 +17,7 @@ use Rattle.dns_resource.proofs.CanonicalForms.{front_cut}
 use Rattle.dns_resource.proofs.DataBack.{shape_with}
 
 abbrev mail_shape : TypeShape
-mail_shape = type_shape 15 (Number16 ∷ Name ∷ []) Nothing Any
+mail_shape = type_shape 15 (Number16 ∷ Name ∷ []) Nothing Any (codes "preference" ∷ codes "exchange" ∷ [])
 
 mail_found : shape_of_code 15 ≡ Some mail_shape
 unfolding type_shapes

@@ -10,6 +10,7 @@ use Rattle.dns_fields.specs.declared.field.Field.{Field}
 use Rattle.dns_canonical.specs.FieldForms.{lowered_types, canonical_field}
 use Rattle.dns_canonical.specs.Names.{octet_order}
 use Rattle.dns_canonical.specs.Records.{RecordKey}
+use Rattle.dns_canonical.specs.Untexted.{untexted_front}
 use Rattle.dns_data.specs.ByType.{shape_of_code}
 use Rattle.dns_data.specs.Printing.{field_size}
 use Rattle.dns_data.specs.Types.{TypeShape}
@@ -21,9 +22,14 @@ abbrev pub fields_of_shape : Option TypeShape → List Field
 fields_of_shape None = []
 fields_of_shape (Some s) = s.fields
 
--- the fields of a type whose names are lowered, and none of another type
-abbrev pub fields_to_lower : ℕ → List Field
-fields_to_lower code = if list_any (λ t. t == code) lowered_types then fields_of_shape (shape_of_code code) else []
+-- the fields of a type with a text form, and of one without the octets and names with which the data begins
+abbrev pub fields_in_data : Option TypeShape → ℕ → List ℕ → List Field
+fields_in_data None code octets = untexted_front code octets
+fields_in_data (Some s) code octets = s.fields
+
+-- the fields of data of a type whose names are lowered, and none of another type
+abbrev pub fields_to_lower : ℕ → List ℕ → List Field
+fields_to_lower code octets = if list_any (λ t. t == code) lowered_types then fields_in_data (shape_of_code code) code octets else []
 
 -- octets with each of these fields in front in canonical form, and what is behind them as it is
 abbrev pub lowered_in : List Field → List ℕ → List ℕ
@@ -32,7 +38,7 @@ lowered_in (f ∷ fs) octets = canonical_field f (take (field_size f octets) oct
 
 -- data with its names in lower case where the type wants that
 abbrev pub canonical_data : ℕ → List ℕ → List ℕ
-canonical_data code octets = lowered_in (fields_to_lower code) octets
+canonical_data code octets = lowered_in (fields_to_lower code octets) octets
 
 -- type, class, time to live, the number of octets of the data, and these
 abbrev pub behind_owner : ℕ → ℕ → ℕ → List ℕ → List ℕ

@@ -62,4 +62,4 @@ IsTiedByForm a b = (ttl : ℕ) → (record_order (record_key a) (record_key b) �
 
 -- the names among the fields of a type are lowered, and nothing else is
 abbrev pub HasCanonicalForm : ℕ → List ℕ → Type 0
-HasCanonicalForm code octets = CanonicalFields (fields_to_lower code) octets (canonical_data code octets)
+HasCanonicalForm code octets = CanonicalFields (fields_to_lower code octets) octets (canonical_data code octets)

@@ -91,3 +91,25 @@ apart_row = refl
 type_row : data_order (named_data 5 (codes "a")) (named_data 2 (codes "b")) ≡ Greater
 unfolding type_shapes
 type_row = refl
+
+-- the names of PX are lowered where both are there (RFC 2163 section 4), and what is behind the name of NXT stays
+map_row : canonical_data 26 (0 ∷ 10 ∷ (wire (below_example (codes "MAP")) ++ wire (below_example (codes "X4")))) ≡ 0 ∷ 10 ∷ (wire (below_example (codes "map")) ++ wire (below_example (codes "x4")))
+unfolding type_shapes
+map_row = refl
+
+cut_row : canonical_data 26 (0 ∷ 10 ∷ wire (below_example (codes "MAP"))) ≡ 0 ∷ 10 ∷ wire (below_example (codes "MAP"))
+unfolding type_shapes
+cut_row = refl
+
+next_row : canonical_data 30 (wire (below_example (codes "NXT")) ++ codes "@A") ≡ wire (below_example (codes "nxt")) ++ codes "@A"
+unfolding type_shapes
+next_row = refl
+
+-- the address of A6 stays, and the name of its prefix is lowered
+prefix_row : canonical_data 38 (120 ∷ 65 ∷ wire (below_example (codes "NET"))) ≡ 120 ∷ 65 ∷ wire (below_example (codes "net"))
+unfolding type_shapes
+prefix_row = refl
+
+maps_row : data_order (record { code = 26; octets = 0 ∷ 10 ∷ (wire (below_example (codes "MAP")) ++ 0 ∷ []) }) (record { code = 26; octets = 0 ∷ 10 ∷ (wire (below_example (codes "map")) ++ 0 ∷ []) }) ≡ Equal
+unfolding type_shapes
+maps_row = refl

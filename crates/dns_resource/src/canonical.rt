@@ -8,40 +8,43 @@ ghost use Rattle.dns_resource.specs.CanonicalData.{fields_to_lower, canonical_da
 
 use crate::data::Data;
 use crate::record::{Record, name_octets};
-use dns_canonical::{CanonicalError, append_canonical_fields, append_lowered, lowers_names};
+use dns_canonical::{
+    CanonicalError, append_canonical_fields, append_lowered, lowers_names, untexted_fields,
+};
 use dns_data::type_row;
 use dns_fields::Field;
 use dns_octets::{AsOctets, OctetsBuilder, ShortBuf};
 
-/// The fields of a type whose names are lowered, and none of another type.
-pub(crate) fn lowered_fields(code: u16) -> &'static [Field]
-    ensures { result.now ≡ fields_to_lower code }
+/// The fields of data of a type whose names are lowered, and none of another type.
+fn lowered_fields(code: u16, octets: &[u8]) -> &'static [Field]
+    ensures { result.now ≡ fields_to_lower code octets.now }
 {
     if !lowers_names(code) {
         return &[];
     }
     match type_row(code) {
         Some(row) => row.shape().fields,
-        None => &[],
+        None => untexted_fields(code, octets),
     }
 }
 
 /// Appends the canonical form of data of a type: its names in lower case where
 /// [`lowers_names`] says so, and all other octets as they stand.
 ///
-/// The fields are those of the type's text form; data of a type without one stands as it is (RFC
-/// 3597 section 7). Octets that don't begin with the fields are [`CanonicalError::BadData`]. After
-/// an error some octets may have been appended.
+/// The fields are those of the type's text form. Of the types without one, data of MD, MF, SIG, PX,
+/// NXT and A6 has names that are lowered where it begins as the type's data does; else, and of other
+/// types, it stands as it is (RFC 3597 section 7). Octets that don't begin with the fields of a text
+/// form are [`CanonicalError::BadData`]. After an error some octets may have been appended.
 pub fn append_canonical_data<B: OctetsBuilder>(
     code: u16,
     octets: &[u8],
     target: &mut B,
 ) -> Result<(), CanonicalError>
     ensures ok { OnOk result (B.octets target.new ≡ B.octets target.old ++ canonical_data code octets.now) }
-    ensures err { IfErr result (RefusesFields B.room (fields_to_lower code) octets.now (B.octets target.old)) }
+    ensures err { IfErr result (RefusesFields B.room (fields_to_lower code octets.now) octets.now (B.octets target.old)) }
     ensures extends { OnErr result (Extends (B.octets target.old) (B.octets target.new)) }
 {
-    append_canonical_fields(lowered_fields(code), octets, target)
+    append_canonical_fields(lowered_fields(code, octets), octets, target)
 }
 
 /// The octets between owner and data of a record on the wire: type, class, time to live, and how

@@ -4,13 +4,14 @@ ghost use Rattle.std.specs.Prelude.{◌≡◌};
 ghost use Rattle.dns_canonical.specs.FieldForms.{StartsWithFields, canonical_field};
 ghost use Rattle.dns_canonical.specs.Names.{octet_order};
 ghost use Rattle.dns_canonical.specs.Records.{record_order};
-ghost use Rattle.dns_resource.specs.CanonicalData.{data_order, lowered_in, record_key};
+ghost use Rattle.dns_resource.specs.CanonicalData.{canonical_data, data_order, lowered_in, record_key};
+ghost use Rattle.dns_resource.specs.TypeData.{IsTypeData};
 
-use crate::canonical::lowered_fields;
 use crate::data::Data;
 use crate::fronts::front_width;
 use crate::record::{Record, name_octets};
-use dns_canonical::{compare_names, compare_octets};
+use dns_canonical::{compare_names, compare_octets, compare_untexted, lowers_names};
+use dns_data::type_row;
 use dns_fields::Field;
 use dns_octets::AsOctets;
 use dns_octets::lowered::compare_lowered;
@@ -47,6 +48,21 @@ fn compare_in_fields(fields: &[Field], left: &[u8], right: &[u8]) -> Ordering
     compare_octets(left_rest, right_rest)
 }
 
+/// The order of the canonical forms of data of one type.
+fn compare_data(code: u16, left: &[u8], right: &[u8]) -> Ordering
+    requires left { IsTypeData code left.now }
+    requires right { IsTypeData code right.now }
+    ensures { result ≡ octet_order (canonical_data code left.now) (canonical_data code right.now) }
+{
+    if !lowers_names(code) {
+        return compare_octets(left, right);
+    }
+    match type_row(code) {
+        Some(row) => compare_in_fields(row.shape().fields, left, right),
+        None => compare_untexted(code, left, right),
+    }
+}
+
 impl<Octets: AsOctets> Data<Octets> {
     /// The canonical order: by the code of the type, and then by the octets of the canonical form,
     /// as unsigned numbers. It takes no memory.
@@ -54,11 +70,7 @@ impl<Octets: AsOctets> Data<Octets> {
         ensures { result ≡ data_order self.now other.now }
     {
         match self.code().cmp(&other.code()) {
-            Ordering::Equal => compare_in_fields(
-                lowered_fields(self.code()),
-                self.as_slice(),
-                other.as_slice(),
-            ),
+            Ordering::Equal => compare_data(self.code(), self.as_slice(), other.as_slice()),
             order => order,
         }
     }

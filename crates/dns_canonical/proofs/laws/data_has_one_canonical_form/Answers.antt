@@ -1,4 +1,5 @@
 use Rattle.dns_canonical.proofs.FieldWalks.{forms_alike, forms_behind, forms_some, forms_same, forms_long, forms_begin, forms_again}
+use Rattle.dns_canonical.proofs.UntextedNames.{untexted_starts}
 use Rattle.dns_canonical.proofs.laws.data_has_one_canonical_form.Goals as goal
 
 pub returns : goal.returns
@@ -10,4 +11,5 @@ returns c = record {
   alike = forms_alike;
   behind = forms_behind;
   again = forms_again;
+  untexted = untexted_starts;
 }

@@ -1,0 +1,60 @@
+-- Names in data of types that have no text form here: MD, MF, SIG, PX, NXT and A6.
+use Rattle.std.specs.Prelude.{ℕ, zero, suc, ◌+◌, ◌-◌, ◌/◌, ◌==◌, ◌||◌, ◌&&◌, nat_lt, nat_le, is_some, if◌then◌else◌, Option, Some, None, List, [], ◌∷◌, ◌++◌, length, take, drop, replicate, slice_index}
+use Rattle.std.specs.List.{list_all}
+use Rattle.std.specs.Option.{option_map, option_and_then}
+use Rattle.dns_octets.specs.Lowered.{lowered}
+use Rattle.dns_wire.specs.Limits.{max_label, max_name}
+use Rattle.dns_fields.specs.declared.field.Field.{Field}
+use Rattle.dns_fields.specs.declared.field.Field.TheVariants.{Number8, Name as OfName}
+use Rattle.dns_canonical.specs.declared.untexted.NamePlaces.{NamePlaces}
+
+-- so many octets, and behind them so many names
+abbrev pub names_behind : ℕ → ℕ → NamePlaces
+names_behind front names = record { front = front; names = names }
+
+-- A6 (RFC 2874 section 3.1): the length of the prefix in bits, the other bits of the address in whole octets, and the name of the prefix, if it has bits
+abbrev pub address_form : ℕ → NamePlaces
+address_form prefix = if nat_lt 0 prefix && nat_le prefix 128 then names_behind (1 + (128 - prefix + 7) / 8) 1 else names_behind 0 0
+
+-- MD, MF and NXT begin with a name, SIG has 18 octets in front of the signer's, and PX a preference in front of two (RFC 1035 sections 3.3.4 and 3.3.5, RFC 2535 sections 5.2 and 4.1, RFC 2163 section 4)
+abbrev pub untexted_form : ℕ → List ℕ → NamePlaces
+untexted_form code octets =
+    if code == 3 || code == 4 || code == 30 then names_behind 0 1
+    else if code == 24 then names_behind 18 1
+    else if code == 26 then names_behind 2 2
+    else if code == 38 then address_form (slice_index octets 0)
+    else names_behind 0 0
+
+-- how many octets labels of at most 63 octets and the root behind them have, so many labels at most, if they are in front
+abbrev pub labels_before_root : ℕ → List ℕ → Option ℕ
+labels_before_root zero octets = None
+labels_before_root (suc more) [] = None
+labels_before_root (suc more) (zero ∷ octets) = Some 1
+labels_before_root (suc more) (suc n ∷ octets) =
+    if nat_le (suc n) max_label && nat_le (suc n) (length octets) then option_map (λ width. 2 + n + width) (labels_before_root more (drop (suc n) octets)) else None
+
+abbrev pub if_at_most : ℕ → Option ℕ → Option ℕ
+if_at_most most None = None
+if_at_most most (Some width) = if nat_le width most then Some width else None
+
+-- how many octets the name in front of octets has, if one is in front
+abbrev pub name_size : List ℕ → Option ℕ
+name_size octets = if_at_most max_name (labels_before_root (length octets) octets)
+
+-- and so many names
+abbrev pub names_size : ℕ → List ℕ → Option ℕ
+names_size zero octets = Some 0
+names_size (suc names) octets = option_and_then (λ width. option_map (λ more. width + more) (names_size names (drop width octets))) (name_size octets)
+
+-- the octets and names of a form, if octets begin with them
+abbrev pub front_of_form : NamePlaces → List ℕ → List Field
+front_of_form p octets =
+    if list_all (λ o. nat_lt o 256) octets && is_some (names_size p.names (drop p.front octets)) then replicate p.front Number8 ++ replicate p.names OfName else []
+
+-- the fields in front of data up to the last name, and none where data doesn't begin with them
+abbrev pub untexted_front : ℕ → List ℕ → List Field
+untexted_front code octets = front_of_form (untexted_form code octets) octets
+
+-- octets with those from one place to another in lower case, which follows the code
+abbrev pub lowered_between : ℕ → ℕ → List ℕ → List ℕ
+lowered_between start end octets = take start octets ++ (lowered (take (end - start) (drop start octets)) ++ drop end octets)

@@ -1,0 +1,153 @@
+//! Names in data of types that have no text form here: MD, MF, SIG, PX, NXT and A6.
+ghost use Rattle.std.specs.Prelude.{◌≡◌, ◌<◌, ◌≤◌, ℕ, List, length, IfSome};
+ghost use Rattle.dns_canonical.specs.FieldForms.{CanonicalFields};
+ghost use Rattle.dns_canonical.specs.Names.{octet_order};
+ghost use Rattle.dns_canonical.specs.Untexted.{address_form, untexted_form, names_size, untexted_front, lowered_between};
+
+use dns_fields::Field;
+use dns_spelling::name_width;
+use std::cmp::Ordering;
+
+/// How many octets stand in front of names, and how many names there are.
+pub(crate) struct NamePlaces {
+    front: usize,
+    names: usize,
+}
+
+/// The most octets in front of names: those of SIG.
+const MAX_FRONT: usize = 18;
+
+/// So many octets, and names behind them.
+static OCTETS_AND_NAMES: [Field; 20] = [
+    Field::Number8,
+    Field::Number8,
+    Field::Number8,
+    Field::Number8,
+    Field::Number8,
+    Field::Number8,
+    Field::Number8,
+    Field::Number8,
+    Field::Number8,
+    Field::Number8,
+    Field::Number8,
+    Field::Number8,
+    Field::Number8,
+    Field::Number8,
+    Field::Number8,
+    Field::Number8,
+    Field::Number8,
+    Field::Number8,
+    Field::Name,
+    Field::Name,
+];
+
+/// Where the name stands in data of A6 (RFC 2874 section 3.1), by the length of the prefix in bits:
+/// behind that octet, and as many octets as hold the other bits of an address. Without a prefix there
+/// is none.
+fn address_places(prefix: u8) -> NamePlaces
+    ensures { result ≡ address_form prefix }
+{
+    if prefix == 0 || prefix > 128 {
+        return NamePlaces { front: 0, names: 0 };
+    }
+    let bits = 128 - usize::from(prefix);
+    NamePlaces {
+        front: 1 + bits.div_ceil(8),
+        names: 1,
+    }
+}
+
+/// Where names stand in data of a type without a text form.
+fn name_places(code: u16, octets: &[u8]) -> NamePlaces
+    ensures form { result ≡ untexted_form code octets.now }
+    ensures few { (result.front ≤ MAX_FRONT) × (result.names ≤ 2) }
+    ensures named { 0 < result.front → 0 < result.names }
+{
+    let (front, names) = match code {
+        // MD and MF (RFC 1035 sections 3.3.4 and 3.3.5), and NXT (RFC 2535 section 5.2).
+        3 | 4 | 30 => (0, 1),
+        // SIG (RFC 2535 section 4.1).
+        24 => (18, 1),
+        // PX (RFC 2163 section 4).
+        26 => (2, 2),
+        38 if !octets.is_empty() => return address_places(octets[0]),
+        _ => (0, 0),
+    };
+    NamePlaces { front, names }
+}
+
+/// How many octets so many names in front of octets have, or none where these are not in front.
+fn names_width(names: usize, octets: &[u8]) -> Option<usize>
+    ensures size { result ≡ names_size names octets.now }
+    ensures within { IfSome result (λ width. width ≤ length octets.now) }
+{
+    let mut width = 0;
+    for _ in 0..names {
+        width += name_width(&octets[width..])?;
+    }
+    Some(width)
+}
+
+/// The fields with which data of a type without a text form begins, up to the last name: octets, and
+/// names behind them. There are none where the type has no names, and where data doesn't begin so.
+pub fn untexted_fields(code: u16, octets: &[u8]) -> &'static [Field]
+    ensures { result.now ≡ untexted_front code octets.now }
+{
+    let NamePlaces { front, names } = name_places(code, octets);
+    if front > octets.len() || names_width(names, &octets[front..]).is_none() {
+        return &[];
+    }
+    &OCTETS_AND_NAMES[MAX_FRONT - front..MAX_FRONT + names]
+}
+
+/// The octets from `start` to before `end`.
+#[derive(Clone, Copy)]
+struct NameSpan {
+    start: usize,
+    end: usize,
+}
+
+/// The octets of the names in data of a type without a text form.
+fn name_span(code: u16, octets: &[u8]) -> NameSpan
+    ensures within { (result.start ≤ result.end) × (result.end ≤ length octets.now) }
+    ensures form { (form : List ℕ) → CanonicalFields (untexted_front code octets.now) octets.now form → form ≡ lowered_between result.start result.end octets.now }
+{
+    let NamePlaces { front, names } = name_places(code, octets);
+    if front > octets.len() {
+        return NameSpan { start: 0, end: 0 };
+    }
+    match names_width(names, &octets[front..]) {
+        Some(width) => NameSpan {
+            start: front,
+            end: front + width,
+        },
+        None => NameSpan { start: 0, end: 0 },
+    }
+}
+
+/// The order of octets of which some are lowered.
+fn compare_between(left: &[u8], names: NameSpan, right: &[u8], others: NameSpan) -> Ordering
+    requires left { (names.start ≤ names.end) × (names.end ≤ length left.now) }
+    requires right { (others.start ≤ others.end) × (others.end ≤ length right.now) }
+    ensures { result ≡ octet_order (lowered_between names.start names.end left.now) (lowered_between others.start others.end right.now) }
+{
+    let lower = |octet: &u8| octet.to_ascii_lowercase();
+    let first = left[..names.start]
+        .iter()
+        .copied()
+        .chain(left[names.start..names.end].iter().map(lower))
+        .chain(left[names.end..].iter().copied());
+    let second = right[..others.start]
+        .iter()
+        .copied()
+        .chain(right[others.start..others.end].iter().map(lower))
+        .chain(right[others.end..].iter().copied());
+    first.cmp(second)
+}
+
+/// The order of the canonical forms of data of a type without a text form.
+pub fn compare_untexted(code: u16, left: &[u8], right: &[u8]) -> Ordering
+    ensures { (a b : List ℕ) → CanonicalFields (untexted_front code left.now) left.now a → CanonicalFields (untexted_front code right.now) right.now b → result ≡ octet_order a b }
+{
+    compare_between(left, name_span(code, left), right, name_span(code, right))
+}
