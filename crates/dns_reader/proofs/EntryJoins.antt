@@ -124,7 +124,7 @@ module _ (origin : Option (List (List ℕ))) (end : ℕ) where
 module _ (room : Room) (blank : Bool) (end : ℕ) (tokens : List TokenSeen) (before : State) (old : List ℕ) where
   pub nothing_read : tokens ≡ [] → ReadsZoneEntry room blank end tokens before old (Ok Nothing) before old
   nothing_read none = subst (λ l. ReadsZoneEntry room blank end l before old (Ok Nothing) before old) (sym none)
-      (record { meaning = says_nothing; says = refl; reads = refl; extends = same_octets old old refl; learns = nothing_learned before })
+      (record { meaning = says_nothing; says = refl; reads = (refl, refl); extends = same_octets old old refl; learns = nothing_learned before })
 
   pub head_refused : (left : List TokenSeen) (why : HeadRefusal) → TakesDirective blank end tokens (Err why) left → ReadsZoneEntry room blank end tokens before old (Err (refused_head why)) before old
   head_refused left why h = record {
@@ -148,7 +148,7 @@ module _ (room : Room) (blank : Bool) (end : ℕ) (tokens : List TokenSeen) (bef
   origin_read (t ∷ []) d h = record {
     meaning = says_origin t;
     says = entries_say_taken.directive blank end tokens (t ∷ []) Origin _ d refl;
-    reads = origin_one (known_name before.origin) end t r h.0;
+    reads = (origin_one (known_name before.origin) end t r h.0, h.2);
     extends = same_octets old new h.2;
     learns = h.1;
   }
@@ -164,7 +164,7 @@ module _ (room : Room) (blank : Bool) (end : ℕ) (tokens : List TokenSeen) (bef
   default_read left d h = record {
     meaning = says_default_ttl h.0.0;
     says = entries_say_taken.directive blank end tokens left Ttl _ d (h.0.0, h.0.1, h.0.2, refl);
-    reads = h.0.3;
+    reads = (h.0.3, h.1);
     extends = same_octets old new h.1;
     learns = h.0.4;
   }

@@ -25,29 +25,29 @@ use Rattle.dns_reader.specs.declared.ttl.RecordTtl.TheVariants.{Own}
 use Rattle.dns_reader.proofs.PastStates.{owners_alone}
 use Rattle.dns_reader.proofs.Pasts.{said_alone}
 
-module _ (room : Room) (at end : ℕ) (left : List TokenSeen) (t : TokenSeen) (w : Words) (ttl class : ℕ) (labels : List (List ℕ)) (before : State) (old new : List ℕ) (e : EntryRead) (own : w.ttl ≡ Some ttl) (said : w.class ≡ Some class)
+module _ (room : Room) (at end : ℕ) (left : List TokenSeen) (t : TokenSeen) (w : Words) (ttl class : ℕ) (labels : List (List ℕ)) (before : State) (old new : List ℕ) (own : w.ttl ≡ Some ttl) (said : w.class ≡ Some class)
     (absolute : SpellsField None OfName t (wire labels)) where
-  full : record_with before at w (chosen_ttl w.ttl before.default_ttl before.last_ttl None) ≡ Ok (Record at (Own ttl) class w.code)
+  pub full : record_with before at w (chosen_ttl w.ttl before.default_ttl before.last_ttl None) ≡ Ok (Record at (Own ttl) class w.code)
   full = ap (λ o. record_with before at w (chosen_ttl o before.default_ttl before.last_ttl None)) own ∙ ap (λ c. Ok (Record at (Own ttl) (unwrap_or c before.class) w.code)) said
 
-  any_minimum : (own_ttl minimum : Option ℕ) → own_ttl ≡ Some ttl → chosen_ttl own_ttl before.default_ttl before.last_ttl minimum ≡ chosen_ttl own_ttl before.default_ttl before.last_ttl None
+  pub any_minimum : (own_ttl minimum : Option ℕ) → own_ttl ≡ Some ttl → chosen_ttl own_ttl before.default_ttl before.last_ttl minimum ≡ chosen_ttl own_ttl before.default_ttl before.last_ttl None
   any_minimum own_ttl minimum is = ap (λ o. chosen_ttl o before.default_ttl before.last_ttl minimum) is ∙ ap (λ o. chosen_ttl o before.default_ttl before.last_ttl None) (sym is)
 
-  the_record : (r : Result (Unit {0}) TypeRefusal) → ReadsBehind before at w old r new (Ok e) → e ≡ Record at (Own ttl) class w.code
-  the_record (Err x) h = cc
-  the_record (Ok u) h = let is = h.2.2 ∙ ap (record_with before at w) (any_minimum w.ttl h.2.0 own) ∙ full in cc
+  the_record : (e : EntryRead) (r : Result (Unit {0}) TypeRefusal) → ReadsBehind before at w old r new (Ok e) → e ≡ Record at (Own ttl) class w.code
+  the_record e (Err x) h = cc
+  the_record e (Ok u) h = let is = h.2.2 ∙ ap (record_with before at w) (any_minimum w.ttl h.2.0 own) ∙ full in cc
 
-  the_owner : (known : Known) → ReadsOwner before at (Some t) (Ok tt) known → known ≡ Name labels
+  pub the_owner : (known : Known) → ReadsOwner before at (Some t) (Ok tt) known → known ≡ Name labels
   the_owner known h = h.1 ∙ owners_alone.absolute t labels before [] (Name h.0) absolute
       (owner_said_last (Some t) (said_alone owner_said (SaysOwner (Some t)) (Some t) refl) before.origin (no_origin_said [] before.origin tt refl) h.2)
 
-  stands_alone : (known : Known) (first : Result (Unit {0}) EntryRefusal) → ReadsOwner before at (Some t) first known → ReadsWords before room at end first (Ok w) left old (Ok e) new
+  stands_alone : (e : EntryRead) (known : Known) (first : Result (Unit {0}) EntryRefusal) → ReadsOwner before at (Some t) first known → ReadsWords before room at end first (Ok w) left old (Ok e) new
       → (e ≡ Record at (Own ttl) class w.code) × (known ≡ Name labels)
-  stands_alone known (Err x) o h = let no = h.0 in cc
-  stands_alone known (Ok u) o h = (the_record h.0 h.3, the_owner known o)
+  stands_alone e known (Err x) o h = let no = h.0 in cc
+  stands_alone e known (Ok u) o h = (the_record e h.0 h.3, the_owner known o)
 
 pub full_records_alone : FullRecordsStandAlone
 full_records_alone room end tokens left t w ttl class labels before after old new e says own said absolute h =
     let same = entries_say_once false end tokens h.meaning (says_record (Some t) (Ok w) left) h.says says in
     let reads = subst (λ m. ReadsMeaning before room end tokens m old (Ok e) after.owner new) same h.reads in
-    stands_alone room (next_place tokens end) end left t w ttl class labels before old new e own said absolute after.owner reads.0 reads.1 reads.2
+    stands_alone room (next_place tokens end) end left t w ttl class labels before old new own said absolute e after.owner reads.0 reads.1 reads.2

@@ -1,14 +1,25 @@
+pub mod CallsEnd
 pub mod EntryJoins
 pub mod EntrySteps
 pub mod FullRecords
 pub mod Given
+pub mod GivenRows
 pub mod Kept
 pub mod Learned
 pub mod Lines
 pub mod NamesTaken
 pub mod NextEntries
+pub mod NextRecords
 pub mod Parts
+pub mod PartsStay
 pub mod Passing
 pub mod PastStates
 pub mod Pasts
+pub mod RestsSeen
 mod Rows
+pub mod SplitTexts
+pub mod StepsSeen
+pub mod TextParts
+pub mod TextPieces
+pub mod WholeRecords
+pub mod WholeTexts

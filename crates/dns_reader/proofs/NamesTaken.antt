@@ -16,14 +16,13 @@ use Rattle.dns_fields.specs.declared.field.Field.TheVariants.{Name as OfName}
 use Rattle.dns_fields.specs.declared.taking.Refusal.{Refusal}
 use Rattle.dns_fields.specs.declared.error.FieldError.{FieldError}
 use Rattle.dns_reader.specs.Past.{NamedBy}
-use Rattle.dns_reader.specs.Learning.{TakesName, TakesKnown}
-use Rattle.dns_reader.specs.declared.known.Known.{Known}
-use Rattle.dns_reader.specs.declared.known.Known.TheVariants.{Name, Refused}
+use Rattle.dns_reader.specs.Learning.{TakesName}
+use Rattle.dns_reader.specs.declared.known.Known.TheVariants.{Refused}
 
 name_short : (origin : Option (List (List ℕ))) (text form : List ℕ) → SpellsName origin text form → length form ≤ 255
 name_short origin text form h = omega (arith, ap length h.whole, length_wire h.labels, h.is_name.fits)
 
-made : (octets : List ℕ) (labels : List (List ℕ)) → octets ≡ wire labels → IsName labels → EndsInRoot labels → MakesName octets (Ok labels)
+pub made : (octets : List ℕ) (labels : List (List ℕ)) → octets ≡ wire labels → IsName labels → EndsInRoot labels → MakesName octets (Ok labels)
 made octets labels is name root =
     inr (
       omega (arith, ap length is, length_wire labels, name.fits),
@@ -68,9 +67,3 @@ taken_as origin end tokens left old new u none h =
     let gains = h.2 in
     let same : gains.0 ≡ new = sym (gains.2 ∙ ap (λ o. o ++ gains.0) none) in
     (h.0, h.1, subst (SpellsField origin OfName h.0) same gains.1)
-
--- what is known by it
-pub taken_known : (origin : Option (List (List ℕ))) (end : ℕ) (tokens left : List TokenSeen) (r : Result (Unit {0}) Refusal) (known : Known) → TakesKnown origin end tokens r left known → NamedBy origin (slice_get tokens 0) known
-taken_known origin end tokens left (Ok u) known h =
-    subst (NamedBy origin (slice_get tokens 0)) (sym h.1) (subst (λ l. NamedBy origin (slice_get l 0) (Name h.0)) (sym h.2.1) h.2.2)
-taken_known origin end tokens left (Err r) known h = subst (NamedBy origin (slice_get tokens 0)) (sym h.0) h.1.3

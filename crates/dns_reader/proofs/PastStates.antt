@@ -150,7 +150,7 @@ labels_alone origin text labels (origin_alone is none) = absurd (none-some label
 labels_alone origin text labels (absolute parts some spelled are) = absolute parts some spelled are
 labels_alone origin text labels (relative parts last others some spelled no_at none are) = absurd (none-some others none)
 
-name_alone : (origin : Option (List (List ℕ))) (text form : List ℕ) → SpellsName None text form → SpellsName origin text form
+pub name_alone : (origin : Option (List (List ℕ))) (text form : List ℕ) → SpellsName None text form → SpellsName origin text form
 name_alone origin text form h = record { labels = h.labels; spelled = labels_alone origin text h.labels h.spelled; is_name = h.is_name; absolute = h.absolute; whole = h.whole }
 
 alone : (t : TokenSeen) (labels : List (List ℕ)) (start : State) (past : List Said) (owner : Known) → SpellsField None OfName t (wire labels)

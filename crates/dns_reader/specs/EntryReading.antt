@@ -164,11 +164,11 @@ said_of_entry first (says_refused r) result = said_of_refused first
 
 -- ---- entries
 
--- what is read of an entry that says this; the octets so far stay in front
+-- what is read of an entry that says this; but for files and records the octets stay, and these stay in front
 abbrev pub ReadsMeaning : State → Room → ℕ → List TokenSeen → EntryMeaning → List ℕ → Result EntryRead EntryRefusal → Known → List ℕ → Type 0
-ReadsMeaning before room end tokens says_nothing old result owner new = result ≡ Ok Nothing
-ReadsMeaning before room end tokens (says_origin t) old result owner new = ReadsOrigin (known_name before.origin) t result
-ReadsMeaning before room end tokens (says_default_ttl r) old result owner new = result ≡ directive_with r
+ReadsMeaning before room end tokens says_nothing old result owner new = (result ≡ Ok Nothing) × (new ≡ old)
+ReadsMeaning before room end tokens (says_origin t) old result owner new = ReadsOrigin (known_name before.origin) t result × (new ≡ old)
+ReadsMeaning before room end tokens (says_default_ttl r) old result owner new = (result ≡ directive_with r) × (new ≡ old)
 ReadsMeaning before room end tokens (says_include file token) old result owner new = ReadsInclude (known_name before.origin) room (next_place (drop 1 tokens) end) file token old result new
 ReadsMeaning before room end tokens (says_record token words left) old result owner new = ReadsRecord before room (next_place tokens end) end token words left old result owner new
 ReadsMeaning before room end tokens (says_refused r) old result owner new = result ≡ Err (refused_head r)

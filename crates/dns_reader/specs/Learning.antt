@@ -8,9 +8,9 @@ use Rattle.dns_fields.specs.Source.{next_place}
 use Rattle.dns_fields.specs.Taking.{SpellsField, RefusesNext}
 use Rattle.dns_fields.specs.declared.field.Field.TheVariants.{Name as OfName}
 use Rattle.dns_fields.specs.declared.taking.Refusal.{Refusal}
-use Rattle.dns_reader.specs.Past.{Said, IsOriginAfter, IsOwnerAfter, IsRecordTtl, Knows, NamedBy, said_of_ttl, ttls_said}
+use Rattle.dns_reader.specs.Past.{Said, IsOriginAfter, IsOwnerAfter, IsRecordTtl, Knows, NamedBy, ttls_said}
 use Rattle.dns_reader.specs.declared.known.Known.{Known}
-use Rattle.dns_reader.specs.declared.known.Known.TheVariants.{Unsaid, Name, Refused}
+use Rattle.dns_reader.specs.declared.known.Known.TheVariants.{Unsaid, Refused}
 use Rattle.dns_reader.specs.declared.owner_error.OwnerError.{OwnerError}
 use Rattle.dns_reader.specs.declared.owner_error.OwnerError.TheVariants.{NoOwner, Refused as OwnerRefused}
 use Rattle.dns_reader.specs.declared.state.Mark.{Mark}
@@ -29,11 +29,6 @@ TakesName origin end tokens (Ok labels) left = (t : TokenSeen) × (tokens ≡ t 
 TakesName origin end tokens (Err r) left =
     (left ≡ tokens) × (r.at ≡ next_place tokens end) × RefusesNext origin (exactly max_name) OfName tokens [] r.why × NamedBy origin (slice_get tokens 0) Refused
 
--- the name that is taken is known from then on; or it is refused, and so is what is known
-abbrev pub TakesKnown : Option (List (List ℕ)) → ℕ → List TokenSeen → Result (Unit {0}) Refusal → List TokenSeen → Known → Type 0
-TakesKnown origin end tokens (Ok _) left known = (labels : List (List ℕ)) × (known ≡ Name labels) × TakesName origin end tokens (Ok labels) left
-TakesKnown origin end tokens (Err r) left known = (known ≡ Refused) × TakesName origin end tokens (Err r) left
-
 -- why there is no owner
 abbrev pub without_owner : OwnerError → Known
 without_owner NoOwner = Unsaid
@@ -42,10 +37,6 @@ without_owner OwnerRefused = Refused
 -- this is the time to live of a record after all that was said
 abbrev pub TellsTtl : Option ℕ → Option ℕ → State → Option RecordTtl → Type 0
 TellsTtl own minimum state ttl = (start : State) (past : List Said) → Knows start past state → IsRecordTtl start past own minimum ttl
-
--- a record with this time to live says what it does of those after it
-abbrev pub LearnsTtl : State → Option RecordTtl → State → Type 0
-LearnsTtl old ttl new = Learns (said_of_ttl ttl) old new
 
 -- the first that there is
 abbrev pub chosen_ttl : Option ℕ → Option ℕ → Option ℕ → Option ℕ → Option RecordTtl

@@ -11,3 +11,7 @@ pub mod Records
 pub mod Rows
 pub mod Source
 pub mod SourceRows
+pub mod TextEntries
+pub mod TextPieces
+pub mod TextRows
+pub mod WholeTexts

@@ -101,14 +101,6 @@ IsRecordTtl start past own minimum (Some (Last ttl)) = (own ≡ None) × IsDefau
 IsRecordTtl start past own minimum (Some (Minimum ttl)) = (own ≡ None) × IsDefaultTtlAfter start past None × IsLastTtlAfter start past None × (minimum ≡ Some ttl)
 IsRecordTtl start past own minimum None = (own ≡ None) × IsDefaultTtlAfter start past None × IsLastTtlAfter start past None × (minimum ≡ None)
 
--- what a record with this time to live says of those after it
-abbrev pub said_of_ttl : Option RecordTtl → List Said
-said_of_ttl (Some (Own ttl)) = SaysTtl ttl ∷ []
-said_of_ttl (Some (Default ttl)) = []
-said_of_ttl (Some (Last ttl)) = []
-said_of_ttl (Some (Minimum ttl)) = SaysDefaultTtl ttl ∷ []
-said_of_ttl None = []
-
 -- what an included text says of the entries behind it: its times to live, and no names
 abbrev pub ttls_said : List Said → List Said
 ttls_said [] = []

@@ -1,12 +1,15 @@
 -- The entries of a text, one after another.
-use Rattle.std.specs.Prelude.{◌≡◌, true, false, ℕ, List, [], ◌∷◌, Option, Some, None, Result, Ok, Err}
+use Rattle.std.specs.Prelude.{◌≡◌, ◌≢◌, false, ℕ, List, [], ◌∷◌, ◌++◌, Option, Some, None, Result, Ok, Err}
+use Rattle.std.specs.List.{AllByRecursion}
 use Rattle.dns_octets.specs.Room.{Room}
 use Rattle.dns_split.specs.EntryTokens.{EndIs, IsSeen}
+use Rattle.dns_split.specs.Pieces.{AreOctets}
 use Rattle.dns_split.specs.declared.pieces.EndOfEntry.{EndOfEntry}
 use Rattle.dns_split.specs.declared.pieces.Fault.{Fault}
 use Rattle.dns_reader.specs.EntryReading.{ReadsZoneEntry}
-use Rattle.dns_reader.specs.Source.{BeginsEntry, SourceSeen, behind_left, entry_end, entry_left}
+use Rattle.dns_reader.specs.Source.{BeginsEntry, SourceSeen, StartsBehindLine, behind_left, entry_end, entry_left}
 use Rattle.dns_reader.specs.declared.entry.EntryRead.{EntryRead}
+use Rattle.dns_reader.specs.declared.entry.EntryRead.TheVariants.{Directive}
 use Rattle.dns_reader.specs.declared.entry_error.EntryRefusal.{EntryRefusal}
 use Rattle.dns_reader.specs.declared.records.RecordReader.{RecordReader}
 use Rattle.dns_reader.specs.declared.records.RecordRefusal.{RecordRefusal}
@@ -16,8 +19,11 @@ use Rattle.dns_reader.specs.declared.state.State.{State}
 
 -- all entries of a text are left, behind a state
 pub record StartsText (octets : List ℕ) (state : State) (r : RecordReader) : Type 0 where
+  pub are_octets : AreOctets octets
+  pub octets_is : r.octets.now ≡ octets
   pub parts : IsSeen octets r.source.parts
   pub closed : r.source.is_open ≡ false
+  pub began : r.source.began ≡ 0
   pub state_is : r.state ≡ state
 
 -- what is given of an entry that is read
@@ -29,27 +35,54 @@ given_read (Err r) = Err (Entry r)
 abbrev pub Unread : State → List ℕ → State → List ℕ → Type 0
 Unread before old after new = (after ≡ before) × (new ≡ old)
 
--- the source stands behind the end of an entry, or at the fault that cuts it off
-abbrev pub StandsAfter : SourceSeen → Result EndOfEntry Fault → SourceSeen → Type 0
-StandsAfter begun (Ok end) after = (behind_left begun ≡ Ok (EndIs end) ∷ after.parts) × (after.is_open ≡ false) × (after.began ≡ end.at)
-StandsAfter begun (Err fault) after = (behind_left begun ≡ Err fault ∷ []) × (after.is_open ≡ true) × (after.parts ≡ Err fault ∷ [])
+-- the source stands behind the end of an entry, or behind the line of the fault that cuts it off
+abbrev pub StandsAfter : List ℕ → SourceSeen → Result EndOfEntry Fault → SourceSeen → Type 0
+StandsAfter octets begun (Ok end) after = (behind_left begun ≡ Ok (EndIs end) ∷ after.parts) × (after.is_open ≡ false) × (after.began ≡ end.at)
+StandsAfter octets begun (Err fault) after = (behind_left begun ≡ Err fault ∷ []) × StartsBehindLine octets fault.at after
 
 -- what is given of an entry that has an end; and of one that a fault cuts off
 abbrev pub given_of : Result EndOfEntry Fault → Result EntryRead EntryRefusal → Result EntryRead RecordRefusal
 given_of (Ok end) read = given_read read
 given_of (Err fault) read = Err (Text fault)
 
--- an entry that is begun is read by its tokens and the state, and taken to its end; or there is none, or a fault in front of it
-abbrev pub ReadsBegun : Room → SourceSeen → Result (Option StartOfEntry) Fault → State → List ℕ → Option (Result EntryRead RecordRefusal) → RecordReader → List ℕ → Type 0
-ReadsBegun room begun (Ok (Some start)) before old result after new =
+-- an entry that is begun is read by its tokens and the state, and taken to its end; or there is none; or a fault stands in front of it, and its line is passed over
+abbrev pub ReadsBegun : Room → List ℕ → SourceSeen → Result (Option StartOfEntry) Fault → State → List ℕ → Option (Result EntryRead RecordRefusal) → RecordReader → List ℕ → Type 0
+ReadsBegun room octets begun (Ok (Some start)) before old result after new =
     (read : Result EntryRead EntryRefusal) × (end : Result EndOfEntry Fault) × ReadsZoneEntry room start.begins_blank (entry_end begun).at (entry_left begun) before old read after.state new
-    × StandsAfter begun end after.source × (result ≡ Some (given_of end read))
-ReadsBegun room begun (Ok None) before old result after new = (result ≡ None) × (after.source ≡ begun) × Unread before old after.state new
-ReadsBegun room begun (Err fault) before old result after new = (result ≡ Some (Err (Text fault))) × (after.source ≡ begun) × Unread before old after.state new
+    × StandsAfter octets begun end after.source × (result ≡ Some (given_of end read))
+ReadsBegun room octets begun (Ok None) before old result after new = (result ≡ None) × (after.source ≡ begun) × Unread before old after.state new
+ReadsBegun room octets begun (Err fault) before old result after new = (result ≡ Some (Err (Text fault))) × StartsBehindLine octets fault.at after.source × Unread before old after.state new
 
 -- the next entry that has tokens is begun, and read
 pub record ReadsNextEntry (room : Room) (before : RecordReader) (old : List ℕ) (result : Option (Result EntryRead RecordRefusal)) (after : RecordReader) (new : List ℕ) : Type 0 where
   pub start : Result (Option StartOfEntry) Fault
   pub begun : SourceSeen
   pub begins : BeginsEntry before.source start begun
-  pub reads : ReadsBegun room begun start before.state old result after new
+  pub reads : ReadsBegun room before.octets.now begun start before.state old result after new
+  pub octets_stay : after.octets.now ≡ before.octets.now
+
+-- what a call gives: the octets in front of it, the result, the octets then, and the state that it leaves
+pub record EntryGiven : Type 0 where
+  pub old : List ℕ
+  pub result : Result EntryRead RecordRefusal
+  pub new : List ℕ
+  pub state : State
+
+-- calls one after another: each goes on where the one before stopped
+pub data AreGivenInARow (room : Room) (first : RecordReader) : List EntryGiven → RecordReader → Type 0 where
+  none_given : AreGivenInARow room first [] first
+  given_next : (given : List EntryGiven) (middle last : RecordReader) (g : EntryGiven) → AreGivenInARow room first given middle → ReadsNextEntry room middle g.old (Some g.result) last g.new → last.state ≡ g.state
+      → AreGivenInARow room first (given ++ g ∷ []) last
+
+-- a directive, which leaves the octets
+abbrev pub IsDirectiveGiven : List ℕ → EntryGiven → Type 0
+IsDirectiveGiven old g = (g.old ≡ old) × (g.result ≡ Ok Directive) × (g.new ≡ old)
+
+-- directives are read, and then what is given, which is none
+pub record ReadsNextRecord (room : Room) (before : RecordReader) (old : List ℕ) (result : Option (Result EntryRead RecordRefusal)) (after : RecordReader) (new : List ℕ) : Type 0 where
+  pub directives : List EntryGiven
+  pub middle : RecordReader
+  pub row : AreGivenInARow room before directives middle
+  pub are_directives : AllByRecursion (IsDirectiveGiven old) directives
+  pub last : ReadsNextEntry room middle old result after new
+  pub is_last : result ≢ Some (Ok Directive)

@@ -1,7 +1,7 @@
 -- Worked rows of the definitions.
 use Rattle.std.specs.Prelude.{◌≡◌, [], ◌∷◌, Some, None, refl}
 use Rattle.std.proofs.Common.{inl, inr}
-use Rattle.dns_reader.specs.Past.{SaysOrigin, SaysOwner, SaysDefaultTtl, SaysTtl, IsOwnerAfter, no_owner_said, IsRecordTtl, nothing_said, said_of_ttl, ttls_said}
+use Rattle.dns_reader.specs.Past.{SaysOrigin, SaysOwner, SaysDefaultTtl, SaysTtl, IsOwnerAfter, no_owner_said, IsRecordTtl, nothing_said, ttls_said}
 use Rattle.dns_reader.specs.declared.known.Known.TheVariants.{Unsaid}
 use Rattle.dns_reader.specs.declared.state.State.{State}
 use Rattle.dns_reader.specs.declared.ttl.RecordTtl.TheVariants.{Own, Default, Last, Minimum}
@@ -27,9 +27,6 @@ last_row = (refl, inl ((refl, tt), refl), inr (77, record { before = []; at = Sa
 -- an SOA first, which says none: its minimum, and the default of those after it
 minimum_row : IsRecordTtl bare [] None (Some 900) (Some (Minimum 900))
 minimum_row = (refl, inl (tt, refl), inl (tt, refl), refl)
-
-minimum_said_row : said_of_ttl (Some (Minimum 900)) ≡ SaysDefaultTtl 900 ∷ []
-minimum_said_row = refl
 
 -- no time to live is known
 no_ttl_row : IsRecordTtl bare (SaysOwner None ∷ []) None None None

@@ -10,6 +10,7 @@ pub mod records;
 pub mod source;
 pub mod state;
 pub mod state_laws;
+pub mod text_laws;
 pub mod ttl;
 
 pub use entry::{EntryRead, read_entry};

@@ -2,7 +2,7 @@
 ghost use Rattle.std.specs.Prelude.{◌≡◌, ◌≤◌, ◌∷◌, [], List, Result, Ok, Err, Some, drop, true, length, map};
 ghost use Rattle.std.specs.Io.BufRead.{drop_through};
 ghost use Rattle.dns_symbol.specs.Characters.{line_feed};
-ghost use Rattle.dns_split.specs.EntryTokens.{EndIs, GivesEntry, IsSeen, PartSeen, token_seen};
+ghost use Rattle.dns_split.specs.EntryTokens.{EndIs, GivesEntry, IsSeen, IsSeenFrom, PartSeen, token_seen};
 ghost use Rattle.dns_split.specs.declared.entry_tokens.EntryToken.{EntryToken};
 ghost use Rattle.dns_split.specs.declared.entry_tokens.NextEntryError.TheVariants.{BadText};
 ghost use Rattle.dns_split.specs.declared.pieces.EndOfEntry.{EndOfEntry};
@@ -77,6 +77,22 @@ impl<'t> EntrySource<'t> {
             tokens: EntryTokens::of_octets(octets),
             next: None,
             began: 0,
+        }
+    }
+
+    /// The same from an entry's beginning on, with places among all octets.
+    ///
+    /// `at` is where the end of another entry was given, unless that was the last part.
+    pub fn starting_at(octets: &'t [u8], at: usize) -> EntrySource<'t>
+        requires { at ≤ length octets.now }
+        ensures parts { IsSeenFrom octets.now at result.parts }
+        ensures closed { result.is_open ≡ false }
+        ensures began { result.began ≡ at }
+    {
+        EntrySource {
+            tokens: EntryTokens::of_octets_starting_at(octets, at),
+            next: None,
+            began: at,
         }
     }
 

@@ -1,8 +1,8 @@
 //! What the entries before one say of it: the origin, the owner, the times to live and the class.
-ghost use Rattle.std.specs.Prelude.{◌≡◌, None, Some, [], ◌∷◌, MatchResult, slice_get};
+ghost use Rattle.std.specs.Prelude.{◌≡◌, None, Some, [], ◌∷◌, MatchResult};
 ghost use Rattle.std.specs.Option.{option_copied};
-ghost use Rattle.dns_reader.specs.Past.{SaysDefaultTtl, SaysOrigin, SaysOwner, SaysTtl, known_name, nothing_said};
-ghost use Rattle.dns_reader.specs.Learning.{Learns, LearnsTtl, MarksPast, RestoresPast, TakesKnown, TakesName, TellsTtl, chosen_ttl, without_owner};
+ghost use Rattle.dns_reader.specs.Past.{SaysDefaultTtl, nothing_said};
+ghost use Rattle.dns_reader.specs.Learning.{Learns, MarksPast, RestoresPast, TakesName, chosen_ttl, without_owner};
 ghost use Rattle.dns_reader.specs.declared.known.Known.TheVariants.{Name as known_as};
 
 use crate::known::{Known, NameBuffer};
@@ -89,60 +89,6 @@ impl State {
         }
     }
 
-    /// Takes the token behind `$ORIGIN`: from here on the origin is the name that it spells.
-    ///
-    /// A relative name stands before the origin so far, and with none it is refused. After an error
-    /// the token is left, and there is no origin: relative names are refused
-    /// ([`SpellingError::NoOrigin`](dns_spelling::SpellingError::NoOrigin)), and since
-    /// [`Known::Refused`] stands then, a caller knows that this is nothing new. Tokens behind the
-    /// name are left; a caller that refuses them goes on with [`refuse_origin`](State::refuse_origin).
-    pub fn take_origin<S: TokenSource>(&mut self, source: &mut S) -> Result<(), Refusal>
-        ensures takes { TakesKnown (known_name self.old.origin) (S.end source.old).at (S.left source.old) result (S.left source.new) self.new.origin }
-        ensures learns { Learns (SaysOrigin (slice_get (S.left source.old) 0) ∷ []) self.old self.new }
-        ensures end { S.end source.new ≡ S.end source.old }
-    {
-        match take_name(self.origin.name(), source) {
-            Ok(name) => {
-                self.origin = Known::Name(name);
-                Ok(())
-            }
-            Err(refusal) => {
-                self.origin = Known::Refused;
-                Err(refusal)
-            }
-        }
-    }
-
-    /// From here on there is no origin, as after a `$ORIGIN` that is refused for something else than
-    /// its name.
-    pub fn refuse_origin(&mut self)
-        ensures { Learns (SaysOrigin None ∷ []) self.old self.new }
-    {
-        self.origin = Known::Refused;
-    }
-
-    /// Takes the first token of a record that says its owner: the name that it spells is the owner
-    /// of this record, and of those after it that begin with a blank.
-    ///
-    /// A relative name stands before the origin. After an error the token is left, and
-    /// [`owner`](State::owner) is refused until another is said.
-    pub fn take_owner<S: TokenSource>(&mut self, source: &mut S) -> Result<(), Refusal>
-        ensures takes { TakesKnown (known_name self.old.origin) (S.end source.old).at (S.left source.old) result (S.left source.new) self.new.owner }
-        ensures learns { Learns (SaysOwner (slice_get (S.left source.old) 0) ∷ []) self.old self.new }
-        ensures end { S.end source.new ≡ S.end source.old }
-    {
-        match take_name(self.origin.name(), source) {
-            Ok(name) => {
-                self.owner = Known::Name(name);
-                Ok(())
-            }
-            Err(refusal) => {
-                self.owner = Known::Refused;
-                Err(refusal)
-            }
-        }
-    }
-
     /// The owner of a record: the name that was said last, whatever the origin is by now.
     pub fn owner(&self) -> Result<&NameBuffer, OwnerError>
         ensures { MatchResult result (λ name. self.now.owner ≡ known_as name.now) (λ e. self.now.owner ≡ without_owner e) }
@@ -161,14 +107,6 @@ impl State {
         self.default_ttl = Some(ttl);
     }
 
-    /// A record says this time to live of its own, in seconds. So does one that is refused for
-    /// something else.
-    pub fn say_ttl(&mut self, ttl: u32)
-        ensures { Learns (SaysTtl ttl ∷ []) self.old self.new }
-    {
-        self.last_ttl = Some(ttl);
-    }
-
     /// The time to live of a record that says this one of its own, and that has this minimum where
     /// it is an SOA; or none, if none is known.
     pub(crate) fn choose_ttl(&self, own: Option<u32>, minimum: Option<u32>) -> Option<RecordTtl>
@@ -185,32 +123,6 @@ impl State {
         }
         let ttl = minimum?;
         Some(RecordTtl::Minimum(ttl))
-    }
-
-    /// A record has this time to live: its own, or an SOA's minimum, says something of those after it.
-    fn say_record_ttl(&mut self, ttl: RecordTtl)
-        ensures { LearnsTtl self.old (Some ttl) self.new }
-    {
-        match ttl {
-            RecordTtl::Own(seconds) => self.say_ttl(seconds),
-            RecordTtl::Minimum(seconds) => self.say_default_ttl(seconds),
-            RecordTtl::Default(_) => {}
-            RecordTtl::Last(_) => {}
-        }
-    }
-
-    /// The time to live of a record: its own; else the default (RFC 2308 section 4); else that of
-    /// the last record that said one (RFC 1035 section 5.1); else, of an SOA, its minimum, which is
-    /// then the default from here on; else none.
-    ///
-    /// `minimum` is that of an SOA, and none of other records.
-    pub fn find_ttl(&mut self, own: Option<u32>, minimum: Option<u32>) -> Option<RecordTtl>
-        ensures tells { TellsTtl own minimum self.old result }
-        ensures learns { LearnsTtl self.old result self.new }
-    {
-        let ttl = self.choose_ttl(own, minimum)?;
-        self.say_record_ttl(ttl);
-        Some(ttl)
     }
 
     /// The origin and the owner, to be restored behind an included text (RFC 1035 section 5.1). It

@@ -1,6 +1,11 @@
 //! Laws of what entries say of those after them.
-ghost use Rattle.dns_reader.specs.ReadingLaws.{FullRecordsStandAlone};
+ghost use Rattle.dns_spelling.specs.NameSpelling.{IsOrigin};
+ghost use Rattle.dns_reader.specs.Past.{known_name};
+ghost use Rattle.dns_reader.specs.ReadingLaws.{FullRecordsStandAlone, WholeRecordsStandAlone};
 ghost use Rattle.dns_reader.specs.PastLaws.{ChosenTtlsAreTold, IsReadInPieces, IsKnownOnce, OwnersStandAlone, StartsAsItIs, TtlsStandAlone};
+
+use crate::state::State;
+use dns_octets::AsOctets;
 
 /// States that what was said leaves one state, and none else; that where nothing was said it is the
 /// one that reading began from; and that reading may go on from the state that a text leaves as if
@@ -29,3 +34,20 @@ pub fn chosen_ttls_are_told()
 pub fn full_records_stand_alone()
     ensures { FullRecordsStandAlone }
 {}
+
+/// States that a record which says all of this, and data of its type whatever the origin is, is read
+/// as it says from every state, with these data, where their octets surely fit. It does nothing else.
+pub fn whole_records_stand_alone()
+    ensures { WholeRecordsStandAlone }
+{}
+
+/// States that the origin which a state knows has octets, so that what is said for every origin holds
+/// for it. It does nothing of use.
+pub fn known_origins_have_octets(state: &State)
+    ensures { IsOrigin (known_name state.now.origin) }
+{
+    if let Some(origin) = state.origin.name() {
+        // No effect at run time: the proof reads that the octets are below 256.
+        let _octets = AsOctets::as_slice(origin);
+    }
+}

@@ -1,6 +1,7 @@
 //! The calls that rows name.
 mod apl;
 mod bitmap;
+mod blocks;
 mod canonical;
 mod class;
 mod data;
@@ -14,7 +15,9 @@ mod list;
 mod location;
 mod params;
 mod record;
+mod rules;
 mod service;
+mod set;
 mod spelling;
 mod tell;
 mod zone;
@@ -59,6 +62,7 @@ fn call(name: &str, inputs: &Inputs, answer: &mut Answer) {
         "class" => class::call(name, inputs, answer),
         "head" => head::call(name, inputs, answer),
         "record" => record::call(name, inputs, answer),
+        "set" => set::call(name, inputs, answer),
         "zone" => zone::call(name, inputs, answer),
         _ => answer.fail(Failure::NoCall),
     }

@@ -10,6 +10,7 @@ mod label;
 mod name;
 mod octets;
 mod pieces;
+mod report;
 mod scan;
 mod steps;
 mod symbol;
@@ -59,6 +60,7 @@ fn call(name: &str, inputs: &Inputs, answer: &mut Answer) {
         "zone" => zone::call(name, inputs, answer),
         "format" => format::call(name, inputs, answer),
         "zonetext" => zonetext::call(name, inputs, answer),
+        "report" => report::call(name, inputs, answer),
         "dnstext" => dnstext::run(inputs.all(), answer),
         _ => answer.fail(Failure::NoCall),
     }

@@ -9,7 +9,9 @@ pub mod Givens
 pub mod Going
 pub mod Joined
 pub mod Moving
+pub mod Opened
 pub mod Planned
+pub mod Positions
 pub mod Reading
 pub mod Respelling
 pub mod Same

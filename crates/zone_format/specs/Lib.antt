@@ -3,6 +3,7 @@ pub mod Columns
 pub mod Form
 pub mod Formats
 pub mod Marks
+pub mod Place
 pub mod Refusal
 pub mod Rows
 pub mod Squeezed

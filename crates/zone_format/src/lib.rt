@@ -3,6 +3,7 @@
 //! - [`format::format`] appends the form of a text: each line by itself, its things at fixed
 //!   columns.
 //! - [`blocks::format_entries`] and [`blocks::format_last`] do so block by block.
+//! - [`place::advance`] counts lines and columns.
 //! - [`refusal::Refusal`] tells why a text has none.
 //! - [`laws`] has what holds of forms: they keep what the text says, and the form of a form is
 //!   itself.
@@ -12,6 +13,7 @@ pub mod blocks;
 mod columns;
 pub mod format;
 pub mod laws;
+pub mod place;
 pub mod refusal;
 mod stand;
 mod writing;

@@ -1,12 +1,16 @@
 //! The words of the program.
 use crate::format::{Mode, Work};
-use crate::{files, format};
+use crate::records::{Beginning, class_named, origin_named};
+use crate::{check, files, format, records};
 use clap::{Arg, ArgAction, ArgMatches, Command, Error};
 use std::alloc::{AllocError, Global};
 use std::io;
 use zonetext_lib::layout::Gap;
 use zonetext_lib::tokens::Form;
 use zonetext_lib::writer::Output;
+
+/// The code of the class IN.
+const IN: u16 = 1;
 
 /// What is said of `--quiet`.
 const QUIET: &str = "say nothing of how far reading has come";
@@ -26,6 +30,67 @@ fn flag<'a>(alloc: Global, name: &'a str, help: &'a str) -> Arg<'a> {
         .long(name)
         .action(ArgAction::SetTrue)
         .help(help)
+}
+
+/// An option with a value that may be given again.
+fn values<'a>(alloc: Global, name: &'a str, value: &'a str, help: &'a str) -> Arg<'a> {
+    Arg::new(alloc, name)
+        .long(name)
+        .action(ArgAction::Append)
+        .value_name(value)
+        .help(help)
+}
+
+/// What is said of the options of the command that checks files.
+const ZONE: &str = "the zone: its origin, and its rules are to hold";
+
+const ZONE_FROM_NAME: &str = "the same, by the file's name without .zone or .db";
+
+const INCLUDE: &str = "a folder of which files may be included, besides the first file's";
+
+const WHEN: [&str; 3] = ["auto", "always", "never"];
+
+/// The options that say what is found.
+fn with_findings<'a>(alloc: Global, command: Command<'a>) -> Result<Command<'a>, AllocError> {
+    command
+        .arg(values(alloc, "deny", "CODE", "take a finding for an error"))?
+        .arg(values(alloc, "allow", "CODE", "leave a finding out"))?
+        .arg(flag(alloc, "strict", "take every finding for an error"))?
+        .arg(valued(alloc, "max-ttl", "SECONDS", "the greatest time to live"))?
+        .arg(valued(
+            alloc,
+            "class",
+            "CLASS",
+            "the class of the zone, IN unless given",
+        ))
+}
+
+/// The options that say how findings are written.
+fn with_forms<'a>(alloc: Global, command: Command<'a>) -> Result<Command<'a>, AllocError> {
+    let most = "how many findings are written, 20 unless given; 0 for all";
+    let verbose = "write the zone, its serial number and how many records there are";
+    let color = valued(
+        alloc,
+        "color",
+        "WHEN",
+        "when findings are in colour, with their lines",
+    );
+    command
+        .arg(flag(alloc, "json", "write a JSON object for each finding"))?
+        .arg(valued(alloc, "max", "N", most))?
+        .arg(color.value_parser(WHEN.as_slice()))?
+        .arg(flag(alloc, "verbose", verbose).short('v'))
+}
+
+/// The command that checks files.
+fn check_command<'a>(alloc: Global, name: &'a str) -> Result<Command<'a>, AllocError> {
+    let zone = valued(alloc, "zone", "ORIGIN", ZONE).conflicts_with("zone-from-name")?;
+    let command = over_files(alloc, name, "Say what is wrong with zone files")?
+        .arg(flag(alloc, "text", "look at the text alone, not at records"))?
+        .arg(zone)?
+        .arg(flag(alloc, "zone-from-name", ZONE_FROM_NAME))?
+        .arg(values(alloc, "include", "DIR", INCLUDE))?;
+    with_forms(alloc, with_findings(alloc, command)?)
 }
 
 /// The command that lists tokens.
@@ -75,6 +140,24 @@ fn lines_command<'a>(alloc: Global, name: &'a str) -> Result<Command<'a>, AllocE
     .arg(tabbed)
 }
 
+/// An option with a value.
+fn valued<'a>(alloc: Global, name: &'a str, value: &'a str, help: &'a str) -> Arg<'a> {
+    Arg::new(alloc, name)
+        .long(name)
+        .value_name(value)
+        .action(ArgAction::Set)
+        .help(help)
+}
+
+/// The command that prints records.
+fn records_command<'a>(alloc: Global, name: &'a str) -> Result<Command<'a>, AllocError> {
+    let origin = "the name before which relative names stand where a file begins";
+    let class = "the class of a record that says none, IN if not given";
+    over_files(alloc, name, "Write each record in full, one a line")?
+        .arg(valued(alloc, "origin", "NAME", origin))?
+        .arg(valued(alloc, "class", "CLASS", class))
+}
+
 /// A file that must be given.
 fn required_file<'a>(alloc: Global, name: &'a str, help: &'a str) -> Arg<'a> {
     Arg::new(alloc, name)
@@ -96,7 +179,7 @@ fn diff_command<'a>(alloc: Global, name: &'a str) -> Result<Command<'a>, AllocEr
 fn command_line<'a>(alloc: Global) -> Result<Command<'a>, AllocError> {
     let mut all = Command::new(alloc, "zonetext")
         .version("0.2.0")
-        .about("Checks, formats, lists, lays out and compares DNS zone files")
+        .about("Checks, formats, lists, lays out, reads and compares DNS zone files")
         .subcommand_required(true);
     for which in &Which::ALL {
         all = all.subcommand(which.command(alloc)?)?;
@@ -134,16 +217,18 @@ enum Which {
     Tokens,
     Format,
     Lines,
+    Records,
     Diff,
 }
 
 impl Which {
     /// Each command, as the help lists them.
-    const ALL: [Which; 5] = [
+    const ALL: [Which; 6] = [
         Which::Check,
         Which::Tokens,
         Which::Format,
         Which::Lines,
+        Which::Records,
         Which::Diff,
     ];
 
@@ -154,6 +239,7 @@ impl Which {
             Which::Tokens => "tokens",
             Which::Format => "fmt",
             Which::Lines => "lines",
+            Which::Records => "records",
             Which::Diff => "diff",
         }
     }
@@ -167,13 +253,31 @@ impl Which {
         None
     }
 
+    /// An example of its use.
+    fn example<'a>(self) -> &'a str {
+        match self {
+            Which::Check => "Example: zonetext check --zone example.org. example.org.zone",
+            Which::Tokens => "Example: zonetext tokens --json example.org.zone",
+            Which::Format => "Example: zonetext fmt --diff example.org.zone",
+            Which::Lines => "Example: zonetext lines example.org.zone",
+            Which::Records => "Example: zonetext records --origin example.org. example.org.zone",
+            Which::Diff => "Example: zonetext diff old.zone new.zone",
+        }
+    }
+
     /// The words that it takes.
     fn command<'a>(self, alloc: Global) -> Result<Command<'a>, AllocError> {
+        Ok(self.plain_command(alloc)?.after_help(self.example()))
+    }
+
+    /// The same, without the example.
+    fn plain_command<'a>(self, alloc: Global) -> Result<Command<'a>, AllocError> {
         match self {
-            Which::Check => over_files(alloc, self.name(), "Say where files are not zone text"),
+            Which::Check => check_command(alloc, self.name()),
             Which::Tokens => tokens_command(alloc, self.name()),
             Which::Format => fmt_command(alloc, self.name()),
             Which::Lines => lines_command(alloc, self.name()),
+            Which::Records => records_command(alloc, self.name()),
             Which::Diff => diff_command(alloc, self.name()),
         }
     }
@@ -181,10 +285,12 @@ impl Which {
     /// Runs it, and returns the exit status.
     fn run(self, rt: &HostRuntime, inner: &ArgMatches) -> io::Result<u8> {
         match self {
-            Which::Check => run_check(rt, inner),
+            Which::Check if inner.get_flag("text") => run_text_check(rt, inner),
+            Which::Check => check::run(rt, inner, names_of(inner)),
             Which::Tokens => run_tokens(rt, inner),
             Which::Format => run_format(rt, inner, names_of(inner)),
             Which::Lines => run_lines(rt, inner),
+            Which::Records => run_records(rt, inner),
             Which::Diff => run_diff(rt, inner),
         }
     }
@@ -195,8 +301,8 @@ fn names_of<'m>(inner: &'m ArgMatches) -> &'m [&'m str] {
     inner.get_strs("FILE").unwrap_or(&["-"])
 }
 
-/// Checks files, and returns the greatest status.
-fn run_check(rt: &HostRuntime, inner: &ArgMatches) -> io::Result<u8> {
+/// Checks files as text alone, and returns the greatest status.
+fn run_text_check(rt: &HostRuntime, inner: &ArgMatches) -> io::Result<u8> {
     let mut status = 0;
     for file in names_of(inner) {
         status = files::check_file(rt, file, inner.get_flag("quiet"))?.max(status);
@@ -225,6 +331,36 @@ fn run_lines(rt: &HostRuntime, inner: &ArgMatches) -> io::Result<u8> {
     let is_tabbed = inner.get_flag("tabbed");
     let gap = if is_tabbed { Gap::Tab } else { Gap::Space };
     print_files(rt, inner, Output::Lines(gap))
+}
+
+/// Where reading of records begins, or the word that says it wrongly.
+fn beginning_of<'m>(inner: &'m ArgMatches) -> Result<Beginning, &'m str> {
+    let class = match inner.get_str("class") {
+        Some(word) => class_named(word).ok_or(word)?,
+        None => IN,
+    };
+    let origin = match inner.get_str("origin") {
+        Some(word) => Some(origin_named(word).ok_or(word)?),
+        None => None,
+    };
+    Ok(Beginning { class, origin })
+}
+
+/// Prints records, and returns the greatest status.
+fn run_records(rt: &HostRuntime, inner: &ArgMatches) -> io::Result<u8> {
+    let beginning = match beginning_of(inner) {
+        Ok(beginning) => beginning,
+        Err(word) => {
+            eprintln!(rt; "zonetext: records: no origin, or no class: {word}")?;
+            return Ok(2);
+        }
+    };
+    let mut status = 0;
+    for file in names_of(inner) {
+        let is_quiet = inner.get_flag("quiet");
+        status = records::print_records(rt, file, is_quiet, &beginning)?.max(status);
+    }
+    Ok(status)
 }
 
 /// Compares two files.

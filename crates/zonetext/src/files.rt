@@ -11,7 +11,8 @@ use zonetext_lib::comparer::Side;
 use zonetext_lib::diff::Comparison;
 use zonetext_lib::writer::Output;
 
-fn reason(wrong: Wrong) -> &'static str {
+/// What is wrong with a text, in words.
+pub fn reason(wrong: Wrong) -> &'static str {
     match wrong {
         Wrong::Closing => "closing parenthesis, and none is open",
         Wrong::OpenParenthesis => "parenthesis is not closed",

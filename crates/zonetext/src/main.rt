@@ -1,13 +1,21 @@
-//! The program `zonetext`: it checks, formats, lists, lays out and compares zone files.
+//! The program `zonetext`: it checks, formats, lists, lays out, reads and compares zone files.
 #![tactic(auto)]
 
 mod blocks;
+mod check;
+mod checking;
 mod command;
 mod files;
 mod format;
 mod formed;
+mod held;
+mod open_file;
 mod pair;
 mod progress;
+mod records;
+mod reporter;
+mod spots;
+mod zone_files;
 
 use std::process::ExitCode;
 use std::{env, io};

@@ -23,7 +23,7 @@ use Rattle.dns_split.proofs.PieceMoved.{mono}
 use Rattle.dns_split.proofs.PieceSplit.{pieces_split, split_pieces, pieces_one_way}
 use Rattle.zonetext_lib.specs.Blocks.{EndsEntry}
 use Rattle.zonetext_lib.specs.Found.{IsFound, IsOctetFault, IsOpenedAfter}
-use Rattle.zonetext_lib.specs.Place.{IsAt}
+use Rattle.zone_format.specs.Place.{IsAt}
 use Rattle.zonetext_lib.specs.declared.check.Found.{Found}
 use Rattle.zonetext_lib.proofs.Cuts.{fault_after}
 use Rattle.zone_format.proofs.Givens.{whole_of, pieces_after, pieces_in}

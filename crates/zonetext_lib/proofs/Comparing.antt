@@ -10,7 +10,7 @@ use Rattle.dns_split.proofs.PieceSplit.{pieces_split}
 use Rattle.zonetext_lib.specs.Entries.{ComparedPart, HasTokenEntries, ended_after_pieces, ended_by, parts, with_tokens}
 use Rattle.zonetext_lib.specs.Found.{IsOctetFault}
 use Rattle.zonetext_lib.specs.Compare.{part, says, start_of, is_passed, SkipsToPart, ComesNext, GoesOnWithPart, DifferAt, NoCommon}
-use Rattle.zonetext_lib.specs.Place.{IsAt}
+use Rattle.zone_format.specs.Place.{IsAt}
 use Rattle.std.proofs.lemmas.List.{append_cancel_left, map-append, take_all}
 use Rattle.zone_format.proofs.Givens.{first_fault, pieces_after, pieces_in, whole_of}
 use Rattle.zonetext_lib.proofs.Givens.{fault_of}

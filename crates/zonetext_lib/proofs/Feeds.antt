@@ -10,7 +10,7 @@ use Rattle.std.proofs.lemmas.Str.{encode_ascii}
 use Rattle.dns_split.specs.Lexeme.{Line, lexeme_bytes}
 use Rattle.dns_split.proofs.PieceLexemes.{is_high, high_bytes, first_high}
 use Rattle.zonetext_lib.specs.Blocks.{EndsEntry}
-use Rattle.zonetext_lib.specs.Place.{begins_character, column_of, feeds, last_line}
+use Rattle.zone_format.specs.Place.{begins_character, column_of, feeds, last_line}
 use Rattle.zonetext_lib.proofs.After.{entry_line}
 
 abbrev last_of : ℕ → List ℕ → ℕ

@@ -15,7 +15,7 @@ use Rattle.zonetext_lib.specs.declared.tokens.Form.{Form}
 use Rattle.zonetext_lib.specs.Blocks.{EndsEntry}
 use Rattle.zonetext_lib.specs.Entries.{ComparedPart, Token, Ends, begins_glued, parts, parts_after}
 use Rattle.zonetext_lib.specs.Layout.{feed_before, gap_if, laid_out, leads}
-use Rattle.zonetext_lib.specs.Place.{column_of, feeds}
+use Rattle.zone_format.specs.Place.{column_of, feeds}
 use Rattle.zonetext_lib.specs.Tokens.{Appended, token_row, row_at, rows_after}
 use Rattle.zonetext_lib.proofs.Parts.{parts_append, rows_append, rows_ended}
 use Rattle.zonetext_lib.proofs.Cuts.{EndedFront, read_on}

@@ -25,7 +25,7 @@ use Rattle.zonetext_lib.specs.declared.formatter.NoForm.TheVariants.{Wrong, Nul,
 use Rattle.zonetext_lib.specs.Forming.{AddsForm, FormedSoFar, FormsSettled, HasNoFormAfter, HasPosition, as_no_form}
 use Rattle.zonetext_lib.specs.Held.{Held}
 use Rattle.zonetext_lib.specs.HeldForm.{Forming}
-use Rattle.zonetext_lib.specs.Place.{IsAt}
+use Rattle.zone_format.specs.Place.{IsAt}
 use Rattle.zonetext_lib.proofs.After.{entry_line}
 use Rattle.zonetext_lib.proofs.Cuts.{read_on, take_octets}
 use Rattle.zonetext_lib.proofs.Following.{between_back}

@@ -7,9 +7,9 @@ use Rattle.dns_split.specs.Pieces.{AreOctets, moved_fault}
 use Rattle.zonetext_lib.specs.Blocks.{EndsEntry, EndsWith, Holds, Settled}
 use Rattle.zonetext_lib.specs.Found.{IsFound, IsOctetFault, IsOpenedAfter, IsZone}
 use Rattle.zonetext_lib.specs.Held.{Held}
-use Rattle.zonetext_lib.specs.Place.{IsAt}
+use Rattle.zone_format.specs.Place.{IsAt}
 use Rattle.zonetext_lib.specs.declared.check.Found.{Found}
-use Rattle.zonetext_lib.specs.declared.place.Place.{Place}
+use Rattle.zone_format.specs.declared.place.Place.{Place}
 use Rattle.zonetext_lib.proofs.After.{found_on}
 use Rattle.dns_split.proofs.Blocks.{both_octets}
 use Rattle.zonetext_lib.proofs.Cuts.{take_octets, ended_on, zone_on, fault_on, fault_alone, fault_stays_on}

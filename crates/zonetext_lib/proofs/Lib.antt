@@ -1,6 +1,5 @@
 pub mod After
 pub mod Beginnings
-pub mod Columns
 pub mod Comparing
 pub mod Counted
 pub mod Cuts
@@ -13,7 +12,6 @@ pub mod Layouts
 pub mod Lines
 pub mod Made
 pub mod Once
-pub mod Opened
 pub mod Order
 pub mod Parts
 pub mod Passing

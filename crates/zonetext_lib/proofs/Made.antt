@@ -19,7 +19,7 @@ use Rattle.zonetext_lib.specs.Blocks.{EndsEntry, EndsEntryAt, Settled}
 use Rattle.zonetext_lib.specs.Entries.{ComparedPart, Ends, HasEntries, parts, parts_after}
 use Rattle.zonetext_lib.specs.Found.{IsOctetFault}
 use Rattle.zonetext_lib.specs.Layout.{laid_out}
-use Rattle.zonetext_lib.specs.Place.{feeds}
+use Rattle.zone_format.specs.Place.{feeds}
 use Rattle.zonetext_lib.specs.Tokens.{Appended, rows_after}
 use Rattle.zonetext_lib.specs.Writing.{EndsAt, FaultAfter, HasLines, WritesOutput, Until, has_end}
 use Rattle.zone_format.proofs.Givens.{first_fault, first_of_oks, moved_oks, pieces_after, pieces_in, whole_of}

@@ -17,7 +17,7 @@ use Rattle.zonetext_lib.specs.Comparing.{Compared}
 use Rattle.zonetext_lib.specs.Entries.{ComparedPart, Ends, HasTokenEntries, ended_after_pieces, parts, with_tokens}
 use Rattle.zonetext_lib.specs.Found.{IsOctetFault, IsZone}
 use Rattle.zonetext_lib.specs.Held.{Both, Held}
-use Rattle.zonetext_lib.specs.Place.{IsAt, column_of, feeds}
+use Rattle.zone_format.specs.Place.{IsAt, column_of, feeds}
 use Rattle.zonetext_lib.proofs.Comparing.{no_common}
 use Rattle.zonetext_lib.proofs.Cuts.{ReadOn, first_on, none_given, read_on, take_octets}
 use Rattle.zonetext_lib.proofs.Feeds.{column_after, ends_feed, feeds_after}

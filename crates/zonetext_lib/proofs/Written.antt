@@ -8,7 +8,7 @@ use Rattle.dns_split.specs.Pieces.{AreOctets, IsGiven, later, moved, moved_fault
 use Rattle.zonetext_lib.specs.declared.writer.Output.{Output}
 use Rattle.zonetext_lib.specs.Blocks.{Releases, Settled}
 use Rattle.zonetext_lib.specs.Held.{Held, Writing}
-use Rattle.zonetext_lib.specs.Place.{IsAt, feeds}
+use Rattle.zone_format.specs.Place.{IsAt, feeds}
 use Rattle.zonetext_lib.specs.Writing.{MadeAfter, WritesOutput, WritesAll, WritesSettled, Wrote}
 use Rattle.dns_split.proofs.Blocks.{both_octets}
 use Rattle.zonetext_lib.proofs.Cuts.{read_on, take_octets}

@@ -9,7 +9,7 @@ use Rattle.zonetext_lib.specs.declared.blocks.Halt.TheVariants.{Wrong as WrongHa
 use Rattle.zonetext_lib.specs.declared.check.Found.{Found}
 use Rattle.zonetext_lib.specs.Found.{IsFound}
 use Rattle.zonetext_lib.specs.Held.{Held}
-use Rattle.zonetext_lib.specs.Place.{IsAt}
+use Rattle.zone_format.specs.Place.{IsAt}
 
 -- no octets, or zone text whose last entry has none
 abbrev pub EndsEntry : List ℕ → Type 0

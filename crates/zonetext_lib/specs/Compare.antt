@@ -10,7 +10,7 @@ use Rattle.zonetext_lib.specs.declared.diff.Comparison.{Comparison}
 use Rattle.zonetext_lib.specs.declared.diff.Comparison.TheVariants.{Same, Differ, FirstWrong, SecondWrong}
 use Rattle.zonetext_lib.specs.Entries.{ComparedPart, Token, Ends, HasTokenEntries, begins_glued, ended_after_pieces, parts_after, with_tokens}
 use Rattle.zonetext_lib.specs.Found.{IsFound}
-use Rattle.zonetext_lib.specs.Place.{IsAt}
+use Rattle.zone_format.specs.Place.{IsAt}
 
 -- the parts that pieces are of those entries that have tokens, where the entry's last token so far, if it has one, ended here
 abbrev pub says : List ℕ → Option ℕ → List Piece → List ComparedPart

@@ -12,11 +12,11 @@ use Rattle.zonetext_lib.specs.declared.formatter.NoForm.{NoForm}
 use Rattle.zonetext_lib.specs.declared.formatter.NoForm.TheVariants.{Wrong, Nul, OrderMark, OutOfMemory, TooLong}
 use Rattle.zonetext_lib.specs.declared.blocks.Halt.{Halt}
 use Rattle.zonetext_lib.specs.declared.blocks.Halt.TheVariants.{Wrong as WrongHalt, OutOfMemory as OutOfMemoryHalt, TooLong as TooLongHalt}
-use Rattle.zonetext_lib.specs.declared.place.Place.{Place}
+use Rattle.zone_format.specs.declared.place.Place.{Place}
 use Rattle.zonetext_lib.specs.Blocks.{Holds, Settled}
 use Rattle.zonetext_lib.specs.Found.{IsFound, IsOctetFault}
 use Rattle.zonetext_lib.specs.HeldForm.{Forming}
-use Rattle.zonetext_lib.specs.Place.{IsAt}
+use Rattle.zone_format.specs.Place.{IsAt}
 
 abbrev pub as_no_form : Halt → NoForm
 as_no_form (WrongHalt f) = Wrong f

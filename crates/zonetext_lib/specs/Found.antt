@@ -10,7 +10,7 @@ use Rattle.dns_split.specs.declared.position.Position.{Position}
 use Rattle.zonetext_lib.specs.declared.check.Found.{Found}
 use Rattle.zonetext_lib.specs.declared.tokens.Stop.{Stop}
 use Rattle.zonetext_lib.specs.declared.tokens.Stop.TheVariants.{Wrong as WrongStop, OutOfMemory}
-use Rattle.zonetext_lib.specs.Place.{IsAt}
+use Rattle.zone_format.specs.Place.{IsAt}
 
 -- the characters with these numbers are a text of the grammar
 abbrev pub IsZone : List ℕ → Type 0

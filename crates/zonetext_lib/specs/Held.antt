@@ -1,6 +1,6 @@
 -- Octets that are held, and where they begin; and what is written of them.
 use Rattle.std.specs.Prelude.{ℕ, List}
-use Rattle.zonetext_lib.specs.declared.place.Place.{Place}
+use Rattle.zone_format.specs.declared.place.Place.{Place}
 use Rattle.zonetext_lib.specs.declared.writer.Output.{Output}
 
 pub record Held : Type 0 where

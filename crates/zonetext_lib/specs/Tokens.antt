@@ -1,8 +1,7 @@
 -- The rows of tokens.
-use Rattle.std.specs.Prelude.{⊤, ◌≡◌, ℕ, ◌+◌, ◌-◌, ◌/◌, ◌%◌, ◌==◌, ◌||◌, ◌&&◌, nat_lt, nat_le, if◌then◌else◌, Bool, true, false, List, [], ◌∷◌, ◌++◌, take, codes, Option, Some, None, Result, Ok, Err}
+use Rattle.std.specs.Prelude.{⊤, ◌≡◌, ℕ, ◌+◌, Bool, true, false, List, [], ◌∷◌, ◌++◌, take, codes, Option, Some, None, Result, Ok, Err}
 use Rattle.std.specs.List.{flat_map}
 use Rattle.std.specs.Fmt.{decimal}
-use Rattle.dns_symbol.specs.Characters.{space, double_quote, backslash, tilde}
 use Rattle.dns_split.specs.Pieces.{IsGiven, between}
 use Rattle.dns_split.specs.declared.pieces.Piece.{Piece}
 use Rattle.dns_split.specs.declared.pieces.Piece.TheVariants.{Word as WordAt, Quote as QuoteAt, Comment as CommentAt, End as EndAt}
@@ -12,15 +11,9 @@ use Rattle.zonetext_lib.specs.declared.tokens.Form.TheVariants.{Plain, Json}
 use Rattle.zonetext_lib.specs.declared.tokens.Stop.{Stop}
 use Rattle.zonetext_lib.specs.declared.tokens.Stop.TheVariants.{Wrong, OutOfMemory}
 use Rattle.zonetext_lib.specs.Entries.{begins_glued}
-use Rattle.zonetext_lib.specs.Place.{feeds, column_of}
-
--- a digit of base 16
-abbrev pub hex_digit : ℕ → ℕ
-hex_digit n = if nat_lt n 10 then 48 + n else 97 + (n - 10)
-
--- an octet in a JSON string: the characters of ASCII that print stand for themselves, two of them after a backslash, and others are \u00 and two digits
-abbrev pub escaped : ℕ → List ℕ
-escaped c = if c == double_quote || c == backslash then backslash ∷ c ∷ [] else if nat_le space c && nat_le c tilde then c ∷ [] else codes "\\u00" ++ hex_digit (c / 16) ∷ hex_digit (c % 16) ∷ []
+use Rattle.zone_format.specs.Place.{feeds, column_of}
+use Rattle.zonetext_report.specs.declared.json.Charset.TheVariants.{Octets}
+use Rattle.zonetext_report.specs.Json.{json_octet}
 
 -- whether a token is glued: before its kind, and as a member
 abbrev pub plain_kind : Bool → List ℕ → List ℕ
@@ -39,7 +32,7 @@ form_head Json line column kind glued = codes "{\"line\":" ++ (decimal line ++ (
 -- a token's row
 abbrev pub token_row : Form → ℕ → ℕ → List ℕ → Bool → List ℕ → List ℕ
 token_row Plain line column kind glued token = form_head Plain line column kind glued ++ token ++ codes "\n"
-token_row Json line column kind glued token = form_head Json line column kind glued ++ flat_map escaped token ++ codes "\"}\n"
+token_row Json line column kind glued token = form_head Json line column kind glued ++ flat_map (json_octet Octets) token ++ codes "\"}\n"
 
 -- the row of a token of octets that stand after so many lines
 abbrev pub row_at : List ℕ → ℕ → Form → List ℕ → Bool → ℕ → ℕ → List ℕ

@@ -3,18 +3,17 @@ ghost use Rattle.std.specs.Prelude.{◌≡◌, ◌+◌, ◌-◌, ◌++◌, ◌<�
 ghost use Rattle.std.specs.Prelude.{IfOk, IfErr, encode_utf8_all};
 ghost use Rattle.dns_split.specs.Pieces.{AreOctets, moved_fault};
 ghost use Rattle.dns_split.specs.Viable.{IsViable};
-ghost use Rattle.dns_split.specs.declared.pieces.Wrong.TheVariants.{OpenQuote};
 ghost use Rattle.zonetext_lib.specs.Blocks.{AddsBlock, AddsInTime, EndsWith, Holds, IsHeld};
 ghost use Rattle.zonetext_lib.specs.Blocks.{Releases, Settled, SettlesHeld, TakesBlock};
 ghost use Rattle.zonetext_lib.specs.Found.{IsFound, IsOctetFault, IsOpenedAfter, IsZone};
-ghost use Rattle.zonetext_lib.specs.Place.{IsAt};
+ghost use Rattle.zone_format.specs.Place.{IsAt};
 
 use crate::check::{Found, locate_from};
-use crate::place::{Place, advance};
-use dns_split::pieces::{Fault, Piece, Pieces, Wrong};
+use dns_split::pieces::{Fault, Piece, Pieces};
 use dns_split::position::Position;
 use std::alloc::{AllocError, Allocator};
 use std::marker::Model;
+use zone_format::place::{Place, advance, moved};
 
 /// Why no more octets are taken.
 #[derive(Clone, Copy, Debug, PartialEq, Eq)]
@@ -85,22 +84,6 @@ fn fault_of(octets: &[u8]) -> Option<Fault>
         }
     }
     None
-}
-
-/// A fault so much further on.
-fn moved(fault: Fault, by: usize) -> Fault
-    requires at { by + fault.at < 2 ^ 64 }
-    requires quote { (i : ℕ) → fault.wrong ≡ OpenQuote i → by + i < 2 ^ 64 }
-    ensures { result ≡ moved_fault (λ i. by + i) fault }
-{
-    let wrong = match fault.wrong {
-        Wrong::OpenQuote(start) => Wrong::OpenQuote(by + start),
-        other => other,
-    };
-    Fault {
-        at: by + fault.at,
-        wrong,
-    }
 }
 
 /// The fault of octets that begin at a place, with its positions.

@@ -1,12 +1,12 @@
 //! Whether octets are zone text.
 ghost use Rattle.std.specs.Prelude.{◌≡◌, ◌+◌, ◌++◌, ◌<◌, ◌^◌, ℕ, List, length, take, IfOk, IfErr};
 ghost use Rattle.zonetext_lib.specs.Found.{IsFound, IsOctetFault, IsOpenedAfter, IsZone};
-ghost use Rattle.zonetext_lib.specs.Place.{IsAt};
+ghost use Rattle.zone_format.specs.Place.{IsAt};
 
-use crate::place::{advance, line_start};
 use dns_split::opening::outermost_open_of_octets;
 use dns_split::pieces::{Fault, Pieces, Wrong};
 use dns_split::position::Position;
+use zone_format::place::{advance, line_start};
 
 /// The first fault of octets that are not zone text.
 #[derive(Clone, Copy, Debug, PartialEq, Eq)]

@@ -4,13 +4,13 @@ ghost use Rattle.dns_split.specs.Pieces.{IsWithin};
 ghost use Rattle.zonetext_lib.specs.Compare.{CanCut, Compares, IsPieceText, is_passed, part, SkipsToPart, start_of};
 ghost use Rattle.zonetext_lib.specs.Entries.{ended_by};
 ghost use Rattle.zonetext_lib.specs.Comparing.{SameUntil, if_both};
-ghost use Rattle.zonetext_lib.specs.Place.{IsAt};
+ghost use Rattle.zone_format.specs.Place.{IsAt};
 
 use crate::check::{Found, locate};
 use crate::glue::is_glued;
-use crate::place::position_after;
 use dns_split::pieces::{Fault, Piece, Pieces};
 use dns_split::position::Position;
+use zone_format::place::position_after;
 
 /// How two zone texts compare.
 #[derive(Clone, Copy, Debug, PartialEq, Eq)]

@@ -7,11 +7,11 @@ ghost use Rattle.zonetext_lib.specs.Forming.{HasNoForm, HasNoFormAfter, HasPosit
 
 use crate::blocks::{Checker, Halt, locate_after};
 use crate::check::Found;
-use crate::place::{Place, advance};
 use dns_split::position::Position;
 use std::alloc::Allocator;
 use std::marker::Model;
 use zone_format::blocks::{Seam, format_entries, format_last};
+use zone_format::place::{Place, advance};
 use zone_format::refusal::Refusal;
 
 /// Why octets have no form.

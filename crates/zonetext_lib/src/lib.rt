@@ -23,7 +23,6 @@ pub mod formatter;
 mod glue;
 pub mod laws;
 pub mod layout;
-pub mod place;
 pub mod replace;
 pub mod tokens;
 pub mod unified;

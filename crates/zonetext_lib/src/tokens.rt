@@ -1,18 +1,16 @@
 //! A row for each token.
-ghost use Rattle.std.specs.Prelude.{◌≡◌, ◌+◌, ◌++◌, ◌∷◌, [], ◌<◌, ◌≤◌, ◌^◌, IfOk, IfErr, OnOk, length, true};
-ghost use Rattle.std.specs.Fmt.{decimal};
-ghost use Rattle.std.specs.List.{flat_map};
-ghost use Rattle.dns_split.specs.Pieces.{between};
+ghost use Rattle.std.specs.Prelude.{◌≡◌, ◌+◌, ◌++◌, ◌<◌, ◌^◌, IfOk, IfErr, OnOk, length};
 ghost use Rattle.zonetext_lib.specs.Found.{IsStop, IsZone};
-ghost use Rattle.zonetext_lib.specs.Tokens.{escaped, form_head, glued_member, hex_digit, plain_kind, token_row, HasRows};
+ghost use Rattle.zonetext_lib.specs.Tokens.{form_head, glued_member, plain_kind, token_row, HasRows};
 
 use crate::check::{Found, locate};
 use crate::glue::is_glued;
-use crate::place::{Place, move_to, position_after};
 use dns_split::pieces::{Piece, Pieces};
 use dns_split::position::Position;
-use itoa::Buffer;
 use std::alloc::{AllocError, Allocator};
+use zone_format::place::{Place, move_to, position_after};
+use zonetext_report::json::{Charset, push_string};
+use zonetext_report::push::{push_number, push_text};
 
 /// How a row is written.
 #[derive(Clone, Copy, Debug, PartialEq, Eq)]
@@ -41,31 +39,6 @@ impl From<AllocError> for Stop {
     fn from(_error: AllocError) -> Stop {
         Stop::OutOfMemory
     }
-}
-
-/// Appends octets, and a number after them.
-fn push_number<A: Allocator>(
-    out: &mut Vec<u8, A>,
-    before: &[u8],
-    number: usize,
-) -> Result<(), AllocError>
-    ensures { OnOk result (out.new.items ≡ out.old.items ++ before.now ++ decimal number) }
-{
-    let mut buffer = Buffer::new();
-    out.extend_from_slice(before)?;
-    out.extend_from_slice(buffer.format(number).as_bytes())
-}
-
-/// Appends octets, and a text after them.
-fn push_text<A: Allocator>(
-    out: &mut Vec<u8, A>,
-    before: &[u8],
-    text: &str,
-) -> Result<(), AllocError>
-    ensures { OnOk result (out.new.items ≡ out.old.items ++ before.now ++ text.now) }
-{
-    out.extend_from_slice(before)?;
-    out.extend_from_slice(text.as_bytes())
 }
 
 /// Appends a tab and a token's kind.
@@ -117,70 +90,6 @@ fn push_head<A: Allocator>(
     }
 }
 
-/// The digit of base 16.
-fn digit(value: u8) -> u8
-    requires { value < 16 }
-    ensures { result ≡ hex_digit value }
-{
-    if value < 10 {
-        b'0' + value
-    } else {
-        b'a' + (value - 10)
-    }
-}
-
-/// Appends an octet as a JSON string has it.
-fn push_octet<A: Allocator>(out: &mut Vec<u8, A>, octet: u8) -> Result<(), AllocError>
-    ensures { OnOk result (out.new.items ≡ out.old.items ++ escaped octet) }
-{
-    if octet == b'"' || octet == b'\\' {
-        out.extend_from_slice(&[b'\\', octet])
-    } else if (0x20..=0x7E).contains(&octet) {
-        out.extend_from_slice(&[octet])
-    } else {
-        let (high, low) = (digit(octet / 16), digit(octet % 16));
-        out.extend_from_slice(&[b'\\', b'u', b'0', b'0', high, low])
-    }
-}
-
-/// Whether an octet stands for itself in a JSON string.
-fn is_plain(octet: u8) -> bool
-    ensures { result ≡ true → escaped octet ≡ octet ∷ [] }
-{
-    (0x20..=0x7E).contains(&octet) && octet != b'"' && octet != b'\\'
-}
-
-/// Where the octets end, from `start` on, that stand for themselves in a JSON string.
-fn plain_end(token: &[u8], start: usize) -> usize
-    requires { start ≤ length token.now }
-    ensures on { start ≤ result }
-    ensures within { result ≤ length token.now }
-    ensures plain { flat_map escaped (between token.now start result) ≡ between token.now start result }
-{
-    let mut end = start;
-    while end < token.len() && is_plain(token[end]) {
-        end += 1;
-    }
-    end
-}
-
-/// Appends octets as a JSON string has them.
-fn push_escaped<A: Allocator>(out: &mut Vec<u8, A>, token: &[u8]) -> Result<(), AllocError>
-    ensures { OnOk result (out.new.items ≡ out.old.items ++ flat_map escaped token.now) }
-{
-    let mut place = 0;
-    while place < token.len() {
-        let end = plain_end(token, place);
-        out.extend_from_slice(&token[place..end])?;
-        place = end;
-        if place < token.len() {
-            push_octet(out, token[place])?;
-            place += 1;
-        }
-    }
-    Ok(())
-}
-
 /// Appends a token's row.
 fn push_row<A: Allocator>(
     out: &mut Vec<u8, A>,
@@ -199,7 +108,7 @@ fn push_row<A: Allocator>(
             out.extend_from_slice(b"\n")
         }
         Form::Json => {
-            push_escaped(out, token)?;
+            push_string(out, Charset::Octets, token)?;
             out.extend_from_slice(b"\"}\n")
         }
     }

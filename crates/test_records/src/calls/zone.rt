@@ -1,22 +1,38 @@
 //! Entries of zone text, each by the state before it.
+use super::blocks::blocks;
+use super::rules::{dnssec, rules};
 use super::tell::{Octets, origin_of};
 use dns_data::DataError;
 use dns_fields::FieldError;
 use dns_heads::HeadError;
 use dns_kinds::RecordType;
 use dns_reader::{
-    EntryError, EntryRead, EntryRefusal, EntrySource, NameBuffer, RecordTtl, StartOfEntry, State,
-    read_entry,
+    EntryError, EntryRead, EntryRefusal, NameBuffer, RecordReader, RecordRefusal, RecordTtl, State,
 };
+use dns_split::pieces::{Fault, Wrong};
 use row_table::{Answer, Failure, Inputs};
 use std::fmt;
 
 /// The class where reading begins: IN.
 const CLASS: u16 = 1;
 
+/// What is asked for in turn: each entry; the same, of another reader each time, which starts where
+/// the one before stands; or records and files alone.
+#[derive(Clone, Copy)]
+enum Step {
+    Entry,
+    Piece,
+    Record,
+}
+
 pub fn call(name: &str, inputs: &Inputs, answer: &mut Answer) {
     match name {
-        "entries" => entries(inputs.all(), answer),
+        "entries" => zone(inputs.all(), Step::Entry, answer),
+        "pieces" => zone(inputs.all(), Step::Piece, answer),
+        "records" => zone(inputs.all(), Step::Record, answer),
+        "rules" => rules(inputs.all(), answer),
+        "blocks" => blocks(inputs, answer),
+        "dnssec" => dnssec(inputs.all(), answer),
         _ => answer.fail(Failure::NoCall),
     }
 }
@@ -49,7 +65,7 @@ fn tell_owner(state: &State, answer: &mut Answer) {
 }
 
 /// What is read of an entry: of a record its place, owner, time to live, class, type and data.
-fn tell_read(state: &State, read: EntryRead, octets: &[u8], answer: &mut Answer) {
+pub fn tell_read(state: &State, read: EntryRead, octets: &[u8], answer: &mut Answer) {
     match read {
         EntryRead::Nothing => answer.add_text("nothing"),
         EntryRead::Directive => answer.add_text("directive"),
@@ -81,7 +97,7 @@ fn tell_read(state: &State, read: EntryRead, octets: &[u8], answer: &mut Answer)
 }
 
 /// Whether memory was lacking.
-fn lacks_memory(why: EntryError) -> bool {
+pub fn lacks_memory(why: EntryError) -> bool {
     matches!(
         why,
         EntryError::Data(DataError::Field(FieldError::ShortBuf))
@@ -116,17 +132,29 @@ fn tell_refusal(refusal: EntryRefusal, answer: &mut Answer) {
     answer.add_number(at);
 }
 
-/// Reads an entry. Returns whether memory sufficed.
-fn tell_entry(
-    state: &mut State,
-    start: StartOfEntry,
-    source: &mut EntrySource<'_>,
-    answer: &mut Answer,
-) -> bool {
-    let mut target: Octets = Vec::new(answer.heap());
-    match read_entry(state, start.begins_blank, source, &mut target) {
-        Ok(read) => tell_read(state, read, target.as_slice(), answer),
-        Err(refusal) => {
+/// What is wrong with a text.
+fn wrong_name(wrong: Wrong) -> &'static str {
+    match wrong {
+        Wrong::Closing => "closing",
+        Wrong::OpenParenthesis => "open parenthesis",
+        Wrong::OpenQuote(_) => "open quote",
+        Wrong::LoneReturn => "lone return",
+        Wrong::BadEscape => "bad escape",
+    }
+}
+
+/// A fault of the text, and its place.
+fn tell_fault(fault: Fault, answer: &mut Answer) {
+    answer.refuse_text(wrong_name(fault.wrong));
+    answer.add_text("|");
+    answer.add_number(fault.at);
+}
+
+/// Why an entry is not given. Returns whether memory sufficed.
+pub fn tell_not_given(refusal: RecordRefusal, answer: &mut Answer) -> bool {
+    match refusal {
+        RecordRefusal::Text(fault) => tell_fault(fault, answer),
+        RecordRefusal::Entry(refusal) => {
             if lacks_memory(refusal.why) {
                 answer.refuse(&refusal.why);
                 return false;
@@ -134,12 +162,32 @@ fn tell_entry(
             tell_refusal(refusal, answer);
         }
     }
-    answer.add_text(";");
     true
 }
 
+/// Takes one step. Returns whether there are more.
+fn tell_step(reader: &mut RecordReader<'_>, step: Step, answer: &mut Answer) -> bool {
+    let mut target: Octets = Vec::new(answer.heap());
+    let given = match step {
+        Step::Entry | Step::Piece => reader.next_entry(&mut target),
+        Step::Record => reader.next_record(&mut target),
+    };
+    let goes_on = match given {
+        Some(Ok(read)) => {
+            tell_read(&reader.state, read, target.as_slice(), answer);
+            true
+        }
+        Some(Err(refusal)) => tell_not_given(refusal, answer),
+        None => return false,
+    };
+    if goes_on {
+        answer.add_text(";");
+    }
+    goes_on
+}
+
 /// The state where reading begins: with an origin, or without.
-fn state_of(origin: &[Vec<u8>], answer: &mut Answer) -> State {
+pub fn state_of(origin: &[Vec<u8>], answer: &mut Answer) -> State {
     let state = State::new(CLASS);
     match origin_of(origin, answer) {
         Some(origin) => match NameBuffer::from_labels((), &origin) {
@@ -150,25 +198,32 @@ fn state_of(origin: &[Vec<u8>], answer: &mut Answer) -> State {
     }
 }
 
+/// A reader that starts where another stands.
+fn started_again<'t>(
+    text: &'t [u8],
+    reader: RecordReader<'t>,
+    answer: &mut Answer,
+) -> RecordReader<'t> {
+    let at = reader.place();
+    if at > text.len() {
+        answer.fail(Failure::BadInputs);
+        return reader;
+    }
+    RecordReader::starting_at(text, at, reader.state.copied())
+}
+
 /// The entries of a text, one after another.
-fn entries(inputs: &[Vec<u8>], answer: &mut Answer) {
+fn zone(inputs: &[Vec<u8>], step: Step, answer: &mut Answer) {
     let [text, origin @ ..] = inputs else {
         return answer.fail(Failure::BadInputs);
     };
-    let mut state = state_of(origin, answer);
-    let mut source = EntrySource::of_octets(text.as_slice());
+    let mut reader = RecordReader::new(text.as_slice(), state_of(origin, answer));
     for _ in 0..=text.len() {
-        match source.begin() {
-            Ok(Some(start)) => {
-                if !tell_entry(&mut state, start, &mut source, answer) {
-                    return;
-                }
-            }
-            Ok(None) => return,
-            Err(_) => {
-                answer.refuse_text("fault");
-                return;
-            }
+        if !tell_step(&mut reader, step, answer) {
+            return;
+        }
+        if matches!(step, Step::Piece) {
+            reader = started_again(text.as_slice(), reader, answer);
         }
     }
 }

@@ -1,4 +1,4 @@
-use Rattle.std.proofs.Common.{◌∙◌, sym, subst, ap}
+use Rattle.std.proofs.Common.{◌∙◌, subst, ap}
 use Rattle.dns_heads.specs.Heads.{TakesWords}
 use Rattle.dns_reader.specs.EntryReading.{ReadsWords}
 use Rattle.dns_reader.specs.EntrySteps.{tokens_behind_owner}

@@ -2,7 +2,7 @@ use Rattle.std.proofs.Common.{[], sym, subst}
 use Rattle.dns_split.specs.declared.pieces.Fault.{Fault}
 use Rattle.zonetext_lib.specs.Found.{IsOctetFault, IsOpenedAfter}
 use Rattle.std.specs.Prelude.{take}
-use Rattle.zonetext_lib.specs.Place.{IsAt}
+use Rattle.zone_format.specs.Place.{IsAt}
 use Rattle.zonetext_lib.proofs.check.locate.Goals as goal
 
 pub returns : goal.returns

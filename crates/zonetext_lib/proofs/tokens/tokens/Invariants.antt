@@ -1,7 +1,7 @@
 use Rattle.std.proofs.Common.{◌≡◌, ◌++◌, length}
 use Rattle.std.specs.Prelude.{None}
 use Rattle.dns_split.specs.Pieces.{EachWithin}
-use Rattle.zonetext_lib.specs.Place.{Stands}
+use Rattle.zone_format.specs.Place.{Stands}
 use Rattle.zonetext_lib.specs.Tokens.{rows_after}
 use Rattle.zone_format.proofs.Givens.{first_fault}
 use Rattle.zonetext_lib.proofs.Order.{InOrder}

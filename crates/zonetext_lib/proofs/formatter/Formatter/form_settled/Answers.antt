@@ -6,7 +6,7 @@ use Rattle.zone_format.specs.declared.refusal.Refusal.TheVariants.{Nul as NulAt,
 use Rattle.zonetext_lib.specs.Forming.{FormsSettled, HasNoFormAfter, HasPosition}
 use Rattle.zonetext_lib.specs.HeldForm.{Forming}
 use Rattle.zonetext_lib.specs.declared.formatter.NoForm.TheVariants.{Nul, OrderMark}
-use Rattle.zonetext_lib.specs.declared.place.Place.{Place}
+use Rattle.zone_format.specs.declared.place.Place.{Place}
 use Rattle.zonetext_lib.proofs.Forming.{bad_mark, bad_nul, settled_forms}
 use Rattle.zonetext_lib.proofs.formatter.Formatter.form_settled.Goals as goal
 

@@ -4,7 +4,7 @@ use Rattle.zone_format.specs.declared.refusal.Refusal.TheVariants.{Wrong, Nul, O
 use Rattle.zonetext_lib.specs.Blocks.{Holds}
 use Rattle.zonetext_lib.specs.Forming.{HasPosition}
 use Rattle.zonetext_lib.specs.HeldForm.{Forming}
-use Rattle.zonetext_lib.specs.declared.place.Place.{Place}
+use Rattle.zone_format.specs.declared.place.Place.{Place}
 use Rattle.zonetext_lib.proofs.Forming.{ended_fault, last_mark, last_nul}
 use Rattle.zonetext_lib.proofs.formatter.Formatter.why_last.Goals as goal
 

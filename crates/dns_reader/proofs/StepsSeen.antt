@@ -1,0 +1,116 @@
+-- What a call of `next_entry` reads, as an entry of the text.
+use Rattle.std.proofs.Common.{ℕ, ◌≡◌, Bool, true, false, List, [], ◌∷◌, ◌++◌, refl, sym, ap, ◌∙◌, subst, append_assoc, Option, Some, None, Result, Ok, Err}
+use Rattle.std.specs.Prelude.{map}
+use Rattle.dns_octets.specs.Room.{Room}
+use Rattle.dns_split.specs.declared.pieces.EndOfEntry.{EndOfEntry}
+use Rattle.dns_split.specs.declared.pieces.Fault.{Fault}
+use Rattle.dns_split.specs.EntryTokens.{TokenIs, TokenSeen}
+use Rattle.dns_reader.specs.EntryReading.{ReadsZoneEntry}
+use Rattle.dns_reader.specs.Records.{ReadsBegun, ReadsNextEntry, StandsAfter, given_of}
+use Rattle.dns_reader.specs.Source.{BeginsEntry, SourceSeen, StartsBehindLine, behind_left, behind_tokens, end_first, entry_end, entry_left, tokens_first}
+use Rattle.dns_reader.specs.TextEntries.{TextEntry, end_seen, entry_counts, parts_of_entry, place_of_end}
+use Rattle.dns_reader.specs.declared.entry.EntryRead.{EntryRead}
+use Rattle.dns_reader.specs.declared.entry.EntryRead.TheVariants.{Nothing}
+use Rattle.dns_reader.specs.declared.entry_error.EntryRefusal.{EntryRefusal}
+use Rattle.dns_reader.specs.declared.records.RecordReader.{RecordReader}
+use Rattle.dns_reader.specs.declared.records.RecordRefusal.{RecordRefusal}
+use Rattle.dns_reader.specs.declared.records.RecordRefusal.TheVariants.{Text}
+use Rattle.dns_reader.specs.declared.source.StartOfEntry.{StartOfEntry}
+use Rattle.dns_reader.specs.declared.state.State.{State}
+use Rattle.dns_reader.proofs.EntryJoins.{nothing_read}
+use Rattle.dns_reader.proofs.Parts.{Parts}
+use Rattle.dns_reader.proofs.Passing.{ends_of}
+use Rattle.dns_reader.proofs.TextParts.{closed_left, open_parts, tokens_count}
+
+-- behind an end the source has the rest; behind a fault it starts again
+abbrev pub GoesOn : List ℕ → Result EndOfEntry Fault → Parts → SourceSeen → Type 0
+GoesOn octets (Ok e) rest s = (s.parts ≡ rest) × (s.is_open ≡ false) × (s.began ≡ e.at)
+GoesOn octets (Err f) rest s = (rest ≡ []) × StartsBehindLine octets f.at s
+
+pub record StepSeen (room : Room) (octets : List ℕ) (parts : Parts) (before : State) (old : List ℕ) (result : Result EntryRead RecordRefusal) (after : State) (source : SourceSeen) (new : List ℕ) : Type 0 where
+  pub ends : List EndOfEntry
+  pub entry : TextEntry
+  pub rest : Parts
+  pub parts_are : parts ≡ ends_of ends ++ (parts_of_entry entry ++ rest)
+  pub counts : entry_counts entry ≡ true
+  pub read : Result EntryRead EntryRefusal
+  pub reads : ReadsZoneEntry room entry.begins_blank (place_of_end entry.end) entry.tokens before old read after new
+  pub given : result ≡ given_of entry.end read
+  pub goes_on : GoesOn octets entry.end rest source
+
+pub open_left : (s : SourceSeen) → s.is_open ≡ true → (entry_left s ≡ tokens_first s.parts) × (behind_left s ≡ behind_tokens s.parts)
+open_left s = go s.is_open
+  where
+    go : (b : Bool) → b ≡ true
+        → (entry_left (record { began = s.began; is_open = b; parts = s.parts }) ≡ tokens_first s.parts) × (behind_left (record { began = s.began; is_open = b; parts = s.parts }) ≡ behind_tokens s.parts)
+    go true e = (refl, refl)
+    go false e = cc
+
+-- where the open entry ends
+end_of_first : (began : ℕ) (end : Result EndOfEntry Fault) (rest behind : Parts) → behind ≡ end_seen end ∷ rest → end_first began behind ≡ place_of_end end
+end_of_first began (Ok e) rest behind is = ap (end_first began) is
+end_of_first began (Err f) rest behind is = ap (end_first began) is
+
+end_place : (s : SourceSeen) (end : Result EndOfEntry Fault) (rest : Parts) → s.is_open ≡ true → behind_left s ≡ end_seen end ∷ rest → (entry_end s).at ≡ place_of_end end
+end_place s = go s.is_open
+  where
+    go : (b : Bool) (end : Result EndOfEntry Fault) (rest : Parts) → b ≡ true → behind_left (record { began = s.began; is_open = b; parts = s.parts }) ≡ end_seen end ∷ rest
+        → (entry_end (record { began = s.began; is_open = b; parts = s.parts })).at ≡ place_of_end end
+    go true end rest e is = end_of_first s.began end rest (behind_tokens s.parts) is
+    go false end rest e is = cc
+
+-- what comes behind the tokens, and where the source stands then
+stands_rest : (octets : List ℕ) (begun after : SourceSeen) (end : Result EndOfEntry Fault) → StandsAfter octets begun end after → (rest : Parts) × (behind_left begun ≡ end_seen end ∷ rest) × GoesOn octets end rest after
+stands_rest octets begun after (Ok e) h = (after.parts, h.0, (refl, h.1, h.2))
+stands_rest octets begun after (Err f) h = ([], h.0, (refl, h.1))
+
+module _ (room : Room) (before after : RecordReader) (old new : List ℕ) (result : Result EntryRead RecordRefusal) (closed : before.source.is_open ≡ false) where
+  abbrev Seen : Type 0
+  Seen = StepSeen room before.octets.now before.source.parts before.state old result after.state after.source new
+
+  passed_parts : (begun : SourceSeen) (start : Result (Option StartOfEntry) Fault) (h : BeginsEntry before.source start begun) → before.source.parts ≡ ends_of h.ends ++ begun.parts
+  passed_parts begun start h = sym (closed_left before.source closed) ∙ h.passed
+
+  with_tokens : (begun : SourceSeen) (start : StartOfEntry) → BeginsEntry before.source (Ok (Some start)) begun → (read : Result EntryRead EntryRefusal) (end : Result EndOfEntry Fault)
+      → ReadsZoneEntry room start.begins_blank (entry_end begun).at (entry_left begun) before.state old read after.state new → StandsAfter before.octets.now begun end after.source → Some result ≡ Some (given_of end read) → Seen
+  with_tokens begun start h read end reads stands is =
+      let left = open_left begun h.start.0 in
+      let rest = stands_rest before.octets.now begun after.source end stands in
+      let tokens : List TokenSeen = tokens_first begun.parts in
+      let blank : Bool = start.begins_blank in
+      let all : begun.parts ≡ map (λ t. Ok (TokenIs t blank)) tokens ++ (end_seen end ∷ rest.0) =
+      open_parts blank begun.parts h.start.2 ∙ ap (λ l. map (λ t. Ok (TokenIs t blank)) tokens ++ l) (sym left.1 ∙ rest.1) in
+      record {
+        ends = h.ends;
+        entry = record { begins_blank = blank; tokens = tokens; end = end };
+        rest = rest.0;
+        parts_are = passed_parts begun (Ok (Some start)) h ∙ ap (λ l. ends_of h.ends ++ l) (all ∙ sym (append_assoc (map (λ t. Ok (TokenIs t blank)) tokens) (end_seen end ∷ []) rest.0));
+        counts = tokens_count begun.parts end h.start.3;
+        read = read;
+        reads = subst (λ l. ReadsZoneEntry room blank (place_of_end end) l before.state old read after.state new) left.0
+            (subst (λ n. ReadsZoneEntry room blank n (entry_left begun) before.state old read after.state new) (end_place begun end rest.0 h.start.0 rest.1) reads);
+        given = cc;
+        goes_on = rest.2;
+      }
+
+  with_fault : (begun : SourceSeen) (fault : Fault) → BeginsEntry before.source (Err fault) begun → Some result ≡ Some (Err (Text fault)) → StartsBehindLine before.octets.now fault.at after.source → after.state ≡ before.state → new ≡ old → Seen
+  with_fault begun fault h is behind state octets = record {
+    ends = h.ends;
+    entry = record { begins_blank = false; tokens = []; end = Err fault };
+    rest = [];
+    parts_are = passed_parts begun (Err fault) h ∙ ap (λ l. ends_of h.ends ++ l) h.start.1;
+    counts = refl;
+    read = Ok Nothing;
+    reads = subst (λ s. ReadsZoneEntry room false fault.at [] before.state old (Ok Nothing) s new) (sym state)
+        (subst (λ o. ReadsZoneEntry room false fault.at [] before.state old (Ok Nothing) before.state o) (sym octets) (nothing_read room false fault.at [] before.state old refl));
+    given = cc;
+    goes_on = (refl, behind);
+  }
+
+  pub step_seen : ReadsNextEntry room before old (Some result) after new → Seen
+  step_seen h = go h.start h.begins h.reads
+    where
+      go : (start : Result (Option StartOfEntry) Fault) → BeginsEntry before.source start h.begun → ReadsBegun room before.octets.now h.begun start before.state old (Some result) after new → Seen
+      go (Ok (Some start)) b r = with_tokens h.begun start b r.0 r.1 r.2 r.3 r.4
+      go (Ok None) b r = let no = r.0 in cc
+      go (Err fault) b r = with_fault h.begun fault b r.0 r.1 r.2.0 r.2.1

@@ -1,0 +1,93 @@
+-- What is read of a whole text: each entry by its own tokens, and by what those before it say.
+use Rattle.std.specs.Prelude.{◌≡◌, ℕ, List, [], ◌∷◌, ◌++◌, map, None, Result, Some, Ok, ◌<◌, ◌+◌, ◌-◌, length}
+use Rattle.std.specs.List.{filter, flat_map}
+use Rattle.dns_octets.specs.Room.{Room}
+use Rattle.dns_split.specs.declared.pieces.Fault.{Fault}
+use Rattle.dns_split.specs.EntryTokens.{PartSeen}
+use Rattle.dns_split.specs.Pieces.{AreOctets}
+use Rattle.dns_split.specs.Splitting.{Entries, Splits}
+use Rattle.dns_heads.specs.Directives.{first_directive}
+use Rattle.dns_reader.specs.EntryReading.{ReadsZoneEntry, said_of_entry}
+use Rattle.dns_reader.specs.Past.{Knows, Said}
+use Rattle.dns_reader.specs.Records.{AreGivenInARow, EntryGiven, ReadsNextEntry, ReadsNextRecord, StartsText, given_of}
+use Rattle.dns_reader.specs.TextEntries.{IsSeenPastFaults, TextEntry, entry_counts, parts_of_entries, place_of_end, spelled_tokens}
+use Rattle.dns_reader.specs.declared.entry.EntryRead.{EntryRead}
+use Rattle.dns_reader.specs.declared.entry.EntryRead.TheVariants.{Nothing}
+use Rattle.dns_reader.specs.declared.entry_error.EntryRefusal.{EntryRefusal}
+use Rattle.dns_reader.specs.declared.records.RecordReader.{RecordReader}
+use Rattle.dns_reader.specs.declared.records.RecordRefusal.{RecordRefusal}
+use Rattle.dns_reader.specs.declared.state.State.{State}
+
+-- an entry as it was read: what was read of it, and what it says of those after it; the octets in front and behind, and the state that it leaves
+pub record EntryAsRead : Type 0 where
+  pub entry : TextEntry
+  pub read : Result EntryRead EntryRefusal
+  pub said : List Said
+  pub old : List ℕ
+  pub new : List ℕ
+  pub after : State
+
+-- what is given of it: where a fault cuts it off, the fault
+abbrev pub given_as : EntryAsRead → EntryGiven
+given_as r = record { old = r.old; result = given_of r.entry.end r.read; new = r.new; state = r.after }
+
+abbrev pub all_said : List EntryAsRead → List Said
+all_said entries = flat_map (λ r. r.said) entries
+
+-- an entry is read by its own tokens and a state, which knows what was said before
+pub record IsReadBehind (room : Room) (start : State) (past : List Said) (r : EntryAsRead) : Type 0 where
+  pub state : State
+  pub knows : Knows start past state
+  pub reads : ReadsZoneEntry room r.entry.begins_blank (place_of_end r.entry.end) r.entry.tokens state r.old r.read r.after r.new
+  pub says : r.said ≡ said_of_entry (first_directive r.entry.begins_blank r.entry.tokens) reads.meaning r.read
+
+-- What was given of octets is what was read of their entries in order, but for those that have neither tokens nor a fault;
+-- and each of these was read behind what all before it said. These parts are left.
+pub record IsReadSoFar (room : Room) (octets : List ℕ) (start : State) (given : List EntryGiven) (left : List (Result PartSeen Fault)) : Type 0 where
+  pub entries : List TextEntry
+  pub seen : IsSeenPastFaults octets (parts_of_entries entries) left
+  pub read : List EntryAsRead
+  pub are_entries : map (λ r. r.entry) read ≡ filter entry_counts entries
+  pub are_given : map given_as read ≡ given
+  pub each : (before after : List EntryAsRead) (r : EntryAsRead) → read ≡ before ++ (r ∷ after) → IsReadBehind room start (all_said before) r
+
+-- calls one after another, from a text's start on, read it so
+abbrev pub TextsAreRead : Type 0
+TextsAreRead = (room : Room) (octets : List ℕ) (start : State) (first last : RecordReader) (given : List EntryGiven) → StartsText octets start first → AreGivenInARow room first given last
+    → IsReadSoFar room octets start given last.source.parts
+
+-- and where the last of them gives none, nothing is left
+abbrev pub TextsAreReadToTheEnd : Type 0
+TextsAreReadToTheEnd = (room : Room) (octets : List ℕ) (start : State) (first last after : RecordReader) (given : List EntryGiven) (old new : List ℕ) → StartsText octets start first → AreGivenInARow room first given last
+    → ReadsNextEntry room last old None after new → IsReadSoFar room octets start given []
+
+-- the entries of a text that splits are those that it splits into
+abbrev pub ReadEntriesAreSplit : Type 0
+ReadEntriesAreSplit = (room : Room) (octets : List ℕ) (start : State) (given : List EntryGiven) (found : Entries) → AreOctets octets → Splits octets found → (r : IsReadSoFar room octets start given [])
+    → map spelled_tokens r.entries ≡ found
+
+-- rows of calls join
+abbrev pub RowsJoin : Type 0
+RowsJoin = (room : Room) (first middle last : RecordReader) (given more : List EntryGiven) → AreGivenInARow room first given middle → AreGivenInARow room middle more last → AreGivenInARow room first (given ++ more) last
+
+-- a record in turn is the last of such calls
+abbrev pub RecordsEndRows : Type 0
+RecordsEndRows = (room : Room) (before after : RecordReader) (old new : List ℕ) (result : Result EntryRead RecordRefusal) → ReadsNextRecord room before old (Some result) after new
+    → (given : List EntryGiven) × AreGivenInARow room before (given ++ (record { old = old; result = result; new = new; state = after.state }) ∷ []) after
+
+-- what is given of an entry is never that it has no tokens
+abbrev pub SomethingIsGiven : Type 0
+SomethingIsGiven = (room : Room) (before after : RecordReader) (old new : List ℕ) → ReadsNextEntry room before old (Some (Ok Nothing)) after new → ⊥
+
+-- at most so many more calls give something: one for each octet from there on, and one more, where a part is left
+abbrev pub left_with : List (Result PartSeen Fault) → ℕ → ℕ
+left_with [] n = 0
+left_with (p ∷ parts) n = n + 1
+
+abbrev pub calls_left : RecordReader → ℕ
+calls_left r = left_with r.source.parts (length r.octets.now - r.source.began)
+
+-- each call that gives something leaves fewer
+abbrev pub CallsEnd : Type 0
+CallsEnd = (room : Room) (octets : List ℕ) (start : State) (first r after : RecordReader) (given : List EntryGiven) (old new : List ℕ) (result : Result EntryRead RecordRefusal) → StartsText octets start first
+    → AreGivenInARow room first given r → ReadsNextEntry room r old (Some result) after new → calls_left after < calls_left r

@@ -1,0 +1,50 @@
+//! Laws of what is read of a whole text.
+ghost use Rattle.dns_reader.specs.TextPieces.{EndedEntriesStay, PiecesAreReadOn, PiecesStandAlone};
+ghost use Rattle.dns_reader.specs.WholeTexts.{CallsEnd, ReadEntriesAreSplit, RecordsEndRows, RowsJoin, SomethingIsGiven};
+ghost use Rattle.dns_reader.specs.WholeTexts.{TextsAreRead, TextsAreReadToTheEnd};
+
+/// States that calls of [`next_entry`](crate::RecordReader::next_entry) one after another, from a
+/// text's start on, give the entries of the text in order: each is read by its own tokens, and by
+/// what all before it say. Where the last call gives none, nothing is left. It does nothing else.
+pub fn texts_are_read_entry_by_entry()
+    ensures first { TextsAreRead }
+    ensures all { TextsAreReadToTheEnd }
+{}
+
+/// States that the entries of a text that splits are those that it splits into. It does nothing else.
+pub fn read_entries_are_split()
+    ensures { ReadEntriesAreSplit }
+{}
+
+/// States that reading may stop behind an entry and go on there: a reader that starts where calls
+/// have stopped, behind the state that they left, is where they are. What is left is what the octets
+/// from there on have alone, with places further on. It does nothing else.
+pub fn texts_are_read_in_pieces()
+    ensures on { PiecesAreReadOn }
+    ensures alone { PiecesStandAlone }
+{}
+
+/// States that the entries of octets up to one that is not the last stay, whatever octets follow. It
+/// does nothing else.
+pub fn ended_entries_stay()
+    ensures { EndedEntriesStay }
+{}
+
+/// States that rows of calls join, and that a call of
+/// [`next_record`](crate::RecordReader::next_record) is a row of calls of
+/// [`next_entry`](crate::RecordReader::next_entry). It does nothing else.
+pub fn rows_of_calls_join()
+    ensures join { RowsJoin }
+    ensures records { RecordsEndRows }
+{}
+
+/// States that no call gives [`EntryRead::Nothing`](crate::EntryRead::Nothing). It does nothing else.
+pub fn something_is_given()
+    ensures { SomethingIsGiven }
+{}
+
+/// States that each call which gives something leaves fewer that will, so that a loop over a text's
+/// entries ends. It does nothing else.
+pub fn calls_come_to_an_end()
+    ensures { CallsEnd }
+{}

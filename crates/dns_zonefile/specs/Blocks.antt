@@ -1,0 +1,52 @@
+-- Octets that come in blocks, and those of them that are held.
+use Rattle.std.specs.Prelude.{◌≡◌, ℕ, ◌+◌, Bool, true, false, if◌then◌else◌, List, [], ◌++◌, drop, length}
+use Rattle.std.specs.Io.BufRead.{drop_through}
+use Rattle.dns_symbol.specs.Characters.{line_feed}
+use Rattle.dns_split.specs.Pieces.{AreOctets}
+use Rattle.zone_format.specs.Place.{IsAt}
+use Rattle.zone_format.specs.declared.place.Place.{Place}
+
+pub record Blocks : Type 0 where
+  -- those that are held, and the place of the first among all
+  pub octets : List ℕ
+  pub start : Place
+  -- so many of them are read
+  pub next : ℕ
+  -- reading goes on behind the first line feed
+  pub skips : Bool
+  -- where the entry began that was given last, among all
+  pub began : ℕ
+  -- no more are added
+  pub is_finished : Bool
+  -- as many were left when no entry had ended among them
+  pub left : ℕ
+
+abbrev pub no_blocks : Blocks
+no_blocks = record { octets = []; start = record { at = 0; position = record { line = 1; column = 1 } }; next = 0; skips = false; began = 0; is_finished = false; left = 0 }
+
+-- of all octets that were added the last are held
+pub record HoldsLast (all : List ℕ) (b : Blocks) : Type 0 where
+  pub before : List ℕ
+  pub is : all ≡ before ++ b.octets
+  pub at : b.start.at ≡ length before
+  pub position : IsAt 0 before b.start.position
+
+-- where reading stands among all octets
+abbrev pub place_of_next : Blocks → ℕ
+place_of_next b = b.start.at + b.next
+
+-- octets, or what stands behind their first line feed
+abbrev pub behind_line_if : Bool → List ℕ → List ℕ
+behind_line_if skips octets = if skips then drop_through line_feed octets else octets
+
+-- what is left to read of a text
+abbrev pub text_left : Blocks → List ℕ → List ℕ
+text_left b text = behind_line_if b.skips (drop (place_of_next b) text)
+
+-- octets may follow those that were added, unless none do
+abbrev pub MayFollow : Blocks → List ℕ → Type 0
+MayFollow b more = AreOctets more × (b.is_finished ≡ true → more ≡ [])
+
+-- what is held and not read, and what follows
+abbrev pub held_left : Blocks → List ℕ → List ℕ
+held_left b more = behind_line_if b.skips (drop b.next b.octets ++ more)

@@ -1,0 +1,39 @@
+//! Where the first entry of octets ends.
+ghost use Rattle.dns_zonefile.specs.First.{StandsFirst};
+
+use dns_split::pieces::{Fault, Piece, Pieces};
+
+/// Where the first entry of octets ends, or the fault before its end; or `None` where octets that
+/// follow might change it. Where `is_last`, none follow.
+pub(crate) fn first_entry(octets: &[u8], is_last: bool) -> Option<Result<usize, Fault>>
+    ensures { StandsFirst octets.now is_last result }
+{
+    let mut pieces = Pieces::of_octets(octets);
+    while let Some(piece) = pieces.next() {
+        match piece {
+            Ok(Piece::End(end)) => {
+                if is_last {
+                    return Some(Ok(end.at));
+                }
+                return match pieces.next() {
+                    Some(_) => Some(Ok(end.at)),
+                    None => None,
+                };
+            }
+            Ok(Piece::Word(_)) => {}
+            Ok(Piece::Quote(_)) => {}
+            Ok(Piece::Comment(_)) => {}
+            Err(fault) => {
+                if is_last {
+                    return Some(Err(fault));
+                }
+                return if fault.needs_more(octets) {
+                    None
+                } else {
+                    Some(Err(fault))
+                };
+            }
+        }
+    }
+    None
+}

@@ -1,0 +1,16 @@
+//! What is left of a line.
+ghost use Rattle.dns_zonefile.specs.Line.{EndsLineAt};
+
+/// Where the first line of octets ends, behind its line feed, if they have one.
+pub(crate) fn line_end(octets: &[u8]) -> Option<usize>
+    ensures { EndsLineAt octets.now result }
+{
+    let mut at = 0;
+    while at < octets.len() {
+        if octets[at] == b'\n' {
+            return Some(at + 1);
+        }
+        at += 1;
+    }
+    None
+}

@@ -1,0 +1,189 @@
+//! What is found in zones.
+use super::tell::{Octets, origin_of};
+use super::zone::state_of;
+use dns_kinds::RecordType;
+use dns_octets::ShortBuf;
+use dns_reader::{EntryRead, RecordReader, RecordRefusal, State};
+use dns_resource::{Data, Record};
+use dns_spelling::NameText;
+use dns_wire::Name;
+use row_table::{Answer, Failure, Heap};
+use std::slice;
+use zone_dnssec::{SecurityFinding, Times, check_signed};
+use zone_rules::{Finding, SortedRecords, check_zone};
+
+/// A record in memory of which one growth may be refused.
+type HeapRecord<'a> = Record<Octets<'a>, Octets<'a>>;
+
+/// The record of the state's owner, a time to live, a class, and data of a type.
+fn record_of<'a>(
+    state: &State,
+    ttl: u32,
+    class: u16,
+    data: Data<Octets<'a>>,
+    answer: &mut Answer<'a>,
+) -> Option<HeapRecord<'a>> {
+    let Ok(owner) = state.owner() else {
+        answer.fail(Failure::BadInputs);
+        return None;
+    };
+    match Name::<Octets<'a>>::from_labels(answer.heap(), owner) {
+        Ok(owner) => Some(Record {
+            owner,
+            ttl,
+            class,
+            data,
+        }),
+        Err(error) => {
+            answer.refuse(&error);
+            None
+        }
+    }
+}
+
+/// Adds the record of an entry that was read, if it is one. Returns whether reading goes on.
+fn add_record<'a>(
+    state: &State,
+    read: EntryRead,
+    octets: Octets<'a>,
+    records: &mut Vec<HeapRecord<'a>, &'a Heap>,
+    answer: &mut Answer<'a>,
+) -> bool {
+    let EntryRead::Record {
+        ttl,
+        class,
+        code,
+        ..
+    } = read
+    else {
+        return true;
+    };
+    let Ok(data) = Data::from_octets(code, octets) else {
+        answer.fail(Failure::BadInputs);
+        return false;
+    };
+    let Some(record) = record_of(state, ttl.seconds(), class, data, answer) else {
+        return false;
+    };
+    if records.push(record).is_err() {
+        answer.refuse(&ShortBuf);
+        return false;
+    }
+    true
+}
+
+/// The records of a text.
+fn read_records<'a>(
+    text: &[u8],
+    state: State,
+    answer: &mut Answer<'a>,
+) -> Vec<HeapRecord<'a>, &'a Heap> {
+    let mut records: Vec<HeapRecord<'a>, &'a Heap> = Vec::new(answer.heap());
+    let mut reader = RecordReader::new(text, state);
+    for _ in 0..=text.len() {
+        let mut octets: Octets<'a> = Vec::new(answer.heap());
+        match reader.next_entry(&mut octets) {
+            None => return records,
+            Some(Ok(read)) => {
+                if !add_record(&reader.state, read, octets, &mut records, answer) {
+                    return records;
+                }
+            }
+            Some(Err(RecordRefusal::Entry(refusal))) => {
+                answer.refuse(&refusal.why);
+                return records;
+            }
+            Some(Err(RecordRefusal::Text(_))) => {
+                answer.fail(Failure::BadInputs);
+                return records;
+            }
+        }
+    }
+    records
+}
+
+/// A rule, and owner and type of the record that breaks it.
+fn tell_broken(rule: &str, place: Option<usize>, records: &[HeapRecord<'_>], answer: &mut Answer) {
+    answer.add_text(rule);
+    if let Some(place) = place {
+        if let Some(record) = records.get(place) {
+            answer.add_text(" ");
+            answer.add_shown(&NameText(record.owner.as_slice()));
+            answer.add_text(" ");
+            answer.add_shown(&RecordType(record.data.code()));
+        }
+    }
+    answer.add_text(";");
+}
+
+/// What a zone breaks, by rule and record.
+fn tell_finding(finding: &Finding, records: &[HeapRecord<'_>], answer: &mut Answer) {
+    tell_broken(finding.rule.name(), finding.record, records, answer);
+}
+
+/// What a signed zone breaks, by rule and record.
+fn tell_insecure(finding: &SecurityFinding, records: &[HeapRecord<'_>], answer: &mut Answer) {
+    let place = Some(finding.record);
+    tell_broken(finding.rule.name(), place, records, answer);
+}
+
+/// What is found in a zone: its text, and its origin.
+pub fn rules(inputs: &[Vec<u8>], answer: &mut Answer) {
+    let [text, origin @ ..] = inputs else {
+        return answer.fail(Failure::BadInputs);
+    };
+    let Some(name) = origin_of(origin, answer) else {
+        return answer.fail(Failure::BadInputs);
+    };
+    let state = state_of(origin, answer);
+    let mut records = read_records(text.as_slice(), state, answer);
+    if records.sort_by(|left, right| left.compare(right)).is_err() {
+        return answer.refuse(&ShortBuf);
+    }
+    let Some(sorted) = SortedRecords::new(records.as_slice()) else {
+        return answer.fail(Failure::Unlike);
+    };
+    match check_zone(answer.heap(), &name, &sorted) {
+        Ok(found) => {
+            for finding in found.as_slice() {
+                tell_finding(finding, records.as_slice(), answer);
+            }
+        }
+        Err(_) => answer.refuse(&ShortBuf),
+    }
+}
+
+/// The seconds that a text spells.
+fn seconds_of(text: &[u8]) -> Option<u32> {
+    str::from_utf8(text).ok()?.parse::<u32>().ok()
+}
+
+/// What is found in a signed zone: its text, its origin, an instant and a margin.
+pub fn dnssec(inputs: &[Vec<u8>], answer: &mut Answer) {
+    let [text, origin, instant, margin] = inputs else {
+        return answer.fail(Failure::BadInputs);
+    };
+    let (Some(instant), Some(margin)) = (seconds_of(instant), seconds_of(margin)) else {
+        return answer.fail(Failure::BadInputs);
+    };
+    let origin = slice::from_ref(origin);
+    let Some(name) = origin_of(origin, answer) else {
+        return answer.fail(Failure::BadInputs);
+    };
+    let state = state_of(origin, answer);
+    let mut records = read_records(text.as_slice(), state, answer);
+    if records.sort_by(|left, right| left.compare(right)).is_err() {
+        return answer.refuse(&ShortBuf);
+    }
+    let Some(sorted) = SortedRecords::new(records.as_slice()) else {
+        return answer.fail(Failure::Unlike);
+    };
+    match check_signed(answer.heap(), &name, Times { instant, margin }, &sorted) {
+        Ok(found) => {
+            for finding in found.as_slice() {
+                tell_insecure(finding, records.as_slice(), answer);
+            }
+        }
+        Err(_) => answer.refuse(&ShortBuf),
+    }
+}

@@ -1,0 +1,295 @@
+//! Sets of records: in canonical order, compared and digested.
+use super::tell::{Octets, origin_of};
+use super::zone::lacks_memory;
+use arrayvec::ArrayVec;
+use dns_codec::base16;
+use dns_reader::{EntryRead, NameBuffer, RecordReader, RecordRefusal, State};
+use dns_resource::{Data, Record};
+use dns_wire::{MAX_NAME, Name};
+use dns_zone::zonefile_fmt::{DisplayKind, ZonefileFmt};
+use row_table::input::number_of;
+use row_table::{Answer, Failure, Heap, Inputs};
+use zone_digest::{Verdict, check_zone, sha384_digest, sha512_digest};
+use zone_set::{CanonicalSet, Change, ZoneSet, changes_between, is_dnssec, serial_rises};
+
+/// The class where reading begins: IN.
+const CLASS: u16 = 1;
+
+type Owner = ArrayVec<u8, MAX_NAME>;
+
+type OneRecord<'a> = Record<Owner, Octets<'a>>;
+
+type Records<'a> = ZoneSet<Owner, Octets<'a>, &'a Heap>;
+
+type Canonical<'a> = CanonicalSet<Owner, Octets<'a>, &'a Heap>;
+
+pub fn call(name: &str, inputs: &Inputs, answer: &mut Answer) {
+    match name {
+        "sort" => sort(inputs.all(), answer),
+        "unique" => unique(inputs.all(), answer),
+        "diff" => diff(inputs.two(answer), answer),
+        "digest" => digest(inputs.all(), answer),
+        "check" => check(inputs.all(), answer),
+        "rises" => rises(inputs.two(answer), answer),
+        "signing" => signing(inputs.octets(answer), answer),
+        _ => answer.fail(Failure::NoCall),
+    }
+}
+
+/// Says that memory was lacking.
+fn lack(answer: &mut Answer) {
+    answer.refuse_text(super::SHORT);
+}
+
+/// Says that an entry is refused, or that memory was lacking.
+fn tell_refusal(refusal: RecordRefusal, answer: &mut Answer) {
+    match refusal {
+        RecordRefusal::Entry(refusal) if lacks_memory(refusal.why) => lack(answer),
+        _ => answer.refuse_text("refused"),
+    }
+}
+
+/// The record of an entry, whose owner is the state's.
+fn record_of<'a>(
+    state: &State,
+    ttl: u32,
+    class: u16,
+    code: u16,
+    octets: Octets<'a>,
+) -> Option<OneRecord<'a>> {
+    let owner = NameBuffer::from_labels((), state.owner().ok()?).ok()?;
+    let data = Data::from_octets(code, octets).ok()?;
+    Some(Record {
+        owner,
+        ttl,
+        class,
+        data,
+    })
+}
+
+/// The records of a zone's text, in their order; or none, which the answer says why.
+fn read<'a>(text: &[u8], state: State, answer: &mut Answer<'a>) -> Option<Records<'a>> {
+    let mut records: Records<'a> = ZoneSet::new(answer.heap());
+    let mut reader = RecordReader::new(text, state);
+    for _ in 0..=text.len() {
+        let mut octets: Octets<'a> = Vec::new(answer.heap());
+        match reader.next_entry(&mut octets) {
+            None => return Some(records),
+            Some(
+                Ok(
+                    EntryRead::Record {
+                        at: _,
+                        ttl,
+                        class,
+                        code,
+                    },
+                ),
+            ) => {
+                let Some(record) = record_of(&reader.state, ttl.seconds(), class, code, octets)
+                else {
+                    lack(answer);
+                    return None;
+                };
+                if records.push(record).is_err() {
+                    lack(answer);
+                    return None;
+                }
+            }
+            Some(Ok(_)) => {}
+            Some(Err(refusal)) => {
+                tell_refusal(refusal, answer);
+                return None;
+            }
+        }
+    }
+    Some(records)
+}
+
+/// The state where a zone's text begins.
+fn state_of(origin: Option<&Name<&[u8]>>) -> State {
+    let state = State::new(CLASS);
+    match origin {
+        Some(origin) => match NameBuffer::from_labels((), origin) {
+            Ok(name) => state.with_origin(name),
+            Err(_) => state,
+        },
+        None => state,
+    }
+}
+
+/// The records of a zone's text in canonical order, and how many duplicates went.
+fn canonical<'a>(
+    text: &[u8],
+    origin: Option<&Name<&[u8]>>,
+    answer: &mut Answer<'a>,
+) -> Option<(Canonical<'a>, usize)> {
+    let records = read(text, state_of(origin), answer)?;
+    match CanonicalSet::from_set(records) {
+        Ok(made) => Some(made),
+        Err(_) => {
+            lack(answer);
+            None
+        }
+    }
+}
+
+/// A record as one line, a semicolon behind it.
+fn tell_record(record: &OneRecord<'_>, answer: &mut Answer) {
+    answer.add_shown(&record.display_zonefile(DisplayKind::Simple));
+    answer.add_text(";");
+}
+
+/// The records of a text, sorted.
+fn sort(inputs: &[Vec<u8>], answer: &mut Answer) {
+    let [text, origin @ ..] = inputs else {
+        return answer.fail(Failure::BadInputs);
+    };
+    let origin = origin_of(origin, answer);
+    let Some(mut records) = read(text.as_slice(), state_of(origin.as_ref()), answer) else {
+        return;
+    };
+    if records.sort().is_err() {
+        return lack(answer);
+    }
+    for record in records.as_slice() {
+        tell_record(record, answer);
+    }
+}
+
+/// How many duplicates went, and the records that are left.
+fn unique(inputs: &[Vec<u8>], answer: &mut Answer) {
+    let [text, origin @ ..] = inputs else {
+        return answer.fail(Failure::BadInputs);
+    };
+    let origin = origin_of(origin, answer);
+    let Some((records, duplicates)) = canonical(text.as_slice(), origin.as_ref(), answer) else {
+        return;
+    };
+    answer.add_number(duplicates);
+    answer.add_text(";");
+    for record in records.as_slice() {
+        tell_record(record, answer);
+    }
+}
+
+/// A change: `-`, `+` or `~` and the time to live that was, in front of the record.
+fn tell_change(change: &Change<'_, Owner, Octets<'_>>, answer: &mut Answer) {
+    match change {
+        Change::Removed(record) => {
+            answer.add_text("-");
+            tell_record(record, answer);
+        }
+        Change::Added(record) => {
+            answer.add_text("+");
+            tell_record(record, answer);
+        }
+        Change::NewTtl(before, after) => {
+            answer.add_text("~");
+            answer.add_number(usize::try_from(before.ttl).unwrap_or(usize::MAX));
+            answer.add_text(" ");
+            tell_record(after, answer);
+        }
+    }
+}
+
+/// What two texts differ in.
+fn diff((old, new): (&[u8], &[u8]), answer: &mut Answer) {
+    let Some((old, _)) = canonical(old, None, answer) else {
+        return;
+    };
+    let Some((new, _)) = canonical(new, None, answer) else {
+        return;
+    };
+    match changes_between(answer.heap(), &old, &new) {
+        Ok(changes) => {
+            for change in changes.as_slice() {
+                tell_change(change, answer);
+            }
+        }
+        Err(_) => lack(answer),
+    }
+}
+
+/// The digest of a zone by a hash algorithm.
+fn digest(inputs: &[Vec<u8>], answer: &mut Answer) {
+    let [hash, text, origin @ ..] = inputs else {
+        return answer.fail(Failure::BadInputs);
+    };
+    let origin = origin_of(origin, answer);
+    let Some((records, _)) = canonical(text.as_slice(), origin.as_ref(), answer) else {
+        return;
+    };
+    let Some(apex) = origin else {
+        return answer.fail(Failure::BadInputs);
+    };
+    match number_of(hash.as_slice()) {
+        Some(1) => match sha384_digest(answer.heap(), &apex, &records) {
+            Ok(digest) => answer.add_shown(&base16::encode_display(digest.as_slice())),
+            Err(error) => answer.refuse(&error),
+        },
+        Some(2) => match sha512_digest(answer.heap(), &apex, &records) {
+            Ok(digest) => answer.add_shown(&base16::encode_display(digest.as_slice())),
+            Err(error) => answer.refuse(&error),
+        },
+        _ => answer.fail(Failure::BadInputs),
+    }
+}
+
+/// What came of the check of a ZONEMD record.
+fn verdict_text(verdict: Verdict) -> &'static str {
+    match verdict {
+        Verdict::Matches => "matches",
+        Verdict::Differs => "differs",
+        Verdict::OtherSerial => "other serial",
+        Verdict::UnknownScheme => "unknown scheme",
+        Verdict::UnknownHash => "unknown hash",
+        Verdict::Repeated => "repeated",
+    }
+}
+
+/// The verdicts of the ZONEMD records of a zone.
+fn check(inputs: &[Vec<u8>], answer: &mut Answer) {
+    let [text, origin @ ..] = inputs else {
+        return answer.fail(Failure::BadInputs);
+    };
+    let origin = origin_of(origin, answer);
+    let Some((records, _)) = canonical(text.as_slice(), origin.as_ref(), answer) else {
+        return;
+    };
+    let Some(apex) = origin else {
+        return answer.fail(Failure::BadInputs);
+    };
+    match check_zone(answer.heap(), &apex, &records) {
+        Ok(verdicts) => {
+            for verdict in verdicts.as_slice() {
+                answer.add_text(verdict_text(*verdict));
+                answer.add_text(";");
+            }
+        }
+        Err(error) => answer.refuse(&error),
+    }
+}
+
+/// A number of 32 bits in decimal digits.
+fn number32(digits: &[u8], answer: &mut Answer) -> u32 {
+    match u32::try_from(number_of(digits).unwrap_or(usize::MAX)) {
+        Ok(number) => number,
+        Err(_) => {
+            answer.fail(Failure::BadInputs);
+            0
+        }
+    }
+}
+
+/// Whether a serial number rises to another.
+fn rises((old, new): (&[u8], &[u8]), answer: &mut Answer) {
+    let old = number32(old, answer);
+    let new = number32(new, answer);
+    answer.add_bool(serial_rises(old, new));
+}
+
+/// Whether the signing of a zone adds records of a type.
+fn signing(code: &[u8], answer: &mut Answer) {
+    let code = super::tell::number16(code, answer);
+    answer.add_bool(is_dnssec(code));
+}

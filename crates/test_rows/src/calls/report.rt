@@ -1,0 +1,207 @@
+//! What a checker of zone files says.
+ghost use Rattle.std.specs.Prelude.{◌<◌, ◌^◌, length};
+
+use dns_split::position::Position;
+use row_table::input::number_of;
+use row_table::{Answer, Failure, Inputs};
+use std::alloc::AllocError;
+use std::str;
+use zonetext_report::code::{Code, Severity};
+use zonetext_report::excerpt::push_excerpt;
+use zonetext_report::finding::{Finding, push_line};
+use zonetext_report::json::push_json;
+use zonetext_report::lint::{Block, lint, order_mark_len};
+use zonetext_report::policy::Policy;
+use zonetext_report::tally::Tally;
+
+pub fn call(name: &str, inputs: &Inputs, answer: &mut Answer) {
+    match name {
+        "gnu" => tell(Form::Line, inputs.all(), answer),
+        "colour" => tell(Form::Coloured, inputs.all(), answer),
+        "json" => tell(Form::Json, inputs.all(), answer),
+        "caret" => excerpt(false, inputs.all(), answer),
+        "green" => excerpt(true, inputs.all(), answer),
+        "lint" => lint_block(inputs.octets(answer), answer),
+        "order_mark" => order_mark(inputs.octets(answer), answer),
+        "policy" => judge(inputs.all(), answer),
+        "tally" => count(inputs.octets_and_number(answer), answer),
+        _ => answer.fail(Failure::NoCall),
+    }
+}
+
+/// How a finding is told.
+#[derive(Clone, Copy)]
+enum Form {
+    Line,
+    Coloured,
+    Json,
+}
+
+fn text_of<'a>(octets: &'a [u8], answer: &mut Answer) -> &'a str {
+    match str::from_utf8(octets) {
+        Ok(text) => text,
+        Err(_) => {
+            answer.fail(Failure::BadInputs);
+            ""
+        }
+    }
+}
+
+fn number(digits: &[u8], answer: &mut Answer) -> usize {
+    match number_of(digits) {
+        Some(number) => number,
+        None => {
+            answer.fail(Failure::BadInputs);
+            0
+        }
+    }
+}
+
+/// The code with a name.
+fn code_of(name: &[u8], answer: &mut Answer) -> Code {
+    let name = text_of(name, answer);
+    match Code::named(name) {
+        Some(code) => {
+            answer.hold(code.name() == name);
+            code
+        }
+        None => {
+            answer.fail(Failure::BadInputs);
+            Code::Nul
+        }
+    }
+}
+
+/// Where something was opened, if that is told.
+fn opened_at(fields: &[Vec<u8>], answer: &mut Answer) -> Option<Position> {
+    match fields {
+        [line, column] => Some(Position {
+            line: number(line.as_slice(), answer),
+            column: number(column.as_slice(), answer),
+        }),
+        _ => None,
+    }
+}
+
+/// Appends what a finding is told by.
+fn add_told(told: Result<(), AllocError>, out: &[u8], answer: &mut Answer) {
+    match told {
+        Ok(()) => answer.add(out),
+        Err(_) => answer.fail_for_memory(),
+    }
+}
+
+/// A finding: its file, line, column, end column, code and message, and where something was opened.
+fn tell(form: Form, fields: &[Vec<u8>], answer: &mut Answer) {
+    let [file, line, column, end_column, code, message, opened @ ..] = fields else {
+        answer.fail(Failure::BadInputs);
+        return;
+    };
+    let code = code_of(code.as_slice(), answer);
+    let finding = Finding {
+        severity: code.default_severity(),
+        code,
+        position: Position {
+            line: number(line.as_slice(), answer),
+            column: number(column.as_slice(), answer),
+        },
+        end_column: number(end_column.as_slice(), answer),
+        opened: opened_at(opened, answer),
+        message: text_of(message.as_slice(), answer),
+    };
+    let file = text_of(file.as_slice(), answer);
+    let mut out = Vec::new(answer.heap());
+    let told = match form {
+        Form::Line => push_line(&mut out, false, file, &finding),
+        Form::Coloured => push_line(&mut out, true, file, &finding),
+        Form::Json => push_json(&mut out, file, &finding),
+    };
+    add_told(told, out.as_slice(), answer);
+}
+
+/// A line, and a caret under a column.
+fn excerpt(is_coloured: bool, fields: &[Vec<u8>], answer: &mut Answer) {
+    let [line, column, end_column] = fields else {
+        answer.fail(Failure::BadInputs);
+        return;
+    };
+    let column = number(column.as_slice(), answer);
+    let end_column = number(end_column.as_slice(), answer);
+    let mut out = Vec::new(answer.heap());
+    let told = push_excerpt(&mut out, is_coloured, line.as_slice(), column, end_column);
+    add_told(told, out.as_slice(), answer);
+}
+
+/// The most octets of a row's input.
+const MOST: usize = 1 << 24;
+
+/// Octets of which there are not too many.
+fn few<'a>(octets: &'a [u8], answer: &mut Answer) -> &'a [u8]
+    ensures { length result.now < 2 ^ 62 }
+{
+    if octets.len() > MOST {
+        answer.fail(Failure::BadInputs);
+        return &[];
+    }
+    octets
+}
+
+/// What a whole file shows by itself: each code with its place.
+fn lint_block(octets: &[u8], answer: &mut Answer) {
+    let octets = few(octets, answer);
+    let block = Block {
+        is_last: true,
+        tells_crlf: true,
+    };
+    let mut found = Vec::new(answer.heap());
+    if lint(octets, block, &mut found).is_err() {
+        answer.fail_for_memory();
+        return;
+    }
+    for remark in &found {
+        answer.add_text(remark.code.name());
+        answer.add_text("@");
+        answer.add_number(remark.at);
+        answer.add_text("/");
+    }
+}
+
+fn order_mark(octets: &[u8], answer: &mut Answer) {
+    answer.add_number(order_mark_len(octets));
+}
+
+/// What a finding weighs: the code, one that is allowed and one that is denied, and `strict` or not.
+fn judge(fields: &[Vec<u8>], answer: &mut Answer) {
+    let [code, allowed, denied, strict] = fields else {
+        answer.fail(Failure::BadInputs);
+        return;
+    };
+    let allowed = [code_of(allowed.as_slice(), answer)];
+    let denied = [code_of(denied.as_slice(), answer)];
+    let policy = Policy {
+        allowed: &allowed,
+        denied: &denied,
+        is_strict: strict.as_slice() == b"strict".as_slice(),
+    };
+    match policy.severity(code_of(code.as_slice(), answer)) {
+        Some(severity) => answer.add_text(severity.name()),
+        None => answer.add_text("left out"),
+    }
+}
+
+/// Which of some errors (`e`) and warnings are shown, the exit status, and the last line.
+fn count((found, most): (&[u8], usize), answer: &mut Answer) {
+    let mut tally = Tally::new(most);
+    for octet in found {
+        let severity = if *octet == b'e' {
+            Severity::Error
+        } else {
+            Severity::Warning
+        };
+        answer.add_text(if tally.count(severity) { "+" } else { "-" });
+    }
+    answer.add_number(usize::from(tally.status()));
+    let mut out = Vec::new(answer.heap());
+    let told = tally.push_summary(&mut out);
+    add_told(told, out.as_slice(), answer);
+}

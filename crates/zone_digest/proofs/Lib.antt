@@ -1,0 +1,4 @@
+mod AtApex
+mod HashedRecords
+mod Scopes
+mod ZonemdParts

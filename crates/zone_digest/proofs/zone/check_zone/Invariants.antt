@@ -1,0 +1,7 @@
+use Rattle.std.proofs.Common.{take}
+use Rattle.zone_digest.specs.Checks.{HaveVerdicts, apex_data}
+use Rattle.zone_digest.specs.Hashed.{hashed_octets}
+use Rattle.zone_digest.proofs.zone.check_zone.Given as goal
+
+abbrev pub invariant-loop-one : goal.invariant-loop-one
+invariant-loop-one g l = HaveVerdicts l.serial (hashed_octets l.apex l.records) (apex_data 63 l.apex l.records) (apex_data 63 l.apex (take l.one-index l.all)) l.verdicts.items

@@ -1,0 +1,4 @@
+pub mod Checks
+pub mod Hashed
+pub mod Rows
+pub mod Verdicts

@@ -1,0 +1,16 @@
+//! Digests of zones (RFC 8976).
+#![tactic(auto)]
+
+pub mod error;
+pub mod hashing;
+pub mod scope;
+pub mod verdict;
+pub mod zone;
+pub mod zonemd;
+
+pub use error::CheckError;
+pub use hashing::{hash_zone, sha384_digest, sha512_digest};
+pub use scope::is_hashed;
+pub use verdict::{Verdict, check_zonemd};
+pub use zone::check_zone;
+pub use zonemd::Zonemd;

@@ -1,0 +1,48 @@
+//! Data of ZONEMD.
+ghost use Rattle.std.specs.Prelude.{◌≡◌, ◌≢◌, MatchOption};
+ghost use Rattle.zone_digest.specs.Checks.{is_alike};
+ghost use Rattle.zone_digest.specs.Verdicts.{IsZonemd};
+
+use dns_octets::AsOctets;
+use dns_resource::Data;
+
+/// Data of ZONEMD (RFC 8976 section 2.2).
+#[derive(Clone, Copy)]
+pub struct Zonemd<'a> {
+    /// The serial number of the zone's SOA.
+    pub serial: u32,
+    /// How records are collated: 1 is SIMPLE.
+    pub scheme: u8,
+    /// The hash algorithm: 1 is SHA-384, 2 is SHA-512.
+    pub hash: u8,
+    /// The digest.
+    pub digest: &'a [u8],
+}
+
+impl<'a> Zonemd<'a> {
+    /// The parts of data of ZONEMD, and none of other data.
+    pub fn of_data<Octets: AsOctets>(data: &'a Data<Octets>) -> Option<Zonemd<'a>>
+        ensures { MatchOption result («data».now.code ≢ 63) (IsZonemd «data».now) }
+    {
+        if data.code() != 63 {
+            return None;
+        }
+        let octets = data.as_slice();
+        let (front, digest) = octets.split_at(6);
+        Some(Zonemd {
+            serial: u32::from_be_bytes([front[0], front[1], front[2], front[3]]),
+            scheme: front[4],
+            hash: front[5],
+            digest,
+        })
+    }
+
+    /// Whether data of ZONEMD has the same scheme and hash algorithm.
+    pub(crate) fn is_alike<Octets: AsOctets>(&self, data: &Data<Octets>) -> bool
+        requires { «data».now.code ≡ 63 }
+        ensures { result ≡ is_alike self.now «data».now }
+    {
+        let octets = data.as_slice();
+        octets[4] == self.scheme && octets[5] == self.hash
+    }
+}

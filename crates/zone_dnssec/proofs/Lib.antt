@@ -1,0 +1,2 @@
+mod FirstParts
+mod Searches

@@ -1,0 +1,40 @@
+-- The chain of NSEC records (RFC 4034 section 4, RFC 4035 section 2.3).
+use Rattle.std.specs.Prelude.{ℕ, ◌==◌, ◌&&◌, not, Bool, false, Option, List}
+use Rattle.std.specs.List.{find}
+use Rattle.std.specs.Option.{option_map_or}
+use Rattle.std.specs.Ordering.{is_le}
+use Rattle.dns_octets.specs.Lowered.{same_lowered}
+use Rattle.dns_wire.specs.Order.{same_name}
+use Rattle.dns_wire.specs.Wire.{wire}
+use Rattle.dns_canonical.specs.Names.{name_order}
+use Rattle.dns_resource.specs.Parts.{data_part}
+use Rattle.dns_resource.specs.Records.{data_of}
+use Rattle.dns_resource.specs.declared.record.Record.{Record}
+use Rattle.zone_rules.specs.Zones.{type_of, has_type_at}
+use Rattle.zone_dnssec.specs.SignedSets.{is_authoritative, starts}
+
+-- the records stand at one name
+abbrev pub are_at_one_name : {N O : Type 0} → Record N O → Record N O → Bool
+are_at_one_name a b = same_name a.owner b.owner
+
+-- the record is the first at a name with authority that has no NSEC, in a zone without NSEC3PARAM
+abbrev pub lacks_nsec : {N O : Type 0} → List (List ℕ) → List (Record N O) → ℕ → Record N O → Bool
+lacks_nsec origin records place r =
+    not (has_type_at 51 origin records) && (starts are_at_one_name records place r && (is_authoritative origin records r.owner && not (has_type_at 47 r.owner records)))
+
+-- a name comes after another in canonical order (RFC 4034 section 6.1)
+abbrev pub comes_after : List (List ℕ) → List (List ℕ) → Bool
+comes_after later name = not (is_le (name_order later name))
+
+-- the first record with authority whose owner comes after a name
+abbrev pub next_record : {N O : Type 0} → List (List ℕ) → List (Record N O) → List (List ℕ) → Option (Record N O)
+next_record origin records name = find (λ r. comes_after r.owner name && is_authoritative origin records r.owner) records
+
+-- the name that comes next, and after the last one the apex
+abbrev pub next_name : {N O : Type 0} → List (List ℕ) → List (Record N O) → List (List ℕ) → List (List ℕ)
+next_name origin records name = option_map_or (λ r. r.owner) (next_record origin records name) origin
+
+-- an NSEC with authority names another than the next name
+abbrev pub names_other_next : {N O : Type 0} → List (List ℕ) → List (Record N O) → Record N O → Bool
+names_other_next origin records r =
+    type_of r == 47 && (is_authoritative origin records r.owner && option_map_or (λ octets. not (same_lowered octets (wire (next_name origin records r.owner)))) (data_part (data_of r) 0) false)

@@ -1,0 +1,141 @@
+//! Which types an NSEC lists (RFC 4034 section 4.1.2).
+ghost use Rattle.std.specs.Prelude.{◌≡◌, ◌≤◌, drop, filter, length};
+ghost use Rattle.std.specs.List.{list_all};
+ghost use Rattle.dns_lists.specs.Bitmap.{has, types_of};
+ghost use Rattle.dns_wire.specs.Order.{same_name};
+ghost use Rattle.zone_dnssec.specs.NsecTypes.{bitmap_octets, has_listed_type, is_in_bitmap, lists_exactly, lists_other_types, may_be_listed, stands_at_delegation};
+
+use crate::sets::has_authority;
+use crate::types::{DS, NS, NSEC, RRSIG};
+use dns_lists::BitmapTypes;
+use dns_octets::AsOctets;
+use dns_resource::{Data, Record};
+use dns_wire::Name;
+use zone_rules::SortedRecords;
+use zone_rules::hosts::is_cut;
+use zone_rules::names::view;
+use zone_rules::sorted::{has_type, owned_by};
+
+/// The octets behind so many.
+fn behind(octets: &[u8], count: usize) -> &[u8]
+    requires { count ≤ length octets.now }
+    ensures { result.now ≡ drop count octets.now }
+{
+    &octets[count..]
+}
+
+/// The bitmap in data of an NSEC.
+fn types_octets<Octets: AsOctets>(data: &Data<Octets>) -> &[u8]
+    ensures { result.now ≡ bitmap_octets «data».now }
+{
+    let octets = data.as_slice();
+    match data.part(0) {
+        Some(next) => behind(octets, next.len()),
+        None => &octets[..0],
+    }
+}
+
+/// Whether a bitmap lists a type.
+fn lists(bitmap: &[u8], code: u16) -> bool
+    ensures { result ≡ has (types_of bitmap.now) code }
+{
+    BitmapTypes::new(bitmap).any(|listed| listed == code)
+}
+
+/// Whether an NSEC at a delegation lists a type, if it stands there.
+fn is_for_delegation(code: u16) -> bool
+    ensures { result ≡ stands_at_delegation code }
+{
+    matches!(code, NS | DS | RRSIG | NSEC)
+}
+
+/// Whether an NSEC at a name lists a type, if it stands there.
+fn is_listable<Owner: AsOctets, Octets: AsOctets>(
+    origin: &Name<&[u8]>,
+    records: &SortedRecords<'_, Owner, Octets>,
+    name: &Name<&[u8]>,
+    code: u16,
+) -> bool
+    ensures { result ≡ may_be_listed origin.now records.now name.now code }
+{
+    is_for_delegation(code) || !is_cut(origin, records, name)
+}
+
+/// Whether an NSEC at a name has to list a type.
+fn is_to_be_listed<Owner: AsOctets, Octets: AsOctets>(
+    origin: &Name<&[u8]>,
+    records: &SortedRecords<'_, Owner, Octets>,
+    name: &Name<&[u8]>,
+    code: u16,
+) -> bool
+    ensures { result ≡ has_listed_type origin.now records.now name.now code }
+{
+    has_type(records, name, code) && is_listable(origin, records, name, code)
+}
+
+/// Whether each type that a bitmap lists is to be listed at a name.
+fn lists_only<Owner: AsOctets, Octets: AsOctets>(
+    origin: &Name<&[u8]>,
+    records: &SortedRecords<'_, Owner, Octets>,
+    name: &Name<&[u8]>,
+    bitmap: &[u8],
+) -> bool
+    ensures { result ≡ list_all (has_listed_type origin.now records.now name.now) (types_of bitmap.now) }
+{
+    BitmapTypes::new(bitmap).all(|code| is_to_be_listed(origin, records, name, code))
+}
+
+/// Whether a bitmap lists the type of a record, or needn't.
+fn is_listed<Owner: AsOctets, Octets: AsOctets>(
+    origin: &Name<&[u8]>,
+    records: &SortedRecords<'_, Owner, Octets>,
+    name: &Name<&[u8]>,
+    bitmap: &[u8],
+    record: &Record<Owner, Octets>,
+) -> bool
+    ensures { result ≡ is_in_bitmap origin.now records.now name.now bitmap.now «record».now }
+{
+    let code = record.data.code();
+    !is_listable(origin, records, name, code) || lists(bitmap, code)
+}
+
+/// Whether a bitmap lists the type of each record at a name that is to be listed.
+fn lists_each<Owner: AsOctets, Octets: AsOctets>(
+    origin: &Name<&[u8]>,
+    records: &SortedRecords<'_, Owner, Octets>,
+    name: &Name<&[u8]>,
+    bitmap: &[u8],
+) -> bool
+    ensures { result ≡ list_all (is_in_bitmap origin.now records.now name.now bitmap.now) (filter (λ r. same_name r.owner name.now) records.now) }
+{
+    owned_by(records, name)
+        .iter()
+        .all(|record| is_listed(origin, records, name, bitmap, record))
+}
+
+/// Whether a bitmap lists exactly the types that are to be listed at a name.
+fn lists_types<Owner: AsOctets, Octets: AsOctets>(
+    origin: &Name<&[u8]>,
+    records: &SortedRecords<'_, Owner, Octets>,
+    name: &Name<&[u8]>,
+    bitmap: &[u8],
+) -> bool
+    ensures { result ≡ lists_exactly origin.now records.now name.now bitmap.now }
+{
+    lists_only(origin, records, name, bitmap) && lists_each(origin, records, name, bitmap)
+}
+
+/// Whether a record is an NSEC that lists other types than those at its owner.
+pub fn has_wrong_types<Owner: AsOctets, Octets: AsOctets>(
+    origin: &Name<&[u8]>,
+    records: &SortedRecords<'_, Owner, Octets>,
+    record: &Record<Owner, Octets>,
+) -> bool
+    ensures { result ≡ lists_other_types origin.now records.now «record».now }
+{
+    let owner = view(&record.owner);
+    if record.data.code() != NSEC || !has_authority(origin, records, &owner) {
+        return false;
+    }
+    !lists_types(origin, records, &owner, types_octets(&record.data))
+}

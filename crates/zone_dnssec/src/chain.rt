@@ -1,0 +1,44 @@
+//! The chain of NSEC records (RFC 4034 section 4, RFC 4035 section 2.3).
+ghost use Rattle.std.specs.Prelude.{◌≡◌};
+ghost use Rattle.zone_dnssec.specs.NsecChain.{are_at_one_name, lacks_nsec};
+ghost use Rattle.zone_dnssec.specs.SignedSets.{starts};
+
+use crate::sets::has_authority;
+use crate::types::{NSEC, NSEC3PARAM};
+use dns_octets::AsOctets;
+use dns_resource::Record;
+use dns_wire::Name;
+use zone_rules::SortedRecords;
+use zone_rules::names::view;
+use zone_rules::pairs::{before, have_one_owner};
+use zone_rules::sorted::has_type;
+
+/// Whether a record is the first at its owner.
+fn is_first_at_owner<Owner: AsOctets, Octets: AsOctets>(
+    records: &SortedRecords<'_, Owner, Octets>,
+    place: usize,
+    record: &Record<Owner, Octets>,
+) -> bool
+    ensures { result ≡ starts are_at_one_name records.now place «record».now }
+{
+    match before(records, place) {
+        Some(earlier) => !have_one_owner(earlier, record),
+        None => true,
+    }
+}
+
+/// Whether a record is the first at an owner that needs an NSEC and has none.
+pub fn is_without_nsec<Owner: AsOctets, Octets: AsOctets>(
+    origin: &Name<&[u8]>,
+    records: &SortedRecords<'_, Owner, Octets>,
+    place: usize,
+    record: &Record<Owner, Octets>,
+) -> bool
+    ensures { result ≡ lacks_nsec origin.now records.now place «record».now }
+{
+    if has_type(records, origin, NSEC3PARAM) || !is_first_at_owner(records, place, record) {
+        return false;
+    }
+    let owner = view(&record.owner);
+    has_authority(origin, records, &owner) && !has_type(records, &owner, NSEC)
+}

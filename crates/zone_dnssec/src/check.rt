@@ -1,0 +1,147 @@
+//! What is found in a signed zone.
+ghost use Rattle.std.specs.Prelude.{◌≡◌, ◌++◌, OnOk, IfOk};
+ghost use Rattle.std.specs.List.{flat_map, range_with_len};
+ghost use Rattle.zone_dnssec.specs.SecurityFindings.{breaks_security, breaks_security_at, insecure_at, insecure_if, insecure_in_zone, insecure_of};
+ghost use Rattle.zone_rules.specs.Zones.{has_type_at};
+
+use crate::bitmaps::has_wrong_types;
+use crate::chain::is_without_nsec;
+use crate::links::has_wrong_next;
+use crate::rule::{SecurityFinding, SecurityRule};
+use crate::sets::{is_unsigned, is_without_delegation, is_without_set};
+use crate::times::{Times, has_expired, is_expiring, is_too_early};
+use crate::types::DNSKEY;
+use dns_octets::AsOctets;
+use dns_resource::Record;
+use dns_wire::Name;
+use std::alloc::{AllocError, Allocator};
+use zone_rules::SortedRecords;
+use zone_rules::names::view;
+use zone_rules::sorted::has_type;
+
+/// The rules, in the order in which they are told of a record.
+const SECURITY_RULES: [SecurityRule; 9] = [
+    SecurityRule::Expired,
+    SecurityRule::ExpiresSoon,
+    SecurityRule::NotYetValid,
+    SecurityRule::Unsigned,
+    SecurityRule::SignsNothing,
+    SecurityRule::NoNsec,
+    SecurityRule::OtherNext,
+    SecurityRule::OtherTypes,
+    SecurityRule::DsWithoutNs,
+];
+
+/// Whether a record at a place breaks a rule.
+fn breaks_rule<Owner: AsOctets, Octets: AsOctets>(
+    rule: SecurityRule,
+    origin: &Name<&[u8]>,
+    times: Times,
+    records: &SortedRecords<'_, Owner, Octets>,
+    place: usize,
+    record: &Record<Owner, Octets>,
+) -> bool
+    ensures { result ≡ breaks_security rule origin.now times records.now place «record».now }
+{
+    match rule {
+        SecurityRule::Expired => has_expired(times.instant, record),
+        SecurityRule::ExpiresSoon => is_expiring(times, record),
+        SecurityRule::NotYetValid => is_too_early(times.instant, record),
+        SecurityRule::Unsigned => is_unsigned(origin, records, place, record),
+        SecurityRule::SignsNothing => is_without_set(records, record),
+        SecurityRule::NoNsec => is_without_nsec(origin, records, place, record),
+        SecurityRule::OtherNext => has_wrong_next(origin, records, record),
+        SecurityRule::OtherTypes => has_wrong_types(origin, records, record),
+        SecurityRule::DsWithoutNs => is_without_delegation(records, record),
+    }
+}
+
+/// Whether the record at a place breaks a rule. Behind the last there is none.
+fn is_broken_at<Owner: AsOctets, Octets: AsOctets>(
+    rule: SecurityRule,
+    origin: &Name<&[u8]>,
+    times: Times,
+    records: &SortedRecords<'_, Owner, Octets>,
+    place: usize,
+) -> bool
+    ensures { result ≡ breaks_security_at origin.now times records.now place rule }
+{
+    match records.as_slice().get(place) {
+        Some(record) => breaks_rule(rule, origin, times, records, place, record),
+        None => false,
+    }
+}
+
+/// Adds a rule, if it is broken.
+fn add_if<A: Allocator>(
+    is_broken: bool,
+    rule: SecurityRule,
+    place: usize,
+    found: &mut Vec<SecurityFinding, A>,
+) -> Result<(), AllocError>
+    ensures { OnOk result (found.new.items ≡ found.old.items ++ insecure_if is_broken rule place) }
+{
+    if is_broken {
+        found.push(SecurityFinding {
+            rule,
+            record: place,
+        })?;
+    }
+    Ok(())
+}
+
+/// Adds those of some rules that the record at a place breaks.
+#[tactic(auto, using(zone_rules::proofs::Steps::found_more))]
+fn add_each<Owner: AsOctets, Octets: AsOctets, A: Allocator>(
+    rules: &[SecurityRule],
+    origin: &Name<&[u8]>,
+    times: Times,
+    records: &SortedRecords<'_, Owner, Octets>,
+    place: usize,
+    found: &mut Vec<SecurityFinding, A>,
+) -> Result<(), AllocError>
+    ensures { OnOk result (found.new.items ≡ found.old.items ++ flat_map (insecure_of origin.now times records.now place) rules.now) }
+{
+    for rule in rules {
+        let is_broken = is_broken_at(*rule, origin, times, records, place);
+        add_if(is_broken, *rule, place, found)?;
+    }
+    Ok(())
+}
+
+/// Adds the rules that the record at a place breaks.
+fn add_broken<Owner: AsOctets, Octets: AsOctets, A: Allocator>(
+    origin: &Name<&[u8]>,
+    times: Times,
+    records: &SortedRecords<'_, Owner, Octets>,
+    place: usize,
+    found: &mut Vec<SecurityFinding, A>,
+) -> Result<(), AllocError>
+    ensures { OnOk result (found.new.items ≡ found.old.items ++ insecure_at origin.now times records.now place) }
+{
+    add_each(&SECURITY_RULES, origin, times, records, place, found)
+}
+
+/// What is found in the zone that has this origin and these records: the rules that each record
+/// breaks, record by record. Without DNSKEY at its apex the zone counts as unsigned, and nothing
+/// is found. Classes don't count.
+///
+/// Where there is no memory nothing is returned.
+pub fn check_signed<Owner: AsOctets, Octets: AsOctets, Origin: AsOctets, A: Allocator>(
+    alloc: A,
+    origin: &Name<Origin>,
+    times: Times,
+    records: &SortedRecords<'_, Owner, Octets>,
+) -> Result<Vec<SecurityFinding, A>, AllocError>
+    ensures { IfOk result (λ found. found.items ≡ insecure_in_zone origin.now times records.now) }
+{
+    let apex = view(origin);
+    let mut found = Vec::new(alloc);
+    if !has_type(records, &apex, DNSKEY) {
+        return Ok(found);
+    }
+    for place in 0..records.as_slice().len() {
+        add_broken(&apex, times, records, place, &mut found)?;
+    }
+    Ok(found)
+}

@@ -1,0 +1,16 @@
+//! The rules of DNSSEC for a signed zone, over its records in canonical order: no signature is
+//! computed.
+#![tactic(auto)]
+
+pub mod bitmaps;
+pub mod chain;
+pub mod check;
+pub mod links;
+pub mod rule;
+pub mod sets;
+pub mod times;
+mod types;
+
+pub use check::check_signed;
+pub use rule::{SecurityFinding, SecurityRule};
+pub use times::Times;

@@ -1,0 +1,117 @@
+//! Which sets have signatures.
+ghost use Rattle.std.specs.Prelude.{◌≡◌};
+ghost use Rattle.zone_dnssec.specs.SignedSets.{belongs_to_parent, covers, has_signature, is_authoritative, is_left_unsigned, lacks_delegation, must_be_signed, signs_nothing, starts};
+ghost use Rattle.zone_rules.specs.Zones.{is_one_set};
+
+use crate::types::{DS, NS, NSEC, RRSIG};
+use dns_octets::AsOctets;
+use dns_resource::Record;
+use dns_wire::Name;
+use zone_rules::SortedRecords;
+use zone_rules::hosts::{is_cut, is_under_cut};
+use zone_rules::names::{is_name_within, view};
+use zone_rules::pairs::{are_one_set, before, set_type_of};
+use zone_rules::sorted::{has_type, owned_by};
+
+/// Whether a name is in the zone, and not below a delegation.
+pub fn has_authority<Owner: AsOctets, Octets: AsOctets>(
+    origin: &Name<&[u8]>,
+    records: &SortedRecords<'_, Owner, Octets>,
+    name: &Name<&[u8]>,
+) -> bool
+    ensures { result ≡ is_authoritative origin.now records.now name.now }
+{
+    is_name_within(name, origin) && !is_under_cut(origin, records, name)
+}
+
+/// Whether sets of a type at a delegation are the parent's.
+fn is_of_parent(code: u16) -> bool
+    ensures { result ≡ belongs_to_parent code }
+{
+    matches!(code, DS | NSEC)
+}
+
+/// Whether the set of a record has to be signed.
+fn needs_signature<Owner: AsOctets, Octets: AsOctets>(
+    origin: &Name<&[u8]>,
+    records: &SortedRecords<'_, Owner, Octets>,
+    record: &Record<Owner, Octets>,
+) -> bool
+    ensures { result ≡ must_be_signed origin.now records.now «record».now }
+{
+    let owner = view(&record.owner);
+    record.data.code() != RRSIG
+        && has_authority(origin, records, &owner)
+        && (is_of_parent(record.data.code()) || !is_cut(origin, records, &owner))
+}
+
+/// Whether a record is an RRSIG that covers a type.
+fn is_signature_of<Owner: AsOctets, Octets: AsOctets>(
+    record: &Record<Owner, Octets>,
+    code: u16,
+) -> bool
+    ensures { result ≡ covers code «record».now }
+{
+    record.data.code() == RRSIG && set_type_of(record) == code
+}
+
+/// Whether an RRSIG at a name covers a type.
+fn is_signed<Owner: AsOctets, Octets: AsOctets>(
+    records: &SortedRecords<'_, Owner, Octets>,
+    name: &Name<&[u8]>,
+    code: u16,
+) -> bool
+    ensures { result ≡ has_signature code name.now records.now }
+{
+    owned_by(records, name)
+        .iter()
+        .any(|record| is_signature_of(record, code))
+}
+
+/// Whether a record is the first of its set: the one before it is of another.
+fn is_first_of_set<Owner: AsOctets, Octets: AsOctets>(
+    records: &SortedRecords<'_, Owner, Octets>,
+    place: usize,
+    record: &Record<Owner, Octets>,
+) -> bool
+    ensures { result ≡ starts is_one_set records.now place «record».now }
+{
+    match before(records, place) {
+        Some(earlier) => !are_one_set(earlier, record),
+        None => true,
+    }
+}
+
+/// Whether a record is the first of a set that has to be signed and isn't.
+pub fn is_unsigned<Owner: AsOctets, Octets: AsOctets>(
+    origin: &Name<&[u8]>,
+    records: &SortedRecords<'_, Owner, Octets>,
+    place: usize,
+    record: &Record<Owner, Octets>,
+) -> bool
+    ensures { result ≡ is_left_unsigned origin.now records.now place «record».now }
+{
+    is_first_of_set(records, place, record)
+        && needs_signature(origin, records, record)
+        && !is_signed(records, &view(&record.owner), record.data.code())
+}
+
+/// Whether a record is an RRSIG that covers a set which isn't there.
+pub fn is_without_set<Owner: AsOctets, Octets: AsOctets>(
+    records: &SortedRecords<'_, Owner, Octets>,
+    record: &Record<Owner, Octets>,
+) -> bool
+    ensures { result ≡ signs_nothing records.now «record».now }
+{
+    record.data.code() == RRSIG && !has_type(records, &view(&record.owner), set_type_of(record))
+}
+
+/// Whether a record is a DS at a name without NS.
+pub fn is_without_delegation<Owner: AsOctets, Octets: AsOctets>(
+    records: &SortedRecords<'_, Owner, Octets>,
+    record: &Record<Owner, Octets>,
+) -> bool
+    ensures { result ≡ lacks_delegation records.now «record».now }
+{
+    record.data.code() == DS && !has_type(records, &view(&record.owner), NS)
+}

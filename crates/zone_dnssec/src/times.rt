@@ -1,0 +1,99 @@
+//! When signatures are valid. Times count the seconds since 1970, modulo 2^32 (RFC 4034 section
+//! 3.1.5).
+ghost use Rattle.std.specs.Prelude.{◌≡◌};
+ghost use Rattle.std.specs.Option.{option_map_or};
+ghost use Rattle.dns_resource.specs.Parts.{data_part};
+ghost use Rattle.zone_dnssec.specs.SignatureTimes.{expires_within, has_passed, is_early, is_expired, number_in, seconds_between};
+
+use crate::types::RRSIG;
+use dns_octets::AsOctets;
+use dns_resource::Record;
+
+/// The place of the expiration among the fields of an RRSIG (RFC 4034 section 3.1).
+const EXPIRATION: usize = 4;
+
+/// The place of the inception among the fields of an RRSIG (RFC 4034 section 3.1).
+const INCEPTION: usize = 5;
+
+/// The times that signatures are held against, in seconds: an instant, and how long before its
+/// end a signature is told of.
+#[derive(Clone, Copy, Debug, PartialEq, Eq)]
+pub struct Times {
+    pub instant: u32,
+    pub margin: u32,
+}
+
+/// How many seconds a time lies after another.
+fn seconds_after(earlier: u32, later: u32) -> u32
+    ensures { result ≡ seconds_between earlier later }
+{
+    later.wrapping_sub(earlier)
+}
+
+/// Whether a time lies before another (RFC 1982 section 3.2).
+fn is_before(earlier: u32, later: u32) -> bool
+    ensures { result ≡ has_passed earlier later }
+{
+    let distance = seconds_after(earlier, later);
+    distance != 0 && distance < 1 << 31
+}
+
+/// The number that four octets spell.
+fn number(octets: &[u8]) -> u32
+    ensures { result ≡ number_in octets.now }
+{
+    match octets {
+        [first, second, third, fourth, ..] => {
+            u32::from_be_bytes([*first, *second, *third, *fourth])
+        }
+        _ => 0,
+    }
+}
+
+/// Whether a record is an RRSIG that has expired at an instant.
+pub fn has_expired<Owner: AsOctets, Octets: AsOctets>(
+    instant: u32,
+    record: &Record<Owner, Octets>,
+) -> bool
+    ensures { result ≡ is_expired instant «record».now }
+{
+    if record.data.code() != RRSIG {
+        return false;
+    }
+    match record.data.part(EXPIRATION) {
+        Some(end) => is_before(number(end), instant),
+        None => false,
+    }
+}
+
+/// Whether a record is an RRSIG that has not expired at an instant, and does within a margin.
+pub fn is_expiring<Owner: AsOctets, Octets: AsOctets>(
+    times: Times,
+    record: &Record<Owner, Octets>,
+) -> bool
+    ensures { result ≡ expires_within times.margin times.instant «record».now }
+{
+    if record.data.code() != RRSIG || has_expired(times.instant, record) {
+        return false;
+    }
+    match record.data.part(EXPIRATION) {
+        Some(end) => seconds_after(times.instant, number(end)) <= times.margin,
+        None => false,
+    }
+}
+
+/// Whether a record is an RRSIG that is not valid yet at an instant.
+pub fn is_too_early<Owner: AsOctets, Octets: AsOctets>(
+    instant: u32,
+    record: &Record<Owner, Octets>,
+) -> bool
+    ensures { result ≡ is_early instant «record».now }
+{
+    if record.data.code() != RRSIG {
+        return false;
+    }
+    match record.data.part(INCEPTION) {
+        Some(start) => is_before(instant, number(start)),
+        None => false,
+    }
+}

@@ -1,0 +1,13 @@
+//! The codes of types that the rules name (IANA's registry of resource records).
+
+pub(crate) const NS: u16 = 2;
+
+pub(crate) const DS: u16 = 43;
+
+pub(crate) const RRSIG: u16 = 46;
+
+pub(crate) const NSEC: u16 = 47;
+
+pub(crate) const DNSKEY: u16 = 48;
+
+pub(crate) const NSEC3PARAM: u16 = 51;

@@ -1,0 +1,167 @@
+//! Places among octets: their lines and columns, and faults further on.
+ghost use Rattle.std.specs.Prelude.{◌≡◌, ◌+◌, ◌-◌, ◌++◌, ◌<◌, ◌≤◌, ◌^◌, ℕ, [], List, length, take, drop, slice_index};
+ghost use Rattle.dns_split.specs.Pieces.{moved_fault};
+ghost use Rattle.dns_split.specs.declared.pieces.Wrong.TheVariants.{OpenQuote};
+ghost use Rattle.zone_format.specs.Place.{begins_character, column_of, feeds, IsAt, Stands};
+
+use dns_split::pieces::{Fault, Wrong};
+use dns_split::position::Position;
+use std::simd::prelude::*;
+
+/// Whether an octet begins a character: each does but those from 0x80 to 0xBF, which go on with a
+/// character of UTF-8.
+pub fn begins_character(octet: u8) -> bool
+    ensures { result ≡ begins_character octet }
+{
+    octet < 0x80 || octet >= 0xC0
+}
+
+/// The octets of one load.
+const LANES: usize = 16;
+
+/// How many of the octets of one load are line feeds.
+#[inline(always)]
+fn feeds_in(octets: &[u8], at: usize) -> usize
+    requires { at + LANES ≤ length octets.now }
+    ensures { result ≡ feeds (take 16 (drop at octets.now)) }
+{
+    let load = u8x16::from_slice(&octets[at..]);
+    load.simd_eq(u8x16::splat(b'\n')).to_bitmask().count_ones() as usize
+}
+
+/// How many lines end in a few octets.
+fn count_few_feeds(octets: &[u8]) -> usize
+    ensures { result ≡ feeds octets.now }
+{
+    let mut lines = 0;
+    for octet in octets {
+        if *octet == b'\n' {
+            lines += 1;
+        }
+    }
+    lines
+}
+
+/// How many lines end in octets.
+fn count_feeds(octets: &[u8]) -> usize
+    ensures { result ≡ feeds octets.now }
+{
+    let mut lines = 0;
+    let mut place = 0;
+    while octets.len() - place >= LANES {
+        lines += feeds_in(octets, place);
+        place += LANES;
+    }
+    lines + count_few_feeds(&octets[place..])
+}
+
+/// Where the last line of octets begins, which has no line's end.
+fn last_line(octets: &[u8]) -> usize
+    ensures within { result ≤ length octets.now }
+    ensures fed { 0 < result → slice_index octets.now (result - 1) ≡ 10 }
+{
+    let mut start = octets.len();
+    while start > 0 && octets[start - 1] != b'\n' {
+        start -= 1;
+    }
+    start
+}
+
+/// The position after octets that follow a position, found by a look at each.
+fn advance_by_one(from: Position, octets: &[u8]) -> Position
+    requires lines { from.line + length octets.now < 2 ^ 64 }
+    requires columns { from.column + length octets.now + 1 < 2 ^ 64 }
+    ensures line { result.line ≡ from.line + feeds octets.now }
+    ensures column { (before : List ℕ) → from.column ≡ column_of before → result.column ≡ column_of (before ++ octets.now) }
+    ensures narrow { result.column < from.column + length octets.now + 1 }
+{
+    let mut line = from.line;
+    let mut column = from.column;
+    for octet in octets {
+        if *octet == b'\n' {
+            line += 1;
+            column = 1;
+        } else if begins_character(*octet) {
+            column += 1;
+        }
+    }
+    Position { line, column }
+}
+
+/// The position after octets that follow a position.
+pub fn advance(from: Position, octets: &[u8]) -> Position
+    requires lines { from.line + length octets.now < 2 ^ 64 }
+    requires columns { from.column + length octets.now + 1 < 2 ^ 64 }
+    ensures line { result.line ≡ from.line + feeds octets.now }
+    ensures column { (before : List ℕ) → from.column ≡ column_of before → result.column ≡ column_of (before ++ octets.now) }
+    ensures narrow { result.column < from.column + length octets.now + 1 }
+{
+    if octets.len() < LANES {
+        return advance_by_one(from, octets);
+    }
+    let start = last_line(octets);
+    if start == 0 {
+        return advance_by_one(from, octets);
+    }
+    let line = from.line + count_feeds(&octets[..start]);
+    advance_by_one(Position { line, column: 1 }, &octets[start..])
+}
+
+/// Where a line begins, after so many lines.
+pub fn line_start(lines_before: usize) -> Position
+    requires { lines_before + 2 < 2 ^ 64 }
+    ensures at { IsAt lines_before [] result }
+    ensures line { result.line ≡ lines_before + 1 }
+    ensures column { result.column ≡ 1 }
+{
+    Position {
+        line: lines_before + 1,
+        column: 1,
+    }
+}
+
+/// The position after octets that begin a line, where `lines_before` lines stand before them.
+pub fn position_after(lines_before: usize, before: &[u8]) -> Position
+    requires { lines_before + length before.now + 2 < 2 ^ 64 }
+    ensures { IsAt lines_before before.now result }
+{
+    advance(line_start(lines_before), before)
+}
+
+/// A place among octets, and its position.
+#[derive(Clone, Copy)]
+pub struct Place {
+    pub at: usize,
+    pub position: Position,
+}
+
+/// A place further on in octets that stand after `lines_before` lines.
+pub fn move_to(octets: &[u8], lines_before: usize, from: Place, to: usize) -> Place
+    requires room { lines_before + length octets.now + 2 < 2 ^ 64 }
+    requires stands { Stands octets.now lines_before from }
+    requires order { from.at ≤ to }
+    requires within { to ≤ length octets.now }
+    ensures at { result.at ≡ to }
+    ensures stands { Stands octets.now lines_before result }
+{
+    Place {
+        at: to,
+        position: advance(from.position, &octets[from.at..to]),
+    }
+}
+
+/// A fault so much further on.
+pub fn moved(fault: Fault, by: usize) -> Fault
+    requires at { by + fault.at < 2 ^ 64 }
+    requires quote { (i : ℕ) → fault.wrong ≡ OpenQuote i → by + i < 2 ^ 64 }
+    ensures { result ≡ moved_fault (λ i. by + i) fault }
+{
+    let wrong = match fault.wrong {
+        Wrong::OpenQuote(start) => Wrong::OpenQuote(by + start),
+        other => other,
+    };
+    Fault {
+        at: by + fault.at,
+        wrong,
+    }
+}

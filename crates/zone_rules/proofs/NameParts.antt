@@ -1,0 +1,184 @@
+-- Names, their octets and the names above them.
+use Rattle.std.proofs.Common.{ℕ, ◌≡◌, ◌+◌, ◌-◌, ◌<◌, ◌≤◌, Bool, false, List, [], ◌∷◌, ◌++◌, length, take, drop, get_or, refl, sym, ap, ◌∙◌, arith, inr, length-append, length-drop, Some, None, Ok, Err}
+use Rattle.std.specs.Prelude.{All, ◌==◌, ◌||◌}
+use Rattle.std.specs.List.{list_any}
+use Rattle.std.proofs.lemmas.Bool.Decides.{nat_tests}
+use Rattle.std.proofs.lemmas.List.{take_all, drop_at}
+use Rattle.std.proofs.lemmas.List.Elements.{All-cons, All-head, All-tail, All-drop}
+use Rattle.std.proofs.lemmas.List.Folds.{list_any-append}
+use Rattle.dns_wire.specs.FromOctets.{SplitsIntoLabels, MakesName}
+use Rattle.dns_wire.specs.Labelled.{wire_same}
+use Rattle.dns_wire.specs.Wire.{wire, wire_label, wire_length, IsName, EndsInRoot, IsPlain}
+use Rattle.dns_wire.specs.declared.error.NameError.{NameError}
+use Rattle.dns_wire.proofs.OneAnswer.{name_same}
+use Rattle.dns_wire.proofs.Wires.{is_nil, length_wire}
+use Rattle.dns_spelling.specs.Spelling.{AreOctetValues}
+use Rattle.dns_spelling.specs.NameSpelling.{IsWireName}
+use Rattle.dns_spelling.proofs.LabelParts.{wire_push, wire_length_cons}
+use Rattle.dns_spelling.proofs.NameFronts.{name_front_plain}
+use Rattle.zone_rules.specs.Above.{parent_of, names_above, has_underscore}
+
+-- ---- octets of a name are one name
+
+root_ends : (label more : List ℕ) → IsPlain label → 0 ∷ [] ≡ wire_label label ++ more → ⊥
+root_ends label more plain e = let some = plain.0 in omega (arith, some, ap (λ r. get_or r 0 0) e)
+
+splits : (octets : List ℕ) → (h : IsWireName octets) → SplitsIntoLabels octets h.absolute.0 (0 ∷ [])
+splits octets h = record {
+  spelled = h.whole ∙ ap wire h.absolute.1 ∙ wire_push h.absolute.0 [];
+  plain = name_front_plain h.labels h.absolute.0 h.is_name h.absolute.1;
+  ends = root_ends;
+}
+
+makes : (octets : List ℕ) → (h : IsWireName octets) → MakesName octets (Ok h.labels)
+makes octets h =
+    inr (
+      omega (arith, h.is_name.fits, length_wire h.labels, ap length h.whole),
+      (h.absolute.0, 0 ∷ [], splits octets h, (refl, h.absolute.1)),
+    )
+
+-- octets of a name are not refused
+pub never_refused : (octets : List ℕ) (e : NameError) → IsWireName octets → MakesName octets (Err e) → ⊥
+never_refused octets e h r = let same = name_same octets (Err e) (Ok h.labels) r (makes octets h) in cc
+
+-- ---- the name above
+
+tail_name : (label : List ℕ) (labels : List (List ℕ)) → IsName (label ∷ labels) → IsName labels
+tail_name label labels n = record {
+  short = All-tail (λ l. length l ≤ 63) label labels n.short;
+  root_last = λ front back e. n.root_last (label ∷ front) back (ap (λ ls. label ∷ ls) e);
+  fits = omega (arith, n.fits, wire_length_cons label labels);
+}
+
+tail_absolute : (label next : List ℕ) (labels front : List (List ℕ)) → label ∷ next ∷ labels ≡ front ++ [] ∷ [] → EndsInRoot (next ∷ labels)
+tail_absolute label next labels [] e = absurd (let l = ap length e in omega arith)
+tail_absolute label next labels (x ∷ front) e = (front, cc)
+
+-- a name has a name above it, whose octets are these
+pub record HasParent (labels : List (List ℕ)) (rest : List ℕ) : Type 0 where
+  pub above : List (List ℕ)
+  pub is : parent_of labels ≡ Some above
+  pub whole : rest ≡ wire above
+  pub name : IsWireName rest
+
+-- behind the first label stand the others
+behind_label : (label after octets : List ℕ) → octets ≡ wire_label label ++ after → (get_or octets 0 0 ≡ length label) × (drop (1 + get_or octets 0 0) octets ≡ after)
+behind_label label after octets e =
+    let count : get_or octets 0 0 ≡ length label = ap (λ o. get_or o 0 0) e in
+    let long : length (wire_label label) ≡ 1 + get_or octets 0 0 = omega (arith, count) in
+    (count, ap (drop (1 + get_or octets 0 0)) e ∙ drop_at (wire_label label) after (1 + get_or octets 0 0) long)
+
+wire_more : (label : List ℕ) (labels : List (List ℕ)) → wire (label ∷ labels) ≡ wire_label label ++ wire labels
+wire_more label labels = refl
+
+-- the last label of a name is the root
+only_root : (label front : List ℕ) (fronts : List (List ℕ)) → label ∷ [] ≡ front ∷ (fronts ++ [] ∷ []) → ⊥
+only_root label front fronts e = let l = ap length e in omega (arith, length-append fronts ([] ∷ []))
+
+one_label : (label : List ℕ) (fronts : List (List ℕ)) → label ∷ [] ≡ fronts ++ [] ∷ [] → label ≡ []
+one_label label [] e = cc
+one_label label (front ∷ fronts) e = absurd (only_root label front fronts e)
+
+pub parent_cut : (labels : List (List ℕ)) (octets : List ℕ) → IsName labels → EndsInRoot labels → AreOctetValues octets → octets ≡ wire labels → (get_or octets 0 0 ≡ 0 → ⊥)
+    → HasParent labels (drop (1 + get_or octets 0 0) octets)
+parent_cut [] octets n a v whole some = absurd (let l = ap length a.1 in omega (arith, length-append a.0 ([] ∷ [])))
+parent_cut (label ∷ []) octets n a v whole some =
+    let first = (behind_label label [] octets (whole ∙ wire_more label [])).0 in
+    absurd (some (first ∙ ap length (one_label label a.0 a.1)))
+parent_cut (label ∷ next ∷ others) octets n a v whole some =
+    let cut = behind_label label (wire (next ∷ others)) octets (whole ∙ wire_more label (next ∷ others)) in record {
+      above = next ∷ others;
+      is = refl;
+      whole = cut.1;
+      name = record {
+        labels = next ∷ others;
+        is_name = tail_name label (next ∷ others) n;
+        absolute = tail_absolute label next others a.0 a.1;
+        values = All-drop (λ o. o < 256) (1 + get_or octets 0 0) octets v;
+        whole = cut.1;
+      };
+    }
+
+-- nothing stands above the root
+pub no_parent : (labels : List (List ℕ)) (octets : List ℕ) → IsName labels → octets ≡ wire labels → get_or octets 0 0 ≡ 0 → parent_of labels ≡ None
+no_parent [] octets n whole none = refl
+no_parent (label ∷ []) octets n whole none = refl
+no_parent (label ∷ next ∷ others) octets n whole none =
+    let first = (behind_label label (wire (next ∷ others)) octets (whole ∙ wire_more label (next ∷ others))).0 in
+    let empty : label ≡ [] = is_nil label (omega (arith, first, none)) in
+    absurd (let last = ap length (n.root_last [] (next ∷ others) (ap (λ l. l ∷ next ∷ others) empty)) in omega arith)
+
+-- the slice behind the first label
+pub parent_slice : (octets : List ℕ) (count : ℕ) → drop (1 + count) octets ≡ take (length octets - (1 + count)) (drop (1 + count) octets)
+parent_slice octets count =
+    sym (take_all (length octets - (1 + count)) (drop (1 + count) octets) (omega (arith, length-drop (1 + count) octets)))
+
+pub parent_same : (labels rest : List (List ℕ)) (octets : List ℕ) → HasParent labels octets → octets ≡ wire rest → Some rest ≡ parent_of labels
+parent_same labels rest octets h e = ap (λ l. Some l) (wire_same rest h.above (sym e ∙ h.whole)) ∙ sym h.is
+
+-- ---- walks up
+
+pub above_none : (f : List (List ℕ) → Bool) (name : List (List ℕ)) → parent_of name ≡ None → list_any f (names_above name) ≡ false
+above_none f [] e = refl
+above_none f (label ∷ []) e = refl
+above_none f (label ∷ next ∷ others) e = cc
+
+pub above_some : (f : List (List ℕ) → Bool) (name parent : List (List ℕ)) → parent_of name ≡ Some parent → list_any f (names_above name) ≡ (f parent || list_any f (names_above parent))
+above_some f [] parent e = cc
+above_some f (label ∷ []) parent e = cc
+above_some f (label ∷ next ∷ others) parent e =
+    let is : next ∷ others ≡ parent = cc in ap (λ p. f p || list_any f (names_above p)) is
+
+pub above_fewer : (name parent : List (List ℕ)) → parent_of name ≡ Some parent → length parent < length name
+above_fewer [] parent e = cc
+above_fewer (label ∷ []) parent e = cc
+above_fewer (label ∷ next ∷ others) parent e =
+    let is : next ∷ others ≡ parent = cc in omega (arith, ap length is)
+
+-- ---- underscores
+
+abbrev is_underscore : ℕ → Bool
+is_underscore o = o == 95
+
+-- no length octet is an underscore
+short_length : (n : ℕ) → n ≤ 63 → (n == 95) ≡ false
+short_length n h = grind (arith, nat_tests)
+
+pub underscore_octets : (labels : List (List ℕ)) → All (λ l. length l ≤ 63) labels → list_any is_underscore (wire labels) ≡ has_underscore labels
+underscore_octets [] h = refl
+underscore_octets (label ∷ labels) h =
+    list_any-append is_underscore (wire_label label) (wire labels)
+    ∙ ap (λ b. (b || list_any is_underscore label) || list_any is_underscore (wire labels)) (short_length (length label) (All-head (λ l. length l ≤ 63) label labels h))
+    ∙ ap (λ b. list_any is_underscore label || b) (underscore_octets labels (All-tail (λ l. length l ≤ 63) label labels h))
+
+-- ---- wildcards
+
+-- above a name that isn't the root there is room for a label of one octet
+pub parent_short : (name parent : List (List ℕ)) → parent_of name ≡ Some parent → IsName name → wire_length parent ≤ 253
+parent_short [] parent e n = cc
+parent_short (label ∷ []) parent e n = cc
+parent_short (label ∷ next ∷ others) parent e n =
+    let is : next ∷ others ≡ parent = cc in
+    omega (arith, some label n, n.fits, wire_length_cons label (next ∷ others), ap wire_length is)
+  where
+    some : (label : List ℕ) → IsName (label ∷ next ∷ others) → 0 < length label
+    some [] n = absurd (let last = ap length (n.root_last [] (next ∷ others) refl) in omega arith)
+    some (o ∷ os) n = omega arith
+
+star_last : (labels front back : List (List ℕ)) → IsName labels → (42 ∷ []) ∷ labels ≡ front ++ [] ∷ back → back ≡ []
+star_last labels [] back n e = cc
+star_last labels (x ∷ front) back n e = n.root_last front back cc
+
+-- an asterisk in front of a name makes a name
+pub wildcard_name : (labels : List (List ℕ)) → IsName labels → EndsInRoot labels → IsWireName (wire labels) → wire_length labels ≤ 253 → IsWireName (1 ∷ 42 ∷ wire labels)
+wildcard_name labels n a w short = record {
+  labels = (42 ∷ []) ∷ labels;
+  is_name = record {
+    short = All-cons (λ l. length l ≤ 63) (42 ∷ []) labels (omega arith) n.short;
+    root_last = λ front back e. star_last labels front back n e;
+    fits = omega (arith, short, wire_length_cons (42 ∷ []) labels);
+  };
+  absolute = ((42 ∷ []) ∷ a.0, ap (λ l. (42 ∷ []) ∷ l) a.1);
+  values = All-cons (λ o. o < 256) 1 (42 ∷ wire labels) (omega arith) (All-cons (λ o. o < 256) 42 (wire labels) (omega arith) w.values);
+  whole = refl;
+}

@@ -1,0 +1,34 @@
+-- Where names stand to one another (RFC 1034 section 3.1).
+use Rattle.std.specs.Prelude.{ℕ, nat_eq, ◌==◌, ◌||◌, Bool, false, Option, Some, None, List, [], ◌∷◌}
+use Rattle.std.specs.List.{list_any}
+use Rattle.std.specs.Cmp.Lexicographic.{pointwise}
+use Rattle.dns_wire.specs.Order.{same_name}
+
+-- the name above a name, without its first label; there is none above the root
+abbrev pub parent_of : List (List ℕ) → Option (List (List ℕ))
+parent_of [] = None
+parent_of (label ∷ []) = None
+parent_of (label ∷ next ∷ others) = Some (next ∷ others)
+
+-- the names above a name: its parent, and so on up to the root
+abbrev pub names_above : List (List ℕ) → List (List (List ℕ))
+names_above [] = []
+names_above (label ∷ []) = []
+names_above (label ∷ next ∷ others) = (next ∷ others) ∷ names_above (next ∷ others)
+
+-- a name is below another: that stands above it
+abbrev pub is_below : List (List ℕ) → List (List ℕ) → Bool
+is_below name top = list_any (λ above. same_name above top) (names_above name)
+
+-- at the other, or below it
+abbrev pub is_within : List (List ℕ) → List (List ℕ) → Bool
+is_within name top = same_name name top || is_below name top
+
+-- the first label is an asterisk (RFC 4592 section 2.1.1)
+abbrev pub is_wildcard : List (List ℕ) → Bool
+is_wildcard [] = false
+is_wildcard (label ∷ labels) = pointwise nat_eq label (42 ∷ [])
+
+-- a label has an underscore
+abbrev pub has_underscore : List (List ℕ) → Bool
+has_underscore labels = list_any (λ label. list_any (λ octet. octet == 95) label) labels

@@ -1,0 +1,170 @@
+-- Worked rows of the rules, each computed.
+use Rattle.std.specs.Prelude.{◌≡◌, ℕ, true, false, Some, None, List, [], ◌∷◌, codes, refl}
+use Rattle.dns_spelling.specs.PrintedNames.{labels_in_octets}
+use Rattle.dns_wire.specs.Wire.{wire}
+use Rattle.dns_data.specs.Types.{type_shapes}
+use Rattle.dns_resource.specs.declared.record.Record.{Record}
+use Rattle.zone_rules.specs.Above.{names_above, is_below, is_within, is_wildcard, has_underscore}
+use Rattle.zone_rules.specs.Findings.{found_in_zone}
+use Rattle.zone_rules.specs.Rules.{are_two_of, have_other_ttls, is_alias_in_company, is_bad_host_name, is_below_dname, lacks_glue, lacks_ns_address, names_alias, names_missing}
+use Rattle.zone_rules.specs.Zones.{host_of, is_one_set}
+use Rattle.zone_rules.specs.declared.rule.Rule.TheVariants.{NoSoa, NsAddress}
+
+-- `example.`, and names below it
+abbrev apex : List (List ℕ)
+apex = codes "example" ∷ [] ∷ []
+
+abbrev under : List ℕ → List (List ℕ)
+under label = label ∷ apex
+
+abbrev two_under : List ℕ → List ℕ → List (List ℕ)
+two_under label other = label ∷ under other
+
+abbrev entry : List (List ℕ) → ℕ → List ℕ → Record ℕ ℕ
+entry owner type octets = record { owner = owner; ttl = 60; class = 1; «data» = record { code = type; octets = octets } }
+
+abbrev slow_entry : List (List ℕ) → ℕ → List ℕ → Record ℕ ℕ
+slow_entry owner type octets = record { owner = owner; ttl = 3600; class = 1; «data» = record { code = type; octets = octets } }
+
+abbrev address : List ℕ
+address = 192 ∷ 0 ∷ 2 ∷ 1 ∷ []
+
+-- ---- names
+
+above_row : names_above (two_under (codes "a") (codes "b")) ≡ under (codes "b") ∷ apex ∷ ([] ∷ []) ∷ []
+above_row = refl
+
+case_row : is_within (under (codes "a")) (codes "EXAMPLE" ∷ [] ∷ []) ≡ true
+case_row = refl
+
+itself_row : is_below apex apex ≡ false
+itself_row = refl
+
+-- to end alike is not to be below
+ending_row : is_within (codes "myexample" ∷ [] ∷ []) apex ≡ false
+ending_row = refl
+
+wildcard_row : is_wildcard (under (codes "*")) ≡ true
+wildcard_row = refl
+
+no_wildcard_row : is_wildcard (two_under (codes "a") (codes "*")) ≡ false
+no_wildcard_row = refl
+
+underscore_row : has_underscore (two_under (codes "_sip") (codes "_tcp")) ≡ true
+underscore_row = refl
+
+-- ---- hosts: behind a preference in MX, and behind three numbers in SRV (RFC 2782)
+
+mail_row : host_of (entry apex 15 (0 ∷ 10 ∷ wire (under (codes "mail")))) ≡ Some (under (codes "mail"))
+unfolding type_shapes labels_in_octets
+mail_row = refl
+
+service_row : host_of (entry apex 33 (0 ∷ 1 ∷ 0 ∷ 2 ∷ 0 ∷ 53 ∷ wire (under (codes "ns")))) ≡ Some (under (codes "ns"))
+unfolding type_shapes labels_in_octets
+service_row = refl
+
+alias_host_row : host_of (entry apex 5 (wire (under (codes "ns")))) ≡ None
+alias_host_row = refl
+
+-- ---- rules
+
+-- an NS at the apex whose host has an address, and none
+abbrev server : Record ℕ ℕ
+server = entry apex 2 (wire (under (codes "ns")))
+
+address_row : lacks_ns_address apex (server ∷ entry (under (codes "NS")) 28 address ∷ []) server ≡ false
+unfolding type_shapes labels_in_octets
+address_row = refl
+
+no_address_row : lacks_ns_address apex (server ∷ entry (under (codes "ns")) 16 (0 ∷ []) ∷ []) server ≡ true
+unfolding type_shapes labels_in_octets
+no_address_row = refl
+
+-- an RRSIG and an equal alias may stand beside an alias, a TXT must not
+abbrev alias : Record ℕ ℕ
+alias = entry (under (codes "www")) 5 (wire (under (codes "a")))
+
+signed_alias_row : is_alias_in_company (alias ∷ slow_entry (under (codes "WWW")) 5 (wire (under (codes "A"))) ∷ entry (under (codes "www")) 46 [] ∷ []) alias ≡ false
+unfolding type_shapes
+signed_alias_row = refl
+
+text_alias_row : is_alias_in_company (alias ∷ entry (under (codes "www")) 16 (0 ∷ []) ∷ []) alias ≡ true
+unfolding type_shapes
+text_alias_row = refl
+
+two_alias_row : is_alias_in_company (alias ∷ entry (under (codes "www")) 5 (wire (under (codes "b"))) ∷ []) alias ≡ true
+unfolding type_shapes
+two_alias_row = refl
+
+-- a DNAME is not below itself
+abbrev renaming : Record ℕ ℕ
+renaming = entry (under (codes "d")) 39 (wire (under (codes "e")))
+
+dname_row : is_below_dname (renaming ∷ []) renaming ≡ false
+dname_row = refl
+
+below_dname_row : is_below_dname (renaming ∷ []) (entry (two_under (codes "a") (codes "D")) 1 address) ≡ true
+below_dname_row = refl
+
+two_row : are_two_of 6 (entry apex 6 (0 ∷ [])) (slow_entry apex 6 (0 ∷ [])) ≡ false
+unfolding type_shapes
+two_row = refl
+
+-- a delegation, its glue, and a host beside it
+abbrev delegation : Record ℕ ℕ
+delegation = entry (under (codes "sub")) 2 (wire (two_under (codes "ns") (codes "sub")))
+
+glue_row : lacks_glue apex (delegation ∷ entry (two_under (codes "ns") (codes "sub")) 1 address ∷ []) delegation ≡ false
+unfolding type_shapes labels_in_octets
+glue_row = refl
+
+no_glue_row : lacks_glue apex (delegation ∷ []) delegation ≡ true
+unfolding type_shapes labels_in_octets
+no_glue_row = refl
+
+beside_row : lacks_glue apex [] (entry (under (codes "sub")) 2 (wire (under (codes "ns")))) ≡ false
+unfolding type_shapes labels_in_octets
+beside_row = refl
+
+abbrev mail_to : List (List ℕ) → Record ℕ ℕ
+mail_to host = entry apex 15 (0 ∷ 10 ∷ wire host)
+
+delegated_row : names_missing apex (delegation ∷ []) (mail_to (two_under (codes "mx") (codes "sub"))) ≡ false
+unfolding type_shapes labels_in_octets
+delegated_row = refl
+
+missing_row : names_missing apex (delegation ∷ []) (mail_to (under (codes "mx"))) ≡ true
+unfolding type_shapes labels_in_octets
+missing_row = refl
+
+under_star_row : names_missing apex (entry (under (codes "*")) 1 address ∷ []) (mail_to (under (codes "mx"))) ≡ false
+unfolding type_shapes labels_in_octets
+under_star_row = refl
+
+-- nothing is known of hosts outside of the zone
+elsewhere_row : names_missing apex [] (mail_to (codes "mx" ∷ [] ∷ [])) ≡ false
+unfolding type_shapes labels_in_octets
+elsewhere_row = refl
+
+mail_alias_row : names_alias (alias ∷ []) (mail_to (under (codes "www"))) ≡ true
+unfolding type_shapes labels_in_octets
+mail_alias_row = refl
+
+service_owner_row : is_bad_host_name (entry (two_under (codes "_sip") (codes "_tcp")) 33 []) ≡ false
+service_owner_row = refl
+
+host_owner_row : is_bad_host_name (entry (under (codes "a_b")) 28 []) ≡ true
+host_owner_row = refl
+
+-- RRSIGs of one owner are of the set of the type that they cover
+one_set_row : is_one_set (entry apex 46 (0 ∷ 1 ∷ [])) (entry apex 46 (0 ∷ 2 ∷ [])) ≡ false
+one_set_row = refl
+
+ttl_row : have_other_ttls (entry apex 1 address) (slow_entry apex 1 (192 ∷ 0 ∷ 2 ∷ 2 ∷ [])) ≡ true
+ttl_row = refl
+
+-- ---- a zone of one record
+
+zone_row : found_in_zone apex (server ∷ []) ≡ record { rule = NoSoa; «record» = None } ∷ record { rule = NsAddress; «record» = Some 0 } ∷ []
+unfolding type_shapes labels_in_octets
+zone_row = refl

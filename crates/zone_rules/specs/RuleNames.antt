@@ -1,0 +1,43 @@
+-- The names of the rules, and which are faults.
+use Rattle.std.specs.Prelude.{ℕ, Bool, true, false, List, codes}
+use Rattle.zone_rules.specs.declared.rule.Rule.{Rule}
+use Rattle.zone_rules.specs.declared.rule.Rule.TheVariants.{NoSoa, NoNs, Outside, TwoSoas, NsAddress, Cname, TwoDnames, BelowDname, DsAtApex, WildcardNs, MissingGlue, HostIsAlias, HostMissing, HostName, CdsWithoutKey, TtlDiffers, Duplicate}
+
+abbrev pub rule_name : Rule → List ℕ
+rule_name NoSoa = codes "no-soa"
+rule_name NoNs = codes "no-ns"
+rule_name Outside = codes "outside"
+rule_name TwoSoas = codes "two-soas"
+rule_name NsAddress = codes "ns-address"
+rule_name Cname = codes "cname"
+rule_name TwoDnames = codes "dname"
+rule_name BelowDname = codes "below-dname"
+rule_name DsAtApex = codes "ds-apex"
+rule_name WildcardNs = codes "wildcard-ns"
+rule_name MissingGlue = codes "glue"
+rule_name HostIsAlias = codes "target-cname"
+rule_name HostMissing = codes "target-missing"
+rule_name HostName = codes "host-name"
+rule_name CdsWithoutKey = codes "cds"
+rule_name TtlDiffers = codes "ttl-differs"
+rule_name Duplicate = codes "duplicate"
+
+-- with a fault servers refuse the zone or parts of it; the others are warnings
+abbrev pub is_fault_rule : Rule → Bool
+is_fault_rule NoSoa = true
+is_fault_rule NoNs = true
+is_fault_rule Outside = true
+is_fault_rule TwoSoas = true
+is_fault_rule NsAddress = true
+is_fault_rule Cname = true
+is_fault_rule TwoDnames = true
+is_fault_rule BelowDname = true
+is_fault_rule DsAtApex = true
+is_fault_rule WildcardNs = true
+is_fault_rule MissingGlue = false
+is_fault_rule HostIsAlias = false
+is_fault_rule HostMissing = false
+is_fault_rule HostName = false
+is_fault_rule CdsWithoutKey = false
+is_fault_rule TtlDiffers = false
+is_fault_rule Duplicate = false

@@ -1,0 +1,65 @@
+-- What stands at a name, among the records of a zone.
+use Rattle.std.specs.Prelude.{ℕ, ◌-◌, ◌==◌, ◌&&◌, ◌||◌, if◌then◌else◌, Bool, IsTrue, Option, Some, None, List, [], ◌∷◌, length, slice_get, option_and_then}
+use Rattle.std.specs.Int.{from_be_bytes, w16}
+use Rattle.std.specs.List.{AllAdjacentBelow, list_any}
+use Rattle.std.specs.Option.{option_map}
+use Rattle.std.specs.Ordering.{is_eq, is_le}
+use Rattle.dns_wire.specs.Order.{same_name}
+use Rattle.dns_spelling.specs.PrintedNames.{labels_in_octets}
+use Rattle.dns_canonical.specs.Records.{record_order}
+use Rattle.dns_resource.specs.CanonicalData.{record_key}
+use Rattle.dns_resource.specs.Parts.{data_part}
+use Rattle.dns_resource.specs.Records.{data_of}
+use Rattle.dns_resource.specs.TypeData.{TypeData}
+use Rattle.dns_resource.specs.declared.record.Record.{Record}
+
+abbrev pub type_of : {N O : Type 0} → Record N O → ℕ
+type_of r = (data_of r).code
+
+-- some record at a name is of a type
+abbrev pub has_type_at : {N O : Type 0} → ℕ → List (List ℕ) → List (Record N O) → Bool
+has_type_at type name records = list_any (λ r. same_name r.owner name && type_of r == type) records
+
+-- some record stands at a name
+abbrev pub has_owner : {N O : Type 0} → List (List ℕ) → List (Record N O) → Bool
+has_owner name records = list_any (λ r. same_name r.owner name) records
+
+-- an A or AAAA stands at a name
+abbrev pub has_address_at : {N O : Type 0} → List (List ℕ) → List (Record N O) → Bool
+has_address_at name records = has_type_at 1 name records || has_type_at 28 name records
+
+-- records are equal in canonical form, whatever their times to live
+abbrev pub is_equal_record : {N O : Type 0} → Record N O → Record N O → Bool
+is_equal_record a b = is_eq (record_order (record_key a) (record_key b))
+
+-- no record stands before the one in front of it (RFC 4034 section 6)
+abbrev pub AreInOrder : {N O : Type 0} → List (Record N O) → Type 0
+AreInOrder records = AllAdjacentBelow (λ a b. IsTrue (is_le (record_order (record_key a) (record_key b)))) records (length records)
+
+-- the record before a place
+abbrev pub record_before : {N O : Type 0} → List (Record N O) → ℕ → Option (Record N O)
+record_before records place = if place == 0 then None else slice_get records (place - 1)
+
+-- the host that a record names: in data of NS the first field, of MX the second, and of SRV the fourth
+abbrev pub host_field : ℕ → Option ℕ
+host_field type = if type == 2 then Some 0 else (if type == 15 then Some 1 else (if type == 33 then Some 3 else None))
+
+abbrev pub host_octets : TypeData → Option (List ℕ)
+host_octets d = option_and_then (data_part d) (host_field d.code)
+
+abbrev pub host_of : {N O : Type 0} → Record N O → Option (List (List ℕ))
+host_of r = option_map labels_in_octets (host_octets (data_of r))
+
+-- the type that an RRSIG covers, in the first two octets of its data (RFC 4034 section 3.1.1)
+abbrev pub covered_type : List ℕ → ℕ
+covered_type [] = 0
+covered_type (high ∷ []) = 0
+covered_type (high ∷ low ∷ others) = from_be_bytes w16 (high ∷ low ∷ [])
+
+-- RRSIGs are of a set with those that cover the same type, others with those of their type
+abbrev pub set_type : {N O : Type 0} → Record N O → ℕ
+set_type r = if type_of r == 46 then covered_type (data_of r).octets else 0
+
+-- the records are of one set
+abbrev pub is_one_set : {N O : Type 0} → Record N O → Record N O → Bool
+is_one_set a b = same_name a.owner b.owner && (a.class == b.class && (type_of a == type_of b && set_type a == set_type b))

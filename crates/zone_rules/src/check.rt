@@ -1,0 +1,165 @@
+//! What is found in a zone.
+ghost use Rattle.std.specs.Prelude.{◌≡◌, ◌++◌, OnOk, IfOk};
+ghost use Rattle.std.specs.List.{flat_map};
+ghost use Rattle.zone_rules.specs.Findings.{breaks_at, found_at, found_at_apex, found_if, found_in_zone, found_of};
+ghost use Rattle.zone_rules.specs.Rules.{breaks};
+
+use crate::hosts::{is_ns_without_address, is_to_alias, is_to_missing, is_without_glue};
+use crate::names::view;
+use crate::owners::{
+    has_company, is_apex_record, is_no_host_name, is_ns_at_wildcard, is_outside_zone,
+    is_under_dname, is_without_key,
+};
+use crate::pairs::{has_other_ttl, is_duplicate, is_second};
+use crate::rule::{Finding, Rule};
+use crate::sorted::{SortedRecords, has_type};
+use crate::types::{DNAME, DS, NS, SOA};
+use dns_octets::AsOctets;
+use dns_resource::Record;
+use dns_wire::Name;
+use std::alloc::{AllocError, Allocator};
+
+/// The rules for records, in the order in which they are told of a record.
+const RECORD_RULES: [Rule; 15] = [
+    Rule::Outside,
+    Rule::TwoSoas,
+    Rule::NsAddress,
+    Rule::Cname,
+    Rule::TwoDnames,
+    Rule::BelowDname,
+    Rule::DsAtApex,
+    Rule::WildcardNs,
+    Rule::MissingGlue,
+    Rule::HostIsAlias,
+    Rule::HostMissing,
+    Rule::HostName,
+    Rule::CdsWithoutKey,
+    Rule::TtlDiffers,
+    Rule::Duplicate,
+];
+
+/// Whether a record at a place breaks a rule.
+fn breaks_rule<Owner: AsOctets, Octets: AsOctets>(
+    rule: Rule,
+    origin: &Name<&[u8]>,
+    records: &SortedRecords<'_, Owner, Octets>,
+    place: usize,
+    record: &Record<Owner, Octets>,
+) -> bool
+    ensures { result ≡ breaks rule origin.now records.now place «record».now }
+{
+    match rule {
+        Rule::NoSoa | Rule::NoNs => false,
+        Rule::Outside => is_outside_zone(origin, record),
+        Rule::TwoSoas => is_second(SOA, records, place, record),
+        Rule::NsAddress => is_ns_without_address(origin, records, record),
+        Rule::Cname => has_company(records, record),
+        Rule::TwoDnames => is_second(DNAME, records, place, record),
+        Rule::BelowDname => is_under_dname(records, record),
+        Rule::DsAtApex => is_apex_record(DS, origin, record),
+        Rule::WildcardNs => is_ns_at_wildcard(record),
+        Rule::MissingGlue => is_without_glue(origin, records, record),
+        Rule::HostIsAlias => is_to_alias(records, record),
+        Rule::HostMissing => is_to_missing(origin, records, record),
+        Rule::HostName => is_no_host_name(record),
+        Rule::CdsWithoutKey => is_without_key(origin, records, record),
+        Rule::TtlDiffers => has_other_ttl(records, place, record),
+        Rule::Duplicate => is_duplicate(records, place, record),
+    }
+}
+
+/// Whether the record at a place breaks a rule. Behind the last there is none.
+fn is_broken_at<Owner: AsOctets, Octets: AsOctets>(
+    rule: Rule,
+    origin: &Name<&[u8]>,
+    records: &SortedRecords<'_, Owner, Octets>,
+    place: usize,
+) -> bool
+    ensures { result ≡ breaks_at origin.now records.now place rule }
+{
+    match records.as_slice().get(place) {
+        Some(record) => breaks_rule(rule, origin, records, place, record),
+        None => false,
+    }
+}
+
+/// Adds a rule, if it is broken.
+fn add_if<A: Allocator>(
+    is_broken: bool,
+    rule: Rule,
+    place: Option<usize>,
+    found: &mut Vec<Finding, A>,
+) -> Result<(), AllocError>
+    ensures { OnOk result (found.new.items ≡ found.old.items ++ found_if is_broken rule place) }
+{
+    if is_broken {
+        found.push(Finding {
+            rule,
+            record: place,
+        })?;
+    }
+    Ok(())
+}
+
+/// Adds those of some rules that the record at a place breaks.
+#[tactic(auto, using(crate::proofs::Steps::found_more))]
+fn add_each<Owner: AsOctets, Octets: AsOctets, A: Allocator>(
+    rules: &[Rule],
+    origin: &Name<&[u8]>,
+    records: &SortedRecords<'_, Owner, Octets>,
+    place: usize,
+    found: &mut Vec<Finding, A>,
+) -> Result<(), AllocError>
+    ensures { OnOk result (found.new.items ≡ found.old.items ++ flat_map (found_of origin.now records.now place) rules.now) }
+{
+    for rule in rules {
+        let is_broken = is_broken_at(*rule, origin, records, place);
+        add_if(is_broken, *rule, Some(place), found)?;
+    }
+    Ok(())
+}
+
+/// Adds the rules that the record at a place breaks.
+fn add_broken<Owner: AsOctets, Octets: AsOctets, A: Allocator>(
+    origin: &Name<&[u8]>,
+    records: &SortedRecords<'_, Owner, Octets>,
+    place: usize,
+    found: &mut Vec<Finding, A>,
+) -> Result<(), AllocError>
+    ensures { OnOk result (found.new.items ≡ found.old.items ++ found_at origin.now records.now place) }
+{
+    add_each(&RECORD_RULES, origin, records, place, found)
+}
+
+/// Adds what the zone lacks at its apex.
+fn add_lacking<Owner: AsOctets, Octets: AsOctets, A: Allocator>(
+    origin: &Name<&[u8]>,
+    records: &SortedRecords<'_, Owner, Octets>,
+    found: &mut Vec<Finding, A>,
+) -> Result<(), AllocError>
+    ensures { OnOk result (found.new.items ≡ found.old.items ++ found_at_apex origin.now records.now) }
+{
+    add_if(!has_type(records, origin, SOA), Rule::NoSoa, None, found)?;
+    add_if(!has_type(records, origin, NS), Rule::NoNs, None, found)
+}
+
+/// What is found in the zone that has this origin and these records: first what it lacks at its
+/// apex, and then the rules that each record breaks, record by record. Classes don't count.
+///
+/// Where there is no memory nothing is returned.
+#[tactic(auto, using(crate::proofs::Steps::zone_more))]
+pub fn check_zone<Owner: AsOctets, Octets: AsOctets, Origin: AsOctets, A: Allocator>(
+    alloc: A,
+    origin: &Name<Origin>,
+    records: &SortedRecords<'_, Owner, Octets>,
+) -> Result<Vec<Finding, A>, AllocError>
+    ensures { IfOk result (λ found. found.items ≡ found_in_zone origin.now records.now) }
+{
+    let apex = view(origin);
+    let mut found = Vec::new(alloc);
+    add_lacking(&apex, records, &mut found)?;
+    for place in 0..records.as_slice().len() {
+        add_broken(&apex, records, place, &mut found)?;
+    }
+    Ok(found)
+}

@@ -1,0 +1,14 @@
+//! What holds of all findings.
+ghost use Rattle.zone_rules.specs.Findings.{TellsBrokenRules, found_in_zone};
+
+use crate::sorted::SortedRecords;
+use dns_octets::AsOctets;
+use dns_wire::Name;
+
+/// States that a rule is told of a record exactly where the record breaks it. It does nothing else.
+pub fn broken_rules_are_told<Owner: AsOctets, Octets: AsOctets, Origin: AsOctets>(
+    origin: &Name<Origin>,
+    records: &SortedRecords<'_, Owner, Octets>,
+)
+    ensures { TellsBrokenRules origin.now records.now (found_in_zone origin.now records.now) }
+{}

@@ -1,0 +1,103 @@
+//! Where names stand to one another (RFC 1034 section 3.1), the case of letters apart (RFC 4343).
+ghost use Rattle.std.specs.Prelude.{◌≡◌, ℕ, List, ◌∷◌, [], Some, None};
+ghost use Rattle.dns_wire.specs.Order.{same_name};
+ghost use Rattle.dns_wire.specs.Wire.{wire, IsName, EndsInRoot};
+ghost use Rattle.dns_spelling.specs.NameSpelling.{IsWireName};
+ghost use Rattle.dns_canonical.specs.Names.{name_order};
+ghost use Rattle.zone_rules.specs.Above.{parent_of, is_below, is_within, is_wildcard, has_underscore};
+
+use dns_canonical::compare_names;
+use dns_octets::AsOctets;
+use dns_octets::lowered::same_octets;
+use dns_wire::Name;
+use std::cmp::Ordering;
+
+/// The octets of a name on the wire.
+pub fn octets_of<Octets: AsOctets>(name: &Name<Octets>) -> &[u8]
+    ensures value { result.now ≡ wire name.now }
+    ensures is_name { IsName name.now }
+    ensures absolute { EndsInRoot name.now }
+    ensures is_wire { IsWireName (wire name.now) }
+{
+    // No effect at run time: the proof reads that the octets are below 256.
+    let _octets = AsOctets::as_slice(name);
+    name.as_slice()
+}
+
+/// The name that has these octets.
+pub(crate) fn name_of(octets: &[u8]) -> Name<&[u8]>
+    requires { IsWireName octets.now }
+    ensures { octets.now ≡ wire result }
+{
+    match Name::from_octets(octets) {
+        Ok(name) => name,
+        Err(_) => unreachable!(),
+    }
+}
+
+/// The same name, over its octets.
+pub fn view<Octets: AsOctets>(name: &Name<Octets>) -> Name<&[u8]>
+    ensures { result ≡ name.now }
+{
+    name_of(octets_of(name))
+}
+
+/// Whether two names are one but for the case of letters.
+pub fn is_same(left: &Name<&[u8]>, right: &Name<&[u8]>) -> bool
+    ensures { result ≡ same_name left.now right.now }
+{
+    same_octets(left.as_slice(), right.as_slice())
+}
+
+/// The canonical order of two names.
+pub fn order_of<Octets: AsOctets>(left: &Name<Octets>, right: &Name<&[u8]>) -> Ordering
+    ensures { result ≡ name_order left.now right.now }
+{
+    compare_names(octets_of(left), octets_of(right))
+}
+
+/// The name above a name. There is none above the root.
+pub fn parent<'a>(name: &Name<&'a [u8]>) -> Option<Name<&'a [u8]>>
+    ensures { result ≡ parent_of name.now }
+{
+    let _known = octets_of(name);
+    let octets: &'a [u8] = *name.as_octets();
+    let behind = 1 + usize::from(octets[0]);
+    if behind == 1 {
+        return None;
+    }
+    Some(name_of(&octets[behind..]))
+}
+
+/// Whether a name is below another.
+#[tactic(auto, using(crate::proofs::NameParts::above_none, crate::proofs::NameParts::above_some, crate::proofs::NameParts::above_fewer))]
+pub fn is_name_below(name: &Name<&[u8]>, top: &Name<&[u8]>) -> bool
+    ensures { result ≡ is_below name.now top.now }
+{
+    match parent(name) {
+        Some(above) => is_same(&above, top) || is_name_below(&above, top),
+        None => false,
+    }
+}
+
+/// Whether a name is another, or below it.
+pub fn is_name_within(name: &Name<&[u8]>, top: &Name<&[u8]>) -> bool
+    ensures { result ≡ is_within name.now top.now }
+{
+    is_same(name, top) || is_name_below(name, top)
+}
+
+/// Whether the first label of a name is `*` (RFC 4592 section 2.1.1).
+pub(crate) fn is_wildcard_name(name: &Name<&[u8]>) -> bool
+    ensures { result ≡ is_wildcard name.now }
+{
+    matches!(octets_of(name), [1, b'*', ..])
+}
+
+/// Whether a label of a name has an underscore, which no host name has (RFC 952, RFC 1123 section
+/// 2.1).
+pub(crate) fn has_name_underscore(name: &Name<&[u8]>) -> bool
+    ensures { result ≡ has_underscore name.now }
+{
+    octets_of(name).contains(&b'_')
+}

@@ -1,0 +1,121 @@
+//! Rules for a record by its owner, and by what stands there.
+ghost use Rattle.std.specs.Prelude.{◌≡◌};
+ghost use Rattle.std.specs.List.{list_any};
+ghost use Rattle.zone_rules.specs.Above.{names_above};
+ghost use Rattle.zone_rules.specs.Rules.{is_alias_in_company, is_record_at_apex, is_bad_host_name, is_below_dname, is_beside_alias, is_host_record, is_out_of_zone, is_wildcard_ns, lacks_key};
+ghost use Rattle.zone_rules.specs.Zones.{has_type_at};
+
+use crate::names::{has_name_underscore, is_name_within, is_same, is_wildcard_name, parent, view};
+use crate::pairs::{are_equal, have_one_owner};
+use crate::sorted::{SortedRecords, has_type, owned_by};
+use crate::types::{A, AAAA, CDNSKEY, CDS, CNAME, DNAME, DNSKEY, MX, NS, NSEC, RRSIG};
+use dns_octets::AsOctets;
+use dns_resource::Record;
+use dns_wire::Name;
+
+/// Whether a record is neither at the origin nor below it.
+pub(crate) fn is_outside_zone<Owner: AsOctets, Octets: AsOctets>(
+    origin: &Name<&[u8]>,
+    record: &Record<Owner, Octets>,
+) -> bool
+    ensures { result ≡ is_out_of_zone origin.now «record».now }
+{
+    !is_name_within(&view(&record.owner), origin)
+}
+
+/// Whether a record has a type and stands at the apex.
+pub(crate) fn is_apex_record<Owner: AsOctets, Octets: AsOctets>(
+    code: u16,
+    origin: &Name<&[u8]>,
+    record: &Record<Owner, Octets>,
+) -> bool
+    ensures { result ≡ is_record_at_apex code origin.now «record».now }
+{
+    record.data.code() == code && is_same(&view(&record.owner), origin)
+}
+
+/// Whether a record stands beside an alias and must not.
+fn is_beside<Owner: AsOctets, Octets: AsOctets>(
+    alias: &Record<Owner, Octets>,
+    record: &Record<Owner, Octets>,
+) -> bool
+    ensures { result ≡ is_beside_alias alias.now «record».now }
+{
+    have_one_owner(record, alias)
+        && record.data.code() != RRSIG
+        && record.data.code() != NSEC
+        && !are_equal(alias, record)
+}
+
+/// Whether a record is an alias, and another one must not stand beside it.
+pub(crate) fn has_company<Owner: AsOctets, Octets: AsOctets>(
+    records: &SortedRecords<'_, Owner, Octets>,
+    record: &Record<Owner, Octets>,
+) -> bool
+    ensures { result ≡ is_alias_in_company records.now «record».now }
+{
+    record.data.code() == CNAME
+        && owned_by(records, &view(&record.owner))
+            .iter()
+            .any(|other| is_beside(record, other))
+}
+
+/// Whether a DNAME stands above a name.
+#[tactic(auto, using(crate::proofs::NameParts::above_none, crate::proofs::NameParts::above_some, crate::proofs::NameParts::above_fewer))]
+fn has_dname_above<Owner: AsOctets, Octets: AsOctets>(
+    records: &SortedRecords<'_, Owner, Octets>,
+    name: &Name<&[u8]>,
+) -> bool
+    ensures { result ≡ list_any (λ above. has_type_at 39 above records.now) (names_above name.now) }
+{
+    match parent(name) {
+        Some(above) => has_type(records, &above, DNAME) || has_dname_above(records, &above),
+        None => false,
+    }
+}
+
+/// Whether a record stands below a DNAME.
+pub(crate) fn is_under_dname<Owner: AsOctets, Octets: AsOctets>(
+    records: &SortedRecords<'_, Owner, Octets>,
+    record: &Record<Owner, Octets>,
+) -> bool
+    ensures { result ≡ is_below_dname records.now «record».now }
+{
+    has_dname_above(records, &view(&record.owner))
+}
+
+/// Whether a record is an NS at a wildcard.
+pub(crate) fn is_ns_at_wildcard<Owner: AsOctets, Octets: AsOctets>(
+    record: &Record<Owner, Octets>,
+) -> bool
+    ensures { result ≡ is_wildcard_ns «record».now }
+{
+    record.data.code() == NS && is_wildcard_name(&view(&record.owner))
+}
+
+/// Whether a record is of a type whose owners are host names.
+fn is_of_host<Owner: AsOctets, Octets: AsOctets>(record: &Record<Owner, Octets>) -> bool
+    ensures { result ≡ is_host_record «record».now }
+{
+    matches!(record.data.code(), A | AAAA | MX)
+}
+
+/// Whether the owner of an A, AAAA or MX has an underscore.
+pub(crate) fn is_no_host_name<Owner: AsOctets, Octets: AsOctets>(
+    record: &Record<Owner, Octets>,
+) -> bool
+    ensures { result ≡ is_bad_host_name «record».now }
+{
+    is_of_host(record) && has_name_underscore(&view(&record.owner))
+}
+
+/// Whether a record asks for a key at the parent, and the zone has none.
+pub(crate) fn is_without_key<Owner: AsOctets, Octets: AsOctets>(
+    origin: &Name<&[u8]>,
+    records: &SortedRecords<'_, Owner, Octets>,
+    record: &Record<Owner, Octets>,
+) -> bool
+    ensures { result ≡ lacks_key origin.now records.now «record».now }
+{
+    matches!(record.data.code(), CDS | CDNSKEY) && !has_type(records, origin, DNSKEY)
+}

@@ -1,0 +1,126 @@
+//! Rules for a record and the one before it.
+ghost use Rattle.std.specs.Prelude.{◌≡◌};
+ghost use Rattle.std.specs.Option.{option_copied};
+ghost use Rattle.dns_wire.specs.Order.{same_name};
+ghost use Rattle.zone_rules.specs.Rules.{are_two_of, have_other_ttls, follows};
+ghost use Rattle.zone_rules.specs.Zones.{covered_type, is_equal_record, is_one_set, record_before, set_type};
+
+use crate::names::{is_same, view};
+use crate::sorted::SortedRecords;
+use crate::types::RRSIG;
+use dns_octets::AsOctets;
+use dns_resource::Record;
+
+/// The record before a place.
+pub fn before<'a, Owner: AsOctets, Octets: AsOctets>(
+    records: &SortedRecords<'a, Owner, Octets>,
+    place: usize,
+) -> Option<&'a Record<Owner, Octets>>
+    ensures { option_copied result ≡ record_before records.now place }
+{
+    if place == 0 {
+        return None;
+    }
+    records.as_slice().get(place - 1)
+}
+
+/// The type that an RRSIG with this data covers.
+fn covered(octets: &[u8]) -> u16
+    ensures { result ≡ covered_type octets.now }
+{
+    match octets {
+        [high, low, ..] => u16::from_be_bytes([*high, *low]),
+        _ => 0,
+    }
+}
+
+/// The type by which a record is of a set: of an RRSIG the type that it covers.
+pub fn set_type_of<Owner: AsOctets, Octets: AsOctets>(record: &Record<Owner, Octets>) -> u16
+    ensures { result ≡ set_type «record».now }
+{
+    if record.data.code() != RRSIG {
+        return 0;
+    }
+    covered(record.data.as_slice())
+}
+
+/// Whether records have one owner.
+pub fn have_one_owner<Owner: AsOctets, Octets: AsOctets>(
+    left: &Record<Owner, Octets>,
+    right: &Record<Owner, Octets>,
+) -> bool
+    ensures { result ≡ same_name left.now.owner right.now.owner }
+{
+    is_same(&view(&left.owner), &view(&right.owner))
+}
+
+/// Whether records are equal, whatever their times to live.
+pub(crate) fn are_equal<Owner: AsOctets, Octets: AsOctets>(
+    left: &Record<Owner, Octets>,
+    right: &Record<Owner, Octets>,
+) -> bool
+    ensures { result ≡ is_equal_record left.now right.now }
+{
+    left.compare(right).is_eq()
+}
+
+/// Whether records are of one set.
+pub fn are_one_set<Owner: AsOctets, Octets: AsOctets>(
+    left: &Record<Owner, Octets>,
+    right: &Record<Owner, Octets>,
+) -> bool
+    ensures { result ≡ is_one_set left.now right.now }
+{
+    have_one_owner(left, right)
+        && left.class == right.class
+        && left.data.code() == right.data.code()
+        && set_type_of(left) == set_type_of(right)
+}
+
+/// Whether a record and the one before it are two of a type at one owner, and differ.
+pub(crate) fn is_second<Owner: AsOctets, Octets: AsOctets>(
+    code: u16,
+    records: &SortedRecords<'_, Owner, Octets>,
+    place: usize,
+    record: &Record<Owner, Octets>,
+) -> bool
+    ensures { result ≡ follows (are_two_of code) records.now place «record».now }
+{
+    match before(records, place) {
+        Some(earlier) => {
+            earlier.data.code() == code
+                && record.data.code() == code
+                && have_one_owner(earlier, record)
+                && !are_equal(earlier, record)
+        }
+        None => false,
+    }
+}
+
+/// Whether a record and the one before it are of one set, and differ in their times to live.
+pub(crate) fn has_other_ttl<Owner: AsOctets, Octets: AsOctets>(
+    records: &SortedRecords<'_, Owner, Octets>,
+    place: usize,
+    record: &Record<Owner, Octets>,
+) -> bool
+    ensures { result ≡ follows have_other_ttls records.now place «record».now }
+{
+    match before(records, place) {
+        Some(earlier) => are_one_set(earlier, record) && earlier.ttl != record.ttl,
+        None => false,
+    }
+}
+
+/// Whether a record and the one before it are equal.
+pub(crate) fn is_duplicate<Owner: AsOctets, Octets: AsOctets>(
+    records: &SortedRecords<'_, Owner, Octets>,
+    place: usize,
+    record: &Record<Owner, Octets>,
+) -> bool
+    ensures { result ≡ follows is_equal_record records.now place «record».now }
+{
+    match before(records, place) {
+        Some(earlier) => are_equal(earlier, record),
+        None => false,
+    }
+}

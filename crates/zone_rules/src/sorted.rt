@@ -1,0 +1,98 @@
+//! The records of a zone in canonical order, and what stands at a name.
+ghost use Rattle.std.specs.Prelude.{◌≡◌, ◌↔◌, IfSome, IsSome, filter};
+ghost use Rattle.dns_wire.specs.Order.{same_name};
+ghost use Rattle.zone_rules.specs.Zones.{AreInOrder, has_type_at, has_owner, has_address_at};
+
+use crate::names::order_of;
+use crate::types::{A, AAAA};
+use dns_octets::AsOctets;
+use dns_resource::Record;
+use dns_wire::Name;
+use std::marker::Model;
+
+/// Records in canonical order (RFC 4034 section 6), as `Record::compare` has it. Of equal ones
+/// there may be more than one.
+#[derive(Drop)]
+pub struct SortedRecords<'a, Owner: AsOctets, Octets: AsOctets> {
+    records: &'a [Record<Owner, Octets>],
+}
+
+impl<'a, Owner: AsOctets, Octets: AsOctets> Model for SortedRecords<'a, Owner, Octets> {
+    ghost use Rattle.std.specs.Prelude.{List};
+    ghost use Rattle.dns_resource.specs.declared.record.Record.{Record};
+    ghost use Rattle.zone_rules.specs.Zones.{AreInOrder};
+
+    ghost Value = { List (Record Owner Octets) };
+
+    ghost view = { λ s. s.records.now };
+
+    ghost invariant = { λ s. AreInOrder s.records.now };
+}
+
+impl<'a, Owner: AsOctets, Octets: AsOctets> SortedRecords<'a, Owner, Octets> {
+    /// The records, if they are in canonical order.
+    pub fn new(records: &'a [Record<Owner, Octets>]) -> Option<Self>
+        ensures value { IfSome result (λ s. s ≡ records.now) }
+        ensures accepts { IsSome result ↔ AreInOrder records.now }
+    {
+        if !records.is_sorted_by(|left, right| left.compare(right).is_le()) {
+            return None;
+        }
+        Some(SortedRecords { records })
+    }
+
+    /// The records.
+    pub fn as_slice(&self) -> &'a [Record<Owner, Octets>]
+        ensures value { result.now ≡ self.now }
+        ensures in_order { AreInOrder self.now }
+    {
+        self.records
+    }
+}
+
+/// The records that a name owns.
+pub fn owned_by<'a, Owner: AsOctets, Octets: AsOctets>(
+    records: &SortedRecords<'a, Owner, Octets>,
+    name: &Name<&[u8]>,
+) -> &'a [Record<Owner, Octets>]
+    ensures { result.now ≡ filter (λ r. same_name r.owner name.now) records.now }
+{
+    let all = records.as_slice();
+    let from = all.partition_point(|record| order_of(&record.owner, name).is_lt());
+    let rest = &all[from..];
+    let count = rest.partition_point(|record| order_of(&record.owner, name).is_le());
+    &rest[..count]
+}
+
+/// Whether a record of a type stands at a name.
+pub fn has_type<Owner: AsOctets, Octets: AsOctets>(
+    records: &SortedRecords<'_, Owner, Octets>,
+    name: &Name<&[u8]>,
+    code: u16,
+) -> bool
+    ensures { result ≡ has_type_at code name.now records.now }
+{
+    owned_by(records, name)
+        .iter()
+        .any(|record| record.data.code() == code)
+}
+
+/// Whether a record stands at a name.
+pub(crate) fn has_record<Owner: AsOctets, Octets: AsOctets>(
+    records: &SortedRecords<'_, Owner, Octets>,
+    name: &Name<&[u8]>,
+) -> bool
+    ensures { result ≡ has_owner name.now records.now }
+{
+    !owned_by(records, name).is_empty()
+}
+
+/// Whether an A or AAAA stands at a name.
+pub(crate) fn has_address<Owner: AsOctets, Octets: AsOctets>(
+    records: &SortedRecords<'_, Owner, Octets>,
+    name: &Name<&[u8]>,
+) -> bool
+    ensures { result ≡ has_address_at name.now records.now }
+{
+    has_type(records, name, A) || has_type(records, name, AAAA)
+}

@@ -1,0 +1,29 @@
+//! The codes of types that the rules name (IANA's registry of resource records).
+
+pub(crate) const A: u16 = 1;
+
+pub(crate) const NS: u16 = 2;
+
+pub(crate) const CNAME: u16 = 5;
+
+pub(crate) const SOA: u16 = 6;
+
+pub(crate) const MX: u16 = 15;
+
+pub(crate) const AAAA: u16 = 28;
+
+pub(crate) const SRV: u16 = 33;
+
+pub(crate) const DNAME: u16 = 39;
+
+pub(crate) const DS: u16 = 43;
+
+pub(crate) const RRSIG: u16 = 46;
+
+pub(crate) const NSEC: u16 = 47;
+
+pub(crate) const DNSKEY: u16 = 48;
+
+pub(crate) const CDS: u16 = 59;
+
+pub(crate) const CDNSKEY: u16 = 60;

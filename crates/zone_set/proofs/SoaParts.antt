@@ -1,0 +1,56 @@
+-- The serial number in data of SOA.
+use Rattle.std.proofs.Common.{ℕ, ◌≡◌, Some, List, [], ◌∷◌, refl, sym, ap, subst, ◌∙◌}
+use Rattle.std.specs.Prelude.{codes}
+use Rattle.dns_fields.specs.Words.{AreOctetsOf}
+use Rattle.dns_fields.specs.declared.field.Field.TheVariants.{Interval, Name, Number32}
+use Rattle.dns_data.specs.ByType.{HasShape, shape_of_code}
+use Rattle.dns_data.specs.Types.{TypeShape, type_shape, type_shapes}
+use Rattle.dns_data.specs.declared.rest.Rest.TheVariants.{Nothing}
+use Rattle.dns_data.specs.declared.shape.Length.TheVariants.{Any}
+use Rattle.dns_resource.specs.CanonicalData.{fields_of_shape}
+use Rattle.dns_resource.specs.Parts.{data_part, field_part}
+use Rattle.dns_resource.specs.TypeData.{IsTypeData, TypeData}
+use Rattle.dns_resource.proofs.CanonicalForms.{front_cut}
+use Rattle.dns_resource.proofs.DataBack.{shape_with}
+
+abbrev soa_shape : TypeShape
+soa_shape =
+    type_shape 6 (Name ∷ Name ∷ Number32 ∷ Interval ∷ Interval ∷ Interval ∷ Interval ∷ []) Nothing Any
+    (codes "primary server" ∷ codes "mailbox" ∷ codes "serial" ∷ codes "refresh" ∷ codes "retry" ∷ codes "expire" ∷ codes "minimum" ∷ [])
+
+soa_found : shape_of_code 6 ≡ Some soa_shape
+unfolding type_shapes
+soa_found = refl
+
+-- four octets behind two names
+record HasSerial (d : TypeData) : Type 0 where
+  pub serial : List ℕ
+  pub four : AreOctetsOf 4 serial
+  pub third : data_part d 2 ≡ Some serial
+
+soa_parts_of : (octets : List ℕ) → IsTypeData 6 octets → HasSerial (record { code = 6; octets = octets })
+soa_parts_of octets is =
+    let own = is.shaped (shape_with soa_shape) (subst (λ f. HasShape f (shape_with soa_shape)) (sym soa_found) (refl, refl, refl)) in
+    let host = own.fields in
+    let cut = front_cut Name octets host.0 host.1 host.3 host.2 in
+    let mailbox = host.4 in
+    let mail_cut = front_cut Name host.1 mailbox.0 mailbox.1 mailbox.3 mailbox.2 in
+    let number = mailbox.4 in
+    let number_cut = front_cut Number32 mailbox.1 number.0 number.1 number.3 number.2 in
+    let behind_host = Name ∷ Number32 ∷ Interval ∷ Interval ∷ Interval ∷ Interval ∷ [] in
+    let behind_mailbox = Number32 ∷ Interval ∷ Interval ∷ Interval ∷ Interval ∷ [] in
+    record {
+      serial = number.0;
+      four = number.3;
+      third = ap (λ f. field_part (fields_of_shape f) 2 octets) soa_found ∙ ap (field_part behind_host 1) cut.1 ∙ ap (field_part behind_mailbox 0) mail_cut.1 ∙ ap Some number_cut.0;
+    }
+
+soa_parts : (d : TypeData) → d.code ≡ 6 → IsTypeData d.code d.octets → HasSerial d
+soa_parts d same is = subst (λ c. HasSerial (record { code = c; octets = d.octets })) (sym same) (soa_parts_of d.octets (subst (λ c. IsTypeData c d.octets) same is))
+
+some_same : (x y : List ℕ) → Some x ≡ Some y → x ≡ y
+some_same x y h = cc
+
+-- what is found there are four octets
+pub serial_four : (d : TypeData) (octets : List ℕ) → d.code ≡ 6 → IsTypeData d.code d.octets → data_part d 2 ≡ Some octets → AreOctetsOf 4 octets
+serial_four d octets same is found = let parts = soa_parts d same is in subst (AreOctetsOf 4) (some_same parts.serial octets (sym parts.third ∙ found)) parts.four

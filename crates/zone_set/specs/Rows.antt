@@ -1,0 +1,43 @@
+-- Worked rows of the definitions.
+use Rattle.std.specs.Prelude.{◌≡◌, ℕ, ◌-◌, ◌^◌, Some, None, List, [], ◌∷◌, codes, refl}
+use Rattle.std.proofs.Common.{arith, inl, inr}
+use Rattle.dns_resource.specs.declared.record.Record.{Record}
+use Rattle.zone_set.specs.Differences.{ttl_under}
+use Rattle.zone_set.specs.Lookups.{record_under}
+use Rattle.zone_set.specs.Serials.{IsSerialLess}
+
+-- an address below `example.`
+abbrev address : List ℕ → ℕ → List ℕ → Record ℕ ℕ
+address label ttl octets = record { owner = label ∷ codes "example" ∷ [] ∷ []; ttl = ttl; class = 1; «data» = record { code = 1; octets = octets } }
+
+abbrev two : List (Record ℕ ℕ)
+two = address (codes "a") 60 (192 ∷ 0 ∷ 2 ∷ 1 ∷ []) ∷ address (codes "A") 90 (192 ∷ 0 ∷ 2 ∷ 1 ∷ []) ∷ []
+
+-- letters and times to live don't count, and the first is found
+found_row : record_under (address (codes "A") 5 (192 ∷ 0 ∷ 2 ∷ 1 ∷ [])) two ≡ Some (address (codes "a") 60 (192 ∷ 0 ∷ 2 ∷ 1 ∷ []))
+found_row = refl
+
+ttl_row : ttl_under (address (codes "a") 5 (192 ∷ 0 ∷ 2 ∷ 1 ∷ [])) two ≡ Some 60
+ttl_row = refl
+
+other_row : ttl_under (address (codes "a") 60 (192 ∷ 0 ∷ 2 ∷ 2 ∷ [])) two ≡ None
+other_row = refl
+
+-- a serial number goes on from the greatest to 0 (RFC 1982 section 3.1)
+wraps_row : IsSerialLess (2 ^ 32 - 1) 0
+wraps_row = inr (omega arith, omega arith)
+
+rises_row : IsSerialLess 2018031900 2018031901
+rises_row = inl (omega arith, omega arith)
+
+farthest_row : IsSerialLess 0 (2 ^ 31 - 1)
+farthest_row = inl (omega arith, omega arith)
+
+-- at this distance neither is less
+half_row : IsSerialLess 0 (2 ^ 31) → ⊥
+half_row (inl h) = omega (arith, h.1)
+half_row (inr h) = omega (arith, h.0)
+
+falls_row : IsSerialLess 100 99 → ⊥
+falls_row (inl h) = omega (arith, h.0)
+falls_row (inr h) = omega (arith, h.1)

@@ -1,0 +1,13 @@
+-- Serial numbers (RFC 1982, with 32 bits).
+use Rattle.std.specs.Prelude.{ℕ, ◌==◌, if◌then◌else◌, ◌<◌, ◌-◌, ◌^◌, ◌⊎◌, Option, None, option_map}
+use Rattle.std.specs.Int.{from_be_bytes, w32}
+use Rattle.dns_resource.specs.Parts.{data_part}
+use Rattle.dns_resource.specs.TypeData.{TypeData}
+
+-- the first number is less than the second (RFC 1982 section 3.2)
+abbrev pub IsSerialLess : ℕ → ℕ → Type 0
+IsSerialLess first second = ((first < second) × (second - first < 2 ^ 31)) ⊎ ((second < first) × (2 ^ 31 < first - second))
+
+-- the third field of an SOA (RFC 1035 section 3.3.13)
+abbrev pub soa_serial : TypeData → Option ℕ
+soa_serial d = if d.code == 6 then option_map (from_be_bytes w32) (data_part d 2) else None

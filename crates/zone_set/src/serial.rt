@@ -1,0 +1,28 @@
+//! The serial number of a zone.
+ghost use Rattle.std.specs.Prelude.{◌↔◌, ◌≡◌, IsTrue};
+ghost use Rattle.zone_set.specs.Serials.{IsSerialLess, soa_serial};
+
+use dns_octets::AsOctets;
+use dns_resource::Data;
+
+/// Whether a serial number has risen to another (RFC 1982 section 3.2). At a distance of 2^31 it
+/// has not.
+pub fn serial_rises(old: u32, new: u32) -> bool
+    ensures { IsTrue result ↔ IsSerialLess old new }
+{
+    let distance = new.wrapping_sub(old);
+    distance != 0 && distance < 1 << 31
+}
+
+/// The serial number in data of SOA (RFC 1035 section 3.3.13), and none in other data.
+pub fn serial_of<Octets: AsOctets>(data: &Data<Octets>) -> Option<u32>
+    ensures { result ≡ soa_serial «data».now }
+{
+    if data.code() != 6 {
+        return None;
+    }
+    // No effect at run time: the proof reads that the octets are data of the type.
+    let _octets = data.as_slice();
+    let serial = data.part(2)?;
+    Some(u32::from_be_bytes([serial[0], serial[1], serial[2], serial[3]]))
+}

@@ -1,0 +1,82 @@
+//! Records, in the order in which they came.
+ghost use Rattle.std.specs.Prelude.{◌≡◌, [], ◌∷◌, ◌++◌, length, slice_index_or, OnOk, OnErr, IfErr, MatchOption, slice_get, Some, None};
+ghost use Rattle.std.specs.List.Sorted.{IsPermutation, IsSorted, IsStable};
+ghost use Rattle.zone_set.specs.Lookups.{canonical_order};
+
+use dns_octets::AsOctets;
+use dns_resource::Record;
+use std::alloc::{AllocError, AllocFailed, Allocator, Global};
+use std::marker::Model;
+
+/// Records, in the order in which they came. Those of the same owner, class, type and data may be
+/// there more than once.
+#[derive(Drop)]
+pub struct ZoneSet<Owner: AsOctets, Octets: AsOctets, A: Allocator = Global> {
+    records: Vec<Record<Owner, Octets>, A>,
+}
+
+impl<Owner: AsOctets, Octets: AsOctets, A: Allocator> Model for ZoneSet<Owner, Octets, A> {
+    ghost use Rattle.std.specs.Prelude.{List};
+    ghost use Rattle.dns_resource.specs.declared.record.Record.{Record};
+
+    ghost Value = { List (Record Owner Octets) };
+
+    ghost view = { λ s. s.records.items };
+}
+
+impl<Owner: AsOctets, Octets: AsOctets, A: Allocator> ZoneSet<Owner, Octets, A> {
+    /// No records.
+    pub fn new(alloc: A) -> Self
+        ensures { result ≡ [] }
+    {
+        ZoneSet {
+            records: Vec::new(alloc),
+        }
+    }
+
+    /// How many records there are.
+    pub fn len(&self) -> usize
+        ensures { result ≡ length self.now }
+    {
+        self.records.len()
+    }
+
+    /// The records, in their order.
+    pub fn as_slice(&self) -> &[Record<Owner, Octets>]
+        ensures { result.now ≡ self.now }
+    {
+        self.records.as_slice()
+    }
+
+    /// Adds a record behind the others. If there is no memory for it, the record comes back and the
+    /// set is as it was.
+    pub fn push(
+        &mut self,
+        added: Record<Owner, Octets>,
+    ) -> Result<(), AllocFailed<Record<Owner, Octets>>>
+        ensures ok { OnOk result (self.new ≡ self.old ++ added ∷ []) }
+        ensures err { OnErr result (self.new ≡ self.old) }
+        ensures returned { IfErr result (λ e. e.value ≡ added) }
+    {
+        self.records.push(added)
+    }
+
+    /// Puts the records into canonical order (RFC 4034 section 6): by owner, class, type and data.
+    /// Those that differ by the time to live alone stay in the order in which they came. Without
+    /// memory for the sort the set is as it was.
+    pub fn sort(&mut self) -> Result<(), AllocError>
+        ensures permutation { IsPermutation self.old self.new }
+        ensures sorted { OnOk result (IsSorted canonical_order self.new) }
+        ensures stable { IsStable canonical_order self.old self.new }
+        ensures err { OnErr result (self.new ≡ self.old) }
+    {
+        self.records.sort_by(|left, right| left.compare(right))
+    }
+
+    /// The records, in a vector.
+    pub fn into_vec(self) -> Vec<Record<Owner, Octets>, A>
+        ensures { result.items ≡ self }
+    {
+        self.records
+    }
+}

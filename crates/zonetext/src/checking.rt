@@ -1,0 +1,521 @@
+//! What the command `check` finds in the entries of zone files.
+use crate::held::{Held, line_of};
+use crate::open_file::first_place;
+use crate::reporter::{Reporter, Spot};
+use crate::spots::{beginning, fault_at, octet_at, spot_at, token_at, tokens_of};
+use crate::zone_files::{Entry, Stop, Visit};
+use dns_data::type_row;
+use dns_fields::Field;
+use dns_heads::{class_word, directive_word, type_word};
+use dns_kinds::RecordType;
+use dns_octets::AsOctets;
+use dns_reader::{EntryRead, EntryRefusal, NameBuffer, RecordRefusal, RecordTtl};
+use dns_resource::{Data, Record};
+use dns_split::entry_tokens::EntryToken;
+use dns_split::pieces::Fault;
+use dns_split::position::Position;
+use dns_wire::{DisplayWithDot, DisplayWithoutDot, Name};
+use std::alloc::{AllocError, Global};
+use zone_format::place::Place;
+use zone_rules::{Rule, SortedRecords, check_zone};
+use zone_set::serial_of;
+use zonetext_records::codes::{code_of_entry, code_of_fault, code_of_rule, is_for_lack_of_room};
+use zonetext_records::data::{has_empty_target, has_other_match_length};
+use zonetext_records::names::{ends_in_dot, ends_like};
+use zonetext_records::placed::PlacedOctets;
+use zonetext_records::texts::{code_text, fault_text};
+use zonetext_report::code::Code;
+use zonetext_report::lint::{Block, lint};
+
+/// The code of SOA.
+const SOA: u16 = 6;
+
+/// Ctrl-Z, which ended files of CP/M and DOS.
+const CONTROL_Z: u8 = 0x1A;
+
+/// What is asked of records.
+#[derive(Clone, Copy)]
+pub struct Limits {
+    /// The class of the zone.
+    pub class: u16,
+    /// The greatest time to live, in seconds.
+    pub max_ttl: Option<u32>,
+    /// Whether relative names stand below the root for want of an origin.
+    pub assumes_root: bool,
+    /// Whether what records show together is told without a zone too.
+    pub is_strict: bool,
+}
+
+/// The zone that a file's first SOA names.
+#[derive(Drop)]
+pub struct Seen {
+    pub zone: String,
+    pub serial: u32,
+}
+
+/// Finds faults in entries, and says them.
+#[derive(Drop)]
+pub struct Checker<'a> {
+    rt: &'a HostRuntime,
+    alloc: Global,
+    pub reporter: Reporter<'a>,
+    limits: Limits,
+    /// The zone whose rules are to hold.
+    zone: Option<NameBuffer>,
+    /// The records, if they are held.
+    held: Option<Held>,
+    /// How many records there were.
+    pub records: usize,
+    /// What the first SOA says.
+    pub seen: Option<Seen>,
+    /// The numbers of the files of which CR LF was told.
+    crlf_files: Vec<usize>,
+    /// Whether it was told that there is no origin.
+    has_told_origin: bool,
+    /// Whether it was told that the owner that stands is none.
+    has_told_owner: bool,
+    /// Whether a file is left unread, which is no text of octets.
+    is_cut: bool,
+}
+
+/// The word of a directive with which an entry begins, if it begins with one.
+fn directive_of<'e>(tokens: &[EntryToken<'e>], begins_blank: bool) -> Option<EntryToken<'e>> {
+    if begins_blank {
+        return None;
+    }
+    let first = tokens.first()?;
+    match directive_word(first) {
+        Some(_) => Some(*first),
+        None => None,
+    }
+}
+
+/// Whether the token of data of a type with this number, from 0 on, is a name.
+fn is_name(code: u16, number: usize) -> bool {
+    match type_row(code) {
+        Some(row) => matches!(row.1.get(number), Some(Field::Name)),
+        None => false,
+    }
+}
+
+/// The place behind the type of a record, where its data begin among its tokens.
+fn data_start(tokens: &[EntryToken<'_>], is_blank: bool) -> usize {
+    let first = usize::from(!is_blank);
+    let words = tokens.get(first..).unwrap_or(&[]);
+    match words.iter().position(|token| type_word(token).is_some()) {
+        Some(place) => place.saturating_add(first).saturating_add(1),
+        None => tokens.len(),
+    }
+}
+
+/// Whether an entry begins with a blank.
+fn begins_blank(entry: &Entry<'_>) -> bool {
+    matches!(entry.octets.first(), Some(b' ' | b'\t'))
+}
+
+/// What is said of a refused entry.
+fn refusal_text(alloc: Global, refusal: &EntryRefusal, code: Code) -> Result<String, AllocError> {
+    let why = refusal.why.as_str();
+    match (refusal.code, refusal.part) {
+        (Some(code), Some(part)) => {
+            let record_type = RecordType(code);
+            format!(in alloc; "{record_type} {part}: {why}")
+        }
+        (Some(code), None) => {
+            let record_type = RecordType(code);
+            format!(in alloc; "{record_type}: {why}")
+        }
+        _ if code == Code::Owner => format!(in alloc; "owner: {why}"),
+        _ => String::from_str(alloc, why),
+    }
+}
+
+/// A column of a line, with the line.
+fn line_spot<'s>(file: &'s str, position: Position, line: Option<&'s [u8]>) -> Spot<'s> {
+    Spot {
+        file,
+        position,
+        end_column: position.column.saturating_add(1),
+        opened: None,
+        line,
+    }
+}
+
+impl<'a> Checker<'a> {
+    /// Before the first file.
+    pub fn new(
+        rt: &'a HostRuntime,
+        reporter: Reporter<'a>,
+        limits: Limits,
+        zone: Option<NameBuffer>,
+    ) -> Checker<'a> {
+        let alloc = rt.alloc();
+        let holds = limits.is_strict || zone.is_some();
+        Checker {
+            rt,
+            alloc,
+            reporter,
+            limits,
+            zone,
+            held: if holds { Some(Held::new(alloc)) } else { None },
+            records: 0,
+            seen: None,
+            crlf_files: Vec::new(alloc),
+            has_told_origin: false,
+            has_told_owner: false,
+            is_cut: false,
+        }
+    }
+
+    /// Says what has no more to say than its code.
+    pub fn tell(&mut self, spot: Spot<'_>, code: Code) -> Result<(), Stop> {
+        self.reporter.tell(spot, code, false, code_text(code))
+    }
+
+    /// Says a fault of the text.
+    fn tell_fault(&mut self, entry: &Entry<'_>, fault: Fault) -> Result<(), Stop> {
+        let code = code_of_fault(fault.wrong);
+        self.reporter.tell(fault_at(entry, fault), code, true, fault_text(fault.wrong))
+    }
+
+    /// Whether a refusal is to be told: a relative name without origin is told once, and so are the
+    /// entries that take an owner that is none.
+    fn is_news(&mut self, code: Code) -> bool {
+        match code {
+            Code::NoOrigin => {
+                let was_told = self.has_told_origin;
+                self.has_told_origin = true;
+                !was_told
+            }
+            Code::NoOwner => {
+                let was_told = self.has_told_owner;
+                self.has_told_owner = true;
+                !was_told
+            }
+            _ => true,
+        }
+    }
+
+    /// Says why an entry is refused.
+    fn tell_refusal(&mut self, entry: &Entry<'_>, refusal: &EntryRefusal) -> Result<(), Stop> {
+        if is_for_lack_of_room(refusal.why) {
+            return Err(Stop::OutOfMemory);
+        }
+        let tokens = tokens_of(self.alloc, entry)?;
+        let is_directive = directive_of(tokens.as_slice(), begins_blank(entry)).is_some();
+        let code = code_of_entry(is_directive, refusal.why);
+        if code != Code::NoOwner {
+            self.has_told_owner = false;
+        }
+        if !self.is_news(code) {
+            return Ok(());
+        }
+        let text = refusal_text(self.alloc, refusal, code)?;
+        self.reporter.tell(
+            spot_at(entry, tokens.as_slice(), refusal.at),
+            code,
+            true,
+            text.as_str(),
+        )
+    }
+
+    /// Says of a relative name that no origin is known, or that it ends like the origin.
+    fn check_name(&mut self, entry: &Entry<'_>, token: &EntryToken<'_>) -> Result<(), Stop> {
+        if token.is_quoted || ends_in_dot(token.text) {
+            return Ok(());
+        }
+        let Some(origin) = entry.state.origin.name() else {
+            return Ok(());
+        };
+        if self.limits.assumes_root && origin.len() < 2 {
+            return if self.is_news(Code::NoOrigin) {
+                self.tell(token_at(entry, token), Code::NoOrigin)
+            } else {
+                Ok(())
+            };
+        }
+        if origin.len() < 2 || token.text.len().saturating_add(2) < origin.len() {
+            return Ok(());
+        }
+        let text = DisplayWithoutDot::new(origin).to_string(self.alloc)?;
+        if ends_like(token.text, text.as_bytes()) {
+            return self.tell(token_at(entry, token), Code::MissingDot);
+        }
+        Ok(())
+    }
+
+    /// Says what the names of a record show as they are spelled.
+    fn check_names(
+        &mut self,
+        entry: &Entry<'_>,
+        tokens: &[EntryToken<'_>],
+        code: u16,
+    ) -> Result<(), Stop> {
+        let is_blank = begins_blank(entry);
+        if !is_blank {
+            if let Some(owner) = tokens.first() {
+                self.check_name(entry, owner)?;
+            }
+        }
+        let words = tokens.get(data_start(tokens, is_blank)..).unwrap_or(&[]);
+        for (number, token) in words.iter().enumerate() {
+            if token.text == b"\\#".as_slice() {
+                return Ok(());
+            }
+            if is_name(code, number) {
+                self.check_name(entry, token)?;
+            }
+        }
+        Ok(())
+    }
+
+    /// Says that the class of a record is another.
+    fn tell_class(&mut self, entry: &Entry<'_>, tokens: &[EntryToken<'_>]) -> Result<(), Stop> {
+        let words = tokens
+            .get(usize::from(!begins_blank(entry))..)
+            .unwrap_or(&[]);
+        let spot = match words.iter().find(|token| class_word(token).is_some()) {
+            Some(token) => token_at(entry, token),
+            None => beginning(entry),
+        };
+        self.tell(spot, Code::OtherClass)
+    }
+
+    /// Keeps what the first SOA says.
+    fn see_soa(&mut self, entry: &Entry<'_>) -> Result<(), Stop> {
+        if self.seen.is_some() {
+            return Ok(());
+        }
+        let Ok(owner) = entry.state.owner() else {
+            return Ok(());
+        };
+        let zone = DisplayWithDot::new(owner).to_string(self.alloc)?;
+        let serial = match Data::from_octets(SOA, entry.data) {
+            Ok(data) => serial_of(&data).unwrap_or(0),
+            Err(_) => 0,
+        };
+        self.seen = Some(Seen { zone, serial });
+        Ok(())
+    }
+
+    /// Says what a record shows.
+    fn check_record(
+        &mut self,
+        entry: &Entry<'_>,
+        at: usize,
+        ttl: RecordTtl,
+        class: u16,
+        code: u16,
+    ) -> Result<(), Stop> {
+        self.has_told_owner = false;
+        self.records = self.records.saturating_add(1);
+        let tokens = tokens_of(self.alloc, entry)?;
+        let tokens = tokens.as_slice();
+        self.check_names(entry, tokens, code)?;
+        if class != self.limits.class {
+            return self.tell_class(entry, tokens);
+        }
+        if let RecordTtl::Minimum(_) = ttl {
+            self.tell(spot_at(entry, tokens, at), Code::SoaMinimumTtl)?;
+        }
+        if let Some(most) = self.limits.max_ttl {
+            if ttl.seconds() > most {
+                self.tell(spot_at(entry, tokens, at), Code::MaxTtl)?;
+            }
+        }
+        if has_empty_target(code, entry.data) {
+            self.tell(spot_at(entry, tokens, at), Code::EmptyUri)?;
+        }
+        if has_other_match_length(code, entry.data) {
+            self.tell(spot_at(entry, tokens, at), Code::TlsaLength)?;
+        }
+        if code == SOA {
+            self.see_soa(entry)?;
+        }
+        let position = spot_at(entry, tokens, at).position;
+        match &mut self.held {
+            Some(held) => held.add(entry, position, ttl.seconds(), class, code),
+            None => Ok(()),
+        }
+    }
+
+    /// Says that a directive's name is relative, which stands at a place among its tokens.
+    fn check_origin(
+        &mut self,
+        entry: &Entry<'_>,
+        tokens: &[EntryToken<'_>],
+        place: usize,
+    ) -> Result<(), Stop> {
+        match tokens.get(place) {
+            Some(token) if !ends_in_dot(token.text) => self.tell(
+                token_at(entry, token),
+                Code::RelativeOrigin,
+            ),
+            _ => Ok(()),
+        }
+    }
+
+    /// Says what a directive shows.
+    fn check_directive(&mut self, entry: &Entry<'_>) -> Result<(), Stop> {
+        let tokens = tokens_of(self.alloc, entry)?;
+        let tokens = tokens.as_slice();
+        match tokens.first() {
+            Some(word) if word.text.eq_ignore_ascii_case(b"$ORIGIN") => {
+                self.limits.assumes_root = false;
+                self.check_origin(entry, tokens, 1)
+            }
+            Some(word) if word.text.eq_ignore_ascii_case(b"$INCLUDE") => self.check_origin(
+                entry, tokens, 2,
+            ),
+            _ => Ok(()),
+        }
+    }
+
+    /// Says what the records show together, once all were read.
+    pub fn finish(&mut self) -> Result<(), Stop> {
+        let Some(held) = self.held.take() else {
+            return Ok(());
+        };
+        if self.is_cut {
+            return Ok(());
+        }
+        match self.zone.take() {
+            Some(zone) => self.check_zone(&held, &zone, true),
+            None => self.check_zone(&held, &Name::root_ref(), false),
+        }
+    }
+
+    /// Says which rules the records break, that of a zone or those of sets alone.
+    fn check_zone<Origin: AsOctets>(
+        &mut self,
+        held: &Held,
+        zone: &Name<Origin>,
+        is_zone: bool,
+    ) -> Result<(), Stop> {
+        let mut set = held.set()?;
+        set.sort()?;
+        let records = set.as_slice();
+        let Some(sorted) = SortedRecords::new(records) else {
+            return Ok(());
+        };
+        let found = check_zone(self.alloc, zone, &sorted)?;
+        for finding in &found {
+            if is_zone || finding.rule == Rule::TtlDiffers || finding.rule == Rule::Duplicate {
+                let record = finding.record.and_then(|place| records.get(place));
+                self.tell_rule(held, finding.rule, record)?;
+            }
+        }
+        Ok(())
+    }
+
+    /// Says that a rule is broken, by a record or by what the zone lacks.
+    fn tell_rule(
+        &mut self,
+        held: &Held,
+        rule: Rule,
+        record: Option<&Record<PlacedOctets<'_>, &[u8]>>,
+    ) -> Result<(), Stop> {
+        let (file, position) = match record {
+            Some(record) => {
+                let octets = record.owner.as_octets();
+                (octets.file, octets.position)
+            }
+            None => (0, first_place().position),
+        };
+        let line = if self.reporter.shows_lines() {
+            line_of(self.rt, held.file(file), position.line)?
+        } else {
+            None
+        };
+        let name = held.file(file);
+        let code = code_of_rule(rule);
+        match &line {
+            Some(line) => self.tell(line_spot(name, position, Some(line.as_slice())), code),
+            None => self.tell(line_spot(name, position, None), code),
+        }
+    }
+
+    /// Whether it is to be told that the lines of an entry's file end in CR LF: once a file, and not
+    /// where a fault cuts the entry off.
+    fn tells_crlf(&self, entry: &Entry<'_>) -> bool {
+        if let Err(RecordRefusal::Text(_)) = entry.read {
+            return false;
+        }
+        !self.crlf_files.contains(&entry.number)
+    }
+
+    /// Says what the octets of an entry show. Returns whether Ctrl-Z begins it.
+    fn lint(&mut self, entry: &Entry<'_>) -> Result<bool, Stop> {
+        if entry.octets.len() >= usize::MAX - 1 {
+            return Err(Stop::TooLong);
+        }
+        let block = Block {
+            is_last: entry.is_last && entry.octets.first() != Some(&CONTROL_Z),
+            tells_crlf: self.tells_crlf(entry),
+        };
+        let mut remarks = Vec::new(self.alloc);
+        lint(entry.octets, block, &mut remarks)?;
+        let mut is_end = false;
+        for remark in &remarks {
+            is_end = is_end || remark.code == Code::ControlZ;
+            if remark.code == Code::Crlf {
+                self.crlf_files.push(entry.number)?;
+            }
+            let is_fault = remark.code.is_text_fault();
+            let spot = octet_at(entry, entry.place.at.saturating_add(remark.at));
+            self.reporter
+                .tell(spot, remark.code, is_fault, code_text(remark.code))?;
+        }
+        Ok(is_end)
+    }
+}
+
+impl<'a> Visit for Checker<'a> {
+    fn begin(&mut self, file: &str, _number: usize, mark: &[u8]) -> Result<(), Stop> {
+        if let Some(held) = &mut self.held {
+            held.add_file(file)?;
+        }
+        if mark.is_empty() {
+            return Ok(());
+        }
+        self.is_cut = self.is_cut || mark.len() == 2;
+        self.tell(
+            line_spot(file, first_place().position, None),
+            Code::ByteOrderMark,
+        )
+    }
+
+    fn take(&mut self, entry: &Entry<'_>) -> Result<(), Stop> {
+        let is_end = self.lint(entry)?;
+        match entry.read {
+            _ if is_end => Ok(()),
+            Ok(EntryRead::Nothing) => Ok(()),
+            Ok(EntryRead::Directive) => self.check_directive(entry),
+            Ok(EntryRead::Include { .. }) => self.check_directive(entry),
+            Ok(
+                EntryRead::Record {
+                    at,
+                    ttl,
+                    class,
+                    code,
+                },
+            ) => self.check_record(entry, *at, *ttl, *class, *code),
+            Err(RecordRefusal::Text(fault)) => self.tell_fault(entry, *fault),
+            Err(RecordRefusal::Entry(refusal)) => self.tell_refusal(entry, refusal),
+        }
+    }
+
+    fn refuse(&mut self, entry: &Entry<'_>, why: &str) -> Result<(), Stop> {
+        let tokens = tokens_of(self.alloc, entry)?;
+        let spot = match tokens.as_slice().get(1) {
+            Some(token) => token_at(entry, token),
+            None => beginning(entry),
+        };
+        let text = format!(in self.alloc; "not included: {why}")?;
+        self.reporter.tell(spot, Code::Include, true, text.as_str())
+    }
+
+    fn keep_ttl(&mut self, file: &str, place: Place) -> Result<(), Stop> {
+        self.tell(line_spot(file, place.position, None), Code::IncludeTtl)
+    }
+}

@@ -1,0 +1,112 @@
+//! A zone file that is open.
+use crate::blocks::read_block;
+use dns_reader::Mark;
+use dns_split::position::Position;
+use dns_zonefile::BlockReader;
+use std::alloc::Global;
+use std::fs::File;
+use std::io;
+use zone_format::place::{Place, advance};
+
+/// Where octets come from.
+#[derive(Drop)]
+pub enum Input {
+    File(File),
+    Standard,
+}
+
+impl Input {
+    /// Reads a block.
+    pub fn read(&mut self, rt: &HostRuntime, block: &mut [u8]) -> io::Result<usize> {
+        match self {
+            Input::File(file) => read_block(file, block),
+            Input::Standard => read_block(&mut rt.stdin(), block),
+        }
+    }
+}
+
+/// What stood where an included file begins.
+#[derive(Drop)]
+pub struct Includer {
+    pub mark: Mark,
+    pub default_ttl: Option<u32>,
+    /// Where the entry stands that includes it.
+    pub place: Place,
+}
+
+/// A zone file that is open.
+#[derive(Drop)]
+pub struct OpenFile {
+    /// The path under which it was opened.
+    pub name: String,
+    /// Its path from the root on, without links; or nothing, of standard input.
+    pub full: String,
+    /// How many files were opened before it.
+    pub number: usize,
+    pub input: Input,
+    pub reader: BlockReader<Global>,
+    /// Where the octets begin that were not given yet.
+    pub place: Place,
+    /// The octets with which the file begins, until it is known whether they are a byte order mark.
+    pub head: Vec<u8>,
+    /// Whether that is known.
+    pub is_begun: bool,
+    /// Whether all of its octets were read.
+    pub is_read: bool,
+    /// What stood where it begins, if another file includes it.
+    pub includer: Option<Includer>,
+}
+
+/// Where files begin.
+pub fn first_place() -> Place {
+    Place {
+        at: 0,
+        position: Position { line: 1, column: 1 },
+    }
+}
+
+/// The place behind octets that follow a place. Where there are more octets than can be counted, it
+/// stays.
+pub fn behind(from: Place, octets: &[u8]) -> Place {
+    let count = octets.len();
+    let line = from.position.line.checked_add(count);
+    let column = from.position.column.checked_add(count);
+    match (from.at.checked_add(count), line, column) {
+        (Some(at), Some(_), Some(column)) if column < usize::MAX => Place {
+            at,
+            position: advance(from.position, octets),
+        },
+        _ => from,
+    }
+}
+
+impl OpenFile {
+    /// A file at its beginning.
+    pub fn new(alloc: Global, name: String, full: String, number: usize, input: Input) -> OpenFile {
+        OpenFile {
+            name,
+            full,
+            number,
+            input,
+            reader: BlockReader::new(alloc),
+            place: first_place(),
+            head: Vec::new(alloc),
+            is_begun: false,
+            is_read: false,
+            includer: None,
+        }
+    }
+
+    /// Goes on to a place of what is held.
+    pub fn walk_to(&mut self, at: usize) {
+        let count = at.saturating_sub(self.place.at);
+        let place = match self.reader.octets_from(self.place.at) {
+            Some(held) => behind(self.place, &held[..count.min(held.len())]),
+            None => match self.reader.position(at) {
+                Some(position) => Place { at, position },
+                None => self.place,
+            },
+        };
+        self.place = place;
+    }
+}

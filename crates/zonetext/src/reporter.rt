@@ -1,0 +1,131 @@
+//! What is said of findings.
+use crate::zone_files::Stop;
+use dns_split::position::Position;
+use std::io::Write;
+use zonetext_report::code::{Code, Severity};
+use zonetext_report::excerpt::push_excerpt;
+use zonetext_report::finding::{Finding, push_line};
+use zonetext_report::json::push_json;
+use zonetext_report::policy::Policy;
+use zonetext_report::tally::Tally;
+
+/// How findings are said.
+#[derive(Clone, Copy, PartialEq, Eq)]
+pub enum Form {
+    /// As lines on standard error.
+    Lines {
+        is_coloured: bool,
+        /// With the line of the file below, and a caret.
+        has_excerpt: bool,
+    },
+    /// As JSON objects on standard output.
+    Json,
+}
+
+/// Where something was found: from a column on to before another.
+#[derive(Clone, Copy)]
+pub struct Spot<'s> {
+    pub file: &'s str,
+    pub position: Position,
+    pub end_column: usize,
+    pub opened: Option<Position>,
+    /// The line of the file, without its end, if it is at hand.
+    pub line: Option<&'s [u8]>,
+}
+
+/// Says what was found, and counts it.
+#[derive(Drop)]
+pub struct Reporter<'a> {
+    rt: &'a HostRuntime,
+    policy: Policy<'a>,
+    form: Form,
+    pub tally: Tally,
+    out: Vec<u8>,
+}
+
+impl<'a> Reporter<'a> {
+    /// Before the first finding, of which so many are said; 0 stands for all.
+    pub fn new(rt: &'a HostRuntime, policy: Policy<'a>, form: Form, most: usize) -> Reporter<'a> {
+        Reporter {
+            rt,
+            policy,
+            form,
+            tally: Tally::new(most),
+            out: Vec::new(rt.alloc()),
+        }
+    }
+
+    /// Writes what was appended.
+    fn write(&mut self) -> Result<(), Stop> {
+        let octets = self.out.as_slice();
+        match self.form {
+            Form::Json => self.rt.stdout().write_all(octets)?,
+            Form::Lines { .. } => self.rt.stderr().write_all(octets)?,
+        }
+        self.out.truncate(0);
+        Ok(())
+    }
+
+    /// Says that something was found, and counts it. What keeps a record from being read is an error
+    /// at least where it is not left out.
+    pub fn tell(
+        &mut self,
+        spot: Spot<'_>,
+        code: Code,
+        is_refused: bool,
+        message: &str,
+    ) -> Result<(), Stop> {
+        let severity = match self.policy.severity(code) {
+            None => return Ok(()),
+            Some(_) if is_refused => Severity::Error,
+            Some(severity) => severity,
+        };
+        if !self.tally.count(severity) {
+            return Ok(());
+        }
+        let finding = Finding {
+            severity,
+            code,
+            position: spot.position,
+            end_column: spot.end_column,
+            opened: spot.opened,
+            message,
+        };
+        match self.form {
+            Form::Json => push_json(&mut self.out, spot.file, &finding)?,
+            Form::Lines {
+                is_coloured,
+                has_excerpt,
+            } => {
+                push_line(&mut self.out, is_coloured, spot.file, &finding)?;
+                if let Some(line) = spot.line {
+                    if has_excerpt {
+                        let column = spot.position.column;
+                        push_excerpt(&mut self.out, is_coloured, line, column, spot.end_column)?;
+                    }
+                }
+            }
+        }
+        self.write()
+    }
+
+    /// Whether lines of files are shown.
+    pub fn shows_lines(&self) -> bool {
+        matches!(
+            self.form,
+            Form::Lines {
+                has_excerpt: true,
+                ..
+            }
+        )
+    }
+
+    /// Says how much was found, unless it was nothing.
+    pub fn summarize(&mut self) -> Result<(), Stop> {
+        if let Form::Json = self.form {
+            return Ok(());
+        }
+        self.tally.push_summary(&mut self.out)?;
+        self.write()
+    }
+}

@@ -1,0 +1,122 @@
+//! Where in an entry something was found.
+ghost use Rattle.std.specs.Prelude.{◌≤◌, length};
+
+use crate::open_file::behind;
+use crate::reporter::Spot;
+use crate::zone_files::Entry;
+use dns_split::entry_tokens::{EntryToken, EntryTokens, NextEntryError};
+use dns_split::opening::outermost_open_of_octets;
+use dns_split::pieces::{Fault, Wrong};
+use dns_split::position::Position;
+use std::alloc::{AllocError, Global};
+
+/// The tokens of an entry, or those before its fault.
+pub fn tokens_of<'e>(alloc: Global, entry: &Entry<'e>) -> Result<Vec<EntryToken<'e>>, AllocError> {
+    let mut tokens = Vec::new(alloc);
+    match EntryTokens::of_octets(entry.octets).next_entry(&mut tokens) {
+        Err(NextEntryError::ShortBuf) => Err(AllocError),
+        _ => Ok(tokens),
+    }
+}
+
+/// How many octets a token has, with its double quotes.
+fn width(token: &EntryToken<'_>) -> usize {
+    let quotes = if token.is_quoted { 2 } else { 0 };
+    token.text.len().saturating_add(quotes)
+}
+
+/// The place and the width of the token that begins at a place, or the place behind the last.
+fn token_from(tokens: &[EntryToken<'_>], at: usize) -> (usize, usize) {
+    let mut behind = 0;
+    for token in tokens {
+        if token.at == at {
+            return (at, width(token));
+        }
+        behind = token.at.saturating_add(width(token));
+    }
+    (behind, 1)
+}
+
+/// The position of a place of an entry, which is counted from the entry's beginning.
+fn position_at(entry: &Entry<'_>, at: usize) -> Position {
+    let count = at.min(entry.held.len());
+    behind(entry.place, &entry.held[..count]).position
+}
+
+/// Where the line begins on which a place of octets stands.
+fn line_start(octets: &[u8], at: usize) -> usize
+    ensures { result ≤ length octets.now }
+{
+    let front = &octets[..at.min(octets.len())];
+    match front.iter().rposition(|octet| *octet == b'\n') {
+        Some(place) => place + 1,
+        None => 0,
+    }
+}
+
+/// The line on which a place of octets stands, without its end.
+fn line_at(octets: &[u8], at: usize) -> &[u8] {
+    let rest = &octets[line_start(octets, at)..];
+    let line = match rest.iter().position(|octet| *octet == b'\n') {
+        Some(end) => &rest[..end],
+        None => rest,
+    };
+    line.strip_suffix(b"\r").unwrap_or(line)
+}
+
+/// A place of an entry, which is counted from the entry's beginning, and so many octets from there.
+fn spot<'e>(entry: &Entry<'e>, at: usize, width: usize) -> Spot<'e> {
+    let position = position_at(entry, at);
+    let end = position_at(entry, at.saturating_add(width));
+    let next = position.column.saturating_add(1);
+    Spot {
+        file: entry.file,
+        position,
+        end_column: if end.line == position.line {
+            end.column.max(next)
+        } else {
+            next
+        },
+        opened: None,
+        line: Some(line_at(entry.held, at)),
+    }
+}
+
+/// Where an entry begins.
+pub fn beginning<'e>(entry: &Entry<'e>) -> Spot<'e> {
+    spot(entry, 0, 1)
+}
+
+/// The token of an entry that begins at a place of the file; or, where none does, as at the entry's
+/// end, the place behind its last token.
+pub fn spot_at<'e>(entry: &Entry<'e>, tokens: &[EntryToken<'_>], at: usize) -> Spot<'e> {
+    let (at, width) = token_from(tokens, at.saturating_sub(entry.place.at));
+    spot(entry, at, width)
+}
+
+/// An octet of an entry, at a place of the file.
+pub fn octet_at<'e>(entry: &Entry<'e>, at: usize) -> Spot<'e> {
+    spot(entry, at.saturating_sub(entry.place.at), 1)
+}
+
+/// A token of an entry.
+pub fn token_at<'e>(entry: &Entry<'e>, token: &EntryToken<'_>) -> Spot<'e> {
+    spot(entry, token.at, width(token))
+}
+
+/// Where that was opened which is left open at a fault of an entry.
+fn opened_at(entry: &Entry<'_>, wrong: Wrong) -> Option<Position> {
+    let at = match wrong {
+        Wrong::OpenQuote(at) => at.saturating_sub(entry.place.at),
+        Wrong::OpenParenthesis => outermost_open_of_octets(entry.octets)?,
+        _ => return None,
+    };
+    Some(position_at(entry, at))
+}
+
+/// A fault of an entry, at a place of the file.
+pub fn fault_at<'e>(entry: &Entry<'e>, fault: Fault) -> Spot<'e> {
+    let opened = opened_at(entry, fault.wrong);
+    let spot = octet_at(entry, fault.at);
+    Spot { opened, ..spot }
+}

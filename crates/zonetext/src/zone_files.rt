@@ -1,0 +1,472 @@
+//! Zone files and those that they include, entry by entry.
+use crate::blocks::BLOCK;
+use crate::open_file::{Includer, Input, OpenFile, behind};
+use crate::progress::Progress;
+use dns_reader::{EntryRead, Known, NameBuffer, RecordRefusal, State};
+use dns_zonefile::AddError;
+use std::alloc::{AllocError, AllocFailed, Global};
+use std::fs::{File, canonicalize, metadata};
+use std::io::ErrorKind;
+use std::path::{Component, Path};
+use std::{io, mem};
+use zone_format::place::Place;
+use zonetext_report::lint::order_mark_len;
+
+/// How many files may be open that others include.
+const MOST_INCLUDED: usize = 10;
+
+/// Why the entries of files do not go on.
+#[derive(Drop)]
+pub enum Stop {
+    /// A file can't be read.
+    Read { file: String, error: io::Error },
+    /// Standard output, or standard error, takes no more.
+    Write(io::Error),
+    /// There is no more memory.
+    OutOfMemory,
+    /// A file has more octets than can be counted.
+    TooLong,
+}
+
+impl From<AllocError> for Stop {
+    fn from(_error: AllocError) -> Stop {
+        Stop::OutOfMemory
+    }
+}
+
+impl<T: Drop> From<AllocFailed<T>> for Stop {
+    fn from(_error: AllocFailed<T>) -> Stop {
+        Stop::OutOfMemory
+    }
+}
+
+impl From<AddError> for Stop {
+    fn from(error: AddError) -> Stop {
+        match error {
+            AddError::OutOfMemory => Stop::OutOfMemory,
+            _ => Stop::TooLong,
+        }
+    }
+}
+
+impl From<io::Error> for Stop {
+    fn from(error: io::Error) -> Stop {
+        if error.kind() == ErrorKind::OutOfMemory {
+            Stop::OutOfMemory
+        } else {
+            Stop::Write(error)
+        }
+    }
+}
+
+/// An entry of a file, and what was read of it.
+#[derive(Drop)]
+pub struct Entry<'e> {
+    /// The file, by the path under which it was opened.
+    pub file: &'e str,
+    /// How many files were opened before it.
+    pub number: usize,
+    /// Where it begins.
+    pub place: Place,
+    /// What is held of the file from there on.
+    pub held: &'e [u8],
+    /// Its octets. A fault of the text ends them.
+    pub octets: &'e [u8],
+    /// Whether it is the last of its file.
+    pub is_last: bool,
+    pub read: &'e Result<EntryRead, RecordRefusal>,
+    /// The octets of a record's data, or of an included file's name.
+    pub data: &'e [u8],
+    /// What the entries so far say, this one too.
+    pub state: &'e State,
+}
+
+/// What takes the entries of files.
+pub trait Visit {
+    /// Takes a file that begins with so many octets of a byte order mark, and how many files were
+    /// opened before it.
+    fn begin(&mut self, file: &str, number: usize, mark: &[u8]) -> Result<(), Stop>;
+
+    /// Takes an entry.
+    fn take(&mut self, entry: &Entry<'_>) -> Result<(), Stop>;
+
+    /// Takes that the file is not included which an entry names, and why.
+    fn refuse(&mut self, entry: &Entry<'_>, why: &str) -> Result<(), Stop>;
+
+    /// Takes that the `$TTL` of a file stays in force which the entry at a place includes.
+    fn keep_ttl(&mut self, file: &str, place: Place) -> Result<(), Stop>;
+}
+
+/// Zone files that are open, and what their entries so far say.
+#[derive(Drop)]
+pub struct ZoneFiles<'a> {
+    rt: &'a HostRuntime,
+    /// The folders of which files may be included, by their paths from the root on, without links.
+    folders: Vec<String>,
+    /// Those that are open, each but the first included by the one before it.
+    files: Vec<OpenFile>,
+    state: State,
+    /// How many were opened.
+    count: usize,
+    data: Vec<u8>,
+    block: Vec<u8>,
+}
+
+/// The path of a file from the root on, without links.
+fn full_path(rt: &HostRuntime, path: &str) -> io::Result<String> {
+    Ok(canonicalize(rt, path)?.into_string())
+}
+
+/// The folder of the first file, from the root on, without links. That of standard input, or of a
+/// pipe, is the one in which the program runs.
+fn first_folder(rt: &HostRuntime, file: &OpenFile) -> io::Result<String> {
+    match Path::new(file.full.as_str()).parent() {
+        Some(folder) => Ok(String::from_str(rt.alloc(), folder.to_string_lossy())?),
+        None => full_path(rt, "."),
+    }
+}
+
+/// Opens the first file.
+fn open_first(rt: &HostRuntime, file: &str) -> io::Result<OpenFile> {
+    let alloc = rt.alloc();
+    let name = String::from_str(alloc, file)?;
+    if file == "-" {
+        return Ok(OpenFile::new(alloc, name, String::new(alloc), 0, Input::Standard));
+    }
+    let input = Input::File(File::open(rt, file)?);
+    // A pipe has no path.
+    let full = full_path(rt, file).unwrap_or(String::new(alloc));
+    Ok(OpenFile::new(alloc, name, full, 0, input))
+}
+
+/// Whether a path goes up: one of its parts is `..`.
+fn goes_up(path: Path<'_>) -> bool {
+    for part in path.components() {
+        if let Component::ParentDir = part {
+            return true;
+        }
+    }
+    false
+}
+
+/// Why a file is not included.
+#[derive(Drop)]
+enum Unfit {
+    Told(&'static str),
+    Io(io::Error),
+}
+
+impl From<io::Error> for Unfit {
+    fn from(error: io::Error) -> Unfit {
+        Unfit::Io(error)
+    }
+}
+
+impl From<AllocError> for Unfit {
+    fn from(_error: AllocError) -> Unfit {
+        Unfit::Io(io::Error::from(ErrorKind::OutOfMemory))
+    }
+}
+
+impl Unfit {
+    /// What is said of it.
+    fn text(&self, alloc: Global) -> Result<String, AllocError> {
+        match self {
+            Unfit::Told(why) => String::from_str(alloc, why),
+            Unfit::Io(error) => error.to_string(alloc),
+        }
+    }
+}
+
+impl<'a> ZoneFiles<'a> {
+    /// A file that is opened, `-` for standard input, and the folders besides its own of which files
+    /// may be included; and what stands before its first entry.
+    pub fn open(
+        rt: &'a HostRuntime,
+        file: &str,
+        folders: &[&str],
+        state: State,
+    ) -> io::Result<ZoneFiles<'a>> {
+        let alloc = rt.alloc();
+        let first = open_first(rt, file)?;
+        let mut open_folders = Vec::new(alloc);
+        open_folders.push(first_folder(rt, &first)?)?;
+        for folder in folders {
+            open_folders.push(full_path(rt, folder)?)?;
+        }
+        let mut files = Vec::new(alloc);
+        if files.push(first).is_err() {
+            return Err(io::Error::from(ErrorKind::OutOfMemory));
+        }
+        Ok(ZoneFiles {
+            rt,
+            folders: open_folders,
+            files,
+            state,
+            count: 1,
+            data: Vec::new(alloc),
+            block: vec![in alloc; 0; BLOCK]?,
+        })
+    }
+
+    /// Gives all entries.
+    pub fn go_through<V: Visit>(
+        &mut self,
+        visitor: &mut V,
+        progress: &mut Progress,
+    ) -> Result<(), Stop> {
+        for _ in 0..u64::MAX {
+            let Some(file) = self.files.pop() else {
+                return Ok(());
+            };
+            self.step(file, visitor, progress)?;
+        }
+        Err(Stop::TooLong)
+    }
+
+    /// Goes a step on in the file that was opened last: gives an entry, reads a block, or closes it.
+    fn step<V: Visit>(
+        &mut self,
+        mut file: OpenFile,
+        visitor: &mut V,
+        progress: &mut Progress,
+    ) -> Result<(), Stop> {
+        if !file.is_begun {
+            return self.begin(file, visitor, progress);
+        }
+        self.data.truncate(0);
+        let read = file.reader.next_entry(&mut self.state, &mut self.data);
+        match read {
+            Some(read) => self.give(file, read, visitor),
+            None if file.is_read => self.close(file, visitor),
+            None => self.read(file, progress),
+        }
+    }
+
+    /// Reads a block of a file.
+    fn read(&mut self, mut file: OpenFile, progress: &mut Progress) -> Result<(), Stop> {
+        let count = self.fill(&mut file, progress)?;
+        file.reader.add(self.read_octets(count))?;
+        if file.is_read {
+            file.reader.finish();
+        }
+        self.files.push(file)?;
+        Ok(())
+    }
+
+    /// Reads a block, and returns how many octets it has. At the end of the file it has none.
+    fn fill(&mut self, file: &mut OpenFile, progress: &mut Progress) -> Result<usize, Stop> {
+        match file.input.read(self.rt, self.block.as_mut_slice()) {
+            Ok(0) => {
+                file.is_read = true;
+                Ok(0)
+            }
+            Ok(count) => {
+                progress.read(count)?;
+                Ok(count)
+            }
+            Err(error) => Err(Stop::Read {
+                file: String::from_str(self.rt.alloc(), file.name.as_str())?,
+                error,
+            }),
+        }
+    }
+
+    /// So many octets of the block that was read last, or all of it.
+    fn read_octets(&self, count: usize) -> &[u8] {
+        let block = self.block.as_slice();
+        &block[..count.min(block.len())]
+    }
+
+    /// Reads the beginning of a file, until it is known whether that is a byte order mark.
+    fn begin<V: Visit>(
+        &mut self,
+        mut file: OpenFile,
+        visitor: &mut V,
+        progress: &mut Progress,
+    ) -> Result<(), Stop> {
+        let count = self.fill(&mut file, progress)?;
+        file.head.extend_from_slice(self.read_octets(count))?;
+        if !file.is_read && file.head.len() < 3 {
+            self.files.push(file)?;
+            return Ok(());
+        }
+        let head = file.head.as_slice();
+        let count = order_mark_len(head).min(head.len());
+        visitor.begin(file.name.as_str(), file.number, &head[..count])?;
+        if count == 2 {
+            // UTF-16 is no zone text at all.
+            return self.close(file, visitor);
+        }
+        file.place = behind(file.place, &head[..count]);
+        file.place.at = 0;
+        if file.is_read && file.head.len() == count {
+            return self.close(file, visitor);
+        }
+        self.add_head(file, count)
+    }
+
+    /// Gives the reader what was read to know the beginning, behind the byte order mark.
+    fn add_head(&mut self, mut file: OpenFile, count: usize) -> Result<(), Stop> {
+        let head = mem::replace(&mut file.head, Vec::new(self.rt.alloc()));
+        file.is_begun = true;
+        let octets = head.as_slice();
+        let count = count.min(octets.len());
+        file.reader.add(&octets[count..])?;
+        if file.is_read {
+            file.reader.finish();
+        }
+        self.files.push(file)?;
+        Ok(())
+    }
+
+    /// The entry that was read last of a file.
+    fn entry<'e>(
+        &'e self,
+        file: &'e OpenFile,
+        read: &'e Result<EntryRead, RecordRefusal>,
+    ) -> Entry<'e> {
+        let held = file.reader.octets_from(file.place.at).unwrap_or(&[]);
+        let end = file.reader.place().saturating_sub(file.place.at);
+        let count = end.min(held.len());
+        Entry {
+            file: file.name.as_str(),
+            number: file.number,
+            place: file.place,
+            held,
+            octets: &held[..count],
+            is_last: file.is_read && count == held.len(),
+            read,
+            data: self.data.as_slice(),
+            state: &self.state,
+        }
+    }
+
+    /// Gives an entry, and opens the file that it includes.
+    fn give<V: Visit>(
+        &mut self,
+        mut file: OpenFile,
+        read: Result<EntryRead, RecordRefusal>,
+        visitor: &mut V,
+    ) -> Result<(), Stop> {
+        let began = file.reader.began();
+        file.walk_to(began);
+        let found = match &read {
+            Ok(EntryRead::Include { .. }) => Some(self.find_included(&file)),
+            _ => None,
+        };
+        let entry = self.entry(&file, &read);
+        visitor.take(&entry)?;
+        if let Some(Err(unfit)) = &found {
+            let why = unfit.text(self.rt.alloc())?;
+            visitor.refuse(&entry, why.as_str())?;
+        }
+        let place = file.place;
+        let behind = file.reader.place();
+        file.walk_to(behind);
+        self.files.push(file)?;
+        match (read, found) {
+            (Ok(EntryRead::Include { origin }), Some(Ok(included))) => {
+                self.include(included, origin, place)
+            }
+            _ => Ok(()),
+        }
+    }
+
+    /// Opens the file that an entry of another names by the octets that were appended.
+    fn find_included(&self, file: &OpenFile) -> Result<OpenFile, Unfit> {
+        if self.files.len() >= MOST_INCLUDED {
+            return Err(Unfit::Told("more than 10 files include one another"));
+        }
+        let Ok(name) = str::from_utf8(self.data.as_slice()) else {
+            return Err(Unfit::Told("file name is not UTF-8"));
+        };
+        let path = Path::new(name);
+        if goes_up(path) {
+            return Err(Unfit::Told("file name with .."));
+        }
+        let alloc = self.rt.alloc();
+        let beside = Path::new(file.name.as_str());
+        let joined = match beside.parent() {
+            Some(folder) => folder.join(alloc, path)?,
+            None => path.to_path_buf(alloc)?,
+        };
+        self.open_included(file, joined.into_string())
+    }
+
+    /// Opens a file, unless it stands in no folder of which files may be included, or is open.
+    fn open_included(&self, file: &OpenFile, name: String) -> Result<OpenFile, Unfit> {
+        let full = full_path(self.rt, name.as_str())?;
+        if !self.is_allowed(full.as_str()) {
+            return Err(Unfit::Told("file outside of the folders that are open to it"));
+        }
+        if file.full == full || self.is_open(full.as_str()) {
+            return Err(Unfit::Told("file that includes itself"));
+        }
+        if !metadata(self.rt, name.as_str())?.is_file() {
+            return Err(Unfit::Told("not a regular file"));
+        }
+        let input = Input::File(File::open(self.rt, name.as_str())?);
+        Ok(OpenFile::new(self.rt.alloc(), name, full, self.count, input))
+    }
+
+    /// Whether a file stands in a folder of which files may be included.
+    fn is_allowed(&self, full: &str) -> bool {
+        for folder in &self.folders {
+            if Path::new(full).starts_with(folder.as_str()) {
+                return true;
+            }
+        }
+        false
+    }
+
+    /// Whether one of the open files, but for the last, has a path.
+    fn is_open(&self, full: &str) -> bool {
+        for file in &self.files {
+            if file.full.as_str() == full {
+                return true;
+            }
+        }
+        false
+    }
+
+    /// Goes on in an included file.
+    fn include(
+        &mut self,
+        mut file: OpenFile,
+        origin: Option<NameBuffer>,
+        place: Place,
+    ) -> Result<(), Stop> {
+        file.includer = Some(Includer {
+            mark: self.state.mark(),
+            default_ttl: self.state.default_ttl,
+            place,
+        });
+        if let Some(origin) = origin {
+            self.state.origin = Known::Name(origin);
+        }
+        self.count = self.count.saturating_add(1);
+        self.files.push(file)?;
+        Ok(())
+    }
+
+    /// Goes on behind a file that was read: what an included file says of the origin and of owners is
+    /// forgotten.
+    fn close<V: Visit>(&mut self, mut file: OpenFile, visitor: &mut V) -> Result<(), Stop> {
+        let Some(includer) = file.includer.take() else {
+            return Ok(());
+        };
+        let Includer {
+            mark,
+            default_ttl,
+            place,
+        } = includer;
+        self.state.restore(mark);
+        if self.state.default_ttl != default_ttl {
+            if let Some(outer) = self.files.last() {
+                visitor.keep_ttl(outer.name.as_str(), place)?;
+            }
+        }
+        Ok(())
+    }
+}

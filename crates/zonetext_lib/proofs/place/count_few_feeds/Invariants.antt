@@ -1,9 +1,0 @@
-use Rattle.std.proofs.Common.{◌≡◌, ◌≤◌, take}
-use Rattle.zonetext_lib.specs.Place.{feeds}
-use Rattle.zonetext_lib.proofs.place.count_few_feeds.Given as goal
-
-abbrev pub invariant-loop-octet : goal.invariant-loop-octet
-invariant-loop-octet l = record {
-  lines : l.lines ≡ feeds (take l.octet-index l.octets);
-  few : l.lines ≤ l.octet-index;
-}

@@ -1,0 +1,23 @@
+-- Data of records that look like a slip.
+use Rattle.std.specs.Prelude.{ℕ, ◌==◌, ◌||◌, ◌&&◌, not, if◌then◌else◌, Bool, false, List, [], ◌∷◌, length, Option, Some, None}
+
+-- how many octets the hash of a matching type has: SHA-256, SHA-512
+abbrev pub match_length : ℕ → Option ℕ
+match_length matching = if matching == 1 then Some 32 else if matching == 2 then Some 64 else None
+
+abbrev pub is_other_length : Option ℕ → ℕ → Bool
+is_other_length None count = false
+is_other_length (Some length) count = not (count == length)
+
+-- the octets behind a usage, a selector and a matching type are not as many as that asks for
+abbrev pub is_other_match : List ℕ → Bool
+is_other_match (usage ∷ selector ∷ matching ∷ hash) = is_other_length (match_length matching) (length hash)
+is_other_match _ = false
+
+-- TLSA is type 52, SMIMEA 53
+abbrev pub has_other_match_length : (code : ℕ) → List ℕ → Bool
+has_other_match_length code octets = (code == 52 || code == 53) && is_other_match octets
+
+-- URI is type 256: a priority and a weight of two octets each, and a target
+abbrev pub has_empty_target : (code : ℕ) → List ℕ → Bool
+has_empty_target code octets = code == 256 && length octets == 4

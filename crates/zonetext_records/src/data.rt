@@ -1,0 +1,46 @@
+//! Data of records that look like a slip.
+ghost use Rattle.std.specs.Prelude.{◌≡◌};
+ghost use Rattle.zonetext_records.specs.Data.{has_empty_target, has_other_match_length, match_length};
+
+/// The code of TLSA.
+const TLSA: u16 = 52;
+/// The code of SMIMEA.
+const SMIMEA: u16 = 53;
+/// The code of URI.
+const URI: u16 = 256;
+
+/// How many octets the hash of a matching type has (RFC 6698 section 2.1.3).
+fn match_length(matching: u8) -> Option<usize>
+    ensures { result ≡ match_length matching }
+{
+    match matching {
+        1 => Some(32),
+        2 => Some(64),
+        _ => None,
+    }
+}
+
+/// Whether data of TLSA or SMIMEA have not as many octets behind their matching type as it asks for:
+/// 32 of SHA-256, 64 of SHA-512 (RFC 6698 section 2.1, RFC 8162 section 2).
+pub fn has_other_match_length(code: u16, data: &[u8]) -> bool
+    ensures { result ≡ has_other_match_length code «data».now }
+{
+    if code != TLSA && code != SMIMEA {
+        return false;
+    }
+    match data {
+        [_, _, matching, hash @ ..] => match match_length(*matching) {
+            Some(length) => hash.len() != length,
+            None => false,
+        },
+        _ => false,
+    }
+}
+
+/// Whether data of URI, whose target follows two numbers of 16 bits, have an empty target (RFC 7553
+/// section 4.4).
+pub fn has_empty_target(code: u16, data: &[u8]) -> bool
+    ensures { result ≡ has_empty_target code «data».now }
+{
+    code == URI && data.len() == 4
+}

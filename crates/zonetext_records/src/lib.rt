@@ -1,0 +1,10 @@
+//! What `zonetext check` says of the entries of zone files, and of the records that they are read
+//! as: the codes and the texts of findings, names and lengths that look like slips, and files by
+//! their paths.
+#![tactic(auto)]
+
+pub mod codes;
+pub mod data;
+pub mod names;
+pub mod placed;
+pub mod texts;

@@ -1,0 +1,62 @@
+//! What is said of findings.
+ghost use Rattle.std.specs.Prelude.{◌≡◌};
+ghost use Rattle.zonetext_records.specs.Texts.{finding_text, text_fault_text};
+
+use dns_split::pieces::Wrong;
+use zonetext_report::code::Code;
+
+/// What is said of a fault of the text.
+pub fn fault_text(wrong: Wrong) -> &'static str
+    ensures { result.now ≡ text_fault_text wrong }
+{
+    match wrong {
+        Wrong::Closing => "closing parenthesis, and none is open",
+        Wrong::OpenParenthesis => "parenthesis is not closed",
+        Wrong::OpenQuote(_) => "quoted text is not closed",
+        Wrong::LoneReturn => "CR without LF",
+        Wrong::BadEscape => "bad escape",
+    }
+}
+
+/// What is said of a finding that has no more to say than its code.
+pub fn code_text(code: Code) -> &'static str
+    ensures { result.now ≡ finding_text code }
+{
+    match code {
+        Code::Nul => "NUL",
+        Code::ByteOrderMark => "byte order mark",
+        Code::ControlZ => "Ctrl-Z",
+        Code::OtherClass => "another class than the zone's",
+        Code::NoSoa => "no SOA at the zone's name",
+        Code::TwoSoas => "two SOAs that differ",
+        Code::NoNs => "no NS at the zone's name",
+        Code::NsAddress => "name server in the zone without an address",
+        Code::Cname => "CNAME beside other records",
+        Code::Dname => "two DNAMEs of one name",
+        Code::DsApex => "DS at the zone's name",
+        Code::WildcardNs => "NS of a wildcard",
+        Code::BelowDname => "record below a DNAME",
+        Code::Outside => "record outside of the zone",
+        Code::MaxTtl => "time to live above the greatest that is allowed",
+        Code::NoOrigin => "relative name, and no origin: read below the root",
+        Code::HighOctet => "octet outside of ASCII",
+        Code::ControlOctet => "control octet in a quoted text",
+        Code::Crlf => "lines end in CR LF",
+        Code::NestedParentheses => "parenthesis inside of parentheses",
+        Code::NoFinalNewline => "no line end at the end of the file",
+        Code::RelativeOrigin => "relative name as origin",
+        Code::SoaMinimumTtl => "minimum of the SOA is taken as time to live",
+        Code::IncludeTtl => "$TTL of the included file stays in force",
+        Code::MissingDot => "name ends like the origin: a dot at its end may be missing",
+        Code::EmptyUri => "empty target",
+        Code::TlsaLength => "wrong number of octets for the matching type",
+        Code::Glue => "name server below the delegation without an address",
+        Code::TargetCname => "target is a CNAME",
+        Code::TargetMissing => "target is not in the zone",
+        Code::HostName => "host name with an underscore",
+        Code::Cds => "CDS or CDNSKEY without a DNSKEY",
+        Code::TtlDiffers => "another time to live than the set's",
+        Code::Duplicate => "record stands twice",
+        _ => code.name(),
+    }
+}

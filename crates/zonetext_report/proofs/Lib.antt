@@ -1,0 +1,10 @@
+pub mod Appending
+pub mod Codes
+pub mod Excerpts
+pub mod Findings
+pub mod Jsons
+pub mod Linting
+pub mod OneLine
+pub mod Plain
+pub mod Showing
+pub mod Tallies

@@ -1,0 +1,96 @@
+-- What can be found in zone files: the name of each finding, and what it weighs.
+use Rattle.std.specs.Prelude.{ℕ, Bool, true, false, List, codes}
+use Rattle.zonetext_report.specs.declared.code.Severity.{Severity}
+use Rattle.zonetext_report.specs.declared.code.Severity.TheVariants.{Error, Warning}
+use Rattle.zonetext_report.specs.declared.code.Code.{Code}
+use Rattle.zonetext_report.specs.declared.code.Code.TheVariants.{OpenQuote, OpenParenthesis, ClosingParenthesis, LoneReturn, BadEscape, Nul, ByteOrderMark, ControlZ, Directive, Owner, Ttl, Class, RecordType, Data, Include, NoOwner, NoTtl, OtherClass, NoSoa, TwoSoas, NoNs, NsAddress, Cname, Dname, DsApex, WildcardNs, BelowDname, Outside, MaxTtl, NoOrigin, HighOctet, ControlOctet, Crlf, NestedParentheses, NoFinalNewline, RelativeOrigin, SoaMinimumTtl, IncludeTtl, MissingDot, EmptyUri, TlsaLength, Glue, TargetCname, TargetMissing, HostName, Cds, TtlDiffers, Duplicate}
+
+abbrev pub severity_name : Severity → List ℕ
+severity_name Error = codes "error"
+severity_name Warning = codes "warning"
+
+-- the name under which it is allowed or denied
+abbrev pub code_name : Code → List ℕ
+code_name OpenQuote = codes "open-quote"
+code_name OpenParenthesis = codes "open-parenthesis"
+code_name ClosingParenthesis = codes "closing-parenthesis"
+code_name LoneReturn = codes "lone-return"
+code_name BadEscape = codes "bad-escape"
+code_name Nul = codes "nul"
+code_name ByteOrderMark = codes "byte-order-mark"
+code_name ControlZ = codes "control-z"
+code_name Directive = codes "directive"
+code_name Owner = codes "owner"
+code_name Ttl = codes "ttl"
+code_name Class = codes "class"
+code_name RecordType = codes "type"
+code_name Data = codes "data"
+code_name Include = codes "include"
+code_name NoOwner = codes "no-owner"
+code_name NoTtl = codes "no-ttl"
+code_name OtherClass = codes "other-class"
+code_name NoSoa = codes "no-soa"
+code_name TwoSoas = codes "two-soas"
+code_name NoNs = codes "no-ns"
+code_name NsAddress = codes "ns-address"
+code_name Cname = codes "cname"
+code_name Dname = codes "dname"
+code_name DsApex = codes "ds-apex"
+code_name WildcardNs = codes "wildcard-ns"
+code_name BelowDname = codes "below-dname"
+code_name Outside = codes "outside"
+code_name MaxTtl = codes "max-ttl"
+code_name NoOrigin = codes "no-origin"
+code_name HighOctet = codes "high-octet"
+code_name ControlOctet = codes "control-octet"
+code_name Crlf = codes "crlf"
+code_name NestedParentheses = codes "nested-parentheses"
+code_name NoFinalNewline = codes "no-final-newline"
+code_name RelativeOrigin = codes "relative-origin"
+code_name SoaMinimumTtl = codes "soa-minimum-ttl"
+code_name IncludeTtl = codes "include-ttl"
+code_name MissingDot = codes "missing-dot"
+code_name EmptyUri = codes "empty-uri"
+code_name TlsaLength = codes "tlsa-length"
+code_name Glue = codes "glue"
+code_name TargetCname = codes "target-cname"
+code_name TargetMissing = codes "target-missing"
+code_name HostName = codes "host-name"
+code_name Cds = codes "cds"
+code_name TtlDiffers = codes "ttl-differs"
+code_name Duplicate = codes "duplicate"
+
+-- the text can't be read as entries, or not safely
+abbrev pub is_text_fault : Code → Bool
+is_text_fault OpenQuote = true
+is_text_fault OpenParenthesis = true
+is_text_fault ClosingParenthesis = true
+is_text_fault LoneReturn = true
+is_text_fault BadEscape = true
+is_text_fault Nul = true
+is_text_fault ByteOrderMark = true
+is_text_fault ControlZ = true
+is_text_fault _ = false
+
+-- a warning where servers take the file, else an error
+abbrev pub default_severity : Code → Severity
+default_severity NoOrigin = Warning
+default_severity HighOctet = Warning
+default_severity ControlOctet = Warning
+default_severity Crlf = Warning
+default_severity NestedParentheses = Warning
+default_severity NoFinalNewline = Warning
+default_severity RelativeOrigin = Warning
+default_severity SoaMinimumTtl = Warning
+default_severity IncludeTtl = Warning
+default_severity MissingDot = Warning
+default_severity EmptyUri = Warning
+default_severity TlsaLength = Warning
+default_severity Glue = Warning
+default_severity TargetCname = Warning
+default_severity TargetMissing = Warning
+default_severity HostName = Warning
+default_severity Cds = Warning
+default_severity TtlDiffers = Warning
+default_severity Duplicate = Warning
+default_severity _ = Error

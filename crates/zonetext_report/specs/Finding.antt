@@ -1,0 +1,61 @@
+-- The line that tells of a finding.
+use Rattle.std.specs.Prelude.{◌≡◌, ℕ, ◌==◌, not, if◌then◌else◌, Bool, true, List, [], ◌∷◌, ◌++◌, codes, Option, Some, None}
+use Rattle.std.specs.List.{list_all}
+use Rattle.std.specs.Fmt.{decimal}
+use Rattle.dns_symbol.specs.Characters.{line_feed}
+use Rattle.dns_split.specs.declared.position.Position.{Position}
+use Rattle.zonetext_report.specs.declared.code.Severity.{Severity}
+use Rattle.zonetext_report.specs.declared.code.Severity.TheVariants.{Error, Warning}
+use Rattle.zonetext_report.specs.declared.finding.Finding.{Finding}
+use Rattle.zonetext_report.specs.Code.{severity_name}
+use Rattle.zonetext_report.specs.Shown.{shown_text}
+
+-- what begins a style of a terminal: bold, red, magenta, green; and what ends each
+abbrev pub bold : List ℕ
+bold = 27 ∷ codes "[1m"
+
+abbrev pub red : List ℕ
+red = 27 ∷ codes "[1;31m"
+
+abbrev pub magenta : List ℕ
+magenta = 27 ∷ codes "[1;35m"
+
+abbrev pub green : List ℕ
+green = 27 ∷ codes "[1;32m"
+
+abbrev pub unstyled : List ℕ
+unstyled = 27 ∷ codes "[0m"
+
+abbrev pub severity_style : Severity → List ℕ
+severity_style Error = red
+severity_style Warning = magenta
+
+abbrev pub style_if : (is_coloured : Bool) → List ℕ → List ℕ
+style_if is_coloured style = if is_coloured then style else []
+
+abbrev pub position_text : Position → List ℕ
+position_text p = decimal p.line ++ codes ":" ++ decimal p.column
+
+-- `FILE:LINE:COLUMN:`
+abbrev pub place_text : (is_coloured : Bool) → (file : List ℕ) → Position → List ℕ
+place_text is_coloured file p = style_if is_coloured bold ++ shown_text true file ++ codes ":" ++ position_text p ++ codes ":" ++ style_if is_coloured unstyled
+
+-- ` error: `
+abbrev pub severity_text : (is_coloured : Bool) → Severity → List ℕ
+severity_text is_coloured s = codes " " ++ style_if is_coloured (severity_style s) ++ severity_name s ++ codes ":" ++ style_if is_coloured unstyled ++ codes " "
+
+abbrev pub opened_text : Option Position → List ℕ
+opened_text None = []
+opened_text (Some p) = codes ", opened at " ++ position_text p
+
+-- `FILE:LINE:COLUMN: error: why`
+abbrev pub finding_line : (is_coloured : Bool) → (file : List ℕ) → Finding → List ℕ
+finding_line is_coloured file f = place_text is_coloured file f.position ++ severity_text is_coloured f.severity ++ shown_text true f.message.now ++ opened_text f.opened ++ codes "\n"
+
+-- octets whose last is a line feed, and no other
+abbrev pub IsOneLine : List ℕ → Type 0
+IsOneLine text = (front : List ℕ) × (text ≡ front ++ line_feed ∷ []) × (list_all (λ c. not (c == line_feed)) front ≡ true)
+
+-- whatever a file's name and a message hold
+abbrev pub FindingsAreLines : Type 0
+FindingsAreLines = (is_coloured : Bool) (file : List ℕ) (f : Finding) → IsOneLine (finding_line is_coloured file f)

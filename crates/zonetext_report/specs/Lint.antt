@@ -1,0 +1,122 @@
+-- What the octets of zone text show by themselves.
+use Rattle.std.specs.Prelude.{◌≡◌, ℕ, ◌+◌, ◌-◌, ◌==◌, ◌||◌, ◌&&◌, not, nat_lt, nat_le, if◌then◌else◌, Bool, true, false, List, [], ◌∷◌, ◌++◌, length, drop, slice_index, ◌≤◌, Option, Some, None, Result, Ok, Err}
+use Rattle.std.specs.List.{position}
+use Rattle.dns_symbol.specs.Characters.{tab, line_feed, carriage_return, open_parenthesis, close_parenthesis}
+use Rattle.dns_split.specs.Pieces.{IsGiven, between}
+use Rattle.dns_split.specs.declared.pieces.Piece.{Piece}
+use Rattle.dns_split.specs.declared.pieces.Piece.TheVariants.{Word as WordAt, Quote as QuoteAt, Comment as CommentAt, End as EndAt}
+use Rattle.dns_split.specs.declared.pieces.Fault.{Fault}
+use Rattle.zonetext_report.specs.declared.code.Code.{Code}
+use Rattle.zonetext_report.specs.declared.code.Code.TheVariants.{Nul, HighOctet, ControlOctet, ControlZ, NestedParentheses, Crlf, NoFinalNewline}
+use Rattle.zonetext_report.specs.declared.lint.Block.{Block}
+use Rattle.zonetext_report.specs.declared.lint.Reached.{Reached}
+use Rattle.zonetext_report.specs.declared.lint.Remark.{Remark}
+use Rattle.zonetext_report.specs.Shown.{is_control}
+
+abbrev pub remark : ℕ → Code → Remark
+remark at code = record { at = at; code = code }
+
+-- what was found at a place that is counted from another
+abbrev pub remarks_at : (from : ℕ) → Option ℕ → Code → List Remark
+remarks_at from None code = []
+remarks_at from (Some i) code = remark (from + i) code ∷ []
+
+-- the first of the octets from a place on that passes a test
+abbrev pub first_passing : (ℕ → Bool) → (from : ℕ) → List ℕ → Code → List Remark
+first_passing test from octets code = remarks_at from (position test octets) code
+
+abbrev pub is_nul : ℕ → Bool
+is_nul c = c == 0
+
+abbrev pub is_return : ℕ → Bool
+is_return c = c == carriage_return
+
+abbrev pub is_high : ℕ → Bool
+is_high c = nat_le 128 c
+
+-- a control octet that is told of in quoted texts: not NUL, which is a fault, and not a tab
+abbrev pub is_quoted_control : ℕ → Bool
+is_quoted_control c = is_control c && not (is_nul c || c == tab)
+
+-- a token shows its first NUL, its first octet from 128 on, and a quoted text its first control octet
+abbrev pub token_remarks : (is_quoted : Bool) → (from : ℕ) → (token : List ℕ) → List Remark
+token_remarks is_quoted from token = first_passing is_nul from token Nul ++ first_passing is_high from token HighOctet ++ (if is_quoted then first_passing is_quoted_control from token ControlOctet else [])
+
+-- how many parentheses are open after an octet between two pieces, and after several
+abbrev pub depth_by : (depth octet : ℕ) → ℕ
+depth_by depth c = if c == open_parenthesis then depth + 1 else if c == close_parenthesis then depth - 1 else depth
+
+abbrev pub open_after : (depth : ℕ) → List ℕ → ℕ
+open_after depth [] = depth
+open_after depth (c ∷ cs) = open_after (depth_by depth c) cs
+
+-- a parenthesis is opened inside of others
+abbrev pub opens_inside : (depth octet : ℕ) → Bool
+opens_inside depth c = c == open_parenthesis && nat_lt 0 depth
+
+abbrev pub nested_remarks : (depth from : ℕ) → List ℕ → List Remark
+nested_remarks depth from [] = []
+nested_remarks depth from (c ∷ cs) = (if opens_inside depth c then remark from NestedParentheses ∷ [] else []) ++ nested_remarks (depth_by depth c) (from + 1) cs
+
+-- an entry begins with Ctrl-Z
+abbrev pub begins_control_z : List ℕ → Bool
+begins_control_z [] = false
+begins_control_z (c ∷ cs) = c == 26
+
+abbrev pub control_z : (octets : List ℕ) → (at : ℕ) → List Remark
+control_z octets at = if begins_control_z (drop at octets) then remark at ControlZ ∷ [] else []
+
+-- where a piece begins, and where the octets behind it do
+abbrev pub piece_start : Piece → ℕ
+piece_start (WordAt p) = p.start
+piece_start (QuoteAt p) = p.start
+piece_start (CommentAt p) = p.start
+piece_start (EndAt p) = p.at
+
+abbrev pub piece_end : Piece → ℕ
+piece_end (WordAt p) = p.end
+piece_end (QuoteAt p) = p.end
+piece_end (CommentAt p) = p.end
+piece_end (EndAt p) = p.at
+
+-- what a piece shows: an entry's end, whether the next one begins with Ctrl-Z
+abbrev pub piece_remarks : List ℕ → Piece → List Remark
+piece_remarks octets (WordAt p) = token_remarks false p.start (between octets p.start p.end)
+piece_remarks octets (QuoteAt p) = token_remarks true p.start (between octets p.start p.end)
+piece_remarks octets (CommentAt p) = []
+piece_remarks octets (EndAt p) = control_z octets p.at
+
+-- the octets from a place to a piece show what is nested in so many parentheses, and then the piece what it shows
+abbrev pub next_remarks : List ℕ → (from depth : ℕ) → Piece → List Remark
+next_remarks octets from depth p = nested_remarks depth from (between octets from (piece_start p)) ++ piece_remarks octets p
+
+abbrev pub entry_remarks : List ℕ → (from depth : ℕ) → List (Result Piece Fault) → List Remark
+entry_remarks octets from depth [] = []
+entry_remarks octets from depth (Ok p ∷ given) = next_remarks octets from depth p ++ entry_remarks octets (piece_end p) (open_after depth (between octets from (piece_start p))) given
+entry_remarks octets from depth (Err f ∷ given) = []
+
+-- a piece and the octets before it were looked at
+pub record Shows (octets : List ℕ) (old : Reached) (p : Piece) (before after : List Remark) (new : Reached) : Type 0 where
+  pub at : new.at ≡ piece_end p
+  pub depth : new.depth ≡ open_after old.depth (between octets old.at (piece_start p))
+  pub deep : new.depth ≤ new.at
+  pub remarks : after ≡ before ++ next_remarks octets old.at old.depth p
+
+-- all pieces that the octets give
+abbrev pub ShowsPieces : List ℕ → (before after : List Remark) → Type 0
+ShowsPieces octets before after = (given : List (Result Piece Fault)) × IsGiven octets given × (after ≡ before ++ entry_remarks octets 0 0 given)
+
+-- the last octet is no line's end
+abbrev pub unended : List ℕ → List Remark
+unended octets = if length octets == 0 || slice_index octets (length octets - 1) == line_feed then [] else remark (length octets) NoFinalNewline ∷ []
+
+abbrev pub crlf_remarks : Block → List ℕ → List Remark
+crlf_remarks block octets = if block.tells_crlf then first_passing is_return 0 octets Crlf else []
+
+abbrev pub end_remarks : Block → List ℕ → List Remark
+end_remarks block octets = if block.is_last then unended octets else []
+
+-- what octets of whole entries show
+abbrev pub ShowsBlock : List ℕ → Block → (before after : List Remark) → Type 0
+ShowsBlock octets block before after = (given : List (Result Piece Fault)) × IsGiven octets given
+    × (after ≡ before ++ (control_z octets 0 ++ entry_remarks octets 0 0 given ++ crlf_remarks block octets ++ end_remarks block octets))

@@ -1,0 +1,299 @@
+//! What can be found in zone files.
+ghost use Rattle.std.specs.Prelude.{◌≡◌, IfSome, Some};
+ghost use Rattle.std.specs.List.{find};
+ghost use Rattle.std.specs.Str.{bytes_eq};
+ghost use Rattle.zonetext_report.specs.Code.{code_name, default_severity, is_text_fault, severity_name};
+
+/// How much a finding weighs.
+#[derive(Clone, Copy, Debug, PartialEq, Eq)]
+pub enum Severity {
+    /// The file is refused.
+    Error,
+    /// The file is taken.
+    Warning,
+}
+
+impl Severity {
+    /// `error` or `warning`.
+    pub fn name(self) -> &'static str
+        ensures { result.now ≡ severity_name self }
+    {
+        match self {
+            Severity::Error => "error",
+            Severity::Warning => "warning",
+        }
+    }
+}
+
+/// What can be found, by the name under which it is allowed or denied, and which JSON has. The
+/// names stay as they are: callers write them into their own files.
+#[derive(Clone, Copy, Debug, PartialEq, Eq)]
+pub enum Code {
+    /// A quoted text is not closed.
+    OpenQuote,
+    /// A parenthesis is not closed.
+    OpenParenthesis,
+    /// A parenthesis is closed that is not open.
+    ClosingParenthesis,
+    /// CR stands without LF.
+    LoneReturn,
+    /// An escape can't be completed.
+    BadEscape,
+    /// NUL stands outside of comments.
+    Nul,
+    /// The file begins with a byte order mark.
+    ByteOrderMark,
+    /// An entry begins with Ctrl-Z, which ended files of CP/M and DOS.
+    ControlZ,
+    /// A directive is unknown, or its arguments are not its own.
+    Directive,
+    /// The owner is no name.
+    Owner,
+    /// The time to live is none.
+    Ttl,
+    /// The class is none.
+    Class,
+    /// The type is unknown, or missing.
+    RecordType,
+    /// The data are not those of the type.
+    Data,
+    /// A file can't be included.
+    Include,
+    /// The first record takes the owner of the one before.
+    NoOwner,
+    /// No time to live is known.
+    NoTtl,
+    /// The class is not that of the zone.
+    OtherClass,
+    /// The zone has no SOA.
+    NoSoa,
+    /// The zone has two SOAs that differ.
+    TwoSoas,
+    /// The apex has no NS.
+    NoNs,
+    /// A name server of the apex that lies in the zone has no address.
+    NsAddress,
+    /// A CNAME stands beside other records or another CNAME.
+    Cname,
+    /// A name has two DNAMEs.
+    Dname,
+    /// A DS stands at the apex.
+    DsApex,
+    /// A wildcard has an NS.
+    WildcardNs,
+    /// A record stands below a DNAME.
+    BelowDname,
+    /// A record stands outside of the zone.
+    Outside,
+    /// A time to live is above the greatest that was asked for.
+    MaxTtl,
+    /// A relative name stands where no origin is known.
+    NoOrigin,
+    /// An octet from 0x80 on stands in a token.
+    HighOctet,
+    /// A control octet stands in a quoted text.
+    ControlOctet,
+    /// A line ends in CR LF.
+    Crlf,
+    /// A parenthesis is opened inside of others.
+    NestedParentheses,
+    /// The last line has no end.
+    NoFinalNewline,
+    /// An origin is relative.
+    RelativeOrigin,
+    /// The minimum of the SOA serves as time to live.
+    SoaMinimumTtl,
+    /// The time to live of an included file stays in force.
+    IncludeTtl,
+    /// A name without a final dot ends like the origin.
+    MissingDot,
+    /// The target of a URI is empty.
+    EmptyUri,
+    /// The data of a TLSA have not the length of their matching type.
+    TlsaLength,
+    /// The address of a name server below a delegation is missing.
+    Glue,
+    /// The target of a record has a CNAME.
+    TargetCname,
+    /// The target of a record is not in the zone.
+    TargetMissing,
+    /// The name of a host is none.
+    HostName,
+    /// A CDS stands without a DNSKEY.
+    Cds,
+    /// Records of a set differ in time to live.
+    TtlDiffers,
+    /// A record stands twice.
+    Duplicate,
+}
+
+/// The first of some codes that has a name.
+fn find_named(codes: &[Code], name: &str) -> Option<Code>
+    ensures { result ≡ find (λ c. bytes_eq (code_name c) name.now) codes.now }
+{
+    codes.iter().find(|code| code.name() == name).copied()
+}
+
+impl Code {
+    /// Every code.
+
+    pub const ALL: [Code; 48] = [
+        Code::OpenQuote,
+        Code::OpenParenthesis,
+        Code::ClosingParenthesis,
+        Code::LoneReturn,
+        Code::BadEscape,
+        Code::Nul,
+        Code::ByteOrderMark,
+        Code::ControlZ,
+        Code::Directive,
+        Code::Owner,
+        Code::Ttl,
+        Code::Class,
+        Code::RecordType,
+        Code::Data,
+        Code::Include,
+        Code::NoOwner,
+        Code::NoTtl,
+        Code::OtherClass,
+        Code::NoSoa,
+        Code::TwoSoas,
+        Code::NoNs,
+        Code::NsAddress,
+        Code::Cname,
+        Code::Dname,
+        Code::DsApex,
+        Code::WildcardNs,
+        Code::BelowDname,
+        Code::Outside,
+        Code::MaxTtl,
+        Code::NoOrigin,
+        Code::HighOctet,
+        Code::ControlOctet,
+        Code::Crlf,
+        Code::NestedParentheses,
+        Code::NoFinalNewline,
+        Code::RelativeOrigin,
+        Code::SoaMinimumTtl,
+        Code::IncludeTtl,
+        Code::MissingDot,
+        Code::EmptyUri,
+        Code::TlsaLength,
+        Code::Glue,
+        Code::TargetCname,
+        Code::TargetMissing,
+        Code::HostName,
+        Code::Cds,
+        Code::TtlDiffers,
+        Code::Duplicate,
+    ];
+
+    /// The name of a code, in small letters and dashes.
+    pub fn name(self) -> &'static str
+        ensures { result.now ≡ code_name self }
+    {
+        match self {
+            Code::OpenQuote => "open-quote",
+            Code::OpenParenthesis => "open-parenthesis",
+            Code::ClosingParenthesis => "closing-parenthesis",
+            Code::LoneReturn => "lone-return",
+            Code::BadEscape => "bad-escape",
+            Code::Nul => "nul",
+            Code::ByteOrderMark => "byte-order-mark",
+            Code::ControlZ => "control-z",
+            Code::Directive => "directive",
+            Code::Owner => "owner",
+            Code::Ttl => "ttl",
+            Code::Class => "class",
+            Code::RecordType => "type",
+            Code::Data => "data",
+            Code::Include => "include",
+            Code::NoOwner => "no-owner",
+            Code::NoTtl => "no-ttl",
+            Code::OtherClass => "other-class",
+            Code::NoSoa => "no-soa",
+            Code::TwoSoas => "two-soas",
+            Code::NoNs => "no-ns",
+            Code::NsAddress => "ns-address",
+            Code::Cname => "cname",
+            Code::Dname => "dname",
+            Code::DsApex => "ds-apex",
+            Code::WildcardNs => "wildcard-ns",
+            Code::BelowDname => "below-dname",
+            Code::Outside => "outside",
+            Code::MaxTtl => "max-ttl",
+            Code::NoOrigin => "no-origin",
+            Code::HighOctet => "high-octet",
+            Code::ControlOctet => "control-octet",
+            Code::Crlf => "crlf",
+            Code::NestedParentheses => "nested-parentheses",
+            Code::NoFinalNewline => "no-final-newline",
+            Code::RelativeOrigin => "relative-origin",
+            Code::SoaMinimumTtl => "soa-minimum-ttl",
+            Code::IncludeTtl => "include-ttl",
+            Code::MissingDot => "missing-dot",
+            Code::EmptyUri => "empty-uri",
+            Code::TlsaLength => "tlsa-length",
+            Code::Glue => "glue",
+            Code::TargetCname => "target-cname",
+            Code::TargetMissing => "target-missing",
+            Code::HostName => "host-name",
+            Code::Cds => "cds",
+            Code::TtlDiffers => "ttl-differs",
+            Code::Duplicate => "duplicate",
+        }
+    }
+
+    /// The code with a name, if there is one.
+    pub fn named(name: &str) -> Option<Code>
+        ensures named { IfSome result (λ c. code_name c ≡ name.now) }
+        ensures each { (c : Code) → code_name c ≡ name.now → result ≡ Some c }
+    {
+        find_named(&Code::ALL, name)
+    }
+
+    /// Whether the text itself is at fault: it can't be read as entries, or not safely.
+    pub fn is_text_fault(self) -> bool
+        ensures { result ≡ is_text_fault self }
+    {
+        match self {
+            Code::OpenQuote
+            | Code::OpenParenthesis
+            | Code::ClosingParenthesis
+            | Code::LoneReturn
+            | Code::BadEscape
+            | Code::Nul
+            | Code::ByteOrderMark
+            | Code::ControlZ => true,
+            _ => false,
+        }
+    }
+
+    /// What a finding weighs unless a caller decides otherwise.
+    pub fn default_severity(self) -> Severity
+        ensures { result ≡ default_severity self }
+    {
+        match self {
+            Code::NoOrigin
+            | Code::HighOctet
+            | Code::ControlOctet
+            | Code::Crlf
+            | Code::NestedParentheses
+            | Code::NoFinalNewline
+            | Code::RelativeOrigin
+            | Code::SoaMinimumTtl
+            | Code::IncludeTtl
+            | Code::MissingDot
+            | Code::EmptyUri
+            | Code::TlsaLength
+            | Code::Glue
+            | Code::TargetCname
+            | Code::TargetMissing
+            | Code::HostName
+            | Code::Cds
+            | Code::TtlDiffers
+            | Code::Duplicate => Severity::Warning,
+            _ => Severity::Error,
+        }
+    }
+}

@@ -1,0 +1,130 @@
+//! A finding, and the line that tells of it.
+ghost use Rattle.std.specs.Prelude.{◌≡◌, ◌++◌, OnOk};
+ghost use Rattle.zonetext_report.specs.Finding.{finding_line, opened_text, place_text, position_text, severity_style, severity_text, style_if};
+
+use crate::code::{Code, Severity};
+use crate::push::push_number;
+use crate::shown::push_shown;
+use dns_split::position::Position;
+use std::alloc::{AllocError, Allocator};
+
+/// What was found in a file, and where. Lines and columns are counted from 1; columns count the
+/// octets that begin a character of UTF-8.
+#[derive(Clone, Copy, Debug, PartialEq, Eq)]
+pub struct Finding<'a> {
+    pub severity: Severity,
+    pub code: Code,
+    /// Where it begins.
+    pub position: Position,
+    /// The column on the same line before which it ends.
+    pub end_column: usize,
+    /// Where that was opened which is left open.
+    pub opened: Option<Position>,
+    /// Why, in words.
+    pub message: &'a str,
+}
+
+/// Appends what begins or ends a style, in colour.
+pub(crate) fn push_style<A: Allocator>(
+    out: &mut Vec<u8, A>,
+    is_coloured: bool,
+    style: &[u8],
+) -> Result<(), AllocError>
+    ensures { OnOk result (out.new.items ≡ out.old.items ++ style_if is_coloured style.now) }
+{
+    if is_coloured {
+        out.extend_from_slice(style)?;
+    }
+    Ok(())
+}
+
+/// Appends a line and a column.
+fn push_position<A: Allocator>(
+    out: &mut Vec<u8, A>,
+    before: &[u8],
+    position: Position,
+) -> Result<(), AllocError>
+    ensures { OnOk result (out.new.items ≡ out.old.items ++ before.now ++ position_text position) }
+{
+    push_number(out, before, position.line)?;
+    push_number(out, b":", position.column)
+}
+
+/// Appends a file's name and a place in it.
+fn push_place<A: Allocator>(
+    out: &mut Vec<u8, A>,
+    is_coloured: bool,
+    file: &str,
+    position: Position,
+) -> Result<(), AllocError>
+    ensures { OnOk result (out.new.items
+        ≡ out.old.items ++ place_text is_coloured file.now position) }
+{
+    push_style(out, is_coloured, b"\x1b[1m")?;
+    push_shown(out, true, file.as_bytes())?;
+    push_position(out, b":", position)?;
+    out.extend_from_slice(b":")?;
+    push_style(out, is_coloured, b"\x1b[0m")
+}
+
+impl Severity {
+    /// How it stands out.
+    fn style(self) -> &'static [u8]
+        ensures { result.now ≡ severity_style self }
+    {
+        match self {
+            Severity::Error => b"\x1b[1;31m",
+            Severity::Warning => b"\x1b[1;35m",
+        }
+    }
+}
+
+/// Appends `error:` or `warning:` between blanks.
+fn push_severity<A: Allocator>(
+    out: &mut Vec<u8, A>,
+    is_coloured: bool,
+    severity: Severity,
+) -> Result<(), AllocError>
+    ensures { OnOk result (out.new.items ≡ out.old.items ++ severity_text is_coloured severity) }
+{
+    out.extend_from_slice(b" ")?;
+    push_style(out, is_coloured, severity.style())?;
+    out.extend_from_slice(severity.name().as_bytes())?;
+    out.extend_from_slice(b":")?;
+    push_style(out, is_coloured, b"\x1b[0m")?;
+    out.extend_from_slice(b" ")
+}
+
+/// Appends where something was opened, if that is told.
+fn push_opened<A: Allocator>(
+    out: &mut Vec<u8, A>,
+    opened: Option<Position>,
+) -> Result<(), AllocError>
+    ensures { OnOk result (out.new.items ≡ out.old.items ++ opened_text opened) }
+{
+    match opened {
+        Some(position) => push_position(out, b", opened at ", position),
+        None => Ok(()),
+    }
+}
+
+/// Appends the line `FILE:LINE:COLUMN: error: why`, in the form of the GNU coding standards, and at
+/// its end `, opened at LINE:COLUMN` where that is told.
+///
+/// Control octets of ASCII in the file's name and the message are question marks, so that a
+/// finding is one line. In colour the place is bold, `error:` red, `warning:` magenta.
+pub fn push_line<A: Allocator>(
+    out: &mut Vec<u8, A>,
+    is_coloured: bool,
+    file: &str,
+    finding: &Finding<'_>,
+) -> Result<(), AllocError>
+    ensures { OnOk result (out.new.items
+        ≡ out.old.items ++ finding_line is_coloured file.now finding.now) }
+{
+    push_place(out, is_coloured, file, finding.position)?;
+    push_severity(out, is_coloured, finding.severity)?;
+    push_shown(out, true, finding.message.as_bytes())?;
+    push_opened(out, finding.opened)?;
+    out.extend_from_slice(b"\n")
+}

@@ -1,0 +1,311 @@
+//! What the octets of a zone file show by themselves, whatever its entries say.
+ghost use Rattle.std.specs.Prelude.{◌≡◌, ◌+◌, ◌++◌, ◌<◌, ◌≤◌, ◌^◌, IfOk, IfSome, OnOk, length, true, false, Ok};
+ghost use Rattle.std.specs.List.{position};
+ghost use Rattle.std.specs.Option.{ForSome};
+ghost use Rattle.dns_split.specs.Pieces.{IsWithin};
+ghost use Rattle.zone_format.specs.Refusal.{begins_order_mark};
+ghost use Rattle.zonetext_report.specs.Lint.{control_z, open_after, depth_by, is_high, is_nul};
+ghost use Rattle.zonetext_report.specs.Lint.{is_quoted_control, is_return, nested_remarks, opens_inside, piece_end};
+ghost use Rattle.zonetext_report.specs.Lint.{piece_remarks, piece_start, remarks_at, token_remarks};
+ghost use Rattle.zonetext_report.specs.Lint.{Shows, ShowsBlock, ShowsPieces, unended};
+
+use crate::code::Code;
+use dns_split::pieces::{Piece, Pieces};
+use std::alloc::{AllocError, Allocator};
+
+/// A place among octets, and what was found there.
+#[derive(Clone, Copy, Debug, PartialEq, Eq)]
+pub struct Remark {
+    pub at: usize,
+    pub code: Code,
+}
+
+/// Which octets of a file are looked at.
+#[derive(Clone, Copy, Debug, PartialEq, Eq)]
+pub struct Block {
+    /// Whether they are the last ones.
+    pub is_last: bool,
+    /// Whether a line's end of CR LF is to be told of: it is told of once a file.
+    pub tells_crlf: bool,
+}
+
+/// How many octets of a byte order mark a file begins with: 3 of UTF-8, 2 of UTF-16, or none.
+pub fn order_mark_len(octets: &[u8]) -> usize
+    ensures some { 0 < result → begins_order_mark octets.now ≡ true }
+    ensures none { result ≡ 0 → begins_order_mark octets.now ≡ false }
+    ensures within { result ≤ length octets.now }
+{
+    if octets.starts_with(&[0xEF, 0xBB, 0xBF]) {
+        3
+    } else if octets.starts_with(&[0xFE, 0xFF]) || octets.starts_with(&[0xFF, 0xFE]) {
+        2
+    } else {
+        0
+    }
+}
+
+/// Appends what was found at a place that is counted from another, if it was found.
+fn push_at<A: Allocator>(
+    found: &mut Vec<Remark, A>,
+    from: usize,
+    place: Option<usize>,
+    code: Code,
+) -> Result<(), AllocError>
+    requires { ForSome place (λ i. from + i < 2 ^ 64) }
+    ensures { OnOk result (found.new.items ≡ found.old.items ++ remarks_at from place code) }
+{
+    if let Some(place) = place {
+        let at = from + place;
+        found.push(Remark { at, code })?;
+    }
+    Ok(())
+}
+
+/// Whether an octet is a control octet, but no tab and no NUL.
+fn is_quoted_control(octet: u8) -> bool
+    ensures { result ≡ is_quoted_control octet }
+{
+    octet != 0 && octet != b'\t' && (octet < 0x20 || octet == 0x7F)
+}
+
+/// Where the first NUL stands.
+fn find_nul(octets: &[u8]) -> Option<usize>
+    ensures first { result ≡ position is_nul octets.now }
+    ensures within { IfSome result (λ i. i < length octets.now) }
+{
+    octets.iter().position(|octet| *octet == 0)
+}
+
+/// Where the first octet from 0x80 on stands.
+fn find_high(octets: &[u8]) -> Option<usize>
+    ensures first { result ≡ position is_high octets.now }
+    ensures within { IfSome result (λ i. i < length octets.now) }
+{
+    octets.iter().position(|octet| *octet >= 0x80)
+}
+
+/// Where the first control octet stands that is no tab and no NUL.
+fn find_control(octets: &[u8]) -> Option<usize>
+    ensures first { result ≡ position is_quoted_control octets.now }
+    ensures within { IfSome result (λ i. i < length octets.now) }
+{
+    octets.iter().position(|octet| is_quoted_control(*octet))
+}
+
+/// Where the first CR stands.
+fn find_return(octets: &[u8]) -> Option<usize>
+    ensures first { result ≡ position is_return octets.now }
+    ensures within { IfSome result (λ i. i < length octets.now) }
+{
+    octets.iter().position(|octet| *octet == b'\r')
+}
+
+/// Appends what a word or a quoted text shows that begins at a place.
+fn lint_token<A: Allocator>(
+    token: &[u8],
+    from: usize,
+    is_quoted: bool,
+    found: &mut Vec<Remark, A>,
+) -> Result<(), AllocError>
+    requires { from + length token.now < 2 ^ 64 }
+    ensures { OnOk result (found.new.items
+        ≡ found.old.items ++ token_remarks is_quoted from token.now) }
+{
+    push_at(found, from, find_nul(token), Code::Nul)?;
+    push_at(found, from, find_high(token), Code::HighOctet)?;
+    if is_quoted {
+        push_at(found, from, find_control(token), Code::ControlOctet)?;
+    }
+    Ok(())
+}
+
+/// How many parentheses are open after an octet between two pieces.
+fn depth_by(depth: usize, octet: u8) -> usize
+    requires { depth + 1 < 2 ^ 64 }
+    ensures { result ≡ depth_by depth octet }
+{
+    match octet {
+        b'(' => depth + 1,
+        b')' => depth.saturating_sub(1),
+        _ => depth,
+    }
+}
+
+/// Whether an octet between two pieces opens a parenthesis inside of others.
+fn opens_inside(depth: usize, octet: u8) -> bool
+    ensures { result ≡ opens_inside depth octet }
+{
+    octet == b'(' && depth > 0
+}
+
+/// Appends the parentheses that are opened inside of others among octets between two pieces, and
+/// returns how many are open behind them.
+fn lint_gap<A: Allocator>(
+    gap: &[u8],
+    from: usize,
+    depth: usize,
+    found: &mut Vec<Remark, A>,
+) -> Result<usize, AllocError>
+    requires room { from + length gap.now + 1 < 2 ^ 64 }
+    requires deep { depth ≤ from }
+    ensures depth { IfOk result (λ d. d ≡ open_after depth gap.now) }
+    ensures deep { IfOk result (λ d. d ≤ from + length gap.now) }
+    ensures nested { OnOk result (found.new.items ≡ found.old.items ++ nested_remarks depth from gap.now) }
+{
+    let mut open = depth;
+    for (place, octet) in gap.iter().enumerate() {
+        if opens_inside(open, *octet) {
+            found.push(Remark {
+                at: from + place,
+                code: Code::NestedParentheses,
+            })?;
+        }
+        open = depth_by(open, *octet);
+    }
+    Ok(open)
+}
+
+/// Appends Ctrl-Z where an entry begins with it at a place.
+fn lint_beginning<A: Allocator>(
+    octets: &[u8],
+    at: usize,
+    found: &mut Vec<Remark, A>,
+) -> Result<(), AllocError>
+    ensures { OnOk result (found.new.items ≡ found.old.items ++ control_z octets.now at) }
+{
+    if octets.get(at) == Some(&0x1A) {
+        found.push(Remark {
+            at,
+            code: Code::ControlZ,
+        })?;
+    }
+    Ok(())
+}
+
+/// Appends what a piece shows.
+fn lint_piece<A: Allocator>(
+    octets: &[u8],
+    piece: Piece,
+    found: &mut Vec<Remark, A>,
+) -> Result<(), AllocError>
+    requires within { IsWithin (length octets.now) (Ok piece) }
+    ensures { OnOk result (found.new.items ≡ found.old.items ++ piece_remarks octets.now piece) }
+{
+    match piece {
+        Piece::Word(span) => lint_token(span.of_octets(octets), span.start, false, found),
+        Piece::Quote(span) => lint_token(span.of_octets(octets), span.start, true, found),
+        Piece::Comment(_) => Ok(()),
+        Piece::End(end) => lint_beginning(octets, end.at, found),
+    }
+}
+
+/// Where a piece begins.
+fn piece_start(piece: Piece) -> usize
+    ensures { result ≡ piece_start piece }
+{
+    match piece {
+        Piece::Word(span) | Piece::Quote(span) | Piece::Comment(span) => span.start,
+        Piece::End(end) => end.at,
+    }
+}
+
+/// Where the octets behind a piece begin.
+fn piece_end(piece: Piece) -> usize
+    ensures { result ≡ piece_end piece }
+{
+    match piece {
+        Piece::Word(span) | Piece::Quote(span) | Piece::Comment(span) => span.end,
+        Piece::End(end) => end.at,
+    }
+}
+
+/// How far octets were looked at, and how many parentheses are open there.
+#[derive(Clone, Copy)]
+struct Reached {
+    at: usize,
+    depth: usize,
+}
+
+/// Appends what a piece shows, and what the octets before it do.
+fn lint_next<A: Allocator>(
+    octets: &[u8],
+    reached: Reached,
+    piece: Piece,
+    found: &mut Vec<Remark, A>,
+) -> Result<Reached, AllocError>
+    requires room { length octets.now + 1 < 2 ^ 64 }
+    requires within { IsWithin (length octets.now) (Ok piece) }
+    requires order { reached.at ≤ piece_start piece }
+    requires deep { reached.depth ≤ reached.at }
+    ensures { IfOk result (Shows octets.now reached piece found.old.items found.new.items) }
+{
+    let gap = &octets[reached.at..piece_start(piece)];
+    let depth = lint_gap(gap, reached.at, reached.depth, found)?;
+    lint_piece(octets, piece, found)?;
+    Ok(Reached {
+        at: piece_end(piece),
+        depth,
+    })
+}
+
+/// Appends what the tokens of entries show, and the octets between them.
+fn lint_pieces<A: Allocator>(octets: &[u8], found: &mut Vec<Remark, A>) -> Result<(), AllocError>
+    requires { length octets.now + 1 < 2 ^ 64 }
+    ensures { OnOk result (ShowsPieces octets.now found.old.items found.new.items) }
+{
+    let mut reached = Reached { at: 0, depth: 0 };
+    for piece in Pieces::of_octets(octets) {
+        match piece {
+            Ok(piece) => reached = lint_next(octets, reached, piece, found)?,
+            Err(_) => return Ok(()),
+        }
+    }
+    Ok(())
+}
+
+/// Appends where octets end without a line's end.
+fn lint_end<A: Allocator>(octets: &[u8], found: &mut Vec<Remark, A>) -> Result<(), AllocError>
+    ensures { OnOk result (found.new.items ≡ found.old.items ++ unended octets.now) }
+{
+    match octets.last() {
+        None | Some(b'\n') => Ok(()),
+        Some(_) => {
+            found.push(Remark {
+                at: octets.len(),
+                code: Code::NoFinalNewline,
+            })?;
+            Ok(())
+        }
+    }
+}
+
+/// Appends what octets of whole entries show by themselves, with its places.
+///
+/// - `nul`: the first NUL of a word or a quoted text.
+/// - `control-z`: Ctrl-Z where an entry begins.
+/// - `high-octet`: the first octet from 0x80 on of a word or a quoted text.
+/// - `control-octet`: the first control octet of a quoted text that is no tab and no NUL.
+/// - `nested-parentheses`: each parenthesis that is opened inside of others.
+/// - `crlf`, where it is asked for: the first CR, which in zone text ends a line with LF.
+/// - `no-final-newline`, of the last octets: their end, where the last is no LF.
+///
+/// Where the octets have a fault, nothing is told of what stands behind the pieces before it, but
+/// for `crlf` and `no-final-newline`. Where memory lacks, `found` has a beginning.
+pub fn lint<A: Allocator>(
+    octets: &[u8],
+    block: Block,
+    found: &mut Vec<Remark, A>,
+) -> Result<(), AllocError>
+    requires { length octets.now + 1 < 2 ^ 64 }
+    ensures { OnOk result (ShowsBlock octets.now block found.old.items found.new.items) }
+{
+    lint_beginning(octets, 0, found)?;
+    lint_pieces(octets, found)?;
+    if block.tells_crlf {
+        push_at(found, 0, find_return(octets), Code::Crlf)?;
+    }
+    if block.is_last {
+        lint_end(octets, found)?;
+    }
+    Ok(())
+}
