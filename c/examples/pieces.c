@@ -6,7 +6,7 @@
 static uint8_t text[1024 * 1024];
 
 int main(void) {
-    struct dns_standing standing = {0, 0, 0, 0};
+    struct dns_standing standing = DNS_STANDING_INIT;
     struct dns_piece piece;
     struct dns_outcome outcome;
     size_t length = fread(text, 1, sizeof text, stdin);
@@ -20,7 +20,7 @@ int main(void) {
             entry++;
     }
     if (status != DNS_END) {
-        fprintf(stderr, "fault %lu at %lu\n", (unsigned long)status, (unsigned long)outcome.place);
+        fprintf(stderr, "%s at %lu\n", dns_status_message(status), (unsigned long)outcome.place);
         return 1;
     }
     return 0;

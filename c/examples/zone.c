@@ -33,23 +33,14 @@ static int is_txt(struct dns_token token) {
     return token.end - token.start == 3 && !token.is_quoted && memcmp(text + token.start, "TXT", 3) == 0;
 }
 
-static void tell(size_t place, const char *what, size_t length) {
-    size_t line = 1, column = 1, i;
-    for (i = 0; i < place; i++) {
-        column++;
-        if (text[i] == '\n') {
-            line++;
-            column = 1;
-        }
-    }
-    fprintf(stderr, "%lu:%lu: %.*s\n", (unsigned long)line, (unsigned long)column, (int)length, what);
+static void tell(size_t place, const char *what) {
+    size_t line = 1, column = 1;
+    dns_position(text, text_len, place, &line, &column);
+    fprintf(stderr, "%lu:%lu: %s\n", (unsigned long)line, (unsigned long)column, what);
 }
 
 static int fail(uint32_t status, size_t place) {
-    struct dns_outcome outcome;
-    uint8_t why[64];
-    dns_status_text(status, why, sizeof why, &outcome);
-    tell(place, (const char *)why, outcome.length);
+    tell(place, dns_status_message(status));
     return 1;
 }
 
@@ -79,7 +70,7 @@ static int print_strings(const struct dns_token *tokens, size_t count) {
 }
 
 int main(void) {
-    struct dns_cursor cursor = {0, 0, 0, 0};
+    struct dns_cursor cursor = DNS_CURSOR_INIT;
     struct dns_token *tokens = NULL;
     size_t room = 0;
     int failed = 0;
@@ -97,7 +88,7 @@ int main(void) {
         } else {
             failed = fail(status, outcome.place);
             if (status == DNS_OPEN_QUOTE || status == DNS_OPEN_PARENTHESIS)
-                tell(cursor.opened, "opened here", 11);
+                tell(cursor.opened, "opened here");
         }
     }
     free(tokens);

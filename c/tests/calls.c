@@ -122,21 +122,25 @@ static void strings(void) {
     refuses(dns_charstr_print_unquoted, long_string, 256, DNS_TOO_LONG, 255, __LINE__);
 }
 
-/* What dns_name_read has to tell of the name being absolute, 7 where it tells nothing; and the line
- * of the row that says so. */
-static size_t absolute;
+/* What dns_name_read has to tell of the name being absolute, or that it tells nothing; and the line of
+ * the row that says so. */
+enum { RELATIVE, ABSOLUTE, UNTOLD };
+static int absolute;
 static int row;
 
 static uint32_t read_name(const uint8_t *text, size_t text_len, uint8_t *name, size_t name_len,
                           struct dns_outcome *outcome) {
-    size_t is_absolute = 7;
+    bool is_absolute = absolute == RELATIVE, was = is_absolute;
     uint32_t status = dns_name_read(text, text_len, name, name_len, &is_absolute, outcome);
-    expect(is_absolute == absolute, "is_absolute", row);
+    expect(is_absolute == (absolute == UNTOLD ? was : absolute == ABSOLUTE), "is_absolute", row);
+    was = is_absolute = absolute != RELATIVE;
+    dns_name_read(text, text_len, name, name_len, &is_absolute, outcome);
+    expect(is_absolute == (absolute == UNTOLD ? was : absolute == ABSOLUTE), "is_absolute", row);
     return status;
 }
 
 static void named(const uint8_t *text, size_t text_len, const uint8_t *name, size_t name_len,
-                  size_t is_absolute, int line) {
+                  int is_absolute, int line) {
     absolute = is_absolute;
     row = line;
     gives(read_name, text, text_len, name, name_len, line);
@@ -144,7 +148,7 @@ static void named(const uint8_t *text, size_t text_len, const uint8_t *name, siz
 #define NAMED(text, name, is_absolute) named(BYTES(text), BYTES(name), is_absolute, __LINE__)
 
 static void unnamed(const uint8_t *text, size_t text_len, uint32_t status, size_t place, int line) {
-    absolute = 7;
+    absolute = UNTOLD;
     row = line;
     refuses(read_name, text, text_len, status, place, line);
 }
@@ -289,12 +293,125 @@ static void encodings(void) {
     NO_TEXT(dns_base64_read, "Zm9vYmF!", 6);
 }
 
+static void ttl(const uint8_t *text, size_t length, uint32_t status, uint32_t seconds, int line) {
+    struct dns_outcome outcome = {7, 7};
+    uint32_t found = 7;
+    expect(dns_ttl_read(text, length, &found, &outcome) == status, "status", line);
+    expect(found == (status == DNS_OK ? seconds : 7), "seconds", line);
+    expect(outcome.length == 0 && outcome.place == 0, "length and place", line);
+}
+#define TTL(text, seconds) ttl(BYTES(text), DNS_OK, seconds, __LINE__)
+#define NO_TTL(text) ttl(BYTES(text), DNS_BAD_TTL, 0, __LINE__)
+
+typedef uint32_t (*code_read)(const uint8_t *, size_t, uint16_t *, struct dns_outcome *);
+
+static void code(code_read f, const uint8_t *text, size_t length, uint32_t status, uint16_t wanted,
+                 int line) {
+    struct dns_outcome outcome = {7, 7};
+    uint16_t found = 7;
+    expect(f(text, length, &found, &outcome) == status, "status", line);
+    expect(found == (status == DNS_OK ? wanted : 7), "code", line);
+    expect(outcome.length == 0 && outcome.place == 0, "length and place", line);
+}
+#define TYPE(text, wanted) code(dns_type_read, BYTES(text), DNS_OK, wanted, __LINE__)
+#define NO_TYPE(text) code(dns_type_read, BYTES(text), DNS_UNKNOWN_TYPE, 0, __LINE__)
+#define CLASS(text, wanted) code(dns_class_read, BYTES(text), DNS_OK, wanted, __LINE__)
+#define NO_CLASS(text) code(dns_class_read, BYTES(text), DNS_UNKNOWN_CLASS, 0, __LINE__)
+
+/* The code is the input's two octets, the greater one first. */
+static uint32_t type_print(const uint8_t *octets, size_t octets_len, uint8_t *text, size_t text_len,
+                           struct dns_outcome *outcome) {
+    uint16_t type = (uint16_t)(octets[0] * 256 + octets[octets_len - 1]);
+    return dns_type_print(type, text, text_len, outcome);
+}
+
+static uint32_t class_print(const uint8_t *octets, size_t octets_len, uint8_t *text,
+                            size_t text_len, struct dns_outcome *outcome) {
+    uint16_t type = (uint16_t)(octets[0] * 256 + octets[octets_len - 1]);
+    return dns_class_print(type, text, text_len, outcome);
+}
+
+/* Types and classes as RFC 1035 section 3.2, RFC 3597 section 5 and IANA's registry have them. */
+static void kinds(void) {
+    unsigned number;
+    TTL("0", 0);
+    TTL("3600", 3600);
+    TTL("1h30m", 5400);
+    TTL("1W2D", 777600);
+    TTL("2147483647", 2147483647);
+    NO_TTL("2147483648");
+    NO_TTL("");
+    NO_TTL("1h30");
+    NO_TTL("-1");
+    NO_TTL("\\049");
+    ttl(NULL, 0, DNS_BAD_TTL, 0, __LINE__);
+    TYPE("A", 1);
+    TYPE("mx", 15);
+    TYPE("NSEC3PARAM", 51);
+    TYPE("TYPE65535", 65535);
+    TYPE("type1", 1);
+    NO_TYPE("TYPE65536");
+    NO_TYPE("CNMAE");
+    NO_TYPE("");
+    code(dns_type_read, NULL, 0, DNS_UNKNOWN_TYPE, 0, __LINE__);
+    CLASS("IN", 1);
+    CLASS("ch", 3);
+    CLASS("CLASS65535", 65535);
+    NO_CLASS("CLASS65536");
+    NO_CLASS("CHAOS");
+    NO_CLASS("IN\0");
+    code(dns_class_read, NULL, 0, DNS_UNKNOWN_CLASS, 0, __LINE__);
+    GIVES(type_print, "\0\1", "A");
+    GIVES(type_print, "\0\x3D", "OPENPGPKEY");
+    GIVES(type_print, "\1\1", "CAA");
+    GIVES(type_print, "\0\0", "TYPE0");
+    GIVES(type_print, "\xFF\0", "TYPE65280");
+    GIVES(type_print, "\xFF\xFF", "TYPE65535");
+    GIVES(class_print, "\0\1", "IN");
+    GIVES(class_print, "\0\4", "HS");
+    GIVES(class_print, "\0\xFE", "CLASS254");
+    GIVES(class_print, "\xFF\xFF", "CLASS65535");
+    for (number = 0; number < 65536; number++) {
+        uint8_t text[10];
+        struct dns_outcome outcome;
+        EXPECT(dns_type_print((uint16_t)number, text, sizeof text, &outcome) == DNS_OK);
+        code(dns_type_read, text, outcome.length, DNS_OK, (uint16_t)number, __LINE__);
+        EXPECT(dns_class_print((uint16_t)number, text, sizeof text, &outcome) == DNS_OK);
+        code(dns_class_read, text, outcome.length, DNS_OK, (uint16_t)number, __LINE__);
+    }
+}
+
+static void position(const uint8_t *text, size_t length, size_t place, uint32_t status, size_t line,
+                     size_t column, int here) {
+    size_t found_line = 7, found_column = 7;
+    expect(dns_position(text, length, place, &found_line, &found_column) == status, "status", here);
+    expect(found_line == (status == DNS_OK ? line : 7), "line", here);
+    expect(found_column == (status == DNS_OK ? column : 7), "column", here);
+}
+#define POSITION(text, place, line, column) \
+    position(BYTES(text), place, DNS_OK, line, column, __LINE__)
+#define NO_POSITION(text, place) position(BYTES(text), place, DNS_BAD_PLACE, 0, 0, __LINE__)
+
+static void positions(void) {
+    POSITION("", 0, 1, 1);
+    position(NULL, 0, 0, DNS_OK, 1, 1, __LINE__);
+    position(NULL, 0, 1, DNS_BAD_PLACE, 0, 0, __LINE__);
+    POSITION("a\n\nbc\r\n", 1, 1, 2);
+    POSITION("a\n\nbc\r\n", 2, 2, 1);
+    POSITION("a\n\nbc\r\n", 3, 3, 1);
+    POSITION("a\n\nbc\r\n", 6, 3, 4);
+    POSITION("a\n\nbc\r\n", 7, 4, 1);
+    POSITION("\xC3\xA9" "b", 2, 1, 3);
+    NO_POSITION("a\n\nbc\r\n", 8);
+    NO_POSITION("a", SIZE_MAX);
+}
+
 static void wrong(const uint8_t *text, size_t length, uint32_t status, size_t place, size_t tokens,
                   int line) {
     size_t room;
     for (room = 0; room <= 4; room++) {
         struct dns_token memory[4];
-        struct dns_cursor cursor = {0, 0, 0, 5};
+        struct dns_cursor cursor = {0, false, false, 5};
         struct dns_outcome outcome = {7, 7};
         size_t opened = status == DNS_OPEN_QUOTE || status == DNS_OPEN_PARENTHESIS ? 2 : 5;
         expect(dns_entry_next(text, length, &cursor, memory, room, &outcome) == status, "status",
@@ -309,24 +426,27 @@ static void wrong(const uint8_t *text, size_t length, uint32_t status, size_t pl
 }
 #define WRONG(text, status, place, tokens) wrong(BYTES(text), status, place, tokens, __LINE__)
 
+static int is_token(struct dns_token token, size_t start, size_t end, bool is_quoted) {
+    return token.start == start && token.end == end && token.is_quoted == is_quoted;
+}
+
 static void entries(void) {
     static const char whole[] = " one ( \"two\"\n; comment\n) three\n\nlast";
     static const char open[] = "\351\n\351 (b) ( c (d";
-    const struct dns_token none = {9, 9, 9};
-    struct dns_token tokens[4] = {{9, 9, 9}, {9, 9, 9}, {9, 9, 9}, {9, 9, 9}};
-    struct dns_cursor cursor = {0, 0, 0, 0}, past = {3, 0, 0, 0}, next = {0, 0, 0, 0};
+    struct dns_token tokens[4] = {{9, 9, true}, {9, 9, true}, {9, 9, true}, {9, 9, true}};
+    struct dns_cursor cursor = DNS_CURSOR_INIT, past = {3, false, false, 0}, next = DNS_CURSOR_INIT;
     struct dns_outcome outcome = {7, 7};
     EXPECT(dns_entry_next(BYTES(whole), &cursor, NULL, 0, &outcome) == DNS_NO_ROOM);
     EXPECT(outcome.length == 3 && cursor.at == 0 && cursor.is_done == 0);
     EXPECT(dns_entry_next(BYTES(whole), &cursor, tokens, 2, &outcome) == DNS_NO_ROOM);
     EXPECT(outcome.length == 3 && cursor.at == 0);
     EXPECT(tokens[0].start == 1 && tokens[0].end == 4 && tokens[1].start == 7);
-    EXPECT(memcmp(&tokens[2], &none, sizeof none) == 0);
+    EXPECT(is_token(tokens[2], 9, 9, true));
     EXPECT(dns_entry_next(BYTES(whole), &cursor, tokens, 3, &outcome) == DNS_OK);
     EXPECT(outcome.length == 3 && outcome.place == 0);
     EXPECT(tokens[0].is_quoted == 0 && tokens[1].is_quoted == 1 && tokens[1].end == 12);
     EXPECT(tokens[2].start == 25 && tokens[2].end == 30);
-    EXPECT(memcmp(&tokens[3], &none, sizeof none) == 0);
+    EXPECT(is_token(tokens[3], 9, 9, true));
     EXPECT(cursor.at == 31 && cursor.begins_blank == 1 && cursor.is_done == 0);
     EXPECT(dns_entry_next(BYTES(whole), &cursor, NULL, 0, &outcome) == DNS_OK);
     EXPECT(outcome.length == 0 && cursor.at == 32 && cursor.begins_blank == 0);
@@ -346,11 +466,7 @@ static void entries(void) {
     WRONG("a b\\256", DNS_BAD_ESCAPE, 6, 1);
 }
 
-static int is_token(struct dns_token token, size_t start, size_t end, size_t is_quoted) {
-    return token.start == start && token.end == end && token.is_quoted == is_quoted;
-}
-
-static int is_cursor(struct dns_cursor cursor, size_t at, size_t begins_blank, size_t is_done,
+static int is_cursor(struct dns_cursor cursor, size_t at, bool begins_blank, bool is_done,
                      size_t opened) {
     return cursor.at == at && cursor.begins_blank == begins_blank && cursor.is_done == is_done
            && cursor.opened == opened;
@@ -365,18 +481,18 @@ static void cursors(void) {
     static const char whole[] = " a ( \"b\"\n;c\n) \351\n\nd";
     static const char quote[] = "a\nb \"c\nd";
     static const char parenthesis[] = "\351\n\351 (b) ( c (d) \"(\" ; (\n";
-    struct dns_token tokens[4] = {{9, 9, 9}, {9, 9, 9}, {9, 9, 9}, {9, 9, 9}};
-    struct dns_cursor cursor = {0, 0, 0, 5}, quoted = {0, 0, 0, 5}, inside = {0, 0, 0, 5};
-    struct dns_cursor past = {2, 0, 0, 5};
+    struct dns_token tokens[4] = {{9, 9, true}, {9, 9, true}, {9, 9, true}, {9, 9, true}};
+    struct dns_cursor cursor = {0, false, false, 5}, quoted = cursor, inside = cursor;
+    struct dns_cursor past = {2, false, false, 5};
     struct dns_outcome outcome = {7, 7};
     EXPECT(dns_entry_next(BYTES(whole), &cursor, tokens, 2, &outcome) == DNS_NO_ROOM);
     EXPECT(tells(outcome, 3, 0) && is_cursor(cursor, 0, 0, 0, 5));
     EXPECT(is_token(tokens[0], 1, 2, 0) && is_token(tokens[1], 5, 8, 1));
-    EXPECT(is_token(tokens[2], 9, 9, 9) && is_token(tokens[3], 9, 9, 9));
+    EXPECT(is_token(tokens[2], 9, 9, true) && is_token(tokens[3], 9, 9, true));
     EXPECT(dns_entry_next(BYTES(whole), &cursor, tokens, 3, &outcome) == DNS_OK);
     EXPECT(tells(outcome, 3, 0) && is_cursor(cursor, 16, 1, 0, 5));
     EXPECT(is_token(tokens[0], 1, 2, 0) && is_token(tokens[1], 5, 8, 1));
-    EXPECT(is_token(tokens[2], 14, 15, 0) && is_token(tokens[3], 9, 9, 9));
+    EXPECT(is_token(tokens[2], 14, 15, 0) && is_token(tokens[3], 9, 9, true));
     EXPECT(dns_entry_next(BYTES(whole), &cursor, NULL, 0, &outcome) == DNS_OK);
     EXPECT(tells(outcome, 0, 0) && is_cursor(cursor, 17, 0, 0, 5));
     EXPECT(dns_entry_next(BYTES(whole), &cursor, tokens, 4, &outcome) == DNS_OK);
@@ -402,23 +518,24 @@ static void cursors(void) {
 
 static void next(const uint8_t *text, size_t length, struct dns_standing *standing, uint32_t status,
                  size_t place, struct dns_piece wanted, int line) {
-    struct dns_piece piece = {9, 9, 9, 9};
+    struct dns_piece piece = {9, 9, 9, true};
     struct dns_outcome outcome = {7, 7};
     expect(dns_tokens_next(text, length, standing, &piece, &outcome) == status, "status", line);
     expect(outcome.length == 0 && outcome.place == place, "length and place", line);
-    expect(memcmp(&piece, &wanted, sizeof piece) == 0, "piece", line);
+    expect(piece.kind == wanted.kind && piece.start == wanted.start && piece.end == wanted.end
+           && piece.begins_blank == wanted.begins_blank, "piece", line);
 }
 
-static const struct dns_piece no_piece = {9, 9, 9, 9};
+static const struct dns_piece no_piece = {9, 9, 9, true};
 
 static int is_standing(struct dns_standing standing, size_t at, size_t depth, size_t began,
-                       size_t is_done) {
+                       bool is_done) {
     return standing.at == at && standing.depth == depth && standing.began == began
            && standing.is_done == is_done;
 }
 
 static void piece(const uint8_t *text, size_t length, struct dns_standing *standing, size_t kind,
-                  size_t start, size_t end, size_t begins_blank, int line) {
+                  size_t start, size_t end, bool begins_blank, int line) {
     struct dns_piece wanted;
     wanted.kind = kind;
     wanted.start = start;
@@ -433,8 +550,8 @@ static void piece(const uint8_t *text, size_t length, struct dns_standing *stand
 
 static void wrong_piece(const uint8_t *text, size_t length, uint32_t status, size_t place,
                         int line) {
-    struct dns_standing standing = {0, 0, 0, 0};
-    struct dns_cursor cursor = {0, 0, 0, 0};
+    struct dns_standing standing = DNS_STANDING_INIT;
+    struct dns_cursor cursor = DNS_CURSOR_INIT;
     struct dns_outcome outcome;
     piece(text, length, &standing, DNS_WORD, 0, 1, 0, line);
     next(text, length, &standing, status, place, no_piece, line);
@@ -449,8 +566,9 @@ static void wrong_piece(const uint8_t *text, size_t length, uint32_t status, siz
 
 static void pieces(void) {
     static const char whole[] = " a (b ;c\n\"d\") \351\n\ne";
-    struct dns_standing standing = {0, 0, 0, 0}, inside, past = {3, 0, 0, 0}, deep = {1, 2, 0, 0};
-    struct dns_standing empty = {0, 0, 0, 0}, first = {0, 0, 0, 0}, second = {0, 0, 0, 0}, done;
+    struct dns_standing standing = DNS_STANDING_INIT, inside, done;
+    struct dns_standing past = {3, 0, 0, false}, deep = {1, 2, 0, false};
+    struct dns_standing empty = DNS_STANDING_INIT, first = empty, second = empty;
     PIECE(whole, &standing, DNS_WORD, 1, 2, 1);
     PIECE(whole, &standing, DNS_WORD, 4, 5, 1);
     EXPECT(standing.depth == 1 && standing.began == 0);
@@ -467,7 +585,7 @@ static void pieces(void) {
     EXPECT(standing.is_done == 1);
     done = standing;
     NO_PIECE(whole, &standing, DNS_END, 0);
-    EXPECT(memcmp(&standing, &done, sizeof done) == 0);
+    EXPECT(is_standing(standing, done.at, done.depth, done.began, true));
     PIECE(whole, &inside, DNS_COMMENT, 6, 8, 1);
     piece(NULL, 0, &empty, DNS_ENTRY_END, 0, 0, 0, __LINE__);
     PIECE("", &first, DNS_ENTRY_END, 0, 0, 0);
@@ -486,8 +604,8 @@ static void pieces(void) {
 }
 
 static void standings_outside_the_text(void) {
-    struct dns_standing past = {2, 0, 0, 0}, deep = {0, 1, 0, 0}, done = {2, 0, 0, 7};
-    struct dns_standing elsewhere = {1, 0, 99, 0};
+    struct dns_standing past = {2, 0, 0, false}, deep = {0, 1, 0, false}, done = {2, 0, 0, true};
+    struct dns_standing elsewhere = {1, 0, 99, false};
     NO_PIECE("a", &past, DNS_BAD_CURSOR, 0);
     EXPECT(is_standing(past, 2, 0, 0, 0));
     NO_PIECE("a", &deep, DNS_BAD_CURSOR, 0);
@@ -498,17 +616,40 @@ static void standings_outside_the_text(void) {
     PIECE("a", &elsewhere, DNS_ENTRY_END, 1, 1, 0);
 }
 
+/* States of octets that no call returned: a flag that is neither 0 nor 1 counts as 1. */
+static void states_of_any_octets(void) {
+    struct dns_standing standing;
+    struct dns_cursor cursor;
+    struct dns_outcome outcome;
+    unsigned octet;
+    for (octet = 0; octet < 256; octet++) {
+        if (octet != 0) {
+            memset(&standing, (int)octet, sizeof standing);
+            NO_PIECE("", &standing, DNS_END, 0);
+            memset(&cursor, (int)octet, sizeof cursor);
+            EXPECT(dns_entry_next(NULL, 0, &cursor, NULL, 0, &outcome) == DNS_END);
+            EXPECT(tells(outcome, 0, 0));
+        }
+        memset(&cursor, (int)octet, sizeof cursor);
+        cursor.is_done = false;
+        EXPECT(dns_entry_next(NULL, 0, &cursor, NULL, 0, &outcome)
+               == (octet == 0 ? DNS_OK : DNS_BAD_CURSOR));
+    }
+}
+
 static void texts(void) {
     uint8_t memory[64];
     struct dns_outcome outcome;
     uint32_t status;
-    for (status = 0; status <= DNS_TOO_GREAT + 1; status++) {
+    for (status = 0; status <= DNS_RELATIVE_NAME + 1; status++) {
+        const char *message = dns_status_message(status);
         size_t length;
         EXPECT(dns_status_text(status, NULL, 0, &outcome) == DNS_NO_ROOM);
         length = outcome.length;
         EXPECT(dns_status_text(status, memory, length - 1, &outcome) == DNS_NO_ROOM);
         EXPECT(dns_status_text(status, memory, length, &outcome) == DNS_OK);
         EXPECT(outcome.length == length && length < sizeof memory);
+        EXPECT(strlen(message) == length && memcmp(message, memory, length) == 0);
     }
     EXPECT(outcome.length == 14 && memcmp(memory, "unknown status", 14) == 0);
     memset(memory, '-', sizeof memory);
@@ -519,17 +660,34 @@ static void texts(void) {
     EXPECT(tells(outcome, 29, 0) && memcmp(memory, "octet outside printable ASCII", 29) == 0);
     EXPECT(dns_status_text(99, NULL, 0, &outcome) == DNS_NO_ROOM);
     EXPECT(tells(outcome, 14, 0));
+    EXPECT(strcmp(dns_status_name(DNS_OK), "DNS_OK") == 0);
+    EXPECT(strcmp(dns_status_name(DNS_BAD_ESCAPE), "DNS_BAD_ESCAPE") == 0);
+    EXPECT(strcmp(dns_status_name(DNS_RELATIVE_NAME), "DNS_RELATIVE_NAME") == 0);
+    EXPECT(strcmp(dns_status_name(DNS_RELATIVE_NAME + 1), "unknown") == 0);
+    EXPECT(strcmp(dns_status_name(UINT32_MAX), "unknown") == 0);
+    EXPECT(strcmp(dns_status_message(UINT32_MAX), "unknown status") == 0);
+}
+
+static void version(void) {
+    unsigned first, second, third;
+    EXPECT(strcmp(dnstext_version(), DNSTEXT_VERSION) == 0);
+    EXPECT(sscanf(dnstext_version(), "%u.%u.%u", &first, &second, &third) == 3);
+    EXPECT(DNSTEXT_VERSION_NUMBER == 1000000 * first + 1000 * second + third);
 }
 
 int main(void) {
     strings();
     names();
     numbers();
+    kinds();
+    positions();
     encodings();
     entries();
     cursors();
     pieces();
     standings_outside_the_text();
+    states_of_any_octets();
     texts();
+    version();
     return failures != 0;
 }

@@ -40,10 +40,15 @@ static void fail(const char *what, size_t line) {
     exit(1);
 }
 
+static int is_same(struct dns_token token, struct dns_token other) {
+    return token.start == other.start && token.end == other.end
+           && token.is_quoted == other.is_quoted;
+}
+
 /* The text piece by piece: the tokens, and each line's end with its flag. */
 static void read_pieces(const size_t *ends, const uint8_t *blanks) {
-    struct dns_standing standing = {0, 0, 0, 0};
-    struct dns_piece piece = {0, 0, 0, 0};
+    struct dns_standing standing = DNS_STANDING_INIT;
+    struct dns_piece piece;
     struct dns_outcome outcome;
     size_t line = 0, at = 0;
     while (dns_tokens_next(text, length, &standing, &piece, &outcome) == DNS_OK) {
@@ -56,7 +61,7 @@ static void read_pieces(const size_t *ends, const uint8_t *blanks) {
         } else if (piece.kind != DNS_COMMENT) {
             if (at == count || piece.start != known[at].start || piece.end != known[at].end)
                 fail("another piece", line);
-            if (piece.kind != known[at].is_quoted)
+            if (piece.kind != (known[at].is_quoted ? DNS_QUOTED : DNS_WORD))
                 fail("another kind", line);
             at++;
         }
@@ -69,7 +74,7 @@ int main(void) {
     size_t *ends = (size_t *)malloc(LINES * sizeof *ends);
     uint8_t *blanks = (uint8_t *)malloc(LINES);
     struct dns_token tokens[16];
-    struct dns_cursor cursor = {0, 0, 0, 0};
+    struct dns_cursor cursor = DNS_CURSOR_INIT;
     struct dns_outcome outcome;
     size_t line, at = 0, i;
     text = (uint8_t *)malloc(ROOM);
@@ -104,7 +109,7 @@ int main(void) {
         if (outcome.length != at - from || cursor.begins_blank != blanks[line])
             fail("another entry", line);
         for (i = 0; i < outcome.length; i++)
-            if (memcmp(&tokens[i], &known[from + i], sizeof tokens[i]) != 0)
+            if (!is_same(tokens[i], known[from + i]))
                 fail("another token", line);
     }
     if (dns_entry_next(text, length, &cursor, tokens, 16, &outcome) != DNS_END)

@@ -11,7 +11,7 @@ typedef uint32_t (*call)(const uint8_t *, size_t, uint8_t *, size_t, struct dns_
 
 static uint32_t name_read(const uint8_t *text, size_t text_len, uint8_t *name, size_t name_len,
                           struct dns_outcome *outcome) {
-    size_t is_absolute;
+    bool is_absolute;
     return dns_name_read(text, text_len, name, name_len, &is_absolute, outcome);
 }
 
@@ -86,6 +86,62 @@ static int agrees(call f, size_t longest, const char *input, const char *wanted)
     return is_well;
 }
 
+/* What is read of a word is a number. */
+typedef uint32_t (*number_call)(const uint8_t *, size_t, uint32_t *, struct dns_outcome *);
+
+static uint32_t type_read(const uint8_t *text, size_t text_len, uint32_t *number,
+                          struct dns_outcome *outcome) {
+    uint16_t code = 0;
+    uint32_t status = dns_type_read(text, text_len, &code, outcome);
+    *number = code;
+    return status;
+}
+
+static uint32_t class_read(const uint8_t *text, size_t text_len, uint32_t *number,
+                           struct dns_outcome *outcome) {
+    uint16_t code = 0;
+    uint32_t status = dns_class_read(text, text_len, &code, outcome);
+    *number = code;
+    return status;
+}
+
+static const struct {
+    const char *name;
+    number_call f;
+} numbers[] = {
+    {"kinds.ttl", dns_ttl_read},
+    {"kinds.type", type_read},
+    {"kinds.class", class_read},
+};
+
+/* Whether the call gives this number, or refuses for this reason. */
+static int numbers_agree(number_call f, const char *input, const char *wanted) {
+    struct dns_outcome outcome = {7, 7};
+    size_t length;
+    uint32_t number = 0;
+    char printed[16];
+    uint8_t *text = octets_of(input, &length);
+    uint32_t status = f(text, length, &number, &outcome);
+    free(text);
+    sprintf(printed, "%lu", (unsigned long)number);
+    if (outcome.length != 0 || outcome.place != 0)
+        return 0;
+    if (*wanted == '!')
+        return status != DNS_OK && strcmp(dns_status_message(status), wanted + 1) == 0;
+    return status == DNS_OK && strcmp(printed, wanted) == 0;
+}
+
+/* Whether the place has this line and column. */
+static int positions_agree(const char *input, const char *place, const char *wanted) {
+    size_t length, line_number = 0, column = 0;
+    char printed[48];
+    uint8_t *text = octets_of(input, &length);
+    uint32_t status = dns_position(text, length, strtoul(place, NULL, 10), &line_number, &column);
+    free(text);
+    sprintf(printed, "%lu:%lu", (unsigned long)line_number, (unsigned long)column);
+    return status == DNS_OK && strcmp(printed, wanted) == 0;
+}
+
 static void remember(const char *name) {
     size_t i;
     for (i = 0; i < unknowns; i++)
@@ -97,10 +153,10 @@ static void remember(const char *name) {
 
 /* Runs a row: 1 where it agrees, 0 where it differs, -1 where the library has no such call. */
 static int run(char *row) {
-    char *fields[3];
+    char *fields[4];
     size_t count = 0, i;
     char *at = row;
-    while (at != NULL && count < 3) {
+    while (at != NULL && count < 4) {
         fields[count++] = at;
         at = strchr(at, '\t');
         if (at != NULL)
@@ -109,6 +165,11 @@ static int run(char *row) {
     for (i = 0; i < sizeof known / sizeof *known; i++)
         if (count == 3 && at == NULL && strcmp(known[i].name, fields[0]) == 0)
             return agrees(known[i].f, known[i].longest, fields[1], fields[2]);
+    for (i = 0; i < sizeof numbers / sizeof *numbers; i++)
+        if (count == 3 && at == NULL && strcmp(numbers[i].name, fields[0]) == 0)
+            return numbers_agree(numbers[i].f, fields[1], fields[2]);
+    if (count == 4 && at == NULL && strcmp(fields[0], "zone.position") == 0)
+        return positions_agree(fields[1], fields[2], fields[3]);
     remember(fields[0]);
     return -1;
 }

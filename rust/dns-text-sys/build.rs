@@ -1,27 +1,38 @@
 //! Finds the static library: the file that `DNS_TEXT_LIB` names, or `out/libdnstext.a` at the top of
-//! the repository, which `make -C c` makes.
+//! the repository, which `make -C c` makes. Without it the crates can be checked and documented, and
+//! what is linked with them is refused.
 use std::env;
-use std::path::PathBuf;
+use std::path::{Path, PathBuf};
+
+/// The name under which the library is linked.
+const NAME: &str = "dnstext";
 
 fn main() {
     println!("cargo:rerun-if-env-changed=DNS_TEXT_LIB");
-    let here = PathBuf::from(env::var("CARGO_MANIFEST_DIR").unwrap());
-    let library = match env::var("DNS_TEXT_LIB") {
-        Ok(path) => PathBuf::from(path),
-        Err(_) => here.join("../../out/libdnstext.a"),
-    };
-    let Ok(library) = library.canonicalize() else {
-        panic!(
-            "{} is not there: run `make -C c`, or set DNS_TEXT_LIB to the library",
-            library.display()
-        );
+    let here = PathBuf::from(env::var_os("CARGO_MANIFEST_DIR").unwrap());
+    let library = match env::var_os("DNS_TEXT_LIB") {
+        Some(path) => PathBuf::from(path),
+        None => here.join("../../out/libdnstext.a"),
     };
     println!("cargo:rerun-if-changed={}", library.display());
-    println!(
-        "cargo:rustc-link-search=native={}",
-        library.parent().unwrap().display()
-    );
-    let stem = library.file_stem().unwrap().to_string_lossy();
-    let name = stem.strip_prefix("lib").unwrap_or(&stem);
+    let name = match library.canonicalize() {
+        Ok(library) => link_from(&library),
+        Err(_) => {
+            println!(
+                "cargo:warning=there is no {}: nothing can be linked until `make -C c` has made it, \
+                 or DNS_TEXT_LIB names a libdnstext.a",
+                library.display()
+            );
+            NAME.to_string()
+        }
+    };
     println!("cargo:rustc-link-lib=static={name}");
+}
+
+/// Says where the library is, and returns the name under which it is linked.
+fn link_from(library: &Path) -> String {
+    let folder = library.parent().unwrap_or(Path::new("/"));
+    println!("cargo:rustc-link-search=native={}", folder.display());
+    let stem = library.file_stem().unwrap_or_default().to_string_lossy();
+    stem.strip_prefix("lib").unwrap_or(&stem).to_string()
 }

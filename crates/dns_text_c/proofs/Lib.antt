@@ -1,5 +1,8 @@
 mod Begun
+mod CutTexts
+mod Decimals
 mod InCalls
+mod KeptNames
 mod Leading
 mod LeftOpen
 mod Lengths

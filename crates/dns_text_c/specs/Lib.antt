@@ -1,9 +1,15 @@
 pub mod Calls
 pub mod Codecs
 pub mod Entries
+pub mod Kept
+pub mod Kinds
 pub mod Names
 pub mod Numbers
 pub mod Pieces
+pub mod Places
+pub mod Reasons
+pub mod Records
+pub mod Rows
 pub mod Status
 pub mod Strings
 pub mod Told

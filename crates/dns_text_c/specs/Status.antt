@@ -14,4 +14,11 @@ status_text n =
     if n == 15 then codes "more than 63 octets in a label" else (if n == 16 then codes "binary label" else (
     if n == 17 then codes "unknown type of label" else (if n == 18 then codes "pointer in place of a label" else (
     if n == 19 then codes "octets after the root" else (if n == 20 then codes "no decimal digit" else (
-    if n == 21 then codes "number too great" else codes "unknown status")))))))))))))))))))))
+    if n == 21 then codes "number too great" else (if n == 22 then codes "place past the end" else (
+    if n == 23 then codes "expected time to live" else (if n == 24 then codes "unknown record type" else (
+    if n == 25 then codes "unknown class" else (if n == 26 then codes "a file to include" else (
+    if n == 27 then codes "directive, or words in front of data, refused" else (if n == 28 then codes "directive not supported" else (
+    if n == 29 then codes "name refused" else (if n == 30 then codes "relative name, and no origin" else (
+    if n == 31 then codes "no owner" else (if n == 32 then codes "the owner before is refused" else (
+    if n == 33 then codes "data refused" else (if n == 34 then codes "no time to live" else (
+    if n == 35 then codes "name without the root at its end" else codes "unknown status")))))))))))))))))))))))))))))))))))

@@ -5,6 +5,8 @@ use Rattle.dns_text_c.specs.declared.outcome.Fault.{Fault}
 use Rattle.dns_text_c.specs.declared.outcome.Refusal.{Refusal}
 use Rattle.dns_text_c.specs.declared.outcome.Refusal.TheVariants.{NoRoom, BadEscape, ShortInput, BadUtf8, BadSymbol, TooLong, BadEncoding, Closing, OpenParenthesis, OpenQuote}
 use Rattle.dns_text_c.specs.declared.outcome.Refusal.TheVariants.{LoneReturn, BadCursor, EmptyLabel, LongLabel, BinaryLabel, BadLabel, Pointer, TrailingOctets, NoDigit, TooGreat}
+use Rattle.dns_text_c.specs.declared.outcome.Refusal.TheVariants.{BadPlace, BadTtl, UnknownType, UnknownClass}
+use Rattle.dns_text_c.specs.declared.outcome.Refusal.TheVariants.{BadHead, NotSupported, BadName, NoOrigin, NoOwner, RefusedOwner, BadData, NoTtl, RelativeName}
 
 -- the status of each refusal, as the header has it
 abbrev pub number_of : Refusal → ℕ
@@ -28,6 +30,19 @@ number_of Pointer = 18
 number_of TrailingOctets = 19
 number_of NoDigit = 20
 number_of TooGreat = 21
+number_of BadPlace = 22
+number_of BadTtl = 23
+number_of UnknownType = 24
+number_of UnknownClass = 25
+number_of BadHead = 27
+number_of NotSupported = 28
+number_of BadName = 29
+number_of NoOrigin = 30
+number_of NoOwner = 31
+number_of RefusedOwner = 32
+number_of BadData = 33
+number_of NoTtl = 34
+number_of RelativeName = 35
 
 -- the octets fit and stand at the start of the buffer, and what follows them is as it was; or they don't fit and nothing was written. The length is theirs
 pub record TellsOctets (octets old : List ℕ) (status : ℕ) (new : List ℕ) (outcome : Outcome) : Type 0 where

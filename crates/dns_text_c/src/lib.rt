@@ -7,11 +7,16 @@
 #![tactic(auto)]
 
 pub mod codecs;
+pub mod kept;
+pub mod kinds;
 pub mod laws;
 pub mod names;
 pub mod numbers;
 pub mod outcome;
 pub mod pieces;
+pub mod position;
+pub mod reasons;
+pub mod records;
 pub mod status;
 pub mod strings;
 pub mod tokens;

@@ -108,7 +108,7 @@ fn read_name(text: &[u8]) -> Result<UncertainName<ArrayVec<u8, MOST>>, Fault>
 pub extern "C" fn dns_name_read(
     text: &[u8],
     name: &mut [u8],
-    is_absolute: &mut usize,
+    is_absolute: &mut u8,
     outcome: &mut Outcome,
 ) -> u32
     ensures { (answer : NameAnswer) × ReadsNameText text.now answer

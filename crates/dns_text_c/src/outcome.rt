@@ -56,6 +56,32 @@ pub enum Refusal {
     NoDigit,
     /// A number greater than the greatest one asked for.
     TooGreat,
+    /// A place past the end of the text.
+    BadPlace,
+    /// No time to live.
+    BadTtl,
+    /// No type of records.
+    UnknownType,
+    /// No class.
+    UnknownClass,
+    /// A directive or the words in front of a record's data.
+    BadHead,
+    /// A directive that is not supported: `$GENERATE`.
+    NotSupported,
+    /// A token that is no name of an owner or an origin.
+    BadName,
+    /// A relative name where there is no origin.
+    NoOrigin,
+    /// A record without an owner, and none was said before.
+    NoOwner,
+    /// A record without an owner, and the one before it is refused.
+    RefusedOwner,
+    /// Tokens that are no data of their type.
+    BadData,
+    /// A record without a time to live, and none is known.
+    NoTtl,
+    /// A name without the root at its end.
+    RelativeName,
 }
 
 /// A refusal, and the octets before what is refused.
@@ -70,6 +96,9 @@ pub const OK: u32 = 0;
 
 /// The status of a call that finds nothing left.
 pub const END: u32 = 1;
+
+/// The status of a call that finds a file to include.
+pub const INCLUDE: u32 = 26;
 
 /// The status of a refusal.
 pub fn number_of(refusal: Refusal) -> u32
@@ -96,6 +125,19 @@ pub fn number_of(refusal: Refusal) -> u32
         Refusal::TrailingOctets => 19,
         Refusal::NoDigit => 20,
         Refusal::TooGreat => 21,
+        Refusal::BadPlace => 22,
+        Refusal::BadTtl => 23,
+        Refusal::UnknownType => 24,
+        Refusal::UnknownClass => 25,
+        Refusal::BadHead => 27,
+        Refusal::NotSupported => 28,
+        Refusal::BadName => 29,
+        Refusal::NoOrigin => 30,
+        Refusal::NoOwner => 31,
+        Refusal::RefusedOwner => 32,
+        Refusal::BadData => 33,
+        Refusal::NoTtl => 34,
+        Refusal::RelativeName => 35,
     }
 }
 
@@ -108,6 +150,17 @@ pub(crate) fn refuse(fault: Fault, outcome: &mut Outcome) -> u32
         place: fault.place,
     };
     number_of(fault.refusal)
+}
+
+/// Tells that all went well, of a call that gives no octets.
+pub(crate) fn accept(outcome: &mut Outcome) -> u32
+    ensures { (result ≡ 0) × (outcome.new ≡ record { length = 0; place = 0 }) }
+{
+    *outcome = Outcome {
+        length: 0,
+        place: 0,
+    };
+    OK
 }
 
 /// Puts octets at the start of a buffer, if they fit.

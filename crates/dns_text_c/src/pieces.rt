@@ -21,7 +21,7 @@ pub struct Piece {
     pub end: usize,
     /// 1 where the piece's entry begins with a blank: such a record takes the owner of the one
     /// before.
-    pub begins_blank: usize,
+    pub begins_blank: u8,
 }
 
 /// Where a zone text is read on, with no piece begun.
@@ -35,7 +35,7 @@ pub struct Standing {
     /// Where the entry begins that is open. It is 0 at first.
     pub began: usize,
     /// 1 once nothing is left. It is 0 at first.
-    pub is_done: usize,
+    pub is_done: u8,
 }
 
 /// The standing that a caller passed.

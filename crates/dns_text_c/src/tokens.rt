@@ -1,6 +1,7 @@
 //! Zone text, entry by entry (RFC 1035 section 5.1).
 //!
 //! An octet of 0x80 or more counts as a character of its own, so that comments needn't be UTF-8.
+//! Flags are octets, which C declares as `bool`: one of Rattle would ask for memory that C has set.
 ghost use Rattle.std.specs.Prelude.{◌≡◌, ◌<◌, ◌≤◌, ◌^◌, ℕ, List, Result, drop, encode_utf8_all, length, slice_set};
 ghost use Rattle.dns_split.specs.Opening.{IsLeftOpen};
 ghost use Rattle.dns_split.specs.Pieces.{ReadsOctetsFrom, EachWithin};
@@ -20,7 +21,7 @@ pub struct Token {
     pub start: usize,
     pub end: usize,
     /// 1 for a quoted text, which has its double quotes, and 0 for a word.
-    pub is_quoted: usize,
+    pub is_quoted: u8,
 }
 
 /// Where a zone text is read on.
@@ -31,9 +32,9 @@ pub struct Cursor {
     pub at: usize,
     /// 1 where the entry given last began with a blank: such a record takes the owner of the one
     /// before.
-    pub begins_blank: usize,
+    pub begins_blank: u8,
     /// 1 once nothing is left. It is 0 at first.
-    pub is_done: usize,
+    pub is_done: u8,
     /// Where the double quote stands that isn't closed, or the outermost parenthesis, after these
     /// faults; else it stays as it was.
     pub opened: usize,
@@ -58,8 +59,8 @@ pub(crate) enum Step {
     Stop(Stop),
 }
 
-/// The number of a truth value.
-pub(crate) fn bit(is_so: bool) -> usize
+/// The octet of a truth value, as C has it.
+pub(crate) fn bit(is_so: bool) -> u8
     ensures { result ≡ bit is_so }
 {
     if is_so { 1 } else { 0 }

@@ -1,4 +1,5 @@
 //! Calls that read octets and give others.
+use crate::{library, Status};
 use dns_text_sys::{dns_call, dns_outcome, DNS_NO_ROOM, DNS_OK};
 
 /// A status other than `DNS_OK`, and the place that was told.
@@ -9,6 +10,7 @@ pub(crate) struct Refused {
 
 /// What the call gives, in room for `expected` octets at first and then for as many as it asks for.
 pub(crate) fn give(call: dns_call, from: &[u8], expected: usize) -> Result<Vec<u8>, Refused> {
+    library::check();
     let mut given = vec![0; expected];
     loop {
         let mut outcome = dns_outcome::default();
@@ -27,7 +29,7 @@ pub(crate) fn give(call: dns_call, from: &[u8], expected: usize) -> Result<Vec<u
                 given.truncate(outcome.length);
                 return Ok(given);
             }
-            DNS_NO_ROOM => given.resize(outcome.length, 0),
+            DNS_NO_ROOM if given.len() < outcome.length => given.resize(outcome.length, 0),
             status => {
                 let place = outcome.place;
                 return Err(Refused { status, place });
@@ -36,8 +38,11 @@ pub(crate) fn give(call: dns_call, from: &[u8], expected: usize) -> Result<Vec<u
     }
 }
 
-/// The text that the call gives, which is ASCII.
-pub(crate) fn print(call: dns_call, octets: &[u8], expected: usize) -> Result<String, Refused> {
-    let text = give(call, octets, expected)?;
-    Ok(String::from_utf8(text).expect("printed texts are ASCII"))
+/// The text that the call gives of octets that have one: it is proved that the library doesn't
+/// refuse them.
+pub(crate) fn print(call: dns_call, octets: &[u8], expected: usize) -> String {
+    match give(call, octets, expected) {
+        Ok(text) => String::from_utf8_lossy(&text).into_owned(),
+        Err(refused) => panic!("printing was refused: {}", Status(refused.status)),
+    }
 }

@@ -1,11 +1,10 @@
 //! Character strings.
 use crate::call::{give, print};
 use crate::lowered::hash_lowered;
-use crate::status;
+use crate::status::{reasons, Status};
 use dns_text_sys::{
     dns_call, dns_charstr_print, dns_charstr_print_quoted, dns_charstr_print_unquoted,
-    dns_charstr_read, dns_charstr_read_octets, DNS_BAD_ESCAPE, DNS_BAD_SYMBOL, DNS_BAD_UTF8,
-    DNS_SHORT_INPUT, DNS_TOO_LONG,
+    dns_charstr_read, dns_charstr_read_octets, DNS_TOO_LONG,
 };
 use std::error::Error;
 use std::fmt;
@@ -109,10 +108,7 @@ impl CharStr {
     }
 
     fn printed(&self, call: dns_call) -> String {
-        match print(call, &self.octets, self.octets.len() + 2) {
-            Ok(text) => text,
-            Err(_) => unreachable!("there are at most 255 octets"),
-        }
+        print(call, &self.octets, self.octets.len() + 2)
     }
 }
 
@@ -142,7 +138,7 @@ pub struct LongString;
 
 impl fmt::Display for LongString {
     fn fmt(&self, f: &mut fmt::Formatter<'_>) -> fmt::Result {
-        status::write(DNS_TOO_LONG, f)
+        Status(DNS_TOO_LONG).fmt(f)
     }
 }
 
@@ -156,39 +152,25 @@ pub struct ReadError {
     pub place: usize,
 }
 
-/// Why a text is no character string.
-#[derive(Clone, Copy, Debug, PartialEq, Eq)]
-#[repr(u32)]
-pub enum ReadErrorKind {
-    /// A backslash with what makes no escape.
-    BadEscape = DNS_BAD_ESCAPE,
-    /// The end inside an escape or a character.
-    ShortInput = DNS_SHORT_INPUT,
-    /// No UTF-8.
-    BadUtf8 = DNS_BAD_UTF8,
-    /// A plain character outside printable ASCII, which stands for no octet.
-    BadSymbol = DNS_BAD_SYMBOL,
-    /// A symbol after 255 octets.
-    TooLong = DNS_TOO_LONG,
-}
-
-impl ReadErrorKind {
-    fn of(status: u32) -> ReadErrorKind {
-        match status {
-            DNS_BAD_ESCAPE => ReadErrorKind::BadEscape,
-            DNS_SHORT_INPUT => ReadErrorKind::ShortInput,
-            DNS_BAD_UTF8 => ReadErrorKind::BadUtf8,
-            DNS_BAD_SYMBOL => ReadErrorKind::BadSymbol,
-            DNS_TOO_LONG => ReadErrorKind::TooLong,
-            status => unreachable!("status {status} of a character string"),
-        }
+reasons! {
+    /// Why a text is no character string.
+    ReadErrorKind {
+        /// A backslash with what makes no escape.
+        BadEscape = DNS_BAD_ESCAPE,
+        /// The end inside an escape or a character.
+        ShortInput = DNS_SHORT_INPUT,
+        /// No UTF-8.
+        BadUtf8 = DNS_BAD_UTF8,
+        /// A plain character outside printable ASCII, which stands for no octet.
+        BadSymbol = DNS_BAD_SYMBOL,
+        /// A symbol after 255 octets.
+        TooLong = DNS_TOO_LONG,
     }
 }
 
 impl fmt::Display for ReadError {
     fn fmt(&self, f: &mut fmt::Formatter<'_>) -> fmt::Result {
-        status::write(self.kind as u32, f)?;
-        write!(f, " at {}", self.place)
+        write!(f, "{} at {}", self.kind.status(), self.place)
     }
 }
 

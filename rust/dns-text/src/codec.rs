@@ -11,7 +11,7 @@
 //! # Ok::<(), dns_text::codec::BadEncoding>(())
 //! ```
 use crate::call::{give, print};
-use crate::status;
+use crate::status::Status;
 use dns_text_sys::{
     dns_base16_print, dns_base16_read, dns_base32hex_print, dns_base32hex_read, dns_base64_print,
     dns_base64_read, dns_call, DNS_BAD_ENCODING,
@@ -47,10 +47,7 @@ pub const BASE64: Encoding = Encoding {
 impl Encoding {
     /// The text of octets.
     pub fn print(self, octets: &[u8]) -> String {
-        match print(self.print, octets, 2 * octets.len() + 4) {
-            Ok(text) => text,
-            Err(_) => unreachable!("no memory holds as many octets"),
-        }
+        print(self.print, octets, 2 * octets.len() + 4)
     }
 
     /// The octets of a text.
@@ -65,7 +62,7 @@ pub struct BadEncoding;
 
 impl fmt::Display for BadEncoding {
     fn fmt(&self, f: &mut fmt::Formatter<'_>) -> fmt::Result {
-        status::write(DNS_BAD_ENCODING, f)
+        Status(DNS_BAD_ENCODING).fmt(f)
     }
 }
 

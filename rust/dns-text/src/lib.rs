@@ -12,19 +12,86 @@
 //! assert_eq!(strings[1].to_string(), "plain");
 //! # Ok::<(), Box<dyn std::error::Error>>(())
 //! ```
+//!
+//! # Which reader of zone text
+//!
+//! | You want | Take | Memory |
+//! |---|---|---|
+//! | records: owner, time to live, class and data, by what stands before them | [`records`] | the data |
+//! | the tokens of each entry, and whether it began with a blank | [`entries`] | a list for each entry |
+//! | words, whatever entry they are of | [`tokens`] | a list for the longest entry |
+//! | comments too, where entries end, or no memory at all | [`pieces`] | none |
+//!
+//! The last three go up to the first fault, and give what stands before it; [`records`] goes on behind
+//! it.
+//!
+//! An entry that begins with a blank takes the owner of the one before:
+//!
+//! ```
+//! use dns_text::{entries, Ttl};
+//!
+//! let zone = b"www 1h A 192.0.2.1\n    1h A 192.0.2.2\n";
+//! let mut owner = None;
+//! for entry in entries(zone) {
+//!     let entry = entry?;
+//!     let mut tokens = entry.tokens.iter();
+//!     if !entry.begins_blank {
+//!         owner = tokens.next().map(|token| token.text);
+//!     }
+//!     let Some(ttl) = tokens.next() else { continue };
+//!     assert_eq!(owner, Some(b"www".as_slice()));
+//!     assert_eq!(Ttl::from_text(ttl.text)?.seconds(), 3600);
+//! }
+//! # Ok::<(), Box<dyn std::error::Error>>(())
+//! ```
+//!
+//! Comments and their entries:
+//!
+//! ```
+//! use dns_text::{pieces, PieceKind};
+//!
+//! let mut entry = 1;
+//! let mut comments = Vec::new();
+//! for piece in pieces(b"a A 192.0.2.1\nb A 192.0.2.2 ; the second\n") {
+//!     let piece = piece?;
+//!     match piece.kind {
+//!         PieceKind::EntryEnd => entry += 1,
+//!         PieceKind::Comment => comments.push((entry, piece.text)),
+//!         PieceKind::Word | PieceKind::Quoted => {}
+//!     }
+//! }
+//! assert_eq!(comments, [(2, b"; the second".as_slice())]);
+//! # Ok::<(), dns_text::Fault>(())
+//! ```
+//!
+//! # The library
+//!
+//! It is linked as a static library, `libdnstext.a`, of the crate's own version: the first call
+//! panics where [`version`] is another one. The crate can be checked and documented without it.
 
 mod call;
 mod char_str;
 pub mod codec;
+mod data;
+mod kinds;
+mod library;
 mod lowered;
 mod name;
 mod number;
 mod pieces;
+mod position;
+mod records;
 mod status;
 mod zone;
 
 pub use char_str::{CharStr, LongString, ReadError, ReadErrorKind};
+pub use data::RecordData;
+pub use kinds::{Class, RecordType, Ttl, WordError, WordErrorKind};
+pub use library::version;
 pub use name::{Name, NameError, NameErrorKind, NameOctetsError};
 pub use number::{number, NumberError, NumberErrorKind};
 pub use pieces::{pieces, Piece, PieceKind, Pieces};
+pub use position::{position, Position};
+pub use records::{records, Record, RecordFault, RecordFaultKind, Records, ZoneItem};
+pub use status::Status;
 pub use zone::{entries, tokens, Entries, Entry, Fault, FaultKind, Token, Tokens};

@@ -1,12 +1,11 @@
 //! Names.
 use crate::call::{give, print};
+use crate::library;
 use crate::lowered::hash_lowered;
-use crate::status;
+use crate::status::reasons;
 use dns_text_sys::{
     dns_call, dns_name_print, dns_name_print_dotted, dns_name_print_zone, dns_name_read,
-    dns_outcome, DNS_BAD_ESCAPE, DNS_BAD_LABEL, DNS_BAD_SYMBOL, DNS_BAD_UTF8, DNS_BINARY_LABEL,
-    DNS_EMPTY_LABEL, DNS_LONG_LABEL, DNS_OK, DNS_POINTER, DNS_SHORT_INPUT, DNS_TOO_LONG,
-    DNS_TRAILING_OCTETS,
+    dns_outcome, DNS_OK,
 };
 use std::error::Error;
 use std::fmt;
@@ -50,8 +49,9 @@ impl Name {
     /// assert_eq!((error.kind, error.place), (NameErrorKind::EmptyLabel, 4));
     /// ```
     pub fn from_text(text: &[u8]) -> Result<Name, NameError> {
+        library::check();
         let mut octets = vec![0; 255];
-        let mut is_absolute = 0;
+        let mut is_absolute = false;
         let mut outcome = dns_outcome::default();
         // SAFETY: both slices are as long as is said, and the call keeps to them.
         let status = unsafe {
@@ -73,7 +73,7 @@ impl Name {
         octets.truncate(outcome.length);
         Ok(Name {
             octets,
-            is_absolute: is_absolute != 0,
+            is_absolute,
         })
     }
 
@@ -127,10 +127,7 @@ impl Name {
     }
 
     fn printed(&self, call: dns_call) -> String {
-        match print(call, &self.octets, self.octets.len() + 1) {
-            Ok(text) => text,
-            Err(_) => unreachable!("the octets are a name's"),
-        }
+        print(call, &self.octets, self.octets.len() + 1)
     }
 }
 
@@ -175,85 +172,55 @@ pub struct NameError {
     pub place: usize,
 }
 
-/// Why a text is no name.
-#[derive(Clone, Copy, Debug, PartialEq, Eq)]
-#[repr(u32)]
-pub enum NameErrorKind {
-    /// A backslash with what makes no escape.
-    BadEscape = DNS_BAD_ESCAPE,
-    /// The end inside an escape or a character.
-    ShortInput = DNS_SHORT_INPUT,
-    /// No UTF-8.
-    BadUtf8 = DNS_BAD_UTF8,
-    /// A plain character outside printable ASCII, which stands for no octet.
-    BadSymbol = DNS_BAD_SYMBOL,
-    /// More than 254 octets before the root.
-    TooLong = DNS_TOO_LONG,
-    /// A plain dot after no octet of a label.
-    EmptyLabel = DNS_EMPTY_LABEL,
-    /// More than 63 octets in a label.
-    LongLabel = DNS_LONG_LABEL,
-    /// A label that begins with an escaped opening bracket.
-    BinaryLabel = DNS_BINARY_LABEL,
-}
-
-impl NameErrorKind {
-    fn of(status: u32) -> NameErrorKind {
-        match status {
-            DNS_BAD_ESCAPE => NameErrorKind::BadEscape,
-            DNS_SHORT_INPUT => NameErrorKind::ShortInput,
-            DNS_BAD_UTF8 => NameErrorKind::BadUtf8,
-            DNS_BAD_SYMBOL => NameErrorKind::BadSymbol,
-            DNS_TOO_LONG => NameErrorKind::TooLong,
-            DNS_EMPTY_LABEL => NameErrorKind::EmptyLabel,
-            DNS_LONG_LABEL => NameErrorKind::LongLabel,
-            DNS_BINARY_LABEL => NameErrorKind::BinaryLabel,
-            status => unreachable!("status {status} of a name's text"),
-        }
+reasons! {
+    /// Why a text is no name.
+    NameErrorKind {
+        /// A backslash with what makes no escape.
+        BadEscape = DNS_BAD_ESCAPE,
+        /// The end inside an escape or a character.
+        ShortInput = DNS_SHORT_INPUT,
+        /// No UTF-8.
+        BadUtf8 = DNS_BAD_UTF8,
+        /// A plain character outside printable ASCII, which stands for no octet.
+        BadSymbol = DNS_BAD_SYMBOL,
+        /// More than 254 octets before the root.
+        TooLong = DNS_TOO_LONG,
+        /// A plain dot after no octet of a label.
+        EmptyLabel = DNS_EMPTY_LABEL,
+        /// More than 63 octets in a label.
+        LongLabel = DNS_LONG_LABEL,
+        /// A label that begins with an escaped opening bracket.
+        BinaryLabel = DNS_BINARY_LABEL,
     }
 }
 
 impl fmt::Display for NameError {
     fn fmt(&self, f: &mut fmt::Formatter<'_>) -> fmt::Result {
-        status::write(self.kind as u32, f)?;
-        write!(f, " at {}", self.place)
+        write!(f, "{} at {}", self.kind.status(), self.place)
     }
 }
 
 impl Error for NameError {}
 
-/// Why octets are no name.
-#[derive(Clone, Copy, Debug, PartialEq, Eq)]
-#[repr(u32)]
-pub enum NameOctetsError {
-    /// They end within a label.
-    ShortInput = DNS_SHORT_INPUT,
-    /// More than 255 octets, or 255 and no root.
-    TooLong = DNS_TOO_LONG,
-    /// A lead octet of no known type of label.
-    BadLabel = DNS_BAD_LABEL,
-    /// A pointer to another name in place of a label.
-    Pointer = DNS_POINTER,
-    /// Octets after the root.
-    TrailingOctets = DNS_TRAILING_OCTETS,
-}
-
-impl NameOctetsError {
-    fn of(status: u32) -> NameOctetsError {
-        match status {
-            DNS_SHORT_INPUT => NameOctetsError::ShortInput,
-            DNS_TOO_LONG => NameOctetsError::TooLong,
-            DNS_BAD_LABEL => NameOctetsError::BadLabel,
-            DNS_POINTER => NameOctetsError::Pointer,
-            DNS_TRAILING_OCTETS => NameOctetsError::TrailingOctets,
-            status => unreachable!("status {status} of a name's octets"),
-        }
+reasons! {
+    /// Why octets are no name.
+    NameOctetsError {
+        /// They end within a label.
+        ShortInput = DNS_SHORT_INPUT,
+        /// More than 255 octets, or 255 and no root.
+        TooLong = DNS_TOO_LONG,
+        /// A lead octet of no known type of label.
+        BadLabel = DNS_BAD_LABEL,
+        /// A pointer to another name in place of a label.
+        Pointer = DNS_POINTER,
+        /// Octets after the root.
+        TrailingOctets = DNS_TRAILING_OCTETS,
     }
 }
 
 impl fmt::Display for NameOctetsError {
     fn fmt(&self, f: &mut fmt::Formatter<'_>) -> fmt::Result {
-        status::write(*self as u32, f)
+        self.status().fmt(f)
     }
 }
 

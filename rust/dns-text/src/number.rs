@@ -1,9 +1,7 @@
 //! Decimal numbers.
-use crate::status;
-use dns_text_sys::{
-    dns_number_read, dns_outcome, DNS_BAD_ESCAPE, DNS_BAD_UTF8, DNS_NO_DIGIT, DNS_OK,
-    DNS_SHORT_INPUT, DNS_TOO_GREAT,
-};
+use crate::library;
+use crate::status::reasons;
+use dns_text_sys::{dns_number_read, dns_outcome, DNS_OK};
 use std::error::Error;
 use std::fmt;
 
@@ -18,6 +16,7 @@ use std::fmt;
 /// # Ok::<(), dns_text::NumberError>(())
 /// ```
 pub fn number(text: &[u8], greatest: u64) -> Result<u64, NumberError> {
+    library::check();
     let mut number = 0;
     let mut outcome = dns_outcome::default();
     // SAFETY: the text is as long as is said, and the call keeps to it.
@@ -47,39 +46,25 @@ pub struct NumberError {
     pub place: usize,
 }
 
-/// Why a token is no number.
-#[derive(Clone, Copy, Debug, PartialEq, Eq)]
-#[repr(u32)]
-pub enum NumberErrorKind {
-    /// A symbol that is no plain decimal digit.
-    NoDigit = DNS_NO_DIGIT,
-    /// A number greater than the greatest one asked for.
-    TooGreat = DNS_TOO_GREAT,
-    /// A backslash with what makes no escape.
-    BadEscape = DNS_BAD_ESCAPE,
-    /// The end inside an escape or a character.
-    ShortInput = DNS_SHORT_INPUT,
-    /// No UTF-8.
-    BadUtf8 = DNS_BAD_UTF8,
-}
-
-impl NumberErrorKind {
-    fn of(status: u32) -> NumberErrorKind {
-        match status {
-            DNS_NO_DIGIT => NumberErrorKind::NoDigit,
-            DNS_TOO_GREAT => NumberErrorKind::TooGreat,
-            DNS_BAD_ESCAPE => NumberErrorKind::BadEscape,
-            DNS_SHORT_INPUT => NumberErrorKind::ShortInput,
-            DNS_BAD_UTF8 => NumberErrorKind::BadUtf8,
-            status => unreachable!("status {status} of a number"),
-        }
+reasons! {
+    /// Why a token is no number.
+    NumberErrorKind {
+        /// A symbol that is no plain decimal digit.
+        NoDigit = DNS_NO_DIGIT,
+        /// A number greater than the greatest one asked for.
+        TooGreat = DNS_TOO_GREAT,
+        /// A backslash with what makes no escape.
+        BadEscape = DNS_BAD_ESCAPE,
+        /// The end inside an escape or a character.
+        ShortInput = DNS_SHORT_INPUT,
+        /// No UTF-8.
+        BadUtf8 = DNS_BAD_UTF8,
     }
 }
 
 impl fmt::Display for NumberError {
     fn fmt(&self, f: &mut fmt::Formatter<'_>) -> fmt::Result {
-        status::write(self.kind as u32, f)?;
-        write!(f, " at {}", self.place)
+        write!(f, "{} at {}", self.kind.status(), self.place)
     }
 }
 

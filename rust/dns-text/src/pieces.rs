@@ -1,4 +1,5 @@
 //! Zone text, piece by piece and with no memory.
+use crate::library;
 use crate::zone::{Fault, FaultKind};
 use dns_text_sys::{
     dns_cursor, dns_entry_next, dns_outcome, dns_piece, dns_standing, dns_tokens_next, DNS_COMMENT,
@@ -20,13 +21,13 @@ pub enum PieceKind {
 }
 
 impl PieceKind {
-    fn of(kind: usize) -> PieceKind {
+    fn of(kind: usize) -> Option<PieceKind> {
         match kind {
-            DNS_WORD => PieceKind::Word,
-            DNS_QUOTED => PieceKind::Quoted,
-            DNS_COMMENT => PieceKind::Comment,
-            DNS_ENTRY_END => PieceKind::EntryEnd,
-            kind => unreachable!("a piece of kind {kind}"),
+            DNS_WORD => Some(PieceKind::Word),
+            DNS_QUOTED => Some(PieceKind::Quoted),
+            DNS_COMMENT => Some(PieceKind::Comment),
+            DNS_ENTRY_END => Some(PieceKind::EntryEnd),
+            _ => None,
         }
     }
 }
@@ -65,6 +66,7 @@ pub struct Piece<'t> {
 /// # Ok::<(), dns_text::Fault>(())
 /// ```
 pub fn pieces(text: &[u8]) -> Pieces<'_> {
+    library::check();
     Pieces {
         text,
         standing: dns_standing::default(),
@@ -81,13 +83,21 @@ pub struct Pieces<'t> {
 }
 
 impl<'t> Pieces<'t> {
-    fn piece(&self, piece: dns_piece) -> Piece<'t> {
-        Piece {
-            kind: PieceKind::of(piece.kind),
+    /// The piece; a kind that isn't known is a fault of an unknown status.
+    fn piece(&self, piece: dns_piece) -> Result<Piece<'t>, Fault> {
+        let Some(kind) = PieceKind::of(piece.kind) else {
+            return Err(Fault {
+                kind: FaultKind::of(u32::MAX),
+                place: piece.start,
+                opened: None,
+            });
+        };
+        Ok(Piece {
+            kind,
             start: piece.start,
             text: &self.text[piece.start..piece.end],
-            begins_blank: piece.begins_blank != 0,
-        }
+            begins_blank: piece.begins_blank,
+        })
     }
 
     /// Where what is not closed was opened, in the entry that is open.
@@ -129,7 +139,7 @@ impl<'t> Iterator for Pieces<'t> {
             )
         };
         match status {
-            DNS_OK => Some(Ok(self.piece(piece))),
+            DNS_OK => Some(self.piece(piece)),
             DNS_END => None,
             status => {
                 let kind = FaultKind::of(status);

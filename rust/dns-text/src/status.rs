@@ -1,12 +1,100 @@
-//! The texts of statuses.
-use dns_text_sys::{dns_outcome, dns_status_text};
+//! Statuses of the library.
+use dns_text_sys::{dns_status_message, dns_status_name};
+use std::ffi::{c_char, CStr};
 use std::fmt;
 
-/// Writes what a status says.
-pub(crate) fn write(status: u32, f: &mut fmt::Formatter<'_>) -> fmt::Result {
-    let mut text = [0; 64];
-    let mut outcome = dns_outcome::default();
-    // SAFETY: the text is as long as is said.
-    unsafe { dns_status_text(status, text.as_mut_ptr(), text.len(), &mut outcome) };
-    f.write_str(&String::from_utf8_lossy(&text[..outcome.length.min(64)]))
+/// A status of the library, by its number. It prints as what it says in a few words.
+///
+/// ```
+/// use dns_text::Name;
+///
+/// let status = Name::from_text(b"a..b").unwrap_err().kind.status();
+/// assert_eq!(status.name(), "DNS_EMPTY_LABEL");
+/// assert_eq!(status.to_string(), "label without octets");
+/// ```
+#[derive(Clone, Copy, Debug, PartialEq, Eq, Hash)]
+pub struct Status(pub(crate) u32);
+
+impl Status {
+    /// The number, as `dnstext.h` has it.
+    pub fn number(self) -> u32 {
+        self.0
+    }
+
+    /// The name, as `dnstext.h` has it, or `unknown`.
+    pub fn name(self) -> &'static str {
+        // SAFETY: the call takes any number, and gives a string that stands as long as the program.
+        unsafe { string(dns_status_name(self.0)) }
+    }
+
+    /// What it says in a few words, or `unknown status`.
+    pub fn message(self) -> &'static str {
+        // SAFETY: as of `name`.
+        unsafe { string(dns_status_message(self.0)) }
+    }
+}
+
+impl fmt::Display for Status {
+    fn fmt(&self, f: &mut fmt::Formatter<'_>) -> fmt::Result {
+        f.pad(self.message())
+    }
+}
+
+/// A string of the library.
+///
+/// # Safety
+///
+/// It has an end mark, and stands as long as the program.
+pub(crate) unsafe fn string(text: *const c_char) -> &'static str {
+    unsafe { CStr::from_ptr(text) }.to_str().unwrap_or("?")
+}
+
+/// Declares an enum of reasons, each of one status, with one more for statuses that are none of
+/// them.
+macro_rules! reasons {
+    ($(#[$about:meta])* $name:ident { $($(#[$says:meta])* $reason:ident = $status:ident,)* }) => {
+        $(#[$about])*
+        #[derive(Clone, Copy, Debug, PartialEq, Eq)]
+        pub enum $name {
+            $($(#[$says])* $reason,)*
+            /// Another status, which the library of this version does not return.
+            Unknown($crate::Status),
+        }
+
+        impl $name {
+            pub(crate) fn of(status: u32) -> $name {
+                match status {
+                    $(dns_text_sys::$status => $name::$reason,)*
+                    status => $name::Unknown($crate::Status(status)),
+                }
+            }
+
+            /// The status that the library returned.
+            pub fn status(self) -> $crate::Status {
+                match self {
+                    $($name::$reason => $crate::Status(dns_text_sys::$status),)*
+                    $name::Unknown(status) => status,
+                }
+            }
+        }
+    };
+}
+
+pub(crate) use reasons;
+
+#[cfg(test)]
+mod tests {
+    use crate::{FaultKind, NameErrorKind};
+
+    #[test]
+    fn unknown_statuses_are_errors() {
+        let unknown = FaultKind::of(99);
+        assert_eq!(unknown.status().number(), 99);
+        assert_eq!(unknown.status().to_string(), "unknown status");
+        assert_eq!(unknown.status().name(), "unknown");
+        assert_ne!(unknown, FaultKind::of(98));
+        // A status of other calls is unknown too, and says what it says.
+        let other = NameErrorKind::of(dns_text_sys::DNS_TOO_GREAT);
+        assert_eq!(other.status().to_string(), "number too great");
+    }
 }

@@ -1,9 +1,8 @@
 //! Zone text, token by token or entry by entry.
-use crate::status;
-use dns_text_sys::{
-    dns_cursor, dns_entry_next, dns_outcome, dns_token, DNS_BAD_ESCAPE, DNS_CLOSING, DNS_END,
-    DNS_LONE_RETURN, DNS_OK, DNS_OPEN_PARENTHESIS, DNS_OPEN_QUOTE,
-};
+use crate::library;
+use crate::position::{position, Position};
+use crate::status::reasons;
+use dns_text_sys::{dns_cursor, dns_entry_next, dns_outcome, dns_token, DNS_END, DNS_OK};
 use std::error::Error;
 use std::fmt;
 
@@ -40,34 +39,40 @@ pub struct Fault {
     pub opened: Option<usize>,
 }
 
-/// What keeps a text from going on.
-#[derive(Clone, Copy, Debug, PartialEq, Eq)]
-#[repr(u32)]
-pub enum FaultKind {
-    /// A backslash with what makes no escape.
-    BadEscape = DNS_BAD_ESCAPE,
-    /// A closing parenthesis, and none is open.
-    Closing = DNS_CLOSING,
-    /// The text ends inside parentheses.
-    OpenParenthesis = DNS_OPEN_PARENTHESIS,
-    /// The text or a line ends inside a quoted text.
-    OpenQuote = DNS_OPEN_QUOTE,
-    /// A CR without its LF.
-    LoneReturn = DNS_LONE_RETURN,
+impl Fault {
+    /// The line and the column of its place in the text that it was found in; none where the text
+    /// is shorter.
+    ///
+    /// ```
+    /// use dns_text::entries;
+    ///
+    /// let text = b"a A 192.0.2.1\nb TXT (";
+    /// let fault = entries(text).find_map(Result::err).unwrap();
+    /// let position = fault.locate(text).unwrap();
+    /// assert_eq!(format!("{position}: {}", fault.kind.status()), "2:8: parenthesis that is not closed");
+    /// ```
+    pub fn locate(&self, text: &[u8]) -> Option<Position> {
+        position(text, self.place)
+    }
+}
+
+reasons! {
+    /// What keeps a text from going on.
+    FaultKind {
+        /// A backslash with what makes no escape.
+        BadEscape = DNS_BAD_ESCAPE,
+        /// A closing parenthesis, and none is open.
+        Closing = DNS_CLOSING,
+        /// The text ends inside parentheses.
+        OpenParenthesis = DNS_OPEN_PARENTHESIS,
+        /// The text or a line ends inside a quoted text.
+        OpenQuote = DNS_OPEN_QUOTE,
+        /// A CR without its LF.
+        LoneReturn = DNS_LONE_RETURN,
+    }
 }
 
 impl FaultKind {
-    pub(crate) fn of(status: u32) -> FaultKind {
-        match status {
-            DNS_BAD_ESCAPE => FaultKind::BadEscape,
-            DNS_CLOSING => FaultKind::Closing,
-            DNS_OPEN_PARENTHESIS => FaultKind::OpenParenthesis,
-            DNS_OPEN_QUOTE => FaultKind::OpenQuote,
-            DNS_LONE_RETURN => FaultKind::LoneReturn,
-            status => unreachable!("status {status} of a zone text"),
-        }
-    }
-
     /// Whether something isn't closed.
     pub(crate) fn is_open(self) -> bool {
         matches!(self, FaultKind::OpenParenthesis | FaultKind::OpenQuote)
@@ -76,8 +81,7 @@ impl FaultKind {
 
 impl fmt::Display for Fault {
     fn fmt(&self, f: &mut fmt::Formatter<'_>) -> fmt::Result {
-        status::write(self.kind as u32, f)?;
-        write!(f, " at {}", self.place)
+        write!(f, "{} at {}", self.kind.status(), self.place)
     }
 }
 
@@ -94,6 +98,7 @@ struct Places<'t> {
 
 impl<'t> Places<'t> {
     fn new(text: &'t [u8]) -> Places<'t> {
+        library::check();
         Places {
             text,
             cursor: dns_cursor::default(),
@@ -144,7 +149,7 @@ impl<'t> Places<'t> {
         Token {
             start: token.start,
             text: &self.text[token.start..token.end],
-            is_quoted: token.is_quoted != 0,
+            is_quoted: token.is_quoted,
         }
     }
 }
@@ -189,7 +194,7 @@ impl<'t> Iterator for Entries<'t> {
         let read = self.places.read()?;
         Some(read.map(|()| {
             Entry {
-                begins_blank: self.places.cursor.begins_blank != 0,
+                begins_blank: self.places.cursor.begins_blank,
                 tokens: (0..self.places.count)
                     .map(|place| self.places.token(place))
                     .collect(),

@@ -1,9 +1,10 @@
 //! Each refusal, and what comes before it.
 use dns_text::codec::{BadEncoding, BASE16, BASE32HEX, BASE64};
 use dns_text::{
-    entries, number, pieces, tokens, CharStr, FaultKind, LongString, Name, NameErrorKind,
-    NameOctetsError, NumberErrorKind, ReadErrorKind,
+    entries, number, pieces, position, tokens, CharStr, Class, FaultKind, LongString, Name,
+    NameErrorKind, NameOctetsError, NumberErrorKind, ReadErrorKind, RecordType, Ttl, WordErrorKind,
 };
+use std::time::Duration;
 
 #[test]
 fn character_strings() {
@@ -115,6 +116,75 @@ fn numbers() {
     assert_eq!(refused(b"1\xFFx", 255), (NumberErrorKind::BadUtf8, 1));
     let error = number(b"-1", 255).unwrap_err();
     assert_eq!(error.to_string(), "no decimal digit at 0");
+}
+
+#[test]
+fn words() {
+    let refused = |text: &[u8]| {
+        let error = Ttl::from_text(text).unwrap_err();
+        (error.kind, error.place)
+    };
+    assert_eq!(refused(b""), (WordErrorKind::BadTtl, 0));
+    assert_eq!(refused(b"1h30"), (WordErrorKind::BadTtl, 0));
+    assert_eq!(refused(b"2147483648"), (WordErrorKind::BadTtl, 0));
+    assert_eq!(Ttl::from_text(b"2147483647").unwrap(), Ttl::MAX);
+    assert_eq!(Ttl::from_seconds(0x8000_0000), None);
+    assert_eq!(Duration::from(Ttl::MAX).as_secs(), 0x7FFF_FFFF);
+    let error = RecordType::from_text(b"TYPE65536").unwrap_err();
+    assert_eq!(error.kind, WordErrorKind::UnknownType);
+    assert_eq!(error.kind.status().name(), "DNS_UNKNOWN_TYPE");
+    let error = "CHAOS".parse::<Class>().unwrap_err();
+    assert_eq!(error.to_string(), "unknown class at 0");
+    assert_eq!(
+        format!("{:<6}|{:>6}", RecordType::A, Class::CH),
+        "A     |    CH"
+    );
+    for code in 0..=u16::MAX {
+        let (kind, class) = (RecordType(code), Class(code));
+        assert_eq!(kind.to_string().parse(), Ok(kind));
+        assert_eq!(class.to_string().parse(), Ok(class));
+    }
+}
+
+/// The codes of RFC 1035, 2782, 3596, 4034 and 8659.
+#[test]
+fn types_of_records() {
+    let known = [
+        (RecordType::A, "A"),
+        (RecordType::NS, "NS"),
+        (RecordType::CNAME, "CNAME"),
+        (RecordType::SOA, "SOA"),
+        (RecordType::PTR, "PTR"),
+        (RecordType::MX, "MX"),
+        (RecordType::TXT, "TXT"),
+        (RecordType::AAAA, "AAAA"),
+        (RecordType::SRV, "SRV"),
+        (RecordType::DS, "DS"),
+        (RecordType::RRSIG, "RRSIG"),
+        (RecordType::NSEC, "NSEC"),
+        (RecordType::DNSKEY, "DNSKEY"),
+        (RecordType::CAA, "CAA"),
+    ];
+    for (kind, name) in known {
+        assert_eq!(kind.to_string(), name);
+    }
+    let classes = [Class::IN, Class::CH, Class::HS];
+    assert_eq!(classes.map(|class| class.to_string()), ["IN", "CH", "HS"]);
+}
+
+#[test]
+fn positions() {
+    let text = b"a\n\nbc\r\n";
+    let told = |place| position(text, place).map(|it| (it.line, it.column));
+    assert_eq!(told(0), Some((1, 1)));
+    assert_eq!(told(2), Some((2, 1)));
+    assert_eq!(told(6), Some((3, 4)));
+    assert_eq!(told(7), Some((4, 1)));
+    assert_eq!(told(8), None);
+    assert_eq!(told(usize::MAX), None);
+    let fault = entries(b"a\n\"b").last().unwrap().unwrap_err();
+    assert_eq!(fault.locate(b"a\n\"b").unwrap().to_string(), "2:3");
+    assert_eq!(fault.locate(b"a"), None);
 }
 
 #[test]

@@ -1,6 +1,6 @@
 //! The rows of `crates/test_rows/stdin` that the crate's own calls can answer.
 use dns_text::codec::{Encoding, BASE16, BASE32HEX, BASE64};
-use dns_text::{CharStr, Name};
+use dns_text::{position, CharStr, Class, Name, RecordType, Ttl};
 use std::collections::BTreeSet;
 
 /// The octets that a field spells: `%` and two hexadecimal digits are an octet.
@@ -38,6 +38,10 @@ fn name(octets: Vec<u8>, text: fn(Name) -> String) -> Answer {
         .map(|it| text(it).into_bytes())
 }
 
+fn digits<E>(number: Result<u32, E>) -> Answer {
+    number.ok().map(|it| it.to_string().into_bytes())
+}
+
 /// What a call makes of its input; none where it is no call of this crate.
 fn answer(call: &str, input: Vec<u8>) -> Option<Answer> {
     let (group, what) = call.split_once('.')?;
@@ -61,6 +65,9 @@ fn answer(call: &str, input: Vec<u8>) -> Option<Answer> {
         "name.read" => Some(Name::from_text(&input).ok().map(Name::into_octets)),
         "name.plain" => Some(name(input, |it| it.to_string())),
         "name.zone" => Some(name(input, |it| it.zone_text())),
+        "kinds.ttl" => Some(digits(Ttl::from_text(&input).map(Ttl::seconds))),
+        "kinds.type" => Some(digits(RecordType::from_text(&input).map(|it| it.0.into()))),
+        "kinds.class" => Some(digits(Class::from_text(&input).map(|it| it.0.into()))),
         _ => None,
     }
 }
@@ -76,6 +83,12 @@ fn rows_agree() {
         .filter(|it| !it.is_empty() && !it.starts_with('#'))
     {
         let fields: Vec<&str> = line.split('\t').collect();
+        if let ["zone.position", input, place, wanted] = fields[..] {
+            let found = position(&octets_of(input), place.parse().unwrap());
+            assert_eq!(found.unwrap().to_string(), wanted, "{line}");
+            count += 1;
+            continue;
+        }
         let [call, input, wanted] = fields[..] else {
             others.insert(fields[0]);
             continue;

@@ -1,0 +1,110 @@
+/* Prints the records of one owner and type of a zone file, each as its time to live and its data in base
+ * 16, and the line and column of each refusal on standard error:
+ *   records ORIGIN OWNER TYPE < FILE */
+#include <dnstext.h>
+#include <stdio.h>
+#include <stdlib.h>
+#include <string.h>
+
+static uint8_t *text;
+static size_t text_len;
+static uint8_t octets[65535];
+static uint8_t shown[2 * 65535];
+
+static void read_all(FILE *file) {
+    size_t room = 0, got;
+    do {
+        if (text_len == room) {
+            uint8_t *more;
+            room = room * 2 + 4096;
+            more = (uint8_t *)realloc(text, room);
+            if (more == NULL) {
+                fputs("records: out of memory\n", stderr);
+                exit(2);
+            }
+            text = more;
+        }
+        got = fread(text + text_len, 1, room - text_len, file);
+        text_len += got;
+    } while (got != 0);
+}
+
+/* The wire octets of an absolute name. */
+static struct dns_kept_name name_of(const char *word) {
+    struct dns_kept_name name = {0, false, {0}};
+    struct dns_outcome outcome;
+    bool is_absolute = false;
+    uint32_t status = dns_name_read((const uint8_t *)word, strlen(word), name.octets, sizeof name.octets,
+                                    &is_absolute, &outcome);
+    if (status != DNS_OK || !is_absolute) {
+        fprintf(stderr, "records: %s: %s\n", word,
+                status != DNS_OK ? dns_status_message(status) : "no dot at the end");
+        exit(2);
+    }
+    name.length = outcome.length;
+    return name;
+}
+
+/* Whether two names are equal, without regard to the case of letters (RFC 4343). */
+static bool same_name(const struct dns_kept_name *a, const struct dns_kept_name *b) {
+    size_t i;
+    if (a->length != b->length)
+        return false;
+    for (i = 0; i < a->length; i++) {
+        int x = a->octets[i], y = b->octets[i];
+        if ((x >= 'A' && x <= 'Z' ? x + 32 : x) != (y >= 'A' && y <= 'Z' ? y + 32 : y))
+            return false;
+    }
+    return true;
+}
+
+static void complain(uint32_t status, struct dns_outcome outcome) {
+    size_t line = 1, column = 1;
+    const char *message = dns_status_message(status);
+    dns_position(text, text_len, outcome.place, &line, &column);
+    if (outcome.length != 0)
+        fprintf(stderr, "%lu:%lu: %.*s\n", (unsigned long)line, (unsigned long)column,
+                (int)outcome.length, (const char *)octets);
+    else
+        fprintf(stderr, "%lu:%lu: %s\n", (unsigned long)line, (unsigned long)column, message);
+}
+
+static void print(const struct dns_record *record, size_t length) {
+    struct dns_outcome outcome;
+    dns_base16_print(octets, length, shown, sizeof shown, &outcome);
+    printf("%lu %.*s\n", (unsigned long)record->ttl, (int)outcome.length, (const char *)shown);
+}
+
+int main(int argc, char **argv) {
+    struct dns_zone zone = DNS_ZONE_INIT;
+    struct dns_kept_name owner;
+    struct dns_outcome outcome;
+    uint16_t type;
+    int failed = 0;
+    if (argc != 4) {
+        fputs("records ORIGIN OWNER TYPE < FILE\n", stderr);
+        return 2;
+    }
+    zone.origin = name_of(argv[1]);
+    owner = name_of(argv[2]);
+    if (dns_type_read((const uint8_t *)argv[3], strlen(argv[3]), &type, &outcome) != DNS_OK) {
+        fprintf(stderr, "records: %s: %s\n", argv[3], dns_status_message(DNS_UNKNOWN_TYPE));
+        return 2;
+    }
+    read_all(stdin);
+    for (;;) {
+        struct dns_record record;
+        uint32_t status = dns_record_next(text, text_len, &zone, &record, octets, sizeof octets, &outcome);
+        if (status == DNS_END)
+            break;
+        if (status == DNS_OK) {
+            if (record.type_code == type && same_name(&record.name, &owner))
+                print(&record, outcome.length);
+        } else if (status != DNS_INCLUDE) {
+            complain(status, outcome);
+            failed = 1;
+        }
+    }
+    free(text);
+    return failed;
+}

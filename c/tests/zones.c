@@ -1,0 +1,437 @@
+/* The reader of records: what it gives, each refusal, and zones that no call left. With the rows of `data`
+ * and of zones on standard input, as crates/test_records/stdin has them. */
+#include <dnstext.h>
+#include <stdio.h>
+#include <stdlib.h>
+#include <string.h>
+
+enum { MOST = 1 << 20, LONGEST = 65535 };
+
+#define TEXT(text) text, sizeof(text) - 1
+
+static int failures;
+static uint8_t octets[LONGEST + 16];
+static struct dns_zone zone;
+static struct dns_record record;
+static struct dns_outcome outcome;
+
+static void expect(int is_so, const char *what, int line) {
+    if (!is_so) {
+        fprintf(stderr, "tests/zones.c:%d: %s\n", line, what);
+        failures++;
+    }
+}
+#define EXPECT(is_so) expect((is_so), #is_so, __LINE__)
+
+static void begin(void) {
+    static const struct dns_zone start = DNS_ZONE_INIT;
+    zone = start;
+    EXPECT(dns_zone_origin(&zone, (const uint8_t *)"\7example", 9, &outcome) == DNS_OK);
+}
+
+/* A call on memory of just the lengths that are passed, so that a sanitizer sees what is beyond. */
+static uint32_t next(const char *text, size_t length, size_t room) {
+    uint8_t *input = length != 0 ? (uint8_t *)malloc(length) : NULL;
+    uint8_t *output = room != 0 ? (uint8_t *)malloc(room) : NULL;
+    uint32_t status;
+    if (length != 0)
+        memcpy(input, text, length);
+    memset(octets, '-', sizeof octets);
+    if (room != 0)
+        memcpy(output, octets, room);
+    status = dns_record_next(input, length, &zone, &record, output, room, &outcome);
+    if (room != 0)
+        memcpy(octets, output, room);
+    free(input);
+    free(output);
+    return status;
+}
+
+static bool named(const struct dns_kept_name *name, const char *wire, size_t length) {
+    return name->length == length && !name->is_refused && memcmp(name->octets, wire, length) == 0;
+}
+
+/* What the next call gives, with the room that it needs; and that with less it gives nothing. */
+static void gives(const char *text, size_t length, uint32_t status, const char *given, size_t given_len,
+                  int line) {
+    struct dns_zone before = zone;
+    struct dns_record was;
+    size_t i;
+    memset(&record, 7, sizeof record);
+    was = record;
+    if (given_len != 0) {
+        expect(next(text, length, given_len - 1) == DNS_NO_ROOM, "no room", line);
+        expect(outcome.length == given_len && outcome.place == 0, "length", line);
+        expect(memcmp(&zone, &before, sizeof zone) == 0, "the zone stays", line);
+        expect(memcmp(&record, &was, sizeof was) == 0, "the record stays", line);
+        for (i = 0; i < given_len; i++)
+            expect(octets[i] == '-', "memory", line);
+    }
+    expect(next(text, length, given_len + 3) == status, "status", line);
+    expect(outcome.length == given_len && outcome.place == 0, "length", line);
+    expect(memcmp(octets, given, given_len) == 0, "octets", line);
+    expect(memcmp(octets + given_len, "---", 3) == 0, "what follows", line);
+}
+#define GIVES(text, given) gives(TEXT(text), DNS_OK, TEXT(given), __LINE__)
+
+static void is(size_t place, uint32_t ttl, uint16_t class_code, uint16_t type_code, const char *owner,
+               size_t length, int line) {
+    expect(record.place == place, "place", line);
+    expect(record.ttl == ttl, "time to live", line);
+    expect(record.class_code == class_code, "class", line);
+    expect(record.type_code == type_code, "type", line);
+    expect(named(&record.name, owner, length), "owner", line);
+}
+#define IS(place, ttl, class_code, type_code, owner) \
+    is(place, ttl, class_code, type_code, TEXT(owner), __LINE__)
+
+/* A refusal with its place and text, which is left out where it does not fit. */
+static void refuses(const char *text, size_t length, uint32_t status, size_t place, const char *why,
+                    int line) {
+    struct dns_zone before = zone;
+    struct dns_record was;
+    size_t rooms[3], i;
+    memset(&record, 7, sizeof record);
+    was = record;
+    rooms[0] = strlen(why), rooms[1] = rooms[0] + 9, rooms[2] = rooms[0] != 0 ? rooms[0] - 1 : 0;
+    for (i = 0; i < 3; i++) {
+        zone = before;
+        expect(next(text, length, rooms[i]) == status, "status", line);
+        expect(outcome.place == place, "place", line);
+        expect(outcome.length == strlen(why), "length", line);
+        if (i != 2)
+            expect(memcmp(octets, why, strlen(why)) == 0, "text", line);
+        expect(octets[i != 2 ? strlen(why) : 0] == '-', "what follows", line);
+        expect(memcmp(&record, &was, sizeof was) == 0, "the record stays", line);
+    }
+}
+#define REFUSES(text, status, place, why) refuses(TEXT(text), status, place, why, __LINE__)
+
+static void ends(const char *text, size_t length, int line) {
+    int again;
+    for (again = 0; again < 2; again++) {
+        expect(next(text, length, 9) == DNS_END, "end", line);
+        expect(outcome.length == 0 && outcome.place == 0, "length and place", line);
+        expect(octets[0] == '-', "memory", line);
+    }
+}
+#define ENDS(text) ends(TEXT(text), __LINE__)
+
+/* RFC 1035 sections 3.3 and 5.1, RFC 2308 section 4. */
+static void records(void) {
+    static const char text[] = "$TTL 1h\n"
+                               "$ORIGIN test.\n"
+                               "a 60 IN A 192.0.2.1\n"
+                               "  MX 10 b ; mail\n"
+                               "\n"
+                               "b.example. CH TXT ( \"x y\"\n"
+                               " z )\n";
+    begin();
+    GIVES(text, "\300\0\2\1");
+    IS(22, 60, 1, 1, "\1a\4test\0");
+    GIVES(text, "\0\12\1b\4test\0");
+    IS(44, 3600, 1, 15, "\1a\4test\0");
+    GIVES(text, "\3x y\1z");
+    IS(60, 3600, 3, 16, "\1b\7example\0");
+    EXPECT(zone.has_default_ttl && zone.default_ttl == 3600);
+    EXPECT(zone.has_last_ttl && zone.last_ttl == 60);
+    EXPECT(zone.class_code == 1 && zone.at == sizeof text - 1);
+    EXPECT(named(&zone.origin, TEXT("\4test\0")));
+    ENDS(text);
+    begin();
+    ENDS("");
+    ends(NULL, 0, __LINE__);
+    ENDS("\n ; nothing\n");
+    /* The minimum of an SOA, RFC 3597 section 5, and a copy that goes back. */
+    {
+        static const char soa[] = "@ SOA . . 1 2 3 4 5\n@ TYPE731 \\# 3 abcd ef\n";
+        struct dns_zone first;
+        begin();
+        GIVES(soa, "\0\0\0\0\0\1\0\0\0\2\0\0\0\3\0\0\0\4\0\0\0\5");
+        IS(0, 5, 1, 6, "\7example\0");
+        first = zone;
+        GIVES(soa, "\253\315\357");
+        IS(20, 5, 1, 731, "\7example\0");
+        zone = first;
+        GIVES(soa, "\253\315\357");
+        begin();
+        GIVES("@ 1 TXT \"\"", "\0");
+    }
+}
+
+static void files(void) {
+    static const char text[] = "$INCLUDE \"a file\"\n$INCLUDE b sub\nw 5 A 192.0.2.1";
+    begin();
+    gives(TEXT(text), DNS_INCLUDE, TEXT("a file"), __LINE__);
+    is(0, 0, 0, 0, "", 0, __LINE__);
+    gives(TEXT(text), DNS_INCLUDE, TEXT("b"), __LINE__);
+    IS(0, 0, 0, 0, "\3sub\7example\0");
+    GIVES(text, "\300\0\2\1");
+    ENDS(text);
+}
+
+static void refusals(void) {
+    static const char text[] = "a 1 MX 65536 m\n"
+                               "b 1 A 192.0.2.1\n";
+    begin();
+    REFUSES(text, DNS_BAD_DATA, 7, "MX preference: decimal number overflow");
+    GIVES(text, "\300\0\2\1");
+    ENDS(text);
+    begin();
+    REFUSES("  1 A 192.0.2.1", DNS_NO_OWNER, 2, "no owner");
+    begin();
+    REFUSES("a A 192.0.2.1", DNS_NO_TTL, 0, "no time to live");
+    begin();
+    REFUSES("a..b 1 A 192.0.2.1\n 1 A 192.0.2.1", DNS_BAD_NAME, 0, "empty label");
+    REFUSES("a..b 1 A 192.0.2.1\n 1 A 192.0.2.1", DNS_REFUSED_OWNER, 20, "the owner before is refused");
+    begin();
+    REFUSES("$GENERATE 1-2 a A 192.0.2.$", DNS_NOT_SUPPORTED, 0, "not supported: expand it first");
+    begin();
+    REFUSES("$NOSUCH", DNS_BAD_HEAD, 0, "unknown directive");
+    begin();
+    zone.origin.length = 0;
+    REFUSES("a 1 A 192.0.2.1", DNS_NO_ORIGIN, 0, "relative name, and no origin");
+    begin();
+    zone.origin.length = 0;
+    REFUSES("a. 1 NS b", DNS_NO_ORIGIN, 8, "NS name server: relative name, and no origin");
+    begin();
+    REFUSES("a 1 A 192.0.2.1 (", DNS_OPEN_PARENTHESIS, 17, "");
+    begin();
+    REFUSES("a 1 TXT \"b\nc 1 A 192.0.2.1", DNS_OPEN_QUOTE, 10, "");
+    GIVES("a 1 TXT \"b\nc 1 A 192.0.2.1", "\300\0\2\1");
+    begin();
+    REFUSES(")", DNS_CLOSING, 0, "");
+    begin();
+    REFUSES("a\r", DNS_LONE_RETURN, 2, "");
+    begin();
+    REFUSES("a\\25", DNS_BAD_ESCAPE, 4, "");
+}
+
+static void origins(void) {
+    struct dns_zone before;
+    begin();
+    before = zone;
+    EXPECT(dns_zone_origin(&zone, NULL, 0, &outcome) == DNS_SHORT_INPUT);
+    EXPECT(dns_zone_origin(&zone, (const uint8_t *)"\1a", 2, &outcome) == DNS_RELATIVE_NAME);
+    EXPECT(dns_zone_origin(&zone, (const uint8_t *)"\2a", 2, &outcome) == DNS_SHORT_INPUT);
+    EXPECT(dns_zone_origin(&zone, (const uint8_t *)"\1a\0", 4, &outcome) == DNS_TRAILING_OCTETS);
+    EXPECT(dns_zone_origin(&zone, (const uint8_t *)"\300\0", 2, &outcome) == DNS_POINTER);
+    EXPECT(dns_zone_origin(&zone, (const uint8_t *)"\200", 2, &outcome) == DNS_BAD_LABEL);
+    EXPECT(dns_zone_origin(&zone, octets, 256, &outcome) == DNS_TOO_LONG);
+    EXPECT(memcmp(&zone, &before, sizeof zone) == 0);
+    EXPECT(dns_zone_origin(&zone, (const uint8_t *)"", 1, &outcome) == DNS_OK);
+    EXPECT(named(&zone.origin, "", 1) && outcome.length == 0 && outcome.place == 0);
+}
+
+static void no_zone(int line) {
+    struct dns_zone before = zone;
+    refuses(TEXT("a 1 A 192.0.2.1"), DNS_BAD_CURSOR, 0, "", line);
+    expect(memcmp(&zone, &before, sizeof zone) == 0, "the zone stays", line);
+}
+
+static void zones_that_no_call_left(void) {
+    unsigned octet;
+    begin();
+    zone.at = 16;
+    no_zone(__LINE__);
+    zone.at = SIZE_MAX;
+    no_zone(__LINE__);
+    begin();
+    zone.origin.length = 256;
+    no_zone(__LINE__);
+    zone.origin.length = SIZE_MAX;
+    no_zone(__LINE__);
+    zone.origin.length = 8;
+    no_zone(__LINE__);
+    begin();
+    zone.owner.length = 255;
+    zone.owner.octets[0] = 64;
+    no_zone(__LINE__);
+    for (octet = 0; octet < 256; octet++) {
+        uint32_t status;
+        memset(&zone, (int)octet, sizeof zone);
+        zone.at = 0;
+        status = next(TEXT("a.example. 1 A 192.0.2.1"), 9);
+        EXPECT(status == DNS_OK || status == DNS_BAD_CURSOR);
+    }
+}
+
+/* Each beginning of a text is read to its end. */
+static void cut_texts(void) {
+    static const char text[] = "$TTL 1\n$ORIGIN a.\n@ SOA @ \\@ 1 2 3 4 (5)\n  TXT \"b\\\"\\008\" ;\r\n"
+                               "x NSEC @ A TYPE731\ny LOC 1 N 2 E 3m\nz HTTPS 1 . alpn=h2,h3\n$INCLUDE y\n";
+    size_t length;
+    for (length = 0; length < sizeof text; length++) {
+        unsigned calls = 0;
+        begin();
+        while (next(text, length, 99) != DNS_END)
+            EXPECT(++calls <= 8 && zone.at <= length);
+    }
+}
+
+static char line[MOST];
+static char text[MOST];
+
+static unsigned digit(char c) {
+    return c <= '9' ? (unsigned)(c - '0') : (unsigned)(c - 'A') + 10;
+}
+
+/* The octets that a field of a row spells; `%` and two digits are one. */
+static size_t octets_of(const char *field, char *made) {
+    size_t count = 0;
+    while (*field != '\0') {
+        if (*field == '%') {
+            made[count++] = (char)(16 * digit(field[1]) + digit(field[2]));
+            field += 3;
+        } else {
+            made[count++] = *field++;
+        }
+    }
+    return count;
+}
+
+/* A row of a type, a text of data, and their octets or that they are refused. */
+static void row(const char *type, const char *field, const char *wanted, int number) {
+    static char wire[MOST];
+    size_t length = (size_t)sprintf(text, "a 1 %s ", type), wire_len;
+    uint32_t status;
+    length += octets_of(field, text + length);
+    begin();
+    status = next(text, length, LONGEST);
+    if (wanted[0] == '!') {
+        expect(status != DNS_OK && status != DNS_END, "a row that is refused", number);
+    } else {
+        wire_len = octets_of(wanted, wire);
+        expect(status == DNS_OK && outcome.length == wire_len && memcmp(octets, wire, wire_len) == 0,
+               "a row", number);
+    }
+}
+
+/* What a row of a zone wants, without what no call tells: `$ORIGIN` and `$TTL`, and where times to live
+ * come from. */
+static void leave_out(char *wanted) {
+    static const struct {
+        const char *text;
+        size_t kept; /* so many of its characters stay */
+    } unsaid[] = {{"directive;", 0}, {"|own ", 1}, {"|default ", 1}, {"|last ", 1}, {"|minimum ", 1}};
+    size_t i;
+    for (i = 0; i < sizeof unsaid / sizeof *unsaid; i++) {
+        char *at = wanted;
+        while ((at = strstr(at, unsaid[i].text)) != NULL) {
+            char *rest = at + strlen(unsaid[i].text);
+            memmove(at + unsaid[i].kept, rest, strlen(rest) + 1);
+        }
+    }
+}
+
+static char told[MOST];
+static size_t told_len;
+
+static void tell(const void *from, size_t length) {
+    memcpy(told + told_len, from, length);
+    told_len += length;
+}
+
+static void tell_text(const char *from) { tell(from, strlen(from)); }
+
+static void tell_number(size_t number) {
+    char digits[24];
+    sprintf(digits, "%lu|", (unsigned long)number);
+    tell_text(digits);
+}
+
+static const char *fault_of(uint32_t status) {
+    switch (status) {
+    case DNS_CLOSING: return "closing";
+    case DNS_OPEN_PARENTHESIS: return "open parenthesis";
+    case DNS_OPEN_QUOTE: return "open quote";
+    case DNS_LONE_RETURN: return "lone return";
+    case DNS_BAD_ESCAPE: return "bad escape";
+    default: return "";
+    }
+}
+
+static void tell_given(uint32_t status) {
+    if (status == DNS_OK) {
+        tell_number(record.place);
+        tell(record.name.octets, record.name.length);
+        tell_text("|");
+        tell_number(record.ttl);
+        tell_number(record.class_code);
+        tell_number(record.type_code);
+        tell(octets, outcome.length);
+    } else if (status == DNS_INCLUDE) {
+        tell_text("include ");
+        tell(octets, outcome.length);
+        tell_text(record.name.length != 0 ? " " : "");
+        tell(record.name.octets, record.name.length);
+    } else {
+        tell_text("!");
+        tell_text(fault_of(status));
+        tell(octets, outcome.length);
+        tell_text("|");
+        tell_number(outcome.place);
+        told_len--;
+    }
+    tell_text(";");
+}
+
+/* A row of a text, an origin or none, and what its entries are. */
+static void zone_row(const char *field, const char *origin, char *wanted, int number) {
+    static const struct dns_zone start = DNS_ZONE_INIT;
+    static char made[MOST];
+    size_t length = octets_of(field, text);
+    uint32_t status;
+    zone = start;
+    if (origin != NULL)
+        EXPECT(dns_zone_origin(&zone, (const uint8_t *)made, octets_of(origin, made), &outcome) == DNS_OK);
+    told_len = 0;
+    while ((status = next(text, length, LONGEST)) != DNS_END)
+        tell_given(status);
+    leave_out(wanted);
+    length = octets_of(wanted, made);
+    expect(length == told_len && memcmp(made, told, length) == 0, "a row of a zone", number);
+}
+
+/* Whether a row of zones has what this library's calls tell. */
+static bool tells_entries(const char *call) {
+    return strcmp(call, "zone.entries") == 0 || strcmp(call, "zone.records") == 0 ||
+           strcmp(call, "zone.pieces") == 0 || strcmp(call, "zone.blocks") == 0;
+}
+
+static void rows(FILE *file) {
+    int number = 0, rows_of_data = 0, rows_of_zones = 0;
+    while (fgets(line, sizeof line, file) != NULL) {
+        char *fields[5];
+        size_t count = 0;
+        char *at = line;
+        line[strcspn(line, "\n")] = '\0';
+        number++;
+        while (count < 5 && at != NULL) {
+            fields[count++] = at;
+            at = strchr(at, '\t');
+            if (at != NULL)
+                *at++ = '\0';
+        }
+        if (count == 4 && strcmp(fields[0], "data") == 0) {
+            row(fields[1], fields[2], fields[3], number);
+            rows_of_data++;
+        } else if (count >= 3 && tells_entries(fields[0])) {
+            zone_row(fields[1], count == 4 ? fields[2] : NULL, fields[count - 1], number);
+            rows_of_zones++;
+        }
+    }
+    printf("zones: %d rows of data, %d of zones\n", rows_of_data, rows_of_zones);
+    EXPECT(rows_of_data > 1000 && rows_of_zones > 50);
+}
+
+int main(void) {
+    records();
+    files();
+    refusals();
+    origins();
+    zones_that_no_call_left();
+    cut_texts();
+    rows(stdin);
+    return failures != 0;
+}

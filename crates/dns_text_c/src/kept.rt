@@ -1,0 +1,189 @@
+//! What is kept of a zone file between two calls, in plain numbers and octets.
+ghost use Rattle.std.specs.Prelude.{◌≡◌, ◌≤◌, drop, length, take};
+ghost use Rattle.dns_wire.specs.FromOctets.{MakesName};
+ghost use Rattle.dns_text_c.specs.Kept.{HoldsName, HoldsState, KeepsName, KeepsState, MakesOrNot, TakesOrigin, flagged};
+ghost use Rattle.dns_text_c.specs.Reasons.{refusal_of_name};
+
+use crate::outcome::{Fault, Outcome, Refusal, accept, refuse};
+use arrayvec::ArrayVec;
+use dns_reader::{Known, NameBuffer, State};
+use dns_wire::{MAX_NAME, Name, NameError};
+
+/// An absolute name in wire form (RFC 1035 section 3.1), if there is one.
+#[repr(C)]
+pub struct KeptName {
+    /// How many octets it has, at most 255; 0 where there is none.
+    pub length: usize,
+    /// 1 where what was said last is refused as a name.
+    pub is_refused: u8,
+    /// Its octets, the root last. What follows them says nothing.
+    pub octets: [u8; 255],
+}
+
+/// What the entries of a zone file say of those that follow, and where these begin.
+#[repr(C)]
+pub struct Zone {
+    /// The class of records that leave it out.
+    pub class_code: u16,
+    /// 1 where there is a default time to live.
+    pub has_default_ttl: u8,
+    /// 1 where a record said a time to live.
+    pub has_last_ttl: u8,
+    /// The default time to live, in seconds.
+    pub default_ttl: u32,
+    /// The time to live that a record said last, in seconds.
+    pub last_ttl: u32,
+    /// How many octets of the text stand before the next entry.
+    pub at: usize,
+    /// The origin, before which relative names stand.
+    pub origin: KeptName,
+    /// The owner of records that leave it out.
+    pub owner: KeptName,
+}
+
+/// The name of some octets.
+fn name_of(octets: &[u8]) -> Result<NameBuffer, NameError>
+    ensures { MakesName octets.now result }
+{
+    let mut buffer: ArrayVec<u8, MAX_NAME> = ArrayVec::new();
+    match buffer.try_extend_from_slice(octets) {
+        Ok(()) => Name::from_octets(buffer),
+        Err(_) => Err(NameError::LongName),
+    }
+}
+
+/// The name that is kept in so many octets, if they are a name.
+fn name_among(octets: &[u8], length: usize) -> Option<Known>
+    ensures { MakesOrNot octets.now length result }
+{
+    if length > octets.len() {
+        return None;
+    }
+    match name_of(&octets[..length]) {
+        Ok(name) => Some(Known::Name(name)),
+        Err(_) => None,
+    }
+}
+
+/// What is known by what is kept of a name; or `None` where that is no name.
+fn known_of(kept: &KeptName) -> Option<Known>
+    ensures { HoldsName kept.now result }
+{
+    if kept.is_refused != 0 {
+        return Some(Known::Refused);
+    }
+    if kept.length == 0 {
+        return Some(Known::Unsaid);
+    }
+    name_among(&kept.octets, kept.length)
+}
+
+/// A time to live, if there is one.
+fn ttl_of(has_ttl: u8, seconds: u32) -> Option<u32>
+    ensures { result ≡ flagged has_ttl seconds }
+{
+    if has_ttl == 0 { None } else { Some(seconds) }
+}
+
+/// The state by what is kept of it; or `None` where that is no state.
+pub(crate) fn state_of(zone: &Zone) -> Option<State>
+    ensures { HoldsState zone.now result }
+{
+    let origin = known_of(&zone.origin)?;
+    let owner = known_of(&zone.owner)?;
+    Some(State {
+        origin,
+        owner,
+        default_ttl: ttl_of(zone.has_default_ttl, zone.default_ttl),
+        last_ttl: ttl_of(zone.has_last_ttl, zone.last_ttl),
+        class: zone.class_code,
+    })
+}
+
+/// Puts octets at the start of others, which are as many or more.
+pub(crate) fn put_over(octets: &[u8], over: &mut [u8])
+    requires { length octets.now ≤ length over.old }
+    ensures put { take (length octets.now) over.new ≡ octets.now }
+    ensures rest { drop (length octets.now) over.new ≡ drop (length octets.now) over.old }
+{
+    over[..octets.len()].copy_from_slice(octets);
+}
+
+/// Keeps what is known of a name.
+pub(crate) fn keep_name(known: &Known, kept: &mut KeptName)
+    ensures { KeepsName known.now kept.old kept.new }
+{
+    kept.length = 0;
+    kept.is_refused = 0;
+    match known {
+        Known::Unsaid => {}
+        Known::Refused => kept.is_refused = 1,
+        Known::Name(name) => {
+            let octets = name.as_slice();
+            kept.length = octets.len();
+            put_over(octets, &mut kept.octets);
+        }
+    }
+}
+
+/// Keeps a time to live, if there is one.
+fn keep_ttl(ttl: Option<u32>, has_ttl: &mut u8, seconds: &mut u32)
+    ensures { ttl ≡ flagged has_ttl.new seconds.new }
+{
+    match ttl {
+        Some(read) => {
+            *has_ttl = 1;
+            *seconds = read;
+        }
+        None => *has_ttl = 0,
+    }
+}
+
+/// Keeps a state, and where the next entry begins.
+pub(crate) fn keep_state(state: &State, at: usize, zone: &mut Zone)
+    ensures { KeepsState state.now at zone.old zone.new }
+{
+    zone.at = at;
+    zone.class_code = state.class;
+    keep_ttl(
+        state.default_ttl,
+        &mut zone.has_default_ttl,
+        &mut zone.default_ttl,
+    );
+    keep_ttl(state.last_ttl, &mut zone.has_last_ttl, &mut zone.last_ttl);
+    keep_name(&state.origin, &mut zone.origin);
+    keep_name(&state.owner, &mut zone.owner);
+}
+
+/// Why octets are no absolute name.
+fn refusal_of_name(error: NameError) -> Refusal
+    ensures { result ≡ refusal_of_name error }
+{
+    match error {
+        NameError::BadLabel(_) => Refusal::BadLabel,
+        NameError::CompressedName => Refusal::Pointer,
+        NameError::LongName => Refusal::TooLong,
+        NameError::TrailingData => Refusal::TrailingOctets,
+        NameError::ShortInput => Refusal::ShortInput,
+        NameError::Relative | NameError::Absolute => Refusal::RelativeName,
+    }
+}
+
+/// Says the origin of the entries that follow, by the wire octets of an absolute name.
+///
+/// Octets that are no such name are refused, with no place, and then the zone stays as it was.
+#[unsafe(no_mangle)]
+pub extern "C" fn dns_zone_origin(zone: &mut Zone, name: &[u8], outcome: &mut Outcome) -> u32
+    ensures { TakesOrigin name.now zone.old zone.new result outcome.new }
+{
+    match name_of(name) {
+        Ok(origin) => {
+            keep_name(&Known::Name(origin), &mut zone.origin);
+            accept(outcome)
+        }
+        Err(error) => {
+            let refusal = refusal_of_name(error);
+            refuse(Fault { refusal, place: 0 }, outcome)
+        }
+    }
+}

@@ -1,0 +1,122 @@
+//! Times to live, types and classes of records, each one word of zone text.
+ghost use Rattle.std.specs.Prelude.{◌≡◌, ◌+◌, ◌≤◌, ◌++◌, decimal, length};
+ghost use Rattle.dns_kinds.specs.Ttl.{SpellsTtl};
+ghost use Rattle.dns_text_c.specs.Kinds.{TellsSpelled, SpellsTypeCode, SpellsClassCode, text_of_type, text_of_class};
+ghost use Rattle.dns_text_c.specs.Told.{TellsFault, TellsOctets};
+ghost use Rattle.dns_text_c.specs.declared.outcome.Refusal.TheVariants.{BadTtl, UnknownType, UnknownClass};
+
+use crate::outcome::{Fault, Outcome, Refusal, accept, give, refuse};
+use arrayvec::ArrayVec;
+use dns_kinds::{Class, RecordType, ttl_from_text};
+
+/// The most characters of a prefix and a code, as in `CLASS65535`.
+const TEXT: usize = 10;
+
+/// Refuses a whole word.
+fn refuse_word(refusal: Refusal, outcome: &mut Outcome) -> u32
+    ensures { TellsFault (record { refusal = refusal; place = 0 }) result outcome.new }
+{
+    refuse(Fault { refusal, place: 0 }, outcome)
+}
+
+/// Reads a time to live in seconds, below 2^31 (RFC 2181 section 8): a number of them, or periods
+/// such as `1h30m` with the units `w`, `d`, `h`, `m` and `s` in either case.
+///
+/// The text is a word as it stands, without escapes. What is no time to live is refused at its
+/// start, and then the seconds stay as they were.
+#[unsafe(no_mangle)]
+pub extern "C" fn dns_ttl_read(text: &[u8], seconds: &mut u32, outcome: &mut Outcome) -> u32
+    ensures { TellsSpelled SpellsTtl BadTtl text.now seconds.old result seconds.new outcome.new }
+{
+    match ttl_from_text(text) {
+        Ok(read) => {
+            *seconds = read;
+            accept(outcome)
+        }
+        Err(_) => refuse_word(Refusal::BadTtl, outcome),
+    }
+}
+
+/// Reads the code of a type of records in any case of its letters: its name in IANA's registry, or
+/// `TYPE` and the code (RFC 3597 section 5).
+///
+/// The text is a word as it stands, without escapes. What names no type is refused at its start,
+/// and then the code stays as it was.
+#[unsafe(no_mangle)]
+pub extern "C" fn dns_type_read(text: &[u8], code: &mut u16, outcome: &mut Outcome) -> u32
+    ensures { TellsSpelled SpellsTypeCode UnknownType text.now code.old result code.new outcome.new }
+{
+    match RecordType::from_text(text) {
+        Ok(read) => {
+            *code = read.0;
+            accept(outcome)
+        }
+        Err(_) => refuse_word(Refusal::UnknownType, outcome),
+    }
+}
+
+/// Reads the code of a class in any case of its letters: `IN`, `CH`, `HS`, or `CLASS` and the code
+/// (RFC 3597 section 5).
+///
+/// The text is a word as it stands, without escapes. What names no class is refused at its start,
+/// and then the code stays as it was.
+#[unsafe(no_mangle)]
+pub extern "C" fn dns_class_read(text: &[u8], code: &mut u16, outcome: &mut Outcome) -> u32
+    ensures { TellsSpelled SpellsClassCode UnknownClass text.now code.old result code.new outcome.new }
+{
+    match Class::from_text(text) {
+        Ok(read) => {
+            *code = read.0;
+            accept(outcome)
+        }
+        Err(_) => refuse_word(Refusal::UnknownClass, outcome),
+    }
+}
+
+/// Appends a number in decimal.
+fn push_decimal(number: u16, text: &mut ArrayVec<u8, TEXT>)
+    requires { length text.old.items + length (decimal number) ≤ TEXT }
+    ensures { text.new.items ≡ text.old.items ++ decimal number }
+{
+    if number < 10 {
+        text.push(b'0' + number as u8);
+    } else {
+        push_decimal(number / 10, text);
+        text.push(b'0' + (number % 10) as u8);
+    }
+}
+
+/// A prefix and a code behind it.
+pub(crate) fn numbered(prefix: &str, code: u16) -> ArrayVec<u8, TEXT>
+    requires { length prefix.now ≤ 5 }
+    ensures { result.items ≡ prefix.now ++ decimal code }
+{
+    let mut text = ArrayVec::new();
+    for octet in prefix.as_bytes() {
+        text.push(*octet);
+    }
+    push_decimal(code, &mut text);
+    text
+}
+
+/// Prints a type of records: its name, or without one `TYPE` and the code.
+#[unsafe(no_mangle)]
+pub extern "C" fn dns_type_print(code: u16, text: &mut [u8], outcome: &mut Outcome) -> u32
+    ensures { TellsOctets (text_of_type code) text.old result text.new outcome.new }
+{
+    match RecordType(code).name() {
+        Some(name) => give(name.as_bytes(), text, outcome),
+        None => give(numbered("TYPE", code).as_slice(), text, outcome),
+    }
+}
+
+/// Prints a class: its name, or without one `CLASS` and the code.
+#[unsafe(no_mangle)]
+pub extern "C" fn dns_class_print(code: u16, text: &mut [u8], outcome: &mut Outcome) -> u32
+    ensures { TellsOctets (text_of_class code) text.old result text.new outcome.new }
+{
+    match Class(code).name() {
+        Some(name) => give(name.as_bytes(), text, outcome),
+        None => give(numbered("CLASS", code).as_slice(), text, outcome),
+    }
+}

@@ -1,0 +1,260 @@
+//! The records of a zone file, one by one and with no memory (RFC 1035 section 5.1).
+ghost use Rattle.std.specs.Prelude.{◌≡◌, ◌≢◌, Ok, Some, false};
+ghost use Rattle.dns_reader.specs.declared.entry.EntryRead.TheVariants.{Nothing, Directive};
+ghost use Rattle.dns_text_c.specs.Entries.{refusal_of_wrong};
+ghost use Rattle.dns_text_c.specs.Kept.{KeepsName};
+ghost use Rattle.dns_text_c.specs.Told.{TellsFault};
+ghost use Rattle.dns_text_c.specs.declared.outcome.Refusal.TheVariants.{BadCursor};
+ghost use Rattle.dns_text_c.specs.declared.records.Record.{Record};
+ghost use Rattle.dns_text_c.specs.Records.{KeepsReader, NextRecord, TellsFound, TellsGiven, TellsRefused, head_of, said_origin};
+
+use crate::kept::{KeptName, Zone, keep_name, keep_state, put_over, state_of};
+use crate::outcome::{END, Fault, INCLUDE, OK, Outcome, Refusal, give, number_of, refuse};
+use crate::reasons::{reason_of, refusal_of_entry};
+use crate::tokens::refusal_of_wrong;
+use arrayvec::ArrayVec;
+use dns_reader::{EntryRead, EntryRefusal, Known, NameBuffer, RecordReader, RecordRefusal};
+use dns_split::pieces::Fault as TextFault;
+
+/// The most octets of record data (RFC 1035 section 3.2.1).
+const MOST: usize = 65535;
+
+/// A record of a zone file, whose data stand elsewhere; or a file to include.
+#[repr(C)]
+pub struct Record {
+    /// How many octets stand before the record's first token; 0 for a file.
+    pub place: usize,
+    /// The time to live, in seconds; 0 for a file.
+    pub ttl: u32,
+    /// The class; 0 for a file.
+    pub class_code: u16,
+    /// The type; 0 for a file.
+    pub type_code: u16,
+    /// The owner; or the origin that is said for the file, if there is one.
+    pub name: KeptName,
+}
+
+/// The numbers of a record.
+#[derive(Clone, Copy)]
+pub(crate) struct Head {
+    place: usize,
+    ttl: u32,
+    class_code: u16,
+    type_code: u16,
+}
+
+/// Keeps what a reader knows, and where it stands.
+fn keep_reader(reader: &RecordReader, zone: &mut Zone)
+    requires { reader.now.source.is_open ≡ false }
+    ensures { KeepsReader reader.now zone.old zone.new }
+{
+    keep_state(&reader.state, reader.place(), zone);
+}
+
+/// Writes the numbers and the name of a record.
+fn write_record(head: Head, name: &Known, found: &mut Record)
+    ensures head { head_of found.new ≡ head }
+    ensures name { KeepsName name.now found.old.name found.new.name }
+{
+    found.place = head.place;
+    found.ttl = head.ttl;
+    found.class_code = head.class_code;
+    found.type_code = head.type_code;
+    keep_name(name, &mut found.name);
+}
+
+/// Tells of a record or a file, with a status of its own.
+fn tell_found(
+    status: u32,
+    reader: &RecordReader,
+    content: &[u8],
+    name: &Known,
+    head: Head,
+    zone: &mut Zone,
+    found: &mut Record,
+    octets: &mut [u8],
+    outcome: &mut Outcome,
+) -> u32
+    requires { reader.now.source.is_open ≡ false }
+    ensures { TellsFound status reader.now content.now name.now head (record { zone = zone.old; found = found.old; octets = octets.old })
+        (record { zone = zone.new; found = found.new; octets = octets.new }) result outcome.new }
+{
+    *outcome = Outcome {
+        length: content.len(),
+        place: 0,
+    };
+    if octets.len() < content.len() {
+        return number_of(Refusal::NoRoom);
+    }
+    put_over(content, octets);
+    write_record(head, name, found);
+    keep_reader(reader, zone);
+    status
+}
+
+/// Tells why an entry is refused.
+fn tell_refused(
+    reader: &RecordReader,
+    refusal: EntryRefusal,
+    zone: &mut Zone,
+    octets: &mut [u8],
+    outcome: &mut Outcome,
+) -> u32
+    requires { reader.now.source.is_open ≡ false }
+    ensures { (found : Record) → TellsRefused reader.now refusal (record { zone = zone.old; found = found; octets = octets.old })
+        (record { zone = zone.new; found = found; octets = octets.new }) result outcome.new }
+{
+    keep_reader(reader, zone);
+    let reason = reason_of(refusal);
+    let _fits = give(reason.as_slice(), octets, outcome);
+    outcome.place = refusal.at;
+    number_of(refusal_of_entry(refusal.why))
+}
+
+/// Tells that a text goes wrong.
+fn tell_fault(
+    fault: TextFault,
+    reader: &RecordReader,
+    zone: &mut Zone,
+    outcome: &mut Outcome,
+) -> u32
+    requires { reader.now.source.is_open ≡ false }
+    ensures told { TellsFault (record { refusal = refusal_of_wrong fault.wrong; place = fault.at }) result outcome.new }
+    ensures keeps { KeepsReader reader.now zone.old zone.new }
+{
+    keep_reader(reader, zone);
+    let refusal = refusal_of_wrong(fault.wrong);
+    refuse(
+        Fault {
+            refusal,
+            place: fault.at,
+        },
+        outcome,
+    )
+}
+
+/// The origin that is said for a file to include, if one is.
+fn said_origin(origin: Option<NameBuffer>) -> Known
+    ensures { result ≡ said_origin origin }
+{
+    match origin {
+        Some(name) => Known::Name(name),
+        None => Known::Unsaid,
+    }
+}
+
+/// Tells what a reader gave: a record with its owner, a file to include, a refusal, a fault, or that
+/// nothing is left.
+fn tell_given(
+    given: Option<Result<EntryRead, RecordRefusal>>,
+    reader: &RecordReader,
+    content: &[u8],
+    zone: &mut Zone,
+    found: &mut Record,
+    octets: &mut [u8],
+    outcome: &mut Outcome,
+) -> u32
+    requires closed { reader.now.source.is_open ≡ false }
+    requires some { given ≢ Some (Ok Nothing) }
+    requires last { given ≢ Some (Ok Directive) }
+    ensures { TellsGiven given reader.now content.now (record { zone = zone.old; found = found.old; octets = octets.old })
+        (record { zone = zone.new; found = found.new; octets = octets.new }) result outcome.new }
+{
+    match given {
+        Some(
+            Ok(
+                EntryRead::Record {
+                    at,
+                    ttl,
+                    class,
+                    code,
+                },
+            ),
+        ) => {
+            let head = Head {
+                place: at,
+                ttl: ttl.seconds(),
+                class_code: class,
+                type_code: code,
+            };
+            let owner = &reader.state.owner;
+            tell_found(
+                OK, reader, content, owner, head, zone, found, octets, outcome,
+            )
+        }
+        Some(Ok(EntryRead::Include { origin })) => {
+            let head = Head {
+                place: 0,
+                ttl: 0,
+                class_code: 0,
+                type_code: 0,
+            };
+            let name = said_origin(origin);
+            tell_found(
+                INCLUDE, reader, content, &name, head, zone, found, octets, outcome,
+            )
+        }
+        Some(Ok(EntryRead::Nothing)) => unreachable!(),
+        Some(Ok(EntryRead::Directive)) => unreachable!(),
+        Some(Err(RecordRefusal::Entry(refusal))) => {
+            tell_refused(reader, refusal, zone, octets, outcome)
+        }
+        Some(Err(RecordRefusal::Text(fault))) => tell_fault(fault, reader, zone, outcome),
+        None => {
+            keep_reader(reader, zone);
+            *outcome = Outcome {
+                length: 0,
+                place: 0,
+            };
+            END
+        }
+    }
+}
+
+/// Tells that a zone is none that a call left.
+fn refuse_zone(outcome: &mut Outcome) -> u32
+    ensures { TellsFault (record { refusal = BadCursor; place = 0 }) result outcome.new }
+{
+    let refusal = Refusal::BadCursor;
+    refuse(Fault { refusal, place: 0 }, outcome)
+}
+
+/// Gives the next record of a zone file, and moves the zone on (RFC 1035 section 5.1, RFC 2308
+/// section 4). `$ORIGIN` and `$TTL` are taken on the way.
+///
+/// The octets are the record's data; or with [`INCLUDE`] those that name a file; or the text of an
+/// entry's refusal, at most 255 of them, which are left out where they don't fit. A refusal is told
+/// with its place, as a fault of the text is, and reading goes on at the next entry, or behind the
+/// line of the fault. Where data don't fit, nothing is written, and the zone stays. Once nothing is
+/// left the status is [`END`]. A zone past the end of the text, or with a name that is none, is
+/// refused.
+#[unsafe(no_mangle)]
+pub extern "C" fn dns_record_next(
+    text: &[u8],
+    zone: &mut Zone,
+    found: &mut Record,
+    octets: &mut [u8],
+    outcome: &mut Outcome,
+) -> u32
+    ensures { NextRecord text.now (record { zone = zone.old; found = found.old; octets = octets.old })
+        (record { zone = zone.new; found = found.new; octets = octets.new }) result outcome.new }
+{
+    let Some(state) = state_of(zone) else {
+        return refuse_zone(outcome);
+    };
+    if zone.at > text.len() {
+        return refuse_zone(outcome);
+    }
+    let mut data: ArrayVec<u8, MOST> = ArrayVec::new();
+    let mut reader = RecordReader::starting_at(text, zone.at, state);
+    let given = reader.next_record(&mut data);
+    tell_given(
+        given,
+        &reader,
+        data.as_slice(),
+        zone,
+        found,
+        octets,
+        outcome,
+    )
+}

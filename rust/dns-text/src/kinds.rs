@@ -1,0 +1,219 @@
+//! Times to live, types and classes of records: each a word of zone text.
+use crate::library;
+use crate::status::reasons;
+use dns_text_sys::{
+    dns_class_print, dns_class_read, dns_outcome, dns_ttl_read, dns_type_print, dns_type_read,
+    DNS_OK,
+};
+use std::error::Error;
+use std::fmt;
+use std::str::FromStr;
+use std::time::Duration;
+
+/// A time to live in seconds, below 2^31 (RFC 2181 section 8). It prints as the seconds.
+///
+/// ```
+/// use dns_text::Ttl;
+///
+/// assert_eq!(Ttl::from_text(b"1h30m")?.seconds(), 5400);
+/// assert_eq!("1W2D".parse::<Ttl>()?.to_string(), "777600");
+/// assert!(Ttl::from_text(b"2147483648").is_err());
+/// # Ok::<(), dns_text::WordError>(())
+/// ```
+#[derive(Clone, Copy, Debug, Default, PartialEq, Eq, PartialOrd, Ord, Hash)]
+pub struct Ttl(u32);
+
+impl Ttl {
+    /// The longest time to live.
+    pub const MAX: Ttl = Ttl(0x7FFF_FFFF);
+
+    /// The time of so many seconds, if they are below 2^31.
+    pub fn from_seconds(seconds: u32) -> Option<Ttl> {
+        (seconds <= Ttl::MAX.0).then_some(Ttl(seconds))
+    }
+
+    /// Reads a word: a number of seconds, or periods such as `1h30m` with the units `w`, `d`, `h`,
+    /// `m` and `s` in either case.
+    pub fn from_text(text: &[u8]) -> Result<Ttl, WordError> {
+        read(dns_ttl_read, text).map(Ttl)
+    }
+
+    pub fn seconds(self) -> u32 {
+        self.0
+    }
+}
+
+impl From<Ttl> for Duration {
+    fn from(ttl: Ttl) -> Duration {
+        Duration::from_secs(ttl.0.into())
+    }
+}
+
+impl fmt::Display for Ttl {
+    fn fmt(&self, f: &mut fmt::Formatter<'_>) -> fmt::Result {
+        self.0.fmt(f)
+    }
+}
+
+/// A type of records, by its code. It prints as its name in IANA's registry, or without one as
+/// `TYPE` and the code (RFC 3597 section 5).
+///
+/// ```
+/// use dns_text::RecordType;
+///
+/// assert_eq!(RecordType::from_text(b"type15")?, RecordType::MX);
+/// assert_eq!("aaaa".parse::<RecordType>()?.to_string(), "AAAA");
+/// assert_eq!(RecordType(65280).to_string(), "TYPE65280");
+/// let error = RecordType::from_text(b"CNMAE").unwrap_err();
+/// assert_eq!(error.to_string(), "unknown record type at 0");
+/// # Ok::<(), dns_text::WordError>(())
+/// ```
+#[derive(Clone, Copy, Debug, PartialEq, Eq, PartialOrd, Ord, Hash)]
+pub struct RecordType(pub u16);
+
+impl RecordType {
+    pub const A: RecordType = RecordType(1);
+    pub const NS: RecordType = RecordType(2);
+    pub const CNAME: RecordType = RecordType(5);
+    pub const SOA: RecordType = RecordType(6);
+    pub const PTR: RecordType = RecordType(12);
+    pub const MX: RecordType = RecordType(15);
+    pub const TXT: RecordType = RecordType(16);
+    pub const AAAA: RecordType = RecordType(28);
+    pub const SRV: RecordType = RecordType(33);
+    pub const DS: RecordType = RecordType(43);
+    pub const RRSIG: RecordType = RecordType(46);
+    pub const NSEC: RecordType = RecordType(47);
+    pub const DNSKEY: RecordType = RecordType(48);
+    pub const CAA: RecordType = RecordType(257);
+
+    /// Reads a word: a name of the registry, or `TYPE` and the code, in any case of their letters.
+    pub fn from_text(text: &[u8]) -> Result<RecordType, WordError> {
+        read(dns_type_read, text).map(RecordType)
+    }
+}
+
+impl fmt::Display for RecordType {
+    fn fmt(&self, f: &mut fmt::Formatter<'_>) -> fmt::Result {
+        print(dns_type_print, self.0, f)
+    }
+}
+
+/// A class of records, by its code. It prints as `IN`, `CH` or `HS`, or else as `CLASS` and the code
+/// (RFC 3597 section 5).
+///
+/// ```
+/// use dns_text::Class;
+///
+/// assert_eq!(Class::from_text(b"in")?, Class::IN);
+/// assert_eq!(Class::from_text(b"CLASS3")?.to_string(), "CH");
+/// assert_eq!(Class(254).to_string(), "CLASS254");
+/// # Ok::<(), dns_text::WordError>(())
+/// ```
+#[derive(Clone, Copy, Debug, PartialEq, Eq, PartialOrd, Ord, Hash)]
+pub struct Class(pub u16);
+
+impl Class {
+    pub const IN: Class = Class(1);
+    pub const CH: Class = Class(3);
+    pub const HS: Class = Class(4);
+
+    /// Reads a word: `IN`, `CH`, `HS`, or `CLASS` and the code, in any case of their letters.
+    pub fn from_text(text: &[u8]) -> Result<Class, WordError> {
+        read(dns_class_read, text).map(Class)
+    }
+}
+
+impl fmt::Display for Class {
+    fn fmt(&self, f: &mut fmt::Formatter<'_>) -> fmt::Result {
+        print(dns_class_print, self.0, f)
+    }
+}
+
+impl FromStr for Ttl {
+    type Err = WordError;
+
+    fn from_str(text: &str) -> Result<Ttl, WordError> {
+        Ttl::from_text(text.as_bytes())
+    }
+}
+
+impl FromStr for RecordType {
+    type Err = WordError;
+
+    fn from_str(text: &str) -> Result<RecordType, WordError> {
+        RecordType::from_text(text.as_bytes())
+    }
+}
+
+impl FromStr for Class {
+    type Err = WordError;
+
+    fn from_str(text: &str) -> Result<Class, WordError> {
+        Class::from_text(text.as_bytes())
+    }
+}
+
+/// Reads a word as a number.
+fn read<N: Default>(
+    call: unsafe extern "C" fn(*const u8, usize, *mut N, *mut dns_outcome) -> u32,
+    text: &[u8],
+) -> Result<N, WordError> {
+    library::check();
+    let mut number = N::default();
+    let mut outcome = dns_outcome::default();
+    // SAFETY: the text is as long as is said, and the call keeps to it.
+    let status = unsafe { call(text.as_ptr(), text.len(), &mut number, &mut outcome) };
+    if status != DNS_OK {
+        return Err(WordError {
+            kind: WordErrorKind::of(status),
+            place: outcome.place,
+        });
+    }
+    Ok(number)
+}
+
+/// Writes the text of a code, which has at most 10 characters.
+fn print(
+    call: unsafe extern "C" fn(u16, *mut u8, usize, *mut dns_outcome) -> u32,
+    code: u16,
+    f: &mut fmt::Formatter<'_>,
+) -> fmt::Result {
+    library::check();
+    let mut text = [0; 10];
+    let mut outcome = dns_outcome::default();
+    // SAFETY: the text is as long as is said, and the call keeps to it.
+    let status = unsafe { call(code, text.as_mut_ptr(), text.len(), &mut outcome) };
+    if status != DNS_OK {
+        return Err(fmt::Error);
+    }
+    f.pad(&String::from_utf8_lossy(&text[..outcome.length]))
+}
+
+/// Why a word is no time to live, type or class, and where.
+#[derive(Clone, Copy, Debug, PartialEq, Eq)]
+pub struct WordError {
+    pub kind: WordErrorKind,
+    /// The octets before what is refused: none, as the whole word is.
+    pub place: usize,
+}
+
+reasons! {
+    /// Why a word is no time to live, type or class.
+    WordErrorKind {
+        /// No time to live.
+        BadTtl = DNS_BAD_TTL,
+        /// No type of records.
+        UnknownType = DNS_UNKNOWN_TYPE,
+        /// No class.
+        UnknownClass = DNS_UNKNOWN_CLASS,
+    }
+}
+
+impl fmt::Display for WordError {
+    fn fmt(&self, f: &mut fmt::Formatter<'_>) -> fmt::Result {
+        write!(f, "{} at {}", self.kind.status(), self.place)
+    }
+}
+
+impl Error for WordError {}

@@ -1,0 +1,232 @@
+//! The records of zone files.
+use crate::data::RecordData;
+use crate::library;
+use crate::status::reasons;
+use crate::{position, Class, Name, Position, RecordType, Ttl};
+use dns_text_sys::{
+    dns_kept_name, dns_outcome, dns_record, dns_record_next, dns_zone, dns_zone_origin, DNS_END,
+    DNS_INCLUDE, DNS_NO_ROOM, DNS_OK,
+};
+use std::error::Error;
+use std::fmt;
+
+/// A record of a zone file.
+#[derive(Clone, Debug, PartialEq, Eq)]
+pub struct Record {
+    /// Where its first token begins in the text.
+    pub place: usize,
+    pub owner: Name,
+    /// Its own time to live; else the default, by `$TTL`; else the last that a record said; else, of an
+    /// SOA, its minimum (RFC 1035 section 5.1, RFC 2308 section 4).
+    pub ttl: Ttl,
+    pub class: Class,
+    pub data: RecordData,
+}
+
+impl Record {
+    pub fn record_type(&self) -> RecordType {
+        self.data.record_type()
+    }
+}
+
+/// What stands in a zone file.
+#[derive(Clone, Debug, PartialEq, Eq)]
+#[non_exhaustive]
+pub enum ZoneItem {
+    Record(Record),
+    /// `$INCLUDE`: a file that is not read here, as it is named in the text, and the origin that is said
+    /// for it.
+    Include {
+        file: Vec<u8>,
+        origin: Option<Name>,
+    },
+}
+
+/// Why an entry of a zone file gives no record, and where.
+#[derive(Clone, Debug, PartialEq, Eq)]
+pub struct RecordFault {
+    pub kind: RecordFaultKind,
+    /// The octets before the token that is refused, or before the fault of the text.
+    pub place: usize,
+    /// Why an entry is refused, as in `MX preference: decimal number overflow`; of a fault of the text
+    /// nothing.
+    pub reason: String,
+}
+
+impl RecordFault {
+    /// The line and the column of its place in the text that it was found in; none where the text
+    /// is shorter.
+    pub fn locate(&self, text: &[u8]) -> Option<Position> {
+        position(text, self.place)
+    }
+}
+
+reasons! {
+    /// Why an entry of a zone file gives no record.
+    RecordFaultKind {
+        /// A backslash with what makes no escape.
+        BadEscape = DNS_BAD_ESCAPE,
+        /// A closing parenthesis, and none is open.
+        Closing = DNS_CLOSING,
+        /// The text ends inside parentheses.
+        OpenParenthesis = DNS_OPEN_PARENTHESIS,
+        /// The text or a line ends inside a quoted text.
+        OpenQuote = DNS_OPEN_QUOTE,
+        /// A CR without its LF.
+        LoneReturn = DNS_LONE_RETURN,
+        /// A directive, or the words in front of a record's data.
+        BadHead = DNS_BAD_HEAD,
+        /// `$GENERATE`, which another tool has to expand first.
+        NotSupported = DNS_NOT_SUPPORTED,
+        /// A token that is no name of an owner or an origin.
+        BadName = DNS_BAD_NAME,
+        /// A relative name where there is no origin, also in data.
+        NoOrigin = DNS_NO_ORIGIN,
+        /// A record that begins with a blank, and no owner was said.
+        NoOwner = DNS_NO_OWNER,
+        /// The same, and what was said as the owner is refused.
+        RefusedOwner = DNS_REFUSED_OWNER,
+        /// Tokens that are no data of their type.
+        BadData = DNS_BAD_DATA,
+        /// A record without a time to live, and none is known.
+        NoTtl = DNS_NO_TTL,
+    }
+}
+
+impl fmt::Display for RecordFault {
+    fn fmt(&self, f: &mut fmt::Formatter<'_>) -> fmt::Result {
+        if self.reason.is_empty() {
+            return write!(f, "{} at {}", self.kind.status(), self.place);
+        }
+        write!(f, "{} at {}", self.reason, self.place)
+    }
+}
+
+impl Error for RecordFault {}
+
+/// The records of a zone file, in order. `$ORIGIN` and `$TTL` are taken on the way. After a refusal
+/// reading goes on: at the next entry, or behind the line of a fault of the text.
+///
+/// Without an origin relative names are refused; see [`Records::with_origin`]. The class is IN where
+/// none is said.
+///
+/// ```
+/// use dns_text::{records, Name, RecordData, ZoneItem};
+///
+/// let zone = b"$TTL 1h\n@ MX 10 mail\nmail A 192.0.2.1\n     A 192.0.2.256\n";
+/// let mut found = records(zone).with_origin(&Name::from_text(b"example.")?);
+/// let Some(Ok(ZoneItem::Record(mx))) = found.next() else { panic!() };
+/// assert_eq!((mx.owner.to_string(), mx.ttl.seconds()), ("example.".to_string(), 3600));
+/// let RecordData::Mx { preference, exchange } = mx.data else { panic!() };
+/// assert_eq!((preference, exchange.to_string()), (10, "mail.example.".to_string()));
+/// let Some(Ok(ZoneItem::Record(a))) = found.next() else { panic!() };
+/// assert_eq!(a.data, RecordData::A("192.0.2.1".parse()?));
+/// let fault = found.next().unwrap().unwrap_err();
+/// assert_eq!(fault.reason, "A address: expected IPv4 address");
+/// assert_eq!(fault.locate(zone).unwrap().to_string(), "4:8");
+/// assert!(found.next().is_none());
+/// # Ok::<(), Box<dyn std::error::Error>>(())
+/// ```
+pub fn records(text: &[u8]) -> Records<'_> {
+    library::check();
+    Records {
+        text,
+        zone: dns_zone {
+            class_code: Class::IN.0,
+            ..dns_zone::default()
+        },
+        octets: vec![0; 512],
+    }
+}
+
+/// The records of a zone file; see [`records`].
+#[derive(Clone, Debug)]
+pub struct Records<'t> {
+    text: &'t [u8],
+    zone: dns_zone,
+    octets: Vec<u8>,
+}
+
+impl Records<'_> {
+    /// The same with an origin, before which relative names stand. A relative name is no origin, and
+    /// changes nothing.
+    pub fn with_origin(mut self, origin: &Name) -> Self {
+        let octets = origin.as_octets();
+        let mut outcome = dns_outcome::default();
+        // SAFETY: the octets are as many as is said, and the call keeps to them.
+        unsafe { dns_zone_origin(&mut self.zone, octets.as_ptr(), octets.len(), &mut outcome) };
+        self
+    }
+
+    /// The same with a class for records that say none.
+    pub fn with_class(mut self, class: Class) -> Self {
+        self.zone.class_code = class.0;
+        self
+    }
+
+    /// Where the next entry begins.
+    pub fn place(&self) -> usize {
+        self.zone.at
+    }
+
+    /// A call, with as much room as it needs: what it says, and how many octets it gave.
+    fn call(&mut self, record: &mut dns_record) -> (u32, dns_outcome) {
+        loop {
+            let mut outcome = dns_outcome::default();
+            // SAFETY: both slices are as long as is said, and the call keeps to them.
+            let status = unsafe {
+                dns_record_next(
+                    self.text.as_ptr(),
+                    self.text.len(),
+                    &mut self.zone,
+                    record,
+                    self.octets.as_mut_ptr(),
+                    self.octets.len(),
+                    &mut outcome,
+                )
+            };
+            if status != DNS_NO_ROOM {
+                return (status, outcome);
+            }
+            self.octets.resize(outcome.length, 0);
+        }
+    }
+}
+
+/// The name that the library wrote, if there is one.
+fn name_of(name: &dns_kept_name) -> Option<Name> {
+    let octets = name.octets.get(..name.length)?;
+    Name::from_octets(octets.to_vec())
+        .ok()
+        .filter(Name::is_absolute)
+}
+
+impl Iterator for Records<'_> {
+    type Item = Result<ZoneItem, RecordFault>;
+
+    fn next(&mut self) -> Option<Result<ZoneItem, RecordFault>> {
+        let mut record = dns_record::default();
+        let (status, outcome) = self.call(&mut record);
+        let given = self.octets.get(..outcome.length).unwrap_or_default();
+        let name = name_of(&record.name);
+        match (status, name) {
+            (DNS_END, _) => None,
+            (DNS_OK, Some(owner)) => Some(Ok(ZoneItem::Record(Record {
+                place: record.place,
+                owner,
+                ttl: Ttl::from_seconds(record.ttl).unwrap_or(Ttl::MAX),
+                class: Class(record.class_code),
+                data: RecordData::from_octets(RecordType(record.type_code), given),
+            }))),
+            (DNS_INCLUDE, origin) => Some(Ok(ZoneItem::Include {
+                file: given.to_vec(),
+                origin,
+            })),
+            (status, _) => Some(Err(RecordFault {
+                kind: RecordFaultKind::of(status),
+                place: outcome.place,
+                reason: String::from_utf8_lossy(given).into_owned(),
+            })),
+        }
+    }
+}
