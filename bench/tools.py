@@ -1,0 +1,247 @@
+#!/usr/bin/env python3
+"""Times zonetext beside `wc` and beside the zone tools of name servers, all in one run.
+
+usage: bench/tools.py [--turns N] [--folder DIR] [--pages]
+
+The programs must be built (`rt run` in crates/zonetext); a peer that is not installed is left out.
+Zone files are made below DIR, `bench/target/zones`, the same in each run: `mix` (SOA, NS, A, AAAA,
+MX, TXT, DS, CNAME), `com` (delegations), `signed` (A, RRSIG, NSEC3) of 10.5 MB, and `mix` of 1 KB to
+100 MB. A figure is processor time, the least of N turns (9) in turns, of a peer the least of 3.
+Prints the tables; with --pages puts them into docs/SPEED.md and docs/ZONETEXT.md, and the chart into
+docs/tools.svg.
+"""
+import argparse
+import base64
+import math
+import os
+import random
+import re
+import shutil
+import subprocess
+import sys
+
+TOP = os.path.dirname(os.path.dirname(os.path.abspath(__file__)))
+ZONETEXT = os.path.join(TOP, "crates/zonetext/out/zonetext")
+ZONE = "example."
+HEAD = ("$ORIGIN example.\n$TTL 3600\n@ IN SOA ns1.example. host.example. 1 7200 3600 1209600 3600\n"
+        "@ IN NS ns1.example.\nns1 IN A 192.0.2.1\n")
+SIZE = 10_500_000
+SIZES = [1_000, 10_000, 100_000, 1_000_000, 10_000_000, 100_000_000]
+WC = [("`wc -l`", ["wc", "-l"]), ("`wc -lw`", ["wc", "-lw"])]
+COMMANDS = ["check --text", "check", "records", "lines", "tokens", "tokens --json", "fmt", "fmt --check", "canon"]
+PEERS = {
+    "kzonecheck": ["kzonecheck", "-o", ZONE],
+    "nsd-checkzone": ["nsd-checkzone", ZONE],
+    "named-checkzone": ["named-checkzone", "-i", "none", ZONE],
+    "ldns-read-zone": ["ldns-read-zone"],
+    "ldns-read-zone -z": ["ldns-read-zone", "-z"],
+}
+CHART = ["`wc -lw`", "zonetext check --text", "zonetext check", "zonetext records", *PEERS][:-1]
+COLOURS = ["#777777", "#2a7f62", "#1f4e8c", "#7ba23f", "#c1662f", "#b0413e", "#8b5fbf", "#444444"]
+B32HEX = "0123456789ABCDEFGHIJKLMNOPQRSTUV"
+
+
+def hexadecimal(source, count):
+    return "".join(source.choice("0123456789ABCDEF") for _ in range(2 * count))
+
+
+def mix(source, number):
+    """An entry or two of an ordinary zone."""
+    name = f"host{number}"
+    return [
+        lambda: f"{name} IN A 192.0.{number >> 8 & 255}.{number & 255}\n",
+        lambda: f"{name} IN AAAA 2001:db8:{number & 65535:x}::{number >> 4 & 65535:x}\n",
+        lambda: f"{name} IN MX 10 mail{number % 97}.example.\n",
+        lambda: f'{name} IN TXT "v=spf1 include:_spf{number % 31}.example.net ~all" "second text {number}"\n',
+        lambda: f"{name} IN NS ns1.{name}.example.\nns1.{name} IN A 198.51.100.{number & 255}\n",
+        lambda: (f"{name} 86400 IN NS ns1.example.\n{name} 86400 IN DS {number & 65535} 13 2 ( {hexadecimal(source, 16)}\n"
+                 f"\t{hexadecimal(source, 16)} ) ; key {number}\n"),
+        lambda: f"{name}\tIN\tCNAME\thost{number - 6}.example.\n",
+    ][number % 7]()
+
+
+def com(source, number):
+    """A delegation of two name servers."""
+    word = "".join(source.choice("abcdefghijklmnopqrstuvwxyz0123456789") for _ in range(source.randint(4, 16)))
+    name = f"{word}{number}"
+    return f"{name} NS ns1.{word}.net.\n{name} NS ns2.{word}.net.\n"
+
+
+def signed(source, number):
+    """An address and its NSEC3, each with a signature."""
+    name = f"host{number}"
+    signature = base64.b64encode(source.randbytes(64)).decode()
+    owner, after = ("".join(source.choice(B32HEX) for _ in range(32)) for _ in range(2))
+    times = "13 2 3600 20261201000000 20261101000000 12345 example."
+    return (f"{name}\t3600\tIN\tA\t192.0.{number >> 8 & 255}.{number & 255}\n"
+            f"{name}\t3600\tIN\tRRSIG\tA {times} {signature}\n"
+            f"{owner}\t3600\tIN\tNSEC3\t1 0 0 - {after} A RRSIG\n"
+            f"{owner}\t3600\tIN\tRRSIG\tNSEC3 {times} (\n\t\t\t{signature[:44]}\n\t\t\t{signature[44:]} )\n")
+
+
+def make_zone(folder, entry, size):
+    """The path of a zone file of about so many octets, which is made where it isn't there."""
+    path = os.path.join(folder, f"{entry.__name__}-{size}")
+    if not os.path.exists(path):
+        source, number, octets = random.Random(1), 0, len(HEAD)
+        with open(path + ".part", "w", encoding="ascii") as file:
+            file.write(HEAD)
+            while octets < size:
+                octets += file.write(entry(source, number))
+                number += 1
+        os.rename(path + ".part", path)
+    return path
+
+
+def processor_time(words):
+    """The seconds that a command takes of a processor, its own and the system's."""
+    child = os.fork()
+    if child == 0:
+        null = os.open(os.devnull, os.O_RDWR)
+        for stream in range(3):
+            os.dup2(null, stream)
+        os.execvp(words[0], words)
+    _, _, used = os.wait4(child, 0)
+    return used.ru_utime + used.ru_stime
+
+
+def peak(words):
+    """The most memory that a command holds, in MB; None where `time` is not installed."""
+    if not shutil.which("time"):
+        return None
+    run = subprocess.run([shutil.which("time"), "-f", "%M", *words], stdin=subprocess.DEVNULL,
+                         stdout=subprocess.DEVNULL, stderr=subprocess.PIPE, check=False)
+    return int(run.stderr.split()[-1]) / 1000
+
+
+def ours(command, path):
+    return [ZONETEXT, *command.split(), path]
+
+
+def commands(path):
+    """Name, words and whether it is a peer, of each command over a file."""
+    listed = [(name, [*words, path], False) for name, words in WC]
+    listed += [(f"zonetext {it}", ours(it, path), False) for it in COMMANDS]
+    listed += [("zonetext diff --entries", [ZONETEXT, "diff", "--entries", path, path], False)]
+    return listed + [(name, [*words, path], True) for name, words in PEERS.items() if shutil.which(words[0])]
+
+
+def times(listed, turns):
+    """The least processor time of each command by its name: all in turns, peers in the first three."""
+    least = {name: float("inf") for name, _, _ in listed}
+    for turn in range(turns):
+        for name, words, is_peer in listed:
+            if turn < 3 or not is_peer:
+                least[name] = min(least[name], processor_time(words))
+    return least
+
+
+def number(value, digits=2):
+    return "" if value is None else f"{value:.{digits}f}" if value < 100 else f"{value:.0f}"
+
+
+def table(files, large, turns):
+    """One row a command: milliseconds on `mix`, the parts of `wc -lw` on each file, and memory."""
+    measured = {name: times(commands(path), turns) for name, path in files.items()}
+    rows = ["| Command | ms, `mix` | `mix` | `com` | `signed` | MB, `mix` | MB, 100 MB |", "|---|---|---|---|---|---|---|"]
+    for (name, words, _), (_, on_large, is_peer) in zip(commands(files["mix"]), commands(large)):
+        parts = [number(measured[file][name] / measured[file]["`wc -lw`"]) for file in files]
+        memory = [number(peak(words), 1), "" if is_peer else number(peak(on_large), 1)]
+        rows.append(f"| {name} | {number(measured['mix'][name] * 1000, 1)} | {' | '.join(parts + memory)} |")
+    return rows, measured["mix"]
+
+
+def found_by():
+    """Of the zone files of crates/zonetext/zones.tsv: how many `check` and each peer refuse, and of how many."""
+    with open(os.path.join(TOP, "crates/zonetext/zones.tsv"), encoding="utf-8") as lines:
+        rows = [line.rstrip("\n").split("\t") for line in lines if not line.startswith("#")]
+    refused = {"zonetext check": sum("error" in it[2] for it in rows)}
+    for place, name in enumerate(["named-checkzone", "kzonecheck", "nsd-checkzone", "ldns-read-zone"], 3):
+        refused[name] = sum(len(it) > place and it[place] == "refuses" for it in rows)
+    return refused, len(rows)
+
+
+def peers_table(mix_path, measured):
+    refused, count = found_by()
+    rows = [f"| On `mix`, 10.5 MB | refuses, of {count} files | ms | MB |", "|---|---|---|---|"]
+    words = {"zonetext check": ours("check", mix_path), **{name: [*it, mix_path] for name, it in PEERS.items()}}
+    for name, files in refused.items():
+        if name in measured:
+            rows.append(f"| {name} | {files} | {number(measured[name] * 1000, 0)} | {number(peak(words[name]), 1)} |")
+    return rows
+
+
+def chart(folder, turns):
+    """Processor time by size, both on a scale of powers of ten."""
+    lines = {}
+    for size in SIZES:
+        path = make_zone(folder, mix, size)
+        few = 1 if size > 50_000_000 else min(turns, 3)
+        wanted = [it for it in commands(path) if it[0] in CHART]
+        for name, seconds in times(wanted, few).items():
+            lines.setdefault(name, []).append((size, max(seconds, 1e-4)))
+    return svg(lines)
+
+
+def svg(lines):
+    wide, high, left, top = 760, 420, 60, 30
+
+    def place(size, seconds):
+        across = (math.log10(size) - 3) / 5
+        up = (math.log10(seconds) + 4) / 6
+        return f"{left + across * (wide - left - 200):.0f},{top + (1 - up) * (high - top - 40):.0f}"
+
+    parts = [f'<svg xmlns="http://www.w3.org/2000/svg" width="{wide}" height="{high}" font-family="sans-serif" font-size="12">',
+             f'<rect width="{wide}" height="{high}" fill="white"/>',
+             f'<text x="8" y="18">Processor time by the size of a zone file</text>']
+    for power in range(-4, 3):
+        first, last = place(1e3, 10 ** power), place(1e8, 10 ** power)
+        parts.append(f'<polyline points="{first} {last}" stroke="#dddddd" fill="none"/>')
+        parts.append(f'<text x="{left - 6}" y="{int(first.split(",")[1]) + 4}" text-anchor="end">{10.0 ** power:g} s</text>')
+    for size, text in zip(SIZES, ["1 KB", "10 KB", "100 KB", "1 MB", "10 MB", "100 MB"]):
+        across = place(size, 1e-4).split(",")[0]
+        parts.append(f'<text x="{across}" y="{high - 20}" text-anchor="middle">{text}</text>')
+    ends = sorted(lines, key=lambda name: -lines[name][-1][1])
+    for row, name in enumerate(ends):
+        colour = COLOURS[CHART.index(name) % len(COLOURS)]
+        points = " ".join(place(size, seconds) for size, seconds in lines[name])
+        parts.append(f'<polyline points="{points}" stroke="{colour}" stroke-width="2" fill="none"/>')
+        parts.append(f'<text x="{wide - 180}" y="{top + 20 + 18 * row}" fill="{colour}">{name.strip("`")}</text>')
+    return "\n".join([*parts, "</svg>", ""])
+
+
+def put(page, mark, rows):
+    """Puts rows between two marks of a page."""
+    path = os.path.join(TOP, "docs", page)
+    with open(path, encoding="utf-8") as file:
+        text = file.read()
+    between = re.compile(rf"(<!-- {mark} -->\n).*?(<!-- end of {mark} -->)", re.S)
+    if not between.search(text):
+        sys.exit(f"{page} has no marks of {mark}")
+    with open(path, "w", encoding="utf-8") as file:
+        file.write(between.sub(lambda it: it[1] + "\n".join(rows) + "\n" + it[2], text))
+
+
+def main():
+    words = argparse.ArgumentParser(description=__doc__, formatter_class=argparse.RawDescriptionHelpFormatter)
+    words.add_argument("--turns", type=int, default=9)
+    words.add_argument("--folder", default=os.path.join(TOP, "bench/target/zones"))
+    words.add_argument("--pages", action="store_true")
+    given = words.parse_args()
+    if not os.access(ZONETEXT, os.X_OK):
+        sys.exit("build the program first: rt run, in crates/zonetext")
+    os.makedirs(given.folder, exist_ok=True)
+    files = {it.__name__: make_zone(given.folder, it, SIZE) for it in (mix, com, signed)}
+    rows, measured = table(files, make_zone(given.folder, mix, SIZES[-1]), given.turns)
+    beside = peers_table(files["mix"], measured)
+    print("\n".join([*rows, "", *beside]), flush=True)
+    drawn = chart(given.folder, given.turns)
+    if given.pages:
+        put("SPEED.md", "tools", rows)
+        put("ZONETEXT.md", "peers", beside)
+        with open(os.path.join(TOP, "docs/tools.svg"), "w", encoding="utf-8") as file:
+            file.write(drawn)
+
+
+if __name__ == "__main__":
+    main()
