@@ -1,11 +1,13 @@
 //! Character strings.
 use crate::call::{give, print};
-use crate::lowered::hash_lowered;
+use crate::lowered::Lowered;
 use crate::status::{reasons, Status};
+use crate::strings::reads_strings;
 use dns_text_sys::{
     dns_call, dns_charstr_print, dns_charstr_print_quoted, dns_charstr_print_unquoted,
     dns_charstr_read, dns_charstr_read_octets, DNS_TOO_LONG,
 };
+use std::cmp::Ordering;
 use std::error::Error;
 use std::fmt;
 use std::hash::{Hash, Hasher};
@@ -15,8 +17,8 @@ use std::hash::{Hash, Hasher};
 /// It prints with no character special but the backslash; [`quoted`](CharStr::quoted) and
 /// [`unquoted`](CharStr::unquoted) print it for zone text.
 ///
-/// Equality and hash leave the case of ASCII letters aside (RFC 1035 section 2.3.3). Where case
-/// tells, compare the octets.
+/// Equality, order and hash leave the case of ASCII letters aside (RFC 1035 section 2.3.3). Where
+/// case tells, compare the octets.
 ///
 /// ```
 /// use dns_text::CharStr;
@@ -26,10 +28,11 @@ use std::hash::{Hash, Hasher};
 /// assert_eq!(string.to_string(), "a; b");
 /// assert_eq!(string.quoted(), "\"a; b\"");
 /// assert_eq!(string.unquoted(), r"a\;\ b");
-/// assert_eq!(string, CharStr::from_text(br"A\;\ B")?);
+/// assert_eq!(string, r"A\;\ B".parse()?);
+/// assert_eq!(format!("{string:?}"), "CharStr(\"a; b\")");
 /// # Ok::<(), dns_text::ReadError>(())
 /// ```
-#[derive(Clone, Debug, Default)]
+#[derive(Clone, Default)]
 pub struct CharStr {
     octets: Vec<u8>,
 }
@@ -89,10 +92,12 @@ impl CharStr {
         }
     }
 
+    /// The octets, without their length.
     pub fn as_octets(&self) -> &[u8] {
         &self.octets
     }
 
+    /// The octets, without their length.
     pub fn into_octets(self) -> Vec<u8> {
         self.octets
     }
@@ -112,23 +117,52 @@ impl CharStr {
     }
 }
 
+reads_strings! {
+    CharStr: ReadError,
+}
+
+impl AsRef<[u8]> for CharStr {
+    fn as_ref(&self) -> &[u8] {
+        &self.octets
+    }
+}
+
 impl PartialEq for CharStr {
     fn eq(&self, other: &CharStr) -> bool {
-        self.octets.eq_ignore_ascii_case(&other.octets)
+        Lowered(&self.octets) == Lowered(&other.octets)
     }
 }
 
 impl Eq for CharStr {}
 
+impl PartialOrd for CharStr {
+    fn partial_cmp(&self, other: &CharStr) -> Option<Ordering> {
+        Some(self.cmp(other))
+    }
+}
+
+impl Ord for CharStr {
+    fn cmp(&self, other: &CharStr) -> Ordering {
+        Lowered(&self.octets).cmp(&Lowered(&other.octets))
+    }
+}
+
 impl Hash for CharStr {
     fn hash<H: Hasher>(&self, state: &mut H) {
-        hash_lowered(&self.octets, state);
+        Lowered(&self.octets).hash(state);
     }
 }
 
 impl fmt::Display for CharStr {
     fn fmt(&self, f: &mut fmt::Formatter<'_>) -> fmt::Result {
         f.write_str(&self.printed(dns_charstr_print))
+    }
+}
+
+/// Its quoted text.
+impl fmt::Debug for CharStr {
+    fn fmt(&self, f: &mut fmt::Formatter<'_>) -> fmt::Result {
+        write!(f, "CharStr({})", self.quoted())
     }
 }
 

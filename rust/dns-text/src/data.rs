@@ -1,24 +1,49 @@
 //! Record data.
+mod compose;
+mod fields;
+
 use crate::{CharStr, Name, RecordType};
+use compose::compose;
+use fields::Fields;
+use std::cmp::Ordering;
+use std::error::Error;
+use std::fmt;
+use std::hash::{Hash, Hasher};
 use std::net::{Ipv4Addr, Ipv6Addr};
 
+/// The most octets of record data (RFC 1035 section 3.2.1).
+const MOST: usize = 65_535;
+
 /// Record data: those of common types by their fields, others by their octets on the wire.
+///
+/// Data are equal where their types and their canonical octets are (RFC 4034 sections 6.2 and 6.3):
+/// without the case of names, and with that of strings. They are ordered and hashed by these too. The
+/// names in data of [`RecordData::Unknown`] are octets like others.
 ///
 /// ```
 /// use dns_text::{RecordData, RecordType};
 ///
-/// let data = RecordData::from_octets(RecordType::MX, b"\0\x0A\x01a\0");
-/// assert!(matches!(data, RecordData::Mx { preference: 10, .. }));
-/// assert_eq!(RecordData::from_octets(RecordType::MX, b"\0\x0A").record_type(), RecordType::MX);
+/// let data = RecordData::from_octets(RecordType::MX, b"\0\x0A\x01A\0")?;
+/// let RecordData::Mx { preference, exchange } = &data else { panic!() };
+/// assert_eq!((*preference, exchange.to_string()), (10, "A.".to_string()));
+/// assert_eq!(data, RecordData::Mx { preference: 10, exchange: "a.".parse()? });
+/// assert_eq!(data.to_octets()?, b"\0\x0A\x01A\0");
+/// assert_eq!(data.canonical_octets(), b"\0\x0A\x01a\0");
+/// assert!(RecordData::from_octets(RecordType::MX, b"\0\x0A").is_err());
+/// # Ok::<(), Box<dyn std::error::Error>>(())
 /// ```
-#[derive(Clone, Debug, PartialEq, Eq)]
+#[derive(Clone, Debug)]
 #[non_exhaustive]
 pub enum RecordData {
     A(Ipv4Addr),
     Aaaa(Ipv6Addr),
     Ns(Name),
     Cname(Name),
+    /// RFC 6672.
+    Dname(Name),
     Ptr(Name),
+    /// One string or more.
+    Txt(Vec<CharStr>),
     /// RFC 1035 section 3.3.9.
     Mx {
         preference: u16,
@@ -34,7 +59,6 @@ pub enum RecordData {
         expire: u32,
         minimum: u32,
     },
-    Txt(Vec<CharStr>),
     /// RFC 2782.
     Srv {
         priority: u16,
@@ -42,7 +66,28 @@ pub enum RecordData {
         port: u16,
         target: Name,
     },
-    /// Data of another type, or octets that are no data of their type.
+    /// RFC 8659: the tag is of ASCII letters and digits, one at least.
+    Caa {
+        flags: u8,
+        tag: CharStr,
+        value: Vec<u8>,
+    },
+    /// RFC 4034 section 5: the digest has 20 octets of type 1, 32 of type 2 and 48 of type 4, and one
+    /// at least of another.
+    Ds {
+        key_tag: u16,
+        algorithm: u8,
+        digest_type: u8,
+        digest: Vec<u8>,
+    },
+    /// RFC 4034 section 2: the key has one octet at least.
+    Dnskey {
+        flags: u16,
+        protocol: u8,
+        algorithm: u8,
+        key: Vec<u8>,
+    },
+    /// Data of another type, which may be any octets.
     Unknown {
         record_type: RecordType,
         octets: Vec<u8>,
@@ -50,113 +95,94 @@ pub enum RecordData {
 }
 
 impl RecordData {
-    /// The data of these octets, in wire form without compressed names (RFC 3597 section 4). Octets
-    /// that are no data of their type are [`RecordData::Unknown`].
-    pub fn from_octets(record_type: RecordType, octets: &[u8]) -> RecordData {
-        let mut fields = Fields { rest: octets };
-        match fields.data(record_type) {
-            Some(data) if fields.rest.is_empty() => data,
-            _ => RecordData::Unknown {
-                record_type,
-                octets: octets.to_vec(),
-            },
+    /// The data that octets are, in wire form without compressed names (RFC 3597 section 4).
+    ///
+    /// Octets that are no data of their type are refused; of types without a variant only those of
+    /// which there are more than 65,535.
+    pub fn from_octets(record_type: RecordType, octets: &[u8]) -> Result<RecordData, BadData> {
+        if octets.len() > MOST {
+            return Err(BadData);
         }
+        Fields::read(record_type, octets).ok_or(BadData)
     }
 
+    /// The octets in wire form, of which [`from_octets`](RecordData::from_octets) makes equal data.
+    ///
+    /// Values that are no data of their type are refused: relative names, no strings, another tag, a
+    /// digest of another length, no key, octets that are none of the type that they are said to be of,
+    /// and what is longer than 65,535 octets.
+    pub fn to_octets(&self) -> Result<Vec<u8>, BadData> {
+        let octets = compose(self, false);
+        RecordData::from_octets(self.record_type(), &octets)?;
+        Ok(octets)
+    }
+
+    /// The octets in canonical form: those in wire form with names in lower case (RFC 4034 section
+    /// 6.2). Of values that are no data of their type nothing is said.
+    pub fn canonical_octets(&self) -> Vec<u8> {
+        compose(self, true)
+    }
+
+    /// The type that the data are of.
     pub fn record_type(&self) -> RecordType {
         match self {
             RecordData::A(_) => RecordType::A,
             RecordData::Aaaa(_) => RecordType::AAAA,
             RecordData::Ns(_) => RecordType::NS,
             RecordData::Cname(_) => RecordType::CNAME,
+            RecordData::Dname(_) => RecordType::DNAME,
             RecordData::Ptr(_) => RecordType::PTR,
+            RecordData::Txt(_) => RecordType::TXT,
             RecordData::Mx { .. } => RecordType::MX,
             RecordData::Soa { .. } => RecordType::SOA,
-            RecordData::Txt(_) => RecordType::TXT,
             RecordData::Srv { .. } => RecordType::SRV,
+            RecordData::Caa { .. } => RecordType::CAA,
+            RecordData::Ds { .. } => RecordType::DS,
+            RecordData::Dnskey { .. } => RecordType::DNSKEY,
             RecordData::Unknown { record_type, .. } => *record_type,
         }
     }
-}
 
-/// The fields of data that are left.
-struct Fields<'o> {
-    rest: &'o [u8],
-}
-
-impl<'o> Fields<'o> {
-    fn take(&mut self, count: usize) -> Option<&'o [u8]> {
-        if count > self.rest.len() {
-            return None;
-        }
-        let (taken, rest) = self.rest.split_at(count);
-        self.rest = rest;
-        Some(taken)
-    }
-
-    fn array<const N: usize>(&mut self) -> Option<[u8; N]> {
-        self.take(N)?.try_into().ok()
-    }
-
-    fn u16(&mut self) -> Option<u16> {
-        self.array().map(u16::from_be_bytes)
-    }
-
-    fn u32(&mut self) -> Option<u32> {
-        self.array().map(u32::from_be_bytes)
-    }
-
-    /// A name up to its root.
-    fn name(&mut self) -> Option<Name> {
-        let mut length = 0;
-        while *self.rest.get(length)? != 0 {
-            length += usize::from(self.rest[length]) + 1;
-        }
-        Name::from_octets(self.take(length + 1)?.to_vec()).ok()
-    }
-
-    fn string(&mut self) -> Option<CharStr> {
-        let [length] = self.array()?;
-        CharStr::from_octets(self.take(length.into())?.to_vec()).ok()
-    }
-
-    /// The strings to the end, of which there is one at least.
-    fn strings(&mut self) -> Option<Vec<CharStr>> {
-        let mut strings = vec![self.string()?];
-        while !self.rest.is_empty() {
-            strings.push(self.string()?);
-        }
-        Some(strings)
-    }
-
-    fn data(&mut self, record_type: RecordType) -> Option<RecordData> {
-        Some(match record_type {
-            RecordType::A => RecordData::A(self.array::<4>()?.into()),
-            RecordType::AAAA => RecordData::Aaaa(self.array::<16>()?.into()),
-            RecordType::NS => RecordData::Ns(self.name()?),
-            RecordType::CNAME => RecordData::Cname(self.name()?),
-            RecordType::PTR => RecordData::Ptr(self.name()?),
-            RecordType::MX => RecordData::Mx {
-                preference: self.u16()?,
-                exchange: self.name()?,
-            },
-            RecordType::SOA => RecordData::Soa {
-                mname: self.name()?,
-                rname: self.name()?,
-                serial: self.u32()?,
-                refresh: self.u32()?,
-                retry: self.u32()?,
-                expire: self.u32()?,
-                minimum: self.u32()?,
-            },
-            RecordType::TXT => RecordData::Txt(self.strings()?),
-            RecordType::SRV => RecordData::Srv {
-                priority: self.u16()?,
-                weight: self.u16()?,
-                port: self.u16()?,
-                target: self.name()?,
-            },
-            _ => return None,
-        })
+    /// What tells data from others.
+    fn key(&self) -> (RecordType, Vec<u8>) {
+        (self.record_type(), self.canonical_octets())
     }
 }
+
+impl PartialEq for RecordData {
+    fn eq(&self, other: &RecordData) -> bool {
+        self.key() == other.key()
+    }
+}
+
+impl Eq for RecordData {}
+
+impl PartialOrd for RecordData {
+    fn partial_cmp(&self, other: &RecordData) -> Option<Ordering> {
+        Some(self.cmp(other))
+    }
+}
+
+impl Ord for RecordData {
+    fn cmp(&self, other: &RecordData) -> Ordering {
+        self.key().cmp(&other.key())
+    }
+}
+
+impl Hash for RecordData {
+    fn hash<H: Hasher>(&self, state: &mut H) {
+        self.key().hash(state);
+    }
+}
+
+/// Octets or values are no data of their type.
+#[derive(Clone, Copy, Debug, PartialEq, Eq)]
+pub struct BadData;
+
+impl fmt::Display for BadData {
+    fn fmt(&self, f: &mut fmt::Formatter<'_>) -> fmt::Result {
+        f.pad("no data of the type")
+    }
+}
+
+impl Error for BadData {}

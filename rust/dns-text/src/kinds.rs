@@ -1,13 +1,13 @@
 //! Times to live, types and classes of records: each a word of zone text.
 use crate::library;
 use crate::status::reasons;
+use crate::strings::reads_strings;
 use dns_text_sys::{
     dns_class_print, dns_class_read, dns_outcome, dns_ttl_read, dns_type_print, dns_type_read,
     DNS_OK,
 };
 use std::error::Error;
 use std::fmt;
-use std::str::FromStr;
 use std::time::Duration;
 
 /// A time to live in seconds, below 2^31 (RFC 2181 section 8). It prints as the seconds.
@@ -81,6 +81,7 @@ impl RecordType {
     pub const TXT: RecordType = RecordType(16);
     pub const AAAA: RecordType = RecordType(28);
     pub const SRV: RecordType = RecordType(33);
+    pub const DNAME: RecordType = RecordType(39);
     pub const DS: RecordType = RecordType(43);
     pub const RRSIG: RecordType = RecordType(46);
     pub const NSEC: RecordType = RecordType(47);
@@ -130,28 +131,10 @@ impl fmt::Display for Class {
     }
 }
 
-impl FromStr for Ttl {
-    type Err = WordError;
-
-    fn from_str(text: &str) -> Result<Ttl, WordError> {
-        Ttl::from_text(text.as_bytes())
-    }
-}
-
-impl FromStr for RecordType {
-    type Err = WordError;
-
-    fn from_str(text: &str) -> Result<RecordType, WordError> {
-        RecordType::from_text(text.as_bytes())
-    }
-}
-
-impl FromStr for Class {
-    type Err = WordError;
-
-    fn from_str(text: &str) -> Result<Class, WordError> {
-        Class::from_text(text.as_bytes())
-    }
+reads_strings! {
+    Ttl: WordError,
+    RecordType: WordError,
+    Class: WordError,
 }
 
 /// Reads a word as a number.

@@ -21,9 +21,34 @@
 //! | the tokens of each entry, and whether it began with a blank | [`entries`] | a list for each entry |
 //! | words, whatever entry they are of | [`tokens`] | a list for the longest entry |
 //! | comments too, where entries end, or no memory at all | [`pieces`] | none |
+//! | records of a file or a stream | [`read_records`] | a block, the longest entry twice, the data |
+//! | entries of a file or a stream | [`read_entries`] | the same, and each entry |
 //!
-//! The last three go up to the first fault, and give what stands before it; [`records`] goes on behind
-//! it.
+//! [`tokens`], [`entries`] and [`pieces`] go up to the first fault, and give what stands before it. The
+//! others go on behind its line. A fault has a place, of which [`Fault::locate`] and
+//! [`RecordFault::locate`] tell the line and the column; those of a stream say them.
+//!
+//! Records of a file, and what is wrong in it:
+//!
+//! ```
+//! use dns_text::{read_records, RecordData, ZoneItem};
+//! use std::io::BufReader;
+//!
+//! let file = b"$ORIGIN example.\nwww 1h A 192.0.2.1\n    1h AAAA 2001:db8::g\nmx 1h MX 10 www\n";
+//! let (mut addresses, mut wrong) = (0, Vec::new());
+//! for item in read_records(BufReader::new(file.as_slice())) {
+//!     match item {
+//!         Ok(ZoneItem::Record(record)) => match record.data {
+//!             RecordData::A(_) | RecordData::Aaaa(_) => addresses += 1,
+//!             _ => {}
+//!         },
+//!         Ok(_) => {}
+//!         Err(error) => wrong.push(error.to_string()),
+//!     }
+//! }
+//! assert_eq!(addresses, 1);
+//! assert_eq!(wrong, ["3:13: AAAA address: expected IPv6 address"]);
+//! ```
 //!
 //! An entry that begins with a blank takes the owner of the one before:
 //!
@@ -64,6 +89,23 @@
 //! # Ok::<(), dns_text::Fault>(())
 //! ```
 //!
+//! # Names and data
+//!
+//! [`Name`] and [`CharStr`] compare, order and hash without the case of ASCII letters; names in canonical
+//! order. [`RecordData`] has the common types by their fields, reads them from wire octets, and compares
+//! them in canonical form:
+//!
+//! ```
+//! use dns_text::{Name, RecordData, RecordType};
+//!
+//! let zone: Name = "example.".parse()?;
+//! let name = "www".parse::<Name>()?.append_origin(&zone)?;
+//! assert!(name.ends_with(&zone) && name.parent() == Some(zone));
+//! let data = RecordData::from_octets(RecordType::NS, name.as_octets())?;
+//! assert_eq!(data, RecordData::Ns("WWW.Example.".parse()?));
+//! # Ok::<(), Box<dyn std::error::Error>>(())
+//! ```
+//!
 //! # The library
 //!
 //! It is linked as a static library, `libdnstext.a`, of the crate's own version: the first call
@@ -74,6 +116,7 @@ mod char_str;
 pub mod codec;
 mod data;
 mod kinds;
+mod labels;
 mod library;
 mod lowered;
 mod name;
@@ -81,12 +124,16 @@ mod number;
 mod pieces;
 mod position;
 mod records;
+mod scan;
 mod status;
+mod stream;
+mod strings;
 mod zone;
 
 pub use char_str::{CharStr, LongString, ReadError, ReadErrorKind};
-pub use data::RecordData;
+pub use data::{BadData, RecordData};
 pub use kinds::{Class, RecordType, Ttl, WordError, WordErrorKind};
+pub use labels::Labels;
 pub use library::version;
 pub use name::{Name, NameError, NameErrorKind, NameOctetsError};
 pub use number::{number, NumberError, NumberErrorKind};
@@ -94,4 +141,5 @@ pub use pieces::{pieces, Piece, PieceKind, Pieces};
 pub use position::{position, Position};
 pub use records::{records, Record, RecordFault, RecordFaultKind, Records, ZoneItem};
 pub use status::Status;
+pub use stream::{read_entries, read_records, EntryReader, OwnedEntry, RecordReader, StreamError};
 pub use zone::{entries, tokens, Entries, Entry, Fault, FaultKind, Token, Tokens};

@@ -1,12 +1,15 @@
 //! Names.
 use crate::call::{give, print};
+use crate::labels::Labels;
 use crate::library;
-use crate::lowered::hash_lowered;
+use crate::lowered::Lowered;
 use crate::status::reasons;
+use crate::strings::reads_strings;
 use dns_text_sys::{
     dns_call, dns_name_print, dns_name_print_dotted, dns_name_print_zone, dns_name_read,
     dns_outcome, DNS_OK,
 };
+use std::cmp::Ordering;
 use std::error::Error;
 use std::fmt;
 use std::hash::{Hash, Hasher};
@@ -17,8 +20,10 @@ use std::hash::{Hash, Hasher};
 /// [`without_dot`](Name::without_dot) leaves that dot out, and [`zone_text`](Name::zone_text)
 /// prints it for zone text.
 ///
-/// Equality and hash leave the case of ASCII letters aside (RFC 1035 section 2.3.3). A relative
-/// name never equals an absolute one. Where case tells, compare the octets.
+/// Equality, order and hash leave the case of ASCII letters aside (RFC 1035 section 2.3.3). A
+/// relative name never equals an absolute one. Where case tells, compare the octets. The order of
+/// absolute names is the canonical one (RFC 4034 section 6.1): by their labels from the last to the
+/// first, of which the one that ends is less. Relative names follow, in the same order.
 ///
 /// ```
 /// use dns_text::Name;
@@ -29,10 +34,12 @@ use std::hash::{Hash, Hasher};
 /// assert_eq!(name.to_string(), r"Action\.domains.ISI.EDU.");
 /// assert_eq!(name.without_dot(), r"Action\.domains.ISI.EDU");
 /// assert_eq!(name.zone_text(), r"Action\046domains.ISI.EDU.");
-/// assert_eq!(name, Name::from_text(br"action\.domains.isi.edu.")?);
+/// assert_eq!(name, r"action\.domains.isi.edu.".parse()?);
+/// assert_eq!(format!("{name:?}"), r"Name(Action\.domains.ISI.EDU.)");
+/// assert!("example.".parse::<Name>()? < "a.example.".parse()?);
 /// # Ok::<(), dns_text::NameError>(())
 /// ```
-#[derive(Clone, Debug)]
+#[derive(Clone)]
 pub struct Name {
     octets: Vec<u8>,
     is_absolute: bool,
@@ -88,14 +95,17 @@ impl Name {
     /// ```
     pub fn from_octets(octets: Vec<u8>) -> Result<Name, NameOctetsError> {
         match give(dns_name_print, &octets, 4 * octets.len().min(255) + 1) {
-            Ok(_) => {
-                let is_absolute = ends_in_root(&octets);
-                Ok(Name {
-                    octets,
-                    is_absolute,
-                })
-            }
+            Ok(_) => Ok(Name::of_valid(octets)),
             Err(refused) => Err(NameOctetsError::of(refused.status)),
+        }
+    }
+
+    /// The name of octets that are one's.
+    pub(crate) fn of_valid(octets: Vec<u8>) -> Name {
+        let is_absolute = ends_in_root(&octets);
+        Name {
+            octets,
+            is_absolute,
         }
     }
 
@@ -109,6 +119,7 @@ impl Name {
         &self.octets
     }
 
+    /// The wire octets.
     pub fn into_octets(self) -> Vec<u8> {
         self.octets
     }
@@ -143,24 +154,56 @@ fn ends_in_root(octets: &[u8]) -> bool {
     false
 }
 
+reads_strings! {
+    Name: NameError,
+}
+
+/// The wire octets.
+impl AsRef<[u8]> for Name {
+    fn as_ref(&self) -> &[u8] {
+        &self.octets
+    }
+}
+
 // A label's length is at most 63, and so no letter: lowered octets are the lowered labels.
 impl PartialEq for Name {
     fn eq(&self, other: &Name) -> bool {
-        self.octets.eq_ignore_ascii_case(&other.octets)
+        Lowered(&self.octets) == Lowered(&other.octets)
     }
 }
 
 impl Eq for Name {}
 
+impl PartialOrd for Name {
+    fn partial_cmp(&self, other: &Name) -> Option<Ordering> {
+        Some(self.cmp(other))
+    }
+}
+
+impl Ord for Name {
+    fn cmp(&self, other: &Name) -> Ordering {
+        let labels = |name| Labels::of(name).rev().map(Lowered);
+        let by_root = other.is_absolute.cmp(&self.is_absolute);
+        by_root.then_with(|| labels(&self.octets).cmp(labels(&other.octets)))
+    }
+}
+
 impl Hash for Name {
     fn hash<H: Hasher>(&self, state: &mut H) {
-        hash_lowered(&self.octets, state);
+        Lowered(&self.octets).hash(state);
     }
 }
 
 impl fmt::Display for Name {
     fn fmt(&self, f: &mut fmt::Formatter<'_>) -> fmt::Result {
         f.write_str(&self.printed(dns_name_print_dotted))
+    }
+}
+
+/// Its text, as it prints.
+impl fmt::Debug for Name {
+    fn fmt(&self, f: &mut fmt::Formatter<'_>) -> fmt::Result {
+        write!(f, "Name({self})")
     }
 }
 

@@ -9,6 +9,7 @@ use dns_text_sys::{
 };
 use std::error::Error;
 use std::fmt;
+use std::iter::FusedIterator;
 
 /// A record of a zone file.
 #[derive(Clone, Debug, PartialEq, Eq)]
@@ -42,6 +43,19 @@ pub enum ZoneItem {
     },
 }
 
+impl ZoneItem {
+    /// The item of a text that stands behind `before` octets of others.
+    pub(crate) fn behind(self, before: usize) -> ZoneItem {
+        match self {
+            ZoneItem::Record(record) => ZoneItem::Record(Record {
+                place: before + record.place,
+                ..record
+            }),
+            item => item,
+        }
+    }
+}
+
 /// Why an entry of a zone file gives no record, and where.
 #[derive(Clone, Debug, PartialEq, Eq)]
 pub struct RecordFault {
@@ -58,6 +72,39 @@ impl RecordFault {
     /// is shorter.
     pub fn locate(&self, text: &[u8]) -> Option<Position> {
         position(text, self.place)
+    }
+
+    /// What it says in a few words, without the place: the reason, if there is one.
+    pub fn message(&self) -> &str {
+        if self.reason.is_empty() {
+            return self.kind.status().message();
+        }
+        &self.reason
+    }
+
+    /// The fault in a text that stands behind `before` octets of others.
+    pub(crate) fn behind(self, before: usize) -> RecordFault {
+        RecordFault {
+            place: before + self.place,
+            ..self
+        }
+    }
+
+    /// Whether the text goes wrong, and not what an entry says.
+    pub(crate) fn is_of_text(&self) -> bool {
+        matches!(
+            self.kind,
+            RecordFaultKind::BadEscape
+                | RecordFaultKind::Closing
+                | RecordFaultKind::OpenParenthesis
+                | RecordFaultKind::OpenQuote
+                | RecordFaultKind::LoneReturn
+        )
+    }
+
+    /// Whether the library refused for a reason that is not known, and stays where it was.
+    pub(crate) fn is_unknown(&self) -> bool {
+        matches!(self.kind, RecordFaultKind::Unknown(_))
     }
 }
 
@@ -95,10 +142,7 @@ reasons! {
 
 impl fmt::Display for RecordFault {
     fn fmt(&self, f: &mut fmt::Formatter<'_>) -> fmt::Result {
-        if self.reason.is_empty() {
-            return write!(f, "{} at {}", self.kind.status(), self.place);
-        }
-        write!(f, "{} at {}", self.reason, self.place)
+        write!(f, "{} at {}", self.message(), self.place)
     }
 }
 
@@ -128,14 +172,10 @@ impl Error for RecordFault {}
 /// # Ok::<(), Box<dyn std::error::Error>>(())
 /// ```
 pub fn records(text: &[u8]) -> Records<'_> {
-    library::check();
     Records {
         text,
-        zone: dns_zone {
-            class_code: Class::IN.0,
-            ..dns_zone::default()
-        },
-        octets: vec![0; 512],
+        state: ZoneState::new(),
+        is_done: false,
     }
 }
 
@@ -143,41 +183,133 @@ pub fn records(text: &[u8]) -> Records<'_> {
 #[derive(Clone, Debug)]
 pub struct Records<'t> {
     text: &'t [u8],
-    zone: dns_zone,
-    octets: Vec<u8>,
+    state: ZoneState,
+    is_done: bool,
 }
 
 impl Records<'_> {
     /// The same with an origin, before which relative names stand. A relative name is no origin, and
     /// changes nothing.
     pub fn with_origin(mut self, origin: &Name) -> Self {
-        let octets = origin.as_octets();
-        let mut outcome = dns_outcome::default();
-        // SAFETY: the octets are as many as is said, and the call keeps to them.
-        unsafe { dns_zone_origin(&mut self.zone, octets.as_ptr(), octets.len(), &mut outcome) };
+        self.state.set_origin(origin);
         self
     }
 
     /// The same with a class for records that say none.
     pub fn with_class(mut self, class: Class) -> Self {
-        self.zone.class_code = class.0;
+        self.state.set_class(class);
         self
     }
 
     /// Where the next entry begins.
     pub fn place(&self) -> usize {
-        self.zone.at
+        self.state.zone.at
+    }
+}
+
+impl Iterator for Records<'_> {
+    type Item = Result<ZoneItem, RecordFault>;
+
+    fn next(&mut self) -> Option<Result<ZoneItem, RecordFault>> {
+        if self.is_done {
+            return None;
+        }
+        let found = self.state.next(self.text);
+        self.is_done = match &found {
+            Some(Err(fault)) => fault.is_unknown(),
+            found => found.is_none(),
+        };
+        found
+    }
+}
+
+impl FusedIterator for Records<'_> {}
+
+/// What the entries so far say, where the next one begins, and room for data.
+#[derive(Clone, Debug)]
+pub(crate) struct ZoneState {
+    zone: dns_zone,
+    octets: Vec<u8>,
+}
+
+impl ZoneState {
+    /// The beginning of a zone file.
+    pub(crate) fn new() -> ZoneState {
+        library::check();
+        ZoneState {
+            zone: dns_zone {
+                class_code: Class::IN.0,
+                ..dns_zone::default()
+            },
+            octets: vec![0; 512],
+        }
+    }
+
+    /// Sets the origin, if a name is absolute.
+    pub(crate) fn set_origin(&mut self, origin: &Name) {
+        let octets = origin.as_octets();
+        let mut outcome = dns_outcome::default();
+        // SAFETY: the octets are as many as is said, and the call keeps to them.
+        unsafe { dns_zone_origin(&mut self.zone, octets.as_ptr(), octets.len(), &mut outcome) };
+    }
+
+    /// Sets the class of records that say none.
+    pub(crate) fn set_class(&mut self, class: Class) {
+        self.zone.class_code = class.0;
+    }
+
+    /// What the entries so far say, to go back to.
+    pub(crate) fn keep(&self) -> dns_zone {
+        self.zone
+    }
+
+    /// Goes back to what was kept.
+    pub(crate) fn go_back(&mut self, kept: dns_zone) {
+        self.zone = kept;
+    }
+
+    /// Reads on at the beginning of a text that follows; and returns where the next entry begins in it.
+    pub(crate) fn read(&mut self, text: &[u8]) -> (Option<Result<ZoneItem, RecordFault>>, usize) {
+        self.zone.at = 0;
+        let found = self.next(text);
+        (found, self.zone.at)
+    }
+
+    /// Reads on in a text.
+    fn next(&mut self, text: &[u8]) -> Option<Result<ZoneItem, RecordFault>> {
+        let mut record = dns_record::default();
+        let (status, outcome) = self.call(text, &mut record);
+        let given = self.octets.get(..outcome.length).unwrap_or_default();
+        match (status, name_of(&record.name)) {
+            (DNS_END, _) => None,
+            (DNS_OK, Some(owner)) => Some(Ok(ZoneItem::Record(Record {
+                place: record.place,
+                owner,
+                ttl: Ttl::from_seconds(record.ttl).unwrap_or(Ttl::MAX),
+                class: Class(record.class_code),
+                data: data_of(RecordType(record.type_code), given),
+            }))),
+            (DNS_INCLUDE, origin) => Some(Ok(ZoneItem::Include {
+                file: given.to_vec(),
+                origin,
+            })),
+            (status, _) => Some(Err(RecordFault {
+                kind: RecordFaultKind::of(status),
+                place: outcome.place,
+                reason: String::from_utf8_lossy(given).into_owned(),
+            })),
+        }
     }
 
     /// A call, with as much room as it needs: what it says, and how many octets it gave.
-    fn call(&mut self, record: &mut dns_record) -> (u32, dns_outcome) {
+    fn call(&mut self, text: &[u8], record: &mut dns_record) -> (u32, dns_outcome) {
         loop {
             let mut outcome = dns_outcome::default();
             // SAFETY: both slices are as long as is said, and the call keeps to them.
             let status = unsafe {
                 dns_record_next(
-                    self.text.as_ptr(),
-                    self.text.len(),
+                    text.as_ptr(),
+                    text.len(),
                     &mut self.zone,
                     record,
                     self.octets.as_mut_ptr(),
@@ -185,7 +317,7 @@ impl Records<'_> {
                     &mut outcome,
                 )
             };
-            if status != DNS_NO_ROOM {
+            if status != DNS_NO_ROOM || outcome.length <= self.octets.len() {
                 return (status, outcome);
             }
             self.octets.resize(outcome.length, 0);
@@ -201,32 +333,10 @@ fn name_of(name: &dns_kept_name) -> Option<Name> {
         .filter(Name::is_absolute)
 }
 
-impl Iterator for Records<'_> {
-    type Item = Result<ZoneItem, RecordFault>;
-
-    fn next(&mut self) -> Option<Result<ZoneItem, RecordFault>> {
-        let mut record = dns_record::default();
-        let (status, outcome) = self.call(&mut record);
-        let given = self.octets.get(..outcome.length).unwrap_or_default();
-        let name = name_of(&record.name);
-        match (status, name) {
-            (DNS_END, _) => None,
-            (DNS_OK, Some(owner)) => Some(Ok(ZoneItem::Record(Record {
-                place: record.place,
-                owner,
-                ttl: Ttl::from_seconds(record.ttl).unwrap_or(Ttl::MAX),
-                class: Class(record.class_code),
-                data: RecordData::from_octets(RecordType(record.type_code), given),
-            }))),
-            (DNS_INCLUDE, origin) => Some(Ok(ZoneItem::Include {
-                file: given.to_vec(),
-                origin,
-            })),
-            (status, _) => Some(Err(RecordFault {
-                kind: RecordFaultKind::of(status),
-                place: outcome.place,
-                reason: String::from_utf8_lossy(given).into_owned(),
-            })),
-        }
-    }
+/// The data of octets that the library read.
+fn data_of(record_type: RecordType, octets: &[u8]) -> RecordData {
+    RecordData::from_octets(record_type, octets).unwrap_or_else(|_| RecordData::Unknown {
+        record_type,
+        octets: octets.to_vec(),
+    })
 }

@@ -1,8 +1,8 @@
 //! Zone text, token by token or entry by entry.
-use crate::library;
 use crate::position::{position, Position};
+use crate::scan::Scan;
 use crate::status::reasons;
-use dns_text_sys::{dns_cursor, dns_entry_next, dns_outcome, dns_token, DNS_END, DNS_OK};
+use dns_text_sys::dns_token;
 use std::error::Error;
 use std::fmt;
 
@@ -18,6 +18,15 @@ pub struct Token<'t> {
 }
 
 impl<'t> Token<'t> {
+    /// The token at a place of a text, behind `before` octets of others.
+    pub(crate) fn at(place: dns_token, before: usize, text: &'t [u8]) -> Token<'t> {
+        Token {
+            start: before + place.start,
+            text: &text[place.start..place.end],
+            is_quoted: place.is_quoted,
+        }
+    }
+
     /// The text between the double quotes of a quoted text, and a word itself.
     pub fn content(self) -> &'t [u8] {
         if self.is_quoted {
@@ -26,6 +35,16 @@ impl<'t> Token<'t> {
             self.text
         }
     }
+}
+
+/// The tokens at places of a text, behind `before` octets of others.
+pub(crate) fn tokens_at<'p, 't: 'p>(
+    places: &'p [dns_token],
+    before: usize,
+    text: &'t [u8],
+) -> impl ExactSizeIterator<Item = Token<'t>> + 'p {
+    let places = places.iter();
+    places.map(move |place| Token::at(*place, before, text))
 }
 
 /// What keeps a text from going on, and where.
@@ -49,10 +68,24 @@ impl Fault {
     /// let text = b"a A 192.0.2.1\nb TXT (";
     /// let fault = entries(text).find_map(Result::err).unwrap();
     /// let position = fault.locate(text).unwrap();
-    /// assert_eq!(format!("{position}: {}", fault.kind.status()), "2:8: parenthesis that is not closed");
+    /// assert_eq!(format!("{position}: {}", fault.message()), "2:8: parenthesis that is not closed");
     /// ```
     pub fn locate(&self, text: &[u8]) -> Option<Position> {
         position(text, self.place)
+    }
+
+    /// What it says in a few words, without the place.
+    pub fn message(&self) -> &'static str {
+        self.kind.status().message()
+    }
+
+    /// The fault of a text that stands behind `before` octets of others.
+    pub(crate) fn behind(self, before: usize) -> Fault {
+        Fault {
+            kind: self.kind,
+            place: before + self.place,
+            opened: self.opened.map(|place| before + place),
+        }
     }
 }
 
@@ -81,78 +114,11 @@ impl FaultKind {
 
 impl fmt::Display for Fault {
     fn fmt(&self, f: &mut fmt::Formatter<'_>) -> fmt::Result {
-        write!(f, "{} at {}", self.kind.status(), self.place)
+        write!(f, "{} at {}", self.message(), self.place)
     }
 }
 
 impl Error for Fault {}
-
-/// The places of the tokens of one entry after another.
-#[derive(Clone, Debug)]
-struct Places<'t> {
-    text: &'t [u8],
-    cursor: dns_cursor,
-    tokens: Vec<dns_token>,
-    count: usize,
-}
-
-impl<'t> Places<'t> {
-    fn new(text: &'t [u8]) -> Places<'t> {
-        library::check();
-        Places {
-            text,
-            cursor: dns_cursor::default(),
-            tokens: vec![dns_token::default(); 16],
-            count: 0,
-        }
-    }
-
-    /// Reads the next entry. A fault comes after the tokens before it.
-    fn read(&mut self) -> Option<Result<(), Fault>> {
-        loop {
-            let before = self.cursor;
-            let mut outcome = dns_outcome::default();
-            // SAFETY: both slices are as long as is said, and the call keeps to them.
-            let status = unsafe {
-                dns_entry_next(
-                    self.text.as_ptr(),
-                    self.text.len(),
-                    &mut self.cursor,
-                    self.tokens.as_mut_ptr(),
-                    self.tokens.len(),
-                    &mut outcome,
-                )
-            };
-            if outcome.length > self.tokens.len() {
-                self.tokens.resize(outcome.length, dns_token::default());
-                self.cursor = before;
-                continue;
-            }
-            self.count = outcome.length;
-            match status {
-                DNS_OK => return Some(Ok(())),
-                DNS_END => return None,
-                status => {
-                    let kind = FaultKind::of(status);
-                    return Some(Err(Fault {
-                        kind,
-                        place: outcome.place,
-                        opened: kind.is_open().then_some(self.cursor.opened),
-                    }));
-                }
-            }
-        }
-    }
-
-    fn token(&self, place: usize) -> Token<'t> {
-        let token = self.tokens[place];
-        Token {
-            start: token.start,
-            text: &self.text[token.start..token.end],
-            is_quoted: token.is_quoted,
-        }
-    }
-}
 
 /// An entry of zone text.
 #[derive(Clone, Debug, PartialEq, Eq)]
@@ -176,29 +142,25 @@ pub struct Entry<'t> {
 /// # Ok::<(), dns_text::Fault>(())
 /// ```
 pub fn entries(text: &[u8]) -> Entries<'_> {
-    Entries {
-        places: Places::new(text),
-    }
+    let scan = Scan::new();
+    Entries { text, scan }
 }
 
 /// The entries of a zone text; see [`entries`].
 #[derive(Clone, Debug)]
 pub struct Entries<'t> {
-    places: Places<'t>,
+    text: &'t [u8],
+    scan: Scan,
 }
 
 impl<'t> Iterator for Entries<'t> {
     type Item = Result<Entry<'t>, Fault>;
 
     fn next(&mut self) -> Option<Result<Entry<'t>, Fault>> {
-        let read = self.places.read()?;
-        Some(read.map(|()| {
-            Entry {
-                begins_blank: self.places.cursor.begins_blank,
-                tokens: (0..self.places.count)
-                    .map(|place| self.places.token(place))
-                    .collect(),
-            }
+        let read = self.scan.read(self.text)?;
+        Some(read.map(|()| Entry {
+            begins_blank: self.scan.begins_blank(),
+            tokens: tokens_at(self.scan.places(), 0, self.text).collect(),
         }))
     }
 }
@@ -218,7 +180,8 @@ impl<'t> Iterator for Entries<'t> {
 /// ```
 pub fn tokens(text: &[u8]) -> Tokens<'_> {
     Tokens {
-        places: Places::new(text),
+        text,
+        scan: Scan::new(),
         next: 0,
         fault: None,
     }
@@ -227,7 +190,8 @@ pub fn tokens(text: &[u8]) -> Tokens<'_> {
 /// The tokens of a zone text; see [`tokens`].
 #[derive(Clone, Debug)]
 pub struct Tokens<'t> {
-    places: Places<'t>,
+    text: &'t [u8],
+    scan: Scan,
     next: usize,
     fault: Option<Fault>,
 }
@@ -236,18 +200,16 @@ impl<'t> Iterator for Tokens<'t> {
     type Item = Result<Token<'t>, Fault>;
 
     fn next(&mut self) -> Option<Result<Token<'t>, Fault>> {
-        while self.next == self.places.count {
+        loop {
+            if let Some(place) = self.scan.places().get(self.next) {
+                self.next += 1;
+                return Some(Ok(Token::at(*place, 0, self.text)));
+            }
             if let Some(fault) = self.fault.take() {
                 return Some(Err(fault));
             }
             self.next = 0;
-            match self.places.read()? {
-                Ok(()) => {}
-                Err(fault) => self.fault = Some(fault),
-            }
+            self.fault = self.scan.read(self.text)?.err();
         }
-        let token = self.places.token(self.next);
-        self.next += 1;
-        Some(Ok(token))
     }
 }

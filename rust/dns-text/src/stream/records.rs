@@ -1,0 +1,157 @@
+//! Records of zone files from readers.
+use super::window::Window;
+use super::StreamError;
+use crate::records::{ZoneItem, ZoneState};
+use crate::{pieces, Class, Name, PieceKind, Position, RecordFault};
+use std::io::BufRead;
+use std::iter::FusedIterator;
+
+/// What is read of a text.
+type Found = Option<Result<ZoneItem, RecordFault>>;
+
+/// The records of a zone file that a reader gives, in blocks.
+///
+/// They and the refusals are those of [`records`](crate::records), with their lines and columns. An
+/// error of the reader comes behind the records that ended before it, and then nothing follows. Calls
+/// that were interrupted are made again.
+///
+/// What is held is a block and the longest entry, up to twice, beside 64 KB for data: so an entry of
+/// more than 4 KB may wait for as many octets more, and a shorter one waits for its line's end.
+///
+/// ```
+/// use dns_text::{read_records, Name, RecordData, ZoneItem};
+/// use std::io::BufReader;
+///
+/// let file = b"$TTL 1h\n@ MX 10 mail\nmail A 192.0.2\n  A 192.0.2.1\n".as_slice();
+/// let mut found = read_records(BufReader::new(file)).with_origin(&"example.".parse()?);
+/// let Some(Ok(ZoneItem::Record(mx))) = found.next() else { panic!() };
+/// assert_eq!((mx.owner.to_string(), mx.ttl.seconds()), ("example.".to_string(), 3600));
+/// let error = found.next().unwrap().unwrap_err();
+/// assert_eq!(error.to_string(), "3:8: A address: expected IPv4 address");
+/// let Some(Ok(ZoneItem::Record(a))) = found.next() else { panic!() };
+/// assert_eq!(a.data, RecordData::A("192.0.2.1".parse()?));
+/// assert_eq!(found.locate(a.place).unwrap().to_string(), "4:3");
+/// assert!(found.next().is_none());
+/// # Ok::<(), Box<dyn std::error::Error>>(())
+/// ```
+pub fn read_records<R: BufRead>(reader: R) -> RecordReader<R> {
+    RecordReader {
+        window: Window::new(reader),
+        state: ZoneState::new(),
+        is_done: false,
+    }
+}
+
+/// The records of a zone file that a reader gives; see [`read_records`].
+#[derive(Debug)]
+pub struct RecordReader<R> {
+    pub(super) window: Window<R>,
+    state: ZoneState,
+    is_done: bool,
+}
+
+impl<R> RecordReader<R> {
+    /// The same with an origin, before which relative names stand. A relative name is no origin, and
+    /// changes nothing.
+    pub fn with_origin(mut self, origin: &Name) -> Self {
+        self.state.set_origin(origin);
+        self
+    }
+
+    /// The same with a class for records that say none.
+    pub fn with_class(mut self, class: Class) -> Self {
+        self.state.set_class(class);
+        self
+    }
+
+    /// The line and the column of a place in what was given last, such as where a record begins.
+    pub fn locate(&self, place: usize) -> Option<Position> {
+        self.window.locate(place)
+    }
+}
+
+/// How many octets of a text are entries that a line's end ends.
+fn whole_entries(text: &[u8]) -> usize {
+    let (mut whole, mut ended) = (0, 0);
+    for piece in pieces(text) {
+        // Something follows the end, and be it the empty entry behind the last line.
+        whole = ended;
+        if let Ok(piece) = piece {
+            if piece.kind == PieceKind::EntryEnd {
+                ended = piece.start;
+            }
+        }
+    }
+    whole
+}
+
+/// Whether octets that follow a text change nothing of what was found in it, up to a place at which
+/// reading goes on.
+fn is_settled(found: &Found, at: usize, text: &[u8]) -> bool {
+    let is_fault = |fault: &RecordFault| fault.is_of_text() && fault.place < text.len();
+    at < text.len() || matches!(found, Some(Err(fault)) if is_fault(fault))
+}
+
+impl<R: BufRead> RecordReader<R> {
+    /// The next record, file or refusal, if what is held tells it.
+    fn read(&mut self) -> Option<Result<ZoneItem, StreamError<RecordFault>>> {
+        if !self.window.skip_line() {
+            return None;
+        }
+        let text = self.window.rest();
+        let before = self.state.keep();
+        let (found, at) = self.state.read(text);
+        if self.window.is_ended() || is_settled(&found, at, text) {
+            return self.pass(found, at);
+        }
+        self.state.go_back(before);
+        let (found, at) = self.state.read(&text[..whole_entries(text)]);
+        self.pass(found, at)
+    }
+
+    /// Goes on behind what was found.
+    fn pass(
+        &mut self,
+        found: Found,
+        at: usize,
+    ) -> Option<Result<ZoneItem, StreamError<RecordFault>>> {
+        let before = self.window.place();
+        match &found {
+            Some(Err(fault)) if fault.is_of_text() => self.window.pass_line(fault.place),
+            Some(Err(fault)) if fault.is_unknown() => self.is_done = true,
+            _ => self.window.pass(at),
+        }
+        Some(match found? {
+            Ok(item) => Ok(item.behind(before)),
+            Err(fault) => Err(self.refusal(fault.behind(before))),
+        })
+    }
+
+    fn refusal(&self, fault: RecordFault) -> StreamError<RecordFault> {
+        let position = self.window.locate(fault.place);
+        StreamError::Fault {
+            position: position.unwrap_or(self.window.position()),
+            fault,
+        }
+    }
+}
+
+impl<R: BufRead> Iterator for RecordReader<R> {
+    type Item = Result<ZoneItem, StreamError<RecordFault>>;
+
+    fn next(&mut self) -> Option<Self::Item> {
+        while !self.is_done {
+            if let Some(found) = self.read() {
+                return Some(found);
+            }
+            self.is_done = self.window.is_ended();
+            if let Err(error) = self.window.fill() {
+                self.is_done = true;
+                return Some(Err(StreamError::Io(error)));
+            }
+        }
+        None
+    }
+}
+
+impl<R: BufRead> FusedIterator for RecordReader<R> {}

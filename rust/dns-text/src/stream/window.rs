@@ -1,0 +1,161 @@
+//! The octets of a reader, as many as are needed.
+use crate::Position;
+use std::io::{self, BufRead, ErrorKind};
+
+/// Up to so many octets that are left any more of them are looked at; from there on as many more as are
+/// left, so that a long entry is looked at as often as its length doubles.
+const FEW: usize = 4096;
+
+/// A place among the octets of a reader, which stands at another one among those that are held.
+#[derive(Clone, Copy, Debug)]
+struct Mark {
+    held: usize,
+    place: usize,
+    position: Position,
+}
+
+/// The octets of a reader that are held, and where reading stands in them.
+#[derive(Debug)]
+pub(super) struct Window<R> {
+    reader: R,
+    octets: Vec<u8>,
+    /// Where reading stands.
+    next: Mark,
+    /// Where it stood before what was passed last.
+    last: Mark,
+    /// Whether the rest of a line is passed over first.
+    skips: bool,
+    is_ended: bool,
+}
+
+impl<R> Window<R> {
+    pub(super) fn new(reader: R) -> Window<R> {
+        let start = Mark {
+            held: 0,
+            place: 0,
+            position: Position { line: 1, column: 1 },
+        };
+        Window {
+            reader,
+            octets: Vec::new(),
+            next: start,
+            last: start,
+            skips: false,
+            is_ended: false,
+        }
+    }
+
+    /// The octets that are held from where reading stands.
+    pub(super) fn rest(&self) -> &[u8] {
+        &self.octets[self.next.held..]
+    }
+
+    /// Where reading stands, among all octets of the reader.
+    pub(super) fn place(&self) -> usize {
+        self.next.place
+    }
+
+    /// The line and the column of where reading stands.
+    pub(super) fn position(&self) -> Position {
+        self.next.position
+    }
+
+    /// Whether the reader has no more octets than are held.
+    pub(super) fn is_ended(&self) -> bool {
+        self.is_ended
+    }
+
+    /// Goes on behind so many octets.
+    pub(super) fn pass(&mut self, count: usize) {
+        self.last = self.next;
+        self.step(count);
+    }
+
+    /// Goes on behind the line of a fault that stands behind so many octets.
+    pub(super) fn pass_line(&mut self, count: usize) {
+        self.pass(count);
+        self.skips = true;
+    }
+
+    /// Passes over what is left of a fault's line, as far as it is held; and whether the next line is
+    /// reached.
+    pub(super) fn skip_line(&mut self) -> bool {
+        if !self.skips {
+            return true;
+        }
+        let end = self.rest().iter().position(|octet| *octet == b'\n');
+        self.skips = end.is_none();
+        self.step(end.map_or(self.rest().len(), |count| count + 1));
+        !self.skips
+    }
+
+    fn step(&mut self, count: usize) {
+        let position = advance(self.next.position, &self.rest()[..count]);
+        self.next = Mark {
+            held: self.next.held + count,
+            place: self.next.place + count,
+            position,
+        };
+    }
+
+    /// The line and the column of a place in what was passed last, or of its end.
+    pub(super) fn locate(&self, place: usize) -> Option<Position> {
+        let passed = &self.octets[self.last.held..self.next.held];
+        let before = passed.get(..place.checked_sub(self.last.place)?)?;
+        Some(advance(self.last.position, before))
+    }
+
+    /// For how many octets there is room.
+    #[cfg(test)]
+    pub(super) fn room(&self) -> usize {
+        self.octets.capacity()
+    }
+
+    /// Lets the octets go that were passed.
+    fn let_go(&mut self) {
+        self.octets.drain(..self.next.held);
+        self.next.held = 0;
+        self.last = self.next;
+    }
+}
+
+impl<R: BufRead> Window<R> {
+    /// Reads more octets, and lets those go that were passed. What was read before an error stays.
+    pub(super) fn fill(&mut self) -> io::Result<()> {
+        self.let_go();
+        let left = self.octets.len();
+        let wanted = if left < FEW { left + 1 } else { 2 * left };
+        while self.octets.len() < wanted && !self.is_ended {
+            self.read_block()?;
+        }
+        Ok(())
+    }
+
+    /// Reads a block.
+    fn read_block(&mut self) -> io::Result<()> {
+        let block = match self.reader.fill_buf() {
+            Err(error) if error.kind() == ErrorKind::Interrupted => return Ok(()),
+            block => block?,
+        };
+        let count = block.len();
+        self.octets.extend_from_slice(block);
+        self.reader.consume(count);
+        self.is_ended = count == 0;
+        Ok(())
+    }
+}
+
+/// The position behind octets that follow one.
+pub(super) fn advance(from: Position, octets: &[u8]) -> Position {
+    let Some(last) = octets.iter().rposition(|octet| *octet == b'\n') else {
+        return Position {
+            line: from.line,
+            column: from.column + octets.len(),
+        };
+    };
+    let lines = octets[..=last].iter().filter(|octet| **octet == b'\n');
+    Position {
+        line: from.line + lines.count(),
+        column: octets.len() - last,
+    }
+}

@@ -1,0 +1,226 @@
+//! Data as values, from octets and back.
+use dns_text::{BadData, CharStr, Name, RecordData, RecordType};
+use std::collections::HashSet;
+
+fn name(text: &str) -> Name {
+    text.parse().unwrap()
+}
+
+fn string(text: &str) -> CharStr {
+    text.parse().unwrap()
+}
+
+/// Data of each variant, and its octets.
+fn known() -> Vec<(RecordData, Vec<u8>)> {
+    let soa = RecordData::Soa {
+        mname: name("a."),
+        rname: name("."),
+        serial: 1,
+        refresh: 2,
+        retry: 3,
+        expire: 4,
+        minimum: u32::MAX,
+    };
+    let srv = RecordData::Srv {
+        priority: 1,
+        weight: 2,
+        port: 65535,
+        target: name("B."),
+    };
+    let caa = RecordData::Caa {
+        flags: 128,
+        tag: string("issue"),
+        value: b"ca".to_vec(),
+    };
+    let ds = |digest_type, digest: &[u8]| RecordData::Ds {
+        key_tag: 258,
+        algorithm: 8,
+        digest_type,
+        digest: digest.to_vec(),
+    };
+    let dnskey = RecordData::Dnskey {
+        flags: 257,
+        protocol: 3,
+        algorithm: 8,
+        key: vec![9],
+    };
+    let mx = RecordData::Mx {
+        preference: 10,
+        exchange: name("Mail.example."),
+    };
+    let unknown = RecordData::Unknown {
+        record_type: RecordType(731),
+        octets: vec![],
+    };
+    let octets: [&[u8]; 16] = [
+        b"\xC0\x00\x02\x01",
+        &[1; 16],
+        b"\x01a\0",
+        b"\x01a\0",
+        b"\x01a\0",
+        b"\0",
+        b"\0\x0A\x04Mail\x07example\0",
+        b"\x01a\0\0\0\0\0\x01\0\0\0\x02\0\0\0\x03\0\0\0\x04\xFF\xFF\xFF\xFF",
+        b"\0\x01\0\x02\xFF\xFF\x01B\0",
+        b"\x01a\0\x02bC",
+        b"\x80\x05issueca",
+        &[&[1, 2, 8, 1][..], &[7; 20]].concat(),
+        &[&[1, 2, 8, 2][..], &[7; 32]].concat(),
+        &[1, 2, 8, 3, 7],
+        b"\x01\x01\x03\x08\x09",
+        b"",
+    ];
+    let data = [
+        RecordData::A("192.0.2.1".parse().unwrap()),
+        RecordData::Aaaa([1; 16].into()),
+        RecordData::Ns(name("a.")),
+        RecordData::Cname(name("a.")),
+        RecordData::Dname(name("a.")),
+        RecordData::Ptr(name(".")),
+        mx,
+        soa,
+        srv,
+        RecordData::Txt(vec![string("a"), string(""), string("bC")]),
+        caa,
+        ds(1, &[7; 20]),
+        ds(2, &[7; 32]),
+        ds(3, &[7]),
+        dnskey,
+        unknown,
+    ];
+    data.into_iter().zip(octets.map(<[u8]>::to_vec)).collect()
+}
+
+#[test]
+fn data_and_octets() {
+    for (data, octets) in known() {
+        let record_type = data.record_type();
+        assert_eq!(data.to_octets().unwrap(), octets);
+        let read = RecordData::from_octets(record_type, &octets).unwrap();
+        assert_eq!(read, data);
+        assert_eq!(read.to_octets().unwrap(), octets);
+        assert_eq!(read.canonical_octets(), data.canonical_octets());
+        let unknown = RecordData::Unknown {
+            record_type,
+            octets,
+        };
+        assert_eq!(
+            (unknown.record_type(), unknown.to_octets().is_ok()),
+            (record_type, true)
+        );
+    }
+    assert_eq!(
+        known()
+            .into_iter()
+            .map(|it| it.0)
+            .collect::<HashSet<_>>()
+            .len(),
+        16
+    );
+}
+
+/// Types whose data end in what may be cut or longer.
+fn is_open(record_type: RecordType) -> bool {
+    [RecordType::CAA, RecordType::DNSKEY, RecordType(731)].contains(&record_type)
+}
+
+#[test]
+fn other_octets_are_refused() {
+    for (data, octets) in known() {
+        let record_type = data.record_type();
+        let refused = |octets: &[u8]| RecordData::from_octets(record_type, octets) == Err(BadData);
+        let longer = [octets.as_slice(), b"\x07"].concat();
+        let is_any_digest = matches!(data, RecordData::Ds { digest_type: 3, .. });
+        assert_eq!(refused(&longer), !is_open(record_type) && !is_any_digest);
+        for count in 0..octets.len() {
+            let is_strings = matches!(data, RecordData::Txt(_)) && [2, 3].contains(&count);
+            let is_value = matches!(data, RecordData::Caa { .. }) && count >= 7;
+            assert_eq!(
+                refused(&octets[..count]),
+                !is_strings && !is_value,
+                "{data:?} {count}"
+            );
+        }
+    }
+    let refused = |kind, octets: &[u8]| RecordData::from_octets(kind, octets) == Err(BadData);
+    assert!(refused(RecordType::NS, b"\x01a\xC0\0"));
+    assert!(refused(RecordType::NS, b"\x40a\0"));
+    assert!(refused(
+        RecordType::NS,
+        &[b"\x01a".repeat(127), vec![1, b'a', 0]].concat()
+    ));
+    assert!(refused(RecordType::CAA, b"\0\0value"));
+    assert!(refused(RecordType::CAA, b"\0\x02a-value"));
+    assert!(refused(
+        RecordType::DS,
+        &[&[1, 2, 8, 4][..], &[7; 47]].concat()
+    ));
+    assert!(!refused(
+        RecordType::DS,
+        &[&[1, 2, 8, 4][..], &[7; 48]].concat()
+    ));
+    assert!(!refused(RecordType(65280), &[7; 65535]));
+    assert!(refused(RecordType(65280), &[7; 65536]));
+}
+
+#[test]
+fn other_values_are_refused() {
+    let caa = |tag| RecordData::Caa {
+        flags: 0,
+        tag: string(tag),
+        value: vec![],
+    };
+    let ds = RecordData::Ds {
+        key_tag: 1,
+        algorithm: 8,
+        digest_type: 2,
+        digest: vec![7; 20],
+    };
+    let unknown = RecordData::Unknown {
+        record_type: RecordType::A,
+        octets: vec![1, 2, 3],
+    };
+    let texts = vec![CharStr::from_octets(vec![7; 255]).unwrap(); 257];
+    let refused = [
+        RecordData::Ns(name("a")),
+        RecordData::Txt(vec![]),
+        RecordData::Txt(texts.clone()),
+        caa(""),
+        caa("a b"),
+        ds,
+        unknown,
+    ];
+    for data in refused {
+        assert_eq!(data.to_octets(), Err(BadData), "{data:?}");
+    }
+    assert_eq!(
+        RecordData::Txt(texts[..255].to_vec())
+            .to_octets()
+            .unwrap()
+            .len(),
+        65280
+    );
+    assert!(caa("a1").to_octets().is_ok());
+    assert_eq!(BadData.to_string(), "no data of the type");
+}
+
+/// Names are equal without case, and strings are not (RFC 4034 section 6.2, RFC 4343 section 3).
+#[test]
+fn data_are_compared_in_canonical_form() {
+    assert_eq!(RecordData::Ns(name("A.")), RecordData::Ns(name("a.")));
+    assert_ne!(RecordData::Ns(name("a.")), RecordData::Cname(name("a.")));
+    let text = |text| RecordData::Txt(vec![string(text)]);
+    assert_ne!(text("A"), text("a"));
+    assert!(text("A") < text("a") && text("b") < text("aa"));
+    let octets = b"\x01A\0".to_vec();
+    let record_type = RecordType::NS;
+    assert_eq!(
+        RecordData::from_octets(record_type, &octets).unwrap(),
+        RecordData::Ns(name("a."))
+    );
+    let unknown = RecordData::Unknown {
+        record_type,
+        octets,
+    };
+    assert_ne!(unknown, RecordData::Ns(name("a.")));
+}

@@ -1,0 +1,104 @@
+//! Data, strings and classes.
+use crate::table::octets_of;
+use dns_text::{records, CharStr, Class, Name, RecordData, RecordFault, RecordType, ZoneItem};
+
+pub fn name_of(field: &str) -> Name {
+    Name::from_octets(octets_of(field)).unwrap()
+}
+
+/// What the text of data is in a record of the type, and where it begins.
+pub fn read_data(
+    record_type: &str,
+    text: &str,
+    origin: Option<&str>,
+) -> (Result<RecordData, RecordFault>, usize) {
+    let mut zone = format!("a. 1 {record_type} ").into_bytes();
+    let start = zone.len();
+    zone.extend(octets_of(text));
+    let mut found = records(&zone);
+    if let Some(origin) = origin {
+        found = found.with_origin(&name_of(origin));
+    }
+    let data = match found.next() {
+        Some(Ok(ZoneItem::Record(record))) => Ok(record.data),
+        Some(Err(fault)) => Err(fault),
+        found => panic!("{record_type} {text}: {found:?}"),
+    };
+    assert!(found.next().is_none());
+    (data, start)
+}
+
+/// A row of a type, a text of data, and its octets or that it is refused.
+pub fn read(record_type: &str, text: &str, origin: &str, wanted: &str) -> bool {
+    match (
+        read_data(record_type, text, Some(origin)).0,
+        wanted.strip_prefix('!'),
+    ) {
+        (Err(_), Some(_)) => {}
+        (Ok(data), None) => {
+            let octets = octets_of(wanted);
+            let code = record_type.parse::<RecordType>().unwrap();
+            assert_eq!(data.record_type(), code);
+            assert_eq!(data.to_octets().unwrap(), octets, "{record_type} {text}");
+            assert_eq!(RecordData::from_octets(code, &octets).unwrap(), data);
+        }
+        (found, _) => panic!("{record_type} {text}: {found:?}"),
+    }
+    true
+}
+
+/// A row of a type, a text that is no data of it, why, and where.
+pub fn refused(record_type: &str, text: &str, wanted: &str) -> bool {
+    let (data, start) = read_data(record_type, text, Some(crate::EXAMPLE));
+    let fault = data.unwrap_err();
+    let place = fault.place.checked_sub(start).unwrap();
+    assert_eq!(
+        format!("!{}|{place}", fault.reason),
+        wanted,
+        "{record_type} {text}"
+    );
+    true
+}
+
+/// A row of a type and octets that are its data or not. Only types with a variant judge them.
+pub fn wire(record_type: &str, octets: &str, wanted: &str) -> bool {
+    let record_type = record_type.parse().unwrap();
+    match RecordData::from_octets(record_type, &octets_of(octets)) {
+        Ok(RecordData::Unknown { .. }) => return false,
+        Ok(data) => assert_eq!(data.to_octets().unwrap(), octets_of(wanted)),
+        Err(_) => assert!(wanted.starts_with('!'), "{record_type} {octets}"),
+    }
+    true
+}
+
+/// A row of a name's token, by the name of NS data.
+pub fn name(text: &str, origin: Option<&str>, wanted: &str) -> bool {
+    match (read_data("NS", text, origin).0, wanted.strip_prefix('!')) {
+        (Err(_), Some(_)) => {}
+        (Ok(RecordData::Ns(name)), None) => assert_eq!(name.into_octets(), octets_of(wanted)),
+        (found, _) => panic!("{text}: {found:?}"),
+    }
+    true
+}
+
+/// A row of a string's text, and its length and octets.
+pub fn string(text: &str, wanted: &str) -> bool {
+    let found = CharStr::from_octets_text(&octets_of(text)).ok();
+    let wanted = (!wanted.starts_with('!')).then(|| octets_of(wanted));
+    let octets = wanted.as_ref().map(|it| &it[1..]);
+    assert_eq!(found.as_ref().map(CharStr::as_octets), octets, "{text}");
+    true
+}
+
+/// A row of a string's length and octets, and its quoted text.
+pub fn quoted(octets: &str, wanted: &str) -> bool {
+    let string = CharStr::from_octets(octets_of(octets)[1..].to_vec()).unwrap();
+    assert_eq!(string.quoted().as_bytes(), octets_of(wanted));
+    true
+}
+
+/// A row of a class.
+pub fn class(code: &str, wanted: &str) -> bool {
+    assert_eq!(Class(code.parse().unwrap()).to_string(), wanted);
+    true
+}

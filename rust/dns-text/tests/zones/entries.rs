@@ -1,0 +1,101 @@
+//! Zones: records, files to include and refusals, at once and in blocks.
+use crate::blocks::{in_blocks, Blocks};
+use crate::data::name_of;
+use crate::table::octets_of;
+use dns_text::{
+    position, read_records, records, Position, RecordFault, RecordFaultKind, RecordType,
+    StreamError, ZoneItem,
+};
+use std::io::BufRead;
+
+/// What is found, and of refusals their positions.
+type Found = Vec<Result<ZoneItem, (RecordFault, Position)>>;
+
+fn at_once(text: &[u8], origin: Option<&str>) -> Found {
+    let mut found = records(text);
+    if let Some(origin) = origin {
+        found = found.with_origin(&name_of(origin));
+    }
+    let told = |fault: RecordFault| {
+        let position = fault.locate(text).unwrap();
+        (fault, position)
+    };
+    found.map(|item| item.map_err(told)).collect()
+}
+
+/// The same of a reader, with the places of records found again.
+fn of_reader(reader: impl BufRead, text: &[u8], origin: Option<&str>) -> Found {
+    let mut reader = read_records(reader);
+    if let Some(origin) = origin {
+        reader = reader.with_origin(&name_of(origin));
+    }
+    let mut found = Vec::new();
+    while let Some(item) = reader.next() {
+        if let Ok(ZoneItem::Record(record)) = &item {
+            assert_eq!(reader.locate(record.place), position(text, record.place));
+        }
+        found.push(item.map_err(|error| match error {
+            StreamError::Fault { fault, position } => (fault, position),
+            StreamError::Io(error) => panic!("{error}"),
+        }));
+    }
+    found
+}
+
+/// A refusal as rows have it.
+fn refusal_of(fault: &RecordFault) -> String {
+    let reason = match fault.kind {
+        RecordFaultKind::BadEscape => "bad escape",
+        RecordFaultKind::Closing => "closing",
+        RecordFaultKind::OpenParenthesis => "open parenthesis",
+        RecordFaultKind::OpenQuote => "open quote",
+        RecordFaultKind::LoneReturn => "lone return",
+        _ => &fault.reason,
+    };
+    format!("!{reason}|{}", fault.place)
+}
+
+/// Whether an item of a row is what was found.
+fn agrees(wanted: &str, found: &Result<ZoneItem, (RecordFault, Position)>) -> bool {
+    match found {
+        Err((fault, _)) => refusal_of(fault) == wanted,
+        Ok(ZoneItem::Include { file, origin }) => {
+            let mut octets = [b"include ", file.as_slice()].concat();
+            if let Some(origin) = origin {
+                octets.push(b' ');
+                octets.extend_from_slice(origin.as_octets());
+            }
+            octets == octets_of(wanted)
+        }
+        Ok(ZoneItem::Record(record)) => {
+            let fields: Vec<&str> = wanted.splitn(6, '|').collect();
+            let [place, owner, ttl, class, code, octets] = fields[..] else {
+                return false;
+            };
+            place == record.place.to_string()
+                && octets_of(owner) == record.owner.as_octets()
+                && ttl.ends_with(&format!(" {}", record.ttl.seconds()))
+                && class == record.class.0.to_string()
+                && RecordType(code.parse().unwrap()) == record.record_type()
+                && record.data.to_octets() == Ok(octets_of(octets))
+        }
+        Ok(_) => false,
+    }
+}
+
+/// A row of a text and what its entries are. What `$ORIGIN` and `$TTL` say is not given here.
+pub fn read(text: &[u8], origin: Option<&str>, wanted: &str) -> bool {
+    let found = at_once(text, origin);
+    let items: Vec<&str> = wanted
+        .split_terminator(';')
+        .filter(|it| *it != "directive")
+        .collect();
+    assert_eq!(items.len(), found.len(), "{wanted}: {found:?}");
+    for (item, given) in items.iter().zip(&found) {
+        assert!(agrees(item, given), "{item}: {given:?}");
+    }
+    in_blocks(text, |blocks: Blocks| {
+        assert_eq!(of_reader(blocks, text, origin), found)
+    });
+    true
+}
