@@ -64,7 +64,7 @@ fn answer(call: &str, inputs: &[&[u8]]) -> Option<Answer> {
 
 #[test]
 fn rows_agree() {
-    each_row("test_rows", 1700, |fields| {
+    each_row("test_rows", 1600, |fields| {
         let [call, inputs @ .., wanted] = fields else {
             return false;
         };

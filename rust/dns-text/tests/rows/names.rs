@@ -49,7 +49,7 @@ pub fn one(what: &str, input: &[u8]) -> Option<Answer> {
     };
     match what {
         "read" => Some(Name::from_text(input).ok().map(Name::into_octets)),
-        "of" => Some(read().map(|it| is_absolute(&it).into())),
+        "of" if !input.is_empty() => Some(read().map(|it| is_absolute(&it).into())),
         "plain" => Some(read().map(|it| it.to_string().into_bytes())),
         "zone" => Some(read().map(|it| it.zone_text().into_bytes())),
         "labels" => Some(read().map(|it| all_labels(&it))),
@@ -74,7 +74,8 @@ pub fn two(what: &str, left: &[u8], right: &[u8]) -> Option<Answer> {
             let equal = Name::from_text(left).ok()? == Name::from_text(right).ok()?;
             Some(Some(equal.to_string().into_bytes()))
         }
-        "chain" => Some(appended(left, right).map(|it| texts(&it))),
+        // A chain of relative names may be longer than a name.
+        "chain" if right.ends_with(&[0]) => Some(appended(left, right).map(|it| texts(&it))),
         "flatten" => Some(appended(left, right).map(Name::into_octets)),
         _ => None,
     }
