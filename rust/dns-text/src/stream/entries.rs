@@ -57,7 +57,7 @@ impl OwnedEntry {
 /// its line, as [`read_records`](crate::read_records) does. An error of the reader comes behind the
 /// entries that ended before it, and then nothing follows. Calls that were interrupted are made again.
 ///
-/// What is held is a block and the longest entry, up to twice: so an entry of more than 4 KB may wait
+/// What is held is a block and at most twice the longest entry: so an entry of more than 4 KB may wait
 /// for as many octets more, and a shorter one waits for its line's end.
 ///
 /// ```

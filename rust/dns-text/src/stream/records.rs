@@ -15,7 +15,7 @@ type Found = Option<Result<ZoneItem, RecordFault>>;
 /// error of the reader comes behind the records that ended before it, and then nothing follows. Calls
 /// that were interrupted are made again.
 ///
-/// What is held is a block and the longest entry, up to twice, beside 64 KB for data: so an entry of
+/// What is held is a block and at most twice the longest entry, beside 64 KB for data: so an entry of
 /// more than 4 KB may wait for as many octets more, and a shorter one waits for its line's end.
 ///
 /// ```
