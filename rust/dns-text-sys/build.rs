@@ -1,6 +1,6 @@
-//! Finds the static library: the file that `DNS_TEXT_LIB` names by an absolute path, or `out/libdnstext.a` at the top of
-//! the repository, which `make -C c` makes. Without it the crates can be checked and documented, and
-//! what is linked with them is refused.
+//! Finds the static library: the file that `DNS_TEXT_LIB` names by an absolute path, or
+//! `out/libdnstext.a` at the top of the repository, which `make -C c` makes. Without it the crates can
+//! be checked and documented, and what is linked with them is refused.
 use std::env;
 use std::path::{Path, PathBuf};
 
