@@ -117,9 +117,35 @@ flat sep past (token t) = (if is_line_start past then [] else (if sep past then 
 flat sep past newline = line_feed ∷ []
 flat sep past _ = []
 
--- laid, no word comes first unless a line begins here, and no blank where one begins outside parentheses
-abbrev LaidFrom : Bool → ℕ → List ℕ → Entries → Type 0
-LaidFrom start d text e = (l : Laid d text e) × (start ≡ false → no_word l.ls ≡ true) × (is_tight (start && is_outside d) d l.ls ≡ true)
+-- no token stands directly behind another
+abbrev pub stands_apart : Bool → List Lexeme → Bool
+stands_apart behind [] = true
+stands_apart behind (Word s ss ∷ ls) = not behind && stands_apart true ls
+stands_apart behind (Quote ss ∷ ls) = not behind && stands_apart true ls
+stands_apart behind (_ ∷ ls) = stands_apart false ls
+
+token_apart : (l : Lexeme) (ls : List Lexeme) → is_token_lexeme l ≡ true → stands_apart false (l ∷ ls) ≡ stands_apart true ls
+token_apart (Word s ss) ls o = refl
+token_apart (Quote ss) ls o = refl
+token_apart (Blank _) ls o = cc
+token_apart (Line _) ls o = cc
+token_apart Open ls o = cc
+token_apart Close ls o = cc
+token_apart (Note _) ls o = cc
+
+apart_anywhere : (ls : List Lexeme) → stands_apart true ls ≡ true → stands_apart false ls ≡ true
+apart_anywhere [] h = refl
+apart_anywhere (Word s ss ∷ ls) h = cc
+apart_anywhere (Quote ss ∷ ls) h = cc
+apart_anywhere (Blank _ ∷ ls) h = h
+apart_anywhere (Line _ ∷ ls) h = h
+apart_anywhere (Open ∷ ls) h = h
+apart_anywhere (Close ∷ ls) h = h
+apart_anywhere (Note _ ∷ ls) h = h
+
+-- laid, no word comes first unless a line begins here, and no blank where one begins outside parentheses; and tokens stand apart
+abbrev pub LaidFrom : Bool → ℕ → List ℕ → Entries → Type 0
+LaidFrom start d text e = (l : Laid d text e) × (start ≡ false → no_word l.ls ≡ true) × (is_tight (start && is_outside d) d l.ls ≡ true) × (stands_apart (not start) l.ls ≡ true)
 
 token_tight : (b : Bool) (d : ℕ) (l : Lexeme) (ls : List Lexeme) → is_token_lexeme l ≡ true → is_tight b d (l ∷ ls) ≡ is_tight false d ls
 token_tight b d (Word s ss) ls o = refl
@@ -133,24 +159,31 @@ token_tight b d (Note _) ls o = cc
 flat_token : (fresh wide : Bool) (d : ℕ) (t text : List ℕ) (e : Entries) → IsToken t → LaidFrom false d text e
     → LaidFrom fresh d ((if fresh then [] else (if wide then tab ∷ [] else space ∷ [])) ++ t ++ text) (with_token t e)
 unfolding with_blank with_one
-flat_token true tab d t text e i r = (with_one d t text e i r.0 (r.1 refl), λ no_start. cc, token_tight (is_outside d) d (token_one i).lexeme r.0.ls (token_one i).is_one ∙ r.2)
+flat_token true tab d t text e i r = (
+  with_one d t text e i r.0 (r.1 refl),
+  λ no_start. cc,
+  token_tight (is_outside d) d (token_one i).lexeme r.0.ls (token_one i).is_one ∙ r.2,
+  token_apart (token_one i).lexeme r.0.ls (token_one i).is_one ∙ r.3,
+)
 flat_token false true d t text e i r = (
   with_blank d true (t ++ text) (with_token t e) (with_one d t text e i r.0 (r.1 refl)),
   λ _. refl,
   token_tight false d (token_one i).lexeme r.0.ls (token_one i).is_one ∙ r.2,
+  token_apart (token_one i).lexeme r.0.ls (token_one i).is_one ∙ r.3,
 )
 flat_token false false d t text e i r = (
   with_blank d false (t ++ text) (with_token t e) (with_one d t text e i r.0 (r.1 refl)),
   λ _. refl,
   token_tight false d (token_one i).lexeme r.0.ls (token_one i).is_one ∙ r.2,
+  token_apart (token_one i).lexeme r.0.ls (token_one i).is_one ∙ r.3,
 )
 
 flat_laid : (sep : List Step → Bool) (steps past : List Step) → AllByRecursion IsProper steps → LaidFrom (is_line_start past) 0 (text_of_steps (flat sep) past steps) (document_entries steps)
 unfolding with_line
-flat_laid sep [] past p = (record { ls = []; spelled = refl; valid = refl; nested = refl; cut = refl }, λ _. refl, refl)
+flat_laid sep [] past p = (record { ls = []; spelled = refl; valid = refl; nested = refl; cut = refl }, λ _. refl, refl, refl)
 flat_laid sep (token t ∷ steps) past p = flat_token (is_line_start past) (sep past) 0 t (text_of_steps (flat sep) (token t ∷ past) steps) (document_entries steps) p.0
     (flat_laid sep steps (token t ∷ past) p.1)
-flat_laid sep (newline ∷ steps) past p = let r = flat_laid sep steps (newline ∷ past) p.1 in (with_line _ _ r.0, λ _. refl, r.2)
+flat_laid sep (newline ∷ steps) past p = let r = flat_laid sep steps (newline ∷ past) p.1 in (with_line _ _ r.0, λ _. refl, r.2, r.3)
 flat_laid sep (begin ∷ steps) past p = flat_laid sep steps (begin ∷ past) p.1
 flat_laid sep (end ∷ steps) past p = flat_laid sep steps (end ∷ past) p.1
 flat_laid sep (comment t ∷ steps) past p = flat_laid sep steps (comment t ∷ past) p.1
@@ -207,6 +240,11 @@ unfolding with_blanks with_blank
 blanks_tight d zero text e l = refl
 blanks_tight d (suc n) text e l = blanks_tight d n text e l
 
+blanks_apart : (d n : ℕ) (text : List ℕ) (e : Entries) (l : Laid d text e) → stands_apart false (with_blanks d n text e l).ls ≡ stands_apart false l.ls
+unfolding with_blanks with_blank
+blanks_apart d zero text e l = refl
+blanks_apart d (suc n) text e l = blanks_apart d n text e l
+
 -- a shown comment before, in parentheses
 with_note : (d : ℕ) (t text all : List ℕ) (e : Entries) → IsCommentText t → t ++ line_feed ∷ text ≡ all → Laid (suc d) text e → Laid (suc d) (tab ∷ semicolon ∷ space ∷ all) e
 unfolding encode
@@ -224,11 +262,11 @@ spaced_word : (start : Bool) (d : ℕ) (t text : List ℕ) (e : Entries) → IsT
 spaced_word start d t text e i r = flat_token start false d t text e i r
 
 -- a mark of the multiline layout
-spaced_mark : (start : Bool) (d c : ℕ) (text : List ℕ) (e : Entries) → (l : Laid d (c ∷ text) e) → no_word l.ls ≡ true → ((b : Bool) → is_tight b d l.ls ≡ true)
+spaced_mark : (start : Bool) (d c : ℕ) (text : List ℕ) (e : Entries) → (l : Laid d (c ∷ text) e) → no_word l.ls ≡ true → ((b : Bool) → is_tight b d l.ls ≡ true) → ((b : Bool) → stands_apart b l.ls ≡ true)
     → LaidFrom start d ((if start then [] else space ∷ []) ++ c ∷ [] ++ text) e
 unfolding with_blank
-spaced_mark true d c text e l n b = (l, λ _. n, b (is_outside d))
-spaced_mark false d c text e l n b = (with_blank d false (c ∷ text) e l, λ _. refl, b false)
+spaced_mark true d c text e l n b a = (l, λ _. n, b (is_outside d), a false)
+spaced_mark false d c text e l n b a = (with_blank d false (c ∷ text) e l, λ _. refl, b false, a false)
 
 inner : (start : Bool) (d : ℕ) (cs : List ℕ) (ls : List Lexeme) → is_tight false (suc d) ls ≡ true
     → is_tight (start && is_outside (suc d)) (suc d) (Blank true ∷ Note (space ∷ cs) ∷ Line false ∷ ls) ≡ true
@@ -244,6 +282,7 @@ maybe_note true start n (suc d) t text e i inside r = (
   with_note d t (replicate n space ++ text) _ e i (sym (append_assoc t (line_feed ∷ replicate n space) text)) (with_blanks (suc d) n text e r.0),
   λ _. refl,
   inner start d i.characters ((with_blanks (suc d) n text e r.0).ls) (blanks_tight (suc d) n text e r.0 ∙ r.2),
+  blanks_apart (suc d) n text e r.0 ∙ r.3,
 )
 
 -- after a comment a row starts where the comment is shown, or where one had no word yet
@@ -257,19 +296,19 @@ start_after_comment past t = by (is_shown past) (since ends_row past)
 multiline_laid : (steps past : List Step) (d : ℕ) → is_nested d steps ≡ true → AllByRecursion IsProper steps → (is_shown past ≡ true → 0 < d)
     → LaidFrom (is_row_start past) d (text_of_steps multiline_piece past steps) (document_entries steps)
 unfolding with_line with_opening with_closing
-multiline_laid [] past zero w p s = (record { ls = []; spelled = refl; valid = refl; nested = refl; cut = refl }, λ _. refl, refl)
+multiline_laid [] past zero w p s = (record { ls = []; spelled = refl; valid = refl; nested = refl; cut = refl }, λ _. refl, refl, refl)
 multiline_laid [] past (suc d) w p s = let none = from_none_test (suc d) w in absurd (omega (arith, none))
 multiline_laid (token t ∷ steps) past d w p s = spaced_word (is_row_start past) d t (text_of_steps multiline_piece (token t ∷ past) steps) (document_entries steps) p.0
     (multiline_laid steps (token t ∷ past) d w p.1 s)
-multiline_laid (newline ∷ steps) past zero w p s = let r = multiline_laid steps (newline ∷ past) zero w p.1 s in (with_line _ _ r.0, λ _. refl, r.2)
+multiline_laid (newline ∷ steps) past zero w p s = let r = multiline_laid steps (newline ∷ past) zero w p.1 s in (with_line _ _ r.0, λ _. refl, r.2, r.3)
 multiline_laid (newline ∷ steps) past (suc d) w p s = let none = nested_newline (suc d) newline steps w refl in absurd (omega (arith, none))
 multiline_laid (begin ∷ steps) past d w p s =
     let r = multiline_laid steps (begin ∷ past) (suc d) (nested_in d steps w) p.1 (λ _. omega arith) in
-    spaced_mark (is_row_start past) d open_parenthesis (text_of_steps multiline_piece (begin ∷ past) steps) (document_entries steps) (with_opening d _ _ r.0) refl (λ _. r.2)
+    spaced_mark (is_row_start past) d open_parenthesis (text_of_steps multiline_piece (begin ∷ past) steps) (document_entries steps) (with_opening d _ _ r.0) refl (λ _. r.2) (λ _. apart_anywhere r.0.ls r.3)
 multiline_laid (end ∷ steps) past zero w p s = let some = nested_end zero end steps w refl in absurd (omega (arith, some))
 multiline_laid (end ∷ steps) past (suc d) w p s =
     let r = multiline_laid steps (end ∷ past) d (nested_out d steps w) p.1 (λ h. cc) in
-    spaced_mark (is_row_start past) (suc d) close_parenthesis (text_of_steps multiline_piece (end ∷ past) steps) (document_entries steps) (with_closing d _ _ r.0) refl (λ _. r.2)
+    spaced_mark (is_row_start past) (suc d) close_parenthesis (text_of_steps multiline_piece (end ∷ past) steps) (document_entries steps) (with_closing d _ _ r.0) refl (λ _. r.2) (λ _. apart_anywhere r.0.ls r.3)
 multiline_laid (comment t ∷ steps) past d w p s = maybe_note (is_shown past) (is_row_start past) (indent past) d t (text_of_steps multiline_piece (comment t ∷ past) steps)
     (document_entries steps) p.0 s
     (subst (λ b. LaidFrom b d (text_of_steps multiline_piece (comment t ∷ past) steps) (document_entries steps)) (start_after_comment past t) (multiline_laid steps (comment t ∷ past) d w p.1 s))
@@ -281,6 +320,11 @@ pub multiline_tight : (steps : List Step) → IsWellFormed steps → BeginsNoBla
 multiline_tight steps w = laid_tight _ _ (multiline_laid steps [] 0 w.0 w.1 (λ h. cc))
 
 -- each layout, by its kind
+pub printed_laid : (kind : DisplayKind) (steps : List Step) → IsWellFormed steps → LaidFrom true 0 (printed kind steps) (document_entries steps)
+printed_laid Simple steps w = simple_laid steps w
+printed_laid Tabbed steps w = tabbed_laid steps w
+printed_laid Multiline steps w = multiline_laid steps [] 0 w.0 w.1 (λ h. cc)
+
 pub printed_splits : (kind : DisplayKind) (steps : List Step) → IsWellFormed steps → Splits (printed kind steps) (document_entries steps)
 printed_splits Simple steps w = simple_splits steps w
 printed_splits Tabbed steps w = tabbed_splits steps w
