@@ -61,7 +61,7 @@ module _ (octets : List ℕ) (are : AreOctets octets) where
         let first = from_start before place goes in
         absurd (fault_inside front [] fault (faultless (front ++ Err fault ∷ []) (seen_whole (front ++ Err fault ∷ []) (subst (λ n. IsSeenFrom octets n (front ++ Err fault ∷ [])) first.1 seen))))
 
-    all_seen : (parts : Parts) → IsSeenPastFaults octets parts [] → IsSeen octets parts
+    pub all_seen : (parts : Parts) → IsSeenPastFaults octets parts [] → IsSeen octets parts
     all_seen parts s =
         let first = from_start s.passed s.at s.goes_on in
         let is : parts ≡ s.front ++ [] = s.seen_are ∙ ap (λ l. l ++ s.front) first.0 ∙ sym (append-nil s.front) in
