@@ -2,7 +2,12 @@ pub mod Begun
 pub mod Fits
 pub mod Gives
 pub mod Held
+pub mod LaidTokens
 pub mod LastEnds
 pub mod LineEnds
+pub mod PrintedEntries
+pub mod PrintedTexts
 pub mod ReadBack
+pub mod RecordWords
+pub mod SeenEntries
 pub mod Stops

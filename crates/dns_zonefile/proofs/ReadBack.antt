@@ -1,6 +1,6 @@
 -- Records that are printed and read.
-use Rattle.std.proofs.Common.{◌≡◌, ◌≢◌, ℕ, ◌<◌, ◌^◌, ◌==◌, false, List, [], ◌∷◌, refl, sym, ap, ◌∙◌, subst, inl}
-use Rattle.std.specs.Prelude.{if◌then◌else◌, Option, Some, None, Ok, slice_index}
+use Rattle.std.proofs.Common.{◌≡◌, ◌≢◌, ℕ, ◌<◌, ◌^◌, false, List, [], ◌∷◌, refl, sym, ap, ◌∙◌, subst, inl}
+use Rattle.std.specs.Prelude.{if◌then◌else◌, Some, None, Ok, slice_index}
 use Rattle.std.proofs.lemmas.Bool.{ne_eqb}
 use Rattle.dns_wire.specs.Wire.{wire}
 use Rattle.dns_spelling.specs.NameSpelling.{IsWireName}
@@ -24,7 +24,7 @@ no_directive : (t : TokenSeen) → t.is_quoted ≡ false → slice_index t.text 
 no_directive t q h = ap (λ b. if b then None else directive_of_word t.text) q ∙ no_dollar t.text h
 
 module _ {N O : Type 0} (r : Record N O) (values : AreRecordValues r) (back : IsRecordReadBack r) (words : (form : List ℕ) → IsWireName form → IsOwnerWord (wire_name_text form)) where
-  says_whole : (end : ℕ) (tokens : List TokenSeen) → r.ttl < 2 ^ 31 → ArePrinted (record_tokens r) tokens → SaysWholeRecord end tokens r.owner r.ttl r.class (data_of r).code (data_of r).octets
+  pub says_whole : (end : ℕ) (tokens : List TokenSeen) → r.ttl < 2 ^ 31 → ArePrinted (record_tokens r) tokens → SaysWholeRecord end tokens r.owner r.ttl r.class (data_of r).code (data_of r).octets
   says_whole end [] small p = absurd p
   says_whole end (o ∷ []) small p = absurd p.3
   says_whole end (o ∷ t ∷ []) small p = absurd p.3.3

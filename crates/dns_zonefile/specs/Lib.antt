@@ -5,4 +5,6 @@ pub mod First
 pub mod Giving
 pub mod Line
 pub mod Placed
+pub mod PrintedRows
+pub mod PrintedTexts
 pub mod ReadBack

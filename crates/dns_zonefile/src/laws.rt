@@ -1,8 +1,12 @@
 //! What holds of records that are printed and read.
+ghost use Rattle.std.specs.List.{AllByRecursion};
+ghost use Rattle.dns_resource.specs.RecordLaws.{AreRecordValues};
+ghost use Rattle.dns_zonefile.specs.PrintedTexts.{IsTextOfRecordsRead};
 ghost use Rattle.dns_zonefile.specs.ReadBack.{IsPrintedRecordRead};
 
 use dns_octets::AsOctets;
 use dns_reader::state_laws::whole_records_stand_alone;
+use dns_reader::text_laws::texts_are_read_entry_by_entry;
 use dns_resource::Record;
 use dns_resource::laws::{printed_owners_are_owners, records_are_read_back, records_hold_values};
 
@@ -16,4 +20,26 @@ pub fn printed_records_are_read<Owner: AsOctets, Octets: AsOctets>(one: &Record<
     records_are_read_back(one);
     printed_owners_are_owners();
     whole_records_stand_alone();
+}
+
+/// States what the values of each of these records are. It does nothing of use.
+fn all_hold_values<Owner: AsOctets, Octets: AsOctets>(records: &[Record<Owner, Octets>])
+    ensures { AllByRecursion AreRecordValues records.now }
+{
+    for one in records {
+        records_hold_values(one);
+    }
+}
+
+/// States that a text which is printed of records, in any layout and with a line end behind each, is
+/// read as these records, in their order, and as nothing else, from every state: calls of
+/// [`next_entry`](dns_reader::RecordReader::next_entry) give each with its owner, its time to live, if
+/// all are below 2^31, its class, its type, and its data, where these surely fit. It does nothing of
+/// use.
+pub fn printed_texts_are_read<Owner: AsOctets, Octets: AsOctets>(records: &[Record<Owner, Octets>])
+    ensures { IsTextOfRecordsRead records.now }
+{
+    all_hold_values(records);
+    whole_records_stand_alone();
+    texts_are_read_entry_by_entry();
 }

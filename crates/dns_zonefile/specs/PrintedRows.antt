@@ -1,0 +1,43 @@
+-- Worked rows of texts that are printed of records.
+use Rattle.std.specs.Prelude.{◌≡◌, ℕ, List, [], ◌∷◌, codes, None, refl, Ok}
+use Rattle.std.specs.Fmt.{digits}
+use Rattle.dns_kinds.specs.Types.{type_rows}
+use Rattle.dns_spelling.specs.PrintedNames.{labels_in_octets}
+use Rattle.dns_wire.specs.Wire.{wire}
+use Rattle.dns_zone.specs.declared.zonefile_fmt.DisplayKind.TheVariants.{Simple, Multiline}
+use Rattle.dns_data.specs.Types.{type_shapes}
+use Rattle.dns_resource.specs.declared.record.Record.{Record}
+use Rattle.dns_reader.specs.declared.entry.EntryRead.TheVariants.{Record as IsRecord}
+use Rattle.dns_reader.specs.declared.known.Known.TheVariants.{Name, Unsaid}
+use Rattle.dns_reader.specs.declared.ttl.RecordTtl.TheVariants.{Own}
+use Rattle.dns_zonefile.specs.PrintedTexts.{IsRecordGiven, records_text}
+
+abbrev below_example : List ℕ → List (List ℕ)
+below_example label = label ∷ codes "example" ∷ [] ∷ []
+
+abbrev mail : List ℕ
+mail = 0 ∷ 10 ∷ wire (below_example (codes "mail"))
+
+abbrev mail_record : Record ℕ ℕ
+mail_record = record { owner = below_example (codes "a"); ttl = 3600; class = 1; «data» = record { code = 15; octets = mail } }
+
+-- a line's end stands behind each, also behind the last
+lines_row : records_text Simple (mail_record ∷ mail_record ∷ []) ≡ codes "a.example. 3600 IN MX 10 mail.example.\na.example. 3600 IN MX 10 mail.example.\n"
+unfolding type_shapes type_rows labels_in_octets digits
+lines_row = refl
+
+block_row : records_text Multiline (mail_record ∷ []) ≡ codes "a.example. 3600 IN MX ( 10 mail.example. )\n"
+unfolding type_shapes type_rows labels_in_octets digits
+block_row = refl
+
+no_record_row : records_text {N = ℕ} {O = ℕ} Simple [] ≡ []
+no_record_row = refl
+
+-- what is given of it behind one octet, where it begins at 43
+given_row : IsRecordGiven mail_record (record {
+  old = 7 ∷ [];
+  result = Ok (IsRecord 43 (Own 3600) 1 15);
+  new = 7 ∷ mail;
+  state = record { origin = Unsaid; owner = Name (below_example (codes "a")); default_ttl = None; last_ttl = None; class = 3 };
+})
+given_row = record { at = 43; is = refl; owner = refl; «data» = refl }
