@@ -1,9 +1,11 @@
 -- Worked rows of the definitions.
-use Rattle.std.specs.Prelude.{◌≡◌, ℕ, ◌-◌, ◌^◌, Some, None, List, [], ◌∷◌, codes, refl}
+use Rattle.std.specs.Prelude.{◌≡◌, ℕ, ◌-◌, ◌^◌, Some, None, true, false, List, [], ◌∷◌, codes, refl}
 use Rattle.std.proofs.Common.{arith, inl, inr}
 use Rattle.dns_resource.specs.declared.record.Record.{Record}
 use Rattle.zone_set.specs.Differences.{ttl_under}
+use Rattle.zone_set.specs.Lines.{hex_word}
 use Rattle.zone_set.specs.Lookups.{record_under}
+use Rattle.zone_set.specs.Selections.{is_wanted}
 use Rattle.zone_set.specs.Serials.{IsSerialLess}
 
 -- an address below `example.`
@@ -41,3 +43,16 @@ half_row (inr h) = omega (arith, h.0)
 falls_row : IsSerialLess 100 99 → ⊥
 falls_row (inl h) = omega (arith, h.0)
 falls_row (inr h) = omega (arith, h.1)
+
+no_hex_row : hex_word [] ≡ []
+no_hex_row = refl
+
+-- without a list all types are wanted
+all_row : is_wanted [] 6 ≡ true
+all_row = refl
+
+listed_row : is_wanted (1 ∷ 28 ∷ []) 28 ≡ true
+listed_row = refl
+
+unlisted_row : is_wanted (1 ∷ 28 ∷ []) 6 ≡ false
+unlisted_row = refl

@@ -4,11 +4,17 @@
 pub mod canonical_set;
 pub mod changes;
 pub mod dnssec;
+pub mod lines;
+pub mod selection;
 pub mod serial;
 pub mod set;
+pub mod tagged;
 
 pub use canonical_set::CanonicalSet;
 pub use changes::{Change, changes_between};
 pub use dnssec::is_dnssec;
+pub use lines::{push_change, push_generic, push_record};
+pub use selection::Selection;
 pub use serial::{serial_of, serial_rises};
 pub use set::ZoneSet;
+pub use tagged::TaggedOctets;

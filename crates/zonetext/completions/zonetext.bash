@@ -2,7 +2,7 @@
 _zonetext() {
     local word=${COMP_WORDS[COMP_CWORD]} options
     if [ "$COMP_CWORD" -eq 1 ]; then
-        COMPREPLY=($(compgen -W 'check tokens fmt lines records diff help --help --version -h -V' -- "$word"))
+        COMPREPLY=($(compgen -W 'check tokens fmt lines records canon diff digest help --help --version -h -V' -- "$word"))
         return
     fi
     case ${COMP_WORDS[1]} in
@@ -10,13 +10,20 @@ _zonetext() {
             options='--text --zone --zone-from-name --include --deny --allow --strict --max-ttl --class'
             options+=' --json --max --color --verbose --quiet -v'
             ;;
-        diff) options='--quiet' ;;
+        canon)
+            options='--keep-order --wire --type --only-dnssec --zone --class --include --no-dnssec'
+            options+=' --no-soa --quiet'
+            ;;
+        diff)
+            options='--entries --summary --max-changes --zone --class --include --no-dnssec --no-soa'
+            options+=' --quiet'
+            ;;
         tokens) options='--json --quiet' ;;
         fmt) options='--write --check --diff --force --quiet -w' ;;
         lines) options='--tabbed --quiet' ;;
-        records) options='--origin --class --quiet' ;;
+        records | digest) options='--zone --class --include --quiet' ;;
         help)
-            COMPREPLY=($(compgen -W 'check tokens fmt lines records diff help' -- "$word"))
+            COMPREPLY=($(compgen -W 'check tokens fmt lines records canon diff digest help' -- "$word"))
             return
             ;;
         *) return ;;

@@ -1,5 +1,5 @@
 # Completion of zonetext for fish.
-set -l commands check tokens fmt lines records diff help
+set -l commands check tokens fmt lines records canon diff digest help
 set -l first "not __fish_seen_subcommand_from $commands"
 complete -c zonetext -n $first -f
 complete -c zonetext -n $first -a check -d 'Say what is wrong with zone files'
@@ -7,11 +7,13 @@ complete -c zonetext -n $first -a tokens -d 'Write a line for each token, with i
 complete -c zonetext -n $first -a fmt -d 'Write zone files in one form, with their comments'
 complete -c zonetext -n $first -a lines -d 'Write each entry on a line of its own, without comments'
 complete -c zonetext -n $first -a records -d 'Write each record in full, one a line'
-complete -c zonetext -n $first -a diff -d 'Say where the entries of two files differ first'
+complete -c zonetext -n $first -a canon -d 'Write the records of zone files in full, in canonical order'
+complete -c zonetext -n $first -a diff -d 'Say how the records of two zone files differ'
+complete -c zonetext -n $first -a digest -d 'Check the digests in a zone (ZONEMD, RFC 8976)'
 complete -c zonetext -n $first -a help -d 'Print the help of a command'
 complete -c zonetext -n $first -s V -l version -d 'Print the version'
 complete -c zonetext -n 'not __fish_seen_subcommand_from help' -s h -l help -d 'Print help'
-complete -c zonetext -n '__fish_seen_subcommand_from check tokens fmt lines records diff' -l quiet -d 'Say nothing of how far reading has come'
+complete -c zonetext -n '__fish_seen_subcommand_from check tokens fmt lines records canon diff digest' -l quiet -d 'Say nothing of how far reading has come'
 complete -c zonetext -n '__fish_seen_subcommand_from check' -l text -d 'Look at the text alone, not at records'
 complete -c zonetext -n '__fish_seen_subcommand_from check' -l zone -x -d 'The zone, whose rules are to hold'
 complete -c zonetext -n '__fish_seen_subcommand_from check' -l zone-from-name -d 'The same, by the name of the file'
@@ -31,6 +33,16 @@ complete -c zonetext -n '__fish_seen_subcommand_from fmt' -l check -d 'Name the 
 complete -c zonetext -n '__fish_seen_subcommand_from fmt' -l diff -d 'Show what would change as a unified diff, with status 1'
 complete -c zonetext -n '__fish_seen_subcommand_from fmt' -l force -d 'Also replace zones that a server changes itself'
 complete -c zonetext -n '__fish_seen_subcommand_from lines' -l tabbed -d 'Put tabs between tokens'
-complete -c zonetext -n '__fish_seen_subcommand_from records' -x -l origin -d 'The name before which relative names stand where a file begins'
-complete -c zonetext -n '__fish_seen_subcommand_from records' -x -l class -d 'The class of a record that says none'
+complete -c zonetext -n '__fish_seen_subcommand_from canon' -l keep-order -d 'Keep the order of the files'
+complete -c zonetext -n '__fish_seen_subcommand_from canon' -l wire -d 'Write data as octets, in hexadecimal'
+complete -c zonetext -n '__fish_seen_subcommand_from canon' -x -l type -d 'Write records of this type alone'
+complete -c zonetext -n '__fish_seen_subcommand_from canon' -l only-dnssec -d 'Leave out all but what signing adds'
+complete -c zonetext -n '__fish_seen_subcommand_from diff' -l entries -d 'Say where the entries of the files differ first, as text'
+complete -c zonetext -n '__fish_seen_subcommand_from diff' -l summary -d 'Write how many changes there are of each type'
+complete -c zonetext -n '__fish_seen_subcommand_from diff' -x -l max-changes -d 'Write at most so many changes'
+complete -c zonetext -n '__fish_seen_subcommand_from records canon diff digest' -x -l zone -d 'The origin at the beginning of a file'
+complete -c zonetext -n '__fish_seen_subcommand_from records canon diff digest' -x -l class -d 'The class of records that say none'
+complete -c zonetext -n '__fish_seen_subcommand_from records canon diff digest' -r -l include -d 'A folder of which files may be included'
+complete -c zonetext -n '__fish_seen_subcommand_from canon diff' -l no-dnssec -d 'Leave out what signing adds'
+complete -c zonetext -n '__fish_seen_subcommand_from canon diff' -l no-soa -d 'Leave SOAs out'
 complete -c zonetext -n '__fish_seen_subcommand_from help' -f -a "$commands"

@@ -1,42 +1,21 @@
 //! The command `check`: what is wrong with zone files.
 use crate::checking::{Checker, Limits};
-use crate::progress::Progress;
+use crate::options;
+use crate::options::{USAGE, Usage, class_of, name_of, number_of};
 use crate::reporter::{Form, Reporter};
-use crate::zone_files::{Stop, ZoneFiles};
-use arrayvec::ArrayVec;
+use crate::stop::{Stop, conclude};
+use crate::zone_files::{Begin, visit_file};
 use clap::ArgMatches;
-use dns_kinds::Class;
 use dns_reader::{NameBuffer, State};
-use dns_spelling::append_name;
-use dns_wire::{MAX_NAME, Name};
+use dns_wire::DisplayWithDot;
 use std::alloc::{AllocError, Global};
-use std::io::{ErrorKind, IsTerminal, Write};
+use std::io::{IsTerminal, Write};
 use std::{env, io};
 use zonetext_report::code::Code;
 use zonetext_report::policy::Policy;
 
-/// The status where something could not be read or written.
-const TROUBLE: u8 = 3;
-/// The status of words that are no options.
-const USAGE: u8 = 2;
 /// How many findings are said, unless another number is asked for.
 const MOST: usize = 20;
-/// The code of the class IN.
-const IN: u16 = 1;
-
-/// Why words are no options.
-#[derive(Drop)]
-enum Usage {
-    /// This option has no such value.
-    Value(&'static str),
-    Memory,
-}
-
-impl From<AllocError> for Usage {
-    fn from(_error: AllocError) -> Usage {
-        Usage::Memory
-    }
-}
 
 /// Where a file's zone is said.
 #[derive(Clone, Copy)]
@@ -63,14 +42,6 @@ struct Options<'o> {
     is_quiet: bool,
 }
 
-/// The name that a text spells, below the root.
-fn name_of(text: &str) -> Option<NameBuffer> {
-    let root = Name::root_ref();
-    let mut octets: ArrayVec<u8, MAX_NAME> = ArrayVec::new();
-    append_name(text.as_bytes(), Some(&root), &mut octets).ok()?;
-    NameBuffer::from_octets(octets).ok()
-}
-
 /// The codes that an option names.
 fn codes_of(alloc: Global, names: &[&str], option: &'static str) -> Result<Vec<Code>, Usage> {
     let mut codes = Vec::new(alloc);
@@ -81,17 +52,6 @@ fn codes_of(alloc: Global, names: &[&str], option: &'static str) -> Result<Vec<C
         }
     }
     Ok(codes)
-}
-
-/// The class that an option names, IN if none.
-fn class_of(text: Option<&str>) -> Result<u16, Usage> {
-    let Some(text) = text else {
-        return Ok(IN);
-    };
-    match Class::from_text(text.as_bytes()) {
-        Ok(class) => Ok(class.0),
-        Err(_) => Err(Usage::Value("--class")),
-    }
 }
 
 /// Whether output is coloured, and whether it goes to a terminal.
@@ -121,24 +81,12 @@ fn form_of(rt: &HostRuntime, inner: &ArgMatches) -> Result<Form, Usage> {
     }
 }
 
-/// The number that an option has, if it is given.
-fn number_of(text: Option<&str>, option: &'static str) -> Result<Option<u32>, Usage> {
-    let Some(text) = text else {
-        return Ok(None);
-    };
-    match text.parse::<u32>() {
-        Ok(number) => Ok(Some(number)),
-        Err(_) => Err(Usage::Value(option)),
-    }
-}
-
 /// Where the zone of files is said.
 fn zone_of<'o>(inner: &'o ArgMatches) -> Result<Zone<'o>, Usage> {
     if inner.get_flag("zone-from-name") {
         return Ok(Zone::InName);
     }
-    match inner.get_str("zone") {
-        Some(zone) if name_of(zone).is_none() => Err(Usage::Value("--zone")),
+    match options::zone_of(inner)? {
         Some(zone) => Ok(Zone::Said(zone)),
         None => Ok(Zone::Unsaid),
     }
@@ -166,25 +114,12 @@ fn options_of<'o>(rt: &HostRuntime, inner: &'o ArgMatches) -> Result<Options<'o>
     })
 }
 
-/// Says that something could not be read or written, and returns the status. Whoever closed the
-/// output needs no word of that.
-fn conclude(rt: &HostRuntime, file: &str, stop: Stop) -> u8 {
-    let _ = match stop {
-        Stop::Read { file, error } => eprintln!(rt; "zonetext: {file}: {error}"),
-        Stop::Write(error) if error.kind() == ErrorKind::BrokenPipe => Ok(()),
-        Stop::Write(error) => eprintln!(rt; "zonetext: {error}"),
-        Stop::OutOfMemory => eprintln!(rt; "zonetext: {file}: not enough memory"),
-        Stop::TooLong => eprintln!(rt; "zonetext: {file}: more octets than can be counted"),
-    };
-    TROUBLE
-}
-
 /// Says how much was read: on standard output, unless that has JSON.
 fn tell_zone(rt: &HostRuntime, file: &str, checker: &Checker, form: Form) -> Result<(), Stop> {
     let records = checker.records;
     let text = match &checker.seen {
         Some(seen) => {
-            let (zone, serial) = (seen.zone.as_str(), seen.serial);
+            let (zone, serial) = (DisplayWithDot::new(&seen.zone), seen.serial);
             format!(in rt.alloc(); "{file}: zone {zone}, serial {serial}, {records} records\n")?
         }
         None => format!(in rt.alloc(); "{file}: {records} records\n")?,
@@ -204,17 +139,12 @@ fn go_through(
     checker: &mut Checker,
     state: State,
 ) -> Result<(), Stop> {
-    let mut files = match ZoneFiles::open(rt, file, options.folders, state) {
-        Ok(files) => files,
-        Err(error) => {
-            let file = String::from_str(rt.alloc(), file)?;
-            return Err(Stop::Read { file, error });
-        }
+    let begin = Begin {
+        state,
+        folders: options.folders,
+        is_quiet: options.is_quiet,
     };
-    let mut progress = Progress::new(rt, file, options.is_quiet)?;
-    let answer = files.go_through(checker, &mut progress);
-    progress.clear()?;
-    answer?;
+    visit_file(rt, file, begin, checker)?;
     checker.finish()?;
     checker.reporter.summarize()?;
     if options.is_verbose {
@@ -264,6 +194,7 @@ fn check_file(rt: &HostRuntime, file: &str, options: &Options) -> u8 {
         max_ttl: options.max_ttl,
         assumes_root: zone.is_none(),
         is_strict: options.is_strict,
+        tells_slips: true,
     };
     let state = State::new(options.class);
     let state = match origin_of(file, options.zone).or(name_of(".")) {
@@ -282,11 +213,7 @@ fn check_file(rt: &HostRuntime, file: &str, options: &Options) -> u8 {
 pub fn run(rt: &HostRuntime, inner: &ArgMatches, files: &[&str]) -> io::Result<u8> {
     let options = match options_of(rt, inner) {
         Ok(options) => options,
-        Err(Usage::Value(option)) => {
-            eprintln!(rt; "zonetext: {option} has no such value")?;
-            return Ok(USAGE);
-        }
-        Err(Usage::Memory) => return Err(io::Error::from(ErrorKind::OutOfMemory)),
+        Err(usage) => return options::status_of(rt, Err(usage)),
     };
     let mut status = 0;
     for file in files {

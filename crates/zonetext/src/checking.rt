@@ -3,7 +3,8 @@ use crate::held::{Held, line_of};
 use crate::open_file::first_place;
 use crate::reporter::{Reporter, Spot};
 use crate::spots::{beginning, fault_at, octet_at, spot_at, token_at, tokens_of};
-use crate::zone_files::{Entry, Stop, Visit};
+use crate::stop::Stop;
+use crate::zone_files::{Entry, Given, Visit};
 use dns_data::type_row;
 use dns_fields::Field;
 use dns_heads::{class_word, directive_word, type_word};
@@ -18,11 +19,10 @@ use dns_wire::{DisplayWithDot, DisplayWithoutDot, Name};
 use std::alloc::{AllocError, Global};
 use zone_format::place::Place;
 use zone_rules::{Rule, SortedRecords, check_zone};
-use zone_set::serial_of;
+use zone_set::{TaggedOctets, serial_of};
 use zonetext_records::codes::{code_of_entry, code_of_fault, code_of_rule, is_for_lack_of_room};
 use zonetext_records::data::{has_empty_target, has_other_match_length};
 use zonetext_records::names::{ends_in_dot, ends_like};
-use zonetext_records::placed::PlacedOctets;
 use zonetext_records::texts::{code_text, fault_text};
 use zonetext_report::code::Code;
 use zonetext_report::lint::{Block, lint};
@@ -44,13 +44,50 @@ pub struct Limits {
     pub assumes_root: bool,
     /// Whether what records show together is told without a zone too.
     pub is_strict: bool,
+    /// Whether it is told what looks like a slip, though it is read.
+    pub tells_slips: bool,
 }
 
-/// The zone that a file's first SOA names.
+/// Where a record stands.
+#[derive(Clone, Copy)]
+struct Stand {
+    /// The number of its file.
+    file: usize,
+    position: Position,
+}
+
+/// What the first SOA of a file says.
 #[derive(Drop)]
 pub struct Seen {
-    pub zone: String,
+    /// The name of the zone.
+    pub zone: NameBuffer,
     pub serial: u32,
+}
+
+/// The records of files, with their places.
+#[derive(Drop)]
+struct HeldZone {
+    records: Held<Stand>,
+    /// The paths of the files, by their numbers.
+    files: Vec<String>,
+}
+
+impl HeldZone {
+    /// No records.
+    fn new(alloc: Global) -> HeldZone {
+        HeldZone {
+            records: Held::new(alloc),
+            files: Vec::new(alloc),
+        }
+    }
+
+    /// The path of a file, by its number.
+    fn file(&self, number: usize) -> &str {
+        match self.files.get(number) {
+            Some(file) => file.as_str(),
+            None => "-",
+        }
+    }
 }
 
 /// Finds faults in entries, and says them.
@@ -63,7 +100,7 @@ pub struct Checker<'a> {
     /// The zone whose rules are to hold.
     zone: Option<NameBuffer>,
     /// The records, if they are held.
-    held: Option<Held>,
+    held: Option<HeldZone>,
     /// How many records there were.
     pub records: usize,
     /// What the first SOA says.
@@ -71,7 +108,7 @@ pub struct Checker<'a> {
     /// The numbers of the files of which CR LF was told.
     crlf_files: Vec<usize>,
     /// Whether it was told that there is no origin.
-    has_told_origin: bool,
+    pub has_told_origin: bool,
     /// Whether it was told that the owner that stands is none.
     has_told_owner: bool,
     /// Whether a file is left unread, which is no text of octets.
@@ -130,6 +167,17 @@ fn refusal_text(alloc: Global, refusal: &EntryRefusal, code: Code) -> Result<Str
     }
 }
 
+/// A record that knows where it stands.
+type StandingRecord<'h> = Record<TaggedOctets<'h, Stand>, &'h [u8]>;
+
+/// Whether a record is an SOA.
+fn is_soa(record: Option<&StandingRecord<'_>>) -> bool {
+    match record {
+        Some(record) => record.data.code() == SOA,
+        None => false,
+    }
+}
+
 /// A column of a line, with the line.
 fn line_spot<'s>(file: &'s str, position: Position, line: Option<&'s [u8]>) -> Spot<'s> {
     Spot {
@@ -157,7 +205,11 @@ impl<'a> Checker<'a> {
             reporter,
             limits,
             zone,
-            held: if holds { Some(Held::new(alloc)) } else { None },
+            held: if holds {
+                Some(HeldZone::new(alloc))
+            } else {
+                None
+            },
             records: 0,
             seen: None,
             crlf_files: Vec::new(alloc),
@@ -282,19 +334,40 @@ impl<'a> Checker<'a> {
     }
 
     /// Keeps what the first SOA says.
-    fn see_soa(&mut self, entry: &Entry<'_>) -> Result<(), Stop> {
+    fn see_soa(&mut self, entry: &Entry<'_>) {
         if self.seen.is_some() {
-            return Ok(());
+            return;
         }
-        let Ok(owner) = entry.state.owner() else {
-            return Ok(());
+        let (Ok(owner), Ok(data)) = (entry.state.owner(), Data::from_octets(SOA, entry.data)) else {
+            return;
         };
-        let zone = DisplayWithDot::new(owner).to_string(self.alloc)?;
-        let serial = match Data::from_octets(SOA, entry.data) {
-            Ok(data) => serial_of(&data).unwrap_or(0),
-            Err(_) => 0,
-        };
-        self.seen = Some(Seen { zone, serial });
+        if let (Ok(zone), Some(serial)) = (NameBuffer::from_labels((), owner), serial_of(&data)) {
+            self.seen = Some(Seen { zone, serial });
+        }
+    }
+
+    /// Says what the time to live and the data of a record show, whose type begins at a place.
+    fn check_values(
+        &mut self,
+        entry: &Entry<'_>,
+        spot: Spot<'_>,
+        ttl: RecordTtl,
+        code: u16,
+    ) -> Result<(), Stop> {
+        if let RecordTtl::Minimum(_) = ttl {
+            self.tell(spot, Code::SoaMinimumTtl)?;
+        }
+        if let Some(most) = self.limits.max_ttl {
+            if ttl.seconds() > most {
+                self.tell(spot, Code::MaxTtl)?;
+            }
+        }
+        if has_empty_target(code, entry.data) {
+            self.tell(spot, Code::EmptyUri)?;
+        }
+        if has_other_match_length(code, entry.data) {
+            self.tell(spot, Code::TlsaLength)?;
+        }
         Ok(())
     }
 
@@ -309,33 +382,30 @@ impl<'a> Checker<'a> {
     ) -> Result<(), Stop> {
         self.has_told_owner = false;
         self.records = self.records.saturating_add(1);
+        let has_class = class == self.limits.class;
+        if has_class && code == SOA {
+            self.see_soa(entry);
+        }
+        if has_class && !self.limits.tells_slips {
+            return Ok(());
+        }
         let tokens = tokens_of(self.alloc, entry)?;
         let tokens = tokens.as_slice();
         self.check_names(entry, tokens, code)?;
-        if class != self.limits.class {
+        if !has_class {
             return self.tell_class(entry, tokens);
         }
-        if let RecordTtl::Minimum(_) = ttl {
-            self.tell(spot_at(entry, tokens, at), Code::SoaMinimumTtl)?;
-        }
-        if let Some(most) = self.limits.max_ttl {
-            if ttl.seconds() > most {
-                self.tell(spot_at(entry, tokens, at), Code::MaxTtl)?;
-            }
-        }
-        if has_empty_target(code, entry.data) {
-            self.tell(spot_at(entry, tokens, at), Code::EmptyUri)?;
-        }
-        if has_other_match_length(code, entry.data) {
-            self.tell(spot_at(entry, tokens, at), Code::TlsaLength)?;
-        }
-        if code == SOA {
-            self.see_soa(entry)?;
-        }
-        let position = spot_at(entry, tokens, at).position;
-        match &mut self.held {
-            Some(held) => held.add(entry, position, ttl.seconds(), class, code),
-            None => Ok(()),
+        let spot = spot_at(entry, tokens, at);
+        self.check_values(entry, spot, ttl, code)?;
+        match (&mut self.held, entry.record()) {
+            (Some(held), Some(given)) => held.records.add(
+                given,
+                Stand {
+                    file: entry.number,
+                    position: spot.position,
+                },
+            ),
+            _ => Ok(()),
         }
     }
 
@@ -388,11 +458,11 @@ impl<'a> Checker<'a> {
     /// Says which rules the records break, that of a zone or those of sets alone.
     fn check_zone<Origin: AsOctets>(
         &mut self,
-        held: &Held,
+        held: &HeldZone,
         zone: &Name<Origin>,
         is_zone: bool,
     ) -> Result<(), Stop> {
-        let mut set = held.set()?;
+        let mut set = held.records.set()?;
         set.sort()?;
         let records = set.as_slice();
         let Some(sorted) = SortedRecords::new(records) else {
@@ -400,8 +470,14 @@ impl<'a> Checker<'a> {
         };
         let found = check_zone(self.alloc, zone, &sorted)?;
         for finding in &found {
-            if is_zone || finding.rule == Rule::TtlDiffers || finding.rule == Rule::Duplicate {
-                let record = finding.record.and_then(|place| records.get(place));
+            let record = finding.record.and_then(|place| records.get(place));
+            let is_told = match finding.rule {
+                // What a server sends of a zone ends with the SOA with which it begins.
+                Rule::Duplicate => !is_soa(record),
+                Rule::TtlDiffers => true,
+                _ => is_zone,
+            };
+            if is_told {
                 self.tell_rule(held, finding.rule, record)?;
             }
         }
@@ -411,23 +487,24 @@ impl<'a> Checker<'a> {
     /// Says that a rule is broken, by a record or by what the zone lacks.
     fn tell_rule(
         &mut self,
-        held: &Held,
+        held: &HeldZone,
         rule: Rule,
-        record: Option<&Record<PlacedOctets<'_>, &[u8]>>,
+        record: Option<&StandingRecord<'_>>,
     ) -> Result<(), Stop> {
-        let (file, position) = match record {
-            Some(record) => {
-                let octets = record.owner.as_octets();
-                (octets.file, octets.position)
-            }
-            None => (0, first_place().position),
+        let stand = match record {
+            Some(record) => record.owner.as_octets().tag,
+            None => Stand {
+                file: 0,
+                position: first_place().position,
+            },
         };
+        let position = stand.position;
+        let name = held.file(stand.file);
         let line = if self.reporter.shows_lines() {
-            line_of(self.rt, held.file(file), position.line)?
+            line_of(self.rt, name, position.line)?
         } else {
             None
         };
-        let name = held.file(file);
         let code = code_of_rule(rule);
         match &line {
             Some(line) => self.tell(line_spot(name, position, Some(line.as_slice())), code),
@@ -473,7 +550,8 @@ impl<'a> Checker<'a> {
 impl<'a> Visit for Checker<'a> {
     fn begin(&mut self, file: &str, _number: usize, mark: &[u8]) -> Result<(), Stop> {
         if let Some(held) = &mut self.held {
-            held.add_file(file)?;
+            let name = String::from_str(self.alloc, file)?;
+            held.files.push(name)?;
         }
         if mark.is_empty() {
             return Ok(());

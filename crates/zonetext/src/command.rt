@@ -1,7 +1,7 @@
 //! The words of the program.
 use crate::format::{Mode, Work};
-use crate::records::{Beginning, class_named, origin_named};
-use crate::{check, files, format, records};
+use crate::options::USAGE;
+use crate::{check, files, format, zone_words};
 use clap::{Arg, ArgAction, ArgMatches, Command, Error};
 use std::alloc::{AllocError, Global};
 use std::io;
@@ -9,14 +9,15 @@ use zonetext_lib::layout::Gap;
 use zonetext_lib::tokens::Form;
 use zonetext_lib::writer::Output;
 
-/// The code of the class IN.
-const IN: u16 = 1;
-
 /// What is said of `--quiet`.
-const QUIET: &str = "say nothing of how far reading has come";
+pub const QUIET: &str = "say nothing of how far reading has come";
 
 /// A command over any number of files.
-fn over_files<'a>(alloc: Global, name: &'a str, about: &'a str) -> Result<Command<'a>, AllocError> {
+pub fn over_files<'a>(
+    alloc: Global,
+    name: &'a str,
+    about: &'a str,
+) -> Result<Command<'a>, AllocError> {
     let file = Arg::new(alloc, "FILE")
         .action(ArgAction::Append)
         .help("a zone file, or - for standard input");
@@ -25,7 +26,7 @@ fn over_files<'a>(alloc: Global, name: &'a str, about: &'a str) -> Result<Comman
 }
 
 /// An option without a value.
-fn flag<'a>(alloc: Global, name: &'a str, help: &'a str) -> Arg<'a> {
+pub fn flag<'a>(alloc: Global, name: &'a str, help: &'a str) -> Arg<'a> {
     Arg::new(alloc, name)
         .long(name)
         .action(ArgAction::SetTrue)
@@ -33,7 +34,7 @@ fn flag<'a>(alloc: Global, name: &'a str, help: &'a str) -> Arg<'a> {
 }
 
 /// An option with a value that may be given again.
-fn values<'a>(alloc: Global, name: &'a str, value: &'a str, help: &'a str) -> Arg<'a> {
+pub fn values<'a>(alloc: Global, name: &'a str, value: &'a str, help: &'a str) -> Arg<'a> {
     Arg::new(alloc, name)
         .long(name)
         .action(ArgAction::Append)
@@ -141,7 +142,7 @@ fn lines_command<'a>(alloc: Global, name: &'a str) -> Result<Command<'a>, AllocE
 }
 
 /// An option with a value.
-fn valued<'a>(alloc: Global, name: &'a str, value: &'a str, help: &'a str) -> Arg<'a> {
+pub fn valued<'a>(alloc: Global, name: &'a str, value: &'a str, help: &'a str) -> Arg<'a> {
     Arg::new(alloc, name)
         .long(name)
         .value_name(value)
@@ -149,37 +150,19 @@ fn valued<'a>(alloc: Global, name: &'a str, value: &'a str, help: &'a str) -> Ar
         .help(help)
 }
 
-/// The command that prints records.
-fn records_command<'a>(alloc: Global, name: &'a str) -> Result<Command<'a>, AllocError> {
-    let origin = "the name before which relative names stand where a file begins";
-    let class = "the class of a record that says none, IN if not given";
-    over_files(alloc, name, "Write each record in full, one a line")?
-        .arg(valued(alloc, "origin", "NAME", origin))?
-        .arg(valued(alloc, "class", "CLASS", class))
-}
-
 /// A file that must be given.
-fn required_file<'a>(alloc: Global, name: &'a str, help: &'a str) -> Arg<'a> {
+pub fn required_file<'a>(alloc: Global, name: &'a str, help: &'a str) -> Arg<'a> {
     Arg::new(alloc, name)
         .required(true)
         .action(ArgAction::Set)
         .help(help)
 }
 
-/// The command that compares two files.
-fn diff_command<'a>(alloc: Global, name: &'a str) -> Result<Command<'a>, AllocError> {
-    Command::new(alloc, name)
-        .about("Say where the entries of two files differ first")
-        .arg(required_file(alloc, "A", "a zone file"))?
-        .arg(required_file(alloc, "B", "another"))?
-        .arg(flag(alloc, "quiet", QUIET))
-}
-
 /// The command line.
 fn command_line<'a>(alloc: Global) -> Result<Command<'a>, AllocError> {
     let mut all = Command::new(alloc, "zonetext")
         .version("0.2.0")
-        .about("Checks, formats, lists, lays out, reads and compares DNS zone files")
+        .about("Checks, formats, lists, lays out, reads, compares and digests DNS zone files")
         .subcommand_required(true);
     for which in &Which::ALL {
         all = all.subcommand(which.command(alloc)?)?;
@@ -198,15 +181,15 @@ pub fn run(rt: &HostRuntime, alloc: Global, words: &[&str]) -> io::Result<u8> {
         Ok(matches) => matches,
         Err(error) => {
             error.print(rt)?;
-            return Ok(if error.use_stderr() { 2 } else { 0 });
+            return Ok(if error.use_stderr() { USAGE } else { 0 });
         }
     };
     let Some((name, inner)) = matches.subcommand() else {
-        return Ok(2);
+        return Ok(USAGE);
     };
     match Which::named(name) {
         Some(which) => which.run(rt, inner),
-        None => Ok(2),
+        None => Ok(USAGE),
     }
 }
 
@@ -218,18 +201,22 @@ enum Which {
     Format,
     Lines,
     Records,
+    Canon,
     Diff,
+    Digest,
 }
 
 impl Which {
     /// Each command, as the help lists them.
-    const ALL: [Which; 6] = [
+    const ALL: [Which; 8] = [
         Which::Check,
         Which::Tokens,
         Which::Format,
         Which::Lines,
         Which::Records,
+        Which::Canon,
         Which::Diff,
+        Which::Digest,
     ];
 
     /// The word that asks for it.
@@ -240,7 +227,9 @@ impl Which {
             Which::Format => "fmt",
             Which::Lines => "lines",
             Which::Records => "records",
+            Which::Canon => "canon",
             Which::Diff => "diff",
+            Which::Digest => "digest",
         }
     }
 
@@ -260,8 +249,10 @@ impl Which {
             Which::Tokens => "Example: zonetext tokens --json example.org.zone",
             Which::Format => "Example: zonetext fmt --diff example.org.zone",
             Which::Lines => "Example: zonetext lines example.org.zone",
-            Which::Records => "Example: zonetext records --origin example.org. example.org.zone",
-            Which::Diff => "Example: zonetext diff old.zone new.zone",
+            Which::Records => "Example: zonetext records --zone example.org. example.org.zone",
+            Which::Canon => "Example: zonetext canon --zone example.org. example.org.zone",
+            Which::Diff => "Example: zonetext diff --zone example.org. old.zone new.zone",
+            Which::Digest => "Example: zonetext digest --zone example.org. example.org.zone",
         }
     }
 
@@ -277,8 +268,10 @@ impl Which {
             Which::Tokens => tokens_command(alloc, self.name()),
             Which::Format => fmt_command(alloc, self.name()),
             Which::Lines => lines_command(alloc, self.name()),
-            Which::Records => records_command(alloc, self.name()),
-            Which::Diff => diff_command(alloc, self.name()),
+            Which::Records => zone_words::records_command(alloc, self.name()),
+            Which::Canon => zone_words::canon_command(alloc, self.name()),
+            Which::Diff => zone_words::diff_command(alloc, self.name()),
+            Which::Digest => zone_words::digest_command(alloc, self.name()),
         }
     }
 
@@ -290,8 +283,11 @@ impl Which {
             Which::Tokens => run_tokens(rt, inner),
             Which::Format => run_format(rt, inner, names_of(inner)),
             Which::Lines => run_lines(rt, inner),
-            Which::Records => run_records(rt, inner),
-            Which::Diff => run_diff(rt, inner),
+            Which::Records => zone_words::run_records(rt, inner, names_of(inner)),
+            Which::Canon => zone_words::run_canon(rt, inner, names_of(inner)),
+            Which::Diff if inner.get_flag("entries") => run_entries_diff(rt, inner),
+            Which::Diff => zone_words::run_diff(rt, inner),
+            Which::Digest => zone_words::run_digest(rt, inner),
         }
     }
 }
@@ -333,38 +329,8 @@ fn run_lines(rt: &HostRuntime, inner: &ArgMatches) -> io::Result<u8> {
     print_files(rt, inner, Output::Lines(gap))
 }
 
-/// Where reading of records begins, or the word that says it wrongly.
-fn beginning_of<'m>(inner: &'m ArgMatches) -> Result<Beginning, &'m str> {
-    let class = match inner.get_str("class") {
-        Some(word) => class_named(word).ok_or(word)?,
-        None => IN,
-    };
-    let origin = match inner.get_str("origin") {
-        Some(word) => Some(origin_named(word).ok_or(word)?),
-        None => None,
-    };
-    Ok(Beginning { class, origin })
-}
-
-/// Prints records, and returns the greatest status.
-fn run_records(rt: &HostRuntime, inner: &ArgMatches) -> io::Result<u8> {
-    let beginning = match beginning_of(inner) {
-        Ok(beginning) => beginning,
-        Err(word) => {
-            eprintln!(rt; "zonetext: records: no origin, or no class: {word}")?;
-            return Ok(2);
-        }
-    };
-    let mut status = 0;
-    for file in names_of(inner) {
-        let is_quiet = inner.get_flag("quiet");
-        status = records::print_records(rt, file, is_quiet, &beginning)?.max(status);
-    }
-    Ok(status)
-}
-
-/// Compares two files.
-fn run_diff(rt: &HostRuntime, inner: &ArgMatches) -> io::Result<u8> {
+/// Compares the entries of two files, and stops at the first difference.
+fn run_entries_diff(rt: &HostRuntime, inner: &ArgMatches) -> io::Result<u8> {
     let first = inner.get_str("A").unwrap_or("-");
     let second = inner.get_str("B").unwrap_or("-");
     files::compare(rt, first, second, inner.get_flag("quiet"))
@@ -384,7 +350,7 @@ fn run_format(rt: &HostRuntime, inner: &ArgMatches, names: &[&str]) -> io::Resul
     };
     if inner.get_flag("write") && names.contains(&"-") {
         eprintln!(rt; "zonetext: fmt -w wants files: standard input can't be replaced")?;
-        return Ok(2);
+        return Ok(USAGE);
     }
     let is_quiet = inner.get_flag("quiet");
     format::run(rt, names, Work { mode, is_quiet })

@@ -2,6 +2,7 @@
 use crate::blocks::{Ended, Printer, Take, go_through_file};
 use crate::pair::compare_files;
 use crate::progress::Progress;
+use crate::stop::TROUBLE;
 use dns_split::pieces::Wrong;
 use std::io;
 use std::io::{ErrorKind, Write};
@@ -46,9 +47,9 @@ fn conclude(rt: &HostRuntime, file: &str, answer: Result<(), Ended>) -> io::Resu
         Err(Ended::NoForm(_)) => Ok(1),
         Err(Ended::Read(error)) => {
             eprintln!(rt; "zonetext: {file}: {error}")?;
-            Ok(2)
+            Ok(TROUBLE)
         }
-        Err(Ended::Write(error)) if error.kind() == ErrorKind::BrokenPipe => Ok(1),
+        Err(Ended::Write(error)) if error.kind() == ErrorKind::BrokenPipe => Ok(TROUBLE),
         Err(Ended::Write(error)) => Err(error),
     }
 }
@@ -85,8 +86,8 @@ pub fn compare(rt: &HostRuntime, first: &str, second: &str, is_quiet: bool) -> i
                 "{first}:{line}:{column}: differs\n{second}:{row}:{along}: differs\n"
             )?;
             match rt.stdout().write_all(text.as_bytes()) {
-                Err(error) if error.kind() != ErrorKind::BrokenPipe => Err(error),
-                _ => Ok(1),
+                Ok(()) => Ok(1),
+                Err(error) => conclude(rt, first, Err(Ended::Write(error))),
             }
         }
         Ok(Comparison::FirstWrong(found)) => report(rt, first, found),

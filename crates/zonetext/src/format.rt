@@ -3,6 +3,7 @@ use crate::blocks::{Ended, Take, go_through_file, go_through_octets};
 use crate::files::report;
 use crate::formed::{Former, Looker, Shower};
 use crate::progress::Progress;
+use crate::stop::TROUBLE;
 use dns_split::position::Position;
 use std::alloc::AllocError;
 use std::fs::{File, metadata};
@@ -37,8 +38,6 @@ pub struct Work {
 
 /// The status where files would change, or are no zone text.
 const FOUND: u8 = 1;
-/// The status where something could not be read or written.
-const TROUBLE: u8 = 3;
 
 /// Says something of a file on standard error, and returns the status.
 fn say(rt: &HostRuntime, file: &str, what: &str) -> io::Result<u8> {

@@ -1,13 +1,12 @@
 //! Records that are held in memory.
-use crate::zone_files::{Entry, Stop};
+use crate::stop::Stop;
+use crate::zone_files::Given;
 use dns_resource::{Data, Record};
-use dns_split::position::Position;
 use dns_wire::Name;
 use std::alloc::Global;
 use std::fs::File;
 use std::io::{BufRead, BufReader};
-use zone_set::ZoneSet;
-use zonetext_records::placed::PlacedOctets;
+use zone_set::{TaggedOctets, ZoneSet};
 
 /// Where octets stand among those that are held.
 #[derive(Clone, Copy)]
@@ -18,53 +17,39 @@ struct Part {
 
 /// A record, whose octets stand elsewhere.
 #[derive(Clone, Copy)]
-struct Row {
+struct Row<Tag> {
     owner: Part,
     data: Part,
     ttl: u32,
     class: u16,
     code: u16,
-    file: usize,
-    position: Position,
+    tag: Tag,
 }
 
-/// Records of files, with their places.
+/// Records, each with what is known of it besides.
 #[derive(Drop)]
-pub struct Held {
+pub struct Held<Tag: Copy> {
     alloc: Global,
     octets: Vec<u8>,
-    rows: Vec<Row>,
-    /// The paths of the files, by their numbers.
-    files: Vec<String>,
+    rows: Vec<Row<Tag>>,
 }
 
-/// A set of records that know where they stand.
-pub type PlacedSet<'h> = ZoneSet<PlacedOctets<'h>, &'h [u8]>;
+/// A set of records that are held.
+pub type HeldSet<'h, Tag> = ZoneSet<TaggedOctets<'h, Tag>, &'h [u8]>;
 
-impl Held {
+impl<Tag: Copy> Held<Tag> {
     /// No records.
-    pub fn new(alloc: Global) -> Held {
+    pub fn new(alloc: Global) -> Held<Tag> {
         Held {
             alloc,
             octets: Vec::new(alloc),
             rows: Vec::new(alloc),
-            files: Vec::new(alloc),
         }
     }
 
-    /// Takes the next file.
-    pub fn add_file(&mut self, file: &str) -> Result<(), Stop> {
-        let name = String::from_str(self.alloc, file)?;
-        self.files.push(name)?;
-        Ok(())
-    }
-
-    /// The path of a file, by its number.
-    pub fn file(&self, number: usize) -> &str {
-        match self.files.get(number) {
-            Some(file) => file.as_str(),
-            None => "-",
-        }
+    /// How many records there are.
+    pub fn len(&self) -> usize {
+        self.rows.len()
     }
 
     /// The octets that stand at a place.
@@ -94,39 +79,27 @@ impl Held {
     }
 
     /// Takes a record.
-    pub fn add(
-        &mut self,
-        entry: &Entry<'_>,
-        position: Position,
-        ttl: u32,
-        class: u16,
-        code: u16,
-    ) -> Result<(), Stop> {
-        let Ok(owner) = entry.state.owner() else {
-            return Ok(());
-        };
-        let owner = self.append_owner(owner.as_slice())?;
-        let data = self.append(entry.data)?;
+    pub fn add(&mut self, given: Given<'_>, tag: Tag) -> Result<(), Stop> {
+        let owner = self.append_owner(given.owner)?;
+        let data = self.append(given.data)?;
         self.rows.push(Row {
             owner,
             data,
-            ttl,
-            class,
-            code,
-            file: entry.number,
-            position,
+            ttl: given.ttl,
+            class: given.class,
+            code: given.code,
+            tag,
         })?;
         Ok(())
     }
 
     /// The records, in the order in which they came.
-    pub fn set(&self) -> Result<PlacedSet<'_>, Stop> {
+    pub fn set(&self) -> Result<HeldSet<'_, Tag>, Stop> {
         let mut set = ZoneSet::new(self.alloc);
         for row in &self.rows {
-            let octets = PlacedOctets {
+            let octets = TaggedOctets {
                 octets: self.part(row.owner),
-                file: row.file,
-                position: row.position,
+                tag: row.tag,
             };
             let owner = Name::from_octets(octets);
             let data = Data::from_octets(row.code, self.part(row.data));

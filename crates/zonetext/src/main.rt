@@ -1,21 +1,30 @@
-//! The program `zonetext`: it checks, formats, lists, lays out, reads and compares zone files.
+//! The program `zonetext`: it checks, formats, lists, lays out, reads, compares and digests zone files.
 #![tactic(auto)]
 
 mod blocks;
+mod canon;
+mod changes;
 mod check;
 mod checking;
 mod command;
+mod digest;
 mod files;
 mod format;
 mod formed;
+mod gathered;
 mod held;
+mod lines;
 mod open_file;
+mod options;
 mod pair;
 mod progress;
+mod reading;
 mod records;
 mod reporter;
 mod spots;
+mod stop;
 mod zone_files;
+mod zone_words;
 
 use std::process::ExitCode;
 use std::{env, io};
@@ -39,7 +48,7 @@ fn main(rt: HostRuntime) -> ExitCode {
         Ok(status) => ExitCode::from(status),
         Err(error) => {
             let _ = eprintln!(&rt; "zonetext: {error}");
-            ExitCode::from(2)
+            ExitCode::from(stop::TROUBLE)
         }
     }
 }

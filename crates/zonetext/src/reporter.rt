@@ -1,5 +1,5 @@
 //! What is said of findings.
-use crate::zone_files::Stop;
+use crate::stop::Stop;
 use dns_split::position::Position;
 use std::io::Write;
 use zonetext_report::code::{Code, Severity};

@@ -2,9 +2,9 @@
 use crate::blocks::BLOCK;
 use crate::open_file::{Includer, Input, OpenFile, behind};
 use crate::progress::Progress;
+use crate::stop::Stop;
 use dns_reader::{EntryRead, Known, NameBuffer, RecordRefusal, State};
-use dns_zonefile::AddError;
-use std::alloc::{AllocError, AllocFailed, Global};
+use std::alloc::{AllocError, Global};
 use std::fs::{File, canonicalize, metadata};
 use std::io::ErrorKind;
 use std::path::{Component, Path};
@@ -14,50 +14,6 @@ use zonetext_report::lint::order_mark_len;
 
 /// How many files may be open that others include.
 const MOST_INCLUDED: usize = 10;
-
-/// Why the entries of files do not go on.
-#[derive(Drop)]
-pub enum Stop {
-    /// A file can't be read.
-    Read { file: String, error: io::Error },
-    /// Standard output, or standard error, takes no more.
-    Write(io::Error),
-    /// There is no more memory.
-    OutOfMemory,
-    /// A file has more octets than can be counted.
-    TooLong,
-}
-
-impl From<AllocError> for Stop {
-    fn from(_error: AllocError) -> Stop {
-        Stop::OutOfMemory
-    }
-}
-
-impl<T: Drop> From<AllocFailed<T>> for Stop {
-    fn from(_error: AllocFailed<T>) -> Stop {
-        Stop::OutOfMemory
-    }
-}
-
-impl From<AddError> for Stop {
-    fn from(error: AddError) -> Stop {
-        match error {
-            AddError::OutOfMemory => Stop::OutOfMemory,
-            _ => Stop::TooLong,
-        }
-    }
-}
-
-impl From<io::Error> for Stop {
-    fn from(error: io::Error) -> Stop {
-        if error.kind() == ErrorKind::OutOfMemory {
-            Stop::OutOfMemory
-        } else {
-            Stop::Write(error)
-        }
-    }
-}
 
 /// An entry of a file, and what was read of it.
 #[derive(Drop)]
@@ -81,6 +37,44 @@ pub struct Entry<'e> {
     pub state: &'e State,
 }
 
+/// A record that was read of an entry.
+#[derive(Clone, Copy)]
+pub struct Given<'e> {
+    pub owner: &'e [u8],
+    /// In seconds.
+    pub ttl: u32,
+    pub class: u16,
+    pub code: u16,
+    pub data: &'e [u8],
+}
+
+impl<'e> Entry<'e> {
+    /// The record that was read of it, if it is one.
+    pub fn record(&self) -> Option<Given<'e>> {
+        let Ok(
+            EntryRead::Record {
+                ttl,
+                class,
+                code,
+                ..
+            },
+        ) = self.read
+        else {
+            return None;
+        };
+        let Ok(owner) = self.state.owner() else {
+            return None;
+        };
+        Some(Given {
+            owner: owner.as_slice(),
+            ttl: ttl.seconds(),
+            class: *class,
+            code: *code,
+            data: self.data,
+        })
+    }
+}
+
 /// What takes the entries of files.
 pub trait Visit {
     /// Takes a file that begins with so many octets of a byte order mark, and how many files were
@@ -99,7 +93,7 @@ pub trait Visit {
 
 /// Zone files that are open, and what their entries so far say.
 #[derive(Drop)]
-pub struct ZoneFiles<'a> {
+struct ZoneFiles<'a> {
     rt: &'a HostRuntime,
     /// The folders of which files may be included, by their paths from the root on, without links.
     folders: Vec<String>,
@@ -181,7 +175,7 @@ impl Unfit {
 impl<'a> ZoneFiles<'a> {
     /// A file that is opened, `-` for standard input, and the folders besides its own of which files
     /// may be included; and what stands before its first entry.
-    pub fn open(
+    fn open(
         rt: &'a HostRuntime,
         file: &str,
         folders: &[&str],
@@ -210,7 +204,7 @@ impl<'a> ZoneFiles<'a> {
     }
 
     /// Gives all entries.
-    pub fn go_through<V: Visit>(
+    fn go_through<V: Visit>(
         &mut self,
         visitor: &mut V,
         progress: &mut Progress,
@@ -469,4 +463,35 @@ impl<'a> ZoneFiles<'a> {
         }
         Ok(())
     }
+}
+
+/// How a file is read.
+#[derive(Drop)]
+pub struct Begin<'f> {
+    /// What stands before its first entry.
+    pub state: State,
+    /// The folders, besides its own, of which files may be included.
+    pub folders: &'f [&'f str],
+    /// Whether nothing is said of how far reading has come.
+    pub is_quiet: bool,
+}
+
+/// Gives all entries of a file, and of those that it includes, to what takes them.
+pub fn visit_file<V: Visit>(
+    rt: &HostRuntime,
+    file: &str,
+    begin: Begin<'_>,
+    visitor: &mut V,
+) -> Result<(), Stop> {
+    let mut files = match ZoneFiles::open(rt, file, begin.folders, begin.state) {
+        Ok(files) => files,
+        Err(error) => {
+            let file = String::from_str(rt.alloc(), file)?;
+            return Err(Stop::Read { file, error });
+        }
+    };
+    let mut progress = Progress::new(rt, file, begin.is_quiet)?;
+    let answer = files.go_through(visitor, &mut progress);
+    progress.clear()?;
+    answer
 }

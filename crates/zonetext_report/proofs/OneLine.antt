@@ -15,7 +15,7 @@ use Rattle.zonetext_report.specs.declared.code.Severity.TheVariants.{Error, Warn
 use Rattle.zonetext_report.specs.declared.finding.Finding.{Finding}
 use Rattle.zonetext_report.specs.declared.json.Charset.TheVariants.{Utf8}
 use Rattle.zonetext_report.specs.Code.{code_name, severity_name}
-use Rattle.zonetext_report.specs.Finding.{IsOneLine, bold, finding_line, opened_text, place_text, position_text, severity_style, severity_text, style_if, unstyled}
+use Rattle.zonetext_report.specs.Finding.{IsOneLine, bold, bracketed_code, finding_line, opened_text, place_text, position_text, severity_style, severity_text, style_if, unstyled}
 use Rattle.zonetext_report.specs.Json.{hex_digit, json_finding, json_octet, json_opened, json_position, json_text, stands_plain}
 use Rattle.zone_format.specs.Place.{begins_character}
 use Rattle.zonetext_report.specs.Shown.{is_control, shown_octet, shown_text}
@@ -135,13 +135,21 @@ weight_none b s =
     both (((codes " " ++ style_if b (severity_style s)) ++ severity_name s) ++ codes ":") (style_if b unstyled) colon (style_none b unstyled refl) in
     both ((((codes " " ++ style_if b (severity_style s)) ++ severity_name s) ++ codes ":") ++ style_if b unstyled) (codes " ") plain refl
 
+code_none : (c : Code) → HasNone (code_name c)
+code_none OpenQuote = refl
+code_none _ = refl
+
+bracketed_none : (c : Code) → HasNone (bracketed_code c)
+bracketed_none c = both (codes " [" ++ code_name c) (codes "]") (both (codes " [") (code_name c) refl (code_none c)) refl
+
 pub finding_is_line : (b : Bool) (file : List ℕ) (f : Finding) → IsOneLine (finding_line b file f)
 finding_is_line b file f =
     let weighed : HasNone (place_text b file f.position ++ severity_text b f.severity) = both (place_text b file f.position) (severity_text b f.severity) (place_none b file f.position) (weight_none b f.severity) in
     let told : HasNone ((place_text b file f.position ++ severity_text b f.severity) ++ shown_text true f.message.now) =
     both (place_text b file f.position ++ severity_text b f.severity) (shown_text true f.message.now) weighed (shown_none true f.message.now) in
-    let front : List ℕ = ((place_text b file f.position ++ severity_text b f.severity) ++ shown_text true f.message.now) ++ opened_text f.opened in
-    (front, refl, both ((place_text b file f.position ++ severity_text b f.severity) ++ shown_text true f.message.now) (opened_text f.opened) told (opened_none f.opened))
+    let why : List ℕ = ((place_text b file f.position ++ severity_text b f.severity) ++ shown_text true f.message.now) ++ opened_text f.opened in
+    let opened : HasNone why = both ((place_text b file f.position ++ severity_text b f.severity) ++ shown_text true f.message.now) (opened_text f.opened) told (opened_none f.opened) in
+    (why ++ bracketed_code f.code, refl, both why (bracketed_code f.code) opened (bracketed_none f.code))
 
 -- of the parts of an object
 json_position_none : (p : Position) (n : ℕ) → HasNone (json_position p n)
@@ -159,10 +167,6 @@ json_opened_none (Some p) =
     let line : HasNone (codes ",\"opened_line\":" ++ decimal p.line) = both (codes ",\"opened_line\":") (decimal p.line) refl (decimal_none p.line) in
     let comma : HasNone ((codes ",\"opened_line\":" ++ decimal p.line) ++ codes ",\"opened_column\":") = both (codes ",\"opened_line\":" ++ decimal p.line) (codes ",\"opened_column\":") line refl in
     both ((codes ",\"opened_line\":" ++ decimal p.line) ++ codes ",\"opened_column\":") (decimal p.column) comma (decimal_none p.column)
-
-code_none : (c : Code) → HasNone (code_name c)
-code_none OpenQuote = refl
-code_none _ = refl
 
 pub object_is_line : (file : List ℕ) (f : Finding) → IsOneLine (json_finding file f)
 object_is_line file f =

@@ -7,7 +7,8 @@ use Rattle.dns_split.specs.declared.position.Position.{Position}
 use Rattle.zonetext_report.specs.declared.code.Severity.{Severity}
 use Rattle.zonetext_report.specs.declared.code.Severity.TheVariants.{Error, Warning}
 use Rattle.zonetext_report.specs.declared.finding.Finding.{Finding}
-use Rattle.zonetext_report.specs.Code.{severity_name}
+use Rattle.zonetext_report.specs.declared.code.Code.{Code}
+use Rattle.zonetext_report.specs.Code.{code_name, severity_name}
 use Rattle.zonetext_report.specs.Shown.{shown_text}
 
 -- what begins a style of a terminal: bold, red, magenta, green; and what ends each
@@ -48,9 +49,13 @@ abbrev pub opened_text : Option Position → List ℕ
 opened_text None = []
 opened_text (Some p) = codes ", opened at " ++ position_text p
 
--- `FILE:LINE:COLUMN: error: why`
+-- ` [code]`
+abbrev pub bracketed_code : Code → List ℕ
+bracketed_code c = codes " [" ++ code_name c ++ codes "]"
+
+-- `FILE:LINE:COLUMN: error: why [code]`
 abbrev pub finding_line : (is_coloured : Bool) → (file : List ℕ) → Finding → List ℕ
-finding_line is_coloured file f = place_text is_coloured file f.position ++ severity_text is_coloured f.severity ++ shown_text true f.message.now ++ opened_text f.opened ++ codes "\n"
+finding_line is_coloured file f = place_text is_coloured file f.position ++ severity_text is_coloured f.severity ++ shown_text true f.message.now ++ opened_text f.opened ++ bracketed_code f.code ++ codes "\n"
 
 -- octets whose last is a line feed, and no other
 abbrev pub IsOneLine : List ℕ → Type 0

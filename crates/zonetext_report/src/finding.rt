@@ -1,6 +1,6 @@
 //! A finding, and the line that tells of it.
 ghost use Rattle.std.specs.Prelude.{◌≡◌, ◌++◌, OnOk};
-ghost use Rattle.zonetext_report.specs.Finding.{finding_line, opened_text, place_text, position_text, severity_style, severity_text, style_if};
+ghost use Rattle.zonetext_report.specs.Finding.{bracketed_code, finding_line, opened_text, place_text, position_text, severity_style, severity_text, style_if};
 
 use crate::code::{Code, Severity};
 use crate::push::push_number;
@@ -108,8 +108,17 @@ fn push_opened<A: Allocator>(
     }
 }
 
-/// Appends the line `FILE:LINE:COLUMN: error: why`, in the form of the GNU coding standards, and at
-/// its end `, opened at LINE:COLUMN` where that is told.
+/// Appends the name of a code in brackets, and a blank before it.
+fn push_code<A: Allocator>(out: &mut Vec<u8, A>, code: Code) -> Result<(), AllocError>
+    ensures { OnOk result (out.new.items ≡ out.old.items ++ bracketed_code code) }
+{
+    out.extend_from_slice(b" [")?;
+    out.extend_from_slice(code.name().as_bytes())?;
+    out.extend_from_slice(b"]")
+}
+
+/// Appends the line `FILE:LINE:COLUMN: error: why [code]`, in the form of the GNU coding standards, with
+/// `, opened at LINE:COLUMN` behind why where that is told.
 ///
 /// Control octets of ASCII in the file's name and the message are question marks, so that a
 /// finding is one line. In colour the place is bold, `error:` red, `warning:` magenta.
@@ -126,5 +135,6 @@ pub fn push_line<A: Allocator>(
     push_severity(out, is_coloured, finding.severity)?;
     push_shown(out, true, finding.message.as_bytes())?;
     push_opened(out, finding.opened)?;
+    push_code(out, finding.code)?;
     out.extend_from_slice(b"\n")
 }

@@ -1,0 +1,124 @@
+//! The command `canon`: the records of zone files in full, in canonical order.
+use crate::gathered::{Gathered, NumberedRecord, gather};
+use crate::lines::Lines;
+use crate::reading::Reading;
+use crate::stop::{Stop, conclude};
+use std::alloc::{AllocError, Global};
+use std::io;
+use zone_set::{Selection, push_generic, push_record};
+
+/// The code of SOA.
+const SOA: u16 = 6;
+
+/// How records are written.
+#[derive(Clone, Copy)]
+pub struct Form {
+    /// Whether their data is in the form for unknown types.
+    pub is_generic: bool,
+    /// Whether they stay in the order in which they came.
+    pub keeps_order: bool,
+}
+
+/// The places of records in a list, in the order in which they came, of `count` that came in all.
+fn by_number(
+    alloc: Global,
+    records: &[NumberedRecord<'_>],
+    count: usize,
+) -> Result<Vec<usize>, AllocError> {
+    let mut places: Vec<Option<usize>> = vec![in alloc; None; count]?;
+    for (place, record) in records.iter().enumerate() {
+        if let Some(slot) = places.get_mut(record.owner.as_octets().tag) {
+            *slot = Some(place);
+        }
+    }
+    let mut order = Vec::new(alloc);
+    for place in &places {
+        if let Some(place) = place {
+            order.push(*place)?;
+        }
+    }
+    Ok(order)
+}
+
+/// The places of SOAs in a list, and behind them those of its other records.
+fn soa_first(alloc: Global, records: &[NumberedRecord<'_>]) -> Result<Vec<usize>, AllocError> {
+    let mut order = Vec::new(alloc);
+    for (place, record) in records.iter().enumerate() {
+        if record.data.code() == SOA {
+            order.push(place)?;
+        }
+    }
+    for (place, record) in records.iter().enumerate() {
+        if record.data.code() != SOA {
+            order.push(place)?;
+        }
+    }
+    Ok(order)
+}
+
+/// Appends the line of a record.
+fn push_line(text: &mut String, record: &NumberedRecord<'_>, form: Form) -> Result<(), AllocError> {
+    if form.is_generic {
+        push_generic(text, record)
+    } else {
+        push_record(text, record)
+    }
+}
+
+/// Writes records to standard output, of `count` that came in all.
+fn write_records(
+    rt: &HostRuntime,
+    records: &[NumberedRecord<'_>],
+    count: usize,
+    form: Form,
+) -> Result<(), Stop> {
+    let order = if form.keeps_order {
+        by_number(rt.alloc(), records, count)?
+    } else {
+        soa_first(rt.alloc(), records)?
+    };
+    let mut lines = Lines::new(rt);
+    for place in &order {
+        if let Some(record) = records.get(*place) {
+            push_line(&mut lines.text, record, form)?;
+            lines.flush_block()?;
+        }
+    }
+    lines.flush()?;
+    Ok(())
+}
+
+/// Says how many records were left out because they stood there twice.
+fn tell_duplicates(rt: &HostRuntime, duplicates: usize) -> io::Result<()> {
+    match duplicates {
+        0 => Ok(()),
+        1 => eprintln!(rt; "zonetext: 1 duplicate left out"),
+        _ => eprintln!(rt; "zonetext: {duplicates} duplicates left out"),
+    }
+}
+
+/// Writes the records of files, and says how many stood there twice.
+fn write_gathered(rt: &HostRuntime, gathered: &Gathered, form: Form) -> Result<(), Stop> {
+    let (set, duplicates) = gathered.set()?;
+    write_records(rt, set.as_slice(), gathered.len(), form)?;
+    tell_duplicates(rt, duplicates)?;
+    Ok(())
+}
+
+/// Writes the records of files in full, and returns the status.
+pub fn run(
+    rt: &HostRuntime,
+    files: &[&str],
+    reading: Reading<'_>,
+    selection: Selection<'_>,
+    form: Form,
+) -> u8 {
+    let gathered = match gather(rt, files, reading, selection) {
+        Ok(gathered) => gathered,
+        Err(status) => return status,
+    };
+    match write_gathered(rt, &gathered, form) {
+        Ok(()) => 0,
+        Err(stop) => conclude(rt, "-", stop),
+    }
+}

@@ -1,0 +1,156 @@
+//! The command `diff`: how the records of two zone files differ.
+use crate::gathered::{Gathered, gather};
+use crate::lines::Lines;
+use crate::reading::Reading;
+use crate::stop::{Stop, TROUBLE, conclude};
+use dns_kinds::RecordType;
+use dns_octets::AsOctets;
+use std::alloc::{AllocError, Global};
+use std::collections::BTreeMap;
+use std::io;
+use zone_set::{Change, Selection, changes_between, push_change, serial_rises};
+
+/// What is written of changes.
+#[derive(Clone, Copy)]
+pub struct Output {
+    /// How many of each type there are, in place of the changes.
+    pub is_summary: bool,
+    /// At most so many changes.
+    pub most: Option<u32>,
+}
+
+/// How many changes there are of records of a type.
+#[derive(Clone, Copy)]
+struct Count {
+    removed: usize,
+    added: usize,
+    new_ttls: usize,
+}
+
+/// The type of the record that a change is of.
+fn code_of<Owner: AsOctets, Octets: AsOctets>(change: &Change<'_, Owner, Octets>) -> u16 {
+    match change {
+        Change::Removed(record) | Change::Added(record) | Change::NewTtl(record, _) => {
+            record.data.code()
+        }
+    }
+}
+
+impl Count {
+    /// No changes.
+    fn new() -> Count {
+        Count {
+            removed: 0,
+            added: 0,
+            new_ttls: 0,
+        }
+    }
+
+    /// One change more.
+    fn count<Owner: AsOctets, Octets: AsOctets>(&mut self, change: &Change<'_, Owner, Octets>) {
+        let number = match change {
+            Change::Removed(_) => &mut self.removed,
+            Change::Added(_) => &mut self.added,
+            Change::NewTtl(..) => &mut self.new_ttls,
+        };
+        *number = number.saturating_add(1);
+    }
+}
+
+/// How many changes there are of each type, by its code.
+fn counts_of<Owner: AsOctets, Octets: AsOctets>(
+    alloc: Global,
+    changes: &[Change<'_, Owner, Octets>],
+) -> Result<BTreeMap<u16, Count>, AllocError> {
+    let mut counts = BTreeMap::new(alloc);
+    for change in changes {
+        let code = code_of(change);
+        let mut count = counts.get(&code).copied().unwrap_or(Count::new());
+        count.count(change);
+        counts.insert(code, count)?;
+    }
+    Ok(counts)
+}
+
+/// Writes how many changes there are of each type, the lowest code first.
+fn write_summary(rt: &HostRuntime, counts: &BTreeMap<u16, Count>) -> io::Result<()> {
+    for (code, count) in counts {
+        let record_type = RecordType(*code);
+        let (removed, added, new_ttls) = (count.removed, count.added, count.new_ttls);
+        println!(rt; "{record_type}\t-{removed}\t+{added}\t~{new_ttls}")?;
+    }
+    Ok(())
+}
+
+/// Writes changes, and says how many more there are.
+fn write_changes<Owner: AsOctets, Octets: AsOctets>(
+    rt: &HostRuntime,
+    changes: &[Change<'_, Owner, Octets>],
+    most: Option<u32>,
+) -> Result<(), Stop> {
+    let count = match most {
+        Some(most) => changes.len().min(most as usize),
+        None => changes.len(),
+    };
+    let mut lines = Lines::new(rt);
+    for change in &changes[..count] {
+        push_change(&mut lines.text, change)?;
+        lines.flush_block()?;
+    }
+    lines.flush()?;
+    let more = changes.len() - count;
+    if more > 0 {
+        eprintln!(rt; "zonetext: {more} changes not shown")?;
+    }
+    Ok(())
+}
+
+/// Says that the serial number of the second zone is not above that of the first.
+fn tell_serial(rt: &HostRuntime, old: &Gathered, new: &Gathered) -> io::Result<()> {
+    let (Some(old), Some(new)) = (&old.seen, &new.seen) else {
+        return Ok(());
+    };
+    let (old, new) = (old.serial, new.serial);
+    if serial_rises(old, new) {
+        return Ok(());
+    }
+    eprintln!(rt; "zonetext: serial did not rise: {old} -> {new}")
+}
+
+/// Writes how two zones differ, and returns whether they do.
+fn compare(rt: &HostRuntime, old: &Gathered, new: &Gathered, output: Output) -> Result<bool, Stop> {
+    let (old_set, _) = old.set()?;
+    let (new_set, _) = new.set()?;
+    let changes = changes_between(rt.alloc(), &old_set, &new_set)?;
+    let changes = changes.as_slice();
+    if changes.is_empty() {
+        return Ok(false);
+    }
+    if output.is_summary {
+        write_summary(rt, &counts_of(rt.alloc(), changes)?)?;
+    } else {
+        write_changes(rt, changes, output.most)?;
+    }
+    tell_serial(rt, old, new)?;
+    Ok(true)
+}
+
+/// Compares two files, and returns the status: 1 if their records differ.
+pub fn run(
+    rt: &HostRuntime,
+    first: &str,
+    second: &str,
+    reading: Reading<'_>,
+    selection: Selection<'_>,
+    output: Output,
+) -> u8 {
+    let old = gather(rt, &[first], reading, selection);
+    let new = gather(rt, &[second], reading, selection);
+    let (Ok(old), Ok(new)) = (old, new) else {
+        return TROUBLE;
+    };
+    match compare(rt, &old, &new, output) {
+        Ok(differ) => u8::from(differ),
+        Err(stop) => conclude(rt, "-", stop),
+    }
+}

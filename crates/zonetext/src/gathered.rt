@@ -1,0 +1,101 @@
+//! The records of zone files in canonical form, held in memory.
+use crate::checking::Seen;
+use crate::held::Held;
+use crate::reading::{Reading, TakeRecord, give_records};
+use crate::stop::Stop;
+use crate::zone_files::Given;
+use dns_canonical::append_lowered;
+use dns_resource::{Record, append_canonical_data};
+use std::alloc::Global;
+use zone_set::{CanonicalSet, Selection, TaggedOctets};
+
+/// Records in canonical form (RFC 4034 section 6.2), each with how many came before it.
+#[derive(Drop)]
+pub struct Gathered {
+    held: Held<usize>,
+    /// What the first SOA says, also if SOAs are left out.
+    pub seen: Option<Seen>,
+}
+
+/// A record that knows how many came before it.
+pub type NumberedRecord<'h> = Record<TaggedOctets<'h, usize>, &'h [u8]>;
+
+/// Records in canonical order, each once.
+pub type NumberedSet<'h> = CanonicalSet<TaggedOctets<'h, usize>, &'h [u8]>;
+
+impl Gathered {
+    /// How many records there are.
+    pub fn len(&self) -> usize {
+        self.held.len()
+    }
+
+    /// The records in canonical order, and how many were left out because they stood there twice.
+    pub fn set(&self) -> Result<(NumberedSet<'_>, usize), Stop> {
+        match CanonicalSet::from_set(self.held.set()?) {
+            Ok(made) => Ok(made),
+            Err(_) => Err(Stop::OutOfMemory),
+        }
+    }
+}
+
+/// Takes the records of files in canonical form.
+#[derive(Drop)]
+struct Gatherer<'s> {
+    selection: Selection<'s>,
+    held: Held<usize>,
+    owner: Vec<u8>,
+    data: Vec<u8>,
+}
+
+impl<'s> Gatherer<'s> {
+    /// Before the first record.
+    fn new(alloc: Global, selection: Selection<'s>) -> Gatherer<'s> {
+        Gatherer {
+            selection,
+            held: Held::new(alloc),
+            owner: Vec::new(alloc),
+            data: Vec::new(alloc),
+        }
+    }
+}
+
+impl TakeRecord for Gatherer<'_> {
+    fn take_record(&mut self, given: Given<'_>) -> Result<(), Stop> {
+        if !self.selection.takes(given.code) {
+            return Ok(());
+        }
+        self.owner.truncate(0);
+        self.data.truncate(0);
+        if append_lowered(given.owner, &mut self.owner).is_err()
+            || append_canonical_data(given.code, given.data, &mut self.data).is_err()
+        {
+            return Err(Stop::OutOfMemory);
+        }
+        let number = self.held.len();
+        let lowered = Given {
+            owner: self.owner.as_slice(),
+            data: self.data.as_slice(),
+            ..given
+        };
+        self.held.add(lowered, number)
+    }
+}
+
+/// The records of files that are selected. If an entry is refused, that is said, and the status is
+/// returned in place of them: 1, or 3 where a file can't be read.
+pub fn gather(
+    rt: &HostRuntime,
+    files: &[&str],
+    reading: Reading<'_>,
+    selection: Selection<'_>,
+) -> Result<Gathered, u8> {
+    let mut gatherer = Gatherer::new(rt.alloc(), selection);
+    let outcome = give_records(rt, files, reading, &mut gatherer);
+    if outcome.status > 0 {
+        return Err(outcome.status);
+    }
+    Ok(Gathered {
+        held: gatherer.held,
+        seen: outcome.seen,
+    })
+}

@@ -1,0 +1,80 @@
+//! What options say.
+use arrayvec::ArrayVec;
+use clap::ArgMatches;
+use dns_kinds::Class;
+use dns_reader::NameBuffer;
+use dns_spelling::append_name;
+use dns_wire::{MAX_NAME, Name};
+use std::alloc::AllocError;
+use std::io;
+use std::io::ErrorKind;
+
+/// The status of words that are no options.
+pub const USAGE: u8 = 2;
+
+/// The code of the class IN.
+const IN: u16 = 1;
+
+/// Why words are no options.
+#[derive(Drop)]
+pub enum Usage {
+    /// This option has no such value.
+    Value(&'static str),
+    Memory,
+}
+
+impl From<AllocError> for Usage {
+    fn from(_error: AllocError) -> Usage {
+        Usage::Memory
+    }
+}
+
+/// The name that a text spells, below the root.
+pub fn name_of(text: &str) -> Option<NameBuffer> {
+    let root = Name::root_ref();
+    let mut octets: ArrayVec<u8, MAX_NAME> = ArrayVec::new();
+    append_name(text.as_bytes(), Some(&root), &mut octets).ok()?;
+    NameBuffer::from_octets(octets).ok()
+}
+
+/// The class that an option names, IN if none.
+pub fn class_of(text: Option<&str>) -> Result<u16, Usage> {
+    let Some(text) = text else {
+        return Ok(IN);
+    };
+    match Class::from_text(text.as_bytes()) {
+        Ok(class) => Ok(class.0),
+        Err(_) => Err(Usage::Value("--class")),
+    }
+}
+
+/// The number that an option has, if it is given.
+pub fn number_of(text: Option<&str>, option: &'static str) -> Result<Option<u32>, Usage> {
+    let Some(text) = text else {
+        return Ok(None);
+    };
+    match text.parse::<u32>() {
+        Ok(number) => Ok(Some(number)),
+        Err(_) => Err(Usage::Value(option)),
+    }
+}
+
+/// The zone that is named, if its option is given.
+pub fn zone_of<'o>(inner: &'o ArgMatches) -> Result<Option<&'o str>, Usage> {
+    match inner.get_str("zone") {
+        Some(zone) if name_of(zone).is_none() => Err(Usage::Value("--zone")),
+        zone => Ok(zone),
+    }
+}
+
+/// The status that comes of options, or that of words that are none: that is said.
+pub fn status_of(rt: &HostRuntime, answer: Result<u8, Usage>) -> io::Result<u8> {
+    match answer {
+        Ok(status) => Ok(status),
+        Err(Usage::Value(option)) => {
+            eprintln!(rt; "zonetext: {option} has no such value")?;
+            Ok(USAGE)
+        }
+        Err(Usage::Memory) => Err(io::Error::from(ErrorKind::OutOfMemory)),
+    }
+}

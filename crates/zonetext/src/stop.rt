@@ -1,0 +1,65 @@
+//! Why reading and writing do not go on.
+use dns_zonefile::AddError;
+use std::alloc::{AllocError, AllocFailed};
+use std::io;
+use std::io::ErrorKind;
+
+/// The status where something could not be read or written.
+pub const TROUBLE: u8 = 3;
+
+/// Why the entries of files do not go on.
+#[derive(Drop)]
+pub enum Stop {
+    /// A file can't be read.
+    Read { file: String, error: io::Error },
+    /// Standard output, or standard error, takes no more.
+    Write(io::Error),
+    /// There is no more memory.
+    OutOfMemory,
+    /// A file has more octets than can be counted.
+    TooLong,
+}
+
+impl From<AllocError> for Stop {
+    fn from(_error: AllocError) -> Stop {
+        Stop::OutOfMemory
+    }
+}
+
+impl<T: Drop> From<AllocFailed<T>> for Stop {
+    fn from(_error: AllocFailed<T>) -> Stop {
+        Stop::OutOfMemory
+    }
+}
+
+impl From<AddError> for Stop {
+    fn from(error: AddError) -> Stop {
+        match error {
+            AddError::OutOfMemory => Stop::OutOfMemory,
+            _ => Stop::TooLong,
+        }
+    }
+}
+
+impl From<io::Error> for Stop {
+    fn from(error: io::Error) -> Stop {
+        if error.kind() == ErrorKind::OutOfMemory {
+            Stop::OutOfMemory
+        } else {
+            Stop::Write(error)
+        }
+    }
+}
+
+/// Says that something could not be read or written, and returns the status. Whoever closed the
+/// output needs no word of that.
+pub fn conclude(rt: &HostRuntime, file: &str, stop: Stop) -> u8 {
+    let _ = match stop {
+        Stop::Read { file, error } => eprintln!(rt; "zonetext: {file}: {error}"),
+        Stop::Write(error) if error.kind() == ErrorKind::BrokenPipe => Ok(()),
+        Stop::Write(error) => eprintln!(rt; "zonetext: {error}"),
+        Stop::OutOfMemory => eprintln!(rt; "zonetext: {file}: not enough memory"),
+        Stop::TooLong => eprintln!(rt; "zonetext: {file}: more octets than can be counted"),
+    };
+    TROUBLE
+}

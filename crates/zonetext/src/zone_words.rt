@@ -1,0 +1,167 @@
+//! The words of the commands that read records: `records`, `canon`, `diff` and `digest`.
+use crate::command::{QUIET, flag, over_files, required_file, valued, values};
+use crate::options::{Usage, class_of, number_of, status_of, zone_of};
+use crate::reading::Reading;
+use crate::{canon, changes, digest, records};
+use clap::{ArgMatches, Command};
+use dns_kinds::RecordType;
+use std::alloc::{AllocError, Global};
+use std::io;
+use zone_set::Selection;
+
+/// What is said of the options of all of them.
+const ZONE: &str = "the zone: the origin at the beginning of a file";
+
+const INCLUDE: &str = "a folder of which files may be included, besides the file's own";
+
+const CLASS: &str = "the class of records that say none, IN unless given";
+
+/// The options of all of them.
+fn with_reading<'a>(alloc: Global, command: Command<'a>) -> Result<Command<'a>, AllocError> {
+    let zone = valued(alloc, "zone", "ORIGIN", ZONE).visible_alias("origin")?;
+    command
+        .arg(zone)?
+        .arg(valued(alloc, "class", "CLASS", CLASS))?
+        .arg(values(alloc, "include", "DIR", INCLUDE))
+}
+
+/// The options that leave records out.
+fn with_selection<'a>(alloc: Global, command: Command<'a>) -> Result<Command<'a>, AllocError> {
+    let no_dnssec = "leave out what signing adds: RRSIG, NSEC, DNSKEY, NSEC3, NSEC3PARAM";
+    command
+        .arg(flag(alloc, "no-dnssec", no_dnssec))?
+        .arg(flag(alloc, "no-soa", "leave SOAs out"))
+}
+
+/// The command that writes records.
+pub fn records_command<'a>(alloc: Global, name: &'a str) -> Result<Command<'a>, AllocError> {
+    let about = "Write each record in full, one a line";
+    with_reading(alloc, over_files(alloc, name, about)?)
+}
+
+/// The command that writes records in canonical order.
+pub fn canon_command<'a>(alloc: Global, name: &'a str) -> Result<Command<'a>, AllocError> {
+    let about = "Write the records of zone files in full, in canonical order";
+    let only_dnssec = "leave out all but what signing adds";
+    let command = over_files(alloc, name, about)?
+        .arg(flag(alloc, "keep-order", "keep the order of the files"))?
+        .arg(flag(alloc, "wire", "write data as octets, in hexadecimal"))?
+        .arg(values(alloc, "type", "TYPE", "write records of this type alone"))?
+        .arg(flag(alloc, "only-dnssec", only_dnssec).conflicts_with("no-dnssec")?)?;
+    with_selection(alloc, with_reading(alloc, command)?)
+}
+
+/// The command that compares two files.
+pub fn diff_command<'a>(alloc: Global, name: &'a str) -> Result<Command<'a>, AllocError> {
+    let entries = "say where the entries of the files differ first, as text";
+    let command = Command::new(alloc, name)
+        .about("Say how the records of two zone files differ")
+        .arg(required_file(alloc, "A", "a zone file"))?
+        .arg(required_file(alloc, "B", "another"))?
+        .arg(flag(alloc, "entries", entries))?
+        .arg(flag(
+            alloc,
+            "summary",
+            "write how many changes there are of each type",
+        ))?
+        .arg(valued(alloc, "max-changes", "N", "write at most so many changes"))?
+        .arg(flag(alloc, "quiet", QUIET))?;
+    with_selection(alloc, with_reading(alloc, command)?)
+}
+
+/// The command that checks digests.
+pub fn digest_command<'a>(alloc: Global, name: &'a str) -> Result<Command<'a>, AllocError> {
+    let command = Command::new(alloc, name)
+        .about("Check the digests in a zone (ZONEMD, RFC 8976)")
+        .arg(required_file(alloc, "FILE", "a zone file, or - for standard input"))?
+        .arg(flag(alloc, "quiet", QUIET))?;
+    with_reading(alloc, command)
+}
+
+/// The codes of the types that an option names.
+fn types_of(alloc: Global, names: &[&str]) -> Result<Vec<u16>, Usage> {
+    let mut codes = Vec::new(alloc);
+    for name in names {
+        match RecordType::from_text(name.as_bytes()) {
+            Ok(record_type) => codes.push(record_type.0).map_err(AllocError::from)?,
+            Err(_) => return Err(Usage::Value("--type")),
+        }
+    }
+    Ok(codes)
+}
+
+/// How the words of a command ask files to be read.
+fn reading_of<'o>(inner: &'o ArgMatches, is_one_class: bool) -> Result<Reading<'o>, Usage> {
+    Ok(Reading {
+        origin: zone_of(inner)?,
+        class: class_of(inner.get_str("class"))?,
+        is_one_class,
+        folders: inner.get_strs("include").unwrap_or(&[]),
+        is_quiet: inner.get_flag("quiet"),
+    })
+}
+
+/// Writes the records of files as they come.
+fn list(rt: &HostRuntime, inner: &ArgMatches, files: &[&str]) -> Result<u8, Usage> {
+    Ok(records::run(rt, files, reading_of(inner, false)?))
+}
+
+/// Writes the records of files in canonical form.
+fn write_canonical(rt: &HostRuntime, inner: &ArgMatches, files: &[&str]) -> Result<u8, Usage> {
+    let types = types_of(rt.alloc(), inner.get_strs("type").unwrap_or(&[]))?;
+    let selection = Selection {
+        types: types.as_slice(),
+        without_soa: inner.get_flag("no-soa"),
+        without_dnssec: inner.get_flag("no-dnssec"),
+        only_dnssec: inner.get_flag("only-dnssec"),
+    };
+    let form = canon::Form {
+        is_generic: inner.get_flag("wire"),
+        keeps_order: inner.get_flag("keep-order"),
+    };
+    let reading = reading_of(inner, true)?;
+    Ok(canon::run(rt, files, reading, selection, form))
+}
+
+/// Compares two files by their records.
+fn compare(rt: &HostRuntime, inner: &ArgMatches) -> Result<u8, Usage> {
+    let selection = Selection {
+        without_soa: inner.get_flag("no-soa"),
+        without_dnssec: inner.get_flag("no-dnssec"),
+        ..Selection::ALL
+    };
+    let output = changes::Output {
+        is_summary: inner.get_flag("summary"),
+        most: number_of(inner.get_str("max-changes"), "--max-changes")?,
+    };
+    let first = inner.get_str("A").unwrap_or("-");
+    let second = inner.get_str("B").unwrap_or("-");
+    let reading = reading_of(inner, true)?;
+    Ok(changes::run(rt, first, second, reading, selection, output))
+}
+
+/// Checks the digests of a file.
+fn check_digests(rt: &HostRuntime, inner: &ArgMatches) -> Result<u8, Usage> {
+    let file = inner.get_str("FILE").unwrap_or("-");
+    Ok(digest::run(rt, file, reading_of(inner, true)?))
+}
+
+/// Runs the command `records`, and returns the status.
+pub fn run_records(rt: &HostRuntime, inner: &ArgMatches, files: &[&str]) -> io::Result<u8> {
+    status_of(rt, list(rt, inner, files))
+}
+
+/// Runs the command `canon`, and returns the status.
+pub fn run_canon(rt: &HostRuntime, inner: &ArgMatches, files: &[&str]) -> io::Result<u8> {
+    status_of(rt, write_canonical(rt, inner, files))
+}
+
+/// Runs the command `diff` over records, and returns the status.
+pub fn run_diff(rt: &HostRuntime, inner: &ArgMatches) -> io::Result<u8> {
+    status_of(rt, compare(rt, inner))
+}
+
+/// Runs the command `digest`, and returns the status.
+pub fn run_digest(rt: &HostRuntime, inner: &ArgMatches) -> io::Result<u8> {
+    status_of(rt, check_digests(rt, inner))
+}
