@@ -89,16 +89,16 @@ fn write_changes<Owner: AsOctets, Octets: AsOctets>(
     most: Option<u32>,
 ) -> Result<(), Stop> {
     let count = match most {
-        Some(most) => changes.len().min(most as usize),
+        Some(most) => most as usize,
         None => changes.len(),
     };
     let mut lines = Lines::new(rt);
-    for change in &changes[..count] {
+    for change in changes.iter().take(count) {
         push_change(&mut lines.text, change)?;
         lines.flush_block()?;
     }
     lines.flush()?;
-    let more = changes.len() - count;
+    let more = changes.len().saturating_sub(count);
     if more > 0 {
         eprintln!(rt; "zonetext: {more} changes not shown")?;
     }

@@ -1,7 +1,7 @@
 //! The records of zone files in canonical form, held in memory.
 use crate::checking::Seen;
 use crate::held::Held;
-use crate::reading::{Reading, TakeRecord, give_records};
+use crate::reading::{Outcome, Reading, TakeRecord, give_records};
 use crate::stop::Stop;
 use crate::zone_files::Given;
 use dns_canonical::append_lowered;
@@ -89,13 +89,17 @@ pub fn gather(
     reading: Reading<'_>,
     selection: Selection<'_>,
 ) -> Result<Gathered, u8> {
-    let mut gatherer = Gatherer::new(rt.alloc(), selection);
-    let outcome = give_records(rt, files, reading, &mut gatherer);
-    if outcome.status > 0 {
-        return Err(outcome.status);
+    let gatherer = Gatherer::new(rt.alloc(), selection);
+    let Outcome {
+        status,
+        seen,
+        taker,
+    } = give_records(rt, files, reading, gatherer);
+    if status > 0 {
+        return Err(status);
     }
     Ok(Gathered {
-        held: gatherer.held,
-        seen: outcome.seen,
+        held: taker.held,
+        seen,
     })
 }

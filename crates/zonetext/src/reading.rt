@@ -36,12 +36,12 @@ pub trait TakeRecord {
 
 /// Gives records to what takes them, and says what is refused.
 #[derive(Drop)]
-struct Giver<'a, 't, T> {
-    checker: Checker<'a>,
-    taker: &'t mut T,
+struct Giver<'g, T: Drop> {
+    checker: Checker<'g>,
+    taker: T,
 }
 
-impl<T: TakeRecord> Visit for Giver<'_, '_, T> {
+impl<T: TakeRecord + Drop> Visit for Giver<'_, T> {
     fn begin(&mut self, file: &str, number: usize, mark: &[u8]) -> Result<(), Stop> {
         self.checker.begin(file, number, mark)
     }
@@ -86,11 +86,11 @@ fn first_state(reading: Reading<'_>) -> State {
 
 /// Gives the records of files, one file behind the other, and returns the status: 1 if an entry is
 /// refused, or 3 where a file can't be read.
-fn give_files<T: TakeRecord>(
+fn give_files<T: TakeRecord + Drop>(
     rt: &HostRuntime,
     files: &[&str],
     reading: Reading<'_>,
-    giver: &mut Giver<'_, '_, T>,
+    giver: &mut Giver<'_, T>,
 ) -> u8 {
     let mut status = 0;
     for file in files {
@@ -115,26 +115,46 @@ fn give_files<T: TakeRecord>(
 
 /// What became of files.
 #[derive(Drop)]
-pub struct Outcome {
+pub struct Outcome<T: Drop> {
     /// 0 if all was read, 1 if an entry is refused, 3 where a file can't be read or something can't
     /// be written.
     pub status: u8,
     /// What the first SOA says.
     pub seen: Option<Seen>,
+    /// What took the records.
+    pub taker: T,
+}
+
+/// Says that there is no origin, if relative names were refused for that, and returns what became of
+/// files.
+fn finish<T: TakeRecord + Drop>(rt: &HostRuntime, giver: Giver<'_, T>, status: u8) -> Outcome<T> {
+    let Giver { checker, taker } = giver;
+    if checker.has_told_origin {
+        let _ = eprintln!(rt; "zonetext: no origin: give --zone");
+    }
+    Outcome {
+        status,
+        seen: checker.seen,
+        taker,
+    }
 }
 
 /// Gives the records of files to what takes them, one file behind the other. What is refused is said.
-pub fn give_records<T: TakeRecord>(
+pub fn give_records<T: TakeRecord + Drop>(
     rt: &HostRuntime,
     files: &[&str],
     reading: Reading<'_>,
-    taker: &mut T,
-) -> Outcome {
-    let Ok(allowed) = unsaid_codes(rt.alloc(), reading.is_one_class) else {
-        return Outcome {
-            status: conclude(rt, "-", Stop::OutOfMemory),
-            seen: None,
-        };
+    taker: T,
+) -> Outcome<T> {
+    let allowed = match unsaid_codes(rt.alloc(), reading.is_one_class) {
+        Ok(allowed) => allowed,
+        Err(_) => {
+            return Outcome {
+                status: conclude(rt, "-", Stop::OutOfMemory),
+                seen: None,
+                taker,
+            };
+        }
     };
     let policy = Policy {
         allowed: allowed.as_slice(),
@@ -156,11 +176,5 @@ pub fn give_records<T: TakeRecord>(
     let checker = Checker::new(rt, reporter, limits, None);
     let mut giver = Giver { checker, taker };
     let status = give_files(rt, files, reading, &mut giver);
-    if giver.checker.has_told_origin {
-        let _ = eprintln!(rt; "zonetext: no origin: give --zone");
-    }
-    Outcome {
-        status,
-        seen: giver.checker.seen,
-    }
+    finish(rt, giver, status)
 }

@@ -28,9 +28,8 @@ impl TakeRecord for Lines<'_> {
 
 /// Writes the records of files as they come, and returns the status.
 pub fn run(rt: &HostRuntime, files: &[&str], reading: Reading<'_>) -> u8 {
-    let mut lines = Lines::new(rt);
-    let outcome = give_records(rt, files, reading, &mut lines);
-    match lines.flush() {
+    let mut outcome = give_records(rt, files, reading, Lines::new(rt));
+    match outcome.taker.flush() {
         Ok(()) => outcome.status,
         Err(error) => conclude(rt, "-", Stop::Write(error)),
     }
