@@ -1,5 +1,6 @@
-/* The rows of crates/test_rows/stdin whose call the library has: each with no room, with one octet
- * too few, and with just what is needed. Says at the end which calls it has not. */
+/* The rows of crates/test_rows/stdin, or of crates/test_records/stdin, whose call the library has: each
+ * with no room, with one octet too few, and with just what is needed. Says at the end which calls it has
+ * not. The rows of zones are those of zones.c. */
 #include <dnstext.h>
 #include <stdio.h>
 #include <stdlib.h>
@@ -34,6 +35,8 @@ static const struct {
     {"base32.read", dns_base32hex_read, MOST},
     {"base64.print", dns_base64_print, MOST},
     {"base64.read", dns_base64_read, MOST},
+    {"octets.print", dns_charstr_print_quoted, 255},
+    {"digits.hex", dns_base16_read, MOST},
 };
 
 static char line[MOST];
@@ -142,6 +145,14 @@ static int positions_agree(const char *input, const char *place, const char *wan
     return status == DNS_OK && strcmp(printed, wanted) == 0;
 }
 
+/* A row of `class.print`: a number and its text. */
+static int class_agrees(const char *number, const char *wanted) {
+    uint8_t printed[16];
+    struct dns_outcome outcome;
+    return dns_class_print((uint16_t)strtoul(number, NULL, 10), printed, sizeof printed, &outcome) == DNS_OK &&
+           outcome.length == strlen(wanted) && memcmp(printed, wanted, outcome.length) == 0;
+}
+
 static void remember(const char *name) {
     size_t i;
     for (i = 0; i < unknowns; i++)
@@ -153,10 +164,10 @@ static void remember(const char *name) {
 
 /* Runs a row: 1 where it agrees, 0 where it differs, -1 where the library has no such call. */
 static int run(char *row) {
-    char *fields[4];
+    char *fields[5];
     size_t count = 0, i;
     char *at = row;
-    while (at != NULL && count < 4) {
+    while (at != NULL && count < 5) {
         fields[count++] = at;
         at = strchr(at, '\t');
         if (at != NULL)
@@ -170,6 +181,8 @@ static int run(char *row) {
             return numbers_agree(numbers[i].f, fields[1], fields[2]);
     if (count == 4 && at == NULL && strcmp(fields[0], "zone.position") == 0)
         return positions_agree(fields[1], fields[2], fields[3]);
+    if (count == 3 && at == NULL && strcmp(fields[0], "class.print") == 0)
+        return class_agrees(fields[1], fields[2]);
     remember(fields[0]);
     return -1;
 }

@@ -3,12 +3,14 @@ mod CutTexts
 mod Decimals
 mod InCalls
 mod KeptNames
+mod LastEnds
 mod Leading
 mod LeftOpen
 mod Lengths
 mod NameText
 mod NumberText
 mod PieceCalls
+mod RecordCalls
 mod Row
 mod ToldTexts
 mod Written

@@ -8,6 +8,7 @@ pub mod Numbers
 pub mod Pieces
 pub mod Places
 pub mod Reasons
+pub mod RecordCalls
 pub mod Records
 pub mod Rows
 pub mod Status

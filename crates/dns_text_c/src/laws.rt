@@ -9,6 +9,7 @@ ghost use Rattle.dns_split.specs.declared.pieces.Fault.{Fault};
 ghost use Rattle.dns_text_c.specs.Calls.{ToldEntry, Calls, told_entries, octets_of, last_status};
 ghost use Rattle.dns_text_c.specs.Entries.{entries_of_pieces, InARow};
 ghost use Rattle.dns_text_c.specs.Pieces.{PieceCalls, ToldPiece, told_from, entries_told};
+ghost use Rattle.dns_text_c.specs.RecordCalls.{RecordCallsTellAll};
 ghost use Rattle.dns_text_c.specs.Told.{number_of};
 ghost use Rattle.dns_text_c.specs.declared.outcome.Refusal.TheVariants.{OpenParenthesis};
 ghost use Rattle.dns_text_c.specs.declared.pieces.Standing.{Standing};
@@ -41,4 +42,12 @@ pub fn piece_calls_tell_all()
         → first.depth ≡ 0 → first.began ≡ 0 → first.is_done ≡ 0 → PieceCalls text first told last → told ≡ told_from text 0 given }
     ensures tokens { (text : List ℕ) (found : Entries) (first last : Standing) (told : List ToldPiece) → AreOctets text → Splits text found → first.at ≡ 0
         → first.depth ≡ 0 → first.began ≡ 0 → first.is_done ≡ 0 → PieceCalls text first told last → entries_told text told ≡ found }
+{}
+
+/// Calls for the next record, one after another from a text's start until nothing is left, each with
+/// room for what it gives, tell just the records, files, refusals and faults that one
+/// [`RecordReader`](dns_reader::RecordReader) gives of the whole text, in order, and then nothing.
+/// None of them refuses the zone.
+pub fn record_calls_tell_all()
+    ensures { RecordCallsTellAll }
 {}
