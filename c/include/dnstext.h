@@ -39,8 +39,8 @@ enum dns_status {
     DNS_BAD_UTF8 = 5,          /* no UTF-8 */
     DNS_BAD_SYMBOL = 6,        /* a plain octet or character outside printable ASCII, which stands for
                                   no octet */
-    DNS_TOO_LONG = 7,          /* more than 255 octets, or 2^60 for the encodings; of a name's text
-                                  more than 254 before the root */
+    DNS_TOO_LONG = 7,          /* more than 255 octets, 65535 of data, or 2^60 for the encodings; of a
+                                  name's text more than 254 before the root */
     DNS_BAD_ENCODING = 8,      /* no text of the encoding; there is no place */
     DNS_CLOSING = 9,           /* a closing parenthesis, and none is open */
     DNS_OPEN_PARENTHESIS = 10, /* the text ends inside parentheses */
@@ -69,7 +69,7 @@ enum dns_status {
     DNS_NO_ORIGIN = 30,        /* a relative name where there is no origin, also in data */
     DNS_NO_OWNER = 31,         /* a record that begins with a blank, and no owner was said */
     DNS_REFUSED_OWNER = 32,    /* the same, and what was said as the owner is refused */
-    DNS_BAD_DATA = 33,         /* tokens that are no data of their type */
+    DNS_BAD_DATA = 33,         /* tokens or octets that are no data of their type */
     DNS_NO_TTL = 34,           /* a record without a time to live, and none is known */
     DNS_RELATIVE_NAME = 35     /* octets of a name without the root at their end */
 };
@@ -160,6 +160,28 @@ uint32_t dns_class_read(const uint8_t *text, size_t text_len, uint16_t *code,
                         struct dns_outcome *outcome);
 /* The name of a class, or without one CLASS and the code: at most 10 characters. */
 uint32_t dns_class_print(uint16_t code, uint8_t *text, size_t text_len, struct dns_outcome *outcome);
+
+/* ---- Record data of a type (RFC 1035 section 3.2.1, RFC 3597).
+ *
+ * The octets are in wire form, at most 65535, without compressed names. Printing gives them on one line,
+ * with a space between tokens: in the type's text form, or without one as \#, the number of octets, and
+ * these in hexadecimal. Names are absolute. A type without records in zones, and octets that are no data
+ * of it, are refused by DNS_BAD_DATA with the place 0, more octets by DNS_TOO_LONG with the place 65535.
+ * DNS_TOO_LONG with the place 0 would say that printing failed, which no test has seen; then the octets
+ * of the text that was to be may have been written. */
+uint32_t dns_data_print(uint16_t code, const uint8_t *octets, size_t octets_len, uint8_t *text,
+                        size_t text_len, struct dns_outcome *outcome);
+/* Reads data in either form: one entry of zone text, which may have parentheses and comments. The origin
+ * is an absolute name in wire form, before which relative names stand, or no octets. One that is no name
+ * is refused as by dns_zone_origin, with the place 0.
+ *
+ * What is no data is refused by DNS_BAD_DATA or DNS_NO_ORIGIN, with its place; the octets are then the
+ * text of the refusal, as dns_record_next gives it: at most 255 characters, of which nothing is written
+ * where they do not fit, and the length is what is needed. A fault of the text comes with its place and
+ * the length 0. A call has some 70 KB on the stack. */
+uint32_t dns_data_read(uint16_t code, const uint8_t *text, size_t text_len, const uint8_t *origin,
+                       size_t origin_len, uint8_t *octets, size_t octets_len,
+                       struct dns_outcome *outcome);
 
 /* ---- The encodings of RFC 4648 sections 8, 7 and 4.
  *

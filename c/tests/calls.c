@@ -637,6 +637,88 @@ static void states_of_any_octets(void) {
     }
 }
 
+/* Data of a type and their text, each read from the other. */
+static uint16_t data_code;
+static const uint8_t *data_origin;
+static size_t data_origin_len;
+
+static uint32_t read_data(const uint8_t *text, size_t text_len, uint8_t *octets, size_t octets_len,
+                          struct dns_outcome *outcome) {
+    return dns_data_read(data_code, text, text_len, data_origin, data_origin_len, octets, octets_len,
+                         outcome);
+}
+
+static uint32_t print_data(const uint8_t *octets, size_t octets_len, uint8_t *text, size_t text_len,
+                           struct dns_outcome *outcome) {
+    return dns_data_print(data_code, octets, octets_len, text, text_len, outcome);
+}
+
+/* A refusal of a text, with its text where that fits, and the memory behind it as it was. */
+static void refuses_data(const uint8_t *text, size_t text_len, uint32_t status, size_t place,
+                         const char *why, int line) {
+    uint8_t memory[300];
+    size_t length = strlen(why), room, i;
+    for (room = length != 0 ? length - 1 : 0; room <= length + 1; room++) {
+        struct dns_outcome outcome = {7, 7};
+        memset(memory, '-', sizeof memory);
+        expect(run(read_data, text, text_len, memory, room, &outcome) == status, "status", line);
+        expect(outcome.length == length && outcome.place == place, "length and place", line);
+        for (i = 0; i < sizeof memory; i++)
+            expect(memory[i] == (room >= length && i < length ? (uint8_t)why[i] : '-'), "memory", line);
+    }
+}
+#define REFUSES_DATA(text, status, place, why) refuses_data(BYTES(text), status, place, why, __LINE__)
+
+/* RFC 1035 sections 3.3 and 5.1, RFC 3597 section 5, RFC 3123. */
+static void record_data(void) {
+    static uint8_t many[65536];
+    struct dns_outcome outcome = {7, 7};
+    data_code = 15;
+    data_origin = (const uint8_t *)"\7example";
+    data_origin_len = 9;
+    GIVES(read_data, "10 mail", "\0\12\4mail\7example\0");
+    GIVES(read_data, "( 10 ; first\n mail. )\n\n", "\0\12\4mail\0");
+    data_code = 731;
+    GIVES(read_data, "\\# 3 abcd ef", "\253\315\357");
+    GIVES(print_data, "\253\315\357", "\\# 3 ABCDEF");
+    GIVES(print_data, "", "\\# 0");
+    REFUSES_DATA("abcdef", DNS_BAD_DATA, 0, "TYPE731: give its data as \\#");
+    data_code = 15;
+    GIVES(print_data, "\0\12\4mail\0", "10 mail.");
+    REFUSES_DATA("65536 mail", DNS_BAD_DATA, 0, "MX preference: decimal number overflow");
+    REFUSES_DATA("10 mail 5", DNS_BAD_DATA, 8, "MX: unexpected token behind the data");
+    REFUSES_DATA("10 mail\n5", DNS_BAD_DATA, 8, "MX: unexpected token behind the data");
+    REFUSES_DATA("10 (mail", DNS_OPEN_PARENTHESIS, 8, "");
+    REFUSES_DATA("10 mail\n)", DNS_CLOSING, 8, "");
+    REFUSES(print_data, "\0\12\4mail", DNS_BAD_DATA, 0);
+    REFUSES(print_data, "\0\12\300\14", DNS_BAD_DATA, 0);
+    REFUSES(print_data, "", DNS_BAD_DATA, 0);
+    data_origin = NULL;
+    data_origin_len = 0;
+    GIVES(read_data, "10 mail.", "\0\12\4mail\0");
+    REFUSES_DATA("10 mail", DNS_NO_ORIGIN, 3, "MX exchange: relative name, and no origin");
+    data_origin = (const uint8_t *)"\1a";
+    data_origin_len = 2;
+    REFUSES_DATA("10 mail.", DNS_RELATIVE_NAME, 0, "");
+    data_origin_len = 1;
+    REFUSES_DATA("10 mail.", DNS_SHORT_INPUT, 0, "");
+    data_origin = many;
+    data_origin_len = 256;
+    REFUSES_DATA("10 mail.", DNS_TOO_LONG, 0, "");
+    data_origin_len = 0;
+    data_code = 16;
+    GIVES(print_data, "\3a b\0\1\"", "\"a b\" \"\" \"\\\"\"");
+    data_code = 42;
+    GIVES(read_data, "", "");
+    GIVES(read_data, " ; none", "");
+    data_code = 0;
+    REFUSES_DATA("\\# 0", DNS_BAD_DATA, 0, "TYPE0: type has no data in zones");
+    REFUSES(print_data, "", DNS_BAD_DATA, 0);
+    data_code = 65280;
+    EXPECT(print_data(many, 65536, NULL, 0, &outcome) == DNS_TOO_LONG && tells(outcome, 0, 65535));
+    EXPECT(print_data(many, 65535, NULL, 0, &outcome) == DNS_NO_ROOM && tells(outcome, 131079, 0));
+}
+
 static void texts(void) {
     uint8_t memory[64];
     struct dns_outcome outcome;
@@ -687,6 +769,7 @@ int main(void) {
     pieces();
     standings_outside_the_text();
     states_of_any_octets();
+    record_data();
     texts();
     version();
     return failures != 0;

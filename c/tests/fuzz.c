@@ -58,6 +58,11 @@ static uint32_t name_read(const uint8_t *from, size_t from_len, uint8_t *to, siz
     return dns_name_read(from, from_len, to, to_len, &is_absolute, outcome);
 }
 
+static uint32_t data_print(const uint8_t *from, size_t from_len, uint8_t *to, size_t to_len,
+                           struct dns_outcome *outcome) {
+    return dns_data_print(code, from, from_len, to, to_len, outcome);
+}
+
 static uint32_t status_text(const uint8_t *from, size_t from_len, uint8_t *to, size_t to_len,
                             struct dns_outcome *outcome) {
     (void)from, (void)from_len;
@@ -86,7 +91,8 @@ static const struct {
     {dns_name_print, 0},           {dns_name_print_dotted, 0},      {dns_name_print_zone, 0},
     {dns_base16_print, 0},         {dns_base32hex_print, 0},        {dns_base64_print, 0},
     {dns_base16_read, 1},          {dns_base32hex_read, 1},         {dns_base64_read, 1},
-    {status_text, 0},              {type_print, 0},                 {class_print, 0},
+    {data_print, 0},               {status_text, 0},                {type_print, 0},
+    {class_print, 0},
 };
 
 /* A call with so much room: what it says, and what it wrote. */
@@ -125,6 +131,48 @@ static void try_call(call f, int is_encoding) {
         CHECK(give(f, is_encoding, 9, &again) == status);
         CHECK(again.length == outcome.length && again.place == outcome.place);
     }
+}
+
+/* ---- data: what is read prints, and is read again */
+
+static uint32_t read_data(const uint8_t *from, size_t from_len, const uint8_t *origin, size_t origin_len,
+                          size_t room, uint8_t **to, struct dns_outcome *outcome) {
+    uint32_t status;
+    *to = guarded(room);
+    status = dns_data_read(code, from, from_len, origin, origin_len, *to, room, outcome);
+    CHECK(status < STATUSES && status != DNS_END);
+    CHECK(status == DNS_OK || outcome->place <= from_len);
+    CHECK(is_filled(*to - GUARD, GUARD) && is_filled(*to + room, GUARD));
+    /* a refusal's text may not fit */
+    CHECK(is_filled(*to + (outcome->length <= room && status != DNS_NO_ROOM ? outcome->length : 0),
+                    room - (outcome->length <= room && status != DNS_NO_ROOM ? outcome->length : 0)));
+    return status;
+}
+
+static void try_data(const uint8_t *origin, size_t origin_len) {
+    struct dns_outcome outcome, printed, again;
+    uint8_t *octets, *shown, *back;
+    uint32_t status = read_data(text, text_len, origin, origin_len, 0, &octets, &outcome);
+    size_t needed = outcome.length;
+    free(octets - GUARD);
+    if (needed != 0) {
+        uint32_t short_of = read_data(text, text_len, origin, origin_len, needed - 1, &octets, &again);
+        CHECK(short_of == status && again.length == needed);
+        free(octets - GUARD);
+    }
+    status = read_data(text, text_len, origin, origin_len, needed, &octets, &outcome);
+    CHECK(status != DNS_NO_ROOM && outcome.length == needed);
+    if (status == DNS_OK) {
+        status = dns_data_print(code, octets, needed, NULL, 0, &printed);
+        CHECK(status == DNS_NO_ROOM || (status == DNS_OK && printed.length == 0));
+        shown = guarded(printed.length);
+        CHECK(dns_data_print(code, octets, needed, shown, printed.length, &printed) == DNS_OK);
+        CHECK(read_data(shown, printed.length, NULL, 0, needed, &back, &again) == DNS_OK);
+        CHECK(again.length == needed && memcmp(back, octets, needed) == 0);
+        release(shown, printed.length, printed.length);
+        release(back, needed, needed);
+    }
+    free(octets - GUARD);
 }
 
 /* ---- words */
@@ -277,6 +325,8 @@ static void try_input(const uint8_t *from, size_t length) {
     text = copy;
     for (i = 0; i < sizeof calls / sizeof *calls; i++)
         try_call(calls[i].f, calls[i].is_encoding);
+    try_data(origin, sizeof origin);
+    try_data(text, text_len);
     try_words();
     inside.at = at.at = at.began = number;
     try_entries(cursor);

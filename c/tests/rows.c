@@ -145,6 +145,112 @@ static int positions_agree(const char *input, const char *place, const char *wan
     return status == DNS_OK && strcmp(printed, wanted) == 0;
 }
 
+/* Data of a type; the origin is `example.` where a row names none. */
+static uint16_t code_of(const char *name) {
+    uint16_t code = 0;
+    struct dns_outcome outcome;
+    size_t length;
+    uint8_t *text = octets_of(name, &length);
+    dns_type_read(text, length, &code, &outcome);
+    free(text);
+    return code;
+}
+
+static uint16_t data_code;
+static const uint8_t *data_origin;
+static size_t data_origin_len;
+
+static uint32_t data_read(const uint8_t *text, size_t text_len, uint8_t *octets, size_t octets_len,
+                          struct dns_outcome *outcome) {
+    return dns_data_read(data_code, text, text_len, data_origin, data_origin_len, octets, octets_len,
+                         outcome);
+}
+
+static uint32_t data_print(const uint8_t *octets, size_t octets_len, uint8_t *text, size_t text_len,
+                           struct dns_outcome *outcome) {
+    return dns_data_print(data_code, octets, octets_len, text, text_len, outcome);
+}
+
+/* What the call gives, in memory of just its length. */
+static uint8_t *given_by(call f, const uint8_t *from, size_t from_len, uint32_t *status,
+                         struct dns_outcome *outcome) {
+    uint8_t *to;
+    *status = f(from, from_len, NULL, 0, outcome);
+    to = (uint8_t *)malloc(outcome->length != 0 ? outcome->length : 1);
+    if (outcome->length != 0)
+        *status = f(from, from_len, to, outcome->length, outcome);
+    return to;
+}
+
+/* Whether these are data of the type; and then their text is read as them again. */
+static int are_data(const uint8_t *octets, size_t length) {
+    struct dns_outcome printed, read;
+    uint32_t status, again;
+    int is_well;
+    uint8_t *text = given_by(data_print, octets, length, &status, &printed), *back;
+    if (status != DNS_OK) {
+        free(text);
+        return 0;
+    }
+    back = given_by(data_read, text, printed.length, &again, &read);
+    is_well = again == DNS_OK && read.length == length && memcmp(back, octets, length) == 0;
+    free(text);
+    free(back);
+    return is_well ? 1 : -1;
+}
+
+/* A row of `data`, `data.why` or `data.print`: a type, a text, perhaps an origin, and octets, or why they
+ * are refused, or their text. */
+static int data_agrees(const char *name, char **fields, size_t count) {
+    static const char example[] = "%07example%00";
+    struct dns_outcome outcome, printed;
+    size_t text_len, origin_len, wanted_len;
+    const char *wanted = fields[count - 1];
+    uint8_t *text = octets_of(fields[2], &text_len), *given, *shown = NULL;
+    uint8_t *origin = octets_of(count == 5 ? fields[3] : example, &origin_len);
+    uint8_t *octets = octets_of(*wanted == '!' ? wanted + 1 : wanted, &wanted_len);
+    uint32_t status, shown_status;
+    int is_well;
+    data_code = code_of(fields[1]);
+    data_origin = origin;
+    data_origin_len = origin_len;
+    given = given_by(data_read, text, text_len, &status, &outcome);
+    if (strcmp(name, "data.why") == 0 && *wanted == '!') {
+        /* the reason, a bar, and the place */
+        char place[32];
+        sprintf(place, "|%lu", (unsigned long)outcome.place);
+        is_well = status != DNS_OK && outcome.length + strlen(place) == wanted_len &&
+                  memcmp(octets, given, outcome.length) == 0 &&
+                  memcmp(octets + outcome.length, place, strlen(place)) == 0;
+    } else if (*wanted == '!') {
+        is_well = status != DNS_OK;
+    } else {
+        is_well = status == DNS_OK && are_data(given, outcome.length) == 1;
+        shown = given_by(data_print, given, outcome.length, &shown_status, &printed);
+        if (strcmp(name, "data.print") == 0)
+            is_well = is_well && printed.length == wanted_len && memcmp(shown, octets, wanted_len) == 0;
+        else
+            is_well = is_well && outcome.length == wanted_len && memcmp(given, octets, wanted_len) == 0;
+    }
+    free(text);
+    free(origin);
+    free(octets);
+    free(given);
+    free(shown);
+    return is_well;
+}
+
+/* A row of `record.wire`: a type, octets, and the same or a refusal. */
+static int wire_agrees(char **fields) {
+    size_t length;
+    uint8_t *octets = octets_of(fields[2], &length);
+    int are;
+    data_code = code_of(fields[1]);
+    are = are_data(octets, length);
+    free(octets);
+    return are == (*fields[3] != '!');
+}
+
 /* A row of `class.print`: a number and its text. */
 static int class_agrees(const char *number, const char *wanted) {
     uint8_t printed[16];
@@ -181,6 +287,10 @@ static int run(char *row) {
             return numbers_agree(numbers[i].f, fields[1], fields[2]);
     if (count == 4 && at == NULL && strcmp(fields[0], "zone.position") == 0)
         return positions_agree(fields[1], fields[2], fields[3]);
+    if ((count == 4 || count == 5) && at == NULL && strncmp(fields[0], "data", 4) == 0)
+        return data_agrees(fields[0], fields, count);
+    if (count == 4 && at == NULL && strcmp(fields[0], "record.wire") == 0)
+        return wire_agrees(fields);
     if (count == 3 && at == NULL && strcmp(fields[0], "class.print") == 0)
         return class_agrees(fields[1], fields[2]);
     remember(fields[0]);

@@ -10,6 +10,8 @@ mod Lengths
 mod NameText
 mod NumberText
 mod PieceCalls
+mod PutTexts
+mod ReadTexts
 mod RecordCalls
 mod Row
 mod ToldTexts

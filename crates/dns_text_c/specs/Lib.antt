@@ -1,5 +1,6 @@
 pub mod Calls
 pub mod Codecs
+pub mod DataText
 pub mod Entries
 pub mod Kept
 pub mod Kinds

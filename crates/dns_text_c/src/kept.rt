@@ -42,7 +42,7 @@ pub struct Zone {
 }
 
 /// The name of some octets.
-fn name_of(octets: &[u8]) -> Result<NameBuffer, NameError>
+pub(crate) fn name_of(octets: &[u8]) -> Result<NameBuffer, NameError>
     ensures { MakesName octets.now result }
 {
     let mut buffer: ArrayVec<u8, MAX_NAME> = ArrayVec::new();
@@ -156,7 +156,7 @@ pub(crate) fn keep_state(state: &State, at: usize, zone: &mut Zone)
 }
 
 /// Why octets are no absolute name.
-fn refusal_of_name(error: NameError) -> Refusal
+pub(crate) fn refusal_of_name(error: NameError) -> Refusal
     ensures { result ≡ refusal_of_name error }
 {
     match error {

@@ -15,6 +15,8 @@ pub mod numbers;
 pub mod outcome;
 pub mod pieces;
 pub mod position;
+pub mod printing;
+pub mod reading;
 pub mod reasons;
 pub mod records;
 pub mod status;

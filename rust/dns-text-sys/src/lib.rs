@@ -248,6 +248,24 @@ extern "C" {
         text_len: usize,
         outcome: *mut dns_outcome,
     ) -> u32;
+    pub fn dns_data_print(
+        code: u16,
+        octets: *const u8,
+        octets_len: usize,
+        text: *mut u8,
+        text_len: usize,
+        outcome: *mut dns_outcome,
+    ) -> u32;
+    pub fn dns_data_read(
+        code: u16,
+        text: *const u8,
+        text_len: usize,
+        origin: *const u8,
+        origin_len: usize,
+        octets: *mut u8,
+        octets_len: usize,
+        outcome: *mut dns_outcome,
+    ) -> u32;
     pub fn dns_base16_print(
         octets: *const u8,
         octets_len: usize,

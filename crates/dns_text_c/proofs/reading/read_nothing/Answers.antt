@@ -1,0 +1,13 @@
+use Rattle.std.proofs.Common.{sym, ap, ◌∙◌, Err}
+use Rattle.dns_reader.proofs.TextParts.{closed_left}
+use Rattle.dns_text_c.specs.DataText.{answer_of}
+use Rattle.dns_text_c.proofs.reading.read_nothing.Goals as goal
+
+pub returns-in-Err : goal.returns-in-Err
+returns-in-Err c = (
+  Err c.in-Err.refusal,
+  _,
+  _,
+  rw c.requires.none at c.in-Err.ensures.reads,
+  ap Err c.refused_data.ensures ∙ sym (ap (answer_of c.args.code (Err c.in-Err.refusal) c.read_tokens.new.target.items) (closed_left c.args.source.now c.requires.closed ∙ c.requires.nothing)),
+)

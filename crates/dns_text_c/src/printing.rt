@@ -1,0 +1,159 @@
+//! Record data as zone text.
+ghost use Rattle.std.specs.Prelude.{◌≡◌, ◌+◌, length, IsTrue, IfOk, OnOk};
+ghost use Rattle.std.specs.Fmt.{WritesInCalls};
+ghost use Rattle.dns_text_c.specs.DataText.{PrintsData, PutsAt, TellsText, data_text, fault_of_wire};
+ghost use Rattle.dns_text_c.specs.Told.{TellsFault};
+ghost use Rattle.dns_text_c.specs.declared.outcome.Refusal.TheVariants.{TooLong};
+
+use crate::kept::put_over;
+use crate::outcome::{Fault, OK, Outcome, Refusal, number_of, refuse};
+use dns_resource::{Data, WireError};
+use dns_zone::zonefile_fmt::{DisplayKind, ZonefileFmt};
+use std::fmt;
+use std::fmt::Write;
+
+/// The most octets of record data (RFC 1035 section 3.2.1).
+const MOST: usize = 65535;
+
+/// A sink that counts octets.
+#[derive(Drop)]
+pub(crate) struct Count {
+    length: usize,
+}
+
+impl fmt::Write for Count {
+    ghost write_str_gives = { λ s octets t. t.length ≡ s.length + length octets };
+
+    fn write_str(&mut self, text: &str) -> fmt::Result {
+        match self.length.checked_add(text.len()) {
+            Some(length) => {
+                self.length = length;
+                Ok(())
+            }
+            None => Err(fmt::Error),
+        }
+    }
+}
+
+/// Puts octets at a place among others, if they fit.
+fn put_at(octets: &[u8], at: usize, over: &mut [u8]) -> bool
+    ensures { IsTrue result → PutsAt octets.now at over.old over.new }
+{
+    if at > over.len() || over.len() - at < octets.len() {
+        return false;
+    }
+    put_over(octets, &mut over[at..]);
+    true
+}
+
+/// A sink that puts octets behind those that it has put over others.
+#[derive(Drop)]
+pub(crate) struct Over<'a> {
+    octets: &'a mut [u8],
+    length: usize,
+}
+
+impl fmt::Write for Over<'_> {
+    ghost write_str_gives = { λ s octets t. (t.octets.ghost_name ≡ s.octets.ghost_name) × (t.length ≡ s.length + length octets)
+        × PutsAt octets s.length s.octets.now t.octets.now };
+
+    fn write_str(&mut self, text: &str) -> fmt::Result {
+        if !put_at(text.as_bytes(), self.length, self.octets) {
+            return Err(fmt::Error);
+        }
+        self.length += text.len();
+        Ok(())
+    }
+}
+
+/// Prints data on one line.
+fn print_on<W: Write>(content: &Data<&[u8]>, sink: &mut W) -> fmt::Result
+    ensures { OnOk result (WritesInCalls W.write_str_gives sink.old (data_text content.now) sink.new) }
+{
+    write!(sink, "{}", content.display_zonefile(DisplayKind::Simple))
+}
+
+/// How many octets the text of data has.
+fn count_text(content: &Data<&[u8]>) -> Result<usize, fmt::Error>
+    ensures { IfOk result (λ count. count ≡ length (data_text content.now)) }
+{
+    let mut count = Count { length: 0 };
+    print_on(content, &mut count)?;
+    Ok(count.length)
+}
+
+/// Puts the text of data at the start of octets.
+fn write_text(content: &Data<&[u8]>, over: &mut [u8]) -> fmt::Result
+    ensures { OnOk result (PutsAt (data_text content.now) 0 over.old over.new) }
+{
+    let mut sink = Over {
+        octets: over,
+        length: 0,
+    };
+    let result = print_on(content, &mut sink);
+    // No effect at run time: the proof reads what the octets are from this use.
+    let _octets = sink.octets;
+    result
+}
+
+/// Tells that data have no text.
+fn refuse_text(outcome: &mut Outcome) -> u32
+    ensures { TellsFault (record { refusal = TooLong; place = 0 }) result outcome.new }
+{
+    let refusal = Refusal::TooLong;
+    refuse(Fault { refusal, place: 0 }, outcome)
+}
+
+/// Gives the text of data.
+fn give_text(content: &Data<&[u8]>, text: &mut [u8], outcome: &mut Outcome) -> u32
+    ensures { TellsText (data_text content.now) text.old result text.new outcome.new }
+{
+    let Ok(length) = count_text(content) else {
+        return refuse_text(outcome);
+    };
+    *outcome = Outcome { length, place: 0 };
+    if text.len() < length {
+        return number_of(Refusal::NoRoom);
+    }
+    match write_text(content, &mut text[..length]) {
+        Ok(()) => OK,
+        Err(_) => refuse_text(outcome),
+    }
+}
+
+/// Why octets are no data of a type.
+fn fault_of_wire(error: WireError) -> Fault
+    ensures { result ≡ fault_of_wire error }
+{
+    match error {
+        WireError::LongData => Fault {
+            refusal: Refusal::TooLong,
+            place: MOST,
+        },
+        WireError::NoDataType | WireError::NotOfType => Fault {
+            refusal: Refusal::BadData,
+            place: 0,
+        },
+    }
+}
+
+/// Prints data of a type on one line: its tokens with a space between, in the text form of the type,
+/// or without one `\#`, the number of octets, and these in hexadecimal (RFC 3597 section 5). Names
+/// are absolute.
+///
+/// A type that has no data in zones, and octets that are no data of it, are refused with no place;
+/// more than 65,535 octets with that place.
+#[unsafe(no_mangle)]
+pub extern "C" fn dns_data_print(
+    code: u16,
+    octets: &[u8],
+    text: &mut [u8],
+    outcome: &mut Outcome,
+) -> u32
+    ensures { PrintsData code octets.now text.old result text.new outcome.new }
+{
+    match Data::from_octets(code, octets) {
+        Ok(content) => give_text(&content, text, outcome),
+        Err(error) => refuse(fault_of_wire(error), outcome),
+    }
+}
