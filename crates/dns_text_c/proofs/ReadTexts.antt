@@ -13,7 +13,7 @@ use Rattle.dns_reader.proofs.Kept.{rest_kept}
 use Rattle.dns_reader.proofs.Parts.{Parts}
 use Rattle.dns_reader.proofs.StepsSeen.{open_left}
 use Rattle.dns_reader.proofs.TextParts.{closed_left}
-use Rattle.dns_text_c.specs.DataText.{answer_before, answer_of, refused_data_of, trailing_token}
+use Rattle.dns_text_c.specs.DataText.{answer_before, data_answer, refused_data_of, trailing_token}
 
 before_ends : (code : ℕ) (octets : List ℕ) (ends : List EndOfEntry) (parts : Parts) → answer_before code octets (map (λ e. Ok (EndIs e)) ends ++ parts) ≡ answer_before code octets parts
 before_ends code octets [] parts = refl
@@ -52,6 +52,6 @@ module _ (code : ℕ) (read : Result (Unit {0}) TypeRefusal) (octets : List ℕ)
 
 -- where data are refused, what stands behind an entry that ended says nothing
 pub refused_ended : (code : ℕ) (r : TypeRefusal) (octets : List ℕ) (begun middle after : SourceSeen) → begun.is_open ≡ true → entry_end middle ≡ entry_end begun → (x : Option EndOfEntry)
-    → FinishesEntry middle (Ok x) after → Err (Entry (refused_data_of code r)) ≡ answer_of code (Err r) octets (behind_left begun)
+    → FinishesEntry middle (Ok x) after → Err (Entry (refused_data_of code r)) ≡ data_answer code (Err r) octets (behind_left begun)
 refused_ended code r octets begun middle after opened ends None h = absurd (no_end code (Err r) octets begun middle opened ends after h)
-refused_ended code r octets begun middle after opened ends (Some end) h = sym (ap (answer_of code (Err r) octets) (ended code (Err r) octets begun middle opened ends end after h))
+refused_ended code r octets begun middle after opened ends (Some end) h = sym (ap (data_answer code (Err r) octets) (ended code (Err r) octets begun middle opened ends end after h))

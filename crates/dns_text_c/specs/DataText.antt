@@ -81,21 +81,21 @@ answer_before code octets (Ok (TokenIs t b) ∷ parts) = Err (Entry (trailing_to
 answer_before code octets (Err f ∷ parts) = Err (Text f)
 
 -- what comes of an entry that was read, by what stands behind its tokens: a fault of the text comes first
-abbrev pub answer_of : ℕ → Result (Unit {0}) TypeRefusal → List ℕ → List (Result PartSeen TextFault) → DataAnswer
-answer_of code read octets (Err f ∷ parts) = Err (Text f)
-answer_of code (Err r) octets parts = Err (Entry (refused_data_of code r))
-answer_of code (Ok _) octets parts = answer_before code octets parts
+abbrev pub data_answer : ℕ → Result (Unit {0}) TypeRefusal → List ℕ → List (Result PartSeen TextFault) → DataAnswer
+data_answer code read octets (Err f ∷ parts) = Err (Text f)
+data_answer code (Err r) octets parts = Err (Entry (refused_data_of code r))
+data_answer code (Ok _) octets parts = answer_before code octets parts
 
 -- the tokens of the entry that is open are read as data of a type, or none where none is open
 abbrev pub ReadsTokens : ℕ → Option (List (List ℕ)) → SourceSeen → DataAnswer → Type 0
 ReadsTokens code origin begun answer =
     (read : Result (Unit {0}) TypeRefusal) × (left : List TokenSeen) × (octets : List ℕ)
-    × ReadsType origin (exactly 65535) code (entry_end begun).at (entry_left begun) [] read left octets × (answer ≡ answer_of code read octets (behind_left begun))
+    × ReadsType origin (exactly 65535) code (entry_end begun).at (entry_left begun) [] read left octets × (answer ≡ data_answer code read octets (behind_left begun))
 
 -- the first entry that has tokens is read, or that there is none; or a fault of the text comes before its tokens
-abbrev pub ReadsFirst : ℕ → Option (List (List ℕ)) → Result (Option StartOfEntry) TextFault → SourceSeen → DataAnswer → Type 0
-ReadsFirst code origin (Err f) begun answer = answer ≡ Err (Text f)
-ReadsFirst code origin (Ok found) begun answer = ReadsTokens code origin begun answer
+abbrev pub ReadsFirstData : ℕ → Option (List (List ℕ)) → Result (Option StartOfEntry) TextFault → SourceSeen → DataAnswer → Type 0
+ReadsFirstData code origin (Err f) begun answer = answer ≡ Err (Text f)
+ReadsFirstData code origin (Ok found) begun answer = ReadsTokens code origin begun answer
 
 -- a text of one entry is read as data of a type
 pub record ReadsDataText (code : ℕ) (origin : Option (List (List ℕ))) (text : List ℕ) (answer : DataAnswer) : Type 0 where
@@ -106,7 +106,7 @@ pub record ReadsDataText (code : ℕ) (origin : Option (List (List ℕ))) (text 
   pub start : Result (Option StartOfEntry) TextFault
   pub begun : SourceSeen
   pub begins : BeginsEntry source start begun
-  pub reads : ReadsFirst code origin start begun answer
+  pub reads : ReadsFirstData code origin start begun answer
 
 -- the status and the place of a refusal, and its text where that fits
 pub record TellsReason (refusal : EntryRefusal) (old : List ℕ) (told : ℕ) (new : List ℕ) (outcome : Outcome) : Type 0 where
@@ -121,8 +121,8 @@ TellsData (Err (Text f)) old status new outcome = TellsFault (record { refusal =
 TellsData (Err (Entry r)) old status new outcome = TellsReason r old status new outcome
 
 -- a text is read behind an origin, and what comes of it is told
-abbrev pub ReadsBehind : ℕ → List ℕ → Option (List (List ℕ)) → List ℕ → ℕ → List ℕ → Outcome → Type 0
-ReadsBehind code text origin old status new outcome = (answer : DataAnswer) × ReadsDataText code origin text answer × TellsData answer old status new outcome
+abbrev pub ReadsTextBehind : ℕ → List ℕ → Option (List (List ℕ)) → List ℕ → ℕ → List ℕ → Outcome → Type 0
+ReadsTextBehind code text origin old status new outcome = (answer : DataAnswer) × ReadsDataText code origin text answer × TellsData answer old status new outcome
 
 -- the origin that octets are: none are none, and others are the octets of a name
 abbrev pub IsOriginOf : List ℕ → Option (List (List ℕ)) → Type 0
@@ -130,7 +130,7 @@ IsOriginOf octets None = octets ≡ []
 IsOriginOf octets (Some labels) = MakesName octets (Ok labels)
 
 -- the text is read behind the origin; or the origin is no name, which is told with no place, and nothing was written
-abbrev pub ReadsData : ℕ → List ℕ → List ℕ → List ℕ → ℕ → List ℕ → Outcome → Type 0
-ReadsData code text origin old status new outcome =
-    ((known : Option (List (List ℕ))) × IsOriginOf origin known × ReadsBehind code text known old status new outcome)
+abbrev pub TellsReadData : ℕ → List ℕ → List ℕ → List ℕ → ℕ → List ℕ → Outcome → Type 0
+TellsReadData code text origin old status new outcome =
+    ((known : Option (List (List ℕ))) × IsOriginOf origin known × ReadsTextBehind code text known old status new outcome)
     ⊎ ((e : NameError) × MakesName origin (Err e) × TellsFault (record { refusal = refusal_of_name e; place = 0 }) status outcome × (new ≡ old))

@@ -4,7 +4,7 @@ ghost use Rattle.dns_data.specs.ByType.{ReadsType};
 ghost use Rattle.dns_octets.specs.Room.{exactly};
 ghost use Rattle.dns_reader.specs.Source.{entry_end, entry_left};
 ghost use Rattle.dns_reader.specs.declared.records.RecordRefusal.TheVariants.{Entry};
-ghost use Rattle.dns_text_c.specs.DataText.{ReadsBehind, ReadsData, ReadsDataText, ReadsTokens, TellsData, TellsReason, answer_before, answered, refused_data_of, trailing_token};
+ghost use Rattle.dns_text_c.specs.DataText.{ReadsTextBehind, TellsReadData, ReadsDataText, ReadsTokens, TellsData, TellsReason, answer_before, answered, refused_data_of, trailing_token};
 
 use crate::kept::{name_of, refusal_of_name};
 use crate::outcome::{Fault, Outcome, give, number_of, refuse};
@@ -165,7 +165,7 @@ fn read_behind(
     octets: &mut [u8],
     outcome: &mut Outcome,
 ) -> u32
-    ensures { ReadsBehind code text.now (option_copied origin.entry) octets.old result octets.new outcome.new }
+    ensures { ReadsTextBehind code text.now (option_copied origin.entry) octets.old result octets.new outcome.new }
 {
     let mut content = DataBuffer::new();
     let read = read_text(code, text, origin, &mut content);
@@ -188,7 +188,7 @@ pub extern "C" fn dns_data_read(
     octets: &mut [u8],
     outcome: &mut Outcome,
 ) -> u32
-    ensures { ReadsData code text.now origin.now octets.old result octets.new outcome.new }
+    ensures { TellsReadData code text.now origin.now octets.old result octets.new outcome.new }
 {
     if origin.is_empty() {
         return read_behind(code, text, None, octets, outcome);
