@@ -246,6 +246,8 @@ static int wire_agrees(char **fields) {
     uint8_t *octets = octets_of(fields[2], &length);
     int are;
     data_code = code_of(fields[1]);
+    data_origin = NULL;
+    data_origin_len = 0;
     are = are_data(octets, length);
     free(octets);
     return are == (*fields[3] != '!');
