@@ -2,7 +2,7 @@
 use crate::held::{Held, line_of};
 use crate::open_file::first_place;
 use crate::reporter::{Reporter, Spot};
-use crate::spots::{beginning, fault_at, octet_at, spot_at, token_at, tokens_of};
+use crate::spots::{beginning, fault_at, octet_at, position_at, spot_at, token_at, tokens_of};
 use crate::stop::Stop;
 use crate::zone_files::{Entry, Given, Visit};
 use dns_data::type_row;
@@ -17,6 +17,7 @@ use dns_split::pieces::Fault;
 use dns_split::position::Position;
 use dns_wire::{DisplayWithDot, DisplayWithoutDot, Name};
 use std::alloc::{AllocError, Global};
+use std::simd::prelude::*;
 use zone_format::place::Place;
 use zone_rules::{Rule, SortedRecords, check_zone};
 use zone_set::{TaggedOctets, serial_of};
@@ -32,6 +33,9 @@ const SOA: u16 = 6;
 
 /// Ctrl-Z, which ended files of CP/M and DOS.
 const CONTROL_Z: u8 = 0x1A;
+
+/// The octets that are looked at together.
+const LANES: usize = 16;
 
 /// What is asked of records.
 #[derive(Clone, Copy)]
@@ -148,6 +152,74 @@ fn data_start(tokens: &[EntryToken<'_>], is_blank: bool) -> usize {
 /// Whether an entry begins with a blank.
 fn begins_blank(entry: &Entry<'_>) -> bool {
     matches!(entry.octets.first(), Some(b' ' | b'\t'))
+}
+
+/// Whether an octet stands for nothing that may be told of: printable ASCII, a tab or a line feed.
+fn is_plain(octet: u8) -> bool {
+    matches!(octet, b' '..=b'~' | b'\t' | b'\n')
+}
+
+/// Whether 16 octets are such.
+fn are_plain(block: u8x16) -> bool {
+    let low = block.simd_lt(u8x16::splat(b' '));
+    let high = block.simd_gt(u8x16::splat(b'~'));
+    let others = block.simd_ne(u8x16::splat(b'\t')) & block.simd_ne(u8x16::splat(b'\n'));
+    ((low & others) | high).to_bitmask() == 0
+}
+
+/// Whether the octets of an entry show nothing by themselves, as nearly all do: each is plain, one
+/// parenthesis at most opens, and a line feed is the last.
+fn shows_nothing(octets: &[u8]) -> bool {
+    for block in octets.chunks(LANES) {
+        let plain = if block.len() == LANES {
+            are_plain(u8x16::from_slice(block))
+        } else {
+            block.iter().all(|octet| is_plain(*octet))
+        };
+        if !plain {
+            return false;
+        }
+    }
+    octets.last() == Some(&b'\n') && !opens_twice(octets)
+}
+
+/// Whether two parentheses open among octets.
+fn opens_twice(octets: &[u8]) -> bool {
+    if !octets.contains(&b'(') {
+        return false;
+    }
+    let Some(place) = octets.iter().position(|octet| *octet == b'(') else {
+        return false;
+    };
+    let rest = octets.get(place.saturating_add(1)..).unwrap_or(&[]);
+    rest.contains(&b'(')
+}
+
+/// Whether octets begin with an origin's labels, and the origin behind them.
+fn begins_twice(octets: &[u8], labels: &[u8], origin: &[u8]) -> bool {
+    let Some((front, back)) = octets.split_at_checked(labels.len()) else {
+        return false;
+    };
+    let Some((back, _)) = back.split_at_checked(origin.len()) else {
+        return false;
+    };
+    front.eq_ignore_ascii_case(labels) && back.eq_ignore_ascii_case(origin)
+}
+
+/// Whether an origin's labels stand in octets of names, and the origin behind them.
+fn has_twice(octets: &[u8], origin: &[u8]) -> bool {
+    let Some((_, labels)) = origin.split_last() else {
+        return false;
+    };
+    if octets.len() < labels.len() || octets.len() - labels.len() < origin.len() {
+        return false;
+    }
+    for (start, octet) in octets.iter().enumerate() {
+        if Some(octet) == labels.first() && begins_twice(&octets[start..], labels, origin) {
+            return true;
+        }
+    }
+    false
 }
 
 /// What is said of a refused entry.
@@ -296,6 +368,24 @@ impl<'a> Checker<'a> {
         Ok(())
     }
 
+    /// Whether the names of a record may show something as they are spelled. A relative name that
+    /// ends like the origin has the origin twice, unless there are escapes.
+    fn may_show_names(&self, entry: &Entry<'_>) -> bool {
+        let Some(origin) = entry.state.origin.name() else {
+            return false;
+        };
+        if origin.len() < 2 {
+            return self.limits.assumes_root && !self.has_told_origin;
+        }
+        let origin = origin.as_slice();
+        let Ok(owner) = entry.state.owner() else {
+            return true;
+        };
+        entry.octets.contains(&b'\\')
+            || has_twice(owner.as_slice(), origin)
+            || has_twice(entry.data, origin)
+    }
+
     /// Says what the names of a record show as they are spelled.
     fn check_names(
         &mut self,
@@ -346,27 +436,33 @@ impl<'a> Checker<'a> {
         }
     }
 
+    /// Says what a record shows as a whole, at its first token.
+    fn tell_record(&mut self, entry: &Entry<'_>, at: usize, code: Code) -> Result<(), Stop> {
+        let tokens = tokens_of(self.alloc, entry)?;
+        self.tell(spot_at(entry, tokens.as_slice(), at), code)
+    }
+
     /// Says what the time to live and the data of a record show, whose type begins at a place.
     fn check_values(
         &mut self,
         entry: &Entry<'_>,
-        spot: Spot<'_>,
+        at: usize,
         ttl: RecordTtl,
         code: u16,
     ) -> Result<(), Stop> {
         if let RecordTtl::Minimum(_) = ttl {
-            self.tell(spot, Code::SoaMinimumTtl)?;
+            self.tell_record(entry, at, Code::SoaMinimumTtl)?;
         }
         if let Some(most) = self.limits.max_ttl {
             if ttl.seconds() > most {
-                self.tell(spot, Code::MaxTtl)?;
+                self.tell_record(entry, at, Code::MaxTtl)?;
             }
         }
         if has_empty_target(code, entry.data) {
-            self.tell(spot, Code::EmptyUri)?;
+            self.tell_record(entry, at, Code::EmptyUri)?;
         }
         if has_other_match_length(code, entry.data) {
-            self.tell(spot, Code::TlsaLength)?;
+            self.tell_record(entry, at, Code::TlsaLength)?;
         }
         Ok(())
     }
@@ -389,20 +485,22 @@ impl<'a> Checker<'a> {
         if has_class && !self.limits.tells_slips {
             return Ok(());
         }
-        let tokens = tokens_of(self.alloc, entry)?;
-        let tokens = tokens.as_slice();
-        self.check_names(entry, tokens, code)?;
-        if !has_class {
-            return self.tell_class(entry, tokens);
+        if self.may_show_names(entry) {
+            let tokens = tokens_of(self.alloc, entry)?;
+            self.check_names(entry, tokens.as_slice(), code)?;
         }
-        let spot = spot_at(entry, tokens, at);
-        self.check_values(entry, spot, ttl, code)?;
+        if !has_class {
+            let tokens = tokens_of(self.alloc, entry)?;
+            return self.tell_class(entry, tokens.as_slice());
+        }
+        self.check_values(entry, at, ttl, code)?;
+        let position = position_at(entry, at.saturating_sub(entry.place.at));
         match (&mut self.held, entry.record()) {
             (Some(held), Some(given)) => held.records.add(
                 given,
                 Stand {
                     file: entry.number,
-                    position: spot.position,
+                    position,
                 },
             ),
             _ => Ok(()),
@@ -523,6 +621,9 @@ impl<'a> Checker<'a> {
 
     /// Says what the octets of an entry show. Returns whether Ctrl-Z begins it.
     fn lint(&mut self, entry: &Entry<'_>) -> Result<bool, Stop> {
+        if shows_nothing(entry.octets) {
+            return Ok(false);
+        }
         if entry.octets.len() >= usize::MAX - 1 {
             return Err(Stop::TooLong);
         }

@@ -38,7 +38,7 @@ fn token_from(tokens: &[EntryToken<'_>], at: usize) -> (usize, usize) {
 }
 
 /// The position of a place of an entry, which is counted from the entry's beginning.
-fn position_at(entry: &Entry<'_>, at: usize) -> Position {
+pub fn position_at(entry: &Entry<'_>, at: usize) -> Position {
     let count = at.min(entry.held.len());
     behind(entry.place, &entry.held[..count]).position
 }

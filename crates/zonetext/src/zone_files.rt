@@ -218,7 +218,8 @@ impl<'a> ZoneFiles<'a> {
         Err(Stop::TooLong)
     }
 
-    /// Goes a step on in the file that was opened last: gives an entry, reads a block, or closes it.
+    /// Goes a step on in the file that was opened last: gives its entries as far as they were read, or
+    /// up to one that includes a file; then reads a block, or closes it.
     fn step<V: Visit>(
         &mut self,
         mut file: OpenFile,
@@ -228,13 +229,18 @@ impl<'a> ZoneFiles<'a> {
         if !file.is_begun {
             return self.begin(file, visitor, progress);
         }
-        self.data.truncate(0);
-        let read = file.reader.next_entry(&mut self.state, &mut self.data);
-        match read {
-            Some(read) => self.give(file, read, visitor),
-            None if file.is_read => self.close(file, visitor),
-            None => self.read(file, progress),
+        for _ in 0..u64::MAX {
+            self.data.truncate(0);
+            match file.reader.next_entry(&mut self.state, &mut self.data) {
+                Some(Ok(EntryRead::Include { origin })) => {
+                    return self.give_including(file, origin, visitor);
+                }
+                Some(read) => self.give(&mut file, &read, visitor)?,
+                None if file.is_read => return self.close(file, visitor),
+                None => return self.read(file, progress),
+            }
         }
+        Err(Stop::TooLong)
     }
 
     /// Reads a block of a file.
@@ -336,22 +342,35 @@ impl<'a> ZoneFiles<'a> {
         }
     }
 
-    /// Gives an entry, and opens the file that it includes.
+    /// Gives an entry that includes no file.
     fn give<V: Visit>(
         &mut self,
-        mut file: OpenFile,
-        read: Result<EntryRead, RecordRefusal>,
+        file: &mut OpenFile,
+        read: &Result<EntryRead, RecordRefusal>,
         visitor: &mut V,
     ) -> Result<(), Stop> {
         let began = file.reader.began();
         file.walk_to(began);
-        let found = match &read {
-            Ok(EntryRead::Include { .. }) => Some(self.find_included(&file)),
-            _ => None,
-        };
+        visitor.take(&self.entry(file, read))?;
+        let behind = file.reader.place();
+        file.walk_to(behind);
+        Ok(())
+    }
+
+    /// Gives an entry that includes a file, and opens it.
+    fn give_including<V: Visit>(
+        &mut self,
+        mut file: OpenFile,
+        origin: Option<NameBuffer>,
+        visitor: &mut V,
+    ) -> Result<(), Stop> {
+        let began = file.reader.began();
+        file.walk_to(began);
+        let found = self.find_included(&file);
+        let read = Ok(EntryRead::Include { origin });
         let entry = self.entry(&file, &read);
         visitor.take(&entry)?;
-        if let Some(Err(unfit)) = &found {
+        if let Err(unfit) = &found {
             let why = unfit.text(self.rt.alloc())?;
             visitor.refuse(&entry, why.as_str())?;
         }
@@ -360,7 +379,7 @@ impl<'a> ZoneFiles<'a> {
         file.walk_to(behind);
         self.files.push(file)?;
         match (read, found) {
-            (Ok(EntryRead::Include { origin }), Some(Ok(included))) => {
+            (Ok(EntryRead::Include { origin }), Ok(included)) => {
                 self.include(included, origin, place)
             }
             _ => Ok(()),
