@@ -1,10 +1,10 @@
 -- The labels of a text.
-use Rattle.std.proofs.Common.{ℕ, suc, ◌≡◌, ◌+◌, ◌-◌, ◌<◌, ◌≤◌, true, false, List, [], ◌∷◌, ◌++◌, length, map, take, drop, get_or, refl, sym, ap, subst, ◌∙◌, arith, append_assoc, append-nil, length-append, inl, inr}
+use Rattle.std.proofs.Common.{ℕ, zero, suc, ◌≡◌, ◌+◌, ◌-◌, ◌<◌, ◌≤◌, true, false, List, [], ◌∷◌, ◌++◌, length, map, take, drop, get_or, refl, sym, ap, subst, ◌∙◌, arith, append_assoc, append-nil, length-append, inl, inr}
 use Rattle.std.specs.Prelude.{All, not}
 use Rattle.std.specs.List.{flat_map, list_all}
 use Rattle.std.proofs.lemmas.Bool.{and_parts}
 use Rattle.std.proofs.lemmas.Bool.Decides.{nat_tests}
-use Rattle.std.proofs.lemmas.List.{map-append, take_all, length-take-le}
+use Rattle.std.proofs.lemmas.List.{length-drop, map-append, take-append-drop, take_all, length-take-le}
 use Rattle.std.proofs.lemmas.List.Folds.{list_all-append}
 use Rattle.std.proofs.lemmas.List.Elements.{All-head, All-tail, All-push}
 use Rattle.std.proofs.lemmas.Grind.{flat_map-append}
@@ -361,3 +361,35 @@ lacks_labels room text old rest middle own_text after count own_count part i ope
     ap (λ r. dotted_parts i.parts ++ r) (sym opens.whole) ∙ sym i.front.whole ∙ spelled.front.whole in
     let long = within_long i.parts part after all last (within i.parts part after all last i.front.each opens.each spelled.front.each spelled.last_each same) (omega (arith, n, some)) in
     omega (arith, short, long, n, part_length part, ap length i.gained, length-append old (wire (part_labels i.parts [])), length_wire (part_labels i.parts []))
+
+-- octets that are no dots and no backslashes spell a label each by itself
+plain_octet : (c : ℕ) → (c ≡ 46 → ⊥) → (c ≡ 92 → ⊥) → is_label_spelling (Char c) ≡ true
+plain_octet c n m = grind (arith, nat_tests)
+
+pub plain_part : (text : List ℕ) (n : ℕ) → n ≤ length text → ((k : ℕ) → k < n → (get_or text k 0 ≡ 46 → ⊥) × (get_or text k 0 ≡ 92 → ⊥))
+    → (part : List Symbol) × (list_all is_label_spelling part ≡ true) × (flat_map spell part ≡ take n text) × (length part ≡ n)
+plain_part text zero w each = ([], refl, refl, refl)
+plain_part [] (suc n) w each = absurd (omega (arith, w))
+plain_part (c ∷ cs) (suc n) w each =
+    let x = plain_part cs n (omega (arith, w)) (λ k less. each (suc k) (omega (arith, less))) in
+    let own = each 0 (omega arith) in
+    let first = plain_octet c own.0 own.1 in (Char c ∷ x.0, rw (first, x.1) refl, ap (λ t. c ∷ t) x.2, ap suc x.3)
+
+rest_is : (text : List ℕ) (n : ℕ) → take (length text - n) (drop n text) ≡ drop n text
+rest_is text n = take_all (length text - n) (drop n text) (omega (arith, length-drop n text))
+
+-- and open it
+pub plain_opens : (text : List ℕ) (room n : ℕ) → n ≤ length text → ((k : ℕ) → k < n → (get_or text k 0 ≡ 46 → ⊥) × (get_or text k 0 ≡ 92 → ⊥)) → n ≤ 63 → n < room
+    → (part : List Symbol) × OpensLabel text room part (take (length text - n) (drop n text)) × (take n text ≡ flat_map spell part) × (n ≡ length part)
+plain_opens text room n w each short fits =
+    let x = plain_part text n w each in (
+      x.0,
+      record {
+        each = x.1;
+        whole = sym (take-append-drop n text) ∙ ap (λ t. t ++ drop n text) (sym x.2) ∙ ap (λ t. flat_map spell x.0 ++ t) (sym (rest_is text n));
+        short = omega (arith, x.3, short);
+        fits = λ some. omega (arith, x.3, fits);
+      },
+      sym x.2,
+      sym x.3,
+    )

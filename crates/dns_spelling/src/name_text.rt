@@ -1,5 +1,5 @@
 //! Names as they are printed (RFC 1035 section 5.1).
-ghost use Rattle.std.specs.Prelude.{ℕ, ◌≡◌, ◌≤◌, ◌<◌, ◌+◌, ◌*◌, ◌++◌, length, take, Some};
+ghost use Rattle.std.specs.Prelude.{ℕ, ◌≡◌, ◌≤◌, ◌<◌, ◌+◌, ◌*◌, [], ◌∷◌, ◌++◌, length, take, IsTrue, Some};
 ghost use Rattle.std.specs.List.{join_with_byte};
 ghost use Rattle.std.specs.Fmt.{WritesOnOk};
 ghost use Rattle.std.specs.Str.{IsAscii};
@@ -51,8 +51,43 @@ fn put_octets(octets: &[u8], text: &mut [u8]) -> usize
     end
 }
 
+/// Whether an octet of a label stands for itself.
+#[inline(always)]
+fn is_plain(octet: u8) -> bool
+    ensures { IsTrue result → spell (name_symbol octet) ≡ octet ∷ [] }
+{
+    match octet {
+        b'"' | b'$' | b'(' | b')' | b'.' | b';' | b'@' | b'\\' => false,
+        b'!'..=b'~' => true,
+        _ => false,
+    }
+}
+
+/// Whether each octet of a label does.
+fn are_plain(label: &[u8]) -> bool
+    ensures text { IsTrue result → name_label label.now ≡ label.now }
+    ensures ascii { IsAscii (name_label label.now) }
+{
+    for octet in label {
+        if !is_plain(*octet) {
+            return false;
+        }
+    }
+    true
+}
+
 /// Prints a label.
 fn write_label<W: fmt::Write>(label: &[u8], f: &mut fmt::Formatter<W>) -> fmt::Result
+    ensures { WritesOnOk W.write_str_gives f.old result (name_label label.now) f.new }
+{
+    if are_plain(label) {
+        return f.write_str(ascii_text(label));
+    }
+    write_escaped(label, f)
+}
+
+/// Prints a label, block by block.
+fn write_escaped<W: fmt::Write>(label: &[u8], f: &mut fmt::Formatter<W>) -> fmt::Result
     ensures { WritesOnOk W.write_str_gives f.old result (name_label label.now) f.new }
 {
     let mut text = [0; TEXT];

@@ -1,8 +1,9 @@
 //! Names as text (RFC 1035 section 5.1).
-ghost use Rattle.std.specs.Prelude.{ℕ, ◌≡◌, ◌≢◌, ◌⊎◌, ◌<◌, ◌≤◌, List, [], ◌∷◌, length, MatchBool, MatchResult, IfOk, IfErr, OnOk, OnErr};
+ghost use Rattle.std.specs.Prelude.{ℕ, ◌≡◌, ◌≢◌, ◌⊎◌, ◌<◌, ◌≤◌, List, [], ◌∷◌, length, slice_index, MatchBool, MatchResult, IfOk, IfErr, IfSome, IsTrue, OnOk, OnErr};
 ghost use Rattle.std.specs.Option.{option_copied};
 ghost use Rattle.dns_octets.specs.Appending.{Extends, Gains};
 ghost use Rattle.std.specs.List.{flat_map};
+ghost use Rattle.dns_symbol.specs.Characters.{backslash, dot};
 ghost use Rattle.dns_symbol.specs.Symbol.{spell};
 ghost use Rattle.dns_symbol.specs.declared.symbol.Symbol.{Symbol};
 ghost use Rattle.dns_spelling.specs.NameSpelling.{SpellsName, OpensLabel, EndsLabel, RefusesFrontLabel, HasBadLabel, RefusesName, GainsLabels, LacksRoomForLabels};
@@ -21,8 +22,64 @@ struct FrontLabel<'a> {
     rest: &'a [u8],
 }
 
+/// How many octets stand before the first dot, the first backslash, or the end of a text.
+fn plain_label_count(text: &[u8]) -> usize
+    ensures within { result ≤ length text.now }
+    ensures plain { (k : ℕ) → k < result → (slice_index text.now k ≢ dot) × (slice_index text.now k ≢ backslash) }
+{
+    for (place, octet) in text.iter().enumerate() {
+        if *octet == b'.' || *octet == b'\\' {
+            return place;
+        }
+    }
+    text.len()
+}
+
+/// Whether a label ends before a text: at its end, or at a dot.
+fn ends_label(text: &[u8]) -> bool
+    ensures { IsTrue result → EndsLabel text.now }
+{
+    if text.is_empty() {
+        return true;
+    }
+    text[0] == b'.'
+}
+
+/// The label in front of a text, if it is spelled without escapes and there is room for it.
+fn plain_label(text: &[u8], room: usize) -> Option<FrontLabel<'_>>
+    ensures { IfSome result (λ l. (part : List Symbol) × OpensLabel text.now room part l.rest.now × EndsLabel l.rest.now
+        × (l.text.now ≡ flat_map spell part) × (l.count ≡ length part) × (0 < l.count)) }
+{
+    let count = plain_label_count(text);
+    if count == 0 || count > MAX_LABEL || count >= room {
+        return None;
+    }
+    let rest = &text[count..];
+    if !ends_label(rest) {
+        return None;
+    }
+    Some(FrontLabel {
+        text: &text[..count],
+        count,
+        rest,
+    })
+}
+
 /// The label in front of a text, in a name that has room for so many octets.
 fn front_label(text: &[u8], room: usize) -> Result<FrontLabel<'_>, SpellingError>
+    ensures { MatchResult result
+        (λ l. (part : List Symbol) × OpensLabel text.now room part l.rest.now × EndsLabel l.rest.now
+        × (l.text.now ≡ flat_map spell part) × (l.count ≡ length part) × (0 < l.count))
+        (RefusesFrontLabel room text.now) }
+{
+    match plain_label(text, room) {
+        Some(label) => Ok(label),
+        None => spelled_label(text, room),
+    }
+}
+
+/// The same, octet by octet.
+fn spelled_label(text: &[u8], room: usize) -> Result<FrontLabel<'_>, SpellingError>
     ensures { MatchResult result
         (λ l. (part : List Symbol) × OpensLabel text.now room part l.rest.now × EndsLabel l.rest.now
         × (l.text.now ≡ flat_map spell part) × (l.count ≡ length part) × (0 < l.count))

@@ -1,7 +1,7 @@
 use Rattle.std.proofs.Common.{[], ◌∷◌, ◌∙◌, sym, arith}
 use Rattle.dns_spelling.proofs.Fronts.{front_length}
 use Rattle.dns_spelling.proofs.LabelParts.{label_octet, open_more}
-use Rattle.dns_spelling.proofs.names.front_label.Goals as goal
+use Rattle.dns_spelling.proofs.names.spelled_label.Goals as goal
 
 pub returns-then-count-eq-MAX_LABEL : goal.returns-then-count-eq-MAX_LABEL
 returns-then-count-eq-MAX_LABEL c =

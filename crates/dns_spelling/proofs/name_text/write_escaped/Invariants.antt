@@ -2,7 +2,7 @@ use Rattle.std.proofs.Common.{◌≡◌, ℕ, List, ◌++◌, length}
 use Rattle.std.specs.Fmt.{HasWritten, IsPlainFormatter}
 use Rattle.std.specs.Slice.Iter.{chunks_rest, chunks_size}
 use Rattle.dns_spelling.specs.PrintedNames.{name_label}
-use Rattle.dns_spelling.proofs.name_text.write_label.Given as goal
+use Rattle.dns_spelling.proofs.name_text.write_escaped.Given as goal
 
 abbrev pub invariant-loop-block : goal.invariant-loop-block
 invariant-loop-block g l =

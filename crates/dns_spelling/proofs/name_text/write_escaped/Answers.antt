@@ -3,7 +3,7 @@ use Rattle.std.specs.Slice.Iter.{chunks_rest}
 use Rattle.std.proofs.Output.{has_written_append}
 use Rattle.dns_spelling.specs.PrintedNames.{name_label}
 use Rattle.dns_spelling.proofs.PrintedLabels.{label_block}
-use Rattle.dns_spelling.proofs.name_text.write_label.Goals as goal
+use Rattle.dns_spelling.proofs.name_text.write_escaped.Goals as goal
 
 pub ascii_text-requires : goal.ascii_text-requires
 ascii_text-requires g c = rw c.put_octets-len.ensures.text c.put_octets-len.ensures.ascii

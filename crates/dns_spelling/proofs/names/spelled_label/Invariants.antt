@@ -1,7 +1,7 @@
 use Rattle.std.proofs.Common.{◌≡◌, List, length}
 use Rattle.dns_symbol.specs.declared.symbol.Symbol.{Symbol}
 use Rattle.dns_spelling.specs.NameSpelling.{OpensLabel}
-use Rattle.dns_spelling.proofs.names.front_label.Given as goal
+use Rattle.dns_spelling.proofs.names.spelled_label.Given as goal
 
 abbrev pub invariant-loop-rest : goal.invariant-loop-rest
 invariant-loop-rest l = (part : List Symbol) × OpensLabel l.text l.room part l.rest × (l.count ≡ length part)
