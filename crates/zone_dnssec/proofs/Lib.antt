@@ -1,2 +1,2 @@
-mod FirstParts
+mod HashLabels
 mod Searches

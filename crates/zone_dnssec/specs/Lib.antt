@@ -1,3 +1,6 @@
+pub mod HashedLinks
+pub mod HashedNames
+pub mod Nsec3Chain
 pub mod NsecChain
 pub mod NsecTypes
 pub mod Rows

@@ -1,5 +1,5 @@
 //! Which types an NSEC lists (RFC 4034 section 4.1.2).
-ghost use Rattle.std.specs.Prelude.{◌≡◌, ◌≤◌, drop, filter, length};
+ghost use Rattle.std.specs.Prelude.{◌≡◌, drop, filter};
 ghost use Rattle.std.specs.List.{list_all};
 ghost use Rattle.dns_lists.specs.Bitmap.{has, types_of};
 ghost use Rattle.dns_wire.specs.Order.{same_name};
@@ -16,12 +16,11 @@ use zone_rules::hosts::is_cut;
 use zone_rules::names::view;
 use zone_rules::sorted::{has_type, owned_by};
 
-/// The octets behind so many.
-fn behind(octets: &[u8], count: usize) -> &[u8]
-    requires { count ≤ length octets.now }
+/// The octets behind so many. Behind more than there are stand none.
+pub(crate) fn behind(octets: &[u8], count: usize) -> &[u8]
     ensures { result.now ≡ drop count octets.now }
 {
-    &octets[count..]
+    if count < octets.len() { &octets[count..] } else { &[] }
 }
 
 /// The bitmap in data of an NSEC.
@@ -31,7 +30,7 @@ fn types_octets<Octets: AsOctets>(data: &Data<Octets>) -> &[u8]
     let octets = data.as_slice();
     match data.part(0) {
         Some(next) => behind(octets, next.len()),
-        None => &octets[..0],
+        None => &[],
     }
 }
 
@@ -114,7 +113,7 @@ fn lists_each<Owner: AsOctets, Octets: AsOctets>(
 }
 
 /// Whether a bitmap lists exactly the types that are to be listed at a name.
-fn lists_types<Owner: AsOctets, Octets: AsOctets>(
+pub(crate) fn lists_types<Owner: AsOctets, Octets: AsOctets>(
     origin: &Name<&[u8]>,
     records: &SortedRecords<'_, Owner, Octets>,
     name: &Name<&[u8]>,

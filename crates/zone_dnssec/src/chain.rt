@@ -14,7 +14,7 @@ use zone_rules::pairs::{before, have_one_owner};
 use zone_rules::sorted::has_type;
 
 /// Whether a record is the first at its owner.
-fn is_first_at_owner<Owner: AsOctets, Octets: AsOctets>(
+pub(crate) fn is_first_at_owner<Owner: AsOctets, Octets: AsOctets>(
     records: &SortedRecords<'_, Owner, Octets>,
     place: usize,
     record: &Record<Owner, Octets>,

@@ -6,6 +6,7 @@ ghost use Rattle.zone_rules.specs.Zones.{has_type_at};
 
 use crate::bitmaps::has_wrong_types;
 use crate::chain::is_without_nsec;
+use crate::hashed::{LinkFault, has_wrong_next_hash, is_link_wrong};
 use crate::links::has_wrong_next;
 use crate::rule::{SecurityFinding, SecurityRule};
 use crate::sets::{is_unsigned, is_without_delegation, is_without_set};
@@ -20,7 +21,7 @@ use zone_rules::names::view;
 use zone_rules::sorted::has_type;
 
 /// The rules, in the order in which they are told of a record.
-const SECURITY_RULES: [SecurityRule; 9] = [
+const SECURITY_RULES: [SecurityRule; 12] = [
     SecurityRule::Expired,
     SecurityRule::ExpiresSoon,
     SecurityRule::NotYetValid,
@@ -30,6 +31,9 @@ const SECURITY_RULES: [SecurityRule; 9] = [
     SecurityRule::OtherNext,
     SecurityRule::OtherTypes,
     SecurityRule::DsWithoutNs,
+    SecurityRule::NoNsec3,
+    SecurityRule::OtherNextHash,
+    SecurityRule::OtherHashedTypes,
 ];
 
 /// Whether a record at a place breaks a rule.
@@ -53,6 +57,11 @@ fn breaks_rule<Owner: AsOctets, Octets: AsOctets>(
         SecurityRule::OtherNext => has_wrong_next(origin, records, record),
         SecurityRule::OtherTypes => has_wrong_types(origin, records, record),
         SecurityRule::DsWithoutNs => is_without_delegation(records, record),
+        SecurityRule::NoNsec3 => is_link_wrong(LinkFault::Missing, origin, records, place, record),
+        SecurityRule::OtherNextHash => has_wrong_next_hash(origin, records, record),
+        SecurityRule::OtherHashedTypes => {
+            is_link_wrong(LinkFault::DifferentTypes, origin, records, place, record)
+        }
     }
 }
 

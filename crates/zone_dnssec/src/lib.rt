@@ -5,7 +5,10 @@
 pub mod bitmaps;
 pub mod chain;
 pub mod check;
+pub mod hashed;
 pub mod links;
+pub mod nsec3;
+pub mod nsec3_hash;
 pub mod rule;
 pub mod sets;
 pub mod times;

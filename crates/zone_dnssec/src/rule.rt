@@ -32,6 +32,18 @@ pub enum SecurityRule {
     OtherTypes,
     /// The record is a DS, and no NS stands at its owner (RFC 4035 section 2.4).
     DsWithoutNs,
+    /// The record is the first at a name whose data the zone has authority over, or at a
+    /// delegation, an NSEC3PARAM at the apex names a chain, and in it no NSEC3 matches the name, or
+    /// an empty non-terminal above it. A delegation without DS may be left out where the NSEC3 that
+    /// covers it has Opt-Out (RFC 5155 section 7.1).
+    NoNsec3,
+    /// The record is an NSEC3 of such a chain, and its next hash isn't that of the owner which comes
+    /// next in the chain; after the last one comes the first (RFC 5155 section 3.1.7).
+    OtherNextHash,
+    /// The record is the first at a name as for `NoNsec3`, and the NSEC3 that matches the name, or an
+    /// empty non-terminal above it, lists other types than those there; at a delegation NS, DS and
+    /// RRSIG count alone (RFC 5155 section 7.1).
+    OtherHashedTypes,
 }
 
 impl SecurityRule {
@@ -49,6 +61,9 @@ impl SecurityRule {
             SecurityRule::OtherNext => "nsec-next",
             SecurityRule::OtherTypes => "nsec-types",
             SecurityRule::DsWithoutNs => "ds-without-ns",
+            SecurityRule::NoNsec3 => "no-nsec3",
+            SecurityRule::OtherNextHash => "nsec3-next",
+            SecurityRule::OtherHashedTypes => "nsec3-types",
         }
     }
 

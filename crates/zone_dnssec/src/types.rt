@@ -10,4 +10,6 @@ pub(crate) const NSEC: u16 = 47;
 
 pub(crate) const DNSKEY: u16 = 48;
 
+pub(crate) const NSEC3: u16 = 50;
+
 pub(crate) const NSEC3PARAM: u16 = 51;

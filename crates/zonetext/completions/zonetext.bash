@@ -7,8 +7,8 @@ _zonetext() {
     fi
     case ${COMP_WORDS[1]} in
         check)
-            options='--text --zone --zone-from-name --include --deny --allow --strict --max-ttl --class'
-            options+=' --json --max --color --verbose --quiet -v'
+            options='--text --zone --zone-from-name --include --dnssec --within --now --deny --allow --strict'
+            options+=' --max-ttl --class --json --max --color --verbose --quiet -v'
             ;;
         canon)
             options='--keep-order --wire --type --only-dnssec --zone --class --include --no-dnssec'

@@ -4,6 +4,7 @@ use crate::options;
 use crate::options::{USAGE, Usage, class_of, name_of, number_of};
 use crate::reporter::{Form, Reporter};
 use crate::stop::{Stop, conclude};
+use crate::times::times_of;
 use crate::zone_files::{Begin, visit_file};
 use clap::ArgMatches;
 use dns_reader::{NameBuffer, State};
@@ -11,6 +12,7 @@ use dns_wire::DisplayWithDot;
 use std::alloc::{AllocError, Global};
 use std::io::{IsTerminal, Write};
 use std::{env, io};
+use zone_dnssec::Times;
 use zonetext_report::code::Code;
 use zonetext_report::policy::Policy;
 
@@ -38,6 +40,8 @@ struct Options<'o> {
     max_ttl: Option<u32>,
     folders: &'o [&'o str],
     zone: Zone<'o>,
+    /// The times for signatures, if they are to be looked at.
+    times: Option<Times>,
     is_verbose: bool,
     is_quiet: bool,
 }
@@ -96,6 +100,7 @@ fn zone_of<'o>(inner: &'o ArgMatches) -> Result<Zone<'o>, Usage> {
 fn options_of<'o>(rt: &HostRuntime, inner: &'o ArgMatches) -> Result<Options<'o>, Usage> {
     let alloc = rt.alloc();
     let most = number_of(inner.get_str("max"), "--max")?;
+    let zone = zone_of(inner)?;
     Ok(Options {
         form: form_of(rt, inner)?,
         most: match most {
@@ -108,7 +113,8 @@ fn options_of<'o>(rt: &HostRuntime, inner: &'o ArgMatches) -> Result<Options<'o>
         class: class_of(inner.get_str("class"))?,
         max_ttl: number_of(inner.get_str("max-ttl"), "--max-ttl")?,
         folders: inner.get_strs("include").unwrap_or(&[]),
-        zone: zone_of(inner)?,
+        zone,
+        times: times_of(rt, inner, !matches!(zone, Zone::Unsaid))?,
         is_verbose: inner.get_flag("verbose"),
         is_quiet: inner.get_flag("quiet"),
     })
@@ -195,6 +201,7 @@ fn check_file(rt: &HostRuntime, file: &str, options: &Options) -> u8 {
         assumes_root: zone.is_none(),
         is_strict: options.is_strict,
         tells_slips: true,
+        times: options.times,
     };
     let state = State::new(options.class);
     let state = match origin_of(file, options.zone).or(name_of(".")) {

@@ -19,9 +19,14 @@ use dns_wire::{DisplayWithDot, DisplayWithoutDot, Name};
 use std::alloc::{AllocError, Global};
 use std::simd::prelude::*;
 use zone_format::place::Place;
+use zone_dnssec::{Times, check_signed};
+use zone_rules::names::view;
+use zone_rules::sorted::has_type;
 use zone_rules::{Rule, SortedRecords, check_zone};
 use zone_set::{TaggedOctets, serial_of};
-use zonetext_records::codes::{code_of_entry, code_of_fault, code_of_rule, is_for_lack_of_room};
+use zonetext_records::codes::{
+    code_of_entry, code_of_fault, code_of_rule, code_of_security, is_for_lack_of_room,
+};
 use zonetext_records::data::{has_empty_target, has_other_match_length};
 use zonetext_records::names::{ends_in_dot, ends_like};
 use zonetext_records::texts::{code_text, fault_text};
@@ -30,6 +35,9 @@ use zonetext_report::lint::{Block, lint};
 
 /// The code of SOA.
 const SOA: u16 = 6;
+
+/// The code of DNSKEY.
+const DNSKEY: u16 = 48;
 
 /// Ctrl-Z, which ended files of CP/M and DOS.
 const CONTROL_Z: u8 = 0x1A;
@@ -50,6 +58,8 @@ pub struct Limits {
     pub is_strict: bool,
     /// Whether it is told what looks like a slip, though it is read.
     pub tells_slips: bool,
+    /// The times for signatures, if the zone is to be signed.
+    pub times: Option<Times>,
 }
 
 /// Where a record stands.
@@ -576,17 +586,39 @@ impl<'a> Checker<'a> {
                 _ => is_zone,
             };
             if is_told {
-                self.tell_rule(held, finding.rule, record)?;
+                self.tell_broken(held, code_of_rule(finding.rule), record)?;
             }
+        }
+        match self.limits.times {
+            Some(times) if is_zone => self.check_signatures(held, zone, times, &sorted),
+            _ => Ok(()),
+        }
+    }
+
+    /// Says which rules of DNSSEC the records of a zone break.
+    fn check_signatures<Origin: AsOctets>(
+        &mut self,
+        held: &HeldZone,
+        zone: &Name<Origin>,
+        times: Times,
+        records: &SortedRecords<'_, TaggedOctets<'_, Stand>, &[u8]>,
+    ) -> Result<(), Stop> {
+        if !has_type(records, &view(zone), DNSKEY) {
+            return self.tell_broken(held, Code::NoDnskey, None);
+        }
+        let found = check_signed(self.alloc, zone, times, records)?;
+        for finding in &found {
+            let record = records.as_slice().get(finding.record);
+            self.tell_broken(held, code_of_security(finding.rule), record)?;
         }
         Ok(())
     }
 
     /// Says that a rule is broken, by a record or by what the zone lacks.
-    fn tell_rule(
+    fn tell_broken(
         &mut self,
         held: &HeldZone,
-        rule: Rule,
+        code: Code,
         record: Option<&StandingRecord<'_>>,
     ) -> Result<(), Stop> {
         let stand = match record {
@@ -603,7 +635,6 @@ impl<'a> Checker<'a> {
         } else {
             None
         };
-        let code = code_of_rule(rule);
         match &line {
             Some(line) => self.tell(line_spot(name, position, Some(line.as_slice())), code),
             None => self.tell(line_spot(name, position, None), code),

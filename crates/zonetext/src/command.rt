@@ -49,6 +49,12 @@ const ZONE_FROM_NAME: &str = "the same, by the file's name without .zone or .db"
 
 const INCLUDE: &str = "a folder of which files may be included, besides the first file's";
 
+const DNSSEC: &str = "the zone is signed: signatures, NSEC and NSEC3 are looked at too";
+
+const WITHIN: &str = "also tell of signatures that expire within a time, as 7d";
+
+const NOW: &str = "the time instead of now, as 20260131235959 or in seconds since 1970";
+
 const WHEN: [&str; 3] = ["auto", "always", "never"];
 
 /// The options that say what is found.
@@ -64,6 +70,16 @@ fn with_findings<'a>(alloc: Global, command: Command<'a>) -> Result<Command<'a>,
             "CLASS",
             "the class of the zone, IN unless given",
         ))
+}
+
+/// The options for signed zones.
+fn with_signatures<'a>(alloc: Global, command: Command<'a>) -> Result<Command<'a>, AllocError> {
+    let within = valued(alloc, "within", "TIME", WITHIN).requires_arg("dnssec")?;
+    let now = valued(alloc, "now", "TIME", NOW).requires_arg("dnssec")?;
+    command
+        .arg(flag(alloc, "dnssec", DNSSEC))?
+        .arg(within)?
+        .arg(now)
 }
 
 /// The options that say how findings are written.
@@ -91,6 +107,7 @@ fn check_command<'a>(alloc: Global, name: &'a str) -> Result<Command<'a>, AllocE
         .arg(zone)?
         .arg(flag(alloc, "zone-from-name", ZONE_FROM_NAME))?
         .arg(values(alloc, "include", "DIR", INCLUDE))?;
+    let command = with_signatures(alloc, command)?;
     with_forms(alloc, with_findings(alloc, command)?)
 }
 

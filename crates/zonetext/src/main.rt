@@ -23,6 +23,7 @@ mod records;
 mod reporter;
 mod spots;
 mod stop;
+mod times;
 mod zone_files;
 mod zone_words;
 

@@ -1,4 +1,5 @@
 //! What options say.
+use crate::stop::TROUBLE;
 use arrayvec::ArrayVec;
 use clap::ArgMatches;
 use dns_kinds::Class;
@@ -20,6 +21,10 @@ const IN: u16 = 1;
 pub enum Usage {
     /// This option has no such value.
     Value(&'static str),
+    /// Signatures are to be looked at, and no zone is said.
+    NoZone,
+    /// The clock can't be read.
+    Clock,
     Memory,
 }
 
@@ -74,6 +79,14 @@ pub fn status_of(rt: &HostRuntime, answer: Result<u8, Usage>) -> io::Result<u8> 
         Err(Usage::Value(option)) => {
             eprintln!(rt; "zonetext: {option} has no such value")?;
             Ok(USAGE)
+        }
+        Err(Usage::NoZone) => {
+            eprintln!(rt; "zonetext: --dnssec wants --zone or --zone-from-name")?;
+            Ok(USAGE)
+        }
+        Err(Usage::Clock) => {
+            eprintln!(rt; "zonetext: the clock can't be read: give --now")?;
+            Ok(TROUBLE)
         }
         Err(Usage::Memory) => Err(io::Error::from(ErrorKind::OutOfMemory)),
     }

@@ -171,6 +171,7 @@ pub fn give_records<T: TakeRecord + Drop>(
         assumes_root: false,
         is_strict: false,
         tells_slips: false,
+        times: None,
     };
     let reporter = Reporter::new(rt, policy, form, MOST);
     let checker = Checker::new(rt, reporter, limits, None);

@@ -4,7 +4,7 @@ use Rattle.dns_split.specs.declared.pieces.Wrong.{Wrong}
 use Rattle.dns_split.specs.declared.pieces.Wrong.TheVariants.{Closing, OpenParenthesis as OpenWrong, OpenQuote as QuoteWrong, LoneReturn as ReturnWrong, BadEscape as EscapeWrong}
 use Rattle.zonetext_report.specs.Code.{code_name}
 use Rattle.zonetext_report.specs.declared.code.Code.{Code}
-use Rattle.zonetext_report.specs.declared.code.Code.TheVariants.{Nul, ByteOrderMark, ControlZ, OtherClass, NoSoa, TwoSoas, NoNs, NsAddress, Cname, Dname, DsApex, WildcardNs, BelowDname, Outside, MaxTtl, NoOrigin, HighOctet, ControlOctet, Crlf, NestedParentheses, NoFinalNewline, RelativeOrigin, SoaMinimumTtl, IncludeTtl, MissingDot, EmptyUri, TlsaLength, Glue, TargetCname, TargetMissing, HostName, Cds, TtlDiffers, Duplicate}
+use Rattle.zonetext_report.specs.declared.code.Code.TheVariants.{Nul, ByteOrderMark, ControlZ, OtherClass, NoSoa, TwoSoas, NoNs, NsAddress, Cname, Dname, DsApex, WildcardNs, BelowDname, Outside, MaxTtl, NoOrigin, HighOctet, ControlOctet, Crlf, NestedParentheses, NoFinalNewline, RelativeOrigin, SoaMinimumTtl, IncludeTtl, MissingDot, EmptyUri, TlsaLength, Glue, TargetCname, TargetMissing, HostName, Cds, TtlDiffers, Duplicate, NoDnskey, Expired, ExpiresSoon, NotYetValid, Unsigned, SignsNothing, NoNsec, NsecNext, NsecTypes, DsWithoutNs, NoNsec3, Nsec3Next, Nsec3Types}
 
 -- the faults of the text
 abbrev pub text_fault_text : Wrong → List ℕ
@@ -50,4 +50,17 @@ finding_text HostName = codes "host name with an underscore"
 finding_text Cds = codes "CDS or CDNSKEY without a DNSKEY"
 finding_text TtlDiffers = codes "another time to live than the set's"
 finding_text Duplicate = codes "record stands twice"
+finding_text NoDnskey = codes "no DNSKEY at the zone's name: it is not signed"
+finding_text Expired = codes "signature has expired"
+finding_text ExpiresSoon = codes "signature expires soon"
+finding_text NotYetValid = codes "signature is not valid yet"
+finding_text Unsigned = codes "set without a signature"
+finding_text SignsNothing = codes "signature of records that are not there"
+finding_text NoNsec = codes "name without an NSEC"
+finding_text NsecNext = codes "NSEC names another than the next name"
+finding_text NsecTypes = codes "NSEC lists other types than the name has"
+finding_text DsWithoutNs = codes "DS without an NS"
+finding_text NoNsec3 = codes "name, or empty name above it, without an NSEC3"
+finding_text Nsec3Next = codes "NSEC3 names another than the next hash"
+finding_text Nsec3Types = codes "NSEC3 of the name, or of an empty name above it, lists other types"
 finding_text c = code_name c

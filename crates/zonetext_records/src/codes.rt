@@ -1,5 +1,6 @@
 //! The codes of what is found in the entries of zone files.
 ghost use Rattle.std.specs.Prelude.{◌≡◌};
+ghost use Rattle.zone_dnssec.specs.SecurityNames.{security_name};
 ghost use Rattle.zone_rules.specs.RuleNames.{rule_name};
 ghost use Rattle.zonetext_records.specs.Codes.{code_of_data, code_of_entry, code_of_fault, code_of_head, code_of_name, is_for_lack_of_room};
 ghost use Rattle.zonetext_report.specs.Code.{code_name};
@@ -11,6 +12,7 @@ use dns_kinds::KindError;
 use dns_reader::EntryError;
 use dns_spelling::SpellingError;
 use dns_split::pieces::Wrong;
+use zone_dnssec::SecurityRule;
 use zone_rules::Rule;
 use zonetext_report::code::Code;
 
@@ -107,5 +109,25 @@ pub fn code_of_rule(rule: Rule) -> Code
         Rule::CdsWithoutKey => Code::Cds,
         Rule::TtlDiffers => Code::TtlDiffers,
         Rule::Duplicate => Code::Duplicate,
+    }
+}
+
+/// The code of a rule that a signed zone breaks, which has its name.
+pub fn code_of_security(rule: SecurityRule) -> Code
+    ensures { code_name result ≡ security_name rule }
+{
+    match rule {
+        SecurityRule::Expired => Code::Expired,
+        SecurityRule::ExpiresSoon => Code::ExpiresSoon,
+        SecurityRule::NotYetValid => Code::NotYetValid,
+        SecurityRule::Unsigned => Code::Unsigned,
+        SecurityRule::SignsNothing => Code::SignsNothing,
+        SecurityRule::NoNsec => Code::NoNsec,
+        SecurityRule::OtherNext => Code::NsecNext,
+        SecurityRule::OtherTypes => Code::NsecTypes,
+        SecurityRule::DsWithoutNs => Code::DsWithoutNs,
+        SecurityRule::NoNsec3 => Code::NoNsec3,
+        SecurityRule::OtherNextHash => Code::Nsec3Next,
+        SecurityRule::OtherHashedTypes => Code::Nsec3Types,
     }
 }

@@ -3,7 +3,7 @@ use Rattle.std.specs.Prelude.{ℕ, Bool, true, false, List, codes}
 use Rattle.zonetext_report.specs.declared.code.Severity.{Severity}
 use Rattle.zonetext_report.specs.declared.code.Severity.TheVariants.{Error, Warning}
 use Rattle.zonetext_report.specs.declared.code.Code.{Code}
-use Rattle.zonetext_report.specs.declared.code.Code.TheVariants.{OpenQuote, OpenParenthesis, ClosingParenthesis, LoneReturn, BadEscape, Nul, ByteOrderMark, ControlZ, Directive, Owner, Ttl, Class, RecordType, Data, Include, NoOwner, NoTtl, OtherClass, NoSoa, TwoSoas, NoNs, NsAddress, Cname, Dname, DsApex, WildcardNs, BelowDname, Outside, MaxTtl, NoOrigin, HighOctet, ControlOctet, Crlf, NestedParentheses, NoFinalNewline, RelativeOrigin, SoaMinimumTtl, IncludeTtl, MissingDot, EmptyUri, TlsaLength, Glue, TargetCname, TargetMissing, HostName, Cds, TtlDiffers, Duplicate}
+use Rattle.zonetext_report.specs.declared.code.Code.TheVariants.{OpenQuote, OpenParenthesis, ClosingParenthesis, LoneReturn, BadEscape, Nul, ByteOrderMark, ControlZ, Directive, Owner, Ttl, Class, RecordType, Data, Include, NoOwner, NoTtl, OtherClass, NoSoa, TwoSoas, NoNs, NsAddress, Cname, Dname, DsApex, WildcardNs, BelowDname, Outside, MaxTtl, NoOrigin, HighOctet, ControlOctet, Crlf, NestedParentheses, NoFinalNewline, RelativeOrigin, SoaMinimumTtl, IncludeTtl, MissingDot, EmptyUri, TlsaLength, Glue, TargetCname, TargetMissing, HostName, Cds, TtlDiffers, Duplicate, NoDnskey, Expired, ExpiresSoon, NotYetValid, Unsigned, SignsNothing, NoNsec, NsecNext, NsecTypes, DsWithoutNs, NoNsec3, Nsec3Next, Nsec3Types}
 
 abbrev pub severity_name : Severity → List ℕ
 severity_name Error = codes "error"
@@ -59,6 +59,19 @@ code_name HostName = codes "host-name"
 code_name Cds = codes "cds"
 code_name TtlDiffers = codes "ttl-differs"
 code_name Duplicate = codes "duplicate"
+code_name NoDnskey = codes "no-dnskey"
+code_name Expired = codes "expired"
+code_name ExpiresSoon = codes "expires-soon"
+code_name NotYetValid = codes "not-yet-valid"
+code_name Unsigned = codes "unsigned"
+code_name SignsNothing = codes "signs-nothing"
+code_name NoNsec = codes "no-nsec"
+code_name NsecNext = codes "nsec-next"
+code_name NsecTypes = codes "nsec-types"
+code_name DsWithoutNs = codes "ds-without-ns"
+code_name NoNsec3 = codes "no-nsec3"
+code_name Nsec3Next = codes "nsec3-next"
+code_name Nsec3Types = codes "nsec3-types"
 
 -- the text can't be read as entries, or not safely
 abbrev pub is_text_fault : Code → Bool
@@ -93,4 +106,5 @@ default_severity HostName = Warning
 default_severity Cds = Warning
 default_severity TtlDiffers = Warning
 default_severity Duplicate = Warning
+default_severity ExpiresSoon = Warning
 default_severity _ = Error

@@ -125,6 +125,32 @@ pub enum Code {
     TtlDiffers,
     /// A record stands twice.
     Duplicate,
+    /// The zone is to be signed, and has no DNSKEY at its apex.
+    NoDnskey,
+    /// An RRSIG has expired.
+    Expired,
+    /// An RRSIG expires within the time that was asked for.
+    ExpiresSoon,
+    /// An RRSIG is not valid yet.
+    NotYetValid,
+    /// A set of records has no RRSIG.
+    Unsigned,
+    /// An RRSIG covers a type that is not at its owner.
+    SignsNothing,
+    /// A name has no NSEC.
+    NoNsec,
+    /// An NSEC names another than the next name.
+    NsecNext,
+    /// An NSEC lists other types than its owner has.
+    NsecTypes,
+    /// A DS stands without an NS.
+    DsWithoutNs,
+    /// A name, or an empty one above it, has no NSEC3.
+    NoNsec3,
+    /// An NSEC3 names another than the next hash.
+    Nsec3Next,
+    /// The NSEC3 of a name, or of an empty one above it, lists other types.
+    Nsec3Types,
 }
 
 /// The first of some codes that has a name.
@@ -137,7 +163,7 @@ fn find_named(codes: &[Code], name: &str) -> Option<Code>
 impl Code {
     /// Every code.
 
-    pub const ALL: [Code; 48] = [
+    pub const ALL: [Code; 61] = [
         Code::OpenQuote,
         Code::OpenParenthesis,
         Code::ClosingParenthesis,
@@ -186,6 +212,19 @@ impl Code {
         Code::Cds,
         Code::TtlDiffers,
         Code::Duplicate,
+        Code::NoDnskey,
+        Code::Expired,
+        Code::ExpiresSoon,
+        Code::NotYetValid,
+        Code::Unsigned,
+        Code::SignsNothing,
+        Code::NoNsec,
+        Code::NsecNext,
+        Code::NsecTypes,
+        Code::DsWithoutNs,
+        Code::NoNsec3,
+        Code::Nsec3Next,
+        Code::Nsec3Types,
     ];
 
     /// The name of a code, in small letters and dashes.
@@ -241,6 +280,19 @@ impl Code {
             Code::Cds => "cds",
             Code::TtlDiffers => "ttl-differs",
             Code::Duplicate => "duplicate",
+            Code::NoDnskey => "no-dnskey",
+            Code::Expired => "expired",
+            Code::ExpiresSoon => "expires-soon",
+            Code::NotYetValid => "not-yet-valid",
+            Code::Unsigned => "unsigned",
+            Code::SignsNothing => "signs-nothing",
+            Code::NoNsec => "no-nsec",
+            Code::NsecNext => "nsec-next",
+            Code::NsecTypes => "nsec-types",
+            Code::DsWithoutNs => "ds-without-ns",
+            Code::NoNsec3 => "no-nsec3",
+            Code::Nsec3Next => "nsec3-next",
+            Code::Nsec3Types => "nsec3-types",
         }
     }
 
@@ -292,7 +344,8 @@ impl Code {
             | Code::HostName
             | Code::Cds
             | Code::TtlDiffers
-            | Code::Duplicate => Severity::Warning,
+            | Code::Duplicate
+            | Code::ExpiresSoon => Severity::Warning,
             _ => Severity::Error,
         }
     }

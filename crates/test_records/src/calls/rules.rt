@@ -1,5 +1,5 @@
 //! What is found in zones.
-use super::tell::{Octets, origin_of};
+use super::tell::{Octets, number16, origin_of};
 use super::zone::state_of;
 use dns_kinds::RecordType;
 use dns_octets::ShortBuf;
@@ -9,6 +9,7 @@ use dns_spelling::NameText;
 use dns_wire::Name;
 use row_table::{Answer, Failure, Heap};
 use std::slice;
+use zone_dnssec::nsec3_hash::{hash_name, hashed_name};
 use zone_dnssec::{SecurityFinding, Times, check_signed};
 use zone_rules::{Finding, SortedRecords, check_zone};
 
@@ -185,5 +186,23 @@ pub fn dnssec(inputs: &[Vec<u8>], answer: &mut Answer) {
             }
         }
         Err(_) => answer.refuse(&ShortBuf),
+    }
+}
+
+/// The owner of the NSEC3 that matches a name: the name, salt and iterations, and the origin.
+pub fn hash(inputs: &[Vec<u8>], answer: &mut Answer) {
+    let [name, salt, iterations, origin] = inputs else {
+        return answer.fail(Failure::BadInputs);
+    };
+    let iterations = number16(iterations, answer);
+    let name = origin_of(slice::from_ref(name), answer);
+    let origin = origin_of(slice::from_ref(origin), answer);
+    let (Some(name), Some(origin)) = (name, origin) else {
+        return answer.fail(Failure::BadInputs);
+    };
+    let hash = hash_name(&name, salt, iterations);
+    match hashed_name(&origin, &hash) {
+        Some(owner) => answer.add_shown(&NameText(owner.as_slice())),
+        None => answer.add_text("none"),
     }
 }

@@ -1,0 +1,237 @@
+//! What NSEC3 records say of the names of a zone (RFC 5155 section 7.1).
+ghost use Rattle.std.specs.Prelude.{◌≡◌, ◌&&◌};
+ghost use Rattle.std.specs.List.{list_any};
+ghost use Rattle.zone_rules.specs.Above.{names_above};
+ghost use Rattle.zone_dnssec.specs.HashedLinks.{fails_at_or_above, fails_chain, fails_name, is_covered_by_opt_out, is_empty_in_zone, is_hash_of, is_opted_out, is_represented, lacks_link, lists_other_hashed_types, names_other_hash, points_to_next};
+
+use crate::bitmaps::lists_types;
+use crate::chain::is_first_at_owner;
+use crate::nsec3::{
+    bitmap, covering_link, has_opt_out, is_chain, is_of_chain, link_for, next_hash, next_in_chain,
+    owner_for,
+};
+use crate::nsec3_hash::hashed_name;
+use crate::sets::has_authority;
+use crate::types::{DS, NSEC3};
+use dns_octets::AsOctets;
+use dns_resource::Record;
+use dns_wire::Name;
+use zone_rules::SortedRecords;
+use zone_rules::hosts::is_cut;
+use zone_rules::names::{is_name_within, is_same, parent, view};
+use zone_rules::sorted::{has_type, owned_by};
+
+/// What is wrong with the NSEC3 of a name.
+#[derive(Clone, Copy)]
+pub enum LinkFault {
+    /// There is none.
+    Missing,
+    /// It lists other types than those at the name.
+    DifferentTypes,
+}
+
+/// Whether a hash is that of a record's owner.
+fn is_hash_for<Owner: AsOctets, Octets: AsOctets>(
+    origin: &Name<&[u8]>,
+    hash: &[u8],
+    record: &Record<Owner, Octets>,
+) -> bool
+    ensures { result ≡ is_hash_of origin.now hash.now «record».now }
+{
+    match hashed_name(origin, hash) {
+        Some(owner) => is_same(&view(&owner), &view(&record.owner)),
+        None => false,
+    }
+}
+
+/// Whether an NSEC3 names the hash of the one that comes next.
+fn names_next<Owner: AsOctets, Octets: AsOctets>(
+    origin: &Name<&[u8]>,
+    records: &SortedRecords<'_, Owner, Octets>,
+    chain: &Record<Owner, Octets>,
+    record: &Record<Owner, Octets>,
+) -> bool
+    ensures { result ≡ points_to_next origin.now records.now chain.now «record».now }
+{
+    match next_in_chain(records, chain, &view(&record.owner)) {
+        Some(next) => is_hash_for(origin, next_hash(record), next),
+        None => false,
+    }
+}
+
+/// Whether a record is an NSEC3 of a chain that names another than the next hash.
+pub fn has_wrong_next_hash<Owner: AsOctets, Octets: AsOctets>(
+    origin: &Name<&[u8]>,
+    records: &SortedRecords<'_, Owner, Octets>,
+    record: &Record<Owner, Octets>,
+) -> bool
+    ensures { result ≡ names_other_hash origin.now records.now «record».now }
+{
+    if record.data.code() != NSEC3 {
+        return false;
+    }
+    owned_by(records, origin).iter().any(|chain| {
+        is_chain(chain)
+            && is_of_chain(chain, record)
+            && !names_next(origin, records, chain, record)
+    })
+}
+
+/// Whether no NSEC3 matches a name.
+fn is_without_link<Owner: AsOctets, Octets: AsOctets>(
+    origin: &Name<&[u8]>,
+    records: &SortedRecords<'_, Owner, Octets>,
+    chain: &Record<Owner, Octets>,
+    name: &Name<&[u8]>,
+) -> bool
+    ensures { result ≡ lacks_link origin.now records.now chain.now name.now }
+{
+    link_for(origin, records, chain, name).is_none()
+}
+
+/// Whether no NSEC3 matches a name, and the one that covers it has Opt-Out.
+fn is_in_opt_out<Owner: AsOctets, Octets: AsOctets>(
+    origin: &Name<&[u8]>,
+    records: &SortedRecords<'_, Owner, Octets>,
+    chain: &Record<Owner, Octets>,
+    name: &Name<&[u8]>,
+) -> bool
+    ensures { result ≡ is_covered_by_opt_out origin.now records.now chain.now name.now }
+{
+    if !is_without_link(origin, records, chain, name) {
+        return false;
+    }
+    let Some(owner) = owner_for(origin, chain, name) else {
+        return false;
+    };
+    match covering_link(records, chain, &view(&owner)) {
+        Some(link) => has_opt_out(link),
+        None => false,
+    }
+}
+
+/// Whether a name is a delegation without DS that a chain leaves out.
+fn is_left_out<Owner: AsOctets, Octets: AsOctets>(
+    origin: &Name<&[u8]>,
+    records: &SortedRecords<'_, Owner, Octets>,
+    chain: &Record<Owner, Octets>,
+    name: &Name<&[u8]>,
+) -> bool
+    ensures { result ≡ is_opted_out origin.now records.now chain.now name.now }
+{
+    is_cut(origin, records, name)
+        && !has_type(records, name, DS)
+        && is_in_opt_out(origin, records, chain, name)
+}
+
+/// Whether the NSEC3 that matches a name lists other types than those at the name.
+fn has_wrong_hashed_types<Owner: AsOctets, Octets: AsOctets>(
+    origin: &Name<&[u8]>,
+    records: &SortedRecords<'_, Owner, Octets>,
+    chain: &Record<Owner, Octets>,
+    name: &Name<&[u8]>,
+) -> bool
+    ensures { result ≡ lists_other_hashed_types origin.now records.now chain.now name.now }
+{
+    match link_for(origin, records, chain, name) {
+        Some(link) => !lists_types(origin, records, name, bitmap(link)),
+        None => false,
+    }
+}
+
+/// Whether a chain has a fault at a name.
+fn has_fault<Owner: AsOctets, Octets: AsOctets>(
+    fault: LinkFault,
+    origin: &Name<&[u8]>,
+    records: &SortedRecords<'_, Owner, Octets>,
+    chain: &Record<Owner, Octets>,
+    name: &Name<&[u8]>,
+) -> bool
+    ensures { result ≡ fails_name fault origin.now records.now chain.now name.now }
+{
+    match fault {
+        LinkFault::Missing => is_without_link(origin, records, chain, name),
+        LinkFault::DifferentTypes => has_wrong_hashed_types(origin, records, chain, name),
+    }
+}
+
+/// Whether a name is in the zone, and no record stands there.
+fn is_empty_name<Owner: AsOctets, Octets: AsOctets>(
+    origin: &Name<&[u8]>,
+    records: &SortedRecords<'_, Owner, Octets>,
+    name: &Name<&[u8]>,
+) -> bool
+    ensures { result ≡ is_empty_in_zone origin.now records.now name.now }
+{
+    is_name_within(name, origin) && owned_by(records, name).is_empty()
+}
+
+/// Whether a chain has a fault at an empty non-terminal above a name.
+#[tactic(auto, using(zone_rules::proofs::NameParts::above_none, zone_rules::proofs::NameParts::above_some, zone_rules::proofs::NameParts::above_fewer))]
+fn has_fault_above<Owner: AsOctets, Octets: AsOctets>(
+    fault: LinkFault,
+    origin: &Name<&[u8]>,
+    records: &SortedRecords<'_, Owner, Octets>,
+    chain: &Record<Owner, Octets>,
+    name: &Name<&[u8]>,
+) -> bool
+    ensures { result ≡ list_any (λ above. is_empty_in_zone origin.now records.now above && fails_name fault origin.now records.now chain.now above) (names_above name.now) }
+{
+    match parent(name) {
+        Some(above) => {
+            (is_empty_name(origin, records, &above)
+                && has_fault(fault, origin, records, chain, &above))
+                || has_fault_above(fault, origin, records, chain, &above)
+        }
+        None => false,
+    }
+}
+
+/// Whether a chain has a fault at a name, or at an empty non-terminal above it.
+fn has_fault_from<Owner: AsOctets, Octets: AsOctets>(
+    fault: LinkFault,
+    origin: &Name<&[u8]>,
+    records: &SortedRecords<'_, Owner, Octets>,
+    chain: &Record<Owner, Octets>,
+    name: &Name<&[u8]>,
+) -> bool
+    ensures { result ≡ fails_at_or_above fault origin.now records.now chain.now name.now }
+{
+    has_fault(fault, origin, records, chain, name)
+        || has_fault_above(fault, origin, records, chain, name)
+}
+
+/// Whether a name is represented in a chain.
+fn is_in_chain<Owner: AsOctets, Octets: AsOctets>(
+    origin: &Name<&[u8]>,
+    records: &SortedRecords<'_, Owner, Octets>,
+    chain: &Record<Owner, Octets>,
+    name: &Name<&[u8]>,
+) -> bool
+    ensures { result ≡ is_represented origin.now records.now chain.now name.now }
+{
+    has_authority(origin, records, name)
+        && !has_type(records, name, NSEC3)
+        && !is_left_out(origin, records, chain, name)
+}
+
+/// Whether a record is the first at a name that is represented in a chain which has a fault there.
+pub fn is_link_wrong<Owner: AsOctets, Octets: AsOctets>(
+    fault: LinkFault,
+    origin: &Name<&[u8]>,
+    records: &SortedRecords<'_, Owner, Octets>,
+    place: usize,
+    record: &Record<Owner, Octets>,
+) -> bool
+    ensures { result ≡ fails_chain fault origin.now records.now place «record».now }
+{
+    if !is_first_at_owner(records, place, record) {
+        return false;
+    }
+    let owner = view(&record.owner);
+    owned_by(records, origin).iter().any(|chain| {
+        is_chain(chain)
+            && is_in_chain(origin, records, chain, &owner)
+            && has_fault_from(fault, origin, records, chain, &owner)
+    })
+}

@@ -1,0 +1,219 @@
+//! The chain of NSEC3 records that an NSEC3PARAM names (RFC 5155 sections 3, 4 and 7.1).
+ghost use Rattle.std.specs.Prelude.{◌≡◌, ◌&&◌, reverse};
+ghost use Rattle.std.specs.List.{find};
+ghost use Rattle.std.specs.Option.{option_copied};
+ghost use Rattle.std.specs.Ordering.{is_lt};
+ghost use Rattle.dns_canonical.specs.Names.{name_order};
+ghost use Rattle.dns_wire.specs.Order.{same_name};
+ghost use Rattle.zone_dnssec.specs.Nsec3Chain.{field_octets, hashed_bitmap, is_link, is_same_field, iterations_of, link_after, link_before, matching_link, matching_owner, names_chain, next_hash_of, opts_out, salt_of, short_number};
+ghost use Rattle.zone_dnssec.specs.NsecChain.{comes_after};
+
+use crate::bitmaps::behind;
+use crate::nsec3_hash::{hash_name, hashed_name};
+use crate::types::{NSEC3, NSEC3PARAM};
+use arrayvec::ArrayVec;
+use dns_octets::AsOctets;
+use dns_resource::Record;
+use dns_wire::Name;
+use zone_rules::SortedRecords;
+use zone_rules::names::{order_of, view};
+use zone_rules::sorted::owned_by;
+
+/// The places of fields of NSEC3 and NSEC3PARAM (RFC 5155 sections 3.2 and 4.2).
+const ALGORITHM: usize = 0;
+const FLAGS: usize = 1;
+const ITERATIONS: usize = 2;
+const SALT: usize = 3;
+const NEXT_HASH: usize = 4;
+
+/// The octets of a field.
+fn field<Owner: AsOctets, Octets: AsOctets>(record: &Record<Owner, Octets>, place: usize) -> &[u8]
+    ensures { result.now ≡ field_octets place «record».now }
+{
+    match record.data.part(place) {
+        Some(octets) => octets,
+        None => &[],
+    }
+}
+
+/// The number that two octets spell.
+fn number(octets: &[u8]) -> u16
+    ensures { result ≡ short_number octets.now }
+{
+    match octets {
+        [high, low, ..] => u16::from_be_bytes([*high, *low]),
+        _ => 0,
+    }
+}
+
+/// The next hash of an NSEC3.
+pub fn next_hash<Owner: AsOctets, Octets: AsOctets>(record: &Record<Owner, Octets>) -> &[u8]
+    ensures { result.now ≡ next_hash_of «record».now }
+{
+    behind(field(record, NEXT_HASH), 1)
+}
+
+/// The bitmap of an NSEC3.
+pub fn bitmap<Owner: AsOctets, Octets: AsOctets>(record: &Record<Owner, Octets>) -> &[u8]
+    ensures { result.now ≡ hashed_bitmap «record».now }
+{
+    let rest = behind(record.data.as_slice(), 4);
+    let rest = behind(rest, field(record, SALT).len());
+    behind(rest, field(record, NEXT_HASH).len())
+}
+
+/// Whether an NSEC3 has the flag Opt-Out (RFC 5155 section 3.1.2.1).
+pub fn has_opt_out<Owner: AsOctets, Octets: AsOctets>(record: &Record<Owner, Octets>) -> bool
+    ensures { result ≡ opts_out «record».now }
+{
+    field(record, FLAGS).iter().any(|flags| flags % 2 == 1)
+}
+
+/// Whether an NSEC3PARAM names a chain.
+pub fn is_chain<Owner: AsOctets, Octets: AsOctets>(record: &Record<Owner, Octets>) -> bool
+    ensures { result ≡ names_chain «record».now }
+{
+    record.data.code() == NSEC3PARAM
+        && matches!(field(record, ALGORITHM), [1])
+        && matches!(field(record, FLAGS), [0])
+}
+
+/// Whether a field of two records is the same.
+fn has_same_field<Owner: AsOctets, Octets: AsOctets>(
+    place: usize,
+    left: &Record<Owner, Octets>,
+    right: &Record<Owner, Octets>,
+) -> bool
+    ensures { result ≡ is_same_field place left.now right.now }
+{
+    field(left, place) == field(right, place)
+}
+
+/// Whether a record is an NSEC3 of a chain.
+pub fn is_of_chain<Owner: AsOctets, Octets: AsOctets>(
+    chain: &Record<Owner, Octets>,
+    record: &Record<Owner, Octets>,
+) -> bool
+    ensures { result ≡ is_link chain.now «record».now }
+{
+    record.data.code() == NSEC3
+        && has_same_field(ALGORITHM, chain, record)
+        && has_same_field(ITERATIONS, chain, record)
+        && has_same_field(SALT, chain, record)
+}
+
+/// The owner of the NSEC3 that matches a name.
+pub fn owner_for<Owner: AsOctets, Octets: AsOctets>(
+    origin: &Name<&[u8]>,
+    chain: &Record<Owner, Octets>,
+    name: &Name<&[u8]>,
+) -> Option<Name<ArrayVec<u8, 255>>>
+    ensures { result ≡ matching_owner origin.now chain.now name.now }
+{
+    let salt = behind(field(chain, SALT), 1);
+    let hash = hash_name(name, salt, number(field(chain, ITERATIONS)));
+    hashed_name(origin, &hash)
+}
+
+/// The NSEC3 of a chain at an owner.
+fn link_owned_by<'a, Owner: AsOctets, Octets: AsOctets>(
+    records: &SortedRecords<'a, Owner, Octets>,
+    chain: &Record<Owner, Octets>,
+    owner: &Name<&[u8]>,
+) -> Option<&'a Record<Owner, Octets>>
+    ensures { option_copied result ≡ find (λ r. same_name r.owner owner.now && is_link chain.now r) records.now }
+{
+    owned_by(records, owner).iter().find(|record| is_of_chain(chain, record))
+}
+
+/// The NSEC3 that matches a name.
+pub fn link_for<'a, Owner: AsOctets, Octets: AsOctets>(
+    origin: &Name<&[u8]>,
+    records: &SortedRecords<'a, Owner, Octets>,
+    chain: &Record<Owner, Octets>,
+    name: &Name<&[u8]>,
+) -> Option<&'a Record<Owner, Octets>>
+    ensures { option_copied result ≡ matching_link origin.now records.now chain.now name.now }
+{
+    match owner_for(origin, chain, name) {
+        Some(owner) => link_owned_by(records, chain, &view(&owner)),
+        None => None,
+    }
+}
+
+/// The first NSEC3 of a chain.
+fn first_link<'a, Owner: AsOctets, Octets: AsOctets>(
+    records: &SortedRecords<'a, Owner, Octets>,
+    chain: &Record<Owner, Octets>,
+) -> Option<&'a Record<Owner, Octets>>
+    ensures { option_copied result ≡ find (is_link chain.now) records.now }
+{
+    records.as_slice().iter().find(|record| is_of_chain(chain, record))
+}
+
+/// The last NSEC3 of a chain.
+fn last_link<'a, Owner: AsOctets, Octets: AsOctets>(
+    records: &SortedRecords<'a, Owner, Octets>,
+    chain: &Record<Owner, Octets>,
+) -> Option<&'a Record<Owner, Octets>>
+    ensures { option_copied result ≡ find (is_link chain.now) (reverse records.now) }
+{
+    records.as_slice().iter().rev().find(|record| is_of_chain(chain, record))
+}
+
+/// The first NSEC3 of a chain behind a name.
+fn link_behind<'a, Owner: AsOctets, Octets: AsOctets>(
+    records: &SortedRecords<'a, Owner, Octets>,
+    chain: &Record<Owner, Octets>,
+    name: &Name<&[u8]>,
+) -> Option<&'a Record<Owner, Octets>>
+    ensures { option_copied result ≡ find (λ r. comes_after r.owner name.now && is_link chain.now r) records.now }
+{
+    let all = records.as_slice();
+    let count = all.partition_point(|record| order_of(&record.owner, name).is_le());
+    let rest = &all[count..];
+    rest.iter().find(|record| is_of_chain(chain, record))
+}
+
+/// The last NSEC3 of a chain in front of a name.
+fn link_in_front<'a, Owner: AsOctets, Octets: AsOctets>(
+    records: &SortedRecords<'a, Owner, Octets>,
+    chain: &Record<Owner, Octets>,
+    name: &Name<&[u8]>,
+) -> Option<&'a Record<Owner, Octets>>
+    ensures { option_copied result ≡ find (λ r. is_lt (name_order r.owner name.now) && is_link chain.now r) (reverse records.now) }
+{
+    let all = records.as_slice();
+    let count = all.partition_point(|record| order_of(&record.owner, name).is_lt());
+    let front = &all[..count];
+    front.iter().rev().find(|record| is_of_chain(chain, record))
+}
+
+/// The NSEC3 that comes next after a name, and after the last one the first.
+pub fn next_in_chain<'a, Owner: AsOctets, Octets: AsOctets>(
+    records: &SortedRecords<'a, Owner, Octets>,
+    chain: &Record<Owner, Octets>,
+    name: &Name<&[u8]>,
+) -> Option<&'a Record<Owner, Octets>>
+    ensures { option_copied result ≡ link_after records.now chain.now name.now }
+{
+    match link_behind(records, chain, name) {
+        Some(link) => Some(link),
+        None => first_link(records, chain),
+    }
+}
+
+/// The NSEC3 that covers a name which none matches: the one before it, and before the first one
+/// the last.
+pub fn covering_link<'a, Owner: AsOctets, Octets: AsOctets>(
+    records: &SortedRecords<'a, Owner, Octets>,
+    chain: &Record<Owner, Octets>,
+    name: &Name<&[u8]>,
+) -> Option<&'a Record<Owner, Octets>>
+    ensures { option_copied result ≡ link_before records.now chain.now name.now }
+{
+    match link_in_front(records, chain, name) {
+        Some(link) => Some(link),
+        None => last_link(records, chain),
+    }
+}

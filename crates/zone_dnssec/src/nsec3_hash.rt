@@ -1,0 +1,129 @@
+//! The hashed names of NSEC3 (RFC 5155 sections 3.3 and 5).
+ghost use Rattle.std.specs.Prelude.{◌≡◌, ◌≤◌, ◌∷◌, ◌++◌, ◌==◌, ◌&&◌, length, nat_le};
+ghost use Rattle.dns_codec.specs.Base.{base32hex, encoded};
+ghost use Rattle.dns_octets.specs.Lowered.{lowered};
+ghost use Rattle.dns_spelling.specs.NameSpelling.{IsWireName};
+ghost use Rattle.dns_wire.specs.Wire.{wire, wire_length};
+ghost use Rattle.sha1.specs.Sha1.{sha1};
+ghost use Rattle.zone_dnssec.specs.HashedNames.{hashed_owner, iterated_hash, name_hash};
+
+use arrayvec::ArrayVec;
+use dns_canonical::append_lowered;
+use dns_codec::base32::encode_slice_hex;
+use dns_octets::AsOctets;
+use dns_wire::{MAX_NAME, Name};
+use sha1::Sha1;
+use zone_rules::names::octets_of;
+
+/// How many octets a hash has.
+const HASH: usize = 20;
+
+/// How many characters a hash has in base 32 hex.
+const LABEL: usize = 32;
+
+/// How many octets the longest apex has, below which hashed names are names.
+const LONGEST_APEX: usize = MAX_NAME - LABEL - 1;
+
+/// The digest of octets with the salt behind them.
+fn salted_digest(octets: &[u8], salt: &[u8]) -> [u8; 20]
+    ensures { result ≡ sha1 (octets.now ++ salt.now) }
+{
+    let mut hasher = Sha1::new();
+    hasher.update(octets);
+    hasher.update(salt);
+    hasher.finalize()
+}
+
+/// The salted digest of octets, taken over again so many times.
+fn iterated_digest(octets: &[u8], salt: &[u8], iterations: u16) -> [u8; 20]
+    ensures { result ≡ iterated_hash salt.now octets.now iterations }
+{
+    let mut digest = salted_digest(octets, salt);
+    for _round in 0..iterations {
+        digest = salted_digest(&digest, salt);
+    }
+    digest
+}
+
+/// The octets of a name, letters in lower case.
+fn lowered_octets(octets: &[u8]) -> ArrayVec<u8, 255>
+    requires { length octets.now ≤ 255 }
+    ensures { result.items ≡ lowered octets.now }
+{
+    let mut small = ArrayVec::new();
+    append_lowered(octets, &mut small).unwrap();
+    small
+}
+
+/// The hash of a name. The work is that of one digest, and one more for each iteration, of which
+/// there are at most 65535.
+pub fn hash_name(name: &Name<&[u8]>, salt: &[u8], iterations: u16) -> [u8; 20]
+    ensures { result ≡ name_hash salt.now iterations name.now }
+{
+    let small = lowered_octets(octets_of(name));
+    iterated_digest(small.as_slice(), salt, iterations)
+}
+
+/// A hash in base 32 hex.
+fn hash_label(hash: &[u8]) -> [u8; 32]
+    requires { length hash.now ≡ 20 }
+    ensures { result ≡ encoded base32hex hash.now }
+{
+    let mut label = [0; LABEL];
+    encode_slice_hex(hash, &mut label).unwrap();
+    label
+}
+
+/// The octets of a label of 32 octets in front of others.
+fn labelled_octets(label: &[u8; 32], apex: &[u8]) -> ArrayVec<u8, 255>
+    requires { length apex.now ≤ 222 }
+    ensures { result.items ≡ 32 ∷ label.now ++ apex.now }
+{
+    let mut octets = ArrayVec::new();
+    octets.push(LABEL as u8);
+    octets.try_extend_from_slice(label).unwrap();
+    octets.try_extend_from_slice(apex).unwrap();
+    octets
+}
+
+/// The name that has these octets.
+fn name_over(octets: ArrayVec<u8, 255>) -> Name<ArrayVec<u8, 255>>
+    requires { IsWireName octets.items }
+    ensures { octets.items ≡ wire result }
+{
+    match Name::from_octets(octets) {
+        Ok(name) => name,
+        Err(_) => unreachable!(),
+    }
+}
+
+/// The name below an apex whose label is a hash.
+fn name_below(origin: &Name<&[u8]>, hash: &[u8]) -> Name<ArrayVec<u8, 255>>
+    requires hash { length hash.now ≡ 20 }
+    requires apex { wire_length origin.now ≤ 222 }
+    ensures { result ≡ encoded base32hex hash.now ∷ origin.now }
+{
+    let label = hash_label(hash);
+    let octets = labelled_octets(&label, octets_of(origin));
+    // No effect at run time: the proof reads that the octets are below 256.
+    let _octets = AsOctets::as_slice(&octets);
+    name_over(octets)
+}
+
+/// Whether the owner of an NSEC3 with a hash is a name.
+fn fits_below(origin: &Name<&[u8]>, hash: &[u8]) -> bool
+    ensures { result ≡ length hash.now == 20 && nat_le (wire_length origin.now) 222 }
+{
+    hash.len() == HASH && origin.len() <= LONGEST_APEX
+}
+
+/// The owner of the NSEC3 with a hash, below an apex. `None` where the hash has other than 20
+/// octets, or the apex more than 222.
+pub fn hashed_name(origin: &Name<&[u8]>, hash: &[u8]) -> Option<Name<ArrayVec<u8, 255>>>
+    ensures { result ≡ hashed_owner origin.now hash.now }
+{
+    if !fits_below(origin, hash) {
+        return None;
+    }
+    Some(name_below(origin, hash))
+}
