@@ -1,8 +1,10 @@
 //! What NSEC3 records say of the names of a zone (RFC 5155 section 7.1).
-ghost use Rattle.std.specs.Prelude.{◌≡◌, ◌&&◌};
+ghost use Rattle.std.specs.Prelude.{◌≡◌, ◌&&◌, not};
 ghost use Rattle.std.specs.List.{list_any};
 ghost use Rattle.zone_rules.specs.Above.{names_above};
+ghost use Rattle.zone_rules.specs.Zones.{has_owner};
 ghost use Rattle.zone_dnssec.specs.HashedLinks.{fails_at_or_above, fails_chain, fails_name, is_covered_by_opt_out, is_empty_in_zone, is_hash_of, is_opted_out, is_represented, lacks_link, lists_other_hashed_types, names_other_hash, points_to_next};
+ghost use Rattle.zone_dnssec.specs.Nsec3Chain.{is_link, some_chain};
 
 use crate::bitmaps::lists_types;
 use crate::chain::is_first_at_owner;
@@ -59,6 +61,21 @@ fn names_next<Owner: AsOctets, Octets: AsOctets>(
     }
 }
 
+/// Whether a record is of a chain, and names another than the next hash.
+fn breaks_order<Owner: AsOctets, Octets: AsOctets>(
+    origin: &Name<&[u8]>,
+    records: &SortedRecords<'_, Owner, Octets>,
+    record: &Record<Owner, Octets>,
+) -> bool
+    ensures { result ≡ some_chain (λ chain. is_link chain «record».now && not (points_to_next origin.now records.now chain «record».now)) origin.now records.now }
+{
+    owned_by(records, origin).iter().any(|chain| {
+        is_chain(chain)
+            && is_of_chain(chain, record)
+            && !names_next(origin, records, chain, record)
+    })
+}
+
 /// Whether a record is an NSEC3 of a chain that names another than the next hash.
 pub fn has_wrong_next_hash<Owner: AsOctets, Octets: AsOctets>(
     origin: &Name<&[u8]>,
@@ -67,14 +84,7 @@ pub fn has_wrong_next_hash<Owner: AsOctets, Octets: AsOctets>(
 ) -> bool
     ensures { result ≡ names_other_hash origin.now records.now «record».now }
 {
-    if record.data.code() != NSEC3 {
-        return false;
-    }
-    owned_by(records, origin).iter().any(|chain| {
-        is_chain(chain)
-            && is_of_chain(chain, record)
-            && !names_next(origin, records, chain, record)
-    })
+    record.data.code() == NSEC3 && breaks_order(origin, records, record)
 }
 
 /// Whether no NSEC3 matches a name.
@@ -155,6 +165,16 @@ fn has_fault<Owner: AsOctets, Octets: AsOctets>(
     }
 }
 
+/// Whether a record stands at a name.
+fn is_owner<Owner: AsOctets, Octets: AsOctets>(
+    records: &SortedRecords<'_, Owner, Octets>,
+    name: &Name<&[u8]>,
+) -> bool
+    ensures { result ≡ has_owner name.now records.now }
+{
+    !owned_by(records, name).is_empty()
+}
+
 /// Whether a name is in the zone, and no record stands there.
 fn is_empty_name<Owner: AsOctets, Octets: AsOctets>(
     origin: &Name<&[u8]>,
@@ -163,7 +183,7 @@ fn is_empty_name<Owner: AsOctets, Octets: AsOctets>(
 ) -> bool
     ensures { result ≡ is_empty_in_zone origin.now records.now name.now }
 {
-    is_name_within(name, origin) && owned_by(records, name).is_empty()
+    is_name_within(name, origin) && !is_owner(records, name)
 }
 
 /// Whether a chain has a fault at an empty non-terminal above a name.
@@ -215,6 +235,22 @@ fn is_in_chain<Owner: AsOctets, Octets: AsOctets>(
         && !is_left_out(origin, records, chain, name)
 }
 
+/// Whether a name is represented in a chain which has a fault there.
+fn has_fault_in_chain<Owner: AsOctets, Octets: AsOctets>(
+    fault: LinkFault,
+    origin: &Name<&[u8]>,
+    records: &SortedRecords<'_, Owner, Octets>,
+    name: &Name<&[u8]>,
+) -> bool
+    ensures { result ≡ some_chain (λ chain. is_represented origin.now records.now chain name.now && fails_at_or_above fault origin.now records.now chain name.now) origin.now records.now }
+{
+    owned_by(records, origin).iter().any(|chain| {
+        is_chain(chain)
+            && is_in_chain(origin, records, chain, name)
+            && has_fault_from(fault, origin, records, chain, name)
+    })
+}
+
 /// Whether a record is the first at a name that is represented in a chain which has a fault there.
 pub fn is_link_wrong<Owner: AsOctets, Octets: AsOctets>(
     fault: LinkFault,
@@ -225,13 +261,6 @@ pub fn is_link_wrong<Owner: AsOctets, Octets: AsOctets>(
 ) -> bool
     ensures { result ≡ fails_chain fault origin.now records.now place «record».now }
 {
-    if !is_first_at_owner(records, place, record) {
-        return false;
-    }
-    let owner = view(&record.owner);
-    owned_by(records, origin).iter().any(|chain| {
-        is_chain(chain)
-            && is_in_chain(origin, records, chain, &owner)
-            && has_fault_from(fault, origin, records, chain, &owner)
-    })
+    is_first_at_owner(records, place, record)
+        && has_fault_in_chain(fault, origin, records, &view(&record.owner))
 }
