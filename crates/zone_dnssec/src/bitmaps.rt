@@ -20,7 +20,11 @@ use zone_rules::sorted::{has_type, owned_by};
 pub(crate) fn behind(octets: &[u8], count: usize) -> &[u8]
     ensures { result.now ≡ drop count octets.now }
 {
-    if count < octets.len() { &octets[count..] } else { &[] }
+    if count < octets.len() {
+        &octets[count..]
+    } else {
+        &[]
+    }
 }
 
 /// The bitmap in data of an NSEC.

@@ -4,7 +4,7 @@ ghost use Rattle.std.specs.List.{list_any};
 ghost use Rattle.zone_rules.specs.Above.{names_above};
 ghost use Rattle.zone_rules.specs.Zones.{has_owner};
 ghost use Rattle.zone_dnssec.specs.HashedLinks.{fails_at_or_above, fails_chain, fails_name, is_covered_by_opt_out, is_empty_in_zone, is_hash_of, is_opted_out, is_represented, lacks_link, lists_other_hashed_types, names_other_hash, points_to_next};
-ghost use Rattle.zone_dnssec.specs.Nsec3Chain.{is_link, some_chain};
+ghost use Rattle.zone_dnssec.specs.Nsec3Chain.{is_link, names_chain, some_chain};
 
 use crate::bitmaps::lists_types;
 use crate::chain::is_first_at_owner;
@@ -61,6 +61,19 @@ fn names_next<Owner: AsOctets, Octets: AsOctets>(
     }
 }
 
+/// Whether an NSEC3PARAM names a chain of which a record is, and the record names another than the
+/// next hash.
+fn is_out_of_order<Owner: AsOctets, Octets: AsOctets>(
+    origin: &Name<&[u8]>,
+    records: &SortedRecords<'_, Owner, Octets>,
+    chain: &Record<Owner, Octets>,
+    record: &Record<Owner, Octets>,
+) -> bool
+    ensures { result ≡ names_chain chain.now && (is_link chain.now «record».now && not (points_to_next origin.now records.now chain.now «record».now)) }
+{
+    is_chain(chain) && is_of_chain(chain, record) && !names_next(origin, records, chain, record)
+}
+
 /// Whether a record is of a chain, and names another than the next hash.
 fn breaks_order<Owner: AsOctets, Octets: AsOctets>(
     origin: &Name<&[u8]>,
@@ -69,11 +82,9 @@ fn breaks_order<Owner: AsOctets, Octets: AsOctets>(
 ) -> bool
     ensures { result ≡ some_chain (λ chain. is_link chain «record».now && not (points_to_next origin.now records.now chain «record».now)) origin.now records.now }
 {
-    owned_by(records, origin).iter().any(|chain| {
-        is_chain(chain)
-            && is_of_chain(chain, record)
-            && !names_next(origin, records, chain, record)
-    })
+    owned_by(records, origin)
+        .iter()
+        .any(|chain| is_out_of_order(origin, records, chain, record))
 }
 
 /// Whether a record is an NSEC3 of a chain that names another than the next hash.
@@ -235,6 +246,21 @@ fn is_in_chain<Owner: AsOctets, Octets: AsOctets>(
         && !is_left_out(origin, records, chain, name)
 }
 
+/// Whether an NSEC3PARAM names a chain in which a name is represented, and which has a fault there.
+fn is_chain_wrong<Owner: AsOctets, Octets: AsOctets>(
+    fault: LinkFault,
+    origin: &Name<&[u8]>,
+    records: &SortedRecords<'_, Owner, Octets>,
+    chain: &Record<Owner, Octets>,
+    name: &Name<&[u8]>,
+) -> bool
+    ensures { result ≡ names_chain chain.now && (is_represented origin.now records.now chain.now name.now && fails_at_or_above fault origin.now records.now chain.now name.now) }
+{
+    is_chain(chain)
+        && is_in_chain(origin, records, chain, name)
+        && has_fault_from(fault, origin, records, chain, name)
+}
+
 /// Whether a name is represented in a chain which has a fault there.
 fn has_fault_in_chain<Owner: AsOctets, Octets: AsOctets>(
     fault: LinkFault,
@@ -244,11 +270,9 @@ fn has_fault_in_chain<Owner: AsOctets, Octets: AsOctets>(
 ) -> bool
     ensures { result ≡ some_chain (λ chain. is_represented origin.now records.now chain name.now && fails_at_or_above fault origin.now records.now chain name.now) origin.now records.now }
 {
-    owned_by(records, origin).iter().any(|chain| {
-        is_chain(chain)
-            && is_in_chain(origin, records, chain, name)
-            && has_fault_from(fault, origin, records, chain, name)
-    })
+    owned_by(records, origin).iter().any(|chain| is_chain_wrong(
+        fault, origin, records, chain, name,
+    ))
 }
 
 /// Whether a record is the first at a name that is represented in a chain which has a fault there.

@@ -21,9 +21,13 @@ use zone_rules::sorted::owned_by;
 
 /// The places of fields of NSEC3 and NSEC3PARAM (RFC 5155 sections 3.2 and 4.2).
 const ALGORITHM: usize = 0;
+
 const FLAGS: usize = 1;
+
 const ITERATIONS: usize = 2;
+
 const SALT: usize = 3;
+
 const NEXT_HASH: usize = 4;
 
 /// The octets of a field.
@@ -123,7 +127,9 @@ fn link_owned_by<'a, Owner: AsOctets, Octets: AsOctets>(
 ) -> Option<&'a Record<Owner, Octets>>
     ensures { option_copied result ≡ find (λ r. same_name r.owner owner.now && is_link chain.now r) records.now }
 {
-    owned_by(records, owner).iter().find(|record| is_of_chain(chain, record))
+    owned_by(records, owner)
+        .iter()
+        .find(|record| is_of_chain(chain, record))
 }
 
 /// The NSEC3 that matches a name.
@@ -148,7 +154,10 @@ fn first_link<'a, Owner: AsOctets, Octets: AsOctets>(
 ) -> Option<&'a Record<Owner, Octets>>
     ensures { option_copied result ≡ find (is_link chain.now) records.now }
 {
-    records.as_slice().iter().find(|record| is_of_chain(chain, record))
+    records
+        .as_slice()
+        .iter()
+        .find(|record| is_of_chain(chain, record))
 }
 
 /// The last NSEC3 of a chain.
@@ -158,7 +167,11 @@ fn last_link<'a, Owner: AsOctets, Octets: AsOctets>(
 ) -> Option<&'a Record<Owner, Octets>>
     ensures { option_copied result ≡ find (is_link chain.now) (reverse records.now) }
 {
-    records.as_slice().iter().rev().find(|record| is_of_chain(chain, record))
+    records
+        .as_slice()
+        .iter()
+        .rev()
+        .find(|record| is_of_chain(chain, record))
 }
 
 /// The first NSEC3 of a chain behind a name.
