@@ -4,6 +4,7 @@ mod bitmap;
 mod blocks;
 mod canonical;
 mod class;
+mod cut;
 mod data;
 mod digits;
 mod field;

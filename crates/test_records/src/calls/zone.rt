@@ -1,5 +1,6 @@
 //! Entries of zone text, each by the state before it.
 use super::blocks::blocks;
+use super::cut::cut;
 use super::rules::{dnssec, hash, rules};
 use super::tell::{Octets, origin_of};
 use dns_data::DataError;
@@ -32,6 +33,7 @@ pub fn call(name: &str, inputs: &Inputs, answer: &mut Answer) {
         "records" => zone(inputs.all(), Step::Record, answer),
         "rules" => rules(inputs.all(), answer),
         "blocks" => blocks(inputs, answer),
+        "cut" => cut(inputs, answer),
         "dnssec" => dnssec(inputs.all(), answer),
         "hash" => hash(inputs.all(), answer),
         _ => answer.fail(Failure::NoCall),

@@ -1,0 +1,225 @@
+//! Zone text that is cut into parts.
+use super::tell::Octets;
+use super::zone::{state_of, tell_not_given};
+use dns_reader::{EntryRead, RecordReader, State};
+use dns_zonefile::BlockReader;
+use row_table::input::number_of;
+use row_table::{Answer, Failure, Heap, Inputs};
+use zone_cut::{CutError, Cutter, RecordRead};
+
+/// The class where reading begins: IN.
+const CLASS: u16 = 1;
+
+/// What is said where memory is refused.
+const SHORT: &str = "buffer size exceeded";
+
+/// Parts of a text, with a bar in front of each.
+#[derive(Drop)]
+struct Parts<'a> {
+    octets: Octets<'a>,
+    /// Where each begins.
+    starts: Vec<usize, &'a Heap>,
+    /// Where what belongs to the last part begins in the text.
+    behind: usize,
+}
+
+/// The parts of a text, of which the numbers of parts, `soa` where this is repeated, the text, and
+/// perhaps the origin are given. Their records in a row are those of the text.
+pub fn cut(inputs: &Inputs, answer: &mut Answer) {
+    let [count, soa, text, origin @ ..] = inputs.all() else {
+        return answer.fail(Failure::BadInputs);
+    };
+    let Some(count) = number_of(count.as_slice()) else {
+        return answer.fail(Failure::BadInputs);
+    };
+    let heap = answer.heap();
+    let text = text.as_slice();
+    let cutter = Cutter::new(heap, text.len(), count, repeats_soa(soa.as_slice()));
+    let mut parts = Parts {
+        octets: Vec::new(heap),
+        starts: Vec::new(heap),
+        behind: 0,
+    };
+    let state = state_of(origin, answer);
+    if !fill(&mut parts, cutter, text, state, answer) {
+        return;
+    }
+    tell_parts(&parts, answer);
+    if !repeats_soa(soa.as_slice()) {
+        check_records(&parts, text, origin, answer);
+    }
+}
+
+/// Whether the word says that the SOA is repeated.
+fn repeats_soa(word: &[u8]) -> bool {
+    word == b"soa".as_slice()
+}
+
+/// Tells that memory was refused.
+fn tell_short(answer: &mut Answer) -> bool {
+    answer.refuse_text(SHORT);
+    false
+}
+
+/// Why a part can't begin. Returns false.
+fn tell_cut_error(error: CutError, answer: &mut Answer) -> bool {
+    match error {
+        CutError::OutOfMemory => tell_short(answer),
+        _ => {
+            answer.refuse(&error);
+            false
+        }
+    }
+}
+
+impl<'a> Parts<'a> {
+    /// Appends what the last part has of a text up to a place.
+    fn fill_up(&mut self, text: &[u8], to: usize) -> bool {
+        if self.starts.is_empty() {
+            return true;
+        }
+        let rest = text.get(self.behind..to).unwrap_or(&[]);
+        self.octets.extend_from_slice(rest).is_ok()
+    }
+
+    /// Begins another with these lines, to which the text from a place on belongs.
+    fn begin(&mut self, lines: &str, behind: usize) -> bool {
+        self.behind = behind;
+        self.starts.push(self.octets.len()).is_ok()
+            && self.octets.extend_from_slice(lines.as_bytes()).is_ok()
+    }
+
+    /// The parts, one after another.
+    fn part(&self, number: usize) -> &[u8] {
+        let start = self.starts.get(number).copied().unwrap_or(0);
+        let end = self.starts.get(number + 1).copied();
+        let end = end.unwrap_or(self.octets.len());
+        self.octets.as_slice().get(start..end).unwrap_or(&[])
+    }
+}
+
+/// Cuts a text. Returns whether nothing was refused.
+fn fill<'a>(
+    parts: &mut Parts<'a>,
+    mut cutter: Cutter<&'a Heap>,
+    text: &[u8],
+    mut state: State,
+    answer: &mut Answer<'a>,
+) -> bool {
+    let mut reader = BlockReader::new(answer.heap());
+    if reader.add(text).is_err() {
+        return tell_short(answer);
+    }
+    reader.finish();
+    for _ in 0..u64::MAX {
+        let mut data: Octets = Vec::new(answer.heap());
+        let Some(given) = reader.next_entry(&mut state, &mut data) else {
+            break;
+        };
+        let (ttl, class, code) = match given {
+            Ok(
+                EntryRead::Record {
+                    ttl,
+                    class,
+                    code,
+                    ..
+                },
+            ) => (ttl.seconds(), class, code),
+            Ok(EntryRead::Include { .. }) => {
+                answer.refuse_text("include");
+                return false;
+            }
+            Ok(_) => continue,
+            Err(refusal) => {
+                let _memory = tell_not_given(refusal, answer);
+                return false;
+            }
+        };
+        let read = RecordRead {
+            ttl,
+            class,
+            code,
+            data: data.as_slice(),
+        };
+        let mut lines = String::new(answer.heap());
+        match cutter.take(&state, reader.began(), read, &mut lines) {
+            Ok(true) => {
+                if !parts.fill_up(text, reader.began())
+                    || !parts.begin(lines.as_str(), reader.place())
+                {
+                    return tell_short(answer);
+                }
+            }
+            Ok(false) => {}
+            Err(error) => return tell_cut_error(error, answer),
+        }
+    }
+    if parts.fill_up(text, text.len()) {
+        return true;
+    }
+    tell_short(answer)
+}
+
+/// The parts, with a bar in front of each.
+fn tell_parts(parts: &Parts<'_>, answer: &mut Answer) {
+    for number in 0..parts.starts.len() {
+        answer.add_text("|");
+        answer.add(parts.part(number));
+    }
+}
+
+/// The records of a text, in full. Returns whether memory sufficed.
+fn tell_records(text: &[u8], state: State, answer: &mut Answer) -> bool {
+    let mut reader = RecordReader::new(text, state);
+    for _ in 0..=text.len() {
+        let mut data: Octets = Vec::new(answer.heap());
+        let Some(given) = reader.next_record(&mut data) else {
+            return true;
+        };
+        match given {
+            Ok(
+                EntryRead::Record {
+                    ttl,
+                    class,
+                    code,
+                    ..
+                },
+            ) => {
+                if let Ok(owner) = reader.state.owner() {
+                    answer.add(owner.as_slice());
+                }
+                answer.add_number(usize::try_from(ttl.seconds()).unwrap_or(0));
+                answer.add_text("|");
+                answer.add_number(usize::from(class));
+                answer.add_text("|");
+                answer.add_number(usize::from(code));
+                answer.add_text("|");
+                answer.add(data.as_slice());
+            }
+            Ok(_) => answer.add_text("no record"),
+            Err(refusal) => {
+                if !tell_not_given(refusal, answer) {
+                    return false;
+                }
+            }
+        }
+    }
+    true
+}
+
+/// The records of the parts, each read by itself, are those of the text.
+fn check_records(parts: &Parts<'_>, text: &[u8], origin: &[Vec<u8>], answer: &mut Answer) {
+    let mut whole = answer.another();
+    let mut row = answer.another();
+    if !tell_records(text, state_of(origin, answer), &mut whole) {
+        let _short = tell_short(answer);
+        return;
+    }
+    for number in 0..parts.starts.len() {
+        if !tell_records(parts.part(number), State::new(CLASS), &mut row) {
+            let _short = tell_short(answer);
+            return;
+        }
+    }
+    answer.check(whole.into_text() == row.into_text());
+}

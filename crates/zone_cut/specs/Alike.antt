@@ -1,0 +1,56 @@
+-- States behind which entries are read alike.
+use Rattle.std.specs.Prelude.{⊤, ◌≡◌, ◌≤◌, ◌+◌, ℕ, false, List, [], ◌∷◌, length, None, Result}
+use Rattle.dns_data.specs.Limits.{max_data}
+use Rattle.dns_data.specs.Rests.{ArePrinted}
+use Rattle.dns_octets.specs.Room.{Room}
+use Rattle.dns_split.specs.EntryTokens.{TokenSeen}
+use Rattle.dns_reader.specs.EntryReading.{ReadsZoneEntry}
+use Rattle.dns_reader.specs.Records.{EntryGiven}
+use Rattle.dns_reader.specs.declared.entry.EntryRead.{EntryRead}
+use Rattle.dns_reader.specs.declared.entry_error.EntryRefusal.{EntryRefusal}
+use Rattle.dns_reader.specs.declared.records.RecordReader.{RecordReader}
+use Rattle.dns_reader.specs.declared.state.State.{State}
+use Rattle.zone_cut.specs.Heads.{Line}
+
+-- the same but for the last time to live, which counts only where no default is known
+pub record AreAlike (a b : State) : Type 0 where
+  pub origin : a.origin ≡ b.origin
+  pub owner : a.owner ≡ b.owner
+  pub default_ttl : a.default_ttl ≡ b.default_ttl
+  pub last_ttl : a.default_ttl ≡ None → a.last_ttl ≡ b.last_ttl
+  pub class : a.class ≡ b.class
+
+-- readers that stand at one place of the same octets, behind states that are alike
+pub record StandAlike (a b : RecordReader) : Type 0 where
+  pub octets : a.octets.now ≡ b.octets.now
+  pub source : a.source ≡ b.source
+  pub state : AreAlike a.state b.state
+
+-- calls that give the same, and leave states that are alike
+pub record IsGivenAlike (g h : EntryGiven) : Type 0 where
+  pub old : g.old ≡ h.old
+  pub result : g.result ≡ h.result
+  pub new : g.new ≡ h.new
+  pub state : AreAlike g.state h.state
+
+abbrev pub AreGivenAlike : List EntryGiven → List EntryGiven → Type 0
+AreGivenAlike [] [] = ⊤
+AreGivenAlike [] (h ∷ hs) = ⊥
+AreGivenAlike (g ∷ gs) [] = ⊥
+AreGivenAlike (g ∷ gs) (h ∷ hs) = IsGivenAlike g h × AreGivenAlike gs hs
+
+-- a line that is printed so is read, where the data of any record surely fit
+pub record ReadsLine (room : Room) (before : State) (line : Line) (after : State) : Type 0 where
+  pub end : ℕ
+  pub tokens : List TokenSeen
+  pub printed : ArePrinted line tokens
+  pub old : List ℕ
+  pub new : List ℕ
+  pub fits : length old + max_data ≤ room.fits
+  pub result : Result EntryRead EntryRefusal
+  pub reads : ReadsZoneEntry room false end tokens before old result after new
+
+-- lines one after another, each from the state that the one before left
+abbrev pub AreReadInTurn : Room → State → List Line → State → Type 0
+AreReadInTurn room before [] last = last ≡ before
+AreReadInTurn room before (line ∷ lines) last = (middle : State) × ReadsLine room before line middle × AreReadInTurn room middle lines last

@@ -1,0 +1,52 @@
+-- Laws of parts.
+use Rattle.std.specs.Prelude.{◌≡◌, ◌≢◌, ℕ, Bool, List, Result, Ok}
+use Rattle.dns_octets.specs.Room.{Room}
+use Rattle.dns_split.specs.EntryTokens.{TokenSeen}
+use Rattle.dns_reader.specs.EntryReading.{ReadsZoneEntry}
+use Rattle.dns_reader.specs.Past.{nothing_said, seconds_of}
+use Rattle.dns_reader.specs.Records.{AreGivenInARow, EntryGiven}
+use Rattle.dns_reader.specs.declared.entry.EntryRead.{EntryRead}
+use Rattle.dns_reader.specs.declared.entry.EntryRead.TheVariants.{Record as IsRecord}
+use Rattle.dns_reader.specs.declared.entry_error.EntryRefusal.{EntryRefusal}
+use Rattle.dns_reader.specs.declared.known.Known.TheVariants.{Name, Refused}
+use Rattle.dns_reader.specs.declared.records.RecordReader.{RecordReader}
+use Rattle.dns_reader.specs.declared.state.State.{State}
+use Rattle.dns_reader.specs.declared.ttl.RecordTtl.{RecordTtl}
+use Rattle.zone_cut.specs.Alike.{AreAlike, AreGivenAlike, AreReadInTurn, StandAlike}
+use Rattle.zone_cut.specs.Heads.{HasShortTtls, head_lines, state_of}
+use Rattle.zone_cut.specs.declared.head.PartHead.{PartHead}
+
+-- What may be read of an entry from a state may be read of it from one that is alike, with the same
+-- octets; and the states that this leaves are alike.
+abbrev pub AlikeStatesReadAlike : Type 0
+AlikeStatesReadAlike = (room : Room) (blank : Bool) (end : ℕ) (tokens : List TokenSeen) (a b after : State) (old new : List ℕ) (result : Result EntryRead EntryRefusal) → AreAlike a b → ReadsZoneEntry room blank end tokens a old result after new
+    → (other : State) × ReadsZoneEntry room blank end tokens b old result other new × AreAlike after other
+
+-- So in rows of calls: what the reader of a whole may give from one state on, it may give from the other.
+abbrev pub AlikeReadersGiveAlike : Type 0
+AlikeReadersGiveAlike = (room : Room) (first other last : RecordReader) (given : List EntryGiven) → StandAlike first other → AreGivenInARow room first given last
+    → (same : List EntryGiven) × (end : RecordReader) × AreGivenInARow room other same end × AreGivenAlike given same × StandAlike last end
+
+-- A record was read, and this state is what it left; it is the first of the head, with the time to
+-- live that was found for it, and no origin was refused before it.
+pub record StandsBehindFirst {N O : Type 0} (h : PartHead N O) : Type 0 where
+  pub room : Room
+  pub blank : Bool
+  pub end : ℕ
+  pub tokens : List TokenSeen
+  pub before : State
+  pub old : List ℕ
+  pub new : List ℕ
+  pub at : ℕ
+  pub ttl : RecordTtl
+  pub class : ℕ
+  pub code : ℕ
+  pub reads : ReadsZoneEntry room blank end tokens before old (Ok (IsRecord at ttl class code)) (state_of h) new
+  pub owner : (state_of h).owner ≡ Name h.first.owner
+  pub ttl_is : h.first.ttl ≡ seconds_of ttl
+  pub origin : before.origin ≢ Refused
+
+-- The lines of a head, read from a class alone, leave a state that is alike to the one for which the
+-- head stands.
+abbrev pub HeadLeadsThere : {N O : Type 0} → PartHead N O → Type 0
+HeadLeadsThere h = (room : Room) (last : State) → HasShortTtls h → StandsBehindFirst h → AreReadInTurn room (nothing_said (state_of h).class) (head_lines h) last → AreAlike (state_of h) last

@@ -1,0 +1,21 @@
+-- With which records parts begin.
+use Rattle.std.specs.Prelude.{◌≡◌, ℕ, Bool, true, false, not, IsTrue}
+use Rattle.dns_reader.specs.declared.known.Known.{Known}
+use Rattle.dns_reader.specs.declared.known.Known.TheVariants.{Unsaid, Name, Refused}
+use Rattle.dns_reader.specs.declared.state.State.{State}
+use Rattle.dns_wire.specs.Order.{same_name}
+use Rattle.zone_cut.specs.Shares.{BeginsShare, MayBegin}
+use Rattle.zone_cut.specs.declared.cutter.Cutter.{Cutter}
+
+-- a record has another owner than the one before; letter case doesn't count
+abbrev pub owner_changes : Known → Known → Bool
+owner_changes (Name before) (Name owner) = not (same_name before owner)
+owner_changes _ _ = true
+
+abbrev pub BeginsHere : {A : Type 0} → Cutter A → State → ℕ → Type 0
+BeginsHere c state at = MayBegin c.shares at × IsTrue (owner_changes c.owner state.owner)
+
+-- behind a record its owner is the one before, and a share is taken where a part begins
+abbrev pub PassesRecord : {A : Type 0} → Cutter A → State → ℕ → Bool → Cutter A → Type 0
+PassesRecord old state at true new = (new.owner ≡ state.owner) × BeginsShare old.shares at new.shares
+PassesRecord old state at false new = (new.owner ≡ state.owner) × (new.shares ≡ old.shares)

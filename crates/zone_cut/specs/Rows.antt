@@ -1,0 +1,45 @@
+-- Worked rows: shares, owners, and the lines of a head.
+use Rattle.std.specs.Prelude.{◌≡◌, true, false, List, [], ◌∷◌, codes, decimal, Some, None, refl}
+use Rattle.std.proofs.Common.{arith}
+use Rattle.dns_data.specs.GatewayKeys.{plain_word}
+use Rattle.dns_reader.specs.Past.{nothing_said}
+use Rattle.dns_reader.specs.declared.known.Known.TheVariants.{Unsaid, Name}
+use Rattle.zone_cut.specs.Cutting.{owner_changes}
+use Rattle.zone_cut.specs.Heads.{directive_lines}
+use Rattle.zone_cut.specs.Shares.{BeginsShare, MayBegin, SharesSeen, no_shares, share_of}
+
+-- 100 octets in three shares of 33
+shares_row : no_shares 100 3 ≡ record { count = 3; size = 33; last = None; begun = 0 }
+shares_row = refl
+
+one_row : no_shares 100 0 ≡ record { count = 1; size = 100; last = None; begun = 0 }
+one_row = refl
+
+share_row : (share_of (no_shares 100 3) 32 ≡ 0) × (share_of (no_shares 100 3) 33 ≡ 1) × (share_of (no_shares 100 3) 500 ≡ 2)
+share_row = (refl, refl, refl)
+
+abbrev begun : SharesSeen
+begun = record { count = 3; size = 33; last = Some 1; begun = 1 }
+
+begins_row : BeginsShare (no_shares 100 3) 50 begun
+begins_row = refl
+
+too_early_row : MayBegin begun 65 → ⊥
+too_early_row h = omega (arith, h)
+
+may_row : MayBegin begun 66
+may_row = omega arith
+
+-- `www.` and `WWW.`
+owner_row : (owner_changes (Name (codes "www" ∷ [] ∷ [])) (Name (codes "WWW" ∷ [] ∷ [])) ≡ false) × (owner_changes (Name (codes "a" ∷ [] ∷ [])) (Name (codes "b" ∷ [] ∷ [])) ≡ true)
+owner_row = (refl, refl)
+
+first_row : owner_changes Unsaid (Name (codes "a" ∷ [] ∷ [])) ≡ true
+first_row = refl
+
+-- nothing is known; and `$TTL 60`
+ttl_row : directive_lines (record (nothing_said 1) { default_ttl = Some 60; last_ttl = Some 5 }) ≡ (plain_word (codes "$TTL") ∷ plain_word (decimal 60) ∷ []) ∷ []
+ttl_row = refl
+
+no_lines_row : directive_lines (nothing_said 1) ≡ []
+no_lines_row = refl

@@ -1,0 +1,233 @@
+//! With which records of a zone file parts begin.
+ghost use Rattle.std.specs.Prelude.{◌≡◌, ◌↔◌, IfOk, IsTrue, OnOk, false, true};
+ghost use Rattle.std.specs.String.{string_bytes};
+ghost use Rattle.zone_cut.specs.Heads.{BeginsPart, IsRecordOf, PushesHead};
+ghost use Rattle.dns_reader.specs.declared.known.Known.TheVariants.{Unsaid};
+ghost use Rattle.zone_cut.specs.Cutting.{BeginsHere, PassesRecord, owner_changes};
+ghost use Rattle.zone_cut.specs.Shares.{no_shares};
+
+use crate::error::CutError;
+use crate::head::PartHead;
+use crate::shares::Shares;
+use dns_octets::AsOctets;
+use dns_reader::{Known, State};
+use dns_resource::{Data, Record};
+use dns_wire::Name;
+use dns_zone::zonefile_fmt::{DisplayKind, ZonefileFmt};
+use std::alloc::Allocator;
+
+/// The code of SOA.
+const SOA: u16 = 6;
+
+/// What was read of a record, but for its owner.
+#[derive(Clone, Copy)]
+pub struct RecordRead<'a> {
+    /// Its time to live, in seconds.
+    pub ttl: u32,
+    /// The codes of its class and of its type.
+    pub class: u16,
+    pub code: u16,
+    /// Its data on the wire.
+    pub data: &'a [u8],
+}
+
+/// A record that is held, to be repeated: its owner and its data on the wire.
+#[derive(Drop)]
+struct HeldRecord<A: Allocator> {
+    ttl: u32,
+    class: u16,
+    owner: Vec<u8, A>,
+    data: Vec<u8, A>,
+}
+
+/// Tells with which records of a file parts begin: with the first, and with each whose owner is
+/// another than that of the record before, and that stands in another share of the file than the
+/// part so far begins in.
+#[derive(Drop)]
+pub struct Cutter<A: Allocator> {
+    alloc: A,
+    shares: Shares,
+    /// The owner of the record before.
+    owner: Known,
+    /// Whether parts behind the first SOA begin with it.
+    repeats_soa: bool,
+    soa: Option<HeldRecord<A>>,
+}
+
+/// The record of an owner's octets and what was read.
+fn record_of<'a>(
+    owner: &'a [u8],
+    read: RecordRead<'a>,
+) -> Result<Record<&'a [u8], &'a [u8]>, CutError>
+    ensures { IfOk result (IsRecordOf read.entry) }
+{
+    let Ok(owner) = Name::from_octets(owner) else {
+        return Err(CutError::NoRecord);
+    };
+    let Ok(data) = Data::from_octets(read.code, read.data) else {
+        return Err(CutError::NoRecord);
+    };
+    Ok(Record {
+        owner,
+        ttl: read.ttl,
+        class: read.class,
+        data,
+    })
+}
+
+/// The record of a state's owner and what was read.
+fn first_of<'a>(
+    state: &'a State,
+    read: RecordRead<'a>,
+) -> Result<Record<&'a [u8], &'a [u8]>, CutError>
+    ensures { IfOk result (IsRecordOf read.entry) }
+{
+    match state.owner() {
+        Ok(owner) => record_of(owner.as_slice(), read),
+        Err(_) => Err(CutError::NoRecord),
+    }
+}
+
+/// Appends the lines with which a part begins.
+fn push_head<Owner: AsOctets, Octets: AsOctets, A: Allocator>(
+    lines: &mut String<A>,
+    head: &PartHead<'_, Owner, Octets>,
+) -> Result<(), CutError>
+    ensures { OnOk result (PushesHead head.now (string_bytes lines.old) (string_bytes lines.new)) }
+{
+    if !head.can_be_read() {
+        return Err(CutError::LongTtl);
+    }
+    write!(lines, "{}", head.display_zonefile(DisplayKind::Simple))?;
+    Ok(())
+}
+
+impl<A: Allocator + Copy> HeldRecord<A> {
+    /// The SOA of a state's owner and what was read.
+    fn soa(alloc: A, state: &State, read: RecordRead<'_>) -> Result<HeldRecord<A>, CutError> {
+        let Ok(name) = state.owner() else {
+            return Err(CutError::NoRecord);
+        };
+        let mut owner = Vec::new(alloc);
+        owner.extend_from_slice(name.as_slice())?;
+        let mut data = Vec::new(alloc);
+        data.extend_from_slice(read.data)?;
+        Ok(HeldRecord {
+            ttl: read.ttl,
+            class: read.class,
+            owner,
+            data,
+        })
+    }
+
+    /// The record.
+    fn record(&self) -> Result<Record<&[u8], &[u8]>, CutError> {
+        let read = RecordRead {
+            ttl: self.ttl,
+            class: self.class,
+            code: SOA,
+            data: self.data.as_slice(),
+        };
+        record_of(self.owner.as_slice(), read)
+    }
+}
+
+impl<A: Allocator + Copy> Cutter<A> {
+    /// Before the first record of a file of so many octets, which is to have so many parts at most,
+    /// and at least one.
+    pub fn new(alloc: A, octets: usize, count: usize, repeats_soa: bool) -> Cutter<A>
+        ensures shares { result.shares ≡ no_shares octets count }
+        ensures owner { result.owner ≡ Unsaid }
+    {
+        Cutter {
+            alloc,
+            shares: Shares::new(octets, count),
+            owner: Known::Unsaid,
+            repeats_soa,
+            soa: None,
+        }
+    }
+
+    /// Whether a record has another owner than the one before. Upper and lower case are one.
+    fn changes_owner(&self, state: &State) -> bool
+        ensures { result ≡ owner_changes self.now.owner state.now.owner }
+    {
+        match (self.owner.name(), state.owner.name()) {
+            (Some(before), Some(owner)) => before != owner,
+            _ => true,
+        }
+    }
+
+    /// Whether a part begins with a record whose entry begins at this octet.
+    fn begins(&self, state: &State, at: usize) -> bool
+        ensures { IsTrue result ↔ BeginsHere self.now state.now at }
+    {
+        self.shares.may_begin(at) && self.changes_owner(state)
+    }
+
+    /// The record that is repeated in front of a part.
+    fn repeated(&self) -> Result<Option<Record<&[u8], &[u8]>>, CutError> {
+        match &self.soa {
+            Some(soa) => Ok(Some(soa.record()?)),
+            None => Ok(None),
+        }
+    }
+
+    /// Appends the lines of a part that begins with a record.
+    fn push_lines(
+        &self,
+        state: &State,
+        read: RecordRead<'_>,
+        lines: &mut String<A>,
+    ) -> Result<(), CutError>
+        ensures { OnOk result (BeginsPart state.now read.entry (string_bytes lines.old) (string_bytes lines.new)) }
+    {
+        let first = first_of(state, read)?;
+        let repeated = self.repeated()?;
+        let head = PartHead {
+            state,
+            repeated,
+            first,
+        };
+        push_head(lines, &head)
+    }
+
+    /// Keeps the first SOA, if it is to be repeated.
+    fn keep_soa(&mut self, state: &State, read: RecordRead<'_>) -> Result<(), CutError>
+        ensures shares { self.new.shares ≡ self.old.shares }
+        ensures owner { self.new.owner ≡ self.old.owner }
+    {
+        if self.repeats_soa && read.code == SOA && self.soa.is_none() {
+            self.soa = Some(HeldRecord::soa(self.alloc, state, read)?);
+        }
+        Ok(())
+    }
+
+    /// Takes the record that was read last, behind which a reader knows the state, and whose entry
+    /// begins at this octet. Returns whether a part begins with it: then the lines with which the part
+    /// begins, up to and with this record, are appended, and behind them belongs what stands behind
+    /// its entry.
+    ///
+    /// After an error no further record is to be taken.
+    pub fn take(
+        &mut self,
+        state: &State,
+        at: usize,
+        read: RecordRead<'_>,
+        lines: &mut String<A>,
+    ) -> Result<bool, CutError>
+        ensures is { IfOk result (λ begins. IsTrue begins ↔ BeginsHere self.old state.now at) }
+        ensures passes { IfOk result (λ begins. PassesRecord self.old state.now at begins self.new) }
+        ensures begins { IfOk result (λ begins. begins ≡ true → BeginsPart state.now read.entry (string_bytes lines.old) (string_bytes lines.new)) }
+        ensures goes_on { IfOk result (λ begins. begins ≡ false → string_bytes lines.new ≡ string_bytes lines.old) }
+    {
+        let begins = self.begins(state, at);
+        if begins {
+            self.push_lines(state, read, lines)?;
+            self.shares.begin(at);
+        }
+        self.keep_soa(state, read)?;
+        self.owner = state.owner.copied();
+        Ok(begins)
+    }
+}
