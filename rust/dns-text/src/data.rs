@@ -1,6 +1,7 @@
 //! Record data.
 mod compose;
 mod fields;
+mod text;
 
 use crate::{CharStr, Name, RecordType};
 use compose::compose;
@@ -104,6 +105,14 @@ impl RecordData {
             return Err(BadData);
         }
         Fields::read(record_type, octets).ok_or(BadData)
+    }
+
+    /// The data of octets that the library read.
+    pub(crate) fn of_read(record_type: RecordType, octets: &[u8]) -> RecordData {
+        RecordData::from_octets(record_type, octets).unwrap_or_else(|_| RecordData::Unknown {
+            record_type,
+            octets: octets.to_vec(),
+        })
     }
 
     /// The octets in wire form, of which [`from_octets`](RecordData::from_octets) makes equal data.

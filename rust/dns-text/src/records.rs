@@ -287,7 +287,7 @@ impl ZoneState {
                 owner,
                 ttl: Ttl::from_seconds(record.ttl).unwrap_or(Ttl::MAX),
                 class: Class(record.class_code),
-                data: data_of(RecordType(record.type_code), given),
+                data: RecordData::of_read(RecordType(record.type_code), given),
             }))),
             (DNS_INCLUDE, origin) => Some(Ok(ZoneItem::Include {
                 file: given.to_vec(),
@@ -331,12 +331,4 @@ fn name_of(name: &dns_kept_name) -> Option<Name> {
     Name::from_octets(octets.to_vec())
         .ok()
         .filter(Name::is_absolute)
-}
-
-/// The data of octets that the library read.
-fn data_of(record_type: RecordType, octets: &[u8]) -> RecordData {
-    RecordData::from_octets(record_type, octets).unwrap_or_else(|_| RecordData::Unknown {
-        record_type,
-        octets: octets.to_vec(),
-    })
 }

@@ -60,6 +60,22 @@ pub fn refused(record_type: &str, text: &str, wanted: &str) -> bool {
     true
 }
 
+/// A row of a type, a text of data, and the text that the data have.
+pub fn print(record_type: &str, text: &str, origin: &str, wanted: &str) -> bool {
+    let record_type = record_type.parse().unwrap();
+    let data = RecordData::from_text(record_type, &octets_of(text), Some(&name_of(origin)));
+    let text = data.map(|it| (it.to_string(), it.to_text().unwrap()));
+    match (text, wanted.strip_prefix('!')) {
+        (Err(_), Some(_)) => {}
+        (Ok((shown, text)), None) => {
+            assert_eq!(text.as_bytes(), octets_of(wanted));
+            assert_eq!(shown, text);
+        }
+        (found, _) => panic!("{record_type}: {found:?}"),
+    }
+    true
+}
+
 /// A row of a type and octets that are its data or not. Only types with a variant judge them.
 pub fn wire(record_type: &str, octets: &str, wanted: &str) -> bool {
     let record_type = record_type.parse().unwrap();

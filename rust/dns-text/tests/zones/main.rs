@@ -21,6 +21,9 @@ fn judge(fields: &[&str]) -> bool {
             data::read(record_type, text, origin, wanted)
         }
         ["data.why", record_type, text, wanted] => data::refused(record_type, text, wanted),
+        ["data.print", record_type, text, origin, wanted] => {
+            data::print(record_type, text, origin, wanted)
+        }
         ["record.wire", record_type, octets, wanted] => data::wire(record_type, octets, wanted),
         ["name.spell", text, wanted] => data::name(text, None, wanted),
         ["name.spell", text, origin, wanted] => data::name(text, Some(origin), wanted),

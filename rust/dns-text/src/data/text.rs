@@ -1,0 +1,110 @@
+//! Record data as zone text.
+use super::compose::compose;
+use super::{BadData, RecordData};
+use crate::codec::BASE16;
+use crate::{library, Name, RecordFault, RecordFaultKind, RecordType};
+use dns_text_sys::{dns_data_print, dns_data_read, dns_outcome, DNS_NO_ROOM, DNS_OK};
+use std::fmt;
+
+impl RecordData {
+    /// Reads the text of data of a type: the tokens that follow the type in a record, or `\#`, the
+    /// number of octets, and these in hexadecimal (RFC 3597 section 5). Relative names stand before the
+    /// origin; without one they are refused, and a relative name is no origin.
+    ///
+    /// ```
+    /// use dns_text::{RecordData, RecordType};
+    ///
+    /// let origin = "example.".parse()?;
+    /// let data = RecordData::from_text(RecordType::MX, b"10 mail", Some(&origin))?;
+    /// assert_eq!(data.to_text()?, "10 mail.example.");
+    /// let fault = RecordData::from_text(RecordType::MX, b"10", None).unwrap_err();
+    /// assert_eq!(fault.to_string(), "MX exchange: unexpected end of entry at 2");
+    /// # Ok::<(), Box<dyn std::error::Error>>(())
+    /// ```
+    pub fn from_text(
+        record_type: RecordType,
+        text: &[u8],
+        origin: Option<&Name>,
+    ) -> Result<RecordData, RecordFault> {
+        let origin = origin.filter(|name| name.is_absolute());
+        let origin = origin.map(Name::as_octets).unwrap_or_default();
+        let (status, outcome, octets) = call(512, |into, outcome| {
+            // SAFETY: the slices are as long as is said, and the call keeps to them.
+            unsafe {
+                dns_data_read(
+                    record_type.0,
+                    text.as_ptr(),
+                    text.len(),
+                    origin.as_ptr(),
+                    origin.len(),
+                    into.as_mut_ptr(),
+                    into.len(),
+                    outcome,
+                )
+            }
+        });
+        if status == DNS_OK {
+            return Ok(RecordData::of_read(record_type, &octets));
+        }
+        Err(RecordFault {
+            kind: RecordFaultKind::of(status),
+            place: outcome.place,
+            reason: String::from_utf8_lossy(&octets).into_owned(),
+        })
+    }
+
+    /// The text of the data on one line: tokens with a space between, and names absolute; of a type
+    /// without a text form `\#`, the number of octets, and these in hexadecimal (RFC 3597 section 5).
+    ///
+    /// Values that are no data of their type are refused, as by [`to_octets`](RecordData::to_octets);
+    /// and a type that has no data in zones, such as OPT.
+    pub fn to_text(&self) -> Result<String, BadData> {
+        let octets = self.to_octets()?;
+        let (status, _, text) = call(4 * octets.len() + 16, |into, outcome| {
+            // SAFETY: the slices are as long as is said, and the call keeps to them.
+            unsafe {
+                dns_data_print(
+                    self.record_type().0,
+                    octets.as_ptr(),
+                    octets.len(),
+                    into.as_mut_ptr(),
+                    into.len(),
+                    outcome,
+                )
+            }
+        });
+        if status != DNS_OK {
+            return Err(BadData);
+        }
+        Ok(String::from_utf8_lossy(&text).into_owned())
+    }
+}
+
+/// A call with as much room as it needs: its status, what it says, and what it gave.
+fn call(
+    expected: usize,
+    call: impl Fn(&mut [u8], &mut dns_outcome) -> u32,
+) -> (u32, dns_outcome, Vec<u8>) {
+    library::check();
+    let mut given = vec![0; expected];
+    loop {
+        let mut outcome = dns_outcome::default();
+        let status = call(&mut given, &mut outcome);
+        if status != DNS_NO_ROOM || outcome.length <= given.len() {
+            given.truncate(outcome.length);
+            return (status, outcome, given);
+        }
+        given.resize(outcome.length, 0);
+    }
+}
+
+/// Its text; of values that have none `\#`, the number of their octets, and these in hexadecimal.
+impl fmt::Display for RecordData {
+    fn fmt(&self, f: &mut fmt::Formatter<'_>) -> fmt::Result {
+        let generic = |_| {
+            let octets = compose(self, false);
+            format!("\\# {} {}", octets.len(), BASE16.print(&octets))
+        };
+        f.pad(&self.to_text().unwrap_or_else(generic))
+    }
+}
