@@ -232,9 +232,18 @@ fn has_twice(octets: &[u8], origin: &[u8]) -> bool {
     false
 }
 
+/// Why an entry is refused. Its octets lack room alone where they are more than record data has.
+fn refusal_reason(refusal: &EntryRefusal) -> &'static str {
+    if is_for_lack_of_room(refusal.why) {
+        "data above 65535 octets"
+    } else {
+        refusal.why.as_str()
+    }
+}
+
 /// What is said of a refused entry.
 fn refusal_text(alloc: Global, refusal: &EntryRefusal, code: Code) -> Result<String, AllocError> {
-    let why = refusal.why.as_str();
+    let why = refusal_reason(refusal);
     match (refusal.code, refusal.part) {
         (Some(code), Some(part)) => {
             let record_type = RecordType(code);
@@ -332,9 +341,6 @@ impl<'a> Checker<'a> {
 
     /// Says why an entry is refused.
     fn tell_refusal(&mut self, entry: &Entry<'_>, refusal: &EntryRefusal) -> Result<(), Stop> {
-        if is_for_lack_of_room(refusal.why) {
-            return Err(Stop::OutOfMemory);
-        }
         let tokens = tokens_of(self.alloc, entry)?;
         let is_directive = directive_of(tokens.as_slice(), begins_blank(entry)).is_some();
         let code = code_of_entry(is_directive, refusal.why);

@@ -3,6 +3,7 @@ use crate::blocks::BLOCK;
 use crate::open_file::{Includer, Input, OpenFile, behind};
 use crate::progress::Progress;
 use crate::stop::Stop;
+use arrayvec::ArrayVec;
 use dns_reader::{EntryRead, Known, NameBuffer, RecordRefusal, State};
 use std::alloc::{AllocError, Global};
 use std::fs::{File, canonicalize, metadata};
@@ -14,6 +15,9 @@ use zonetext_report::lint::order_mark_len;
 
 /// How many files may be open that others include.
 const MOST_INCLUDED: usize = 10;
+
+/// The most octets of record data (RFC 1035 section 3.2.1).
+const MOST_DATA: usize = 65535;
 
 /// An entry of a file, and what was read of it.
 #[derive(Drop)]
@@ -102,7 +106,7 @@ struct ZoneFiles<'a> {
     state: State,
     /// How many were opened.
     count: usize,
-    data: Vec<u8>,
+    data: ArrayVec<u8, MOST_DATA>,
     block: Vec<u8>,
 }
 
@@ -198,7 +202,7 @@ impl<'a> ZoneFiles<'a> {
             files,
             state,
             count: 1,
-            data: Vec::new(alloc),
+            data: ArrayVec::new(),
             block: vec![in alloc; 0; BLOCK]?,
         })
     }
@@ -230,7 +234,7 @@ impl<'a> ZoneFiles<'a> {
             return self.begin(file, visitor, progress);
         }
         for _ in 0..u64::MAX {
-            self.data.truncate(0);
+            self.data.clear();
             match file.reader.next_entry(&mut self.state, &mut self.data) {
                 Some(Ok(EntryRead::Include { origin })) => {
                     return self.give_including(file, origin, visitor);
