@@ -2,7 +2,7 @@
 _zonetext() {
     local word=${COMP_WORDS[COMP_CWORD]} options
     if [ "$COMP_CWORD" -eq 1 ]; then
-        COMPREPLY=($(compgen -W 'check tokens fmt lines records canon diff digest help --help --version -h -V' -- "$word"))
+        COMPREPLY=($(compgen -W 'check tokens fmt lines records canon diff digest cut help --help --version -h -V' -- "$word"))
         return
     fi
     case ${COMP_WORDS[1]} in
@@ -22,8 +22,9 @@ _zonetext() {
         fmt) options='--write --check --diff --force --quiet -w' ;;
         lines) options='--tabbed --quiet' ;;
         records | digest) options='--zone --class --include --quiet' ;;
+        cut) options='--output --soa --zone --class --quiet -o' ;;
         help)
-            COMPREPLY=($(compgen -W 'check tokens fmt lines records canon diff digest help' -- "$word"))
+            COMPREPLY=($(compgen -W 'check tokens fmt lines records canon diff digest cut help' -- "$word"))
             return
             ;;
         *) return ;;

@@ -1,5 +1,5 @@
 # Completion of zonetext for fish.
-set -l commands check tokens fmt lines records canon diff digest help
+set -l commands check tokens fmt lines records canon diff digest cut help
 set -l first "not __fish_seen_subcommand_from $commands"
 complete -c zonetext -n $first -f
 complete -c zonetext -n $first -a check -d 'Say what is wrong with zone files'
@@ -10,10 +10,11 @@ complete -c zonetext -n $first -a records -d 'Write each record in full, one a l
 complete -c zonetext -n $first -a canon -d 'Write the records of zone files in full, in canonical order'
 complete -c zonetext -n $first -a diff -d 'Say how the records of two zone files differ'
 complete -c zonetext -n $first -a digest -d 'Check the digests in a zone (ZONEMD, RFC 8976)'
+complete -c zonetext -n $first -a cut -d 'Write a zone file in parts that are read apart'
 complete -c zonetext -n $first -a help -d 'Print the help of a command'
 complete -c zonetext -n $first -s V -l version -d 'Print the version'
 complete -c zonetext -n 'not __fish_seen_subcommand_from help' -s h -l help -d 'Print help'
-complete -c zonetext -n '__fish_seen_subcommand_from check tokens fmt lines records canon diff digest' -l quiet -d 'Say nothing of how far reading has come'
+complete -c zonetext -n '__fish_seen_subcommand_from check tokens fmt lines records canon diff digest cut' -l quiet -d 'Say nothing of how far reading has come'
 complete -c zonetext -n '__fish_seen_subcommand_from check' -l text -d 'Look at the text alone, not at records'
 complete -c zonetext -n '__fish_seen_subcommand_from check' -l zone -x -d 'The zone, whose rules are to hold'
 complete -c zonetext -n '__fish_seen_subcommand_from check' -l zone-from-name -d 'The same, by the name of the file'
@@ -43,9 +44,11 @@ complete -c zonetext -n '__fish_seen_subcommand_from canon' -l only-dnssec -d 'L
 complete -c zonetext -n '__fish_seen_subcommand_from diff' -l entries -d 'Say where the entries of the files differ first, as text'
 complete -c zonetext -n '__fish_seen_subcommand_from diff' -l summary -d 'Write how many changes there are of each type'
 complete -c zonetext -n '__fish_seen_subcommand_from diff' -x -l max-changes -d 'Write at most so many changes'
-complete -c zonetext -n '__fish_seen_subcommand_from records canon diff digest' -x -l zone -d 'The origin at the beginning of a file'
-complete -c zonetext -n '__fish_seen_subcommand_from records canon diff digest' -x -l class -d 'The class of records that say none'
+complete -c zonetext -n '__fish_seen_subcommand_from records canon diff digest cut' -x -l zone -d 'The origin at the beginning of a file'
+complete -c zonetext -n '__fish_seen_subcommand_from records canon diff digest cut' -x -l class -d 'The class of records that say none'
 complete -c zonetext -n '__fish_seen_subcommand_from records canon diff digest' -r -l include -d 'A folder of which files may be included'
 complete -c zonetext -n '__fish_seen_subcommand_from canon diff' -l no-dnssec -d 'Leave out what signing adds'
 complete -c zonetext -n '__fish_seen_subcommand_from canon diff' -l no-soa -d 'Leave SOAs out'
+complete -c zonetext -n '__fish_seen_subcommand_from cut' -s o -l output -r -d 'The parts are PREFIX.000, PREFIX.001, and so on'
+complete -c zonetext -n '__fish_seen_subcommand_from cut' -l soa -d 'Repeat the SOA in each part behind it'
 complete -c zonetext -n '__fish_seen_subcommand_from help' -f -a "$commands"

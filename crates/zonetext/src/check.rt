@@ -146,6 +146,7 @@ fn go_through(
     state: State,
 ) -> Result<(), Stop> {
     let begin = Begin {
+        includes: true,
         state,
         folders: options.folders,
         is_quiet: options.is_quiet,

@@ -1,7 +1,7 @@
 //! The words of the program.
 use crate::format::{Mode, Work};
 use crate::options::USAGE;
-use crate::{check, files, format, zone_words};
+use crate::{check, cut_words, files, format, zone_words};
 use clap::{Arg, ArgAction, ArgMatches, Command, Error};
 use std::alloc::{AllocError, Global};
 use std::io;
@@ -179,7 +179,7 @@ pub fn required_file<'a>(alloc: Global, name: &'a str, help: &'a str) -> Arg<'a>
 fn command_line<'a>(alloc: Global) -> Result<Command<'a>, AllocError> {
     let mut all = Command::new(alloc, "zonetext")
         .version("0.2.0")
-        .about("Checks, formats, lists, lays out, reads, compares and digests DNS zone files")
+        .about("Checks, formats, lists, lays out, reads, compares, digests and cuts DNS zone files")
         .subcommand_required(true);
     for which in &Which::ALL {
         all = all.subcommand(which.command(alloc)?)?;
@@ -221,11 +221,12 @@ enum Which {
     Canon,
     Diff,
     Digest,
+    Cut,
 }
 
 impl Which {
     /// Each command, as the help lists them.
-    const ALL: [Which; 8] = [
+    const ALL: [Which; 9] = [
         Which::Check,
         Which::Tokens,
         Which::Format,
@@ -234,6 +235,7 @@ impl Which {
         Which::Canon,
         Which::Diff,
         Which::Digest,
+        Which::Cut,
     ];
 
     /// The word that asks for it.
@@ -247,6 +249,7 @@ impl Which {
             Which::Canon => "canon",
             Which::Diff => "diff",
             Which::Digest => "digest",
+            Which::Cut => "cut",
         }
     }
 
@@ -270,6 +273,7 @@ impl Which {
             Which::Canon => "Example: zonetext canon --zone example.org. example.org.zone",
             Which::Diff => "Example: zonetext diff --zone example.org. old.zone new.zone",
             Which::Digest => "Example: zonetext digest --zone example.org. example.org.zone",
+            Which::Cut => "Example: zonetext cut 8 example.org.zone -o part",
         }
     }
 
@@ -289,6 +293,7 @@ impl Which {
             Which::Canon => zone_words::canon_command(alloc, self.name()),
             Which::Diff => zone_words::diff_command(alloc, self.name()),
             Which::Digest => zone_words::digest_command(alloc, self.name()),
+            Which::Cut => cut_words::cut_command(alloc, self.name()),
         }
     }
 
@@ -305,6 +310,7 @@ impl Which {
             Which::Diff if inner.get_flag("entries") => run_entries_diff(rt, inner),
             Which::Diff => zone_words::run_diff(rt, inner),
             Which::Digest => zone_words::run_digest(rt, inner),
+            Which::Cut => cut_words::run_cut(rt, inner),
         }
     }
 }

@@ -1,9 +1,9 @@
 //! The records of zone files in canonical form, held in memory.
 use crate::checking::Seen;
 use crate::held::Held;
-use crate::reading::{Outcome, Reading, TakeRecord, give_records};
+use crate::reading::{Outcome, Reading, TakeEntry, give_entries};
 use crate::stop::Stop;
-use crate::zone_files::Given;
+use crate::zone_files::{Entry, Given};
 use dns_canonical::append_lowered;
 use dns_resource::{Record, append_canonical_data};
 use std::alloc::Global;
@@ -59,8 +59,11 @@ impl<'s> Gatherer<'s> {
     }
 }
 
-impl TakeRecord for Gatherer<'_> {
-    fn take_record(&mut self, given: Given<'_>) -> Result<(), Stop> {
+impl TakeEntry for Gatherer<'_> {
+    fn take_entry(&mut self, entry: &Entry<'_>) -> Result<(), Stop> {
+        let Some(given) = entry.record() else {
+            return Ok(());
+        };
         if !self.selection.takes(given.code) {
             return Ok(());
         }
@@ -94,7 +97,7 @@ pub fn gather(
         status,
         seen,
         taker,
-    } = give_records(rt, files, reading, gatherer);
+    } = give_entries(rt, files, reading, gatherer);
     if status > 0 {
         return Err(status);
     }

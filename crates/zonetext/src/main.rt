@@ -1,4 +1,4 @@
-//! The program `zonetext`: it checks, formats, lists, lays out, reads, compares and digests zone files.
+//! The program `zonetext`: it checks, formats, lists, lays out, reads, compares, digests and cuts zone files.
 #![tactic(auto)]
 
 mod blocks;
@@ -7,6 +7,8 @@ mod changes;
 mod check;
 mod checking;
 mod command;
+mod cut;
+mod cut_words;
 mod digest;
 mod files;
 mod format;
@@ -17,6 +19,7 @@ mod lines;
 mod open_file;
 mod options;
 mod pair;
+mod part_files;
 mod progress;
 mod reading;
 mod records;

@@ -1,9 +1,9 @@
-//! The records of zone files, one by one, for the commands that write, compare and digest them.
+//! The entries of zone files, one by one, for the commands that write, compare, digest and cut them.
 use crate::checking::{Checker, Limits, Seen};
 use crate::options::name_of;
 use crate::reporter::{Form, Reporter};
 use crate::stop::{Stop, conclude};
-use crate::zone_files::{Begin, Entry, Given, Visit, visit_file};
+use crate::zone_files::{Begin, Entry, Visit, visit_file};
 use dns_reader::State;
 use std::alloc::{AllocError, Global};
 use zone_format::place::Place;
@@ -22,36 +22,35 @@ pub struct Reading<'o> {
     pub class: u16,
     /// Whether other classes are refused.
     pub is_one_class: bool,
+    /// Whether files are included.
+    pub includes: bool,
     /// The folders, besides that of a file, of which files may be included.
     pub folders: &'o [&'o str],
     /// Whether nothing is said of how far reading has come.
     pub is_quiet: bool,
 }
 
-/// What takes the records of files.
-pub trait TakeRecord {
-    /// Takes a record.
-    fn take_record(&mut self, given: Given<'_>) -> Result<(), Stop>;
+/// What takes the entries of files, those too that are refused.
+pub trait TakeEntry {
+    /// Takes an entry.
+    fn take_entry(&mut self, entry: &Entry<'_>) -> Result<(), Stop>;
 }
 
-/// Gives records to what takes them, and says what is refused.
+/// Gives entries to what takes them, and says what is refused.
 #[derive(Drop)]
 struct Giver<'g, T: Drop> {
     checker: Checker<'g>,
     taker: T,
 }
 
-impl<T: TakeRecord + Drop> Visit for Giver<'_, T> {
+impl<T: TakeEntry + Drop> Visit for Giver<'_, T> {
     fn begin(&mut self, file: &str, number: usize, mark: &[u8]) -> Result<(), Stop> {
         self.checker.begin(file, number, mark)
     }
 
     fn take(&mut self, entry: &Entry<'_>) -> Result<(), Stop> {
         self.checker.take(entry)?;
-        match entry.record() {
-            Some(given) => self.taker.take_record(given),
-            None => Ok(()),
-        }
+        self.taker.take_entry(entry)
     }
 
     fn refuse(&mut self, entry: &Entry<'_>, why: &str) -> Result<(), Stop> {
@@ -84,9 +83,9 @@ fn first_state(reading: Reading<'_>) -> State {
     }
 }
 
-/// Gives the records of files, one file behind the other, and returns the status: 1 if an entry is
+/// Gives the entries of files, one file behind the other, and returns the status: 1 if an entry is
 /// refused, or 3 where a file can't be read.
-fn give_files<T: TakeRecord + Drop>(
+fn give_files<T: TakeEntry + Drop>(
     rt: &HostRuntime,
     files: &[&str],
     reading: Reading<'_>,
@@ -96,6 +95,7 @@ fn give_files<T: TakeRecord + Drop>(
     for file in files {
         let begin = Begin {
             state: first_state(reading),
+            includes: reading.includes,
             folders: reading.folders,
             is_quiet: reading.is_quiet,
         };
@@ -127,7 +127,7 @@ pub struct Outcome<T: Drop> {
 
 /// Says that there is no origin, if relative names were refused for that, and returns what became of
 /// files.
-fn finish<T: TakeRecord + Drop>(rt: &HostRuntime, giver: Giver<'_, T>, status: u8) -> Outcome<T> {
+fn finish<T: TakeEntry + Drop>(rt: &HostRuntime, giver: Giver<'_, T>, status: u8) -> Outcome<T> {
     let Giver { checker, taker } = giver;
     if checker.has_told_origin {
         let _ = eprintln!(rt; "zonetext: no origin: give --zone");
@@ -139,8 +139,8 @@ fn finish<T: TakeRecord + Drop>(rt: &HostRuntime, giver: Giver<'_, T>, status: u
     }
 }
 
-/// Gives the records of files to what takes them, one file behind the other. What is refused is said.
-pub fn give_records<T: TakeRecord + Drop>(
+/// Gives the entries of files to what takes them, one file behind the other. What is refused is said.
+pub fn give_entries<T: TakeEntry + Drop>(
     rt: &HostRuntime,
     files: &[&str],
     reading: Reading<'_>,

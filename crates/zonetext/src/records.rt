@@ -1,14 +1,17 @@
 //! The command `records`: each record of zone files in full.
 use crate::lines::Lines;
-use crate::reading::{Reading, TakeRecord, give_records};
+use crate::reading::{Reading, TakeEntry, give_entries};
 use crate::stop::{Stop, conclude};
-use crate::zone_files::Given;
+use crate::zone_files::Entry;
 use dns_resource::{Data, Record};
 use dns_wire::Name;
 use zone_set::push_record;
 
-impl TakeRecord for Lines<'_> {
-    fn take_record(&mut self, given: Given<'_>) -> Result<(), Stop> {
+impl TakeEntry for Lines<'_> {
+    fn take_entry(&mut self, entry: &Entry<'_>) -> Result<(), Stop> {
+        let Some(given) = entry.record() else {
+            return Ok(());
+        };
         let owner = Name::from_octets(given.owner);
         let data = Data::from_octets(given.code, given.data);
         if let (Ok(owner), Ok(data)) = (owner, data) {
@@ -28,7 +31,7 @@ impl TakeRecord for Lines<'_> {
 
 /// Writes the records of files as they come, and returns the status.
 pub fn run(rt: &HostRuntime, files: &[&str], reading: Reading<'_>) -> u8 {
-    let mut outcome = give_records(rt, files, reading, Lines::new(rt));
+    let mut outcome = give_entries(rt, files, reading, Lines::new(rt));
     match outcome.taker.flush() {
         Ok(()) => outcome.status,
         Err(error) => conclude(rt, "-", Stop::Write(error)),

@@ -12,8 +12,10 @@ pub const TROUBLE: u8 = 3;
 pub enum Stop {
     /// A file can't be read.
     Read { file: String, error: io::Error },
-    /// Standard output, or standard error, takes no more.
+    /// Standard output, standard error, or a file takes no more.
     Write(io::Error),
+    /// A file can't be created, as one that is there already.
+    Create { file: String, error: io::Error },
     /// There is no more memory.
     OutOfMemory,
     /// A file has more octets than can be counted.
@@ -55,7 +57,9 @@ impl From<io::Error> for Stop {
 /// output needs no word of that.
 pub fn conclude(rt: &HostRuntime, file: &str, stop: Stop) -> u8 {
     let _ = match stop {
-        Stop::Read { file, error } => eprintln!(rt; "zonetext: {file}: {error}"),
+        Stop::Read { file, error } | Stop::Create { file, error } => {
+            eprintln!(rt; "zonetext: {file}: {error}")
+        }
         Stop::Write(error) if error.kind() == ErrorKind::BrokenPipe => Ok(()),
         Stop::Write(error) => eprintln!(rt; "zonetext: {error}"),
         Stop::OutOfMemory => eprintln!(rt; "zonetext: {file}: not enough memory"),

@@ -99,6 +99,8 @@ pub trait Visit {
 #[derive(Drop)]
 struct ZoneFiles<'a> {
     rt: &'a HostRuntime,
+    /// Whether files are included.
+    includes: bool,
     /// The folders of which files may be included, by their paths from the root on, without links.
     folders: Vec<String>,
     /// Those that are open, each but the first included by the one before it.
@@ -177,19 +179,13 @@ impl Unfit {
 }
 
 impl<'a> ZoneFiles<'a> {
-    /// A file that is opened, `-` for standard input, and the folders besides its own of which files
-    /// may be included; and what stands before its first entry.
-    fn open(
-        rt: &'a HostRuntime,
-        file: &str,
-        folders: &[&str],
-        state: State,
-    ) -> io::Result<ZoneFiles<'a>> {
+    /// A file that is opened, `-` for standard input.
+    fn open(rt: &'a HostRuntime, file: &str, begin: Begin<'_>) -> io::Result<ZoneFiles<'a>> {
         let alloc = rt.alloc();
         let first = open_first(rt, file)?;
         let mut open_folders = Vec::new(alloc);
         open_folders.push(first_folder(rt, &first)?)?;
-        for folder in folders {
+        for folder in begin.folders {
             open_folders.push(full_path(rt, folder)?)?;
         }
         let mut files = Vec::new(alloc);
@@ -198,9 +194,10 @@ impl<'a> ZoneFiles<'a> {
         }
         Ok(ZoneFiles {
             rt,
+            includes: begin.includes,
             folders: open_folders,
             files,
-            state,
+            state: begin.state,
             count: 1,
             data: ArrayVec::new(),
             block: vec![in alloc; 0; BLOCK]?,
@@ -392,6 +389,9 @@ impl<'a> ZoneFiles<'a> {
 
     /// Opens the file that an entry of another names by the octets that were appended.
     fn find_included(&self, file: &OpenFile) -> Result<OpenFile, Unfit> {
+        if !self.includes {
+            return Err(Unfit::Told("a file that includes others is not cut"));
+        }
         if self.files.len() >= MOST_INCLUDED {
             return Err(Unfit::Told("more than 10 files include one another"));
         }
@@ -493,6 +493,8 @@ impl<'a> ZoneFiles<'a> {
 pub struct Begin<'f> {
     /// What stands before its first entry.
     pub state: State,
+    /// Whether files are included.
+    pub includes: bool,
     /// The folders, besides its own, of which files may be included.
     pub folders: &'f [&'f str],
     /// Whether nothing is said of how far reading has come.
@@ -506,14 +508,15 @@ pub fn visit_file<V: Visit>(
     begin: Begin<'_>,
     visitor: &mut V,
 ) -> Result<(), Stop> {
-    let mut files = match ZoneFiles::open(rt, file, begin.folders, begin.state) {
+    let is_quiet = begin.is_quiet;
+    let mut files = match ZoneFiles::open(rt, file, begin) {
         Ok(files) => files,
         Err(error) => {
             let file = String::from_str(rt.alloc(), file)?;
             return Err(Stop::Read { file, error });
         }
     };
-    let mut progress = Progress::new(rt, file, begin.is_quiet)?;
+    let mut progress = Progress::new(rt, file, is_quiet)?;
     let answer = files.go_through(visitor, &mut progress);
     progress.clear()?;
     answer

@@ -96,6 +96,7 @@ fn reading_of<'o>(inner: &'o ArgMatches, is_one_class: bool) -> Result<Reading<'
         origin: zone_of(inner)?,
         class: class_of(inner.get_str("class"))?,
         is_one_class,
+        includes: true,
         folders: inner.get_strs("include").unwrap_or(&[]),
         is_quiet: inner.get_flag("quiet"),
     })

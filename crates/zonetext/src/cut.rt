@@ -1,0 +1,158 @@
+//! The command `cut`: a zone file in parts that are read apart.
+use crate::part_files::PartFiles;
+use crate::reading::{Reading, TakeEntry, give_entries};
+use crate::stop::{Stop, TROUBLE, conclude};
+use crate::zone_files::{Entry, Given};
+use std::alloc::Global;
+use std::fs::metadata;
+use std::io;
+use zone_cut::{CutError, Cutter, RecordRead};
+
+/// What is asked for.
+#[derive(Clone, Copy)]
+pub struct Work<'w> {
+    /// How many parts there are at most.
+    pub count: usize,
+    /// The parts' names up to their numbers.
+    pub prefix: &'w str,
+    /// Whether the SOA is repeated in each part behind it.
+    pub repeats_soa: bool,
+}
+
+/// Writes the entries of a file into its parts, as they come.
+#[derive(Drop)]
+struct Parter<'p> {
+    rt: &'p HostRuntime,
+    cutter: Cutter<Global>,
+    /// The lines with which a part begins.
+    lines: String,
+    files: PartFiles<'p>,
+    /// Whether a record was refused with which a part would begin.
+    has_refused: bool,
+}
+
+impl<'p> Parter<'p> {
+    /// Before the first entry of a file of so many octets.
+    fn new(rt: &'p HostRuntime, octets: usize, work: Work<'p>) -> Parter<'p> {
+        let alloc = rt.alloc();
+        Parter {
+            rt,
+            cutter: Cutter::new(alloc, octets, work.count, work.repeats_soa),
+            lines: String::new(alloc),
+            files: PartFiles::new(rt, work.prefix, work.count),
+            has_refused: false,
+        }
+    }
+
+    /// Says why no part can begin with the record of an entry.
+    fn refuse(&mut self, entry: &Entry<'_>, error: CutError) -> Result<(), Stop> {
+        self.has_refused = true;
+        let (file, position) = (entry.file, entry.place.position);
+        let (line, column, why) = (position.line, position.column, error.as_str());
+        eprintln!(self.rt; "{file}:{line}:{column}: error: {why}")?;
+        Ok(())
+    }
+
+    /// Takes the record of an entry.
+    fn take_record(&mut self, entry: &Entry<'_>, given: Given<'_>) -> Result<(), Stop> {
+        let read = RecordRead {
+            ttl: given.ttl,
+            class: given.class,
+            code: given.code,
+            data: given.data,
+        };
+        match self
+            .cutter
+            .take(entry.state, entry.place.at, read, &mut self.lines)
+        {
+            Ok(true) => self.begin_part(),
+            Ok(false) => self.files.write(entry.octets),
+            Err(CutError::OutOfMemory) => Err(Stop::OutOfMemory),
+            Err(error) => self.refuse(entry, error),
+        }
+    }
+
+    /// Begins a part with the lines that were made for it.
+    fn begin_part(&mut self) -> Result<(), Stop> {
+        self.files.begin()?;
+        self.files.write(self.lines.as_bytes())?;
+        self.lines.truncate(0);
+        Ok(())
+    }
+}
+
+impl TakeEntry for Parter<'_> {
+    fn take_entry(&mut self, entry: &Entry<'_>) -> Result<(), Stop> {
+        match entry.record() {
+            _ if self.has_refused => Ok(()),
+            Some(given) => self.take_record(entry, given),
+            None => self.files.write(entry.octets),
+        }
+    }
+}
+
+/// How many octets a regular file has; of standard input or a pipe nothing knows that beforehand.
+fn octets_of(rt: &HostRuntime, file: &str) -> io::Result<Option<usize>> {
+    if file == "-" {
+        return Ok(None);
+    }
+    let found = metadata(rt, file)?;
+    if !found.is_file() {
+        return Ok(None);
+    }
+    Ok(Some(usize::try_from(found.len()).unwrap_or(usize::MAX)))
+}
+
+/// Prints the names of files.
+fn print_names(rt: &HostRuntime, names: &[String]) -> io::Result<()> {
+    for name in names {
+        println!(rt; "{name}")?;
+    }
+    Ok(())
+}
+
+/// Says that nothing is written, removes what was, and returns the status.
+fn leave(rt: &HostRuntime, mut files: PartFiles<'_>, status: u8) -> u8 {
+    files.discard();
+    let _ = eprintln!(rt; "zonetext: nothing is written");
+    status
+}
+
+/// Gives all parts their names, and returns the status.
+fn finish(rt: &HostRuntime, file: &str, mut files: PartFiles<'_>) -> u8 {
+    if let Err(stop) = files.commit() {
+        let status = conclude(rt, file, stop);
+        return leave(rt, files, status);
+    }
+    match print_names(rt, files.paths()) {
+        Ok(()) => 0,
+        Err(error) => conclude(rt, file, Stop::Write(error)),
+    }
+}
+
+/// Cuts a file into parts, and returns the status: if an entry is refused, or a file is included,
+/// that is said, and none is written.
+pub fn run(rt: &HostRuntime, file: &str, reading: Reading<'_>, work: Work<'_>) -> u8 {
+    let octets = match octets_of(rt, file) {
+        Ok(Some(octets)) => octets,
+        Ok(None) => {
+            let _ = eprintln!(rt; "zonetext: {file}: not a regular file");
+            return TROUBLE;
+        }
+        Err(error) => {
+            let _ = eprintln!(rt; "zonetext: {file}: {error}");
+            return TROUBLE;
+        }
+    };
+    let outcome = give_entries(rt, &[file], reading, Parter::new(rt, octets, work));
+    let status = outcome.status;
+    let Parter {
+        files,
+        has_refused,
+        ..
+    } = outcome.taker;
+    match status.max(u8::from(has_refused)) {
+        0 => finish(rt, file, files),
+        status => leave(rt, files, status),
+    }
+}

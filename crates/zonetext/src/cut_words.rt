@@ -1,0 +1,62 @@
+//! The words of the command `cut`.
+use crate::command::{QUIET, flag, required_file, valued};
+use crate::cut;
+use crate::options::{Usage, class_of, status_of, zone_of};
+use crate::reading::Reading;
+use clap::{Arg, ArgAction, ArgMatches, Command};
+use std::alloc::{AllocError, Global};
+use std::io;
+
+/// The command that cuts a file.
+pub fn cut_command<'a>(alloc: Global, name: &'a str) -> Result<Command<'a>, AllocError> {
+    let zone = "the zone: the origin at the beginning of the file";
+    let output = Arg::new(alloc, "output")
+        .long("output")
+        .short('o')
+        .value_name("PREFIX")
+        .required(true)
+        .action(ArgAction::Set)
+        .help("the parts are PREFIX.000, PREFIX.001, and so on");
+    let class = "the class of records that say none, IN unless given";
+    Command::new(alloc, name)
+        .about("Write a zone file in parts that are read apart")
+        .arg(required_file(alloc, "N", "how many parts there are at most"))?
+        .arg(required_file(alloc, "FILE", "a zone file"))?
+        .arg(output)?
+        .arg(flag(alloc, "soa", "repeat the SOA in each part behind it"))?
+        .arg(valued(alloc, "zone", "ORIGIN", zone).visible_alias("origin")?)?
+        .arg(valued(alloc, "class", "CLASS", class))?
+        .arg(flag(alloc, "quiet", QUIET))
+}
+
+/// How many parts are asked for.
+fn count_of(text: &str) -> Result<usize, Usage> {
+    match text.parse::<usize>() {
+        Ok(count) if count > 0 => Ok(count),
+        _ => Err(Usage::Value("N")),
+    }
+}
+
+/// Cuts a file by the words.
+fn cut_by(rt: &HostRuntime, inner: &ArgMatches) -> Result<u8, Usage> {
+    let reading = Reading {
+        origin: zone_of(inner)?,
+        class: class_of(inner.get_str("class"))?,
+        is_one_class: false,
+        includes: false,
+        folders: &[],
+        is_quiet: inner.get_flag("quiet"),
+    };
+    let work = cut::Work {
+        count: count_of(inner.get_str("N").unwrap_or(""))?,
+        prefix: inner.get_str("output").unwrap_or("part"),
+        repeats_soa: inner.get_flag("soa"),
+    };
+    let file = inner.get_str("FILE").unwrap_or("-");
+    Ok(cut::run(rt, file, reading, work))
+}
+
+/// Runs the command `cut`, and returns the status.
+pub fn run_cut(rt: &HostRuntime, inner: &ArgMatches) -> io::Result<u8> {
+    status_of(rt, cut_by(rt, inner))
+}

@@ -1,0 +1,200 @@
+//! Files that are written together, all of them or none.
+use crate::blocks::BLOCK;
+use crate::stop::Stop;
+use std::alloc::{AllocError, Global};
+use std::fs::{File, Files, OpenFile, OpenOptions};
+use std::io;
+use std::io::{ErrorKind, Write};
+
+/// What stands behind a file's name until it is complete.
+const NEW: &str = ".zonetext-new";
+
+/// How many digits a number has at least.
+const DIGITS: usize = 3;
+
+/// Files that are written one after another, under names that end in their numbers.
+#[derive(Drop)]
+pub struct PartFiles<'p> {
+    rt: &'p HostRuntime,
+    prefix: &'p str,
+    /// How many there are at most.
+    count: usize,
+    /// The names of those that were begun.
+    paths: Vec<String>,
+    /// How many of them have their names.
+    named: usize,
+    /// The one that is written.
+    open: Option<File>,
+    /// Its octets that were not written yet.
+    out: Vec<u8>,
+}
+
+/// Whether something has that name. A link that leads nowhere has it too.
+fn exists(rt: &HostRuntime, path: &str) -> io::Result<bool> {
+    match rt.symlink_metadata(path) {
+        Ok(_) => Ok(true),
+        Err(error) if error.kind() == ErrorKind::NotFound => Ok(false),
+        Err(error) => Err(error),
+    }
+}
+
+/// Refuses a name that something has.
+fn check_free(rt: &HostRuntime, path: &str) -> io::Result<()> {
+    if exists(rt, path)? {
+        return Err(io::Error::from(ErrorKind::AlreadyExists));
+    }
+    Ok(())
+}
+
+/// Creates a file.
+fn create(rt: &HostRuntime, path: &str) -> io::Result<File> {
+    let mut options = OpenOptions::new();
+    options.write(true).create_new(true);
+    rt.open_file(&options, path)
+}
+
+/// What is said of a file that can't be created.
+fn stop_at(rt: &HostRuntime, path: &str, error: io::Error) -> Stop {
+    match String::from_str(rt.alloc(), path) {
+        Ok(file) => Stop::Create { file, error },
+        Err(_) => Stop::OutOfMemory,
+    }
+}
+
+/// A path with something behind it.
+fn with_suffix(alloc: Global, path: &str, suffix: &str) -> Result<String, AllocError> {
+    let mut text = String::from_str(alloc, path)?;
+    text.push_str(suffix)?;
+    Ok(text)
+}
+
+/// Gives a file its name, unless something has it.
+fn give_name(rt: &HostRuntime, path: &str) -> io::Result<()> {
+    check_free(rt, path)?;
+    let beside = with_suffix(rt.alloc(), path, NEW)?;
+    rt.rename(beside.as_str(), path)
+}
+
+/// The folder in which a path stands.
+fn folder_of(path: &str) -> &str {
+    match path.rsplit_once('/') {
+        None => ".",
+        Some(("", _)) => "/",
+        Some((folder, _)) => folder,
+    }
+}
+
+impl<'p> PartFiles<'p> {
+    /// No files yet, of so many at most.
+    pub fn new(rt: &'p HostRuntime, prefix: &'p str, count: usize) -> PartFiles<'p> {
+        PartFiles {
+            rt,
+            prefix,
+            count,
+            paths: Vec::new(rt.alloc()),
+            named: 0,
+            open: None,
+            out: Vec::new(rt.alloc()),
+        }
+    }
+
+    /// The names of the files.
+    pub fn paths(&self) -> &[String] {
+        self.paths.as_slice()
+    }
+
+    /// The name of a file, in which each number has as many digits.
+    fn path(&self, number: usize) -> Result<String, AllocError> {
+        let alloc = self.rt.alloc();
+        let last = self.count.saturating_sub(1).to_string(alloc)?;
+        let digits = number.to_string(alloc)?;
+        let mut path = with_suffix(alloc, self.prefix, ".")?;
+        for _ in digits.len()..last.len().max(DIGITS) {
+            path.push('0')?;
+        }
+        path.push_str(digits.as_str())?;
+        Ok(path)
+    }
+
+    /// Writes the octets so far.
+    fn flush(&mut self) -> io::Result<()> {
+        if let Some(file) = &mut self.open {
+            file.write_all(self.out.as_slice())?;
+        }
+        self.out.truncate(0);
+        Ok(())
+    }
+
+    /// Ends the file that is written, once it has reached the disk.
+    fn finish(&mut self) -> io::Result<()> {
+        self.flush()?;
+        match self.open.take() {
+            Some(file) => file.sync_all(),
+            None => Ok(()),
+        }
+    }
+
+    /// Ends the file before, and begins the next, beside its place.
+    pub fn begin(&mut self) -> Result<(), Stop> {
+        self.finish()?;
+        let path = self.path(self.paths.len())?;
+        let beside = with_suffix(self.rt.alloc(), path.as_str(), NEW)?;
+        if let Err(error) = check_free(self.rt, path.as_str()) {
+            return Err(stop_at(self.rt, path.as_str(), error));
+        }
+        self.paths.push(path)?;
+        match create(self.rt, beside.as_str()) {
+            Ok(file) => {
+                self.open = Some(file);
+                Ok(())
+            }
+            Err(error) => {
+                self.paths.pop();
+                Err(stop_at(self.rt, beside.as_str(), error))
+            }
+        }
+    }
+
+    /// Appends octets to the file that is written. Before the first one they are left out.
+    pub fn write(&mut self, octets: &[u8]) -> Result<(), Stop> {
+        if self.open.is_none() {
+            return Ok(());
+        }
+        self.out.extend_from_slice(octets)?;
+        if self.out.len() >= BLOCK {
+            self.flush()?;
+        }
+        Ok(())
+    }
+
+    /// Gives all files their names.
+    pub fn commit(&mut self) -> Result<(), Stop> {
+        self.finish()?;
+        if self.paths.is_empty() {
+            return Ok(());
+        }
+        for path in &self.paths {
+            if let Err(error) = give_name(self.rt, path.as_str()) {
+                return Err(stop_at(self.rt, path.as_str(), error));
+            }
+            self.named = self.named.saturating_add(1);
+        }
+        let mut options = OpenOptions::new();
+        options.read(true);
+        let folder = self.rt.open_file(&options, folder_of(self.prefix))?;
+        folder.sync_all()?;
+        Ok(())
+    }
+
+    /// Removes all files, also those that have their names.
+    pub fn discard(&mut self) {
+        self.open = None;
+        for (number, path) in self.paths.iter().enumerate() {
+            if number < self.named {
+                let _ = self.rt.remove_file(path.as_str());
+            } else if let Ok(beside) = with_suffix(self.rt.alloc(), path.as_str(), NEW) {
+                let _ = self.rt.remove_file(beside.as_str());
+            }
+        }
+    }
+}
