@@ -1,6 +1,6 @@
 //! The command `cut`: a zone file in parts that are read apart.
 use crate::part_files::PartFiles;
-use crate::reading::{Reading, TakeEntry, give_entries};
+use crate::reading::{Outcome, Reading, TakeEntry, give_entries};
 use crate::stop::{Stop, TROUBLE, conclude};
 use crate::zone_files::{Entry, Given};
 use std::alloc::Global;
@@ -130,9 +130,23 @@ fn finish(rt: &HostRuntime, file: &str, mut files: PartFiles<'_>) -> u8 {
     }
 }
 
+/// Gives the entries of a file to its parts, and returns the status.
+fn cut(rt: &HostRuntime, file: &str, reading: Reading<'_>, parter: Parter<'_>) -> u8 {
+    let Outcome { status, taker, .. } = give_entries(rt, &[file], reading, parter);
+    let Parter {
+        files,
+        has_refused,
+        ..
+    } = taker;
+    match status.max(u8::from(has_refused)) {
+        0 => finish(rt, file, files),
+        status => leave(rt, files, status),
+    }
+}
+
 /// Cuts a file into parts, and returns the status: if an entry is refused, or a file is included,
 /// that is said, and none is written.
-pub fn run(rt: &HostRuntime, file: &str, reading: Reading<'_>, work: Work<'_>) -> u8 {
+pub fn run<'p>(rt: &'p HostRuntime, file: &str, reading: Reading<'_>, work: Work<'p>) -> u8 {
     let octets = match octets_of(rt, file) {
         Ok(Some(octets)) => octets,
         Ok(None) => {
@@ -144,15 +158,5 @@ pub fn run(rt: &HostRuntime, file: &str, reading: Reading<'_>, work: Work<'_>) -
             return TROUBLE;
         }
     };
-    let outcome = give_entries(rt, &[file], reading, Parter::new(rt, octets, work));
-    let status = outcome.status;
-    let Parter {
-        files,
-        has_refused,
-        ..
-    } = outcome.taker;
-    match status.max(u8::from(has_refused)) {
-        0 => finish(rt, file, files),
-        status => leave(rt, files, status),
-    }
+    cut(rt, file, reading, Parter::new(rt, octets, work))
 }
