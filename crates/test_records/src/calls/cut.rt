@@ -92,7 +92,7 @@ impl<'a> Parts<'a> {
     /// The parts, one after another.
     fn part(&self, number: usize) -> &[u8] {
         let start = self.starts.get(number).copied().unwrap_or(0);
-        let end = self.starts.get(number + 1).copied();
+        let end = self.starts.get(number.saturating_add(1)).copied();
         let end = end.unwrap_or(self.octets.len());
         self.octets.as_slice().get(start..end).unwrap_or(&[])
     }
