@@ -18,7 +18,7 @@ is_base16 b (inr (inl is)) narrow = absurd (let five : b.width ≡ 5 = ap (λ (x
 is_base16 b (inr (inr is)) narrow = absurd (let six : b.width ≡ 6 = ap (λ (x : Base). x.width) is in omega arith)
 
 -- an octet has two digits
-pieces_of_octet : (o : ℕ) → o < 256 → digits 4 (o ∷ []) ≡ o / 16 ∷ o % 16 ∷ []
+pub pieces_of_octet : (o : ℕ) → o < 256 → digits 4 (o ∷ []) ≡ o / 16 ∷ o % 16 ∷ []
 unfolding low_digits
 pieces_of_octet o low =
     let same : o % 256 ≡ o = omega arith in

@@ -28,3 +28,7 @@ pub mod Refusals
 pub mod Each
 pub mod Halves
 pub mod Short
+pub mod Vectors
+pub mod VectorsOf16
+pub mod VectorsOf64
+pub mod VectorKinds

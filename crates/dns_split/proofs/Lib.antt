@@ -18,6 +18,7 @@ pub mod OctetOpeners
 pub mod OctetsOnce
 pub mod OneCause
 pub mod Openers
+pub mod PassedLines
 pub mod PieceFaults
 pub mod PieceGiven
 pub mod PieceJoins

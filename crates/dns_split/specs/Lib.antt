@@ -2,6 +2,7 @@ pub mod Answer
 pub mod EntryTokens
 pub mod Lexeme
 pub mod Opening
+pub mod PassedLine
 pub mod Pieces
 pub mod Position
 pub mod Reader

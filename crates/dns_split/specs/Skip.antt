@@ -2,11 +2,11 @@
 use Rattle.std.specs.Prelude.{◌≡◌, ◌≤◌, ◌<◌, ℕ, ◌+◌, if◌then◌else◌, Bool, true, not, nat_lt, nat_le, ◌&&◌, ◌||◌, ◌==◌, List, map, slice_index}
 use Rattle.std.specs.Int.{w64, trailing_zeros}
 use lib.Lanes.{mask_l}
-use Rattle.dns_symbol.specs.Characters.{tab, line_feed, carriage_return, space, double_quote, close_parenthesis, semicolon, backslash}
+use Rattle.dns_symbol.specs.Characters.{tab, line_feed, carriage_return, space, double_quote, open_parenthesis, close_parenthesis, semicolon, backslash}
 use Rattle.dns_split.specs.declared.reader.Within.{Within}
 use Rattle.dns_split.specs.declared.reader.Within.TheVariants.{InWord, InQuote}
 use Rattle.dns_split.specs.declared.skip.Class.{Class}
-use Rattle.dns_split.specs.declared.skip.Class.TheVariants.{Word, Quote, Comment, Blank}
+use Rattle.dns_split.specs.declared.skip.Class.TheVariants.{Word, Quote, Comment, Blank, Line}
 
 -- not every octet that changes nothing: those that a few comparisons find
 abbrev pub is_in : Class → ℕ → Bool
@@ -14,6 +14,7 @@ is_in Word c = nat_lt close_parenthesis c && (not (c == semicolon) && not (c == 
 is_in Quote c = nat_le space c && (not (c == double_quote) && not (c == backslash))
 is_in Comment c = not (c == line_feed) && not (c == carriage_return)
 is_in Blank c = c == space || c == tab
+is_in Line c = not ((c == line_feed || (c == carriage_return || c == semicolon)) || ((c == double_quote || (c == open_parenthesis || c == close_parenthesis)) || c == backslash))
 
 -- each octet from one place to before another
 abbrev pub EachIn : Class → List ℕ → ℕ → ℕ → Type 0

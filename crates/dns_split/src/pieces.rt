@@ -5,6 +5,7 @@ ghost use Rattle.std.specs.Str.{IsCharBoundary};
 ghost use Rattle.dns_split.specs.Pieces.{Reads, EachFits, ReadsOctets, ReadsOctetsFrom, EachWithin};
 ghost use Rattle.dns_split.specs.Pieces.{IsPart, between, ReadsFrom, EachIsPart, next_blank};
 ghost use Rattle.dns_split.specs.Pieces.{IsFault, moved_fault, place_of};
+ghost use Rattle.dns_split.specs.PassedLine.{PassesIf};
 ghost use Rattle.dns_split.specs.Viable.{IsViable};
 ghost use Rattle.dns_split.specs.Run.{open_piece, goes_on, closed_piece, finished, start_after};
 ghost use Rattle.dns_split.specs.Run.{first_blank, blank_after, wrong_at, wrong_at_end, run};
@@ -550,6 +551,25 @@ impl<'t> Pieces<'t> {
         ensures { IfSome (next_blank self.now) (λ b. result ≡ b) }
     {
         self.begins_blank
+    }
+
+    /// Passes over what is left of an entry, and returns where it ends: at the end of its line, if
+    /// words and blanks alone stand before that; or stays, and returns `None`.
+    #[inline(always)]
+    pub fn pass_line(&mut self) -> Option<usize>
+        ensures { PassesIf self.old result self.new }
+    {
+        if self.is_done || self.depth > 0 {
+            return None;
+        }
+        let feed = skip_class(Class::Line, self.octets, self.at);
+        if feed == self.octets.len() || self.octets[feed] != b'\n' {
+            return None;
+        }
+        let end = feed + 1;
+        self.at = end;
+        self.begins_blank = first_blank(self.octets, end);
+        Some(end)
     }
 
     /// At the beginning of an entry.

@@ -25,6 +25,8 @@ pub(crate) enum Class {
     Comment,
     /// Space and tab.
     Blank,
+    /// On a line, where it has words and blanks alone.
+    Line,
 }
 
 /// A place of a text at which no token and no comment is open.
@@ -45,6 +47,11 @@ fn is_in(class: Class, octet: u8) -> bool
         Class::Quote => octet >= b' ' && octet != b'"' && octet != b'\\',
         Class::Comment => octet != b'\n' && octet != b'\r',
         Class::Blank => octet == b' ' || octet == b'\t',
+        Class::Line => {
+            let ends = octet == b'\n' || octet == b'\r' || octet == b';';
+            let encloses = octet == b'"' || octet == b'(' || octet == b')';
+            !(ends || encloses || octet == b'\\')
+        }
     }
 }
 
@@ -84,6 +91,15 @@ fn ends(class: Class, octets: u8x16) -> u64
         Class::Blank => {
             let no_space = octets.simd_ne(u8x16::splat(b' '));
             (no_space & octets.simd_ne(u8x16::splat(b'\t'))).to_bitmask()
+        }
+        Class::Line => {
+            let feed = octets.simd_eq(u8x16::splat(b'\n'));
+            let line = feed | octets.simd_eq(u8x16::splat(b'\r'));
+            let note = line | octets.simd_eq(u8x16::splat(b';'));
+            let quote = note | octets.simd_eq(u8x16::splat(b'"'));
+            let open = quote | octets.simd_eq(u8x16::splat(b'('));
+            let close = open | octets.simd_eq(u8x16::splat(b')'));
+            (close | octets.simd_eq(u8x16::splat(b'\\'))).to_bitmask()
         }
     }
 }

@@ -11,7 +11,7 @@ use Rattle.dns_split.specs.Pieces.{EachWithin, IsGiven, IsPieces, end_at, moved_
 use Rattle.dns_split.proofs.PieceJoins.{pieces_joined}
 use Rattle.dns_split.proofs.PieceMoved.{mono}
 use Rattle.zone_format.proofs.Givens.{first_of_oks, pieces_of_oks, whole_of}
-use Rattle.dns_zonefile.specs.First.{HasNoEnd}
+use Rattle.dns_split.specs.PassedLine.{HasNoEnd}
 
 abbrev last_of : Piece → List Piece → Piece
 last_of d [] = d

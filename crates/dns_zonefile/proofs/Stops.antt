@@ -14,7 +14,8 @@ use Rattle.dns_split.specs.Standing.{blank_at}
 use Rattle.dns_split.proofs.Blocks.{back_octets, both_octets, entries_stay, faults_stay}
 use Rattle.dns_split.proofs.OctetsOnce.{run_given}
 use Rattle.zone_format.proofs.Givens.{moved_oks}
-use Rattle.dns_zonefile.specs.First.{BeginsEntryWith, HasNoEnd, StopsFirst, parts_of, piece_tokens}
+use Rattle.dns_split.specs.PassedLine.{HasNoEnd, PassesEntry}
+use Rattle.dns_zonefile.specs.First.{BeginsEntryWith, StopsFirst, parts_of, piece_tokens}
 use Rattle.dns_octets.specs.Room.{Room}
 use Rattle.dns_reader.specs.declared.entry.EntryRead.{EntryRead}
 use Rattle.dns_reader.specs.declared.entry_error.EntryRefusal.{EntryRefusal}
@@ -49,6 +50,16 @@ open_on given left now p e k x = record {
 
 pub ends_here : (octets : List ℕ) (given left now : List (Result Piece Fault)) (end : EndOfEntry) → now ≡ Ok (EndAt end) ∷ left → IsGiven octets given → Open given now → StopsFirst octets (Ok end) left
 ends_here octets given left now end e g x = record { found = x.found; is_open = x.is_open; given = subst (IsGiven octets) (x.is ∙ ap (λ l. map Ok x.found ++ l) e) g }
+
+-- a line that is passed over is the first entry
+some_left : (left : List (Result Piece Fault)) → (left ≡ [] → ⊥) → 0 < length left
+some_left [] h = absurd (h refl)
+some_left (x ∷ left) h = omega arith
+
+pub passed_first : (octets : List ℕ) (last : Bool) (given left : List (Result Piece Fault)) (at : ℕ) → IsGiven octets given → PassesEntry given at left
+    → (end : EndOfEntry) × (more : List (Result Piece Fault)) × StopsFirst octets (Ok end) more × (end.at ≡ at) × ((0 < length more) ⊎ (last ≡ true))
+passed_first octets last given left at g p =
+    (p.end, left, record { found = p.found; is_open = p.is_open; given = subst (IsGiven octets) p.is g }, p.ends_at, inl (some_left left p.some))
 
 -- a fault comes last
 oks_no_fault : (xs ys : List Piece) (f : Fault) (l : List (Result Piece Fault)) → map Ok xs ++ Err f ∷ l ≡ map Ok ys → ⊥

@@ -1,6 +1,7 @@
 -- The first entry of octets.
-use Rattle.std.specs.Prelude.{⊤, ◌≡◌, ◌<◌, ◌≤◌, ◌⊎◌, ℕ, Bool, true, false, List, [], ◌∷◌, ◌++◌, length, map, Option, Some, None, Result, Ok, Err}
+use Rattle.std.specs.Prelude.{◌≡◌, ◌<◌, ◌≤◌, ◌⊎◌, ℕ, Bool, true, false, List, [], ◌∷◌, ◌++◌, length, map, Option, Some, None, Result, Ok, Err}
 use Rattle.dns_split.specs.EntryTokens.{EndIs, IsSeen, PartSeen, TokenIs, TokenSeen, quote_seen, word_seen}
+use Rattle.dns_split.specs.PassedLine.{HasNoEnd}
 use Rattle.dns_split.specs.Pieces.{IsGiven}
 use Rattle.dns_split.specs.declared.pieces.EndOfEntry.{EndOfEntry}
 use Rattle.dns_split.specs.declared.pieces.Fault.{Fault}
@@ -18,15 +19,7 @@ BeginsEntryWith text blank tokens (Err f) = IsSeen text (parts_of blank tokens +
 
 -- ---- by the pieces of octets
 
--- pieces of one entry, without its end
-abbrev pub HasNoEnd : List Piece → Type 0
-HasNoEnd [] = ⊤
-HasNoEnd (WordAt p ∷ ps) = HasNoEnd ps
-HasNoEnd (QuoteAt p ∷ ps) = HasNoEnd ps
-HasNoEnd (CommentAt p ∷ ps) = HasNoEnd ps
-HasNoEnd (EndAt e ∷ ps) = ⊥
-
--- their tokens, the first of which may be glued to what ended before
+-- the tokens of pieces of one entry, the first of which may be glued to what ended before
 abbrev pub piece_tokens : List ℕ → Option ℕ → List Piece → List TokenSeen
 piece_tokens octets ended [] = []
 piece_tokens octets ended (WordAt p ∷ ps) = word_seen octets ended p ∷ piece_tokens octets (Some p.end) ps

@@ -1,6 +1,6 @@
 use Rattle.std.proofs.Common.{refl}
 use Rattle.std.proofs.lemmas.Simd.{zip2_splat, zip2_of_maps}
-use Rattle.dns_split.specs.declared.skip.Class.TheVariants.{Word, Quote, Comment, Blank}
+use Rattle.dns_split.specs.declared.skip.Class.TheVariants.{Word, Quote, Comment, Blank, Line}
 use Rattle.dns_split.proofs.Lanes.{marks_by}
 use Rattle.dns_split.proofs.skip.ends.Goals as goal
 
@@ -27,3 +27,11 @@ returns-in-Blank c =
     let v = c.args.octets in
     marks_by Blank c.args.class v _ _ c.requires c.in-Blank.is
     (zip2_of_maps _ _ _ v (zip2_splat _ v 16 32 c.requires) (zip2_splat _ v 16 9 c.requires)) refl
+
+pub returns-in-Line : goal.returns-in-Line
+returns-in-Line c =
+    let v = c.args.octets in
+    let few = zip2_of_maps _ _ _ v (zip2_of_maps _ _ _ v (zip2_splat _ v 16 10 c.requires) (zip2_splat _ v 16 13 c.requires)) (zip2_splat _ v 16 59 c.requires) in
+    let more = zip2_of_maps _ _ _ v (zip2_of_maps _ _ _ v few (zip2_splat _ v 16 34 c.requires)) (zip2_splat _ v 16 40 c.requires) in
+    marks_by Line c.args.class v _ _ c.requires c.in-Line.is
+    (zip2_of_maps _ _ _ v (zip2_of_maps _ _ _ v more (zip2_splat _ v 16 41 c.requires)) (zip2_splat _ v 16 92 c.requires)) refl
