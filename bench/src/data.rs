@@ -4,6 +4,7 @@ mod lines;
 mod places;
 mod types;
 mod words;
+mod zones;
 
 use crate::rows::{Case, Rows};
 
@@ -11,6 +12,7 @@ mod library {
     extern "C" {
         pub fn bench_data_read(text: *const u8, length: usize, code: u16) -> usize;
         pub fn bench_data_print(octets: *const u8, length: usize, code: u16) -> usize;
+        pub fn bench_zone_read(text: *const u8, length: usize) -> usize;
     }
 }
 
@@ -88,4 +90,15 @@ pub fn add(rows: &mut Rows) {
             },
         );
     }
+    let texts = [1, 100, 10_000].map(zones::text);
+    rows.add("Record data", "a zone file, text to records", || {
+        texts.each_ref().map(|text| {
+            let call = library::bench_zone_read;
+            Case::new(
+                text.len(),
+                move || unsafe { call(text.as_ptr(), text.len()) },
+                move || zones::read(text).unwrap_or(0),
+            )
+        })
+    });
 }

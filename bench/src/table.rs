@@ -72,7 +72,11 @@ pub fn texts(texts: &[(String, [f64; 3])]) -> String {
     for (name, [cursor, split, plain]) in texts {
         let (one, other) = (cursor / plain, split / plain);
         let (cursor, split) = (short(*cursor), short(*split));
-        writeln!(text, "| {name} | | {cursor}/{split} | {one:.2}/{other:.2} |").unwrap();
+        writeln!(
+            text,
+            "| {name} | | {cursor}/{split} | {one:.2}/{other:.2} |"
+        )
+        .unwrap();
     }
     text
 }

@@ -8,9 +8,14 @@ pub struct Kind {
 }
 
 impl Kind {
+    /// The line of a number.
+    pub fn line(&self, place: usize) -> String {
+        (self.line)(place)
+    }
+
     /// So many lines.
     pub fn lines(&self, count: usize) -> Vec<u8> {
-        let lines = (0..count).map(|place| (self.line)(place) + "\n");
+        let lines = (0..count).map(|place| self.line(place) + "\n");
         lines.collect::<String>().into_bytes()
     }
 }
