@@ -36,6 +36,7 @@ PEERS = {
     "ldns-read-zone": ["ldns-read-zone"],
     "ldns-read-zone -z": ["ldns-read-zone", "-z"],
 }
+CUT = 'rm -f "$2"-cut*; exec "$1" cut 4 "$2" -o "$2"-cut'
 CHART = ["`wc -lw`", "zonetext check --text", "zonetext check", "zonetext records", *PEERS][:-1]
 COLOURS = ["#777777", "#2a7f62", "#1f4e8c", "#7ba23f", "#c1662f", "#b0413e", "#8b5fbf", "#444444"]
 B32HEX = "0123456789ABCDEFGHIJKLMNOPQRSTUV"
@@ -122,7 +123,9 @@ def commands(path):
     """Name, words and whether it is a peer, of each command over a file."""
     listed = [(name, [*words, path], False) for name, words in WC]
     listed += [(f"zonetext {it}", ours(it, path), False) for it in COMMANDS]
-    listed += [("zonetext diff --entries", [ZONETEXT, "diff", "--entries", path, path], False)]
+    listed += [("zonetext diff", [ZONETEXT, "diff", path, path], False),
+               ("zonetext diff --entries", [ZONETEXT, "diff", "--entries", path, path], False),
+               ("zonetext cut 4", ["sh", "-c", CUT, "sh", ZONETEXT, path], False)]
     return listed + [(name, [*words, path], True) for name, words in PEERS.items() if shutil.which(words[0])]
 
 
