@@ -2,10 +2,12 @@
 use Rattle.std.proofs.Common.{◌≡◌, ℕ, suc, ◌+◌, ◌-◌, ◌<◌, ◌≤◌, Bool, true, false, ◌&&◌, ◌==◌, List, [], ◌∷◌, ◌++◌, length, take, drop, get_or, refl, sym, ap, ◌∙◌, subst, arith, append-nil}
 use Rattle.std.specs.Prelude.{if◌then◌else◌}
 use Rattle.std.specs.List.{flat_map}
+use Rattle.std.proofs.lemmas.Bool.{ne_eqb}
 use Rattle.std.proofs.lemmas.Grind.{flat_map-append}
 use Rattle.std.proofs.lemmas.List.{length-take}
 use Rattle.std.proofs.Math.Seq.{take-suc}
 use Rattle.dns_split.specs.Pieces.{between}
+use Rattle.dns_split.specs.Run.{is_blank}
 use Rattle.dns_split.specs.declared.pieces.Span.{Span}
 use Rattle.zone_format.specs.declared.columns.Turn.{Turn}
 use Rattle.zone_format.specs.declared.columns.Turn.TheVariants.{Edge, Led, Inside, Owned, Head, Typed, Rest}
@@ -13,7 +15,7 @@ use Rattle.zone_format.specs.declared.format.Progress.{Progress}
 use Rattle.zone_format.specs.declared.stand.Stand.{Stand}
 use Rattle.zone_format.specs.Columns.{moved_in}
 use Rattle.zone_format.specs.Form.{led_turn}
-use Rattle.zone_format.specs.Marks.{Mark, Token, Note, gap_mark, gap_marks, lead, lead_at, shortened}
+use Rattle.zone_format.specs.Marks.{Mark, Token, Note, Open, Close, Feed, gap_mark, gap_marks, lead, lead_at, shortened}
 use Rattle.zone_format.specs.Writing.{Accepts, Advances, LineFits, Goes, Moves, PushesNote, PushesToken, Reaches, WritesEnd, WritesNote, WritesToken, accepts, led, stands_after}
 use Rattle.zone_format.proofs.Going.{accepts_on, goes_on, lead_accepts, lead_goes, lead_stands, note_accepts, note_goes, stands_on, token_accepts, token_goes}
 
@@ -36,6 +38,22 @@ gap_turn gap old mid new s t u i h a b =
       fits = b.fits;
       depth = omega (arith, a.depth, b.depth);
     })
+
+no_blank : (x c : ℕ) → c ≡ x → is_blank x ≡ false → is_blank c ≡ true → ⊥
+no_blank x c e f h = let w : false ≡ true = sym f ∙ ap is_blank (sym e) ∙ h in cc
+
+blank_mark : (c : ℕ) → is_blank c ≡ true → gap_mark c ≡ []
+blank_mark c h =
+    ap (λ x. if x then Open ∷ [] else if c == 41 then Close ∷ [] else if c == 10 then Feed ∷ [] else []) (ne_eqb c 40 (λ e. no_blank 40 c e refl h))
+    ∙ ap (λ x. if x then Close ∷ [] else if c == 10 then Feed ∷ [] else []) (ne_eqb c 41 (λ e. no_blank 41 c e refl h))
+    ∙ ap (λ x. if x then Feed ∷ [] else []) (ne_eqb c 10 (λ e. no_blank 10 c e refl h))
+
+stays : (octets : List ℕ) (s : Stand) → LineFits octets s → Moves [] octets s 1 octets s
+stays octets s f = record { goes = λ more. refl; accepts = λ more. refl; stand = refl; fits = f; depth = omega arith }
+
+pub gap_blank : (gap old mid : List ℕ) (s t : Stand) (i : ℕ) → i < length gap → is_blank (get_or gap i 0) ≡ true → Moves (flat_map gap_mark (take i gap)) old s i mid t → Moves (flat_map gap_mark (take (i + 1) gap)) old s (i + 1) mid t
+gap_blank gap old mid s t i h b a =
+    gap_turn gap old mid mid s t t i h a (subst (λ ms. Moves ms mid t 1 mid t) (sym (blank_mark (get_or gap i 0) b)) (stays mid t a.fits))
 
 -- what stands between two pieces, and then something
 pub advanced : (octets : List ℕ) (ms : List Mark) (old mid new : List ℕ) (p : Progress) (s to : ℕ) (tied : Bool) (t u : Stand) → Moves (gap_marks octets p.at s) old p.stand (length (between octets p.at s)) mid t

@@ -50,6 +50,7 @@ fn starts_character(octet: u8) -> bool
 }
 
 /// How many characters octets are.
+#[inline(always)]
 pub(crate) fn width(octets: &[u8]) -> usize
     ensures width { result ≡ width_of octets.now }
     ensures few { result ≤ length octets.now }
@@ -243,6 +244,7 @@ fn after_first(end: usize, is_glued: bool, token: &[u8], width: usize) -> Turn
 
 impl Turn {
     /// The column of a token that is parted from what is before it.
+    #[inline(always)]
     fn parted_column(self, end: usize, token: &[u8], width: usize) -> usize
         requires room { end + width + 64 < 2 ^ 64 }
         requires moved { moved_in self ≤ end }
@@ -265,6 +267,7 @@ impl Turn {
     }
 
     /// The column of a token behind `end` characters.
+    #[inline(always)]
     pub(crate) fn token_column(
         self,
         end: usize,
@@ -286,6 +289,7 @@ impl Turn {
     }
 
     /// What may come after a token.
+    #[inline(always)]
     pub(crate) fn after_token(self, end: usize, is_glued: bool, token: &[u8], width: usize) -> Turn
         requires room { end + width + 64 < 2 ^ 64 }
         requires width { width ≡ width_of token.now }
@@ -336,6 +340,7 @@ impl Turn {
 }
 
 /// Whether an octet is a blank.
+#[inline(always)]
 pub(crate) fn is_blank(octet: u8) -> bool
     ensures { result ≡ is_blank octet }
 {

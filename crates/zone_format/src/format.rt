@@ -29,6 +29,7 @@ fn shortened(comment: &[u8]) -> &[u8]
 }
 
 /// Whether octets begin with a blank from a place on.
+#[inline(always)]
 fn blank_at(octets: &[u8], at: usize) -> bool
     ensures { result ≡ lead_at octets.now at }
 {
@@ -39,6 +40,7 @@ fn blank_at(octets: &[u8], at: usize) -> bool
 }
 
 /// Where NUL stands among octets.
+#[inline(always)]
 fn find_nul(octets: &[u8]) -> Option<usize>
     ensures some { IfSome result (λ i. (i < length octets.now) × (slice_index octets.now i ≡ 0)) }
     ensures none { IsNone result → has_no_nul octets.now ≡ true }
@@ -64,6 +66,7 @@ fn begins_order_mark(octets: &[u8]) -> bool
 
 impl Stand {
     /// After a blank at an entry's beginning, if there is one.
+    #[inline(always)]
     fn led_if(self, is_blank: bool) -> Stand
         ensures { result ≡ (if is_blank then led self else self) }
     {
@@ -71,6 +74,7 @@ impl Stand {
     }
 
     /// Whether what comes next is the first thing of a text, in the first column.
+    #[inline(always)]
     fn is_edge(self) -> bool
         ensures { result ≡ is_edge self.above self.turn }
     {
@@ -82,6 +86,7 @@ impl Stand {
 }
 
 /// Whether a token may be written, which begins at a place.
+#[inline(always)]
 fn accept(token: &[u8], stand: Stand, start: usize) -> Result<(), Refusal>
     requires { start + length token.now < 2 ^ 64 }
     ensures well { IfOk result (λ _. accepts stand token.now ≡ true) }
@@ -107,6 +112,7 @@ pub(crate) struct Progress {
 
 impl Progress {
     /// Whether a token that begins there is glued to one that ends there.
+    #[inline(always)]
     fn glues(self, start: usize) -> bool
         ensures { result ≡ (self.is_token && (start == self.at)) }
     {
@@ -115,6 +121,7 @@ impl Progress {
 }
 
 /// Appends a token after what stands before it.
+#[inline(always)]
 fn write_token<A: Allocator>(
     octets: &[u8],
     progress: Progress,
@@ -164,6 +171,7 @@ fn write_note<A: Allocator>(
 }
 
 /// Appends what stands before the end of an entry.
+#[inline(always)]
 fn write_end<A: Allocator>(
     octets: &[u8],
     progress: Progress,

@@ -20,6 +20,7 @@ pub(crate) enum Above {
 
 impl Above {
     /// What stands above the line below a blank one.
+    #[inline(always)]
     fn blank_below(self) -> Above
         ensures { result ≡ blank_below self }
     {
@@ -81,6 +82,7 @@ pub(crate) struct Stand {
 
 impl Turn {
     /// Whether a line is empty.
+    #[inline(always)]
     pub(crate) fn is_start(self) -> bool
         ensures { result ≡ is_start self }
     {
@@ -92,6 +94,7 @@ impl Turn {
 }
 
 /// How a line begins where so many parentheses are open.
+#[inline(always)]
 fn start(depth: usize) -> Turn
     ensures { result ≡ start depth }
 {
@@ -110,6 +113,7 @@ impl Stand {
     }
 
     /// After a line's end.
+    #[inline(always)]
     pub(crate) fn fed(self) -> Stand
         ensures { result ≡ fed self }
     {
@@ -129,6 +133,7 @@ impl Stand {
     }
 
     /// After a blank that an entry begins with.
+    #[inline(always)]
     pub(crate) fn led(self) -> Stand
         ensures { result ≡ led self }
     {
@@ -142,6 +147,7 @@ impl Stand {
     }
 
     /// After a token at a column.
+    #[inline(always)]
     pub(crate) fn after_token(
         self,
         is_glued: bool,

@@ -5,11 +5,12 @@ ghost use Rattle.zone_format.specs.Marks.{gap_mark};
 ghost use Rattle.zone_format.specs.Writing.{blanks_before, last_line_end, LineFits, Moves};
 ghost use Rattle.zone_format.specs.Writing.{PushesNote, PushesParenthesis, PushesToken};
 
-use crate::columns::width;
+use crate::columns::{is_blank, width};
 use crate::stand::{Above, Stand};
 use std::alloc::{AllocError, Allocator};
 
 /// Appends that many spaces.
+#[inline(always)]
 fn push_spaces<A: Allocator>(out: &mut Vec<u8, A>, count: usize) -> Result<(), AllocError>
     requires { count < 2 ^ 16 }
     ensures { OnOk result (out.new.items ≡ out.old.items ++ replicate count 32) }
@@ -20,6 +21,7 @@ fn push_spaces<A: Allocator>(out: &mut Vec<u8, A>, count: usize) -> Result<(), A
 }
 
 /// Appends what stands before something at a column.
+#[inline(always)]
 fn push_before<A: Allocator>(
     out: &mut Vec<u8, A>,
     stand: Stand,
@@ -36,6 +38,7 @@ fn push_before<A: Allocator>(
 }
 
 /// Appends a token.
+#[inline(always)]
 pub(crate) fn push_token<A: Allocator>(
     out: &mut Vec<u8, A>,
     stand: Stand,
@@ -85,6 +88,7 @@ fn push_parenthesis<A: Allocator>(
 }
 
 /// Appends the end of a line that is not empty.
+#[inline(always)]
 pub(crate) fn push_end<A: Allocator>(out: &mut Vec<u8, A>, stand: Stand) -> Result<(), AllocError>
     ensures { OnOk result (out.new.items ≡ out.old.items ++ last_line_end stand) }
 {
@@ -117,6 +121,7 @@ fn push_gap_octet<A: Allocator>(
 }
 
 /// Appends what the octets between two pieces make.
+#[inline(always)]
 pub(crate) fn push_gap<A: Allocator>(
     out: &mut Vec<u8, A>,
     stand: Stand,
@@ -128,6 +133,9 @@ pub(crate) fn push_gap<A: Allocator>(
 {
     let mut stand = stand;
     for octet in gap {
+        if is_blank(*octet) {
+            continue;
+        }
         stand = push_gap_octet(out, stand, *octet)?;
     }
     Ok(stand)
