@@ -29,6 +29,7 @@ impl Gap {
 }
 
 /// Appends the end of a line and a gap, each where it is owed.
+#[inline(always)]
 fn push_lead<A: Allocator>(
     out: &mut Vec<u8, A>,
     owes_feed: bool,
@@ -47,6 +48,7 @@ fn push_lead<A: Allocator>(
 }
 
 /// Appends what is owed before a token, and the token.
+#[inline(always)]
 fn push_token<A: Allocator>(
     out: &mut Vec<u8, A>,
     owes_feed: bool,

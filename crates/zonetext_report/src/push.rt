@@ -6,6 +6,7 @@ use itoa::Buffer;
 use std::alloc::{AllocError, Allocator};
 
 /// Appends octets, and a number after them.
+#[inline(always)]
 pub fn push_number<A: Allocator>(
     out: &mut Vec<u8, A>,
     before: &[u8],
@@ -19,6 +20,7 @@ pub fn push_number<A: Allocator>(
 }
 
 /// Appends octets, and a text after them.
+#[inline(always)]
 pub fn push_text<A: Allocator>(
     out: &mut Vec<u8, A>,
     before: &[u8],
