@@ -156,9 +156,9 @@ pub mod plain {
         octets: &mut [u8],
     ) -> Option<usize> {
         let text = match (e.padded, text) {
-            (true, [front @ .., b'=', b'=']) if text.len() % CHARS == 0 => front,
-            (true, [front @ .., b'=']) if text.len() % CHARS == 0 => front,
-            (true, _) if text.len() % CHARS != 0 => return None,
+            (true, [front @ .., b'=', b'=']) if text.len().is_multiple_of(CHARS) => front,
+            (true, [front @ .., b'=']) if text.len().is_multiple_of(CHARS) => front,
+            (true, _) if !text.len().is_multiple_of(CHARS) => return None,
             _ => text,
         };
         let mut groups = text.chunks_exact(CHARS);

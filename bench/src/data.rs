@@ -1,7 +1,12 @@
 //! Record data of a type, from lines of text to octets and back.
+mod digits;
 mod entries;
+mod identifiers;
 mod lines;
 mod places;
+mod printer;
+mod reader;
+mod services;
 mod types;
 mod words;
 mod zones;

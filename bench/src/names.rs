@@ -55,7 +55,7 @@ pub mod plain {
                 return None;
             }
         }
-        Some(octets)
+        (octets.len() <= 255).then_some(octets)
     }
 
     pub fn label(octet: u8) -> Symbol {

@@ -1,18 +1,20 @@
 //! The tokens of entries, as one would find them by hand.
 use crate::splitting::token_end;
 
-/// A word, or what stands between double quotes.
+/// A word, or what stands between double quotes. It is glued where nothing stands between it and
+/// the token before it.
 #[derive(Clone, Copy)]
 pub struct Token<'t> {
     pub text: &'t str,
     pub quoted: bool,
+    pub glued: bool,
 }
 
 /// Puts the tokens of the entry that begins at a place into a list. Returns where the next begins.
 pub fn entry<'t>(text: &'t str, start: usize, tokens: &mut Vec<Token<'t>>) -> Option<usize> {
     let octets = text.as_bytes();
     tokens.clear();
-    let (mut at, mut depth) = (start, 0usize);
+    let (mut at, mut depth, mut ended) = (start, 0usize, None);
     while let Some(octet) = octets.get(at) {
         match octet {
             b'\n' if depth == 0 => return Some(at + 1),
@@ -37,20 +39,25 @@ pub fn entry<'t>(text: &'t str, start: usize, tokens: &mut Vec<Token<'t>>) -> Op
                 if octets.get(end) != Some(&b'"') {
                     return None;
                 }
-                let text = &text[at + 1..end];
-                tokens.push(Token { text, quoted: true });
+                tokens.push(Token {
+                    text: &text[at + 1..end],
+                    quoted: true,
+                    glued: ended == Some(at),
+                });
                 at = end + 1;
+                ended = Some(at);
             }
             _ => {
                 let end = token_end(octets, at, |o| {
                     matches!(o, b' ' | b'\t' | b'\n' | b'\r' | b'(' | b')' | b';' | b'"')
                 })?;
-                let text = &text[at..end];
                 tokens.push(Token {
-                    text,
+                    text: &text[at..end],
                     quoted: false,
+                    glued: ended == Some(at),
                 });
                 at = end;
+                ended = Some(at);
             }
         }
     }

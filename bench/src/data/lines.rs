@@ -1,6 +1,6 @@
 //! Lines of record data to be timed on.
 
-/// A type, and its data in a line of a number.
+/// A type, and its data in a line of a number. There is one for each form that data of types have.
 pub struct Kind {
     pub name: &'static str,
     pub code: u16,
@@ -36,6 +36,13 @@ fn digits(place: usize, count: usize, alphabet: &[u8]) -> String {
 
 fn hex(place: usize, octets: usize) -> String {
     digits(place, 2 * octets, b"0123456789ABCDEF")
+}
+
+/// So many pairs of digits, with dashes between them.
+fn dashed(place: usize, pairs: usize) -> String {
+    let octets = &mixed(place).to_be_bytes()[..pairs];
+    let pairs: Vec<String> = octets.iter().map(|it| format!("{it:02x}")).collect();
+    pairs.join("-")
 }
 
 /// So many groups of four digits in base 64.
@@ -106,75 +113,125 @@ fn apl(place: usize) -> String {
     format!("1:{one}/24 !1:{one}/32 2:{other}/64")
 }
 
-pub const KINDS: [Kind; 14] = [
-    Kind {
-        name: "A",
-        code: 1,
-        line: address,
-    },
-    Kind {
-        name: "AAAA",
-        code: 28,
-        line: long_address,
-    },
-    Kind {
-        name: "NS",
-        code: 2,
-        line: |place| format!("ns{place}.example.com."),
-    },
-    Kind {
-        name: "MX",
-        code: 15,
-        line: |place| format!("{} mail{place}.example.com.", place % 100),
-    },
-    Kind {
-        name: "SOA",
-        code: 6,
-        line: soa,
-    },
-    Kind {
-        name: "TXT",
-        code: 16,
-        line: txt,
-    },
-    Kind {
-        name: "CAA",
-        code: 257,
-        line: caa,
-    },
-    Kind {
-        name: "DS",
-        code: 43,
-        line: ds,
-    },
-    Kind {
-        name: "DNSKEY",
-        code: 48,
-        line: dnskey,
-    },
-    Kind {
-        name: "RRSIG",
-        code: 46,
-        line: rrsig,
-    },
-    Kind {
-        name: "NSEC",
-        code: 47,
-        line: nsec,
-    },
-    Kind {
-        name: "NSEC3",
-        code: 50,
-        line: nsec3,
-    },
-    Kind {
-        name: "LOC",
-        code: 29,
-        line: loc,
-    },
-    Kind {
-        name: "APL",
-        code: 42,
-        line: apl,
-    },
+fn hinfo(place: usize) -> String {
+    format!("\"INTEL-{place}\" \"GNU/LINUX \\\"6.{}\\\"\"", place % 20)
+}
+
+fn rp(place: usize) -> String {
+    format!("admin{place}.example.com. people.host{place}.example.com.")
+}
+
+fn srv(place: usize) -> String {
+    let (priority, weight) = (place % 10, place % 100);
+    format!("{priority} {weight} 5060 sip{place}.example.com.")
+}
+
+fn naptr(place: usize) -> String {
+    let order = place % 1000;
+    if place.is_multiple_of(2) {
+        format!("{order} 10 \"u\" \"E2U+sip\" \"!^(.*)$!sip:\\\\1@host{place}.example.com!\" .")
+    } else {
+        format!("{order} 50 \"s\" \"SIP+D2U\" \"\" _sip._udp.host{place}.example.com.")
+    }
+}
+
+fn cert(place: usize) -> String {
+    format!("PKIX {} RSASHA256 {}", place % 65_536, base64(place, 64))
+}
+
+fn sshfp(place: usize) -> String {
+    format!("4 2 {}", hex(place, 32))
+}
+
+fn ipseckey(place: usize) -> String {
+    let (kind, gateway) = match place % 4 {
+        0 => (1, address(place)),
+        1 => (2, long_address(place)),
+        2 => (3, format!("gateway{place}.example.com.")),
+        _ => (0, ".".to_string()),
+    };
+    format!("10 {kind} 2 {gateway} {}", base64(place, 22))
+}
+
+fn nsec3param(place: usize) -> String {
+    format!("1 0 {} {}", place % 100, hex(place, 8))
+}
+
+fn tlsa(place: usize) -> String {
+    format!("3 1 1 {}", hex(place, 32))
+}
+
+fn openpgpkey(place: usize) -> String {
+    base64(place, 80)
+}
+
+fn csync(place: usize) -> String {
+    format!("{} 3 A NS AAAA", 2_026_112_600 + place)
+}
+
+fn zonemd(place: usize) -> String {
+    format!("{} 1 1 {}", 2_026_112_600 + place, hex(place, 48))
+}
+
+fn svcb(place: usize) -> String {
+    let hints = format!("{},{}", address(place), address(place + 7));
+    let (ech, long) = (base64(place, 16), long_address(place));
+    format!(
+        "{} svc{place}.example.com. mandatory=alpn,port alpn=h2,h3 port=8443 ipv4hint={hints} \
+         ech={ech} ipv6hint={long} key667=host\\\"{place}\\\"",
+        place % 10 + 1
+    )
+}
+
+fn nid(place: usize) -> String {
+    let (third, fourth) = (mixed(place) as u16, mixed(place + 7) as u16);
+    format!("{} 14:4fff:{third:x}:{fourth:x}", place % 100)
+}
+
+fn uri(place: usize) -> String {
+    let priority = place % 10;
+    format!("{priority} 1 \"https://www{place}.example.com/path?query={place}\"")
+}
+
+const fn kind(name: &'static str, code: u16, line: fn(usize) -> String) -> Kind {
+    Kind { name, code, line }
+}
+
+pub const KINDS: [Kind; 32] = [
+    kind("A", 1, address),
+    kind("AAAA", 28, long_address),
+    kind("NS", 2, |place| format!("ns{place}.example.com.")),
+    kind("MX", 15, |place| {
+        format!("{} mail{place}.example.com.", place % 100)
+    }),
+    kind("SOA", 6, soa),
+    kind("TXT", 16, txt),
+    kind("CAA", 257, caa),
+    kind("DS", 43, ds),
+    kind("DNSKEY", 48, dnskey),
+    kind("RRSIG", 46, rrsig),
+    kind("NSEC", 47, nsec),
+    kind("NSEC3", 50, nsec3),
+    kind("LOC", 29, loc),
+    kind("APL", 42, apl),
+    kind("HINFO", 13, hinfo),
+    kind("RP", 17, rp),
+    kind("SRV", 33, srv),
+    kind("NAPTR", 35, naptr),
+    kind("CERT", 37, cert),
+    kind("SSHFP", 44, sshfp),
+    kind("IPSECKEY", 45, ipseckey),
+    kind("NSEC3PARAM", 51, nsec3param),
+    kind("TLSA", 52, tlsa),
+    kind("OPENPGPKEY", 61, openpgpkey),
+    kind("CSYNC", 62, csync),
+    kind("ZONEMD", 63, zonemd),
+    kind("SVCB", 64, svcb),
+    kind("NID", 104, nid),
+    kind("L32", 105, |place| {
+        format!("{} {}", place % 100, address(place))
+    }),
+    kind("EUI48", 108, |place| dashed(place, 6)),
+    kind("EUI64", 109, |place| dashed(place, 8)),
+    kind("URI", 256, uri),
 ];

@@ -1,140 +1,16 @@
 //! Data of each type, read and printed as one would write it by hand.
+use super::digits::{BASE32HEX, BASE64, HEX};
 use super::entries::Token;
+use super::identifiers::{put_dashed, put_groups, read_dashed, read_groups};
 use super::places::{print_location, print_prefix, read_location, read_prefix};
-use super::words::{algorithm, interval, number, time, time_text, type_code, type_text};
-use crate::codecs::plain::{decode_vec, encode_string, Encoding};
-use crate::symbols::plain::Symbol;
-use crate::{names, strings};
-use std::fmt::Write;
-use std::net::{Ipv4Addr, Ipv6Addr};
-use std::slice;
-use std::sync::LazyLock;
+use super::printer::Printer;
+use super::reader::{spelled, Reader};
+use super::services::{print_params, read_params};
+use super::words::{algorithm_text, certificate, certificate_text};
+use super::words::{interval, number, time, time_text, type_code, type_text};
+use crate::codecs::plain::encode_string;
 
-static HEX: LazyLock<Encoding> = LazyLock::new(Encoding::encoding16);
-
-static BASE32HEX: LazyLock<Encoding> = LazyLock::new(Encoding::encoding32hex);
-
-static BASE64: LazyLock<Encoding> = LazyLock::new(Encoding::encoding64);
-
-/// The tokens that are left, and the octets of those that were read.
-struct Reader<'a, 't> {
-    tokens: slice::Iter<'a, Token<'t>>,
-    octets: &'a mut Vec<u8>,
-}
-
-impl<'t> Reader<'_, 't> {
-    fn token(&mut self) -> Option<Token<'t>> {
-        self.tokens.next().copied()
-    }
-
-    fn word(&mut self) -> Option<&'t str> {
-        self.token().filter(|it| !it.quoted).map(|it| it.text)
-    }
-
-    fn number8(&mut self) -> Option<u8> {
-        let value = number(self.word()?)?;
-        self.octets.push(value);
-        Some(value)
-    }
-
-    fn number16(&mut self) -> Option<()> {
-        let value: u16 = number(self.word()?)?;
-        self.octets.extend(value.to_be_bytes());
-        Some(())
-    }
-
-    /// A word that is a number of 32 bits.
-    fn word32(&mut self, read: fn(&str) -> Option<u32>) -> Option<()> {
-        let value = read(self.word()?)?;
-        self.octets.extend(value.to_be_bytes());
-        Some(())
-    }
-
-    fn algorithm(&mut self) -> Option<()> {
-        let value = algorithm(self.word()?)?;
-        self.octets.push(value);
-        Some(())
-    }
-
-    fn name(&mut self) -> Option<()> {
-        let name = names::plain::read(self.word()?)?;
-        self.octets.extend(&name);
-        (name.last() == Some(&0)).then_some(())
-    }
-
-    fn string(&mut self) -> Option<()> {
-        let string = strings::plain::read(self.token()?.text)?;
-        self.octets.push(string.len() as u8);
-        self.octets.extend(&string);
-        Some(())
-    }
-
-    fn tag(&mut self) -> Option<()> {
-        let tag = self.word()?.as_bytes();
-        if tag.is_empty() || tag.len() > 255 || !tag.iter().all(u8::is_ascii_alphanumeric) {
-            return None;
-        }
-        self.octets.push(tag.len() as u8);
-        self.octets.extend(tag);
-        Some(())
-    }
-
-    /// Octets of an encoding behind their length.
-    fn short(&mut self, encoding: &Encoding, word: &str) -> Option<()> {
-        let octets = decode_vec(encoding, word)?;
-        self.octets.push(u8::try_from(octets.len()).ok()?);
-        self.octets.extend(&octets);
-        Some(())
-    }
-
-    fn salt(&mut self) -> Option<()> {
-        match self.word()? {
-            "-" => {
-                self.octets.push(0);
-                Some(())
-            }
-            word => self.short(&HEX, word),
-        }
-    }
-
-    /// Octets of an encoding up to the end, one at least.
-    fn digits(&mut self, encoding: &Encoding) -> Option<usize> {
-        let first = self.word()?;
-        let octets = if self.tokens.len() == 0 {
-            decode_vec(encoding, first)?
-        } else {
-            let mut joined = first.to_string();
-            while self.tokens.len() > 0 {
-                joined.push_str(self.word()?);
-            }
-            decode_vec(encoding, &joined)?
-        };
-        self.octets.extend(&octets);
-        Some(octets.len()).filter(|count| *count > 0)
-    }
-
-    fn types(&mut self) -> Option<()> {
-        let mut codes = Vec::new();
-        while self.tokens.len() > 0 {
-            codes.push(type_code(self.word()?).filter(|code| *code > 0)?);
-        }
-        codes.sort_unstable();
-        let mut rest = &codes[..];
-        while let Some(first) = rest.first() {
-            let window = first >> 8;
-            let count = rest.iter().take_while(|code| *code >> 8 == window).count();
-            let mut bits = [0u8; 32];
-            for code in &rest[..count] {
-                bits[usize::from(code & 255) / 8] |= 128 >> (code & 7);
-            }
-            let used = usize::from(rest[count - 1] & 255) / 8 + 1;
-            self.octets.extend([window as u8, used as u8]);
-            self.octets.extend(&bits[..used]);
-            rest = &rest[count..];
-        }
-        Some(())
-    }
-
+impl Reader<'_, '_> {
     fn soa(&mut self) -> Option<()> {
         self.name()?;
         self.name()?;
@@ -142,22 +18,80 @@ impl<'t> Reader<'_, 't> {
         (0..4).try_for_each(|_| self.word32(interval))
     }
 
+    fn strings(&mut self) -> Option<()> {
+        self.string()?;
+        while self.tokens.len() > 0 {
+            self.string()?;
+        }
+        Some(())
+    }
+
+    fn location(&mut self) -> Option<()> {
+        let quoted = self.tokens.as_slice().iter().any(|it| it.quoted);
+        let words = self.tokens.by_ref().map(|it| it.text);
+        read_location(words, self.octets).filter(|()| !quoted)
+    }
+
+    fn naming(&mut self) -> Option<()> {
+        self.number16()?;
+        self.number16()?;
+        (0..3).try_for_each(|_| self.string())?;
+        self.name()
+    }
+
     fn ds(&mut self) -> Option<()> {
         self.number16()?;
         self.algorithm()?;
-        let wanted = match self.number8()? {
-            1 => 20,
-            2 => 32,
-            4 => 48,
-            _ => 0,
-        };
-        let count = self.digits(&HEX)?;
-        (wanted == 0 || count == wanted).then_some(())
+        self.digest(|number, count| match number {
+            1 => count == 20,
+            2 => count == 32,
+            4 => count == 48,
+            _ => true,
+        })
+    }
+
+    fn fingerprint(&mut self) -> Option<()> {
+        self.number8()?;
+        self.digest(|number, count| match number {
+            1 => count == 20,
+            2 => count == 32,
+            _ => true,
+        })
+    }
+
+    fn zone_digest(&mut self) -> Option<()> {
+        self.word32(number)?;
+        self.number8()?;
+        self.digest(|number, count| match number {
+            1 => count == 48,
+            2 => count == 64,
+            _ => count >= 12,
+        })
+    }
+
+    fn certificate(&mut self) -> Option<()> {
+        self.word16(certificate)?;
+        self.number16()?;
+        self.algorithm()?;
+        self.digits(&BASE64).map(|_| ())
+    }
+
+    fn gateway(&mut self) -> Option<()> {
+        self.number8()?;
+        let kind = self.number8()?;
+        self.number8()?;
+        match kind {
+            0 => self.word().filter(|word| *word == ".").map(|_| ())?,
+            1 => self.ipv4()?,
+            2 => self.ipv6()?,
+            3 => self.name()?,
+            _ => return None,
+        }
+        self.digits(&BASE64).map(|_| ())
     }
 
     fn signature(&mut self) -> Option<()> {
-        let covered = type_code(self.word()?)?;
-        self.octets.extend(covered.to_be_bytes());
+        self.word16(type_code)?;
         self.algorithm()?;
         self.number8()?;
         self.word32(number)?;
@@ -168,11 +102,24 @@ impl<'t> Reader<'_, 't> {
         self.digits(&BASE64).map(|_| ())
     }
 
-    fn hashed(&mut self) -> Option<()> {
+    fn key(&mut self) -> Option<()> {
+        self.number16()?;
+        self.number8()?;
+        self.algorithm()?;
+        self.digits(&BASE64).map(|_| ())
+    }
+
+    /// How names are hashed. Returns the algorithm.
+    fn hashing(&mut self) -> Option<u8> {
         let algorithm = self.number8()?;
         self.number8()?;
         self.number16()?;
         self.salt()?;
+        Some(algorithm)
+    }
+
+    fn hashed(&mut self) -> Option<()> {
+        let algorithm = self.hashing()?;
         let at = self.octets.len();
         let word = self.word()?;
         self.short(&BASE32HEX, word)?;
@@ -182,39 +129,48 @@ impl<'t> Reader<'_, 't> {
         self.types()
     }
 
+    fn association(&mut self) -> Option<()> {
+        for _ in 0..3 {
+            self.number8()?;
+        }
+        self.digits(&HEX).map(|_| ())
+    }
+
     fn data(&mut self, code: u16) -> Option<()> {
         match code {
-            1 => {
-                let address: Ipv4Addr = self.word()?.parse().ok()?;
-                self.octets.extend(address.octets());
-            }
-            2 => self.name()?,
+            1 => self.ipv4()?,
+            2 | 5 | 7..=9 | 12 | 39 => self.name()?,
             6 => self.soa()?,
-            15 => {
+            13 => {
+                self.string()?;
+                self.string()?;
+            }
+            14 | 17 => {
+                self.name()?;
+                self.name()?;
+            }
+            15 | 18 | 21 | 36 | 107 => {
                 self.number16()?;
                 self.name()?;
             }
-            16 => {
-                self.string()?;
-                while self.tokens.len() > 0 {
-                    self.string()?;
-                }
+            16 | 99 => self.strings()?,
+            25 | 48 | 60 => self.key()?,
+            28 => self.ipv6()?,
+            29 => self.location()?,
+            33 => {
+                (0..3).try_for_each(|_| self.number16())?;
+                self.name()?;
             }
-            28 => {
-                let address: Ipv6Addr = self.word()?.parse().ok()?;
-                self.octets.extend(address.octets());
-            }
-            29 => {
-                let quoted = self.tokens.as_slice().iter().any(|it| it.quoted);
-                let words = self.tokens.by_ref().map(|it| it.text);
-                read_location(words, self.octets).filter(|()| !quoted)?;
-            }
+            35 => self.naming()?,
+            37 => self.certificate()?,
             42 => {
                 while self.tokens.len() > 0 {
                     read_prefix(self.word()?, self.octets)?;
                 }
             }
-            43 => self.ds()?,
+            43 | 59 | 32_769 => self.ds()?,
+            44 => self.fingerprint()?,
+            45 => self.gateway()?,
             46 => self.signature()?,
             47 => {
                 self.name()?;
@@ -223,13 +179,37 @@ impl<'t> Reader<'_, 't> {
                 }
                 self.types()?;
             }
-            48 => {
-                self.number16()?;
-                self.number8()?;
-                self.algorithm()?;
-                self.digits(&BASE64)?;
-            }
+            49 | 61 => self.digits(&BASE64).map(|_| ())?,
             50 => self.hashed()?,
+            51 => self.hashing().map(|_| ())?,
+            52 | 53 => self.association()?,
+            62 => {
+                self.word32(number)?;
+                self.number16()?;
+                self.types()?;
+            }
+            63 => self.zone_digest()?,
+            64 | 65 => {
+                self.number16()?;
+                self.name()?;
+                read_params(&mut self.tokens, self.octets)?;
+            }
+            104 | 106 => {
+                self.number16()?;
+                self.array(read_groups)?;
+            }
+            105 => {
+                self.number16()?;
+                self.ipv4()?;
+            }
+            108 => self.array(read_dashed::<6>)?,
+            109 => self.array(read_dashed::<8>)?,
+            256 => {
+                self.number16()?;
+                self.number16()?;
+                let target = self.token().filter(|it| it.quoted)?;
+                self.octets.extend(spelled(target.text)?);
+            }
             257 => {
                 self.number8()?;
                 self.tag()?;
@@ -242,135 +222,82 @@ impl<'t> Reader<'_, 't> {
     }
 }
 
-/// The octets that a text spells.
-fn spelled(text: &str) -> Option<Vec<u8>> {
-    let mut chars = text.chars();
-    let mut octets = Vec::new();
-    while let Some(symbol) = Symbol::next(&mut chars).ok()? {
-        octets.push(symbol.octet()?);
-    }
-    Some(octets)
-}
-
 /// Appends the data of a type that tokens spell.
 pub fn read(code: u16, tokens: &[Token], octets: &mut Vec<u8>) -> Option<()> {
     let tokens = tokens.iter();
     Reader { tokens, octets }.data(code)
 }
 
-/// The octets that are left, and the text of those that were printed.
-struct Printer<'a> {
-    rest: &'a [u8],
-    text: &'a mut String,
-}
-
-fn of_label(octet: u8) -> Symbol {
-    match octet {
-        b'"' | b'$' | b'(' | b')' | b'.' | b';' | b'@' | b'\\' => Symbol::SimpleEscape(octet),
-        b'!'..=b'~' => Symbol::Char(octet as char),
-        _ => Symbol::DecimalEscape(octet),
-    }
-}
-
-impl<'a> Printer<'a> {
-    fn take(&mut self, count: usize) -> Option<&'a [u8]> {
-        let (front, rest) = self.rest.split_at_checked(count)?;
-        self.rest = rest;
-        Some(front)
-    }
-
-    /// The octets of an array.
-    fn array<const COUNT: usize>(&mut self) -> Option<[u8; COUNT]> {
-        self.take(COUNT)?.try_into().ok()
-    }
-
-    /// Octets behind their length.
-    fn short(&mut self) -> Option<&'a [u8]> {
-        let [length] = self.array()?;
-        self.take(usize::from(length))
-    }
-
-    fn put(&mut self, value: impl std::fmt::Display) -> Option<()> {
-        write!(self.text, "{value}").ok()
-    }
-
-    /// A value and a blank.
-    fn part(&mut self, value: impl std::fmt::Display) -> Option<()> {
-        write!(self.text, "{value} ").ok()
-    }
-
-    fn number8(&mut self) -> Option<()> {
-        let [value] = self.array()?;
-        self.part(value)
-    }
-
-    fn number16(&mut self) -> Option<()> {
-        let value = u16::from_be_bytes(self.array()?);
-        self.part(value)
-    }
-
-    fn name(&mut self) -> Option<()> {
-        let mut width = 0;
-        loop {
-            let length = *self.rest.get(width)?;
-            width += 1 + usize::from(length);
-            if length > 63 || width > 255 || width > self.rest.len() {
-                return None;
-            }
-            if length == 0 {
-                break;
-            }
-        }
-        let octets = self.take(width)?;
-        let symbol = of_label;
-        let dot = true;
-        self.put(names::plain::Shown {
-            octets,
-            symbol,
-            dot,
-        })
-    }
-
-    fn quoted(&mut self, octets: &[u8]) -> Option<()> {
-        let symbol = strings::plain::quoted;
-        let mark = "\"";
-        self.put(strings::plain::Shown {
-            octets,
-            symbol,
-            mark,
-        })
-    }
-
-    fn digits(&mut self, encoding: &Encoding) -> Option<()> {
-        let octets = std::mem::take(&mut self.rest);
-        self.put(encode_string(encoding, octets))?;
-        (!octets.is_empty()).then_some(())
-    }
-
-    /// Types, each behind a blank.
-    fn types(&mut self) -> Option<()> {
-        while !self.rest.is_empty() {
-            let [window] = self.array()?;
-            for (place, octet) in self.short()?.iter().enumerate() {
-                for bit in (0..8).filter(|bit| octet & 128 >> bit != 0) {
-                    let code = usize::from(window) * 256 + place * 8 + bit;
-                    self.put(" ")?;
-                    self.put(type_text(code as u16))?;
-                }
-            }
-        }
-        Some(())
-    }
-
+impl Printer<'_> {
     fn soa(&mut self) -> Option<()> {
         self.name()?;
         self.put(" ")?;
         self.name()?;
         for _ in 0..5 {
             let value = u32::from_be_bytes(self.array()?);
-            write!(self.text, " {value}").ok()?;
+            self.put(format_args!(" {value}"))?;
         }
         Some(())
+    }
+
+    fn strings(&mut self) -> Option<()> {
+        self.string()?;
+        while !self.rest.is_empty() {
+            self.put(" ")?;
+            self.string()?;
+        }
+        Some(())
+    }
+
+    fn prefixes(&mut self) -> Option<()> {
+        while !self.rest.is_empty() {
+            self.rest = print_prefix(self.rest, self.text)?;
+            if !self.rest.is_empty() {
+                self.put(" ")?;
+            }
+        }
+        Some(())
+    }
+
+    fn naming(&mut self) -> Option<()> {
+        self.number16()?;
+        self.number16()?;
+        for _ in 0..3 {
+            self.string()?;
+            self.put(" ")?;
+        }
+        self.name()
+    }
+
+    fn certificate(&mut self) -> Option<()> {
+        let kind = u16::from_be_bytes(self.array()?);
+        match certificate_text(kind) {
+            Some(name) => self.part(name)?,
+            None => self.part(kind)?,
+        }
+        self.number16()?;
+        let [algorithm] = self.array()?;
+        match algorithm_text(algorithm) {
+            Some(name) => self.part(name)?,
+            None => self.part(algorithm)?,
+        }
+        self.digits(&BASE64)
+    }
+
+    fn gateway(&mut self) -> Option<()> {
+        self.number8()?;
+        let kind = *self.rest.first()?;
+        self.number8()?;
+        self.number8()?;
+        match kind {
+            0 => self.put(".")?,
+            1 => self.ipv4()?,
+            2 => self.ipv6()?,
+            3 => self.name()?,
+            _ => return None,
+        }
+        self.put(" ")?;
+        self.digits(&BASE64)
     }
 
     fn signature(&mut self) -> Option<()> {
@@ -378,8 +305,7 @@ impl<'a> Printer<'a> {
         self.part(type_text(covered))?;
         self.number8()?;
         self.number8()?;
-        let lifetime = u32::from_be_bytes(self.array()?);
-        self.part(lifetime)?;
+        self.number32()?;
         for _ in 0..2 {
             let time = u32::from_be_bytes(self.array()?);
             self.part(time_text(time))?;
@@ -390,14 +316,26 @@ impl<'a> Printer<'a> {
         self.digits(&BASE64)
     }
 
-    fn hashed(&mut self) -> Option<()> {
+    fn key(&mut self) -> Option<()> {
+        self.number16()?;
+        self.number8()?;
+        self.number8()?;
+        self.digits(&BASE64)
+    }
+
+    fn hashing(&mut self) -> Option<()> {
         self.number8()?;
         self.number8()?;
         self.number16()?;
         match self.short()? {
-            [] => self.part("-")?,
-            salt => self.part(encode_string(&HEX, salt))?,
+            [] => self.put("-"),
+            salt => self.put(encode_string(&HEX, salt)),
         }
+    }
+
+    fn hashed(&mut self) -> Option<()> {
+        self.hashing()?;
+        self.put(" ")?;
         let hash = self.short()?;
         self.put(encode_string(&BASE32HEX, hash))?;
         self.types()
@@ -405,55 +343,91 @@ impl<'a> Printer<'a> {
 
     fn data(&mut self, code: u16) -> Option<()> {
         match code {
-            1 => {
-                let address = Ipv4Addr::from(self.array::<4>()?);
-                self.put(address)?;
-            }
-            2 => self.name()?,
+            1 => self.ipv4()?,
+            2 | 5 | 7..=9 | 12 | 39 => self.name()?,
             6 => self.soa()?,
-            15 => {
+            13 => {
+                self.string()?;
+                self.put(" ")?;
+                self.string()?;
+            }
+            14 | 17 => {
+                self.name()?;
+                self.put(" ")?;
+                self.name()?;
+            }
+            15 | 18 | 21 | 36 | 107 => {
                 self.number16()?;
                 self.name()?;
             }
-            16 => {
-                let string = self.short()?;
-                self.quoted(string)?;
-                while !self.rest.is_empty() {
-                    self.put(" ")?;
-                    let string = self.short()?;
-                    self.quoted(string)?;
-                }
-            }
-            28 => {
-                let address = Ipv6Addr::from(self.array::<16>()?);
-                self.put(address)?;
-            }
+            16 | 99 => self.strings()?,
+            25 | 48 | 60 => self.key()?,
+            28 => self.ipv6()?,
             29 => print_location(std::mem::take(&mut self.rest), self.text)?,
-            42 => {
-                self.rest = print_prefix(self.rest, self.text)?;
-                while !self.rest.is_empty() {
-                    self.put(" ")?;
-                    self.rest = print_prefix(self.rest, self.text)?;
-                }
+            33 => {
+                (0..3).try_for_each(|_| self.number16())?;
+                self.name()?;
             }
-            43 => {
+            35 => self.naming()?,
+            37 => self.certificate()?,
+            42 => self.prefixes()?,
+            43 | 59 | 32_769 => {
                 self.number16()?;
                 self.number8()?;
                 self.number8()?;
                 self.digits(&HEX)?;
             }
+            44 => {
+                self.number8()?;
+                self.number8()?;
+                self.digits(&HEX)?;
+            }
+            45 => self.gateway()?,
             46 => self.signature()?,
             47 => {
                 self.name()?;
                 self.types()?;
             }
-            48 => {
-                self.number16()?;
-                self.number8()?;
-                self.number8()?;
-                self.digits(&BASE64)?;
-            }
+            49 | 61 => self.digits(&BASE64)?,
             50 => self.hashed()?,
+            51 => self.hashing()?,
+            52 | 53 => {
+                (0..3).try_for_each(|_| self.number8())?;
+                self.digits(&HEX)?;
+            }
+            62 => {
+                self.number32()?;
+                let flags = u16::from_be_bytes(self.array()?);
+                self.put(flags)?;
+                self.types()?;
+            }
+            63 => {
+                self.number32()?;
+                self.number8()?;
+                self.number8()?;
+                self.digits(&HEX)?;
+            }
+            64 | 65 => {
+                self.number16()?;
+                self.name()?;
+                print_params(std::mem::take(&mut self.rest), self.text)?;
+            }
+            104 | 106 => {
+                self.number16()?;
+                put_groups(self.array()?, self.text)?;
+            }
+            105 => {
+                self.number16()?;
+                self.ipv4()?;
+            }
+            108 => put_dashed(&self.array::<6>()?, self.text)?,
+            109 => put_dashed(&self.array::<8>()?, self.text)?,
+            256 => {
+                self.number16()?;
+                self.number16()?;
+                let target = std::mem::take(&mut self.rest);
+                self.quoted(target)?;
+            }
             257 => {
                 self.number8()?;
                 let tag = std::str::from_utf8(self.short()?).ok()?;

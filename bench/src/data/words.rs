@@ -1,4 +1,4 @@
-//! Words of record data: numbers, times, types and algorithms.
+//! Words of record data: numbers, times, types, algorithms and certificates.
 use std::str::FromStr;
 
 /// A decimal number.
@@ -85,7 +85,7 @@ pub fn time_text(time: u32) -> String {
 }
 
 /// Types with their names, in the order of names.
-const TYPES: [(&str, u16); 45] = [
+const TYPES: [(&str, u16); 49] = [
     ("A", 1),
     ("AAAA", 28),
     ("AFSDB", 18),
@@ -108,10 +108,14 @@ const TYPES: [(&str, u16); 45] = [
     ("IPSECKEY", 45),
     ("KEY", 25),
     ("KX", 36),
+    ("L32", 105),
+    ("L64", 106),
     ("LOC", 29),
+    ("LP", 107),
     ("MINFO", 14),
     ("MX", 15),
     ("NAPTR", 35),
+    ("NID", 104),
     ("NS", 2),
     ("NSEC", 47),
     ("NSEC3", 50),
@@ -154,11 +158,12 @@ pub fn type_text(code: u16) -> String {
 }
 
 /// Algorithms with their names.
-const ALGORITHMS: [(&str, u8); 15] = [
+const ALGORITHMS: [(&str, u8); 18] = [
     ("DH", 2),
     ("DSA", 3),
     ("DSA-NSEC3-SHA1", 6),
     ("ECC-GOST", 12),
+    ("ECC-GOST12", 23),
     ("ECDSAP256SHA256", 13),
     ("ECDSAP384SHA384", 14),
     ("ED25519", 15),
@@ -168,8 +173,10 @@ const ALGORITHMS: [(&str, u8); 15] = [
     ("PRIVATEOID", 254),
     ("RSAMD5", 1),
     ("RSASHA1", 5),
+    ("RSASHA1-NSEC3-SHA1", 7),
     ("RSASHA256", 8),
     ("RSASHA512", 10),
+    ("SM2SM3", 17),
 ];
 
 pub fn algorithm(text: &str) -> Option<u8> {
@@ -178,4 +185,37 @@ pub fn algorithm(text: &str) -> Option<u8> {
     }
     let named = |row: &&(&str, u8)| row.0.eq_ignore_ascii_case(text);
     ALGORITHMS.iter().find(named).map(|row| row.1)
+}
+
+/// The name of an algorithm, if it has one.
+pub fn algorithm_text(code: u8) -> Option<&'static str> {
+    ALGORITHMS.iter().find(|row| row.1 == code).map(|row| row.0)
+}
+
+/// Types of certificates with their names.
+const CERTIFICATES: [(&str, u16); 10] = [
+    ("PKIX", 1),
+    ("SPKI", 2),
+    ("PGP", 3),
+    ("IPKIX", 4),
+    ("ISPKI", 5),
+    ("IPGP", 6),
+    ("ACPKIX", 7),
+    ("IACPKIX", 8),
+    ("URI", 253),
+    ("OID", 254),
+];
+
+pub fn certificate(text: &str) -> Option<u16> {
+    if let Some(code) = number(text) {
+        return Some(code);
+    }
+    let named = |row: &&(&str, u16)| row.0.eq_ignore_ascii_case(text);
+    CERTIFICATES.iter().find(named).map(|row| row.1)
+}
+
+/// The name of a type of certificates, if it has one.
+pub fn certificate_text(code: u16) -> Option<&'static str> {
+    let named = CERTIFICATES.iter().find(|row| row.1 == code);
+    named.map(|row| row.0)
 }

@@ -9,8 +9,8 @@ use crate::names;
 pub fn text(count: usize) -> Vec<u8> {
     let mut text = String::from("$ORIGIN example.com.\n$TTL 1h\n");
     for place in 0..count {
-        let kind = &KINDS[place % KINDS.len()];
-        let head = match place % 4 {
+        let (round, kind) = (place / KINDS.len(), &KINDS[place % KINDS.len()]);
+        let head = match (place + round) % 4 {
             0 => format!("host{place}\t300\tIN"),
             1 => "\tIN\t600".to_string(),
             2 => format!("www.host{place}.example.org."),
