@@ -44,6 +44,10 @@ slice_is_window octets w k m ek em n l small =
 has_no : (octets : List ℕ) (code : ℕ) → code < 65536 → bit_in octets code ≡ 0 → has (members octets) code ≡ false
 has_no octets code l e = sym (bit_of false octets code l (sym e))
 
+-- behind the windows in use there are no types
+pub none_above : (octets : List ℕ) (n : ℕ) → CoversTypes octets n → (code : ℕ) → code < 65536 → 256 * n ≤ code → has (members octets) code ≡ false
+none_above octets n c code l m = has_no octets code l (c.above code l m)
+
 -- after the blocks of the windows in use there are no others
 pub all_blocks : (octets : List ℕ) (n : ℕ) → CoversTypes octets n → window_blocks (window_of (members octets)) 0 n ≡ bitmap (members octets)
 all_blocks octets n c =

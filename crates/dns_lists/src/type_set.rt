@@ -1,5 +1,5 @@
 //! Sets of types, from which a bitmap is made (RFC 4034 section 4.1.2).
-ghost use Rattle.std.specs.Prelude.{◌≡◌, ◌≢◌, ℕ, ◌+◌, ◌<◌, ◌≤◌, List, [], ◌∷◌, ◌++◌, All, OnErr, OnOk, MatchBool, length, take, slice_index};
+ghost use Rattle.std.specs.Prelude.{◌≡◌, ◌≢◌, ℕ, ◌+◌, ◌<◌, ◌≤◌, false, List, [], ◌∷◌, ◌++◌, All, OnErr, OnOk, MatchBool, length, take, slice_index};
 ghost use Rattle.dns_octets.specs.Appending.{Extends, LacksRoom};
 ghost use Rattle.dns_lists.specs.Bitmap.{has, trimmed, window_octets_of, window_block, bitmap, IsAscending, SameTypes};
 ghost use Rattle.dns_lists.specs.Members.{members};
@@ -114,6 +114,14 @@ impl TypeSet {
         ensures { MatchBool result (self.now ≡ []) (self.now ≢ []) }
     {
         self.windows == 0
+    }
+
+    /// A number that each type of the set is below.
+    pub fn end(&self) -> u32
+        ensures within { result ≤ 65536 }
+        ensures above { (code : ℕ) → code < 65536 → result ≤ code → has self.now code ≡ false }
+    {
+        256 * self.windows as u32
     }
 
     /// Appends the bitmap of the types. Refused, the target has its old octets, and perhaps a

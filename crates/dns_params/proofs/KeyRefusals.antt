@@ -14,7 +14,7 @@ use Rattle.dns_params.specs.Items.{IsWithout, SpellsApart}
 use Rattle.dns_params.specs.Keys.{KeyRow, named_row, key_rows, IsNumberedKey, NamesKey}
 use Rattle.dns_params.specs.ParamValues.{NamesAKey, SpellsKeys, keys_from, keys_wire}
 use Rattle.dns_params.proofs.Apart.{IsSplit}
-use Rattle.dns_params.proofs.KeySets.{TakesKeys, keys_first, keys_zero, last_of}
+use Rattle.dns_params.proofs.KeySets.{TakesKeys, keys_first, keys_none_from, keys_zero, last_of}
 use Rattle.dns_params.proofs.Refusals.{SpellsOnce, apart_goes_on, apart_once}
 
 abbrev Names : Option KeyRow → List ℕ → ℕ → ValueKind → Type 0
@@ -70,6 +70,12 @@ keys_split keys w (suc m) n =
     ap (keys_from keys w) (omega arith) ∙ keys_first keys w (m + n) ∙ ap (λ xs. here ++ xs) (keys_split keys (w + 1) m n)
     ∙ sym (append_assoc here (keys_from keys (w + 1) m) (keys_from keys (w + 1 + m) n))
     ∙ ap (λ xs. xs ++ keys_from keys (w + 1 + m) n) (sym (keys_first keys w m)) ∙ ap (λ v. keys_from keys w (suc m) ++ keys_from keys v n) (omega arith)
+
+-- the keys below a number that all are below
+pub keys_below : (keys : List ℕ) (end : ℕ) → end ≤ 65536 → ((code : ℕ) → code < 65536 → end ≤ code → has keys code ≡ false) → keys_from keys 0 end ≡ keys_wire keys
+keys_below keys end within none =
+    sym (append-nil (keys_from keys 0 end)) ∙ ap (λ xs. keys_from keys 0 end ++ xs) (sym (keys_none_from keys (0 + end) (65536 - end) (λ code l m. none code (omega (arith, m, within)) (omega (arith, l)))))
+    ∙ sym (keys_split keys 0 end (65536 - end)) ∙ ap (keys_from keys 0) (omega (arith, within))
 
 pub keys_lack : (keys old now : List ℕ) (fits k : ℕ) → now ≡ old ++ keys_from keys 0 k → k < 65536 → fits < length now + length (cond (has keys k) (to_be_bytes w16 k) [])
     → (octets : List ℕ) → octets ≡ keys_wire keys → fits < length old + length octets

@@ -66,6 +66,13 @@ keys_zero keys w = refl
 pub keys_begin : (keys old : List ℕ) → old ≡ old ++ keys_from keys 0 0
 keys_begin keys old = sym (append-nil old) ∙ ap (λ x. old ++ x) (sym (keys_zero keys 0))
 
+-- where there are no keys there are no octets
+pub keys_none_from : (keys : List ℕ) (w n : ℕ) → ((code : ℕ) → w ≤ code → code < w + n → has keys code ≡ false) → keys_from keys w n ≡ []
+keys_none_from keys w zero none = keys_zero keys w
+keys_none_from keys w (suc n) none =
+    keys_first keys w n ∙ ap (λ t. cond t (to_be_bytes w16 w) [] ++ keys_from keys (w + 1) n) (none w (omega arith) (omega arith))
+    ∙ keys_none_from keys (w + 1) n (λ code l m. none code (omega (arith, l)) (omega (arith, m)))
+
 -- the same keys have the same octets
 same_octets : (a b : List ℕ) (w n : ℕ) → SameTypes a b → w + n ≤ 65536 → keys_from a w n ≡ keys_from b w n
 same_octets a b w zero h l = keys_zero a w ∙ sym (keys_zero b w)

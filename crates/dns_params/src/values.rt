@@ -93,7 +93,7 @@ fn append_set<B: OctetsBuilder>(keys: &TypeSet, target: &mut B) -> Result<(), Sh
     ensures lacks { OnErr result (LacksRoom B.room (λ octets. octets ≡ keys_wire keys.now) (B.octets target.old)) }
     ensures extends { OnErr result (Extends (B.octets target.old) (B.octets target.new)) }
 {
-    for key in 0..65536_u32 {
+    for key in 0..keys.end() {
         append_if(keys, key as u16, target)?;
     }
     Ok(())

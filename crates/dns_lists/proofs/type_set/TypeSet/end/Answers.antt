@@ -1,0 +1,16 @@
+use Rattle.std.proofs.Common.{◌∙◌, sym, ap, arith}
+use Rattle.dns_lists.specs.Bitmap.{has}
+use Rattle.dns_lists.proofs.Sets.{none_above}
+use Rattle.dns_lists.proofs.type_set.TypeSet.end.Goals as goal
+
+pub overflow_cast-result : goal.overflow_cast-result
+overflow_cast-result c = omega (arith, c.self.invariant.high)
+
+pub overflow_mul-result : goal.overflow_mul-result
+overflow_mul-result c = omega (arith, c.self.invariant.high)
+
+pub returns-clause-within : goal.returns-clause-within
+returns-clause-within c = omega (arith, c.self.invariant.high)
+
+pub returns-clause-above : goal.returns-clause-above
+returns-clause-above c = λ code l m. ap (λ ts. has ts code) (sym c.self.view_is) ∙ none_above c.self.inside.octets c.self.inside.windows c.self.invariant code l (omega (arith, m))
