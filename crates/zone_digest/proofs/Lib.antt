@@ -1,4 +1,5 @@
 mod AtApex
 mod HashedRecords
+mod RightData
 mod Scopes
 mod ZonemdParts

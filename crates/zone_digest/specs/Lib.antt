@@ -1,4 +1,5 @@
 pub mod Checks
 pub mod Hashed
+pub mod Rights
 pub mod Rows
 pub mod Verdicts

@@ -32,7 +32,7 @@ fn is_at_apex<Owner: AsOctets, Octets: AsOctets, Apex: AsOctets>(
 }
 
 /// The serial number of the SOA at the apex, if there is one SOA.
-fn apex_serial<Owner: AsOctets, Octets: AsOctets, Apex: AsOctets>(
+pub(crate) fn apex_serial<Owner: AsOctets, Octets: AsOctets, Apex: AsOctets>(
     apex: &Name<Apex>,
     records: &[Record<Owner, Octets>],
 ) -> Option<u32>

@@ -21,7 +21,8 @@ _zonetext() {
         tokens) options='--json --quiet' ;;
         fmt) options='--write --check --diff --force --quiet -w' ;;
         lines) options='--tabbed --quiet' ;;
-        records | digest) options='--zone --class --include --quiet' ;;
+        records) options='--zone --class --include --quiet' ;;
+        digest) options='--write --hash --force --zone --class --include --quiet -w' ;;
         cut) options='--output --soa --zone --class --quiet -o' ;;
         help)
             COMPREPLY=($(compgen -W 'check tokens fmt lines records canon diff digest cut help' -- "$word"))

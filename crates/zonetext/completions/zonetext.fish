@@ -9,7 +9,7 @@ complete -c zonetext -n $first -a lines -d 'Write each entry on a line of its ow
 complete -c zonetext -n $first -a records -d 'Write each record in full, one a line'
 complete -c zonetext -n $first -a canon -d 'Write the records of zone files in full, in canonical order'
 complete -c zonetext -n $first -a diff -d 'Say how the records of two zone files differ'
-complete -c zonetext -n $first -a digest -d 'Check the digests in a zone (ZONEMD, RFC 8976)'
+complete -c zonetext -n $first -a digest -d 'Check the digests in a zone, or write them (ZONEMD, RFC 8976)'
 complete -c zonetext -n $first -a cut -d 'Write a zone file in parts that are read apart'
 complete -c zonetext -n $first -a help -d 'Print the help of a command'
 complete -c zonetext -n $first -s V -l version -d 'Print the version'
@@ -49,6 +49,9 @@ complete -c zonetext -n '__fish_seen_subcommand_from records canon diff digest c
 complete -c zonetext -n '__fish_seen_subcommand_from records canon diff digest' -r -l include -d 'A folder of which files may be included'
 complete -c zonetext -n '__fish_seen_subcommand_from canon diff' -l no-dnssec -d 'Leave out what signing adds'
 complete -c zonetext -n '__fish_seen_subcommand_from canon diff' -l no-soa -d 'Leave SOAs out'
+complete -c zonetext -n '__fish_seen_subcommand_from digest' -s w -l write -d 'Put the digests right in the file, and one in where there is none'
+complete -c zonetext -n '__fish_seen_subcommand_from digest' -x -l hash -a 'sha384 sha512' -d 'The hash algorithm of a digest that is put in'
+complete -c zonetext -n '__fish_seen_subcommand_from digest' -l force -d 'Also write into zones that a server changes itself'
 complete -c zonetext -n '__fish_seen_subcommand_from cut' -s o -l output -r -d 'The parts are PREFIX.000, PREFIX.001, and so on'
 complete -c zonetext -n '__fish_seen_subcommand_from cut' -l soa -d 'Repeat the SOA in each part behind it'
 complete -c zonetext -n '__fish_seen_subcommand_from help' -f -a "$commands"

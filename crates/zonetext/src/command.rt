@@ -272,7 +272,8 @@ impl Which {
             Which::Records => "Example: zonetext records --zone example.org. example.org.zone",
             Which::Canon => "Example: zonetext canon --zone example.org. example.org.zone",
             Which::Diff => "Example: zonetext diff --zone example.org. old.zone new.zone",
-            Which::Digest => "Example: zonetext digest --zone example.org. example.org.zone",
+            Which::Digest =>
+                "Example: zonetext digest --write --zone example.org. example.org.zone",
             Which::Cut => "Example: zonetext cut 8 example.org.zone -o part",
         }
     }

@@ -189,7 +189,7 @@ fn show_changes(rt: &HostRuntime, file: &str, source: &Source, work: Work) -> io
 }
 
 /// Says why a file is left as it is, and returns the status.
-fn leave(rt: &HostRuntime, file: &str, refusal: &Refusal) -> io::Result<u8> {
+pub fn leave(rt: &HostRuntime, file: &str, refusal: &Refusal) -> io::Result<u8> {
     match refusal {
         Refusal::Io(error) => {
             eprintln!(rt; "zonetext: {file}: {error}")?;

@@ -40,7 +40,7 @@ impl Gathered {
 
 /// Takes the records of files in canonical form.
 #[derive(Drop)]
-struct Gatherer<'s> {
+pub struct Gatherer<'s> {
     selection: Selection<'s>,
     held: Held<usize>,
     owner: Vec<u8>,
@@ -49,12 +49,20 @@ struct Gatherer<'s> {
 
 impl<'s> Gatherer<'s> {
     /// Before the first record.
-    fn new(alloc: Global, selection: Selection<'s>) -> Gatherer<'s> {
+    pub fn new(alloc: Global, selection: Selection<'s>) -> Gatherer<'s> {
         Gatherer {
             selection,
             held: Held::new(alloc),
             owner: Vec::new(alloc),
             data: Vec::new(alloc),
+        }
+    }
+
+    /// The records that were taken, and what the first SOA says.
+    pub fn gathered(self, seen: Option<Seen>) -> Gathered {
+        Gathered {
+            held: self.held,
+            seen,
         }
     }
 }
@@ -101,8 +109,5 @@ pub fn gather(
     if status > 0 {
         return Err(status);
     }
-    Ok(Gathered {
-        held: taker.held,
-        seen,
-    })
+    Ok(taker.gathered(seen))
 }

@@ -10,6 +10,8 @@ mod command;
 mod cut;
 mod cut_words;
 mod digest;
+mod digest_places;
+mod digest_writing;
 mod files;
 mod format;
 mod formed;

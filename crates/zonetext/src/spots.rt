@@ -20,7 +20,7 @@ pub fn tokens_of<'e>(alloc: Global, entry: &Entry<'e>) -> Result<Vec<EntryToken<
 }
 
 /// How many octets a token has, with its double quotes.
-fn width(token: &EntryToken<'_>) -> usize {
+pub fn width(token: &EntryToken<'_>) -> usize {
     let quotes = if token.is_quoted { 2 } else { 0 };
     token.text.len().saturating_add(quotes)
 }

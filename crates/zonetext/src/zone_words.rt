@@ -2,11 +2,12 @@
 use crate::command::{QUIET, flag, over_files, required_file, valued, values};
 use crate::options::{Usage, class_of, number_of, status_of, zone_of};
 use crate::reading::Reading;
-use crate::{canon, changes, digest, records};
+use crate::{canon, changes, digest, digest_writing, records};
 use clap::{ArgMatches, Command};
 use dns_kinds::RecordType;
 use std::alloc::{AllocError, Global};
 use std::io;
+use zone_digest::HashAlgorithm;
 use zone_set::Selection;
 
 /// What is said of the options of all of them.
@@ -69,11 +70,27 @@ pub fn diff_command<'a>(alloc: Global, name: &'a str) -> Result<Command<'a>, All
     with_selection(alloc, with_reading(alloc, command)?)
 }
 
-/// The command that checks digests.
+/// The hash algorithms of digests.
+const HASHES: [&str; 2] = ["sha384", "sha512"];
+
+/// The command that checks and writes digests.
 pub fn digest_command<'a>(alloc: Global, name: &'a str) -> Result<Command<'a>, AllocError> {
+    let write = "put the digests right in the file, and one in where there is none";
+    let force = "also write into zones that a server changes itself";
+    let hash = valued(
+        alloc,
+        "hash",
+        "HASH",
+        "the hash algorithm of a digest that is put in",
+    )
+    .value_parser(HASHES.as_slice())
+    .requires_arg("write")?;
     let command = Command::new(alloc, name)
-        .about("Check the digests in a zone (ZONEMD, RFC 8976)")
+        .about("Check the digests in a zone, or write them (ZONEMD, RFC 8976)")
         .arg(required_file(alloc, "FILE", "a zone file, or - for standard input"))?
+        .arg(flag(alloc, "write", write).short('w'))?
+        .arg(hash)?
+        .arg(flag(alloc, "force", force).requires_arg("write")?)?
         .arg(flag(alloc, "quiet", QUIET))?;
     with_reading(alloc, command)
 }
@@ -162,7 +179,24 @@ pub fn run_diff(rt: &HostRuntime, inner: &ArgMatches) -> io::Result<u8> {
     status_of(rt, compare(rt, inner))
 }
 
+/// Writes the digests of a file.
+fn write_digests(rt: &HostRuntime, inner: &ArgMatches) -> Result<u8, Usage> {
+    let file = inner.get_str("FILE").unwrap_or("-");
+    let work = digest_writing::Work {
+        algorithm: match inner.get_str("hash") {
+            Some("sha512") => HashAlgorithm::Sha512,
+            _ => HashAlgorithm::Sha384,
+        },
+        ignores_journal: inner.get_flag("force"),
+    };
+    Ok(digest_writing::run(rt, file, reading_of(inner, true)?, work))
+}
+
 /// Runs the command `digest`, and returns the status.
 pub fn run_digest(rt: &HostRuntime, inner: &ArgMatches) -> io::Result<u8> {
-    status_of(rt, check_digests(rt, inner))
+    if inner.get_flag("write") {
+        status_of(rt, write_digests(rt, inner))
+    } else {
+        status_of(rt, check_digests(rt, inner))
+    }
 }

@@ -9,6 +9,7 @@
 //! - [`diff::diff`] compares the entries of two texts.
 //! - [`comparer::Comparer`] compares those of two texts that come in blocks.
 //! - [`unified::Unified`] writes what changes from one text to another, as a unified diff.
+//! - [`patch::append_changed`] changes stretches of a text, and leaves all else as it is.
 //! - [`replace::Batch`] gives files new texts, all of them or none.
 //!
 //! Octets need not be UTF-8: each counts as a character of the grammar, so that a comment in
@@ -23,6 +24,7 @@ pub mod formatter;
 mod glue;
 pub mod laws;
 pub mod layout;
+pub mod patch;
 pub mod replace;
 pub mod tokens;
 pub mod unified;

@@ -1,0 +1,24 @@
+-- The ZONEMD that is right for a zone (RFC 8976 section 3).
+use Rattle.std.specs.Prelude.{◌≡◌, ℕ, List, ◌++◌}
+use Rattle.dns_resource.specs.declared.record.Record.{Record}
+use Rattle.zone_digest.specs.Checks.{HasSerial}
+use Rattle.zone_digest.specs.Hashed.{hashed_octets}
+use Rattle.zone_digest.specs.Verdicts.{IsDigest, IsVerdict, IsZonemd}
+use Rattle.zone_digest.specs.declared.algorithm.HashAlgorithm.{HashAlgorithm}
+use Rattle.zone_digest.specs.declared.algorithm.HashAlgorithm.TheVariants.{Sha384, Sha512}
+use Rattle.zone_digest.specs.declared.verdict.Verdict.TheVariants.{Matches}
+use Rattle.zone_digest.specs.declared.zonemd.Zonemd.{Zonemd}
+
+-- the number of a hash algorithm (RFC 8976 section 5.3)
+abbrev pub hash_code : HashAlgorithm → ℕ
+hash_code Sha384 = 1
+hash_code Sha512 = 2
+
+-- the digest of a zone by a hash algorithm of this number stands behind octets
+abbrev pub AppendsDigest : {N O : Type 0} → List (List ℕ) → List (Record N O) → ℕ → List ℕ → List ℕ → Type 0
+AppendsDigest apex records hash front «data» = (digest : List ℕ) × IsDigest hash (hashed_octets apex records) digest × («data» ≡ front ++ digest)
+
+-- data of a ZONEMD with a hash algorithm of this number, of which the check of the zone says that it matches if it is the only one of its scheme and algorithm
+abbrev pub IsRightData : {N O : Type 0} → List (List ℕ) → List (Record N O) → ℕ → List ℕ → Type 0
+IsRightData apex records hash «data» = (serial : ℕ) × HasSerial apex records serial × (z : Zonemd) × IsZonemd (record { code = 63; octets = «data» }) z × (z.hash ≡ hash)
+    × IsVerdict serial (hashed_octets apex records) 1 z Matches

@@ -1,0 +1,128 @@
+//! Where a zone's SOA and its digests stand in their file.
+use crate::gathered::{Gathered, Gatherer};
+use crate::reading::{Outcome, Reading, TakeEntry, give_entries};
+use crate::spots::{tokens_of, width};
+use crate::stop::Stop;
+use crate::zone_files::{Entry, Given};
+use dns_fields::TokenSource;
+use dns_heads::take_words;
+use dns_reader::EntrySource;
+use dns_split::pieces::Span;
+use std::alloc::{AllocError, Global};
+use zone_set::Selection;
+
+/// The code of SOA.
+pub const SOA: u16 = 6;
+
+/// The code of ZONEMD.
+pub const ZONEMD: u16 = 63;
+
+/// A record, and where it stands in its file.
+#[derive(Drop)]
+pub struct Placed {
+    pub owner: Vec<u8>,
+    /// In seconds.
+    pub ttl: u32,
+    pub class: u16,
+    pub code: u16,
+    pub data: Vec<u8>,
+    /// Whether its file is included by another.
+    pub is_included: bool,
+    /// Where the tokens of its data stand.
+    pub tokens: Vec<Span>,
+    /// Where its entry ends.
+    pub end: usize,
+}
+
+/// Where the data of a record begins in its entry.
+fn data_place(octets: &[u8]) -> usize {
+    let mut source = EntrySource::of_octets(octets);
+    let Ok(Some(start)) = source.begin() else {
+        return octets.len();
+    };
+    if !start.begins_blank {
+        source.advance();
+    }
+    match take_words(&mut source) {
+        Ok(_) => source.place(),
+        Err(_) => octets.len(),
+    }
+}
+
+/// Where the tokens of a record's data stand in its file.
+fn data_tokens(alloc: Global, entry: &Entry<'_>) -> Result<Vec<Span>, AllocError> {
+    let first = data_place(entry.octets);
+    let mut spans = Vec::new(alloc);
+    let tokens = tokens_of(alloc, entry)?;
+    for token in &tokens {
+        if token.at >= first {
+            let start = entry.place.at.saturating_add(token.at);
+            let end = start.saturating_add(width(token));
+            spans.push(Span { start, end })?;
+        }
+    }
+    Ok(spans)
+}
+
+/// The record of an entry, and where it stands.
+fn placed_of(alloc: Global, entry: &Entry<'_>, given: Given<'_>) -> Result<Placed, AllocError> {
+    Ok(Placed {
+        owner: given.owner.to_vec(alloc)?,
+        ttl: given.ttl,
+        class: given.class,
+        code: given.code,
+        data: given.data.to_vec(alloc)?,
+        is_included: entry.number > 0,
+        tokens: data_tokens(alloc, entry)?,
+        end: entry.place.at.saturating_add(entry.octets.len()),
+    })
+}
+
+/// Takes the records of a file in canonical form, and where its SOAs and digests stand.
+#[derive(Drop)]
+struct Finder {
+    alloc: Global,
+    gatherer: Gatherer<'static>,
+    found: Vec<Placed>,
+}
+
+impl TakeEntry for Finder {
+    fn take_entry(&mut self, entry: &Entry<'_>) -> Result<(), Stop> {
+        self.gatherer.take_entry(entry)?;
+        if let Some(given) = entry.record() {
+            if given.code == SOA || given.code == ZONEMD {
+                self.found.push(placed_of(self.alloc, entry, given)?)?;
+            }
+        }
+        Ok(())
+    }
+}
+
+/// The records of a file, and its SOAs and digests, in their order. If an entry is refused, that is
+/// said, and the status is returned in place of them: 1, or 3 where a file can't be read.
+pub fn find(
+    rt: &HostRuntime,
+    file: &str,
+    reading: Reading<'_>,
+) -> Result<(Gathered, Vec<Placed>), u8> {
+    let alloc = rt.alloc();
+    let finder = Finder {
+        alloc,
+        gatherer: Gatherer::new(alloc, Selection::ALL),
+        found: Vec::new(alloc),
+    };
+    let Outcome {
+        status,
+        seen,
+        taker,
+    } = give_entries(rt, &[file], reading, finder);
+    if status > 0 {
+        return Err(status);
+    }
+    let Finder {
+        gatherer,
+        found,
+        ..
+    } = taker;
+    Ok((gatherer.gathered(seen), found))
+}

@@ -1,0 +1,553 @@
+//! The command `digest --write`: the digests in a zone are put right, in the file itself.
+use crate::digest_places::{Placed, SOA, ZONEMD, find};
+use crate::format::leave;
+use crate::gathered::NumberedSet;
+use crate::options::USAGE;
+use crate::reading::Reading;
+use crate::stop::{Stop, TROUBLE, conclude};
+use dns_codec::base16::encode_string;
+use dns_reader::NameBuffer;
+use dns_resource::{Data, Record};
+use dns_split::pieces::Span;
+use dns_wire::Name;
+use std::alloc::{AllocError, Global};
+use std::fs::File;
+use std::io::{ErrorKind, Read};
+use std::{io, mem};
+use zone_digest::scope::is_apex;
+use zone_digest::{CheckError, HashAlgorithm, Zonemd, right_data};
+use zone_set::push_record;
+use zonetext_lib::patch::{Change, PatchError, append_changed, append_stretches};
+use zonetext_lib::replace::{Batch, Incomplete, NewText, Original, Refusal};
+
+/// What is asked for.
+#[derive(Clone, Copy)]
+pub struct Work {
+    /// The hash algorithm of a digest that is added.
+    pub algorithm: HashAlgorithm,
+    /// Whether also zones with a journal beside them are changed.
+    pub ignores_journal: bool,
+}
+
+/// The codes of what signing adds.
+const RRSIG: u16 = 46;
+
+const NSEC: u16 = 47;
+
+const NSEC3: u16 = 50;
+
+/// The scheme SIMPLE.
+const SIMPLE: u8 = 1;
+
+/// Why nothing is written.
+#[derive(Drop)]
+enum Unwritten {
+    /// Entries are refused, and that was said.
+    Told,
+    NoSoa,
+    NoSingleSoa,
+    /// The SOA or a digest stands in an included file.
+    Included { what: &'static str },
+    /// The file is written, but it is not known whether its name has reached the disk.
+    Unsettled(Refusal),
+    Stop(Stop),
+    Refusal(Refusal),
+}
+
+impl From<Stop> for Unwritten {
+    fn from(stop: Stop) -> Unwritten {
+        Unwritten::Stop(stop)
+    }
+}
+
+impl From<Refusal> for Unwritten {
+    fn from(refusal: Refusal) -> Unwritten {
+        Unwritten::Refusal(refusal)
+    }
+}
+
+impl From<AllocError> for Unwritten {
+    fn from(_error: AllocError) -> Unwritten {
+        Unwritten::Stop(Stop::OutOfMemory)
+    }
+}
+
+impl From<io::Error> for Unwritten {
+    fn from(error: io::Error) -> Unwritten {
+        Unwritten::Stop(Stop::from(error))
+    }
+}
+
+impl From<PatchError> for Unwritten {
+    fn from(error: PatchError) -> Unwritten {
+        match error {
+            // Its tokens stood in order when they were found.
+            PatchError::OutOfOrder => Unwritten::Refusal(Refusal::Changed),
+            PatchError::OutOfMemory => Unwritten::Stop(Stop::OutOfMemory),
+        }
+    }
+}
+
+/// A stretch of a file, and what stands in its place then.
+#[derive(Drop)]
+struct Patch {
+    span: Span,
+    text: String,
+}
+
+/// What becomes of the digests in a zone.
+#[derive(Drop)]
+struct Plan<'p> {
+    alloc: Global,
+    /// The octets of the file.
+    octets: &'p [u8],
+    patches: Vec<Patch>,
+    /// What is said of each.
+    lines: String,
+    /// Whether one was added.
+    is_added: bool,
+    /// Whether one is left that can't be checked.
+    has_unknown: bool,
+}
+
+/// Octets in hexadecimal digits.
+fn hex_of(alloc: Global, octets: &[u8]) -> Result<String, Stop> {
+    match encode_string(alloc, octets) {
+        Ok(text) => Ok(text),
+        Err(_) => Err(Stop::OutOfMemory),
+    }
+}
+
+/// The end of the last line of octets: CR LF, or LF.
+fn line_end(octets: &[u8]) -> &'static str {
+    let front = match octets.iter().rposition(|octet| *octet == b'\n') {
+        Some(place) => &octets[..place],
+        None => &[],
+    };
+    if front.ends_with(b"\r") { "\r\n" } else { "\n" }
+}
+
+/// Data of ZONEMD.
+fn data_of(octets: &[u8]) -> Option<Data<&[u8]>> {
+    Data::from_octets(ZONEMD, octets).ok()
+}
+
+/// The hash algorithm of a digest, if it and the scheme are known.
+fn algorithm_of(zonemd: &Zonemd<'_>) -> Option<HashAlgorithm> {
+    if zonemd.scheme != SIMPLE {
+        return None;
+    }
+    HashAlgorithm::of_code(zonemd.hash)
+}
+
+/// What is said of a digest whose scheme or hash algorithm is not known.
+fn unknown_text(zonemd: &Zonemd<'_>) -> &'static str {
+    if zonemd.scheme == SIMPLE {
+        "unknown hash algorithm, left as it is"
+    } else {
+        "unknown scheme, left as it is"
+    }
+}
+
+/// The data of the digest that is right for a zone.
+fn right_of(
+    alloc: Global,
+    apex: &NameBuffer,
+    set: &NumberedSet<'_>,
+    algorithm: HashAlgorithm,
+) -> Result<Vec<u8>, Unwritten> {
+    match right_data(alloc, apex, set, algorithm) {
+        Ok(data) => Ok(data),
+        Err(CheckError::NoSingleSoa) => Err(Unwritten::NoSingleSoa),
+        Err(CheckError::ShortBuf) => Err(Unwritten::Stop(Stop::OutOfMemory)),
+    }
+}
+
+/// The line of a digest that stands beside an SOA.
+fn line_of(alloc: Global, soa: &Placed, data: &[u8]) -> Result<String, AllocError> {
+    let mut line = String::new(alloc);
+    let owner = Name::from_octets(soa.owner.as_slice());
+    if let (Ok(owner), Some(data)) = (owner, data_of(data)) {
+        let record = Record {
+            owner,
+            ttl: soa.ttl,
+            class: soa.class,
+            data,
+        };
+        push_record(&mut line, &record)?;
+    }
+    Ok(line)
+}
+
+impl<'p> Plan<'p> {
+    /// Nothing is done yet.
+    fn new(alloc: Global, octets: &'p [u8]) -> Plan<'p> {
+        Plan {
+            alloc,
+            octets,
+            patches: Vec::new(alloc),
+            lines: String::new(alloc),
+            is_added: false,
+            has_unknown: false,
+        }
+    }
+
+    /// Says what becomes of a digest.
+    fn tell(&mut self, zonemd: &Zonemd<'_>, what: &str) -> Result<(), AllocError> {
+        let (serial, scheme, hash) = (zonemd.serial, zonemd.scheme, zonemd.hash);
+        writeln!(&mut self.lines, "ZONEMD {serial} {scheme} {hash}: {what}")
+    }
+
+    /// Puts one token in place of several.
+    fn replace(&mut self, tokens: &[Span], mut text: String) -> Result<(), Unwritten> {
+        let mut spans = Vec::new(self.alloc);
+        append_stretches(self.octets, tokens, &mut spans)?;
+        for span in &spans {
+            let text = mem::replace(&mut text, String::new(self.alloc));
+            self.patches
+                .push(Patch { span: *span, text })
+                .map_err(AllocError::from)?;
+        }
+        Ok(())
+    }
+
+    /// Whether tokens are data in the form for unknown types.
+    fn is_generic(&self, tokens: &[Span]) -> bool {
+        match tokens.first() {
+            Some(span) => self.octets.get(span.start..span.end) == Some(b"\\#".as_slice()),
+            None => false,
+        }
+    }
+
+    /// Puts other data in place of a digest's: the tokens change that differ.
+    fn change(
+        &mut self,
+        tokens: &[Span],
+        old: &Zonemd<'_>,
+        new: &Zonemd<'_>,
+    ) -> Result<(), Unwritten> {
+        if old.serial != new.serial {
+            let text = new.serial.to_string(self.alloc)?;
+            self.replace(tokens.get(..1).unwrap_or(&[]), text)?;
+        }
+        if old.digest != new.digest {
+            let text = hex_of(self.alloc, new.digest)?;
+            self.replace(tokens.get(3..).unwrap_or(&[]), text)?;
+        }
+        Ok(())
+    }
+
+    /// Puts a digest right, if it is not.
+    fn put_right(
+        &mut self,
+        one: &Placed,
+        apex: &NameBuffer,
+        set: &NumberedSet<'_>,
+    ) -> Result<(), Unwritten> {
+        let Some(data) = data_of(one.data.as_slice()) else {
+            return Ok(());
+        };
+        let Some(old) = Zonemd::of_data(&data) else {
+            return Ok(());
+        };
+        let Some(algorithm) = algorithm_of(&old) else {
+            self.has_unknown = true;
+            self.tell(&old, unknown_text(&old))?;
+            return Ok(());
+        };
+        let right = right_of(self.alloc, apex, set, algorithm)?;
+        if right.as_slice() == one.data.as_slice() {
+            self.tell(&old, "matches")?;
+            return Ok(());
+        }
+        self.write(one.tokens.as_slice(), &old, right.as_slice())
+    }
+
+    /// Puts other data in place of a digest's, and says so.
+    fn write(&mut self, tokens: &[Span], old: &Zonemd<'_>, right: &[u8]) -> Result<(), Unwritten> {
+        let Some(data) = data_of(right) else {
+            return Ok(());
+        };
+        let Some(new) = Zonemd::of_data(&data) else {
+            return Ok(());
+        };
+        if self.is_generic(tokens) {
+            let text = hex_of(self.alloc, right)?;
+            self.replace(tokens.get(2..).unwrap_or(&[]), text)?;
+        } else {
+            self.change(tokens, old, &new)?;
+        }
+        self.tell(&new, "written")?;
+        Ok(())
+    }
+
+    /// Puts each digest of a zone right, or adds one behind the SOA if there is none.
+    fn make(
+        &mut self,
+        parts: &Parts<'_>,
+        apex: &NameBuffer,
+        set: &NumberedSet<'_>,
+        algorithm: HashAlgorithm,
+    ) -> Result<(), Unwritten> {
+        for one in &parts.digests {
+            self.put_right(one, apex, set)?;
+        }
+        if parts.digests.is_empty() {
+            let right = right_of(self.alloc, apex, set, algorithm)?;
+            self.add(parts.soa, right.as_slice())?;
+        }
+        Ok(())
+    }
+
+    /// Adds the digest that has these data, behind the SOA.
+    fn add(&mut self, soa: &Placed, right: &[u8]) -> Result<(), Unwritten> {
+        let Some(data) = data_of(right) else {
+            return Ok(());
+        };
+        let Some(new) = Zonemd::of_data(&data) else {
+            return Ok(());
+        };
+        let front = self.octets.get(..soa.end).unwrap_or(self.octets);
+        let end = line_end(front);
+        let mut text = String::new(self.alloc);
+        if !front.ends_with(b"\n") {
+            text.push_str(end)?;
+        }
+        let line = line_of(self.alloc, soa, right)?;
+        text.push_str(line.as_str().trim_end_matches('\n'))?;
+        text.push_str(end)?;
+        let span = Span {
+            start: soa.end,
+            end: soa.end,
+        };
+        self.patches
+            .push(Patch { span, text })
+            .map_err(AllocError::from)?;
+        self.is_added = true;
+        self.tell(&new, "added")?;
+        Ok(())
+    }
+}
+
+/// Whether a record stands at the apex of a zone.
+fn is_at(one: &Placed, apex: &NameBuffer) -> bool {
+    match Name::from_octets(one.owner.as_slice()) {
+        Ok(owner) => is_apex(&owner, apex),
+        Err(_) => false,
+    }
+}
+
+/// The SOA of a zone, and its digests.
+#[derive(Drop)]
+struct Parts<'f> {
+    soa: &'f Placed,
+    digests: Vec<&'f Placed>,
+}
+
+/// The SOA of a zone and its digests, unless one stands in an included file.
+fn parts_of<'f>(
+    alloc: Global,
+    found: &'f [Placed],
+    apex: &NameBuffer,
+) -> Result<Parts<'f>, Unwritten> {
+    let mut soa = None;
+    let mut digests = Vec::new(alloc);
+    for one in found {
+        if !is_at(one, apex) {
+            continue;
+        }
+        let is_soa = one.code == SOA;
+        if one.is_included {
+            let what = if is_soa { "SOA" } else { "ZONEMD" };
+            return Err(Unwritten::Included { what });
+        }
+        if !is_soa {
+            digests.push(one).map_err(AllocError::from)?;
+        } else if soa.is_none() {
+            soa = Some(one);
+        }
+    }
+    match soa {
+        Some(soa) => Ok(Parts { soa, digests }),
+        None => Err(Unwritten::NoSoa),
+    }
+}
+
+/// Reads a file.
+fn read(rt: &HostRuntime, file: &str) -> Result<Vec<u8>, Stop> {
+    let mut octets = Vec::new(rt.alloc());
+    let answer = match File::open(rt, file) {
+        Ok(mut file) => file.read_to_end(&mut octets),
+        Err(error) => Err(error),
+    };
+    match answer {
+        Ok(_) => Ok(octets),
+        Err(error) => {
+            let file = String::from_str(rt.alloc(), file)?;
+            Err(Stop::Read { file, error })
+        }
+    }
+}
+
+/// A text with patches made.
+fn patched(alloc: Global, octets: &[u8], patches: &[Patch]) -> Result<Vec<u8>, Unwritten> {
+    let mut changes = Vec::new(alloc);
+    for patch in patches {
+        changes
+            .push(Change {
+                start: patch.span.start,
+                end: patch.span.end,
+                text: patch.text.as_bytes(),
+            })
+            .map_err(AllocError::from)?;
+    }
+    let mut text = Vec::new(alloc);
+    append_changed(octets, changes.as_slice(), &mut text)?;
+    Ok(text)
+}
+
+/// Puts a text in the place of a file's.
+fn put(rt: &HostRuntime, original: Original, text: &[u8]) -> Result<(), Unwritten> {
+    let mut new = NewText::create(rt, rt.alloc(), original)?;
+    if let Err(error) = new.write(text) {
+        let _ = new.discard(rt);
+        return Err(Unwritten::Refusal(Refusal::Io(error)));
+    }
+    let mut batch = Batch::new(rt.alloc());
+    batch.add(rt, new)?;
+    match batch.commit(rt) {
+        Ok(()) => Ok(()),
+        Err(
+            Incomplete {
+                replaced: 0,
+                why,
+                ..
+            },
+        ) => Err(Unwritten::Refusal(why)),
+        Err(Incomplete { why, .. }) => Err(Unwritten::Unsettled(why)),
+    }
+}
+
+/// Whether records are signed.
+fn is_signed(set: &NumberedSet<'_>) -> bool {
+    for record in set.as_slice() {
+        if matches!(record.data.code(), RRSIG | NSEC | NSEC3) {
+            return true;
+        }
+    }
+    false
+}
+
+/// What was done.
+#[derive(Drop)]
+struct Done {
+    /// What is said of each digest.
+    lines: String,
+    /// Whether one was added.
+    is_added: bool,
+    /// Whether one is left that can't be checked.
+    has_unknown: bool,
+    /// Whether the file was changed, and signatures in it no longer hold.
+    breaks_signatures: bool,
+}
+
+/// Puts the digests of a zone right in its file.
+fn write(
+    rt: &HostRuntime,
+    file: &str,
+    reading: Reading<'_>,
+    work: Work,
+) -> Result<Done, Unwritten> {
+    let alloc = rt.alloc();
+    let original = Original::find(rt, alloc, file, work.ignores_journal)?;
+    let Ok((gathered, found)) = find(rt, file, reading) else {
+        return Err(Unwritten::Told);
+    };
+    let Some(seen) = &gathered.seen else {
+        return Err(Unwritten::NoSoa);
+    };
+    let parts = parts_of(alloc, found.as_slice(), &seen.zone)?;
+    let (set, _) = gathered.set()?;
+    let old = read(rt, file)?;
+    let mut plan = Plan::new(alloc, old.as_slice());
+    plan.make(&parts, &seen.zone, &set, work.algorithm)?;
+    let is_changed = !plan.patches.is_empty();
+    if is_changed {
+        let text = patched(alloc, old.as_slice(), plan.patches.as_slice())?;
+        put(rt, original, text.as_slice())?;
+    }
+    let Plan {
+        lines,
+        is_added,
+        has_unknown,
+        ..
+    } = plan;
+    Ok(Done {
+        lines,
+        is_added,
+        has_unknown,
+        breaks_signatures: is_changed && is_signed(&set),
+    })
+}
+
+/// Says what was done, and returns the status.
+fn tell_done(rt: &HostRuntime, file: &str, done: &Done) -> io::Result<u8> {
+    for line in done.lines.as_str().lines() {
+        println!(rt; "{file}: {line}")?;
+    }
+    if done.breaks_signatures && done.is_added {
+        let what =
+            "the zone is signed, and ZONEMD is new to it: sign it again, and then write the digest again";
+        eprintln!(rt; "zonetext: {file}: {what}")?;
+    } else if done.breaks_signatures {
+        let what = "the zone is signed: the set of ZONEMD must be signed again";
+        eprintln!(rt; "zonetext: {file}: {what}")?;
+    }
+    Ok(u8::from(done.has_unknown))
+}
+
+/// Says why nothing is written, and returns the status.
+fn refuse(rt: &HostRuntime, file: &str, why: Unwritten) -> io::Result<u8> {
+    match why {
+        Unwritten::Told => {}
+        Unwritten::NoSoa => eprintln!(rt; "zonetext: {file}: no SOA")?,
+        Unwritten::NoSingleSoa => {
+            eprintln!(rt; "zonetext: {file}: no single SOA at the zone's name")?;
+        }
+        Unwritten::Included { what } => {
+            eprintln!(rt; "zonetext: {file}: its {what} stands in an included file")?;
+        }
+        Unwritten::Stop(stop) => {
+            conclude(rt, file, stop);
+        }
+        Unwritten::Refusal(refusal) => {
+            leave(rt, file, &refusal)?;
+        }
+        Unwritten::Unsettled(refusal) => {
+            eprintln!(rt; "zonetext: {file}: has its digest")?;
+            return leave(rt, file, &refusal);
+        }
+    }
+    eprintln!(rt; "zonetext: nothing is written")?;
+    Ok(TROUBLE)
+}
+
+/// Puts the digests of the zone in a file right, in the file itself, and returns the status: 0 if
+/// all are right then. A digest is added if there is none. If the file can't stand alone, or an entry
+/// is refused, that is said, and nothing is written.
+pub fn run(rt: &HostRuntime, file: &str, reading: Reading<'_>, work: Work) -> u8 {
+    if file == "-" {
+        let _ = eprintln!(rt;
+            "zonetext: digest --write wants a file: standard input can't be replaced"
+        );
+        return USAGE;
+    }
+    let answer = match write(rt, file, reading, work) {
+        Ok(done) => tell_done(rt, file, &done),
+        Err(why) => refuse(rt, file, why),
+    };
+    match answer {
+        Ok(status) => status,
+        Err(error) => conclude(rt, file, Stop::Write(error)),
+    }
+}
