@@ -1,6 +1,9 @@
 pub mod Differing
+pub mod FirstFronts
 pub mod Firsts
+pub mod Merging
 pub mod Passing
+pub mod RunOctets
 pub mod SoaParts
 pub mod CanonicalLists
 pub mod Patches

@@ -1,8 +1,12 @@
 pub mod Differences
 pub mod DnssecTypes
+pub mod FrontOrders
+pub mod Fronts
 pub mod Lines
 pub mod Lookups
+pub mod Merges
 pub mod Rows
+pub mod Runs
 pub mod Selections
 pub mod Serials
 pub mod Steps

@@ -1,10 +1,11 @@
 -- Worked rows of the definitions.
-use Rattle.std.specs.Prelude.{◌≡◌, ℕ, ◌-◌, ◌^◌, Some, None, true, false, List, [], ◌∷◌, codes, refl}
+use Rattle.std.specs.Prelude.{◌≡◌, ℕ, ◌-◌, ◌^◌, Some, None, true, false, List, [], ◌∷◌, ◌++◌, codes, refl}
 use Rattle.std.proofs.Common.{arith, inl, inr}
 use Rattle.dns_resource.specs.declared.record.Record.{Record}
 use Rattle.zone_set.specs.Differences.{ttl_under}
 use Rattle.zone_set.specs.Lines.{hex_word}
 use Rattle.zone_set.specs.Lookups.{record_under}
+use Rattle.zone_set.specs.Runs.{run_octets}
 use Rattle.zone_set.specs.Selections.{is_wanted}
 use Rattle.zone_set.specs.Serials.{IsSerialLess}
 
@@ -56,3 +57,7 @@ listed_row = refl
 
 unlisted_row : is_wanted (1 ∷ 28 ∷ []) 6 ≡ false
 unlisted_row = refl
+
+-- 60 seconds, class 1, type 1, 11 octets of an owner, and 4 of data
+run_row : run_octets (address (codes "a") 60 (192 ∷ 0 ∷ 2 ∷ 1 ∷ [])) ≡ (0 ∷ 0 ∷ 0 ∷ 60 ∷ 0 ∷ 1 ∷ 0 ∷ 1 ∷ 0 ∷ 11 ∷ 1 ∷ 97 ∷ 7 ∷ []) ++ codes "example" ++ (0 ∷ 0 ∷ 4 ∷ 192 ∷ 0 ∷ 2 ∷ 1 ∷ [])
+run_row = refl

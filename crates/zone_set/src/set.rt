@@ -1,5 +1,5 @@
 //! Records, in the order in which they came.
-ghost use Rattle.std.specs.Prelude.{◌≡◌, [], ◌∷◌, ◌++◌, length, slice_index_or, OnOk, OnErr, IfErr, MatchOption, slice_get, Some, None};
+ghost use Rattle.std.specs.Prelude.{◌≡◌, [], ◌∷◌, ◌++◌, length, slice_index_or, OnOk, OnErr, IfOk, IfErr, MatchOption, slice_get, Some, None};
 ghost use Rattle.std.specs.List.Sorted.{IsPermutation, IsSorted, IsStable};
 ghost use Rattle.zone_set.specs.Lookups.{canonical_order};
 
@@ -32,6 +32,14 @@ impl<Owner: AsOctets, Octets: AsOctets, A: Allocator> ZoneSet<Owner, Octets, A> 
         ZoneSet {
             records: Vec::new(alloc),
         }
+    }
+
+    /// No records, with room for so many, or without memory none.
+    pub fn with_capacity(alloc: A, count: usize) -> Result<Self, AllocError>
+        ensures { IfOk result (λ s. s ≡ []) }
+    {
+        let records = Vec::with_capacity(alloc, count)?;
+        Ok(ZoneSet { records })
     }
 
     /// How many records there are.

@@ -1,0 +1,18 @@
+-- Which of the first records of runs comes first.
+use Rattle.std.specs.Prelude.{◌≡◌, ◌≤◌, ◌⊎◌, Bool}
+use Rattle.std.specs.Ordering.{eq_by_cmp, flip_args, nat_cmp, on, then_cmp}
+use Rattle.std.specs.declared.cmp.Ordering.{Ordering}
+use Rattle.std.specs.declared.cmp.Ordering.TheVariants.{Less, Equal}
+use Rattle.zone_set.specs.Lookups.{canonical_order}
+use Rattle.zone_set.specs.declared.fronts.Front.{Front}
+
+-- a front stands before another: by its record, or by its run where both records have one key
+abbrev pub ComesBefore : {N O : Type 0} → Front N O → Front N O → Type 0
+ComesBefore f g = (canonical_order f.record g.record ≡ Less) ⊎ ((canonical_order f.record g.record ≡ Equal) × (f.run ≤ g.run))
+
+-- the later one is less
+abbrev pub front_order : {N O : Type 0} → Front N O → Front N O → Ordering
+front_order = flip_args (then_cmp (on (λ f. f.record) canonical_order) (on (λ f. f.run) nat_cmp))
+
+abbrev pub same_front : {N O : Type 0} → Front N O → Front N O → Bool
+same_front f g = eq_by_cmp front_order f g

@@ -1,0 +1,37 @@
+-- Sorted runs that are merged into one.
+use Rattle.std.specs.Prelude.{◌≡◌, ◌≢◌, List, [], ◌∷◌, ◌++◌, All, ⊤}
+use Rattle.std.specs.declared.cmp.Ordering.TheVariants.{Less, Greater}
+use Rattle.dns_resource.specs.declared.record.Record.{Record}
+use Rattle.zone_set.specs.Lookups.{AreCanonicalOf, canonical_order}
+
+-- the records of runs, run by run
+abbrev pub records_of_runs : {N O : Type 0} → List (List (Record N O)) → List (Record N O)
+records_of_runs [] = []
+records_of_runs (run ∷ runs) = run ++ records_of_runs runs
+
+-- a run has no records, or begins with one of these
+abbrev pub IsLedBy : {N O : Type 0} → (Record N O → Type 0) → List (Record N O) → Type 0
+IsLedBy P [] = ⊤
+IsLedBy P (r ∷ run) = P r
+
+-- a record is taken from the front of a run: one before those that lead the earlier runs, and behind none that leads a later one
+pub record TakesFirst {N O : Type 0} (runs : List (List (Record N O))) (r : Record N O) (left : List (List (Record N O))) : Type 0 where
+  pub earlier : List (List (Record N O))
+  pub run : List (Record N O)
+  pub later : List (List (Record N O))
+  pub was : runs ≡ earlier ++ (r ∷ run) ∷ later
+  pub is : left ≡ earlier ++ run ∷ later
+  pub before : All (IsLedBy (λ s. canonical_order r s ≡ Less)) earlier
+  pub not_behind : All (IsLedBy (λ s. canonical_order r s ≢ Greater)) later
+
+-- records are taken until none are left
+abbrev pub MergesTo : {N O : Type 0} → List (List (Record N O)) → List (Record N O) → Type 0
+MergesTo runs [] = All (λ run. run ≡ []) runs
+MergesTo {N} {O} runs (r ∷ records) = (left : List (List (Record N O))) × TakesFirst runs r left × MergesTo left records
+
+-- each run is what its part of all records has under each key
+abbrev pub AreRunsOf : {N O : Type 0} → List (List (Record N O)) → List (List (Record N O)) → Type 0
+AreRunsOf [] [] = ⊤
+AreRunsOf [] (run ∷ runs) = ⊥
+AreRunsOf (part ∷ parts) [] = ⊥
+AreRunsOf (part ∷ parts) (run ∷ runs) = AreCanonicalOf part run × AreRunsOf parts runs

@@ -1,0 +1,129 @@
+//! The first records of sorted runs, of which the one that comes first is taken.
+ghost use Rattle.std.specs.Prelude.{◌≡◌, [], ◌∷◌, All, IfSome, IfNone, IfErr, OnOk, OnErr};
+ghost use Rattle.std.specs.List.Sorted.{IsPermutation};
+ghost use Rattle.zone_set.specs.Fronts.{ComesBefore};
+
+use dns_octets::AsOctets;
+use dns_resource::Record;
+use std::alloc::{AllocFailed, Allocator, Global};
+use std::cmp::Ordering;
+use std::collections::BinaryHeap;
+use std::marker::Model;
+
+/// The first record of a run that was not taken yet.
+///
+/// Of two fronts the greater is the one that is taken first: whose record comes first in canonical
+/// order (RFC 4034 section 6), or else that of the run with the lower number.
+#[derive(Drop)]
+pub struct Front<Owner: AsOctets, Octets: AsOctets> {
+    pub record: Record<Owner, Octets>,
+    /// The number of the run.
+    pub run: usize,
+}
+
+impl<Owner: AsOctets, Octets: AsOctets> PartialEq for Front<Owner, Octets> {
+    ghost use Rattle.zone_set.specs.Fronts.{same_front};
+    ghost use Rattle.zone_set.specs.FrontOrders.{fronts_alike};
+
+    ghost eq = { same_front };
+
+    ghost laws = { fronts_alike };
+
+    fn eq(&self, other: &Self) -> bool {
+        self.cmp(other).is_eq()
+    }
+}
+
+impl<Owner: AsOctets, Octets: AsOctets> Eq for Front<Owner, Octets> {
+    ghost use Rattle.zone_set.specs.FrontOrders.{fronts_equal};
+
+    ghost laws = { fronts_equal };
+}
+
+impl<Owner: AsOctets, Octets: AsOctets> PartialOrd for Front<Owner, Octets> {
+    ghost use Rattle.std.specs.Ordering.{as_partial_cmp};
+    ghost use Rattle.zone_set.specs.Fronts.{front_order};
+    ghost use Rattle.zone_set.specs.FrontOrders.{fronts_ordered};
+
+    ghost partial_cmp = { as_partial_cmp front_order };
+
+    ghost laws = { fronts_ordered };
+
+    fn partial_cmp(&self, other: &Self) -> Option<Ordering> {
+        Some(self.cmp(other))
+    }
+}
+
+impl<Owner: AsOctets, Octets: AsOctets> Ord for Front<Owner, Octets> {
+    ghost use Rattle.zone_set.specs.Fronts.{front_order};
+    ghost use Rattle.zone_set.specs.FrontOrders.{fronts_total};
+    ghost use Rattle.std.specs.Prelude.{refl};
+
+    ghost cmp = { front_order };
+
+    ghost total = { fronts_total };
+
+    ghost matches_partial_cmp = { λ a b. refl };
+
+    ghost matches_eq = { λ a b. refl };
+
+    fn cmp(&self, other: &Self) -> Ordering {
+        other
+            .record
+            .compare(&self.record)
+            .then(other.run.cmp(&self.run))
+    }
+}
+
+/// The first records of runs, in no particular order.
+#[derive(Drop)]
+pub struct Fronts<Owner: AsOctets, Octets: AsOctets, A: Allocator = Global> {
+    heap: BinaryHeap<Front<Owner, Octets>, A>,
+}
+
+impl<Owner: AsOctets, Octets: AsOctets, A: Allocator> Model for Fronts<Owner, Octets, A> {
+    ghost use Rattle.std.specs.Prelude.{List};
+    ghost use Rattle.std.specs.BinaryHeap.{IsHeap, heap_items};
+    ghost use Rattle.zone_set.specs.Fronts.{front_order};
+    ghost use Rattle.zone_set.specs.declared.fronts.Front.{Front};
+
+    ghost Value = { List (Front Owner Octets) };
+
+    ghost view = { λ f. heap_items f.heap };
+
+    ghost invariant = { λ f. IsHeap front_order (heap_items f.heap) };
+}
+
+impl<Owner: AsOctets, Octets: AsOctets, A: Allocator> Fronts<Owner, Octets, A> {
+    /// No records.
+    pub fn new(alloc: A) -> Self
+        ensures { result ≡ [] }
+    {
+        Fronts {
+            heap: BinaryHeap::new(alloc),
+        }
+    }
+
+    /// Adds the first record of a run. If there is no memory for it, it comes back, and the others are
+    /// as they were.
+    pub fn push(
+        &mut self,
+        front: Front<Owner, Octets>,
+    ) -> Result<(), AllocFailed<Front<Owner, Octets>>>
+        ensures ok { OnOk result (IsPermutation (front ∷ self.old) self.new) }
+        ensures err { OnErr result (self.new ≡ self.old) }
+        ensures returned { IfErr result (λ e. e.value ≡ front) }
+    {
+        self.heap.push(front)
+    }
+
+    /// Takes the record out that comes first in canonical order (RFC 4034 section 6), of equal ones
+    /// that of the run with the lowest number.
+    pub fn take_first(&mut self) -> Option<Front<Owner, Octets>>
+        ensures taken { IfSome result (λ f. IsPermutation self.old (f ∷ self.new)) }
+        ensures first { IfSome result (λ f. All (ComesBefore f) self.new) }
+        ensures none { IfNone result (self.old ≡ []) }
+    {
+        self.heap.pop()
+    }
+}

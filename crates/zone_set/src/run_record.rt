@@ -1,0 +1,79 @@
+//! Records as the octets of a run: sorted records that are held outside of memory.
+ghost use Rattle.std.specs.Prelude.{◌≡◌, ◌<◌, ◌^◌, ◌++◌, length, IfSome, MatchOption, OnOk};
+ghost use Rattle.std.specs.Int.{to_be_bytes, w16, w32};
+ghost use Rattle.zone_set.specs.Runs.{counted, run_octets};
+
+use dns_octets::AsOctets;
+use dns_resource::{Data, Record};
+use dns_wire::Name;
+use std::alloc::{AllocError, Allocator};
+
+/// Appends how many octets there are, and these.
+fn push_counted<A: Allocator>(out: &mut Vec<u8, A>, octets: &[u8]) -> Result<(), AllocError>
+    requires { length octets.now < 2 ^ 16 }
+    ensures { OnOk result (out.new.items ≡ out.old.items ++ counted octets.now) }
+{
+    let count = octets.len() as u16;
+    out.extend_from_slice(&count.to_be_bytes())?;
+    out.extend_from_slice(octets)
+}
+
+/// Appends a record: its time to live, its class and type, and its owner and data with how many octets
+/// each has in front. If there is no memory, a part of that may stand there.
+pub fn push_run_record<Owner: AsOctets, Octets: AsOctets, A: Allocator>(
+    out: &mut Vec<u8, A>,
+    one: &Record<Owner, Octets>,
+) -> Result<(), AllocError>
+    ensures { OnOk result (out.new.items ≡ out.old.items ++ run_octets one.now) }
+{
+    out.extend_from_slice(&one.ttl.to_be_bytes())?;
+    out.extend_from_slice(&one.class.to_be_bytes())?;
+    out.extend_from_slice(&one.data.code().to_be_bytes())?;
+    push_counted(out, one.owner.as_slice())?;
+    push_counted(out, one.data.as_slice())
+}
+
+/// The number of 16 bits with which octets begin, and what is behind it.
+fn take_number16(octets: &[u8]) -> Option<(u16, &[u8])>
+    ensures { MatchOption result (length octets.now < 2) (λ p. octets.now ≡ to_be_bytes w16 p.0 ++ p.1.now) }
+{
+    let (front, rest) = octets.split_first_chunk::<2>()?;
+    Some((u16::from_be_bytes(*front), rest))
+}
+
+/// The number of 32 bits with which octets begin, and what is behind it.
+fn take_number32(octets: &[u8]) -> Option<(u32, &[u8])>
+    ensures { MatchOption result (length octets.now < 4) (λ p. octets.now ≡ to_be_bytes w32 p.0 ++ p.1.now) }
+{
+    let (front, rest) = octets.split_first_chunk::<4>()?;
+    Some((u32::from_be_bytes(*front), rest))
+}
+
+/// The octets that stand behind their number, and what is behind them.
+fn take_counted(octets: &[u8]) -> Option<(&[u8], &[u8])>
+    ensures { IfSome result (λ p. octets.now ≡ counted p.0.now ++ p.1.now) }
+{
+    let (count, rest) = take_number16(octets)?;
+    rest.split_at_checked(usize::from(count))
+}
+
+/// The record with which octets of a run begin, and the octets behind it; and none where they don't
+/// begin with a whole record, as those of a run that was cut or damaged. It takes no memory.
+pub fn take_run_record<'a>(octets: &'a [u8]) -> Option<(Record<&'a [u8], &'a [u8]>, &'a [u8])>
+    ensures { IfSome result (λ p. octets.now ≡ run_octets p.0 ++ p.1.now) }
+{
+    let (ttl, rest) = take_number32(octets)?;
+    let (class, rest) = take_number16(rest)?;
+    let (code, rest) = take_number16(rest)?;
+    let (owner, rest) = take_counted(rest)?;
+    let (data, rest) = take_counted(rest)?;
+    let owner = Name::from_octets(owner).ok()?;
+    let data = Data::from_octets(code, data).ok()?;
+    let one = Record {
+        owner,
+        ttl,
+        class,
+        data,
+    };
+    Some((one, rest))
+}
