@@ -11,8 +11,8 @@ _zonetext() {
             options+=' --max-ttl --class --json --max --color --verbose --quiet -v'
             ;;
         canon)
-            options='--keep-order --wire --type --only-dnssec --zone --class --include --no-dnssec'
-            options+=' --no-soa --quiet'
+            options='--keep-order --memory --wire --type --only-dnssec --zone --class --include'
+            options+=' --no-dnssec --no-soa --quiet'
             ;;
         diff)
             options='--entries --summary --max-changes --zone --class --include --no-dnssec --no-soa'

@@ -38,6 +38,7 @@ complete -c zonetext -n '__fish_seen_subcommand_from fmt' -l diff -d 'Show what 
 complete -c zonetext -n '__fish_seen_subcommand_from fmt' -l force -d 'Also replace zones that a server changes itself'
 complete -c zonetext -n '__fish_seen_subcommand_from lines' -l tabbed -d 'Put tabs between tokens'
 complete -c zonetext -n '__fish_seen_subcommand_from canon' -l keep-order -d 'Keep the order of the files'
+complete -c zonetext -n '__fish_seen_subcommand_from canon' -x -l memory -d 'Sort in so many octets of memory, and on disk'
 complete -c zonetext -n '__fish_seen_subcommand_from canon' -l wire -d 'Write data as octets, in hexadecimal'
 complete -c zonetext -n '__fish_seen_subcommand_from canon' -x -l type -d 'Write records of this type alone'
 complete -c zonetext -n '__fish_seen_subcommand_from canon' -l only-dnssec -d 'Leave out all but what signing adds'

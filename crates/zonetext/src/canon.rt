@@ -2,7 +2,11 @@
 use crate::gathered::{Gathered, NumberedRecord, gather};
 use crate::lines::Lines;
 use crate::reading::Reading;
+use crate::run_files::TakeRecord;
+use crate::sorting::{Sorting, gather_sorting};
 use crate::stop::{Stop, conclude};
+use dns_octets::AsOctets;
+use dns_resource::Record;
 use std::alloc::{AllocError, Global};
 use std::io;
 use zone_set::{Selection, push_generic, push_record};
@@ -57,7 +61,11 @@ fn soa_first(alloc: Global, records: &[NumberedRecord<'_>]) -> Result<Vec<usize>
 }
 
 /// Appends the line of a record.
-fn push_line(text: &mut String, record: &NumberedRecord<'_>, form: Form) -> Result<(), AllocError> {
+fn push_line<Owner: AsOctets, Octets: AsOctets>(
+    text: &mut String,
+    record: &Record<Owner, Octets>,
+    form: Form,
+) -> Result<(), AllocError> {
     if form.is_generic {
         push_generic(text, record)
     } else {
@@ -89,7 +97,7 @@ fn write_records(
 }
 
 /// Says how many records were left out because they stood there twice.
-fn tell_duplicates(rt: &HostRuntime, duplicates: usize) -> io::Result<()> {
+fn tell_duplicates(rt: &HostRuntime, duplicates: u64) -> io::Result<()> {
     match duplicates {
         0 => Ok(()),
         1 => eprintln!(rt; "zonetext: 1 duplicate left out"),
@@ -101,7 +109,7 @@ fn tell_duplicates(rt: &HostRuntime, duplicates: usize) -> io::Result<()> {
 fn write_gathered(rt: &HostRuntime, gathered: &Gathered, form: Form) -> Result<(), Stop> {
     let (set, duplicates) = gathered.set()?;
     write_records(rt, set.as_slice(), gathered.len(), form)?;
-    tell_duplicates(rt, duplicates)?;
+    tell_duplicates(rt, duplicates as u64)?;
     Ok(())
 }
 
@@ -118,6 +126,54 @@ pub fn run(
         Err(status) => return status,
     };
     match write_gathered(rt, &gathered, form) {
+        Ok(()) => 0,
+        Err(stop) => conclude(rt, "-", stop),
+    }
+}
+
+/// Writes records to standard output.
+#[derive(Drop)]
+struct LineWriter<'l> {
+    lines: Lines<'l>,
+    form: Form,
+}
+
+impl TakeRecord for LineWriter<'_> {
+    fn take_record<Owner: AsOctets, Octets: AsOctets>(
+        &mut self,
+        one: &Record<Owner, Octets>,
+    ) -> Result<(), Stop> {
+        push_line(&mut self.lines.text, one, self.form)?;
+        self.lines.flush_block()?;
+        Ok(())
+    }
+}
+
+/// Writes the records of files, and says how many stood there twice.
+fn write_sorted(rt: &HostRuntime, sorting: Sorting<'_>, form: Form) -> Result<(), Stop> {
+    let lines = Lines::new(rt);
+    let mut writer = LineWriter { lines, form };
+    let duplicates = sorting.finish(&mut writer)?;
+    writer.lines.flush()?;
+    tell_duplicates(rt, duplicates)?;
+    Ok(())
+}
+
+/// Writes the records of files in full, in so many octets of memory, and returns the status. Their order
+/// is the canonical one.
+pub fn run_bounded(
+    rt: &HostRuntime,
+    files: &[&str],
+    reading: Reading<'_>,
+    selection: Selection<'_>,
+    form: Form,
+    size: usize,
+) -> u8 {
+    let sorting = match gather_sorting(rt, files, reading, selection, size) {
+        Ok(sorting) => sorting,
+        Err(status) => return status,
+    };
+    match write_sorted(rt, sorting, form) {
         Ok(()) => 0,
         Err(stop) => conclude(rt, "-", stop),
     }

@@ -38,13 +38,47 @@ impl Gathered {
     }
 }
 
+/// Puts records into canonical form, one by one.
+#[derive(Drop)]
+pub struct Lowerer {
+    owner: Vec<u8>,
+    data: Vec<u8>,
+}
+
+impl Lowerer {
+    /// Before the first record.
+    pub fn new(alloc: Global) -> Lowerer {
+        Lowerer {
+            owner: Vec::new(alloc),
+            data: Vec::new(alloc),
+        }
+    }
+
+    /// The canonical form of a record.
+    pub fn lower<'l>(&'l mut self, given: Given<'_>) -> Result<Given<'l>, Stop> {
+        self.owner.truncate(0);
+        self.data.truncate(0);
+        if append_lowered(given.owner, &mut self.owner).is_err()
+            || append_canonical_data(given.code, given.data, &mut self.data).is_err()
+        {
+            return Err(Stop::OutOfMemory);
+        }
+        Ok(Given {
+            owner: self.owner.as_slice(),
+            ttl: given.ttl,
+            class: given.class,
+            code: given.code,
+            data: self.data.as_slice(),
+        })
+    }
+}
+
 /// Takes the records of files in canonical form.
 #[derive(Drop)]
 pub struct Gatherer<'s> {
     selection: Selection<'s>,
     held: Held<usize>,
-    owner: Vec<u8>,
-    data: Vec<u8>,
+    lowerer: Lowerer,
 }
 
 impl<'s> Gatherer<'s> {
@@ -53,8 +87,7 @@ impl<'s> Gatherer<'s> {
         Gatherer {
             selection,
             held: Held::new(alloc),
-            owner: Vec::new(alloc),
-            data: Vec::new(alloc),
+            lowerer: Lowerer::new(alloc),
         }
     }
 
@@ -75,19 +108,8 @@ impl TakeEntry for Gatherer<'_> {
         if !self.selection.takes(given.code) {
             return Ok(());
         }
-        self.owner.truncate(0);
-        self.data.truncate(0);
-        if append_lowered(given.owner, &mut self.owner).is_err()
-            || append_canonical_data(given.code, given.data, &mut self.data).is_err()
-        {
-            return Err(Stop::OutOfMemory);
-        }
         let number = self.held.len();
-        let lowered = Given {
-            owner: self.owner.as_slice(),
-            data: self.data.as_slice(),
-            ..given
-        };
+        let lowered = self.lowerer.lower(given)?;
         self.held.add(lowered, number)
     }
 }

@@ -21,6 +21,8 @@ const IN: u16 = 1;
 pub enum Usage {
     /// This option has no such value.
     Value(&'static str),
+    /// So much memory can't be said.
+    Size,
     /// Signatures are to be looked at, and no zone is said.
     NoZone,
     /// The clock can't be read.
@@ -64,6 +66,34 @@ pub fn number_of(text: Option<&str>, option: &'static str) -> Result<Option<u32>
     }
 }
 
+/// The least memory that an option may say, in octets.
+const LEAST_SIZE: usize = 64 * 1024;
+
+/// How many octets a text says, as `500000`, `64M` or `1G`; letters count by 1024.
+fn octets_of(text: &str) -> Option<usize> {
+    let (digits, unit) = match text.as_bytes().last() {
+        Some(b'K') => (text.strip_suffix('K')?, 1 << 10),
+        Some(b'M') => (text.strip_suffix('M')?, 1 << 20),
+        Some(b'G') => (text.strip_suffix('G')?, 1 << 30),
+        _ => (text, 1),
+    };
+    if !digits.bytes().all(|digit| digit.is_ascii_digit()) {
+        return None;
+    }
+    digits.parse::<usize>().ok()?.checked_mul(unit)
+}
+
+/// The octets of memory that an option says, if it is given.
+pub fn size_of(text: Option<&str>) -> Result<Option<usize>, Usage> {
+    let Some(text) = text else {
+        return Ok(None);
+    };
+    match octets_of(text) {
+        Some(size) if size >= LEAST_SIZE => Ok(Some(size)),
+        _ => Err(Usage::Size),
+    }
+}
+
 /// The zone that is named, if its option is given.
 pub fn zone_of<'o>(inner: &'o ArgMatches) -> Result<Option<&'o str>, Usage> {
     match inner.get_str("zone") {
@@ -78,6 +108,10 @@ pub fn status_of(rt: &HostRuntime, answer: Result<u8, Usage>) -> io::Result<u8> 
         Ok(status) => Ok(status),
         Err(Usage::Value(option)) => {
             eprintln!(rt; "zonetext: {option} has no such value")?;
+            Ok(USAGE)
+        }
+        Err(Usage::Size) => {
+            eprintln!(rt; "zonetext: --memory takes octets, 64K or more, as 500000, 64M or 1G")?;
             Ok(USAGE)
         }
         Err(Usage::NoZone) => {

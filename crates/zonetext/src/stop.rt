@@ -16,6 +16,10 @@ pub enum Stop {
     Write(io::Error),
     /// A file can't be created, as one that is there already.
     Create { file: String, error: io::Error },
+    /// Sorted runs can't be written below a folder, or read again.
+    Runs { folder: String, error: io::Error },
+    /// What is in memory is no record any more.
+    Damaged,
     /// There is no more memory.
     OutOfMemory,
     /// A file has more octets than can be counted.
@@ -62,6 +66,10 @@ pub fn conclude(rt: &HostRuntime, file: &str, stop: Stop) -> u8 {
         }
         Stop::Write(error) if error.kind() == ErrorKind::BrokenPipe => Ok(()),
         Stop::Write(error) => eprintln!(rt; "zonetext: {error}"),
+        Stop::Runs { folder, error } => {
+            eprintln!(rt; "zonetext: sorted runs below {folder}: {error}")
+        }
+        Stop::Damaged => eprintln!(rt; "zonetext: {file}: records in memory are damaged"),
         Stop::OutOfMemory => eprintln!(rt; "zonetext: {file}: not enough memory"),
         Stop::TooLong => eprintln!(rt; "zonetext: {file}: more octets than can be counted"),
     };

@@ -1,6 +1,6 @@
 //! The words of the commands that read records: `records`, `canon`, `diff` and `digest`.
 use crate::command::{QUIET, flag, over_files, required_file, valued, values};
-use crate::options::{Usage, class_of, number_of, status_of, zone_of};
+use crate::options::{Usage, class_of, number_of, size_of, status_of, zone_of};
 use crate::reading::Reading;
 use crate::{canon, changes, digest, digest_writing, records};
 use clap::{ArgMatches, Command};
@@ -16,6 +16,9 @@ const ZONE: &str = "the zone: the origin at the beginning of a file";
 const INCLUDE: &str = "a folder of which files may be included, besides the file's own";
 
 const CLASS: &str = "the class of records that say none, IN unless given";
+
+/// What is said of the memory that `canon` may take.
+const MEMORY: &str = "sort in so many octets of memory, as 64M, and on disk (TMPDIR)";
 
 /// The options of all of them.
 fn with_reading<'a>(alloc: Global, command: Command<'a>) -> Result<Command<'a>, AllocError> {
@@ -44,8 +47,10 @@ pub fn records_command<'a>(alloc: Global, name: &'a str) -> Result<Command<'a>, 
 pub fn canon_command<'a>(alloc: Global, name: &'a str) -> Result<Command<'a>, AllocError> {
     let about = "Write the records of zone files in full, in canonical order";
     let only_dnssec = "leave out all but what signing adds";
+    let memory = valued(alloc, "memory", "SIZE", MEMORY).conflicts_with("keep-order")?;
     let command = over_files(alloc, name, about)?
         .arg(flag(alloc, "keep-order", "keep the order of the files"))?
+        .arg(memory)?
         .arg(flag(alloc, "wire", "write data as octets, in hexadecimal"))?
         .arg(values(alloc, "type", "TYPE", "write records of this type alone"))?
         .arg(flag(alloc, "only-dnssec", only_dnssec).conflicts_with("no-dnssec")?)?;
@@ -138,7 +143,10 @@ fn write_canonical(rt: &HostRuntime, inner: &ArgMatches, files: &[&str]) -> Resu
         keeps_order: inner.get_flag("keep-order"),
     };
     let reading = reading_of(inner, true)?;
-    Ok(canon::run(rt, files, reading, selection, form))
+    match size_of(inner.get_str("memory"))? {
+        Some(size) => Ok(canon::run_bounded(rt, files, reading, selection, form, size)),
+        None => Ok(canon::run(rt, files, reading, selection, form)),
+    }
 }
 
 /// Compares two files by their records.

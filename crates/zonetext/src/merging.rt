@@ -1,0 +1,191 @@
+//! Sorted runs that are read again, record by record, and merged.
+use crate::run_files::{Run, RunFile, TakeRecord};
+use crate::stop::Stop;
+use dns_resource::{Data, Record};
+use dns_wire::Name;
+use std::alloc::Global;
+use zone_set::{Front, Fronts, take_run_record};
+
+/// More octets than a record of a run has: an owner has 255 at most, and data 65,535.
+const LONGEST: usize = 66 * 1024;
+
+/// A record that holds its octets itself.
+pub type OwnRecord = Record<Vec<u8>, Vec<u8>>;
+
+/// A run that is read from its file in blocks.
+#[derive(Drop)]
+struct RunReader {
+    alloc: Global,
+    /// Its octets in the file that were not read.
+    start: u64,
+    end: u64,
+    /// How many of its records were not given.
+    left: u64,
+    /// How many octets are read at a time.
+    block: usize,
+    /// Octets that were read.
+    octets: Vec<u8>,
+    /// How many of these belong to records that were given.
+    given: usize,
+}
+
+/// A copy of a record.
+fn own(alloc: Global, one: &Record<&[u8], &[u8]>) -> Result<Option<OwnRecord>, Stop> {
+    let owner = Vec::from_slice(alloc, one.owner.as_slice())?;
+    let octets = Vec::from_slice(alloc, one.data.as_slice())?;
+    match (
+        Name::from_octets(owner),
+        Data::from_octets(one.data.code(), octets),
+    ) {
+        (Ok(owner), Ok(data)) => Ok(Some(Record {
+            owner,
+            ttl: one.ttl,
+            class: one.class,
+            data,
+        })),
+        _ => Ok(None),
+    }
+}
+
+impl RunReader {
+    /// Before the first record.
+    fn new(alloc: Global, run: Run, block: usize) -> Result<RunReader, Stop> {
+        Ok(RunReader {
+            alloc,
+            start: run.start,
+            end: run.end,
+            left: run.count,
+            block,
+            octets: Vec::with_capacity(alloc, block.saturating_mul(2))?,
+            given: 0,
+        })
+    }
+
+    /// Lets the octets go that were given.
+    fn let_go(&mut self) {
+        let given = self.given.min(self.octets.len());
+        self.octets.rotate_left(given);
+        self.octets
+            .truncate(self.octets.len().saturating_sub(given));
+        self.given = 0;
+    }
+
+    /// Reads the next octets.
+    fn fill(&mut self, file: &RunFile<'_>) -> Result<(), Stop> {
+        self.let_go();
+        let behind = self.end.saturating_sub(self.start);
+        let count = behind.min(self.block as u64);
+        let old = self.octets.len();
+        self.octets.resize(old.saturating_add(count as usize), 0)?;
+        if old <= self.octets.len() {
+            file.read(&mut self.octets[old..], self.start)?;
+        }
+        self.start = self.start.saturating_add(count);
+        Ok(())
+    }
+
+    /// The next record, if what was read has all of it.
+    fn read_record(&mut self) -> Result<Option<OwnRecord>, Stop> {
+        let octets = self.octets.get(self.given..).unwrap_or(&[]);
+        let Some((one, rest)) = take_run_record(octets) else {
+            return Ok(None);
+        };
+        self.given = self.octets.len() - rest.len().min(self.octets.len());
+        own(self.alloc, &one)
+    }
+
+    /// The next record. A run that ends before or behind its last record is damaged.
+    fn next_record(&mut self, file: &RunFile<'_>) -> Result<Option<OwnRecord>, Stop> {
+        if self.left == 0 {
+            let is_read = self.start == self.end && self.given == self.octets.len();
+            return if is_read {
+                Ok(None)
+            } else {
+                Err(file.damaged())
+            };
+        }
+        for _ in 0..u64::MAX {
+            if let Some(one) = self.read_record()? {
+                self.left = self.left.saturating_sub(1);
+                return Ok(Some(one));
+            }
+            let unread = self.octets.len().saturating_sub(self.given);
+            if self.start >= self.end || unread > LONGEST {
+                return Err(file.damaged());
+            }
+            self.fill(file)?;
+        }
+        Err(file.damaged())
+    }
+}
+
+/// Runs that are merged.
+#[derive(Drop)]
+struct Merger {
+    readers: Vec<RunReader>,
+    fronts: Fronts<Vec<u8>, Vec<u8>>,
+}
+
+impl Merger {
+    /// Before the first record of the runs of a file.
+    fn new(alloc: Global, file: &RunFile<'_>, runs: &[Run], block: usize) -> Result<Merger, Stop> {
+        let mut merger = Merger {
+            readers: Vec::new(alloc),
+            fronts: Fronts::new(alloc),
+        };
+        for (number, run) in runs.iter().enumerate() {
+            merger.readers.push(RunReader::new(alloc, *run, block)?)?;
+            merger.advance(file, number)?;
+        }
+        Ok(merger)
+    }
+
+    /// Takes in the next record of a run.
+    fn advance(&mut self, file: &RunFile<'_>, run: usize) -> Result<(), Stop> {
+        let Some(reader) = self.readers.get_mut(run) else {
+            return Ok(());
+        };
+        if let Some(record) = reader.next_record(file)? {
+            self.fronts.push(Front { record, run })?;
+        }
+        Ok(())
+    }
+
+    /// The record that comes next in canonical order.
+    fn next_record(&mut self, file: &RunFile<'_>) -> Result<Option<OwnRecord>, Stop> {
+        let Some(Front { record, run }) = self.fronts.take_first() else {
+            return Ok(None);
+        };
+        self.advance(file, run)?;
+        Ok(Some(record))
+    }
+}
+
+/// Gives the records of runs in canonical order, of each owner, class, type and data the first alone,
+/// and returns how many were left out for that.
+pub fn merge<T: TakeRecord>(
+    alloc: Global,
+    file: &RunFile<'_>,
+    runs: &[Run],
+    block: usize,
+    taker: &mut T,
+) -> Result<u64, Stop> {
+    let mut merger = Merger::new(alloc, file, runs, block)?;
+    let mut last: Option<OwnRecord> = None;
+    let mut duplicates: u64 = 0;
+    for _ in 0..u64::MAX {
+        let Some(record) = merger.next_record(file)? else {
+            return Ok(duplicates);
+        };
+        if last
+            .as_ref()
+            .is_some_and(|last| record.compare(last).is_eq())
+        {
+            duplicates = duplicates.saturating_add(1);
+        } else {
+            taker.take_record(&record)?;
+            last = Some(record);
+        }
+    }
+    Err(file.damaged())
+}

@@ -1,0 +1,171 @@
+//! Records that are put into canonical order, in memory and, what doesn't fit, in runs on disk.
+use crate::merging::merge;
+use crate::run_files::{RunFile, TakeRecord};
+use crate::stop::Stop;
+use dns_resource::Record;
+use std::alloc::Global;
+use zone_set::{CanonicalSet, ZoneSet, push_run_record, take_run_record};
+
+/// How many octets a record takes while it is sorted, besides its own.
+const INDEX: usize = 128;
+
+/// How many runs are merged at a time.
+const WIDTH: usize = 64;
+
+/// How often runs are merged at most, to be few enough: that is never reached.
+const PASSES: usize = 64;
+
+/// The least and the most octets of a run that are read at a time.
+const LEAST_BLOCK: usize = 4 * 1024;
+
+const MOST_BLOCK: usize = 256 * 1024;
+
+/// Records that are put into canonical order.
+#[derive(Drop)]
+pub struct Sorter<'s> {
+    rt: &'s HostRuntime,
+    /// How many octets of memory are used at most.
+    size: usize,
+    /// The records that are in memory, as octets of a run.
+    octets: Vec<u8>,
+    /// How many these are.
+    count: usize,
+    /// The others, in runs.
+    file: Option<RunFile<'s>>,
+    /// How many were left out because they stood there twice.
+    duplicates: u64,
+}
+
+/// Records over octets that stand elsewhere, in canonical order.
+type LentSet<'l> = CanonicalSet<&'l [u8], &'l [u8]>;
+
+/// The records of octets of a run in canonical order, and how many were left out because they stood
+/// there twice; and nothing where the octets are no such records.
+fn sorted<'l>(
+    alloc: Global,
+    octets: &'l [u8],
+    count: usize,
+) -> Result<Option<(LentSet<'l>, usize)>, Stop> {
+    let mut set = ZoneSet::with_capacity(alloc, count)?;
+    let mut rest = octets;
+    for _ in 0..count {
+        let Some((one, behind)) = take_run_record(rest) else {
+            return Ok(None);
+        };
+        set.push(one)?;
+        rest = behind;
+    }
+    match CanonicalSet::from_set(set) {
+        Ok(made) => Ok(Some(made)),
+        Err(_) => Err(Stop::OutOfMemory),
+    }
+}
+
+/// Gives records in their order.
+fn give<T: TakeRecord>(set: &LentSet<'_>, taker: &mut T) -> Result<(), Stop> {
+    for one in set.as_slice() {
+        taker.take_record(one)?;
+    }
+    Ok(())
+}
+
+impl<'s> Sorter<'s> {
+    /// No records, in so many octets of memory.
+    pub fn new(rt: &'s HostRuntime, size: usize) -> Sorter<'s> {
+        Sorter {
+            rt,
+            size,
+            octets: Vec::new(rt.alloc()),
+            count: 0,
+            file: None,
+            duplicates: 0,
+        }
+    }
+
+    /// Whether so many octets more are too many.
+    fn is_full(&self, more: usize) -> bool {
+        let octets = self.octets.len().saturating_add(more);
+        let index = self.count.saturating_add(1).saturating_mul(INDEX);
+        octets > self.size / 2 || octets.saturating_add(index) > self.size
+    }
+
+    /// Takes a record.
+    pub fn add(&mut self, one: &Record<&[u8], &[u8]>) -> Result<(), Stop> {
+        let more = one
+            .owner
+            .len()
+            .saturating_add(one.data.as_slice().len())
+            .saturating_add(12);
+        if self.count > 0 && self.is_full(more) {
+            self.write_run()?;
+        }
+        if self.count == 0 {
+            self.octets.reserve_exact(self.size / 2)?;
+        }
+        push_run_record(&mut self.octets, one)?;
+        self.count = self.count.saturating_add(1);
+        Ok(())
+    }
+
+    /// Gives the records in memory in canonical order, of duplicates the first, and forgets them.
+    fn give_held<T: TakeRecord>(&mut self, taker: &mut T) -> Result<(), Stop> {
+        let Some((set, duplicates)) = sorted(self.rt.alloc(), self.octets.as_slice(), self.count)?
+        else {
+            return Err(Stop::Damaged);
+        };
+        give(&set, taker)?;
+        self.duplicates = self.duplicates.saturating_add(duplicates as u64);
+        Ok(())
+    }
+
+    /// Writes the records in memory as a run.
+    fn write_run(&mut self) -> Result<(), Stop> {
+        let mut file = match self.file.take() {
+            Some(file) => file,
+            None => RunFile::create(self.rt)?,
+        };
+        self.give_held(&mut file)?;
+        file.end_run()?;
+        self.file = Some(file);
+        self.octets.truncate(0);
+        self.count = 0;
+        Ok(())
+    }
+
+    /// How many octets of a run are read at a time.
+    fn block(&self) -> usize {
+        (self.size / WIDTH / 4).clamp(LEAST_BLOCK, MOST_BLOCK)
+    }
+
+    /// Merges runs to fewer, in another file.
+    fn merge_some(&mut self, file: RunFile<'s>) -> Result<RunFile<'s>, Stop> {
+        let mut next = RunFile::create(self.rt)?;
+        for runs in file.runs().chunks(WIDTH) {
+            let duplicates = merge(self.rt.alloc(), &file, runs, self.block(), &mut next)?;
+            self.duplicates = self.duplicates.saturating_add(duplicates);
+            next.end_run()?;
+        }
+        Ok(next)
+    }
+
+    /// Gives all records in canonical order, of each owner, class, type and data the first alone, and
+    /// returns how many were left out for that.
+    pub fn finish<T: TakeRecord>(mut self, taker: &mut T) -> Result<u64, Stop> {
+        if self.file.is_none() {
+            self.give_held(taker)?;
+            return Ok(self.duplicates);
+        }
+        self.write_run()?;
+        self.octets = Vec::new(self.rt.alloc());
+        let Some(mut file) = self.file.take() else {
+            return Ok(self.duplicates);
+        };
+        for _ in 0..PASSES {
+            if file.runs().len() > WIDTH {
+                file = self.merge_some(file)?;
+            }
+        }
+        let duplicates = merge(self.rt.alloc(), &file, file.runs(), self.block(), taker)?;
+        Ok(self.duplicates.saturating_add(duplicates))
+    }
+}

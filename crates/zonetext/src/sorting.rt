@@ -1,0 +1,92 @@
+//! The records of zone files in canonical order, whose memory is bounded.
+use crate::gathered::Lowerer;
+use crate::reading::{Outcome, Reading, TakeEntry, give_entries};
+use crate::run_files::TakeRecord;
+use crate::sorter::Sorter;
+use crate::stop::Stop;
+use crate::zone_files::Entry;
+use dns_resource::{Data, Record};
+use dns_wire::Name;
+use zone_set::Selection;
+
+/// The code of SOA.
+const SOA: u16 = 6;
+
+/// SOAs take this part of memory.
+const SOA_PART: usize = 8;
+
+/// The records of files, SOAs apart from all others.
+#[derive(Drop)]
+pub struct Sorting<'s> {
+    selection: Selection<'s>,
+    lowerer: Lowerer,
+    soas: Sorter<'s>,
+    others: Sorter<'s>,
+}
+
+impl<'s> Sorting<'s> {
+    /// Before the first record, in so many octets of memory.
+    fn new(rt: &'s HostRuntime, selection: Selection<'s>, size: usize) -> Sorting<'s> {
+        let soas = size / SOA_PART;
+        Sorting {
+            selection,
+            lowerer: Lowerer::new(rt.alloc()),
+            soas: Sorter::new(rt, soas),
+            others: Sorter::new(rt, size - soas),
+        }
+    }
+
+    /// Gives the records in canonical order, the SOAs first, of each owner, class, type and data the
+    /// first alone, and returns how many were left out for that.
+    pub fn finish<T: TakeRecord>(self, taker: &mut T) -> Result<u64, Stop> {
+        let Sorting { soas, others, .. } = self;
+        let duplicates = soas.finish(taker)?;
+        Ok(duplicates.saturating_add(others.finish(taker)?))
+    }
+}
+
+impl TakeEntry for Sorting<'_> {
+    fn take_entry(&mut self, entry: &Entry<'_>) -> Result<(), Stop> {
+        let Some(given) = entry.record() else {
+            return Ok(());
+        };
+        if !self.selection.takes(given.code) {
+            return Ok(());
+        }
+        let lowered = self.lowerer.lower(given)?;
+        let owner = Name::from_octets(lowered.owner);
+        let data = Data::from_octets(lowered.code, lowered.data);
+        let (Ok(owner), Ok(data)) = (owner, data) else {
+            return Err(Stop::Damaged);
+        };
+        let one = Record {
+            owner,
+            ttl: lowered.ttl,
+            class: lowered.class,
+            data,
+        };
+        if lowered.code == SOA {
+            self.soas.add(&one)
+        } else {
+            self.others.add(&one)
+        }
+    }
+}
+
+/// The records of files that are selected, in so many octets of memory. If an entry is refused, that is
+/// said, and the status is returned in place of them: 1, or 3 where a file can't be read or a run can't
+/// be written.
+pub fn gather_sorting<'s>(
+    rt: &'s HostRuntime,
+    files: &[&str],
+    reading: Reading<'_>,
+    selection: Selection<'s>,
+    size: usize,
+) -> Result<Sorting<'s>, u8> {
+    let sorting = Sorting::new(rt, selection, size);
+    let Outcome { status, taker, .. } = give_entries(rt, files, reading, sorting);
+    if status > 0 {
+        return Err(status);
+    }
+    Ok(taker)
+}
