@@ -9,6 +9,9 @@ pub(crate) fn first_entry(octets: &[u8], is_last: bool) -> Option<Result<usize, 
     ensures { StandsFirst octets.now is_last result }
 {
     let mut pieces = Pieces::of_octets(octets);
+    if let Some(end) = pieces.pass_line() {
+        return Some(Ok(end));
+    }
     while let Some(piece) = pieces.next() {
         match piece {
             Ok(Piece::End(end)) => {
