@@ -159,6 +159,50 @@ static void records(void) {
     }
 }
 
+/* Character strings that have so many octets with their lengths, as text and in wire form. */
+static size_t strings(size_t left, char *text, char *wire) {
+    char *at = text + sprintf(text, "a 1 TXT");
+    while (left != 0) {
+        size_t count = (left < 256 ? left : 256) - 1;
+        *wire = (char)count;
+        memset(wire + 1, 'x', count);
+        *at++ = ' ';
+        *at++ = '"';
+        memset(at, 'x', count);
+        at += count;
+        *at++ = '"';
+        wire += 1 + count;
+        left -= 1 + count;
+    }
+    return (size_t)(at - text);
+}
+
+/* Data of as many octets as their length says in 16 bits (RFC 1035 section 3.2.1), and of one more: as a
+ * record, and both ways alone. */
+static void long_data(void) {
+    static const size_t lengths[] = {255, 1023, 1024, 1025, 1281, 4096, LONGEST - 1, LONGEST};
+    static char spelled[LONGEST + 1024], wire[LONGEST + 1];
+    static uint8_t printed[LONGEST + 1024];
+    size_t i, length;
+    for (i = 0; i < sizeof lengths / sizeof *lengths; i++) {
+        begin();
+        length = strings(lengths[i], spelled, wire);
+        gives(spelled, length, DNS_OK, wire, lengths[i], __LINE__);
+        ends(spelled, length, __LINE__);
+        EXPECT(dns_data_read(16, (const uint8_t *)spelled + 8, length - 8, NULL, 0, octets, LONGEST,
+                             &outcome) == DNS_OK);
+        EXPECT(outcome.length == lengths[i] && memcmp(octets, wire, lengths[i]) == 0);
+        EXPECT(dns_data_print(16, (const uint8_t *)wire, lengths[i], printed, sizeof printed, &outcome)
+               == DNS_OK);
+        EXPECT(outcome.length == length - 8 && memcmp(printed, spelled + 8, length - 8) == 0);
+    }
+    begin();
+    length = strings(LONGEST + 1, spelled, wire);
+    EXPECT(next(spelled, length, LONGEST) == DNS_BAD_DATA);
+    EXPECT(outcome.length < 255 && octets[outcome.length] == '-' && zone.at == length);
+    ends(spelled, length, __LINE__);
+}
+
 static void files(void) {
     static const char text[] = "$INCLUDE \"a file\"\n$INCLUDE b sub\nw 5 A 192.0.2.1";
     begin();
@@ -427,6 +471,7 @@ static void rows(FILE *file) {
 
 int main(void) {
     records();
+    long_data();
     files();
     refusals();
     origins();
