@@ -15,7 +15,7 @@ IsLedBy P [] = ⊤
 IsLedBy P (r ∷ run) = P r
 
 -- a record is taken from the front of a run: one before those that lead the earlier runs, and behind none that leads a later one
-pub record TakesFirst {N O : Type 0} (runs : List (List (Record N O))) (r : Record N O) (left : List (List (Record N O))) : Type 0 where
+pub record TakesFromRuns {N O : Type 0} (runs : List (List (Record N O))) (r : Record N O) (left : List (List (Record N O))) : Type 0 where
   pub earlier : List (List (Record N O))
   pub run : List (Record N O)
   pub later : List (List (Record N O))
@@ -27,7 +27,7 @@ pub record TakesFirst {N O : Type 0} (runs : List (List (Record N O))) (r : Reco
 -- records are taken until none are left
 abbrev pub MergesTo : {N O : Type 0} → List (List (Record N O)) → List (Record N O) → Type 0
 MergesTo runs [] = All (λ run. run ≡ []) runs
-MergesTo {N} {O} runs (r ∷ records) = (left : List (List (Record N O))) × TakesFirst runs r left × MergesTo left records
+MergesTo {N} {O} runs (r ∷ records) = (left : List (List (Record N O))) × TakesFromRuns runs r left × MergesTo left records
 
 -- each run is what its part of all records has under each key
 abbrev pub AreRunsOf : {N O : Type 0} → List (List (Record N O)) → List (List (Record N O)) → Type 0

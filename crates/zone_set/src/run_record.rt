@@ -1,7 +1,7 @@
 //! Records as the octets of a run: sorted records that are held outside of memory.
 ghost use Rattle.std.specs.Prelude.{◌≡◌, ◌<◌, ◌^◌, ◌++◌, length, IfSome, MatchOption, OnOk};
 ghost use Rattle.std.specs.Int.{to_be_bytes, w16, w32};
-ghost use Rattle.zone_set.specs.Runs.{counted, run_octets};
+ghost use Rattle.zone_set.specs.Runs.{behind_length, run_octets};
 
 use dns_octets::AsOctets;
 use dns_resource::{Data, Record};
@@ -11,7 +11,7 @@ use std::alloc::{AllocError, Allocator};
 /// Appends how many octets there are, and these.
 fn push_counted<A: Allocator>(out: &mut Vec<u8, A>, octets: &[u8]) -> Result<(), AllocError>
     requires { length octets.now < 2 ^ 16 }
-    ensures { OnOk result (out.new.items ≡ out.old.items ++ counted octets.now) }
+    ensures { OnOk result (out.new.items ≡ out.old.items ++ behind_length octets.now) }
 {
     let count = octets.len() as u16;
     out.extend_from_slice(&count.to_be_bytes())?;
@@ -51,7 +51,7 @@ fn take_number32(octets: &[u8]) -> Option<(u32, &[u8])>
 
 /// The octets that stand behind their number, and what is behind them.
 fn take_counted(octets: &[u8]) -> Option<(&[u8], &[u8])>
-    ensures { IfSome result (λ p. octets.now ≡ counted p.0.now ++ p.1.now) }
+    ensures { IfSome result (λ p. octets.now ≡ behind_length p.0.now ++ p.1.now) }
 {
     let (count, rest) = take_number16(octets)?;
     rest.split_at_checked(usize::from(count))
