@@ -24,7 +24,7 @@ each_wire f each (t ∷ ts) octets h k =
     let rest = each_wire f each ts k.1 h.1 k.4 in
     (k.0 ∷ rest.0, (each t k.0 h.0 k.3, rest.1), k.2 ∙ ap (λ o. k.0 ++ o) rest.2)
 
-then_wire : (f : TokenForm) (behind : List ℕ → RestForm) → ((t : TokenSeen) (octets : List ℕ) → AreOctetValues t.text → f.spells t octets → f.is_wire octets)
+pub then_wire : (f : TokenForm) (behind : List ℕ → RestForm) → ((t : TokenSeen) (octets : List ℕ) → AreOctetValues t.text → f.spells t octets → f.is_wire octets)
     → ((front : List ℕ) (tokens : List TokenSeen) (octets : List ℕ) → HoldOctets tokens → (behind front).spells tokens octets → (behind front).is_wire octets)
     → (tokens : List TokenSeen) (octets : List ℕ) → HoldOctets tokens → SpellsThen f behind tokens octets → IsThen f behind octets
 then_wire f behind each rest tokens octets h k =

@@ -1,11 +1,11 @@
 -- Sets of types as the bits of octets.
-use Rattle.std.proofs.Common.{◌≡◌, ◌≢◌, ℕ, ◌+◌, ◌-◌, ◌*◌, ◌/◌, ◌%◌, ◌^◌, ◌<◌, ◌≤◌, ◌||◌, ◌==◌, Bool, true, false, cond, List, [], ◌∷◌, ◌++◌, length, get_or, take, drop, set, bit_or, refl, sym, ap, ◌∙◌, arith, inl, inr, append-nil, append_assoc, MatchBool}
+use Rattle.std.proofs.Common.{◌≡◌, ◌≢◌, ℕ, ◌+◌, ◌-◌, ◌*◌, ◌/◌, ◌%◌, ◌^◌, ◌<◌, ◌≤◌, ◌⊎◌, ◌||◌, ◌==◌, Bool, true, false, cond, List, [], ◌∷◌, ◌++◌, length, get_or, take, drop, set, bit_or, refl, sym, ap, ◌∙◌, arith, inl, inr, append-nil, append_assoc, MatchBool}
 use Rattle.std.specs.Int.{bit_at}
 use Rattle.std.proofs.lemmas.List.{get_or-take, get_or-drop, length-take-le, length-take, length-drop, length-append, get_or_past}
 use Rattle.std.proofs.lemmas.Bool.{cases_lt, eq-eqb, ne_eqb, eqb-true, eqb-false}
 use Rattle.std.proofs.lemmas.Nat.Bits.{bit_at-zero}
 use Rattle.dns_lists.specs.Bitmap.{has, one_if, bit_in, trimmed, window_octets_of, window_block, window_blocks, bitmap, SameTypes}
-use Rattle.dns_lists.specs.Members.{members, CoversTypes}
+use Rattle.dns_lists.specs.Members.{members, CoversTypes, EndsTypes}
 use Rattle.dns_lists.proofs.Bits.{set_place, octets_by_bits}
 use Rattle.dns_lists.proofs.Blocks.{blocks_split, blocks_empty, blocks_last}
 use Rattle.dns_lists.proofs.Windows.{window_of, window_empty}
@@ -48,6 +48,16 @@ has_no octets code l e = sym (bit_of false octets code l (sym e))
 pub none_above : (octets : List ℕ) (n : ℕ) → CoversTypes octets n → (code : ℕ) → code < 65536 → 256 * n ≤ code → has (members octets) code ≡ false
 none_above octets n c code l m = has_no octets code l (c.above code l m)
 
+-- and the last of them has one
+pub ends_types : (octets types : List ℕ) (n end : ℕ) → CoversTypes octets n → end ≡ 256 * n → members octets ≡ types → EndsTypes types end
+ends_types octets types n end c e is = record { whole = omega (arith, e); last = λ some. last (c.some (λ none. some (omega (arith, e, none)))) }
+  where
+    last : (code : ℕ) × (code < 65536) × (256 * n ≤ code + 256) × (bit_in octets code ≡ 1) → (code : ℕ) × (code < end) × (end ≤ code + 256) × (has types code ≡ true)
+    last (code, small, near, set) = elim (cases_lt code end) [
+      | inl below ↦ (code, below, omega (arith, e, near), ap (λ ts. has ts code) (sym is) ∙ sym (bit_of true octets code small (sym set)))
+      | inr above ↦ absurd (let no = c.above code small (omega (arith, e, above)) in omega (arith, no, set))
+    ]
+
 -- after the blocks of the windows in use there are no others
 pub all_blocks : (octets : List ℕ) (n : ℕ) → CoversTypes octets n → window_blocks (window_of (members octets)) 0 n ≡ bitmap (members octets)
 all_blocks octets n c =
@@ -75,7 +85,7 @@ none_in_use octets n c e = no_places octets 0 65536 (λ p l h. c.above p (omega 
 pub some_in_use : (octets : List ℕ) (n : ℕ) → CoversTypes octets n → n ≢ 0 → members octets ≢ []
 some_in_use octets n c e none =
     let at = c.some e in
-    let is = members_have octets at.0 at.1 ∙ at.2 in
+    let is = members_have octets at.0 at.1 ∙ at.3 in
     let clear = ap (λ ts. one_if (has ts at.0)) none in omega arith
 
 -- octets with the bit at a place set
@@ -91,12 +101,23 @@ added false octets q t l h e =
 pub with_type : (octets : List ℕ) (q : ℕ) → q / 8 < length octets → SameTypes (members (with_bit octets q)) (q ∷ members octets)
 with_type octets q l t h = added (q == t) octets q t l h refl
 
-pub still_covers : (octets : List ℕ) (n m q : ℕ) → q / 8 < length octets → q < 65536 → n ≤ m → q < 256 * m → m ≤ 256 → CoversTypes octets n → CoversTypes (with_bit octets q) m
-still_covers octets n m q l small low inside high c = record {
+keeps_bit : (octets : List ℕ) (q code : ℕ) → q / 8 < length octets → bit_in octets code ≡ 1 → bit_in (with_bit octets q) code ≡ 1
+keeps_bit octets q code l e = set_place octets q code l ∙ same (q == code) (bit_in octets code) e
+  where
+    same : (b : Bool) (bit : ℕ) → bit ≡ 1 → cond b 1 bit ≡ 1
+    same true bit e = refl
+    same false bit e = e
+
+pub still_covers : (octets : List ℕ) (n m q : ℕ) → q / 8 < length octets → q < 65536 → n ≤ m → q < 256 * m → m ≤ 256 → (n < m → 256 * m ≤ q + 256) → CoversTypes octets n → CoversTypes (with_bit octets q) m
+still_covers octets n m q l small low inside high near c = record {
   high = high;
   above = λ code h above. set_place octets q code l ∙ ap (λ b. cond b 1 (bit_in octets code)) (ne_eqb q code (λ e. omega arith)) ∙ c.above code h (omega arith);
-  some = λ e. (q, small, set_place octets q q l ∙ ap (λ b. cond b 1 (bit_in octets q)) (eq-eqb q q refl));
+  some = λ e. some (cases_lt n m) e;
 }
+  where
+    some : (n < m) ⊎ (m ≤ n) → m ≢ 0 → (code : ℕ) × (code < 65536) × (256 * m ≤ code + 256) × (bit_in (with_bit octets q) code ≡ 1)
+    some (inl more) e = (q, small, near more, set_place octets q q l ∙ ap (λ b. cond b 1 (bit_in octets q)) (eq-eqb q q refl))
+    some (inr same) e = let x = c.some (λ none. e (omega (arith, same, none))) in (x.0, x.1, omega (arith, x.2, same), keeps_bit octets q x.0 l x.3)
 
 -- one block more of a set
 pub block_more : (types old now new part : List ℕ) (w : ℕ) → now ≡ old ++ window_blocks (window_of types) 0 w → part ≡ window_octets_of types w

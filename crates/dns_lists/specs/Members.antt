@@ -1,13 +1,18 @@
 -- A set of types as the bits of 8192 octets.
-use Rattle.std.specs.Prelude.{◌≡◌, ◌≢◌, ℕ, ◌*◌, ◌<◌, ◌≤◌, List}
-use Rattle.dns_lists.specs.Bitmap.{bit_in, set_places}
+use Rattle.std.specs.Prelude.{◌≡◌, ◌≢◌, ℕ, ◌+◌, ◌*◌, ◌%◌, ◌<◌, ◌≤◌, true, false, List}
+use Rattle.dns_lists.specs.Bitmap.{bit_in, has, set_places}
 
 -- the codes whose bits are set
 abbrev pub members : List ℕ → List ℕ
 members octets = set_places octets 0 65536
 
--- so many windows have all types; where there are windows, there are types
+-- where the last window ends that has a type, or 0 where none has
+pub record EndsTypes (types : List ℕ) (end : ℕ) : Type 0 where
+  pub whole : end % 256 ≡ 0
+  pub last : end ≢ 0 → (code : ℕ) × (code < end) × (end ≤ code + 256) × (has types code ≡ true)
+
+-- so many windows have all types, and the last of them has one
 pub record CoversTypes (octets : List ℕ) (windows : ℕ) : Type 0 where
   pub high : windows ≤ 256
   pub above : (code : ℕ) → code < 65536 → 256 * windows ≤ code → bit_in octets code ≡ 0
-  pub some : windows ≢ 0 → (code : ℕ) × (code < 65536) × (bit_in octets code ≡ 1)
+  pub some : windows ≢ 0 → (code : ℕ) × (code < 65536) × (256 * windows ≤ code + 256) × (bit_in octets code ≡ 1)

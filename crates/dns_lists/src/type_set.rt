@@ -2,7 +2,7 @@
 ghost use Rattle.std.specs.Prelude.{◌≡◌, ◌≢◌, ℕ, ◌+◌, ◌<◌, ◌≤◌, false, List, [], ◌∷◌, ◌++◌, All, OnErr, OnOk, MatchBool, length, take, slice_index};
 ghost use Rattle.dns_octets.specs.Appending.{Extends, LacksRoom};
 ghost use Rattle.dns_lists.specs.Bitmap.{has, trimmed, window_octets_of, window_block, bitmap, IsAscending, SameTypes};
-ghost use Rattle.dns_lists.specs.Members.{members};
+ghost use Rattle.dns_lists.specs.Members.{EndsTypes, members};
 
 use crate::bitmap::is_set;
 use dns_octets::{OctetsBuilder, ShortBuf};
@@ -116,10 +116,11 @@ impl TypeSet {
         self.windows == 0
     }
 
-    /// A number that each type of the set is below.
+    /// Where the last window of 256 types ends that has a type of the set, or 0: each type is below.
     pub fn end(&self) -> u32
         ensures within { result ≤ 65536 }
         ensures above { (code : ℕ) → code < 65536 → result ≤ code → has self.now code ≡ false }
+        ensures last { EndsTypes self.now result }
     {
         256 * self.windows as u32
     }
