@@ -1,6 +1,6 @@
 -- What is given of whole octets ends with an entry's end, at theirs.
-use Rattle.std.proofs.Common.{◌≡◌, ℕ, ◌+◌, ◌<◌, ◌≤◌, Bool, false, List, [], ◌∷◌, ◌++◌, length, take, refl, sym, ap, ◌∙◌, subst, arith, inl, inr, take_all}
-use Rattle.std.specs.Prelude.{⊤, map, Result, Ok, encode_utf8_all}
+use Rattle.std.proofs.Common.{◌≡◌, ℕ, ◌≤◌, Bool, false, List, [], ◌∷◌, ◌++◌, length, refl, sym, ap, ◌∙◌, subst, arith, inl, inr, take_all}
+use Rattle.std.specs.Prelude.{map, Result, Ok, encode_utf8_all}
 use Rattle.std.proofs.lemmas.Bool.{cases_lt}
 use Rattle.std.proofs.lemmas.List.{map-append}
 use Rattle.dns_split.specs.declared.pieces.EndOfEntry.{EndOfEntry}

@@ -1,13 +1,12 @@
 -- The first entry of octets, and of what they begin.
 use Rattle.std.proofs.Common.{◌≡◌, ℕ, ◌+◌, ◌-◌, ◌<◌, ◌≤◌, Bool, true, false, List, [], ◌∷◌, ◌++◌, length, take, drop, refl, sym, ap, ◌∙◌, subst, arith, inl, inr, append-nil, append_assoc, length-drop, length-take-le, take_all}
-use Rattle.std.specs.Prelude.{⊤, ◌⊎◌, ◌↔◌, IsTrue, map, Option, Some, None, Result, Ok, Err, encode_utf8_all}
+use Rattle.std.specs.Prelude.{◌⊎◌, ◌↔◌, IsTrue, map, Option, Some, None, Result, Ok, Err, encode_utf8_all}
 use Rattle.std.proofs.lemmas.Bool.{cases_lt}
 use Rattle.std.proofs.lemmas.List.{drop-append-le, map-append, take-append-drop, take-append-le}
 use Rattle.dns_split.specs.declared.pieces.EndOfEntry.{EndOfEntry}
 use Rattle.dns_split.specs.declared.pieces.Fault.{Fault}
 use Rattle.dns_split.specs.declared.pieces.Piece.{Piece}
 use Rattle.dns_split.specs.declared.pieces.Piece.TheVariants.{Word as WordAt, Quote as QuoteAt, Comment as CommentAt, End as EndAt}
-use Rattle.dns_split.specs.declared.pieces.Span.{Span}
 use Rattle.dns_split.specs.EntryTokens.{EndIs, TokenIs, TokenSeen, quote_seen, seen_from, token_at, word_seen}
 use Rattle.dns_split.specs.Pieces.{AreOctets, EachWithin, IsGiven, Reads, between, end_at, later, moved, moved_fault, moved_piece, place_of}
 use Rattle.dns_split.specs.Standing.{blank_at}
@@ -223,7 +222,7 @@ fault_stays rest f x more ok m why =
 
 -- ---- what is read of them
 
-pub read_same : (room : Room) (slice octets : List ℕ) (b blank : Bool) (place at : ℕ) (before : State) (old : List ℕ) (read : Result EntryRead EntryRefusal) (after : State) (new : List ℕ)
-    → slice ≡ octets → b ≡ blank → place ≡ at → ReadsStop room slice b place before old read after new → ReadsStop room octets blank at before old read after new
-read_same room slice octets b blank place at before old read after new e f h r =
-    subst (λ l. ReadsStop room l blank at before old read after new) e (subst (λ (t : Bool). ReadsStop room slice t at before old read after new) f (subst (λ n. ReadsStop room slice b n before old read after new) h r))
+pub read_same : (room : Room) (kept : List TokenSeen) (slice octets : List ℕ) (b blank : Bool) (place at : ℕ) (before : State) (old : List ℕ) (read : Result EntryRead EntryRefusal) (after : State) (new : List ℕ)
+    → slice ≡ octets → b ≡ blank → place ≡ at → ReadsStop room kept slice b place before old read after new → ReadsStop room kept octets blank at before old read after new
+read_same room kept slice octets b blank place at before old read after new e f h r =
+    subst (λ l. ReadsStop room kept l blank at before old read after new) e (subst (λ (t : Bool). ReadsStop room kept slice t at before old read after new) f (subst (λ n. ReadsStop room kept slice b n before old read after new) h r))

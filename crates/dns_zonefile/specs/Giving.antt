@@ -71,7 +71,7 @@ abbrev pub CanMove : {E : Type 0} → ℕ → Result E Fault → Type 0
 CanMove at (Ok end) = ⊤
 CanMove at (Err f) = (at + f.at < 2 ^ 64) × ((i : ℕ) → f.wrong ≡ OpenQuote i → at + i < 2 ^ 64)
 
--- of octets that are one entry, or what a fault cuts off, the tokens are read by the state
-abbrev pub ReadsStop : Room → List ℕ → Bool → ℕ → State → List ℕ → Result EntryRead EntryRefusal → State → List ℕ → Type 0
-ReadsStop room octets blank at before old read after new = (stop : Result EndOfEntry Fault) (left : List (Result Piece Fault)) (x : StopsFirst octets stop left) → IsAllBehind (length octets) stop left
-    → ReadsZoneEntry room blank (at + stop_place stop) (tokens_after at (piece_tokens octets None x.found)) before old read after new
+-- of octets that are one entry, or what a fault cuts off, the tokens are read by the state behind those that are kept
+abbrev pub ReadsStop : Room → List TokenSeen → List ℕ → Bool → ℕ → State → List ℕ → Result EntryRead EntryRefusal → State → List ℕ → Type 0
+ReadsStop room kept octets blank at before old read after new = (stop : Result EndOfEntry Fault) (left : List (Result Piece Fault)) (x : StopsFirst octets stop left) → IsAllBehind (length octets) stop left
+    → ReadsZoneEntry room blank (at + stop_place stop) (kept ++ tokens_after at (piece_tokens octets None x.found)) before old read after new

@@ -6,11 +6,15 @@
 //! - [`laws`] has that records are read as they are printed.
 #![tactic(auto)]
 
+mod begun;
 pub mod blocks;
 mod entry;
 pub mod error;
+mod keeping;
+mod kept;
 pub mod laws;
 mod line;
+mod passing;
 mod placed;
 
 pub use blocks::BlockReader;

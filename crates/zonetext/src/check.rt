@@ -147,6 +147,7 @@ fn go_through(
 ) -> Result<(), Stop> {
     let begin = Begin {
         includes: true,
+        is_whole: false,
         state,
         folders: options.folders,
         is_quiet: options.is_quiet,

@@ -658,7 +658,7 @@ impl<'a> Checker<'a> {
 
     /// Says what the octets of an entry show. Returns whether Ctrl-Z begins it.
     fn lint(&mut self, entry: &Entry<'_>) -> Result<bool, Stop> {
-        if shows_nothing(entry.octets) {
+        if entry.is_shortened || shows_nothing(entry.octets) {
             return Ok(false);
         }
         if entry.octets.len() >= usize::MAX - 1 {

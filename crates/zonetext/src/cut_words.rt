@@ -44,6 +44,7 @@ fn cut_by(rt: &HostRuntime, inner: &ArgMatches) -> Result<u8, Usage> {
         class: class_of(inner.get_str("class"))?,
         is_one_class: false,
         includes: false,
+        is_whole: true,
         folders: &[],
         is_quiet: inner.get_flag("quiet"),
     };

@@ -115,7 +115,15 @@ pub fn find(
         status,
         seen,
         taker,
-    } = give_entries(rt, &[file], reading, finder);
+    } = give_entries(
+        rt,
+        &[file],
+        Reading {
+            is_whole: true,
+            ..reading
+        },
+        finder,
+    );
     if status > 0 {
         return Err(status);
     }

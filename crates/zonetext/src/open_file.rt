@@ -99,6 +99,9 @@ impl OpenFile {
 
     /// Goes on to a place of what is held.
     pub fn walk_to(&mut self, at: usize) {
+        if at == self.place.at {
+            return;
+        }
         let count = at.saturating_sub(self.place.at);
         let place = match self.reader.octets_from(self.place.at) {
             Some(held) => behind(self.place, &held[..count.min(held.len())]),

@@ -24,6 +24,8 @@ pub struct Reading<'o> {
     pub is_one_class: bool,
     /// Whether files are included.
     pub includes: bool,
+    /// Whether the octets of each entry are held, however long it is.
+    pub is_whole: bool,
     /// The folders, besides that of a file, of which files may be included.
     pub folders: &'o [&'o str],
     /// Whether nothing is said of how far reading has come.
@@ -96,6 +98,7 @@ fn give_files<T: TakeEntry + Drop>(
         let begin = Begin {
             state: first_state(reading),
             includes: reading.includes,
+            is_whole: reading.is_whole,
             folders: reading.folders,
             is_quiet: reading.is_quiet,
         };

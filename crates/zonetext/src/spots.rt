@@ -39,6 +39,10 @@ fn token_from(tokens: &[EntryToken<'_>], at: usize) -> (usize, usize) {
 
 /// The position of a place of an entry, which is counted from the entry's beginning.
 pub fn position_at(entry: &Entry<'_>, at: usize) -> Position {
+    if entry.is_shortened {
+        let known = entry.reader.position(entry.place.at.saturating_add(at));
+        return known.unwrap_or(entry.place.position);
+    }
     let count = at.min(entry.held.len());
     behind(entry.place, &entry.held[..count]).position
 }
@@ -78,7 +82,11 @@ fn spot<'e>(entry: &Entry<'e>, at: usize, width: usize) -> Spot<'e> {
             next
         },
         opened: None,
-        line: Some(line_at(entry.held, at)),
+        line: if entry.is_shortened {
+            None
+        } else {
+            Some(line_at(entry.held, at))
+        },
     }
 }
 
@@ -90,7 +98,12 @@ pub fn beginning<'e>(entry: &Entry<'e>) -> Spot<'e> {
 /// The token of an entry that begins at a place of the file; or, where none does, as at the entry's
 /// end, the place behind its last token.
 pub fn spot_at<'e>(entry: &Entry<'e>, tokens: &[EntryToken<'_>], at: usize) -> Spot<'e> {
-    let (at, width) = token_from(tokens, at.saturating_sub(entry.place.at));
+    let at = at.saturating_sub(entry.place.at);
+    let (at, width) = if entry.is_shortened {
+        (at, 1)
+    } else {
+        token_from(tokens, at)
+    };
     spot(entry, at, width)
 }
 
@@ -108,6 +121,9 @@ pub fn token_at<'e>(entry: &Entry<'e>, token: &EntryToken<'_>) -> Spot<'e> {
 fn opened_at(entry: &Entry<'_>, wrong: Wrong) -> Option<Position> {
     let at = match wrong {
         Wrong::OpenQuote(at) => at.saturating_sub(entry.place.at),
+        Wrong::OpenParenthesis if entry.is_shortened => {
+            entry.reader.opened()?.saturating_sub(entry.place.at)
+        }
         Wrong::OpenParenthesis => outermost_open_of_octets(entry.octets)?,
         _ => return None,
     };

@@ -5,6 +5,7 @@ use crate::progress::Progress;
 use crate::stop::Stop;
 use arrayvec::ArrayVec;
 use dns_reader::{EntryRead, Known, NameBuffer, RecordRefusal, State};
+use dns_zonefile::BlockReader;
 use std::alloc::{AllocError, Global};
 use std::fs::{File, canonicalize, metadata};
 use std::io::ErrorKind;
@@ -15,6 +16,9 @@ use zonetext_report::lint::order_mark_len;
 
 /// How many files may be open that others include.
 const MOST_INCLUDED: usize = 10;
+
+/// So many octets of an entry without its end are held before what can be let go of it is.
+const LONG_ENTRY: usize = 1 << 20;
 
 /// The most octets of record data (RFC 1035 section 3.2.1).
 const MOST_DATA: usize = 65535;
@@ -32,6 +36,9 @@ pub struct Entry<'e> {
     pub held: &'e [u8],
     /// Its octets. A fault of the text ends them.
     pub octets: &'e [u8],
+    /// Whether it was so long that they are not held.
+    pub is_shortened: bool,
+    pub reader: &'e BlockReader<Global>,
     /// Whether it is the last of its file.
     pub is_last: bool,
     pub read: &'e Result<EntryRead, RecordRefusal>,
@@ -101,6 +108,8 @@ struct ZoneFiles<'a> {
     rt: &'a HostRuntime,
     /// Whether files are included.
     includes: bool,
+    /// Whether the octets of each entry are held, however long it is.
+    is_whole: bool,
     /// The folders of which files may be included, by their paths from the root on, without links.
     folders: Vec<String>,
     /// Those that are open, each but the first included by the one before it.
@@ -195,6 +204,7 @@ impl<'a> ZoneFiles<'a> {
         Ok(ZoneFiles {
             rt,
             includes: begin.includes,
+            is_whole: begin.is_whole,
             folders: open_folders,
             files,
             state: begin.state,
@@ -244,8 +254,11 @@ impl<'a> ZoneFiles<'a> {
         Err(Stop::TooLong)
     }
 
-    /// Reads a block of a file.
+    /// Reads a block of a file, behind an entry without its end.
     fn read(&mut self, mut file: OpenFile, progress: &mut Progress) -> Result<(), Stop> {
+        if !self.is_whole && file.reader.held_len() > LONG_ENTRY {
+            file.reader.shorten()?;
+        }
         let count = self.fill(&mut file, progress)?;
         file.reader.add(self.read_octets(count))?;
         if file.is_read {
@@ -327,7 +340,9 @@ impl<'a> ZoneFiles<'a> {
         file: &'e OpenFile,
         read: &'e Result<EntryRead, RecordRefusal>,
     ) -> Entry<'e> {
-        let held = file.reader.octets_from(file.place.at).unwrap_or(&[]);
+        let from = file.reader.octets_from(file.place.at);
+        let is_shortened = from.is_none();
+        let held = from.unwrap_or(&[]);
         let end = file.reader.place().saturating_sub(file.place.at);
         let count = end.min(held.len());
         Entry {
@@ -336,6 +351,8 @@ impl<'a> ZoneFiles<'a> {
             place: file.place,
             held,
             octets: &held[..count],
+            is_shortened,
+            reader: &file.reader,
             is_last: file.is_read && count == held.len(),
             read,
             data: self.data.as_slice(),
@@ -495,6 +512,8 @@ pub struct Begin<'f> {
     pub state: State,
     /// Whether files are included.
     pub includes: bool,
+    /// Whether the octets of each entry are held, however long it is.
+    pub is_whole: bool,
     /// The folders, besides its own, of which files may be included.
     pub folders: &'f [&'f str],
     /// Whether nothing is said of how far reading has come.

@@ -119,6 +119,7 @@ fn reading_of<'o>(inner: &'o ArgMatches, is_one_class: bool) -> Result<Reading<'
         class: class_of(inner.get_str("class"))?,
         is_one_class,
         includes: true,
+        is_whole: false,
         folders: inner.get_strs("include").unwrap_or(&[]),
         is_quiet: inner.get_flag("quiet"),
     })

@@ -10,6 +10,8 @@ use row_table::{Answer, Failure, Heap, Inputs};
 struct Cut {
     first: usize,
     each: usize,
+    /// Whether what can be let go of an entry is, behind each.
+    shortens: bool,
 }
 
 /// The sizes of blocks that are tried beside those of one octet.
@@ -21,15 +23,67 @@ pub fn blocks(inputs: &Inputs, answer: &mut Answer) {
         return answer.fail(Failure::BadInputs);
     };
     let text = text.as_slice();
-    entries(text, origin, Cut { first: 0, each: 1 }, answer);
+    let shortens = false;
+    entries(
+        text,
+        origin,
+        Cut {
+            first: 0,
+            each: 1,
+            shortens,
+        },
+        answer,
+    );
+    check_cut(
+        text,
+        origin,
+        Cut {
+            first: 0,
+            each: 1,
+            shortens: true,
+        },
+        answer,
+    );
     for each in &SIZES {
         let each = *each;
-        check_cut(text, origin, Cut { first: 0, each }, answer);
+        check_both(
+            text,
+            origin,
+            Cut {
+                first: 0,
+                each,
+                shortens,
+            },
+            answer,
+        );
     }
     for first in 0..=text.len() {
         let each = text.len();
-        check_cut(text, origin, Cut { first, each }, answer);
+        check_both(
+            text,
+            origin,
+            Cut {
+                first,
+                each,
+                shortens,
+            },
+            answer,
+        );
     }
+}
+
+/// Cut so, the entries are those of the answer, also where what can be let go of them is.
+fn check_both(text: &[u8], origin: &[Vec<u8>], cut: Cut, answer: &mut Answer) {
+    check_cut(text, origin, cut, answer);
+    check_cut(
+        text,
+        origin,
+        Cut {
+            shortens: true,
+            ..cut
+        },
+        answer,
+    );
 }
 
 /// Cut so, the entries are those of the answer.
@@ -48,6 +102,10 @@ fn entries(text: &[u8], origin: &[Vec<u8>], cut: Cut, answer: &mut Answer) {
         return;
     }
     for block in rest.chunks(cut.each.max(1)) {
+        if cut.shortens && reader.shorten().is_err() {
+            answer.refuse_text("buffer size exceeded");
+            return;
+        }
         if !tell_block(&mut reader, block, &mut state, answer) {
             return;
         }

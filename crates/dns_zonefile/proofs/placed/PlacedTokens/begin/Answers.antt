@@ -1,4 +1,4 @@
-use Rattle.dns_zonefile.proofs.Begun.{begins_placed, fits_begun}
+use Rattle.dns_zonefile.proofs.BeginsPlaced.{begins_placed, fits_begun}
 use Rattle.dns_zonefile.proofs.placed.PlacedTokens.begin.Goals as goal
 
 pub invariant_of-result : goal.invariant_of-result

@@ -6,7 +6,7 @@ use Rattle.dns_split.specs.declared.pieces.Fault.{Fault}
 use Rattle.dns_split.specs.declared.pieces.Piece.{Piece}
 use Rattle.dns_split.specs.declared.pieces.Piece.TheVariants.{Word as WordAt, Quote as QuoteAt, Comment as CommentAt, End as EndAt}
 use Rattle.dns_split.specs.EntryTokens.{EndIs, IsSeen, PartSeen, TokenIs, TokenSeen, seen_from}
-use Rattle.dns_split.specs.Pieces.{EachWithin, IsGiven, end_at}
+use Rattle.dns_split.specs.Pieces.{EachWithin}
 use Rattle.dns_split.specs.Standing.{blank_at}
 use Rattle.dns_split.proofs.OctetsOnce.{given_once}
 use Rattle.dns_reader.specs.declared.source.StartOfEntry.{StartOfEntry}
