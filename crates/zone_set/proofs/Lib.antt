@@ -1,5 +1,6 @@
 pub mod Differing
 pub mod FirstFronts
+pub mod FrontsTaken
 pub mod Firsts
 pub mod Merging
 pub mod Passing

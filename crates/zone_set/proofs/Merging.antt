@@ -1,11 +1,11 @@
 -- Sorted runs that are merged, and then rid of records that follow their like.
-use Rattle.std.proofs.Common.{ℕ, zero, suc, ◌≡◌, ◌≢◌, Bool, true, false, cond, Option, Some, None, List, [], ◌∷◌, ◌++◌, ◌+◌, length, get_or, refl, sym, ap, subst, ◌∙◌, arith}
-use Rattle.std.specs.Prelude.{find, All, ⊤}
-use Rattle.std.specs.Cmp.{IsTotalOrder, Equal-is}
+use Rattle.std.proofs.Common.{zero, suc, ◌≡◌, ◌≢◌, Bool, true, false, cond, Option, Some, None, List, [], ◌∷◌, ◌++◌, ◌+◌, get_or, refl, sym, ap, subst, ◌∙◌, arith}
+use Rattle.std.specs.Prelude.{find}
+use Rattle.std.specs.Cmp.{Equal-is}
 use Rattle.std.specs.List.{AllByRecursion, dedup}
-use Rattle.std.specs.List.Sorted.{IsSorted, IsStrictlySortedBy}
+use Rattle.std.specs.List.Sorted.{IsSorted}
 use Rattle.std.specs.Option.{option_or}
-use Rattle.std.specs.Ordering.{eq_by_cmp, is_eq, is_lt, ordering_reverse}
+use Rattle.std.specs.Ordering.{is_eq, is_lt, ordering_reverse}
 use Rattle.std.specs.declared.cmp.Ordering.{Ordering}
 use Rattle.std.specs.declared.cmp.Ordering.TheVariants.{Less, Equal, Greater}
 use Rattle.std.proofs.lemmas.Cmp.{tied_itself}
@@ -14,7 +14,7 @@ use Rattle.std.proofs.lemmas.List.Folds.{find-append}
 use Rattle.std.proofs.lemmas.List.Kept.{IsStrictlySortedBy-dedup}
 use Rattle.std.proofs.lemmas.Map.Keys.{sorted_head, sorted_tail}
 use Rattle.dns_resource.specs.declared.record.Record.{Record}
-use Rattle.zone_set.specs.Lookups.{AreCanonical, AreCanonicalOf, canonical_order, record_under, same_key}
+use Rattle.zone_set.specs.Lookups.{AreCanonical, AreCanonicalOf, canonical_order, same_key}
 use Rattle.zone_set.specs.Merges.{AreRunsOf, IsLedBy, MergesTo, TakesFromRuns, records_of_runs}
 use Rattle.zone_set.proofs.Differing.{above_less}
 use Rattle.zone_set.proofs.Firsts.{find_dedup}

@@ -1,6 +1,7 @@
 //! Records as the octets of a run: sorted records that are held outside of memory.
-ghost use Rattle.std.specs.Prelude.{◌≡◌, ◌<◌, ◌^◌, ◌++◌, length, IfSome, MatchOption, OnOk};
+ghost use Rattle.std.specs.Prelude.{◌≡◌, ◌<◌, ◌^◌, ◌++◌, length, IfSome, MatchOption, OnErr, OnOk};
 ghost use Rattle.std.specs.Int.{to_be_bytes, w16, w32};
+ghost use Rattle.dns_octets.specs.Appending.{Extends};
 ghost use Rattle.zone_set.specs.Runs.{behind_length, run_octets};
 
 use dns_octets::AsOctets;
@@ -11,7 +12,8 @@ use std::alloc::{AllocError, Allocator};
 /// Appends how many octets there are, and these.
 fn push_counted<A: Allocator>(out: &mut Vec<u8, A>, octets: &[u8]) -> Result<(), AllocError>
     requires { length octets.now < 2 ^ 16 }
-    ensures { OnOk result (out.new.items ≡ out.old.items ++ behind_length octets.now) }
+    ensures ok { OnOk result (out.new.items ≡ out.old.items ++ behind_length octets.now) }
+    ensures err { OnErr result (Extends out.old.items out.new.items) }
 {
     let count = octets.len() as u16;
     out.extend_from_slice(&count.to_be_bytes())?;
@@ -19,12 +21,13 @@ fn push_counted<A: Allocator>(out: &mut Vec<u8, A>, octets: &[u8]) -> Result<(),
 }
 
 /// Appends a record: its time to live, its class and type, and its owner and data with how many octets
-/// each has in front. If there is no memory, a part of that may stand there.
+/// each has in front. If there is no memory, a beginning of that may stand there.
 pub fn push_run_record<Owner: AsOctets, Octets: AsOctets, A: Allocator>(
     out: &mut Vec<u8, A>,
     one: &Record<Owner, Octets>,
 ) -> Result<(), AllocError>
-    ensures { OnOk result (out.new.items ≡ out.old.items ++ run_octets one.now) }
+    ensures ok { OnOk result (out.new.items ≡ out.old.items ++ run_octets one.now) }
+    ensures err { OnErr result (Extends out.old.items out.new.items) }
 {
     out.extend_from_slice(&one.ttl.to_be_bytes())?;
     out.extend_from_slice(&one.class.to_be_bytes())?;
