@@ -26,7 +26,7 @@ use std::marker::Model;
 use zone_format::place::{Place, advance, moved};
 
 /// How many tokens are kept of an entry before it is shortened no further: no record has so many.
-const MOST_KEPT: usize = 1 << 17;
+const MOST_KEPT: usize = 1 << 18;
 
 /// Reads the first entry of octets, or the tokens before a fault, by the state. The octets begin at a
 /// place among others.
@@ -449,7 +449,7 @@ impl<A: Allocator + Copy> BlockReader<A> {
     ///
     /// It is for entries that may be of any length: to be called where [`BlockReader::next_entry`] has
     /// returned `None`, before more octets are added. The octets are no longer held then
-    /// ([`BlockReader::octets_from`]). An entry of more than 131,072 tokens is shortened no further.
+    /// ([`BlockReader::octets_from`]). An entry of more than 262,144 tokens is shortened no further.
     /// Where memory is refused, nothing is let go but the positions of the entry that was given last.
     pub fn shorten(&mut self) -> Result<(), AddError>
         ensures { Shortens self.old result self.new }
