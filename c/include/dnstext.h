@@ -263,7 +263,7 @@ uint32_t dns_tokens_next(const uint8_t *text, size_t text_len, struct dns_standi
 /* ---- Zone files, record by record (RFC 1035 section 5.1, RFC 2308 section 4).
  *
  * A zone holds all that is kept between two calls. It may be copied, stored and gone back to, and its
- * fields may be set. Nothing else is kept, and no memory is taken; a call has some 70 KB on the stack. */
+ * fields may be set. Nothing else is kept, and no memory is taken; a call has up to 80 KB on the stack. */
 struct dns_kept_name {
     size_t length;       /* how many octets it has, at most 255; 0 where there is none */
     bool is_refused;     /* whether what was said last is refused as a name */

@@ -13,6 +13,7 @@ mod PieceCalls
 mod PutTexts
 mod ReadTexts
 mod RecordCalls
+mod Rooms
 mod Row
 mod ToldTexts
 mod Written

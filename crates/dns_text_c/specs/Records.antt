@@ -76,6 +76,10 @@ TellsGiven (Some (Ok (Include origin))) reader octets old new told outcome =
 TellsGiven (Some (Ok Nothing)) reader octets old new told outcome = ⊥
 TellsGiven (Some (Ok Directive)) reader octets old new told outcome = ⊥
 
+-- what the reader gives is the refusal of an entry, or a fault of the text
+abbrev pub RefusalIsGiven : Option (Result EntryRead RecordRefusal) → Type 0
+RefusalIsGiven given = (r : RecordRefusal) × (given ≡ Some (Err r))
+
 -- a reader that stands where the zone says, behind the state that it holds, gives the next record, and this is told
 pub record ReadsZone (text : List ℕ) (state : State) (old new : Memory) (told : ℕ) (outcome : Outcome) : Type 0 where
   pub before : RecordReader

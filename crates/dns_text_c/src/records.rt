@@ -1,12 +1,12 @@
 //! The records of a zone file, one by one and with no memory (RFC 1035 section 5.1).
-ghost use Rattle.std.specs.Prelude.{◌≡◌, ◌≢◌, Ok, Some, false};
+ghost use Rattle.std.specs.Prelude.{◌≡◌, ◌≢◌, ◌↔◌, IsTrue, Ok, Some, false};
 ghost use Rattle.dns_reader.specs.declared.entry.EntryRead.TheVariants.{Nothing, Directive};
 ghost use Rattle.dns_text_c.specs.Entries.{refusal_of_wrong};
 ghost use Rattle.dns_text_c.specs.Kept.{KeepsName};
 ghost use Rattle.dns_text_c.specs.Told.{TellsFault};
 ghost use Rattle.dns_text_c.specs.declared.outcome.Refusal.TheVariants.{BadCursor};
 ghost use Rattle.dns_text_c.specs.declared.records.Record.{Record};
-ghost use Rattle.dns_text_c.specs.Records.{KeepsReader, NextRecord, TellsFound, TellsGiven, TellsRefused, head_of, said_origin};
+ghost use Rattle.dns_text_c.specs.Records.{KeepsReader, NextRecord, RefusalIsGiven, TellsFound, TellsGiven, TellsRefused, head_of, said_origin};
 
 use crate::kept::{KeptName, Zone, keep_name, keep_state, put_over, state_of};
 use crate::outcome::{END, Fault, INCLUDE, OK, Outcome, Refusal, give, number_of, refuse};
@@ -18,6 +18,9 @@ use dns_split::pieces::Fault as TextFault;
 
 /// The most octets of record data (RFC 1035 section 3.2.1).
 const MOST: usize = 65535;
+
+/// Octets of record data that are enough for most records.
+const FEW: usize = 1024;
 
 /// A record of a zone file, whose data stand elsewhere; or a file to include.
 #[repr(C)]
@@ -219,6 +222,48 @@ fn refuse_zone(outcome: &mut Outcome) -> u32
     refuse(Fault { refusal, place: 0 }, outcome)
 }
 
+/// Whether what a reader gave is a refusal, or a fault of the text.
+fn is_refused(given: &Option<Result<EntryRead, RecordRefusal>>) -> bool
+    ensures { IsTrue result ↔ RefusalIsGiven given.now }
+{
+    matches!(given, Some(Err(_)))
+}
+
+/// Gives the next record as [`dns_record_next`] does, with room for the most data that there can be.
+///
+/// It stands apart, since the compiler fills so much room with zeros at each call.
+#[cold]
+#[inline(never)]
+fn next_with_all_room(
+    text: &[u8],
+    zone: &mut Zone,
+    found: &mut Record,
+    octets: &mut [u8],
+    outcome: &mut Outcome,
+) -> u32
+    ensures { NextRecord text.now (record { zone = zone.old; found = found.old; octets = octets.old })
+        (record { zone = zone.new; found = found.new; octets = octets.new }) result outcome.new }
+{
+    let Some(state) = state_of(zone) else {
+        return refuse_zone(outcome);
+    };
+    if zone.at > text.len() {
+        return refuse_zone(outcome);
+    }
+    let mut data: ArrayVec<u8, MOST> = ArrayVec::new();
+    let mut reader = RecordReader::starting_at(text, zone.at, state);
+    let given = reader.next_record(&mut data);
+    tell_given(
+        given,
+        &reader,
+        data.as_slice(),
+        zone,
+        found,
+        octets,
+        outcome,
+    )
+}
+
 /// Gives the next record of a zone file, and moves the zone on (RFC 1035 section 5.1, RFC 2308
 /// section 4). `$ORIGIN` and `$TTL` are taken on the way.
 ///
@@ -245,9 +290,12 @@ pub extern "C" fn dns_record_next(
     if zone.at > text.len() {
         return refuse_zone(outcome);
     }
-    let mut data: ArrayVec<u8, MOST> = ArrayVec::new();
+    let mut data: ArrayVec<u8, FEW> = ArrayVec::new();
     let mut reader = RecordReader::starting_at(text, zone.at, state);
     let given = reader.next_record(&mut data);
+    if is_refused(&given) {
+        return next_with_all_room(text, zone, found, octets, outcome);
+    }
     tell_given(
         given,
         &reader,

@@ -1,7 +1,30 @@
+use Rattle.std.proofs.Common.{◌≡◌, [], inr, arith, rules}
+use Rattle.dns_octets.specs.Room.{exactly}
 use Rattle.dns_text_c.proofs.KeptNames.{closed, something}
+use Rattle.dns_text_c.proofs.Rooms.{any_room}
 use Rattle.dns_text_c.proofs.records.dns_record_next.Goals as goal
 
 pub tell_given-requires : goal.tell_given-requires
 tell_given-requires c =
     let reads = c.next_record-given.ensures in
     record { closed = closed _ _ _ _ _ _ reads; some = something _ _ _ _ _ _ reads; last = reads.is_last }
+
+pub returns : goal.returns
+returns c =
+    let none : c.new-data.result.items ≡ [] = search rules in
+    let all : c.next_record-given.new.target.items ≡ c.as_slice.result.now = search rules in
+    let read = any_room (exactly 1024) (exactly 65535) _ _ _ _ _ (λ r. let no = c.if-is_refused.ensures.1 r in cc) c.next_record-given.ensures in
+    inr (
+      c.in-Some.state,
+      c.in-Some.ensures,
+      omega (arith, c.if-zone-text.false),
+      record {
+        before = c.starting_at-reader.result;
+        after = c.next_record-given.new.self;
+        given = c.next_record-given.result;
+        octets = c.as_slice.result.now;
+        starts = c.starting_at-reader.ensures;
+        reads = rw (none, all) at read;
+        tells = c.tell_given.ensures;
+      },
+    )
