@@ -1,7 +1,7 @@
 -- What is done with octets that are held.
-use Rattle.std.specs.Prelude.{⊤, ◌≡◌, ◌≢◌, ◌⊎◌, ℕ, ◌+◌, ◌-◌, ◌*◌, ◌==◌, ◌<◌, ◌≤◌, ◌^◌, ◌++◌, Bool, true, false, if◌then◌else◌, List, [], length, take, drop, Option, Some, None, Result, Ok, Err, encode_utf8_all}
+use Rattle.std.specs.Prelude.{◌≡◌, ◌≢◌, ◌⊎◌, ℕ, ◌+◌, ◌-◌, ◌*◌, ◌==◌, ◌<◌, ◌≤◌, ◌^◌, ◌++◌, Bool, true, false, if◌then◌else◌, List, [], length, take, drop, Option, Some, None, Result, Ok, Err, encode_utf8_all}
 use Rattle.std.specs.List.{AllByRecursion}
-use Rattle.dns_split.specs.Opening.{IsOpener}
+use Rattle.dns_split.specs.Opening.{IsLeftOpen, IsOpener}
 use Rattle.dns_split.specs.Pieces.{AreOctets, place_of}
 use Rattle.dns_split.specs.declared.pieces.Fault.{Fault}
 use Rattle.dns_split.specs.declared.position.Position.{Position}
@@ -49,10 +49,10 @@ abbrev pub HasOctetsFrom : Blocks → ℕ → Option (List ℕ) → Type 0
 HasOctetsFrom b at (Some octets) = (all : List ℕ) → HoldsLast all b → (at ≤ length all) × (octets ≡ drop at all)
 HasOctetsFrom b at None = IsNotHeld b at
 
--- where the outermost parenthesis opens that is left open: it is known of what was let go, or stands among what is held
+-- where the outermost parenthesis opens that is left open: it is known of what was let go, or stands among what is held; or none is left open, or known
 abbrev pub OpensAmong : Blocks → Option ℕ → Type 0
 OpensAmong b (Some at) = ((p : Place) × (b.opened ≡ Some p) × (at ≡ p.at)) ⊎ ((i : ℕ) × (b.front ≤ i) × (at ≡ b.start.at + i) × IsOpener (encode_utf8_all b.octets) (place_of b.octets i))
-OpensAmong b None = ⊤
+OpensAmong b None = (IsLeftOpen (encode_utf8_all b.octets) → b.opened ≡ None)
 
 -- what was kept of the entry that was given last is let go
 abbrev pub forgotten : Blocks → Blocks
