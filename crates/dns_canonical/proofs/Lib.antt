@@ -1,4 +1,6 @@
+pub mod BelowKeys
 pub mod FieldWalks
+pub mod KeyOrders
 pub mod LoweredNames
 pub mod NameOrders
 pub mod NameWalks

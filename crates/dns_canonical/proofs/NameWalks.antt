@@ -13,9 +13,13 @@ use Rattle.dns_canonical.specs.Walks.{BeginsWithLabel, HasLabels, AreLevel, IsLe
 use Rattle.dns_canonical.proofs.NameOrders.{then_assoc, order_more}
 
 -- the label in front of labels is the first of them
-first_label : (labels : List (List ℕ)) (label rest : List ℕ) → wire labels ≡ wire_label label ++ rest → (more : List (List ℕ)) × (labels ≡ label ∷ more) × (rest ≡ wire more)
+pub first_label : (labels : List (List ℕ)) (label rest : List ℕ) → wire labels ≡ wire_label label ++ rest → (more : List (List ℕ)) × (labels ≡ label ∷ more) × (rest ≡ wire more)
 first_label [] label rest h = absurd (omega (arith, ap length h))
 first_label (l ∷ ls) label rest h = let same = label_same l label (wire ls) rest h in (ls, ap (λ x. x ∷ ls) same.0, sym same.1)
+
+-- behind the label in front of labels there are labels
+pub rest_labels : (octets label rest : List ℕ) → HasLabels 0 octets → octets ≡ wire_label label ++ rest → HasLabels 0 rest
+rest_labels octets label rest h e = let first = first_label h.0 label rest (sym h.1 ∙ e) in (first.0, first.2, omega arith)
 
 begins : (labels : List (List ℕ)) (rest : List ℕ) → rest ≡ wire labels → 0 < length labels → BeginsWithLabel rest
 begins [] rest h some = absurd (omega arith)

@@ -1,4 +1,5 @@
 pub mod FieldForms
+pub mod Keys
 pub mod Names
 pub mod Records
 pub mod Rows

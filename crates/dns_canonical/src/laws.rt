@@ -8,6 +8,7 @@ ghost use Rattle.dns_wire.specs.Wire.{wire, IsName};
 ghost use Rattle.dns_spelling.specs.NameSpelling.{IsWireName};
 ghost use Rattle.dns_fields.specs.declared.field.Field.{Field};
 ghost use Rattle.dns_canonical.specs.FieldForms.{StartsWithFields, CanonicalFields};
+ghost use Rattle.dns_canonical.specs.Keys.{IsAbove, label_key, order_key};
 ghost use Rattle.dns_canonical.specs.Names.{octet_order, name_order};
 ghost use Rattle.dns_canonical.specs.Records.{RecordKey, record_order};
 ghost use Rattle.dns_canonical.specs.Untexted.{untexted_front};
@@ -26,6 +27,16 @@ pub fn names_are_ordered()
     ensures total { IsTotalOrder name_order }
     ensures equal { (a b : List (List ℕ)) → IsName a → IsName b → (name_order a b ≡ Equal) ↔ (lowered (wire a) ≡ lowered (wire b)) }
     ensures below { (name : List (List ℕ)) (label : List ℕ) → name_order name (label ∷ name) ≡ Less }
+{}
+
+/// The order of keys is the order of names, and the keys of two names are the same exactly where the
+/// names are the same but for the case of letters. A key begins with the key of a name exactly where the
+/// name stands at the other or above it.
+pub fn keys_are_ordered_as_names()
+    ensures order { (a b : List (List ℕ)) → name_order a b ≡ octet_order (order_key a) (order_key b) }
+    ensures equal { (a b : List (List ℕ)) → (order_key a ≡ order_key b) ↔ (name_order a b ≡ Equal) }
+    ensures within { (name top : List (List ℕ)) → ((rest : List ℕ) × (order_key name ≡ order_key top ++ rest)) ↔ IsAbove top name }
+    ensures below { (label : List ℕ) (name : List (List ℕ)) → order_key (label ∷ name) ≡ order_key name ++ label_key (lowered label) }
 {}
 
 /// The order of octets is total, and equal exactly where they are the same. Octets stand before

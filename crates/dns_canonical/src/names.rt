@@ -48,13 +48,13 @@ pub fn append_lowered<B: OctetsBuilder>(octets: &[u8], target: &mut B) -> Result
 
 /// A label in front of octets, and the octets behind it.
 #[derive(Clone, Copy)]
-struct FrontLabel<'a> {
-    label: &'a [u8],
-    rest: &'a [u8],
+pub(crate) struct FrontLabel<'a> {
+    pub(crate) label: &'a [u8],
+    pub(crate) rest: &'a [u8],
 }
 
 /// The label in front of octets.
-fn front_label(octets: &[u8]) -> FrontLabel<'_>
+pub(crate) fn front_label(octets: &[u8]) -> FrontLabel<'_>
     requires { BeginsWithLabel octets.now }
     ensures { octets.now ≡ wire_label result.label.now ++ result.rest.now }
 {
