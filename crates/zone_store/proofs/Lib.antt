@@ -1,0 +1,2 @@
+mod KeyFronts
+mod KeyPlaces

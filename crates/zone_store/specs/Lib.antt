@@ -1,0 +1,3 @@
+pub mod Fronts
+pub mod Groups
+pub mod Rows
