@@ -1,5 +1,5 @@
 -- What stands at a name among records in order.
-use Rattle.std.proofs.Common.{ℕ, zero, suc, ◌≡◌, ◌+◌, ◌-◌, ◌<◌, ◌≤◌, Bool, true, false, cond, List, [], ◌∷◌, length, take, drop, map, get_or, refl, sym, ap, subst, ◌∙◌, arith, length-drop}
+use Rattle.std.proofs.Common.{ℕ, zero, suc, ◌⊎◌, inl, inr, ◌≡◌, ◌+◌, ◌-◌, ◌*◌, ◌^◌, ◌<◌, ◌≤◌, min, Bool, true, false, cond, List, [], ◌∷◌, length, take, drop, map, get_or, refl, sym, ap, subst, ◌∙◌, arith, length-drop}
 use Rattle.std.specs.Prelude.{reverse, not, ◌==◌, ◌&&◌, ◌||◌}
 use Rattle.std.specs.Prelude.{nat_le}
 use Rattle.std.specs.Cmp.{both_ways}
@@ -9,8 +9,10 @@ use Rattle.std.specs.List.Sorted.{IsNonDecreasingBy, IsPartitionedBy, IsPartitio
 use Rattle.std.specs.Ordering.{is_eq, is_lt, is_le, ordering_index, ordering_reverse, ordering_then}
 use Rattle.std.specs.declared.cmp.Ordering.{Ordering}
 use Rattle.std.specs.declared.cmp.Ordering.TheVariants.{Less, Equal, Greater}
+use Rattle.std.proofs.Math.Nat.{le-min}
+use Rattle.std.proofs.lemmas.Bool.{cases_lt, false≢true}
 use Rattle.std.proofs.lemmas.Bool.Decides.{nat_tests}
-use Rattle.std.proofs.lemmas.List.{reverse-reverse, take_all, get_or-drop}
+use Rattle.std.proofs.lemmas.List.{reverse-reverse, take_all, get_or-drop, get_or-take, length-take-le}
 use Rattle.std.proofs.lemmas.List.Sorted.{searchable_from_sorted, IsPartitionedBy-leb, IsNonDecreasingBy-drop}
 use Rattle.dns_octets.specs.Lowered.{lowered}
 use Rattle.dns_wire.specs.Order.{same_name}
@@ -19,7 +21,7 @@ use Rattle.dns_canonical.specs.Records.{record_order}
 use Rattle.dns_canonical.proofs.Orders.{names_total}
 use Rattle.dns_resource.specs.CanonicalData.{record_key}
 use Rattle.dns_resource.specs.declared.record.Record.{Record}
-use Rattle.zone_rules.specs.Zones.{AreInOrder}
+use Rattle.zone_rules.specs.Zones.{AreInOrder, has_type_among, has_type_at, type_of}
 
 -- ---- names that are equal in order are one
 
@@ -124,6 +126,46 @@ module _ {X : Type 0} (p : X → Bool) where
   some_in_filter [] = refl
   some_in_filter (x ∷ xs) = some_step x xs (p x) (some_in_filter xs)
 
+-- ---- tests that none or one of two passes
+
+either_step : (a b c u v w : Bool) → w ≡ (u || v) → ((a && (b || c)) || w) ≡ (((a && b) || u) || ((a && c) || v))
+either_step false b c u v w e = e
+either_step true true c u v w e = refl
+either_step true false true true v w e = refl
+either_step true false true false v w e = refl
+either_step true false false u v w e = e
+
+none_step : (a b u w : Bool) → (b || u) ≡ false → (u ≡ false → w ≡ false) → ((a && b) || w) ≡ false
+none_step a true u w h k = absurd (false≢true (sym h))
+none_step true false u w h k = k h
+none_step false false u w h k = k h
+
+none_any : {X : Type 0} (p : X → Bool) → ((x : X) → p x ≡ false) → (xs : List X) → list_any p xs ≡ false
+none_any p h [] = refl
+none_any p h (x ∷ xs) = ap (λ b. b || list_any p xs) (h x) ∙ none_any p h xs
+
+module _ {X : Type 0} (p q : X → Bool) where
+  pub any_either : (s : X → Bool) (xs : List X) → list_any (λ x. p x && (q x || s x)) xs ≡ (list_any (λ x. p x && q x) xs || list_any (λ x. p x && s x) xs)
+  any_either s [] = refl
+  any_either s (x ∷ xs) = either_step (p x) (q x) (s x) _ _ _ (any_either s xs)
+
+  none_both : (xs : List X) → list_any q xs ≡ false → list_any (λ x. p x && q x) xs ≡ false
+  none_both [] h = refl
+  none_both (x ∷ xs) h = none_step (p x) (q x) (list_any q xs) _ h (none_both xs)
+
+-- where no record is of a type, none of it stands at any of these names
+pub none_at_names : {N O : Type 0} (type : ℕ) (records : List (Record N O)) (names : List (List (List ℕ))) → has_type_among type records ≡ false → list_any (λ name. has_type_at type name records) names ≡ false
+none_at_names type records names h =
+    none_any (λ name. has_type_at type name records) (λ name. none_both (λ r. same_name r.owner name) (λ r. type_of r == type) records h) names
+
+-- ---- steps that grow
+
+pub reaches_further : (few long twice next : ℕ) → few < long → long < 2 ^ 64 → twice ≡ min (few * 2) (2 ^ 64 - 1) → next ≡ min (twice + 1) (2 ^ 64 - 1) → long - next < long - few
+reaches_further few long twice next less fits t n =
+    let double : few ≤ min (few * 2) (2 ^ 64 - 1) = le-min (omega arith) (omega (arith, less, fits)) in
+    let more : few + 1 ≤ min (twice + 1) (2 ^ 64 - 1) = le-min (omega (arith, double, t)) (omega (arith, less, fits)) in
+    omega (arith, more, n, less)
+
 -- ---- the records that a name owns
 
 equal_of : (o : Ordering) → is_lt o ≡ false → is_le o ≡ true → is_eq o ≡ true
@@ -167,6 +209,33 @@ module _ {N O : Type 0} (name : List (List ℕ)) where
       ap (take count) whole
       ∙ owned_of rs from count within (omega (arith, few, ap length whole)) h
       (subst (λ l. IsPartitionPoint (λ r. is_le (name_order r.owner name) ≡ true) (λ r. is_le (name_order r.owner name) ≡ false) l count) whole k)
+
+  pub front_parted : (rs : List (Record N O)) (few : ℕ) → IsPartitionedBy (λ r. is_le (name_order r.owner name)) rs → few ≤ length rs → IsPartitionedBy (λ r. is_le (name_order r.owner name)) (take few rs)
+  front_parted rs few parted within i j d le lt t =
+      let less : j < few = omega (arith, lt, length-take-le few rs within) in
+      ap (λ r. is_le (name_order r.owner name)) (get_or-take few rs i d (omega (arith, le, less)))
+      ∙ parted i j d le (omega (arith, less, within)) (ap (λ r. is_le (name_order r.owner name)) (sym (get_or-take few rs j d less)) ∙ t)
+
+  -- those in front up to a place end at the same point, if all are in front or none at that place is
+  pub front_point : (rs : List (Record N O)) (few count : ℕ) → IsPartitionedBy (λ r. is_le (name_order r.owner name)) rs → few ≤ length rs → count ≤ length (take few rs)
+      → ((d : Record N O) → few < length rs → is_le (name_order (get_or rs few d).owner name) ≡ false)
+      → IsPartitionPoint (λ r. is_le (name_order r.owner name) ≡ true) (λ r. is_le (name_order r.owner name) ≡ false) (take few rs) count
+      → IsPartitionPoint (λ r. is_le (name_order r.owner name) ≡ true) (λ r. is_le (name_order r.owner name) ≡ false) rs count
+  front_point rs few count parted within bound ends point =
+      let long : length (take few rs) ≡ few = length-take-le few rs within in (
+        λ i d low lt. ap (λ r. is_le (name_order r.owner name)) (sym (get_or-take few rs i d (omega (arith, lt, bound, long)))) ∙ point.0 i d low lt,
+        λ i d low lt. behind i d low lt (cases_lt i few),
+      )
+    where
+      decided : (b c : Bool) → (b ≡ true → c ≡ true) → c ≡ false → b ≡ false
+      decided true c h e = absurd (false≢true (sym e ∙ h refl))
+      decided false c h e = refl
+
+      behind : (i : ℕ) (d : Record N O) → count ≤ i → i < length rs → (i < few) ⊎ (few ≤ i) → is_le (name_order (get_or rs i d).owner name) ≡ false
+      behind i d low lt (inl less) =
+          ap (λ r. is_le (name_order r.owner name)) (sym (get_or-take few rs i d less)) ∙ point.1 i d low (omega (arith, less, length-take-le few rs within))
+      behind i d low lt (inr more) =
+          decided (is_le (name_order (get_or rs i d).owner name)) (is_le (name_order (get_or rs few d).owner name)) (parted few i d more lt) (ends d (omega (arith, more, lt)))
 
   pub rest_parted : (rs : List (Record N O)) (from : ℕ) → AreInOrder rs → IsPartitionedBy (λ r. is_le (name_order r.owner name)) (take (length rs - from) (drop from rs))
   rest_parted rs from h =

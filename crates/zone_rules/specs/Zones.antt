@@ -1,5 +1,5 @@
 -- What stands at a name, among the records of a zone.
-use Rattle.std.specs.Prelude.{ℕ, ◌-◌, ◌==◌, ◌&&◌, ◌||◌, if◌then◌else◌, Bool, IsTrue, Option, Some, None, List, [], ◌∷◌, length, slice_get, option_and_then}
+use Rattle.std.specs.Prelude.{◌≡◌, ℕ, ◌-◌, ◌==◌, ◌&&◌, ◌||◌, if◌then◌else◌, Bool, IsTrue, Option, Some, None, List, [], ◌∷◌, length, slice_get, option_and_then}
 use Rattle.std.specs.Int.{from_be_bytes, w16}
 use Rattle.std.specs.List.{AllAdjacentBelow, list_any}
 use Rattle.std.specs.Option.{option_map}
@@ -20,9 +20,17 @@ type_of r = (data_of r).code
 abbrev pub has_type_at : {N O : Type 0} → ℕ → List (List ℕ) → List (Record N O) → Bool
 has_type_at type name records = list_any (λ r. same_name r.owner name && type_of r == type) records
 
+-- some record is of a type
+abbrev pub has_type_among : {N O : Type 0} → ℕ → List (Record N O) → Bool
+has_type_among type records = list_any (λ r. type_of r == type) records
+
 -- some record stands at a name
 abbrev pub has_owner : {N O : Type 0} → List (List ℕ) → List (Record N O) → Bool
 has_owner name records = list_any (λ r. same_name r.owner name) records
+
+-- the record is an A or AAAA
+abbrev pub is_address_record : {N O : Type 0} → Record N O → Bool
+is_address_record r = type_of r == 1 || type_of r == 28
 
 -- an A or AAAA stands at a name
 abbrev pub has_address_at : {N O : Type 0} → List (List ℕ) → List (Record N O) → Bool
@@ -35,6 +43,11 @@ is_equal_record a b = is_eq (record_order (record_key a) (record_key b))
 -- no record stands before the one in front of it (RFC 4034 section 6)
 abbrev pub AreInOrder : {N O : Type 0} → List (Record N O) → Type 0
 AreInOrder records = AllAdjacentBelow (λ a b. IsTrue (is_le (record_order (record_key a) (record_key b)))) records (length records)
+
+-- records are in order, and it is known whether one is a DNAME
+pub record KnowsRecords {N O : Type 0} (records : List (Record N O)) (has_dname : Bool) : Type 0 where
+  pub in_order : AreInOrder records
+  pub dname : has_dname ≡ has_type_among 39 records
 
 -- the record before a place
 abbrev pub record_before : {N O : Type 0} → List (Record N O) → ℕ → Option (Record N O)

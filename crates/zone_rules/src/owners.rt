@@ -81,7 +81,7 @@ pub(crate) fn is_under_dname<Owner: AsOctets, Octets: AsOctets>(
 ) -> bool
     ensures { result ≡ is_below_dname records.now «record».now }
 {
-    has_dname_above(records, &view(&record.owner))
+    records.has_dname() && has_dname_above(records, &view(&record.owner))
 }
 
 /// Whether a record is an NS at a wildcard.

@@ -1,10 +1,13 @@
 //! The records of a zone in canonical order, and what stands at a name.
-ghost use Rattle.std.specs.Prelude.{◌≡◌, ◌↔◌, IfSome, IsSome, filter};
+ghost use Rattle.std.specs.Prelude.{◌≡◌, ◌≤◌, ◌↔◌, IfSome, IsSome, filter, length, true, false};
+ghost use Rattle.std.specs.List.Sorted.{IsPartitionPoint, IsPartitionedBy};
+ghost use Rattle.std.specs.Ordering.{is_le};
 ghost use Rattle.dns_wire.specs.Order.{same_name};
-ghost use Rattle.zone_rules.specs.Zones.{AreInOrder, has_type_at, has_owner, has_address_at};
+ghost use Rattle.dns_canonical.specs.Names.{name_order};
+ghost use Rattle.zone_rules.specs.Zones.{AreInOrder, has_type_among, has_type_at, has_owner, has_address_at, is_address_record};
 
 use crate::names::order_of;
-use crate::types::{A, AAAA};
+use crate::types::{A, AAAA, DNAME};
 use dns_octets::AsOctets;
 use dns_resource::Record;
 use dns_wire::Name;
@@ -15,18 +18,20 @@ use std::marker::Model;
 #[derive(Drop)]
 pub struct SortedRecords<'a, Owner: AsOctets, Octets: AsOctets> {
     records: &'a [Record<Owner, Octets>],
+    /// Whether one is a DNAME.
+    has_dname: bool,
 }
 
 impl<'a, Owner: AsOctets, Octets: AsOctets> Model for SortedRecords<'a, Owner, Octets> {
     ghost use Rattle.std.specs.Prelude.{List};
     ghost use Rattle.dns_resource.specs.declared.record.Record.{Record};
-    ghost use Rattle.zone_rules.specs.Zones.{AreInOrder};
+    ghost use Rattle.zone_rules.specs.Zones.{KnowsRecords};
 
     ghost Value = { List (Record Owner Octets) };
 
     ghost view = { λ s. s.records.now };
 
-    ghost invariant = { λ s. AreInOrder s.records.now };
+    ghost invariant = { λ s. KnowsRecords s.records.now s.has_dname };
 }
 
 impl<'a, Owner: AsOctets, Octets: AsOctets> SortedRecords<'a, Owner, Octets> {
@@ -38,7 +43,15 @@ impl<'a, Owner: AsOctets, Octets: AsOctets> SortedRecords<'a, Owner, Octets> {
         if !records.is_sorted_by(|left, right| left.compare(right).is_le()) {
             return None;
         }
-        Some(SortedRecords { records })
+        let has_dname = records.iter().any(|record| record.data.code() == DNAME);
+        Some(SortedRecords { records, has_dname })
+    }
+
+    /// Whether a record is a DNAME.
+    pub(crate) fn has_dname(&self) -> bool
+        ensures { result ≡ has_type_among 39 self.now }
+    {
+        self.has_dname
     }
 
     /// The records.
@@ -48,6 +61,24 @@ impl<'a, Owner: AsOctets, Octets: AsOctets> SortedRecords<'a, Owner, Octets> {
     {
         self.records
     }
+}
+
+/// How many records are not behind a name, of records that begin at it or behind it. It looks at
+/// those in front first: at one, three, seven and so on.
+fn count_upto<Owner: AsOctets, Octets: AsOctets>(
+    records: &[Record<Owner, Octets>],
+    name: &Name<&[u8]>,
+) -> usize
+    requires { IsPartitionedBy (λ r. is_le (name_order r.owner name.now)) records.now }
+    ensures bound { result ≤ length records.now }
+    ensures point { IsPartitionPoint (λ r. is_le (name_order r.owner name.now) ≡ true) (λ r. is_le (name_order r.owner name.now) ≡ false) records.now result }
+{
+    let mut few: usize = 0;
+    'few: while few < records.len() && order_of(&records[few].owner, name).is_le() {
+        few = few.saturating_mul(2).saturating_add(1);
+    }
+    let front = &records[..few.min(records.len())];
+    front.partition_point(|record| order_of(&record.owner, name).is_le())
 }
 
 /// The records that a name owns.
@@ -60,7 +91,7 @@ pub fn owned_by<'a, Owner: AsOctets, Octets: AsOctets>(
     let all = records.as_slice();
     let from = all.partition_point(|record| order_of(&record.owner, name).is_lt());
     let rest = &all[from..];
-    let count = rest.partition_point(|record| order_of(&record.owner, name).is_le());
+    let count = count_upto(rest, name);
     &rest[..count]
 }
 
@@ -87,6 +118,13 @@ pub(crate) fn has_record<Owner: AsOctets, Octets: AsOctets>(
     !owned_by(records, name).is_empty()
 }
 
+/// Whether a record is an A or AAAA.
+fn is_address<Owner: AsOctets, Octets: AsOctets>(record: &Record<Owner, Octets>) -> bool
+    ensures { result ≡ is_address_record «record».now }
+{
+    matches!(record.data.code(), A | AAAA)
+}
+
 /// Whether an A or AAAA stands at a name.
 pub(crate) fn has_address<Owner: AsOctets, Octets: AsOctets>(
     records: &SortedRecords<'_, Owner, Octets>,
@@ -94,5 +132,7 @@ pub(crate) fn has_address<Owner: AsOctets, Octets: AsOctets>(
 ) -> bool
     ensures { result ≡ has_address_at name.now records.now }
 {
-    has_type(records, name, A) || has_type(records, name, AAAA)
+    owned_by(records, name)
+        .iter()
+        .any(|record| is_address(record))
 }
