@@ -1,7 +1,11 @@
 -- What a text writes as seconds: its number, or its periods, and in one way.
-use Rattle.std.proofs.Common.{ℕ, ◌≡◌, ◌<◌, ◌≤◌, ◌^◌, List, length, sym, arith, ◌∙◌, inl, inr, ⊎_elim, Option, Some, None, decimal}
+use Rattle.std.proofs.Common.{ℕ, ◌≡◌, ◌<◌, ◌≤◌, ◌^◌, Bool, true, false, List, [], ◌∷◌, length, sym, subst, arith, ◌∙◌, inl, inr, ⊎_elim, Option, Some, None, decimal}
+use Rattle.std.specs.Prelude.{slice_get}
+use Rattle.std.specs.Char.{digit_value, is_ascii_digit}
 use Rattle.std.specs.Str.Parse.{IsNumeral, digits_value}
+use Rattle.std.proofs.lemmas.Bool.Decides.{nat_tests}
 use Rattle.std.proofs.lemmas.Fmt.{decimal_is_IsNumeral}
+use Rattle.std.proofs.lemmas.Str.Parse.{digit_from_value}
 use Rattle.dns_kinds.specs.Ttl.{IsSeconds, ReadsPeriods, ReadsSeconds, SpellsTtl, SpellsInterval, TtlsAreKind, IntervalsAreKind}
 use Rattle.dns_kinds.proofs.ReadBack.{is_kind}
 use Rattle.dns_kinds.proofs.Periods.{after_periods, after_once, numeral_no_periods}
@@ -28,3 +32,23 @@ ttls_are_kind = is_kind (λ n. n < 2 ^ 31) SpellsTtl decimal (λ n small. (decim
 
 pub intervals_are_kind : IntervalsAreKind
 intervals_are_kind = is_kind (λ n. n < 2 ^ 32) SpellsInterval decimal (λ n small. (decimal_seconds n small, small)) (λ text n m h k. seconds_once text n m h.0 k.0)
+
+-- seconds begin with a digit
+is_digit : (c : ℕ) → 48 ≤ c → c ≤ 57 → is_ascii_digit c ≡ true
+is_digit c low high = Prim.grind (arith, nat_tests)
+
+no_digit : (c : ℕ) → is_ascii_digit c ≡ false → digit_value c < 10 → ⊥
+no_digit c none d =
+    let range = digit_from_value c d in
+    let digit : is_ascii_digit c ≡ true = is_digit c range.0 range.1 in
+    let wrong : true ≡ false = sym digit ∙ none in cc
+
+pub first_seconds : (text : List ℕ) (c n : ℕ) → slice_get text 0 ≡ Some c → is_ascii_digit c ≡ false → IsSeconds text n → ⊥
+first_seconds [] c n e none h = cc
+first_seconds (d ∷ ds) c n e none h =
+    let same : d ≡ c = cc in
+    by (subst (λ x. is_ascii_digit x ≡ false) (sym same) none) h
+  where
+    by : is_ascii_digit d ≡ false → IsSeconds (d ∷ ds) n → ⊥
+    by none (some, inl is) = no_digit d none is.0.1.0
+    by none (some, inr is) = no_digit d none (after_periods (d ∷ ds) n is).1

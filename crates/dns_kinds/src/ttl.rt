@@ -2,9 +2,9 @@
 //!
 //! The units are `w`, `d`, `h`, `m` and `s`, in either case. They may stand in any order, and those
 //! that stand twice add up.
-ghost use Rattle.std.specs.Prelude.{◌≡◌};
+ghost use Rattle.std.specs.Prelude.{ℕ, ◌≡◌, ◌<◌, IsTrue, false, length};
 ghost use Rattle.dns_kinds.specs.Kind.{ReadsKind};
-ghost use Rattle.dns_kinds.specs.Ttl.{unit_seconds, ReadsSeconds, ReadsPeriods, SpellsTtl, SpellsInterval, TtlsAreKind, IntervalsAreKind};
+ghost use Rattle.dns_kinds.specs.Ttl.{unit_seconds, IsSeconds, ReadsSeconds, ReadsPeriods, SpellsTtl, SpellsInterval, TtlsAreKind, IntervalsAreKind};
 ghost use Rattle.dns_kinds.specs.declared.error.KindError.TheVariants.{ExpectedTtl, ExpectedInterval};
 
 use crate::error::KindError;
@@ -48,11 +48,22 @@ fn periods_from_text(text: &[u8]) -> Option<u32>
     }
 }
 
+/// Whether a text begins with a decimal digit, as each does that writes seconds.
+fn begins_with_digit(text: &[u8]) -> bool
+    ensures some { IsTrue result → 0 < length text.now }
+    ensures none { result ≡ false → (n : ℕ) → IsSeconds text.now n → ⊥ }
+{
+    match text.first() {
+        Some(first) => first.is_ascii_digit(),
+        None => false,
+    }
+}
+
 /// The seconds that a text writes, if they are a number of 32 bits.
 fn seconds_from_text(text: &[u8]) -> Option<u32>
     ensures { ReadsSeconds text.now result }
 {
-    if text.is_empty() {
+    if !begins_with_digit(text) {
         return None;
     }
     match number_from_text(text) {

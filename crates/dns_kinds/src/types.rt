@@ -1,7 +1,7 @@
 //! The types of records (RFC 1035 section 3.2.2, IANA's registry, RFC 3597 section 5).
-ghost use Rattle.std.specs.Prelude.{◌≡◌, Some, option_copied};
+ghost use Rattle.std.specs.Prelude.{◌≡◌, Some, IfSome, option_copied};
 ghost use Rattle.dns_kinds.specs.Kind.{ReadsKind};
-ghost use Rattle.dns_kinds.specs.Registry.{row_name};
+ghost use Rattle.dns_kinds.specs.Registry.{row_code, row_name};
 ghost use Rattle.dns_kinds.specs.Types.{type_rows, SpellsType, type_text, TypesAreKind};
 ghost use Rattle.dns_kinds.specs.declared.error.KindError.TheVariants.{UnknownType};
 
@@ -114,11 +114,63 @@ pub static TYPES: [Named; 97] = [
 #[derive(Clone, Copy, Debug, PartialEq, Eq)]
 pub struct RecordType(pub u16);
 
+/// The code of a type that most records have, which a text names in capital letters.
+fn usual_code(text: &[u8]) -> Option<u16>
+    ensures { IfSome result (λ c. row_code type_rows text.now ≡ Some c) }
+{
+    if text == b"A".as_slice() {
+        return Some(1);
+    }
+    if text == b"NS".as_slice() {
+        return Some(2);
+    }
+    if text == b"MX".as_slice() {
+        return Some(15);
+    }
+    if text == b"DS".as_slice() {
+        return Some(43);
+    }
+    if text == b"TXT".as_slice() {
+        return Some(16);
+    }
+    if text == b"AAAA".as_slice() {
+        return Some(28);
+    }
+    if text == b"CNAME".as_slice() {
+        return Some(5);
+    }
+    if text == b"RRSIG".as_slice() {
+        return Some(46);
+    }
+    if text == b"NSEC".as_slice() {
+        return Some(47);
+    }
+    if text == b"NSEC3".as_slice() {
+        return Some(50);
+    }
+    if text == b"SOA".as_slice() {
+        return Some(6);
+    }
+    if text == b"PTR".as_slice() {
+        return Some(12);
+    }
+    if text == b"SRV".as_slice() {
+        return Some(33);
+    }
+    if text == b"DNSKEY".as_slice() {
+        return Some(48);
+    }
+    None
+}
+
 impl RecordType {
     /// The type that a text names, in any case of its letters: `MX` or `TYPE15`.
     pub fn from_text(text: &[u8]) -> Result<RecordType, KindError>
         ensures { ReadsKind SpellsType UnknownType text.now result }
     {
+        if let Some(code) = usual_code(text) {
+            return Ok(RecordType(code));
+        }
         match code_from_text(&TYPES, "TYPE", u16::MAX, text, KindError::UnknownType) {
             Ok(code) => Ok(RecordType(code)),
             Err(why) => Err(why),
