@@ -20,6 +20,7 @@ pub mod SeenEntries
 pub mod Shortened
 pub mod Squeezed
 pub mod Stops
+pub mod Taped
 pub mod TokenEnds
 pub mod Touching
 pub mod Twice

@@ -21,6 +21,7 @@ use dns_split::opening::outermost_open_of_octets;
 use dns_split::pieces::Fault;
 use dns_split::position::Position;
 use dns_split::standing::Standing;
+use dns_tape::{Tape, TapeTokens, fill};
 use std::alloc::Allocator;
 use std::marker::Model;
 use zone_format::place::{Place, advance, moved};
@@ -41,6 +42,13 @@ fn read_first<A: Allocator, B: OctetsBuilder + AsOctetsMut>(
     requires { at + length octets.now < 2 ^ 64 }
     ensures { ReadsStop B.room (tokens_kept (map kept_seen kept.now)) octets.now begins_blank at state.old (B.octets target.old) result state.new (B.octets target.new) }
 {
+    if kept.is_empty() {
+        let mut tape = Tape::new();
+        if let Some(end) = fill(octets, &mut tape) {
+            let mut tokens = TapeTokens::new(octets, tape.as_slice(), at, end);
+            return read_entry(state, begins_blank, &mut tokens, target);
+        }
+    }
     let mut tokens = KeptFirst::begin(kept, octets, at);
     read_entry(state, begins_blank, &mut tokens, target)
 }
