@@ -14,6 +14,3 @@ mod values;
 pub use error::ParamError;
 pub use shown::{KeyText, ParamText};
 pub use taking::{ParamRefusal, take_params};
-
-#[cfg(test)]
-mod tests;
