@@ -1,5 +1,5 @@
 -- What a text writes as seconds: its number, or its periods, and in one way.
-use Rattle.std.proofs.Common.{ℕ, ◌≡◌, ◌<◌, ◌≤◌, ◌^◌, Bool, true, false, List, [], ◌∷◌, length, sym, subst, arith, ◌∙◌, inl, inr, ⊎_elim, Option, Some, None, decimal}
+use Rattle.std.proofs.Common.{ℕ, ◌≡◌, ◌<◌, ◌≤◌, ◌^◌, true, false, List, [], ◌∷◌, length, sym, subst, arith, ◌∙◌, inl, inr, ⊎_elim, Option, Some, None, decimal}
 use Rattle.std.specs.Prelude.{slice_get}
 use Rattle.std.specs.Char.{digit_value, is_ascii_digit}
 use Rattle.std.specs.Str.Parse.{IsNumeral, digits_value}

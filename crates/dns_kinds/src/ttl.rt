@@ -2,7 +2,8 @@
 //!
 //! The units are `w`, `d`, `h`, `m` and `s`, in either case. They may stand in any order, and those
 //! that stand twice add up.
-ghost use Rattle.std.specs.Prelude.{ℕ, ◌≡◌, ◌<◌, IsTrue, false, length};
+ghost use Rattle.std.specs.Prelude.{ℕ, ◌≡◌, ◌<◌, IfSome, IsTrue, false, length, slice_get};
+ghost use Rattle.std.specs.Char.{is_ascii_digit};
 ghost use Rattle.dns_kinds.specs.Kind.{ReadsKind};
 ghost use Rattle.dns_kinds.specs.Ttl.{unit_seconds, IsSeconds, ReadsSeconds, ReadsPeriods, SpellsTtl, SpellsInterval, TtlsAreKind, IntervalsAreKind};
 ghost use Rattle.dns_kinds.specs.declared.error.KindError.TheVariants.{ExpectedTtl, ExpectedInterval};
@@ -48,8 +49,11 @@ fn periods_from_text(text: &[u8]) -> Option<u32>
     }
 }
 
-/// Whether a text begins with a decimal digit, as each does that writes seconds.
+/// Returns whether `text` begins with an ASCII digit, as every number of seconds does.
+///
+/// The words of types and classes begin with a letter, so they are rejected after one octet.
 fn begins_with_digit(text: &[u8]) -> bool
+    ensures first { IfSome (slice_get text.now 0) (λ c. result ≡ is_ascii_digit c) }
     ensures some { IsTrue result → 0 < length text.now }
     ensures none { result ≡ false → (n : ℕ) → IsSeconds text.now n → ⊥ }
 {

@@ -114,7 +114,10 @@ pub static TYPES: [Named; 97] = [
 #[derive(Clone, Copy, Debug, PartialEq, Eq)]
 pub struct RecordType(pub u16);
 
-/// The code of a type that most records have, which a text names in capital letters.
+/// Returns the code of the common type whose name is `text`, in capital letters.
+///
+/// Most records of a zone file have one of these types, so [`RecordType::from_text`] compares their
+/// names before it searches [`TYPES`]. Returns `None` for any other text, even if a type has it.
 fn usual_code(text: &[u8]) -> Option<u16>
     ensures { IfSome result (λ c. row_code type_rows text.now ≡ Some c) }
 {
