@@ -1,2 +1,3 @@
-pub mod Fills
+pub mod Filling
 pub mod Once
+pub mod Unfilled

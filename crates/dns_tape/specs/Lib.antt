@@ -1,2 +1,4 @@
+pub mod FirstEntry
+pub mod Rows
 pub mod Source
 pub mod Tape

@@ -1,25 +1,29 @@
--- The tokens of an entry, read from their places.
+-- The unread tokens of an entry, with their offsets in the whole input.
 use Rattle.std.specs.Prelude.{◌≤◌, ◌<◌, ◌^◌, ℕ, ◌+◌, List, length, map, None}
 use Rattle.std.specs.List.{AllByRecursion}
 use Rattle.dns_split.specs.EntryTokens.{TokenSeen}
-use Rattle.dns_split.specs.Pieces.{between}
 use Rattle.dns_fields.specs.Source.{EntryEnd}
-use Rattle.dns_tape.specs.Tape.{IsSpotOf}
-use Rattle.dns_tape.specs.declared.tape.Spot.{Spot}
+use Rattle.dns_tape.specs.Tape.{IsSpanIn, span_token}
+use Rattle.dns_tape.specs.declared.tape.TokenSpan.{TokenSpan}
 
--- the token at a spot, with its place among all octets
-abbrev pub spot_after : List ℕ → ℕ → Spot → TokenSeen
-spot_after octets base s = record { text = between octets s.start s.end; is_quoted = s.is_quoted; is_glued = s.is_glued; at = base + s.at }
+-- the same token, where its octets begin at the offset `base`
+abbrev pub token_after : ℕ → TokenSeen → TokenSeen
+token_after base t = record { text = t.text; is_quoted = t.is_quoted; is_glued = t.is_glued; at = base + t.at }
 
--- what is left of an entry
-pub record TapeSeen : Type 0 where
+abbrev pub tokens_after : ℕ → List TokenSeen → List TokenSeen
+tokens_after base tokens = map (token_after base) tokens
+
+-- the unread tokens of an entry, and its end
+pub record UnreadSeen : Type 0 where
   pub tokens : List TokenSeen
   pub end : EntryEnd
 
-abbrev pub tape_seen : List ℕ → ℕ → List Spot → ℕ → TapeSeen
-tape_seen octets base spots at = record { tokens = map (spot_after octets base) spots; end = record { at = base + at; behind = None } }
+-- those at spans, of an entry that ends at an offset
+abbrev pub tape_seen : List ℕ → ℕ → List TokenSpan → ℕ → UnreadSeen
+tape_seen octets base spans end = record { tokens = map (λ s. token_after base (span_token octets s)) spans; end = record { at = base + end; behind = None } }
 
-pub record IsTapeOf (octets : List ℕ) (base : ℕ) (spots : List Spot) (at : ℕ) : Type 0 where
-  pub within : AllByRecursion (IsSpotOf octets) spots
-  pub ends : at ≤ length octets
+-- the spans and the end are among the octets, and no offset overflows
+pub record IsTapeOf (octets : List ℕ) (base : ℕ) (spans : List TokenSpan) (end : ℕ) : Type 0 where
+  pub within : AllByRecursion (IsSpanIn octets) spans
+  pub ends : end ≤ length octets
   pub room : base + length octets < 2 ^ 64

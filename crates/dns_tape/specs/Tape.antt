@@ -1,68 +1,54 @@
--- The tokens of an entry by their places.
-use Rattle.std.specs.Prelude.{⊤, ◌≡◌, ◌≤◌, ℕ, ◌+◌, ◌-◌, Bool, true, false, List, [], ◌∷◌, ◌++◌, length, map, Option, Some, None, Result, Ok, Err}
+-- What a tape holds: the spans of the tokens of the first entry of octets.
+use Rattle.std.specs.Prelude.{◌≡◌, ◌≤◌, ◌<◌, ℕ, ◌+◌, ◌-◌, Bool, true, false, List, [], ◌∷◌, ◌++◌, length, map, Option, None, Result, Ok}
 use Rattle.std.specs.List.{AllByRecursion}
-use Rattle.dns_split.specs.EntryTokens.{TokenSeen, ends_at, quote_seen, word_seen}
-use Rattle.dns_split.specs.PassedLine.{HasNoEnd}
-use Rattle.dns_split.specs.Pieces.{IsGiven, between}
+use Rattle.dns_split.specs.EntryTokens.{TokenSeen, ends_at}
+use Rattle.dns_split.specs.Pieces.{between}
 use Rattle.dns_split.specs.declared.pieces.EndOfEntry.{EndOfEntry}
 use Rattle.dns_split.specs.declared.pieces.Fault.{Fault}
 use Rattle.dns_split.specs.declared.pieces.Piece.{Piece}
-use Rattle.dns_split.specs.declared.pieces.Piece.TheVariants.{Word as WordAt, Quote as QuoteAt, Comment as CommentAt, End as EndAt}
 use Rattle.dns_split.specs.declared.pieces.Span.{Span}
-use Rattle.dns_tape.specs.declared.tape.Spot.{Spot}
+use Rattle.dns_tape.specs.declared.tape.TheConstants.{TAPE_CAPACITY}
+use Rattle.dns_tape.specs.declared.tape.TokenSpan.{TokenSpan}
+use Rattle.dns_tape.specs.FirstEntry.{StopsFirst, piece_tokens, stop_offset}
 
--- the token that stands at a spot
-abbrev pub spot_seen : List ℕ → Spot → TokenSeen
-spot_seen octets s = record { text = between octets s.start s.end; is_quoted = s.is_quoted; is_glued = s.is_glued; at = s.at }
+-- the token at a span
+abbrev pub span_token : List ℕ → TokenSpan → TokenSeen
+span_token octets s = record { text = between octets s.start s.end; is_quoted = s.is_quoted; is_glued = s.is_adjacent; at = s.offset }
 
--- its text is of the octets
-abbrev pub IsSpotOf : List ℕ → Spot → Type 0
-IsSpotOf octets s = (s.at ≤ s.start) × (s.start ≤ s.end) × (s.end ≤ length octets)
+-- its octets are among these
+abbrev pub IsSpanIn : List ℕ → TokenSpan → Type 0
+IsSpanIn octets s = (s.offset ≤ s.start) × (s.start ≤ s.end) × (s.end ≤ length octets)
 
--- the tokens of pieces of one entry, the first of which may be glued to what ended before
-abbrev pub tape_tokens : List ℕ → Option ℕ → List Piece → List TokenSeen
-tape_tokens octets ended [] = []
-tape_tokens octets ended (WordAt p ∷ ps) = word_seen octets ended p ∷ tape_tokens octets (Some p.end) ps
-tape_tokens octets ended (QuoteAt p ∷ ps) = quote_seen octets ended p ∷ tape_tokens octets (Some p.end) ps
-tape_tokens octets ended (CommentAt p ∷ ps) = tape_tokens octets ended ps
-tape_tokens octets ended (EndAt e ∷ ps) = tape_tokens octets None ps
-
--- the tokens of the first entry of octets stand at these spots, and it ends at a place
-pub record FillsWith (octets : List ℕ) (spots : List Spot) (at : ℕ) : Type 0 where
-  pub found : List Piece
-  pub is_open : HasNoEnd found
-  pub end : EndOfEntry
-  pub ends_at : end.at ≡ at
+-- the first entry of the octets has these tokens, and ends at this offset
+pub record FillsWith (octets : List ℕ) (spans : List TokenSpan) (end : ℕ) : Type 0 where
+  pub stop : EndOfEntry
   pub left : List (Result Piece Fault)
-  pub given : IsGiven octets (map Ok found ++ Ok (EndAt end) ∷ left)
-  pub tokens : map (spot_seen octets) spots ≡ tape_tokens octets None found
-  pub within : AllByRecursion (IsSpotOf octets) spots
+  pub first : StopsFirst octets (Ok stop) left
+  pub ends : stop.at ≡ end
+  pub tokens : map (span_token octets) spans ≡ piece_tokens octets None first.found
+  pub within : AllByRecursion (IsSpanIn octets) spans
+
+-- if the first entry of the octets ends at all, it has more tokens than a tape holds
+abbrev pub FitsNoTape : List ℕ → Type 0
+FitsNoTape octets = (stop : EndOfEntry) (left : List (Result Piece Fault)) (first : StopsFirst octets (Ok stop) left) → TAPE_CAPACITY < length (piece_tokens octets None first.found)
 
 -- ---- of private functions
 
-abbrev pub word_spot : Span → Option ℕ → Spot
-word_spot p ended = record { at = p.start; start = p.start; end = p.end; is_quoted = false; is_glued = ends_at ended p.start }
+-- the span of a word, and of a quoted string by the span with its double quotes, after a token that ended there
+abbrev pub word_span : Span → Option ℕ → TokenSpan
+word_span p ended = record { offset = p.start; start = p.start; end = p.end; is_quoted = false; is_adjacent = ends_at ended p.start }
 
-abbrev pub quote_spot : Span → Option ℕ → Spot
-quote_spot p ended = record { at = p.start; start = p.start + 1; end = p.end - 1; is_quoted = true; is_glued = ends_at ended p.start }
+abbrev pub quote_span : Span → Option ℕ → TokenSpan
+quote_span p ended = record { offset = p.start; start = p.start + 1; end = p.end - 1; is_quoted = true; is_adjacent = ends_at ended p.start }
 
--- one more is behind the others, or there is no room
-abbrev pub PushesSpot : List Spot → Spot → Bool → List Spot → Type 0
-PushesSpot old s true new = new ≡ old ++ s ∷ []
-PushesSpot old s false new = ⊤
+-- a span is appended, or the tape is full
+abbrev pub PushesSpan : List TokenSpan → TokenSpan → Bool → List TokenSpan → Type 0
+PushesSpan old s true new = new ≡ old ++ s ∷ []
+PushesSpan old s false new = (TAPE_CAPACITY ≤ length old) × (new ≡ old)
 
 -- ---- laws
 
--- the end of an entry, or the fault before it
-abbrev pub stop_piece : Result EndOfEntry Fault → Result Piece Fault
-stop_piece (Ok end) = Ok (EndAt end)
-stop_piece (Err f) = Err f
-
-abbrev pub stops_at : Result EndOfEntry Fault → ℕ
-stops_at (Ok end) = end.at
-stops_at (Err f) = f.at
-
--- the tokens that are kept are those of the pieces that octets give, and the place is that of the end behind them
+-- whatever pieces and stop the octets begin with: the tokens at the spans are those of these pieces, and the stop is the end of the tape's entry
 abbrev pub FilledOnce : Type 0
-FilledOnce = (octets : List ℕ) (at : ℕ) (spots : List Spot) → FillsWith octets spots at → (stop : Result EndOfEntry Fault) (left : List (Result Piece Fault)) (found : List Piece) → HasNoEnd found
-    → IsGiven octets (map Ok found ++ stop_piece stop ∷ left) → (map (spot_seen octets) spots ≡ tape_tokens octets None found) × (at ≡ stops_at stop)
+FilledOnce = (octets : List ℕ) (spans : List TokenSpan) (end : ℕ) (f : FillsWith octets spans end) (stop : Result EndOfEntry Fault) (left : List (Result Piece Fault)) (first : StopsFirst octets stop left)
+    → (map (span_token octets) spans ≡ piece_tokens octets None first.found) × (stop ≡ Ok f.stop) × (stop_offset stop ≡ end)

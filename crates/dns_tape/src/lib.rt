@@ -1,8 +1,9 @@
-//! The tokens of an entry by their places: all are found before one is read.
+//! A tape of tokens: where each token of an entry begins and ends is found once, and each token is
+//! then returned without a search.
 #![tactic(auto)]
 
 pub mod source;
 pub mod tape;
 
 pub use source::TapeTokens;
-pub use tape::{MOST, Spot, Tape, fill};
+pub use tape::{TAPE_CAPACITY, Tape, TokenSpan, fill};

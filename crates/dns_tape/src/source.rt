@@ -1,45 +1,49 @@
-//! The tokens of an entry, read from their places.
+//! The tokens of an entry, returned one by one from a tape.
 ghost use Rattle.std.specs.Prelude.{◌≡◌, ◌+◌, ◌<◌, ◌^◌, length};
-ghost use Rattle.dns_tape.specs.Tape.{FillsWith};
 ghost use Rattle.dns_tape.specs.Source.{tape_seen};
+ghost use Rattle.dns_tape.specs.Tape.{FillsWith};
 
-use crate::tape::Spot;
+use crate::tape::TokenSpan;
 use dns_fields::TokenSource;
 use dns_split::entry_tokens::EntryToken;
 use std::marker::Model;
 
-/// The tokens that are left of an entry, with their places among all octets.
+/// The unread tokens of an entry: a [`TokenSource`] over a tape.
 #[derive(Drop)]
 pub struct TapeTokens<'t> {
     octets: &'t [u8],
-    spots: &'t [Spot],
-    /// Where the octets begin among all.
+    /// The spans of the unread tokens.
+    spans: &'t [TokenSpan],
+    /// Offset of the first of `octets` in the whole input.
     base: usize,
-    /// Where the entry ends among the octets.
+    /// Offset of the entry's end in `octets`.
     end: usize,
 }
 
 impl<'t> Model for TapeTokens<'t> {
-    ghost use Rattle.dns_tape.specs.Source.{IsTapeOf, TapeSeen, tape_seen};
+    ghost use Rattle.dns_tape.specs.Source.{IsTapeOf, UnreadSeen, tape_seen};
 
-    ghost Value = { TapeSeen };
+    ghost Value = { UnreadSeen };
 
-    ghost view = { λ t. tape_seen t.octets.now t.base t.spots.now t.end };
+    ghost view = { λ t. tape_seen t.octets.now t.base t.spans.now t.end };
 
-    ghost invariant = { λ t. IsTapeOf t.octets.now t.base t.spots.now t.end };
+    ghost invariant = { λ t. IsTapeOf t.octets.now t.base t.spans.now t.end };
 }
 
 impl<'t> TapeTokens<'t> {
-    /// The tokens of the first entry of octets, which [`fill`](crate::tape::fill) found. The octets
-    /// begin at a place among others.
-    pub fn new(octets: &'t [u8], spots: &'t [Spot], base: usize, end: usize) -> TapeTokens<'t>
-        requires fills { FillsWith octets.now spots.now end }
+    /// Returns the tokens of the first entry of `octets`, where [`fill`](crate::tape::fill) stored
+    /// `spans` and returned `end`.
+    ///
+    /// `base` is the offset of the first of `octets` in the whole input, in octets. The offsets of
+    /// the tokens and of the entry's end are then those in the whole input.
+    pub fn new(octets: &'t [u8], spans: &'t [TokenSpan], base: usize, end: usize) -> TapeTokens<'t>
+        requires fills { FillsWith octets.now spans.now end }
         requires room { base + length octets.now < 2 ^ 64 }
-        ensures { result ≡ tape_seen octets.now base spots.now end }
+        ensures { result ≡ tape_seen octets.now base spans.now end }
     {
         TapeTokens {
             octets,
-            spots,
+            spans,
             base,
             end,
         }
@@ -52,28 +56,28 @@ impl<'t> TokenSource for TapeTokens<'t> {
     ghost end = { λ t. t.end };
 
     fn current(&self) -> Option<EntryToken<'_>> {
-        match self.spots.first() {
-            Some(spot) => Some(EntryToken {
-                text: &self.octets[spot.start..spot.end],
-                is_quoted: spot.is_quoted,
-                is_glued: spot.is_glued,
-                at: self.base + spot.at,
+        match self.spans.first() {
+            Some(span) => Some(EntryToken {
+                text: &self.octets[span.start..span.end],
+                is_quoted: span.is_quoted,
+                is_glued: span.is_adjacent,
+                at: self.base + span.offset,
             }),
             None => None,
         }
     }
 
     fn place(&self) -> usize {
-        match self.spots.first() {
-            Some(spot) => self.base + spot.at,
+        match self.spans.first() {
+            Some(span) => self.base + span.offset,
             None => self.base + self.end,
         }
     }
 
     fn advance(&mut self) {
-        let spots = self.spots;
-        if !spots.is_empty() {
-            self.spots = &spots[1..];
+        let spans = self.spans;
+        if !spans.is_empty() {
+            self.spans = &spans[1..];
         }
     }
 }

@@ -1,79 +1,90 @@
-//! The tokens of an entry by their places.
-ghost use Rattle.std.specs.Prelude.{◌≡◌, ◌≤◌, ◌+◌, ◌++◌, ◌∷◌, [], length, IfSome, IsTrue, true, false};
-ghost use Rattle.dns_split.specs.Pieces.{AreOctets};
-ghost use Rattle.dns_tape.specs.Tape.{FilledOnce, FillsWith, PushesSpot, quote_spot, word_spot};
+//! The tape: the offsets of the tokens of one entry of a zone file (RFC 1035 section 5.1).
+//!
+//! [`fill`] finds the tokens of the first entry of some octets and stores their offsets. They are
+//! then returned one by one by [`TapeTokens`](crate::source::TapeTokens).
+ghost use Rattle.std.specs.Prelude.{◌≡◌, ◌≤◌, ◌+◌, IfSome, None};
+ghost use Rattle.dns_split.specs.EntryTokens.{ends_at};
+ghost use Rattle.dns_tape.specs.Tape.{FilledOnce, FillsWith, FitsNoTape, PushesSpan, quote_span, word_span};
 
 use arrayvec::ArrayVec;
 use dns_split::pieces::{Piece, Pieces, Span};
 
-/// The most tokens of a tape.
-pub const MOST: usize = 24;
+/// Number of tokens that a [`Tape`] can hold.
+pub const TAPE_CAPACITY: usize = 24;
 
-/// Where a token stands among octets.
+/// The offsets of one token, in octets from the beginning of the entry's octets.
 #[derive(Clone, Copy, Debug, PartialEq, Eq, Default)]
-pub struct Spot {
-    /// Where it begins: a quoted text with its double quote.
-    pub at: usize,
-    /// Where its text begins, behind a double quote.
+pub struct TokenSpan {
+    /// Offset of the token's first octet: of a quoted string, its opening double quote.
+    pub offset: usize,
+    /// Offset of the first octet of its text, after an opening double quote.
     pub start: usize,
-    /// Where its text ends, before a double quote.
+    /// Offset after the last octet of its text, before a closing double quote.
     pub end: usize,
-    /// Whether it is a quoted text.
+    /// Whether the token is a quoted string.
     pub is_quoted: bool,
-    /// Whether it begins where the token before it in its entry ended.
-    pub is_glued: bool,
+    /// Whether the token begins where the token before it in its entry ended, as the string of
+    /// `alpn="h2"` does.
+    pub is_adjacent: bool,
 }
 
-/// The tokens of an entry, by their places.
-pub type Tape = ArrayVec<Spot, MOST>;
+/// The spans of the tokens of one entry, in their order.
+pub type Tape = ArrayVec<TokenSpan, TAPE_CAPACITY>;
 
-/// Where a word stands, behind a token of its entry that ended at a place, if there was one.
-fn word_spot(span: Span, ended: Option<usize>) -> Spot
-    ensures { result ≡ word_spot span ended }
+/// Returns whether the token before, if there is one, ended at `offset`.
+fn ends_at(ended: Option<usize>, offset: usize) -> bool
+    ensures { result ≡ ends_at ended offset }
 {
-    let is_glued = match ended {
-        Some(end) => end == span.start,
+    match ended {
+        Some(end) => end == offset,
         None => false,
-    };
-    Spot {
-        at: span.start,
-        start: span.start,
-        end: span.end,
+    }
+}
+
+/// Returns the span of a word, where `ended` is the end of the token before it in its entry.
+fn word_span(word: Span, ended: Option<usize>) -> TokenSpan
+    ensures { result ≡ word_span word ended }
+{
+    TokenSpan {
+        offset: word.start,
+        start: word.start,
+        end: word.end,
         is_quoted: false,
-        is_glued,
+        is_adjacent: ends_at(ended, word.start),
     }
 }
 
-/// Where a quoted text stands, with its double quotes.
-fn quote_spot(span: Span, ended: Option<usize>) -> Spot
-    requires { span.start + 2 ≤ span.end }
-    ensures { result ≡ quote_spot span ended }
+/// Returns the span of a quoted string, which includes its double quotes, where `ended` is the end
+/// of the token before it in its entry.
+fn quote_span(quote: Span, ended: Option<usize>) -> TokenSpan
+    requires { quote.start + 2 ≤ quote.end }
+    ensures { result ≡ quote_span quote ended }
 {
-    let is_glued = match ended {
-        Some(end) => end == span.start,
-        None => false,
-    };
-    Spot {
-        at: span.start,
-        start: span.start + 1,
-        end: span.end - 1,
+    TokenSpan {
+        offset: quote.start,
+        start: quote.start + 1,
+        end: quote.end - 1,
         is_quoted: true,
-        is_glued,
+        is_adjacent: ends_at(ended, quote.start),
     }
 }
 
-/// Puts one more behind the others, if there is room.
-fn push(tape: &mut Tape, spot: Spot) -> bool
-    ensures { PushesSpot tape.old.items spot result tape.new.items }
+/// Appends a span and returns true; or returns false if the tape is full.
+fn push(tape: &mut Tape, span: TokenSpan) -> bool
+    ensures { PushesSpan tape.old.items span result tape.new.items }
 {
-    tape.try_push(spot).is_ok()
+    tape.try_push(span).is_ok()
 }
 
-/// Fills a tape with the tokens of the first entry of octets, and returns where that ends; or
-/// nothing, where a fault comes before its end, or there are more tokens than a tape has room for.
-/// What the tape held goes.
+/// Fills `tape` with the spans of the tokens of the first entry of `octets`, and returns the offset
+/// of that entry's end, in octets: after its line end, or the length if no line end follows.
+///
+/// Returns `None` if a syntax error comes before the entry's end, or if the entry has more than
+/// [`TAPE_CAPACITY`] tokens. What the tape held is dropped; after `None` its contents are
+/// unspecified.
 pub fn fill(octets: &[u8], tape: &mut Tape) -> Option<usize>
-    ensures { IfSome result (FillsWith octets.now tape.new.items) }
+    ensures some { IfSome result (FillsWith octets.now tape.new.items) }
+    ensures none { result ≡ None → FitsNoTape octets.now }
 {
     tape.clear();
     let mut ended = None;
@@ -82,13 +93,13 @@ pub fn fill(octets: &[u8], tape: &mut Tape) -> Option<usize>
         match piece {
             Ok(Piece::End(end)) => return Some(end.at),
             Ok(Piece::Word(span)) => {
-                if !push(tape, word_spot(span, ended)) {
+                if !push(tape, word_span(span, ended)) {
                     return None;
                 }
                 ended = Some(span.end);
             }
             Ok(Piece::Quote(span)) => {
-                if span.end - span.start < 2 || !push(tape, quote_spot(span, ended)) {
+                if !push(tape, quote_span(span, ended)) {
                     return None;
                 }
                 ended = Some(span.end);
@@ -100,7 +111,8 @@ pub fn fill(octets: &[u8], tape: &mut Tape) -> Option<usize>
     None
 }
 
-/// States that the tokens of an entry are found in one way, and does nothing else.
+/// States that a filled tape has the tokens and the end of the one entry with which the octets
+/// begin, and does nothing else.
 pub fn tapes_are_filled_once()
     ensures { FilledOnce }
 {}

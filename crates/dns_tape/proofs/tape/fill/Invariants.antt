@@ -1,5 +1,5 @@
 use Rattle.std.proofs.Common.{length}
-use Rattle.dns_tape.proofs.Fills.{Filling}
+use Rattle.dns_tape.proofs.Filling.{Filling}
 use Rattle.dns_tape.proofs.tape.fill.Given as goal
 
 abbrev pub invariant-pieces : goal.invariant-pieces
