@@ -11,8 +11,10 @@ use Rattle.dns_split.specs.Standing.{blank_at}
 use Rattle.dns_split.proofs.OctetsOnce.{given_once}
 use Rattle.dns_reader.specs.declared.source.StartOfEntry.{StartOfEntry}
 use Rattle.dns_reader.specs.Source.{BeginsEntry, BeginsToken, IsAtStart, SourceSeen, behind_tokens, end_first, entry_end, entry_left, last_end, tokens_first}
-use Rattle.dns_zonefile.specs.First.{StopsFirst, parts_of, piece_tokens}
-use Rattle.dns_zonefile.specs.Placed.{BeginsPlaced, EachFitsFrom, FitsFrom, IsAllBehind, placed_after, stop_place, tokens_after}
+use Rattle.dns_tape.specs.FirstEntry.{StopsFirst, piece_tokens, stop_offset}
+use Rattle.dns_tape.specs.Source.{tokens_after}
+use Rattle.dns_zonefile.specs.First.{parts_of}
+use Rattle.dns_zonefile.specs.Placed.{BeginsPlaced, EachFitsFrom, FitsFrom, IsAllBehind, placed_after}
 use Rattle.dns_zonefile.proofs.Stops.{seen_end, seen_fault}
 
 abbrev Parts : Type 0
@@ -136,7 +138,7 @@ behind_stop octets (Err f) left = Err f ∷ []
 -- what is left of an entry, or before a fault, once it is begun
 begun : (octets : List ℕ) (began first n : ℕ) (is_open : Bool) (parts : Parts) (ends : List EndOfEntry) (b : Bool) (tokens : List TokenSeen) (r : Started) (stop : Result EndOfEntry Fault) (left : List (Result Piece Fault))
     → parts_of b tokens ++ behind_stop octets stop left ≡ ends_of ends ++ parts → began ≡ last_end first ends → IsAtStart r (source_of began is_open parts) → IsAllBehind n stop left
-    → HasSeen (source_of began is_open parts) tokens (stop_place stop)
+    → HasSeen (source_of began is_open parts) tokens (stop_offset stop)
 begun octets began first n is_open parts ends b (t ∷ tokens) r (Ok end) left eq k h a = token_begun began first is_open parts (Ok (EndIs end) ∷ seen_from octets end.at None left) ends b t tokens end.at r eq h refl refl
 begun octets began first n is_open parts ends b (t ∷ tokens) r (Err f) left eq k h a = token_begun began first is_open parts (Err f ∷ []) ends b t tokens f.at r eq h refl refl
 begun octets began first n is_open parts ends b [] r (Err f) left eq k h a = fault_begun began is_open parts ends f r eq h

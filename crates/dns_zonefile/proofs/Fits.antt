@@ -4,7 +4,8 @@ use Rattle.std.specs.Prelude.{Option, Some, option_map, slice_get}
 use Rattle.std.proofs.lemmas.Option.{slice_get-map}
 use Rattle.dns_split.specs.declared.entry_tokens.EntryToken.{EntryToken}
 use Rattle.dns_split.specs.EntryTokens.{TokenSeen, token_seen}
-use Rattle.dns_zonefile.specs.Placed.{EachFitsFrom, token_after, tokens_after}
+use Rattle.dns_tape.specs.Source.{token_after, tokens_after}
+use Rattle.dns_zonefile.specs.Placed.{EachFitsFrom}
 
 module _ (base : ℕ) (left : List TokenSeen) where
   pub first_fits : (t : EntryToken) → option_map token_seen (Some t) ≡ slice_get left 0 → EachFitsFrom base left → base + t.at < 2 ^ 64

@@ -16,9 +16,10 @@ use Rattle.zone_format.proofs.Opened.{quote_within}
 use Rattle.dns_reader.specs.declared.entry.EntryRead.{EntryRead}
 use Rattle.dns_reader.specs.declared.entry_error.EntryRefusal.{EntryRefusal}
 use Rattle.dns_reader.specs.declared.state.State.{State}
+use Rattle.dns_tape.specs.FirstEntry.{StopsFirst, piece_tokens}
 use Rattle.dns_zonefile.specs.Adding.{FindsEntry, IsHeldStop, IsPutOff, LetsRead, SkipsLine, behind_stop, forgotten, stop_octets}
 use Rattle.dns_zonefile.specs.Blocks.{Blocks, HoldsLast, IsKeptOpener, IsPlaceOf, StandsIf, held_left, behind_line_if, is_open, place_of_next, text_left}
-use Rattle.dns_zonefile.specs.First.{BeginsEntryWith, StandsFirst, StopsFirst, piece_tokens}
+use Rattle.dns_zonefile.specs.First.{BeginsEntryWith, StandsFirst}
 use Rattle.dns_zonefile.specs.Giving.{CanMove, ReadsNext, ReadsStop, given_by}
 use Rattle.dns_zonefile.specs.Kept.{KeptSeen, tokens_kept}
 use Rattle.dns_zonefile.proofs.Held.{ahead_rest, dropped, holds_rest, holds_same, left_ahead, none_gone, some_gone}

@@ -10,10 +10,11 @@ use Rattle.dns_split.specs.Pieces.{AreOctets, EachWithin}
 use Rattle.dns_split.specs.Run.{run}
 use Rattle.dns_split.specs.Standing.{ahead, blank_at, entered}
 use Rattle.dns_split.proofs.Blocks.{back_octets, both_octets}
-use Rattle.dns_zonefile.specs.First.{BeginsEntryWith, parts_of, piece_tokens}
+use Rattle.dns_tape.specs.FirstEntry.{last_ended, piece_tokens}
+use Rattle.dns_tape.specs.Source.{tokens_after}
+use Rattle.dns_zonefile.specs.First.{BeginsEntryWith, parts_of}
 use Rattle.dns_zonefile.specs.Passing.{PassesOne, TokenStands, settled_piece, standing_at}
-use Rattle.dns_zonefile.specs.Placed.{tokens_after}
-use Rattle.dns_zonefile.specs.Settled.{IsParted, Passed, StandsFor, begun, last_ended, stop_after}
+use Rattle.dns_zonefile.specs.Settled.{IsParted, Passed, StandsFor, begun, stop_after}
 use Rattle.dns_zonefile.specs.declared.passing.Apart.{Apart}
 use Rattle.dns_zonefile.specs.declared.passing.Settled.{Settled}
 use Rattle.dns_zonefile.proofs.Modes.{Outside}

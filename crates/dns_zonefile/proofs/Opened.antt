@@ -17,12 +17,13 @@ use Rattle.dns_reader.specs.declared.entry.EntryRead.{EntryRead}
 use Rattle.dns_reader.specs.declared.entry_error.EntryRefusal.{EntryRefusal}
 use Rattle.dns_reader.specs.declared.records.RecordRefusal.TheVariants.{Text}
 use Rattle.dns_reader.specs.declared.state.State.{State}
+use Rattle.dns_tape.specs.FirstEntry.{StopsFirst, piece_tokens, stop_offset}
+use Rattle.dns_tape.specs.Source.{tokens_after}
 use Rattle.dns_zonefile.specs.Adding.{FindsEntry, IsPutOff, LetsGo, LetsGoUnless, SkipsLine, behind_stop, stop_octets, with_left}
 use Rattle.dns_zonefile.specs.Blocks.{Blocks, HoldsLast, MayFollow, StandsIf, StandsInAll, behind_line_if, is_open, place_of_next, text_left}
-use Rattle.dns_zonefile.specs.First.{BeginsEntryWith, StandsFirst, StopsFirst, piece_tokens}
+use Rattle.dns_zonefile.specs.First.{BeginsEntryWith, StandsFirst}
 use Rattle.dns_zonefile.specs.Giving.{ReadsNext, ReadsStop, given_by, text_behind}
 use Rattle.dns_zonefile.specs.Kept.{tokens_kept}
-use Rattle.dns_zonefile.specs.Placed.{stop_place, tokens_after}
 use Rattle.dns_zonefile.specs.Settled.{stop_after}
 use Rattle.dns_zonefile.proofs.Twice.{fault_twice, tokens_joined}
 use Rattle.dns_zonefile.proofs.Held.{blank_front, dropped, holds_same, some_gone}
@@ -30,7 +31,7 @@ use Rattle.dns_zonefile.proofs.LastEnds.{within_after}
 use Rattle.dns_zonefile.proofs.Stops.{alone, end_within, fault_stays, read_same, stays}
 
 -- the end of its entry is the same place
-pub stop_same : (entry by base : ℕ) (stop : Result EndOfEntry Fault) → base ≡ entry + by → entry + stop_place (stop_after by stop) ≡ base + stop_place stop
+pub stop_same : (entry by base : ℕ) (stop : Result EndOfEntry Fault) → base ≡ entry + by → entry + stop_offset (stop_after by stop) ≡ base + stop_offset stop
 stop_same entry by base (Ok end) here = omega (arith, here)
 stop_same entry by base (Err f) here = omega (arith, here)
 
@@ -40,7 +41,7 @@ module _ (all : List ℕ) (b : Blocks) (h : HoldsLast all b) (low : b.front ≤ 
   behind_place n more from within =
       drop-drop (by + n) b.entry.at (all ++ more) ∙ ap (λ i. drop i (all ++ more)) (omega (arith, base)) ∙ dropped all b h low n more from within
 
-  pub behind_same : (stop : Result EndOfEntry Fault) (more : List ℕ) → b.front ≤ stop_place stop → stop_place stop ≤ length b.octets
+  pub behind_same : (stop : Result EndOfEntry Fault) (more : List ℕ) → b.front ≤ stop_offset stop → stop_offset stop ≤ length b.octets
       → text_behind (stop_after by stop) (drop b.entry.at (all ++ more)) ≡ text_behind stop (b.octets ++ more)
   behind_same (Ok end) more from within = behind_place end.at more from within ∙ sym (drop-append-le end.at b.octets more within)
   behind_same (Err f) more from within = ap (drop_through 10) (behind_place f.at more from within ∙ sym (drop-append-le f.at b.octets more within))
@@ -60,15 +61,15 @@ given_same entry by base (Err f) read here = ap (λ n. Err (Text (moved_fault (�
 -- by the first entry of what stands for it
 module _ (room : Room) (all : List ℕ) (b f c : Blocks) (before after : State) (old new : List ℕ) (read : Result EntryRead EntryRefusal) (h : HoldsLast all f) (low : f.front ≤ length f.octets) (x : StandsInAll all f)
     (same_left : (text : List ℕ) → text_left b text ≡ drop f.entry.at text) (finished : f.is_finished ≡ b.is_finished) where
-  gives_as : (tokens : List TokenSeen) (stop : Result EndOfEntry Fault) → stop_place stop ≤ length f.octets
+  gives_as : (tokens : List TokenSeen) (stop : Result EndOfEntry Fault) → stop_offset stop ≤ length f.octets
       → ((more : List ℕ) → MayFollow f more → BeginsEntryWith (f.octets ++ more) (blank_at f.octets 0) tokens stop)
-      → ReadsZoneEntry room (blank_at f.octets 0) (f.start.at + stop_place stop) (tokens_kept f.kept ++ tokens_after f.start.at tokens) before old read after new
-      → c.octets ≡ f.octets → c.front ≡ f.front → c.start ≡ f.start → c.kept ≡ f.kept → c.entry ≡ f.entry → c.opened ≡ f.opened → c.next ≡ stop_place stop → c.began ≡ f.entry.at → c.is_finished ≡ f.is_finished
+      → ReadsZoneEntry room (blank_at f.octets 0) (f.start.at + stop_offset stop) (tokens_kept f.kept ++ tokens_after f.start.at tokens) before old read after new
+      → c.octets ≡ f.octets → c.front ≡ f.front → c.start ≡ f.start → c.kept ≡ f.kept → c.entry ≡ f.entry → c.opened ≡ f.opened → c.next ≡ stop_offset stop → c.began ≡ f.entry.at → c.is_finished ≡ f.is_finished
       → (is_open c ≡ false → (text : List ℕ) → text_left c text ≡ text_behind stop (drop f.start.at text))
       → ReadsNext room all b before old (Some (given_by f.start.at stop read)) c after new
   gives_as tokens stop within begins reads octets front start kept entry opened next began over behind =
       let own : List TokenSeen = x.tokens ++ tokens_after x.by tokens in
-      let low_stop : f.front ≤ stop_place stop = (x.stands [] refl tokens stop (begins [] (refl, λ e. refl))).0 in
+      let low_stop : f.front ≤ stop_offset stop = (x.stands [] refl tokens stop (begins [] (refl, λ e. refl))).0 in
       let closed : is_open c ≡ false = some_gone c (omega (arith, front, next, low_stop)) in
       record {
         holds = holds_same all f h low c octets front start kept entry opened (subst (λ t. StandsIf t all c) (sym closed) tt);
@@ -87,13 +88,13 @@ module _ (room : Room) (all : List ℕ) (b f c : Blocks) (before after : State) 
           read = read;
           reads =
               subst (λ n. ReadsZoneEntry room (blank_at f.octets 0) n (tokens_after f.entry.at own) before old read after new) (sym (stop_same f.entry.at x.by f.start.at stop x.base))
-              (subst (λ l. ReadsZoneEntry room (blank_at f.octets 0) (f.start.at + stop_place stop) l before old read after new)
+              (subst (λ l. ReadsZoneEntry room (blank_at f.octets 0) (f.start.at + stop_offset stop) l before old read after new)
               (sym (tokens_joined f.entry.at x.by f.start.at x.tokens tokens (tokens_kept f.kept) x.base x.kept)) reads);
           is = given_same f.entry.at x.by f.start.at stop read x.base;
         };
       }
     where
-      behind_all : (more : List ℕ) (s : Result EndOfEntry Fault) → f.front ≤ stop_place s → stop_place s ≤ length f.octets → text_behind s (drop f.start.at (all ++ more)) ≡ text_behind (stop_after x.by s) (drop f.entry.at (all ++ more))
+      behind_all : (more : List ℕ) (s : Result EndOfEntry Fault) → f.front ≤ stop_offset s → stop_offset s ≤ length f.octets → text_behind s (drop f.start.at (all ++ more)) ≡ text_behind (stop_after x.by s) (drop f.entry.at (all ++ more))
       behind_all more (Ok end) from inner = drop-drop end.at f.start.at (all ++ more) ∙ dropped all f h low end.at more from inner ∙ sym (behind_place all f h low x.by x.base end.at more from inner)
       behind_all more (Err e) from inner =
           ap (drop_through 10) (drop-drop e.at f.start.at (all ++ more) ∙ dropped all f h low e.at more from inner ∙ sym (behind_place all f h low x.by x.base e.at more from inner))

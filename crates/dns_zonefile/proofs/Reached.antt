@@ -13,8 +13,9 @@ use Rattle.dns_split.specs.Run.{before, run}
 use Rattle.dns_split.specs.Standing.{blank_at, entered}
 use Rattle.dns_split.proofs.PieceSteps.{reopens, run_step}
 use Rattle.dns_split.proofs.Skips.{moved_on, note_still}
-use Rattle.dns_zonefile.specs.First.{parts_of, piece_tokens}
-use Rattle.dns_zonefile.specs.Settled.{begun, last_ended}
+use Rattle.dns_tape.specs.FirstEntry.{last_ended, piece_tokens}
+use Rattle.dns_zonefile.specs.First.{parts_of}
+use Rattle.dns_zonefile.specs.Settled.{begun}
 use Rattle.dns_zonefile.specs.Passing.{AreComments}
 use Rattle.dns_zonefile.proofs.Modes.{Comment, Mode, Outside}
 

@@ -12,11 +12,11 @@ use Rattle.dns_split.specs.declared.position.Position.{Position}
 use Rattle.dns_split.specs.declared.standing.Standing.{Standing}
 use Rattle.zone_format.specs.Place.{IsAt}
 use Rattle.zone_format.specs.declared.place.Place.{Place}
+use Rattle.dns_tape.specs.Source.{tokens_after}
 use Rattle.dns_zonefile.specs.Adding.{HasPlaceAhead, IsShortened, Shortens, StandsInstead, forgotten, opener_of}
 use Rattle.dns_zonefile.specs.Blocks.{Blocks, HoldsLast, IsKeptOpener, IsPlaceOf, StandsIf, StandsInAll, is_open, place_of_next}
 use Rattle.dns_zonefile.specs.First.{BeginsEntryWith}
 use Rattle.dns_zonefile.specs.Kept.{AddsPlaced, HasWalked, KeepsSettled, KeptSeen, tokens_kept}
-use Rattle.dns_zonefile.specs.Placed.{tokens_after}
 use Rattle.dns_zonefile.specs.Settled.{StandsFor, begun, stop_after}
 use Rattle.dns_zonefile.specs.Walks.{OpensBehind, WalksTo}
 use Rattle.dns_zonefile.specs.declared.begun.Reached.{Reached}

@@ -16,8 +16,9 @@ use Rattle.dns_split.specs.Run.{first_blank, run}
 use Rattle.dns_split.specs.Standing.{blank_at}
 use Rattle.dns_split.proofs.OctetsOnce.{given_run, run_given}
 use Rattle.dns_split.proofs.PieceMoved.{later_run}
+use Rattle.dns_tape.specs.FirstEntry.{stop_offset}
+use Rattle.dns_tape.specs.Source.{token_after, tokens_after}
 use Rattle.dns_zonefile.specs.First.{BeginsEntryWith, parts_of}
-use Rattle.dns_zonefile.specs.Placed.{stop_place, token_after, tokens_after}
 use Rattle.dns_zonefile.specs.Settled.{stop_after}
 use Rattle.dns_zonefile.proofs.Modes.{Mode, Outside}
 
@@ -184,7 +185,7 @@ module _ (A B X : List ℕ) (by : ℕ) (b : Bool) (longer : length A + by ≡ le
     joined tokens rest = ap (λ l. l ++ rest) (map-append (λ t. Ok (TokenIs t b)) kept tokens) ∙ append_assoc (parts_of b kept) (parts_of b tokens) rest
 
     pub stands_for : (tokens : List TokenSeen) (stop : Result EndOfEntry Fault) → BeginsEntryWith (A ++ X) b tokens stop
-        → (length A ≤ stop_place stop) × BeginsEntryWith (B ++ X) b (kept ++ tokens_after by tokens) (stop_after by stop)
+        → (length A ≤ stop_offset stop) × BeginsEntryWith (B ++ X) b (kept ++ tokens_after by tokens) (stop_after by stop)
     stands_for tokens (Ok end) g =
         let r = tokens_moved own tokens (Ok (EndIs end) ∷ g.0) x y alike (g.1.2 ∙ seen_a g.1.0 (given_run (A ++ X) g.1.0 ok_a g.1.1)) in
         let e = end_moved r.left end g.0 r.ended_a r.ended_b r.is in (

@@ -14,7 +14,8 @@ use Rattle.dns_split.proofs.Blocks.{back_octets, both_octets, entries_stay, faul
 use Rattle.dns_split.proofs.OctetsOnce.{run_given}
 use Rattle.zone_format.proofs.Givens.{moved_oks}
 use Rattle.dns_split.specs.PassedLine.{HasNoEnd, PassesEntry}
-use Rattle.dns_zonefile.specs.First.{BeginsEntryWith, StopsFirst, parts_of, piece_tokens}
+use Rattle.dns_tape.specs.FirstEntry.{StopsFirst, piece_tokens}
+use Rattle.dns_zonefile.specs.First.{BeginsEntryWith, parts_of}
 use Rattle.dns_octets.specs.Room.{Room}
 use Rattle.dns_reader.specs.declared.entry.EntryRead.{EntryRead}
 use Rattle.dns_reader.specs.declared.entry_error.EntryRefusal.{EntryRefusal}

@@ -13,11 +13,11 @@ use Rattle.dns_split.specs.Pieces.{AreOctets, EachWithin, between, quote_at, wor
 use Rattle.dns_split.specs.Run.{before, run}
 use Rattle.dns_split.specs.Standing.{blank_at}
 use Rattle.dns_split.proofs.PieceSteps.{run_step}
-use Rattle.dns_zonefile.specs.First.{piece_tokens}
+use Rattle.dns_tape.specs.FirstEntry.{last_ended, piece_tokens}
+use Rattle.dns_tape.specs.Source.{token_after, tokens_after}
 use Rattle.dns_zonefile.specs.Kept.{KeepsMore, KeepsPart, KeepsSettled, KeepsTo, KeptSeen, kept_as, settled_seen, tokens_kept}
 use Rattle.dns_zonefile.specs.Passing.{PassesOne, StaysComment, TokenStands, settled_piece}
-use Rattle.dns_zonefile.specs.Placed.{token_after, tokens_after}
-use Rattle.dns_zonefile.specs.Settled.{IsParted, Passed, last_ended}
+use Rattle.dns_zonefile.specs.Settled.{IsParted, Passed}
 use Rattle.dns_zonefile.specs.declared.begun.Reached.{Reached}
 use Rattle.dns_zonefile.specs.declared.keeping.Part.TheVariants.{To}
 use Rattle.dns_zonefile.specs.declared.passing.Apart.{Apart}

@@ -8,7 +8,7 @@ use Rattle.dns_split.specs.declared.pieces.EndOfEntry.{EndOfEntry}
 use Rattle.dns_split.specs.declared.pieces.Fault.{Fault}
 use Rattle.dns_split.specs.declared.pieces.Wrong.{Wrong}
 use Rattle.dns_split.specs.declared.pieces.Wrong.TheVariants.{Closing, OpenParenthesis, OpenQuote, LoneReturn, BadEscape}
-use Rattle.dns_zonefile.specs.Placed.{token_after, tokens_after}
+use Rattle.dns_tape.specs.Source.{token_after, tokens_after}
 use Rattle.dns_zonefile.specs.Settled.{stop_after}
 
 token_twice : (m n : ℕ) (t : TokenSeen) → token_after m (token_after n t) ≡ token_after (m + n) t

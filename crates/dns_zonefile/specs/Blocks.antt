@@ -9,8 +9,8 @@ use Rattle.dns_split.specs.Standing.{blank_at}
 use Rattle.dns_split.specs.declared.position.Position.{Position}
 use Rattle.zone_format.specs.Place.{IsAt}
 use Rattle.zone_format.specs.declared.place.Place.{Place}
+use Rattle.dns_tape.specs.Source.{tokens_after}
 use Rattle.dns_zonefile.specs.Kept.{KeptSeen, tokens_kept}
-use Rattle.dns_zonefile.specs.Placed.{tokens_after}
 use Rattle.dns_zonefile.specs.Settled.{StandsFor}
 
 pub record Blocks : Type 0 where

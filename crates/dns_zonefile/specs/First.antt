@@ -1,12 +1,10 @@
 -- The first entry of octets.
 use Rattle.std.specs.Prelude.{◌≡◌, ◌<◌, ◌≤◌, ◌⊎◌, ℕ, Bool, true, false, List, [], ◌∷◌, ◌++◌, length, map, Option, Some, None, Result, Ok, Err}
-use Rattle.dns_split.specs.EntryTokens.{EndIs, IsSeen, PartSeen, TokenIs, TokenSeen, quote_seen, word_seen}
-use Rattle.dns_split.specs.PassedLine.{HasNoEnd}
-use Rattle.dns_split.specs.Pieces.{IsGiven}
+use Rattle.dns_split.specs.EntryTokens.{EndIs, IsSeen, PartSeen, TokenIs, TokenSeen}
 use Rattle.dns_split.specs.declared.pieces.EndOfEntry.{EndOfEntry}
 use Rattle.dns_split.specs.declared.pieces.Fault.{Fault}
 use Rattle.dns_split.specs.declared.pieces.Piece.{Piece}
-use Rattle.dns_split.specs.declared.pieces.Piece.TheVariants.{Word as WordAt, Quote as QuoteAt, Comment as CommentAt, End as EndAt}
+use Rattle.dns_tape.specs.FirstEntry.{StopsFirst}
 
 -- tokens of one entry, which begins with a blank or doesn't, as they are seen
 abbrev pub parts_of : Bool → List TokenSeen → List (Result PartSeen Fault)
@@ -18,24 +16,6 @@ BeginsEntryWith text blank tokens (Ok end) = (left : List (Result PartSeen Fault
 BeginsEntryWith text blank tokens (Err f) = IsSeen text (parts_of blank tokens ++ Err f ∷ [])
 
 -- ---- by the pieces of octets
-
--- the tokens of pieces of one entry, the first of which may be glued to what ended before
-abbrev pub piece_tokens : List ℕ → Option ℕ → List Piece → List TokenSeen
-piece_tokens octets ended [] = []
-piece_tokens octets ended (WordAt p ∷ ps) = word_seen octets ended p ∷ piece_tokens octets (Some p.end) ps
-piece_tokens octets ended (QuoteAt p ∷ ps) = quote_seen octets ended p ∷ piece_tokens octets (Some p.end) ps
-piece_tokens octets ended (CommentAt p ∷ ps) = piece_tokens octets ended ps
-piece_tokens octets ended (EndAt e ∷ ps) = piece_tokens octets None ps
-
--- the first entry ends here, or this fault comes before its end, and then this
-abbrev pub piece_of_stop : Result EndOfEntry Fault → Result Piece Fault
-piece_of_stop (Ok end) = Ok (EndAt end)
-piece_of_stop (Err f) = Err f
-
-pub record StopsFirst (octets : List ℕ) (stop : Result EndOfEntry Fault) (left : List (Result Piece Fault)) : Type 0 where
-  pub found : List Piece
-  pub is_open : HasNoEnd found
-  pub given : IsGiven octets (map Ok found ++ piece_of_stop stop ∷ left)
 
 -- the first entry ends at a place, and something comes behind it or no octets follow; or a fault comes before its end, and before that of the octets or no octets follow; or octets that follow may change either
 abbrev pub StandsFirst : List ℕ → Bool → Option (Result ℕ Fault) → Type 0

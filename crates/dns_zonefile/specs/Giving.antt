@@ -15,9 +15,11 @@ use Rattle.dns_reader.specs.declared.entry_error.EntryRefusal.{EntryRefusal}
 use Rattle.dns_reader.specs.declared.records.RecordRefusal.{RecordRefusal}
 use Rattle.dns_reader.specs.declared.records.RecordRefusal.TheVariants.{Text, Entry}
 use Rattle.dns_reader.specs.declared.state.State.{State}
+use Rattle.dns_tape.specs.FirstEntry.{StopsFirst, piece_tokens, stop_offset}
+use Rattle.dns_tape.specs.Source.{tokens_after}
 use Rattle.dns_zonefile.specs.Blocks.{Blocks, HoldsLast, MayFollow, text_left}
-use Rattle.dns_zonefile.specs.First.{BeginsEntryWith, StopsFirst, piece_tokens}
-use Rattle.dns_zonefile.specs.Placed.{IsAllBehind, stop_place, tokens_after}
+use Rattle.dns_zonefile.specs.First.{BeginsEntryWith}
+use Rattle.dns_zonefile.specs.Placed.{IsAllBehind}
 
 -- what is given of an entry that has an end; and of one that a fault cuts off
 abbrev pub given_by : {E : Type 0} → ℕ → Result E Fault → Result EntryRead EntryRefusal → Result EntryRead RecordRefusal
@@ -45,7 +47,7 @@ pub record GivesOne (room : Room) (all : List ℕ) (b : Blocks) (before : State)
   pub stop : Result EndOfEntry Fault
   pub stands : (more : List ℕ) → MayFollow b more → StandsNext (all ++ more) b at blank tokens stop c
   pub read : Result EntryRead EntryRefusal
-  pub reads : ReadsZoneEntry room blank (at + stop_place stop) (tokens_after at tokens) before old read after new
+  pub reads : ReadsZoneEntry room blank (at + stop_offset stop) (tokens_after at tokens) before old read after new
   pub is : given ≡ given_by at stop read
 
 -- nothing but what is held has changed; the same is left, and nothing where no octets follow
@@ -74,4 +76,4 @@ CanMove at (Err f) = (at + f.at < 2 ^ 64) × ((i : ℕ) → f.wrong ≡ OpenQuot
 -- of octets that are one entry, or what a fault cuts off, the tokens are read by the state behind those that are kept
 abbrev pub ReadsStop : Room → List TokenSeen → List ℕ → Bool → ℕ → State → List ℕ → Result EntryRead EntryRefusal → State → List ℕ → Type 0
 ReadsStop room kept octets blank at before old read after new = (stop : Result EndOfEntry Fault) (left : List (Result Piece Fault)) (x : StopsFirst octets stop left) → IsAllBehind (length octets) stop left
-    → ReadsZoneEntry room blank (at + stop_place stop) (kept ++ tokens_after at (piece_tokens octets None x.found)) before old read after new
+    → ReadsZoneEntry room blank (at + stop_offset stop) (kept ++ tokens_after at (piece_tokens octets None x.found)) before old read after new

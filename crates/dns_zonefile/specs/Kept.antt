@@ -8,10 +8,10 @@ use Rattle.dns_split.specs.Standing.{blank_at}
 use Rattle.dns_split.specs.declared.pieces.Piece.{Piece}
 use Rattle.dns_split.specs.declared.position.Position.{Position}
 use Rattle.zone_format.specs.declared.place.Place.{Place}
-use Rattle.dns_zonefile.specs.First.{piece_tokens}
+use Rattle.dns_tape.specs.FirstEntry.{last_ended, piece_tokens}
+use Rattle.dns_tape.specs.Source.{tokens_after}
 use Rattle.dns_zonefile.specs.Passing.{StaysComment}
-use Rattle.dns_zonefile.specs.Placed.{tokens_after}
-use Rattle.dns_zonefile.specs.Settled.{IsParted, Passed, StandsFor, begun, last_ended}
+use Rattle.dns_zonefile.specs.Settled.{IsParted, Passed, StandsFor, begun}
 use Rattle.dns_zonefile.specs.Walks.{WalksTo}
 use Rattle.dns_zonefile.specs.declared.begun.Reached.{Reached}
 use Rattle.dns_zonefile.specs.declared.keeping.Part.{Part}

@@ -1,5 +1,5 @@
 -- What of an entry is settled, and octets that stand for others.
-use Rattle.std.specs.Prelude.{◌≡◌, ◌≤◌, ℕ, ◌+◌, Bool, false, if◌then◌else◌, List, [], ◌∷◌, ◌++◌, length, map, Option, Some, None, Result, Ok, Err}
+use Rattle.std.specs.Prelude.{◌≡◌, ◌≤◌, ℕ, ◌+◌, Bool, false, if◌then◌else◌, List, [], ◌∷◌, ◌++◌, length, map, None, Result, Ok, Err}
 use Rattle.dns_symbol.specs.Characters.{semicolon}
 use Rattle.dns_split.specs.EntryTokens.{TokenSeen, ends_at}
 use Rattle.dns_split.specs.PassedLine.{HasNoEnd}
@@ -8,10 +8,10 @@ use Rattle.dns_split.specs.Standing.{ahead, at_entry, entered}
 use Rattle.dns_split.specs.declared.pieces.EndOfEntry.{EndOfEntry}
 use Rattle.dns_split.specs.declared.pieces.Fault.{Fault}
 use Rattle.dns_split.specs.declared.pieces.Piece.{Piece}
-use Rattle.dns_split.specs.declared.pieces.Piece.TheVariants.{Word as WordAt, Quote as QuoteAt, Comment as CommentAt, End as EndAt}
+use Rattle.dns_tape.specs.FirstEntry.{last_ended, stop_offset}
+use Rattle.dns_tape.specs.Source.{tokens_after}
 use Rattle.dns_zonefile.specs.First.{BeginsEntryWith}
 use Rattle.dns_zonefile.specs.Passing.{standing_at}
-use Rattle.dns_zonefile.specs.Placed.{stop_place, tokens_after}
 
 -- the end of an entry, or a fault, so much further on
 abbrev pub stop_after : ℕ → Result EndOfEntry Fault → Result EndOfEntry Fault
@@ -21,19 +21,11 @@ stop_after by (Err f) = Err (moved_fault (λ i. by + i) f)
 -- whatever the first entry of octets is, a text begins with these tokens and those of the entry, so much further on, and has its end or its fault; and that is not among so many octets that come first
 abbrev pub StandsFor : List ℕ → List TokenSeen → ℕ → ℕ → List ℕ → Bool → Type 0
 StandsFor text kept by front octets blank = (tokens : List TokenSeen) (stop : Result EndOfEntry Fault) → BeginsEntryWith octets blank tokens stop
-    → (front ≤ stop_place stop) × BeginsEntryWith text blank (kept ++ tokens_after by tokens) (stop_after by stop)
+    → (front ≤ stop_offset stop) × BeginsEntryWith text blank (kept ++ tokens_after by tokens) (stop_after by stop)
 
 -- what stands for the beginning of an entry, up to where so many parentheses are open, and perhaps a comment
 abbrev pub begun : Bool → ℕ → Bool → List ℕ
 begun blank depth in_comment = entered blank depth ++ (if in_comment then semicolon ∷ [] else [])
-
--- where the last token of pieces of one entry ended
-abbrev pub last_ended : Option ℕ → List Piece → Option ℕ
-last_ended ended [] = ended
-last_ended ended (WordAt p ∷ ps) = last_ended (Some p.end) ps
-last_ended ended (QuoteAt p ∷ ps) = last_ended (Some p.end) ps
-last_ended ended (CommentAt p ∷ ps) = last_ended ended ps
-last_ended ended (EndAt e ∷ ps) = last_ended None ps
 
 -- whatever follows octets, they have these pieces of one entry first, and then no token is open, and so many parentheses
 pub record Passed (octets : List ℕ) (at depth : ℕ) (found : List Piece) : Type 0 where

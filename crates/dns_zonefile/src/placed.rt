@@ -19,9 +19,10 @@ pub(crate) struct PlacedTokens<'t> {
 }
 
 impl<'t> Model for PlacedTokens<'t> {
-    ghost use Rattle.dns_zonefile.specs.Placed.{FitsFrom, PlacedSeen, placed_after};
+    ghost use Rattle.dns_tape.specs.Source.{UnreadSeen};
+    ghost use Rattle.dns_zonefile.specs.Placed.{FitsFrom, placed_after};
 
-    ghost Value = { PlacedSeen };
+    ghost Value = { UnreadSeen };
 
     ghost view = { λ p. placed_after p.base p.source };
 
@@ -75,10 +76,11 @@ pub(crate) struct KeptFirst<'t, A: Allocator> {
 
 impl<'t, A: Allocator> Model for KeptFirst<'t, A> {
     ghost use Rattle.std.specs.Prelude.{map};
+    ghost use Rattle.dns_tape.specs.Source.{UnreadSeen};
     ghost use Rattle.dns_zonefile.specs.Kept.{kept_seen, tokens_kept};
-    ghost use Rattle.dns_zonefile.specs.Placed.{PlacedSeen, with_kept};
+    ghost use Rattle.dns_zonefile.specs.Placed.{with_kept};
 
-    ghost Value = { PlacedSeen };
+    ghost Value = { UnreadSeen };
 
     ghost view = { λ k. with_kept (tokens_kept (map kept_seen k.kept.now)) k.tokens };
 }
