@@ -20,6 +20,7 @@ mod rules;
 mod service;
 mod set;
 mod spelling;
+mod tape;
 mod tell;
 mod zone;
 
@@ -64,6 +65,7 @@ fn call(name: &str, inputs: &Inputs, answer: &mut Answer) {
         "head" => head::call(name, inputs, answer),
         "record" => record::call(name, inputs, answer),
         "set" => set::call(name, inputs, answer),
+        "tape" => tape::call(name, inputs, answer),
         "zone" => zone::call(name, inputs, answer),
         _ => answer.fail(Failure::NoCall),
     }

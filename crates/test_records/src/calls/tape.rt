@@ -1,0 +1,75 @@
+//! Tapes: the tokens of the first entry of octets, by their spans.
+use dns_fields::TokenSource;
+use dns_split::entry_tokens::{EntryPart, EntryToken, EntryTokens};
+use dns_tape::{TAPE_CAPACITY, Tape, TapeTokens, TokenSpan, fill};
+use row_table::{Answer, Failure, Inputs};
+
+/// The base of offsets that is tried beside 0.
+const BASE: usize = 100;
+
+pub fn call(name: &str, inputs: &Inputs, answer: &mut Answer) {
+    match name {
+        "fill" => add_filled(inputs.octets(answer), answer),
+        _ => answer.fail(Failure::NoCall),
+    }
+}
+
+/// Adds the tokens of the first entry and the offset of its end, or `none`. What the tape held
+/// before doesn't count.
+fn add_filled(octets: &[u8], answer: &mut Answer) {
+    let mut tape = Tape::new();
+    let _other = fill(b"other (tokens", &mut tape);
+    match fill(octets, &mut tape) {
+        Some(end) => {
+            let spans = tape.as_slice();
+            let tokens = TapeTokens::new(octets, spans, 0, end);
+            add_tokens(tokens, EntryTokens::of_octets(octets), answer);
+            if octets.len() <= usize::MAX - BASE {
+                let moved = TapeTokens::new(octets, spans, BASE, end);
+                answer.hold(is_moved(moved, spans, end));
+            }
+        }
+        None => answer.add_text("none"),
+    }
+}
+
+/// Adds a token after its offset and a colon, or a plus if it is adjacent, with a bar after it.
+fn add_token(token: EntryToken, answer: &mut Answer) {
+    let quote = if token.is_quoted { "\"" } else { "" };
+    answer.add_number(token.at);
+    answer.add_text(if token.is_glued { "+" } else { ":" });
+    answer.add_text(quote);
+    answer.add(token.text);
+    answer.add_text(quote);
+    answer.add_text("|");
+}
+
+/// Adds the tokens of a tape and the offset of its end. The reader of `dns_split` returns the same.
+fn add_tokens(mut tokens: TapeTokens, mut reader: EntryTokens, answer: &mut Answer) {
+    for _ in 0..=TAPE_CAPACITY {
+        let place = tokens.place();
+        match (tokens.current(), reader.next_token()) {
+            (Some(token), Some(Ok(EntryPart::Token { token: wanted, .. }))) => {
+                answer.hold(token == wanted && place == token.at);
+                add_token(token, answer);
+            }
+            (None, Some(Ok(EntryPart::End(end)))) => {
+                answer.hold(place == end.at);
+                return answer.add_number(place);
+            }
+            _ => return answer.fail(Failure::Unlike),
+        }
+        tokens.advance();
+    }
+    answer.fail(Failure::Unlike);
+}
+
+/// Whether the tokens and the end have their offsets after the base.
+fn is_moved(mut tokens: TapeTokens, spans: &[TokenSpan], end: usize) -> bool {
+    let mut holds = true;
+    for span in spans {
+        holds = holds && tokens.place().checked_sub(BASE) == Some(span.offset);
+        tokens.advance();
+    }
+    holds && tokens.current().is_none() && tokens.place().checked_sub(BASE) == Some(end)
+}
