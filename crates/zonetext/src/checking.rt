@@ -2,6 +2,7 @@
 use crate::held::{Held, line_of};
 use crate::open_file::first_place;
 use crate::reporter::{Reporter, Spot};
+use crate::scan::{OctetScan, needs_lint, repeats_origin, scan_octets};
 use crate::spots::{beginning, fault_at, octet_at, position_at, spot_at, token_at, tokens_of};
 use crate::stop::Stop;
 use crate::zone_files::{Entry, Given, Visit};
@@ -17,7 +18,6 @@ use dns_split::pieces::Fault;
 use dns_split::position::Position;
 use dns_wire::{DisplayWithDot, DisplayWithoutDot, Name};
 use std::alloc::{AllocError, Global};
-use std::simd::prelude::*;
 use zone_dnssec::{Times, check_signed};
 use zone_format::place::Place;
 use zone_rules::names::view;
@@ -41,9 +41,6 @@ const DNSKEY: u16 = 48;
 
 /// Ctrl-Z, which ended files of CP/M and DOS.
 const CONTROL_Z: u8 = 0x1A;
-
-/// The octets that are looked at together.
-const LANES: usize = 16;
 
 /// What is asked of records.
 #[derive(Clone, Copy)]
@@ -162,74 +159,6 @@ fn data_start(tokens: &[EntryToken<'_>], is_blank: bool) -> usize {
 /// Whether an entry begins with a blank.
 fn begins_blank(entry: &Entry<'_>) -> bool {
     matches!(entry.octets.first(), Some(b' ' | b'\t'))
-}
-
-/// Whether an octet stands for nothing that may be told of: printable ASCII, a tab or a line feed.
-fn is_plain(octet: u8) -> bool {
-    matches!(octet, b' '..=b'~' | b'\t' | b'\n')
-}
-
-/// Whether 16 octets are such.
-fn are_plain(block: u8x16) -> bool {
-    let low = block.simd_lt(u8x16::splat(b' '));
-    let high = block.simd_gt(u8x16::splat(b'~'));
-    let others = block.simd_ne(u8x16::splat(b'\t')) & block.simd_ne(u8x16::splat(b'\n'));
-    ((low & others) | high).to_bitmask() == 0
-}
-
-/// Whether the octets of an entry show nothing by themselves, as nearly all do: each is plain, one
-/// parenthesis at most opens, and a line feed is the last.
-fn shows_nothing(octets: &[u8]) -> bool {
-    for block in octets.chunks(LANES) {
-        let plain = if block.len() == LANES {
-            are_plain(u8x16::from_slice(block))
-        } else {
-            block.iter().all(|octet| is_plain(*octet))
-        };
-        if !plain {
-            return false;
-        }
-    }
-    octets.last() == Some(&b'\n') && !opens_twice(octets)
-}
-
-/// Whether two parentheses open among octets.
-fn opens_twice(octets: &[u8]) -> bool {
-    if !octets.contains(&b'(') {
-        return false;
-    }
-    let Some(place) = octets.iter().position(|octet| *octet == b'(') else {
-        return false;
-    };
-    let rest = octets.get(place.saturating_add(1)..).unwrap_or(&[]);
-    rest.contains(&b'(')
-}
-
-/// Whether octets begin with an origin's labels, and the origin behind them.
-fn begins_twice(octets: &[u8], labels: &[u8], origin: &[u8]) -> bool {
-    let Some((front, back)) = octets.split_at_checked(labels.len()) else {
-        return false;
-    };
-    let Some((back, _)) = back.split_at_checked(origin.len()) else {
-        return false;
-    };
-    front.eq_ignore_ascii_case(labels) && back.eq_ignore_ascii_case(origin)
-}
-
-/// Whether an origin's labels stand in octets of names, and the origin behind them.
-fn has_twice(octets: &[u8], origin: &[u8]) -> bool {
-    let Some((_, labels)) = origin.split_last() else {
-        return false;
-    };
-    if octets.len() < labels.len() || octets.len() - labels.len() < origin.len() {
-        return false;
-    }
-    for (start, octet) in octets.iter().enumerate() {
-        if Some(octet) == labels.first() && begins_twice(&octets[start..], labels, origin) {
-            return true;
-        }
-    }
-    false
 }
 
 /// Why an entry is refused. Its octets lack room alone where they are more than record data has.
@@ -386,7 +315,7 @@ impl<'a> Checker<'a> {
 
     /// Whether the names of a record may show something as they are spelled. A relative name that
     /// ends like the origin has the origin twice, unless there are escapes.
-    fn may_show_names(&self, entry: &Entry<'_>) -> bool {
+    fn may_show_names(&self, entry: &Entry<'_>, scan: OctetScan) -> bool {
         let Some(origin) = entry.state.origin.name() else {
             return false;
         };
@@ -397,9 +326,9 @@ impl<'a> Checker<'a> {
         let Ok(owner) = entry.state.owner() else {
             return true;
         };
-        entry.octets.contains(&b'\\')
-            || has_twice(owner.as_slice(), origin)
-            || has_twice(entry.data, origin)
+        scan.has_backslash
+            || repeats_origin(owner.as_slice(), origin)
+            || repeats_origin(entry.data, origin)
     }
 
     /// Says what the names of a record show as they are spelled.
@@ -483,17 +412,77 @@ impl<'a> Checker<'a> {
         Ok(())
     }
 
+    /// Returns whether nothing is reported of a TTL.
+    fn is_usual_ttl(&self, ttl: RecordTtl) -> bool {
+        match (ttl, self.limits.max_ttl) {
+            (RecordTtl::Minimum(_), _) => false,
+            (_, Some(most)) => ttl.seconds() <= most,
+            (_, None) => true,
+        }
+    }
+
+    /// Returns whether an entry is blank, or a record other than an SOA of which nothing is reported.
+    fn is_quiet(&self, entry: &Entry<'_>, scan: OctetScan) -> bool {
+        if needs_lint(entry.octets, scan) {
+            return false;
+        }
+        match entry.read {
+            Ok(EntryRead::Nothing) => true,
+            Ok(
+                EntryRead::Record {
+                    ttl,
+                    class,
+                    code,
+                    ..
+                },
+            ) => {
+                *class == self.limits.class
+                    && *code != SOA
+                    && (!self.limits.tells_slips
+                        || (self.is_usual_ttl(*ttl)
+                            && !has_empty_target(*code, entry.data)
+                            && !has_other_match_length(*code, entry.data)
+                            && !self.may_show_names(entry, scan)))
+            }
+            _ => false,
+        }
+    }
+
+    /// Counts a record.
+    fn count_record(&mut self) {
+        self.has_told_owner = false;
+        self.records = self.records.saturating_add(1);
+    }
+
+    /// Stores a record and the position of its type, if records are held. `at` is the type's offset.
+    fn hold_record(&mut self, entry: &Entry<'_>, at: usize) -> Result<(), Stop> {
+        let Some(held) = &mut self.held else {
+            return Ok(());
+        };
+        let Some(given) = entry.record() else {
+            return Ok(());
+        };
+        let position = position_at(entry, at.saturating_sub(entry.offset));
+        held.records.add(
+            given,
+            Stand {
+                file: entry.number,
+                position,
+            },
+        )
+    }
+
     /// Says what a record shows.
     fn check_record(
         &mut self,
         entry: &Entry<'_>,
+        scan: OctetScan,
         at: usize,
         ttl: RecordTtl,
         class: u16,
         code: u16,
     ) -> Result<(), Stop> {
-        self.has_told_owner = false;
-        self.records = self.records.saturating_add(1);
+        self.count_record();
         let has_class = class == self.limits.class;
         if has_class && code == SOA {
             self.see_soa(entry);
@@ -501,7 +490,7 @@ impl<'a> Checker<'a> {
         if has_class && !self.limits.tells_slips {
             return Ok(());
         }
-        if self.may_show_names(entry) {
+        if self.may_show_names(entry, scan) {
             let tokens = tokens_of(self.alloc, entry)?;
             self.check_names(entry, tokens.as_slice(), code)?;
         }
@@ -510,17 +499,7 @@ impl<'a> Checker<'a> {
             return self.tell_class(entry, tokens.as_slice());
         }
         self.check_values(entry, at, ttl, code)?;
-        let position = position_at(entry, at.saturating_sub(entry.place.at));
-        match (&mut self.held, entry.record()) {
-            (Some(held), Some(given)) => held.records.add(
-                given,
-                Stand {
-                    file: entry.number,
-                    position,
-                },
-            ),
-            _ => Ok(()),
-        }
+        self.hold_record(entry, at)
     }
 
     /// Says that a directive's name is relative, which stands at a place among its tokens.
@@ -657,8 +636,8 @@ impl<'a> Checker<'a> {
     }
 
     /// Says what the octets of an entry show. Returns whether Ctrl-Z begins it.
-    fn lint(&mut self, entry: &Entry<'_>) -> Result<bool, Stop> {
-        if entry.is_shortened || shows_nothing(entry.octets) {
+    fn lint(&mut self, entry: &Entry<'_>, scan: OctetScan) -> Result<bool, Stop> {
+        if entry.is_shortened || !needs_lint(entry.octets, scan) {
             return Ok(false);
         }
         if entry.octets.len() >= usize::MAX - 1 {
@@ -677,11 +656,33 @@ impl<'a> Checker<'a> {
                 self.crlf_files.push(entry.number)?;
             }
             let is_fault = remark.code.is_text_fault();
-            let spot = octet_at(entry, entry.place.at.saturating_add(remark.at));
+            let spot = octet_at(entry, entry.offset.saturating_add(remark.at));
             self.reporter
                 .tell(spot, remark.code, is_fault, code_text(remark.code))?;
         }
         Ok(is_end)
+    }
+
+    /// Reports what an entry shows.
+    #[inline(never)]
+    fn check_entry(&mut self, entry: &Entry<'_>, scan: OctetScan) -> Result<(), Stop> {
+        let is_end = self.lint(entry, scan)?;
+        match entry.read {
+            _ if is_end => Ok(()),
+            Ok(EntryRead::Nothing) => Ok(()),
+            Ok(EntryRead::Directive) => self.check_directive(entry),
+            Ok(EntryRead::Include { .. }) => self.check_directive(entry),
+            Ok(
+                EntryRead::Record {
+                    at,
+                    ttl,
+                    class,
+                    code,
+                },
+            ) => self.check_record(entry, scan, *at, *ttl, *class, *code),
+            Err(RecordRefusal::Text(fault)) => self.tell_fault(entry, *fault),
+            Err(RecordRefusal::Entry(refusal)) => self.tell_refusal(entry, refusal),
+        }
     }
 }
 
@@ -701,23 +702,28 @@ impl<'a> Visit for Checker<'a> {
         )
     }
 
+    fn visit_quiet(&mut self, entry: &Entry<'_>) -> Result<bool, Stop> {
+        // A record is stored with its position.
+        if self.held.is_some() || !self.is_quiet(entry, scan_octets(entry.octets)) {
+            return Ok(false);
+        }
+        if let Ok(EntryRead::Record { .. }) = entry.read {
+            self.count_record();
+        }
+        Ok(true)
+    }
+
     fn take(&mut self, entry: &Entry<'_>) -> Result<(), Stop> {
-        let is_end = self.lint(entry)?;
+        let scan = scan_octets(entry.octets);
+        if !self.is_quiet(entry, scan) {
+            return self.check_entry(entry, scan);
+        }
         match entry.read {
-            _ if is_end => Ok(()),
-            Ok(EntryRead::Nothing) => Ok(()),
-            Ok(EntryRead::Directive) => self.check_directive(entry),
-            Ok(EntryRead::Include { .. }) => self.check_directive(entry),
-            Ok(
-                EntryRead::Record {
-                    at,
-                    ttl,
-                    class,
-                    code,
-                },
-            ) => self.check_record(entry, *at, *ttl, *class, *code),
-            Err(RecordRefusal::Text(fault)) => self.tell_fault(entry, *fault),
-            Err(RecordRefusal::Entry(refusal)) => self.tell_refusal(entry, refusal),
+            Ok(EntryRead::Record { at, .. }) => {
+                self.count_record();
+                self.hold_record(entry, *at)
+            }
+            _ => Ok(()),
         }
     }
 

@@ -47,7 +47,7 @@ impl<'p> Parter<'p> {
     /// Says why no part can begin with the record of an entry.
     fn refuse(&mut self, entry: &Entry<'_>, error: CutError) -> Result<(), Stop> {
         self.has_refused = true;
-        let (file, position) = (entry.file, entry.place.position);
+        let (file, position) = (entry.file, entry.place().position);
         let (line, column, why) = (position.line, position.column, error.as_str());
         eprintln!(self.rt; "{file}:{line}:{column}: error: {why}")?;
         Ok(())
@@ -63,7 +63,7 @@ impl<'p> Parter<'p> {
         };
         match self
             .cutter
-            .take(entry.state, entry.place.at, read, &mut self.lines)
+            .take(entry.state, entry.offset, read, &mut self.lines)
         {
             Ok(true) => self.begin_part(),
             Ok(false) => self.files.write(entry.octets),

@@ -56,7 +56,7 @@ fn data_tokens(alloc: Global, entry: &Entry<'_>) -> Result<Vec<Span>, AllocError
     let tokens = tokens_of(alloc, entry)?;
     for token in &tokens {
         if token.at >= first {
-            let start = entry.place.at.saturating_add(token.at);
+            let start = entry.offset.saturating_add(token.at);
             let end = start.saturating_add(width(token));
             spans.push(Span { start, end })?;
         }
@@ -74,7 +74,7 @@ fn placed_of(alloc: Global, entry: &Entry<'_>, given: Given<'_>) -> Result<Place
         data: given.data.to_vec(alloc)?,
         is_included: entry.number > 0,
         tokens: data_tokens(alloc, entry)?,
-        end: entry.place.at.saturating_add(entry.octets.len()),
+        end: entry.offset.saturating_add(entry.octets.len()),
     })
 }
 

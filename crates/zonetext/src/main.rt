@@ -28,6 +28,7 @@ mod reading;
 mod records;
 mod reporter;
 mod run_files;
+mod scan;
 mod sorter;
 mod sorting;
 mod spots;

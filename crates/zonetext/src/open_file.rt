@@ -45,7 +45,7 @@ pub struct OpenFile {
     pub number: usize,
     pub input: Input,
     pub reader: BlockReader<Global>,
-    /// Where the octets begin that were not given yet.
+    /// Place up to which lines and columns are counted, at or before the next entry.
     pub place: Place,
     /// The octets with which the file begins, until it is known whether they are a byte order mark.
     pub head: Vec<u8>,
@@ -80,6 +80,25 @@ pub fn behind(from: Place, octets: &[u8]) -> Place {
     }
 }
 
+/// Returns the place of an offset at or after the place `from`. Counts the octets between them, or asks
+/// the reader if these are no longer held.
+pub fn place_from(reader: &BlockReader<Global>, from: Place, offset: usize) -> Place {
+    if offset == from.at {
+        return from;
+    }
+    let count = offset.saturating_sub(from.at);
+    match reader.octets_from(from.at) {
+        Some(held) => behind(from, &held[..count.min(held.len())]),
+        None => match reader.position(offset) {
+            Some(position) => Place {
+                at: offset,
+                position,
+            },
+            None => from,
+        },
+    }
+}
+
 impl OpenFile {
     /// A file at its beginning.
     pub fn new(alloc: Global, name: String, full: String, number: usize, input: Input) -> OpenFile {
@@ -97,19 +116,8 @@ impl OpenFile {
         }
     }
 
-    /// Goes on to a place of what is held.
-    pub fn walk_to(&mut self, at: usize) {
-        if at == self.place.at {
-            return;
-        }
-        let count = at.saturating_sub(self.place.at);
-        let place = match self.reader.octets_from(self.place.at) {
-            Some(held) => behind(self.place, &held[..count.min(held.len())]),
-            None => match self.reader.position(at) {
-                Some(position) => Place { at, position },
-                None => self.place,
-            },
-        };
-        self.place = place;
+    /// Counts lines and columns up to an offset.
+    pub fn count_to(&mut self, offset: usize) {
+        self.place = place_from(&self.reader, self.place, offset);
     }
 }

@@ -50,6 +50,14 @@ impl<T: TakeEntry + Drop> Visit for Giver<'_, T> {
         self.checker.begin(file, number, mark)
     }
 
+    fn visit_quiet(&mut self, entry: &Entry<'_>) -> Result<bool, Stop> {
+        if !self.checker.visit_quiet(entry)? {
+            return Ok(false);
+        }
+        self.taker.take_entry(entry)?;
+        Ok(true)
+    }
+
     fn take(&mut self, entry: &Entry<'_>) -> Result<(), Stop> {
         self.checker.take(entry)?;
         self.taker.take_entry(entry)

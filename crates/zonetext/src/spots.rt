@@ -40,11 +40,11 @@ fn token_from(tokens: &[EntryToken<'_>], at: usize) -> (usize, usize) {
 /// The position of a place of an entry, which is counted from the entry's beginning.
 pub fn position_at(entry: &Entry<'_>, at: usize) -> Position {
     if entry.is_shortened {
-        let known = entry.reader.position(entry.place.at.saturating_add(at));
-        return known.unwrap_or(entry.place.position);
+        let known = entry.reader.position(entry.offset.saturating_add(at));
+        return known.unwrap_or(entry.place().position);
     }
     let count = at.min(entry.held.len());
-    behind(entry.place, &entry.held[..count]).position
+    behind(entry.place(), &entry.held[..count]).position
 }
 
 /// Where the line begins on which a place of octets stands.
@@ -98,7 +98,7 @@ pub fn beginning<'e>(entry: &Entry<'e>) -> Spot<'e> {
 /// The token of an entry that begins at a place of the file; or, where none does, as at the entry's
 /// end, the place behind its last token.
 pub fn spot_at<'e>(entry: &Entry<'e>, tokens: &[EntryToken<'_>], at: usize) -> Spot<'e> {
-    let at = at.saturating_sub(entry.place.at);
+    let at = at.saturating_sub(entry.offset);
     let (at, width) = if entry.is_shortened {
         (at, 1)
     } else {
@@ -109,7 +109,7 @@ pub fn spot_at<'e>(entry: &Entry<'e>, tokens: &[EntryToken<'_>], at: usize) -> S
 
 /// An octet of an entry, at a place of the file.
 pub fn octet_at<'e>(entry: &Entry<'e>, at: usize) -> Spot<'e> {
-    spot(entry, at.saturating_sub(entry.place.at), 1)
+    spot(entry, at.saturating_sub(entry.offset), 1)
 }
 
 /// A token of an entry.
@@ -120,9 +120,9 @@ pub fn token_at<'e>(entry: &Entry<'e>, token: &EntryToken<'_>) -> Spot<'e> {
 /// Where that was opened which is left open at a fault of an entry.
 fn opened_at(entry: &Entry<'_>, wrong: Wrong) -> Option<Position> {
     let at = match wrong {
-        Wrong::OpenQuote(at) => at.saturating_sub(entry.place.at),
+        Wrong::OpenQuote(at) => at.saturating_sub(entry.offset),
         Wrong::OpenParenthesis if entry.is_shortened => {
-            entry.reader.opened()?.saturating_sub(entry.place.at)
+            entry.reader.opened()?.saturating_sub(entry.offset)
         }
         Wrong::OpenParenthesis => outermost_open_of_octets(entry.octets)?,
         _ => return None,

@@ -1,6 +1,6 @@
 //! Zone files and those that they include, entry by entry.
 use crate::blocks::BLOCK;
-use crate::open_file::{Includer, Input, OpenFile, behind};
+use crate::open_file::{Includer, Input, OpenFile, behind, place_from};
 use crate::progress::Progress;
 use crate::stop::Stop;
 use arrayvec::ArrayVec;
@@ -30,9 +30,11 @@ pub struct Entry<'e> {
     pub file: &'e str,
     /// How many files were opened before it.
     pub number: usize,
-    /// Where it begins.
-    pub place: Place,
-    /// What is held of the file from there on.
+    /// Offset of its first octet.
+    pub offset: usize,
+    /// Place up to which lines and columns are counted, at or before its first octet.
+    counted: Place,
+    /// Octets of the file that are held, from its first octet on.
     pub held: &'e [u8],
     /// Its octets. A fault of the text ends them.
     pub octets: &'e [u8],
@@ -60,6 +62,11 @@ pub struct Given<'e> {
 }
 
 impl<'e> Entry<'e> {
+    /// Returns the place of its first octet.
+    pub fn place(&self) -> Place {
+        place_from(self.reader, self.counted, self.offset)
+    }
+
     /// The record that was read of it, if it is one.
     pub fn record(&self) -> Option<Given<'e>> {
         let Ok(
@@ -92,7 +99,11 @@ pub trait Visit {
     /// opened before it.
     fn begin(&mut self, file: &str, number: usize, mark: &[u8]) -> Result<(), Stop>;
 
-    /// Takes an entry.
+    /// Visits an entry that needs neither a report nor its position. Returns `false`, and changes
+    /// nothing, if an entry is no such one.
+    fn visit_quiet(&mut self, entry: &Entry<'_>) -> Result<bool, Stop>;
+
+    /// Visits an entry for which [`Visit::visit_quiet`] returned `false`.
     fn take(&mut self, entry: &Entry<'_>) -> Result<(), Stop>;
 
     /// Takes that the file is not included which an entry names, and why.
@@ -340,15 +351,17 @@ impl<'a> ZoneFiles<'a> {
         file: &'e OpenFile,
         read: &'e Result<EntryRead, RecordRefusal>,
     ) -> Entry<'e> {
-        let from = file.reader.octets_from(file.place.at);
-        let is_shortened = from.is_none();
-        let held = from.unwrap_or(&[]);
-        let end = file.reader.place().saturating_sub(file.place.at);
-        let count = end.min(held.len());
+        let offset = file.reader.began();
+        let held = file.reader.octets_from(offset);
+        let is_shortened = held.is_none();
+        let held = held.unwrap_or(&[]);
+        let len = file.reader.place().saturating_sub(offset);
+        let count = len.min(held.len());
         Entry {
             file: file.name.as_str(),
             number: file.number,
-            place: file.place,
+            offset,
+            counted: file.place,
             held,
             octets: &held[..count],
             is_shortened,
@@ -367,12 +380,12 @@ impl<'a> ZoneFiles<'a> {
         read: &Result<EntryRead, RecordRefusal>,
         visitor: &mut V,
     ) -> Result<(), Stop> {
-        let began = file.reader.began();
-        file.walk_to(began);
-        visitor.take(&self.entry(file, read))?;
-        let behind = file.reader.place();
-        file.walk_to(behind);
-        Ok(())
+        if visitor.visit_quiet(&self.entry(file, read))? {
+            return Ok(());
+        }
+        let offset = file.reader.began();
+        file.count_to(offset);
+        visitor.take(&self.entry(file, read))
     }
 
     /// Gives an entry that includes a file, and opens it.
@@ -382,8 +395,8 @@ impl<'a> ZoneFiles<'a> {
         origin: Option<NameBuffer>,
         visitor: &mut V,
     ) -> Result<(), Stop> {
-        let began = file.reader.began();
-        file.walk_to(began);
+        let offset = file.reader.began();
+        file.count_to(offset);
         let found = self.find_included(&file);
         let read = Ok(EntryRead::Include { origin });
         let entry = self.entry(&file, &read);
@@ -393,8 +406,6 @@ impl<'a> ZoneFiles<'a> {
             visitor.refuse(&entry, why.as_str())?;
         }
         let place = file.place;
-        let behind = file.reader.place();
-        file.walk_to(behind);
         self.files.push(file)?;
         match (read, found) {
             (Ok(EntryRead::Include { origin }), Ok(included)) => {

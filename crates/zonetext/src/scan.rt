@@ -1,0 +1,150 @@
+//! Scans the octets of entries and names, 16 at a time.
+ghost use Rattle.std.specs.Prelude.{◌≤◌, length};
+
+use std::simd::prelude::*;
+
+/// Number of octets of one load.
+const LANES: usize = 16;
+
+/// What the octets of an entry contain.
+#[derive(Clone, Copy)]
+pub struct OctetScan {
+    /// Whether each octet is plain.
+    pub is_plain: bool,
+    /// Whether there is an opening parenthesis.
+    pub has_parenthesis: bool,
+    /// Whether there is a backslash.
+    pub has_backslash: bool,
+}
+
+/// Returns whether an octet is plain: printable ASCII, a tab or a line feed.
+fn is_plain(octet: u8) -> bool {
+    matches!(octet, b' '..=b'~' | b'\t' | b'\n')
+}
+
+/// Returns which octets of a load are not plain.
+#[inline(always)]
+fn other_octets(load: u8x16) -> mask8x16 {
+    let low = load.simd_lt(u8x16::splat(b' '));
+    let high = load.simd_gt(u8x16::splat(b'~'));
+    let blank = load.simd_eq(u8x16::splat(b'\t')) | load.simd_eq(u8x16::splat(b'\n'));
+    (low & !blank) | high
+}
+
+/// Scans a few octets, one by one.
+fn scan_few(octets: &[u8]) -> OctetScan {
+    OctetScan {
+        is_plain: octets.iter().all(|octet| is_plain(*octet)),
+        has_parenthesis: octets.contains(&b'('),
+        has_backslash: octets.contains(&b'\\'),
+    }
+}
+
+/// Scans octets once.
+pub fn scan_octets(octets: &[u8]) -> OctetScan {
+    if octets.len() < LANES {
+        return scan_few(octets);
+    }
+    // The last load comes first. It may repeat octets of the load before it.
+    let last = octets.len() - LANES;
+    let load = u8x16::from_slice(&octets[last..]);
+    let mut others = other_octets(load);
+    let mut opens = load.simd_eq(u8x16::splat(b'('));
+    let mut escapes = load.simd_eq(u8x16::splat(b'\\'));
+    let mut start = 0;
+    while start < last {
+        let load = u8x16::from_slice(&octets[start..]);
+        others = others | other_octets(load);
+        opens = opens | load.simd_eq(u8x16::splat(b'('));
+        escapes = escapes | load.simd_eq(u8x16::splat(b'\\'));
+        start += LANES;
+    }
+    OctetScan {
+        is_plain: !others.any(),
+        has_parenthesis: opens.any(),
+        has_backslash: escapes.any(),
+    }
+}
+
+/// Drops the octets before the first one that equals `octet`, or all of them if none does.
+fn skip_to(octets: &[u8], octet: u8) -> &[u8]
+    ensures { length result.now ≤ length octets.now }
+{
+    let mut rest = octets;
+    while rest.len() >= LANES {
+        let load = u8x16::from_slice(rest);
+        let found = load.simd_eq(u8x16::splat(octet)).to_bitmask();
+        if found != 0 {
+            return rest.get(found.trailing_zeros() as usize..).unwrap_or(&[]);
+        }
+        rest = &rest[LANES..];
+    }
+    while let [first, others @ ..] = rest {
+        if *first == octet {
+            return rest;
+        }
+        rest = others;
+    }
+    rest
+}
+
+/// Returns the offset of the first octet from `from` on that equals `octet`, or the length if none
+/// does.
+fn find_octet(octets: &[u8], octet: u8, from: usize) -> usize
+    requires { from ≤ length octets.now }
+    ensures within { result ≤ length octets.now }
+    ensures after { from ≤ result }
+{
+    octets.len() - skip_to(&octets[from..], octet).len()
+}
+
+/// Returns whether at least two parentheses open among octets.
+fn has_two_parentheses(octets: &[u8]) -> bool {
+    match skip_to(octets, b'(') {
+        [_, rest @ ..] => !skip_to(rest, b'(').is_empty(),
+        [] => false,
+    }
+}
+
+/// Returns whether the octets of an entry may contain something that `lint` reports. It reports nothing
+/// if all are plain, at most one parenthesis opens, and the last is a line feed.
+pub fn needs_lint(octets: &[u8], scan: OctetScan) -> bool {
+    !scan.is_plain
+        || octets.last() != Some(&b'\n')
+        || (scan.has_parenthesis && has_two_parentheses(octets))
+}
+
+/// Returns whether octets begin with the labels of an origin, followed by the origin itself.
+fn begins_twice(octets: &[u8], labels: &[u8], origin: &[u8]) -> bool {
+    let Some((front, back)) = octets.split_at_checked(labels.len()) else {
+        return false;
+    };
+    let Some((back, _)) = back.split_at_checked(origin.len()) else {
+        return false;
+    };
+    front.eq_ignore_ascii_case(labels) && back.eq_ignore_ascii_case(origin)
+}
+
+/// Returns whether names in wire format contain the labels of an origin, followed by the origin itself.
+pub fn repeats_origin(octets: &[u8], origin: &[u8]) -> bool {
+    let Some((_, labels)) = origin.split_last() else {
+        return false;
+    };
+    let Some(first) = labels.first() else {
+        return false;
+    };
+    if octets.len() < labels.len() || octets.len() - labels.len() < origin.len() {
+        return false;
+    }
+    // Later there is no room for both.
+    let last = octets.len() - labels.len() - origin.len();
+    let starts = &octets[..=last];
+    let mut start = find_octet(starts, *first, 0);
+    while start < starts.len() {
+        if begins_twice(&octets[start..], labels, origin) {
+            return true;
+        }
+        start = find_octet(starts, *first, start + 1);
+    }
+    false
+}
