@@ -5,7 +5,7 @@ use Rattle.std.specs.List.{flat_map}
 use Rattle.std.proofs.lemmas.List.{reverse-append, reverse-reverse}
 use Rattle.std.proofs.lemmas.Grind.{flat_map-append}
 use Rattle.dns_octets.specs.Lowered.{lowered}
-use Rattle.dns_canonical.specs.Keys.{key_octets, label_key, order_key, IsAbove}
+use Rattle.dns_canonical.specs.Keys.{key_octets, label_key, order_key, IsAtOrBelow}
 use Rattle.dns_canonical.specs.Names.{labels_from_root}
 use Rattle.dns_canonical.proofs.KeyOrders.{Is, low, high, is, alone, paired}
 
@@ -73,7 +73,7 @@ labels_told (x ∷ xs) (y ∷ ys) rest h =
     (more.0, (λ i. told.0 i ∷ more.1 i))
 
 -- a key begins with that of a name exactly where the name stands at the other or above it
-pub begins_below : (name top : List (List ℕ)) → ((rest : List ℕ) × (order_key name ≡ order_key top ++ rest)) ↔ IsAbove top name
+pub begins_below : (name top : List (List ℕ)) → ((rest : List ℕ) × (order_key name ≡ order_key top ++ rest)) ↔ IsAtOrBelow name top
 begins_below name top = (
   λ h. let told = labels_told (labels_from_root top) (labels_from_root name) h.0 h.1 in
       (reverse told.0, sym (reverse-reverse (map lowered name)) ∙ ap reverse told.1 ∙ reverse-append (labels_from_root top) told.0 ∙ ap (λ l. reverse told.0 ++ l) (reverse-reverse (map lowered top))),

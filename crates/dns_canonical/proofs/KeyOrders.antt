@@ -1,5 +1,5 @@
 -- The order of keys is the order of names.
-use Rattle.std.proofs.Common.{ℕ, ◌≡◌, ◌+◌, ◌<◌, List, [], ◌∷◌, ◌++◌, map, refl, sym, ap, ◌∙◌, arith, append_assoc, length, length-append}
+use Rattle.std.proofs.Common.{ℕ, ◌≡◌, ◌+◌, ◌<◌, List, [], ◌∷◌, ◌++◌, map, refl, sym, ap, ◌∙◌, arith, append_assoc, length, length-append, ◌≤◌, ◌*◌}
 use Rattle.std.specs.Prelude.{Bool, nat_lt, true, false}
 use Rattle.std.specs.Cmp.Lexicographic.{slice_cmp}
 use Rattle.std.specs.List.{flat_map}
@@ -15,11 +15,12 @@ use Rattle.std.proofs.lemmas.List.{append-nil, reverse-append}
 use Rattle.dns_octets.specs.Appending.{Extends}
 use Rattle.dns_octets.specs.Lowered.{lowered}
 use Rattle.dns_wire.specs.Wire.{wire, wire_label}
+use Rattle.dns_canonical.proofs.LoweredNames.{length_lowered}
 use Rattle.dns_canonical.proofs.NameWalks.{first_label}
 use Rattle.dns_canonical.specs.Names.{octet_order, labels_from_root, name_order}
 use Rattle.dns_canonical.proofs.NameOrders.{then_assoc}
 use Rattle.dns_canonical.specs.Walks.{HasLabels}
-use Rattle.dns_canonical.specs.Keys.{key_octets, label_key, order_key, IsKeyBehind}
+use Rattle.dns_canonical.specs.Keys.{key_octets, label_key, order_key, AppendsKey}
 
 less : (m n : ℕ) → m < n → nat_cmp m n ≡ Less
 less m n h = Prim.grind (arith, nat_tests)
@@ -128,8 +129,8 @@ key_none old octets [] h none = sym (append-nil old)
 key_none old octets (l ∷ ls) h none = absurd (omega (arith, ap length h, length-append l (wire ls)))
 
 -- the key of labels stands behind that of those behind the first
-pub key_behind : (old middle new label rest octets : List ℕ) → octets ≡ wire_label label ++ rest → IsKeyBehind rest old middle → new ≡ middle ++ label_key (lowered label)
-    → IsKeyBehind octets old new
+pub key_behind : (old middle new label rest octets : List ℕ) → octets ≡ wire_label label ++ rest → AppendsKey rest old middle → new ≡ middle ++ label_key (lowered label)
+    → AppendsKey octets old new
 key_behind old middle new label rest octets h k e labels w =
     let first = first_label labels label rest (sym w ∙ h) in
     e ∙ ap (λ l. l ++ label_key (lowered label)) (k first.0 first.2) ∙ append_assoc old (order_key first.0) (label_key (lowered label))
@@ -139,7 +140,7 @@ key_behind old middle new label rest octets h k e labels w =
 pub extends_behind : (old more middle new : List ℕ) → middle ≡ old ++ more → Extends middle new → Extends old new
 extends_behind old more middle new h e = (more ++ e.0, e.1 ∙ ap (λ l. l ++ e.0) h ∙ append_assoc old more e.0)
 
-pub labels_behind : (octets label rest old middle : List ℕ) → (h : HasLabels 0 octets) → (e : octets ≡ wire_label label ++ rest) → IsKeyBehind rest old middle
+pub labels_behind : (octets label rest old middle : List ℕ) → (h : HasLabels 0 octets) → (e : octets ≡ wire_label label ++ rest) → AppendsKey rest old middle
     → middle ≡ old ++ order_key (first_label h.0 label rest (sym h.1 ∙ e)).0
 labels_behind octets label rest old middle h e k = k _ (first_label h.0 label rest (sym h.1 ∙ e)).2
 
@@ -157,3 +158,29 @@ keys_tied a b = (
   λ h. key_order a b ∙ (octets_tied (order_key a) (order_key b)).1 h,
   λ h. (octets_tied (order_key a) (order_key b)).0 (sym (key_order a b) ∙ h),
 )
+
+octet_length : (o : ℕ) → length (key_octets o) ≤ 2
+octet_length o = by (is o)
+  where
+    by : Is o → length (key_octets o) ≤ 2
+    by (low h) = omega (arith, ap length (paired o h))
+    by (high h) = omega (arith, ap length (alone o h))
+
+octets_length : (os : List ℕ) → length (flat_map key_octets os) ≤ 2 * length os
+octets_length [] = omega arith
+octets_length (o ∷ os) = omega (arith, octets_length os, octet_length o, length-append (key_octets o) (flat_map key_octets os))
+
+-- a key has two octets at most for each octet of the wire format, less one for each label
+pub key_length : (labels : List (List ℕ)) → length (order_key labels) + length labels ≤ 2 * length (wire labels)
+key_length [] = omega arith
+key_length (label ∷ labels) =
+    omega (
+      arith,
+      key_length labels,
+      octets_length (lowered label),
+      length_lowered label,
+      ap length (key_more label labels),
+      length-append (order_key labels) (label_key (lowered label)),
+      length-append (flat_map key_octets (lowered label)) (0 ∷ []),
+      length-append (wire_label label) (wire labels),
+    )

@@ -7,15 +7,23 @@ use Rattle.dns_wire.specs.Wire.{wire}
 use Rattle.dns_wire.specs.Order.{lowered_wire}
 use Rattle.dns_fields.specs.declared.field.Field.TheVariants.{Number8, Name as OfName, String as OfString}
 use Rattle.dns_canonical.specs.FieldForms.{canonical_field}
+use Rattle.dns_canonical.specs.Keys.{label_key, order_key, IsAtOrBelow}
 use Rattle.dns_canonical.specs.Names.{octet_order, name_order}
 use Rattle.dns_canonical.specs.Records.{RecordKey, record_order}
 use Rattle.dns_canonical.specs.Untexted.{untexted_front}
 
--- the order of each name and the next one
+-- each pair of neighbours, compared
+abbrev compared : (List (List ℕ) → List (List ℕ) → Ordering) → List (List (List ℕ)) → List Ordering
+compared order [] = []
+compared order (a ∷ []) = []
+compared order (a ∷ b ∷ more) = order a b ∷ compared order (b ∷ more)
+
+-- the order of each name and the next one, and that of their keys
 abbrev neighbours : List (List (List ℕ)) → List Ordering
-neighbours [] = []
-neighbours (a ∷ []) = []
-neighbours (a ∷ b ∷ more) = name_order a b ∷ neighbours (b ∷ more)
+neighbours = compared name_order
+
+abbrev key_neighbours : List (List (List ℕ)) → List Ordering
+key_neighbours = compared (λ a b. octet_order (order_key a) (order_key b))
 
 -- labels below `example.`
 abbrev below : List (List ℕ) → List (List ℕ)
@@ -23,8 +31,8 @@ below [] = codes "example" ∷ [] ∷ []
 below (label ∷ labels) = label ∷ below labels
 
 -- the names of RFC 4034 section 6.1: example, a.example, yljkjljk.a.example, Z.a.example, zABC.a.EXAMPLE, z.example, \001.z.example, *.z.example, \200.z.example
-rfc_row :
-    neighbours (
+abbrev rfc_names : List (List (List ℕ))
+rfc_names =
     below []
     ∷ below (codes "a" ∷ [])
     ∷ below (codes "yljkjljk" ∷ codes "a" ∷ [])
@@ -35,9 +43,46 @@ rfc_row :
     ∷ below (codes "*" ∷ codes "z" ∷ [])
     ∷ below ((200 ∷ []) ∷ codes "z" ∷ [])
     ∷ []
-    )
-    ≡ Less ∷ Less ∷ Less ∷ Less ∷ Less ∷ Less ∷ Less ∷ Less ∷ []
+
+rfc_row : neighbours rfc_names ≡ replicate 8 Less
 rfc_row = refl
+
+rfc_keys_row : key_neighbours rfc_names ≡ replicate 8 Less
+rfc_keys_row = refl
+
+-- the key of the root, that of zABC.a.EXAMPLE, and that of \001.z.example
+root_key_row : order_key ([] ∷ []) ≡ 0 ∷ []
+root_key_row = refl
+
+name_key_row : order_key (codes "zABC" ∷ codes "a" ∷ codes "EXAMPLE" ∷ [] ∷ []) ≡ 0 ∷ (codes "example" ++ 0 ∷ (codes "a" ++ 0 ∷ (codes "zabc" ++ 0 ∷ [])))
+name_key_row = refl
+
+one_key_row : order_key (below ((1 ∷ []) ∷ codes "z" ∷ [])) ≡ 0 ∷ (codes "example" ++ 0 ∷ (codes "z" ++ 0 ∷ 1 ∷ 2 ∷ 0 ∷ []))
+one_key_row = refl
+
+-- 0 and 1 are pairs, 2 and 255 are not
+pairs_row : label_key (0 ∷ 1 ∷ 2 ∷ 255 ∷ []) ≡ 1 ∷ 1 ∷ 1 ∷ 2 ∷ 2 ∷ 255 ∷ 0 ∷ []
+pairs_row = refl
+
+-- a.example, b.a.example, a\000.example, a\001.example, a\002.example and aa.example: what is below a name is before a longer label
+pairs_order_row :
+    key_neighbours (
+    below ((97 ∷ []) ∷ [])
+    ∷ below ((98 ∷ []) ∷ (97 ∷ []) ∷ [])
+    ∷ below ((97 ∷ 0 ∷ []) ∷ [])
+    ∷ below ((97 ∷ 1 ∷ []) ∷ [])
+    ∷ below ((97 ∷ 2 ∷ []) ∷ [])
+    ∷ below ((97 ∷ 97 ∷ []) ∷ [])
+    ∷ []
+    )
+    ≡ replicate 5 Less
+pairs_order_row = refl
+
+case_key_row : order_key (below (codes "Mail" ∷ [])) ≡ order_key (codes "mAIL" ∷ codes "EXAMPLE" ∷ [] ∷ [])
+case_key_row = refl
+
+below_row : IsAtOrBelow (below (codes "b" ∷ codes "A" ∷ [])) (codes "a" ∷ codes "EXAMPLE" ∷ [] ∷ [])
+below_row = (codes "b" ∷ [], refl)
 
 case_row : name_order (below (codes "Mail" ∷ [])) (codes "mAIL" ∷ codes "EXAMPLE" ∷ [] ∷ []) ≡ Equal
 case_row = refl

@@ -1,17 +1,19 @@
-//! Octets whose order is the canonical order of names (RFC 4034 section 6.1).
+//! Order keys of names: octets whose plain order is the canonical order of names (RFC 4034 section 6.1).
 ghost use Rattle.std.specs.Prelude.{ℕ, ◌≡◌, List, ◌++◌, OnOk, OnErr};
 ghost use Rattle.dns_octets.specs.Appending.{Extends};
 ghost use Rattle.dns_octets.specs.Lowered.{lowered};
 ghost use Rattle.dns_spelling.specs.NameSpelling.{IsWireName};
 ghost use Rattle.dns_wire.specs.Wire.{wire};
-ghost use Rattle.dns_canonical.specs.Keys.{key_octets, label_key, order_key, IsKeyBehind, IsKeyOrder};
+ghost use Rattle.dns_canonical.specs.Keys.{key_octets, label_key, order_key, AppendsKey, IsKeyOrder};
+ghost use Rattle.dns_canonical.specs.Names.{octet_order};
 ghost use Rattle.dns_canonical.specs.Walks.{HasLabels};
 
 use crate::names::front_label;
 use std::alloc::{AllocError, Allocator};
 use std::cmp::Ordering;
 
-/// Appends an octet of a key.
+/// Appends an octet of a label as it is in a key: 0 and 1 as the pairs `1 1` and `1 2`, and any other
+/// octet as itself. Fails if there is no memory; the first of a pair may then have been appended.
 fn push_key_octet<A: Allocator>(octet: u8, key: &mut Vec<u8, A>) -> Result<(), AllocError>
     ensures ok { OnOk result (key.new.items ≡ key.old.items ++ key_octets octet) }
     ensures err { OnErr result (Extends key.old.items key.new.items) }
@@ -25,7 +27,8 @@ fn push_key_octet<A: Allocator>(octet: u8, key: &mut Vec<u8, A>) -> Result<(), A
     Ok(())
 }
 
-/// Appends a label of a key, in lower case.
+/// Appends a label as it is in a key: its octets in lower case, then a 0. Fails if there is no memory;
+/// the first octets may then have been appended.
 fn push_key_label<A: Allocator>(label: &[u8], key: &mut Vec<u8, A>) -> Result<(), AllocError>
     ensures ok { OnOk result (key.new.items ≡ key.old.items ++ label_key (lowered label.now)) }
     ensures err { OnErr result (Extends key.old.items key.new.items) }
@@ -37,10 +40,11 @@ fn push_key_label<A: Allocator>(label: &[u8], key: &mut Vec<u8, A>) -> Result<()
     Ok(())
 }
 
-/// Appends the key of labels, from the last on.
+/// Appends the key of labels in wire format, from the last label to the first. Fails if there is no
+/// memory; the first octets may then have been appended.
 fn push_key_labels<A: Allocator>(octets: &[u8], key: &mut Vec<u8, A>) -> Result<(), AllocError>
     requires { HasLabels 0 octets.now }
-    ensures ok { OnOk result (IsKeyBehind octets.now key.old.items key.new.items) }
+    ensures ok { OnOk result (AppendsKey octets.now key.old.items key.new.items) }
     ensures err { OnErr result (Extends key.old.items key.new.items) }
 {
     if octets.is_empty() {
@@ -51,23 +55,28 @@ fn push_key_labels<A: Allocator>(octets: &[u8], key: &mut Vec<u8, A>) -> Result<
     push_key_label(first.label, key)
 }
 
-/// Appends the key of a name on the wire: its labels from the root on, in lower case, each with a 0
-/// behind it. Keys are in order, octet by octet, as the names are in canonical order, and the key of a
-/// name begins the keys of the names below it. In a label 0 and 1 are two octets each.
+/// Appends the order key of a name in wire format: its labels from the root to the first, in lower
+/// case, each followed by a 0. The octets 0 and 1 of a label become the pairs `1 1` and `1 2`, so a
+/// single 0 always ends a label.
 ///
-/// Without memory the first octets may have been appended.
+/// Keys compare octet by octet as their names do in canonical order (RFC 4034 section 6.1). Names that
+/// differ only in case have one key. A key begins with the key of each name above its name. A key has
+/// at most 509 octets.
+///
+/// Fails if there is no memory; the first octets of the key may then have been appended.
 pub fn push_order_key<A: Allocator>(octets: &[u8], key: &mut Vec<u8, A>) -> Result<(), AllocError>
     requires { IsWireName octets.now }
-    ensures ok { OnOk result (IsKeyBehind octets.now key.old.items key.new.items) }
+    ensures ok { OnOk result (AppendsKey octets.now key.old.items key.new.items) }
     ensures err { OnErr result (Extends key.old.items key.new.items) }
 {
     push_key_labels(octets, key)
 }
 
-/// The canonical order of two names (RFC 4034 section 6.1), by their keys, or by what stands in these
-/// behind one key that both begin with.
+/// Compares two order keys octet by octet, which is the canonical order of their names (RFC 4034
+/// section 6.1). Both may lack the same first octets, for example the key of a zone's apex.
 pub fn compare_keys(left: &[u8], right: &[u8]) -> Ordering
-    ensures { IsKeyOrder left.now right.now result }
+    ensures octets { result ≡ octet_order left.now right.now }
+    ensures names { IsKeyOrder left.now right.now result }
 {
     left.cmp(right)
 }

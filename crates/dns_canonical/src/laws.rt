@@ -1,5 +1,5 @@
 //! What holds of all names, record data and records.
-ghost use Rattle.std.specs.Prelude.{ℕ, ◌≡◌, ◌↔◌, List, ◌∷◌, ◌++◌, length};
+ghost use Rattle.std.specs.Prelude.{ℕ, ◌≡◌, ◌↔◌, ◌≤◌, ◌+◌, ◌*◌, List, ◌∷◌, ◌++◌, length};
 ghost use Rattle.std.specs.Cmp.{IsTotalOrder};
 ghost use Rattle.std.specs.declared.cmp.Ordering.TheVariants.{Less, Equal};
 ghost use Rattle.dns_octets.specs.Lowered.{lowered};
@@ -8,7 +8,7 @@ ghost use Rattle.dns_wire.specs.Wire.{wire, IsName};
 ghost use Rattle.dns_spelling.specs.NameSpelling.{IsWireName};
 ghost use Rattle.dns_fields.specs.declared.field.Field.{Field};
 ghost use Rattle.dns_canonical.specs.FieldForms.{StartsWithFields, CanonicalFields};
-ghost use Rattle.dns_canonical.specs.Keys.{IsAbove, label_key, order_key};
+ghost use Rattle.dns_canonical.specs.Keys.{IsAtOrBelow, label_key, order_key};
 ghost use Rattle.dns_canonical.specs.Names.{octet_order, name_order};
 ghost use Rattle.dns_canonical.specs.Records.{RecordKey, record_order};
 ghost use Rattle.dns_canonical.specs.Untexted.{untexted_front};
@@ -29,14 +29,16 @@ pub fn names_are_ordered()
     ensures below { (name : List (List ℕ)) (label : List ℕ) → name_order name (label ∷ name) ≡ Less }
 {}
 
-/// The order of keys is the order of names, and the keys of two names are the same exactly where the
-/// names are the same but for the case of letters. A key begins with the key of a name exactly where the
-/// name stands at the other or above it.
+/// States that order keys compare octet by octet as their names do in canonical order, that two names
+/// have one key if and only if they differ at most in case, and that a name's key begins with the key
+/// of another if and only if the name is the other or below it. A key has at most twice as many octets
+/// as the name in wire format, less one for each label.
 pub fn keys_are_ordered_as_names()
     ensures order { (a b : List (List ℕ)) → name_order a b ≡ octet_order (order_key a) (order_key b) }
     ensures equal { (a b : List (List ℕ)) → (order_key a ≡ order_key b) ↔ (name_order a b ≡ Equal) }
-    ensures within { (name top : List (List ℕ)) → ((rest : List ℕ) × (order_key name ≡ order_key top ++ rest)) ↔ IsAbove top name }
+    ensures within { (name top : List (List ℕ)) → ((rest : List ℕ) × (order_key name ≡ order_key top ++ rest)) ↔ IsAtOrBelow name top }
     ensures below { (label : List ℕ) (name : List (List ℕ)) → order_key (label ∷ name) ≡ order_key name ++ label_key (lowered label) }
+    ensures length { (labels : List (List ℕ)) → length (order_key labels) + length labels ≤ 2 * length (wire labels) }
 {}
 
 /// The order of octets is total, and equal exactly where they are the same. Octets stand before

@@ -1,5 +1,5 @@
 use Rattle.dns_canonical.proofs.BelowKeys.{begins_below}
-use Rattle.dns_canonical.proofs.KeyOrders.{key_order, keys_tied, key_more}
+use Rattle.dns_canonical.proofs.KeyOrders.{key_order, keys_tied, key_length, key_more}
 use Rattle.dns_canonical.proofs.laws.keys_are_ordered_as_names.Goals as goal
 
 pub returns-clause-order : goal.returns-clause-order
@@ -13,3 +13,6 @@ returns-clause-below c = key_more
 
 pub returns-clause-within : goal.returns-clause-within
 returns-clause-within c = begins_below
+
+pub returns-clause-length : goal.returns-clause-length
+returns-clause-length c = key_length
