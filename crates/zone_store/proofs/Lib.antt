@@ -1,2 +1,2 @@
-mod KeyFronts
-mod KeyPlaces
+mod KeyBounds
+mod KeyPrefixes

@@ -1,3 +1,5 @@
-pub mod Fronts
+pub mod Counted
 pub mod Groups
+pub mod Prefixes
 pub mod Rows
+pub mod Stored

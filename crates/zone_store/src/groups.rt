@@ -1,155 +1,120 @@
-//! Groups of records in the order of their owners.
-ghost use Rattle.std.specs.Prelude.{◌≡◌, ◌<◌, ◌≤◌, ◌^◌, ◌++◌, All, OnOk, OnErr, get_or, length, true, false};
+//! Groups: records of one owner that follow one another in a zone file, sorted by the owner's order key.
+ghost use Rattle.std.specs.Prelude.{◌≡◌, ◌≤◌, All, get_or, length, true, false};
 ghost use Rattle.std.specs.List.{AllWithin};
 ghost use Rattle.std.specs.List.Sorted.{IsPermutation, IsSorted};
-ghost use Rattle.dns_octets.specs.Appending.{Extends};
-ghost use Rattle.zone_store.specs.Fronts.{front_number};
-ghost use Rattle.zone_store.specs.Groups.{counted_key, group_order, held_order, key_in_front, long_key, is_held_before, key_at, stands_before, HasFront, TakesCounted, TakesLong};
+ghost use Rattle.zone_store.specs.Prefixes.{prefix_number};
+ghost use Rattle.zone_store.specs.Groups.{group_order, prefixed_order, is_before_prefixed, key_at, has_lesser_key, HasPrefix};
 
-use std::alloc::{AllocError, Allocator};
+use crate::counted::split_counted;
 use std::cmp::Ordering;
 
-/// Records of one owner that came one after another.
+/// A group of records with one owner. Its octets begin with the owner's order key, after its length
+/// ([`push_counted`](crate::push_counted)).
 #[derive(Clone, Copy)]
 pub struct Group {
-    /// The first octets of the key, as a number.
-    pub front: u64,
-    /// Where its octets begin.
-    pub at: usize,
+    /// First eight octets of the key, as [`key_prefix`] returns them.
+    pub prefix: u64,
+    /// Offset of the group's first octet.
+    pub offset: usize,
 }
 
-/// The octet at a place, or 0 behind the last.
-fn octet_or_zero(octets: &[u8], place: usize) -> u8
-    ensures { result ≡ get_or octets.now place 0 }
+/// Returns the octet at an index, or 0 after the last octet.
+fn octet_or_zero(octets: &[u8], index: usize) -> u8
+    ensures { result ≡ get_or octets.now index 0 }
 {
-    match octets.get(place) {
+    match octets.get(index) {
         Some(octet) => *octet,
         None => 0,
     }
 }
 
-/// The first eight octets of a key as a number; those that are absent count as zeros.
-pub fn key_front(key: &[u8]) -> u64
-    ensures { result ≡ front_number 8 key.now }
+/// Returns the first eight octets of a key as a number, the first octet most significant. Octets that
+/// the key lacks count as 0.
+///
+/// A key with a lesser number is before one with a greater number. Keys with one number may be in any
+/// order.
+pub fn key_prefix(key: &[u8]) -> u64
+    ensures { result ≡ prefix_number 8 key.now }
 {
-    let mut front = 0;
-    for place in 0..8 {
-        front = front * 256 + u64::from(octet_or_zero(key, place));
+    let mut prefix = 0;
+    for index in 0..8 {
+        prefix = prefix * 256 + u64::from(octet_or_zero(key, index));
     }
-    front
+    prefix
 }
 
-/// Appends a key behind its count. Without memory a beginning of that may stand there.
-pub fn push_counted_key<A: Allocator>(out: &mut Vec<u8, A>, key: &[u8]) -> Result<(), AllocError>
-    requires { length key.now < 2 ^ 16 }
-    ensures ok { OnOk result (out.new.items ≡ out.old.items ++ counted_key key.now) }
-    ensures read { OnOk result (key_at out.new.items (length out.old.items) ≡ key.now) }
-    ensures err { OnErr result (Extends out.old.items out.new.items) }
+/// Returns the key at an offset: the octets that follow their length there, or none after the end.
+pub fn key_at(octets: &[u8], offset: usize) -> &[u8]
+    ensures { result.now ≡ key_at octets.now offset }
 {
-    if key.len() < 255 {
-        out.push(key.len() as u8)?;
-    } else {
-        out.push(255)?;
-        let count = key.len() as u16;
-        out.extend_from_slice(&count.to_be_bytes())?;
-    }
-    out.extend_from_slice(key)
-}
-
-/// The key behind a count of two octets.
-fn long_key(octets: &[u8]) -> &[u8]
-    ensures { result.now ≡ long_key octets.now }
-{
-    match octets.split_first_chunk::<2>() {
-        Some((count, rest)) => { &rest[..rest.len().min(usize::from(u16::from_be_bytes(*count)))] }
+    match octets.get(offset..) {
+        Some(rest) => split_counted(rest).0,
         None => &[],
     }
 }
 
-/// What a count of two octets counts, and what is behind it.
-fn take_long(octets: &[u8]) -> (&[u8], &[u8])
-    ensures { TakesLong octets.now result.0.now result.1.now }
+/// Returns the group whose octets begin at an offset.
+pub fn group_at(octets: &[u8], offset: usize) -> Group
+    ensures offset { result.offset ≡ offset }
+    ensures prefix { HasPrefix octets.now result }
 {
-    match octets.split_first_chunk::<2>() {
-        Some((count, rest)) => {
-            rest.split_at(rest.len().min(usize::from(u16::from_be_bytes(*count))))
-        }
-        None => (&[], &[]),
+    Group {
+        prefix: key_prefix(key_at(octets, offset)),
+        offset,
     }
 }
 
-/// What the count in front of octets counts, and what is behind it.
-pub fn take_counted(octets: &[u8]) -> (&[u8], &[u8])
-    ensures { TakesCounted octets.now result.0.now result.1.now }
+/// Compares two groups by their prefixes, then by their keys, then by their offsets.
+fn compare_prefixed(octets: &[u8], left: &Group, right: &Group) -> Ordering
+    ensures { result ≡ prefixed_order octets.now left.now right.now }
 {
-    match octets.split_first() {
-        Some((count, rest)) if *count < 255 => {
-            rest.split_at(rest.len().min(usize::from(*count)))
-        }
-        Some((_, rest)) => take_long(rest),
-        None => (&[], &[]),
-    }
+    left.prefix
+        .cmp(&right.prefix)
+        .then_with(|| key_at(octets, left.offset).cmp(key_at(octets, right.offset)))
+        .then(left.offset.cmp(&right.offset))
 }
 
-/// The key in front of octets.
-fn key_in_front(octets: &[u8]) -> &[u8]
-    ensures { result.now ≡ key_in_front octets.now }
-{
-    match octets.split_first() {
-        Some((count, rest)) if *count < 255 => &rest[..rest.len().min(usize::from(*count))],
-        Some((_, rest)) => long_key(rest),
-        None => &[],
-    }
-}
-
-/// The key at a place.
-pub fn key_at(octets: &[u8], at: usize) -> &[u8]
-    ensures { result.now ≡ key_at octets.now at }
-{
-    match octets.get(at..) {
-        Some(rest) => key_in_front(rest),
-        None => &[],
-    }
-}
-
-/// The order of two groups: by their keys, and then as they came.
+/// Compares two groups by their keys, and groups with one key by their offsets.
+///
+/// The prefixes decide where they differ, so that most comparisons read no octets.
 pub fn compare_groups(octets: &[u8], left: &Group, right: &Group) -> Ordering
-    ensures { result ≡ held_order octets.now left.now right.now }
+    ensures value { result ≡ prefixed_order octets.now left.now right.now }
+    ensures keys { HasPrefix octets.now left.now → HasPrefix octets.now right.now → result ≡ group_order octets.now left.now right.now }
 {
-    left.front
-        .cmp(&right.front)
-        .then_with(|| key_at(octets, left.at).cmp(key_at(octets, right.at)))
-        .then(left.at.cmp(&right.at))
+    compare_prefixed(octets, left, right)
 }
 
-/// Puts groups into the order of their keys, those of one key as they came.
+/// Sorts groups by their keys, and groups with one key by their offsets, that is in the order in which
+/// they were stored. Uses no further memory.
 pub fn sort_groups(octets: &[u8], groups: &mut [Group])
-    requires { All (HasFront octets.now) groups.old }
+    requires { All (HasPrefix octets.now) groups.old }
     ensures permutation { IsPermutation groups.old groups.new }
+    ensures prefixes { All (HasPrefix octets.now) groups.new }
     ensures sorted { IsSorted (group_order octets.now) groups.new }
 {
     groups.sort_unstable_by(|left, right| compare_groups(octets, left, right));
 }
 
-/// Whether the key of a group stands before a key, whose first octets are given too.
-fn is_before(octets: &[u8], group: &Group, front: u64, key: &[u8]) -> bool
-    ensures { result ≡ is_held_before octets.now front key.now group.now }
+/// Returns whether the key of a group is less than a key with a given prefix.
+fn is_before(octets: &[u8], group: &Group, prefix: u64, key: &[u8]) -> bool
+    ensures { result ≡ is_before_prefixed octets.now prefix key.now group.now }
 {
     group
-        .front
-        .cmp(&front)
-        .then_with(|| key_at(octets, group.at).cmp(key))
+        .prefix
+        .cmp(&prefix)
+        .then_with(|| key_at(octets, group.offset).cmp(key))
         .is_lt()
 }
 
-/// How many of the groups, which are in order, stand before a key: those with the key come next.
-pub fn place_of_key(octets: &[u8], groups: &[Group], key: &[u8]) -> usize
-    requires fronts { All (HasFront octets.now) groups.now }
+/// Returns the number of groups, of sorted ones, whose key is less than a key. If there are groups with
+/// that key, the first of them has this index.
+pub fn lower_bound(octets: &[u8], groups: &[Group], key: &[u8]) -> usize
+    requires prefixes { All (HasPrefix octets.now) groups.now }
     requires sorted { IsSorted (group_order octets.now) groups.now }
     ensures bound { result ≤ length groups.now }
-    ensures before { AllWithin (λ g. stands_before octets.now key.now g ≡ true) groups.now 0 result }
-    ensures behind { AllWithin (λ g. stands_before octets.now key.now g ≡ false) groups.now result (length groups.now) }
+    ensures before { AllWithin (λ g. has_lesser_key octets.now key.now g ≡ true) groups.now 0 result }
+    ensures from { AllWithin (λ g. has_lesser_key octets.now key.now g ≡ false) groups.now result (length groups.now) }
 {
-    let front = key_front(key);
-    groups.partition_point(|group| is_before(octets, group, front, key))
+    let prefix = key_prefix(key);
+    groups.partition_point(|group| is_before(octets, group, prefix, key))
 }

@@ -1,11 +1,11 @@
-//! Records in little memory, in the order of their owners.
+//! Records of a zone in little memory: octets in groups of one owner, which are sorted by the owner's order key.
 #![tactic(auto)]
 
+pub mod counted;
 pub mod groups;
-pub mod rows;
+pub mod laws;
+pub mod stored;
 
-pub use groups::{
-    Group, compare_groups, key_at, key_front, place_of_key, push_counted_key, sort_groups,
-    take_counted,
-};
-pub use rows::{Row, push_row, take_row};
+pub use counted::{push_counted, split_counted};
+pub use groups::{Group, compare_groups, group_at, key_at, key_prefix, lower_bound, sort_groups};
+pub use stored::{StoredRecord, push_stored, split_stored};
