@@ -28,11 +28,11 @@ has_type_among type records = list_any (λ r. type_of r == type) records
 abbrev pub has_owner : {N O : Type 0} → List (List ℕ) → List (Record N O) → Bool
 has_owner name records = list_any (λ r. same_name r.owner name) records
 
--- the record is an A or AAAA
+-- a record is an A or AAAA
 abbrev pub is_address_record : {N O : Type 0} → Record N O → Bool
 is_address_record r = type_of r == 1 || type_of r == 28
 
--- an A or AAAA stands at a name
+-- a name has an A or AAAA record
 abbrev pub has_address_at : {N O : Type 0} → List (List ℕ) → List (Record N O) → Bool
 has_address_at name records = has_type_at 1 name records || has_type_at 28 name records
 
@@ -44,8 +44,8 @@ is_equal_record a b = is_eq (record_order (record_key a) (record_key b))
 abbrev pub AreInOrder : {N O : Type 0} → List (Record N O) → Type 0
 AreInOrder records = AllAdjacentBelow (λ a b. IsTrue (is_le (record_order (record_key a) (record_key b)))) records (length records)
 
--- records are in order, and it is known whether one is a DNAME
-pub record KnowsRecords {N O : Type 0} (records : List (Record N O)) (has_dname : Bool) : Type 0 where
+-- records are in canonical order, and a flag says whether one is a DNAME
+pub record IsSortedWith {N O : Type 0} (records : List (Record N O)) (has_dname : Bool) : Type 0 where
   pub in_order : AreInOrder records
   pub dname : has_dname ≡ has_type_among 39 records
 

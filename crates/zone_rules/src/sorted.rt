@@ -1,4 +1,4 @@
-//! The records of a zone in canonical order, and what stands at a name.
+//! The records of a zone in canonical order, and lookups by owner and type among them.
 ghost use Rattle.std.specs.Prelude.{◌≡◌, ◌≤◌, ◌↔◌, IfSome, IsSome, filter, length, true, false};
 ghost use Rattle.std.specs.List.Sorted.{IsPartitionPoint, IsPartitionedBy};
 ghost use Rattle.std.specs.Ordering.{is_le};
@@ -18,20 +18,20 @@ use std::marker::Model;
 #[derive(Drop)]
 pub struct SortedRecords<'a, Owner: AsOctets, Octets: AsOctets> {
     records: &'a [Record<Owner, Octets>],
-    /// Whether one is a DNAME.
+    /// Whether one of the records is a DNAME.
     has_dname: bool,
 }
 
 impl<'a, Owner: AsOctets, Octets: AsOctets> Model for SortedRecords<'a, Owner, Octets> {
     ghost use Rattle.std.specs.Prelude.{List};
     ghost use Rattle.dns_resource.specs.declared.record.Record.{Record};
-    ghost use Rattle.zone_rules.specs.Zones.{KnowsRecords};
+    ghost use Rattle.zone_rules.specs.Zones.{IsSortedWith};
 
     ghost Value = { List (Record Owner Octets) };
 
     ghost view = { λ s. s.records.now };
 
-    ghost invariant = { λ s. KnowsRecords s.records.now s.has_dname };
+    ghost invariant = { λ s. IsSortedWith s.records.now s.has_dname };
 }
 
 impl<'a, Owner: AsOctets, Octets: AsOctets> SortedRecords<'a, Owner, Octets> {
@@ -47,7 +47,7 @@ impl<'a, Owner: AsOctets, Octets: AsOctets> SortedRecords<'a, Owner, Octets> {
         Some(SortedRecords { records, has_dname })
     }
 
-    /// Whether a record is a DNAME.
+    /// Returns whether one of the records is a DNAME. Takes no time: `new` looked.
     pub(crate) fn has_dname(&self) -> bool
         ensures { result ≡ has_type_among 39 self.now }
     {
@@ -63,9 +63,12 @@ impl<'a, Owner: AsOctets, Octets: AsOctets> SortedRecords<'a, Owner, Octets> {
     }
 }
 
-/// How many records are not behind a name, of records that begin at it or behind it. It looks at
-/// those in front first: at one, three, seven and so on.
-fn count_upto<Owner: AsOctets, Octets: AsOctets>(
+/// Returns the number of records whose owner is a name or before it, of records in the order of their
+/// owners.
+///
+/// Looks at the records with the indexes 0, 1, 3, 7 and so on until an owner is after the name, and then
+/// searches before that record: quick if few records are not after the name.
+fn count_up_to<Owner: AsOctets, Octets: AsOctets>(
     records: &[Record<Owner, Octets>],
     name: &Name<&[u8]>,
 ) -> usize
@@ -73,15 +76,15 @@ fn count_upto<Owner: AsOctets, Octets: AsOctets>(
     ensures bound { result ≤ length records.now }
     ensures point { IsPartitionPoint (λ r. is_le (name_order r.owner name.now) ≡ true) (λ r. is_le (name_order r.owner name.now) ≡ false) records.now result }
 {
-    let mut few: usize = 0;
-    'few: while few < records.len() && order_of(&records[few].owner, name).is_le() {
-        few = few.saturating_mul(2).saturating_add(1);
+    let mut index: usize = 0;
+    'gallop: while index < records.len() && order_of(&records[index].owner, name).is_le() {
+        index = index.saturating_mul(2).saturating_add(1);
     }
-    let front = &records[..few.min(records.len())];
-    front.partition_point(|record| order_of(&record.owner, name).is_le())
+    let first = &records[..index.min(records.len())];
+    first.partition_point(|record| order_of(&record.owner, name).is_le())
 }
 
-/// The records that a name owns.
+/// Returns the records with a name as their owner, without regard to case.
 pub fn owned_by<'a, Owner: AsOctets, Octets: AsOctets>(
     records: &SortedRecords<'a, Owner, Octets>,
     name: &Name<&[u8]>,
@@ -91,11 +94,11 @@ pub fn owned_by<'a, Owner: AsOctets, Octets: AsOctets>(
     let all = records.as_slice();
     let from = all.partition_point(|record| order_of(&record.owner, name).is_lt());
     let rest = &all[from..];
-    let count = count_upto(rest, name);
+    let count = count_up_to(rest, name);
     &rest[..count]
 }
 
-/// Whether a record of a type stands at a name.
+/// Returns whether a name has a record of a type.
 pub fn has_type<Owner: AsOctets, Octets: AsOctets>(
     records: &SortedRecords<'_, Owner, Octets>,
     name: &Name<&[u8]>,
@@ -108,7 +111,7 @@ pub fn has_type<Owner: AsOctets, Octets: AsOctets>(
         .any(|record| record.data.code() == code)
 }
 
-/// Whether a record stands at a name.
+/// Returns whether a name has a record.
 pub(crate) fn has_record<Owner: AsOctets, Octets: AsOctets>(
     records: &SortedRecords<'_, Owner, Octets>,
     name: &Name<&[u8]>,
@@ -118,14 +121,14 @@ pub(crate) fn has_record<Owner: AsOctets, Octets: AsOctets>(
     !owned_by(records, name).is_empty()
 }
 
-/// Whether a record is an A or AAAA.
+/// Returns whether a record is an A or AAAA.
 fn is_address<Owner: AsOctets, Octets: AsOctets>(record: &Record<Owner, Octets>) -> bool
     ensures { result ≡ is_address_record «record».now }
 {
     matches!(record.data.code(), A | AAAA)
 }
 
-/// Whether an A or AAAA stands at a name.
+/// Returns whether a name has an A or AAAA record.
 pub(crate) fn has_address<Owner: AsOctets, Octets: AsOctets>(
     records: &SortedRecords<'_, Owner, Octets>,
     name: &Name<&[u8]>,
