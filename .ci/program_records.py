@@ -1,0 +1,629 @@
+"""Runs of `zonetext` that answer test rows about records, record sets and zones, and their expected results."""
+import re
+
+import as_data
+import zone_text
+from program_calls import (Plan, at, error_lines, exact, findings, judged, labels_of, lines, origin_words, position,
+                           short, spelled, zonetext)
+from row_file import octets_of
+
+RULES = {
+    "no-soa", "no-ns", "outside", "two-soas", "ns-address", "cname", "dname", "below-dname", "ds-apex", "wildcard-ns",
+    "glue", "target-cname", "target-missing", "host-name", "cds", "ttl-differs", "duplicate",
+}
+SECURITY = {
+    "expired", "expires-soon", "not-yet-valid", "unsigned", "signs-nothing", "no-nsec", "nsec-next",
+    "nsec-types", "ds-without-ns", "no-nsec3", "nsec3-next", "nsec3-types",
+}
+# Syntax errors by the code that `check` reports, with their name in rows.
+FAULTS = {b"closing-parenthesis": b"closing", b"open-parenthesis": b"open parenthesis", b"open-quote": b"open quote",
+          b"lone-return": b"lone return", b"bad-escape": b"bad escape"}
+CLASSES = {1: b"IN", 3: b"CH", 4: b"HS"}
+
+
+def class_name(digits):
+    return CLASSES.get(int(digits), b"CLASS" + digits)
+
+
+class Plans:
+    """Several plans, each in its own folder. All of them must agree."""
+
+    def __init__(self, plans):
+        self.plans = plans
+
+
+def spot(text, place, reason):
+    """Returns the position where an error of an entry is reported: its token, or the end of the last token."""
+    is_end = reason.endswith(b"unexpected end of entry")
+    ends = [0]
+    for name, *places in zone_text.pieces(text):
+        if name in ("word", "quote"):
+            if places[0] <= place < places[1] and not is_end:
+                return at(text, place)
+            if places[1] <= place:
+                ends.append(places[1])
+    return at(text, max(ends))
+
+
+# ---- RDATA
+
+
+def data_line(kind, text):
+    return b"a. 60 " + kind + b" " + text + b"\n"
+
+
+def data_words(origin):
+    return zonetext("records", *origin_words(origin[0] if origin else as_data.EXAMPLE), "f")
+
+
+def refused(files, words):
+    return judged(files, words, "status 1, no output, an error",
+                  lambda ran: ran.status == 1 and not ran.out and any(it[2] == b"error" for it in error_lines(ran)))
+
+
+def data_row(row):
+    """The text and the expected octets print as the same line; or the text is rejected."""
+    kind, text, *origin = row.inputs
+    if row.is_refused:
+        return refused({"f": data_line(kind, text)}, data_words(origin))
+    text = data_line(kind, text) + data_line(kind, as_data.generic(row.wanted))
+
+    def agrees(ran):
+        reported = lines(ran.out)
+        return ran.status == 0 and len(reported) == 2 and reported[0] == reported[1] and reported[0].startswith(b"a.\t60\tIN\t")
+
+    return judged({"f": text}, data_words(origin), "status 0, two lines that are the same", agrees)
+
+
+def data_why(row):
+    kind, text, *origin = row.inputs
+    reason, place = row.wanted[1:].rsplit(b"|", 1)
+    line = data_line(kind, text)
+    reported = (b"f", spot(line, len(line) - len(text) - 1 + int(place), reason), b"error", reason)
+    return judged({"f": line}, data_words(origin), f"status 1, no output, {short(b': '.join(reported))}",
+                  lambda ran: ran.status == 1 and not ran.out and [it[:4] for it in error_lines(ran)] == [reported])
+
+
+def data_print(row):
+    kind, text, *origin = row.inputs
+    if row.is_refused:
+        return refused({"f": data_line(kind, text)}, data_words(origin))
+    return judged({"f": data_line(kind, text)}, data_words(origin), f"status 0, a line that ends in {short(row.wanted)}",
+                  lambda ran: ran.status == 0 and len(lines(ran.out)) == 1
+                  and ran.out[:-1].split(b"\t")[4:] == ([row.wanted] if row.wanted else []))
+
+
+def wire_row(row):
+    kind, octets = row.inputs
+    line = data_line(kind, as_data.generic(octets))
+    if row.is_refused:
+        return refused({"f": line}, data_words([]))
+    return judged({"f": line}, data_words([]), "status 0, a line", lambda ran: ran.status == 0 and len(lines(ran.out)) == 1)
+
+
+DATA = {"data": data_row, "data.why": data_why, "data.print": data_print}
+
+
+class DataRow:
+    """A row that as_data.py made of another."""
+
+    def __init__(self, fields):
+        self.call, *given, wanted = fields
+        self.inputs, self.wanted = [octets_of(it) for it in given], octets_of(wanted)
+        self.is_refused = wanted.startswith("!")
+
+
+def as_data_row(row):
+    """Plans a row that as_data.py can convert."""
+    made = [DataRow(it) for it in as_data.rows_of_data(row)]
+    return Plans([DATA[it.call](it) for it in made]) if made else None
+
+
+# ---- Records, in rows as owner, TTL, class, type and the text of the RDATA
+
+
+def record_line(fields):
+    owner, ttl, group, kind, text = fields
+    if int(ttl) > 0x7FFFFFFF:
+        return None
+    return spelled(owner) + b" " + ttl + b" CLASS" + group + b" " + kind + b" " + text + b"\n"
+
+
+def record_print(row):
+    layout, *fields = row.inputs
+    line = record_line(fields)
+    if layout != b"tabbed" or line is None:
+        return None
+    words = zonetext("records", *origin_words(as_data.EXAMPLE), "f")
+    return exact(words, row.wanted + b"\n", files={"f": line})
+
+
+def wire_line(name, ttl, group, code, octets):
+    """Returns a record as `canon --wire` prints it."""
+    group = CLASSES.get(group, b"CLASS%d" % group)
+    data = b"\\# %d" % len(octets) + (b" " + octets.hex().encode() if octets else b"")
+    return b"\t".join((zone_name(name), b"%d" % ttl, group, b"TYPE%d" % code, data)) + b"\n"
+
+
+def zone_name(name):
+    """Prints a name whose labels need no escapes; None for others."""
+    if name == b"\0":
+        return b"."
+    labels = labels_of(name)
+    if not all(chr(it).isalnum() and it < 0x80 or it in b"-_*." for label in labels for it in label):
+        return None
+    return b".".join(labels)
+
+
+def record_canonical(row):
+    line = record_line(row.inputs)
+    name_end = row.wanted.index(b"\0") + 1
+    name, rest = row.wanted[:name_end], row.wanted[name_end:]
+    code, group, ttl, length = (int.from_bytes(rest[a:b], "big") for a, b in ((0, 2), (2, 4), (4, 8), (8, 10)))
+    if len(rest) != 10 + length or zone_name(name) is None:
+        return None
+    words = zonetext("canon", "--wire", *origin_words(as_data.EXAMPLE), "--class", class_name(row.inputs[2]), "f")
+    return exact(words, wire_line(name, ttl, group, code, rest[10:]), files={"f": line})
+
+
+ORDERS = {b"less": (0, 1), b"greater": (1, 0), b"equal": (0,)}
+
+
+def ordered(one, other, wanted, group=b"1"):
+    """Two records in canonical order. Of equal records the second one is a duplicate."""
+    words = zonetext("canon", "--wire", *origin_words(as_data.EXAMPLE), "--class", class_name(group))
+    files = {"f": one, "g": other, "both": one + other}
+
+    def agrees(rans):
+        both, *alone = rans
+        return (all(it.status == 0 for it in rans) and len({it.out for it in alone}) == len(alone) or wanted == b"equal") \
+            and both.out == b"".join(alone[it].out for it in ORDERS[wanted]) != b""
+
+    return Plan(files, [words + [b"both"], words + [b"f"], words + [b"g"]], f"the {wanted.decode()} first", agrees)
+
+
+def record_compare(row):
+    one, other = record_line(row.inputs[:5]), record_line(row.inputs[5:])
+    if row.inputs[2] != row.inputs[7]:
+        return None
+    return ordered(one, other, row.wanted, row.inputs[2])
+
+
+def canonical_names(row):
+    one, other = row.inputs
+    return ordered(spelled(one) + b" 1 A 192.0.2.1\n", spelled(other) + b" 1 A 192.0.2.1\n", row.wanted)
+
+
+def canonical_octets(row):
+    one, other = (b"a. 1 TYPE65280 " + as_data.generic(it) + b"\n" for it in row.inputs)
+    return ordered(one, other, row.wanted)
+
+
+def canonical_records(row):
+    made = []
+    for owner, group, code, octets in (row.inputs[:4], row.inputs[4:]):
+        made.append((group, spelled(owner) + b" 1 CLASS" + group + b" TYPE" + code + b" " + as_data.generic(octets) + b"\n"))
+    # The octets of these rows are not valid RDATA of TXT.
+    if made[0][0] != made[1][0] or b"16" in (row.inputs[2], row.inputs[6]):
+        return None
+    return ordered(made[0][1], made[1][1], row.wanted, made[0][0])
+
+
+def canonical_lower(row):
+    (name,) = row.inputs
+    if zone_name(row.wanted) is None:
+        return None
+    words = zonetext("canon", "--wire", "f")
+    return exact(words, wire_line(row.wanted, 1, 1, 65280, b"A"), files={"f": spelled(name) + b" 1 TYPE65280 \\# 1 41\n"})
+
+
+# Types by the kinds of their fields.
+LOWERED = {b"name": b"MD", b"u16,name": b"KX", b"name,name": b"SOA", b"u16,u16,u16,name": b"SRV",
+           b"u16,u16,string,string,string,name": b"NAPTR", b"": b"TYPE65280"}
+
+
+def canonical_data(row):
+    kinds, octets = row.inputs
+    if kinds not in LOWERED:
+        return None
+    # MD is printed in generic form, and octets after its name are accepted.
+    kind = b"PTR" if kinds == b"name" and row.is_refused else LOWERED[kinds]
+    line = b"a. 1 " + kind + b" " + as_data.generic(octets) + b"\n"
+    if row.is_refused:
+        return refused({"f": line}, zonetext("canon", "--wire", "f"))
+    end = row.wanted
+    return judged({"f": line}, zonetext("canon", "--wire", "f"), f"data {end.hex()}",
+                  lambda ran: ran.status == 0 and ran.out.rstrip(b"\n").split(b"\t")[-1] == as_data.generic(end).rstrip(b" "))
+
+
+# RDATA of types with a capital letter, in a name if the type has one.
+CAPITALS = {
+    2: "014100", 3: "014100", 4: "014100", 5: "014100", 6: "014100 00" + "00" * 20, 7: "014100", 8: "014100", 9: "014100",
+    12: "014100", 14: "014100 00", 15: "0000 014100", 17: "014100 00", 18: "0000 014100", 21: "0000 014100",
+    24: "0001 05 02 00000E10 5F000000 5E000000 0102 014100 00", 26: "000A 014100 00", 30: "014100 40",
+    33: "0000 0000 0000 014100", 35: "0000 0000 00 00 00 014100", 36: "0000 014100", 38: "80 014100", 39: "014100",
+    46: "0001 05 02 00000E10 5F000000 5E000000 0102 014100 00",
+    1: "41414141", 10: "014100", 13: "0141 00", 16: "0141", 28: "41" * 16, 43: "0000 41 41 41", 47: "014100 000140",
+    48: "0000 03 05 41", 50: "02 00 0000 00 0141", 63: "00000000 01 F1" + "41" * 12, 64: "0001 014100", 65: "0001 014100",
+    107: "0000 014100", 256: "0000 0000 41", 257: "00 0141 41", 258: "014100", 65535: "014100",
+}
+
+
+def lowers_row(row):
+    code = int(row.inputs[0])
+    # Type 0 has no RDATA in zone files.
+    if code not in CAPITALS:
+        return None
+    octets = bytes.fromhex(CAPITALS[code])
+    wanted = octets.replace(b"\x01A\0", b"\x01a\0") if row.wanted == b"yes" else octets
+    if row.wanted == b"yes" and wanted == octets:
+        return None
+    line = b"a. 1 TYPE%d " % code + as_data.generic(octets) + b"\n"
+    return exact(zonetext("canon", "--wire", "f"), wire_line(b"\1a\0", 1, 1, code, wanted).replace(b"a\t", b"a.\t", 0), files={"f": line})
+
+
+# ---- Entries
+
+
+def entries_row(row):
+    """The records of a text print as those with the expected octets. Errors have their position and reason."""
+    text, *origin = row.inputs
+    reported, records = [], b""
+    for item in items_of(row.wanted):
+        if item.startswith(b"!"):
+            reason, place = item[1:].rsplit(b"|", 1)
+            is_of_text = reason in FAULTS.values()
+            reported.append((at(text, int(place)) if is_of_text else spot(text, int(place), reason), reason))
+        elif item.startswith(b"include "):
+            return None
+        elif item not in (b"directive", b"nothing"):
+            fields = re.fullmatch(rb"[0-9]+\|(.*)\|(?:own|default|last|minimum) ([0-9]+)\|([0-9]+)\|([0-9]+)\|(.*)", item, re.S)
+            owner, ttl, group, code, octets = split_record(fields[0])
+            records += spelled(owner) + b" %s CLASS%s TYPE%s " % (ttl, group, code) + as_data.generic(octets) + b"\n"
+    words = zonetext("records", *origin_words(origin[0] if origin else b""))
+
+    def agrees(rans):
+        whole, apart = rans
+        found = [(it[1], FAULTS.get(it[4], it[3])) for it in error_lines(whole) if it[2] == b"error"]
+        # Errors of an owner have a prefix.
+        are_told = len(found) == len(reported) and all(
+            place == at_place and (message == reason or message.endswith(b": " + reason))
+            for (place, message), (at_place, reason) in zip(found, reported))
+        return are_told and (whole.out, whole.status, apart.status) == (apart.out, 1 if reported else 0, 0)
+
+    return Plan({"f": text, "g": records}, [words + [b"f"], words + [b"g"]], f"the records of g, and {reported}", agrees)
+
+
+ITEM = re.compile(rb"!.*?\|[0-9]+;|directive;|nothing;|include .*?;", re.S)
+RECORD = re.compile(rb"([0-9]+)\|((?:[\x01-\x3f].*?)?\0)\|(?:own|default|last|minimum) ([0-9]+)\|([0-9]+)\|([0-9]+)\|", re.S)
+
+
+def split_record(item):
+    found = RECORD.match(item)
+    return found[2], found[3], found[4], found[5], item[found.end() :]
+
+
+def items_of(wanted):
+    """Splits an expected result at the semicolons that are not part of RDATA."""
+    items = []
+    while wanted:
+        found = ITEM.match(wanted)
+        if found:
+            items.append(found[0][:-1])
+            wanted = wanted[found.end() :]
+            continue
+        found = RECORD.match(wanted)
+        # RDATA ends where the next item begins.
+        for end in (it.start() for it in re.finditer(rb";", wanted[found.end() :])):
+            rest = wanted[found.end() + end + 1 :]
+            if not rest or ITEM.match(rest) or RECORD.match(rest):
+                items.append(wanted[: found.end() + end])
+                wanted = rest
+                break
+        else:
+            raise ValueError(wanted)
+    return items
+
+
+# The text before a header: a default TTL, an origin and a record.
+BEFORE = b"$TTL 77\n$ORIGIN example.\nprev 5 A 192.0.2.9\n"
+
+
+def head_row(row):
+    """Headers and directives: a record with a complete header prints the same line."""
+    (text,) = row.inputs
+    words, files = zonetext("records", "main"), {"main": BEFORE + text + b"\n"}
+    if row.is_refused:
+        reason, place = row.wanted[1:].split(b"|")[:2]
+        reported = (spot(files["main"], len(BEFORE) + int(place), reason), reason)
+        return judged(files, words, f"status 1, an error {short(b': '.join(reported))}",
+                      lambda ran: ran.status == 1 and [(it[1], it[3]) for it in error_lines(ran)] == [reported])
+    address = b"a A 192.0.2.1\n"
+    if row.wanted.startswith(b"ttl "):
+        files["main"] += address
+        alike = b"a " + row.wanted[4:] + b" A 192.0.2.1\n"
+    elif row.wanted.startswith(b"origin "):
+        files["main"] += address
+        alike = b"a." + row.wanted[7:] + b" A 192.0.2.1\n"
+    elif row.wanted.startswith(b"include "):
+        name, origin = row.wanted[8:].split(b"|")
+        files[name.decode()] = address
+        alike = b"a." + (b"example." if origin == b"none" else origin) + b" A 192.0.2.1\n"
+    else:
+        owner, ttl, group, code, place = row.wanted.split(b"|")
+        data = text[int(place) :].strip()
+        # These headers belong to no valid record.
+        if data in (b"", b"\\# 0") or code == b"255" or text.startswith(b'"'):
+            return None
+        owner = b"prev" if owner == b"none" else b"\\" * owner.startswith(b"$") + owner
+        alike = b" ".join((owner, b"77" if ttl == b"none" else ttl, b"CLASS" + (b"1" if group == b"none" else group),
+                           b"TYPE" + code, data)) + b"\n"
+    files["alike"] = BEFORE + alike
+    return Plan(files, [words, zonetext("records", "alike")], f"the records of {short(alike)}",
+                lambda rans: all(it.status == 0 and not it.err for it in rans) and rans[0].out == rans[1].out
+                and len(lines(rans[0].out)) == 2)
+
+
+# ---- Zones
+
+
+def owners_by_line(text, records):
+    """Returns owner and type of the record at each line, as `records` prints them."""
+    starts, start, first = [], None, None
+    for name, *places in zone_text.pieces(text):
+        if name in ("word", "quote") and start is None:
+            start, first = places[0], text[places[0] : places[1]]
+        elif name in ("end", "blank"):
+            if start is not None and not first.startswith(b"$"):
+                starts.append(position(text, start)[0])
+            start = None
+    reported = [it.split(b"\t") for it in lines(records)]
+    return {line: (fields[0], fields[3]) for line, fields in zip(starts, reported)} if len(starts) == len(reported) else None
+
+
+def rules_row(codes, *options):
+    """Findings about a zone: their codes, with owner and type of the record at the reported line."""
+
+    def plan(row):
+        text, origin, *times = row.inputs
+        more = [b"--now", times[0], b"--within", times[1]] if times else []
+        zone = origin_words(origin)
+        files = {"f": text}
+        commands = [zonetext("check", *zone, *options, *more, "--json", "--max", "0", "f"), zonetext("records", *zone, "f")]
+        wanted = sorted(row.wanted.split(b";")[:-1])
+        # `check` does not report a duplicate SOA.
+        if any(it.startswith(b"duplicate ") and it.endswith(b" SOA") for it in wanted):
+            return None
+
+        def agrees(rans):
+            check, records = rans
+            owners = owners_by_line(text, records.out)
+            if owners is None or check.status not in (0, 1) or records.status:
+                return False
+            found = []
+            for finding in findings(check, codes):
+                code = finding["code"].encode()
+                if code in (b"no-soa", b"no-ns", b"no-dnskey") and code in wanted:
+                    found.append(code)
+                else:
+                    found.append(b" ".join((code, *owners[finding["line"]])))
+            return sorted(found) == wanted
+
+        return Plan(files, commands, f"findings {short(b';'.join(wanted))}", agrees)
+
+    return plan
+
+
+def hash_row(row):
+    """An NSEC3 with the expected hash matches the name, and one with another hash does not."""
+    name, salt, iterations, origin = row.inputs
+    is_apex = name.lower() == origin.lower()
+    # Names further below the apex have empty non-terminals above them, which need an NSEC3 too.
+    if row.wanted == b"none" or not is_apex and name[1 + name[0] :].lower() != origin.lower():
+        return None
+    zone, owner = spelled(origin), spelled(name)
+    reported = iterations + b" " + (salt.hex().encode() or b"-")
+    other = (b"1" if row.wanted.startswith(b"0") else b"0") + row.wanted[1:]
+
+    def text(hashed):
+        begin = b"$TTL 60\n$ORIGIN " + zone + b"\n@ SOA ns.example.net. h 1 2 3 4 5\n@ NS ns.example.net.\n"
+        signed = b"@ DNSKEY 256 3 8 AQID\n@ NSEC3PARAM 1 0 " + reported + b"\n"
+        chain = hashed + b" NSEC3 1 0 " + reported + b" 2T7B4G4VSA5SMI47K61MV5BV1A22BOJR A\n"
+        return begin + signed + chain + (b"" if is_apex else owner + b" A 192.0.2.1\n")
+
+    # Findings about a name are reported at its first record in canonical order.
+    line = 4 if is_apex else 8
+    words = zonetext("check", "--dnssec", *origin_words(origin), "--json", "--max", "0")
+
+    def agrees(rans):
+        lacks = [any(it["line"] == line for it in findings(ran, {"no-nsec3"})) for ran in rans]
+        return lacks == [False, True]
+
+    return Plan({"f": text(row.wanted), "g": text(other)}, [words + [b"f"], words + [b"g"]], "no-nsec3 in g alone", agrees)
+
+
+def cut_row(row):
+    count, soa, text, *origin = row.inputs
+    if count == b"0":
+        return None
+    words = zonetext("cut", count, *origin_words(origin[0] if origin else b""), *([b"--soa"] if soa == b"soa" else []), "f", "-o", "part")
+    if row.is_refused:
+        return judged({"f": text}, words, "status 1, no parts", lambda ran: ran.status == 1 and not ran.made and not ran.out)
+    wanted = row.wanted
+
+    def agrees(ran):
+        names = [f"part.{number:03}" for number in range(len(ran.made))]
+        return (ran.status == 0 and [it[0] for it in ran.made] == names
+                and ran.out == b"".join(it.encode() + b"\n" for it in names)
+                and b"".join(b"|" + it[1] for it in ran.made) == wanted)
+
+    return judged({"f": text}, words, f"status 0, parts {short(wanted)}", agrees)
+
+
+# ---- Record sets
+
+
+def unique_row(row):
+    """`canon` prints the expected records, and reports the number of duplicates."""
+    text, *origin = row.inputs
+    zone = origin_words(origin[0] if origin else b"")
+    if row.is_refused:
+        return refused({"f": text}, zonetext("canon", *zone, "f"))
+    count, *records = row.wanted.split(b";")[:-1]
+
+    def agrees(rans):
+        found, wanted = rans
+        reported = re.search(rb"([0-9]+) duplicates? ", found.err)
+        return found.status == wanted.status == 0 and found.out == wanted.out and (reported[1] if reported else b"0") == count
+
+    return Plan({"f": text, "g": b"".join(it + b"\n" for it in records)},
+                [zonetext("canon", *zone, "f"), zonetext("canon", "--keep-order", "g")], f"the records of g, {count.decode()} left out",
+                agrees)
+
+
+def sort_row(row):
+    """`canon` prints the expected records in order. It drops duplicates in both runs."""
+    text, *origin = row.inputs
+    zone = origin_words(origin[0] if origin else b"")
+    records = row.wanted.split(b";")[:-1]
+
+    def agrees(rans):
+        found, wanted = rans
+        return found.status == wanted.status == 0 and found.out == wanted.out != b""
+
+    return Plan({"f": text, "g": b"".join(it + b"\n" for it in records)},
+                [zonetext("canon", *zone, "f"), zonetext("canon", "--keep-order", "g")], "the records of g", agrees)
+
+
+def set_diff(row):
+    old, new = row.inputs
+    changes = row.wanted.split(b";")[:-1]
+    records = b""
+    for change in changes:
+        record = change[1:]
+        records += (record.split(b" ", 1)[1] if change.startswith(b"~") else record) + b"\n"
+
+    def agrees(rans):
+        found, written = rans
+        wanted = []
+        for change, line in zip(changes, lines(written.out)):
+            if change.startswith(b"~"):
+                line = change[1:].split(b" ", 1)[0] + b" -> " + line.split(b"\t")[1] + b" " + line
+            wanted.append(change[:1] + b" " + line)
+        return found.status == (1 if changes else 0) and lines(found.out) == wanted
+
+    return Plan({"f": old, "g": new, "h": records}, [zonetext("diff", "f", "g"), zonetext("canon", "--keep-order", "h")],
+                f"changes {short(row.wanted)}", agrees)
+
+
+HASHES = {b"1": b"sha384", b"2": b"sha512"}
+
+
+def digest_row(row):
+    """`digest --write` adds the expected digest to the zone without its own ZONEMD records."""
+    number, text, origin = row.inputs
+    apart = without_digests(text, spelled(origin))
+    if row.is_refused or apart is None:
+        return None
+    words = zonetext("digest", "--write", "--force", "--hash", HASHES[number], *origin_words(origin), "f")
+
+    def agrees(ran):
+        made = dict(ran.made).get("f", b"")
+        reported = re.search(rb"ZONEMD[ \t]+[0-9]+ 1 " + number + rb" ([0-9A-Fa-f]+)\n", made)
+        return ran.status == 0 and reported is not None and reported[1] == row.wanted
+
+    return judged({"f": apart}, words, f"a file with the digest {short(row.wanted)}", agrees)
+
+
+def without_digests(text, origin):
+    """Returns a zone without the ZONEMD records at its apex; None for a syntax error."""
+    apart, begin, keeps, owner = b"", 0, True, None
+    tokens = []
+    for name, *places in zone_text.pieces(text):
+        if name in ("word", "quote"):
+            tokens.append(text[places[0] : places[1]])
+        elif name in ("end", "blank"):
+            if tokens and name == "end":
+                owner = tokens[0]
+            is_digest = b"ZONEMD" in tokens and owner.lower() in (origin.lower(), b"@")
+            if not is_digest:
+                apart += text[begin : places[0]]
+            begin, tokens = places[0], []
+        elif name != "comment":
+            return None
+    return apart
+
+
+VERDICTS = {b"matches": b"matches", b"differs": b"differ", b"other serial": b"serial", b"unknown scheme": b"scheme",
+            b"unknown hash": b"hash", b"repeated": b""}
+
+
+def verdicts_row(row):
+    text, origin = row.inputs
+    words = zonetext("digest", *origin_words(origin), "f")
+    wanted = row.wanted.split(b";")[:-1]
+    if row.is_refused:
+        return judged({"f": text}, words, "status 3, no output", lambda ran: ran.status == 3 and not ran.out and b"SOA" in ran.err)
+    if not wanted:
+        return judged({"f": text}, words, "no ZONEMD", lambda ran: not ran.out and b"no ZONEMD" in ran.err)
+
+    def agrees(ran):
+        reported = [it.split(b": ")[-1] for it in lines(ran.out)]
+        return (len(reported) == len(wanted) and all(VERDICTS[to] in it for to, it in zip(wanted, reported))
+                and ran.status == (0 if b"matches" in wanted and set(wanted) == {b"matches"} else 1))
+
+    return judged({"f": text}, words, f"verdicts {short(row.wanted)}", agrees)
+
+
+def rises_row(row):
+    """`diff` reports that the serial of a changed zone did not rise."""
+    files = {name: b"example. 1 SOA a. b. %s 1 1 1 %d\n" % (serial, number)
+             for number, (name, serial) in enumerate(zip("fg", row.inputs))}
+    rises = row.wanted == b"true"
+    reported = b": %s -> %s" % tuple(row.inputs)
+    return judged(files, zonetext("diff", "--zone", "example.", "f", "g"), f"status 1, {'no ' if rises else ''}word of the serial number",
+                  lambda ran: ran.status == 1 and len(lines(ran.out)) == 2 and (reported in ran.err) != rises)
+
+
+# RDATA of types.
+OF_TYPES = {46: CAPITALS[46], 47: CAPITALS[47], 48: CAPITALS[48], 50: CAPITALS[50], 51: "01 00 0000 00", 43: CAPITALS[43],
+            49: "41", 59: CAPITALS[43], 60: CAPITALS[48], 63: CAPITALS[63], 6: CAPITALS[6]}
+
+
+def signing_row(row):
+    """`canon --no-dnssec` drops the records that signing adds."""
+    code = int(row.inputs[0])
+    line = b"a. 1 TYPE%d " % code + as_data.generic(bytes.fromhex(OF_TYPES[code])) + b"\n"
+    return judged({"f": line}, zonetext("canon", "--no-dnssec", "f"), "status 0, " + ("no line" if row.wanted == b"true" else "a line"),
+                  lambda ran: ran.status == 0 and len(lines(ran.out)) == (0 if row.wanted == b"true" else 1))
+
+
+CALLS = {
+    **DATA,
+    "record.wire": wire_row,
+    "record.print": record_print,
+    "record.canonical": record_canonical,
+    "record.compare": record_compare,
+    "canonical.names": canonical_names,
+    "canonical.octets": canonical_octets,
+    "canonical.records": canonical_records,
+    "canonical.lower": canonical_lower,
+    "canonical.data": canonical_data,
+    "canonical.lowers": lowers_row,
+    "zone.entries": entries_row,
+    "zone.records": entries_row,
+    "zone.pieces": entries_row,
+    "zone.blocks": entries_row,
+    "zone.rules": rules_row(RULES),
+    "zone.dnssec": rules_row(SECURITY, "--dnssec"),
+    "zone.cut": cut_row,
+    "zone.hash": hash_row,
+    "head.read": head_row,
+    "set.unique": unique_row,
+    "set.sort": sort_row,
+    "set.diff": set_diff,
+    "set.digest": digest_row,
+    "set.check": verdicts_row,
+    "set.rises": rises_row,
+    "set.signing": signing_row,
+}
