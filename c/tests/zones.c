@@ -1,11 +1,9 @@
 /* The reader of records: what it gives, each refusal, and zones that no call left. With the rows of `data`
  * and of zones on standard input, as crates/test_records/stdin has them. */
+#include "table.h"
 #include <dnstext.h>
-#include <stdio.h>
-#include <stdlib.h>
-#include <string.h>
 
-enum { MOST = 1 << 20, LONGEST = 65535 };
+enum { LONGEST = 65535 };
 
 #define TEXT(text) text, sizeof(text) - 1
 
@@ -313,75 +311,36 @@ static void cut_texts(void) {
     }
 }
 
-static char line[MOST];
-static char text[MOST];
+static uint8_t text[MOST];
 
-static unsigned digit(char c) {
-    return c <= '9' ? (unsigned)(c - '0') : (unsigned)(c - 'A') + 10;
-}
-
-/* The octets that a field of a row spells; `%` and two digits are one. */
-static size_t octets_of(const char *field, char *made) {
-    size_t count = 0;
-    while (*field != '\0') {
-        if (*field == '%') {
-            made[count++] = (char)(16 * digit(field[1]) + digit(field[2]));
-            field += 3;
-        } else {
-            made[count++] = *field++;
-        }
-    }
-    return count;
-}
-
-/* A row of a type, a text of data, and their octets or that they are refused. */
-static void row(const char *type, const char *field, const char *wanted, int number) {
-    static char wire[MOST];
-    size_t length = (size_t)sprintf(text, "a 1 %s ", type), wire_len;
+/* A row of `data`: a type, a text, and the RDATA or an error. */
+static void data_row(void) {
+    size_t length = (size_t)sprintf((char *)text, "a 1 %s ", row_fields[1]);
     uint32_t status;
-    length += octets_of(field, text + length);
+    length += spell_octets(row_fields[2], text + length);
     begin();
-    status = next(text, length, LONGEST);
-    if (wanted[0] == '!') {
-        expect(status != DNS_OK && status != DNS_END, "a row that is refused", number);
-    } else {
-        wire_len = octets_of(wanted, wire);
-        expect(status == DNS_OK && outcome.length == wire_len && memcmp(octets, wire, wire_len) == 0,
-               "a row", number);
-    }
+    status = next((char *)text, length, LONGEST);
+    if (status != DNS_OK && status != DNS_END)
+        refuse();
+    else
+        add_octets(octets, outcome.length);
+    judge_row(status == DNS_END ? "no record" : NULL);
 }
 
-/* What a row of a zone wants, without what no call tells: `$ORIGIN` and `$TTL`, and where times to live
- * come from. */
+/* Removes from an expected result what the library does not report: `$ORIGIN`, `$TTL`, and the source of TTLs. */
 static void leave_out(char *wanted) {
     static const struct {
         const char *text;
-        size_t kept; /* so many of its characters stay */
-    } unsaid[] = {{"directive;", 0}, {"|own ", 1}, {"|default ", 1}, {"|last ", 1}, {"|minimum ", 1}};
+        size_t kept; /* number of its characters that are kept */
+    } removed[] = {{"directive;", 0}, {"|own ", 1}, {"|default ", 1}, {"|last ", 1}, {"|minimum ", 1}};
     size_t i;
-    for (i = 0; i < sizeof unsaid / sizeof *unsaid; i++) {
+    for (i = 0; i < sizeof removed / sizeof *removed; i++) {
         char *at = wanted;
-        while ((at = strstr(at, unsaid[i].text)) != NULL) {
-            char *rest = at + strlen(unsaid[i].text);
-            memmove(at + unsaid[i].kept, rest, strlen(rest) + 1);
+        while ((at = strstr(at, removed[i].text)) != NULL) {
+            char *rest = at + strlen(removed[i].text);
+            memmove(at + removed[i].kept, rest, strlen(rest) + 1);
         }
     }
-}
-
-static char told[MOST];
-static size_t told_len;
-
-static void tell(const void *from, size_t length) {
-    memcpy(told + told_len, from, length);
-    told_len += length;
-}
-
-static void tell_text(const char *from) { tell(from, strlen(from)); }
-
-static void tell_number(size_t number) {
-    char digits[24];
-    sprintf(digits, "%lu|", (unsigned long)number);
-    tell_text(digits);
 }
 
 static const char *fault_of(uint32_t status) {
@@ -395,81 +354,84 @@ static const char *fault_of(uint32_t status) {
     }
 }
 
-static void tell_given(uint32_t status) {
-    if (status == DNS_OK) {
-        tell_number(record.place);
-        tell(record.name.octets, record.name.length);
-        tell_text("|");
-        tell_number(record.ttl);
-        tell_number(record.class_code);
-        tell_number(record.type_code);
-        tell(octets, outcome.length);
-    } else if (status == DNS_INCLUDE) {
-        tell_text("include ");
-        tell(octets, outcome.length);
-        tell_text(record.name.length != 0 ? " " : "");
-        tell(record.name.octets, record.name.length);
-    } else {
-        tell_text("!");
-        tell_text(fault_of(status));
-        tell(octets, outcome.length);
-        tell_text("|");
-        tell_number(outcome.place);
-        told_len--;
-    }
-    tell_text(";");
+static void add_barred(size_t number) {
+    add_number(number);
+    add_text("|");
 }
 
-/* A row of a text, an origin or none, and what its entries are. */
-static void zone_row(const char *field, const char *origin, char *wanted, int number) {
+/* A record, a file to include, or an error. */
+static void add_given(uint32_t status) {
+    if (status == DNS_OK) {
+        add_barred(record.place);
+        add_octets(record.name.octets, record.name.length);
+        add_text("|");
+        add_barred(record.ttl);
+        add_barred(record.class_code);
+        add_barred(record.type_code);
+        add_octets(octets, outcome.length);
+    } else if (status == DNS_INCLUDE) {
+        add_text("include ");
+        add_octets(octets, outcome.length);
+        add_text(record.name.length != 0 ? " " : "");
+        add_octets(record.name.octets, record.name.length);
+    } else {
+        add_text("!");
+        add_text(fault_of(status));
+        add_octets(octets, outcome.length);
+        add_text("|");
+        add_number(outcome.place);
+    }
+    add_text(";");
+}
+
+/* A row of a zone file and perhaps an origin, with the entries. */
+static void zone_row(void) {
     static const struct dns_zone start = DNS_ZONE_INIT;
-    static char made[MOST];
-    size_t length = octets_of(field, text);
+    static uint8_t made[256];
+    const char *note = NULL;
+    char *wanted = row_fields[row_count - 1];
+    size_t length = spell_octets(row_fields[1], text);
     uint32_t status;
     zone = start;
-    if (origin != NULL)
-        EXPECT(dns_zone_origin(&zone, (const uint8_t *)made, octets_of(origin, made), &outcome) == DNS_OK);
-    told_len = 0;
-    while ((status = next(text, length, LONGEST)) != DNS_END)
-        tell_given(status);
+    if (row_count == 4 &&
+        dns_zone_origin(&zone, made, spell_octets(row_fields[2], made), &outcome) != DNS_OK)
+        note = "the origin is refused";
+    while ((status = next((char *)text, length, LONGEST)) != DNS_END)
+        add_given(status);
     leave_out(wanted);
-    length = octets_of(wanted, made);
-    expect(length == told_len && memcmp(made, told, length) == 0, "a row of a zone", number);
+    /* The first entry can be an error. */
+    if (*wanted == '!' && came_len != 0 && came[0] == '!') {
+        memmove(came, came + 1, --came_len);
+        is_refused = has_reason = true;
+    }
+    judge_row(note);
 }
 
-/* Whether a row of zones has what this library's calls tell. */
-static bool tells_entries(const char *call) {
+/* Returns whether the library can answer a call about zones. */
+static bool lists_entries(const char *call) {
     return strcmp(call, "zone.entries") == 0 || strcmp(call, "zone.records") == 0 ||
            strcmp(call, "zone.pieces") == 0 || strcmp(call, "zone.blocks") == 0;
 }
 
-static void rows(FILE *file) {
-    int number = 0, rows_of_data = 0, rows_of_zones = 0;
-    while (fgets(line, sizeof line, file) != NULL) {
-        char *fields[5];
-        size_t count = 0;
-        char *at = line;
-        line[strcspn(line, "\n")] = '\0';
-        number++;
-        while (count < 5 && at != NULL) {
-            fields[count++] = at;
-            at = strchr(at, '\t');
-            if (at != NULL)
-                *at++ = '\0';
-        }
-        if (count == 4 && strcmp(fields[0], "data") == 0) {
-            row(fields[1], fields[2], fields[3], number);
+static void rows(void) {
+    unsigned long rows_of_data = 0, rows_of_zones = 0;
+    while (next_row()) {
+        begin_answer();
+        if (row_count == 4 && strcmp(row_fields[0], "data") == 0) {
+            data_row();
             rows_of_data++;
-        } else if (count >= 3 && tells_entries(fields[0])) {
-            zone_row(fields[1], count == 4 ? fields[2] : NULL, fields[count - 1], number);
+        } else if ((row_count == 3 || row_count == 4) && lists_entries(row_fields[0])) {
+            zone_row();
             rows_of_zones++;
         }
     }
-    printf("zones: %d rows of data, %d of zones\n", rows_of_data, rows_of_zones);
+    fprintf(lists_rows ? stderr : stdout, "zones: %lu rows of data, %lu of zones, %lu differ\n", rows_of_data,
+            rows_of_zones, rows_differ);
     EXPECT(rows_of_data > 1000 && rows_of_zones > 50);
 }
 
-int main(void) {
+int main(int count, char **words) {
+    read_words(count, words);
     records();
     long_data();
     files();
@@ -477,6 +439,6 @@ int main(void) {
     origins();
     zones_that_no_call_left();
     cut_texts();
-    rows(stdin);
-    return failures != 0;
+    rows();
+    return failures != 0 || rows_differ != 0;
 }
