@@ -1,6 +1,7 @@
 //! Rows of tests: calls, inputs and wanted answers, with tabs between.
 use std::collections::BTreeSet;
 use std::fs::read_to_string;
+use std::panic::{catch_unwind, resume_unwind, AssertUnwindSafe};
 
 /// The octets that a field spells: `%` and two hexadecimal digits are an octet.
 pub fn octets_of(field: &str) -> Vec<u8> {
@@ -13,19 +14,34 @@ pub fn octets_of(field: &str) -> Vec<u8> {
     octets
 }
 
-/// Reads the rows of a crate. Each is judged, or it is said that its call is not the crate's.
+/// Judges a row. Prints the file and the line of a row that differs before the test fails.
+fn judged(place: &str, line: &str, judge: impl FnOnce() -> bool) -> bool {
+    catch_unwind(AssertUnwindSafe(judge)).unwrap_or_else(|why| {
+        eprintln!("differs: {place}\n  row:    {line}");
+        resume_unwind(why)
+    })
+}
+
+/// Judges the rows of a crate. Prints the names of the calls that `judge` does not answer, and the file and
+/// the line of each answered row if `LIST_ROWS` is set.
 pub fn each_row(folder: &str, least: usize, mut judge: impl FnMut(&[&str]) -> bool) {
     let top = env!("CARGO_MANIFEST_DIR");
-    let text = read_to_string(format!("{top}/../../crates/{folder}/stdin")).unwrap();
+    let path = format!("crates/{folder}/stdin");
+    let text = read_to_string(format!("{top}/../../{path}")).unwrap();
+    let lists = std::env::var_os("LIST_ROWS").is_some();
     let mut count = 0;
     let mut others = BTreeSet::new();
-    for line in text
-        .lines()
-        .filter(|it| !it.is_empty() && !it.starts_with('#'))
-    {
+    for (number, line) in text.lines().enumerate() {
+        if line.is_empty() || line.starts_with('#') {
+            continue;
+        }
+        let place = format!("{path}:{}", number + 1);
         let fields: Vec<&str> = line.split('\t').collect();
-        if judge(&fields) {
+        if judged(&place, line, || judge(&fields)) {
             count += 1;
+            if lists {
+                println!("answered: {place}");
+            }
         } else {
             others.insert(fields[0]);
         }
