@@ -1,15 +1,22 @@
 -- Types, classes, algorithms and types of certificates are read as they are printed.
-use Rattle.std.proofs.Common.{ℕ, ◌≡◌, ◌<◌, ◌^◌, true, List, [], refl, arith, decimal}
-use Rattle.dns_kinds.specs.Registry.{SpellsCode}
-use Rattle.dns_kinds.specs.Types.{type_rows, type_prefix, SpellsType, type_text, TypesAreKind}
+use Rattle.std.proofs.Common.{ℕ, ◌≡◌, ◌<◌, ◌^◌, ◌++◌, Bool, true, false, Option, List, [], ◌∷◌, get_or, refl, sym, subst, arith, ap, ◌∙◌, inl, inr, decimal}
+use Rattle.std.specs.Prelude.{◌==◌, if◌then◌else◌, codes, MatchOption}
+use Rattle.std.specs.Char.{digit_value, to_ascii_lowercase}
+use Rattle.std.proofs.lemmas.Bool.Decides.{nat_tests}
+use Rattle.std.proofs.lemmas.Str.Parse.{digit_from_value}
+use Rattle.dns_kinds.specs.Numbers.{SpellsNumber}
+use Rattle.dns_kinds.specs.Registry.{IsNumbered, SpellsCode}
+use Rattle.dns_kinds.specs.Types.{type_rows, type_prefix, SpellsType, type_text, TypesAreKind, is_portable, portable_text, SpellsPortable, PortableTypesAreKind, SpellsSigType, sig_type_text, SigTypesAreKind}
 use Rattle.dns_kinds.specs.Classes.{class_rows, class_prefix, SpellsClass, class_text, ClassesAreKind}
 use Rattle.dns_kinds.specs.Algorithms.{algorithm_rows, certificate_rows, SpellsAlgorithm, algorithm_text, AlgorithmsAreKind, NumbersOfAlgorithmsAreKind, SpellsCertificate, certificate_text, CertificatesAreKind}
+use Rattle.dns_kinds.specs.declared.types.PortableType.{PortableType}
 use Rattle.dns_kinds.specs.declared.types.RecordType.{RecordType}
+use Rattle.dns_kinds.specs.declared.types.SigType.{SigType}
 use Rattle.dns_kinds.specs.declared.classes.Class.{Class}
 use Rattle.dns_kinds.specs.declared.algorithms.Algorithm.{Algorithm}
 use Rattle.dns_kinds.specs.declared.algorithms.CertificateType.{CertificateType}
 use Rattle.dns_kinds.proofs.ReadBack.{is_kind}
-use Rattle.dns_kinds.proofs.Registries.{is_registry, numbered, spelled, within, once}
+use Rattle.dns_kinds.proofs.Registries.{is_registry, digit_first, unnamed, numbered, spelled, within, once}
 
 type_registry : is_registry type_rows type_prefix 65535 ≡ true
 unfolding type_rows
@@ -29,6 +36,59 @@ types_are_kind = is_kind (λ t. t.0 < 2 ^ 16) SpellsType type_text (λ t small. 
   where
     one : (text : List ℕ) (t u : RecordType) → SpellsType text t → SpellsType text u → t ≡ u
     one text t u h k = let same = once type_rows type_prefix 65535 text t.0 u.0 h k in λ i. record { 0 = same i }
+
+-- a type is spelled by its name, or by the prefix and its code, whether all readers know the name or not
+portable_spelled : (t : RecordType) → t.0 < 2 ^ 16 → SpellsType (portable_text t) t
+portable_spelled t small = by (is_portable t.0)
+  where
+    by : (known : Bool) → SpellsType (if known then type_text t else type_prefix ++ decimal t.0) t
+    by true = types_are_kind.spelled t small
+    by false = numbered type_rows type_prefix 65535 type_registry (omega arith) t.0 (omega (arith, small))
+
+pub portable_types_are_kind : PortableTypesAreKind
+portable_types_are_kind = is_kind (λ t. t.0.0 < 2 ^ 16) SpellsPortable (λ t. portable_text t.0) (λ t small. portable_spelled t.0 small) one
+  where
+    one : (text : List ℕ) (t u : PortableType) → SpellsPortable text t → SpellsPortable text u → t ≡ u
+    one text t u h k = let same = types_are_kind.once text t.0 u.0 h k in λ i. record { 0 = same i }
+
+-- ---- the type that a SIG covers
+
+-- no name of a type begins with a digit
+digit_registry : is_registry type_rows [] 65535 ≡ true
+unfolding type_rows
+digit_registry = refl
+
+-- a digit is no t in small letters
+no_letter : (c : ℕ) → digit_value c < 10 → to_ascii_lowercase c ≡ 116 → ⊥
+no_letter c d h = let range = digit_from_value c d in Prim.grind (arith, nat_tests)
+
+-- a number names no type: neither by a name nor by the prefix
+number_names_none : (text : List ℕ) (n : ℕ) → SpellsNumber text n → (t : RecordType) → SpellsType text t → ⊥
+number_names_none [] n h t k = omega (arith, h.0.0)
+number_names_none (c ∷ cs) n h t k =
+    let range = digit_from_value c h.0.1.0 in
+    let none = unnamed type_rows [] 65535 type_rows digit_registry (c ∷ cs) refl (digit_first c range.0 range.1) in
+    let numbered = subst (λ (o : Option ℕ). MatchOption o (IsNumbered type_prefix 65535 (c ∷ cs) t.0) (λ c. t.0 ≡ c)) none k in
+    no_letter c h.0.1.0 (ap (λ t. get_or t 0 0) numbered.0)
+
+sig_once : (text : List ℕ) (t u : SigType) → SpellsSigType text t → SpellsSigType text u → t.0.0 ≡ u.0.0
+sig_once text t u (inl h) (inl k) = ap (λ (r : RecordType). r.0) (types_are_kind.once text t.0 u.0 h k)
+sig_once text t u (inl h) (inr k) = absurd (number_names_none text u.0.0 k.0 t.0 h)
+sig_once text t u (inr h) (inl k) = absurd (number_names_none text t.0.0 h.0 u.0 k)
+sig_once text t u (inr h) (inr k) = h.0.1 ∙ sym k.0.1
+
+sig_spelled : (t : RecordType) → t.0 < 2 ^ 16 → SpellsSigType (sig_type_text t) (record { 0 = t })
+sig_spelled t small = by (t.0 == 0) refl
+  where
+    by : (none : Bool) → (t.0 == 0) ≡ none → SpellsSigType (if none then codes "0" else portable_text t) (record { 0 = t })
+    by true is = let none : t.0 ≡ 0 = Prim.grind (arith, nat_tests) in inr (((omega arith, (omega arith, tt)), none), omega (arith, small))
+    by false is = inl (portable_spelled t small)
+
+pub sig_types_are_kind : SigTypesAreKind
+sig_types_are_kind = is_kind (λ t. t.0.0 < 2 ^ 16) SpellsSigType (λ t. sig_type_text t.0) (λ t small. sig_spelled t.0 small) one
+  where
+    one : (text : List ℕ) (t u : SigType) → SpellsSigType text t → SpellsSigType text u → t ≡ u
+    one text t u h k = let same = sig_once text t u h k in λ i. record { 0 = record { 0 = same i } }
 
 pub classes_are_kind : ClassesAreKind
 classes_are_kind = is_kind (λ c. c.0 < 2 ^ 16) SpellsClass class_text (λ c small. spelled class_rows class_prefix 65535 class_registry (omega arith) c.0 (omega (arith, small))) one

@@ -56,7 +56,7 @@ is_registry table prefix most = list_all (test table prefix most) table
 lowered_digit : (a b : ℕ) → to_ascii_lowercase a ≡ to_ascii_lowercase b → is_ascii_digit b ≡ true → is_ascii_digit a ≡ true
 lowered_digit a b same h = Prim.grind (arith, nat_tests)
 
-digit_first : (c : ℕ) → 48 ≤ c → c ≤ 57 → is_ascii_digit c ≡ true
+pub digit_first : (c : ℕ) → 48 ≤ c → c ≤ 57 → is_ascii_digit c ≡ true
 digit_first c low high = Prim.grind (arith, nat_tests)
 
 module _ (table : List Row) (prefix : List ℕ) (most : ℕ) where
@@ -101,7 +101,7 @@ module _ (table : List Row) (prefix : List ℕ) (most : ℕ) where
       by false e more = more e
 
   -- a text of the prefix and a number is no row's name
-  unnamed : (rs : List Row) → list_all (test table prefix most) rs ≡ true → (text : List ℕ) → in_small_letters (take (length prefix) text) ≡ in_small_letters prefix → is_ascii_digit (get_or text (length prefix) 0) ≡ true → row_code rs text ≡ None
+  pub unnamed : (rs : List Row) → list_all (test table prefix most) rs ≡ true → (text : List ℕ) → in_small_letters (take (length prefix) text) ≡ in_small_letters prefix → is_ascii_digit (get_or text (length prefix) 0) ≡ true → row_code rs text ≡ None
   unnamed [] h text e d = refl
   unnamed (row ∷ rs) h text e d = by (bytes_eq (in_small_letters row.name) (in_small_letters text)) refl (unnamed rs (parts row rs h).3 text e d)
     where

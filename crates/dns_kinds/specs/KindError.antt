@@ -1,7 +1,7 @@
 -- The texts of the refusals.
 use Rattle.std.specs.Prelude.{ℕ, List, codes}
 use Rattle.dns_kinds.specs.declared.error.KindError.{KindError}
-use Rattle.dns_kinds.specs.declared.error.KindError.TheVariants.{ExpectedNumber, NumberOverflow, ExpectedIpv4, ExpectedIpv6, ExpectedTtl, ExpectedInterval, ExpectedTime, UnknownType, UnknownClass, UnknownAlgorithm, UnknownCertificate, ExpectedEui48, ExpectedEui64, ExpectedLocator, ExpectedSalt}
+use Rattle.dns_kinds.specs.declared.error.KindError.TheVariants.{ExpectedNumber, NumberOverflow, ExpectedIpv4, ExpectedIpv6, ExpectedTtl, ExpectedInterval, ExpectedTime, UnknownType, UnknownClass, UnknownAlgorithm, UnknownCertificate, ExpectedEui48, ExpectedEui64, ExpectedLocator, ExpectedSalt, ExpectedPsdnAddress}
 
 abbrev pub kind_error_text : KindError → List ℕ
 kind_error_text ExpectedNumber = codes "expected decimal number"
@@ -19,3 +19,4 @@ kind_error_text ExpectedEui48 = codes "expected EUI-48"
 kind_error_text ExpectedEui64 = codes "expected EUI-64"
 kind_error_text ExpectedLocator = codes "expected locator"
 kind_error_text ExpectedSalt = codes "expected salt"
+kind_error_text ExpectedPsdnAddress = codes "expected 4 to 255 digits"

@@ -11,7 +11,7 @@ use Rattle.dns_kinds.specs.Registry.{row_code, code_text}
 use Rattle.dns_kinds.specs.Salt.{salt_text}
 use Rattle.dns_kinds.specs.Time.{is_leap, month_days, seconds_at, date_of, date_text, date_at, year_at, month_at, holding}
 use Rattle.dns_kinds.specs.Ttl.{unit_seconds, Period, period_text, period_seconds}
-use Rattle.dns_kinds.specs.Types.{type_rows, type_prefix}
+use Rattle.dns_kinds.specs.Types.{type_rows, type_prefix, portable_text, sig_type_text}
 
 -- ---- times to live
 
@@ -59,6 +59,15 @@ types_read = refl
 types_printed : map (code_text type_rows type_prefix) (46 ∷ 51 ∷ 65280 ∷ []) ≡ codes "RRSIG" ∷ codes "NSEC3PARAM" ∷ (codes "TYPE" ++ decimal 65280) ∷ []
 unfolding type_rows
 types_printed = refl
+
+-- A and CAA are known to every reader; WALLET, CLA and DLV are not
+portable : map (λ code. portable_text (record { 0 = code })) (1 ∷ 257 ∷ 262 ∷ 263 ∷ 32769 ∷ []) ≡ codes "A" ∷ codes "CAA" ∷ codes "TYPE262" ∷ codes "TYPE263" ∷ codes "TYPE32769" ∷ []
+unfolding type_rows digits
+portable = refl
+
+sig_types : map (λ code. sig_type_text (record { 0 = code })) (0 ∷ 15 ∷ 26 ∷ []) ≡ codes "0" ∷ codes "MX" ∷ codes "TYPE26" ∷ []
+unfolding type_rows digits
+sig_types = refl
 
 classes : map (code_text class_rows class_prefix) (1 ∷ 3 ∷ 4 ∷ 254 ∷ []) ≡ codes "IN" ∷ codes "CH" ∷ codes "HS" ∷ (codes "CLASS" ++ decimal 254) ∷ []
 classes = refl

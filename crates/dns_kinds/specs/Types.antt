@@ -1,8 +1,12 @@
 -- The types of records, as IANA's registry has them.
-use Rattle.std.specs.Prelude.{ℕ, ◌<◌, ◌^◌, List, [], ◌∷◌, codes}
+use Rattle.std.specs.Prelude.{ℕ, ◌<◌, ◌≤◌, ◌^◌, ◌⊎◌, ◌==◌, Bool, if◌then◌else◌, List, [], ◌∷◌, ◌++◌, codes, decimal}
+use Rattle.std.specs.List.{list_any}
 use Rattle.dns_kinds.specs.Kind.{IsKind}
+use Rattle.dns_kinds.specs.Numbers.{SpellsNumber}
 use Rattle.dns_kinds.specs.Registry.{Row, code_row, SpellsCode, code_text}
 use Rattle.dns_kinds.specs.declared.types.RecordType.{RecordType}
+use Rattle.dns_kinds.specs.declared.types.PortableType.{PortableType}
+use Rattle.dns_kinds.specs.declared.types.SigType.{SigType}
 
 abbrev pub type_prefix : List ℕ
 type_prefix = codes "TYPE"
@@ -117,3 +121,37 @@ type_text t = code_text type_rows type_prefix t.0
 
 abbrev pub TypesAreKind : Type 0
 TypesAreKind = IsKind (λ t. t.0 < 2 ^ 16) SpellsType type_text
+
+-- ---- types in type bitmaps, in RRSIG and SIG, and before the generic form
+
+-- the types whose names every reader knows: A, NS, CNAME, SOA, PTR, HINFO, MINFO, MX, TXT, RP, AFSDB, RT, KEY, AAAA, LOC, SRV, NAPTR, KX, CERT, DNAME, APL, DS, SSHFP, IPSECKEY, RRSIG, NSEC, DNSKEY, DHCID, NSEC3, NSEC3PARAM, TLSA, SMIMEA, CDS, CDNSKEY, OPENPGPKEY, CSYNC, ZONEMD, SVCB, HTTPS, SPF, NID, L32, L64, LP, EUI48, EUI64, URI and CAA
+abbrev pub portable_types : List ℕ
+portable_types =
+    1 ∷ 2 ∷ 5 ∷ 6 ∷ 12 ∷ 13 ∷ 14 ∷ 15 ∷ 16 ∷ 17 ∷ 18 ∷ 21 ∷ 25 ∷ 28 ∷ 29 ∷ 33 ∷ 35 ∷ 36 ∷ 37 ∷ 39 ∷ 42 ∷ 43 ∷ 44 ∷ 45 ∷ 46 ∷ 47 ∷ 48 ∷ 49 ∷ 50 ∷ 51 ∷ 52 ∷ 53
+    ∷ 59 ∷ 60 ∷ 61 ∷ 62 ∷ 63 ∷ 64 ∷ 65 ∷ 99 ∷ 104 ∷ 105 ∷ 106 ∷ 107 ∷ 108 ∷ 109 ∷ 256 ∷ 257 ∷ []
+
+abbrev pub is_portable : ℕ → Bool
+is_portable code = list_any (λ t. t == code) portable_types
+
+-- the name of such a type, and of any other `TYPE` and its code (RFC 3597 section 5)
+abbrev pub portable_text : RecordType → List ℕ
+portable_text t = if is_portable t.0 then type_text t else type_prefix ++ decimal t.0
+
+abbrev pub SpellsPortable : List ℕ → PortableType → Type 0
+SpellsPortable text t = SpellsType text t.0
+
+abbrev pub PortableTypesAreKind : Type 0
+PortableTypesAreKind = IsKind (λ t. t.0.0 < 2 ^ 16) SpellsPortable (λ t. portable_text t.0)
+
+-- ---- the type that a SIG covers
+
+-- a text of a type, or its code alone
+abbrev pub SpellsSigType : List ℕ → SigType → Type 0
+SpellsSigType text t = SpellsType text t.0 ⊎ (SpellsNumber text t.0.0 × (t.0.0 ≤ 65535))
+
+-- type 0 is a digit; it is covered where a SIG is one of a message (RFC 2931 section 3)
+abbrev pub sig_type_text : RecordType → List ℕ
+sig_type_text t = if t.0 == 0 then codes "0" else portable_text t
+
+abbrev pub SigTypesAreKind : Type 0
+SigTypesAreKind = IsKind (λ t. t.0.0 < 2 ^ 16) SpellsSigType (λ t. sig_type_text t.0)

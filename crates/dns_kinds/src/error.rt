@@ -38,6 +38,8 @@ pub enum KindError {
     ExpectedLocator,
     /// The text is no salt.
     ExpectedSalt,
+    /// The text is not the digits of an address of X25.
+    ExpectedPsdnAddress,
 }
 
 impl KindError {
@@ -61,6 +63,7 @@ impl KindError {
             KindError::ExpectedEui64 => "expected EUI-64",
             KindError::ExpectedLocator => "expected locator",
             KindError::ExpectedSalt => "expected salt",
+            KindError::ExpectedPsdnAddress => "expected 4 to 255 digits",
         }
     }
 }

@@ -28,4 +28,4 @@ pub use numbers::{u8_from_text, u16_from_text, u32_from_text};
 pub use salt::Salt;
 pub use time::Date;
 pub use ttl::{interval_from_text, ttl_from_text};
-pub use types::RecordType;
+pub use types::{PortableType, RecordType, SigType};

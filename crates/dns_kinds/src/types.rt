@@ -2,10 +2,11 @@
 ghost use Rattle.std.specs.Prelude.{◌≡◌, Some, IfSome, option_copied};
 ghost use Rattle.dns_kinds.specs.Kind.{ReadsKind};
 ghost use Rattle.dns_kinds.specs.Registry.{row_code, row_name};
-ghost use Rattle.dns_kinds.specs.Types.{type_rows, SpellsType, type_text, TypesAreKind};
+ghost use Rattle.dns_kinds.specs.Types.{type_rows, SpellsType, type_text, is_portable, portable_text, SpellsSigType, sig_type_text, TypesAreKind, PortableTypesAreKind, SigTypesAreKind};
 ghost use Rattle.dns_kinds.specs.declared.error.KindError.TheVariants.{UnknownType};
 
 use crate::error::KindError;
+use crate::numbers::u16_from_text;
 use crate::registry::{Named, code_from_text, name_of};
 use std::fmt;
 
@@ -110,6 +111,16 @@ pub static TYPES: [Named; 97] = [
     Named(32769, "DLV"),
 ];
 
+/// The types whose names every reader knows: A, NS, CNAME, SOA, PTR, HINFO, MINFO, MX, TXT, RP,
+/// AFSDB, RT, KEY, AAAA, LOC, SRV, NAPTR, KX, CERT, DNAME, APL, DS, SSHFP, IPSECKEY, RRSIG, NSEC,
+/// DNSKEY, DHCID, NSEC3, NSEC3PARAM, TLSA, SMIMEA, CDS, CDNSKEY, OPENPGPKEY, CSYNC, ZONEMD, SVCB,
+/// HTTPS, SPF, NID, L32, L64, LP, EUI48, EUI64, URI and CAA.
+const PORTABLE: [u16; 48] = [
+    1, 2, 5, 6, 12, 13, 14, 15, 16, 17, 18, 21, 25, 28, 29, 33, 35, 36, 37, 39, 42, 43, 44, 45, 46,
+    47, 48, 49, 50, 51, 52, 53, 59, 60, 61, 62, 63, 64, 65, 99, 104, 105, 106, 107, 108, 109, 256,
+    257,
+];
+
 /// A type of records, by its code. It prints as its name or, without one, as `TYPE` and the code.
 #[derive(Clone, Copy, Debug, PartialEq, Eq)]
 pub struct RecordType(pub u16);
@@ -186,6 +197,16 @@ impl RecordType {
     {
         name_of(&TYPES, self.0)
     }
+
+    /// Whether every reader knows the name of the type. The names of all other types, among them
+    /// those whose record data have a text form here, are read, and printed as the type of a record
+    /// in text form only.
+    pub fn is_portable(&self) -> bool
+        ensures { result ≡ is_portable self.now.0 }
+    {
+        let code = self.0;
+        PORTABLE.iter().any(|portable| *portable == code)
+    }
 }
 
 impl fmt::Display for RecordType {
@@ -199,7 +220,58 @@ impl fmt::Display for RecordType {
     }
 }
 
-/// States that a type is read as it is printed, and does nothing else.
+/// A type in a type bitmap, in RRSIG, or before record data in the generic form. It prints as its
+/// name if every reader knows that, and otherwise as `TYPE` and the code (RFC 3597 section 5).
+#[derive(Clone, Copy, Debug, PartialEq, Eq)]
+pub struct PortableType(pub RecordType);
+
+impl fmt::Display for PortableType {
+    ghost output = { λ t. Some (portable_text t.0) };
+
+    fn fmt<W: fmt::Write>(&self, f: &mut fmt::Formatter<W>) -> fmt::Result {
+        if self.0.is_portable() {
+            write!(f, "{}", self.0)
+        } else {
+            write!(f, "TYPE{}", self.0.0)
+        }
+    }
+}
+
+/// The type that a SIG covers. It prints as [`PortableType`] does, but type 0 as `0`: such a SIG
+/// signs a message (RFC 2931 section 3).
+#[derive(Clone, Copy, Debug, PartialEq, Eq)]
+pub struct SigType(pub RecordType);
+
+impl SigType {
+    /// The type that a text names, or whose code it is: `MX`, `TYPE15` or `15`.
+    pub fn from_text(text: &[u8]) -> Result<SigType, KindError>
+        ensures { ReadsKind SpellsSigType UnknownType text.now result }
+    {
+        if let Ok(code) = u16_from_text(text) {
+            return Ok(SigType(RecordType(code)));
+        }
+        match RecordType::from_text(text) {
+            Ok(named) => Ok(SigType(named)),
+            Err(why) => Err(why),
+        }
+    }
+}
+
+impl fmt::Display for SigType {
+    ghost output = { λ t. Some (sig_type_text t.0) };
+
+    fn fmt<W: fmt::Write>(&self, f: &mut fmt::Formatter<W>) -> fmt::Result {
+        if self.0.0 == 0 {
+            f.write_str("0")
+        } else {
+            write!(f, "{}", PortableType(self.0))
+        }
+    }
+}
+
+/// States that a type is read as it is printed, whichever way that is, and does nothing else.
 pub fn types_are_read_back()
-    ensures { TypesAreKind }
+    ensures named { TypesAreKind }
+    ensures portable { PortableTypesAreKind }
+    ensures signed { SigTypesAreKind }
 {}
