@@ -1,4 +1,4 @@
--- Names in data of types that have no text form here: MD, MF, SIG, PX, NXT and A6.
+-- Names in data of types that have no text form here, MD, MF, NXT and A6, and of SIG and PX.
 use Rattle.std.specs.Prelude.{ℕ, zero, suc, ◌+◌, ◌-◌, ◌/◌, ◌==◌, ◌||◌, ◌&&◌, nat_lt, nat_le, is_some, if◌then◌else◌, Option, Some, None, List, [], ◌∷◌, ◌++◌, length, take, drop, replicate, slice_index}
 use Rattle.std.specs.List.{list_all}
 use Rattle.std.specs.Option.{option_map, option_and_then}

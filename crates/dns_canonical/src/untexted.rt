@@ -1,4 +1,4 @@
-//! Names in data of types that have no text form here: MD, MF, SIG, PX, NXT and A6.
+//! Names in data of types that have no text form here, MD, MF, NXT and A6, and of SIG and PX.
 ghost use Rattle.std.specs.Prelude.{◌≡◌, ◌<◌, ◌≤◌, ℕ, List, length, IfSome};
 ghost use Rattle.dns_canonical.specs.FieldForms.{CanonicalFields};
 ghost use Rattle.dns_canonical.specs.Names.{octet_order};

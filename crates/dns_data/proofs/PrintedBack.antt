@@ -13,10 +13,10 @@ use Rattle.dns_digits.proofs.Spelling.{printed_spells}
 use Rattle.dns_fields.specs.Fields.{field_form}
 use Rattle.dns_fields.specs.Taking.{SpellsField, SpellsFields, SpellsEach}
 use Rattle.dns_fields.specs.declared.field.Field.{Field}
-use Rattle.dns_fields.specs.declared.field.Field.TheVariants.{Number8, Number16, Number32, Interval, Ipv4, Ipv6, RecordType, Algorithm, NamedAlgorithm, CertificateType, Eui48, Eui64, Time, Locator, String, Tag, Salt, Hash, Name}
+use Rattle.dns_fields.specs.declared.field.Field.TheVariants.{Number8, Number16, Number32, Interval, Ipv4, Ipv6, RecordType, SigType, Algorithm, NamedAlgorithm, CertificateType, Eui48, Eui64, Time, Locator, String, PsdnAddress, Tag, Salt, Hash, Name}
 use Rattle.dns_fields.proofs.FormLaws.{fields_are_forms}
-use Rattle.dns_kinds.specs.Types.{type_text, SpellsType}
-use Rattle.dns_kinds.proofs.CodeLaws.{types_are_kind}
+use Rattle.dns_kinds.specs.Types.{portable_text, SpellsType}
+use Rattle.dns_kinds.proofs.CodeLaws.{portable_types_are_kind}
 use Rattle.dns_lists.specs.Bitmap.{has, types_of}
 use Rattle.dns_lists.proofs.TypesOf.{types_of_small, bitmap_of_types}
 use Rattle.dns_spelling.specs.NameSpelling.{IsOrigin}
@@ -82,7 +82,7 @@ each_back origin (s ∷ ss) (t ∷ ts) short p = (
 )
 
 abbrev type_token : ℕ → PrintedToken
-type_token code = record { is_quoted = false; text = type_text (record { 0 = code }) }
+type_token code = record { is_quoted = false; text = portable_text (record { 0 = code }) }
 
 not_zero : (code : ℕ) (types : List ℕ) → has (code ∷ types) 0 ≡ false → (code ≢ 0) × (has types 0 ≡ false)
 not_zero code types h = by (code == 0) refl h
@@ -98,7 +98,7 @@ named_back (code ∷ types) [] small some p = absurd p
 named_back (code ∷ types) (t ∷ ts) small some p =
     let n = not_zero code types some in
     let low = All-head (λ c. c < 65536) code types small in (
-      (p.0, subst (λ text. SpellsType text (record { 0 = code })) (sym p.1) (types_are_kind.spelled (record { 0 = code }) (omega (arith, low))), n.0),
+      (p.0, subst (λ text. SpellsType text (record { 0 = code })) (sym p.1) (portable_types_are_kind.spelled (record { 0 = record { 0 = code } }) (omega (arith, low))), n.0),
       named_back types ts (All-tail (λ c. c < 65536) code types small) n.1 p.3,
     )
 
@@ -117,6 +117,7 @@ module _ (origin : Option (List (List ℕ))) (known : IsOrigin origin) where
   field_back Ipv4 form is = (fields_are_forms origin known Ipv4).back form is
   field_back Ipv6 form is = (fields_are_forms origin known Ipv6).back form is
   field_back RecordType form is = (fields_are_forms origin known RecordType).back form is
+  field_back SigType form is = (fields_are_forms origin known SigType).back form is
   field_back Algorithm form is = (fields_are_forms origin known Algorithm).back form is
   field_back NamedAlgorithm form is = (fields_are_forms origin known NamedAlgorithm).back form is
   field_back CertificateType form is = (fields_are_forms origin known CertificateType).back form is
@@ -125,6 +126,7 @@ module _ (origin : Option (List (List ℕ))) (known : IsOrigin origin) where
   field_back Time form is = (fields_are_forms origin known Time).back form is
   field_back Locator form is = (fields_are_forms origin known Locator).back form is
   field_back String form is = (fields_are_forms origin known String).back form is
+  field_back PsdnAddress form is = (fields_are_forms origin known PsdnAddress).back form is
   field_back Tag form is = (fields_are_forms origin known Tag).back form is
   field_back Salt form is = (fields_are_forms origin known Salt).back form is
   field_back Hash form is = (fields_are_forms origin known Hash).back form is

@@ -11,8 +11,9 @@ use Rattle.dns_digits.specs.declared.kind.DigitsKind.{DigitsKind}
 use Rattle.dns_digits.specs.declared.kind.DigitsKind.TheVariants.{Hex as InHex, Base64 as InBase64}
 use Rattle.dns_fields.specs.Fields.{field_form}
 use Rattle.dns_fields.specs.declared.field.Field.{Field}
-use Rattle.dns_fields.specs.declared.field.Field.TheVariants.{Number8, Number16, Number32, Interval, Ipv4, Ipv6, RecordType, Algorithm, NamedAlgorithm, CertificateType, Eui48, Eui64, Time, Locator, String, Tag, Salt, Hash, Name}
-use Rattle.dns_kinds.specs.Types.{type_text}
+use Rattle.dns_fields.specs.declared.field.Field.TheVariants.{Number8, Number16, Number32, Interval, Ipv4, Ipv6, RecordType, SigType, Algorithm, NamedAlgorithm, CertificateType, Eui48, Eui64, Time, Locator, String, PsdnAddress, Tag, Salt, Hash, Name}
+use Rattle.dns_fields.proofs.FormLaws.{psdn_address_is_string}
+use Rattle.dns_kinds.specs.Types.{portable_text}
 use Rattle.dns_lists.specs.Bitmap.{types_of}
 use Rattle.dns_spelling.specs.Shown.{octets_in_quotes, text_in_quotes}
 use Rattle.dns_spelling.specs.Spelling.{AreOctetValues}
@@ -73,6 +74,7 @@ field_well Interval form is quoted = absurd (true≢false (sym quoted))
 field_well Ipv4 form is quoted = absurd (true≢false (sym quoted))
 field_well Ipv6 form is quoted = absurd (true≢false (sym quoted))
 field_well RecordType form is quoted = absurd (true≢false (sym quoted))
+field_well SigType form is quoted = absurd (true≢false (sym quoted))
 field_well Algorithm form is quoted = absurd (true≢false (sym quoted))
 field_well NamedAlgorithm form is quoted = absurd (true≢false (sym quoted))
 field_well CertificateType form is quoted = absurd (true≢false (sym quoted))
@@ -81,6 +83,7 @@ field_well Eui64 form is quoted = absurd (true≢false (sym quoted))
 field_well Time form is quoted = absurd (true≢false (sym quoted))
 field_well Locator form is quoted = absurd (true≢false (sym quoted))
 field_well String form is quoted = quote_of (drop 1 form) (subst AreOctetValues (sym (ap (drop 1) is.whole)) is.values)
+field_well PsdnAddress form is quoted = let string = psdn_address_is_string form is in quote_of (drop 1 form) (subst AreOctetValues (sym (ap (drop 1) string.whole)) string.values)
 field_well Tag form is quoted = absurd (true≢false (sym quoted))
 field_well Salt form is quoted = absurd (true≢false (sym quoted))
 field_well Hash form is quoted = absurd (true≢false (sym quoted))
@@ -94,9 +97,9 @@ digits_well : (kind : DigitsKind) (octets : List ℕ) → AllByRecursion IsQuote
 digits_well kind [] = tt
 digits_well kind (o ∷ os) = ((λ quoted. absurd (true≢false (sym quoted))), tt)
 
-types_well : (types : List ℕ) → AllByRecursion IsQuotedWell (map (λ code. record { is_quoted = false; text = type_text (record { 0 = code }) }) types)
+types_well : (types : List ℕ) → AllByRecursion IsQuotedWell (map (λ code. record { is_quoted = false; text = portable_text (record { 0 = code }) }) types)
 types_well [] = tt
-types_well (code ∷ types) = (plain_well (type_text (record { 0 = code })), types_well types)
+types_well (code ∷ types) = (plain_well (portable_text (record { 0 = code })), types_well types)
 
 words_well : (words : List (List ℕ)) → AllByRecursion IsQuotedWell (map (λ word. record { is_quoted = false; text = word }) words)
 words_well [] = tt

@@ -7,7 +7,7 @@ use Rattle.std.specs.Int.{from_be_bytes, w16}
 use Rattle.std.specs.Net.Grammar.{IsIpText}
 use Rattle.std.specs.List.{AllByRecursion, concat, list_all}
 use Rattle.std.specs.Option.{option_map}
-use Rattle.std.specs.Prelude.{All, ◌==◌, find, unwrap_or, slice_index, nat_lt, cond, ◌&&◌, if◌then◌else◌}
+use Rattle.std.specs.Prelude.{All, codes, ◌==◌, find, unwrap_or, slice_index, nat_lt, cond, ◌&&◌, if◌then◌else◌}
 use Rattle.std.specs.declared.net.ip_addr.IpAddr.{IpAddr}
 use Rattle.std.specs.declared.net.ip_addr.IpAddr.TheVariants.{V4, V6}
 use Rattle.dns_digits.specs.declared.kind.DigitsKind.{DigitsKind}
@@ -16,7 +16,7 @@ use Rattle.dns_digits.specs.Spelled.{base_of}
 use Rattle.dns_fields.specs.Fields.{field_form}
 use Rattle.dns_fields.specs.Words.{AreOctetsOf}
 use Rattle.dns_fields.specs.declared.field.Field.{Field}
-use Rattle.dns_fields.specs.declared.field.Field.TheVariants.{Number8, Number16, Number32, Interval, Ipv4, Ipv6, RecordType, Algorithm, NamedAlgorithm, CertificateType, Eui48, Eui64, Time, Locator, String, Tag, Salt, Hash, Name}
+use Rattle.dns_fields.specs.declared.field.Field.TheVariants.{Number8, Number16, Number32, Interval, Ipv4, Ipv6, RecordType, SigType, Algorithm, NamedAlgorithm, CertificateType, Eui48, Eui64, Time, Locator, String, PsdnAddress, Tag, Salt, Hash, Name}
 use Rattle.dns_fields.proofs.FormLaws.{fields_are_forms}
 use Rattle.dns_kinds.specs.Algorithms.{algorithm_rows, certificate_rows}
 use Rattle.dns_codec.specs.Base.{base32hex, encoded}
@@ -24,7 +24,7 @@ use Rattle.dns_kinds.specs.Eui.{dashed_text}
 use Rattle.dns_kinds.specs.Registry.{Row, code_text}
 use Rattle.dns_kinds.specs.Salt.{salt_text}
 use Rattle.dns_kinds.specs.Time.{IsTime}
-use Rattle.dns_kinds.specs.Types.{type_rows, type_prefix, type_text}
+use Rattle.dns_kinds.specs.Types.{type_rows, type_prefix, type_text, is_portable, portable_text, sig_type_text}
 use Rattle.dns_lists.specs.Bitmap.{types_of}
 use Rattle.dns_lists.proofs.TypesOf.{types_of_small}
 use Rattle.dns_lists.specs.Params.{params_of}
@@ -97,8 +97,22 @@ module _ (prefix : List ℕ) (plain : ArePlain prefix) (code : ℕ) (small : cod
       by true later = own
       by false later = later
 
-type_word : (code : ℕ) → code < 65536 → IsPlainWord (type_text (record { 0 = code }))
-type_word code small = code_word type_prefix refl code (omega (arith, small)) type_rows type_names
+pub named_type_word : (code : ℕ) → code < 2 ^ 64 → IsPlainWord (type_text (record { 0 = code }))
+named_type_word code small = code_word type_prefix refl code small type_rows type_names
+
+pub type_word : (code : ℕ) → code < 2 ^ 64 → IsPlainWord (portable_text (record { 0 = code }))
+type_word code small = by (is_portable code)
+  where
+    by : (known : Bool) → IsPlainWord (if known then type_text (record { 0 = code }) else type_prefix ++ decimal code)
+    by true = named_type_word code small
+    by false = numbered_word type_prefix refl code small
+
+sig_type_word : (code : ℕ) → code < 2 ^ 64 → IsPlainWord (sig_type_text (record { 0 = code }))
+sig_type_word code small = by (code == 0)
+  where
+    by : (none : Bool) → IsPlainWord (if none then codes "0" else portable_text (record { 0 = code }))
+    by true = record { some = omega arith; plain = refl }
+    by false = type_word code small
 
 -- ---- fields
 
@@ -136,7 +150,8 @@ field_word Number32 form is = a_word _ (numeral_word 10 _ (omega arith) ((fields
 field_word Interval form is = a_word _ (numeral_word 10 _ (omega arith) ((fields_are_forms None tt Number32).back form is).1.2.0.0)
 field_word Ipv4 form is = let back = ((fields_are_forms None tt Ipv4).back form is).1 in a_word _ (ipv4_word _ back.0 back.2)
 field_word Ipv6 form is = let back = ((fields_are_forms None tt Ipv6).back form is).1 in a_word _ (ipv6_word _ back.0.0 back.2)
-field_word RecordType form is = a_word _ (code_word type_prefix refl (from_be_bytes w16 form) (pair_small form is) type_rows type_names)
+field_word RecordType form is = a_word _ (type_word (from_be_bytes w16 form) (pair_small form is))
+field_word SigType form is = a_word _ (sig_type_word (from_be_bytes w16 form) (pair_small form is))
 field_word Algorithm form is = a_word _ (numeral_word 10 _ (omega arith) ((fields_are_forms None tt Number8).back form is).1.2.0.0)
 field_word NamedAlgorithm form is = a_word _ (code_word [] refl (slice_index form 0) (octet_small form is) algorithm_rows algorithm_names)
 field_word CertificateType form is = a_word _ (code_word [] refl (from_be_bytes w16 form) (pair_small form is) certificate_rows certificate_names)
@@ -145,6 +160,7 @@ field_word Eui64 form is = a_word _ (eui_word form (omega (arith, is.0)) is.1)
 field_word Time form is = let back = ((fields_are_forms None tt Time).back form is).1 in a_word _ (time_word _ _ back.2.1)
 field_word Locator form is = let back = ((fields_are_forms None tt Locator).back form is).1 in a_word _ (groups_word false back.2.groups _ (omega (arith, back.2.four)) back.2.written)
 field_word String form is = not_quoted (printed_field String form) refl
+field_word PsdnAddress form is = not_quoted (printed_field PsdnAddress form) refl
 field_word Tag form is = a_word _ (subst (λ o. IsPlainWord (drop 1 o)) (sym is.whole) (record { some = is.is_tag.some; plain = letters_plain is.tag is.is_tag.letters }))
 field_word Salt form is = a_word _ (subst (λ o. IsPlainWord (salt_text (drop 1 o))) (sym is.whole) (salt_word is.octets is.values))
 field_word Hash form is = a_word _ (subst (λ o. IsPlainWord (encoded base32hex (drop 1 o))) (sym is.whole) (encoded32_word is.octets is.some))
@@ -328,9 +344,9 @@ gateway_key_words octets is =
 
 -- ---- all kinds of what goes to the end of an entry
 
-types_words : (types : List ℕ) → All (λ code. code < 65536) types → AreWell (map (λ code. record { is_quoted = false; text = type_text (record { 0 = code }) }) types)
+types_words : (types : List ℕ) → All (λ code. code < 65536) types → AreWell (map (λ code. record { is_quoted = false; text = portable_text (record { 0 = code }) }) types)
 types_words [] small = tt
-types_words (code ∷ types) small = (a_word _ (type_word code (All-head (λ c. c < 65536) code types small)), types_words types (All-tail (λ c. c < 65536) code types small))
+types_words (code ∷ types) small = (a_word _ (type_word code (omega (arith, All-head (λ c. c < 65536) code types small))), types_words types (All-tail (λ c. c < 65536) code types small))
 
 bitmap_words : (octets : List ℕ) → types_form.is_wire octets → AreWell (types_form.printed octets)
 bitmap_words octets is = types_words (types_of octets) (subst (λ o. All (λ code. code < 65536) (types_of o)) is.0.1 (types_of_small is.0.0))

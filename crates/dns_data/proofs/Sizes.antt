@@ -4,7 +4,7 @@ use Rattle.std.specs.Prelude.{All}
 use Rattle.std.proofs.Math.Logic.{∥∥₁_elim}
 use Rattle.std.proofs.Math.Seq.{take-append_seam, drop-append_seam}
 use Rattle.std.proofs.Props.{props}
-use Rattle.std.specs.Char.{is_ascii_alphanumeric}
+use Rattle.std.specs.Char.{is_ascii_alphanumeric, is_ascii_digit}
 use Rattle.std.specs.List.{list_all}
 use Rattle.std.proofs.lemmas.List.Elements.{All-head, All-tail, All-drop}
 use Rattle.std.specs.Coded.{Coded-set, coded_ℕ, coded_list, coded_bool, le_prop}
@@ -16,9 +16,9 @@ use Rattle.dns_spelling.specs.PrintedNames.{labels_in_octets}
 use Rattle.dns_spelling.proofs.NameFronts.{name_front_plain}
 use Rattle.dns_spelling.proofs.NameLaws.{wire_labels}
 use Rattle.dns_fields.specs.Fields.{field_form}
-use Rattle.dns_fields.specs.Forms.{IsWireHash}
+use Rattle.dns_fields.specs.Forms.{IsWireHash, IsWirePsdnAddress}
 use Rattle.dns_fields.specs.declared.field.Field.{Field}
-use Rattle.dns_fields.specs.declared.field.Field.TheVariants.{Number8, Number16, Number32, Interval, Ipv4, Ipv6, RecordType, Algorithm, NamedAlgorithm, CertificateType, Eui48, Eui64, Time, Locator, String, Tag, Salt, Hash, Name}
+use Rattle.dns_fields.specs.declared.field.Field.TheVariants.{Number8, Number16, Number32, Interval, Ipv4, Ipv6, RecordType, SigType, Algorithm, NamedAlgorithm, CertificateType, Eui48, Eui64, Time, Locator, String, PsdnAddress, Tag, Salt, Hash, Name}
 use Rattle.dns_fields.proofs.FormLaws.{fields_are_forms}
 use Rattle.dns_data.specs.GatewayKeys.{labels_size}
 use Rattle.dns_data.specs.Printing.{field_size, counted_size}
@@ -61,6 +61,7 @@ field_sized Interval form more h = sym h.0
 field_sized Ipv4 form more h = sym h.0
 field_sized Ipv6 form more h = sym h.0
 field_sized RecordType form more h = sym h.0
+field_sized SigType form more h = sym h.0
 field_sized Algorithm form more h = sym h.0
 field_sized NamedAlgorithm form more h = sym h.0
 field_sized CertificateType form more h = sym h.0
@@ -69,6 +70,7 @@ field_sized Eui64 form more h = sym h.0
 field_sized Time form more h = sym h.0
 field_sized Locator form more h = sym h.0
 field_sized String form more h = counted_sized h.octets form more h.whole
+field_sized PsdnAddress form more h = counted_sized h.digits form more h.whole
 field_sized Tag form more h = counted_sized h.tag form more h.whole
 field_sized Salt form more h = counted_sized h.octets form more h.whole
 field_sized Hash form more h = counted_sized h.octets form more h.whole
@@ -109,6 +111,17 @@ module _ (octets : List ℕ) (values : AreOctetValues octets) where
       some = ∥∥₁_elim t (search props) (λ h. subst (λ o. 0 < length o) (sym (ap (drop 1) h.whole)) h.is_tag.some);
       short = ∥∥₁_elim t le_prop (λ h. subst (λ o. length o ≤ 255) (sym (ap (drop 1) h.whole)) h.is_tag.short);
       letters = ∥∥₁_elim t (Coded-set coded_bool _ _) (λ h. subst (λ o. list_all is_ascii_alphanumeric o ≡ true) (sym (ap (drop 1) h.whole)) h.is_tag.letters);
+    };
+    whole = ∥∥₁_elim t (Coded-set (coded_list coded_ℕ) _ _) (λ h. h.whole ∙ ap (λ o. length o ∷ o) (sym (ap (drop 1) h.whole)));
+  }
+
+  surely_psdn_address : ∥ IsWirePsdnAddress octets ∥₁ → IsWirePsdnAddress octets
+  surely_psdn_address t = record {
+    digits = drop 1 octets;
+    is_address = record {
+      enough = ∥∥₁_elim t le_prop (λ h. subst (λ o. 4 ≤ length o) (sym (ap (drop 1) h.whole)) h.is_address.enough);
+      short = ∥∥₁_elim t le_prop (λ h. subst (λ o. length o ≤ 255) (sym (ap (drop 1) h.whole)) h.is_address.short);
+      digital = ∥∥₁_elim t (Coded-set coded_bool _ _) (λ h. subst (λ o. list_all is_ascii_digit o ≡ true) (sym (ap (drop 1) h.whole)) h.is_address.digital);
     };
     whole = ∥∥₁_elim t (Coded-set (coded_list coded_ℕ) _ _) (λ h. h.whole ∙ ap (λ o. length o ∷ o) (sym (ap (drop 1) h.whole)));
   }
@@ -157,6 +170,7 @@ surely_wire Interval octets values t = (∥∥₁_elim t (Coded-set coded_ℕ _ 
 surely_wire Ipv4 octets values t = (∥∥₁_elim t (Coded-set coded_ℕ _ _) (λ h. h.0), values)
 surely_wire Ipv6 octets values t = (∥∥₁_elim t (Coded-set coded_ℕ _ _) (λ h. h.0), values)
 surely_wire RecordType octets values t = (∥∥₁_elim t (Coded-set coded_ℕ _ _) (λ h. h.0), values)
+surely_wire SigType octets values t = (∥∥₁_elim t (Coded-set coded_ℕ _ _) (λ h. h.0), values)
 surely_wire Algorithm octets values t = (∥∥₁_elim t (Coded-set coded_ℕ _ _) (λ h. h.0), values)
 surely_wire NamedAlgorithm octets values t = (∥∥₁_elim t (Coded-set coded_ℕ _ _) (λ h. h.0), values)
 surely_wire CertificateType octets values t = (∥∥₁_elim t (Coded-set coded_ℕ _ _) (λ h. h.0), values)
@@ -165,6 +179,7 @@ surely_wire Eui64 octets values t = (∥∥₁_elim t (Coded-set coded_ℕ _ _) 
 surely_wire Time octets values t = (∥∥₁_elim t (Coded-set coded_ℕ _ _) (λ h. h.0), values)
 surely_wire Locator octets values t = (∥∥₁_elim t (Coded-set coded_ℕ _ _) (λ h. h.0), values)
 surely_wire String octets values t = surely_string octets values t
+surely_wire PsdnAddress octets values t = surely_psdn_address octets values t
 surely_wire Tag octets values t = surely_tag octets values t
 surely_wire Salt octets values t = surely_string octets values t
 surely_wire Hash octets values t = surely_hash octets values t

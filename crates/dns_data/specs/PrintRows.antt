@@ -4,10 +4,10 @@ use Rattle.std.specs.Fmt.{digits}
 use Rattle.dns_kinds.specs.Types.{type_rows}
 use Rattle.dns_lists.specs.Bitmap.{set_places, block_types}
 use Rattle.dns_spelling.specs.PrintedNames.{labels_in_octets}
-use Rattle.dns_fields.specs.declared.field.Field.TheVariants.{Number16, String, Name}
+use Rattle.dns_fields.specs.declared.field.Field.TheVariants.{Number16, String, PsdnAddress, Name}
 use Rattle.dns_zone.specs.Layout.{Step}
 use Rattle.dns_data.specs.Printing.{FailsInSteps, printed_parts, token_bytes}
-use Rattle.dns_data.specs.declared.rest.Rest.TheVariants.{Nothing, Strings, Hex, Types}
+use Rattle.dns_data.specs.declared.rest.Rest.TheVariants.{Nothing, Strings, Hex, SomeTypes, Types}
 
 -- a preference and a host, as in MX
 preference_and_host : printed_parts (Number16 ∷ Name ∷ []) Nothing (0 ∷ 10 ∷ 4 ∷ codes "mail" ++ 7 ∷ codes "example" ++ 0 ∷ [])
@@ -33,6 +33,15 @@ next_name : printed_parts (Name ∷ []) Types (4 ∷ codes "host" ++ 7 ∷ codes
     ∷ record { is_quoted = false; text = codes "NSEC" } ∷ []
 unfolding labels_in_octets set_places block_types type_rows
 next_name = refl
+
+-- TYPE262 and TYPE263, whose names not every reader knows
+numbered_types : printed_parts [] SomeTypes (1 ∷ 1 ∷ 3 ∷ []) ≡ record { is_quoted = false; text = codes "TYPE262" } ∷ record { is_quoted = false; text = codes "TYPE263" } ∷ []
+unfolding set_places block_types type_rows digits
+numbered_types = refl
+
+-- an address of X25
+address : printed_parts (PsdnAddress ∷ []) Nothing (4 ∷ codes "1234") ≡ record { is_quoted = true; text = codes "1234" } ∷ []
+address = refl
 
 -- a writer that fails at no step takes all steps
 never_fails : {F : Type 0} (blocks : F → ℕ) (gives : F → Step → F → Type 0) (fails : F → Step → Type 0) (w : F) (xs : List Step) → ((v : F) (x : Step) → fails v x → ⊥) → FailsInSteps blocks gives fails w xs → ⊥

@@ -5,7 +5,7 @@ use Rattle.dns_zone.specs.Layout.{Step, token}
 use Rattle.dns_zone.specs.Writers.{WritesSteps}
 use Rattle.dns_fields.specs.Fields.{field_form}
 use Rattle.dns_fields.specs.declared.field.Field.{Field}
-use Rattle.dns_fields.specs.declared.field.Field.TheVariants.{Number8, Number16, Number32, Interval, Ipv4, Ipv6, RecordType, Algorithm, NamedAlgorithm, CertificateType, Eui48, Eui64, Time, Locator, String, Tag, Salt, Hash, Name}
+use Rattle.dns_fields.specs.declared.field.Field.TheVariants.{Number8, Number16, Number32, Interval, Ipv4, Ipv6, RecordType, SigType, Algorithm, NamedAlgorithm, CertificateType, Eui48, Eui64, Time, Locator, String, PsdnAddress, Tag, Salt, Hash, Name}
 use Rattle.dns_data.specs.GatewayKeys.{labels_size}
 use Rattle.dns_data.specs.Rests.{PrintedToken}
 use Rattle.dns_data.specs.RestKinds.{rest_form}
@@ -25,6 +25,7 @@ field_size Interval octets = 4
 field_size Ipv4 octets = 4
 field_size Ipv6 octets = 16
 field_size RecordType octets = 2
+field_size SigType octets = 2
 field_size Algorithm octets = 1
 field_size NamedAlgorithm octets = 1
 field_size CertificateType octets = 2
@@ -33,6 +34,7 @@ field_size Eui64 octets = 8
 field_size Time octets = 4
 field_size Locator octets = 8
 field_size String octets = counted_size octets
+field_size PsdnAddress octets = counted_size octets
 field_size Tag octets = counted_size octets
 field_size Salt octets = counted_size octets
 field_size Hash octets = counted_size octets

@@ -1,13 +1,12 @@
 -- Lists of types to the end of an entry.
 use Rattle.std.specs.Prelude.{ℕ, ◌≡◌, ◌≢◌, ◌⊎◌, true, false, List, [], ◌∷◌, map, codes, Result, Ok, Err}
-use Rattle.dns_fields.specs.Source.{next_place}
 use Rattle.dns_fields.specs.declared.error.FieldError.TheVariants.{Quoted, Kind, EndOfEntry}
-use Rattle.dns_kinds.specs.Types.{SpellsType, type_text}
+use Rattle.dns_kinds.specs.Types.{SpellsType, portable_text}
 use Rattle.dns_kinds.specs.declared.error.KindError.TheVariants.{UnknownType}
 use Rattle.dns_kinds.specs.declared.types.RecordType.{RecordType}
 use Rattle.dns_lists.specs.Bitmap.{bitmap, has, types_of, IsBitmap, SameTypes}
 use Rattle.dns_split.specs.EntryTokens.{TokenSeen}
-use Rattle.dns_data.specs.Rests.{RestForm, PrintedToken, BehindSome}
+use Rattle.dns_data.specs.Rests.{RestForm, BehindSome}
 use Rattle.dns_data.specs.declared.error.DataError.{DataError}
 use Rattle.dns_data.specs.declared.error.DataError.TheVariants.{Field, TypeZero}
 use Rattle.dns_data.specs.declared.error.DataRefusal.{DataRefusal}
@@ -40,11 +39,11 @@ abbrev pub TypesReason : List TokenSeen → List TokenSeen → DataError → Typ
 TypesReason before [] e = ⊥
 TypesReason before (t ∷ ts) e = NamesNone t e
 
--- types in any order, repeated or not, but 0; they are printed in ascending order, each as a word
+-- types in any order, repeated or not, but 0; they are printed in ascending order, each as a word, by name if every reader knows that
 abbrev pub types_form : RestForm
 types_form = record {
   spells = λ tokens octets. (types : List ℕ) × NameTypes tokens types × (octets ≡ bitmap types);
   reason = BehindSome TypesReason;
   is_wire = λ octets. IsBitmap octets × (has (types_of octets) 0 ≡ false);
-  printed = λ octets. map (λ code. record { is_quoted = false; text = type_text (record { 0 = code }) }) (types_of octets);
+  printed = λ octets. map (λ code. record { is_quoted = false; text = portable_text (record { 0 = code }) }) (types_of octets);
 }

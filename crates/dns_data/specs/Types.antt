@@ -2,7 +2,7 @@
 use Rattle.std.specs.Prelude.{ℕ, ◌≡◌, ◌==◌, find, map, Option, option_map, List, [], ◌∷◌, codes}
 use Rattle.dns_digits.specs.declared.digests.Digests.TheVariants.{Ds, Sshfp, Zonemd}
 use Rattle.dns_fields.specs.declared.field.Field.{Field}
-use Rattle.dns_fields.specs.declared.field.Field.TheVariants.{Number8, Number16, Number32, Interval, Ipv4, Ipv6, RecordType, Algorithm, NamedAlgorithm, CertificateType, Eui48, Eui64, Time, Locator, String, Tag, Salt, Hash, Name}
+use Rattle.dns_fields.specs.declared.field.Field.TheVariants.{Number8, Number16, Number32, Interval, Ipv4, Ipv6, RecordType, SigType, Algorithm, NamedAlgorithm, CertificateType, Eui48, Eui64, Time, Locator, String, PsdnAddress, Tag, Salt, Hash, Name}
 use Rattle.dns_data.specs.declared.rest.Rest.{Rest}
 use Rattle.dns_data.specs.declared.rest.Rest.TheVariants.{Base64, GatewayKey, Hex, Location as OfLocation, Nothing, Params, Prefixes, QuotedText, SomeTypes, Strings, Text, Types}
 use Rattle.dns_data.specs.declared.shape.Length.{Length}
@@ -65,10 +65,20 @@ type_shapes =
     type_shape 17 (Name ∷ Name ∷ []) Nothing Any (codes "mailbox" ∷ codes "text name" ∷ []) ∷
     -- AFSDB
     type_shape 18 (Number16 ∷ Name ∷ []) Nothing Any (codes "subtype" ∷ codes "host" ∷ []) ∷
+    -- X25
+    type_shape 19 (PsdnAddress ∷ []) Nothing Any (codes "address" ∷ []) ∷
     -- RT
     type_shape 21 (Number16 ∷ Name ∷ []) Nothing Any (codes "preference" ∷ codes "host" ∷ []) ∷
+    -- NSAP-PTR
+    type_shape 23 (Name ∷ []) Nothing Any (codes "target" ∷ []) ∷
+    -- SIG
+    type_shape 24 (SigType ∷ Algorithm ∷ Number8 ∷ Number32 ∷ Time ∷ Time ∷ Number16 ∷ Name ∷ []) Base64 Any (codes "type covered" ∷ codes "algorithm" ∷ codes "labels" ∷ codes "original TTL" ∷ codes "expiration" ∷ codes "inception" ∷ codes "key tag" ∷ codes "signer" ∷ codes "signature" ∷ []) ∷
     -- KEY
     type_shape 25 (Number16 ∷ Number8 ∷ Algorithm ∷ []) Base64 Any (codes "flags" ∷ codes "protocol" ∷ codes "algorithm" ∷ codes "key" ∷ []) ∷
+    -- PX
+    type_shape 26 (Number16 ∷ Name ∷ Name ∷ []) Nothing Any (codes "preference" ∷ codes "RFC 822 name" ∷ codes "X.400 name" ∷ []) ∷
+    -- GPOS
+    type_shape 27 (String ∷ String ∷ String ∷ []) Nothing Any (codes "longitude" ∷ codes "latitude" ∷ codes "altitude" ∷ []) ∷
     -- AAAA
     type_shape 28 (Ipv6 ∷ []) Nothing Any (codes "address" ∷ []) ∷
     -- LOC
@@ -110,6 +120,12 @@ type_shapes =
     type_shape 52 (Number8 ∷ Number8 ∷ Number8 ∷ []) Hex Any (codes "usage" ∷ codes "selector" ∷ codes "matching type" ∷ codes "data" ∷ []) ∷
     -- SMIMEA
     type_shape 53 (Number8 ∷ Number8 ∷ Number8 ∷ []) Hex Any (codes "usage" ∷ codes "selector" ∷ codes "matching type" ∷ codes "data" ∷ []) ∷
+    -- NINFO
+    type_shape 56 [] Strings Any (codes "text" ∷ []) ∷
+    -- RKEY
+    type_shape 57 (Number16 ∷ Number8 ∷ Algorithm ∷ []) Base64 Any (codes "flags" ∷ codes "protocol" ∷ codes "algorithm" ∷ codes "key" ∷ []) ∷
+    -- TALINK
+    type_shape 58 (Name ∷ Name ∷ []) Nothing Any (codes "previous" ∷ codes "next" ∷ []) ∷
     -- CDS
     type_shape 59 (Number16 ∷ Algorithm ∷ Number8 ∷ []) Hex (Digest Ds 3) (codes "key tag" ∷ codes "algorithm" ∷ codes "digest type" ∷ codes "digest" ∷ []) ∷
     -- CDNSKEY
@@ -124,6 +140,10 @@ type_shapes =
     type_shape 64 (Number16 ∷ Name ∷ []) Params Any (codes "priority" ∷ codes "target" ∷ codes "parameter" ∷ []) ∷
     -- HTTPS
     type_shape 65 (Number16 ∷ Name ∷ []) Params Any (codes "priority" ∷ codes "target" ∷ codes "parameter" ∷ []) ∷
+    -- HHIT
+    type_shape 67 [] Base64 Any (codes "data" ∷ []) ∷
+    -- BRID
+    type_shape 68 [] Base64 Any (codes "data" ∷ []) ∷
     -- SPF
     type_shape 99 [] Strings Any (codes "text" ∷ []) ∷
     -- NID
@@ -142,6 +162,14 @@ type_shapes =
     type_shape 256 (Number16 ∷ Number16 ∷ []) QuotedText Any (codes "priority" ∷ codes "weight" ∷ codes "target" ∷ []) ∷
     -- CAA
     type_shape 257 (Number8 ∷ Tag ∷ []) Text Any (codes "flags" ∷ codes "tag" ∷ codes "value" ∷ []) ∷
+    -- AVC
+    type_shape 258 [] Strings Any (codes "text" ∷ []) ∷
+    -- RESINFO
+    type_shape 261 [] Strings Any (codes "text" ∷ []) ∷
+    -- WALLET
+    type_shape 262 [] Strings Any (codes "text" ∷ []) ∷
+    -- TA
+    type_shape 32768 (Number16 ∷ Algorithm ∷ Number8 ∷ []) Hex (Digest Ds 3) (codes "key tag" ∷ codes "algorithm" ∷ codes "digest type" ∷ codes "digest" ∷ []) ∷
     -- DLV
     type_shape 32769 (Number16 ∷ Algorithm ∷ Number8 ∷ []) Hex (Digest Ds 3) (codes "key tag" ∷ codes "algorithm" ∷ codes "digest type" ∷ codes "digest" ∷ []) ∷
     []

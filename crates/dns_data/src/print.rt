@@ -20,7 +20,7 @@ use crate::shape::Shape;
 use dns_codec::{base16, base64};
 use dns_digits::DigitsKind;
 use dns_fields::{Field, field_width};
-use dns_kinds::RecordType;
+use dns_kinds::{PortableType, RecordType};
 use dns_lists::{BitmapTypes, Params};
 use dns_params::ParamText;
 use dns_places::{Gateway, Prefix, item_width, location_words};
@@ -74,7 +74,7 @@ fn write_types<F: FormatWriter>(octets: &[u8], p: &mut F) -> zonefile_fmt::Resul
     ensures fails { OnErr result (FailsInSteps F.blocks F.step_gives F.step_fails p.old (token_steps (types_form.printed octets.now))) }
 {
     for code in BitmapTypes::new(octets) {
-        p.write_token(RecordType(code))?;
+        p.write_token(PortableType(RecordType(code)))?;
     }
     Ok(())
 }

@@ -19,7 +19,7 @@ pub struct TypeRow(
 );
 
 /// The types, by code.
-pub static TYPES: [TypeRow; 52] = [
+pub static TYPES: [TypeRow; 66] = [
     // A (RFC 1035 section 3.4.1).
     TypeRow(1, &[Field::Ipv4], Rest::Nothing, Length::Any, &["address"]),
     // NS (RFC 1035 section 3.3.11).
@@ -106,6 +106,14 @@ pub static TYPES: [TypeRow; 52] = [
         Length::Any,
         &["subtype", "host"],
     ),
+    // X25 (RFC 1183 section 3.1).
+    TypeRow(
+        19,
+        &[Field::PsdnAddress],
+        Rest::Nothing,
+        Length::Any,
+        &["address"],
+    ),
     // RT (RFC 1183 section 3.3).
     TypeRow(
         21,
@@ -114,6 +122,35 @@ pub static TYPES: [TypeRow; 52] = [
         Length::Any,
         &["preference", "host"],
     ),
+    // NSAP-PTR (RFC 1348).
+    TypeRow(23, &[Field::Name], Rest::Nothing, Length::Any, &["target"]),
+    // SIG (RFC 2535 section 4.1).
+    TypeRow(
+        24,
+        &[
+            Field::SigType,
+            Field::Algorithm,
+            Field::Number8,
+            Field::Number32,
+            Field::Time,
+            Field::Time,
+            Field::Number16,
+            Field::Name,
+        ],
+        Rest::Base64,
+        Length::Any,
+        &[
+            "type covered",
+            "algorithm",
+            "labels",
+            "original TTL",
+            "expiration",
+            "inception",
+            "key tag",
+            "signer",
+            "signature",
+        ],
+    ),
     // KEY (RFC 2535 section 3.1, in the form of DNSKEY).
     TypeRow(
         25,
@@ -121,6 +158,22 @@ pub static TYPES: [TypeRow; 52] = [
         Rest::Base64,
         Length::Any,
         &["flags", "protocol", "algorithm", "key"],
+    ),
+    // PX (RFC 2163 section 4).
+    TypeRow(
+        26,
+        &[Field::Number16, Field::Name, Field::Name],
+        Rest::Nothing,
+        Length::Any,
+        &["preference", "RFC 822 name", "X.400 name"],
+    ),
+    // GPOS (RFC 1712 section 3).
+    TypeRow(
+        27,
+        &[Field::String, Field::String, Field::String],
+        Rest::Nothing,
+        Length::Any,
+        &["longitude", "latitude", "altitude"],
     ),
     // AAAA (RFC 3596 section 2.2).
     TypeRow(28, &[Field::Ipv6], Rest::Nothing, Length::Any, &["address"]),
@@ -299,6 +352,24 @@ pub static TYPES: [TypeRow; 52] = [
         Length::Any,
         &["usage", "selector", "matching type", "data"],
     ),
+    // NINFO (draft-reid-dnsext-zs).
+    TypeRow(56, &[], Rest::Strings, Length::Any, &["text"]),
+    // RKEY (draft-reid-dnsext-rkey).
+    TypeRow(
+        57,
+        &[Field::Number16, Field::Number8, Field::Algorithm],
+        Rest::Base64,
+        Length::Any,
+        &["flags", "protocol", "algorithm", "key"],
+    ),
+    // TALINK (draft-wijngaards-dnsop-trust-history).
+    TypeRow(
+        58,
+        &[Field::Name, Field::Name],
+        Rest::Nothing,
+        Length::Any,
+        &["previous", "next"],
+    ),
     // CDS (RFC 7344 section 3.1).
     TypeRow(
         59,
@@ -349,6 +420,10 @@ pub static TYPES: [TypeRow; 52] = [
         Length::Any,
         &["priority", "target", "parameter"],
     ),
+    // HHIT (RFC 9886).
+    TypeRow(67, &[], Rest::Base64, Length::Any, &["data"]),
+    // BRID (RFC 9886).
+    TypeRow(68, &[], Rest::Base64, Length::Any, &["data"]),
     // SPF (RFC 7208 section 3.1).
     TypeRow(99, &[], Rest::Strings, Length::Any, &["text"]),
     // NID (RFC 6742 section 2.1).
@@ -414,6 +489,20 @@ pub static TYPES: [TypeRow; 52] = [
         Rest::Text,
         Length::Any,
         &["flags", "tag", "value"],
+    ),
+    // AVC (IANA, by Cisco).
+    TypeRow(258, &[], Rest::Strings, Length::Any, &["text"]),
+    // RESINFO (RFC 9606 section 4).
+    TypeRow(261, &[], Rest::Strings, Length::Any, &["text"]),
+    // WALLET (IANA).
+    TypeRow(262, &[], Rest::Strings, Length::Any, &["text"]),
+    // TA (S. Weiler, Deploying DNSSEC Without a Signed Root, 2004).
+    TypeRow(
+        32768,
+        &[Field::Number16, Field::Algorithm, Field::Number8],
+        Rest::Hex,
+        Length::Digest(Digests::Ds, 3),
+        &["key tag", "algorithm", "digest type", "digest"],
     ),
     // DLV (RFC 4431 section 2).
     TypeRow(

@@ -1,12 +1,23 @@
 -- Each kind of field is spelled, printed and found as its form says.
-use Rattle.std.proofs.Common.{ℕ, suc, ◌≡◌, ◌<◌, ◌≤◌, List, ◌∷◌, ◌++◌, length, take, drop, inl, inr, refl, sym, subst, ap, arith, ◌∙◌, Option, Some, None}
+use Rattle.std.proofs.Common.{ℕ, zero, suc, ◌-◌, ◌≡◌, ◌<◌, ◌≤◌, true, false, true≢false, List, [], ◌∷◌, ◌++◌, length, take, drop, inl, inr, refl, sym, subst, ap, arith, ◌∙◌, Option, Some, None}
+use lib.Seq.{take-nil}
 use Rattle.std.proofs.lemmas.List.{length-take-le}
-use Rattle.std.proofs.lemmas.List.Elements.{All-from_get_or, All-nil}
+use Rattle.std.proofs.lemmas.List.Elements.{All-from_get_or, All-nil, All-cons}
+use Rattle.std.proofs.lemmas.Bool.{and_parts}
+use Rattle.std.proofs.lemmas.Bool.Decides.{nat_tests}
+use Rattle.std.proofs.Math.Seq.{take-append_seam}
+use Rattle.std.specs.Char.{is_ascii_digit}
+use Rattle.std.specs.List.{list_all}
 use Rattle.dns_kinds.specs.Salt.{SpellsSalt, salt_text}
-use Rattle.std.specs.Prelude.{All, Bool}
+use Rattle.std.specs.Prelude.{All, Bool, if◌then◌else◌}
 use Rattle.dns_kinds.specs.declared.error.KindError.{KindError}
 use Rattle.dns_kinds.proofs.SaltLaws.{salts_are_kind}
 use Rattle.dns_spelling.specs.Forms.{FindsWidth, StandInFront, IsWireString}
+use Rattle.dns_spelling.specs.Shown.{string_in_quotes, text_in_quotes}
+use Rattle.dns_spelling.specs.Spelling.{AreOctetValues}
+use Rattle.dns_symbol.specs.Symbol.{spell, is_printable}
+use Rattle.dns_symbol.specs.Printed.{symbol_of, is_quoted_escape}
+use Rattle.dns_symbol.specs.declared.symbol.Symbol.TheVariants.{Char, SimpleEscape, DecimalEscape}
 use Rattle.dns_codec.specs.Base.{base32hex, encoded, IsEncoding}
 use Rattle.dns_digits.specs.Spelled.{SpellsDigits}
 use Rattle.dns_digits.proofs.Spelling.{spells_once, printed_spells}
@@ -16,11 +27,11 @@ use Rattle.dns_spelling.proofs.NameReadings.{name_once}
 use Rattle.dns_spelling.proofs.NameFronts.{names_in_front}
 use Rattle.dns_spelling.proofs.FormLaws.{strings_spelled, strings_in_front, tags_spelled, tags_in_front}
 use Rattle.dns_fields.specs.declared.field.Field.{Field}
-use Rattle.dns_fields.specs.declared.field.Field.TheVariants.{Number8 as OfNumber8, Number16 as OfNumber16, Number32 as OfNumber32, Interval as OfInterval, Ipv4 as OfIpv4, Ipv6 as OfIpv6, RecordType as OfRecordType, Algorithm as OfAlgorithm, NamedAlgorithm as OfNamedAlgorithm, CertificateType as OfCertificateType, Eui48 as OfEui48, Eui64 as OfEui64, Time as OfTime, Locator as OfLocator, String as OfString, Tag as OfTag, Salt as OfSalt, Hash as OfHash, Name as OfName}
+use Rattle.dns_fields.specs.declared.field.Field.TheVariants.{Number8 as OfNumber8, Number16 as OfNumber16, Number32 as OfNumber32, Interval as OfInterval, Ipv4 as OfIpv4, Ipv6 as OfIpv6, RecordType as OfRecordType, SigType as OfSigType, Algorithm as OfAlgorithm, NamedAlgorithm as OfNamedAlgorithm, CertificateType as OfCertificateType, Eui48 as OfEui48, Eui64 as OfEui64, Time as OfTime, Locator as OfLocator, String as OfString, PsdnAddress as OfPsdnAddress, Tag as OfTag, Salt as OfSalt, Hash as OfHash, Name as OfName}
 use Rattle.dns_fields.specs.Fields.{field_form}
-use Rattle.dns_fields.specs.Forms.{IsFieldForm, IsWireHash, word_form, string_form, tag_form, salt_form, hash_form, name_form}
+use Rattle.dns_fields.specs.Forms.{IsFieldForm, IsPsdnAddress, IsWireHash, IsWirePsdnAddress, word_form, string_form, psdn_address_form, tag_form, salt_form, hash_form, name_form}
 use Rattle.dns_fields.specs.Words.{AreOctetsOf, IsWordKind}
-use Rattle.dns_fields.specs.WordLaws.{number8_is_kind, number16_is_kind, number32_is_kind, interval_is_kind, ipv4_is_word, ipv6_is_word, type_is_word, algorithm_is_word, certificate_is_word, named_algorithm_is_word, eui48_is_word, eui64_is_word, date_is_word, locator_is_word}
+use Rattle.dns_fields.specs.WordLaws.{number8_is_kind, number16_is_kind, number32_is_kind, interval_is_kind, ipv4_is_word, ipv6_is_word, type_is_word, sig_type_is_word, algorithm_is_word, certificate_is_word, named_algorithm_is_word, eui48_is_word, eui64_is_word, date_is_word, locator_is_word}
 
 -- so many octets stand in front in one way
 of_one_width : (width : ℕ) → StandInFront (AreOctetsOf width)
@@ -45,6 +56,72 @@ string_is_form = record {
   back = λ octets h. strings_spelled.back octets h;
   once = λ quoted text a b h j. strings_spelled.once text a b h j;
   in_front = strings_in_front;
+}
+
+-- ---- addresses of X25
+
+-- digits are printed in quotes as they are
+digit_as_it_is : (o : ℕ) → is_ascii_digit o ≡ true → spell (symbol_of is_quoted_escape o) ≡ o ∷ []
+digit_as_it_is o digit = by (is_printable o) (is_quoted_escape o) refl refl
+  where
+    by : (p e : Bool) → is_printable o ≡ p → is_quoted_escape o ≡ e → spell (if p then (if e then SimpleEscape o else Char o) else DecimalEscape o) ≡ o ∷ []
+    by true false shown plain = refl
+    by true true shown is = absurd (let no : is_quoted_escape o ≡ false = Prim.grind (arith, nat_tests) in true≢false (sym is ∙ no))
+    by false e is plain = absurd (let no : is_printable o ≡ true = Prim.grind (arith, nat_tests) in true≢false (sym no ∙ is))
+
+digits_as_they_are : (digits : List ℕ) → list_all is_ascii_digit digits ≡ true → text_in_quotes digits ≡ digits
+digits_as_they_are [] h = refl
+digits_as_they_are (o ∷ os) h =
+    let both = and_parts (is_ascii_digit o) (list_all is_ascii_digit os) h in
+    ap (λ t. t ++ text_in_quotes os) (digit_as_it_is o both.0) ∙ ap (λ t. o ∷ t) (digits_as_they_are os both.1)
+
+digit_values : (digits : List ℕ) → list_all is_ascii_digit digits ≡ true → AreOctetValues digits
+digit_values [] h = All-nil (λ o. o < 256)
+digit_values (o ∷ os) h =
+    let both = and_parts (is_ascii_digit o) (list_all is_ascii_digit os) h in
+    let digit = both.0 in
+    let small : o < 256 = Prim.grind (arith, nat_tests) in
+    All-cons (λ o. o < 256) o os small (digit_values os both.1)
+
+pub psdn_address_is_string : (form : List ℕ) → IsWirePsdnAddress form → IsWireString form
+psdn_address_is_string form h = record { octets = h.digits; values = digit_values h.digits h.is_address.digital; short = h.is_address.short; whole = h.whole }
+
+-- what is behind the first of so many octets
+behind_first : (octets : List ℕ) (width : ℕ) → take (width - 1) (drop 1 octets) ≡ drop 1 (take width octets)
+behind_first octets zero = refl
+behind_first [] (suc width) = take-nil (suc width - 1)
+behind_first (o ∷ os) (suc width) = let n : suc width - 1 ≡ width = omega arith in ap (λ m. take m os) n
+
+-- a character string of such digits in front is an address
+pub psdn_address_front : (octets : List ℕ) (width : ℕ) → FindsWidth IsWireString octets (Some width) → IsPsdnAddress (take (width - 1) (drop 1 octets)) → FindsWidth IsWirePsdnAddress octets (Some width)
+psdn_address_front octets width h is =
+    let s = h.1 in
+    (h.0, record { digits = s.octets; is_address = subst IsPsdnAddress (behind_first octets width ∙ ap (drop 1) s.whole) is; whole = s.whole })
+
+-- no address stands in front of no character string, and of one of other octets
+pub no_psdn_string : (octets : List ℕ) → FindsWidth IsWireString octets None → FindsWidth IsWirePsdnAddress octets None
+no_psdn_string octets h form rest is = h form rest (psdn_address_is_string form is)
+
+pub no_psdn_digits : (octets : List ℕ) (width : ℕ) → FindsWidth IsWireString octets (Some width) → (IsPsdnAddress (take (width - 1) (drop 1 octets)) → ⊥) → FindsWidth IsWirePsdnAddress octets None
+no_psdn_digits octets width h none form rest is whole =
+    let there : Some width ≡ Some (length form) = strings_in_front.width form rest (Some width) (psdn_address_is_string form is) (subst (λ o. FindsWidth IsWireString o (Some width)) whole h) in
+    let same : width ≡ length form = cc there in
+    let front : take width octets ≡ form = ap (λ n. take n octets) same ∙ ap (take (length form)) whole ∙ take-append_seam form rest in
+    none (subst IsPsdnAddress (sym (behind_first octets width ∙ ap (drop 1) front ∙ ap (drop 1) is.whole)) is.is_address)
+
+psdn_address_at : (form rest : List ℕ) (found : Option ℕ) → IsWirePsdnAddress form → FindsWidth IsWirePsdnAddress (form ++ rest) found → found ≡ Some (length form)
+psdn_address_at form rest None is finds = absurd (finds form rest is refl)
+psdn_address_at form rest (Some width) is finds =
+    strings_in_front.width form rest (Some width) (psdn_address_is_string form is) (finds.0, psdn_address_is_string (take width (form ++ rest)) finds.1)
+
+psdn_address_is_form : IsFieldForm psdn_address_form
+psdn_address_is_form = record {
+  are_wire = λ quoted text octets values h. record { digits = text; is_address = h.0; whole = h.1 };
+  back = λ form h.
+      let as_it_is : string_in_quotes form ≡ h.digits = ap string_in_quotes h.whole ∙ digits_as_they_are h.digits h.is_address.digital in
+      (subst IsPsdnAddress (sym as_it_is) h.is_address, h.whole ∙ ap (λ t. length t ∷ t) (sym as_it_is));
+  once = λ quoted text a b h j. h.1 ∙ sym j.1;
+  in_front = record { width = psdn_address_at };
 }
 
 tag_is_form : IsFieldForm tag_form
@@ -132,6 +209,7 @@ fields_are_forms origin is OfInterval = word_is_form _ _ _ _ _ _ interval_is_kin
 fields_are_forms origin is OfIpv4 = word_is_form _ _ _ _ _ _ ipv4_is_word
 fields_are_forms origin is OfIpv6 = word_is_form _ _ _ _ _ _ ipv6_is_word
 fields_are_forms origin is OfRecordType = word_is_form _ _ _ _ _ _ type_is_word
+fields_are_forms origin is OfSigType = word_is_form _ _ _ _ _ _ sig_type_is_word
 fields_are_forms origin is OfAlgorithm = word_is_form _ _ _ _ _ _ algorithm_is_word
 fields_are_forms origin is OfNamedAlgorithm = word_is_form _ _ _ _ _ _ named_algorithm_is_word
 fields_are_forms origin is OfCertificateType = word_is_form _ _ _ _ _ _ certificate_is_word
@@ -140,6 +218,7 @@ fields_are_forms origin is OfEui64 = word_is_form _ _ _ _ _ _ eui64_is_word
 fields_are_forms origin is OfTime = word_is_form _ _ _ _ _ _ date_is_word
 fields_are_forms origin is OfLocator = word_is_form _ _ _ _ _ _ locator_is_word
 fields_are_forms origin is OfString = string_is_form
+fields_are_forms origin is OfPsdnAddress = psdn_address_is_form
 fields_are_forms origin is OfTag = tag_is_form
 fields_are_forms origin is OfSalt = salt_is_form
 fields_are_forms origin is OfHash = hash_is_form
@@ -154,6 +233,7 @@ fields_once origin OfInterval quoted text a b h k = (fields_are_forms None tt Of
 fields_once origin OfIpv4 quoted text a b h k = (fields_are_forms None tt OfIpv4).once quoted text a b h k
 fields_once origin OfIpv6 quoted text a b h k = (fields_are_forms None tt OfIpv6).once quoted text a b h k
 fields_once origin OfRecordType quoted text a b h k = (fields_are_forms None tt OfRecordType).once quoted text a b h k
+fields_once origin OfSigType quoted text a b h k = (fields_are_forms None tt OfSigType).once quoted text a b h k
 fields_once origin OfAlgorithm quoted text a b h k = (fields_are_forms None tt OfAlgorithm).once quoted text a b h k
 fields_once origin OfNamedAlgorithm quoted text a b h k = (fields_are_forms None tt OfNamedAlgorithm).once quoted text a b h k
 fields_once origin OfCertificateType quoted text a b h k = (fields_are_forms None tt OfCertificateType).once quoted text a b h k
@@ -162,6 +242,7 @@ fields_once origin OfEui64 quoted text a b h k = (fields_are_forms None tt OfEui
 fields_once origin OfTime quoted text a b h k = (fields_are_forms None tt OfTime).once quoted text a b h k
 fields_once origin OfLocator quoted text a b h k = (fields_are_forms None tt OfLocator).once quoted text a b h k
 fields_once origin OfString quoted text a b h k = (fields_are_forms None tt OfString).once quoted text a b h k
+fields_once origin OfPsdnAddress quoted text a b h k = (fields_are_forms None tt OfPsdnAddress).once quoted text a b h k
 fields_once origin OfTag quoted text a b h k = (fields_are_forms None tt OfTag).once quoted text a b h k
 fields_once origin OfSalt quoted text a b h k = (fields_are_forms None tt OfSalt).once quoted text a b h k
 fields_once origin OfHash quoted text a b h k = (fields_are_forms None tt OfHash).once quoted text a b h k

@@ -1,6 +1,8 @@
 -- What a field of record data is: the tokens that spell it, its octets on the wire, and the token
 -- that it is printed as.
 use Rattle.std.specs.Prelude.{ℕ, ◌≡◌, ◌<◌, ◌≤◌, ◌⊎◌, Bool, true, false, if◌then◌else◌, List, [], ◌∷◌, ◌++◌, length, drop, Option, Result, OnOk, OnErr, IfErr}
+use Rattle.std.specs.Char.{is_ascii_digit}
+use Rattle.std.specs.List.{list_all}
 use Rattle.dns_octets.specs.Room.{Room}
 use Rattle.dns_octets.specs.Appending.{Extends, Gains, LacksRoom}
 use Rattle.dns_symbol.specs.Characters.{double_quote}
@@ -14,7 +16,7 @@ use Rattle.dns_spelling.specs.declared.error.SpellingError.TheVariants.{BadEscap
 use Rattle.dns_codec.specs.Base.{base32hex, encoded}
 use Rattle.dns_digits.specs.Hashes.{SpellsHash, hash_refusal}
 use Rattle.dns_kinds.specs.Salt.{SpellsSalt, salt_text}
-use Rattle.dns_kinds.specs.declared.error.KindError.TheVariants.{ExpectedSalt}
+use Rattle.dns_kinds.specs.declared.error.KindError.TheVariants.{ExpectedSalt, ExpectedPsdnAddress}
 use Rattle.dns_kinds.specs.declared.error.KindError.{KindError}
 use Rattle.dns_fields.specs.declared.error.FieldError.{FieldError}
 use Rattle.dns_fields.specs.declared.error.FieldError.TheVariants.{ShortBuf, EndOfEntry, Quoted, Kind, Spelling, Digits}
@@ -79,6 +81,35 @@ string_form = record {
   spells = λ quoted text octets. SpellsString text octets;
   reason = StringReason;
   is_wire = IsWireString;
+  quotes = true;
+  printed = string_in_quotes;
+}
+
+-- an address of a public switched data network (RFC 1183 section 3.1): 4 to 255 digits
+pub record IsPsdnAddress (digits : List ℕ) : Type 0 where
+  pub enough : 4 ≤ length digits
+  pub short : length digits ≤ 255
+  pub digital : list_all is_ascii_digit digits ≡ true
+
+-- on the wire it is a character string
+pub record IsWirePsdnAddress (form : List ℕ) : Type 0 where
+  pub digits : List ℕ
+  pub is_address : IsPsdnAddress digits
+  pub whole : form ≡ length digits ∷ digits
+
+-- a text is an address, as it is
+abbrev pub SpellsPsdnAddress : List ℕ → List ℕ → Type 0
+SpellsPsdnAddress text form = IsPsdnAddress text × (form ≡ length text ∷ text)
+
+abbrev pub PsdnAddressReason : Bool → List ℕ → FieldError → Type 0
+PsdnAddressReason quoted text e = (e ≡ Kind ExpectedPsdnAddress) × (IsPsdnAddress text → ⊥)
+
+-- an address, whether in quotes or not; it is printed in quotes
+abbrev pub psdn_address_form : FieldForm
+psdn_address_form = record {
+  spells = λ quoted text octets. SpellsPsdnAddress text octets;
+  reason = PsdnAddressReason;
+  is_wire = IsWirePsdnAddress;
   quotes = true;
   printed = string_in_quotes;
 }

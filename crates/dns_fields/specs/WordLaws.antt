@@ -15,11 +15,11 @@ use Rattle.dns_kinds.specs.Eui.{AreEuiOctets, SpellsEui48, SpellsEui64, dashed_t
 use Rattle.dns_kinds.specs.Locator.{SpellsLocator, locator_text}
 use Rattle.dns_kinds.specs.Time.{IsDate, SpellsDate, seconds_at, date_at, date_text}
 use Rattle.dns_kinds.specs.Ttl.{SpellsInterval}
-use Rattle.dns_kinds.specs.Types.{SpellsType, type_text}
+use Rattle.dns_kinds.specs.Types.{SpellsPortable, portable_text, SpellsSigType, sig_type_text}
 use Rattle.dns_kinds.specs.declared.addresses.Ipv6Shown.{Ipv6Shown}
 use Rattle.dns_kinds.specs.declared.algorithms.Algorithm.{Algorithm}
 use Rattle.dns_kinds.proofs.AddressLaws.{ipv4_is_kind, ipv6_is_kind}
-use Rattle.dns_kinds.proofs.CodeLaws.{types_are_kind, algorithms_are_kind, numbers_of_algorithms_are_kind, certificates_are_kind}
+use Rattle.dns_kinds.proofs.CodeLaws.{portable_types_are_kind, sig_types_are_kind, algorithms_are_kind, numbers_of_algorithms_are_kind, certificates_are_kind}
 use Rattle.dns_kinds.proofs.DateLaws.{dates_are_kind}
 use Rattle.dns_kinds.proofs.DatesAt.{seconds_have_dates}
 use Rattle.dns_kinds.proofs.LocatorLaws.{locators_are_kind}
@@ -172,8 +172,11 @@ ipv6_is_word = record {
     address : List ℕ → Ipv6Shown
     address octets = record { 0 = record { segments = segments_of octets } }
 
-pub type_is_word : IsWordKind 2 (λ t. t.0 < 2 ^ 16) SpellsType (λ t. to_be_bytes w16 t.0) (λ octets. type_text (record { 0 = from_be_bytes w16 octets }))
-type_is_word = of_kind 2 (λ t. t.0 < 2 ^ 16) SpellsType type_text (λ t. to_be_bytes w16 t.0) (λ octets. record { 0 = from_be_bytes w16 octets }) types_are_kind (λ t small. octets16 t.0) number16_of
+pub type_is_word : IsWordKind 2 (λ t. t.0.0 < 2 ^ 16) SpellsPortable (λ t. to_be_bytes w16 t.0.0) (λ octets. portable_text (record { 0 = from_be_bytes w16 octets }))
+type_is_word = of_kind 2 (λ t. t.0.0 < 2 ^ 16) SpellsPortable (λ t. portable_text t.0) (λ t. to_be_bytes w16 t.0.0) (λ octets. record { 0 = record { 0 = from_be_bytes w16 octets } }) portable_types_are_kind (λ t small. octets16 t.0.0) number16_of
+
+pub sig_type_is_word : IsWordKind 2 (λ t. t.0.0 < 2 ^ 16) SpellsSigType (λ t. to_be_bytes w16 t.0.0) (λ octets. sig_type_text (record { 0 = from_be_bytes w16 octets }))
+sig_type_is_word = of_kind 2 (λ t. t.0.0 < 2 ^ 16) SpellsSigType (λ t. sig_type_text t.0) (λ t. to_be_bytes w16 t.0.0) (λ octets. record { 0 = record { 0 = from_be_bytes w16 octets } }) sig_types_are_kind (λ t small. octets16 t.0.0) number16_of
 
 pub certificate_is_word : IsWordKind 2 (λ t. t.0 < 2 ^ 16) SpellsCertificate (λ t. to_be_bytes w16 t.0) (λ octets. certificate_text (record { 0 = from_be_bytes w16 octets }))
 certificate_is_word = of_kind 2 (λ t. t.0 < 2 ^ 16) SpellsCertificate certificate_text (λ t. to_be_bytes w16 t.0) (λ octets. record { 0 = from_be_bytes w16 octets }) certificates_are_kind (λ t small. octets16 t.0) number16_of

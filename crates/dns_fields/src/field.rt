@@ -8,12 +8,15 @@ ghost use Rattle.dns_fields.specs.Forms.{ReadsField, token_text};
 
 use crate::error::FieldError;
 use crate::texts::{
-    append_hash_field, append_name_field, append_salt_field, append_string_field, append_tag_field,
-    hash_field_width, write_hash, write_salt, write_string, write_tag,
+    append_hash_field, append_name_field, append_psdn_address, append_salt_field,
+    append_string_field, append_tag_field, hash_field_width, psdn_address_width, write_hash,
+    write_psdn_address, write_salt, write_string, write_tag,
 };
 use crate::word::{append_word, word_width, write_word};
 use crate::words::{AlgorithmNumber, Interval};
-use dns_kinds::{Algorithm, CertificateType, Date, Eui48, Eui64, Ipv6Shown, Locator, RecordType};
+use dns_kinds::{
+    Algorithm, CertificateType, Date, Eui48, Eui64, Ipv6Shown, Locator, PortableType, SigType,
+};
 use dns_octets::{AsOctets, OctetsBuilder};
 use dns_spelling::{NameText, name_width, string_width, tag_width};
 use dns_split::entry_tokens::EntryToken;
@@ -38,6 +41,8 @@ pub enum Field {
     Ipv6,
     /// A type of records.
     RecordType,
+    /// The type that a SIG covers, which may be the digit 0.
+    SigType,
     /// An algorithm of keys and signatures, which prints as its number.
     Algorithm,
     /// The same, which prints as its name.
@@ -54,6 +59,8 @@ pub enum Field {
     Locator,
     /// A character string, in quotes or not.
     String,
+    /// A character string of 4 digits or more, without escapes.
+    PsdnAddress,
     /// A tag of letters and digits.
     Tag,
     /// A salt.
@@ -80,7 +87,8 @@ pub fn append_field<Octets: AsOctets, B: OctetsBuilder>(
         Field::Interval => append_word::<Interval, B>(token, target),
         Field::Ipv4 => append_word::<Ipv4Addr, B>(token, target),
         Field::Ipv6 => append_word::<Ipv6Shown, B>(token, target),
-        Field::RecordType => append_word::<RecordType, B>(token, target),
+        Field::RecordType => append_word::<PortableType, B>(token, target),
+        Field::SigType => append_word::<SigType, B>(token, target),
         Field::Algorithm => append_word::<AlgorithmNumber, B>(token, target),
         Field::NamedAlgorithm => append_word::<Algorithm, B>(token, target),
         Field::CertificateType => append_word::<CertificateType, B>(token, target),
@@ -89,6 +97,7 @@ pub fn append_field<Octets: AsOctets, B: OctetsBuilder>(
         Field::Time => append_word::<Date, B>(token, target),
         Field::Locator => append_word::<Locator, B>(token, target),
         Field::String => append_string_field(token, target),
+        Field::PsdnAddress => append_psdn_address(token, target),
         Field::Tag => append_tag_field(token, target),
         Field::Salt => append_salt_field(token, target),
         Field::Hash => append_hash_field(token, target),
@@ -107,7 +116,8 @@ pub fn field_width(field: Field, octets: &[u8]) -> Option<usize>
         Field::Interval => word_width::<Interval>(octets),
         Field::Ipv4 => word_width::<Ipv4Addr>(octets),
         Field::Ipv6 => word_width::<Ipv6Shown>(octets),
-        Field::RecordType => word_width::<RecordType>(octets),
+        Field::RecordType => word_width::<PortableType>(octets),
+        Field::SigType => word_width::<SigType>(octets),
         Field::Algorithm => word_width::<AlgorithmNumber>(octets),
         Field::NamedAlgorithm => word_width::<Algorithm>(octets),
         Field::CertificateType => word_width::<CertificateType>(octets),
@@ -116,6 +126,7 @@ pub fn field_width(field: Field, octets: &[u8]) -> Option<usize>
         Field::Time => word_width::<Date>(octets),
         Field::Locator => word_width::<Locator>(octets),
         Field::String => string_width(octets),
+        Field::PsdnAddress => psdn_address_width(octets),
         Field::Tag => tag_width(octets),
         Field::Salt => string_width(octets),
         Field::Hash => hash_field_width(octets),
@@ -139,7 +150,8 @@ pub fn write_field<W: fmt::Write>(
         Field::Interval => write_word::<Interval, W>(octets, f),
         Field::Ipv4 => write_word::<Ipv4Addr, W>(octets, f),
         Field::Ipv6 => write_word::<Ipv6Shown, W>(octets, f),
-        Field::RecordType => write_word::<RecordType, W>(octets, f),
+        Field::RecordType => write_word::<PortableType, W>(octets, f),
+        Field::SigType => write_word::<SigType, W>(octets, f),
         Field::Algorithm => write_word::<AlgorithmNumber, W>(octets, f),
         Field::NamedAlgorithm => write_word::<Algorithm, W>(octets, f),
         Field::CertificateType => write_word::<CertificateType, W>(octets, f),
@@ -148,6 +160,7 @@ pub fn write_field<W: fmt::Write>(
         Field::Time => write_word::<Date, W>(octets, f),
         Field::Locator => write_word::<Locator, W>(octets, f),
         Field::String => write_string(octets, f),
+        Field::PsdnAddress => write_psdn_address(octets, f),
         Field::Tag => write_tag(octets, f),
         Field::Salt => write_salt(octets, f),
         Field::Hash => write_hash(octets, f),

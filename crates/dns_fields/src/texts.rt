@@ -1,13 +1,16 @@
-//! Fields that are octets in a token: character strings, tags and salts.
+//! Fields that are octets in a token: character strings, addresses of X25, tags and salts.
+ghost use Rattle.std.specs.Prelude.{◌≡◌, MatchBool};
+ghost use Rattle.std.specs.Char.{is_ascii_digit};
+ghost use Rattle.std.specs.List.{list_all};
 ghost use Rattle.std.specs.Option.{option_copied};
 ghost use Rattle.std.specs.Fmt.{WritesOnOk};
 ghost use Rattle.dns_spelling.specs.Forms.{FindsWidth, IsWireString, IsWireTag};
-ghost use Rattle.dns_fields.specs.Forms.{IsWireHash, ReadsField, token_text, hash_form, name_form, salt_form, string_form, tag_form};
+ghost use Rattle.dns_fields.specs.Forms.{IsPsdnAddress, IsWireHash, IsWirePsdnAddress, ReadsField, token_text, hash_form, name_form, psdn_address_form, salt_form, string_form, tag_form};
 
 use crate::error::FieldError;
 use dns_codec::base32;
 use dns_digits::append_base32hex;
-use dns_kinds::Salt;
+use dns_kinds::{KindError, Salt};
 use dns_octets::{AsOctets, OctetsBuilder};
 use dns_spelling::{QuotedOctets, TagText, append_name, append_string, append_tag, string_width};
 use dns_split::entry_tokens::EntryToken;
@@ -25,6 +28,52 @@ pub(crate) fn append_string_field<B: OctetsBuilder>(
         Ok(()) => Ok(()),
         Err(why) => Err(FieldError::from(why)),
     }
+}
+
+/// The fewest digits of an address of X25: those of the network.
+const FEWEST_DIGITS: usize = 4;
+
+/// The most digits, as a character string holds them.
+const MOST_DIGITS: usize = 255;
+
+/// Whether octets are digits.
+fn are_digits(octets: &[u8]) -> bool
+    ensures { result ≡ list_all is_ascii_digit octets.now }
+{
+    octets.iter().all(|octet| octet.is_ascii_digit())
+}
+
+/// Whether octets are the digits of an address of X25.
+fn is_psdn_address(octets: &[u8]) -> bool
+    ensures { MatchBool result (IsPsdnAddress octets.now) (¬ IsPsdnAddress octets.now) }
+{
+    octets.len() >= FEWEST_DIGITS && octets.len() <= MOST_DIGITS && are_digits(octets)
+}
+
+/// Appends the address of X25 (RFC 1183 section 3.1) that a token is.
+pub(crate) fn append_psdn_address<B: OctetsBuilder>(
+    token: &EntryToken<'_>,
+    target: &mut B,
+) -> Result<(), FieldError>
+    ensures { ReadsField B.room psdn_address_form token.now.is_quoted token.now.text.now (B.octets target.old) result (B.octets target.new) }
+{
+    if !is_psdn_address(token.text) {
+        return Err(FieldError::Kind(KindError::ExpectedPsdnAddress));
+    }
+    target.append_slice(&[token.text.len() as u8])?;
+    target.append_slice(token.text)?;
+    Ok(())
+}
+
+/// How many of the octets in front are an address of X25.
+pub(crate) fn psdn_address_width(octets: &[u8]) -> Option<usize>
+    ensures { FindsWidth IsWirePsdnAddress octets.now result }
+{
+    let width = string_width(octets)?;
+    if !is_psdn_address(&octets[1..width]) {
+        return None;
+    }
+    Some(width)
 }
 
 /// Appends the tag that a word is.
@@ -109,6 +158,18 @@ pub(crate) fn write_string<W: fmt::Write>(octets: &[u8], f: &mut fmt::Formatter<
 {
     let string = &octets[1..];
     write!(f, "{}", QuotedOctets(string))
+}
+
+/// Prints an address of X25 in quotes.
+pub(crate) fn write_psdn_address<W: fmt::Write>(
+    octets: &[u8],
+    f: &mut fmt::Formatter<W>,
+) -> fmt::Result
+    requires { IsWirePsdnAddress octets.now }
+    ensures { WritesOnOk W.write_str_gives f.old result (token_text psdn_address_form octets.now) f.new }
+{
+    let digits = &octets[1..];
+    write!(f, "{}", QuotedOctets(digits))
 }
 
 /// Prints a tag.

@@ -10,16 +10,16 @@ ghost use Rattle.dns_kinds.specs.Eui.{AreEuiOctets, SpellsEui48, SpellsEui64, da
 ghost use Rattle.dns_kinds.specs.Locator.{SpellsLocator, locator_text};
 ghost use Rattle.dns_kinds.specs.Time.{IsDate, SpellsDate, seconds_at, date_at, date_text};
 ghost use Rattle.dns_kinds.specs.Ttl.{SpellsInterval};
-ghost use Rattle.dns_kinds.specs.Types.{SpellsType, type_text};
+ghost use Rattle.dns_kinds.specs.Types.{SpellsPortable, portable_text, SpellsSigType, sig_type_text};
 ghost use Rattle.dns_kinds.specs.declared.error.KindError.TheVariants.{ExpectedIpv4, ExpectedIpv6, ExpectedInterval, UnknownType, UnknownAlgorithm, UnknownCertificate, ExpectedEui48, ExpectedEui64, ExpectedTime, ExpectedLocator};
 ghost use Rattle.dns_fields.specs.Words.{SpellsBelow, NumberReason};
-ghost use Rattle.dns_fields.specs.WordLaws.{number8_is_kind, number16_is_kind, number32_is_kind, interval_is_kind, ipv4_is_word, ipv6_is_word, type_is_word, algorithm_is_word, certificate_is_word, named_algorithm_is_word, eui48_is_word, eui64_is_word, date_is_word, locator_is_word};
+ghost use Rattle.dns_fields.specs.WordLaws.{number8_is_kind, number16_is_kind, number32_is_kind, interval_is_kind, ipv4_is_word, ipv6_is_word, type_is_word, sig_type_is_word, algorithm_is_word, certificate_is_word, named_algorithm_is_word, eui48_is_word, eui64_is_word, date_is_word, locator_is_word};
 
 use crate::word::Word;
 use dns_kinds::numbers::{u8_from_text, u16_from_text, u32_from_text};
 use dns_kinds::{
-    Algorithm, CertificateType, Date, Eui48, Eui64, Ipv6Shown, KindError, Locator, RecordType,
-    interval_from_text, ipv4_from_text, ipv6_from_text,
+    Algorithm, CertificateType, Date, Eui48, Eui64, Ipv6Shown, KindError, Locator, PortableType,
+    RecordType, SigType, interval_from_text, ipv4_from_text, ipv6_from_text,
 };
 use dns_octets::{OctetsBuilder, ShortBuf};
 use std::fmt;
@@ -261,36 +261,71 @@ impl Word for Ipv6Shown {
     ghost is_kind = { ipv6_is_word };
 }
 
-impl Word for RecordType {
+impl Word for PortableType {
     ghost width = { 2 };
 
-    ghost valid = { λ t. t.0 < 2 ^ 16 };
+    ghost valid = { λ t. t.0.0 < 2 ^ 16 };
 
-    ghost spells = { SpellsType };
+    ghost spells = { SpellsPortable };
 
     ghost reason = { λ _ e. e ≡ UnknownType };
 
-    ghost wire = { λ t. to_be_bytes w16 t.0 };
+    ghost wire = { λ t. to_be_bytes w16 t.0.0 };
 
-    ghost printed = { λ octets. type_text (record { 0 = from_be_bytes w16 octets }) };
+    ghost printed = { λ octets. portable_text (record { 0 = from_be_bytes w16 octets }) };
 
     fn width() -> usize {
         2
     }
 
     fn from_text(text: &[u8]) -> Result<Self, KindError> {
-        RecordType::from_text(text)
+        match RecordType::from_text(text) {
+            Ok(value) => Ok(PortableType(value)),
+            Err(why) => Err(why),
+        }
     }
 
     fn from_wire(octets: &[u8]) -> Self {
-        RecordType(u16::from_be_bytes(array_of(octets)))
+        PortableType(RecordType(u16::from_be_bytes(array_of(octets))))
     }
 
     fn append<B: OctetsBuilder>(&self, target: &mut B) -> Result<(), ShortBuf> {
-        target.append_slice(&self.0.to_be_bytes())
+        target.append_slice(&self.0.0.to_be_bytes())
     }
 
     ghost is_kind = { type_is_word };
+}
+
+impl Word for SigType {
+    ghost width = { 2 };
+
+    ghost valid = { λ t. t.0.0 < 2 ^ 16 };
+
+    ghost spells = { SpellsSigType };
+
+    ghost reason = { λ _ e. e ≡ UnknownType };
+
+    ghost wire = { λ t. to_be_bytes w16 t.0.0 };
+
+    ghost printed = { λ octets. sig_type_text (record { 0 = from_be_bytes w16 octets }) };
+
+    fn width() -> usize {
+        2
+    }
+
+    fn from_text(text: &[u8]) -> Result<Self, KindError> {
+        SigType::from_text(text)
+    }
+
+    fn from_wire(octets: &[u8]) -> Self {
+        SigType(RecordType(u16::from_be_bytes(array_of(octets))))
+    }
+
+    fn append<B: OctetsBuilder>(&self, target: &mut B) -> Result<(), ShortBuf> {
+        target.append_slice(&self.0.0.to_be_bytes())
+    }
+
+    ghost is_kind = { sig_type_is_word };
 }
 
 impl Word for AlgorithmNumber {

@@ -1,12 +1,12 @@
 -- What records are printed as spells them again.
 use Rattle.std.proofs.Common.{ℕ, ◌≡◌, ◌≢◌, ◌<◌, ◌^◌, Bool, true, false, true≢false, Option, List, [], ◌∷◌, ◌++◌, refl, sym, ap, subst, ◌∙◌, arith, length, append_assoc, map}
-use Rattle.std.specs.Prelude.{if◌then◌else◌, ◌&&◌, nat_lt, nat_le, All, slice_index}
+use Rattle.std.specs.Prelude.{is_some, if◌then◌else◌, ◌&&◌, nat_lt, nat_le, All, slice_index}
 use Rattle.std.specs.List.{flat_map}
 use Rattle.std.proofs.lemmas.List.Elements.{All-head}
 use Rattle.dns_kinds.specs.Classes.{SpellsClass}
 use Rattle.dns_kinds.specs.Ttl.{SpellsTtl}
-use Rattle.dns_kinds.specs.Types.{SpellsType}
-use Rattle.dns_kinds.proofs.CodeLaws.{types_are_kind, classes_are_kind}
+use Rattle.dns_kinds.specs.Types.{SpellsType, type_text, portable_text}
+use Rattle.dns_kinds.proofs.CodeLaws.{types_are_kind, portable_types_are_kind, classes_are_kind}
 use Rattle.dns_kinds.proofs.TtlLaws.{ttls_are_kind}
 use Rattle.dns_spelling.specs.NameSpelling.{IsOrigin, IsWireName, SpellsName, dotted_parts}
 use Rattle.dns_spelling.specs.PrintedNames.{is_name_escape, name_symbol, name_label, wire_name_text}
@@ -18,8 +18,9 @@ use Rattle.dns_symbol.specs.Symbol.{spell}
 use Rattle.dns_symbol.specs.declared.symbol.Symbol.TheVariants.{Char, SimpleEscape, DecimalEscape}
 use Rattle.dns_wire.specs.Printed.{dotted_by}
 use Rattle.dns_wire.specs.Wire.{wire, IsPlain}
+use Rattle.dns_data.specs.ByType.{shape_of_code}
 use Rattle.dns_data.specs.Rests.{ArePrinted}
-use Rattle.dns_resource.specs.Records.{data_of, record_tokens}
+use Rattle.dns_resource.specs.Records.{data_of, record_tokens, record_type_text}
 use Rattle.dns_resource.specs.RecordLaws.{AreRecordValues, SpellsRecord, IsOwnerWord}
 use Rattle.dns_resource.specs.declared.record.Record.{Record}
 use Rattle.dns_resource.proofs.DataBack.{type_data_back}
@@ -69,6 +70,14 @@ owner_word form h =
 
 -- ---- records
 
+-- what a record's type is printed as spells it
+type_spelled : (code : ℕ) → code < 2 ^ 16 → SpellsType (record_type_text code) (record { 0 = code })
+type_spelled code small = by (is_some (shape_of_code code))
+  where
+    by : (shaped : Bool) → SpellsType (if shaped then type_text (record { 0 = code }) else portable_text (record { 0 = code })) (record { 0 = code })
+    by true = types_are_kind.spelled (record { 0 = code }) small
+    by false = portable_types_are_kind.spelled (record { 0 = record { 0 = code } }) small
+
 pub record_back : {N O : Type 0} (r : Record N O) (origin : Option (List (List ℕ))) (tokens : List TokenSeen) → AreRecordValues r → IsOrigin origin → r.ttl < 2 ^ 31 → ArePrinted (record_tokens r) tokens
     → SpellsRecord origin tokens r
 record_back r origin [] values known small p = absurd p
@@ -81,7 +90,7 @@ record_back r origin (owner ∷ ttl ∷ class ∷ type ∷ others) values known 
     owner_is = subst (λ text. SpellsName origin text (wire r.owner)) (sym p.1) ((names_spelled origin known).back (wire r.owner) values.owner);
     ttl_is = subst (λ text. SpellsTtl text r.ttl) (sym p.3.1) (ttls_are_kind.spelled r.ttl small);
     class_is = subst (λ text. SpellsClass text (record { 0 = r.class })) (sym p.3.3.1) (classes_are_kind.spelled (record { 0 = r.class }) values.class);
-    type_is = subst (λ text. SpellsType text (record { 0 = (data_of r).code })) (sym p.3.3.3.1) (types_are_kind.spelled (record { 0 = (data_of r).code }) values.type);
+    type_is = subst (λ text. SpellsType text (record { 0 = (data_of r).code })) (sym p.3.3.3.1) (type_spelled (data_of r).code values.type);
   },
   type_data_back origin (data_of r).code (data_of r).octets others known values.octets values.typed p.3.3.3.3,
 )

@@ -16,13 +16,13 @@ use Rattle.dns_codec.specs.Base.{base64}
 use Rattle.dns_digits.proofs.Spelling.{size64}
 use Rattle.dns_fields.specs.Fields.{field_form}
 use Rattle.dns_fields.specs.declared.field.Field.{Field}
-use Rattle.dns_fields.specs.declared.field.Field.TheVariants.{Number8, Number16, Number32, Ipv4, Ipv6, RecordType, CertificateType, Eui48, Eui64, String, Name}
+use Rattle.dns_fields.specs.declared.field.Field.TheVariants.{Number8, Number16, Number32, Ipv4, Ipv6, RecordType, SigType, CertificateType, Eui48, Eui64, String, PsdnAddress, Name}
 use Rattle.dns_fields.proofs.FormLaws.{fields_are_forms}
 use Rattle.dns_kinds.specs.Addresses.{has_ipv4_end, shown_ipv6}
 use Rattle.dns_kinds.specs.Algorithms.{certificate_rows}
 use Rattle.dns_kinds.specs.Eui.{dashed_text}
 use Rattle.dns_kinds.specs.Registry.{Row, SpellsCode, code_text}
-use Rattle.dns_kinds.specs.Types.{type_rows, type_prefix, type_text}
+use Rattle.dns_kinds.specs.Types.{type_rows, type_prefix, type_text, is_portable, portable_text, sig_type_text}
 use Rattle.dns_places.specs.LocationWords.{IsPossible, angle_from, location_words}
 use Rattle.dns_places.specs.Prefixes.{address_text, exclusion, family_of, prefix_text}
 use Rattle.dns_places.specs.declared.apl.Prefix.{Prefix}
@@ -132,8 +132,25 @@ types_plain : are_plain type_rows ≡ true
 unfolding type_rows
 types_plain = refl
 
-no_type : (code : ℕ) → type_text (record { 0 = code }) ≡ mark → ⊥
-no_type code is = not_escaped (type_text (record { 0 = code })) (code_plain type_rows type_prefix code types_plain refl) is
+type_plain : (code : ℕ) → begins_escaped (portable_text (record { 0 = code })) ≡ false
+type_plain code = by (is_portable code)
+  where
+    by : (known : Bool) → begins_escaped (if known then type_text (record { 0 = code }) else type_prefix ++ decimal code) ≡ false
+    by true = code_plain type_rows type_prefix code types_plain refl
+    by false = refl
+
+sig_type_plain : (code : ℕ) → begins_escaped (sig_type_text (record { 0 = code })) ≡ false
+sig_type_plain code = by (code == 0)
+  where
+    by : (none : Bool) → begins_escaped (if none then codes "0" else portable_text (record { 0 = code })) ≡ false
+    by true = refl
+    by false = type_plain code
+
+no_type : (code : ℕ) → portable_text (record { 0 = code }) ≡ mark → ⊥
+no_type code is = not_escaped (portable_text (record { 0 = code })) (type_plain code) is
+
+no_sig_type : (code : ℕ) → sig_type_text (record { 0 = code }) ≡ mark → ⊥
+no_sig_type code is = not_escaped (sig_type_text (record { 0 = code })) (sig_type_plain code) is
 
 no_certificate : (code : ℕ) → SpellsCode certificate_rows [] 65535 mark code → ⊥
 no_certificate code h = omega (arith, h.1.0.1.0)
@@ -195,10 +212,12 @@ shows_no_mark Number32 = true
 shows_no_mark Ipv4 = true
 shows_no_mark Ipv6 = true
 shows_no_mark RecordType = true
+shows_no_mark SigType = true
 shows_no_mark CertificateType = true
 shows_no_mark Eui48 = true
 shows_no_mark Eui64 = true
 shows_no_mark String = true
+shows_no_mark PsdnAddress = true
 shows_no_mark Name = true
 shows_no_mark f = false
 
@@ -209,12 +228,14 @@ field_unmarked Number32 form shown is m = no_numeral _ ((fields_are_forms None t
 field_unmarked Ipv4 form shown is m = no_ipv4 form (λ k. octet_below form is.1 k) m.1
 field_unmarked Ipv6 form shown is m = no_ipv6 (segments_of form) (segments_below form is.1) m.1
 field_unmarked RecordType form shown is m = no_type (from_be_bytes w16 form) m.1
+field_unmarked SigType form shown is m = no_sig_type (from_be_bytes w16 form) m.1
 field_unmarked CertificateType form shown is m =
     let back = ((fields_are_forms None tt CertificateType).back form is).1 in
     no_certificate back.0.0 (subst (λ text. SpellsCode certificate_rows [] 65535 text back.0.0) m.1 back.2)
 field_unmarked Eui48 form shown is m = no_dashed form (omega (arith, is.0)) m.1
 field_unmarked Eui64 form shown is m = no_dashed form (omega (arith, is.0)) m.1
 field_unmarked String form shown is m = absurd (true≢false m.0)
+field_unmarked PsdnAddress form shown is m = absurd (true≢false m.0)
 field_unmarked Name form shown is m = no_name form is m.1
 field_unmarked f form shown is m = absurd (true≢false (sym shown))
 

@@ -1,17 +1,22 @@
 -- Records, and the tokens that they are printed as.
-use Rattle.std.specs.Prelude.{List, [], ◌∷◌, ◌++◌, decimal}
+use Rattle.std.specs.Prelude.{ℕ, List, [], ◌∷◌, ◌++◌, decimal, is_some, if◌then◌else◌}
 use Rattle.dns_kinds.specs.Classes.{class_text}
-use Rattle.dns_kinds.specs.Types.{type_text}
+use Rattle.dns_kinds.specs.Types.{type_text, portable_text}
 use Rattle.dns_spelling.specs.PrintedNames.{wire_name_text}
 use Rattle.dns_wire.specs.Wire.{wire}
 use Rattle.dns_zone.specs.Layout.{Step, begin, end}
 use Rattle.dns_zone.specs.Nesting.{IsNested, nested_in_block}
+use Rattle.dns_data.specs.ByType.{shape_of_code}
 use Rattle.dns_data.specs.GatewayKeys.{plain_word}
 use Rattle.dns_data.specs.Printing.{token_steps}
 use Rattle.dns_data.specs.Rests.{PrintedToken}
 use Rattle.dns_resource.specs.DataTokens.{data_tokens, data_document, data_nests, tokens_have_no_line}
 use Rattle.dns_resource.specs.TypeData.{TypeData}
 use Rattle.dns_resource.specs.declared.record.Record.{Record}
+
+-- the type of a record: its name where data of the type is printed in text form, and before the generic form the name only if every reader knows it
+abbrev pub record_type_text : ℕ → List ℕ
+record_type_text code = if is_some (shape_of_code code) then type_text (record { 0 = code }) else portable_text (record { 0 = code })
 
 abbrev pub data_of : {N O : Type 0} → Record N O → TypeData
 data_of r = r.«data»
@@ -20,7 +25,7 @@ data_of r = r.«data»
 abbrev pub head_tokens : {N O : Type 0} → Record N O → List PrintedToken
 head_tokens r =
     plain_word (wire_name_text (wire r.owner)) ∷ plain_word (decimal r.ttl) ∷ plain_word (class_text (record { 0 = r.class }))
-    ∷ plain_word (type_text (record { 0 = (data_of r).code })) ∷ []
+    ∷ plain_word (record_type_text (data_of r).code) ∷ []
 
 -- and behind them the data
 abbrev pub record_tokens : {N O : Type 0} → Record N O → List PrintedToken

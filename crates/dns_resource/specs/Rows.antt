@@ -1,12 +1,14 @@
 -- Worked rows of the definitions, each computed.
-use Rattle.std.specs.Prelude.{◌≡◌, ℕ, List, [], ◌∷◌, ◌++◌, codes, refl}
+use Rattle.std.specs.Prelude.{◌≡◌, ℕ, true, is_some, List, [], ◌∷◌, ◌++◌, codes, refl}
 use Rattle.std.specs.Fmt.{digits}
+use Rattle.std.specs.List.{list_all}
 use Rattle.std.specs.declared.cmp.Ordering.TheVariants.{Less, Equal, Greater}
 use Rattle.dns_codec.specs.Base.{base16, encoded}
-use Rattle.dns_kinds.specs.Types.{type_rows}
+use Rattle.dns_kinds.specs.Types.{type_rows, portable_types}
 use Rattle.dns_spelling.specs.PrintedNames.{labels_in_octets}
 use Rattle.dns_wire.specs.Wire.{wire}
 use Rattle.dns_zone.specs.Layout.{layout, simple_piece, tabbed_piece, multiline_piece}
+use Rattle.dns_data.specs.ByType.{shape_of_code}
 use Rattle.dns_data.specs.GatewayKeys.{plain_word}
 use Rattle.dns_data.specs.Types.{type_shapes}
 use Rattle.dns_resource.specs.CanonicalData.{canonical_data, canonical_record, data_order}
@@ -41,6 +43,23 @@ mail_record = record { owner = below_example (codes "a"); ttl = 3600; class = 1;
 simple_row : layout simple_piece (record_document mail_record) ≡ codes "a.example. 3600 IN MX 10 mail.example."
 unfolding type_shapes type_rows labels_in_octets digits
 simple_row = refl
+
+-- the type is WALLET, which has a text form, and before the generic form a number, as of CLA, which has none
+abbrev other_record : ℕ → List ℕ → Record ℕ ℕ
+other_record code octets = record { owner = below_example (codes "a"); ttl = 3600; class = 1; «data» = record { code = code; octets = octets } }
+
+own_type_row : layout simple_piece (record_document (other_record 262 (1 ∷ 65 ∷ []))) ≡ codes "a.example. 3600 IN WALLET \"A\""
+unfolding type_shapes type_rows labels_in_octets digits
+own_type_row = refl
+
+numbered_row : layout simple_piece (record_document (other_record 263 [])) ≡ codes "a.example. 3600 IN TYPE263 \\# 0"
+unfolding type_shapes type_rows labels_in_octets digits
+numbered_row = refl
+
+-- each type whose name is known to every reader has a text form
+portable_row : list_all (λ code. is_some (shape_of_code code)) portable_types ≡ true
+unfolding type_shapes
+portable_row = refl
 
 tabbed_row : layout tabbed_piece (record_document mail_record) ≡ codes "a.example.\t3600\tIN\tMX\t10 mail.example."
 unfolding type_shapes type_rows labels_in_octets digits
@@ -92,14 +111,10 @@ type_row : data_order (named_data 5 (codes "a")) (named_data 2 (codes "b")) ≡ 
 unfolding type_shapes
 type_row = refl
 
--- the names of PX are lowered where both are there (RFC 2163 section 4), and what is behind the name of NXT stays
+-- the names of PX are lowered (RFC 2163 section 4), and what is behind the name of NXT stays
 map_row : canonical_data 26 (0 ∷ 10 ∷ (wire (below_example (codes "MAP")) ++ wire (below_example (codes "X4")))) ≡ 0 ∷ 10 ∷ (wire (below_example (codes "map")) ++ wire (below_example (codes "x4")))
 unfolding type_shapes
 map_row = refl
-
-cut_row : canonical_data 26 (0 ∷ 10 ∷ wire (below_example (codes "MAP"))) ≡ 0 ∷ 10 ∷ wire (below_example (codes "MAP"))
-unfolding type_shapes
-cut_row = refl
 
 next_row : canonical_data 30 (wire (below_example (codes "NXT")) ++ codes "@A") ≡ wire (below_example (codes "nxt")) ++ codes "@A"
 unfolding type_shapes
@@ -109,6 +124,11 @@ next_row = refl
 prefix_row : canonical_data 38 (120 ∷ 65 ∷ wire (below_example (codes "NET"))) ≡ 120 ∷ 65 ∷ wire (below_example (codes "net"))
 unfolding type_shapes
 prefix_row = refl
+
+-- an A6 whose name is cut off stays as it is
+cut_row : canonical_data 38 (120 ∷ 65 ∷ 3 ∷ codes "NE") ≡ 120 ∷ 65 ∷ 3 ∷ codes "NE"
+unfolding type_shapes
+cut_row = refl
 
 maps_row : data_order (record { code = 26; octets = 0 ∷ 10 ∷ (wire (below_example (codes "MAP")) ++ 0 ∷ []) }) (record { code = 26; octets = 0 ∷ 10 ∷ (wire (below_example (codes "map")) ++ 0 ∷ []) }) ≡ Equal
 unfolding type_shapes

@@ -31,10 +31,10 @@ fn lowered_fields(code: u16, octets: &[u8]) -> &'static [Field]
 /// Appends the canonical form of data of a type: its names in lower case where
 /// [`lowers_names`] says so, and all other octets as they stand.
 ///
-/// The fields are those of the type's text form. Of the types without one, data of MD, MF, SIG, PX,
-/// NXT and A6 has names that are lowered where it begins as the type's data does; else, and of other
-/// types, it stands as it is (RFC 3597 section 7). Octets that don't begin with the fields of a text
-/// form are [`CanonicalError::BadData`]. After an error some octets may have been appended.
+/// The fields are those of the type's text form. Of the types without one, data of MD, MF, NXT and
+/// A6 has names that are lowered where it begins as the type's data does; else, and of other types,
+/// it stands as it is (RFC 3597 section 7). Octets that don't begin with the fields of a text form
+/// are [`CanonicalError::BadData`]. After an error some octets may have been appended.
 pub fn append_canonical_data<B: OctetsBuilder>(
     code: u16,
     octets: &[u8],

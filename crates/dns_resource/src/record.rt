@@ -1,15 +1,17 @@
 //! Records.
-ghost use Rattle.std.specs.Prelude.{◌≡◌};
+ghost use Rattle.std.specs.Prelude.{◌≡◌, Some};
 ghost use Rattle.dns_spelling.specs.NameSpelling.{IsWireName};
 ghost use Rattle.dns_wire.specs.Wire.{wire, IsName};
-ghost use Rattle.dns_resource.specs.Records.{record_document, record_nests};
+ghost use Rattle.dns_resource.specs.Records.{record_document, record_nests, record_type_text};
 
 use crate::data::Data;
-use dns_kinds::{Class, RecordType};
+use dns_data::type_row;
+use dns_kinds::{Class, PortableType, RecordType};
 use dns_octets::AsOctets;
 use dns_spelling::NameText;
 use dns_wire::Name;
 use dns_zone::zonefile_fmt::{self, FormatWriter, Formatter, ZonefileFmt};
+use std::fmt;
 
 /// The octets of a name on the wire.
 pub(crate) fn name_octets<Octets: AsOctets>(name: &Name<Octets>) -> &[u8]
@@ -20,6 +22,23 @@ pub(crate) fn name_octets<Octets: AsOctets>(name: &Name<Octets>) -> &[u8]
     // No effect at run time: the proof reads that the octets are below 256.
     let _octets = AsOctets::as_slice(name);
     name.as_slice()
+}
+
+/// The type of a record. It prints as its name where record data of the type print in text form, and
+/// before the generic form as its name only if every reader knows that (RFC 3597 section 5).
+#[derive(Clone, Copy)]
+struct OwnType(u16);
+
+impl fmt::Display for OwnType {
+    ghost output = { λ t. Some (record_type_text t.0) };
+
+    fn fmt<W: fmt::Write>(&self, f: &mut fmt::Formatter<W>) -> fmt::Result {
+        let own = RecordType(self.0);
+        match type_row(self.0) {
+            Some(_) => write!(f, "{own}"),
+            None => write!(f, "{}", PortableType(own)),
+        }
+    }
 }
 
 /// A record (RFC 1035 section 3.2): its owner, its time to live in seconds, the code of its class,
@@ -43,7 +62,7 @@ impl<Owner: AsOctets, Octets: AsOctets> ZonefileFmt for Record<Owner, Octets> {
         p.write_token(NameText(name_octets(&self.owner)))?;
         p.write_token(self.ttl)?;
         p.write_token(Class(self.class))?;
-        p.write_token(RecordType(self.data.code()))?;
+        p.write_token(OwnType(self.data.code()))?;
         p.block(&self.data)
     }
 }

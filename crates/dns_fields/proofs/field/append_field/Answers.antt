@@ -21,6 +21,9 @@ returns-in-Ipv6 g c = rw c.in-Ipv6.is c.append_word-in-Ipv6.ensures.reads
 pub returns-in-RecordType : goal.returns-in-RecordType
 returns-in-RecordType g c = rw c.in-RecordType.is c.append_word-in-RecordType.ensures.reads
 
+pub returns-in-SigType : goal.returns-in-SigType
+returns-in-SigType g c = rw c.in-SigType.is c.append_word-in-SigType.ensures.reads
+
 pub returns-in-Algorithm : goal.returns-in-Algorithm
 returns-in-Algorithm g c = rw c.in-Algorithm.is c.append_word-in-Algorithm.ensures.reads
 
@@ -44,6 +47,9 @@ returns-in-Locator g c = rw c.in-Locator.is c.append_word-in-Locator.ensures.rea
 
 pub returns-in-String : goal.returns-in-String
 returns-in-String g c = rw c.in-String.is c.append_string_field.ensures
+
+pub returns-in-PsdnAddress : goal.returns-in-PsdnAddress
+returns-in-PsdnAddress g c = rw c.in-PsdnAddress.is c.append_psdn_address.ensures
 
 pub returns-in-Tag : goal.returns-in-Tag
 returns-in-Tag g c = rw c.in-Tag.is c.append_tag_field.ensures

@@ -3,6 +3,9 @@ use Rattle.dns_fields.proofs.field.field_width.Goals as goal
 pub returns-in-String : goal.returns-in-String
 returns-in-String c = rw c.in-String.is c.string_width.ensures
 
+pub returns-in-PsdnAddress : goal.returns-in-PsdnAddress
+returns-in-PsdnAddress c = rw c.in-PsdnAddress.is c.psdn_address_width.ensures
+
 pub returns-in-Tag : goal.returns-in-Tag
 returns-in-Tag c = rw c.in-Tag.is c.tag_width.ensures
 
