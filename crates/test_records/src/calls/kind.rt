@@ -23,10 +23,12 @@ fn number_kind(name: &[u8]) -> Option<Field> {
 fn kind_of(name: &[u8]) -> Option<Field> {
     match name {
         b"type" => Some(Field::RecordType),
+        b"sig_type" => Some(Field::SigType),
         b"algorithm" => Some(Field::Algorithm),
         b"named_algorithm" => Some(Field::NamedAlgorithm),
         b"certificate" => Some(Field::CertificateType),
         b"string" => Some(Field::String),
+        b"psdn_address" => Some(Field::PsdnAddress),
         b"tag" => Some(Field::Tag),
         b"salt" => Some(Field::Salt),
         b"hash" => Some(Field::Hash),
