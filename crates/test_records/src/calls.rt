@@ -20,6 +20,7 @@ mod rules;
 mod service;
 mod set;
 mod spelling;
+mod store;
 mod tape;
 mod tell;
 mod zone;
@@ -65,6 +66,7 @@ fn call(name: &str, inputs: &Inputs, answer: &mut Answer) {
         "head" => head::call(name, inputs, answer),
         "record" => record::call(name, inputs, answer),
         "set" => set::call(name, inputs, answer),
+        "store" => store::call(name, inputs, answer),
         "tape" => tape::call(name, inputs, answer),
         "zone" => zone::call(name, inputs, answer),
         _ => answer.fail(Failure::NoCall),

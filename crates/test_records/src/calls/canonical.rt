@@ -5,9 +5,10 @@ ghost use Rattle.dns_spelling.specs.NameSpelling.{IsWireName};
 use super::fields::fields_of;
 use super::tell::{Octets, number16, tell};
 use dns_canonical::{
-    RecordParts, append_canonical_fields, append_lowered, compare_names, compare_octets,
-    compare_records, lowers_names,
+    RecordParts, append_canonical_fields, append_lowered, compare_keys, compare_names,
+    compare_octets, compare_records, lowers_names, push_order_key,
 };
+use dns_octets::ShortBuf;
 use dns_spelling::name_width;
 use row_table::{Answer, Failure, Inputs};
 use std::cmp::Ordering;
@@ -15,6 +16,9 @@ use std::cmp::Ordering;
 pub fn call(name: &str, inputs: &Inputs, answer: &mut Answer) {
     match name {
         "names" => names(inputs.two(answer), answer),
+        "key" => key(inputs.octets(answer), answer),
+        "keys" => keys(inputs.two(answer), answer),
+        "within" => within(inputs.two(answer), answer),
         "lower" => lower(inputs.octets(answer), answer),
         "octets" => octets(inputs.two(answer), answer),
         "data" => data(inputs.two(answer), answer),
@@ -25,7 +29,7 @@ pub fn call(name: &str, inputs: &Inputs, answer: &mut Answer) {
 }
 
 /// What an order is told as.
-fn tell_order(order: Ordering, answer: &mut Answer) {
+pub fn tell_order(order: Ordering, answer: &mut Answer) {
     answer.add_text(match order {
         Ordering::Less => "less",
         Ordering::Equal => "equal",
@@ -53,6 +57,55 @@ fn names((left, right): (&[u8], &[u8]), answer: &mut Answer) {
         return answer.fail(Failure::BadInputs);
     };
     tell_order(compare_names(left, right), answer);
+}
+
+/// Returns the order key of a name, or none, which the answer says why.
+fn key_of<'a>(octets: &[u8], answer: &mut Answer<'a>) -> Option<Octets<'a>> {
+    let Some(name) = name_of(octets) else {
+        answer.fail(Failure::BadInputs);
+        return None;
+    };
+    let mut key: Octets<'a> = Vec::new(answer.heap());
+    if push_order_key(name, &mut key).is_err() {
+        answer.refuse(&ShortBuf);
+        return None;
+    }
+    Some(key)
+}
+
+/// The order key of a name.
+fn key(octets: &[u8], answer: &mut Answer) {
+    if let Some(key) = key_of(octets, answer) {
+        answer.add(key.as_slice());
+    }
+}
+
+/// The order of two names by their keys, and by these without the root's octet.
+fn keys((left, right): (&[u8], &[u8]), answer: &mut Answer) {
+    let Some(left) = key_of(left, answer) else {
+        return;
+    };
+    let Some(right) = key_of(right, answer) else {
+        return;
+    };
+    let order = compare_keys(left.as_slice(), right.as_slice());
+    let below_root = compare_keys(
+        left.as_slice().get(1..).unwrap_or(&[]),
+        right.as_slice().get(1..).unwrap_or(&[]),
+    );
+    answer.hold(order == below_root);
+    tell_order(order, answer);
+}
+
+/// Whether a name is another or below it: its key begins with the other's.
+fn within((name, top): (&[u8], &[u8]), answer: &mut Answer) {
+    let Some(name) = key_of(name, answer) else {
+        return;
+    };
+    let Some(top) = key_of(top, answer) else {
+        return;
+    };
+    answer.add_bool(name.as_slice().starts_with(top.as_slice()));
 }
 
 /// Octets in lower case.
