@@ -1,4 +1,5 @@
-//! Order keys of names: octets whose plain order is the canonical order of names (RFC 4034 section 6.1).
+//! Order keys of names: octets whose plain order is the canonical order of names (RFC 4034 section
+//! 6.1).
 ghost use Rattle.std.specs.Prelude.{ℕ, ◌≡◌, List, ◌++◌, OnOk, OnErr};
 ghost use Rattle.dns_octets.specs.Appending.{Extends};
 ghost use Rattle.dns_octets.specs.Lowered.{lowered};
@@ -12,8 +13,9 @@ use crate::names::front_label;
 use std::alloc::{AllocError, Allocator};
 use std::cmp::Ordering;
 
-/// Appends an octet of a label as it is in a key: 0 and 1 as the pairs `1 1` and `1 2`, and any other
-/// octet as itself. Fails if there is no memory; the first of a pair may then have been appended.
+/// Appends an octet of a label as it is in a key: 0 and 1 as the pairs `1 1` and `1 2`, and any
+/// other octet as itself. Fails if there is no memory; the first of a pair may then have been
+/// appended.
 fn push_key_octet<A: Allocator>(octet: u8, key: &mut Vec<u8, A>) -> Result<(), AllocError>
     ensures ok { OnOk result (key.new.items ≡ key.old.items ++ key_octets octet) }
     ensures err { OnErr result (Extends key.old.items key.new.items) }
@@ -27,8 +29,8 @@ fn push_key_octet<A: Allocator>(octet: u8, key: &mut Vec<u8, A>) -> Result<(), A
     Ok(())
 }
 
-/// Appends a label as it is in a key: its octets in lower case, then a 0. Fails if there is no memory;
-/// the first octets may then have been appended.
+/// Appends a label as it is in a key: its octets in lower case, then a 0. Fails if there is no
+/// memory; the first octets may then have been appended.
 fn push_key_label<A: Allocator>(label: &[u8], key: &mut Vec<u8, A>) -> Result<(), AllocError>
     ensures ok { OnOk result (key.new.items ≡ key.old.items ++ label_key (lowered label.now)) }
     ensures err { OnErr result (Extends key.old.items key.new.items) }
@@ -59,9 +61,9 @@ fn push_key_labels<A: Allocator>(octets: &[u8], key: &mut Vec<u8, A>) -> Result<
 /// case, each followed by a 0. The octets 0 and 1 of a label become the pairs `1 1` and `1 2`, so a
 /// single 0 always ends a label.
 ///
-/// Keys compare octet by octet as their names do in canonical order (RFC 4034 section 6.1). Names that
-/// differ only in case have one key. A key begins with the key of each name above its name. A key has
-/// at most 509 octets.
+/// Keys compare octet by octet as their names do in canonical order (RFC 4034 section 6.1). Names
+/// that differ only in case have one key. A key begins with the key of each name above its name. A
+/// key has at most 509 octets.
 ///
 /// Fails if there is no memory; the first octets of the key may then have been appended.
 pub fn push_order_key<A: Allocator>(octets: &[u8], key: &mut Vec<u8, A>) -> Result<(), AllocError>

@@ -29,10 +29,10 @@ pub fn names_are_ordered()
     ensures below { (name : List (List ℕ)) (label : List ℕ) → name_order name (label ∷ name) ≡ Less }
 {}
 
-/// States that order keys compare octet by octet as their names do in canonical order, that two names
-/// have one key if and only if they differ at most in case, and that a name's key begins with the key
-/// of another if and only if the name is the other or below it. A key has at most twice as many octets
-/// as the name in wire format, less one for each label.
+/// States that order keys compare octet by octet as their names do in canonical order, that two
+/// names have one key if and only if they differ at most in case, and that a name's key begins with
+/// the key of another if and only if the name is the other or below it. A key has at most twice as
+/// many octets as the name in wire format, less one for each label.
 pub fn keys_are_ordered_as_names()
     ensures order { (a b : List (List ℕ)) → name_order a b ≡ octet_order (order_key a) (order_key b) }
     ensures equal { (a b : List (List ℕ)) → (order_key a ≡ order_key b) ↔ (name_order a b ≡ Equal) }

@@ -1,36 +1,30 @@
 -- Each token that a record is printed as is a word, or a quoted text.
 use Rattle.std.proofs.Common.{◌≡◌, ℕ, ◌<◌, ◌^◌, ◌==◌, Bool, true, false, true≢false, List, [], ◌∷◌, ◌++◌, length, decimal, refl, sym, subst, arith, inl, inr, length-append}
-use Rattle.std.specs.Prelude.{codes, cond, unwrap_or, Option, Some, None}
-use Rattle.std.specs.Int.{from_be_bytes, to_be_bytes, w16}
+use Rattle.std.specs.Prelude.{codes, cond, is_some, if◌then◌else◌, unwrap_or, Option, Some, None}
 use Rattle.std.specs.List.{AllByRecursion}
 use Rattle.std.specs.Option.{option_map}
-use Rattle.std.proofs.lemmas.List.Elements.{All-from_recursion}
 use lib.Utf8.{encode}
 use Rattle.dns_codec.specs.Base.{base16}
-use Rattle.dns_fields.specs.declared.field.Field.TheVariants.{RecordType}
 use Rattle.dns_kinds.specs.Classes.{class_prefix, class_text}
 use Rattle.dns_kinds.specs.Registry.{Row, code_row}
-use Rattle.dns_kinds.specs.Types.{type_text}
+use Rattle.dns_kinds.specs.Types.{type_text, portable_text}
 use Rattle.dns_symbol.specs.declared.symbol.Symbol.TheVariants.{SimpleEscape}
 use Rattle.dns_split.specs.Token.{IsToken, IsWord}
 use Rattle.dns_wire.specs.Wire.{wire}
 use Rattle.dns_data.specs.ByType.{HasShape, shape_of_code}
-use Rattle.dns_data.specs.Data.{IsDataOf}
 use Rattle.dns_data.specs.Digits.{printed_digits}
 use Rattle.dns_data.specs.GatewayKeys.{plain_word}
 use Rattle.dns_data.specs.Printing.{printed_data, token_bytes}
 use Rattle.dns_data.specs.PrintLaws.{IsQuotedWell, IsWordWell}
 use Rattle.dns_data.specs.Rests.{PrintedToken}
-use Rattle.dns_data.specs.Types.{TypeShape, type_shape}
-use Rattle.dns_data.specs.declared.rest.Rest.TheVariants.{Nothing}
-use Rattle.dns_data.specs.declared.shape.Length.TheVariants.{Any}
+use Rattle.dns_data.specs.Types.{TypeShape}
 use Rattle.dns_data.specs.declared.shape.Shape.{Shape}
 use Rattle.dns_data.proofs.PlainWords.{IsPlainWord, decimal_word, encoded16_word, plain_append, plain_is_word}
 use Rattle.dns_data.proofs.PrintedQuotes.{data_well}
-use Rattle.dns_data.proofs.PrintedWords.{data_words}
+use Rattle.dns_data.proofs.PrintedWords.{data_words, named_type_word, type_word as portable_type_word}
 use Rattle.dns_resource.specs.DataTokens.{data_tokens, tokens_of_shape}
 use Rattle.dns_resource.specs.RecordLaws.{AreRecordValues}
-use Rattle.dns_resource.specs.Records.{data_of, head_tokens}
+use Rattle.dns_resource.specs.Records.{data_of, head_tokens, record_type_text}
 use Rattle.dns_resource.specs.TypeData.{IsTypeData}
 use Rattle.dns_resource.specs.declared.record.Record.{Record}
 use Rattle.dns_resource.proofs.DataBack.{shape_with}
@@ -64,18 +58,12 @@ class_word code small = by (1 == code) (3 == code) (4 == code)
     by false false false =
         let number = decimal_word code (omega (arith, small)) in record { some = omega (arith, number.some, length-append class_prefix (decimal code)); plain = plain_append class_prefix (decimal code) refl number.plain }
 
--- a type is a field of data
-one_type : Shape
-one_type = shape_with (type_shape 0 (RecordType ∷ []) Nothing Any [])
-
-type_word : (code : ℕ) → code < 2 ^ 16 → IsWord (type_text (record { 0 = code }))
-unfolding one_type
-type_word code small =
-    let octets : List ℕ = to_be_bytes w16 code in
-    let values = All-from_recursion (λ o. o < 256) octets (omega arith, (omega arith, tt)) in
-    let is : IsDataOf one_type octets = record { back = []; fields = (octets, [], refl, (refl, values), refl); rest = refl; lengths = tt } in
-    let number : from_be_bytes w16 octets ≡ code = omega (arith, small) in
-    subst (λ n. IsWord (type_text (record { 0 = n }))) number ((data_words one_type octets is).0 refl)
+type_word : (code : ℕ) → code < 2 ^ 16 → IsPlainWord (record_type_text code)
+type_word code small = by (is_some (shape_of_code code))
+  where
+    by : (shaped : Bool) → IsPlainWord (if shaped then type_text (record { 0 = code }) else portable_text (record { 0 = code }))
+    by true = named_type_word code (omega (arith, small))
+    by false = portable_type_word code (omega (arith, small))
 
 -- ---- the data
 
@@ -107,6 +95,6 @@ head_is_well r values small = (
   well_word _ (owner_word (wire r.owner) values.owner).word,
   (
     well_plain _ (decimal_word r.ttl (omega (arith, small))),
-    (well_plain _ (class_word r.class values.class), (well_word _ (type_word (data_of r).code values.type), tt)),
+    (well_plain _ (class_word r.class values.class), (well_plain _ (type_word (data_of r).code values.type), tt)),
   ),
 )

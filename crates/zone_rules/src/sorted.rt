@@ -47,7 +47,7 @@ impl<'a, Owner: AsOctets, Octets: AsOctets> SortedRecords<'a, Owner, Octets> {
         Some(SortedRecords { records, has_dname })
     }
 
-    /// Returns whether one of the records is a DNAME. Takes no time: `new` looked.
+    /// Returns whether one of the records is a DNAME, as `new` found.
     pub(crate) fn has_dname(&self) -> bool
         ensures { result ≡ has_type_among 39 self.now }
     {
@@ -63,11 +63,11 @@ impl<'a, Owner: AsOctets, Octets: AsOctets> SortedRecords<'a, Owner, Octets> {
     }
 }
 
-/// Returns the number of records whose owner is a name or before it, of records in the order of their
-/// owners.
+/// Returns the number of records whose owner is a name or before it, of records in the order of
+/// their owners.
 ///
-/// Looks at the records with the indexes 0, 1, 3, 7 and so on until an owner is after the name, and then
-/// searches before that record: quick if few records are not after the name.
+/// Looks at the records with the indexes 0, 1, 3, 7 and so on until an owner is after the name, and
+/// then searches before that record: quick if few records are not after the name.
 fn count_up_to<Owner: AsOctets, Octets: AsOctets>(
     records: &[Record<Owner, Octets>],
     name: &Name<&[u8]>,

@@ -1,5 +1,5 @@
 -- Worked rows of keys, groups and records.
-use Rattle.std.specs.Prelude.{◌≡◌, ℕ, Bool, true, false, List, [], ◌∷◌, ◌++◌, replicate, codes, refl}
+use Rattle.std.specs.Prelude.{◌≡◌, ℕ, true, false, List, [], ◌∷◌, ◌++◌, replicate, codes, refl}
 use Rattle.std.specs.declared.cmp.Ordering.TheVariants.{Less, Equal, Greater}
 use Rattle.zone_store.specs.Counted.{counted_octets, first_counted, after_counted}
 use Rattle.zone_store.specs.Groups.{key_at, group_order, prefixed_order, has_lesser_key}

@@ -39,8 +39,8 @@ fn split_long(octets: &[u8]) -> (&[u8], &[u8])
     }
 }
 
-/// Splits octets that begin with a length as [`push_counted`] appends it: returns the octets that the
-/// length counts, and the rest.
+/// Splits octets that begin with a length as [`push_counted`] appends it: returns the octets that
+/// the length counts, and the rest.
 ///
 /// If fewer octets follow than the length says, the first part has those that do. Without a whole
 /// length both parts are empty.

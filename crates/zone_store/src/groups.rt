@@ -1,4 +1,5 @@
-//! Groups: records of one owner that follow one another in a zone file, sorted by the owner's order key.
+//! Groups: records of one owner that follow one another in a zone file, sorted by the owner's order
+//! key.
 ghost use Rattle.std.specs.Prelude.{◌≡◌, ◌≤◌, All, get_or, length, true, false};
 ghost use Rattle.std.specs.List.{AllWithin};
 ghost use Rattle.std.specs.List.Sorted.{IsPermutation, IsSorted};
@@ -28,11 +29,11 @@ fn octet_or_zero(octets: &[u8], index: usize) -> u8
     }
 }
 
-/// Returns the first eight octets of a key as a number, the first octet most significant. Octets that
-/// the key lacks count as 0.
+/// Returns the first eight octets of a key as a number, the first octet most significant. Octets
+/// that the key lacks count as 0.
 ///
-/// A key with a lesser number is before one with a greater number. Keys with one number may be in any
-/// order.
+/// A key with a lesser number is before one with a greater number. Keys with one number may be in
+/// any order.
 pub fn key_prefix(key: &[u8]) -> u64
     ensures { result ≡ prefix_number 8 key.now }
 {
@@ -84,8 +85,8 @@ pub fn compare_groups(octets: &[u8], left: &Group, right: &Group) -> Ordering
     compare_prefixed(octets, left, right)
 }
 
-/// Sorts groups by their keys, and groups with one key by their offsets, that is in the order in which
-/// they were stored. Uses no further memory.
+/// Sorts groups by their keys, and groups with one key by their offsets, that is in the order in
+/// which they were stored. Uses no further memory.
 pub fn sort_groups(octets: &[u8], groups: &mut [Group])
     requires { All (HasPrefix octets.now) groups.old }
     ensures permutation { IsPermutation groups.old groups.new }
@@ -106,8 +107,8 @@ fn is_before(octets: &[u8], group: &Group, prefix: u64, key: &[u8]) -> bool
         .is_lt()
 }
 
-/// Returns the number of groups, of sorted ones, whose key is less than a key. If there are groups with
-/// that key, the first of them has this index.
+/// Returns the number of groups, of sorted ones, whose key is less than a key. If there are groups
+/// with that key, the first of them has this index.
 pub fn lower_bound(octets: &[u8], groups: &[Group], key: &[u8]) -> usize
     requires prefixes { All (HasPrefix octets.now) groups.now }
     requires sorted { IsSorted (group_order octets.now) groups.now }

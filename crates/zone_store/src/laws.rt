@@ -4,7 +4,8 @@ ghost use Rattle.std.specs.Ordering.{nat_cmp, ordering_then};
 ghost use Rattle.dns_canonical.specs.Names.{octet_order};
 ghost use Rattle.zone_store.specs.Prefixes.{prefix_number};
 
-/// States that two lists of octets compare as their prefixes do, or as themselves if these are equal.
+/// States that two lists of octets compare as their prefixes do, or as themselves if these are
+/// equal.
 pub fn prefixes_decide()
     ensures { (a b : List ℕ) → All (λ o. o < 256) a → All (λ o. o < 256) b
         → octet_order a b ≡ ordering_then (nat_cmp (prefix_number 8 a) (prefix_number 8 b)) (octet_order a b) }

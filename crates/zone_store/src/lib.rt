@@ -1,4 +1,5 @@
-//! Records of a zone in little memory: octets in groups of one owner, which are sorted by the owner's order key.
+//! Records of a zone in little memory: octets in groups of one owner, which are sorted by the
+//! owner's order key.
 #![tactic(auto)]
 
 pub mod counted;

@@ -1,4 +1,5 @@
-//! A record of a group as octets: the number of its header, its position, and its RDATA after the length.
+//! A record of a group as octets: the number of its header, its position, and its RDATA after the
+//! length.
 ghost use Rattle.std.specs.Prelude.{◌≡◌, ◌↔◌, ◌<◌, ◌≤◌, ◌^◌, ◌++◌, length, IfSome, IsSome, OnOk, OnErr};
 ghost use Rattle.dns_octets.specs.Appending.{Extends};
 ghost use Rattle.zone_store.specs.Stored.{stored_octets, BeginsWithStored, SplitsStored};
@@ -19,8 +20,8 @@ pub struct StoredRecord<'a> {
     pub rest: &'a [u8],
 }
 
-/// Appends a record: one octet for its header, one for its position, then its RDATA after the length
-/// ([`push_counted`](crate::push_counted)).
+/// Appends a record: one octet for its header, one for its position, then its RDATA after the
+/// length ([`push_counted`](crate::push_counted)).
 ///
 /// Fails if there is no memory; the first octets of the record may then have been appended.
 pub fn push_stored<A: Allocator>(
@@ -37,8 +38,8 @@ pub fn push_stored<A: Allocator>(
     push_counted(rdata, out)
 }
 
-/// Splits octets that begin with a record as [`push_stored`] appends it. Returns `None` if there are
-/// fewer than two octets.
+/// Splits octets that begin with a record as [`push_stored`] appends it. Returns `None` if there
+/// are fewer than two octets.
 ///
 /// If fewer octets follow than the length says, the RDATA has those that do.
 pub fn split_stored(octets: &[u8]) -> Option<StoredRecord<'_>>

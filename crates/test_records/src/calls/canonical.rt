@@ -59,7 +59,7 @@ fn names((left, right): (&[u8], &[u8]), answer: &mut Answer) {
     tell_order(compare_names(left, right), answer);
 }
 
-/// Returns the order key of a name, or none, which the answer says why.
+/// Returns the order key of a name. If there is none, the answer says why.
 fn key_of<'a>(octets: &[u8], answer: &mut Answer<'a>) -> Option<Octets<'a>> {
     let Some(name) = name_of(octets) else {
         answer.fail(Failure::BadInputs);
@@ -73,14 +73,14 @@ fn key_of<'a>(octets: &[u8], answer: &mut Answer<'a>) -> Option<Octets<'a>> {
     Some(key)
 }
 
-/// The order key of a name.
+/// Adds the order key of a name.
 fn key(octets: &[u8], answer: &mut Answer) {
     if let Some(key) = key_of(octets, answer) {
         answer.add(key.as_slice());
     }
 }
 
-/// The order of two names by their keys, and by these without the root's octet.
+/// Adds the order of two names by their keys, which is the same without the root's octet.
 fn keys((left, right): (&[u8], &[u8]), answer: &mut Answer) {
     let Some(left) = key_of(left, answer) else {
         return;
@@ -97,7 +97,7 @@ fn keys((left, right): (&[u8], &[u8]), answer: &mut Answer) {
     tell_order(order, answer);
 }
 
-/// Whether a name is another or below it: its key begins with the other's.
+/// Adds whether a name is another or below it: whether its key begins with the other's.
 fn within((name, top): (&[u8], &[u8]), answer: &mut Answer) {
     let Some(name) = key_of(name, answer) else {
         return;

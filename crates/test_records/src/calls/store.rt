@@ -1,4 +1,4 @@
-//! Keys in groups, and records as the octets that a group holds.
+//! Calls of `zone_store`: groups of keys, and records as octets.
 ghost use Rattle.std.specs.Prelude.{◌≡◌, ◌^◌, All, OnOk, length, nat_lt};
 ghost use Rattle.zone_store.specs.Groups.{HasPrefix};
 
@@ -78,7 +78,7 @@ fn index_of(offset: usize, offsets: &[usize]) -> usize {
         .unwrap_or(usize::MAX)
 }
 
-/// Adds the groups of keys in order: the index of each among the keys, and its key.
+/// Adds the sorted groups of keys: of each the index of its key as given, and the key.
 fn add_sorted<'a>(keys: &[Vec<u8>], answer: &mut Answer<'a>) -> Result<(), AllocError> {
     let mut octets: Octets<'a> = Vec::new(answer.heap());
     let mut offsets: Offsets<'a> = Vec::new(answer.heap());
@@ -95,14 +95,14 @@ fn add_sorted<'a>(keys: &[Vec<u8>], answer: &mut Answer<'a>) -> Result<(), Alloc
     Ok(())
 }
 
-/// The groups of keys, sorted.
+/// Adds the groups of keys, sorted.
 fn sort(keys: &[Vec<u8>], answer: &mut Answer) {
     if add_sorted(keys, answer).is_err() {
         answer.refuse(&ShortBuf);
     }
 }
 
-/// Adds how many groups of keys, sorted, are before a key.
+/// Adds the number of groups of keys, sorted, that are before a key.
 fn add_bound<'a>(key: &[u8], keys: &[Vec<u8>], answer: &mut Answer<'a>) -> Result<(), AllocError> {
     let mut octets: Octets<'a> = Vec::new(answer.heap());
     let mut offsets: Offsets<'a> = Vec::new(answer.heap());
@@ -114,7 +114,7 @@ fn add_bound<'a>(key: &[u8], keys: &[Vec<u8>], answer: &mut Answer<'a>) -> Resul
     Ok(())
 }
 
-/// How many groups are before a key: the key, and those of the groups.
+/// Adds the number of groups before a key. The inputs are the key, and those of the groups.
 fn find(inputs: &[Vec<u8>], answer: &mut Answer) {
     let [key, keys @ ..] = inputs else {
         return answer.fail(Failure::BadInputs);
@@ -124,7 +124,7 @@ fn find(inputs: &[Vec<u8>], answer: &mut Answer) {
     }
 }
 
-/// The order of the groups of two keys, the first of which is stored first.
+/// Adds the order of the groups of two keys, the first of which is stored first.
 fn order((left, right): (&[u8], &[u8]), answer: &mut Answer) {
     if !is_counted(left, answer) || !is_counted(right, answer) {
         return;
@@ -142,7 +142,7 @@ fn order((left, right): (&[u8], &[u8]), answer: &mut Answer) {
     tell_order(compare_groups(octets.as_slice(), &first, &second), answer);
 }
 
-/// Adds the octets of a length, which stand before so many octets; these are found again between others.
+/// Adds the length of octets as it is stored. The octets are found again between others.
 fn add_counted<'a>(count: usize, answer: &mut Answer<'a>) -> Result<(), AllocError> {
     let mut octets: Octets<'a> = Vec::new(answer.heap());
     octets.resize(count, 7)?;
@@ -162,7 +162,7 @@ fn add_counted<'a>(count: usize, answer: &mut Answer<'a>) -> Result<(), AllocErr
     Ok(())
 }
 
-/// The octets of a length.
+/// Adds the length of as many octets as its input says, as it is stored.
 fn counted(digits: &[u8], answer: &mut Answer) {
     let Some(count) = number_of(digits) else {
         return answer.fail(Failure::BadInputs);
@@ -175,7 +175,7 @@ fn counted(digits: &[u8], answer: &mut Answer) {
     }
 }
 
-/// What the length at the start of octets counts, and the rest.
+/// Adds the octets that a length at the start of octets counts, and the rest.
 fn split(octets: &[u8], answer: &mut Answer) {
     let (part, rest) = split_counted(octets);
     answer.add(part);
@@ -183,7 +183,8 @@ fn split(octets: &[u8], answer: &mut Answer) {
     answer.add(rest);
 }
 
-/// The octets of a record: a header, a position and RDATA. The record is found again before others.
+/// Adds the octets of a record with a header, a position and RDATA. The record is found again
+/// before others.
 fn record(inputs: &[Vec<u8>], answer: &mut Answer) {
     let [header, position, rdata] = inputs else {
         return answer.fail(Failure::BadInputs);
@@ -213,7 +214,7 @@ fn record(inputs: &[Vec<u8>], answer: &mut Answer) {
     answer.hold(is_same);
 }
 
-/// The record at the start of octets: header, position, RDATA and the rest, or `none`.
+/// Adds the record at the start of octets: header, position, RDATA and the rest, or `none`.
 fn first(octets: &[u8], answer: &mut Answer) {
     let Some(record) = split_stored(octets) else {
         return answer.add_text("none");
