@@ -2,11 +2,11 @@
 use super::{absolute, build};
 use arrayvec::ArrayVec;
 use dns_name::chain::{Chain, LongChainError};
-use dns_name::name::{FromStrError, UncertainName};
+use dns_name::name::{FromStrError, UncertainDnameError, UncertainName};
 use dns_octets::{AsOctets, OctetsBuilder, ShortBuf};
 use dns_wire::{
-    DisplayWithDot, DisplayWithoutDot, FlattenInto, Label, Name, RelativeName, ToLabelIter,
-    ToRelativeName, ZoneName,
+    DisplayWithDot, DisplayWithoutDot, FlattenInto, Label, LabelTypeError, Name, RelativeName,
+    ToLabelIter, ToRelativeName, ZoneName,
 };
 use row_table::input::number_of;
 use row_table::{Answer, Failure, Heap, Inputs};
@@ -33,6 +33,8 @@ pub fn call(name: &str, inputs: &Inputs, answer: &mut Answer) {
         "chain" => chain(inputs.all(), answer),
         "chain_labels" => chain_labels(inputs.two(answer), answer),
         "flatten" => flatten(inputs.two(answer), answer),
+        "flatten_each" => flatten_each(inputs.two(answer), answer),
+        "root" => root(answer),
         "compose_into" => compose_into(inputs.all(), answer),
         _ => answer.fail(Failure::NoCall),
     }
@@ -78,12 +80,18 @@ fn zone(octets: &[u8], answer: &mut Answer) {
     answer.add_shown(&ZoneName::new(&name));
 }
 
-/// Whether octets are an absolute or a relative name.
+/// Whether octets are an absolute or a relative name; the octet of a bad label type after a bar.
 fn of(octets: &[u8], answer: &mut Answer) {
     match UncertainName::from_octets(octets) {
         Ok(name) if name.is_absolute() => answer.add_text("absolute"),
         Ok(_) => answer.add_text("relative"),
-        Err(error) => answer.refuse(&error),
+        Err(error) => {
+            answer.refuse(&error);
+            if let UncertainDnameError::BadLabel(LabelTypeError(octet)) = error {
+                answer.add_text("|");
+                answer.add_number(usize::from(octet));
+            }
+        }
     }
 }
 
@@ -349,17 +357,6 @@ fn check_composed<N: ToLabelIter>(name: &N, answer: &mut Answer) {
     answer.check_same(&composed);
 }
 
-/// A chain after a relative name makes the answer so far.
-fn check_flat(left: RelativeName<&[u8]>, right: &Name<&[u8]>, answer: &mut Answer) {
-    let Ok(chain) = Chain::new(left, right) else {
-        return answer.fail(Failure::BadInputs);
-    };
-    check_composed(&chain, answer);
-    let mut flat = answer.another();
-    tell_flat(chain.try_flatten_into(answer.heap()), &mut flat);
-    answer.check_same(&flat);
-}
-
 /// The octets of a chain, as a name that is made of it and in wire form.
 fn flatten((one, other): (&[u8], &[u8]), answer: &mut Answer) {
     let right = absolute_of(other, answer);
@@ -370,9 +367,36 @@ fn flatten((one, other): (&[u8], &[u8]), answer: &mut Answer) {
     check_composed(&chain, answer);
     let (left, _) = chain.unwrap();
     answer.check(*left.as_slice() == *one);
-    if let UncertainName::Relative(left) = left {
-        check_flat(left, &right, answer);
+}
+
+/// The octets of a chain after a relative name, as a name that is made of it where it is borrowed
+/// and where it is owned, and of its right name in the same ways. There are bars between.
+fn flatten_each((one, other): (&[u8], &[u8]), answer: &mut Answer) {
+    let right = absolute_of(other, answer);
+    let Ok(chain) = Chain::new(relative_of(one, answer), absolute_of(other, answer)) else {
+        return answer.fail(Failure::BadInputs);
+    };
+    tell_flat((&chain).try_flatten_into(answer.heap()), answer);
+    check_composed(&chain, answer);
+    answer.add_text("|");
+    tell_flat(chain.try_flatten_into(answer.heap()), answer);
+    answer.add_text("|");
+    tell_flat((&right).try_flatten_into(answer.heap()), answer);
+    answer.add_text("|");
+    tell_flat(right.try_flatten_into(answer.heap()), answer);
+}
+
+/// The root as a name that may be relative, a bar, and the root as one that may not.
+fn root(answer: &mut Answer) {
+    match Vector::root_vec(answer.heap()) {
+        Ok(name) => {
+            answer.check(name.is_absolute());
+            answer.add(name.as_slice());
+        }
+        Err(error) => answer.refuse(&error),
     }
+    answer.add_text("|");
+    tell_flat(Name::root(answer.heap()), answer);
 }
 
 /// The room of a composed name.

@@ -1,10 +1,15 @@
 //! Octets that are gone through.
-use dns_octets::{ParseError, Parser, Str};
+use dns_charstr::charstr::CharStrBuilder;
+use dns_octets::{AsOctets, EmptyBuilder, OctetsFrom, ParseError, Parser, ShortBuf, Str};
 use row_table::input::number_of;
-use row_table::{Answer, Failure, Inputs};
+use row_table::{Answer, Failure, Heap, Inputs};
+
+/// Octets in memory of which one growth may be refused.
+type Octets<'a> = Vec<u8, &'a Heap>;
 
 pub fn call(name: &str, inputs: &Inputs, answer: &mut Answer) {
     match name {
+        "copy" => copy(inputs.octets(answer), answer),
         "parse" => parse(inputs.all(), answer),
         "text" => text(inputs.octets(answer), answer),
         _ => answer.fail(Failure::NoCall),
@@ -61,4 +66,27 @@ fn text(octets: &[u8], answer: &mut Answer) {
             answer.refuse_text("no text");
         }
     }
+}
+
+/// Octets that were made, or the refusal.
+fn tell_made<O: AsOctets + Drop>(made: Result<O, ShortBuf>, answer: &mut Answer) {
+    match made {
+        Ok(octets) => answer.add(octets.as_slice()),
+        Err(error) => answer.refuse(&error),
+    }
+}
+
+/// A copy of octets; and after bars what is in new builders with room for as many, one of them of a
+/// character string.
+fn copy(octets: &[u8], answer: &mut Answer) {
+    let copy: Result<Octets, ShortBuf> = OctetsFrom::try_octets_from(answer.heap(), octets);
+    tell_made(copy, answer);
+    answer.add_text("|");
+    let room: Result<Octets, ShortBuf> = EmptyBuilder::with_capacity(answer.heap(), octets.len());
+    tell_made(room, answer);
+    answer.add_text("|");
+    tell_made(
+        CharStrBuilder::vec_with_capacity(answer.heap(), octets.len()),
+        answer,
+    );
 }

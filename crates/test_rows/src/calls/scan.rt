@@ -7,8 +7,10 @@ use dns_charstr::charstr::CharStr;
 use dns_codec::{base16, base32, base64};
 use dns_iter::entry::{EntryScanner, entry_at, entry_scanner};
 use dns_iter::scanner::IterScanner;
-use dns_octets::{AsOctets, Str, Ttl};
-use dns_scan::{Scan, Scanner, ScannerError, StrError, expect_end, scan_rest};
+use dns_octets::{AsOctets, FreezeBuilder, Str, Ttl};
+use dns_scan::{
+    RestOf, Scan, Scanner, ScannerError, StrError, expect_end, scan_rest, strings_rest,
+};
 use dns_split::splitting::split;
 use dns_symbol::symbol::{EntrySymbol, Symbol};
 use row_table::{Answer, Failure, Inputs};
@@ -67,6 +69,42 @@ fn tell_end(made: Result<(), StrError>, answer: &mut Answer) {
     }
 }
 
+/// The octets of a new builder.
+fn new_octets<S: Scanner>(scanner: &mut S) -> Result<S::Octets, S::Error>
+    requires { S.can_scan scanner.old }
+    ensures { S.can_scan scanner.new }
+{
+    let builder = scanner.octets_builder()?;
+    Ok(builder.freeze())
+}
+
+/// Scans all tokens left as one text of base 16.
+fn hex_of_rest<S: Scanner>(scanner: &mut S) -> Result<S::Octets, S::Error>
+    requires { S.can_scan scanner.old }
+    ensures { S.can_scan scanner.new }
+{
+    let rest: RestOf<base16::SymbolConverter, S::Octets> = RestOf::scan(scanner)?;
+    Ok(rest.octets)
+}
+
+/// Scans all tokens left as character strings, with a bar after each.
+fn list_strings<S: Scanner<Error = StrError>>(scanner: &mut S, answer: &mut Answer)
+where
+    S::Octets: Drop,
+    requires { S.can_scan scanner.old }
+    ensures { S.can_scan scanner.new }
+{
+    match strings_rest(answer.heap(), scanner) {
+        Ok(strings) => {
+            for string in &strings {
+                answer.add(string.as_slice());
+                answer.add_text("|");
+            }
+        }
+        Err(error) => answer.refuse(&error),
+    }
+}
+
 /// Scans octets of one kind or another.
 fn take_octets<S: Scanner<Error = StrError>>(scanner: &mut S, step: &str, answer: &mut Answer)
 where
@@ -83,6 +121,9 @@ where
         "strings" => tell(scanner.scan_charstr_entry(), answer),
         "parameters" => tell(scanner.scan_svcb_octets(), answer),
         "rest" => tell(scan_rest::<_, _, u8>(answer.heap(), scanner), answer),
+        "builder" => tell(new_octets(scanner), answer),
+        "list" => list_strings(scanner, answer),
+        "hex_of_rest" => tell(hex_of_rest(scanner), answer),
         _ => answer.fail(Failure::BadInputs),
     }
 }
@@ -292,6 +333,8 @@ fn scan_entry_at<A: Allocator + Copy>(
     answer.check(found.is_some() == (place < entries.len()));
     if let Some(mut scanner) = found {
         take_steps(&mut scanner, steps, answer);
+        let is_left = scanner.continues();
+        answer.check(scanner.is_exhausted() != is_left);
         answer.add_text("/");
     }
 }
