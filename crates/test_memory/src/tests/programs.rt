@@ -1,90 +1,62 @@
-//! The program, with sinks that refuse.
-use super::{Missed, Told, told_ample};
+//! The program, with sinks that fail.
 use dnstext_lib::program;
 use refusing_heap::sink::Sink;
-use std::alloc::{AllocError, Global};
-use std::fmt;
+use std::alloc::Global;
 use std::process::Abort;
 
-/// What the program writes and returns.
+/// What the program writes to two sinks, of which each takes so many writes, and its status.
 #[derive(Drop)]
 struct Ran {
-    out: String,
-    err: String,
+    out: Sink,
+    err: Sink,
     status: u8,
 }
 
-/// Room for all that the runs here write.
-const ROOM: usize = 20000;
-
-/// What the program writes to these sinks.
-fn status<O: fmt::Write, E: fmt::Write>(
-    alloc: Global,
-    words: &[&str],
-    out: &mut O,
-    err: &mut E,
-) -> u8 {
-    program::run(alloc, words, out, err)
-}
-
-/// Runs the program with ample sinks.
-fn run(alloc: Global, words: &[&str]) -> Result<Ran, AllocError> {
-    let mut out = String::with_capacity(alloc, ROOM)?;
-    let mut err = String::with_capacity(alloc, ROOM)?;
-    let status = status(alloc, words, &mut out, &mut err);
-    Ok(Ran { out, err, status })
-}
-
-/// Whether a run was refused for this reason, and wrote a first part of the output.
-fn is_refused(status: u8, err: &str, reason: &str, out: &str, ample: &Ran) -> bool {
-    status == 1 && err == reason && ample.out.as_str().starts_with(out)
-}
-
-/// What a run came to whose output takes so many writes, and whose reason so many.
-fn written(alloc: Global, words: &[&str], ample: &Ran, left: (usize, usize)) -> Told {
+fn run(alloc: Global, words: &[&str], left: (usize, usize)) -> Ran {
     let mut out = Sink::new(alloc, left.0);
     let mut err = Sink::new(alloc, left.1);
-    let status = status(alloc, words, &mut out, &mut err);
-    told(&out, &err, status, ample)
+    let status = program::run(alloc, words, &mut out, &mut err);
+    Ran { out, err, status }
 }
 
-/// What a run came to that answered this: one whose output or reason was refused says so, and has
-/// written a first part of the output, or all of it.
-fn told(out: &Sink, err: &Sink, status: u8, ample: &Ran) -> Told {
-    let output = out.text.as_str();
-    let reason = err.text.as_str();
-    let is_told = if out.has_refused {
-        is_refused(status, reason, "refused: write failed\n", output, ample)
-    } else if err.has_refused {
-        status == 3 && output == ample.out.as_str()
-    } else {
-        let same = status == ample.status && output == ample.out.as_str();
-        return told_ample(same && reason == ample.err.as_str());
-    };
-    Err(if is_told {
-        Missed::Short
-    } else {
-        Missed::Wrong
-    })
-}
-
-/// How many writes were refused, one a run, of the output or else of the reason, if each run told
-/// so and the last one wrote all. 0 if one did anything else.
-fn refused_writes(alloc: Global, words: &[&str], of_output: bool) -> Result<usize, AllocError> {
-    let ample = run(alloc, words)?;
-    for left in 0..1000 {
-        let takes = if of_output {
-            (left, usize::MAX)
-        } else {
-            (usize::MAX, left)
-        };
-        match written(alloc, words, &ample, takes) {
-            Ok(()) => return Ok(left),
-            Err(Missed::Short) => {}
-            Err(Missed::Wrong) => return Ok(0),
-        }
+/// Whether a run whose output or error was refused returns this status, after a first part of the
+/// output.
+fn is_told(ran: &Ran, ample: &Ran) -> bool {
+    let (out, whole) = (ran.out.text.as_str(), ample.out.text.as_str());
+    if ran.out.has_refused {
+        let is_lost = ran.err.text.as_str() == "refused: write failed\n";
+        return ran.status == 1 && is_lost && whole.starts_with(out);
     }
-    Ok(0)
+    if ran.err.has_refused {
+        return ran.status == 3 && out == whole;
+    }
+    ran.status == ample.status && out == whole && ran.err.text.as_str() == ample.err.text.as_str()
+}
+
+/// Each write of the output is refused in turn, or else each of the error, and there are more than
+/// so many.
+fn are_refused(rt: &impl Abort, alloc: Global, rows: &[&[&str]], of_output: bool, writes: usize) {
+    for words in rows {
+        let ample = run(alloc, words, (usize::MAX, usize::MAX));
+        let mut refused = 0;
+        for left in 0..1000 {
+            let ran = run(
+                alloc,
+                words,
+                if of_output {
+                    (left, usize::MAX)
+                } else {
+                    (usize::MAX, left)
+                },
+            );
+            assert!(rt; is_told(&ran, &ample), "{left} writes of {words:?}");
+            if !ran.out.has_refused && !ran.err.has_refused {
+                break;
+            }
+            refused = left + 1;
+        }
+        assert!(rt; writes < refused && refused < 1000, "{words:?}");
+    }
 }
 
 const OUTPUTS: [&[&str]; 8] = [
@@ -98,7 +70,7 @@ const OUTPUTS: [&[&str]; 8] = [
     &["line", "multiline", "s:a", "s:"],
 ];
 
-const REASONS: [&[&str]; 5] = [
+const ERRORS: [&[&str]; 5] = [
     &["scan", "colour", "a"],
     &["scan", "u8", "1", "x"],
     &["print", "tabbed", "t:a", ")"],
@@ -106,19 +78,8 @@ const REASONS: [&[&str]; 5] = [
     &["line", "simple", "n:x"],
 ];
 
-/// More writes than those were refused, for each of these words.
-fn refused(rt: &impl Abort, alloc: Global, rows: &[&[&str]], of_output: bool, writes: usize) {
-    for words in rows {
-        let refused = refused_writes(alloc, words, of_output);
-        assert!(rt;
-            matches!(refused, Ok(refused) if writes < refused),
-            "at {words:?}"
-        );
-    }
-}
-
 #[test]
-fn sinks_refuse(rt: HostRuntime) {
-    refused(&rt, rt.alloc(), &OUTPUTS, true, 1);
-    refused(&rt, rt.alloc(), &REASONS, false, 0);
+fn sinks_fail(rt: HostRuntime) {
+    are_refused(&rt, rt.alloc(), &OUTPUTS, true, 1);
+    are_refused(&rt, rt.alloc(), &ERRORS, false, 0);
 }

@@ -1,84 +1,76 @@
 //! Calls of a scanner that take no memory.
-use super::{Call, Heap, Hostile, Told, holds, keeps, told_ample};
+use dns_codec::base16;
 use dns_iter::{IterScanner, StrError};
-use dns_scan::Scanner;
+use dns_scan::{RestOf, Scan, Scanner, scan_rest, strings_rest};
 use dns_symbol::symbol::{EntrySymbol, Symbol};
-use std::alloc::{AllocError, Global};
-use std::iter;
+use refusing_heap::Refusing;
+use std::alloc::Allocator;
+use std::process::Abort;
+use std::test::Fail;
 
-/// All calls that take no memory.
-#[derive(Drop)]
-struct TakesNone<'t> {
-    tokens: &'t [&'t str],
-    count: usize,
+fn holds(rt: &impl Abort, is_so: bool) {
+    assert!(rt; is_so);
 }
 
-impl Call for TakesNone<'_> {
-    fn call(&self, heap: &Heap) -> Told {
-        let tokens = self.tokens.iter().copied();
-        let mut scanner: IterScanner<_, Hostile> = IterScanner::new(heap, tokens);
-        let is_empty = is_empty(scanner.octets_builder());
-        let is_refused = scanner.scan_svcb_octets().is_err();
-        let mut count = markers(scanner.scan_opt_unknown_marker());
-        let mut op = |_symbol: Symbol| -> Result<(), StrError> {
-            count = usize::saturating_add(count, 1);
-            Ok(())
-        };
-        let token = scanner.scan_symbols(&mut op).is_ok();
-        let mut op = |_symbol: EntrySymbol| -> Result<(), StrError> {
-            count = usize::saturating_add(count, 1);
-            Ok(())
-        };
-        let rest = scanner.scan_entry_symbols(&mut op).is_ok();
-        let are_taken = is_empty & is_refused & token & rest;
-        told_ample(are_taken & (count == self.count))
-    }
-}
-
-/// Whether a new builder has no octets.
-fn is_empty(built: Result<Vec<u8, &Heap>, StrError>) -> bool {
-    match built {
-        Ok(octets) => octets.is_empty(),
-        Err(_) => false,
-    }
-}
-
-/// How many markers stood first.
-fn markers(found: Result<bool, StrError>) -> usize {
-    match found {
-        Ok(true) => 1,
-        _ => 0,
-    }
-}
-
-/// Whether these calls take no memory and hand over as many symbols and ends as there are.
-fn is_none_taken(alloc: Global) -> Result<bool, AllocError> {
-    let tokens = ["\\#", "\\097b"].repeat(alloc, 500)?;
-    let call = TakesNone {
-        tokens: tokens.as_slice(),
-        count: 1 + 2 + 499 * (2 + 3),
-    };
-    Ok(keeps(alloc, &call, 0))
-}
-
-#[test]
-fn some_calls_take_no_memory(rt: HostRuntime) {
-    holds(&rt, is_none_taken(rt.alloc()), "none");
-}
-
-#[test]
-fn a_text_that_is_refused_is_not_handed_over(rt: HostRuntime) {
-    let mut called = false;
-    let tokens = iter::once("é");
-    let mut scanner: IterScanner<_, Vec<u8>> = IterScanner::new(rt.alloc(), tokens);
-    let answer: Result<(), StrError> = scanner.scan_ascii_str(|_text| {
-        called = true;
+/// How many symbols the next token has, and how many symbols and ends the tokens after it.
+fn count_symbols<S: Scanner<Error = StrError>>(scanner: &mut S) -> Option<(usize, usize)>
+    requires { S.can_scan scanner.old }
+    ensures { S.can_scan scanner.new }
+{
+    let mut count: usize = 0;
+    let mut op = |_symbol: Symbol| -> Result<(), StrError> {
+        count = usize::saturating_add(count, 1);
         Ok(())
-    });
-    let text = match &answer {
-        Ok(()) => "",
-        Err(error) => error.as_str(),
     };
-    assert_eq!(rt; text, "non-ASCII characters");
-    assert!(rt; !called);
+    let token = scanner.scan_symbols(&mut op);
+    let mut count_all: usize = 0;
+    let mut op = |_symbol: EntrySymbol| -> Result<(), StrError> {
+        count_all = usize::saturating_add(count_all, 1);
+        Ok(())
+    };
+    let rest = scanner.scan_entry_symbols(&mut op);
+    if token.is_err() || rest.is_err() {
+        return None;
+    }
+    Some((count, count_all))
+}
+
+/// No token is left, and what is left is read as lists of nothing.
+fn nothing_is_left<A: Allocator + Copy, S: Scanner<Error = StrError>>(
+    rt: &impl Abort,
+    alloc: A,
+    scanner: &mut S,
+)
+where
+    S::Octets: Drop,
+    requires { S.can_scan scanner.old }
+{
+    let numbers = scan_rest::<_, _, u16>(alloc, scanner);
+    holds(rt, matches!(&numbers, Ok(numbers) if numbers.is_empty()));
+    let strings = strings_rest(alloc, scanner);
+    holds(rt, matches!(&strings, Ok(strings) if strings.is_empty()));
+    let rest: Result<RestOf<base16::SymbolConverter, S::Octets>, _> = RestOf::scan(scanner);
+    holds(rt, rest.is_ok());
+}
+
+/// Makes the calls that take no memory, over the token `\#` and so many others.
+fn takes_none<A: Allocator + Copy>(rt: &impl Abort, alloc: A, tokens: &[&str], others: usize) {
+    let mut scanner: IterScanner<_, Vec<u8, A>> = IterScanner::new(alloc, tokens.iter().copied());
+    let builder = scanner.octets_builder();
+    holds(rt, matches!(&builder, Ok(octets) if octets.is_empty()));
+    holds(rt, scanner.scan_svcb_octets().is_err());
+    holds(rt, matches!(scanner.scan_opt_unknown_marker(), Ok(true)));
+    let counts = count_symbols(&mut scanner);
+    holds(rt, counts == Some((2, others)));
+    nothing_is_left(rt, alloc, &mut scanner);
+}
+
+// Memory refuses the first call for it, and no call comes.
+#[test]
+fn some_calls_take_no_memory(rt: HostRuntime) -> Result<(), Fail> {
+    let tokens = ["\\#", "\\097b"].repeat(rt.alloc(), 500)?;
+    let heap = Refusing::new(rt.alloc(), 1);
+    takes_none(&rt, &heap, &tokens, 499 * (2 + 3));
+    holds(&rt, !heap.has_refused());
+    Ok(())
 }
