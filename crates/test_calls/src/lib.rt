@@ -1,12 +1,11 @@
 //! Tests alone, of what rows can't say: generic code at a caller's own types, loans that outlive
-//! their iterators, clones, builders in little room, writers that refuse, laws at work, and files
-//! that are replaced.
+//! their iterators, clones, small buffers, sinks that fail, laws at work, and long values.
 #![tactic(auto)]
 
 #[cfg(test)]
-mod names;
+mod checks;
 #[cfg(test)]
-mod programs;
+mod names;
 #[cfg(test)]
 mod records;
 #[cfg(test)]

@@ -1,22 +1,19 @@
-//! Tokens and their values, from outside tables.
+//! Tokens and their values: a caller's own converters, small buffers, and long entries.
 ghost use Rattle.std.specs.Prelude.{◌≡◌};
 
+use crate::checks::{equal, holds};
 use arrayvec::ArrayVec;
 use dns_iter::scanner::IterScanner;
-use dns_octets::{AsOctets, ShortBuf, Ttl};
-use dns_scan::{ConvertSymbols, Scan, Scanner, ScannerError, StrError};
+use dns_octets::AsOctets;
+use dns_scan::{Scan, Scanner, ScannerError, StrError};
 use std::alloc::Global;
 use std::iter::Copied;
 use std::process::Abort;
 use std::slice::Iter;
 
-mod entries;
-mod names;
-mod numbers;
-mod octets;
-mod rests;
-mod strings;
-mod symbols;
+mod converters;
+mod long;
+mod small;
 
 // Tokens in memory.
 type Tokens<'a> = Copied<Iter<'a, &'a str>>;
@@ -39,33 +36,15 @@ fn short_scanner<'a, const N: usize>(tokens: &'a [&'a str]) -> ShortScanner<'a, 
     IterScanner::new((), tokens.iter().copied())
 }
 
-// These octets were scanned, or the refusal has that text.
-fn octets_are<O: AsOctets + Drop>(
+// These octets were scanned, or the error has that text.
+fn is_scanned<O: AsOctets + Drop>(
     rt: &impl Abort,
     answer: Result<O, StrError>,
     wanted: Result<&[u8], &str>,
 ) {
-    let same = match &answer {
+    let is_so = match &answer {
         Ok(octets) => wanted == Ok(octets.as_slice()),
         Err(error) => wanted == Err(error.as_str()),
     };
-    assert!(rt; same, "{wanted:?}");
-}
-
-// This value was scanned, or the refusal has that text.
-fn value_is<T: PartialEq + Copy>(
-    rt: &impl Abort,
-    answer: Result<T, StrError>,
-    wanted: Result<T, &str>,
-) {
-    let same = match &answer {
-        Ok(value) => wanted == Ok(*value),
-        Err(error) => wanted == Err(error.as_str()),
-    };
-    assert!(rt; same);
-}
-
-// A question was answered so.
-fn answers(rt: &impl Abort, answer: bool, wanted: bool) {
-    assert_eq!(rt; answer, wanted);
+    assert!(rt; is_so, "{wanted:?}");
 }

@@ -1,6 +1,5 @@
-//! Octets, symbols, character strings and the encodings.
+//! Octets, symbols, character strings and the encodings, at a caller's own types.
 mod charstr;
-mod checks;
 mod codec;
 mod octets;
 mod symbol;

@@ -172,9 +172,9 @@ fn chains_are_scanned(rt: HostRuntime) {
         error: PhantomData,
     };
     let chain = Chain::scan(&mut scanner).expect(&rt, "a chain");
-    equal(&rt, &chain.compose_len(), &9, "www.com.");
+    equal(&rt, &chain.compose_len(), &9);
     let refused = Some(Refusal::Custom("no name"));
-    equal(&rt, &Chain::scan(&mut scanner).err(), &refused, "none");
+    equal(&rt, &Chain::scan(&mut scanner).err(), &refused);
 }
 
 #[test]
@@ -186,12 +186,7 @@ fn uncertain_chains_are_scanned(rt: HostRuntime) {
         error: PhantomData,
     };
     let chain = UncertainChain::scan(&mut scanner).expect(&rt, "a chain");
-    equal(&rt, &chain.compose_len(), &9, "www.com.");
+    equal(&rt, &chain.compose_len(), &9);
     let refused = Some(Refusal::Custom("no name"));
-    equal(
-        &rt,
-        &UncertainChain::scan(&mut scanner).err(),
-        &refused,
-        "none",
-    );
+    equal(&rt, &UncertainChain::scan(&mut scanner).err(), &refused);
 }

@@ -1,5 +1,5 @@
-//! Writers that refuse, and symbols for a closure.
-use super::checks::{equal, holds};
+//! A caller's own writers, which fail, and symbols for a closure.
+use crate::checks::{equal, holds};
 use dns_symbol::form::{Form, Quoted, write_octets};
 use dns_symbol::symbol::{EntrySymbol, Symbol, SymbolCharsError};
 use dns_symbol::symbols::Symbols;
@@ -49,8 +49,8 @@ fn writes_to(rt: &impl Abort, octets: &[u8], room: usize, wanted: fmt::Result) {
 }
 
 #[test]
-fn tells_that_a_writer_refused(rt: HostRuntime) {
-    let octets = vec![in rt.alloc(); 0xFFu8; 1000].expect(&rt, "memory");
+fn fails_where_a_writer_does(rt: HostRuntime) {
+    let octets = [0xFF; 1000];
     for room in [0, 1, 255, 256, 257, 3999] {
         writes_to(&rt, &octets, room, Err(fmt::Error));
     }
@@ -60,9 +60,8 @@ fn tells_that_a_writer_refused(rt: HostRuntime) {
 #[test]
 fn symbols_are_those_of_entries(rt: HostRuntime) {
     let symbol = EntrySymbol::from(Symbol::Char('a'));
-    equal(&rt, &symbol, &EntrySymbol::Symbol(Symbol::Char('a')), "a");
-    let end = EntrySymbol::EndOfToken;
-    holds(&rt, symbol != end, "no end");
+    equal(&rt, &symbol, &EntrySymbol::Symbol(Symbol::Char('a')));
+    holds(&rt, symbol != EntrySymbol::EndOfToken);
 }
 
 #[derive(Clone, Copy, Debug, PartialEq, Eq)]
@@ -80,19 +79,22 @@ impl From<SymbolCharsError> for Refusal {
 #[test]
 fn answers_with_a_closure(rt: HostRuntime) {
     let two = Symbols::with(r"ab\2".chars(), |symbols| -> Result<_, Refusal> {
-        Ok([symbols.next(), symbols.next()])
+        Ok((symbols.next(), symbols.next()))
     });
-    assert_eq!(rt; two, Ok([Some(Symbol::Char('a')), Some(Symbol::Char('b'))]));
-
+    let wanted = (Some(Symbol::Char('a')), Some(Symbol::Char('b')));
+    equal(&rt, &two, &Ok(wanted));
     let all = Symbols::with(r"ab\2".chars(), |symbols| -> Result<_, Refusal> {
         for _ in symbols {}
         Ok(())
     });
-    assert_eq!(rt; all, Err(Refusal::Chars(SymbolCharsError::ShortInput)));
-
+    equal(
+        &rt,
+        &all,
+        &Err(Refusal::Chars(SymbolCharsError::ShortInput)),
+    );
     let refused = Symbols::with(r"ab\2".chars(), |symbols| -> Result<(), Refusal> {
         for _ in symbols {}
         Err(Refusal::Own)
     });
-    assert_eq!(rt; refused, Err(Refusal::Own));
+    equal(&rt, &refused, &Err(Refusal::Own));
 }

@@ -5,9 +5,9 @@ ghost use Rattle.std.specs.String.{string_bytes};
 ghost use Rattle.dns_zone.specs.Layout.{token, begin, end, comment};
 ghost use Rattle.dns_zone.specs.Nesting.{has_line, nested_in_block};
 
-use super::wanted::prints;
+use super::{Global, prints};
 use dns_zone::zonefile_fmt::{self, FormatWriter, Formatter, ZonefileFmt};
-use std::alloc::{AllocError, Global};
+use std::alloc::AllocError;
 use std::test::Fail;
 
 /// The data of an MX record (RFC 1035, section 3.3.9).
@@ -77,12 +77,14 @@ fn sample(alloc: Global) -> Result<Record<Mx>, AllocError> {
 #[test]
 fn prints_a_record(rt: HostRuntime) -> Result<(), Fail> {
     let record = sample(rt.alloc())?;
-    let texts = (
+    prints(
+        &rt,
+        rt.alloc(),
+        &record,
         "example.com. MX 10 mail.example.com.",
         "example.com.\tMX\t10 mail.example.com.",
         "example.com. MX ( 10\t; preference\n                  \
             mail.example.com.\t; exchange\n                  )",
     );
-    prints(&rt, rt.alloc(), &record, texts);
     Ok(())
 }

@@ -1,10 +1,7 @@
 //! Values in a row, a token each.
-use super::wanted::{printed, prints, text_is};
+use super::{Abort, AllocError, DisplayKind, Global, equal, prints, prints_as};
 use dns_zone::tokens::{Each, ZoneToken, ZoneTokens, write_each};
-use dns_zone::zonefile_fmt::{self, DisplayKind, FormatWriter, Formatter, ZonefileFmt};
-use std::alloc::{AllocError, Global};
-use std::process::Abort;
-use std::test::Fail;
+use dns_zone::zonefile_fmt::{self, FormatWriter, Formatter, ZonefileFmt};
 
 /// A flag, printed as a word.
 #[derive(Clone, Copy, Drop)]
@@ -56,61 +53,50 @@ impl ZonefileFmt for Flags<'_> {
 }
 
 /// Every third flag is set.
-fn make_flags(alloc: Global, count: usize) -> Result<Vec<Flag>, AllocError> {
-    let mut flags = Vec::new(alloc);
+fn add_flags(flags: &mut Vec<Flag>, count: usize) -> Result<(), AllocError> {
     for place in 0..count {
         flags.push(Flag {
             set: place % 3 == 0,
         })?;
     }
-    Ok(flags)
+    Ok(())
 }
 
-// How many flags, their text where a space is between them, and where a tab is.
-const ROWS: [(usize, &str, &str); 4] = [
-    (0, "", ""),
-    (1, "yes", "yes"),
-    (2, "yes no", "yes\tno"),
-    (5, "yes no no yes no", "yes\tno\tno\tyes\tno"),
-];
+/// So many flags.
+fn flags_of(rt: &impl Abort, alloc: Global, count: usize) -> Vec<Flag> {
+    let mut flags = Vec::new(alloc);
+    let made = add_flags(&mut flags, count);
+    equal(rt, &made, &Ok(()));
+    flags
+}
 
-fn print_each(rt: &impl Abort, alloc: Global, flags: &[Flag], spaced: &str, tabbed: &str) {
-    let each = Each::new(flags);
+#[test]
+fn prints_none_and_many(rt: HostRuntime) {
+    let alloc = rt.alloc();
+    let flags = flags_of(&rt, alloc, 5);
+    let spaced = "yes no no yes no";
+    let each = Each::new(&flags);
     each.known();
-    prints(rt, alloc, &each, (spaced, tabbed, spaced));
+    prints(&rt, alloc, &each, spaced, "yes\tno\tno\tyes\tno", spaced);
+    let none = Each::new(&flags[5..]);
+    prints(&rt, alloc, &none, "", "", "");
+}
+
+/// The word, and the words of so many times three flags.
+fn words_of(alloc: Global, times: usize) -> Result<String, AllocError> {
+    let rest = " yes no no".repeat(alloc, times)?;
+    format!(in alloc; "flags{rest}")
 }
 
 #[test]
-fn prints_none_one_and_many(rt: HostRuntime) -> Result<(), Fail> {
-    for &(count, spaced, tabbed) in &ROWS {
-        let flags = make_flags(rt.alloc(), count)?;
-        print_each(&rt, rt.alloc(), &flags, spaced, tabbed);
-    }
-    Ok(())
-}
-
-/// A word, and a word for each flag.
-fn words_of(alloc: Global, flags: &[Flag]) -> Result<String, AllocError> {
-    let mut text = String::from_str(alloc, "flags")?;
-    for flag in flags {
-        text.push_str(if flag.set { " yes" } else { " no" })?;
-    }
-    Ok(text)
-}
-
-/// So many flags print after a word.
-fn prints_after(rt: &impl Abort, alloc: Global, count: usize) -> Result<(), AllocError> {
-    let flags = make_flags(alloc, count)?;
-    let text = words_of(alloc, &flags)?;
-    let found = printed(alloc, &Flags { flags: &flags }, DisplayKind::Simple);
-    text_is(rt, &found, text.as_str());
-    Ok(())
-}
-
-#[test]
-fn prints_more_after_them(rt: HostRuntime) -> Result<(), Fail> {
-    for count in [0, 1, 5000] {
-        prints_after(&rt, rt.alloc(), count)?;
-    }
-    Ok(())
+fn prints_many_after_a_word(rt: HostRuntime) {
+    let alloc = rt.alloc();
+    let flags = flags_of(&rt, alloc, 4998);
+    let text = words_of(alloc, 1666).expect(&rt, "memory");
+    let all = Flags { flags: &flags };
+    prints_as(&rt, alloc, &all, DisplayKind::Simple, text.as_str());
+    let none = Flags {
+        flags: &flags[4998..],
+    };
+    prints_as(&rt, alloc, &none, DisplayKind::Simple, "flags");
 }

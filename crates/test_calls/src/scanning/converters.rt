@@ -1,43 +1,9 @@
-//! Octets and texts out of tokens, also by converters.
+//! A caller's own converter, and closures that are not called.
 ghost use Rattle.std.specs.Prelude.{[], ◌∷◌, ⊤};
 
 use super::*;
-use dns_octets::Str;
+use dns_scan::ConvertSymbols;
 use std::cell::Cell;
-
-// This text was scanned, or the refusal has that text.
-fn text_is(rt: &impl Abort, answer: Result<Str<Vec<u8>>, StrError>, wanted: Result<&str, &str>) {
-    let same = match &answer {
-        Ok(string) => wanted == Ok(string.as_str()),
-        Err(error) => wanted == Err(error.as_str()),
-    };
-    assert!(rt; same, "{wanted:?}");
-}
-
-#[test]
-fn long_tokens_are_read(rt: HostRuntime) {
-    let alloc = rt.alloc();
-    let word = "a".repeat(alloc, 150_000).expect(&rt, "memory");
-    let tokens = [word.as_str(), word.as_str()];
-    let mut scanner = scanner_of(alloc, &tokens);
-    octets_are(&rt, scanner.scan_octets(), Ok(word.as_bytes()));
-    text_is(&rt, scanner.scan_string(), Ok(word.as_str()));
-}
-
-// A step lends what it is made of, or refuses it.
-fn lends(
-    rt: &impl Abort,
-    answer: Result<Option<&[u8]>, StrError>,
-    made: Result<(), StrError>,
-    octets: &[u8],
-) {
-    let same = match (answer, made) {
-        (Ok(lent), Ok(())) => lent.unwrap_or_default() == octets,
-        (Err(error), Err(wanted)) => error.as_str() == wanted.as_str(),
-        _ => false,
-    };
-    assert!(rt; same);
-}
 
 // A converter that counts what it is asked, makes an octet each time, and refuses one symbol.
 #[derive(Drop)]
@@ -96,8 +62,8 @@ fn asks(
     } else {
         scanner.convert_token(counting)
     };
-    octets_are(rt, answer, wanted);
-    assert_eq!(rt; (symbols.get(), tails.get()), asked);
+    is_scanned(rt, answer, wanted);
+    equal(rt, &(symbols.get(), tails.get()), &asked);
 }
 
 // A token, the symbol that is refused, the answer, and how many symbols and tails are asked for.
@@ -133,8 +99,8 @@ fn handed_over(rt: &impl Abort, token: &str, calls: u32) {
         called.set(1);
         Ok(())
     });
-    answers(rt, answer.is_ok(), calls == 1);
-    assert_eq!(rt; called.get(), calls);
+    holds(rt, answer.is_ok() == (calls == 1));
+    equal(rt, &called.get(), &calls);
 }
 
 #[test]
