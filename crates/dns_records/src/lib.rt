@@ -2,7 +2,4 @@
 #![tactic(auto)]
 
 pub mod caa;
-pub mod ds;
 pub mod mx;
-pub mod soa;
-pub mod txt;
