@@ -373,6 +373,17 @@ impl<'a> ZoneFiles<'a> {
         }
     }
 
+    /// Gives an entry that needs neither a report nor its position. Returns `false`, and changes
+    /// nothing, if it is no such one.
+    fn give_quiet<V: Visit>(
+        &self,
+        file: &OpenFile,
+        read: &Result<EntryRead, RecordRefusal>,
+        visitor: &mut V,
+    ) -> Result<bool, Stop> {
+        visitor.visit_quiet(&self.entry(file, read))
+    }
+
     /// Gives an entry that includes no file.
     fn give<V: Visit>(
         &mut self,
@@ -380,7 +391,7 @@ impl<'a> ZoneFiles<'a> {
         read: &Result<EntryRead, RecordRefusal>,
         visitor: &mut V,
     ) -> Result<(), Stop> {
-        if visitor.visit_quiet(&self.entry(file, read))? {
+        if self.give_quiet(file, read, visitor)? {
             return Ok(());
         }
         let offset = file.reader.began();
