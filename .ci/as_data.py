@@ -225,8 +225,9 @@ def fields_take(row):
         return [why(name, text, parts[int(field)], reason, int(place), origin)]
     octets, place = row.wanted.rsplit(b"|", 1)
     # The tokens after the fields are replaced by a valid tail.
+    is_end = int(place) == len(text) or text[int(place) : int(place) + 1].strip()
     text, rest = text[: int(place)], rest_of(name, octets)
-    if rest is None or b";" in text:
+    if rest is None or b";" in text or not is_end:
         return []
     return [data(name, text + b" " + rest[0], octets + rest[1], origin)]
 
@@ -346,8 +347,9 @@ def strings(row):
     whole = lead + len(text).to_bytes(2, "big") + text
     if row.is_refused:
         return [of_octets("SVCB", whole, False)]
+    # The text of other octets has escapes, or is quoted.
     if any(it in SPECIAL or not 0x20 <= it < 0x7F for it in row.wanted):
-        return [of_octets("SVCB", whole)]
+        return []
     return [printed("SVCB", generic(whole), b"1 . alpn=" + row.wanted.replace(b"\\", b"\\\\"))]
 
 
@@ -363,6 +365,8 @@ def params(row):
     if what == "print":
         return [printed("SVCB", generic(lead + row.inputs[0]), b"1 . " + row.wanted if row.wanted else b"1 .")]
     if what == "check":
+        if not row.is_refused and row.wanted != b"ok":
+            raise ValueError(row.wanted)
         return [of_octets("SVCB", lead + row.inputs[0], not row.is_refused)]
     if what == "settle":
         text = b""
@@ -472,10 +476,15 @@ def rows_of_data(row):
 
 def main():
     (path,) = sys.argv[1:]
+    status = 0
     for row in rows_of(path):
-        for fields in rows_of_data(row):
-            print(row.line, *fields, sep="\t")
-    return 0
+        try:
+            for fields in rows_of_data(row):
+                print(row.line, *fields, sep="\t")
+        except (ValueError, KeyError, IndexError) as error:
+            print(f"{row.place}: unexpected fields: {row.text[:200]}: {error!r}", file=sys.stderr)
+            status = 1
+    return status
 
 
 if __name__ == "__main__":

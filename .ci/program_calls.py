@@ -89,8 +89,16 @@ def origin_words(name):
     return [b"--zone", spelled(name)] if name else []
 
 
+def items(text, end=b";"):
+    """Splits a list whose items each have `end` after them."""
+    *listed, rest = text.split(end)
+    if rest:
+        raise ValueError(text)
+    return listed
+
+
 def lines(octets):
-    return octets.split(b"\n")[:-1]
+    return items(octets + b"\n" * (not octets.endswith(b"\n") and octets != b""), b"\n")
 
 
 def error_lines(ran):
@@ -266,6 +274,9 @@ def listing(*command):
         if fault is None:
             return exact(zonetext(*command, "f"), wanted, files={"f": text})
         name, place, opened, spot = fault
+        place += len(text) - len(row.inputs[0])
+        if spot not in (None, at(text, place)):
+            raise ValueError(row.wanted)
         reported = b"f:" + (spot or at(text, place)) + b": "
 
         def agrees(ran):
@@ -285,7 +296,9 @@ def check_row(row):
     words = zonetext("check", "--text", "f")
     if row.wanted == b"ok":
         return exact(words, b"", files={"f": text})
-    _, (name, _, opened, spot) = fault_of(row.wanted)
+    _, (name, place, opened, spot) = fault_of(row.wanted)
+    if spot != at(text, len(text) - len(row.inputs[0]) + place):
+        raise ValueError(row.wanted)
     reported = b"f:" + spot + b": "
 
     def agrees(ran):
@@ -366,7 +379,7 @@ def lint_row(row):
     if text.endswith(b"\x1a"):
         return None
     wanted = []
-    for item in row.wanted.split(b"/")[:-1]:
+    for item in items(row.wanted, b"/"):
         code, place = item.split(b"@")
         wanted.append((code.decode(), *position(text, int(place))))
 

@@ -3,8 +3,8 @@ import re
 
 import as_data
 import zone_text
-from program_calls import (Plan, at, error_lines, exact, findings, judged, labels_of, lines, origin_words, position,
-                           short, spelled, zonetext)
+from program_calls import (Plan, at, error_lines, exact, findings, items, judged, labels_of, lines, origin_words,
+                           position, short, spelled, zonetext)
 from row_file import octets_of
 
 RULES = {
@@ -98,7 +98,9 @@ def wire_row(row):
     line = data_line(kind, as_data.generic(octets))
     if row.is_refused:
         return refused({"f": line}, data_words([]))
-    return judged({"f": line}, data_words([]), "status 0, a line", lambda ran: ran.status == 0 and len(lines(ran.out)) == 1)
+    line += data_line(kind, as_data.generic(row.wanted))
+    return judged({"f": line}, data_words([]), "status 0, two lines that are the same",
+                  lambda ran: ran.status == 0 and len(lines(ran.out)) == 2 and len(set(lines(ran.out))) == 1)
 
 
 DATA = {"data": data_row, "data.why": data_why, "data.print": data_print}
@@ -390,7 +392,7 @@ def rules_row(codes, *options):
         zone = origin_words(origin)
         files = {"f": text}
         commands = [zonetext("check", *zone, *options, *more, "--json", "--max", "0", "f"), zonetext("records", *zone, "f")]
-        wanted = sorted(row.wanted.split(b";")[:-1])
+        wanted = sorted(items(row.wanted))
         # `check` does not report a duplicate SOA.
         if any(it.startswith(b"duplicate ") and it.endswith(b" SOA") for it in wanted):
             return None
@@ -469,7 +471,7 @@ def unique_row(row):
     zone = origin_words(origin[0] if origin else b"")
     if row.is_refused:
         return refused({"f": text}, zonetext("canon", *zone, "f"))
-    count, *records = row.wanted.split(b";")[:-1]
+    count, *records = items(row.wanted)
 
     def agrees(rans):
         found, wanted = rans
@@ -485,7 +487,7 @@ def sort_row(row):
     """`canon` prints the expected records in order. It drops duplicates in both runs."""
     text, *origin = row.inputs
     zone = origin_words(origin[0] if origin else b"")
-    records = row.wanted.split(b";")[:-1]
+    records = items(row.wanted)
 
     def agrees(rans):
         found, wanted = rans
@@ -497,7 +499,7 @@ def sort_row(row):
 
 def set_diff(row):
     old, new = row.inputs
-    changes = row.wanted.split(b";")[:-1]
+    changes = items(row.wanted)
     records = b""
     for change in changes:
         record = change[1:]
@@ -561,7 +563,7 @@ VERDICTS = {b"matches": b"matches", b"differs": b"differ", b"other serial": b"se
 def verdicts_row(row):
     text, origin = row.inputs
     words = zonetext("digest", *origin_words(origin), "f")
-    wanted = row.wanted.split(b";")[:-1]
+    wanted = [] if row.is_refused else items(row.wanted)
     if row.is_refused:
         return judged({"f": text}, words, "status 3, no output", lambda ran: ran.status == 3 and not ran.out and b"SOA" in ran.err)
     if not wanted:
