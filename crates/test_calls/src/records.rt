@@ -292,7 +292,10 @@ fn many_strings_to_the_end(rt: HostRuntime) {
         .expect(&rt, "memory");
     equal(&rt, &text.len(), &(400 * 258 - 1));
     let entries = split(alloc, text.as_str()).expect(&rt, "memory");
-    equal(&rt, &entries[0].len(), &400);
+    holds(
+        &rt,
+        matches!(entries.as_slice(), [entry] if entry.len() == 400),
+    );
 }
 
 /// Five values in a row, from any scanner.
@@ -303,18 +306,29 @@ fn five_numbers<S: Scanner>(scanner: &mut S) -> Result<(u32, Ttl, Ttl, Ttl, Ttl)
     scan_five(scanner)
 }
 
+/// Five values in a row of tokens.
+fn five_of<'a>(
+    alloc: Global,
+    tokens: &'a [&'a str],
+) -> Result<(u32, Ttl, Ttl, Ttl, Ttl), StrError> {
+    let mut scanner = scanner_of(alloc, tokens);
+    five_numbers(&mut scanner)
+}
+
 // The numbers of the SOA of RFC 1035 section 5.3.
 #[test]
 fn five_values_in_a_row(rt: HostRuntime) {
     let tokens = ["20", "7200", "600", "3600000", "60"];
-    let mut scanner = scanner_of(rt.alloc(), &tokens);
-    let five = five_numbers(&mut scanner);
-    let (serial, refresh, retry, expire, minimum) = five.expect(&rt, "five numbers");
-    equal(&rt, &serial, &20);
-    holds(&rt, refresh == Ttl::from_secs(7200));
-    holds(&rt, retry == Ttl::from_secs(600));
-    holds(&rt, expire == Ttl::from_secs(3600000));
-    holds(&rt, minimum == Ttl::from_secs(60));
+    let five = five_of(rt.alloc(), &tokens);
+    let Ok((serial, refresh, retry, expire, minimum)) = &five else {
+        holds(&rt, false);
+        return;
+    };
+    equal(&rt, serial, &20);
+    holds(&rt, *refresh == Ttl::from_secs(7200));
+    holds(&rt, *retry == Ttl::from_secs(600));
+    holds(&rt, *expire == Ttl::from_secs(3600000));
+    holds(&rt, *minimum == Ttl::from_secs(60));
 }
 
 /// Octets in memory of which one call is refused.
@@ -331,32 +345,44 @@ fn is_firm(rt: &impl Abort, found: Result<bool, StrError>, heap: &Refusing<Globa
     assert!(rt; is_so);
 }
 
+/// Scans an MX with the growth of a number refused. Whether the growth came.
+fn is_mx_refused(rt: &impl Abort, alloc: Global, nth: u64) -> bool {
+    let heap = Refusing::new(alloc, nth);
+    let found: Result<Mx<Hostile<'_>>, _> = scanned(&heap, "10 a.example.");
+    let is_ample = found.map(|mx| mx.exchange.as_slice() == b"\x01a\x07example\x00".as_slice());
+    is_firm(rt, is_ample, &heap);
+    heap.has_refused()
+}
+
 #[test]
 fn growths_of_mx_refused(rt: HostRuntime) {
-    let mut nth = 1;
-    let mut is_met = true;
-    while is_met && nth < 100 {
-        let heap = Refusing::new(rt.alloc(), nth);
-        let found: Result<Mx<Hostile<'_>>, _> = scanned(&heap, "10 a.example.");
-        let is_ample = found.map(|mx| mx.exchange.as_slice() == b"\x01a\x07example\x00".as_slice());
-        is_firm(&rt, is_ample, &heap);
-        is_met = heap.has_refused();
-        nth += 1;
+    let mut count = 0;
+    for nth in 1..100 {
+        if !is_mx_refused(&rt, rt.alloc(), nth) {
+            break;
+        }
+        count = nth;
     }
-    holds(&rt, 5 < nth && nth < 100);
+    holds(&rt, 3 < count && count < 99);
+}
+
+/// Scans a CAA with the growth of a number refused. Whether the growth came.
+fn is_caa_refused(rt: &impl Abort, alloc: Global, nth: u64) -> bool {
+    let heap = Refusing::new(alloc, nth);
+    let found: Result<Caa<Hostile<'_>>, _> = scanned(&heap, "0 issue \"ca1.example.net\"");
+    let is_ample = found.map(|caa| caa.value.as_slice() == b"ca1.example.net".as_slice());
+    is_firm(rt, is_ample, &heap);
+    heap.has_refused()
 }
 
 #[test]
 fn growths_of_caa_refused(rt: HostRuntime) {
-    let mut nth = 1;
-    let mut is_met = true;
-    while is_met && nth < 100 {
-        let heap = Refusing::new(rt.alloc(), nth);
-        let found: Result<Caa<Hostile<'_>>, _> = scanned(&heap, "0 issue \"ca1.example.net\"");
-        let is_ample = found.map(|caa| caa.value.as_slice() == b"ca1.example.net".as_slice());
-        is_firm(&rt, is_ample, &heap);
-        is_met = heap.has_refused();
-        nth += 1;
+    let mut count = 0;
+    for nth in 1..100 {
+        if !is_caa_refused(&rt, rt.alloc(), nth) {
+            break;
+        }
+        count = nth;
     }
-    holds(&rt, 5 < nth && nth < 100);
+    holds(&rt, 3 < count && count < 99);
 }

@@ -78,7 +78,8 @@ fn prints_none_and_many(rt: HostRuntime) {
     let each = Each::new(&flags);
     each.known();
     prints(&rt, alloc, &each, spaced, "yes\tno\tno\tyes\tno", spaced);
-    let none = Each::new(&flags[5..]);
+    let empty = flags_of(&rt, alloc, 0);
+    let none = Each::new(&empty);
     prints(&rt, alloc, &none, "", "", "");
 }
 
@@ -95,8 +96,6 @@ fn prints_many_after_a_word(rt: HostRuntime) {
     let text = words_of(alloc, 1666).expect(&rt, "memory");
     let all = Flags { flags: &flags };
     prints_as(&rt, alloc, &all, DisplayKind::Simple, text.as_str());
-    let none = Flags {
-        flags: &flags[4998..],
-    };
+    let none = Flags { flags: &[] };
     prints_as(&rt, alloc, &none, DisplayKind::Simple, "flags");
 }
