@@ -1,5 +1,6 @@
 pub mod FieldsBack
 pub mod Marker
 pub mod OneEntry
+pub mod OnlySpelled
 pub mod Parts
 pub mod StringsBack

@@ -5,6 +5,7 @@ use Rattle.dns_symbol.specs.Cause.{Cause, IsCause, custom_text, short_buf}
 use Rattle.dns_scan.specs.Stands.{HasTokens}
 use Rattle.dns_scan.specs.Tokens.{Token}
 use Rattle.dns_iter.specs.Name.{invalid_name}
+use Rattle.dns_record.specs.Spellings.{TakesSpellings}
 use Rattle.dns_record.specs.Values.{Value, AreTexts, AreValues, SomeMayLack}
 
 -- the refusal of generic data (RFC 3597)
@@ -23,7 +24,7 @@ ReadsBack next cause room values wanted all others r new = (IsOkAnd r (λ y. val
 abbrev pub FieldBack : {T : Type 0} → Room → (T → List Value) → List Value → List Token → Result T Cause → List Token → Type 0
 FieldBack room values wanted others r rest = (IsOkAnd r (λ y. values y ≡ wanted) × (rest ≡ others)) ⊎ (Lacks (λ why. why) r × SomeMayLack room wanted)
 
--- a call that takes the texts of a value's fields and leaves the tokens after them, where other fields of the record were before
+-- a call that takes the texts of a value's fields, and no other tokens, and leaves the tokens after them, where other fields of the record were before
 pub record TakesFields {S T E : Type 0} (next : S → Option Token → S → Type 0) (cause : E → Cause) (room : Room) (values : T → List Value) (old : S) (r : Result T E) (new : S) : Type 0 where
   pub back : (x : T) (past : List Value) (tokens others : List Token) → AreValues (values x) → AreTexts (values x) tokens others → HasTokens next old tokens
       → ReadsBack next cause room values (values x) (past ++ values x) others r new
@@ -31,6 +32,8 @@ pub record TakesFields {S T E : Type 0} (next : S → Option Token → S → Typ
   pub before : (x : T) (past more : List Value) (tokens others : List Token) → AreValues (values x ++ more) → AreTexts (values x ++ more) tokens others → HasTokens next old tokens
       → (middle : List Token) × AreValues more × AreTexts more middle others
       × ReadsBack next cause room values (values x) (past ++ (values x ++ more)) middle r new
+  -- whatever is taken spells the fields of the value
+  pub only : (tokens : List Token) → HasTokens next old tokens → TakesSpellings next values tokens r new
 
 -- the fields of three values in a row, and of five
 abbrev pub three_values : {A B C : Type 0} → (A → List Value) → (B → List Value) → (C → List Value) → A × B × C → List Value

@@ -1,5 +1,5 @@
 //! The fields of records: each is scanned back from the text that it prints.
-ghost use Rattle.std.specs.Prelude.{◌≡◌, List, [], ◌∷◌, ◌++◌, OnOk, Result, min, encode_utf8_all};
+ghost use Rattle.std.specs.Prelude.{◌≡◌, List, [], ◌∷◌, ◌++◌, OnOk, Ok, Result, min, encode_utf8_all};
 ghost use Rattle.dns_charstr.specs.Printed.{quoted_text};
 ghost use Rattle.dns_symbol.specs.Cause.{Cause};
 ghost use Rattle.dns_scan.specs.Tokens.{Token};
@@ -7,6 +7,8 @@ ghost use Rattle.dns_zone.specs.Layout.{token};
 ghost use Rattle.dns_entry.specs.Field.{field_text, text_octets};
 ghost use Rattle.dns_record.specs.FieldLaws.{number8_back, number16_back, number32_back, string_back, both_back, name_read};
 ghost use Rattle.dns_record.specs.ReadsBack.{FieldBack, TakesFields, five_values, three_values};
+ghost use Rattle.dns_record.specs.SpellingLaws.{number8_only, number16_only, number32_only, string_only, both_only, name_only};
+ghost use Rattle.dns_record.specs.Spellings.{AreSpellingsOf};
 ghost use Rattle.dns_record.specs.Values.{Value, number8, number16, number32, name, string, AreValues, AreTexts};
 
 use dns_charstr::charstr::CharStr;
@@ -89,41 +91,58 @@ pub trait Field<S: Scanner>: FieldValue + Scan<S> {
     // Whatever is read of the texts of its fields is the value, or there is no room for a field.
     ghost back: { (x : Self) (tokens others rest : List Token) (r : Result Self Cause) → AreValues (Self.values x) → AreTexts (Self.values x) tokens others
         → Self.scan_reads tokens r rest → FieldBack S.OctetsBuilder.room Self.values (Self.values x) others r rest };
+
+    // Whatever tokens are read as a value spell its fields.
+    ghost only: { (x : Self) (tokens rest : List Token) → Self.scan_reads tokens (Ok x) rest → AreSpellingsOf (Self.values x) tokens rest };
 }
 
 impl<S: Scanner> Field<S> for u8 {
     ghost back = { number8_back S.OctetsBuilder.room };
+
+    ghost only = { number8_only };
 }
 
 impl<S: Scanner> Field<S> for u16 {
     ghost back = { number16_back S.OctetsBuilder.room };
+
+    ghost only = { number16_only };
 }
 
 impl<S: Scanner> Field<S> for u32 {
     ghost back = { number32_back S.OctetsBuilder.room };
+
+    ghost only = { number32_only };
 }
 
 impl<S: Scanner> Field<S> for Ttl {
     ghost back = { number32_back S.OctetsBuilder.room };
+
+    ghost only = { number32_only };
 }
 
 impl<S: Scanner> Field<S> for CharStr<S::Octets> {
     ghost back = { string_back S.OctetsBuilder.room };
+
+    ghost only = { string_only S.OctetsBuilder.room };
 }
 
 impl<S: Scanner, A: Field<S> + Drop, B: Field<S>> Field<S> for (A, B) {
     ghost back = { both_back S.OctetsBuilder.room A.values B.values A.scan_reads B.scan_reads A.back B.back };
+
+    ghost only = { both_only A.values B.values A.scan_reads B.scan_reads A.only B.only };
 }
 
 impl<'a, Iter: Iterator<Item = &'a str>, Octets: ScanOctets, E: ScannerError> Field<
     IterScanner<Iter, Octets, E>,
 > for Name<Octets> {
     ghost back = { name_read Octets E.cause Octets.Builder.room };
+
+    ghost only = { name_only Octets E.cause Octets.Builder.room };
 }
 
 /// Takes the texts of fields: they are scanned back to the same values, and the tokens after them
 /// are left. Where other fields follow, their texts are. Room or memory lacks only where a field of
-/// the record has more octets than surely fit.
+/// the record has more octets than surely fit. Tokens that spell no such fields are refused.
 pub fn scan_fields<S: Scanner, T: Field<S>>(scanner: &mut S) -> Result<T, S::Error>
     requires { S.can_scan scanner.old }
     ensures ready { S.can_scan scanner.new }

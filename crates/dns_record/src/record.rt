@@ -1,11 +1,12 @@
 //! Record data: values that print as the tokens of one entry, and are scanned back from them.
-ghost use Rattle.std.specs.Prelude.{◌≡◌, ◌≢◌, ◌⊎◌, List, [], ◌∷◌, IfSome, IsOk, IsOkAnd, MatchResult};
+ghost use Rattle.std.specs.Prelude.{◌≡◌, ◌≢◌, ◌⊎◌, List, [], ◌∷◌, IfOk, IfSome, IsOk, IsOkAnd, MatchResult};
 ghost use Rattle.dns_split.specs.Answer.{texts};
 ghost use Rattle.dns_symbol.specs.Cause.{IsCause};
 ghost use Rattle.dns_scan.specs.Stands.{HasTokens, first_of, others_of};
 ghost use Rattle.dns_scan.specs.Tokens.{Token, marker};
 ghost use Rattle.dns_record.specs.Parts.{Part, IsLaidOut, steps_of, values_of};
 ghost use Rattle.dns_record.specs.ReadsBack.{Lacks, ReadsBack, generic_data};
+ghost use Rattle.dns_record.specs.Spellings.{AreSpellingsOf, TakesSpellings};
 ghost use Rattle.dns_record.specs.Values.{AreFields, AreTexts, SomeMayLack};
 
 use dns_iter::ScanOctets;
@@ -30,8 +31,8 @@ pub trait RecordData<Octets: ScanOctets, A: Allocator + Copy>: ZonefileFmt {
     fn known(&self)
         ensures { AreFields (values_of (parts self.now)) };
 
-    /// Takes the tokens of the data. That they begin with no marker of generic data was asked
-    /// before, by [`scan_record`].
+    /// Takes the tokens of the data, and refuses tokens that spell no such data. That they begin
+    /// with no marker of generic data was asked before, by [`scan_record`].
     fn scan_data<'a, T: TokenText, E: ScannerError>(
         alloc: A,
         scanner: &mut EntryScanner<'a, T, Octets, E>,
@@ -41,7 +42,9 @@ pub trait RecordData<Octets: ScanOctets, A: Allocator + Copy>: ZonefileFmt {
         ensures back { (x : Self) (tokens : List Token) → AreFields (values_of (parts x)) → AreTexts (values_of (parts x)) tokens []
             → HasTokens (⟦<EntryScanner<'a, T, Octets, E> as Scanner>⟧.next_token) scanner.old tokens
             → ReadsBack (⟦<EntryScanner<'a, T, Octets, E> as Scanner>⟧.next_token) E.cause Octets.Builder.room
-            (λ y. values_of (parts y)) (values_of (parts x)) (values_of (parts x)) [] result scanner.new };
+            (λ y. values_of (parts y)) (values_of (parts x)) (values_of (parts x)) [] result scanner.new }
+        ensures only { (tokens : List Token) → HasTokens (⟦<EntryScanner<'a, T, Octets, E> as Scanner>⟧.next_token) scanner.old tokens
+            → TakesSpellings (⟦<EntryScanner<'a, T, Octets, E> as Scanner>⟧.next_token) (λ y. values_of (parts y)) tokens result scanner.new };
 
     // The document is that of the parts.
     ghost shown: { (x : Self) → Self.document x ≡ steps_of (parts x) };
@@ -66,7 +69,8 @@ pub fn expect_no_marker<S: Scanner>(scanner: &mut S) -> Result<(), S::Error>
     Ok(())
 }
 
-/// Takes the data and the end of the entry: a token that is left is refused.
+/// Takes the data and the end of the entry: a token that is left is refused. So a value is returned
+/// only where all tokens are a spelling of its fields.
 ///
 /// Data that begin with `\#` are refused as "generic record data is not supported", whatever the
 /// type: no value is read of RFC 3597's generic form, nor is the form taken for the type's own. The
@@ -83,6 +87,8 @@ where
     ensures back { (x : R) (tokens : List Token) → AreFields (values_of (R.parts x)) → AreTexts (values_of (R.parts x)) tokens []
         → HasTokens (⟦<EntryScanner<'a, T, Octets, E> as Scanner>⟧.next_token) scanner.old tokens
         → IsOkAnd result (λ y. values_of (R.parts y) ≡ values_of (R.parts x)) ⊎ (Lacks E.cause result × SomeMayLack Octets.Builder.room (values_of (R.parts x))) }
+    ensures only { (tokens : List Token) → HasTokens (⟦<EntryScanner<'a, T, Octets, E> as Scanner>⟧.next_token) scanner.old tokens
+        → IfOk result (λ y. AreSpellingsOf (values_of (R.parts y)) tokens []) }
     ensures generic { (others : List Token) → HasTokens (⟦<EntryScanner<'a, T, Octets, E> as Scanner>⟧.next_token) scanner.old (marker ∷ others)
         → IsCause E.cause result generic_data × HasTokens (⟦<EntryScanner<'a, T, Octets, E> as Scanner>⟧.next_token) scanner.new others }
     ensures all { (tokens : List Token) → HasTokens (⟦<EntryScanner<'a, T, Octets, E> as Scanner>⟧.next_token) scanner.new tokens → IsOk result → tokens ≡ [] }

@@ -1,10 +1,13 @@
 //! Fields that are all that is left of an entry.
 ghost use Rattle.std.specs.Prelude.{◌≡◌, ◌↔◌, ◌<◌, List, ℕ, [], ◌∷◌, ◌++◌, length, map, All, IfOk, IfErr, IsOk, IsOkAnd, OnOk};
+ghost use Rattle.std.specs.List.{concat};
+ghost use Rattle.dns_symbol.specs.Cause.{IsCause, end_of_entry};
 ghost use Rattle.dns_scan.specs.Stands.{HasTokens};
 ghost use Rattle.dns_scan.specs.Tokens.{Token};
 ghost use Rattle.dns_zone.specs.Writers.{WritesSteps};
 ghost use Rattle.dns_record.specs.ReadsBack.{ReadsBack};
 ghost use Rattle.dns_record.specs.Several.{IsString, string_steps, strings_of};
+ghost use Rattle.dns_record.specs.Spellings.{TakesSpellings};
 ghost use Rattle.dns_record.specs.Values.{Value, hex, base64_octets, AreFields, AreTexts, AreValues};
 
 use crate::fields::write_quoted;
@@ -65,6 +68,8 @@ where
     ensures ready { S.can_scan scanner.new }
     ensures back { (octets : List ℕ) (past : List Value) (tokens : List Token) → AreValues (hex octets ∷ []) → AreTexts (hex octets ∷ []) tokens [] → HasTokens S.next_token scanner.old tokens
         → ReadsBack S.next_token S.Error.cause S.OctetsBuilder.room (λ o. hex o ∷ []) (hex octets ∷ []) (past ++ hex octets ∷ []) [] result scanner.new }
+    ensures only { (tokens : List Token) → HasTokens S.next_token scanner.old tokens → TakesSpellings S.next_token (λ o. hex o ∷ []) tokens result scanner.new }
+    ensures none { (tokens : List Token) → HasTokens S.next_token scanner.old tokens → concat tokens ≡ [] → IsCause S.Error.cause result end_of_entry }
 {
     let octets = hex_entry_is_scanned_back(scanner)?;
     some_octets(octets)
@@ -81,6 +86,8 @@ where
     ensures back { (octets : List ℕ) (past : List Value) (tokens : List Token) → AreValues (base64_octets octets ∷ []) → AreTexts (base64_octets octets ∷ []) tokens []
         → HasTokens S.next_token scanner.old tokens
         → ReadsBack S.next_token S.Error.cause S.OctetsBuilder.room (λ o. base64_octets o ∷ []) (base64_octets octets ∷ []) (past ++ base64_octets octets ∷ []) [] result scanner.new }
+    ensures only { (tokens : List Token) → HasTokens S.next_token scanner.old tokens → TakesSpellings S.next_token (λ o. base64_octets o ∷ []) tokens result scanner.new }
+    ensures none { (tokens : List Token) → HasTokens S.next_token scanner.old tokens → concat tokens ≡ [] → IsCause S.Error.cause result end_of_entry }
 {
     let octets = base64_entry_is_scanned_back(scanner)?;
     some_octets(octets)
@@ -90,11 +97,12 @@ where
 fn some_octets<Octets: AsOctets + Drop, E: ScannerError>(
     octets: Octets,
 ) -> Result<SomeOctets<Octets>, E>
-    ensures { 0 < length (Octets.octets octets) → IsOkAnd result (λ s. s ≡ Octets.octets octets) }
+    ensures some { 0 < length (Octets.octets octets) → IsOkAnd result (λ s. s ≡ Octets.octets octets) }
+    ensures none { length (Octets.octets octets) ≡ 0 → IsCause E.cause result end_of_entry }
 {
     match SomeOctets::new(octets) {
         Ok(octets) => Ok(octets),
-        Err(_) => Err(E::end_of_entry()),
+        Err(_no_octets) => Err(E::end_of_entry()),
     }
 }
 
@@ -193,6 +201,8 @@ where
     ensures back { (strings : List (List ℕ)) (past : List Value) (tokens : List Token) → AreFields (strings_of strings) → AreTexts (strings_of strings) tokens []
         → HasTokens S.next_token scanner.old tokens
         → ReadsBack S.next_token S.Error.cause S.OctetsBuilder.room strings_of (strings_of strings) (past ++ strings_of strings) [] result scanner.new }
+    ensures only { (tokens : List Token) → HasTokens S.next_token scanner.old tokens → TakesSpellings S.next_token strings_of tokens result scanner.new }
+    ensures none { HasTokens S.next_token scanner.old [] → IsCause S.Error.cause result end_of_entry }
 {
     some_strings(dns_scan::strings_rest(alloc, scanner)?)
 }
@@ -201,10 +211,11 @@ where
 fn some_strings<Octets: AsOctets + Drop, A: Allocator, E: ScannerError>(
     strings: Vec<CharStr<Octets>, A>,
 ) -> Result<Strings<Octets, A>, E>
-    ensures { 0 < length strings.items → IsOkAnd result (λ s. s ≡ strings.items) }
+    ensures some { 0 < length strings.items → IsOkAnd result (λ s. s ≡ strings.items) }
+    ensures none { length strings.items ≡ 0 → IsCause E.cause result end_of_entry }
 {
     match Strings::new(strings) {
         Ok(strings) => Ok(strings),
-        Err(_) => Err(E::end_of_entry()),
+        Err(_no_strings) => Err(E::end_of_entry()),
     }
 }

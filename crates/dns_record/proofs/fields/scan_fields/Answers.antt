@@ -1,5 +1,6 @@
 use Rattle.std.proofs.Common.{◌++◌}
 use Rattle.dns_record.specs.FieldLaws.{may_before, may_after, texts_parts, values_parts}
+use Rattle.dns_record.proofs.OnlySpelled.{scanned_only}
 use Rattle.dns_record.proofs.FieldsBack.{scanned_back}
 use Rattle.dns_record.specs.Values.{SomeMayLack}
 use Rattle.dns_record.proofs.fields.scan_fields.Goals as goal
@@ -27,4 +28,7 @@ returns-clause-fields g c =
             scanned_back next cause room values mine parts.0 read.0 _ (past ++ (mine ++ more)) among c.scan.result
                 (g.met.T.Field.back x tokens parts.0 read.0 _ valid.0 parts.1 read.1) read.2,
           );
+      only = λ tokens stands.
+          let read = c.scan.ensures.reads tokens stands in
+          scanned_only next cause tokens _ values g.T.Scan.scan_reads g.met.T.Field.only read.0 c.scan.result read.1 read.2;
     }

@@ -7,6 +7,7 @@ returns-clause-fields g c =
     record {
       back = λ x. fields.back (x.0, (x.1, x.2));
       before = λ x. fields.before (x.0, (x.1, x.2));
+      only = fields.only;
     }
 
 pub returns-in_err-a-clause-fields : goal.returns-in_err-a-clause-fields
@@ -16,4 +17,5 @@ returns-in_err-a-clause-fields g c =
     rw (p.1, p.2) (record {
       back = λ x. fields.back (x.0, (x.1, x.2));
       before = λ x. fields.before (x.0, (x.1, x.2));
+      only = fields.only;
     })

@@ -1,9 +1,11 @@
-use Rattle.std.proofs.Common.{[], ◌∷◌, refl, inl, inr, ⊎_elim}
+use Rattle.std.proofs.Common.{List, [], ◌∷◌, refl, subst, inl, inr, ⊎_elim}
 use Rattle.std.proofs.lemmas.Result.{err_from_is_err_and}
-use Rattle.dns_scan.specs.Tokens.{marker}
-use Rattle.dns_scan.proofs.TokensLeft.{peeked, some_left}
+use Rattle.dns_scan.specs.Tokens.{Token, marker}
+use Rattle.dns_scan.proofs.TokensLeft.{peeked, peeked_none, some_left}
 use Rattle.dns_record.proofs.Marker.{no_marker}
 use Rattle.dns_record.proofs.StringsBack.{none_stands}
+use Rattle.dns_record.specs.Parts.{values_of}
+use Rattle.dns_record.specs.Spellings.{AreSpellingsOf}
 use Rattle.dns_record.proofs.record.scan_record.Goals as goal
 
 pub returns-then-continues-clause-back : goal.returns-then-continues-clause-back
@@ -42,3 +44,10 @@ returns-in_err-expect_no_marker-clause-generic g c = λ others stands.
     let p = err_from_is_err_and c.from_residual.result c.from_residual.ensures.1 in
     let is = c.in_err-expect_no_marker.ensures.stands (marker ∷ others) stands in
     rw (p.1, p.2) (is.1, is.2)
+
+pub returns-clause-only : goal.returns-clause-only
+returns-clause-only g c = λ tokens stands.
+    let took = c.in_ok-data.ensures.only tokens (c.in_ok-expect_no_marker.ensures.stands tokens stands).1 in
+    let peek = c.if-continues.ensures.peeks in
+    let left = peeked_none _ _ _ peek.0 took.0 took.2 peek.1 peek.2 in
+    subst (λ (l : List Token). AreSpellingsOf (values_of (g.R.RecordData.parts c.in_ok-data.data)) tokens l) left.0 took.1

@@ -9,3 +9,6 @@ pub returns-in_err-flags-clause-back : goal.returns-in_err-flags-clause-back
 returns-in_err-flags-clause-back g c = λ x tokens is texts stands.
     let p = err_from_is_err_and c.from_residual.result c.from_residual.ensures.1 in
     rw (p.1, p.2) (c.in_err-flags.ensures.fields.back (x.flags, x.tag, x.value) [] tokens [] is.0 texts stands)
+
+pub returns-clause-only : goal.returns-clause-only
+returns-clause-only g c = λ tokens stands. c.in_ok-flags.ensures.fields.only tokens stands

@@ -9,3 +9,6 @@ pub returns-in_err-preference-clause-back : goal.returns-in_err-preference-claus
 returns-in_err-preference-clause-back g c = λ x tokens is texts stands.
     let p = err_from_is_err_and c.from_residual.result c.from_residual.ensures.1 in
     rw (p.1, p.2) (c.in_err-preference.ensures.fields.back (x.preference, x.exchange) [] tokens [] is.0 texts stands)
+
+pub returns-clause-only : goal.returns-clause-only
+returns-clause-only g c = λ tokens stands. c.in_ok-preference.ensures.fields.only tokens stands
