@@ -32,35 +32,36 @@ static uint8_t *contents(const char *path, size_t *length) {
     return text;
 }
 
-static void tell(const char *path, const uint8_t *text, size_t length, uint32_t status,
-                 struct dns_outcome outcome) {
-    size_t line = 1, column = 1;
-    dns_position(text, length, outcome.place, &line, &column);
-    printf("%s:%lu:%lu: ", path, (unsigned long)line, (unsigned long)column);
+/* The position goes on from that of the refusal before: all of them take the time of one reading. */
+static void tell(const char *path, const uint8_t *text, size_t length, struct dnstext_position *position,
+                 uint32_t status, struct dnstext_outcome outcome) {
+    dnstext_position_move(text, length, position, outcome.place);
+    printf("%s:%lu:%lu: ", path, (unsigned long)position->line, (unsigned long)position->column);
     if (outcome.length != 0)
         printf("%.*s\n", (int)outcome.length, (const char *)octets);
     else
-        printf("%s\n", dns_status_message(status));
+        printf("%s\n", dnstext_status_message(status));
 }
 
 /* How many refusals a file has; or -1 where it is not read. */
-static long check(const char *path, const struct dns_zone *start) {
-    struct dns_zone zone = *start;
-    struct dns_outcome outcome;
+static long check(const char *path, const struct dnstext_zone *start) {
+    struct dnstext_zone zone = *start;
+    struct dnstext_position position = DNSTEXT_POSITION_INIT;
+    struct dnstext_outcome outcome;
     size_t length;
     long refusals = 0;
     uint8_t *text = contents(path, &length);
     if (text == NULL)
         return -1;
     for (;;) {
-        struct dns_record record;
-        uint32_t status = dns_record_next(text, length, &zone, &record, octets, sizeof octets, &outcome);
-        if (status == DNS_END)
+        struct dnstext_record record;
+        uint32_t status = dnstext_record_next(text, length, &zone, &record, octets, sizeof octets, &outcome);
+        if (status == DNSTEXT_END)
             break;
-        if (status == DNS_INCLUDE) {
+        if (status == DNSTEXT_INCLUDE) {
             printf("%s: %.*s is not read\n", path, (int)outcome.length, (const char *)octets);
-        } else if (status != DNS_OK) {
-            tell(path, text, length, status, outcome);
+        } else if (status != DNSTEXT_OK) {
+            tell(path, text, length, &position, status, outcome);
             refusals++;
         }
     }
@@ -69,8 +70,8 @@ static long check(const char *path, const struct dns_zone *start) {
 }
 
 int main(int argc, char **argv) {
-    struct dns_zone start = DNS_ZONE_INIT;
-    struct dns_outcome outcome;
+    struct dnstext_zone start = DNSTEXT_ZONE_INIT;
+    struct dnstext_outcome outcome;
     bool is_absolute = false;
     uint8_t name[255];
     int i, status = 0;
@@ -78,9 +79,9 @@ int main(int argc, char **argv) {
         fputs("check ORIGIN FILE..\n", stderr);
         return 2;
     }
-    if (dns_name_read((const uint8_t *)argv[1], strlen(argv[1]), name, sizeof name, &is_absolute,
-                      &outcome) != DNS_OK
-        || dns_zone_origin(&start, name, outcome.length, &outcome) != DNS_OK) {
+    if (dnstext_name_read((const uint8_t *)argv[1], strlen(argv[1]), name, sizeof name, &is_absolute,
+                          &outcome) != DNSTEXT_OK
+        || dnstext_zone_origin(&start, name, outcome.length, &outcome) != DNSTEXT_OK) {
         fprintf(stderr, "check: %s: no absolute name\n", argv[1]);
         return 2;
     }

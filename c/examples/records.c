@@ -30,15 +30,15 @@ static void read_all(FILE *file) {
 }
 
 /* The wire octets of an absolute name. */
-static struct dns_kept_name name_of(const char *word) {
-    struct dns_kept_name name = {0, false, {0}};
-    struct dns_outcome outcome;
+static struct dnstext_kept_name name_of(const char *word) {
+    struct dnstext_kept_name name = {0, false, {0}};
+    struct dnstext_outcome outcome;
     bool is_absolute = false;
-    uint32_t status = dns_name_read((const uint8_t *)word, strlen(word), name.octets, sizeof name.octets,
-                                    &is_absolute, &outcome);
-    if (status != DNS_OK || !is_absolute) {
+    uint32_t status = dnstext_name_read((const uint8_t *)word, strlen(word), name.octets, sizeof name.octets,
+                                        &is_absolute, &outcome);
+    if (status != DNSTEXT_OK || !is_absolute) {
         fprintf(stderr, "records: %s: %s\n", word,
-                status != DNS_OK ? dns_status_message(status) : "no dot at the end");
+                status != DNSTEXT_OK ? dnstext_status_message(status) : "no dot at the end");
         exit(2);
     }
     name.length = outcome.length;
@@ -46,7 +46,7 @@ static struct dns_kept_name name_of(const char *word) {
 }
 
 /* Whether two names are equal, without regard to the case of letters (RFC 4343). */
-static bool same_name(const struct dns_kept_name *a, const struct dns_kept_name *b) {
+static bool same_name(const struct dnstext_kept_name *a, const struct dnstext_kept_name *b) {
     size_t i;
     if (a->length != b->length)
         return false;
@@ -58,27 +58,27 @@ static bool same_name(const struct dns_kept_name *a, const struct dns_kept_name 
     return true;
 }
 
-static void complain(uint32_t status, struct dns_outcome outcome) {
-    size_t line = 1, column = 1;
-    const char *message = dns_status_message(status);
-    dns_position(text, text_len, outcome.place, &line, &column);
+/* The position goes on from that of the refusal before: all of them take the time of one reading. */
+static void complain(struct dnstext_position *position, uint32_t status, struct dnstext_outcome outcome) {
+    dnstext_position_move(text, text_len, position, outcome.place);
+    fprintf(stderr, "%lu:%lu: ", (unsigned long)position->line, (unsigned long)position->column);
     if (outcome.length != 0)
-        fprintf(stderr, "%lu:%lu: %.*s\n", (unsigned long)line, (unsigned long)column,
-                (int)outcome.length, (const char *)octets);
+        fprintf(stderr, "%.*s\n", (int)outcome.length, (const char *)octets);
     else
-        fprintf(stderr, "%lu:%lu: %s\n", (unsigned long)line, (unsigned long)column, message);
+        fprintf(stderr, "%s\n", dnstext_status_message(status));
 }
 
-static void print(const struct dns_record *record, size_t length) {
-    struct dns_outcome outcome;
-    dns_base16_print(octets, length, shown, sizeof shown, &outcome);
+static void print(const struct dnstext_record *record, size_t length) {
+    struct dnstext_outcome outcome;
+    dnstext_base16_print(octets, length, shown, sizeof shown, &outcome);
     printf("%lu %.*s\n", (unsigned long)record->ttl, (int)outcome.length, (const char *)shown);
 }
 
 int main(int argc, char **argv) {
-    struct dns_zone zone = DNS_ZONE_INIT;
-    struct dns_kept_name owner;
-    struct dns_outcome outcome;
+    struct dnstext_zone zone = DNSTEXT_ZONE_INIT;
+    struct dnstext_position position = DNSTEXT_POSITION_INIT;
+    struct dnstext_kept_name owner;
+    struct dnstext_outcome outcome;
     uint16_t type;
     int failed = 0;
     if (argc != 4) {
@@ -87,21 +87,21 @@ int main(int argc, char **argv) {
     }
     zone.origin = name_of(argv[1]);
     owner = name_of(argv[2]);
-    if (dns_type_read((const uint8_t *)argv[3], strlen(argv[3]), &type, &outcome) != DNS_OK) {
-        fprintf(stderr, "records: %s: %s\n", argv[3], dns_status_message(DNS_UNKNOWN_TYPE));
+    if (dnstext_type_read((const uint8_t *)argv[3], strlen(argv[3]), &type, &outcome) != DNSTEXT_OK) {
+        fprintf(stderr, "records: %s: %s\n", argv[3], dnstext_status_message(DNSTEXT_UNKNOWN_TYPE));
         return 2;
     }
     read_all(stdin);
     for (;;) {
-        struct dns_record record;
-        uint32_t status = dns_record_next(text, text_len, &zone, &record, octets, sizeof octets, &outcome);
-        if (status == DNS_END)
+        struct dnstext_record record;
+        uint32_t status = dnstext_record_next(text, text_len, &zone, &record, octets, sizeof octets, &outcome);
+        if (status == DNSTEXT_END)
             break;
-        if (status == DNS_OK) {
+        if (status == DNSTEXT_OK) {
             if (record.type_code == type && same_name(&record.name, &owner))
                 print(&record, outcome.length);
-        } else if (status != DNS_INCLUDE) {
-            complain(status, outcome);
+        } else if (status != DNSTEXT_INCLUDE) {
+            complain(&position, status, outcome);
             failed = 1;
         }
     }

@@ -29,37 +29,37 @@ static void read_all(FILE *file) {
     } while (got != 0);
 }
 
-static int is_txt(struct dns_token token) {
+static int is_txt(struct dnstext_token token) {
     return token.end - token.start == 3 && !token.is_quoted && memcmp(text + token.start, "TXT", 3) == 0;
 }
 
 static void tell(size_t place, const char *what) {
     size_t line = 1, column = 1;
-    dns_position(text, text_len, place, &line, &column);
+    dnstext_position(text, text_len, place, &line, &column);
     fprintf(stderr, "%lu:%lu: %s\n", (unsigned long)line, (unsigned long)column, what);
 }
 
 static int fail(uint32_t status, size_t place) {
-    tell(place, dns_status_message(status));
+    tell(place, dnstext_status_message(status));
     return 1;
 }
 
 /* Prints the octets of a token, between double quotes. */
-static int print_string(struct dns_token token) {
-    struct dns_outcome outcome;
+static int print_string(struct dnstext_token token) {
+    struct dnstext_outcome outcome;
     uint8_t octets[255], shown[1022];
     size_t start = token.start + token.is_quoted;
     size_t end = token.end - token.is_quoted;
-    uint32_t status = dns_charstr_read(text + start, end - start, octets, sizeof octets, &outcome);
-    if (status != DNS_OK)
+    uint32_t status = dnstext_charstr_read(text + start, end - start, octets, sizeof octets, &outcome);
+    if (status != DNSTEXT_OK)
         return fail(status, start + outcome.place);
-    dns_charstr_print_quoted(octets, outcome.length, shown, sizeof shown, &outcome);
+    dnstext_charstr_print_quoted(octets, outcome.length, shown, sizeof shown, &outcome);
     printf("%.*s\n", (int)outcome.length, (const char *)shown);
     return 0;
 }
 
 /* Prints the strings after the first word TXT of an entry. */
-static int print_strings(const struct dns_token *tokens, size_t count) {
+static int print_strings(const struct dnstext_token *tokens, size_t count) {
     size_t i, type = 0;
     while (type < count && !is_txt(tokens[type]))
         type++;
@@ -70,24 +70,24 @@ static int print_strings(const struct dns_token *tokens, size_t count) {
 }
 
 int main(void) {
-    struct dns_cursor cursor = DNS_CURSOR_INIT;
-    struct dns_token *tokens = NULL;
+    struct dnstext_cursor cursor = DNSTEXT_CURSOR_INIT;
+    struct dnstext_token *tokens = NULL;
     size_t room = 0;
     int failed = 0;
     read_all(stdin);
     while (!failed) {
-        struct dns_outcome outcome;
-        uint32_t status = dns_entry_next(text, text_len, &cursor, tokens, room, &outcome);
-        if (status == DNS_END)
+        struct dnstext_outcome outcome;
+        uint32_t status = dnstext_entry_next(text, text_len, &cursor, tokens, room, &outcome);
+        if (status == DNSTEXT_END)
             break;
-        if (status == DNS_OK) {
+        if (status == DNSTEXT_OK) {
             failed = print_strings(tokens, outcome.length);
-        } else if (status == DNS_NO_ROOM) {
+        } else if (status == DNSTEXT_NO_ROOM) {
             room = outcome.length;
-            tokens = (struct dns_token *)grown(tokens, room * sizeof *tokens);
+            tokens = (struct dnstext_token *)grown(tokens, room * sizeof *tokens);
         } else {
             failed = fail(status, outcome.place);
-            if (status == DNS_OPEN_QUOTE || status == DNS_OPEN_PARENTHESIS)
+            if (status == DNSTEXT_OPEN_QUOTE || status == DNSTEXT_OPEN_PARENTHESIS)
                 tell(cursor.opened, "opened here");
         }
     }

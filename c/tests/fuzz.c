@@ -9,7 +9,7 @@
 #include <string.h>
 #include <time.h>
 
-enum { GUARD = 16, FILL = 0xA5, MOST = 4096, STATUSES = DNS_RELATIVE_NAME + 1 };
+enum { GUARD = 16, FILL = 0xA5, MOST = 4096, STATUSES = DNSTEXT_RELATIVE_NAME + 1 };
 
 #define CHECK(is_so) \
     do { \
@@ -50,35 +50,40 @@ static void release(uint8_t *memory, size_t room, size_t written) {
 
 /* ---- calls that give octets */
 
-typedef uint32_t (*call)(const uint8_t *, size_t, uint8_t *, size_t, struct dns_outcome *);
+typedef uint32_t (*call)(const uint8_t *, size_t, uint8_t *, size_t, struct dnstext_outcome *);
 
 static uint32_t name_read(const uint8_t *from, size_t from_len, uint8_t *to, size_t to_len,
-                          struct dns_outcome *outcome) {
+                          struct dnstext_outcome *outcome) {
     bool is_absolute;
-    return dns_name_read(from, from_len, to, to_len, &is_absolute, outcome);
+    return dnstext_name_read(from, from_len, to, to_len, &is_absolute, outcome);
 }
 
 static uint32_t data_print(const uint8_t *from, size_t from_len, uint8_t *to, size_t to_len,
-                           struct dns_outcome *outcome) {
-    return dns_data_print(code, from, from_len, to, to_len, outcome);
+                           struct dnstext_outcome *outcome) {
+    return dnstext_data_print(code, from, from_len, to, to_len, outcome);
+}
+
+static uint32_t data_canonical(const uint8_t *from, size_t from_len, uint8_t *to, size_t to_len,
+                               struct dnstext_outcome *outcome) {
+    return dnstext_data_canonical(code, from, from_len, to, to_len, outcome);
 }
 
 static uint32_t status_text(const uint8_t *from, size_t from_len, uint8_t *to, size_t to_len,
-                            struct dns_outcome *outcome) {
+                            struct dnstext_outcome *outcome) {
     (void)from, (void)from_len;
-    return dns_status_text((uint32_t)number, to, to_len, outcome);
+    return dnstext_status_text((uint32_t)number, to, to_len, outcome);
 }
 
 static uint32_t type_print(const uint8_t *from, size_t from_len, uint8_t *to, size_t to_len,
-                           struct dns_outcome *outcome) {
+                           struct dnstext_outcome *outcome) {
     (void)from, (void)from_len;
-    return dns_type_print(code, to, to_len, outcome);
+    return dnstext_type_print(code, to, to_len, outcome);
 }
 
 static uint32_t class_print(const uint8_t *from, size_t from_len, uint8_t *to, size_t to_len,
-                            struct dns_outcome *outcome) {
+                            struct dnstext_outcome *outcome) {
     (void)from, (void)from_len;
-    return dns_class_print(code, to, to_len, outcome);
+    return dnstext_class_print(code, to, to_len, outcome);
 }
 
 /* Where an encoding refuses, nothing is said of the octets that were to be. */
@@ -86,26 +91,26 @@ static const struct {
     call f;
     int is_encoding;
 } calls[] = {
-    {dns_charstr_read, 0},         {dns_charstr_read_octets, 0},    {dns_charstr_print, 0},
-    {dns_charstr_print_quoted, 0}, {dns_charstr_print_unquoted, 0}, {name_read, 0},
-    {dns_name_print, 0},           {dns_name_print_dotted, 0},      {dns_name_print_zone, 0},
-    {dns_base16_print, 0},         {dns_base32hex_print, 0},        {dns_base64_print, 0},
-    {dns_base16_read, 1},          {dns_base32hex_read, 1},         {dns_base64_read, 1},
-    {data_print, 0},               {status_text, 0},                {type_print, 0},
-    {class_print, 0},
+    {dnstext_charstr_read, 0},         {dnstext_charstr_read_octets, 0},    {dnstext_charstr_print, 0},
+    {dnstext_charstr_print_quoted, 0}, {dnstext_charstr_print_unquoted, 0}, {name_read, 0},
+    {dnstext_name_print, 0},           {dnstext_name_print_dotted, 0},      {dnstext_name_print_zone, 0},
+    {dnstext_base16_print, 0},         {dnstext_base32hex_print, 0},        {dnstext_base64_print, 0},
+    {dnstext_base16_read, 1},          {dnstext_base32hex_read, 1},         {dnstext_base64_read, 1},
+    {data_print, 0},                   {status_text, 0},                    {type_print, 0},
+    {class_print, 0},                  {data_canonical, 0},
 };
 
 /* A call with so much room: what it says, and what it wrote. */
-static uint32_t give(call f, int is_encoding, size_t room, struct dns_outcome *outcome) {
+static uint32_t give(call f, int is_encoding, size_t room, struct dnstext_outcome *outcome) {
     uint8_t *to = guarded(room);
     uint32_t status;
     size_t written = 0;
     memset(outcome, FILL, sizeof *outcome);
     status = f(text, text_len, to, room, outcome);
-    CHECK(status < STATUSES && status != DNS_END);
-    if (status == DNS_OK)
+    CHECK(status < STATUSES && status != DNSTEXT_END);
+    if (status == DNSTEXT_OK)
         written = outcome->length;
-    else if (status == DNS_NO_ROOM)
+    else if (status == DNSTEXT_NO_ROOM)
         CHECK(room < outcome->length && outcome->place == 0);
     else if (is_encoding)
         written = room;
@@ -117,15 +122,15 @@ static uint32_t give(call f, int is_encoding, size_t room, struct dns_outcome *o
 }
 
 static void try_call(call f, int is_encoding) {
-    struct dns_outcome outcome, again;
+    struct dnstext_outcome outcome, again;
     uint32_t status = f(text, text_len, NULL, 0, &outcome);
     CHECK(status < STATUSES);
-    if (status == DNS_NO_ROOM) {
+    if (status == DNSTEXT_NO_ROOM) {
         size_t needed = outcome.length;
         CHECK(needed > 0);
-        CHECK(give(f, is_encoding, needed - 1, &again) == DNS_NO_ROOM && again.length == needed);
+        CHECK(give(f, is_encoding, needed - 1, &again) == DNSTEXT_NO_ROOM && again.length == needed);
         status = give(f, is_encoding, needed, &again);
-        CHECK(status == DNS_OK ? again.length == needed : is_encoding);
+        CHECK(status == DNSTEXT_OK ? again.length == needed : is_encoding);
         CHECK(give(f, is_encoding, needed + 7, &again) == status);
     } else {
         CHECK(give(f, is_encoding, 9, &again) == status);
@@ -136,38 +141,42 @@ static void try_call(call f, int is_encoding) {
 /* ---- data: what is read prints, and is read again */
 
 static uint32_t read_data(const uint8_t *from, size_t from_len, const uint8_t *origin, size_t origin_len,
-                          size_t room, uint8_t **to, struct dns_outcome *outcome) {
+                          size_t room, uint8_t **to, struct dnstext_outcome *outcome) {
     uint32_t status;
     *to = guarded(room);
-    status = dns_data_read(code, from, from_len, origin, origin_len, *to, room, outcome);
-    CHECK(status < STATUSES && status != DNS_END);
-    CHECK(status == DNS_OK || outcome->place <= from_len);
+    status = dnstext_data_read(code, from, from_len, origin, origin_len, *to, room, outcome);
+    CHECK(status < STATUSES && status != DNSTEXT_END);
+    CHECK(status == DNSTEXT_OK || outcome->place <= from_len);
+    CHECK(status == DNSTEXT_NO_ROOM ? outcome->length > room : outcome->length <= room);
     CHECK(is_filled(*to - GUARD, GUARD) && is_filled(*to + room, GUARD));
-    /* a refusal's text may not fit */
-    CHECK(is_filled(*to + (outcome->length <= room && status != DNS_NO_ROOM ? outcome->length : 0),
-                    room - (outcome->length <= room && status != DNS_NO_ROOM ? outcome->length : 0)));
+    CHECK(is_filled(*to + (status != DNSTEXT_NO_ROOM ? outcome->length : 0),
+                    room - (status != DNSTEXT_NO_ROOM ? outcome->length : 0)));
     return status;
 }
 
 static void try_data(const uint8_t *origin, size_t origin_len) {
-    struct dns_outcome outcome, printed, again;
+    struct dnstext_outcome outcome, printed, again;
     uint8_t *octets, *shown, *back;
     uint32_t status = read_data(text, text_len, origin, origin_len, 0, &octets, &outcome);
-    size_t needed = outcome.length;
+    size_t needed = status == DNSTEXT_NO_ROOM ? outcome.length : 0;
     free(octets - GUARD);
     if (needed != 0) {
         uint32_t short_of = read_data(text, text_len, origin, origin_len, needed - 1, &octets, &again);
-        CHECK(short_of == status && again.length == needed);
+        CHECK(short_of == DNSTEXT_NO_ROOM && again.length == needed);
         free(octets - GUARD);
     }
     status = read_data(text, text_len, origin, origin_len, needed, &octets, &outcome);
-    CHECK(status != DNS_NO_ROOM && outcome.length == needed);
-    if (status == DNS_OK) {
-        status = dns_data_print(code, octets, needed, NULL, 0, &printed);
-        CHECK(status == DNS_NO_ROOM || (status == DNS_OK && printed.length == 0));
+    CHECK(status != DNSTEXT_NO_ROOM && outcome.length == (status == DNSTEXT_OK ? needed : 0));
+    if (status != DNSTEXT_OK) {
+        free(octets - GUARD);
+        CHECK(read_data(text, text_len, origin, origin_len, 255, &octets, &again) == status);
+        CHECK(again.place == outcome.place);
+    } else {
+        status = dnstext_data_print(code, octets, needed, NULL, 0, &printed);
+        CHECK(status == DNSTEXT_NO_ROOM || (status == DNSTEXT_OK && printed.length == 0));
         shown = guarded(printed.length);
-        CHECK(dns_data_print(code, octets, needed, shown, printed.length, &printed) == DNS_OK);
-        CHECK(read_data(shown, printed.length, NULL, 0, needed, &back, &again) == DNS_OK);
+        CHECK(dnstext_data_print(code, octets, needed, shown, printed.length, &printed) == DNSTEXT_OK);
+        CHECK(read_data(shown, printed.length, NULL, 0, needed, &back, &again) == DNSTEXT_OK);
         CHECK(again.length == needed && memcmp(back, octets, needed) == 0);
         release(shown, printed.length, printed.length);
         release(back, needed, needed);
@@ -177,113 +186,136 @@ static void try_data(const uint8_t *origin, size_t origin_len) {
 
 /* ---- words */
 
+/* From each place of the text the position of one is the same; and one of any numbers is safe. */
+static void try_position(size_t line, size_t column) {
+    struct dnstext_position position = DNSTEXT_POSITION_INIT;
+    size_t i;
+    for (i = 0; i <= text_len; i++) {
+        struct dnstext_position moved;
+        CHECK(dnstext_position_move(text, text_len, &position, i) == DNSTEXT_OK && position.offset == i);
+        moved = position;
+        if (number > text_len)
+            CHECK(dnstext_position_move(text, text_len, &moved, number) == DNSTEXT_BAD_PLACE
+                  && memcmp(&moved, &position, sizeof moved) == 0);
+        else
+            CHECK(dnstext_position_move(text, text_len, &moved, number) == DNSTEXT_OK
+                  && moved.offset == number && moved.line == line && moved.column == column);
+    }
+    memset(&position, FILL, sizeof position);
+    if (text_len != 0)
+        memcpy(&position, text, text_len < sizeof position ? text_len : sizeof position);
+    CHECK(dnstext_position_move(text, text_len, &position, text_len) == DNSTEXT_OK);
+}
+
 static void try_words(void) {
-    struct dns_outcome outcome;
+    struct dnstext_outcome outcome;
     uint64_t read = 7;
     uint32_t seconds = 7;
     uint16_t word = 7;
     size_t line = 7, column = 7;
-    uint32_t status = dns_number_read(text, text_len, number, &read, &outcome);
-    CHECK(status < STATUSES && (status == DNS_OK ? read <= number : read == 7));
+    uint32_t status = dnstext_number_read(text, text_len, number, &read, &outcome);
+    CHECK(status < STATUSES && (status == DNSTEXT_OK ? read <= number : read == 7));
     CHECK(outcome.length == 0 && outcome.place <= text_len);
-    status = dns_ttl_read(text, text_len, &seconds, &outcome);
-    CHECK(status == DNS_OK ? seconds < 0x80000000 : status == DNS_BAD_TTL && seconds == 7);
-    status = dns_type_read(text, text_len, &word, &outcome);
-    CHECK(status == DNS_OK || (status == DNS_UNKNOWN_TYPE && word == 7));
+    status = dnstext_ttl_read(text, text_len, &seconds, &outcome);
+    CHECK(status == DNSTEXT_OK ? seconds < 0x80000000 : status == DNSTEXT_BAD_TTL && seconds == 7);
+    status = dnstext_type_read(text, text_len, &word, &outcome);
+    CHECK(status == DNSTEXT_OK || (status == DNSTEXT_UNKNOWN_TYPE && word == 7));
     word = 7;
-    status = dns_class_read(text, text_len, &word, &outcome);
-    CHECK(status == DNS_OK || (status == DNS_UNKNOWN_CLASS && word == 7));
-    status = dns_position(text, text_len, number, &line, &column);
-    CHECK(number <= text_len ? status == DNS_OK && line > 0 && column > 0
-                             : status == DNS_BAD_PLACE && line == 7 && column == 7);
-    CHECK(dns_status_message((uint32_t)number) != NULL && dns_status_name((uint32_t)number) != NULL);
+    status = dnstext_class_read(text, text_len, &word, &outcome);
+    CHECK(status == DNSTEXT_OK || (status == DNSTEXT_UNKNOWN_CLASS && word == 7));
+    status = dnstext_position(text, text_len, number, &line, &column);
+    CHECK(number <= text_len ? status == DNSTEXT_OK && line > 0 && column > 0
+                             : status == DNSTEXT_BAD_PLACE && line == 7 && column == 7);
+    try_position(line, column);
+    CHECK(dnstext_status_message((uint32_t)number) != NULL && dnstext_status_name((uint32_t)number) != NULL);
 }
 
 /* ---- tokens */
 
-static void try_entries(struct dns_cursor cursor) {
-    struct dns_token tokens[3];
-    struct dns_outcome outcome;
+static void try_entries(struct dnstext_cursor cursor) {
+    struct dnstext_token tokens[3];
+    struct dnstext_outcome outcome;
     uint32_t status;
     size_t calls_left = text_len + 2, i;
     do {
         size_t room = number % 3;
         memset(tokens, FILL, sizeof tokens);
-        status = dns_entry_next(text, text_len, &cursor, tokens, room, &outcome);
-        CHECK(status < STATUSES);
+        status = dnstext_entry_next(text, text_len, &cursor, tokens, room, &outcome);
+        CHECK(status < STATUSES && (status == DNSTEXT_NO_ROOM || outcome.length <= room));
         for (i = 0; i < 3; i++) {
             if (i < room && i < outcome.length)
                 CHECK(tokens[i].start < tokens[i].end && tokens[i].end <= text_len);
             else
                 CHECK(is_filled((const uint8_t *)&tokens[i], sizeof *tokens));
         }
-        if (status == DNS_NO_ROOM) {
-            struct dns_token *all = (struct dns_token *)malloc(outcome.length * sizeof *all);
+        if (status == DNSTEXT_NO_ROOM) {
+            struct dnstext_token *all = (struct dnstext_token *)malloc(outcome.length * sizeof *all);
             CHECK(room < outcome.length);
-            status = dns_entry_next(text, text_len, &cursor, all, outcome.length, &outcome);
+            status = dnstext_entry_next(text, text_len, &cursor, all, outcome.length, &outcome);
             free(all);
-            CHECK(status == DNS_OK);
+            CHECK(status == DNSTEXT_OK);
         }
         CHECK(calls_left-- > 0);
-    } while (status == DNS_OK && cursor.at <= text_len);
-    CHECK(status == DNS_BAD_CURSOR || status == DNS_END || outcome.place <= text_len);
+    } while (status == DNSTEXT_OK && cursor.at <= text_len);
+    CHECK(status == DNSTEXT_BAD_CURSOR || status == DNSTEXT_END || outcome.place <= text_len);
 }
 
-static void try_pieces(struct dns_standing standing) {
-    struct dns_piece piece;
-    struct dns_outcome outcome;
+static void try_pieces(struct dnstext_standing standing) {
+    struct dnstext_piece piece;
+    struct dnstext_outcome outcome;
     uint32_t status;
     size_t calls_left = 2 * text_len + 3;
     do {
         memset(&piece, FILL, sizeof piece);
-        status = dns_tokens_next(text, text_len, &standing, &piece, &outcome);
-        CHECK(status < STATUSES && status != DNS_NO_ROOM && outcome.length == 0);
-        if (status == DNS_OK)
-            CHECK(piece.kind <= DNS_ENTRY_END && piece.start <= piece.end && piece.end <= text_len);
+        status = dnstext_tokens_next(text, text_len, &standing, &piece, &outcome);
+        CHECK(status < STATUSES && status != DNSTEXT_NO_ROOM && outcome.length == 0);
+        if (status == DNSTEXT_OK)
+            CHECK(piece.kind <= DNSTEXT_ENTRY_END && piece.start <= piece.end && piece.end <= text_len);
         else
             CHECK(is_filled((const uint8_t *)&piece, sizeof piece));
         CHECK(calls_left-- > 0);
-    } while (status == DNS_OK);
+    } while (status == DNSTEXT_OK);
 }
 
 /* ---- records */
 
-static void try_records(struct dns_zone *zone) {
-    struct dns_record record;
-    struct dns_outcome outcome;
+static void try_records(struct dnstext_zone *zone) {
+    struct dnstext_record record;
+    struct dnstext_outcome outcome;
     uint32_t status;
     size_t calls_left = 2 * text_len + 4, room = number % 7;
     do {
         uint8_t *octets = guarded(room);
         size_t written = 0;
         memset(&record, FILL, sizeof record);
-        status = dns_record_next(text, text_len, zone, &record, octets, room, &outcome);
+        status = dnstext_record_next(text, text_len, zone, &record, octets, room, &outcome);
         CHECK(status < STATUSES);
         CHECK(outcome.place <= text_len);
-        if (status == DNS_OK || status == DNS_INCLUDE) {
+        if (status == DNSTEXT_OK || status == DNSTEXT_INCLUDE) {
             CHECK(outcome.length <= room && record.place <= text_len && record.name.length <= 255);
             written = outcome.length;
         } else {
             CHECK(is_filled((const uint8_t *)&record, sizeof record));
-            if (status != DNS_NO_ROOM && outcome.length <= room)
+            CHECK(status == DNSTEXT_NO_ROOM || outcome.length <= room);
+            if (status != DNSTEXT_NO_ROOM)
                 written = outcome.length;
         }
-        CHECK(status == DNS_BAD_CURSOR || zone->at <= text_len);
+        CHECK(status == DNSTEXT_BAD_CURSOR || zone->at <= text_len);
         release(octets, room, written);
-        room = status == DNS_NO_ROOM ? outcome.length : number % 7;
+        room = status == DNSTEXT_NO_ROOM ? outcome.length : number % 7;
         CHECK(calls_left-- > 0);
-    } while (status != DNS_END && status != DNS_BAD_CURSOR);
+    } while (status != DNSTEXT_END && status != DNSTEXT_BAD_CURSOR);
 }
 
 /* States that no call returned, of the octets of the input. */
 static void try_states(void) {
-    struct dns_cursor cursor;
-    struct dns_standing standing;
-    struct dns_zone zone;
-    struct dns_token token;
-    struct dns_piece piece;
-    struct dns_record record;
-    struct dns_outcome outcome;
+    struct dnstext_cursor cursor;
+    struct dnstext_standing standing;
+    struct dnstext_zone zone;
+    struct dnstext_token token;
+    struct dnstext_piece piece;
+    struct dnstext_record record;
+    struct dnstext_outcome outcome;
     uint8_t *octets = guarded(9);
     size_t i;
     for (i = 0; i < 2; i++) {
@@ -295,23 +327,23 @@ static void try_states(void) {
         memcpy(&zone, text, text_len < sizeof zone ? text_len : sizeof zone);
         if (i == 1)
             cursor.at = standing.at = standing.depth = zone.at = number % (text_len + 2);
-        CHECK(dns_entry_next(text, text_len, &cursor, &token, 1, &outcome) < STATUSES);
-        CHECK(dns_tokens_next(text, text_len, &standing, &piece, &outcome) < STATUSES);
-        CHECK(dns_record_next(text, text_len, &zone, &record, octets, 9, &outcome) < STATUSES);
-        CHECK(dns_zone_origin(&zone, text, text_len, &outcome) < STATUSES && outcome.length == 0);
+        CHECK(dnstext_entry_next(text, text_len, &cursor, &token, 1, &outcome) < STATUSES);
+        CHECK(dnstext_tokens_next(text, text_len, &standing, &piece, &outcome) < STATUSES);
+        CHECK(dnstext_record_next(text, text_len, &zone, &record, octets, 9, &outcome) < STATUSES);
+        CHECK(dnstext_zone_origin(&zone, text, text_len, &outcome) < STATUSES && outcome.length == 0);
     }
     release(octets, 9, 9);
 }
 
 static void try_input(const uint8_t *from, size_t length) {
-    static const struct dns_cursor cursor = DNS_CURSOR_INIT;
-    static const struct dns_standing standing = DNS_STANDING_INIT;
-    static const struct dns_zone empty = DNS_ZONE_INIT;
+    static const struct dnstext_cursor cursor = DNSTEXT_CURSOR_INIT;
+    static const struct dnstext_standing standing = DNSTEXT_STANDING_INIT;
+    static const struct dnstext_zone empty = DNSTEXT_ZONE_INIT;
     static const uint8_t origin[] = "\7example";
-    struct dns_cursor inside = cursor;
-    struct dns_standing at = standing;
-    struct dns_zone zone = empty;
-    struct dns_outcome outcome;
+    struct dnstext_cursor inside = cursor;
+    struct dnstext_standing at = standing;
+    struct dnstext_zone zone = empty;
+    struct dnstext_outcome outcome;
     uint8_t *copy;
     size_t i;
     if (length < 3)
@@ -333,7 +365,7 @@ static void try_input(const uint8_t *from, size_t length) {
     try_entries(inside);
     try_pieces(standing);
     try_pieces(at);
-    CHECK(dns_zone_origin(&zone, origin, sizeof origin, &outcome) == DNS_OK);
+    CHECK(dnstext_zone_origin(&zone, origin, sizeof origin, &outcome) == DNSTEXT_OK);
     try_records(&zone);
     zone = empty;
     zone.at = number;
@@ -385,11 +417,11 @@ static void keep(const char *type, const char *field) {
     uint8_t *octets;
     size_t count = 3, type_len = strcspn(type, "\t");
     uint16_t kind = 0;
-    struct dns_outcome outcome;
+    struct dnstext_outcome outcome;
     if (seeds_len == ROWS || strlen(field) > MOST - 3)
         return;
     octets = (uint8_t *)malloc(strlen(field) + 3);
-    dns_type_read((const uint8_t *)type, type_len, &kind, &outcome);
+    dnstext_type_read((const uint8_t *)type, type_len, &kind, &outcome);
     octets[0] = (uint8_t)kind;
     octets[1] = (uint8_t)(kind >> 8);
     octets[2] = (uint8_t)seeds_len;

@@ -22,11 +22,12 @@ static void put(const char *characters) {
 }
 
 /* What is known of a token: where it stands, and what kind it is. */
-static struct dns_token *known;
+static struct dnstext_token *known;
 static size_t count;
 
 static void put_token(void) {
-    static const char *const words[] = {"a", "example.com.", "3600", "IN", "\\;", "x\\032y", "@", "caf\xC3\xA9"};
+    static const char *const words[] = {"a", "example.com.", "3600", "IN",
+                                        "\\;", "x\\032y", "@", "caf\xC3\xA9"};
     static const char *const quoted[] = {"\"\"", "\"a b\"", "\"( ; )\"", "\"\\\"\""};
     known[count].start = length;
     known[count].is_quoted = chance(4) == 0;
@@ -40,28 +41,28 @@ static void fail(const char *what, size_t line) {
     exit(1);
 }
 
-static int is_same(struct dns_token token, struct dns_token other) {
+static int is_same(struct dnstext_token token, struct dnstext_token other) {
     return token.start == other.start && token.end == other.end
            && token.is_quoted == other.is_quoted;
 }
 
 /* The text piece by piece: the tokens, and each line's end with its flag. */
 static void read_pieces(const size_t *ends, const uint8_t *blanks) {
-    struct dns_standing standing = DNS_STANDING_INIT;
-    struct dns_piece piece;
-    struct dns_outcome outcome;
+    struct dnstext_standing standing = DNSTEXT_STANDING_INIT;
+    struct dnstext_piece piece;
+    struct dnstext_outcome outcome;
     size_t line = 0, at = 0;
-    while (dns_tokens_next(text, length, &standing, &piece, &outcome) == DNS_OK) {
+    while (dnstext_tokens_next(text, length, &standing, &piece, &outcome) == DNSTEXT_OK) {
         if (line == LINES || piece.begins_blank != blanks[line])
             fail("another flag", line);
-        if (piece.kind == DNS_ENTRY_END) {
+        if (piece.kind == DNSTEXT_ENTRY_END) {
             if (at != ends[line])
                 fail("another number of tokens", line);
             line++;
-        } else if (piece.kind != DNS_COMMENT) {
+        } else if (piece.kind != DNSTEXT_COMMENT) {
             if (at == count || piece.start != known[at].start || piece.end != known[at].end)
                 fail("another piece", line);
-            if (piece.kind != (known[at].is_quoted ? DNS_QUOTED : DNS_WORD))
+            if (piece.kind != (known[at].is_quoted ? DNSTEXT_QUOTED : DNSTEXT_WORD))
                 fail("another kind", line);
             at++;
         }
@@ -73,12 +74,12 @@ static void read_pieces(const size_t *ends, const uint8_t *blanks) {
 int main(void) {
     size_t *ends = (size_t *)malloc(LINES * sizeof *ends);
     uint8_t *blanks = (uint8_t *)malloc(LINES);
-    struct dns_token tokens[16];
-    struct dns_cursor cursor = DNS_CURSOR_INIT;
-    struct dns_outcome outcome;
+    struct dnstext_token tokens[16];
+    struct dnstext_cursor cursor = DNSTEXT_CURSOR_INIT;
+    struct dnstext_outcome outcome;
     size_t line, at = 0, i;
     text = (uint8_t *)malloc(ROOM);
-    known = (struct dns_token *)malloc(LINES * 8 * sizeof *known);
+    known = (struct dnstext_token *)malloc(LINES * 8 * sizeof *known);
     if (ends == NULL || blanks == NULL || text == NULL || known == NULL)
         return 2;
     for (line = 0; line < LINES; line++) {
@@ -104,7 +105,7 @@ int main(void) {
     for (line = 0; line < LINES; line++) {
         size_t from = at;
         at = ends[line];
-        if (dns_entry_next(text, length, &cursor, tokens, 16, &outcome) != DNS_OK)
+        if (dnstext_entry_next(text, length, &cursor, tokens, 16, &outcome) != DNSTEXT_OK)
             fail("no entry", line);
         if (outcome.length != at - from || cursor.begins_blank != blanks[line])
             fail("another entry", line);
@@ -112,7 +113,7 @@ int main(void) {
             if (!is_same(tokens[i], known[from + i]))
                 fail("another token", line);
     }
-    if (dns_entry_next(text, length, &cursor, tokens, 16, &outcome) != DNS_END)
+    if (dnstext_entry_next(text, length, &cursor, tokens, 16, &outcome) != DNSTEXT_END)
         fail("more entries", line);
     read_pieces(ends, blanks);
     free(ends);

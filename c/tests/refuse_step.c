@@ -1,7 +1,7 @@
 /* Fails one step of a program on files: loaded before the C library, it counts the calls to find, open, read,
- * write, sync, rename and change the mode of a file, and fails the one whose number is in REFUSE_STEP with
- * EIO. Calls that clean up don't fail. A program that comes to that number leaves an empty file of the name
- * in REFUSED.
+ * write, sync, rename and change the owner and the mode of a file, and fails the one whose number is in
+ * REFUSE_STEP with EIO. Calls that clean up don't fail. A program that comes to that number leaves an empty
+ * file of the name in REFUSED.
  *     cc -shared -fPIC -o refuse_step.so refuse_step.c -ldl */
 #define _GNU_SOURCE
 #include <dlfcn.h>
@@ -36,6 +36,7 @@ typedef ssize_t (*read_call)(int, void *, size_t);
 typedef ssize_t (*write_call)(int, const void *, size_t);
 typedef int (*file_call)(int);
 typedef int (*mode_call)(int, mode_t);
+typedef int (*owner_call)(int, uid_t, gid_t);
 typedef int (*rename_call)(const char *, const char *);
 typedef char *(*path_call)(const char *, char *);
 typedef int (*stat_call)(int, const char *, int, unsigned, struct statx *);
@@ -61,6 +62,10 @@ ssize_t write(int file, const void *from, size_t count) {
 }
 
 int fsync(int file) { return fails() ? -1 : NEXT(file_call, "fsync")(file); }
+
+int fchown(int file, uid_t owner, gid_t group) {
+    return fails() ? -1 : NEXT(owner_call, "fchown")(file, owner, group);
+}
 
 int fchmod(int file, mode_t mode) { return fails() ? -1 : NEXT(mode_call, "fchmod")(file, mode); }
 

@@ -1,17 +1,18 @@
-/* Rows of crates/test_rows/stdin and crates/test_records/stdin that the library can answer, as they are or converted
- * to rows about RDATA by .ci/as_data.py. Most calls run with no buffer, with one octet too few, and with the exact
- * size. Prints the names of the calls that the library does not have. Rows about zones are in zones.c. */
+/* Rows of crates/test_rows/stdin and crates/test_records/stdin that the library can answer, as they are or
+ * converted to rows about RDATA by .ci/as_data.py. Most calls run with no buffer, with one octet too few, and
+ * with the exact size. Prints the names of the calls that the library does not have. Rows about zones are in
+ * zones.c. */
 #include "table.h"
 #include <dnstext.h>
 
 enum { CALLS = 200 };
 
-typedef uint32_t (*call)(const uint8_t *, size_t, uint8_t *, size_t, struct dns_outcome *);
+typedef uint32_t (*call)(const uint8_t *, size_t, uint8_t *, size_t, struct dnstext_outcome *);
 
 static uint32_t name_read(const uint8_t *text, size_t text_len, uint8_t *name, size_t name_len,
-                          struct dns_outcome *outcome) {
+                          struct dnstext_outcome *outcome) {
     bool is_absolute;
-    return dns_name_read(text, text_len, name, name_len, &is_absolute, outcome);
+    return dnstext_name_read(text, text_len, name, name_len, &is_absolute, outcome);
 }
 
 static const struct {
@@ -19,44 +20,44 @@ static const struct {
     call f;
     size_t longest; /* the greatest length of an input for which the library's call is equivalent */
 } known[] = {
-    {"charstr.read", dns_charstr_read, MOST},
-    {"charstr.octets", dns_charstr_read_octets, MOST},
-    {"charstr.plain", dns_charstr_print, 255},
-    {"charstr.quoted", dns_charstr_print_quoted, 255},
-    {"charstr.unquoted", dns_charstr_print_unquoted, 255},
-    {"symbol.plain", dns_charstr_print, 255},
-    {"symbol.unquoted", dns_charstr_print_unquoted, 255},
+    {"charstr.read", dnstext_charstr_read, MOST},
+    {"charstr.octets", dnstext_charstr_read_octets, MOST},
+    {"charstr.plain", dnstext_charstr_print, 255},
+    {"charstr.quoted", dnstext_charstr_print_quoted, 255},
+    {"charstr.unquoted", dnstext_charstr_print_unquoted, 255},
+    {"symbol.plain", dnstext_charstr_print, 255},
+    {"symbol.unquoted", dnstext_charstr_print_unquoted, 255},
     {"name.read", name_read, MOST},
-    {"name.plain", dns_name_print_dotted, MOST},
-    {"name.zone", dns_name_print_zone, MOST},
-    {"base16.print", dns_base16_print, MOST},
-    {"base16.read", dns_base16_read, MOST},
-    {"base32.print", dns_base32hex_print, MOST},
-    {"base32.read", dns_base32hex_read, MOST},
-    {"base64.print", dns_base64_print, MOST},
-    {"base64.read", dns_base64_read, MOST},
-    {"octets.print", dns_charstr_print_quoted, 255},
-    {"digits.hex", dns_base16_read, MOST},
+    {"name.plain", dnstext_name_print_dotted, MOST},
+    {"name.zone", dnstext_name_print_zone, MOST},
+    {"base16.print", dnstext_base16_print, MOST},
+    {"base16.read", dnstext_base16_read, MOST},
+    {"base32.print", dnstext_base32hex_print, MOST},
+    {"base32.read", dnstext_base32hex_read, MOST},
+    {"base64.print", dnstext_base64_print, MOST},
+    {"base64.read", dnstext_base64_read, MOST},
+    {"octets.print", dnstext_charstr_print_quoted, 255},
+    {"digits.hex", dnstext_base16_read, MOST},
 };
 
 static char unknown[CALLS][40];
 static size_t unknowns;
 
-/* Returns the output of a call, in memory of the exact size. Sets `note` if the call succeeds with less, or fails
- * with the size that it asked for. */
+/* Returns the output of a call, in memory of the exact size. Sets `note` if the call succeeds with less, or
+ * fails with the size that it asked for. */
 static uint8_t *sized_output_of(call f, const uint8_t *from, size_t from_len, uint32_t *status, size_t *length,
                          const char **note) {
-    struct dns_outcome outcome = {0, 0};
+    struct dnstext_outcome outcome = {0, 0};
     size_t needed;
     uint8_t *to;
     *status = f(from, from_len, NULL, 0, &outcome);
-    needed = *status == DNS_NO_ROOM ? outcome.length : 0;
+    needed = *status == DNSTEXT_NO_ROOM ? outcome.length : 0;
     to = (uint8_t *)malloc(needed != 0 ? needed : 1);
-    if (needed != 0 && f(from, from_len, to, needed - 1, &outcome) != DNS_NO_ROOM)
+    if (needed != 0 && f(from, from_len, to, needed - 1, &outcome) != DNSTEXT_NO_ROOM)
         *note = "the call succeeds with one octet too few";
     *status = f(from, from_len, to, needed, &outcome);
     *length = outcome.length;
-    if (*status == DNS_NO_ROOM || outcome.length != (*status == DNS_OK ? needed : 0))
+    if (*status == DNSTEXT_NO_ROOM || outcome.length != (*status == DNSTEXT_OK ? needed : 0))
         *note = "the call fails with the size that it asked for";
     return to;
 }
@@ -65,8 +66,9 @@ static void answer_by(call f, const char *input) {
     const char *note = NULL;
     size_t from_len, length;
     uint32_t status;
-    uint8_t *from = octets_of(input, &from_len), *to = sized_output_of(f, from, from_len, &status, &length, &note);
-    if (status != DNS_OK)
+    uint8_t *from = octets_of(input, &from_len);
+    uint8_t *to = sized_output_of(f, from, from_len, &status, &length, &note);
+    if (status != DNSTEXT_OK)
         refuse();
     else
         add_octets(to, length);
@@ -76,18 +78,20 @@ static void answer_by(call f, const char *input) {
 }
 
 /* Calls that parse a number. */
-typedef uint32_t (*number_call)(const uint8_t *, size_t, uint32_t *, struct dns_outcome *);
+typedef uint32_t (*number_call)(const uint8_t *, size_t, uint32_t *, struct dnstext_outcome *);
 
-static uint32_t type_read(const uint8_t *text, size_t text_len, uint32_t *number, struct dns_outcome *outcome) {
+static uint32_t type_read(const uint8_t *text, size_t text_len, uint32_t *number,
+                          struct dnstext_outcome *outcome) {
     uint16_t code = 0;
-    uint32_t status = dns_type_read(text, text_len, &code, outcome);
+    uint32_t status = dnstext_type_read(text, text_len, &code, outcome);
     *number = code;
     return status;
 }
 
-static uint32_t class_read(const uint8_t *text, size_t text_len, uint32_t *number, struct dns_outcome *outcome) {
+static uint32_t class_read(const uint8_t *text, size_t text_len, uint32_t *number,
+                           struct dnstext_outcome *outcome) {
     uint16_t code = 0;
-    uint32_t status = dns_class_read(text, text_len, &code, outcome);
+    uint32_t status = dnstext_class_read(text, text_len, &code, outcome);
     *number = code;
     return status;
 }
@@ -96,21 +100,21 @@ static const struct {
     const char *name;
     number_call f;
 } numbers[] = {
-    {"kinds.ttl", dns_ttl_read},
+    {"kinds.ttl", dnstext_ttl_read},
     {"kinds.type", type_read},
     {"kinds.class", class_read},
 };
 
 /* The number, or the message of the error. */
 static void answer_number(number_call f, const char *input) {
-    struct dns_outcome outcome = {7, 7};
+    struct dnstext_outcome outcome = {7, 7};
     size_t length;
     uint32_t number = 0;
     uint8_t *text = octets_of(input, &length);
     uint32_t status = f(text, length, &number, &outcome);
     free(text);
-    if (status != DNS_OK)
-        refuse_for(dns_status_message(status));
+    if (status != DNSTEXT_OK)
+        refuse_for(dnstext_status_message(status));
     else
         add_number(number);
     judge_row(outcome.length != 0 || outcome.place != 0 ? "a length or an offset is not 0" : NULL);
@@ -120,9 +124,9 @@ static void answer_number(number_call f, const char *input) {
 static void answer_position(const char *input, const char *place) {
     size_t length, line_number = 0, column = 0;
     uint8_t *text = octets_of(input, &length);
-    uint32_t status = dns_position(text, length, strtoul(place, NULL, 10), &line_number, &column);
+    uint32_t status = dnstext_position(text, length, strtoul(place, NULL, 10), &line_number, &column);
     free(text);
-    if (status != DNS_OK) {
+    if (status != DNSTEXT_OK) {
         refuse();
     } else {
         add_number(line_number);
@@ -134,22 +138,22 @@ static void answer_position(const char *input, const char *place) {
 
 /* ---- Symbols, by calls that parse and print character strings. */
 
-/* The kind and the text of the first symbol, and the number of its octets: the shortest prefix that is complete.
- * Or an error. */
+/* The kind and the text of the first symbol, and the number of its octets: the shortest prefix that is
+ * complete. Or an error. */
 static void add_symbol(const uint8_t *octets, size_t length, size_t *taken) {
     static const char *const kinds[] = {"character ", "simple ", "decimal "};
-    uint32_t status = DNS_SHORT_INPUT;
-    struct dns_outcome outcome = {0, 0};
+    uint32_t status = DNSTEXT_SHORT_INPUT;
+    struct dnstext_outcome outcome = {0, 0};
     uint8_t octet;
     for (*taken = 1; *taken <= length; ++*taken) {
         uint8_t *part = copy_of(octets, *taken);
-        status = dns_charstr_read(part, *taken, &octet, 1, &outcome);
+        status = dnstext_charstr_read(part, *taken, &octet, 1, &outcome);
         free(part);
-        if (status != DNS_SHORT_INPUT)
+        if (status != DNSTEXT_SHORT_INPUT)
             break;
     }
-    if (status != DNS_OK && status != DNS_BAD_SYMBOL) {
-        refuse_for(dns_status_message(status));
+    if (status != DNSTEXT_OK && status != DNSTEXT_BAD_SYMBOL) {
+        refuse_for(dnstext_status_message(status));
         return;
     }
     add_text(kinds[octets[0] != '\\' ? 0 : *taken == 2 ? 1 : 2]);
@@ -173,7 +177,8 @@ static bool answer_symbol_at(const char *input, const char *place) {
     return is_there;
 }
 
-/* The first symbol, and the text after it. Errors of `symbol.first` have other messages, and skip other octets. */
+/* The first symbol, and the text after it. Errors of `symbol.first` have other messages, and skip other
+ * octets. */
 static bool answer_first(const char *input) {
     size_t length, taken;
     uint8_t *octets = octets_of(input, &length);
@@ -190,10 +195,10 @@ static bool answer_first(const char *input) {
 
 /* The octet of a symbol, or an error if it has none. */
 static void answer_symbol_octet(const char *input) {
-    struct dns_outcome outcome = {0, 0};
+    struct dnstext_outcome outcome = {0, 0};
     size_t length;
     uint8_t *text = octets_of(input, &length), octet = 0;
-    if (dns_charstr_read(text, length, &octet, 1, &outcome) != DNS_OK)
+    if (dnstext_charstr_read(text, length, &octet, 1, &outcome) != DNSTEXT_OK)
         refuse();
     else
         add_number(octet);
@@ -206,8 +211,9 @@ static const char *add_quoted(const uint8_t *octets, size_t length) {
     const char *note = NULL;
     size_t printed_len;
     uint32_t status;
-    uint8_t *printed = sized_output_of(dns_charstr_print_quoted, octets, length, &status, &printed_len, &note);
-    if (status != DNS_OK || printed_len < 2 || printed[0] != '"' || printed[printed_len - 1] != '"')
+    uint8_t *printed =
+        sized_output_of(dnstext_charstr_print_quoted, octets, length, &status, &printed_len, &note);
+    if (status != DNSTEXT_OK || printed_len < 2 || printed[0] != '"' || printed[printed_len - 1] != '"')
         note = "no double quotes";
     else
         add_octets(printed + 1, printed_len - 2);
@@ -229,7 +235,7 @@ static void add_printed(call f, const uint8_t *octets, size_t length, const char
     size_t printed_len;
     uint32_t status;
     uint8_t *printed = sized_output_of(f, octets, length, &status, &printed_len, note);
-    add_octets(printed, status == DNS_OK ? printed_len : 0);
+    add_octets(printed, status == DNSTEXT_OK ? printed_len : 0);
     free(printed);
 }
 
@@ -238,11 +244,11 @@ static void answer_from_octet(const char *input) {
     const char *note = NULL;
     size_t length;
     uint8_t *octets = octets_of(input, &length);
-    add_printed(dns_charstr_print, octets, length, &note);
+    add_printed(dnstext_charstr_print, octets, length, &note);
     add_text("|");
     note = note != NULL ? note : add_quoted(octets, length);
     add_text("|");
-    add_printed(dns_charstr_print_unquoted, octets, length, &note);
+    add_printed(dnstext_charstr_print_unquoted, octets, length, &note);
     free(octets);
     judge_row(note);
 }
@@ -257,7 +263,7 @@ static void answer_label(const char *input) {
     } else if (length != 0) {
         name[0] = (uint8_t)length;
         memcpy(name + 1, octets, length);
-        add_printed(dns_name_print, name, length + 1, &note);
+        add_printed(dnstext_name_print, name, length + 1, &note);
     }
     free(octets);
     judge_row(note);
@@ -267,34 +273,34 @@ static void answer_label(const char *input) {
 
 static const char *fault_of(uint32_t status) {
     switch (status) {
-    case DNS_CLOSING: return "closing";
-    case DNS_OPEN_PARENTHESIS: return "open parenthesis";
-    case DNS_OPEN_QUOTE: return "open quote";
-    case DNS_LONE_RETURN: return "lone return";
-    case DNS_BAD_ESCAPE: return "bad escape";
+    case DNSTEXT_CLOSING: return "closing";
+    case DNSTEXT_OPEN_PARENTHESIS: return "open parenthesis";
+    case DNSTEXT_OPEN_QUOTE: return "open quote";
+    case DNSTEXT_LONE_RETURN: return "lone return";
+    case DNSTEXT_BAD_ESCAPE: return "bad escape";
     default: return "no fault";
     }
 }
 
 /* Reads the next entry, with its tokens in memory of the exact size. */
-static uint32_t next_entry(const uint8_t *text, size_t length, struct dns_cursor *cursor, struct dns_token **tokens,
-                           size_t *count) {
-    struct dns_outcome outcome;
-    uint32_t status = dns_entry_next(text, length, cursor, NULL, 0, &outcome);
-    *count = status == DNS_NO_ROOM ? outcome.length : 0;
-    *tokens = (struct dns_token *)malloc(*count != 0 ? *count * sizeof **tokens : 1);
-    if (status == DNS_NO_ROOM)
-        status = dns_entry_next(text, length, cursor, *tokens, *count, &outcome);
+static uint32_t next_entry(const uint8_t *text, size_t length, struct dnstext_cursor *cursor,
+                           struct dnstext_token **tokens, size_t *count) {
+    struct dnstext_outcome outcome;
+    uint32_t status = dnstext_entry_next(text, length, cursor, NULL, 0, &outcome);
+    *count = status == DNSTEXT_NO_ROOM ? outcome.length : 0;
+    *tokens = (struct dnstext_token *)malloc(*count != 0 ? *count * sizeof **tokens : 1);
+    if (status == DNSTEXT_NO_ROOM)
+        status = dnstext_entry_next(text, length, cursor, *tokens, *count, &outcome);
     return status;
 }
 
 static void add_fault(const uint8_t *text, size_t length, uint32_t status, size_t place, size_t began) {
     add_text(fault_of(status));
-    if (status == DNS_OPEN_QUOTE) {
-        struct dns_outcome outcome;
-        struct dns_cursor cursor = DNS_CURSOR_INIT;
+    if (status == DNSTEXT_OPEN_QUOTE) {
+        struct dnstext_outcome outcome;
+        struct dnstext_cursor cursor = DNSTEXT_CURSOR_INIT;
         cursor.at = began;
-        dns_entry_next(text, length, &cursor, NULL, 0, &outcome);
+        dnstext_entry_next(text, length, &cursor, NULL, 0, &outcome);
         add_text(" from ");
         add_number(cursor.opened);
     }
@@ -302,12 +308,12 @@ static void add_fault(const uint8_t *text, size_t length, uint32_t status, size_
     add_number(place);
 }
 
-static void add_piece(const uint8_t *text, size_t length, uint32_t status, const struct dns_piece *piece,
+static void add_piece(const uint8_t *text, size_t length, uint32_t status, const struct dnstext_piece *piece,
                       size_t place, size_t began) {
     static const char *const names[] = {"word ", "quote ", "comment "};
-    if (status != DNS_OK) {
+    if (status != DNSTEXT_OK) {
         add_fault(text, length, status, place, began);
-    } else if (piece->kind == DNS_ENTRY_END) {
+    } else if (piece->kind == DNSTEXT_ENTRY_END) {
         add_text(piece->begins_blank ? "blank " : "end ");
         add_number(piece->start);
     } else {
@@ -327,15 +333,15 @@ static bool is_blank_at(const uint8_t *text, size_t length, size_t place) {
 static void answer_next(char **fields) {
     size_t length;
     uint8_t *text = octets_of(fields[1], &length);
-    struct dns_standing standing = DNS_STANDING_INIT;
-    struct dns_piece piece = {0, 0, 0, false};
-    struct dns_outcome outcome;
+    struct dnstext_standing standing = DNSTEXT_STANDING_INIT;
+    struct dnstext_piece piece = {0, 0, 0, false};
+    struct dnstext_outcome outcome;
     uint32_t status;
     size_t began;
     standing.at = strtoul(fields[2], NULL, 10);
     standing.depth = strtoul(fields[3], NULL, 10);
     standing.began = began = strtoul(fields[4], NULL, 10);
-    status = dns_tokens_next(text, length, &standing, &piece, &outcome);
+    status = dnstext_tokens_next(text, length, &standing, &piece, &outcome);
     add_piece(text, length, status, &piece, outcome.place, began);
     if (standing.is_done)
         add_text("done, began ");
@@ -356,11 +362,11 @@ static void answer_next(char **fields) {
 static void answer_pieces(const char *input) {
     size_t length, began = 0;
     uint8_t *text = octets_of(input, &length);
-    struct dns_standing standing = DNS_STANDING_INIT;
-    struct dns_piece piece;
-    struct dns_outcome outcome;
+    struct dnstext_standing standing = DNSTEXT_STANDING_INIT;
+    struct dnstext_piece piece;
+    struct dnstext_outcome outcome;
     uint32_t status;
-    while ((status = dns_tokens_next(text, length, &standing, &piece, &outcome)) != DNS_END) {
+    while ((status = dnstext_tokens_next(text, length, &standing, &piece, &outcome)) != DNSTEXT_END) {
         add_piece(text, length, status, &piece, outcome.place, began);
         began = standing.began;
     }
@@ -372,10 +378,10 @@ static void answer_pieces(const char *input) {
 static void answer_split(const char *input) {
     size_t length, count, i;
     uint8_t *text = octets_of(input, &length);
-    struct dns_cursor cursor = DNS_CURSOR_INIT;
-    struct dns_token *tokens;
+    struct dnstext_cursor cursor = DNSTEXT_CURSOR_INIT;
+    struct dnstext_token *tokens;
     uint32_t status;
-    while ((status = next_entry(text, length, &cursor, &tokens, &count)) == DNS_OK) {
+    while ((status = next_entry(text, length, &cursor, &tokens, &count)) == DNSTEXT_OK) {
         for (i = 0; i < count; i++) {
             add_octets(text + tokens[i].start, tokens[i].end - tokens[i].start);
             add_text("|");
@@ -385,7 +391,7 @@ static void answer_split(const char *input) {
     }
     free(tokens);
     free(text);
-    if (status != DNS_END) {
+    if (status != DNSTEXT_END) {
         came_len = 0;
         refuse();
     }
@@ -396,11 +402,11 @@ static void answer_split(const char *input) {
 static void answer_is_token(const char *input) {
     size_t length;
     uint8_t *text = octets_of(input, &length);
-    struct dns_standing standing = DNS_STANDING_INIT;
-    struct dns_piece piece = {0, 0, 0, false};
-    struct dns_outcome outcome;
-    bool is_token = dns_tokens_next(text, length, &standing, &piece, &outcome) == DNS_OK && piece.kind <= DNS_QUOTED &&
-                    piece.start == 0 && piece.end == length;
+    struct dnstext_standing standing = DNSTEXT_STANDING_INIT;
+    struct dnstext_piece piece = {0, 0, 0, false};
+    struct dnstext_outcome outcome;
+    bool is_token = dnstext_tokens_next(text, length, &standing, &piece, &outcome) == DNSTEXT_OK &&
+                    piece.kind <= DNSTEXT_QUOTED && piece.start == 0 && piece.end == length;
     free(text);
     add_text(is_token ? "true" : "false");
     judge_row(NULL);
@@ -410,14 +416,14 @@ static void answer_is_token(const char *input) {
 static void answer_open(const char *input) {
     size_t length, count;
     uint8_t *text = octets_of(input, &length);
-    struct dns_cursor cursor = DNS_CURSOR_INIT;
-    struct dns_token *tokens;
+    struct dnstext_cursor cursor = DNSTEXT_CURSOR_INIT;
+    struct dnstext_token *tokens;
     uint32_t status;
-    while ((status = next_entry(text, length, &cursor, &tokens, &count)) == DNS_OK)
+    while ((status = next_entry(text, length, &cursor, &tokens, &count)) == DNSTEXT_OK)
         free(tokens);
     free(tokens);
     free(text);
-    if (status == DNS_OPEN_PARENTHESIS)
+    if (status == DNSTEXT_OPEN_PARENTHESIS)
         add_number(cursor.opened);
     else
         add_text("none");
@@ -428,10 +434,10 @@ static void answer_open(const char *input) {
 
 static uint16_t code_of(const char *name) {
     uint16_t code = 0;
-    struct dns_outcome outcome;
+    struct dnstext_outcome outcome;
     size_t length;
     uint8_t *text = octets_of(name, &length);
-    dns_type_read(text, length, &code, &outcome);
+    dnstext_type_read(text, length, &code, &outcome);
     free(text);
     return code;
 }
@@ -441,48 +447,55 @@ static const uint8_t *data_origin;
 static size_t data_origin_len;
 
 static uint32_t data_read(const uint8_t *text, size_t text_len, uint8_t *octets, size_t octets_len,
-                          struct dns_outcome *outcome) {
-    return dns_data_read(data_code, text, text_len, data_origin, data_origin_len, octets, octets_len, outcome);
+                          struct dnstext_outcome *outcome) {
+    return dnstext_data_read(data_code, text, text_len, data_origin, data_origin_len, octets, octets_len,
+                             outcome);
 }
 
 static uint32_t data_print(const uint8_t *octets, size_t octets_len, uint8_t *text, size_t text_len,
-                           struct dns_outcome *outcome) {
-    return dns_data_print(data_code, octets, octets_len, text, text_len, outcome);
+                           struct dnstext_outcome *outcome) {
+    return dnstext_data_print(data_code, octets, octets_len, text, text_len, outcome);
 }
 
-/* Returns the output of a call, or its message, in memory of the exact size. */
-static uint8_t *output_of(call f, const uint8_t *from, size_t from_len, uint32_t *status, struct dns_outcome *outcome) {
+/* The most characters of a message. */
+enum { MESSAGE = 255 };
+
+/* Returns the output of a call in memory of the exact size, or its message. */
+static uint8_t *output_of(call f, const uint8_t *from, size_t from_len, uint32_t *status,
+                          struct dnstext_outcome *outcome) {
+    size_t room = MESSAGE;
     uint8_t *to;
     *status = f(from, from_len, NULL, 0, outcome);
-    to = (uint8_t *)malloc(outcome->length != 0 ? outcome->length : 1);
-    if (outcome->length != 0)
-        *status = f(from, from_len, to, outcome->length, outcome);
+    if (*status == DNSTEXT_NO_ROOM || *status == DNSTEXT_OK)
+        room = outcome->length;
+    to = (uint8_t *)malloc(room != 0 ? room : 1);
+    *status = f(from, from_len, to, room, outcome);
     return to;
 }
 
 /* Returns the text of RDATA, or NULL. Sets `note` if the text parses to other RDATA. */
 static uint8_t *text_of(const uint8_t *octets, size_t length, size_t *text_len, const char **note) {
-    struct dns_outcome printed, read;
+    struct dnstext_outcome printed, read;
     uint32_t status, again;
     uint8_t *text = output_of(data_print, octets, length, &status, &printed), *back;
-    if (status != DNS_OK) {
+    if (status != DNSTEXT_OK) {
         free(text);
         return NULL;
     }
     *text_len = printed.length;
     back = output_of(data_read, text, printed.length, &again, &read);
-    if (again != DNS_OK || read.length != length || memcmp(back, octets, length) != 0)
+    if (again != DNSTEXT_OK || read.length != length || memcmp(back, octets, length) != 0)
         *note = "the text parses to other RDATA";
     free(back);
     return text;
 }
 
-/* A row of `data`, `data.why` or `data.print`: a type, a text, an origin, and the RDATA, the error with its offset, or
- * the text of the RDATA. The default origin is `example.`; an empty field is no origin. */
+/* A row of `data`, `data.why` or `data.print`: a type, a text, an origin, and the RDATA, the error with its
+ * offset, or the text of the RDATA. The default origin is `example.`; an empty field is no origin. */
 static void answer_data(const char *name) {
     static const char example[] = "%07example%00";
     const char *note = NULL;
-    struct dns_outcome outcome;
+    struct dnstext_outcome outcome;
     size_t text_len, origin_len, shown_len = 0;
     uint8_t *text = octets_of(row_fields[2], &text_len), *given, *shown;
     uint8_t *origin = octets_of(row_count == 5 ? row_fields[3] : example, &origin_len);
@@ -491,13 +504,13 @@ static void answer_data(const char *name) {
     data_origin = origin;
     data_origin_len = origin_len;
     given = output_of(data_read, text, text_len, &status, &outcome);
-    if (status != DNS_OK && strcmp(name, "data.why") == 0) {
+    if (status != DNSTEXT_OK && strcmp(name, "data.why") == 0) {
         /* message and offset */
         refuse_for("");
         add_octets(given, outcome.length);
         add_text("|");
         add_number(outcome.place);
-    } else if (status != DNS_OK) {
+    } else if (status != DNSTEXT_OK) {
         refuse();
     } else {
         shown = text_of(given, outcome.length, &shown_len, &note);
@@ -533,11 +546,115 @@ static void answer_wire(void) {
     judge_row(note);
 }
 
+static uint32_t data_canonical(const uint8_t *octets, size_t octets_len, uint8_t *form, size_t form_len,
+                               struct dnstext_outcome *outcome) {
+    return dnstext_data_canonical(data_code, octets, octets_len, form, form_len, outcome);
+}
+
+/* Returns RDATA of the type and the text in two fields, in canonical form. The origin is `example.`. */
+static uint8_t *canonical_of(char **fields, uint32_t *status, size_t *form_len, const char **note) {
+    static const uint8_t example[] = "\7example";
+    struct dnstext_outcome outcome;
+    size_t text_len;
+    uint8_t *text = octets_of(fields[1], &text_len), *octets, *form = NULL;
+    data_code = code_of(fields[0]);
+    data_origin = example;
+    data_origin_len = sizeof example;
+    octets = output_of(data_read, text, text_len, status, &outcome);
+    if (*status == DNSTEXT_OK)
+        form = sized_output_of(data_canonical, octets, outcome.length, status, form_len, note);
+    free(text);
+    free(octets);
+    return form;
+}
+
+/* Returns a name in lower case: PTR has one. */
+static uint8_t *lowered_name(const char *field, uint32_t *status, size_t *length, const char **note) {
+    uint8_t *name = octets_of(field, length), *form;
+    data_code = 12;
+    form = sized_output_of(data_canonical, name, *length, status, length, note);
+    free(name);
+    return form;
+}
+
+static void add_big_endian(size_t number, unsigned octets) {
+    while (octets-- != 0) {
+        uint8_t octet = (uint8_t)(number >> 8 * octets);
+        add_octets(&octet, 1);
+    }
+}
+
+/* A row of `record.canonical`: owner, TTL, class, type and text of the RDATA, and the record in canonical
+ * form (RFC 4034 section 6.2). */
+static void answer_canonical(void) {
+    const char *note = NULL;
+    size_t owner_len, form_len = 0;
+    uint32_t status, of_owner;
+    uint8_t *owner = lowered_name(row_fields[1], &of_owner, &owner_len, &note);
+    uint8_t *form = canonical_of(row_fields + 4, &status, &form_len, &note);
+    if (status != DNSTEXT_OK || of_owner != DNSTEXT_OK) {
+        refuse();
+    } else {
+        add_octets(owner, owner_len);
+        add_big_endian(data_code, 2);
+        add_big_endian(strtoul(row_fields[3], NULL, 10), 2);
+        add_big_endian(strtoul(row_fields[2], NULL, 10), 4);
+        add_big_endian(form_len, 2);
+        add_octets(form, form_len);
+    }
+    free(owner);
+    free(form);
+    judge_row(note);
+}
+
+/* The order of octets as unsigned numbers: the beginning of others is less than they are. */
+static int order_of(const uint8_t *left, size_t left_len, const uint8_t *right, size_t right_len) {
+    int order = memcmp(left, right, left_len < right_len ? left_len : right_len);
+    return order != 0 ? order : (left_len > right_len) - (left_len < right_len);
+}
+
+/* A row of `record.compare`: two records, and their order (RFC 4034 section 6.3). Returns false if their
+ * owners differ, whose order the library does not tell. */
+static bool answer_compare(void) {
+    const char *note = NULL;
+    size_t lengths[4];
+    uint32_t statuses[4];
+    uint16_t codes[2];
+    uint8_t *octets[4];
+    unsigned long classes[2];
+    size_t i;
+    bool is_answered;
+    for (i = 0; i < 2; i++) {
+        char **fields = row_fields + 1 + 5 * i;
+        octets[i] = lowered_name(fields[0], &statuses[i], &lengths[i], &note);
+        octets[2 + i] = canonical_of(fields + 3, &statuses[2 + i], &lengths[2 + i], &note);
+        codes[i] = data_code;
+        classes[i] = strtoul(fields[2], NULL, 10);
+    }
+    is_answered = order_of(octets[0], lengths[0], octets[1], lengths[1]) == 0;
+    if (is_answered) {
+        int order = (classes[0] > classes[1]) - (classes[0] < classes[1]);
+        if (order == 0)
+            order = (codes[0] > codes[1]) - (codes[0] < codes[1]);
+        if (order == 0)
+            order = order_of(octets[2], lengths[2], octets[3], lengths[3]);
+        add_text(order < 0 ? "less" : order > 0 ? "greater" : "equal");
+        for (i = 0; i < 4; i++)
+            if (statuses[i] != DNSTEXT_OK)
+                note = "a name or RDATA is refused";
+        judge_row(note);
+    }
+    for (i = 0; i < 4; i++)
+        free(octets[i]);
+    return is_answered;
+}
+
 /* A row of `class.print`: a class and its text. */
 static void answer_class(const char *number) {
     uint8_t printed[16];
-    struct dns_outcome outcome;
-    if (dns_class_print((uint16_t)strtoul(number, NULL, 10), printed, sizeof printed, &outcome) != DNS_OK)
+    struct dnstext_outcome outcome;
+    if (dnstext_class_print((uint16_t)strtoul(number, NULL, 10), printed, sizeof printed, &outcome) !=
+        DNSTEXT_OK)
         refuse();
     else
         add_octets(printed, outcome.length);
@@ -628,6 +745,12 @@ static bool answer_row(void) {
         answer_data(name);
         return true;
     }
+    if (row_count == 7 && strcmp(name, "record.canonical") == 0) {
+        answer_canonical();
+        return true;
+    }
+    if (row_count == 12 && strcmp(name, "record.compare") == 0)
+        return answer_compare();
     if (row_count == 4 && strcmp(name, "record.wire") == 0) {
         answer_wire();
         return true;
@@ -641,7 +764,8 @@ int main(int count, char **words) {
     while (next_row())
         if (!answer_row())
             remember(row_fields[0]);
-    fprintf(lists_rows ? stderr : stdout, "rows: %lu agree, %lu differ; calls that are not answered, or not for all inputs:",
+    fprintf(lists_rows ? stderr : stdout,
+            "rows: %lu agree, %lu differ; calls that are not answered, or not for all inputs:",
             rows_answered - rows_differ, rows_differ);
     for (i = 0; i < unknowns; i++)
         fprintf(lists_rows ? stderr : stdout, " %s", unknown[i]);

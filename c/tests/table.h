@@ -1,6 +1,6 @@
-/* Test rows on standard input: a call, its inputs and the expected result, separated by tabs (crates/row_table).
- * `%` and two hexadecimal digits are an octet; `!` begins an error. A line number can precede a row; otherwise
- * lines are counted.
+/* Test rows on standard input: a call, its inputs and the expected result, separated by tabs
+ * (crates/row_table). `%` and two hexadecimal digits are an octet; `!` begins an error. A line number can
+ * precede a row; otherwise lines are counted.
  *
  *     PROGRAM [--list] FILE < ROWS
  *
@@ -157,10 +157,11 @@ static inline void judge_row(const char *note) {
         return;
     }
     rows_differ++;
-    fprintf(stderr, "differs: %s:%lu\n  row:    %.400s\n  wanted: %.400s\n  came:   %s", row_file, row_line, row_text,
-            row_wanted(), is_refused ? "!" : "");
+    fprintf(stderr, "differs: %s:%lu\n  row:    %.400s\n  wanted: %.400s\n  came:   %s", row_file, row_line,
+            row_text, row_wanted(), is_refused ? "!" : "");
     print_octets(stderr, came, came_len);
-    fprintf(stderr, "\n%s%s%s", note != NULL ? "  but:    " : "", note != NULL ? note : "", note != NULL ? "\n" : "");
+    fprintf(stderr, "\n%s%s%s", note != NULL ? "  but:    " : "", note != NULL ? note : "",
+            note != NULL ? "\n" : "");
 }
 
 static inline void read_words(int count, char **words) {

@@ -9,9 +9,9 @@ enum { LONGEST = 65535 };
 
 static int failures;
 static uint8_t octets[LONGEST + 16];
-static struct dns_zone zone;
-static struct dns_record record;
-static struct dns_outcome outcome;
+static struct dnstext_zone zone;
+static struct dnstext_record record;
+static struct dnstext_outcome outcome;
 
 static void expect(int is_so, const char *what, int line) {
     if (!is_so) {
@@ -22,9 +22,9 @@ static void expect(int is_so, const char *what, int line) {
 #define EXPECT(is_so) expect((is_so), #is_so, __LINE__)
 
 static void begin(void) {
-    static const struct dns_zone start = DNS_ZONE_INIT;
+    static const struct dnstext_zone start = DNSTEXT_ZONE_INIT;
     zone = start;
-    EXPECT(dns_zone_origin(&zone, (const uint8_t *)"\7example", 9, &outcome) == DNS_OK);
+    EXPECT(dnstext_zone_origin(&zone, (const uint8_t *)"\7example", 9, &outcome) == DNSTEXT_OK);
 }
 
 /* A call on memory of just the lengths that are passed, so that a sanitizer sees what is beyond. */
@@ -37,7 +37,7 @@ static uint32_t next(const char *text, size_t length, size_t room) {
     memset(octets, '-', sizeof octets);
     if (room != 0)
         memcpy(output, octets, room);
-    status = dns_record_next(input, length, &zone, &record, output, room, &outcome);
+    status = dnstext_record_next(input, length, &zone, &record, output, room, &outcome);
     if (room != 0)
         memcpy(octets, output, room);
     free(input);
@@ -45,20 +45,20 @@ static uint32_t next(const char *text, size_t length, size_t room) {
     return status;
 }
 
-static bool named(const struct dns_kept_name *name, const char *wire, size_t length) {
+static bool named(const struct dnstext_kept_name *name, const char *wire, size_t length) {
     return name->length == length && !name->is_refused && memcmp(name->octets, wire, length) == 0;
 }
 
 /* What the next call gives, with the room that it needs; and that with less it gives nothing. */
 static void gives(const char *text, size_t length, uint32_t status, const char *given, size_t given_len,
                   int line) {
-    struct dns_zone before = zone;
-    struct dns_record was;
+    struct dnstext_zone before = zone;
+    struct dnstext_record was;
     size_t i;
     memset(&record, 7, sizeof record);
     was = record;
     if (given_len != 0) {
-        expect(next(text, length, given_len - 1) == DNS_NO_ROOM, "no room", line);
+        expect(next(text, length, given_len - 1) == DNSTEXT_NO_ROOM, "no room", line);
         expect(outcome.length == given_len && outcome.place == 0, "length", line);
         expect(memcmp(&zone, &before, sizeof zone) == 0, "the zone stays", line);
         expect(memcmp(&record, &was, sizeof was) == 0, "the record stays", line);
@@ -70,7 +70,7 @@ static void gives(const char *text, size_t length, uint32_t status, const char *
     expect(memcmp(octets, given, given_len) == 0, "octets", line);
     expect(memcmp(octets + given_len, "---", 3) == 0, "what follows", line);
 }
-#define GIVES(text, given) gives(TEXT(text), DNS_OK, TEXT(given), __LINE__)
+#define GIVES(text, given) gives(TEXT(text), DNSTEXT_OK, TEXT(given), __LINE__)
 
 static void is(size_t place, uint32_t ttl, uint16_t class_code, uint16_t type_code, const char *owner,
                size_t length, int line) {
@@ -83,23 +83,23 @@ static void is(size_t place, uint32_t ttl, uint16_t class_code, uint16_t type_co
 #define IS(place, ttl, class_code, type_code, owner) \
     is(place, ttl, class_code, type_code, TEXT(owner), __LINE__)
 
-/* A refusal with its place and text, which is left out where it does not fit. */
+/* A refusal with its place and as much of its text as fits. */
 static void refuses(const char *text, size_t length, uint32_t status, size_t place, const char *why,
                     int line) {
-    struct dns_zone before = zone;
-    struct dns_record was;
+    struct dnstext_zone before = zone;
+    struct dnstext_record was;
     size_t rooms[3], i;
     memset(&record, 7, sizeof record);
     was = record;
     rooms[0] = strlen(why), rooms[1] = rooms[0] + 9, rooms[2] = rooms[0] != 0 ? rooms[0] - 1 : 0;
     for (i = 0; i < 3; i++) {
+        size_t given = rooms[i] < strlen(why) ? rooms[i] : strlen(why);
         zone = before;
         expect(next(text, length, rooms[i]) == status, "status", line);
         expect(outcome.place == place, "place", line);
-        expect(outcome.length == strlen(why), "length", line);
-        if (i != 2)
-            expect(memcmp(octets, why, strlen(why)) == 0, "text", line);
-        expect(octets[i != 2 ? strlen(why) : 0] == '-', "what follows", line);
+        expect(outcome.length == given, "length", line);
+        expect(memcmp(octets, why, given) == 0, "text", line);
+        expect(octets[given] == '-', "what follows", line);
         expect(memcmp(&record, &was, sizeof was) == 0, "the record stays", line);
     }
 }
@@ -108,7 +108,7 @@ static void refuses(const char *text, size_t length, uint32_t status, size_t pla
 static void ends(const char *text, size_t length, int line) {
     int again;
     for (again = 0; again < 2; again++) {
-        expect(next(text, length, 9) == DNS_END, "end", line);
+        expect(next(text, length, 9) == DNSTEXT_END, "end", line);
         expect(outcome.length == 0 && outcome.place == 0, "length and place", line);
         expect(octets[0] == '-', "memory", line);
     }
@@ -143,7 +143,7 @@ static void records(void) {
     /* The minimum of an SOA, RFC 3597 section 5, and a copy that goes back. */
     {
         static const char soa[] = "@ SOA . . 1 2 3 4 5\n@ TYPE731 \\# 3 abcd ef\n";
-        struct dns_zone first;
+        struct dnstext_zone first;
         begin();
         GIVES(soa, "\0\0\0\0\0\1\0\0\0\2\0\0\0\3\0\0\0\4\0\0\0\5");
         IS(0, 5, 1, 6, "\7example\0");
@@ -185,18 +185,18 @@ static void long_data(void) {
     for (i = 0; i < sizeof lengths / sizeof *lengths; i++) {
         begin();
         length = strings(lengths[i], spelled, wire);
-        gives(spelled, length, DNS_OK, wire, lengths[i], __LINE__);
+        gives(spelled, length, DNSTEXT_OK, wire, lengths[i], __LINE__);
         ends(spelled, length, __LINE__);
-        EXPECT(dns_data_read(16, (const uint8_t *)spelled + 8, length - 8, NULL, 0, octets, LONGEST,
-                             &outcome) == DNS_OK);
+        EXPECT(dnstext_data_read(16, (const uint8_t *)spelled + 8, length - 8, NULL, 0, octets, LONGEST,
+                                 &outcome) == DNSTEXT_OK);
         EXPECT(outcome.length == lengths[i] && memcmp(octets, wire, lengths[i]) == 0);
-        EXPECT(dns_data_print(16, (const uint8_t *)wire, lengths[i], printed, sizeof printed, &outcome)
-               == DNS_OK);
+        EXPECT(dnstext_data_print(16, (const uint8_t *)wire, lengths[i], printed, sizeof printed, &outcome)
+               == DNSTEXT_OK);
         EXPECT(outcome.length == length - 8 && memcmp(printed, spelled + 8, length - 8) == 0);
     }
     begin();
     length = strings(LONGEST + 1, spelled, wire);
-    EXPECT(next(spelled, length, LONGEST) == DNS_BAD_DATA);
+    EXPECT(next(spelled, length, LONGEST) == DNSTEXT_BAD_DATA);
     EXPECT(outcome.length < 255 && octets[outcome.length] == '-' && zone.at == length);
     ends(spelled, length, __LINE__);
 }
@@ -204,9 +204,9 @@ static void long_data(void) {
 static void files(void) {
     static const char text[] = "$INCLUDE \"a file\"\n$INCLUDE b sub\nw 5 A 192.0.2.1";
     begin();
-    gives(TEXT(text), DNS_INCLUDE, TEXT("a file"), __LINE__);
+    gives(TEXT(text), DNSTEXT_INCLUDE, TEXT("a file"), __LINE__);
     is(0, 0, 0, 0, "", 0, __LINE__);
-    gives(TEXT(text), DNS_INCLUDE, TEXT("b"), __LINE__);
+    gives(TEXT(text), DNSTEXT_INCLUDE, TEXT("b"), __LINE__);
     IS(0, 0, 0, 0, "\3sub\7example\0");
     GIVES(text, "\300\0\2\1");
     ENDS(text);
@@ -216,58 +216,60 @@ static void refusals(void) {
     static const char text[] = "a 1 MX 65536 m\n"
                                "b 1 A 192.0.2.1\n";
     begin();
-    REFUSES(text, DNS_BAD_DATA, 7, "MX preference: decimal number overflow");
+    REFUSES(text, DNSTEXT_BAD_DATA, 7, "MX preference: decimal number overflow");
     GIVES(text, "\300\0\2\1");
     ENDS(text);
     begin();
-    REFUSES("  1 A 192.0.2.1", DNS_NO_OWNER, 2, "no owner");
+    REFUSES("  1 A 192.0.2.1", DNSTEXT_NO_OWNER, 2, "no owner");
     begin();
-    REFUSES("a A 192.0.2.1", DNS_NO_TTL, 0, "no time to live");
+    REFUSES("a A 192.0.2.1", DNSTEXT_NO_TTL, 0, "no time to live");
     begin();
-    REFUSES("a..b 1 A 192.0.2.1\n 1 A 192.0.2.1", DNS_BAD_NAME, 0, "empty label");
-    REFUSES("a..b 1 A 192.0.2.1\n 1 A 192.0.2.1", DNS_REFUSED_OWNER, 20, "the owner before is refused");
+    REFUSES("a..b 1 A 192.0.2.1\n 1 A 192.0.2.1", DNSTEXT_BAD_NAME, 0, "empty label");
+    REFUSES("a..b 1 A 192.0.2.1\n 1 A 192.0.2.1", DNSTEXT_REFUSED_OWNER, 20, "the owner before is refused");
     begin();
-    REFUSES("$GENERATE 1-2 a A 192.0.2.$", DNS_NOT_SUPPORTED, 0, "not supported: expand it first");
+    REFUSES("$GENERATE 1-2 a A 192.0.2.$", DNSTEXT_NOT_SUPPORTED, 0, "not supported: expand it first");
     begin();
-    REFUSES("$NOSUCH", DNS_BAD_HEAD, 0, "unknown directive");
-    begin();
-    zone.origin.length = 0;
-    REFUSES("a 1 A 192.0.2.1", DNS_NO_ORIGIN, 0, "relative name, and no origin");
+    REFUSES("$NOSUCH", DNSTEXT_BAD_HEAD, 0, "unknown directive");
     begin();
     zone.origin.length = 0;
-    REFUSES("a. 1 NS b", DNS_NO_ORIGIN, 8, "NS name server: relative name, and no origin");
+    REFUSES("a 1 A 192.0.2.1", DNSTEXT_NO_ORIGIN, 0, "relative name, and no origin");
     begin();
-    REFUSES("a 1 A 192.0.2.1 (", DNS_OPEN_PARENTHESIS, 17, "");
+    zone.origin.length = 0;
+    REFUSES("a. 1 NS b", DNSTEXT_NO_ORIGIN, 8, "NS name server: relative name, and no origin");
     begin();
-    REFUSES("a 1 TXT \"b\nc 1 A 192.0.2.1", DNS_OPEN_QUOTE, 10, "");
+    REFUSES("a 1 A 192.0.2.1 (", DNSTEXT_OPEN_PARENTHESIS, 17, "");
+    begin();
+    REFUSES("a 1 TXT \"b\nc 1 A 192.0.2.1", DNSTEXT_OPEN_QUOTE, 10, "");
     GIVES("a 1 TXT \"b\nc 1 A 192.0.2.1", "\300\0\2\1");
     begin();
-    REFUSES(")", DNS_CLOSING, 0, "");
+    REFUSES(")", DNSTEXT_CLOSING, 0, "");
     begin();
-    REFUSES("a\r", DNS_LONE_RETURN, 2, "");
+    REFUSES("a\r", DNSTEXT_LONE_RETURN, 2, "");
     begin();
-    REFUSES("a\\25", DNS_BAD_ESCAPE, 4, "");
+    REFUSES("a\\25", DNSTEXT_BAD_ESCAPE, 4, "");
 }
 
 static void origins(void) {
-    struct dns_zone before;
+    struct dnstext_zone before;
     begin();
     before = zone;
-    EXPECT(dns_zone_origin(&zone, NULL, 0, &outcome) == DNS_SHORT_INPUT);
-    EXPECT(dns_zone_origin(&zone, (const uint8_t *)"\1a", 2, &outcome) == DNS_RELATIVE_NAME);
-    EXPECT(dns_zone_origin(&zone, (const uint8_t *)"\2a", 2, &outcome) == DNS_SHORT_INPUT);
-    EXPECT(dns_zone_origin(&zone, (const uint8_t *)"\1a\0", 4, &outcome) == DNS_TRAILING_OCTETS);
-    EXPECT(dns_zone_origin(&zone, (const uint8_t *)"\300\0", 2, &outcome) == DNS_POINTER);
-    EXPECT(dns_zone_origin(&zone, (const uint8_t *)"\200", 2, &outcome) == DNS_BAD_LABEL);
-    EXPECT(dns_zone_origin(&zone, octets, 256, &outcome) == DNS_TOO_LONG);
+    EXPECT(dnstext_zone_origin(&zone, (const uint8_t *)"\1a", 2, &outcome) == DNSTEXT_RELATIVE_NAME);
+    EXPECT(dnstext_zone_origin(&zone, (const uint8_t *)"\2a", 2, &outcome) == DNSTEXT_SHORT_INPUT);
+    EXPECT(dnstext_zone_origin(&zone, (const uint8_t *)"\1a\0", 4, &outcome) == DNSTEXT_TRAILING_OCTETS);
+    EXPECT(dnstext_zone_origin(&zone, (const uint8_t *)"\300\0", 2, &outcome) == DNSTEXT_POINTER);
+    EXPECT(dnstext_zone_origin(&zone, (const uint8_t *)"\200", 2, &outcome) == DNSTEXT_BAD_LABEL);
+    EXPECT(dnstext_zone_origin(&zone, octets, 256, &outcome) == DNSTEXT_TOO_LONG);
     EXPECT(memcmp(&zone, &before, sizeof zone) == 0);
-    EXPECT(dns_zone_origin(&zone, (const uint8_t *)"", 1, &outcome) == DNS_OK);
+    EXPECT(dnstext_zone_origin(&zone, (const uint8_t *)"", 1, &outcome) == DNSTEXT_OK);
     EXPECT(named(&zone.origin, "", 1) && outcome.length == 0 && outcome.place == 0);
+    EXPECT(dnstext_zone_origin(&zone, NULL, 0, &outcome) == DNSTEXT_OK);
+    EXPECT(named(&zone.origin, "", 0) && outcome.length == 0 && outcome.place == 0);
+    REFUSES("a 1 A 192.0.2.1", DNSTEXT_NO_ORIGIN, 0, "relative name, and no origin");
 }
 
 static void no_zone(int line) {
-    struct dns_zone before = zone;
-    refuses(TEXT("a 1 A 192.0.2.1"), DNS_BAD_CURSOR, 0, "", line);
+    struct dnstext_zone before = zone;
+    refuses(TEXT("a 1 A 192.0.2.1"), DNSTEXT_BAD_CURSOR, 0, "", line);
     expect(memcmp(&zone, &before, sizeof zone) == 0, "the zone stays", line);
 }
 
@@ -294,7 +296,7 @@ static void zones_that_no_call_left(void) {
         memset(&zone, (int)octet, sizeof zone);
         zone.at = 0;
         status = next(TEXT("a.example. 1 A 192.0.2.1"), 9);
-        EXPECT(status == DNS_OK || status == DNS_BAD_CURSOR);
+        EXPECT(status == DNSTEXT_OK || status == DNSTEXT_BAD_CURSOR);
     }
 }
 
@@ -306,7 +308,7 @@ static void cut_texts(void) {
     for (length = 0; length < sizeof text; length++) {
         unsigned calls = 0;
         begin();
-        while (next(text, length, 99) != DNS_END)
+        while (next(text, length, 99) != DNSTEXT_END)
             EXPECT(++calls <= 8 && zone.at <= length);
     }
 }
@@ -320,14 +322,15 @@ static void data_row(void) {
     length += spell_octets(row_fields[2], text + length);
     begin();
     status = next((char *)text, length, LONGEST);
-    if (status != DNS_OK && status != DNS_END)
+    if (status != DNSTEXT_OK && status != DNSTEXT_END)
         refuse();
     else
         add_octets(octets, outcome.length);
-    judge_row(status == DNS_END ? "no record" : NULL);
+    judge_row(status == DNSTEXT_END ? "no record" : NULL);
 }
 
-/* Removes from an expected result what the library does not report: `$ORIGIN`, `$TTL`, and the source of TTLs. */
+/* Removes from an expected result what the library does not report: `$ORIGIN`, `$TTL`, and the source of
+ * TTLs. */
 static void leave_out(char *wanted) {
     static const struct {
         const char *text;
@@ -345,11 +348,11 @@ static void leave_out(char *wanted) {
 
 static const char *fault_of(uint32_t status) {
     switch (status) {
-    case DNS_CLOSING: return "closing";
-    case DNS_OPEN_PARENTHESIS: return "open parenthesis";
-    case DNS_OPEN_QUOTE: return "open quote";
-    case DNS_LONE_RETURN: return "lone return";
-    case DNS_BAD_ESCAPE: return "bad escape";
+    case DNSTEXT_CLOSING: return "closing";
+    case DNSTEXT_OPEN_PARENTHESIS: return "open parenthesis";
+    case DNSTEXT_OPEN_QUOTE: return "open quote";
+    case DNSTEXT_LONE_RETURN: return "lone return";
+    case DNSTEXT_BAD_ESCAPE: return "bad escape";
     default: return "";
     }
 }
@@ -361,7 +364,7 @@ static void add_barred(size_t number) {
 
 /* A record, a file to include, or an error. */
 static void add_given(uint32_t status) {
-    if (status == DNS_OK) {
+    if (status == DNSTEXT_OK) {
         add_barred(record.place);
         add_octets(record.name.octets, record.name.length);
         add_text("|");
@@ -369,7 +372,7 @@ static void add_given(uint32_t status) {
         add_barred(record.class_code);
         add_barred(record.type_code);
         add_octets(octets, outcome.length);
-    } else if (status == DNS_INCLUDE) {
+    } else if (status == DNSTEXT_INCLUDE) {
         add_text("include ");
         add_octets(octets, outcome.length);
         add_text(record.name.length != 0 ? " " : "");
@@ -386,7 +389,7 @@ static void add_given(uint32_t status) {
 
 /* A row of a zone file and perhaps an origin, with the entries. */
 static void zone_row(void) {
-    static const struct dns_zone start = DNS_ZONE_INIT;
+    static const struct dnstext_zone start = DNSTEXT_ZONE_INIT;
     static uint8_t made[256];
     const char *note = NULL;
     char *wanted = row_fields[row_count - 1];
@@ -394,9 +397,9 @@ static void zone_row(void) {
     uint32_t status;
     zone = start;
     if (row_count == 4 &&
-        dns_zone_origin(&zone, made, spell_octets(row_fields[2], made), &outcome) != DNS_OK)
+        dnstext_zone_origin(&zone, made, spell_octets(row_fields[2], made), &outcome) != DNSTEXT_OK)
         note = "the origin is refused";
-    while ((status = next((char *)text, length, LONGEST)) != DNS_END)
+    while ((status = next((char *)text, length, LONGEST)) != DNSTEXT_END)
         add_given(status);
     leave_out(wanted);
     /* The first entry can be an error. */

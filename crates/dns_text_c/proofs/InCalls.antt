@@ -1,7 +1,7 @@
 -- What calls one after another tell.
-use Rattle.std.proofs.Common.{◌≡◌, ◌<◌, ◌≤◌, ◌+◌, ◌-◌, ℕ, zero, suc, Bool, List, [], ◌∷◌, ◌++◌, length, take, drop, refl, sym, ap, subst, ◌∙◌, arith, drop-drop, inl, inr, ◌⊎◌, Result, Ok, Err}
-use Rattle.std.specs.Prelude.{map, nat_lt, encode_utf8_all}
-use Rattle.std.proofs.lemmas.Bool.{and_parts}
+use Rattle.std.proofs.Common.{◌≡◌, ◌<◌, ◌≤◌, ◌+◌, ◌-◌, ℕ, zero, suc, Bool, List, [], ◌∷◌, ◌++◌, length, take, drop, refl, sym, ap, subst, ◌∙◌, arith, drop-drop, inl, inr, ◌⊎◌, ⊎_elim, Result, Ok, Err}
+use Rattle.std.specs.Prelude.{map, min, nat_lt, encode_utf8_all}
+use Rattle.std.proofs.lemmas.Bool.{and_parts, cases_lt}
 use Rattle.std.proofs.lemmas.List.{length-drop, take-append-drop}
 use Rattle.dns_octets.specs.Octets.{greatest_length}
 use Rattle.dns_split.specs.Opening.{IsOpener}
@@ -151,6 +151,14 @@ same_entry : (entry : ToldEntry) (tokens : List TokenAt) (status place : ℕ) �
 same_entry entry tokens status place t s p =
     ap (λ l. told l entry.status entry.place) t ∙ ap (λ n. told tokens n entry.place) s ∙ ap (told tokens status) p
 
+-- a fault has another status than what is given
+some_status : (w : Wrong) → number_of (refusal_of_wrong w) ≡ 0 → ⊥
+some_status NotClosed e = cc
+some_status NoneOpen e = cc
+some_status (NotQuoted i) e = cc
+some_status NoFeed e = cc
+some_status NoEscape e = cc
+
 -- the status that tells of an open parenthesis
 open_status : (w : Wrong) → number_of (refusal_of_wrong w) ≡ number_of OpenParenthesis → w ≡ NotClosed
 open_status NotClosed e = refl
@@ -192,9 +200,9 @@ module _ (text : List ℕ) (o : AreOctets text) (last : Cursor) where
     stopped : (stop : Stop) → stop_of (later cursor.at alone) ≡ stop → TellsEntry text read.count stop (length tells.before) entry.status cursor new tells.outcome
     stopped stop is = subst (λ s. TellsEntry text read.count s (length tells.before) entry.status cursor new tells.outcome) (read.entry.stop_is ∙ ap stop_of same ∙ is) read.told
 
-    all : tells.outcome.length ≡ read.count → entry.tokens ≡ tokens
-    all counts =
-        tells.tokens ∙ all_taken (tokens_of read.given) tells.before tells.after read.count tells.outcome.length read.entry.tokens_are read.entry.count_is counts tells.fits tells.slice
+    all : tells.outcome.length ≡ read.count → tells.outcome.length ≤ length tells.before → entry.tokens ≡ tokens
+    all counts fits =
+        tells.tokens ∙ all_taken (tokens_of read.given) tells.before tells.after read.count tells.outcome.length read.entry.tokens_are read.entry.count_is counts fits tells.slice
         ∙ ap tokens_of same
 
     by_end : Ends cursor.at alone → Answer
@@ -206,11 +214,21 @@ module _ (text : List ℕ) (o : AreOctets text) (last : Cursor) where
         counts : tells.outcome.length ≡ read.count
         counts = ap (λ (x : Outcome). x.length) s.0
 
+        fits : read.count ≤ length tells.before
+        fits =
+            ⊎_elim
+            (λ more.
+            let lacks : entry.status ≡ 2 = (s.2 more).0 in
+            let less = tells.fits (λ z. omega (arith, z, lacks)) in
+            absurd (omega (arith, more, counts, less)))
+            (λ enough. enough)
+            (cases_lt (length tells.before) read.count)
+
         ok : (entry.status ≡ 0) × (new ≡ record { at = cursor.at + e.end; begins_blank = bit e.blank; is_done = bit (is_nothing e.left); opened = cursor.opened })
-        ok = s.1 (subst (λ n. n ≤ length tells.before) counts tells.fits)
+        ok = s.1 fits
 
         here : entry ≡ told tokens 0 0
-        here = same_entry entry tokens 0 0 (all counts) ok.0 (tells.place ∙ ap (λ (x : Outcome). x.place) s.0)
+        here = same_entry entry tokens 0 0 (all counts (omega (arith, counts, fits))) ok.0 (tells.place ∙ ap (λ (x : Outcome). x.place) s.0)
 
         at : new.at ≡ cursor.at + e.end
         at = ap (λ (c : Cursor). c.at) ok.1
@@ -245,8 +263,10 @@ module _ (text : List ℕ) (o : AreOctets text) (last : Cursor) where
     by_fault f =
         let s = stopped (Fault f.fault) f.stops in
         let status : ℕ = number_of (refusal_of_wrong f.fault.wrong) in
-        let counts : tells.outcome.length ≡ read.count = ap (λ (x : Outcome). x.length) s.0 in
-        let here : entry ≡ told tokens status f.fault.at = same_entry entry tokens status f.fault.at (all counts) s.1 (tells.place ∙ ap (λ (x : Outcome). x.place) s.0) in
+        let less = tells.fits (λ z. some_status f.fault.wrong (sym s.1 ∙ z)) in
+        let cut : tells.outcome.length ≡ min read.count (length tells.before) = ap (λ (x : Outcome). x.length) s.0 in
+        let counts : tells.outcome.length ≡ read.count = omega (arith, cut, less) in
+        let here : entry ≡ told tokens status f.fault.at = same_entry entry tokens status f.fault.at (all counts (omega (arith, less))) s.1 (tells.place ∙ ap (λ (x : Outcome). x.place) s.0) in
         let none = none_more new more (ap (λ (c : Cursor). c.is_done) s.2) calls in (
           ap (λ x. x ∷ more) here ∙ ap (λ l. told tokens status f.fault.at ∷ l) none.0 ∙ sym f.tells,
           λ h b.

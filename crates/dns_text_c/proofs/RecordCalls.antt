@@ -295,7 +295,7 @@ module _ (after : RecordReader) (octets : List ℕ) (old new : Memory) (told : �
 
   some_told : (given : Result EntryRead RecordRefusal) → TellsGiven (Some given) after octets old new told outcome → told ≢ 1
   some_told (Err (Text f)) t = λ one. never_one _ (sym one ∙ t.0.0)
-  some_told (Err (Entry r)) t = λ one. never_one _ (sym one ∙ t.told_is)
+  some_told (Err (Entry r)) t = λ one. never_one _ (sym one ∙ t.reason.told_is)
   some_told (Ok (RecordRead at ttl class code)) t = found_some 0 _ _ (λ e. cc) t
   some_told (Ok (Include origin)) t = found_some 26 _ _ (λ e. cc) t
   some_told (Ok Nothing) t = absurd t

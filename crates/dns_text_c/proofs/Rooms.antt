@@ -2,7 +2,7 @@
 use Rattle.std.proofs.Common.{ℕ, ◌≡◌, ◌++◌, Bool, List, [], ◌∷◌, Option, Some, None, Result, Ok, Err}
 use Rattle.std.specs.List.{AllByRecursion}
 use Rattle.dns_octets.specs.Room.{Room}
-use Rattle.dns_split.specs.EntryTokens.{TokenSeen}
+use Rattle.dns_split.specs.EntryTokens.{PartSeen, TokenSeen}
 use Rattle.dns_split.specs.declared.pieces.EndOfEntry.{EndOfEntry}
 use Rattle.dns_split.specs.declared.pieces.Fault.{Fault}
 use Rattle.dns_data.specs.ByType.{ReadsType}
@@ -13,7 +13,7 @@ use Rattle.dns_heads.specs.declared.head.WordsRefusal.{WordsRefusal}
 use Rattle.dns_reader.specs.EntryReading.{ReadsBehind, ReadsMeaning, ReadsRecordData, ReadsWords, ReadsZoneEntry}
 use Rattle.dns_reader.specs.Past.{known_name}
 use Rattle.dns_reader.specs.Records.{AreGivenInARow, EntryGiven, IsDirectiveGiven, ReadsBegun, ReadsNextEntry, ReadsNextRecord, StandsAfter, given_next, given_of, none_given}
-use Rattle.dns_reader.specs.Source.{SourceSeen, entry_end, entry_left}
+use Rattle.dns_reader.specs.Source.{SourceSeen, behind_left, entry_end, entry_left}
 use Rattle.dns_reader.specs.declared.entry.EntryRead.{EntryRead}
 use Rattle.dns_reader.specs.declared.entry_error.EntryRefusal.{EntryRefusal}
 use Rattle.dns_reader.specs.declared.known.Known.{Known}
@@ -22,6 +22,7 @@ use Rattle.dns_reader.specs.declared.records.RecordRefusal.{RecordRefusal}
 use Rattle.dns_reader.specs.declared.records.RecordRefusal.TheVariants.{Text, Entry}
 use Rattle.dns_reader.specs.declared.source.StartOfEntry.{StartOfEntry}
 use Rattle.dns_reader.specs.declared.state.State.{State}
+use Rattle.dns_text_c.specs.DataText.{ReadsDataText, ReadsFirstData, ReadsTokens, data_answer}
 use Rattle.dns_text_c.specs.Records.{RefusalIsGiven}
 
 -- all of a list with one more behind it
@@ -96,4 +97,33 @@ module _ (one other : Room) where
     are_directives = h.are_directives;
     last = next_so h.middle after old new result taken h.last;
     is_last = h.is_last;
+  }
+
+  -- what is refused is no data, whatever stands behind it
+  never_data : (code : ℕ) (r : TypeRefusal) (octets out : List ℕ) (parts : List (Result PartSeen Fault)) → Ok out ≡ data_answer code (Err r) octets parts → ⊥
+  never_data code r octets out [] is = cc
+  never_data code r octets out (Ok p ∷ parts) is = cc
+  never_data code r octets out (Err f ∷ parts) is = cc
+
+  tokens_so : (code : ℕ) (origin : Option (List (List ℕ))) (begun : SourceSeen) (out : List ℕ) (read : Result (Unit {0}) TypeRefusal) (left : List TokenSeen) (octets : List ℕ)
+      → ReadsType origin one code (entry_end begun).at (entry_left begun) [] read left octets → Ok out ≡ data_answer code read octets (behind_left begun)
+      → ReadsTokens other code origin begun (Ok out)
+  tokens_so code origin begun out (Ok u) left octets reads is = (Ok u, left, octets, reads, is)
+  tokens_so code origin begun out (Err r) left octets reads is = absurd (never_data code r octets out (behind_left begun) is)
+
+  first_so : (code : ℕ) (origin : Option (List (List ℕ))) (begun : SourceSeen) (out : List ℕ) (start : Result (Option StartOfEntry) Fault)
+      → ReadsFirstData one code origin start begun (Ok out) → ReadsFirstData other code origin start begun (Ok out)
+  first_so code origin begun out (Err f) h = h
+  first_so code origin begun out (Ok found) h = tokens_so code origin begun out h.0 h.1 h.2 h.3 h.4
+
+  pub any_data_room : (code : ℕ) (origin : Option (List (List ℕ))) (text out : List ℕ) → ReadsDataText one code origin text (Ok out) → ReadsDataText other code origin text (Ok out)
+  any_data_room code origin text out h = record {
+    source = h.source;
+    seen = h.seen;
+    closed = h.closed;
+    at_start = h.at_start;
+    start = h.start;
+    begun = h.begun;
+    begins = h.begins;
+    reads = first_so code origin h.begun out h.start h.reads;
   }

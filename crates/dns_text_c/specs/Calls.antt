@@ -1,5 +1,5 @@
 -- Calls for the entries of a text, one after another.
-use Rattle.std.specs.Prelude.{◌≡◌, ◌≢◌, ℕ, ◌<◌, ◌≤◌, List, [], ◌∷◌, length, map, take, Result, Ok, Err}
+use Rattle.std.specs.Prelude.{◌≡◌, ◌≢◌, ℕ, ◌<◌, List, [], ◌∷◌, length, map, take, Result, Ok, Err}
 use Rattle.dns_octets.specs.Octets.{greatest_length}
 use Rattle.dns_split.specs.Pieces.{between}
 use Rattle.dns_split.specs.declared.pieces.Piece.{Piece}
@@ -34,7 +34,7 @@ told_entries (Ok (CommentAt p) ∷ given) = told_entries given
 told_entries (Ok (EndAt e) ∷ given) = told [] 0 0 ∷ told_entries given
 told_entries (Err f ∷ given) = told [] (number_of (refusal_of_wrong f.wrong)) f.at ∷ []
 
--- a call that found an entry and had room for all of its tokens, and what it told
+-- a call that found an entry, with room for all of its tokens, and for one more where a fault follows them; and what it told
 pub record Tells (text : List ℕ) (old new : Cursor) (entry : ToldEntry) : Type 0 where
   pub before : List TokenAt
   pub after : List TokenAt
@@ -42,7 +42,7 @@ pub record Tells (text : List ℕ) (old new : Cursor) (entry : ToldEntry) : Type
   pub answers : NextEntry text old new before after entry.status outcome
   pub some : entry.status ≢ 1
   pub slice : length before < greatest_length
-  pub fits : outcome.length ≤ length before
+  pub fits : entry.status ≢ 0 → outcome.length < length before
   pub tokens : entry.tokens ≡ take outcome.length after
   pub place : entry.place ≡ outcome.place
 

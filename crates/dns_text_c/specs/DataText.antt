@@ -1,15 +1,16 @@
 -- What printing data of a type answers, and reading its text.
-use Rattle.std.specs.Prelude.{◌≡◌, ◌⊎◌, ◌+◌, ◌≤◌, ℕ, false, List, [], ◌∷◌, ◌++◌, length, take, drop, Option, Some, None, Result, Ok, Err}
+use Rattle.std.specs.Prelude.{◌≡◌, ◌≢◌, ◌⊎◌, ◌+◌, ◌≤◌, ℕ, false, List, [], ◌∷◌, ◌++◌, length, take, drop, Option, Some, None, Result, Ok, Err}
 use Rattle.dns_data.specs.ByType.{ReadsType}
 use Rattle.dns_data.specs.declared.by_type.TypeRefusal.{TypeRefusal}
 use Rattle.dns_data.specs.declared.error.DataError.TheVariants.{TrailingToken}
-use Rattle.dns_octets.specs.Room.{exactly}
+use Rattle.dns_octets.specs.Room.{Room, exactly}
 use Rattle.dns_reader.specs.Source.{BeginsEntry, SourceSeen, behind_left, entry_end, entry_left}
 use Rattle.dns_reader.specs.declared.entry_error.EntryError.TheVariants.{Data}
 use Rattle.dns_reader.specs.declared.entry_error.EntryRefusal.{EntryRefusal}
 use Rattle.dns_reader.specs.declared.records.RecordRefusal.{RecordRefusal}
 use Rattle.dns_reader.specs.declared.records.RecordRefusal.TheVariants.{Text, Entry}
 use Rattle.dns_reader.specs.declared.source.StartOfEntry.{StartOfEntry}
+use Rattle.dns_resource.specs.CanonicalData.{canonical_data}
 use Rattle.dns_resource.specs.DataTokens.{data_document}
 use Rattle.dns_resource.specs.TypeData.{IsTypeData, TypeData}
 use Rattle.dns_resource.specs.WireErrors.{RefusesWire}
@@ -22,8 +23,9 @@ use Rattle.dns_wire.specs.declared.error.NameError.{NameError}
 use Rattle.dns_zone.specs.Printed.{printed}
 use Rattle.dns_zone.specs.declared.zonefile_fmt.DisplayKind.TheVariants.{Simple}
 use Rattle.dns_text_c.specs.Entries.{refusal_of_wrong}
-use Rattle.dns_text_c.specs.Reasons.{reason_text, refusal_of_entry, refusal_of_name}
-use Rattle.dns_text_c.specs.Told.{TellsFault, TellsOctets, number_of}
+use Rattle.dns_text_c.specs.Kept.{IsOriginOf}
+use Rattle.dns_text_c.specs.Reasons.{TellsReason, refusal_of_name}
+use Rattle.dns_text_c.specs.Told.{TellsFault, TellsOctets}
 use Rattle.dns_text_c.specs.declared.outcome.Fault.{Fault}
 use Rattle.dns_text_c.specs.declared.outcome.Outcome.{Outcome}
 use Rattle.dns_text_c.specs.declared.outcome.Refusal.TheVariants.{BadData, TooLong}
@@ -57,6 +59,12 @@ PrintsData code octets old status new outcome =
     (IsTypeData code octets × TellsText (data_text (record { code = code; octets = octets })) old status new outcome)
     ⊎ ((e : WireError) × RefusesWire code octets e × TellsFault (fault_of_wire e) status outcome × (new ≡ old))
 
+-- octets are data of a type, and their canonical form is told; or why they are none, and nothing was written
+abbrev pub TellsCanonical : ℕ → List ℕ → List ℕ → ℕ → List ℕ → Outcome → Type 0
+TellsCanonical code octets old status new outcome =
+    (IsTypeData code octets × TellsOctets (canonical_data code octets) old status new outcome)
+    ⊎ ((e : WireError) × RefusesWire code octets e × TellsFault (fault_of_wire e) status outcome × (new ≡ old))
+
 -- the data that are refused, or a token behind them
 abbrev pub refused_data_of : ℕ → TypeRefusal → EntryRefusal
 refused_data_of code r = record { code = Some code; part = r.part; at = r.at; why = Data r.why }
@@ -87,18 +95,18 @@ data_answer code (Err r) octets parts = Err (Entry (refused_data_of code r))
 data_answer code (Ok _) octets parts = answer_before code octets parts
 
 -- the tokens of the entry that is open are read as data of a type, or none where none is open
-abbrev pub ReadsTokens : ℕ → Option (List (List ℕ)) → SourceSeen → DataAnswer → Type 0
-ReadsTokens code origin begun answer =
+abbrev pub ReadsTokens : Room → ℕ → Option (List (List ℕ)) → SourceSeen → DataAnswer → Type 0
+ReadsTokens room code origin begun answer =
     (read : Result (Unit {0}) TypeRefusal) × (left : List TokenSeen) × (octets : List ℕ)
-    × ReadsType origin (exactly 65535) code (entry_end begun).at (entry_left begun) [] read left octets × (answer ≡ data_answer code read octets (behind_left begun))
+    × ReadsType origin room code (entry_end begun).at (entry_left begun) [] read left octets × (answer ≡ data_answer code read octets (behind_left begun))
 
 -- the first entry that has tokens is read, or that there is none; or a fault of the text comes before its tokens
-abbrev pub ReadsFirstData : ℕ → Option (List (List ℕ)) → Result (Option StartOfEntry) TextFault → SourceSeen → DataAnswer → Type 0
-ReadsFirstData code origin (Err f) begun answer = answer ≡ Err (Text f)
-ReadsFirstData code origin (Ok found) begun answer = ReadsTokens code origin begun answer
+abbrev pub ReadsFirstData : Room → ℕ → Option (List (List ℕ)) → Result (Option StartOfEntry) TextFault → SourceSeen → DataAnswer → Type 0
+ReadsFirstData room code origin (Err f) begun answer = answer ≡ Err (Text f)
+ReadsFirstData room code origin (Ok found) begun answer = ReadsTokens room code origin begun answer
 
--- a text of one entry is read as data of a type
-pub record ReadsDataText (code : ℕ) (origin : Option (List (List ℕ))) (text : List ℕ) (answer : DataAnswer) : Type 0 where
+-- a text of one entry is read as data of a type, with room for some octets
+pub record ReadsDataText (room : Room) (code : ℕ) (origin : Option (List (List ℕ))) (text : List ℕ) (answer : DataAnswer) : Type 0 where
   pub source : SourceSeen
   pub seen : IsSeen text source.parts
   pub closed : source.is_open ≡ false
@@ -106,13 +114,7 @@ pub record ReadsDataText (code : ℕ) (origin : Option (List (List ℕ))) (text 
   pub start : Result (Option StartOfEntry) TextFault
   pub begun : SourceSeen
   pub begins : BeginsEntry source start begun
-  pub reads : ReadsFirstData code origin start begun answer
-
--- the status and the place of a refusal, and its text where that fits
-pub record TellsReason (refusal : EntryRefusal) (old : List ℕ) (told : ℕ) (new : List ℕ) (outcome : Outcome) : Type 0 where
-  pub told_is : told ≡ number_of (refusal_of_entry refusal.why)
-  pub place : outcome.place ≡ refusal.at
-  pub text : (status : ℕ) × TellsOctets (take 255 (reason_text refusal)) old status new (record { length = outcome.length; place = 0 })
+  pub reads : ReadsFirstData room code origin start begun answer
 
 -- the octets are given; or a fault of the text is told, and nothing was written; or why data are refused
 abbrev pub TellsData : DataAnswer → List ℕ → ℕ → List ℕ → Outcome → Type 0
@@ -122,15 +124,10 @@ TellsData (Err (Entry r)) old status new outcome = TellsReason r old status new 
 
 -- a text is read behind an origin, and what comes of it is told
 abbrev pub ReadsTextBehind : ℕ → List ℕ → Option (List (List ℕ)) → List ℕ → ℕ → List ℕ → Outcome → Type 0
-ReadsTextBehind code text origin old status new outcome = (answer : DataAnswer) × ReadsDataText code origin text answer × TellsData answer old status new outcome
-
--- the origin that octets are: none are none, and others are the octets of a name
-abbrev pub IsOriginOf : List ℕ → Option (List (List ℕ)) → Type 0
-IsOriginOf octets None = octets ≡ []
-IsOriginOf octets (Some labels) = MakesName octets (Ok labels)
+ReadsTextBehind code text origin old status new outcome = (answer : DataAnswer) × ReadsDataText (exactly 65535) code origin text answer × TellsData answer old status new outcome
 
 -- the text is read behind the origin; or the origin is no name, which is told with no place, and nothing was written
 abbrev pub TellsReadData : ℕ → List ℕ → List ℕ → List ℕ → ℕ → List ℕ → Outcome → Type 0
 TellsReadData code text origin old status new outcome =
     ((known : Option (List (List ℕ))) × IsOriginOf origin known × ReadsTextBehind code text known old status new outcome)
-    ⊎ ((e : NameError) × MakesName origin (Err e) × TellsFault (record { refusal = refusal_of_name e; place = 0 }) status outcome × (new ≡ old))
+    ⊎ ((e : NameError) × (origin ≢ []) × MakesName origin (Err e) × TellsFault (record { refusal = refusal_of_name e; place = 0 }) status outcome × (new ≡ old))

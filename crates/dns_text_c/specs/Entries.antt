@@ -119,7 +119,7 @@ TellsEntry text count (End e last) room status old new outcome =
     × (count ≤ room → (status ≡ 0) × (new ≡ record { at = e.at; begins_blank = bit e.begins_blank; is_done = bit last; opened = old.opened }))
     × (room < count → (status ≡ number_of NoRoom) × (new ≡ old))
 TellsEntry text count (Fault f) room status old new outcome =
-    (outcome ≡ record { length = count; place = f.at }) × (status ≡ number_of (refusal_of_wrong f.wrong))
+    (outcome ≡ record { length = min count room; place = f.at }) × (status ≡ number_of (refusal_of_wrong f.wrong))
     × (new ≡ record old { is_done = 1; opened = new.opened }) × Opens text old.at f.wrong old.opened new.opened
 TellsEntry text count Nothing room status old new outcome =
     (outcome ≡ record { length = count; place = 0 }) × (status ≡ 1) × (new ≡ record old { is_done = 1 })

@@ -1,5 +1,5 @@
 -- What is kept of a zone file between two calls.
-use Rattle.std.specs.Prelude.{◌≡◌, ◌≢◌, ◌⊎◌, ◌<◌, ◌≤◌, ◌==◌, if◌then◌else◌, ℕ, List, length, take, drop, Option, Some, None, Ok, Err}
+use Rattle.std.specs.Prelude.{◌≡◌, ◌≢◌, ◌⊎◌, ◌<◌, ◌≤◌, ◌==◌, if◌then◌else◌, ℕ, List, [], length, take, drop, Option, Some, None, Ok, Err}
 use Rattle.dns_wire.specs.FromOctets.{MakesName}
 use Rattle.dns_wire.specs.declared.error.NameError.{NameError}
 use Rattle.dns_reader.specs.declared.known.Known.{Known}
@@ -49,9 +49,19 @@ pub record KeepsState (state : State) (at : ℕ) (old new : Zone) : Type 0 where
   pub class : state.class ≡ new.class_code
   pub at_is : new.at ≡ at
 
--- the name of the octets is the origin from here on; or they are no name, which is told, and nothing was written
+-- the origin that octets are: none are none, and others are the octets of a name
+abbrev pub IsOriginOf : List ℕ → Option (List (List ℕ)) → Type 0
+IsOriginOf octets None = octets ≡ []
+IsOriginOf octets (Some labels) = MakesName octets (Ok labels)
+
+-- the origin that is said, if one is
+abbrev pub said_origin : Option (List (List ℕ)) → Known
+said_origin None = Unsaid
+said_origin (Some labels) = Name labels
+
+-- the origin that the octets are is the zone's from here on; or they are no name, which is told, and nothing was written
 abbrev pub TakesOrigin : List ℕ → Zone → Zone → ℕ → Outcome → Type 0
 TakesOrigin name old new status outcome =
-    ((labels : List (List ℕ)) × MakesName name (Ok labels) × (status ≡ 0) × (outcome ≡ record { length = 0; place = 0 }) × KeepsName (Name labels) old.origin new.origin
-    × (new ≡ record old { origin = new.origin }))
-    ⊎ ((e : NameError) × MakesName name (Err e) × TellsFault (record { refusal = refusal_of_name e; place = 0 }) status outcome × (new ≡ old))
+    ((origin : Option (List (List ℕ))) × IsOriginOf name origin × (status ≡ 0) × (outcome ≡ record { length = 0; place = 0 })
+    × KeepsName (said_origin origin) old.origin new.origin × (new ≡ record old { origin = new.origin }))
+    ⊎ ((e : NameError) × (name ≢ []) × MakesName name (Err e) × TellsFault (record { refusal = refusal_of_name e; place = 0 }) status outcome × (new ≡ old))

@@ -1,5 +1,5 @@
 -- Why an entry is refused: its status, and its text.
-use Rattle.std.specs.Prelude.{ℕ, List, [], ◌++◌, codes, Option, Some, None}
+use Rattle.std.specs.Prelude.{◌≡◌, ℕ, List, [], ◌++◌, codes, take, Option, Some, None}
 use Rattle.std.specs.Borrow.{Bor}
 use Rattle.dns_data.specs.declared.error.DataError.{DataError}
 use Rattle.dns_data.specs.declared.error.DataError.TheVariants.{Field as OfDataField}
@@ -18,6 +18,8 @@ use Rattle.dns_spelling.specs.declared.error.SpellingError.TheVariants.{NoOrigin
 use Rattle.dns_wire.specs.declared.error.NameError.{NameError}
 use Rattle.dns_wire.specs.declared.error.NameError.TheVariants.{BadLabel as NoLabel, CompressedName, LongName, TrailingData, ShortInput as CutShort, Relative, Absolute}
 use Rattle.dns_text_c.specs.Kinds.{text_of_type}
+use Rattle.dns_text_c.specs.Told.{GivesCut, number_of}
+use Rattle.dns_text_c.specs.declared.outcome.Outcome.{Outcome}
 use Rattle.dns_text_c.specs.declared.outcome.Refusal.{Refusal}
 use Rattle.dns_text_c.specs.declared.outcome.Refusal.TheVariants.{BadLabel, Pointer, TooLong, TrailingOctets, ShortInput, RelativeName}
 use Rattle.dns_text_c.specs.declared.outcome.Refusal.TheVariants.{BadHead, NotSupported, BadName, NoOrigin, NoOwner, RefusedOwner, BadData, NoTtl}
@@ -74,3 +76,9 @@ part_prefix (Some code) part = part_text code part ++ codes ": "
 -- and why
 abbrev pub reason_text : EntryRefusal → List ℕ
 reason_text r = part_prefix r.code r.part ++ zone_entry_error_text r.why
+
+-- the status and the place of a refusal, and its text, as much of it as fits
+pub record TellsReason (refusal : EntryRefusal) (old : List ℕ) (told : ℕ) (new : List ℕ) (outcome : Outcome) : Type 0 where
+  pub told_is : told ≡ number_of (refusal_of_entry refusal.why)
+  pub place : outcome.place ≡ refusal.at
+  pub text : GivesCut (take 255 (reason_text refusal)) old new outcome.length

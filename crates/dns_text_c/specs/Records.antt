@@ -8,15 +8,14 @@ use Rattle.dns_reader.specs.declared.entry.EntryRead.{EntryRead}
 use Rattle.dns_reader.specs.declared.entry.EntryRead.TheVariants.{Nothing, Directive, Include, Record as RecordRead}
 use Rattle.dns_reader.specs.declared.entry_error.EntryRefusal.{EntryRefusal}
 use Rattle.dns_reader.specs.declared.known.Known.{Known}
-use Rattle.dns_reader.specs.declared.known.Known.TheVariants.{Unsaid, Name}
 use Rattle.dns_reader.specs.declared.records.RecordReader.{RecordReader}
 use Rattle.dns_reader.specs.declared.records.RecordRefusal.{RecordRefusal}
 use Rattle.dns_reader.specs.declared.records.RecordRefusal.TheVariants.{Text, Entry}
 use Rattle.dns_reader.specs.declared.state.State.{State}
 use Rattle.dns_text_c.specs.Entries.{refusal_of_wrong}
-use Rattle.dns_text_c.specs.Kept.{HoldsState, KeepsName, KeepsState}
-use Rattle.dns_text_c.specs.Reasons.{reason_text, refusal_of_entry}
-use Rattle.dns_text_c.specs.Told.{TellsFault, TellsOctets, number_of}
+use Rattle.dns_text_c.specs.Kept.{HoldsState, KeepsName, KeepsState, said_origin}
+use Rattle.dns_text_c.specs.Reasons.{TellsReason}
+use Rattle.dns_text_c.specs.Told.{TellsFault, number_of}
 use Rattle.dns_text_c.specs.declared.kept.Zone.{Zone}
 use Rattle.dns_text_c.specs.declared.outcome.Outcome.{Outcome}
 use Rattle.dns_text_c.specs.declared.outcome.Refusal.TheVariants.{NoRoom, BadCursor}
@@ -44,11 +43,9 @@ pub record TellsFound (status : ℕ) (reader : RecordReader) (octets : List ℕ)
       × KeepsName name old.found.name new.found.name × (head_of new.found ≡ head) × KeepsReader reader old.zone new.zone
   pub lacks : length old.octets < length octets → (told ≡ number_of NoRoom) × (new ≡ old)
 
--- the status and the place of a refusal are told, with its text where that fits, and the zone goes on behind it
+-- a refusal is told, and the zone goes on behind it
 pub record TellsRefused (reader : RecordReader) (refusal : EntryRefusal) (old new : Memory) (told : ℕ) (outcome : Outcome) : Type 0 where
-  pub told_is : told ≡ number_of (refusal_of_entry refusal.why)
-  pub place : outcome.place ≡ refusal.at
-  pub text : (status : ℕ) × TellsOctets (take 255 (reason_text refusal)) old.octets status new.octets (record { length = outcome.length; place = 0 })
+  pub reason : TellsReason refusal old.octets told new.octets outcome
   pub keeps : KeepsReader reader old.zone new.zone
   pub found_stays : new.found ≡ old.found
 
@@ -57,11 +54,6 @@ pub record MovesOn (reader : RecordReader) (old new : Memory) : Type 0 where
   pub keeps : KeepsReader reader old.zone new.zone
   pub found_stays : new.found ≡ old.found
   pub octets_stay : new.octets ≡ old.octets
-
--- the origin of a file to include, if one is said
-abbrev pub said_origin : Option (List (List ℕ)) → Known
-said_origin None = Unsaid
-said_origin (Some labels) = Name labels
 
 -- what is told of what the reader gives: a record with its owner; a file to include; the refusal of an entry; a fault of the text; or that nothing is left
 abbrev pub TellsGiven : Option (Result EntryRead RecordRefusal) → RecordReader → List ℕ → Memory → Memory → ℕ → Outcome → Type 0

@@ -1,5 +1,5 @@
 -- What a call says by its status, its length and its place, and what it leaves in the caller's memory.
-use Rattle.std.specs.Prelude.{◌≡◌, ℕ, ◌<◌, ◌≤◌, List, length, take, drop, Result, Ok, Err}
+use Rattle.std.specs.Prelude.{◌≡◌, ℕ, ◌<◌, ◌≤◌, List, length, take, drop, min, Result, Ok, Err}
 use Rattle.dns_text_c.specs.declared.outcome.Outcome.{Outcome}
 use Rattle.dns_text_c.specs.declared.outcome.Fault.{Fault}
 use Rattle.dns_text_c.specs.declared.outcome.Refusal.{Refusal}
@@ -49,6 +49,12 @@ pub record TellsOctets (octets old : List ℕ) (status : ℕ) (new : List ℕ) (
   pub told : outcome ≡ record { length = length octets; place = 0 }
   pub fits : length octets ≤ length old → (status ≡ 0) × (take (length octets) new ≡ octets) × (drop (length octets) new ≡ drop (length octets) old)
   pub lacks : length old < length octets → (status ≡ number_of NoRoom) × (new ≡ old)
+
+-- the octets, as many as fit, stand at the start of the buffer, and what follows them is as it was
+pub record GivesCut (octets old new : List ℕ) (count : ℕ) : Type 0 where
+  pub count_is : count ≡ min (length octets) (length old)
+  pub put : take count new ≡ take count octets
+  pub rest : drop count new ≡ drop count old
 
 -- the status and the place are the fault's
 abbrev pub TellsFault : Fault → ℕ → Outcome → Type 0

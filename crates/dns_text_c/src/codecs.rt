@@ -39,7 +39,7 @@ fn refuse_length(outcome: &mut Outcome) -> u32
 
 /// Prints octets in base 16, with capitals.
 #[unsafe(no_mangle)]
-pub extern "C" fn dns_base16_print(octets: &[u8], text: &mut [u8], outcome: &mut Outcome) -> u32
+pub extern "C" fn dnstext_base16_print(octets: &[u8], text: &mut [u8], outcome: &mut Outcome) -> u32
     ensures { PrintsOctets base16 octets.now text.old result text.new outcome.new }
 {
     if octets.len() > MOST {
@@ -51,7 +51,11 @@ pub extern "C" fn dns_base16_print(octets: &[u8], text: &mut [u8], outcome: &mut
 
 /// Prints octets in base32hex, with capitals and without padding.
 #[unsafe(no_mangle)]
-pub extern "C" fn dns_base32hex_print(octets: &[u8], text: &mut [u8], outcome: &mut Outcome) -> u32
+pub extern "C" fn dnstext_base32hex_print(
+    octets: &[u8],
+    text: &mut [u8],
+    outcome: &mut Outcome,
+) -> u32
     ensures { PrintsOctets base32hex octets.now text.old result text.new outcome.new }
 {
     if octets.len() > MOST {
@@ -63,7 +67,7 @@ pub extern "C" fn dns_base32hex_print(octets: &[u8], text: &mut [u8], outcome: &
 
 /// Prints octets in base 64, with padding.
 #[unsafe(no_mangle)]
-pub extern "C" fn dns_base64_print(octets: &[u8], text: &mut [u8], outcome: &mut Outcome) -> u32
+pub extern "C" fn dnstext_base64_print(octets: &[u8], text: &mut [u8], outcome: &mut Outcome) -> u32
     ensures { PrintsOctets base64 octets.now text.old result text.new outcome.new }
 {
     if octets.len() > MOST {
@@ -117,7 +121,7 @@ fn count_marks(text: &[u8]) -> usize
 
 /// Reads a text of base 16, in either case.
 #[unsafe(no_mangle)]
-pub extern "C" fn dns_base16_read(text: &[u8], octets: &mut [u8], outcome: &mut Outcome) -> u32
+pub extern "C" fn dnstext_base16_read(text: &[u8], octets: &mut [u8], outcome: &mut Outcome) -> u32
     ensures { DecodesText base16 text.now octets.old result octets.new outcome.new }
 {
     let length = text.len() / 2;
@@ -130,7 +134,11 @@ pub extern "C" fn dns_base16_read(text: &[u8], octets: &mut [u8], outcome: &mut 
 
 /// Reads a text of base32hex, in either case and without padding.
 #[unsafe(no_mangle)]
-pub extern "C" fn dns_base32hex_read(text: &[u8], octets: &mut [u8], outcome: &mut Outcome) -> u32
+pub extern "C" fn dnstext_base32hex_read(
+    text: &[u8],
+    octets: &mut [u8],
+    outcome: &mut Outcome,
+) -> u32
     ensures { DecodesText base32hex text.now octets.old result octets.new outcome.new }
 {
     let length = text.len() / 8 * 5 + text.len() % 8 * 5 / 8;
@@ -143,7 +151,7 @@ pub extern "C" fn dns_base32hex_read(text: &[u8], octets: &mut [u8], outcome: &m
 
 /// Reads a text of base 64, with its padding.
 #[unsafe(no_mangle)]
-pub extern "C" fn dns_base64_read(text: &[u8], octets: &mut [u8], outcome: &mut Outcome) -> u32
+pub extern "C" fn dnstext_base64_read(text: &[u8], octets: &mut [u8], outcome: &mut Outcome) -> u32
     ensures { DecodesText base64 text.now octets.old result octets.new outcome.new }
 {
     let chars = text.len() - count_marks(text);

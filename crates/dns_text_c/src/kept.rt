@@ -169,13 +169,18 @@ pub(crate) fn refusal_of_name(error: NameError) -> Refusal
     }
 }
 
-/// Says the origin of the entries that follow, by the wire octets of an absolute name.
+/// Says the origin of the entries that follow, by the wire octets of an absolute name; or that there
+/// is none, by no octets.
 ///
 /// Octets that are no such name are refused, with no place, and then the zone stays as it was.
 #[unsafe(no_mangle)]
-pub extern "C" fn dns_zone_origin(zone: &mut Zone, name: &[u8], outcome: &mut Outcome) -> u32
+pub extern "C" fn dnstext_zone_origin(zone: &mut Zone, name: &[u8], outcome: &mut Outcome) -> u32
     ensures { TakesOrigin name.now zone.old zone.new result outcome.new }
 {
+    if name.is_empty() {
+        keep_name(&Known::Unsaid, &mut zone.origin);
+        return accept(outcome);
+    }
     match name_of(name) {
         Ok(origin) => {
             keep_name(&Known::Name(origin), &mut zone.origin);

@@ -25,7 +25,7 @@ fn refuse_word(refusal: Refusal, outcome: &mut Outcome) -> u32
 /// The text is a word as it stands, without escapes. What is no time to live is refused at its
 /// start, and then the seconds stay as they were.
 #[unsafe(no_mangle)]
-pub extern "C" fn dns_ttl_read(text: &[u8], seconds: &mut u32, outcome: &mut Outcome) -> u32
+pub extern "C" fn dnstext_ttl_read(text: &[u8], seconds: &mut u32, outcome: &mut Outcome) -> u32
     ensures { TellsSpelled SpellsTtl BadTtl text.now seconds.old result seconds.new outcome.new }
 {
     match ttl_from_text(text) {
@@ -43,7 +43,7 @@ pub extern "C" fn dns_ttl_read(text: &[u8], seconds: &mut u32, outcome: &mut Out
 /// The text is a word as it stands, without escapes. What names no type is refused at its start,
 /// and then the code stays as it was.
 #[unsafe(no_mangle)]
-pub extern "C" fn dns_type_read(text: &[u8], code: &mut u16, outcome: &mut Outcome) -> u32
+pub extern "C" fn dnstext_type_read(text: &[u8], code: &mut u16, outcome: &mut Outcome) -> u32
     ensures { TellsSpelled SpellsTypeCode UnknownType text.now code.old result code.new outcome.new }
 {
     match RecordType::from_text(text) {
@@ -61,7 +61,7 @@ pub extern "C" fn dns_type_read(text: &[u8], code: &mut u16, outcome: &mut Outco
 /// The text is a word as it stands, without escapes. What names no class is refused at its start,
 /// and then the code stays as it was.
 #[unsafe(no_mangle)]
-pub extern "C" fn dns_class_read(text: &[u8], code: &mut u16, outcome: &mut Outcome) -> u32
+pub extern "C" fn dnstext_class_read(text: &[u8], code: &mut u16, outcome: &mut Outcome) -> u32
     ensures { TellsSpelled SpellsClassCode UnknownClass text.now code.old result code.new outcome.new }
 {
     match Class::from_text(text) {
@@ -101,7 +101,7 @@ pub(crate) fn numbered(prefix: &str, code: u16) -> ArrayVec<u8, TEXT>
 
 /// Prints a type of records: its name, or without one `TYPE` and the code.
 #[unsafe(no_mangle)]
-pub extern "C" fn dns_type_print(code: u16, text: &mut [u8], outcome: &mut Outcome) -> u32
+pub extern "C" fn dnstext_type_print(code: u16, text: &mut [u8], outcome: &mut Outcome) -> u32
     ensures { TellsOctets (text_of_type code) text.old result text.new outcome.new }
 {
     match RecordType(code).name() {
@@ -112,7 +112,7 @@ pub extern "C" fn dns_type_print(code: u16, text: &mut [u8], outcome: &mut Outco
 
 /// Prints a class: its name, or without one `CLASS` and the code.
 #[unsafe(no_mangle)]
-pub extern "C" fn dns_class_print(code: u16, text: &mut [u8], outcome: &mut Outcome) -> u32
+pub extern "C" fn dnstext_class_print(code: u16, text: &mut [u8], outcome: &mut Outcome) -> u32
     ensures { TellsOctets (text_of_class code) text.old result text.new outcome.new }
 {
     match Class(code).name() {

@@ -22,9 +22,10 @@ pub fn entries_in_a_row()
 {}
 
 /// Calls for the next entry, one after another from a text's start until the text is done, each
-/// with room for its tokens, tell just what the text gives: the words and quoted texts of its
-/// entries, and its fault. What it gives is one list (`octets_are_read_one_way` of `dns_split`).
-/// Of a text that splits the tokens' octets are its entries.
+/// with room for its tokens, and for one more where a fault follows them, tell just what the text
+/// gives: the words and quoted texts of its entries, and its fault. What it gives is one list
+/// (`octets_are_read_one_way` of `dns_split`). Of a text that splits the tokens' octets are its
+/// entries.
 pub fn calls_tell_all()
     ensures entries { (text : List ℕ) (given : List (Result Piece Fault)) (first last : Cursor) (entries : List ToldEntry) → AreOctets text → IsGiven text given → first.at ≡ 0
         → first.is_done ≡ 0 → Calls text first entries last → entries ≡ told_entries given }

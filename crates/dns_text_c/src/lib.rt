@@ -6,6 +6,7 @@
 //! passed, and what follows there stays as it was. None of these calls takes memory.
 #![tactic(auto)]
 
+pub mod canonical;
 pub mod codecs;
 pub mod kept;
 pub mod kinds;

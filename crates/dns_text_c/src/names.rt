@@ -105,7 +105,7 @@ fn read_name(text: &[u8]) -> Result<UncertainName<ArrayVec<u8, MOST>>, Fault>
 /// bracket that begins a label, a symbol without an octet, more than 254 octets before the root,
 /// more than 63 in a label. The first fault is told, with its place.
 #[unsafe(no_mangle)]
-pub extern "C" fn dns_name_read(
+pub extern "C" fn dnstext_name_read(
     text: &[u8],
     name: &mut [u8],
     is_absolute: &mut u8,
@@ -181,7 +181,7 @@ fn print_name(octets: &[u8], form: Form, dot: bool, text: &mut [u8], outcome: &m
 /// decimal value. Octets that are no name's are refused, in the order of
 /// [`UncertainName::from_octets`]; no place is told.
 #[unsafe(no_mangle)]
-pub extern "C" fn dns_name_print(name: &[u8], text: &mut [u8], outcome: &mut Outcome) -> u32
+pub extern "C" fn dnstext_name_print(name: &[u8], text: &mut [u8], outcome: &mut Outcome) -> u32
     ensures { PrintsName (λ labels. encode_utf8_all (undotted_text labels)) name.now text.old result text.new outcome.new }
 {
     print_name(name, Form::Label, false, text, outcome)
@@ -189,7 +189,11 @@ pub extern "C" fn dns_name_print(name: &[u8], text: &mut [u8], outcome: &mut Out
 
 /// Prints the same with a dot at the end of an absolute name.
 #[unsafe(no_mangle)]
-pub extern "C" fn dns_name_print_dotted(name: &[u8], text: &mut [u8], outcome: &mut Outcome) -> u32
+pub extern "C" fn dnstext_name_print_dotted(
+    name: &[u8],
+    text: &mut [u8],
+    outcome: &mut Outcome,
+) -> u32
     ensures { PrintsName (λ labels. encode_utf8_all (dotted_text labels)) name.now text.old result text.new outcome.new }
 {
     print_name(name, Form::Label, true, text, outcome)
@@ -199,7 +203,11 @@ pub extern "C" fn dns_name_print_dotted(name: &[u8], text: &mut [u8], outcome: &
 /// other octet by its decimal value, with a dot at the end of an absolute name. So a name of one
 /// label or more is one word, in which every reader of zone text sees that name.
 #[unsafe(no_mangle)]
-pub extern "C" fn dns_name_print_zone(name: &[u8], text: &mut [u8], outcome: &mut Outcome) -> u32
+pub extern "C" fn dnstext_name_print_zone(
+    name: &[u8],
+    text: &mut [u8],
+    outcome: &mut Outcome,
+) -> u32
     ensures { PrintsName zone_text name.now text.old result text.new outcome.new }
 {
     print_name(name, Form::Zone, true, text, outcome)

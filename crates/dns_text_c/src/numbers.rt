@@ -59,7 +59,7 @@ fn read_number(text: &[u8], greatest: u64) -> Result<u64, Fault>
 /// then a number that its digit makes too great. The first fault is told, with its place, and then
 /// the number stays as it was.
 #[unsafe(no_mangle)]
-pub extern "C" fn dns_number_read(
+pub extern "C" fn dnstext_number_read(
     text: &[u8],
     greatest: u64,
     number: &mut u64,

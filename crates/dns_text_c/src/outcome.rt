@@ -1,12 +1,12 @@
 //! What a call says: a status, a length and a place.
 ghost use Rattle.std.specs.Prelude.{◌≡◌};
-ghost use Rattle.dns_text_c.specs.Told.{number_of, TellsOctets, TellsFault};
+ghost use Rattle.dns_text_c.specs.Told.{number_of, GivesCut, TellsOctets, TellsFault};
 
 /// What a call says beside its status.
 #[repr(C)]
 #[derive(Clone, Copy, Debug, PartialEq, Eq)]
 pub struct Outcome {
-    /// How many octets were written; or how many have to fit, where there was no room for them.
+    /// How many octets were written; or with [`Refusal::NoRoom`] how many there are to write.
     pub length: usize,
     /// How many octets stand before a fault; 0 where there is none.
     pub place: usize,
@@ -174,4 +174,13 @@ pub(crate) fn give(octets: &[u8], buffer: &mut [u8], outcome: &mut Outcome) -> u
     }
     buffer[..length].copy_from_slice(octets);
     OK
+}
+
+/// Puts octets at the start of a buffer, as many as fit, and returns how many.
+pub(crate) fn give_cut(octets: &[u8], buffer: &mut [u8]) -> usize
+    ensures { GivesCut octets.now buffer.old buffer.new result }
+{
+    let count = octets.len().min(buffer.len());
+    buffer[..count].copy_from_slice(&octets[..count]);
+    count
 }

@@ -115,7 +115,7 @@ fn tell_piece(
 /// parentheses open than octets before it, is refused and stays. The piece is written with the
 /// status [`OK`] alone.
 #[unsafe(no_mangle)]
-pub extern "C" fn dns_tokens_next(
+pub extern "C" fn dnstext_tokens_next(
     text: &[u8],
     standing: &mut Standing,
     piece: &mut Piece,

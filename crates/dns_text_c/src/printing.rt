@@ -122,7 +122,7 @@ fn give_text(content: &Data<&[u8]>, text: &mut [u8], outcome: &mut Outcome) -> u
 }
 
 /// Why octets are no data of a type.
-fn fault_of_wire(error: WireError) -> Fault
+pub(crate) fn fault_of_wire(error: WireError) -> Fault
     ensures { result ≡ fault_of_wire error }
 {
     match error {
@@ -144,7 +144,7 @@ fn fault_of_wire(error: WireError) -> Fault
 /// A type that has no data in zones, and octets that are no data of it, are refused with no place;
 /// more than 65,535 octets with that place.
 #[unsafe(no_mangle)]
-pub extern "C" fn dns_data_print(
+pub extern "C" fn dnstext_data_print(
     code: u16,
     octets: &[u8],
     text: &mut [u8],

@@ -4,11 +4,11 @@ ghost use Rattle.dns_data.specs.ByType.{ReadsType};
 ghost use Rattle.dns_octets.specs.Room.{exactly};
 ghost use Rattle.dns_reader.specs.Source.{entry_end, entry_left};
 ghost use Rattle.dns_reader.specs.declared.records.RecordRefusal.TheVariants.{Entry};
-ghost use Rattle.dns_text_c.specs.DataText.{ReadsTextBehind, TellsReadData, ReadsDataText, ReadsTokens, TellsData, TellsReason, answer_before, answered, refused_data_of, trailing_token};
+ghost use Rattle.dns_text_c.specs.DataText.{ReadsTextBehind, TellsReadData, ReadsDataText, ReadsTokens, TellsData, answer_before, answered, refused_data_of, trailing_token};
 
 use crate::kept::{name_of, refusal_of_name};
-use crate::outcome::{Fault, Outcome, give, number_of, refuse};
-use crate::reasons::{reason_of, refusal_of_entry};
+use crate::outcome::{Fault, Outcome, give, refuse};
+use crate::reasons::tell_reason;
 use crate::tokens::refusal_of_wrong;
 use arrayvec::ArrayVec;
 use dns_data::{DataError, TypeRefusal, read_type};
@@ -19,8 +19,8 @@ use dns_split::pieces::Fault as TextFault;
 /// The most octets of record data (RFC 1035 section 3.2.1).
 const MOST: usize = 65535;
 
-/// Octets of data that are being read.
-type DataBuffer = ArrayVec<u8, MOST>;
+/// Octets of record data that are enough for most records.
+const FEW: usize = 1024;
 
 /// Data of a type that are refused.
 fn refused_data(code: u16, refusal: TypeRefusal) -> RecordRefusal
@@ -59,28 +59,28 @@ fn end_text(code: u16, source: &mut EntrySource) -> Result<(), RecordRefusal>
 }
 
 /// Reads the tokens that are left as data of a type.
-fn read_tokens(
+fn read_tokens<const N: usize>(
     code: u16,
     origin: Option<&NameBuffer>,
     source: &mut EntrySource,
-    target: &mut DataBuffer,
+    target: &mut ArrayVec<u8, N>,
 ) -> Result<(), TypeRefusal>
-    ensures reads { ReadsType (option_copied origin.entry) (exactly 65535) code (entry_end source.old).at (entry_left source.old) target.old.items result (entry_left source.new) target.new.items }
+    ensures reads { ReadsType (option_copied origin.entry) (exactly N) code (entry_end source.old).at (entry_left source.old) target.old.items result (entry_left source.new) target.new.items }
     ensures end { entry_end source.new ≡ entry_end source.old }
 {
     read_type(code, origin, source, target)
 }
 
 /// Reads the entry that is open as data of a type, up to the end of the text.
-fn read_open(
+fn read_open<const N: usize>(
     code: u16,
     origin: Option<&NameBuffer>,
     source: &mut EntrySource,
-    target: &mut DataBuffer,
+    target: &mut ArrayVec<u8, N>,
 ) -> Result<(), RecordRefusal>
     requires opened { source.old.is_open ≡ true }
     requires none { target.old.items ≡ [] }
-    ensures { ReadsTokens code (option_copied origin.entry) source.old (answered result target.new.items) }
+    ensures { ReadsTokens (exactly N) code (option_copied origin.entry) source.old (answered result target.new.items) }
 {
     let read = read_tokens(code, origin, source, target);
     if let Err(fault) = source.finish() {
@@ -93,16 +93,16 @@ fn read_open(
 }
 
 /// Reads no tokens as data of a type.
-fn read_nothing(
+fn read_nothing<const N: usize>(
     code: u16,
     origin: Option<&NameBuffer>,
     source: &mut EntrySource,
-    target: &mut DataBuffer,
+    target: &mut ArrayVec<u8, N>,
 ) -> Result<(), RecordRefusal>
     requires closed { source.old.is_open ≡ false }
     requires nothing { source.old.parts ≡ [] }
     requires none { target.old.items ≡ [] }
-    ensures { ReadsTokens code (option_copied origin.entry) source.old (answered result target.new.items) }
+    ensures { ReadsTokens (exactly N) code (option_copied origin.entry) source.old (answered result target.new.items) }
 {
     match read_tokens(code, origin, source, target) {
         Ok(()) => Ok(()),
@@ -111,14 +111,14 @@ fn read_nothing(
 }
 
 /// Reads a text as data of a type.
-fn read_text(
+fn read_text<const N: usize>(
     code: u16,
     text: &[u8],
     origin: Option<&NameBuffer>,
-    target: &mut DataBuffer,
+    target: &mut ArrayVec<u8, N>,
 ) -> Result<(), RecordRefusal>
     requires { target.old.items ≡ [] }
-    ensures { ReadsDataText code (option_copied origin.entry) text.now (answered result target.new.items) }
+    ensures { ReadsDataText (exactly N) code (option_copied origin.entry) text.now (answered result target.new.items) }
 {
     let mut source = EntrySource::of_octets(text);
     match source.begin() {
@@ -126,16 +126,6 @@ fn read_text(
         Ok(None) => read_nothing(code, origin, &mut source, target),
         Err(fault) => Err(RecordRefusal::Text(fault)),
     }
-}
-
-/// Tells why data are refused.
-fn tell_reason(refusal: EntryRefusal, octets: &mut [u8], outcome: &mut Outcome) -> u32
-    ensures { TellsReason refusal octets.old result octets.new outcome.new }
-{
-    let reason = reason_of(refusal);
-    let _fits = give(reason.as_slice(), octets, outcome);
-    outcome.place = refusal.at;
-    number_of(refusal_of_entry(refusal.why))
 }
 
 /// Tells what was read.
@@ -157,6 +147,25 @@ fn tell_read(
     }
 }
 
+/// Reads data of a type behind an origin, with room for the most octets that there can be.
+///
+/// It stands apart, since the compiler fills so much room with zeros at each call.
+#[cold]
+#[inline(never)]
+fn read_with_all_room(
+    code: u16,
+    text: &[u8],
+    origin: Option<&NameBuffer>,
+    octets: &mut [u8],
+    outcome: &mut Outcome,
+) -> u32
+    ensures { ReadsTextBehind code text.now (option_copied origin.entry) octets.old result octets.new outcome.new }
+{
+    let mut content: ArrayVec<u8, MOST> = ArrayVec::new();
+    let read = read_text(code, text, origin, &mut content);
+    tell_read(read, content.as_slice(), octets, outcome)
+}
+
 /// Reads data of a type behind an origin.
 fn read_behind(
     code: u16,
@@ -167,9 +176,11 @@ fn read_behind(
 ) -> u32
     ensures { ReadsTextBehind code text.now (option_copied origin.entry) octets.old result octets.new outcome.new }
 {
-    let mut content = DataBuffer::new();
-    let read = read_text(code, text, origin, &mut content);
-    tell_read(read, content.as_slice(), octets, outcome)
+    let mut content: ArrayVec<u8, FEW> = ArrayVec::new();
+    match read_text(code, text, origin, &mut content) {
+        Ok(()) => give(content.as_slice(), octets, outcome),
+        Err(_) => read_with_all_room(code, text, origin, octets, outcome),
+    }
 }
 
 /// Reads the text of data of a type, in the type's text form or as `\#`, the number of octets, and
@@ -178,10 +189,10 @@ fn read_behind(
 /// names stand, or no octets, and then a relative name is refused.
 ///
 /// The octets are the data in wire form, at most 65,535; or the text of a refusal, at most 255 of
-/// them, which are left out where they don't fit. A refusal and a fault of the text are told with
-/// their place; an origin that is no name is refused with none.
+/// them and as many as fit. A refusal and a fault of the text are told with their place; an origin
+/// that is no name is refused with none.
 #[unsafe(no_mangle)]
-pub extern "C" fn dns_data_read(
+pub extern "C" fn dnstext_data_read(
     code: u16,
     text: &[u8],
     origin: &[u8],

@@ -2,10 +2,10 @@
 ghost use Rattle.std.specs.Prelude.{◌≡◌, ◌+◌, ◌≤◌, ◌++◌, codes, length, take};
 ghost use Rattle.dns_reader.specs.EntryErrors.{zone_entry_error_text};
 ghost use Rattle.dns_text_c.specs.Kinds.{text_of_type};
-ghost use Rattle.dns_text_c.specs.Reasons.{part_text, part_prefix, reason_text, refusal_of_data, refusal_of_entry, refusal_of_field, refusal_of_head, refusal_of_owner, refusal_of_spelling};
+ghost use Rattle.dns_text_c.specs.Reasons.{TellsReason, part_text, part_prefix, reason_text, refusal_of_data, refusal_of_entry, refusal_of_field, refusal_of_head, refusal_of_owner, refusal_of_spelling};
 
 use crate::kinds::numbered;
-use crate::outcome::Refusal;
+use crate::outcome::{Outcome, Refusal, give_cut, number_of};
 use arrayvec::ArrayVec;
 use dns_data::DataError;
 use dns_fields::FieldError;
@@ -15,7 +15,7 @@ use dns_reader::{EntryError, EntryRefusal, OwnerError};
 use dns_spelling::SpellingError;
 
 /// The most characters of a reason.
-pub(crate) const REASON: usize = 255;
+const REASON: usize = 255;
 
 /// The refusal of a token that spells no octets of its kind, in what has another one.
 fn refusal_of_spelling(other: Refusal, error: SpellingError) -> Refusal
@@ -69,7 +69,7 @@ fn refusal_of_data(error: DataError) -> Refusal
 }
 
 /// The refusal of an entry.
-pub(crate) fn refusal_of_entry(error: EntryError) -> Refusal
+fn refusal_of_entry(error: EntryError) -> Refusal
     ensures { result ≡ refusal_of_entry error }
 {
     match error {
@@ -159,11 +159,23 @@ fn put_what(code: Option<u16>, part: Option<&'static str>, reason: &mut ArrayVec
 }
 
 /// Why an entry is refused, in at most 255 characters.
-pub(crate) fn reason_of(refusal: EntryRefusal) -> ArrayVec<u8, REASON>
+fn reason_of(refusal: EntryRefusal) -> ArrayVec<u8, REASON>
     ensures { result.items ≡ take REASON (reason_text refusal) }
 {
     let mut reason = ArrayVec::new();
     put_what(refusal.code, refusal.part, &mut reason);
     put_text(refusal.why.as_str().as_bytes(), &mut reason);
     reason
+}
+
+/// Tells why an entry is refused: its status, its place, and as many characters of its text as fit.
+pub(crate) fn tell_reason(refusal: EntryRefusal, octets: &mut [u8], outcome: &mut Outcome) -> u32
+    ensures { TellsReason refusal octets.old result octets.new outcome.new }
+{
+    let reason = reason_of(refusal);
+    *outcome = Outcome {
+        length: give_cut(reason.as_slice(), octets),
+        place: refusal.at,
+    };
+    number_of(refusal_of_entry(refusal.why))
 }

@@ -2,15 +2,15 @@
 ghost use Rattle.std.specs.Prelude.{◌≡◌, ◌≢◌, ◌↔◌, IsTrue, Ok, Some, false};
 ghost use Rattle.dns_reader.specs.declared.entry.EntryRead.TheVariants.{Nothing, Directive};
 ghost use Rattle.dns_text_c.specs.Entries.{refusal_of_wrong};
-ghost use Rattle.dns_text_c.specs.Kept.{KeepsName};
+ghost use Rattle.dns_text_c.specs.Kept.{KeepsName, said_origin};
 ghost use Rattle.dns_text_c.specs.Told.{TellsFault};
 ghost use Rattle.dns_text_c.specs.declared.outcome.Refusal.TheVariants.{BadCursor};
 ghost use Rattle.dns_text_c.specs.declared.records.Record.{Record};
-ghost use Rattle.dns_text_c.specs.Records.{KeepsReader, NextRecord, RefusalIsGiven, TellsFound, TellsGiven, TellsRefused, head_of, said_origin};
+ghost use Rattle.dns_text_c.specs.Records.{KeepsReader, NextRecord, RefusalIsGiven, TellsFound, TellsGiven, TellsRefused, head_of};
 
 use crate::kept::{KeptName, Zone, keep_name, keep_state, put_over, state_of};
-use crate::outcome::{END, Fault, INCLUDE, OK, Outcome, Refusal, give, number_of, refuse};
-use crate::reasons::{reason_of, refusal_of_entry};
+use crate::outcome::{END, Fault, INCLUDE, OK, Outcome, Refusal, number_of, refuse};
+use crate::reasons::tell_reason;
 use crate::tokens::refusal_of_wrong;
 use arrayvec::ArrayVec;
 use dns_reader::{EntryRead, EntryRefusal, Known, NameBuffer, RecordReader, RecordRefusal};
@@ -108,10 +108,7 @@ fn tell_refused(
         (record { zone = zone.new; found = found; octets = octets.new }) result outcome.new }
 {
     keep_reader(reader, zone);
-    let reason = reason_of(refusal);
-    let _fits = give(reason.as_slice(), octets, outcome);
-    outcome.place = refusal.at;
-    number_of(refusal_of_entry(refusal.why))
+    tell_reason(refusal, octets, outcome)
 }
 
 /// Tells that a text goes wrong.
@@ -229,7 +226,7 @@ fn is_refused(given: &Option<Result<EntryRead, RecordRefusal>>) -> bool
     matches!(given, Some(Err(_)))
 }
 
-/// Gives the next record as [`dns_record_next`] does, with room for the most data that there can be.
+/// Gives the next record as [`dnstext_record_next`] does, with room for the most data that there can be.
 ///
 /// It stands apart, since the compiler fills so much room with zeros at each call.
 #[cold]
@@ -268,13 +265,12 @@ fn next_with_all_room(
 /// section 4). `$ORIGIN` and `$TTL` are taken on the way.
 ///
 /// The octets are the record's data; or with [`INCLUDE`] those that name a file; or the text of an
-/// entry's refusal, at most 255 of them, which are left out where they don't fit. A refusal is told
-/// with its place, as a fault of the text is, and reading goes on at the next entry, or behind the
-/// line of the fault. Where data don't fit, nothing is written, and the zone stays. Once nothing is
-/// left the status is [`END`]. A zone past the end of the text, or with a name that is none, is
-/// refused.
+/// entry's refusal, at most 255 of them and as many as fit. A refusal is told with its place, as a
+/// fault of the text is, and reading goes on at the next entry, or behind the line of the fault.
+/// Where data don't fit, nothing is written, and the zone stays. Once nothing is left the status is
+/// [`END`]. A zone past the end of the text, or with a name that is none, is refused.
 #[unsafe(no_mangle)]
-pub extern "C" fn dns_record_next(
+pub extern "C" fn dnstext_record_next(
     text: &[u8],
     zone: &mut Zone,
     found: &mut Record,

@@ -52,7 +52,7 @@ pub fn status_text(status: u32) -> &'static str
 
 /// Gives the text of a status, also of an unknown one.
 #[unsafe(no_mangle)]
-pub extern "C" fn dns_status_text(status: u32, text: &mut [u8], outcome: &mut Outcome) -> u32
+pub extern "C" fn dnstext_status_text(status: u32, text: &mut [u8], outcome: &mut Outcome) -> u32
     ensures { TellsOctets (status_text status) text.old result text.new outcome.new }
 {
     give(status_text(status).as_bytes(), text, outcome)

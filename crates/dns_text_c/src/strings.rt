@@ -111,7 +111,11 @@ fn print_string(form: Form, octets: &[u8], text: &mut [u8], outcome: &mut Outcom
 
 /// Prints a character string with no character special but the backslash.
 #[unsafe(no_mangle)]
-pub extern "C" fn dns_charstr_print(octets: &[u8], text: &mut [u8], outcome: &mut Outcome) -> u32
+pub extern "C" fn dnstext_charstr_print(
+    octets: &[u8],
+    text: &mut [u8],
+    outcome: &mut Outcome,
+) -> u32
     ensures { PrintsString (text_of is_plain_escape) octets.now text.old result text.new outcome.new }
 {
     print_string(Form::Plain, octets, text, outcome)
@@ -119,7 +123,7 @@ pub extern "C" fn dns_charstr_print(octets: &[u8], text: &mut [u8], outcome: &mu
 
 /// Prints a character string between double quotes.
 #[unsafe(no_mangle)]
-pub extern "C" fn dns_charstr_print_quoted(
+pub extern "C" fn dnstext_charstr_print_quoted(
     octets: &[u8],
     text: &mut [u8],
     outcome: &mut Outcome,
@@ -131,7 +135,7 @@ pub extern "C" fn dns_charstr_print_quoted(
 
 /// Prints a character string as a word of zone text. No octets print nothing, which is no word.
 #[unsafe(no_mangle)]
-pub extern "C" fn dns_charstr_print_unquoted(
+pub extern "C" fn dnstext_charstr_print_unquoted(
     octets: &[u8],
     text: &mut [u8],
     outcome: &mut Outcome,
@@ -193,7 +197,7 @@ fn read_string(text: &[u8]) -> Result<ArrayVec<u8, MOST>, Fault>
 /// Symbols are handled in order. What is no symbol is refused first, then a symbol after 255
 /// octets, then one that has no octet. The first fault is told, with its place.
 #[unsafe(no_mangle)]
-pub extern "C" fn dns_charstr_read(text: &[u8], octets: &mut [u8], outcome: &mut Outcome) -> u32
+pub extern "C" fn dnstext_charstr_read(text: &[u8], octets: &mut [u8], outcome: &mut Outcome) -> u32
     ensures { (answer : Result (List ℕ) Fault) × ReadsString text.now answer × IsTold answer octets.old result octets.new outcome.new }
 {
     match read_string(text) {
@@ -251,7 +255,7 @@ fn read_octets(text: &[u8]) -> Result<ArrayVec<u8, MOST>, Fault>
 /// no digit are that octet, whichever it is. What is no escape, or is cut short, is refused first,
 /// then an octet after 255 others. The first fault is told, with its place.
 #[unsafe(no_mangle)]
-pub extern "C" fn dns_charstr_read_octets(
+pub extern "C" fn dnstext_charstr_read_octets(
     text: &[u8],
     octets: &mut [u8],
     outcome: &mut Outcome,

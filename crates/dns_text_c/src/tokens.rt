@@ -187,6 +187,7 @@ fn tell_stop(
         Stop::Fault(fault) => {
             cursor.is_done = 1;
             cursor.opened = opened_by(text, cursor.at, fault.wrong, cursor.opened);
+            outcome.length = entry.count.min(room);
             outcome.place = fault.at;
             number_of(refusal_of_wrong(fault.wrong))
         }
@@ -200,10 +201,10 @@ fn tell_stop(
 /// Gives the tokens of the next entry of a zone text by their places, and moves the cursor on.
 ///
 /// The length is the number of tokens. Where they don't all fit, the first ones are given, the
-/// status says so, and the cursor stays. A fault is told with its place, after the tokens before
-/// it, and then the text is done. Once nothing is left the status is [`END`].
+/// status says so, and the cursor stays. A fault is told with its place, after as many of the tokens
+/// before it as fit, and then the text is done. Once nothing is left the status is [`END`].
 #[unsafe(no_mangle)]
-pub extern "C" fn dns_entry_next(
+pub extern "C" fn dnstext_entry_next(
     text: &[u8],
     cursor: &mut Cursor,
     tokens: &mut [Token],

@@ -4,7 +4,7 @@ use Rattle.dns_text_c.specs.DataText.{data_answer}
 use Rattle.dns_text_c.proofs.reading.read_nothing.Goals as goal
 
 pub returns-in-Err : goal.returns-in-Err
-returns-in-Err c = (
+returns-in-Err g c = (
   Err c.in-Err.refusal,
   _,
   _,

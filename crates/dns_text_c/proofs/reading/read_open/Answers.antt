@@ -3,7 +3,7 @@ use Rattle.dns_text_c.proofs.ReadTexts.{refused_ended}
 use Rattle.dns_text_c.proofs.reading.read_open.Goals as goal
 
 pub returns-in-Err-read : goal.returns-in-Err-read
-returns-in-Err-read c = (
+returns-in-Err-read g c = (
   Err c.in-Err-read.refusal,
   _,
   _,

@@ -2,7 +2,7 @@ use Rattle.std.proofs.Common.{◌≡◌, [], inr, arith, rules}
 use Rattle.dns_octets.specs.Room.{exactly}
 use Rattle.dns_text_c.proofs.KeptNames.{closed, something}
 use Rattle.dns_text_c.proofs.Rooms.{any_room}
-use Rattle.dns_text_c.proofs.records.dns_record_next.Goals as goal
+use Rattle.dns_text_c.proofs.records.dnstext_record_next.Goals as goal
 
 pub tell_given-requires : goal.tell_given-requires
 tell_given-requires c =

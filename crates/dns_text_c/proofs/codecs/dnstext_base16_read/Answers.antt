@@ -3,7 +3,7 @@ use Rattle.std.proofs.lemmas.Grind.{common_steps}
 use Rattle.dns_codec.specs.Base.{base16}
 use Rattle.dns_text_c.proofs.ToldTexts.{told}
 use Rattle.dns_text_c.proofs.Lengths.{known16}
-use Rattle.dns_text_c.proofs.codecs.dns_base16_read.Goals as goal
+use Rattle.dns_text_c.proofs.codecs.dnstext_base16_read.Goals as goal
 
 pub returns : goal.returns
 returns c =

@@ -3,7 +3,7 @@ use Rattle.std.proofs.lemmas.Grind.{common_steps}
 use Rattle.dns_codec.specs.Base.{base32hex}
 use Rattle.dns_text_c.proofs.ToldTexts.{told}
 use Rattle.dns_text_c.proofs.Lengths.{known32}
-use Rattle.dns_text_c.proofs.codecs.dns_base32hex_read.Goals as goal
+use Rattle.dns_text_c.proofs.codecs.dnstext_base32hex_read.Goals as goal
 
 pub returns : goal.returns
 returns c =

@@ -2,7 +2,7 @@ use Rattle.std.proofs.Common.{sym, arith}
 use Rattle.dns_codec.specs.Base.{base32hex, encoded}
 use Rattle.dns_text_c.proofs.ToldTexts.{given}
 use Rattle.dns_text_c.proofs.Lengths.{encoded32_length}
-use Rattle.dns_text_c.proofs.codecs.dns_base32hex_print.Goals as goal
+use Rattle.dns_text_c.proofs.codecs.dnstext_base32hex_print.Goals as goal
 
 pub returns : goal.returns
 returns c =

@@ -1,5 +1,5 @@
 use Rattle.std.proofs.Common.{refl, inr}
-use Rattle.dns_text_c.proofs.kinds.dns_type_read.Goals as goal
+use Rattle.dns_text_c.proofs.kinds.dnstext_class_read.Goals as goal
 
 pub returns-in-Err : goal.returns-in-Err
 returns-in-Err c = inr (c.refuse_word.ensures, refl, λ v spells. c.in-Err.ensures.1 (record { 0 = v }) spells)

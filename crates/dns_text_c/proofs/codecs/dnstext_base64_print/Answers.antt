@@ -2,7 +2,7 @@ use Rattle.std.proofs.Common.{sym, arith}
 use Rattle.dns_codec.specs.Base.{base64, encoded}
 use Rattle.dns_text_c.proofs.ToldTexts.{given}
 use Rattle.dns_text_c.proofs.Lengths.{encoded64_length}
-use Rattle.dns_text_c.proofs.codecs.dns_base64_print.Goals as goal
+use Rattle.dns_text_c.proofs.codecs.dnstext_base64_print.Goals as goal
 
 pub returns : goal.returns
 returns c =

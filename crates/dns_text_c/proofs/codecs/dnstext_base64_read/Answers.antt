@@ -3,7 +3,7 @@ use Rattle.std.proofs.lemmas.Grind.{common_steps}
 use Rattle.dns_codec.specs.Base.{base64}
 use Rattle.dns_text_c.proofs.ToldTexts.{told}
 use Rattle.dns_text_c.proofs.Lengths.{known64}
-use Rattle.dns_text_c.proofs.codecs.dns_base64_read.Goals as goal
+use Rattle.dns_text_c.proofs.codecs.dnstext_base64_read.Goals as goal
 
 pub returns : goal.returns
 returns c =
