@@ -1,8 +1,8 @@
 //! Finds the static library: the file that `DNS_TEXT_LIB` names by an absolute path, or
 //! `out/libdnstext.a` at the top of the repository, which `make -C c` makes. Without it the crates can
 //! be checked and documented, and what is linked with them is refused.
-use std::env;
 use std::path::{Path, PathBuf};
+use std::{env, fs};
 
 /// The name under which the library is linked.
 const NAME: &str = "dnstext";
@@ -14,10 +14,10 @@ fn main() {
         Some(path) => PathBuf::from(path),
         None => here.join("../../out/libdnstext.a"),
     };
-    println!("cargo:rerun-if-changed={}", library.display());
     let name = match library.canonicalize() {
         Ok(library) => link_from(&library),
         Err(_) => {
+            await_library(&library);
             println!(
                 "cargo:warning=there is no {}: nothing can be linked until `make -C c` has made it, \
                  or DNS_TEXT_LIB names a libdnstext.a",
@@ -31,8 +31,17 @@ fn main() {
 
 /// Says where the library is, and returns the name under which it is linked.
 fn link_from(library: &Path) -> String {
+    println!("cargo:rerun-if-changed={}", library.display());
     let folder = library.parent().unwrap_or(Path::new("/"));
     println!("cargo:rustc-link-search=native={}", folder.display());
     let stem = library.file_stem().unwrap_or_default().to_string_lossy();
     stem.strip_prefix("lib").unwrap_or(&stem).to_string()
+}
+
+/// Runs this again once the library is there. A file that is missing would have cargo compile the crates
+/// anew at each call; its folder has not, where it is there or can be made.
+fn await_library(library: &Path) {
+    let folder = library.parent().unwrap_or(Path::new("/"));
+    let _ = fs::create_dir(folder);
+    println!("cargo:rerun-if-changed={}", folder.display());
 }

@@ -9,47 +9,47 @@ use core::ffi::c_char;
 /// The version that these declarations are of.
 pub const DNSTEXT_VERSION: &str = env!("CARGO_PKG_VERSION");
 
-pub const DNS_OK: u32 = 0;
-pub const DNS_END: u32 = 1;
-pub const DNS_NO_ROOM: u32 = 2;
-pub const DNS_BAD_ESCAPE: u32 = 3;
-pub const DNS_SHORT_INPUT: u32 = 4;
-pub const DNS_BAD_UTF8: u32 = 5;
-pub const DNS_BAD_SYMBOL: u32 = 6;
-pub const DNS_TOO_LONG: u32 = 7;
-pub const DNS_BAD_ENCODING: u32 = 8;
-pub const DNS_CLOSING: u32 = 9;
-pub const DNS_OPEN_PARENTHESIS: u32 = 10;
-pub const DNS_OPEN_QUOTE: u32 = 11;
-pub const DNS_LONE_RETURN: u32 = 12;
-pub const DNS_BAD_CURSOR: u32 = 13;
-pub const DNS_EMPTY_LABEL: u32 = 14;
-pub const DNS_LONG_LABEL: u32 = 15;
-pub const DNS_BINARY_LABEL: u32 = 16;
-pub const DNS_BAD_LABEL: u32 = 17;
-pub const DNS_POINTER: u32 = 18;
-pub const DNS_TRAILING_OCTETS: u32 = 19;
-pub const DNS_NO_DIGIT: u32 = 20;
-pub const DNS_TOO_GREAT: u32 = 21;
-pub const DNS_BAD_PLACE: u32 = 22;
-pub const DNS_BAD_TTL: u32 = 23;
-pub const DNS_UNKNOWN_TYPE: u32 = 24;
-pub const DNS_UNKNOWN_CLASS: u32 = 25;
-pub const DNS_INCLUDE: u32 = 26;
-pub const DNS_BAD_HEAD: u32 = 27;
-pub const DNS_NOT_SUPPORTED: u32 = 28;
-pub const DNS_BAD_NAME: u32 = 29;
-pub const DNS_NO_ORIGIN: u32 = 30;
-pub const DNS_NO_OWNER: u32 = 31;
-pub const DNS_REFUSED_OWNER: u32 = 32;
-pub const DNS_BAD_DATA: u32 = 33;
-pub const DNS_NO_TTL: u32 = 34;
-pub const DNS_RELATIVE_NAME: u32 = 35;
+pub const DNSTEXT_OK: u32 = 0;
+pub const DNSTEXT_END: u32 = 1;
+pub const DNSTEXT_NO_ROOM: u32 = 2;
+pub const DNSTEXT_BAD_ESCAPE: u32 = 3;
+pub const DNSTEXT_SHORT_INPUT: u32 = 4;
+pub const DNSTEXT_BAD_UTF8: u32 = 5;
+pub const DNSTEXT_BAD_SYMBOL: u32 = 6;
+pub const DNSTEXT_TOO_LONG: u32 = 7;
+pub const DNSTEXT_BAD_ENCODING: u32 = 8;
+pub const DNSTEXT_CLOSING: u32 = 9;
+pub const DNSTEXT_OPEN_PARENTHESIS: u32 = 10;
+pub const DNSTEXT_OPEN_QUOTE: u32 = 11;
+pub const DNSTEXT_LONE_RETURN: u32 = 12;
+pub const DNSTEXT_BAD_CURSOR: u32 = 13;
+pub const DNSTEXT_EMPTY_LABEL: u32 = 14;
+pub const DNSTEXT_LONG_LABEL: u32 = 15;
+pub const DNSTEXT_BINARY_LABEL: u32 = 16;
+pub const DNSTEXT_BAD_LABEL: u32 = 17;
+pub const DNSTEXT_POINTER: u32 = 18;
+pub const DNSTEXT_TRAILING_OCTETS: u32 = 19;
+pub const DNSTEXT_NO_DIGIT: u32 = 20;
+pub const DNSTEXT_TOO_GREAT: u32 = 21;
+pub const DNSTEXT_BAD_PLACE: u32 = 22;
+pub const DNSTEXT_BAD_TTL: u32 = 23;
+pub const DNSTEXT_UNKNOWN_TYPE: u32 = 24;
+pub const DNSTEXT_UNKNOWN_CLASS: u32 = 25;
+pub const DNSTEXT_INCLUDE: u32 = 26;
+pub const DNSTEXT_BAD_HEAD: u32 = 27;
+pub const DNSTEXT_NOT_SUPPORTED: u32 = 28;
+pub const DNSTEXT_BAD_NAME: u32 = 29;
+pub const DNSTEXT_NO_ORIGIN: u32 = 30;
+pub const DNSTEXT_NO_OWNER: u32 = 31;
+pub const DNSTEXT_REFUSED_OWNER: u32 = 32;
+pub const DNSTEXT_BAD_DATA: u32 = 33;
+pub const DNSTEXT_NO_TTL: u32 = 34;
+pub const DNSTEXT_RELATIVE_NAME: u32 = 35;
 
 /// What a call says beside its status.
 #[repr(C)]
 #[derive(Clone, Copy, Debug, Default, PartialEq, Eq)]
-pub struct dns_outcome {
+pub struct dnstext_outcome {
     pub length: usize,
     pub place: usize,
 }
@@ -57,7 +57,7 @@ pub struct dns_outcome {
 /// A token of zone text: the octets from `start` to before `end`.
 #[repr(C)]
 #[derive(Clone, Copy, Debug, Default, PartialEq, Eq)]
-pub struct dns_token {
+pub struct dnstext_token {
     pub start: usize,
     pub end: usize,
     pub is_quoted: bool,
@@ -66,22 +66,22 @@ pub struct dns_token {
 /// Where a zone text is read on. At first it is the default.
 #[repr(C)]
 #[derive(Clone, Copy, Debug, Default, PartialEq, Eq)]
-pub struct dns_cursor {
+pub struct dnstext_cursor {
     pub at: usize,
     pub begins_blank: bool,
     pub is_done: bool,
     pub opened: usize,
 }
 
-pub const DNS_WORD: usize = 0;
-pub const DNS_QUOTED: usize = 1;
-pub const DNS_COMMENT: usize = 2;
-pub const DNS_ENTRY_END: usize = 3;
+pub const DNSTEXT_WORD: usize = 0;
+pub const DNSTEXT_QUOTED: usize = 1;
+pub const DNSTEXT_COMMENT: usize = 2;
+pub const DNSTEXT_ENTRY_END: usize = 3;
 
 /// A piece of zone text: the octets from `start` to before `end`.
 #[repr(C)]
 #[derive(Clone, Copy, Debug, Default, PartialEq, Eq)]
-pub struct dns_piece {
+pub struct dnstext_piece {
     pub kind: usize,
     pub start: usize,
     pub end: usize,
@@ -91,7 +91,7 @@ pub struct dns_piece {
 /// Where a zone text is read on, with no piece begun. At first it is the default.
 #[repr(C)]
 #[derive(Clone, Copy, Debug, Default, PartialEq, Eq)]
-pub struct dns_standing {
+pub struct dnstext_standing {
     pub at: usize,
     pub depth: usize,
     pub began: usize,
@@ -101,7 +101,7 @@ pub struct dns_standing {
 /// An absolute name in wire form, if there is one: so many octets of those that it has.
 #[repr(C)]
 #[derive(Clone, Copy, Debug, PartialEq, Eq)]
-pub struct dns_kept_name {
+pub struct dnstext_kept_name {
     pub length: usize,
     pub is_refused: bool,
     pub octets: [u8; 255],
@@ -111,31 +111,50 @@ pub struct dns_kept_name {
 /// class IN, and all else is the default.
 #[repr(C)]
 #[derive(Clone, Copy, Debug, Default, PartialEq, Eq)]
-pub struct dns_zone {
+pub struct dnstext_zone {
     pub class_code: u16,
     pub has_default_ttl: bool,
     pub has_last_ttl: bool,
     pub default_ttl: u32,
     pub last_ttl: u32,
     pub at: usize,
-    pub origin: dns_kept_name,
-    pub owner: dns_kept_name,
+    pub origin: dnstext_kept_name,
+    pub owner: dnstext_kept_name,
 }
 
 /// A record of a zone file, whose data stand elsewhere; or the origin of a file to include.
 #[repr(C)]
 #[derive(Clone, Copy, Debug, Default, PartialEq, Eq)]
-pub struct dns_record {
+pub struct dnstext_record {
     pub place: usize,
     pub ttl: u32,
     pub class_code: u16,
     pub type_code: u16,
-    pub name: dns_kept_name,
+    pub name: dnstext_kept_name,
 }
 
-impl Default for dns_kept_name {
-    fn default() -> dns_kept_name {
-        dns_kept_name {
+#[repr(C)]
+#[derive(Clone, Copy, Debug, PartialEq, Eq)]
+pub struct dnstext_position {
+    pub offset: usize,
+    pub line: usize,
+    pub column: usize,
+}
+
+/// The start of a text.
+impl Default for dnstext_position {
+    fn default() -> dnstext_position {
+        dnstext_position {
+            offset: 0,
+            line: 1,
+            column: 1,
+        }
+    }
+}
+
+impl Default for dnstext_kept_name {
+    fn default() -> dnstext_kept_name {
+        dnstext_kept_name {
             length: 0,
             is_refused: false,
             octets: [0; 255],
@@ -144,119 +163,120 @@ impl Default for dns_kept_name {
 }
 
 /// A call that reads octets and gives others.
-pub type dns_call = unsafe extern "C" fn(*const u8, usize, *mut u8, usize, *mut dns_outcome) -> u32;
+pub type dnstext_call =
+    unsafe extern "C" fn(*const u8, usize, *mut u8, usize, *mut dnstext_outcome) -> u32;
 
 extern "C" {
-    pub fn dns_charstr_read(
+    pub fn dnstext_charstr_read(
         text: *const u8,
         text_len: usize,
         octets: *mut u8,
         octets_len: usize,
-        outcome: *mut dns_outcome,
+        outcome: *mut dnstext_outcome,
     ) -> u32;
-    pub fn dns_charstr_read_octets(
+    pub fn dnstext_charstr_read_octets(
         text: *const u8,
         text_len: usize,
         octets: *mut u8,
         octets_len: usize,
-        outcome: *mut dns_outcome,
+        outcome: *mut dnstext_outcome,
     ) -> u32;
-    pub fn dns_charstr_print(
+    pub fn dnstext_charstr_print(
         octets: *const u8,
         octets_len: usize,
         text: *mut u8,
         text_len: usize,
-        outcome: *mut dns_outcome,
+        outcome: *mut dnstext_outcome,
     ) -> u32;
-    pub fn dns_charstr_print_quoted(
+    pub fn dnstext_charstr_print_quoted(
         octets: *const u8,
         octets_len: usize,
         text: *mut u8,
         text_len: usize,
-        outcome: *mut dns_outcome,
+        outcome: *mut dnstext_outcome,
     ) -> u32;
-    pub fn dns_charstr_print_unquoted(
+    pub fn dnstext_charstr_print_unquoted(
         octets: *const u8,
         octets_len: usize,
         text: *mut u8,
         text_len: usize,
-        outcome: *mut dns_outcome,
+        outcome: *mut dnstext_outcome,
     ) -> u32;
-    pub fn dns_name_read(
+    pub fn dnstext_name_read(
         text: *const u8,
         text_len: usize,
         name: *mut u8,
         name_len: usize,
         is_absolute: *mut bool,
-        outcome: *mut dns_outcome,
+        outcome: *mut dnstext_outcome,
     ) -> u32;
-    pub fn dns_name_print(
+    pub fn dnstext_name_print(
         name: *const u8,
         name_len: usize,
         text: *mut u8,
         text_len: usize,
-        outcome: *mut dns_outcome,
+        outcome: *mut dnstext_outcome,
     ) -> u32;
-    pub fn dns_name_print_dotted(
+    pub fn dnstext_name_print_dotted(
         name: *const u8,
         name_len: usize,
         text: *mut u8,
         text_len: usize,
-        outcome: *mut dns_outcome,
+        outcome: *mut dnstext_outcome,
     ) -> u32;
-    pub fn dns_name_print_zone(
+    pub fn dnstext_name_print_zone(
         name: *const u8,
         name_len: usize,
         text: *mut u8,
         text_len: usize,
-        outcome: *mut dns_outcome,
+        outcome: *mut dnstext_outcome,
     ) -> u32;
-    pub fn dns_number_read(
+    pub fn dnstext_number_read(
         text: *const u8,
         text_len: usize,
         greatest: u64,
         number: *mut u64,
-        outcome: *mut dns_outcome,
+        outcome: *mut dnstext_outcome,
     ) -> u32;
-    pub fn dns_ttl_read(
+    pub fn dnstext_ttl_read(
         text: *const u8,
         text_len: usize,
         seconds: *mut u32,
-        outcome: *mut dns_outcome,
+        outcome: *mut dnstext_outcome,
     ) -> u32;
-    pub fn dns_type_read(
+    pub fn dnstext_type_read(
         text: *const u8,
         text_len: usize,
         code: *mut u16,
-        outcome: *mut dns_outcome,
+        outcome: *mut dnstext_outcome,
     ) -> u32;
-    pub fn dns_type_print(
+    pub fn dnstext_type_print(
         code: u16,
         text: *mut u8,
         text_len: usize,
-        outcome: *mut dns_outcome,
+        outcome: *mut dnstext_outcome,
     ) -> u32;
-    pub fn dns_class_read(
+    pub fn dnstext_class_read(
         text: *const u8,
         text_len: usize,
         code: *mut u16,
-        outcome: *mut dns_outcome,
+        outcome: *mut dnstext_outcome,
     ) -> u32;
-    pub fn dns_class_print(
+    pub fn dnstext_class_print(
         code: u16,
         text: *mut u8,
         text_len: usize,
-        outcome: *mut dns_outcome,
+        outcome: *mut dnstext_outcome,
     ) -> u32;
-    pub fn dns_data_print(
+    pub fn dnstext_data_print(
         code: u16,
         octets: *const u8,
         octets_len: usize,
         text: *mut u8,
         text_len: usize,
-        outcome: *mut dns_outcome,
+        outcome: *mut dnstext_outcome,
     ) -> u32;
-    pub fn dns_data_read(
+    pub fn dnstext_data_read(
         code: u16,
         text: *const u8,
         text_len: usize,
@@ -264,94 +284,108 @@ extern "C" {
         origin_len: usize,
         octets: *mut u8,
         octets_len: usize,
-        outcome: *mut dns_outcome,
+        outcome: *mut dnstext_outcome,
     ) -> u32;
-    pub fn dns_base16_print(
+    pub fn dnstext_data_canonical(
+        code: u16,
+        octets: *const u8,
+        octets_len: usize,
+        form: *mut u8,
+        form_len: usize,
+        outcome: *mut dnstext_outcome,
+    ) -> u32;
+    pub fn dnstext_base16_print(
         octets: *const u8,
         octets_len: usize,
         text: *mut u8,
         text_len: usize,
-        outcome: *mut dns_outcome,
+        outcome: *mut dnstext_outcome,
     ) -> u32;
-    pub fn dns_base32hex_print(
+    pub fn dnstext_base32hex_print(
         octets: *const u8,
         octets_len: usize,
         text: *mut u8,
         text_len: usize,
-        outcome: *mut dns_outcome,
+        outcome: *mut dnstext_outcome,
     ) -> u32;
-    pub fn dns_base64_print(
+    pub fn dnstext_base64_print(
         octets: *const u8,
         octets_len: usize,
         text: *mut u8,
         text_len: usize,
-        outcome: *mut dns_outcome,
+        outcome: *mut dnstext_outcome,
     ) -> u32;
-    pub fn dns_base16_read(
+    pub fn dnstext_base16_read(
         text: *const u8,
         text_len: usize,
         octets: *mut u8,
         octets_len: usize,
-        outcome: *mut dns_outcome,
+        outcome: *mut dnstext_outcome,
     ) -> u32;
-    pub fn dns_base32hex_read(
+    pub fn dnstext_base32hex_read(
         text: *const u8,
         text_len: usize,
         octets: *mut u8,
         octets_len: usize,
-        outcome: *mut dns_outcome,
+        outcome: *mut dnstext_outcome,
     ) -> u32;
-    pub fn dns_base64_read(
+    pub fn dnstext_base64_read(
         text: *const u8,
         text_len: usize,
         octets: *mut u8,
         octets_len: usize,
-        outcome: *mut dns_outcome,
+        outcome: *mut dnstext_outcome,
     ) -> u32;
-    pub fn dns_entry_next(
+    pub fn dnstext_entry_next(
         text: *const u8,
         text_len: usize,
-        cursor: *mut dns_cursor,
-        tokens: *mut dns_token,
+        cursor: *mut dnstext_cursor,
+        tokens: *mut dnstext_token,
         tokens_len: usize,
-        outcome: *mut dns_outcome,
+        outcome: *mut dnstext_outcome,
     ) -> u32;
-    pub fn dns_tokens_next(
+    pub fn dnstext_tokens_next(
         text: *const u8,
         text_len: usize,
-        standing: *mut dns_standing,
-        piece: *mut dns_piece,
-        outcome: *mut dns_outcome,
+        standing: *mut dnstext_standing,
+        piece: *mut dnstext_piece,
+        outcome: *mut dnstext_outcome,
     ) -> u32;
-    pub fn dns_zone_origin(
-        zone: *mut dns_zone,
+    pub fn dnstext_zone_origin(
+        zone: *mut dnstext_zone,
         name: *const u8,
         name_len: usize,
-        outcome: *mut dns_outcome,
+        outcome: *mut dnstext_outcome,
     ) -> u32;
-    pub fn dns_record_next(
+    pub fn dnstext_record_next(
         text: *const u8,
         text_len: usize,
-        zone: *mut dns_zone,
-        record: *mut dns_record,
+        zone: *mut dnstext_zone,
+        record: *mut dnstext_record,
         octets: *mut u8,
         octets_len: usize,
-        outcome: *mut dns_outcome,
+        outcome: *mut dnstext_outcome,
     ) -> u32;
-    pub fn dns_position(
+    pub fn dnstext_position(
         text: *const u8,
         text_len: usize,
         place: usize,
         line: *mut usize,
         column: *mut usize,
     ) -> u32;
-    pub fn dns_status_text(
+    pub fn dnstext_position_move(
+        text: *const u8,
+        text_len: usize,
+        position: *mut dnstext_position,
+        offset: usize,
+    ) -> u32;
+    pub fn dnstext_status_text(
         status: u32,
         text: *mut u8,
         text_len: usize,
-        outcome: *mut dns_outcome,
+        outcome: *mut dnstext_outcome,
     ) -> u32;
-    pub fn dns_status_message(status: u32) -> *const c_char;
-    pub fn dns_status_name(status: u32) -> *const c_char;
+    pub fn dnstext_status_message(status: u32) -> *const c_char;
+    pub fn dnstext_status_name(status: u32) -> *const c_char;
     pub fn dnstext_version() -> *const c_char;
 }

@@ -1,24 +1,22 @@
 //! Character strings.
 use crate::call::{give, print};
-use crate::lowered::Lowered;
 use crate::status::{reasons, Status};
 use crate::strings::reads_strings;
 use dns_text_sys::{
-    dns_call, dns_charstr_print, dns_charstr_print_quoted, dns_charstr_print_unquoted,
-    dns_charstr_read, dns_charstr_read_octets, DNS_TOO_LONG,
+    dnstext_call, dnstext_charstr_print, dnstext_charstr_print_quoted,
+    dnstext_charstr_print_unquoted, dnstext_charstr_read, dnstext_charstr_read_octets,
+    DNSTEXT_TOO_LONG,
 };
-use std::cmp::Ordering;
 use std::error::Error;
 use std::fmt;
-use std::hash::{Hash, Hasher};
 
 /// A character string: at most 255 octets (RFC 1035 section 3.3).
 ///
 /// It prints with no character special but the backslash; [`quoted`](CharStr::quoted) and
 /// [`unquoted`](CharStr::unquoted) print it for zone text.
 ///
-/// Equality, order and hash leave the case of ASCII letters aside (RFC 1035 section 2.3.3). Where
-/// case tells, compare the octets.
+/// Equality, order and hash are those of the octets: in TXT the case of letters counts.
+/// [`eq_ignore_ascii_case`](CharStr::eq_ignore_ascii_case) leaves it aside.
 ///
 /// ```
 /// use dns_text::CharStr;
@@ -28,11 +26,12 @@ use std::hash::{Hash, Hasher};
 /// assert_eq!(string.to_string(), "a; b");
 /// assert_eq!(string.quoted(), "\"a; b\"");
 /// assert_eq!(string.unquoted(), r"a\;\ b");
-/// assert_eq!(string, r"A\;\ B".parse()?);
+/// assert_eq!(string, r"a\059\ b".parse()?);
+/// assert!(string.eq_ignore_ascii_case(&r"A\;\ B".parse()?));
 /// assert_eq!(format!("{string:?}"), "CharStr(\"a; b\")");
 /// # Ok::<(), dns_text::ReadError>(())
 /// ```
-#[derive(Clone, Default)]
+#[derive(Clone, Default, PartialEq, Eq, PartialOrd, Ord, Hash)]
 pub struct CharStr {
     octets: Vec<u8>,
 }
@@ -58,7 +57,7 @@ impl CharStr {
     /// assert_eq!((error.kind, error.place), (ReadErrorKind::BadEscape, 2));
     /// ```
     pub fn from_text(text: &[u8]) -> Result<CharStr, ReadError> {
-        CharStr::read(dns_charstr_read, text)
+        CharStr::read(dnstext_charstr_read, text)
     }
 
     /// Reads a text as name servers do: each octet but the backslash stands for itself, a tab and
@@ -79,10 +78,10 @@ impl CharStr {
     /// # Ok::<(), dns_text::ReadError>(())
     /// ```
     pub fn from_octets_text(text: &[u8]) -> Result<CharStr, ReadError> {
-        CharStr::read(dns_charstr_read_octets, text)
+        CharStr::read(dnstext_charstr_read_octets, text)
     }
 
-    fn read(call: dns_call, text: &[u8]) -> Result<CharStr, ReadError> {
+    fn read(call: dnstext_call, text: &[u8]) -> Result<CharStr, ReadError> {
         match give(call, text, text.len().min(255)) {
             Ok(octets) => Ok(CharStr { octets }),
             Err(refused) => Err(ReadError {
@@ -102,17 +101,22 @@ impl CharStr {
         self.octets
     }
 
+    /// Whether two strings differ at most in the case of ASCII letters.
+    pub fn eq_ignore_ascii_case(&self, other: &CharStr) -> bool {
+        self.octets.eq_ignore_ascii_case(&other.octets)
+    }
+
     /// The text between double quotes.
     pub fn quoted(&self) -> String {
-        self.printed(dns_charstr_print_quoted)
+        self.printed(dnstext_charstr_print_quoted)
     }
 
     /// The text as a word of zone text. A string of no octets has no such text: it is empty.
     pub fn unquoted(&self) -> String {
-        self.printed(dns_charstr_print_unquoted)
+        self.printed(dnstext_charstr_print_unquoted)
     }
 
-    fn printed(&self, call: dns_call) -> String {
+    fn printed(&self, call: dnstext_call) -> String {
         print(call, &self.octets, self.octets.len() + 2)
     }
 }
@@ -127,35 +131,9 @@ impl AsRef<[u8]> for CharStr {
     }
 }
 
-impl PartialEq for CharStr {
-    fn eq(&self, other: &CharStr) -> bool {
-        Lowered(&self.octets) == Lowered(&other.octets)
-    }
-}
-
-impl Eq for CharStr {}
-
-impl PartialOrd for CharStr {
-    fn partial_cmp(&self, other: &CharStr) -> Option<Ordering> {
-        Some(self.cmp(other))
-    }
-}
-
-impl Ord for CharStr {
-    fn cmp(&self, other: &CharStr) -> Ordering {
-        Lowered(&self.octets).cmp(&Lowered(&other.octets))
-    }
-}
-
-impl Hash for CharStr {
-    fn hash<H: Hasher>(&self, state: &mut H) {
-        Lowered(&self.octets).hash(state);
-    }
-}
-
 impl fmt::Display for CharStr {
     fn fmt(&self, f: &mut fmt::Formatter<'_>) -> fmt::Result {
-        f.write_str(&self.printed(dns_charstr_print))
+        f.pad(&self.printed(dnstext_charstr_print))
     }
 }
 
@@ -172,7 +150,7 @@ pub struct LongString;
 
 impl fmt::Display for LongString {
     fn fmt(&self, f: &mut fmt::Formatter<'_>) -> fmt::Result {
-        Status(DNS_TOO_LONG).fmt(f)
+        Status(DNSTEXT_TOO_LONG).fmt(f)
     }
 }
 
@@ -190,15 +168,15 @@ reasons! {
     /// Why a text is no character string.
     ReadErrorKind {
         /// A backslash with what makes no escape.
-        BadEscape = DNS_BAD_ESCAPE,
+        BadEscape = DNSTEXT_BAD_ESCAPE,
         /// The end inside an escape or a character.
-        ShortInput = DNS_SHORT_INPUT,
+        ShortInput = DNSTEXT_SHORT_INPUT,
         /// No UTF-8.
-        BadUtf8 = DNS_BAD_UTF8,
+        BadUtf8 = DNSTEXT_BAD_UTF8,
         /// A plain character outside printable ASCII, which stands for no octet.
-        BadSymbol = DNS_BAD_SYMBOL,
+        BadSymbol = DNSTEXT_BAD_SYMBOL,
         /// A symbol after 255 octets.
-        TooLong = DNS_TOO_LONG,
+        TooLong = DNSTEXT_TOO_LONG,
     }
 }
 

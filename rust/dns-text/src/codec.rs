@@ -13,8 +13,8 @@
 use crate::call::{give, print};
 use crate::status::Status;
 use dns_text_sys::{
-    dns_base16_print, dns_base16_read, dns_base32hex_print, dns_base32hex_read, dns_base64_print,
-    dns_base64_read, dns_call, DNS_BAD_ENCODING,
+    dnstext_base16_print, dnstext_base16_read, dnstext_base32hex_print, dnstext_base32hex_read,
+    dnstext_base64_print, dnstext_base64_read, dnstext_call, DNSTEXT_BAD_ENCODING,
 };
 use std::error::Error;
 use std::fmt;
@@ -22,26 +22,26 @@ use std::fmt;
 /// An encoding.
 #[derive(Clone, Copy)]
 pub struct Encoding {
-    print: dns_call,
-    read: dns_call,
+    print: dnstext_call,
+    read: dnstext_call,
 }
 
 /// Base 16, read in either case.
 pub const BASE16: Encoding = Encoding {
-    print: dns_base16_print,
-    read: dns_base16_read,
+    print: dnstext_base16_print,
+    read: dnstext_base16_read,
 };
 
 /// Base 32 with the extended hex alphabet, read in either case, without padding.
 pub const BASE32HEX: Encoding = Encoding {
-    print: dns_base32hex_print,
-    read: dns_base32hex_read,
+    print: dnstext_base32hex_print,
+    read: dnstext_base32hex_read,
 };
 
 /// Base 64, with padding.
 pub const BASE64: Encoding = Encoding {
-    print: dns_base64_print,
-    read: dns_base64_read,
+    print: dnstext_base64_print,
+    read: dnstext_base64_read,
 };
 
 impl Encoding {
@@ -62,7 +62,7 @@ pub struct BadEncoding;
 
 impl fmt::Display for BadEncoding {
     fn fmt(&self, f: &mut fmt::Formatter<'_>) -> fmt::Result {
-        Status(DNS_BAD_ENCODING).fmt(f)
+        Status(DNSTEXT_BAD_ENCODING).fmt(f)
     }
 }
 

@@ -18,8 +18,8 @@ const MOST: usize = 65_535;
 /// Record data: those of common types by their fields, others by their octets on the wire.
 ///
 /// Data are equal where their types and their canonical octets are (RFC 4034 sections 6.2 and 6.3):
-/// without the case of names, and with that of strings. They are ordered and hashed by these too. The
-/// names in data of [`RecordData::Unknown`] are octets like others.
+/// without the case of names in the types that RFC 4034 names, and with that of strings. They are
+/// ordered and hashed by these too. So data of a variant equals the same as [`RecordData::Unknown`].
 ///
 /// ```
 /// use dns_text::{RecordData, RecordType};
@@ -121,15 +121,26 @@ impl RecordData {
     /// digest of another length, no key, octets that are none of the type that they are said to be of,
     /// and what is longer than 65,535 octets.
     pub fn to_octets(&self) -> Result<Vec<u8>, BadData> {
-        let octets = compose(self, false);
+        let octets = compose(self);
         RecordData::from_octets(self.record_type(), &octets)?;
         Ok(octets)
     }
 
-    /// The octets in canonical form: those in wire form with names in lower case (RFC 4034 section
-    /// 6.2). Of values that are no data of their type nothing is said.
+    /// The octets in canonical form (RFC 4034 section 6.2, RFC 6840 section 5.1): those in wire form,
+    /// with names in lower case where the type wants that. Values that are no data of their type, and
+    /// those of types that have none in zones, such as OPT, stay as they are.
+    ///
+    /// ```
+    /// use dns_text::{RecordData, RecordType};
+    ///
+    /// let naptr = RecordType::from_text(b"NAPTR")?;
+    /// let data = RecordData::from_text(naptr, br#"1 2 "U" "SIP" "" A."#, None)?;
+    /// assert_eq!(data.canonical_octets(), b"\0\x01\0\x02\x01U\x03SIP\0\x01a\0");
+    /// # Ok::<(), Box<dyn std::error::Error>>(())
+    /// ```
     pub fn canonical_octets(&self) -> Vec<u8> {
-        compose(self, true)
+        let octets = compose(self);
+        text::canonical(self.record_type(), &octets).unwrap_or(octets)
     }
 
     /// The type that the data are of.

@@ -3,8 +3,8 @@ use crate::library;
 use crate::status::reasons;
 use crate::strings::reads_strings;
 use dns_text_sys::{
-    dns_class_print, dns_class_read, dns_outcome, dns_ttl_read, dns_type_print, dns_type_read,
-    DNS_OK,
+    dnstext_class_print, dnstext_class_read, dnstext_outcome, dnstext_ttl_read, dnstext_type_print,
+    dnstext_type_read, DNSTEXT_OK,
 };
 use std::error::Error;
 use std::fmt;
@@ -35,7 +35,7 @@ impl Ttl {
     /// Reads a word: a number of seconds, or periods such as `1h30m` with the units `w`, `d`, `h`,
     /// `m` and `s` in either case.
     pub fn from_text(text: &[u8]) -> Result<Ttl, WordError> {
-        read(dns_ttl_read, text).map(Ttl)
+        read(dnstext_ttl_read, text).map(Ttl)
     }
 
     pub fn seconds(self) -> u32 {
@@ -90,13 +90,13 @@ impl RecordType {
 
     /// Reads a word: a name of the registry, or `TYPE` and the code, in any case of their letters.
     pub fn from_text(text: &[u8]) -> Result<RecordType, WordError> {
-        read(dns_type_read, text).map(RecordType)
+        read(dnstext_type_read, text).map(RecordType)
     }
 }
 
 impl fmt::Display for RecordType {
     fn fmt(&self, f: &mut fmt::Formatter<'_>) -> fmt::Result {
-        print(dns_type_print, self.0, f)
+        print(dnstext_type_print, self.0, f)
     }
 }
 
@@ -121,13 +121,13 @@ impl Class {
 
     /// Reads a word: `IN`, `CH`, `HS`, or `CLASS` and the code, in any case of their letters.
     pub fn from_text(text: &[u8]) -> Result<Class, WordError> {
-        read(dns_class_read, text).map(Class)
+        read(dnstext_class_read, text).map(Class)
     }
 }
 
 impl fmt::Display for Class {
     fn fmt(&self, f: &mut fmt::Formatter<'_>) -> fmt::Result {
-        print(dns_class_print, self.0, f)
+        print(dnstext_class_print, self.0, f)
     }
 }
 
@@ -139,15 +139,15 @@ reads_strings! {
 
 /// Reads a word as a number.
 fn read<N: Default>(
-    call: unsafe extern "C" fn(*const u8, usize, *mut N, *mut dns_outcome) -> u32,
+    call: unsafe extern "C" fn(*const u8, usize, *mut N, *mut dnstext_outcome) -> u32,
     text: &[u8],
 ) -> Result<N, WordError> {
     library::check();
     let mut number = N::default();
-    let mut outcome = dns_outcome::default();
+    let mut outcome = dnstext_outcome::default();
     // SAFETY: the text is as long as is said, and the call keeps to it.
     let status = unsafe { call(text.as_ptr(), text.len(), &mut number, &mut outcome) };
-    if status != DNS_OK {
+    if status != DNSTEXT_OK {
         return Err(WordError {
             kind: WordErrorKind::of(status),
             place: outcome.place,
@@ -158,16 +158,16 @@ fn read<N: Default>(
 
 /// Writes the text of a code, which has at most 10 characters.
 fn print(
-    call: unsafe extern "C" fn(u16, *mut u8, usize, *mut dns_outcome) -> u32,
+    call: unsafe extern "C" fn(u16, *mut u8, usize, *mut dnstext_outcome) -> u32,
     code: u16,
     f: &mut fmt::Formatter<'_>,
 ) -> fmt::Result {
     library::check();
     let mut text = [0; 10];
-    let mut outcome = dns_outcome::default();
+    let mut outcome = dnstext_outcome::default();
     // SAFETY: the text is as long as is said, and the call keeps to it.
     let status = unsafe { call(code, text.as_mut_ptr(), text.len(), &mut outcome) };
-    if status != DNS_OK {
+    if status != DNSTEXT_OK {
         return Err(fmt::Error);
     }
     f.pad(&String::from_utf8_lossy(&text[..outcome.length]))
@@ -185,11 +185,11 @@ reasons! {
     /// Why a word is no time to live, type or class.
     WordErrorKind {
         /// No time to live.
-        BadTtl = DNS_BAD_TTL,
+        BadTtl = DNSTEXT_BAD_TTL,
         /// No type of records.
-        UnknownType = DNS_UNKNOWN_TYPE,
+        UnknownType = DNSTEXT_UNKNOWN_TYPE,
         /// No class.
-        UnknownClass = DNS_UNKNOWN_CLASS,
+        UnknownClass = DNSTEXT_UNKNOWN_CLASS,
     }
 }
 

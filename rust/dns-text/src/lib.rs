@@ -26,7 +26,8 @@
 //!
 //! [`tokens`], [`entries`] and [`pieces`] go up to the first fault, and give what stands before it. The
 //! others go on behind its line. A fault has a place, of which [`Fault::locate`] and
-//! [`RecordFault::locate`] tell the line and the column; those of a stream say them.
+//! [`RecordFault::locate`] tell the line and the column, and [`Positions`] those of many faults; those
+//! of a stream say them.
 //!
 //! Records of a file, and what is wrong in it:
 //!
@@ -91,9 +92,9 @@
 //!
 //! # Names and data
 //!
-//! [`Name`] and [`CharStr`] compare, order and hash without the case of ASCII letters; names in canonical
-//! order. [`RecordData`] has the common types by their fields, reads them from wire octets, and compares
-//! them in canonical form:
+//! [`Name`] compares, orders and hashes without the case of ASCII letters, in canonical order, and
+//! [`CharStr`] with it. [`RecordData`] has the common types by their fields, reads them from wire octets,
+//! and compares them in canonical form:
 //!
 //! ```
 //! use dns_text::{Name, RecordData, RecordType};
@@ -108,8 +109,8 @@
 //!
 //! # The library
 //!
-//! It is linked as a static library, `libdnstext.a`, of the crate's own version: the first call
-//! panics where [`version`] is another one. The crate can be checked and documented without it.
+//! It is linked as a static library, `libdnstext.a`, of the crate's major and minor version: the first
+//! call panics where [`version`] has others. The crate can be checked and documented without it.
 
 mod call;
 mod char_str;
@@ -138,8 +139,10 @@ pub use library::version;
 pub use name::{Name, NameError, NameErrorKind, NameOctetsError};
 pub use number::{number, NumberError, NumberErrorKind};
 pub use pieces::{pieces, Piece, PieceKind, Pieces};
-pub use position::{position, Position};
-pub use records::{records, Record, RecordFault, RecordFaultKind, Records, ZoneItem};
+pub use position::{position, Position, Positions};
+pub use records::{
+    records, Record, RecordFault, RecordFaultKind, Records, RelativeOrigin, ZoneItem,
+};
 pub use status::Status;
 pub use stream::{read_entries, read_records, EntryReader, OwnedEntry, RecordReader, StreamError};
 pub use zone::{entries, tokens, Entries, Entry, Fault, FaultKind, Token, Tokens};

@@ -11,13 +11,42 @@ pub fn version() -> &'static str {
     unsafe { string(dnstext_version()) }
 }
 
-/// Sees once that the library is of this crate's version: another one may have other structs.
+/// Whether a library of one version has the structs and calls of another: a patch release changes none.
+fn serves(found: &str, wanted: &str) -> bool {
+    let mut numbers = found.split('.').zip(wanted.split('.'));
+    let mut same = || {
+        numbers
+            .next()
+            .is_some_and(|(found, wanted)| found == wanted)
+    };
+    same() && same()
+}
+
+/// Sees once that the library is of this crate's major and minor version: another one may have other
+/// structs.
 pub(crate) fn check() {
     CHECKED.call_once(|| {
         let found = version();
         assert!(
-            found == DNSTEXT_VERSION,
+            serves(found, DNSTEXT_VERSION),
             "the library dnstext that is linked is {found}, and the crate dns-text {DNSTEXT_VERSION}"
         );
     });
+}
+
+#[cfg(test)]
+mod tests {
+    use super::{serves, version};
+    use dns_text_sys::DNSTEXT_VERSION;
+
+    #[test]
+    fn patch_releases_serve() {
+        assert!(serves("0.2.0", "0.2.0"));
+        assert!(serves("0.2.7", "0.2.0") && serves("0.2.0", "0.2.7"));
+        assert!(serves("0.2.0-rc.1", "0.2.0"));
+        assert!(serves(version(), DNSTEXT_VERSION));
+        for other in ["0.3.0", "1.2.0", "0.20.0", "0.1.9", "0", ""] {
+            assert!(!serves(other, "0.2.0"), "{other}");
+        }
+    }
 }

@@ -6,8 +6,8 @@ use crate::lowered::Lowered;
 use crate::status::reasons;
 use crate::strings::reads_strings;
 use dns_text_sys::{
-    dns_call, dns_name_print, dns_name_print_dotted, dns_name_print_zone, dns_name_read,
-    dns_outcome, DNS_OK,
+    dnstext_call, dnstext_name_print, dnstext_name_print_dotted, dnstext_name_print_zone,
+    dnstext_name_read, dnstext_outcome, DNSTEXT_OK,
 };
 use std::cmp::Ordering;
 use std::error::Error;
@@ -16,9 +16,8 @@ use std::hash::{Hash, Hasher};
 
 /// A name, absolute or relative: at most 255 octets in wire form (RFC 1035 section 3.1).
 ///
-/// It prints its labels joined by dots, with a dot at the end where it is absolute.
-/// [`without_dot`](Name::without_dot) leaves that dot out, and [`zone_text`](Name::zone_text)
-/// prints it for zone text.
+/// It prints as zone text: as one word, which every reader of zone text reads as that name.
+/// [`dotted`](Name::dotted) and [`without_dot`](Name::without_dot) print it for other uses.
 ///
 /// Equality, order and hash leave the case of ASCII letters aside (RFC 1035 section 2.3.3). A
 /// relative name never equals an absolute one. Where case tells, compare the octets. The order of
@@ -31,11 +30,11 @@ use std::hash::{Hash, Hasher};
 /// let name = Name::from_text(br"Action\.domains.ISI.EDU.")?;
 /// assert_eq!(name.as_octets(), b"\x0EAction.domains\x03ISI\x03EDU\0");
 /// assert!(name.is_absolute());
-/// assert_eq!(name.to_string(), r"Action\.domains.ISI.EDU.");
+/// assert_eq!(name.to_string(), r"Action\046domains.ISI.EDU.");
+/// assert_eq!(name.dotted(), r"Action\.domains.ISI.EDU.");
 /// assert_eq!(name.without_dot(), r"Action\.domains.ISI.EDU");
-/// assert_eq!(name.zone_text(), r"Action\046domains.ISI.EDU.");
 /// assert_eq!(name, r"action\.domains.isi.edu.".parse()?);
-/// assert_eq!(format!("{name:?}"), r"Name(Action\.domains.ISI.EDU.)");
+/// assert_eq!(format!("{name:?}"), r"Name(Action\046domains.ISI.EDU.)");
 /// assert!("example.".parse::<Name>()? < "a.example.".parse()?);
 /// # Ok::<(), dns_text::NameError>(())
 /// ```
@@ -57,12 +56,12 @@ impl Name {
     /// ```
     pub fn from_text(text: &[u8]) -> Result<Name, NameError> {
         library::check();
-        let mut octets = vec![0; 255];
+        let mut octets = [0; 255];
         let mut is_absolute = false;
-        let mut outcome = dns_outcome::default();
+        let mut outcome = dnstext_outcome::default();
         // SAFETY: both slices are as long as is said, and the call keeps to them.
         let status = unsafe {
-            dns_name_read(
+            dnstext_name_read(
                 text.as_ptr(),
                 text.len(),
                 octets.as_mut_ptr(),
@@ -71,15 +70,14 @@ impl Name {
                 &mut outcome,
             )
         };
-        if status != DNS_OK {
+        if status != DNSTEXT_OK {
             return Err(NameError {
                 kind: NameErrorKind::of(status),
                 place: outcome.place,
             });
         }
-        octets.truncate(outcome.length);
         Ok(Name {
-            octets,
+            octets: octets[..outcome.length].to_vec(),
             is_absolute,
         })
     }
@@ -94,7 +92,11 @@ impl Name {
     /// assert_eq!(error, NameOctetsError::ShortInput);
     /// ```
     pub fn from_octets(octets: Vec<u8>) -> Result<Name, NameOctetsError> {
-        match give(dns_name_print, &octets, 4 * octets.len().min(255) + 1) {
+        if is_name(&octets) {
+            return Ok(Name::of_valid(octets));
+        }
+        // The library says why not.
+        match give(dnstext_name_print, &octets, 0) {
             Ok(_) => Ok(Name::of_valid(octets)),
             Err(refused) => Err(NameOctetsError::of(refused.status)),
         }
@@ -124,9 +126,16 @@ impl Name {
         self.octets
     }
 
-    /// The labels joined by dots, without a dot at the end. The root alone is one dot.
+    /// The labels joined by dots, with a dot at the end of an absolute name. Labels escape the space,
+    /// the dot and the backslash, and what is not printable ASCII by its decimal value: so this is no
+    /// word of zone text where a label has a parenthesis, a semicolon or a quote.
+    pub fn dotted(&self) -> String {
+        self.printed(dnstext_name_print_dotted)
+    }
+
+    /// The same without a dot at the end. The root alone is one dot.
     pub fn without_dot(&self) -> String {
-        self.printed(dns_name_print)
+        self.printed(dnstext_name_print)
     }
 
     /// The name as zone text has it: letters, digits, `-`, `_` and `*` stand plain, and every
@@ -134,12 +143,31 @@ impl Name {
     /// reader of zone text sees that name. The relative name of no labels prints nothing, which is
     /// no word.
     pub fn zone_text(&self) -> String {
-        self.printed(dns_name_print_zone)
+        self.printed(dnstext_name_print_zone)
     }
 
-    fn printed(&self, call: dns_call) -> String {
+    fn printed(&self, call: dnstext_call) -> String {
         print(call, &self.octets, self.octets.len() + 1)
     }
+}
+
+/// Whether octets are a name's: labels of 1 to 63 octets, the root at the end or not at all, and at most
+/// 255 with the root, which a relative name leaves out.
+fn is_name(octets: &[u8]) -> bool {
+    let mut rest = octets;
+    while let Some((length, after)) = rest.split_first() {
+        if *length == 0 {
+            return after.is_empty() && octets.len() <= 255;
+        }
+        let Some(behind) = after.get(usize::from(*length)..) else {
+            return false;
+        };
+        if *length > 63 {
+            return false;
+        }
+        rest = behind;
+    }
+    octets.len() <= 254
 }
 
 /// Whether the labels of a name's octets end in the root.
@@ -196,7 +224,7 @@ impl Hash for Name {
 
 impl fmt::Display for Name {
     fn fmt(&self, f: &mut fmt::Formatter<'_>) -> fmt::Result {
-        f.write_str(&self.printed(dns_name_print_dotted))
+        f.pad(&self.zone_text())
     }
 }
 
@@ -219,21 +247,21 @@ reasons! {
     /// Why a text is no name.
     NameErrorKind {
         /// A backslash with what makes no escape.
-        BadEscape = DNS_BAD_ESCAPE,
+        BadEscape = DNSTEXT_BAD_ESCAPE,
         /// The end inside an escape or a character.
-        ShortInput = DNS_SHORT_INPUT,
+        ShortInput = DNSTEXT_SHORT_INPUT,
         /// No UTF-8.
-        BadUtf8 = DNS_BAD_UTF8,
+        BadUtf8 = DNSTEXT_BAD_UTF8,
         /// A plain character outside printable ASCII, which stands for no octet.
-        BadSymbol = DNS_BAD_SYMBOL,
+        BadSymbol = DNSTEXT_BAD_SYMBOL,
         /// More than 254 octets before the root.
-        TooLong = DNS_TOO_LONG,
+        TooLong = DNSTEXT_TOO_LONG,
         /// A plain dot after no octet of a label.
-        EmptyLabel = DNS_EMPTY_LABEL,
+        EmptyLabel = DNSTEXT_EMPTY_LABEL,
         /// More than 63 octets in a label.
-        LongLabel = DNS_LONG_LABEL,
+        LongLabel = DNSTEXT_LONG_LABEL,
         /// A label that begins with an escaped opening bracket.
-        BinaryLabel = DNS_BINARY_LABEL,
+        BinaryLabel = DNSTEXT_BINARY_LABEL,
     }
 }
 
@@ -249,15 +277,15 @@ reasons! {
     /// Why octets are no name.
     NameOctetsError {
         /// They end within a label.
-        ShortInput = DNS_SHORT_INPUT,
+        ShortInput = DNSTEXT_SHORT_INPUT,
         /// More than 255 octets, or 255 and no root.
-        TooLong = DNS_TOO_LONG,
+        TooLong = DNSTEXT_TOO_LONG,
         /// A lead octet of no known type of label.
-        BadLabel = DNS_BAD_LABEL,
+        BadLabel = DNSTEXT_BAD_LABEL,
         /// A pointer to another name in place of a label.
-        Pointer = DNS_POINTER,
+        Pointer = DNSTEXT_POINTER,
         /// Octets after the root.
-        TrailingOctets = DNS_TRAILING_OCTETS,
+        TrailingOctets = DNSTEXT_TRAILING_OCTETS,
     }
 }
 

@@ -1,7 +1,7 @@
 //! Decimal numbers.
 use crate::library;
 use crate::status::reasons;
-use dns_text_sys::{dns_number_read, dns_outcome, DNS_OK};
+use dns_text_sys::{dnstext_number_read, dnstext_outcome, DNSTEXT_OK};
 use std::error::Error;
 use std::fmt;
 
@@ -18,10 +18,10 @@ use std::fmt;
 pub fn number(text: &[u8], greatest: u64) -> Result<u64, NumberError> {
     library::check();
     let mut number = 0;
-    let mut outcome = dns_outcome::default();
+    let mut outcome = dnstext_outcome::default();
     // SAFETY: the text is as long as is said, and the call keeps to it.
     let status = unsafe {
-        dns_number_read(
+        dnstext_number_read(
             text.as_ptr(),
             text.len(),
             greatest,
@@ -29,7 +29,7 @@ pub fn number(text: &[u8], greatest: u64) -> Result<u64, NumberError> {
             &mut outcome,
         )
     };
-    if status != DNS_OK {
+    if status != DNSTEXT_OK {
         return Err(NumberError {
             kind: NumberErrorKind::of(status),
             place: outcome.place,
@@ -50,15 +50,15 @@ reasons! {
     /// Why a token is no number.
     NumberErrorKind {
         /// A symbol that is no plain decimal digit.
-        NoDigit = DNS_NO_DIGIT,
+        NoDigit = DNSTEXT_NO_DIGIT,
         /// A number greater than the greatest one asked for.
-        TooGreat = DNS_TOO_GREAT,
+        TooGreat = DNSTEXT_TOO_GREAT,
         /// A backslash with what makes no escape.
-        BadEscape = DNS_BAD_ESCAPE,
+        BadEscape = DNSTEXT_BAD_ESCAPE,
         /// The end inside an escape or a character.
-        ShortInput = DNS_SHORT_INPUT,
+        ShortInput = DNSTEXT_SHORT_INPUT,
         /// No UTF-8.
-        BadUtf8 = DNS_BAD_UTF8,
+        BadUtf8 = DNSTEXT_BAD_UTF8,
     }
 }
 

@@ -2,8 +2,9 @@
 use crate::library;
 use crate::zone::{Fault, FaultKind};
 use dns_text_sys::{
-    dns_cursor, dns_entry_next, dns_outcome, dns_piece, dns_standing, dns_tokens_next, DNS_COMMENT,
-    DNS_END, DNS_ENTRY_END, DNS_OK, DNS_QUOTED, DNS_WORD,
+    dnstext_cursor, dnstext_entry_next, dnstext_outcome, dnstext_piece, dnstext_standing,
+    dnstext_tokens_next, DNSTEXT_COMMENT, DNSTEXT_END, DNSTEXT_ENTRY_END, DNSTEXT_OK,
+    DNSTEXT_QUOTED, DNSTEXT_WORD,
 };
 use std::iter::FusedIterator;
 use std::ptr;
@@ -23,10 +24,10 @@ pub enum PieceKind {
 impl PieceKind {
     fn of(kind: usize) -> Option<PieceKind> {
         match kind {
-            DNS_WORD => Some(PieceKind::Word),
-            DNS_QUOTED => Some(PieceKind::Quoted),
-            DNS_COMMENT => Some(PieceKind::Comment),
-            DNS_ENTRY_END => Some(PieceKind::EntryEnd),
+            DNSTEXT_WORD => Some(PieceKind::Word),
+            DNSTEXT_QUOTED => Some(PieceKind::Quoted),
+            DNSTEXT_COMMENT => Some(PieceKind::Comment),
+            DNSTEXT_ENTRY_END => Some(PieceKind::EntryEnd),
             _ => None,
         }
     }
@@ -69,7 +70,7 @@ pub fn pieces(text: &[u8]) -> Pieces<'_> {
     library::check();
     Pieces {
         text,
-        standing: dns_standing::default(),
+        standing: dnstext_standing::default(),
     }
 }
 
@@ -79,12 +80,12 @@ pub fn pieces(text: &[u8]) -> Pieces<'_> {
 #[derive(Clone, Debug)]
 pub struct Pieces<'t> {
     text: &'t [u8],
-    standing: dns_standing,
+    standing: dnstext_standing,
 }
 
 impl<'t> Pieces<'t> {
     /// The piece; a kind that isn't known is a fault of an unknown status.
-    fn piece(&self, piece: dns_piece) -> Result<Piece<'t>, Fault> {
+    fn piece(&self, piece: dnstext_piece) -> Result<Piece<'t>, Fault> {
         let Some(kind) = PieceKind::of(piece.kind) else {
             return Err(Fault {
                 kind: FaultKind::of(u32::MAX),
@@ -102,14 +103,14 @@ impl<'t> Pieces<'t> {
 
     /// Where what is not closed was opened, in the entry that is open.
     fn opened(&self) -> usize {
-        let mut cursor = dns_cursor {
+        let mut cursor = dnstext_cursor {
             at: self.standing.began,
-            ..dns_cursor::default()
+            ..dnstext_cursor::default()
         };
-        let mut outcome = dns_outcome::default();
+        let mut outcome = dnstext_outcome::default();
         // SAFETY: the text is as long as is said, and there is no room for tokens.
         unsafe {
-            dns_entry_next(
+            dnstext_entry_next(
                 self.text.as_ptr(),
                 self.text.len(),
                 &mut cursor,
@@ -126,11 +127,11 @@ impl<'t> Iterator for Pieces<'t> {
     type Item = Result<Piece<'t>, Fault>;
 
     fn next(&mut self) -> Option<Result<Piece<'t>, Fault>> {
-        let mut piece = dns_piece::default();
-        let mut outcome = dns_outcome::default();
+        let mut piece = dnstext_piece::default();
+        let mut outcome = dnstext_outcome::default();
         // SAFETY: the text is as long as is said, and the call keeps to it.
         let status = unsafe {
-            dns_tokens_next(
+            dnstext_tokens_next(
                 self.text.as_ptr(),
                 self.text.len(),
                 &mut self.standing,
@@ -139,8 +140,8 @@ impl<'t> Iterator for Pieces<'t> {
             )
         };
         match status {
-            DNS_OK => Some(self.piece(piece)),
-            DNS_END => None,
+            DNSTEXT_OK => Some(self.piece(piece)),
+            DNSTEXT_END => None,
             status => {
                 let kind = FaultKind::of(status);
                 Some(Err(Fault {

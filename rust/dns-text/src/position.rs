@@ -1,6 +1,6 @@
 //! Lines and columns.
 use crate::library;
-use dns_text_sys::{dns_position, DNS_OK};
+use dns_text_sys::{dnstext_position, dnstext_position_move, DNSTEXT_OK};
 use std::fmt;
 
 /// A place as people and editors count it. It prints as `line:column`.
@@ -13,7 +13,7 @@ pub struct Position {
 }
 
 /// The line and the column of a place in a text, which may be the text's length; none past it. The
-/// time is linear in the place.
+/// time is linear in the place: for many places of a text take [`Positions`].
 ///
 /// ```
 /// use dns_text::position;
@@ -25,12 +25,60 @@ pub fn position(text: &[u8], place: usize) -> Option<Position> {
     library::check();
     let (mut line, mut column) = (0, 0);
     // SAFETY: the text is as long as is said, and the call keeps to it.
-    let status = unsafe { dns_position(text.as_ptr(), text.len(), place, &mut line, &mut column) };
-    (status == DNS_OK).then_some(Position { line, column })
+    let status =
+        unsafe { dnstext_position(text.as_ptr(), text.len(), place, &mut line, &mut column) };
+    (status == DNSTEXT_OK).then_some(Position { line, column })
+}
+
+/// Finds the lines and columns of places in one text, each from the one before.
+///
+/// The time is linear in the octets between; or, of a place before the last one, in the place. So
+/// places in order take the time of the text, however many they are.
+///
+/// ```
+/// use dns_text::{records, Positions};
+///
+/// let zone = b"a 1h A 192.0.2\nb 1h A 192.0.2.1\nc 1h A 192.0.2.256\n";
+/// let mut positions = Positions::new(zone);
+/// let mut wrong = Vec::new();
+/// for fault in records(zone).with_origin(&"example.".parse()?)?.filter_map(Result::err) {
+///     let position = positions.find(fault.place).unwrap();
+///     wrong.push(format!("{position}: {}", fault.message()));
+/// }
+/// assert_eq!(wrong[1], "3:8: A address: expected IPv4 address");
+/// # Ok::<(), Box<dyn std::error::Error>>(())
+/// ```
+#[derive(Clone, Debug)]
+pub struct Positions<'t> {
+    text: &'t [u8],
+    last: dnstext_position,
+}
+
+impl<'t> Positions<'t> {
+    /// Of a text, from its start.
+    pub fn new(text: &'t [u8]) -> Positions<'t> {
+        library::check();
+        Positions {
+            text,
+            last: dnstext_position::default(),
+        }
+    }
+
+    /// The line and the column of a place, which may be the text's length; none past it.
+    pub fn find(&mut self, place: usize) -> Option<Position> {
+        // SAFETY: the text is as long as is said, and the call keeps to it.
+        let status = unsafe {
+            dnstext_position_move(self.text.as_ptr(), self.text.len(), &mut self.last, place)
+        };
+        (status == DNSTEXT_OK).then_some(Position {
+            line: self.last.line,
+            column: self.last.column,
+        })
+    }
 }
 
 impl fmt::Display for Position {
     fn fmt(&self, f: &mut fmt::Formatter<'_>) -> fmt::Result {
-        write!(f, "{}:{}", self.line, self.column)
+        f.pad(&format!("{}:{}", self.line, self.column))
     }
 }

@@ -2,10 +2,10 @@
 use crate::data::RecordData;
 use crate::library;
 use crate::status::reasons;
-use crate::{position, Class, Name, Position, RecordType, Ttl};
+use crate::{position, Class, Name, Position, Positions, RecordType, Ttl};
 use dns_text_sys::{
-    dns_kept_name, dns_outcome, dns_record, dns_record_next, dns_zone, dns_zone_origin, DNS_END,
-    DNS_INCLUDE, DNS_NO_ROOM, DNS_OK,
+    dnstext_kept_name, dnstext_outcome, dnstext_record, dnstext_record_next, dnstext_zone,
+    dnstext_zone_origin, DNSTEXT_END, DNSTEXT_INCLUDE, DNSTEXT_NO_ROOM, DNSTEXT_OK,
 };
 use std::error::Error;
 use std::fmt;
@@ -69,7 +69,8 @@ pub struct RecordFault {
 
 impl RecordFault {
     /// The line and the column of its place in the text that it was found in; none where the text
-    /// is shorter.
+    /// is shorter. The time is linear in the place: for all faults of a text take
+    /// [`Records::locate`] or [`Positions`].
     pub fn locate(&self, text: &[u8]) -> Option<Position> {
         position(text, self.place)
     }
@@ -112,31 +113,33 @@ reasons! {
     /// Why an entry of a zone file gives no record.
     RecordFaultKind {
         /// A backslash with what makes no escape.
-        BadEscape = DNS_BAD_ESCAPE,
+        BadEscape = DNSTEXT_BAD_ESCAPE,
         /// A closing parenthesis, and none is open.
-        Closing = DNS_CLOSING,
+        Closing = DNSTEXT_CLOSING,
         /// The text ends inside parentheses.
-        OpenParenthesis = DNS_OPEN_PARENTHESIS,
+        OpenParenthesis = DNSTEXT_OPEN_PARENTHESIS,
         /// The text or a line ends inside a quoted text.
-        OpenQuote = DNS_OPEN_QUOTE,
+        OpenQuote = DNSTEXT_OPEN_QUOTE,
         /// A CR without its LF.
-        LoneReturn = DNS_LONE_RETURN,
+        LoneReturn = DNSTEXT_LONE_RETURN,
         /// A directive, or the words in front of a record's data.
-        BadHead = DNS_BAD_HEAD,
+        BadHead = DNSTEXT_BAD_HEAD,
         /// `$GENERATE`, which another tool has to expand first.
-        NotSupported = DNS_NOT_SUPPORTED,
+        NotSupported = DNSTEXT_NOT_SUPPORTED,
         /// A token that is no name of an owner or an origin.
-        BadName = DNS_BAD_NAME,
+        BadName = DNSTEXT_BAD_NAME,
         /// A relative name where there is no origin, also in data.
-        NoOrigin = DNS_NO_ORIGIN,
+        NoOrigin = DNSTEXT_NO_ORIGIN,
         /// A record that begins with a blank, and no owner was said.
-        NoOwner = DNS_NO_OWNER,
+        NoOwner = DNSTEXT_NO_OWNER,
         /// The same, and what was said as the owner is refused.
-        RefusedOwner = DNS_REFUSED_OWNER,
+        RefusedOwner = DNSTEXT_REFUSED_OWNER,
         /// Tokens that are no data of their type.
-        BadData = DNS_BAD_DATA,
+        BadData = DNSTEXT_BAD_DATA,
         /// A record without a time to live, and none is known.
-        NoTtl = DNS_NO_TTL,
+        NoTtl = DNSTEXT_NO_TTL,
+        /// An origin that is a relative name.
+        RelativeOrigin = DNSTEXT_RELATIVE_NAME,
     }
 }
 
@@ -148,6 +151,18 @@ impl fmt::Display for RecordFault {
 
 impl Error for RecordFault {}
 
+/// A relative name, where an origin is wanted: an absolute name.
+#[derive(Clone, Copy, Debug, PartialEq, Eq)]
+pub struct RelativeOrigin;
+
+impl fmt::Display for RelativeOrigin {
+    fn fmt(&self, f: &mut fmt::Formatter<'_>) -> fmt::Result {
+        f.pad("the origin is a relative name")
+    }
+}
+
+impl Error for RelativeOrigin {}
+
 /// The records of a zone file, in order. `$ORIGIN` and `$TTL` are taken on the way. After a refusal
 /// reading goes on: at the next entry, or behind the line of a fault of the text.
 ///
@@ -158,7 +173,7 @@ impl Error for RecordFault {}
 /// use dns_text::{records, Name, RecordData, ZoneItem};
 ///
 /// let zone = b"$TTL 1h\n@ MX 10 mail\nmail A 192.0.2.1\n     A 192.0.2.256\n";
-/// let mut found = records(zone).with_origin(&Name::from_text(b"example.")?);
+/// let mut found = records(zone).with_origin(&Name::from_text(b"example.")?)?;
 /// let Some(Ok(ZoneItem::Record(mx))) = found.next() else { panic!() };
 /// assert_eq!((mx.owner.to_string(), mx.ttl.seconds()), ("example.".to_string(), 3600));
 /// let RecordData::Mx { preference, exchange } = mx.data else { panic!() };
@@ -167,7 +182,7 @@ impl Error for RecordFault {}
 /// assert_eq!(a.data, RecordData::A("192.0.2.1".parse()?));
 /// let fault = found.next().unwrap().unwrap_err();
 /// assert_eq!(fault.reason, "A address: expected IPv4 address");
-/// assert_eq!(fault.locate(zone).unwrap().to_string(), "4:8");
+/// assert_eq!(found.locate(fault.place).unwrap().to_string(), "4:8");
 /// assert!(found.next().is_none());
 /// # Ok::<(), Box<dyn std::error::Error>>(())
 /// ```
@@ -175,6 +190,7 @@ pub fn records(text: &[u8]) -> Records<'_> {
     Records {
         text,
         state: ZoneState::new(),
+        positions: Positions::new(text),
         is_done: false,
     }
 }
@@ -184,15 +200,15 @@ pub fn records(text: &[u8]) -> Records<'_> {
 pub struct Records<'t> {
     text: &'t [u8],
     state: ZoneState,
+    positions: Positions<'t>,
     is_done: bool,
 }
 
 impl Records<'_> {
-    /// The same with an origin, before which relative names stand. A relative name is no origin, and
-    /// changes nothing.
-    pub fn with_origin(mut self, origin: &Name) -> Self {
-        self.state.set_origin(origin);
-        self
+    /// The same with an origin, before which relative names stand. A relative name is refused.
+    pub fn with_origin(mut self, origin: &Name) -> Result<Self, RelativeOrigin> {
+        self.state.set_origin(origin)?;
+        Ok(self)
     }
 
     /// The same with a class for records that say none.
@@ -204,6 +220,12 @@ impl Records<'_> {
     /// Where the next entry begins.
     pub fn place(&self) -> usize {
         self.state.zone.at
+    }
+
+    /// The line and the column of a place in the text, such as that of a fault; none past its end.
+    /// For places in order the time is that of the text, however many they are; see [`Positions`].
+    pub fn locate(&mut self, place: usize) -> Option<Position> {
+        self.positions.find(place)
     }
 }
 
@@ -228,7 +250,7 @@ impl FusedIterator for Records<'_> {}
 /// What the entries so far say, where the next one begins, and room for data.
 #[derive(Clone, Debug)]
 pub(crate) struct ZoneState {
-    zone: dns_zone,
+    zone: dnstext_zone,
     octets: Vec<u8>,
 }
 
@@ -237,20 +259,29 @@ impl ZoneState {
     pub(crate) fn new() -> ZoneState {
         library::check();
         ZoneState {
-            zone: dns_zone {
+            zone: dnstext_zone {
                 class_code: Class::IN.0,
-                ..dns_zone::default()
+                ..dnstext_zone::default()
             },
             octets: vec![0; 512],
         }
     }
 
-    /// Sets the origin, if a name is absolute.
-    pub(crate) fn set_origin(&mut self, origin: &Name) {
+    /// Sets the origin to an absolute name.
+    pub(crate) fn set_origin(&mut self, origin: &Name) -> Result<(), RelativeOrigin> {
+        if !origin.is_absolute() {
+            return Err(RelativeOrigin);
+        }
         let octets = origin.as_octets();
-        let mut outcome = dns_outcome::default();
+        let mut outcome = dnstext_outcome::default();
         // SAFETY: the octets are as many as is said, and the call keeps to them.
-        unsafe { dns_zone_origin(&mut self.zone, octets.as_ptr(), octets.len(), &mut outcome) };
+        let status = unsafe {
+            dnstext_zone_origin(&mut self.zone, octets.as_ptr(), octets.len(), &mut outcome)
+        };
+        match status {
+            DNSTEXT_OK => Ok(()),
+            _ => Err(RelativeOrigin),
+        }
     }
 
     /// Sets the class of records that say none.
@@ -259,12 +290,12 @@ impl ZoneState {
     }
 
     /// What the entries so far say, to go back to.
-    pub(crate) fn keep(&self) -> dns_zone {
+    pub(crate) fn keep(&self) -> dnstext_zone {
         self.zone
     }
 
     /// Goes back to what was kept.
-    pub(crate) fn go_back(&mut self, kept: dns_zone) {
+    pub(crate) fn go_back(&mut self, kept: dnstext_zone) {
         self.zone = kept;
     }
 
@@ -277,19 +308,19 @@ impl ZoneState {
 
     /// Reads on in a text.
     fn next(&mut self, text: &[u8]) -> Option<Result<ZoneItem, RecordFault>> {
-        let mut record = dns_record::default();
+        let mut record = dnstext_record::default();
         let (status, outcome) = self.call(text, &mut record);
         let given = self.octets.get(..outcome.length).unwrap_or_default();
         match (status, name_of(&record.name)) {
-            (DNS_END, _) => None,
-            (DNS_OK, Some(owner)) => Some(Ok(ZoneItem::Record(Record {
+            (DNSTEXT_END, _) => None,
+            (DNSTEXT_OK, Some(owner)) => Some(Ok(ZoneItem::Record(Record {
                 place: record.place,
                 owner,
                 ttl: Ttl::from_seconds(record.ttl).unwrap_or(Ttl::MAX),
                 class: Class(record.class_code),
                 data: RecordData::of_read(RecordType(record.type_code), given),
             }))),
-            (DNS_INCLUDE, origin) => Some(Ok(ZoneItem::Include {
+            (DNSTEXT_INCLUDE, origin) => Some(Ok(ZoneItem::Include {
                 file: given.to_vec(),
                 origin,
             })),
@@ -302,12 +333,12 @@ impl ZoneState {
     }
 
     /// A call, with as much room as it needs: what it says, and how many octets it gave.
-    fn call(&mut self, text: &[u8], record: &mut dns_record) -> (u32, dns_outcome) {
+    fn call(&mut self, text: &[u8], record: &mut dnstext_record) -> (u32, dnstext_outcome) {
         loop {
-            let mut outcome = dns_outcome::default();
+            let mut outcome = dnstext_outcome::default();
             // SAFETY: both slices are as long as is said, and the call keeps to them.
             let status = unsafe {
-                dns_record_next(
+                dnstext_record_next(
                     text.as_ptr(),
                     text.len(),
                     &mut self.zone,
@@ -317,7 +348,7 @@ impl ZoneState {
                     &mut outcome,
                 )
             };
-            if status != DNS_NO_ROOM || outcome.length <= self.octets.len() {
+            if status != DNSTEXT_NO_ROOM || outcome.length <= self.octets.len() {
                 return (status, outcome);
             }
             self.octets.resize(outcome.length, 0);
@@ -326,7 +357,7 @@ impl ZoneState {
 }
 
 /// The name that the library wrote, if there is one.
-fn name_of(name: &dns_kept_name) -> Option<Name> {
+fn name_of(name: &dnstext_kept_name) -> Option<Name> {
     let octets = name.octets.get(..name.length)?;
     Name::from_octets(octets.to_vec())
         .ok()

@@ -1,13 +1,16 @@
 //! Entries of zone text, by the places of their tokens.
 use crate::library;
 use crate::zone::{Fault, FaultKind};
-use dns_text_sys::{dns_cursor, dns_entry_next, dns_outcome, dns_token, DNS_END, DNS_OK};
+use dns_text_sys::{
+    dnstext_cursor, dnstext_entry_next, dnstext_outcome, dnstext_token, DNSTEXT_END,
+    DNSTEXT_NO_ROOM, DNSTEXT_OK,
+};
 
 /// Where a text is read on, and the tokens of the entry that was read last.
 #[derive(Clone, Debug)]
 pub(crate) struct Scan {
-    cursor: dns_cursor,
-    tokens: Vec<dns_token>,
+    cursor: dnstext_cursor,
+    tokens: Vec<dnstext_token>,
     count: usize,
 }
 
@@ -16,15 +19,15 @@ impl Scan {
     pub(crate) fn new() -> Scan {
         library::check();
         Scan {
-            cursor: dns_cursor::default(),
-            tokens: vec![dns_token::default(); 16],
+            cursor: dnstext_cursor::default(),
+            tokens: vec![dnstext_token::default(); 16],
             count: 0,
         }
     }
 
     /// Goes back to the beginning.
     pub(crate) fn restart(&mut self) {
-        self.cursor = dns_cursor::default();
+        self.cursor = dnstext_cursor::default();
         self.count = 0;
     }
 
@@ -44,7 +47,7 @@ impl Scan {
     }
 
     /// The places of the tokens of the entry that was read last.
-    pub(crate) fn places(&self) -> &[dns_token] {
+    pub(crate) fn places(&self) -> &[dnstext_token] {
         &self.tokens[..self.count]
     }
 
@@ -52,10 +55,10 @@ impl Scan {
     pub(crate) fn read(&mut self, text: &[u8]) -> Option<Result<(), Fault>> {
         loop {
             let before = self.cursor;
-            let mut outcome = dns_outcome::default();
+            let mut outcome = dnstext_outcome::default();
             // SAFETY: both slices are as long as is said, and the call keeps to them.
             let status = unsafe {
-                dns_entry_next(
+                dnstext_entry_next(
                     text.as_ptr(),
                     text.len(),
                     &mut self.cursor,
@@ -64,8 +67,8 @@ impl Scan {
                     &mut outcome,
                 )
             };
-            if outcome.length > self.tokens.len() {
-                self.tokens.resize(outcome.length, dns_token::default());
+            if let Some(room) = self.lacking(status, outcome.length) {
+                self.tokens.resize(room, dnstext_token::default());
                 self.cursor = before;
                 continue;
             }
@@ -74,10 +77,21 @@ impl Scan {
         }
     }
 
+    /// For how many tokens there has to be room, if there was too little: tokens before a fault that
+    /// fill the room may not be all.
+    fn lacking(&self, status: u32, given: usize) -> Option<usize> {
+        let room = self.tokens.len();
+        match status {
+            DNSTEXT_NO_ROOM => Some(given.max(room + 1)),
+            DNSTEXT_OK | DNSTEXT_END => None,
+            _ => (given >= room).then_some(2 * room),
+        }
+    }
+
     fn tell(&self, status: u32, place: usize) -> Option<Result<(), Fault>> {
         match status {
-            DNS_OK => Some(Ok(())),
-            DNS_END => None,
+            DNSTEXT_OK => Some(Ok(())),
+            DNSTEXT_END => None,
             status => {
                 let kind = FaultKind::of(status);
                 Some(Err(Fault {

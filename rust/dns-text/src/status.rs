@@ -1,5 +1,5 @@
 //! Statuses of the library.
-use dns_text_sys::{dns_status_message, dns_status_name};
+use dns_text_sys::{dnstext_status_message, dnstext_status_name};
 use std::ffi::{c_char, CStr};
 use std::fmt;
 
@@ -9,7 +9,7 @@ use std::fmt;
 /// use dns_text::Name;
 ///
 /// let status = Name::from_text(b"a..b").unwrap_err().kind.status();
-/// assert_eq!(status.name(), "DNS_EMPTY_LABEL");
+/// assert_eq!(status.name(), "DNSTEXT_EMPTY_LABEL");
 /// assert_eq!(status.to_string(), "label without octets");
 /// ```
 #[derive(Clone, Copy, Debug, PartialEq, Eq, Hash)]
@@ -24,13 +24,13 @@ impl Status {
     /// The name, as `dnstext.h` has it, or `unknown`.
     pub fn name(self) -> &'static str {
         // SAFETY: the call takes any number, and gives a string that stands as long as the program.
-        unsafe { string(dns_status_name(self.0)) }
+        unsafe { string(dnstext_status_name(self.0)) }
     }
 
     /// What it says in a few words, or `unknown status`.
     pub fn message(self) -> &'static str {
         // SAFETY: as of `name`.
-        unsafe { string(dns_status_message(self.0)) }
+        unsafe { string(dnstext_status_message(self.0)) }
     }
 }
 
@@ -55,6 +55,7 @@ macro_rules! reasons {
     ($(#[$about:meta])* $name:ident { $($(#[$says:meta])* $reason:ident = $status:ident,)* }) => {
         $(#[$about])*
         #[derive(Clone, Copy, Debug, PartialEq, Eq)]
+        #[non_exhaustive]
         pub enum $name {
             $($(#[$says])* $reason,)*
             /// Another status, which the library of this version does not return.
@@ -94,7 +95,7 @@ mod tests {
         assert_eq!(unknown.status().name(), "unknown");
         assert_ne!(unknown, FaultKind::of(98));
         // A status of other calls is unknown too, and says what it says.
-        let other = NameErrorKind::of(dns_text_sys::DNS_TOO_GREAT);
+        let other = NameErrorKind::of(dns_text_sys::DNSTEXT_TOO_GREAT);
         assert_eq!(other.status().to_string(), "number too great");
     }
 }

@@ -2,7 +2,7 @@
 use crate::position::{position, Position};
 use crate::scan::Scan;
 use crate::status::reasons;
-use dns_text_sys::dns_token;
+use dns_text_sys::dnstext_token;
 use std::error::Error;
 use std::fmt;
 
@@ -19,7 +19,7 @@ pub struct Token<'t> {
 
 impl<'t> Token<'t> {
     /// The token at a place of a text, behind `before` octets of others.
-    pub(crate) fn at(place: dns_token, before: usize, text: &'t [u8]) -> Token<'t> {
+    pub(crate) fn at(place: dnstext_token, before: usize, text: &'t [u8]) -> Token<'t> {
         Token {
             start: before + place.start,
             text: &text[place.start..place.end],
@@ -39,7 +39,7 @@ impl<'t> Token<'t> {
 
 /// The tokens at places of a text, behind `before` octets of others.
 pub(crate) fn tokens_at<'p, 't: 'p>(
-    places: &'p [dns_token],
+    places: &'p [dnstext_token],
     before: usize,
     text: &'t [u8],
 ) -> impl ExactSizeIterator<Item = Token<'t>> + 'p {
@@ -93,15 +93,15 @@ reasons! {
     /// What keeps a text from going on.
     FaultKind {
         /// A backslash with what makes no escape.
-        BadEscape = DNS_BAD_ESCAPE,
+        BadEscape = DNSTEXT_BAD_ESCAPE,
         /// A closing parenthesis, and none is open.
-        Closing = DNS_CLOSING,
+        Closing = DNSTEXT_CLOSING,
         /// The text ends inside parentheses.
-        OpenParenthesis = DNS_OPEN_PARENTHESIS,
+        OpenParenthesis = DNSTEXT_OPEN_PARENTHESIS,
         /// The text or a line ends inside a quoted text.
-        OpenQuote = DNS_OPEN_QUOTE,
+        OpenQuote = DNSTEXT_OPEN_QUOTE,
         /// A CR without its LF.
-        LoneReturn = DNS_LONE_RETURN,
+        LoneReturn = DNSTEXT_LONE_RETURN,
     }
 }
 

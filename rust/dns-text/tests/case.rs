@@ -1,4 +1,4 @@
-//! Names and character strings compare and hash without the case of ASCII letters.
+//! Names compare and hash without the case of ASCII letters, and character strings with it.
 use dns_text::{CharStr, Name};
 use std::collections::hash_map::DefaultHasher;
 use std::collections::HashSet;
@@ -36,14 +36,15 @@ fn names_without_case() {
 }
 
 #[test]
-fn strings_without_case() {
+fn strings_with_case() {
     let (upper, lower) = (string(b"AbZ"), string(b"aBz"));
-    assert_eq!(upper, lower);
-    assert_eq!(hash_of(&upper), hash_of(&lower));
-    let strings = HashSet::from([upper]);
-    assert!(strings.contains(&lower));
-    assert!(!strings.contains(&string(b"abz ")));
-    assert_ne!(string(b"@[`{"), string(b"`{@["));
-    assert_ne!(string(&[0xC0]), string(&[0xE0]));
-    assert_ne!(string(b""), string(b"a"));
+    assert_ne!(upper, lower);
+    assert!(upper < lower);
+    assert!(upper.eq_ignore_ascii_case(&lower));
+    assert_eq!(hash_of(&upper), hash_of(&string(b"AbZ")));
+    let strings = HashSet::from([upper.clone()]);
+    assert!(strings.contains(&upper) && !strings.contains(&lower));
+    let differ = |left: &[u8], right: &[u8]| !string(left).eq_ignore_ascii_case(&string(right));
+    assert!(differ(b"abz", b"abz ") && differ(b"@[`{", b"`{@["));
+    assert!(differ(&[0xC0], &[0xE0]) && differ(b"", b"a"));
 }

@@ -1,5 +1,8 @@
 //! Data as values, from octets and back.
-use dns_text::{BadData, CharStr, Name, RecordData, RecordType};
+use dns_text::{
+    read_records, records, BadData, CharStr, Name, RecordData, RecordFaultKind, RecordType,
+    RelativeOrigin,
+};
 use std::collections::HashSet;
 
 fn name(text: &str) -> Name {
@@ -222,5 +225,90 @@ fn data_are_compared_in_canonical_form() {
         record_type,
         octets,
     };
-    assert_ne!(unknown, RecordData::Ns(name("a.")));
+    assert_eq!(unknown, RecordData::Ns(name("a.")));
+    // No data of the type, and of a type without data in zones: the octets tell.
+    let no_data = |octets: &[u8]| RecordData::Unknown {
+        record_type,
+        octets: octets.to_vec(),
+    };
+    assert_ne!(no_data(b"\x02A\0"), no_data(b"\x02a\0"));
+    assert_ne!(RecordData::Ns(name("A")), RecordData::Ns(name("a")));
+    let opt = |octets: &[u8]| RecordData::from_octets(RecordType(41), octets).unwrap();
+    assert_ne!(opt(b"\x01A\0"), opt(b"\x01a\0"));
+    assert_eq!(opt(b"A").canonical_octets(), b"A");
+}
+
+/// Data of each type whose names are lowered are equal and hash alike without case (RFC 4034 section 6.2,
+/// RFC 6840 section 5.1), and data of others are not; strings keep their case.
+#[test]
+fn names_in_data_are_compared_without_case() {
+    let lowered = [
+        ("NS", "A.", "a."),
+        ("MD", "\\# 3 014100", "\\# 3 016100"),
+        ("MF", "\\# 3 014100", "\\# 3 016100"),
+        ("CNAME", "A.", "a."),
+        ("SOA", "A. B. 1 2 3 4 5", "a. b. 1 2 3 4 5"),
+        ("MB", "A.", "a."),
+        ("MG", "A.", "a."),
+        ("MR", "A.", "a."),
+        ("PTR", "A.", "a."),
+        ("MINFO", "A. B.", "a. b."),
+        ("MX", "1 A.", "1 a."),
+        ("RP", "A. B.", "a. b."),
+        ("AFSDB", "1 A.", "1 a."),
+        ("RT", "1 A.", "1 a."),
+        ("PX", "1 A. B.", "1 a. b."),
+        ("NXT", "\\# 5 014100 4041", "\\# 5 016100 4041"),
+        ("NAPTR", "1 2 U V W A.", "1 2 U V W a."),
+        ("KX", "1 A.", "1 a."),
+        ("SRV", "1 2 3 A.", "1 2 3 a."),
+        ("DNAME", "A.", "a."),
+        ("A6", "\\# 4 80 014100", "\\# 4 80 016100"),
+        ("RRSIG", "A 8 1 0 0 0 1 A. QQ==", "A 8 1 0 0 0 1 a. QQ=="),
+    ];
+    let exact = [
+        ("NSEC", "A. A", "a. A"),
+        ("NSAP-PTR", "A.", "a."),
+        ("TALINK", "A. B.", "a. b."),
+        ("LP", "1 A.", "1 a."),
+        ("SVCB", "1 A.", "1 a."),
+        ("HINFO", "A B", "a b"),
+        ("NAPTR", "1 2 U V W .", "1 2 u V W ."),
+        ("TXT", "A", "a"),
+    ];
+    let data = |record_type: &str, text: &str| {
+        RecordData::from_text(record_type.parse().unwrap(), text.as_bytes(), None).unwrap()
+    };
+    for (record_type, upper, lower) in lowered {
+        let (upper, lower) = (data(record_type, upper), data(record_type, lower));
+        assert_eq!(upper, lower);
+        assert_eq!(upper.canonical_octets(), lower.to_octets().unwrap());
+        assert_eq!(HashSet::from([upper.clone()]).replace(lower), Some(upper));
+    }
+    for (record_type, upper, lower) in exact {
+        let (upper, lower) = (data(record_type, upper), data(record_type, lower));
+        assert!(upper != lower && upper < lower, "{upper:?}");
+        assert_eq!(upper.canonical_octets(), upper.to_octets().unwrap());
+    }
+}
+
+/// A relative name is no origin.
+#[test]
+fn relative_origins_are_refused() {
+    for origin in ["example", ""] {
+        let fault = RecordData::from_text(RecordType::MX, b"10 a.", Some(&name(origin)));
+        let fault = fault.unwrap_err();
+        assert_eq!(
+            (fault.kind, fault.place),
+            (RecordFaultKind::RelativeOrigin, 0)
+        );
+        assert_eq!(fault.message(), "name without the root at its end");
+        assert_eq!(
+            records(b"").with_origin(&name(origin)).err(),
+            Some(RelativeOrigin)
+        );
+        let reader = read_records(b"".as_slice()).with_origin(&name(origin));
+        assert_eq!(reader.err(), Some(RelativeOrigin));
+    }
+    assert_eq!(RelativeOrigin.to_string(), "the origin is a relative name");
 }

@@ -1,5 +1,7 @@
 //! Names by their labels, and their order; strings from strings.
-use dns_text::{CharStr, Name, NameErrorKind, NameOctetsError, ReadErrorKind};
+use dns_text::{
+    records, CharStr, Name, NameErrorKind, NameOctetsError, ReadErrorKind, RecordData, ZoneItem,
+};
 use std::collections::{BTreeMap, BTreeSet};
 
 fn name(text: &str) -> Name {
@@ -119,6 +121,37 @@ fn origins_are_appended() {
     );
 }
 
+/// A name prints as one word, of which the reader makes the name.
+#[test]
+fn names_print_as_zone_text() {
+    for text in [
+        r"a(b.", r"\;.", r#"a\"b."#, r"\@.", r"\$x.", r"a\032b.", "a.b.", ".",
+    ] {
+        let zone = format!("{} 1 NS {}\nb. 1 NS c.\n", name(text), name(text));
+        let found: Vec<_> = records(zone.as_bytes()).map(Result::unwrap).collect();
+        let [ZoneItem::Record(one), ZoneItem::Record(other)] = found.as_slice() else {
+            panic!("{zone}: {found:?}")
+        };
+        assert_eq!(
+            (&one.owner, &one.data),
+            (&name(text), &RecordData::Ns(name(text)))
+        );
+        assert_eq!(other.owner, name("b."));
+    }
+    assert_eq!(name("a(b.").dotted(), "a(b.");
+    assert_eq!(
+        format!("{:<5}|{:>5}|{:^5}", name("a."), name("b"), name("c.")),
+        "a.   |    b| c.  "
+    );
+    assert_eq!(format!("{:>4}|", CharStr::try_from("a").unwrap()), "   a|");
+}
+
+/// Nothing but its octets is kept of a name.
+#[test]
+fn names_keep_their_octets_alone() {
+    assert_eq!(name("a.").into_octets().capacity(), 3);
+}
+
 #[test]
 fn strings_are_read() {
     assert_eq!(
@@ -128,7 +161,7 @@ fn strings_are_read() {
     assert_eq!(Name::try_from("a.").unwrap().as_ref(), b"\x01a\0");
     assert_eq!(
         format!("{:?} {:?}", name("a\\.b"), name("")),
-        r"Name(a\.b) Name()"
+        r"Name(a\046b) Name()"
     );
     assert_eq!(
         "é".parse::<CharStr>().unwrap_err().kind,
@@ -140,6 +173,6 @@ fn strings_are_read() {
         format!("{string:?} {:?}", CharStr::default()),
         r#"CharStr("a\"b") CharStr("")"#
     );
-    let ordered = ["", "a", "A1", "aa", "B", r"\200"].map(|it| CharStr::try_from(it).unwrap());
+    let ordered = ["", "A1", "B", "a", "aa", r"\200"].map(|it| CharStr::try_from(it).unwrap());
     assert!(ordered.windows(2).all(|pair| pair[0] < pair[1]));
 }

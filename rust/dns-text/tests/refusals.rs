@@ -2,7 +2,8 @@
 use dns_text::codec::{BadEncoding, BASE16, BASE32HEX, BASE64};
 use dns_text::{
     entries, number, pieces, position, tokens, CharStr, Class, FaultKind, LongString, Name,
-    NameErrorKind, NameOctetsError, NumberErrorKind, ReadErrorKind, RecordType, Ttl, WordErrorKind,
+    NameErrorKind, NameOctetsError, NumberErrorKind, Positions, ReadErrorKind, RecordType, Ttl,
+    WordErrorKind,
 };
 use std::time::Duration;
 
@@ -132,7 +133,7 @@ fn words() {
     assert_eq!(Duration::from(Ttl::MAX).as_secs(), 0x7FFF_FFFF);
     let error = RecordType::from_text(b"TYPE65536").unwrap_err();
     assert_eq!(error.kind, WordErrorKind::UnknownType);
-    assert_eq!(error.kind.status().name(), "DNS_UNKNOWN_TYPE");
+    assert_eq!(error.kind.status().name(), "DNSTEXT_UNKNOWN_TYPE");
     let error = "CHAOS".parse::<Class>().unwrap_err();
     assert_eq!(error.to_string(), "unknown class at 0");
     assert_eq!(
@@ -182,6 +183,14 @@ fn positions() {
     assert_eq!(told(7), Some((4, 1)));
     assert_eq!(told(8), None);
     assert_eq!(told(usize::MAX), None);
+    for from in 0..=text.len() {
+        for place in 0..=text.len() + 1 {
+            let mut positions = Positions::new(text);
+            assert_eq!(positions.find(from), position(text, from));
+            assert_eq!(positions.find(place), position(text, place));
+            assert_eq!(positions.find(from), position(text, from));
+        }
+    }
     let fault = entries(b"a\n\"b").last().unwrap().unwrap_err();
     assert_eq!(fault.locate(b"a\n\"b").unwrap().to_string(), "2:3");
     assert_eq!(fault.locate(b"a"), None);

@@ -159,10 +159,10 @@ fn items<E>(found: impl Iterator<Item = Result<ZoneItem, E>>) -> Vec<Option<Zone
 fn records_of_readers_that_fail() {
     each_text(|text| {
         let origin = "example.".parse().unwrap();
-        let wanted = items(records(text).with_origin(&origin));
+        let wanted = items(records(text).with_origin(&origin).unwrap());
         for end in 0..=text.len() {
             let blocks = Blocks::new(text[..end].chunks(3).collect()).failing();
-            let mut found: Vec<_> = read_records(blocks).with_origin(&origin).collect();
+            let mut found: Vec<_> = read_records(blocks).with_origin(&origin).unwrap().collect();
             let Some(Err(StreamError::Io(error))) = found.pop() else {
                 panic!("{}", text.escape_ascii());
             };
@@ -170,7 +170,7 @@ fn records_of_readers_that_fail() {
             let found = items(found.into_iter());
             assert_eq!(found, wanted[..found.len()], "{}", text.escape_ascii());
             let whole = &text[..whole_entries(&text[..end])];
-            let least = records(whole).with_origin(&origin).count();
+            let least = records(whole).with_origin(&origin).unwrap().count();
             assert!(found.len() >= least, "{} {end}", text.escape_ascii());
         }
     });
@@ -258,6 +258,7 @@ fn many_lines() {
     let mut count = 0;
     for (index, item) in read_records(BufReader::new(&text[..]))
         .with_origin(&origin)
+        .unwrap()
         .enumerate()
     {
         let first = 5 * (index / 3) + 1;
@@ -279,7 +280,10 @@ fn many_lines() {
         count += 1;
     }
     assert_eq!(count, 60_000);
-    let faults = records(&text).with_origin(&origin).filter_map(Result::err);
+    let faults = records(&text)
+        .with_origin(&origin)
+        .unwrap()
+        .filter_map(Result::err);
     let faults: Vec<RecordFault> = faults.collect();
     assert_eq!(faults.len(), 40_000);
 }

@@ -2,20 +2,15 @@
 use super::RecordData;
 use crate::{CharStr, Name};
 
-/// The octets so far, with names in lower case or as they are.
+/// The octets so far.
 #[derive(Default)]
 struct Composed {
     octets: Vec<u8>,
-    is_canonical: bool,
 }
 
-/// The octets of data, also of what is no data of its type. In canonical form names are in lower case:
-/// those of each variant that has one (RFC 4034 section 6.2).
-pub(super) fn compose(data: &RecordData, is_canonical: bool) -> Vec<u8> {
-    let mut composed = Composed {
-        octets: Vec::new(),
-        is_canonical,
-    };
+/// The octets of data, also of what is no data of its type.
+pub(super) fn compose(data: &RecordData) -> Vec<u8> {
+    let mut composed = Composed::default();
     composed.data(data);
     composed.octets
 }
@@ -38,11 +33,7 @@ impl Composed {
     }
 
     fn name(&mut self, name: &Name) {
-        if self.is_canonical {
-            self.put(name.to_lowercase().as_octets());
-        } else {
-            self.put(name.as_octets());
-        }
+        self.put(name.as_octets());
     }
 
     /// A string, which has at most 255 octets, behind their number.

@@ -3,13 +3,16 @@ use super::compose::compose;
 use super::{BadData, RecordData};
 use crate::codec::BASE16;
 use crate::{library, Name, RecordFault, RecordFaultKind, RecordType};
-use dns_text_sys::{dns_data_print, dns_data_read, dns_outcome, DNS_NO_ROOM, DNS_OK};
+use dns_text_sys::{
+    dnstext_data_canonical, dnstext_data_print, dnstext_data_read, dnstext_outcome,
+    DNSTEXT_NO_ROOM, DNSTEXT_OK,
+};
 use std::fmt;
 
 impl RecordData {
     /// Reads the text of data of a type: the tokens that follow the type in a record, or `\#`, the
     /// number of octets, and these in hexadecimal (RFC 3597 section 5). Relative names stand before the
-    /// origin; without one they are refused, and a relative name is no origin.
+    /// origin; without one they are refused, and so is a relative name as the origin.
     ///
     /// ```
     /// use dns_text::{RecordData, RecordType};
@@ -26,12 +29,18 @@ impl RecordData {
         text: &[u8],
         origin: Option<&Name>,
     ) -> Result<RecordData, RecordFault> {
-        let origin = origin.filter(|name| name.is_absolute());
+        if origin.is_some_and(|name| !name.is_absolute()) {
+            return Err(RecordFault {
+                kind: RecordFaultKind::RelativeOrigin,
+                place: 0,
+                reason: String::new(),
+            });
+        }
         let origin = origin.map(Name::as_octets).unwrap_or_default();
         let (status, outcome, octets) = call(512, |into, outcome| {
             // SAFETY: the slices are as long as is said, and the call keeps to them.
             unsafe {
-                dns_data_read(
+                dnstext_data_read(
                     record_type.0,
                     text.as_ptr(),
                     text.len(),
@@ -43,7 +52,7 @@ impl RecordData {
                 )
             }
         });
-        if status == DNS_OK {
+        if status == DNSTEXT_OK {
             return Ok(RecordData::of_read(record_type, &octets));
         }
         Err(RecordFault {
@@ -63,7 +72,7 @@ impl RecordData {
         let (status, _, text) = call(4 * octets.len() + 16, |into, outcome| {
             // SAFETY: the slices are as long as is said, and the call keeps to them.
             unsafe {
-                dns_data_print(
+                dnstext_data_print(
                     self.record_type().0,
                     octets.as_ptr(),
                     octets.len(),
@@ -73,24 +82,42 @@ impl RecordData {
                 )
             }
         });
-        if status != DNS_OK {
+        if status != DNSTEXT_OK {
             return Err(BadData);
         }
         Ok(String::from_utf8_lossy(&text).into_owned())
     }
 }
 
+/// The canonical form of octets, if they are data of the type.
+pub(super) fn canonical(record_type: RecordType, octets: &[u8]) -> Option<Vec<u8>> {
+    let (status, _, form) = call(octets.len(), |into, outcome| {
+        // SAFETY: the slices are as long as is said, and the call keeps to them.
+        unsafe {
+            dnstext_data_canonical(
+                record_type.0,
+                octets.as_ptr(),
+                octets.len(),
+                into.as_mut_ptr(),
+                into.len(),
+                outcome,
+            )
+        }
+    });
+    (status == DNSTEXT_OK).then_some(form)
+}
+
 /// A call with as much room as it needs: its status, what it says, and what it gave.
 fn call(
     expected: usize,
-    call: impl Fn(&mut [u8], &mut dns_outcome) -> u32,
-) -> (u32, dns_outcome, Vec<u8>) {
+    call: impl Fn(&mut [u8], &mut dnstext_outcome) -> u32,
+) -> (u32, dnstext_outcome, Vec<u8>) {
     library::check();
     let mut given = vec![0; expected];
     loop {
-        let mut outcome = dns_outcome::default();
+        let mut outcome = dnstext_outcome::default();
         let status = call(&mut given, &mut outcome);
-        if status != DNS_NO_ROOM || outcome.length <= given.len() {
+        if status != DNSTEXT_NO_ROOM || outcome.length <= given.len() {
             given.truncate(outcome.length);
             return (status, outcome, given);
         }
@@ -102,7 +129,7 @@ fn call(
 impl fmt::Display for RecordData {
     fn fmt(&self, f: &mut fmt::Formatter<'_>) -> fmt::Result {
         let generic = |_| {
-            let octets = compose(self, false);
+            let octets = compose(self);
             format!("\\# {} {}", octets.len(), BASE16.print(&octets))
         };
         f.pad(&self.to_text().unwrap_or_else(generic))

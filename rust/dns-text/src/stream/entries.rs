@@ -4,7 +4,7 @@ use super::StreamError;
 use crate::scan::Scan;
 use crate::zone::tokens_at;
 use crate::{Entry, Fault, Position, Token};
-use dns_text_sys::dns_token;
+use dns_text_sys::dnstext_token;
 use std::io::BufRead;
 use std::iter::FusedIterator;
 
@@ -16,7 +16,7 @@ pub struct OwnedEntry {
     octets: Vec<u8>,
     start: usize,
     position: Position,
-    tokens: Vec<dns_token>,
+    tokens: Vec<dnstext_token>,
 }
 
 impl OwnedEntry {

@@ -1,7 +1,7 @@
 //! Records of zone files from readers.
 use super::window::Window;
 use super::StreamError;
-use crate::records::{ZoneItem, ZoneState};
+use crate::records::{RelativeOrigin, ZoneItem, ZoneState};
 use crate::{pieces, Class, Name, PieceKind, Position, RecordFault};
 use std::io::BufRead;
 use std::iter::FusedIterator;
@@ -23,7 +23,7 @@ type Found = Option<Result<ZoneItem, RecordFault>>;
 /// use std::io::BufReader;
 ///
 /// let file = b"$TTL 1h\n@ MX 10 mail\nmail A 192.0.2\n  A 192.0.2.1\n".as_slice();
-/// let mut found = read_records(BufReader::new(file)).with_origin(&"example.".parse()?);
+/// let mut found = read_records(BufReader::new(file)).with_origin(&"example.".parse()?)?;
 /// let Some(Ok(ZoneItem::Record(mx))) = found.next() else { panic!() };
 /// assert_eq!((mx.owner.to_string(), mx.ttl.seconds()), ("example.".to_string(), 3600));
 /// let error = found.next().unwrap().unwrap_err();
@@ -51,11 +51,10 @@ pub struct RecordReader<R> {
 }
 
 impl<R> RecordReader<R> {
-    /// The same with an origin, before which relative names stand. A relative name is no origin, and
-    /// changes nothing.
-    pub fn with_origin(mut self, origin: &Name) -> Self {
-        self.state.set_origin(origin);
-        self
+    /// The same with an origin, before which relative names stand. A relative name is refused.
+    pub fn with_origin(mut self, origin: &Name) -> Result<Self, RelativeOrigin> {
+        self.state.set_origin(origin)?;
+        Ok(self)
     }
 
     /// The same with a class for records that say none.

@@ -34,7 +34,7 @@ fn all_labels(name: &Name) -> Vec<u8> {
 
 /// The two texts of a name.
 fn texts(name: &Name) -> Vec<u8> {
-    format!("{}|{name}", name.without_dot()).into_bytes()
+    format!("{}|{}", name.without_dot(), name.dotted()).into_bytes()
 }
 
 /// Calls with one input.
@@ -50,13 +50,13 @@ pub fn one(what: &str, input: &[u8]) -> Option<Answer> {
     match what {
         "read" => Some(Name::from_text(input).ok().map(Name::into_octets)),
         "of" if !input.is_empty() => Some(read().map(|it| is_absolute(&it).into())),
-        "plain" => Some(read().map(|it| it.to_string().into_bytes())),
-        "zone" => Some(read().map(|it| it.zone_text().into_bytes())),
+        "plain" => Some(read().map(|it| it.dotted().into_bytes())),
+        "zone" => Some(read().map(|it| it.to_string().into_bytes())),
         "labels" => Some(read().map(|it| all_labels(&it))),
         "absolute" => Some(read().filter(Name::is_absolute).map(|it| texts(&it))),
         "relative" => {
             let relative = read().filter(|it| !it.is_absolute());
-            Some(relative.map(|it| it.to_string().into_bytes()))
+            Some(relative.map(|it| it.dotted().into_bytes()))
         }
         "into_absolute" => Some(appended(input, &[0]).map(Name::into_octets)),
         _ => None,

@@ -1,6 +1,7 @@
 //! Character strings.
 use crate::{word, Answer};
 use dns_text::{CharStr, LongString, RecordData};
+use std::cmp::Ordering;
 
 fn print(octets: &[u8], text: fn(&CharStr) -> String) -> Answer {
     let string = CharStr::from_octets(octets.to_vec()).ok()?;
@@ -21,12 +22,17 @@ pub fn one(what: &str, input: &[u8]) -> Option<Answer> {
     }
 }
 
-/// Comparisons: of the strings, and of the data that they are.
+/// Comparisons: of strings that are equal without case, and of the data that strings are.
 pub fn two(what: &str, left: &[u8], right: &[u8]) -> Option<Answer> {
     let string = |octets: &[u8]| CharStr::from_octets(octets.to_vec());
     let data = |octets: &[u8]| Ok::<_, LongString>(RecordData::Txt(vec![string(octets)?]));
     let order = match what {
-        "compare" => string(left).ok()?.cmp(&string(right).ok()?),
+        "compare" => {
+            let is_equal = string(left)
+                .ok()?
+                .eq_ignore_ascii_case(&string(right).ok()?);
+            is_equal.then_some(Ordering::Equal)?
+        }
         "canonical" => data(left).ok()?.cmp(&data(right).ok()?),
         _ => return None,
     };

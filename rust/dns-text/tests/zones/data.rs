@@ -17,7 +17,7 @@ pub fn read_data(
     zone.extend(octets_of(text));
     let mut found = records(&zone);
     if let Some(origin) = origin {
-        found = found.with_origin(&name_of(origin));
+        found = found.with_origin(&name_of(origin)).unwrap();
     }
     let data = match found.next() {
         Some(Ok(ZoneItem::Record(record))) => Ok(record.data),

@@ -14,7 +14,7 @@ type Found = Vec<Result<ZoneItem, (RecordFault, Position)>>;
 fn at_once(text: &[u8], origin: Option<&str>) -> Found {
     let mut found = records(text);
     if let Some(origin) = origin {
-        found = found.with_origin(&name_of(origin));
+        found = found.with_origin(&name_of(origin)).unwrap();
     }
     let told = |fault: RecordFault| {
         let position = fault.locate(text).unwrap();
@@ -27,7 +27,7 @@ fn at_once(text: &[u8], origin: Option<&str>) -> Found {
 fn of_reader(reader: impl BufRead, text: &[u8], origin: Option<&str>) -> Found {
     let mut reader = read_records(reader);
     if let Some(origin) = origin {
-        reader = reader.with_origin(&name_of(origin));
+        reader = reader.with_origin(&name_of(origin)).unwrap();
     }
     let mut found = Vec::new();
     while let Some(item) = reader.next() {
