@@ -3,6 +3,7 @@ pub mod HashedNames
 pub mod Nsec3Chain
 pub mod NsecChain
 pub mod NsecTypes
+pub mod Parameters
 pub mod Rows
 pub mod SecurityFindings
 pub mod SecurityNames

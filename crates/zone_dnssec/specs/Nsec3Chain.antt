@@ -13,12 +13,9 @@ use Rattle.dns_resource.specs.declared.record.Record.{Record}
 use Rattle.zone_rules.specs.Zones.{type_of}
 use Rattle.zone_dnssec.specs.HashedNames.{name_hash, hashed_owner}
 use Rattle.zone_dnssec.specs.NsecChain.{comes_after}
+use Rattle.zone_dnssec.specs.Parameters.{field_octets, names_chain}
 
 -- ---- the fields: hash algorithm, flags, iterations, salt, and of NSEC3 the next hash (RFC 5155 sections 3.2 and 4.2)
-
--- the octets of the field at a place
-abbrev pub field_octets : {N O : Type 0} → ℕ → Record N O → List ℕ
-field_octets place r = option_map_or (λ octets. octets) (data_part (data_of r) place) []
 
 -- the number that two octets spell
 abbrev pub short_number : List ℕ → ℕ
@@ -46,10 +43,6 @@ abbrev pub opts_out : {N O : Type 0} → Record N O → Bool
 opts_out r = list_any (λ flags. flags % 2 == 1) (field_octets 1 r)
 
 -- ---- the chain
-
--- an NSEC3PARAM names a chain: its hash algorithm is 1, SHA-1, and with flags it doesn't count (RFC 5155 section 4.1.2)
-abbrev pub names_chain : {N O : Type 0} → Record N O → Bool
-names_chain r = type_of r == 51 && (pointwise nat_eq (field_octets 0 r) (1 ∷ []) && pointwise nat_eq (field_octets 1 r) (0 ∷ []))
 
 abbrev pub is_same_field : {N O : Type 0} → ℕ → Record N O → Record N O → Bool
 is_same_field place a b = pointwise nat_eq (field_octets place a) (field_octets place b)

@@ -11,16 +11,17 @@ use Rattle.dns_resource.specs.Parts.{data_part}
 use Rattle.dns_resource.specs.Records.{data_of}
 use Rattle.dns_resource.specs.declared.record.Record.{Record}
 use Rattle.zone_rules.specs.Zones.{type_of, has_type_at}
+use Rattle.zone_dnssec.specs.Parameters.{has_named_chain}
 use Rattle.zone_dnssec.specs.SignedSets.{is_authoritative, starts}
 
 -- the records stand at one name
 abbrev pub are_at_one_name : {N O : Type 0} → Record N O → Record N O → Bool
 are_at_one_name a b = same_name a.owner b.owner
 
--- the record is the first at a name with authority that has no NSEC, in a zone without NSEC3PARAM
+-- the record is the first at a name with authority that has no NSEC, in a zone of which no NSEC3PARAM names a chain
 abbrev pub lacks_nsec : {N O : Type 0} → List (List ℕ) → List (Record N O) → ℕ → Record N O → Bool
 lacks_nsec origin records place r =
-    not (has_type_at 51 origin records) && (starts are_at_one_name records place r && (is_authoritative origin records r.owner && not (has_type_at 47 r.owner records)))
+    starts are_at_one_name records place r && (not (has_named_chain origin records) && (is_authoritative origin records r.owner && not (has_type_at 47 r.owner records)))
 
 -- a name comes after another in canonical order (RFC 4034 section 6.1)
 abbrev pub comes_after : List (List ℕ) → List (List ℕ) → Bool

@@ -1,7 +1,9 @@
 -- Worked rows of the rules, each computed.
 use Rattle.std.specs.Prelude.{◌≡◌, ℕ, true, false, List, [], ◌∷◌, codes, refl}
 use Rattle.dns_resource.specs.declared.record.Record.{Record}
+use Rattle.dns_data.specs.Types.{type_shapes}
 use Rattle.zone_dnssec.specs.NsecChain.{comes_after, next_name}
+use Rattle.zone_dnssec.specs.Parameters.{has_named_chain}
 use Rattle.zone_dnssec.specs.SignatureTimes.{has_passed, seconds_between}
 use Rattle.zone_dnssec.specs.SignedSets.{has_signature, lacks_delegation, must_be_signed, signs_nothing}
 
@@ -80,3 +82,24 @@ next_row = refl
 
 last_row : next_name origin delegated sub ≡ origin
 last_row = refl
+
+-- ---- parameters of chains: hash algorithm, flags, iterations, and a salt of no octets
+
+abbrev parameters : ℕ → ℕ → Record ℕ ℕ
+parameters algorithm flags = at origin 51 (algorithm ∷ flags ∷ 0 ∷ 0 ∷ 0 ∷ [])
+
+chain_row : has_named_chain origin (parameters 1 0 ∷ []) ≡ true
+unfolding type_shapes
+chain_row = refl
+
+flags_row : has_named_chain origin (parameters 1 1 ∷ []) ≡ false
+unfolding type_shapes
+flags_row = refl
+
+algorithm_row : has_named_chain origin (parameters 2 0 ∷ []) ≡ false
+unfolding type_shapes
+algorithm_row = refl
+
+second_row : has_named_chain origin (parameters 1 1 ∷ parameters 1 0 ∷ []) ≡ true
+unfolding type_shapes
+second_row = refl

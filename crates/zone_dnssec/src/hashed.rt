@@ -4,7 +4,8 @@ ghost use Rattle.std.specs.List.{list_any};
 ghost use Rattle.zone_rules.specs.Above.{names_above};
 ghost use Rattle.zone_rules.specs.Zones.{has_owner};
 ghost use Rattle.zone_dnssec.specs.HashedLinks.{fails_at_or_above, fails_chain, fails_name, is_covered_by_opt_out, is_empty_in_zone, is_hash_of, is_opted_out, is_represented, lacks_link, lists_other_hashed_types, names_other_hash, points_to_next};
-ghost use Rattle.zone_dnssec.specs.Nsec3Chain.{is_link, names_chain, some_chain};
+ghost use Rattle.zone_dnssec.specs.Nsec3Chain.{is_link, some_chain};
+ghost use Rattle.zone_dnssec.specs.Parameters.{names_chain};
 
 use crate::bitmaps::lists_types;
 use crate::chain::is_first_at_owner;

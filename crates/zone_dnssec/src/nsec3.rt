@@ -5,8 +5,9 @@ ghost use Rattle.std.specs.Option.{option_copied};
 ghost use Rattle.std.specs.Ordering.{is_lt};
 ghost use Rattle.dns_canonical.specs.Names.{name_order};
 ghost use Rattle.dns_wire.specs.Order.{same_name};
-ghost use Rattle.zone_dnssec.specs.Nsec3Chain.{field_octets, hashed_bitmap, is_link, is_same_field, iterations_of, link_after, link_before, matching_link, matching_owner, names_chain, next_hash_of, opts_out, salt_of, short_number};
+ghost use Rattle.zone_dnssec.specs.Nsec3Chain.{hashed_bitmap, is_link, is_same_field, iterations_of, link_after, link_before, matching_link, matching_owner, next_hash_of, opts_out, salt_of, short_number};
 ghost use Rattle.zone_dnssec.specs.NsecChain.{comes_after};
+ghost use Rattle.zone_dnssec.specs.Parameters.{field_octets, names_chain};
 
 use crate::bitmaps::behind;
 use crate::nsec3_hash::{hash_name, hashed_name};

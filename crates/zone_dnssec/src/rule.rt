@@ -21,7 +21,8 @@ pub enum SecurityRule {
     /// The record is an RRSIG, and no record at its owner is of the type that it covers.
     SignsNothing,
     /// The record is the first at a name whose data the zone has authority over, or at a
-    /// delegation, no NSEC stands there, and the zone has no NSEC3PARAM (RFC 4035 section 2.3).
+    /// delegation, no NSEC stands there, and no NSEC3PARAM at the apex names a chain (RFC 4035 section
+    /// 2.3, RFC 5155 section 4.1.2).
     NoNsec,
     /// The record is an NSEC, and names another than the next name of the chain: the next one with
     /// authority or a delegation in canonical order, and after the last one the apex (RFC 4034

@@ -7,7 +7,8 @@ use Rattle.dns_wire.specs.Order.{same_name}
 use Rattle.dns_resource.specs.declared.record.Record.{Record}
 use Rattle.zone_rules.proofs.Lookups.{any_in_filter}
 use Rattle.zone_dnssec.specs.HashedLinks.{points_to_next}
-use Rattle.zone_dnssec.specs.Nsec3Chain.{is_link, names_chain}
+use Rattle.zone_dnssec.specs.Nsec3Chain.{is_link}
+use Rattle.zone_dnssec.specs.Parameters.{names_chain}
 use Rattle.zone_dnssec.proofs.hashed.breaks_order.Goals as goal
 
 abbrev is_out_of_order : {N O : Type 0} → List (List ℕ) → List (Record N O) → Record N O → Record N O → Bool

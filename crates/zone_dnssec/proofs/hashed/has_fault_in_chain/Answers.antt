@@ -7,7 +7,7 @@ use Rattle.dns_wire.specs.Order.{same_name}
 use Rattle.dns_resource.specs.declared.record.Record.{Record}
 use Rattle.zone_rules.proofs.Lookups.{any_in_filter}
 use Rattle.zone_dnssec.specs.HashedLinks.{fails_at_or_above, is_represented}
-use Rattle.zone_dnssec.specs.Nsec3Chain.{names_chain}
+use Rattle.zone_dnssec.specs.Parameters.{names_chain}
 use Rattle.zone_dnssec.specs.declared.hashed.LinkFault.{LinkFault}
 use Rattle.zone_dnssec.proofs.hashed.has_fault_in_chain.Goals as goal
 
