@@ -17,6 +17,7 @@ use Rattle.dns_spelling.specs.NameSpelling.{IsWireName}
 use Rattle.dns_spelling.proofs.LabelParts.{wire_push, wire_length_cons}
 use Rattle.dns_spelling.proofs.NameFronts.{name_front_plain}
 use Rattle.zone_rules.specs.Above.{parent_of, names_above, has_underscore}
+use Rattle.zone_rules.specs.Zones.{but_root}
 
 -- ---- octets of a name are one name
 
@@ -42,6 +43,17 @@ pub never_refused : (octets : List ℕ) (e : NameError) → IsWireName octets �
 never_refused octets e h r = let same = name_same octets (Err e) (Ok h.labels) r (makes octets h) in cc
 
 -- ---- the name above
+
+-- the root has none, and is no host
+pub root_left_out : (labels : List (List ℕ)) → parent_of labels ≡ None → but_root labels ≡ None
+root_left_out [] e = refl
+root_left_out (label ∷ []) e = refl
+root_left_out (label ∷ next ∷ others) e = cc
+
+pub other_kept : (labels above : List (List ℕ)) → parent_of labels ≡ Some above → but_root labels ≡ Some labels
+other_kept [] above e = cc
+other_kept (label ∷ []) above e = cc
+other_kept (label ∷ next ∷ others) above e = refl
 
 tail_name : (label : List ℕ) (labels : List (List ℕ)) → IsName (label ∷ labels) → IsName labels
 tail_name label labels n = record {

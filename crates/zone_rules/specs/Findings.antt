@@ -7,7 +7,7 @@ use Rattle.zone_rules.specs.Rules.{breaks}
 use Rattle.zone_rules.specs.Zones.{has_type_at}
 use Rattle.zone_rules.specs.declared.rule.Finding.{Finding}
 use Rattle.zone_rules.specs.declared.rule.Rule.{Rule}
-use Rattle.zone_rules.specs.declared.rule.Rule.TheVariants.{NoSoa, NoNs, Outside, TwoSoas, NsAddress, Cname, TwoDnames, BelowDname, DsAtApex, WildcardNs, MissingGlue, HostIsAlias, HostMissing, HostName, CdsWithoutKey, TtlDiffers, Duplicate}
+use Rattle.zone_rules.specs.declared.rule.Rule.TheVariants.{NoSoa, NoNs, Outside, TwoSoas, NsAddress, Cname, TwoDnames, BelowDname, DsAtApex, WildcardNs, SoaNotApex, NsBesideDname, Nsec3AtWildcard, MissingGlue, HostIsAlias, HostMissing, HostName, CdsWithoutKey, TtlDiffers, Duplicate}
 
 -- a rule, told where it is broken
 abbrev pub found_if : Bool → Rule → Option ℕ → List Finding
@@ -20,8 +20,8 @@ found_at_apex origin records = found_if (not (has_type_at 6 origin records)) NoS
 -- the rules for records
 abbrev pub record_rules : List Rule
 record_rules =
-    Outside ∷ TwoSoas ∷ NsAddress ∷ Cname ∷ TwoDnames ∷ BelowDname ∷ DsAtApex ∷ WildcardNs ∷ MissingGlue ∷ HostIsAlias ∷ HostMissing ∷ HostName ∷ CdsWithoutKey ∷ TtlDiffers
-    ∷ Duplicate ∷ []
+    Outside ∷ TwoSoas ∷ NsAddress ∷ Cname ∷ TwoDnames ∷ BelowDname ∷ DsAtApex ∷ WildcardNs ∷ SoaNotApex ∷ NsBesideDname ∷ Nsec3AtWildcard ∷ MissingGlue ∷ HostIsAlias ∷ HostMissing ∷ HostName
+    ∷ CdsWithoutKey ∷ TtlDiffers ∷ Duplicate ∷ []
 
 -- the record at a place breaks the rule
 abbrev pub breaks_at : {N O : Type 0} → List (List ℕ) → List (Record N O) → ℕ → Rule → Bool

@@ -6,7 +6,7 @@ use Rattle.dns_data.specs.Types.{type_shapes}
 use Rattle.dns_resource.specs.declared.record.Record.{Record}
 use Rattle.zone_rules.specs.Above.{names_above, is_below, is_within, is_wildcard, has_underscore}
 use Rattle.zone_rules.specs.Findings.{found_in_zone}
-use Rattle.zone_rules.specs.Rules.{are_two_of, have_other_ttls, is_alias_in_company, is_bad_host_name, is_below_dname, lacks_glue, lacks_ns_address, names_alias, names_missing}
+use Rattle.zone_rules.specs.Rules.{are_two_of, have_other_ttls, is_alias_in_company, is_bad_host_name, is_below_dname, is_dname_at_cut, is_soa_below_apex, is_wildcard_nsec3, lacks_glue, lacks_ns_address, names_alias, names_missing}
 use Rattle.zone_rules.specs.Zones.{host_of, is_one_set}
 use Rattle.zone_rules.specs.declared.rule.Rule.TheVariants.{NoSoa, NsAddress}
 
@@ -63,6 +63,10 @@ service_row : host_of (entry apex 33 (0 ∷ 1 ∷ 0 ∷ 2 ∷ 0 ∷ 53 ∷ wire 
 unfolding type_shapes labels_in_octets
 service_row = refl
 
+no_mail_row : host_of (entry apex 15 (0 ∷ 0 ∷ 0 ∷ [])) ≡ None
+unfolding type_shapes labels_in_octets
+no_mail_row = refl
+
 alias_host_row : host_of (entry apex 5 (wire (under (codes "ns")))) ≡ None
 alias_host_row = refl
 
@@ -103,6 +107,42 @@ renaming = entry (under (codes "d")) 39 (wire (under (codes "e")))
 dname_row : is_below_dname (renaming ∷ []) renaming ≡ false
 dname_row = refl
 
+-- NSEC3 and its RRSIGs are, of a DNAME at the apex; a TXT and its RRSIGs must not be
+abbrev apex_renaming : Record ℕ ℕ
+apex_renaming = entry apex 39 (wire (codes "o" ∷ [] ∷ []))
+
+hashed_below_row : is_below_dname (apex_renaming ∷ []) (entry (under (codes "0p9mhaveqvm6t7vbl5lop2u3t2rp3tom")) 50 []) ≡ false
+hashed_below_row = refl
+
+signed_hashed_row : is_below_dname (apex_renaming ∷ []) (entry (under (codes "0p9mhaveqvm6t7vbl5lop2u3t2rp3tom")) 46 (0 ∷ 50 ∷ [])) ≡ false
+signed_hashed_row = refl
+
+signed_text_row : is_below_dname (apex_renaming ∷ []) (entry (under (codes "t")) 46 (0 ∷ 16 ∷ [])) ≡ true
+signed_text_row = refl
+
+text_row : is_below_dname (apex_renaming ∷ []) (entry (under (codes "t")) 16 (0 ∷ [])) ≡ true
+text_row = refl
+
+-- an SOA at the apex, below it, and outside of the zone
+apex_soa_row : is_soa_below_apex apex (entry (codes "EXAMPLE" ∷ [] ∷ []) 6 []) ≡ false
+apex_soa_row = refl
+
+lower_soa_row : is_soa_below_apex apex (entry (under (codes "sub")) 6 []) ≡ true
+lower_soa_row = refl
+
+outer_soa_row : is_soa_below_apex apex (entry (codes "sub" ∷ codes "test" ∷ [] ∷ []) 6 []) ≡ false
+outer_soa_row = refl
+
+-- an NS beside a DNAME, at the apex and below it
+apex_ns_row : is_dname_at_cut apex (apex_renaming ∷ server ∷ []) apex_renaming ≡ false
+apex_ns_row = refl
+
+lower_ns_row : is_dname_at_cut apex (renaming ∷ entry (under (codes "D")) 2 (wire (under (codes "ns"))) ∷ []) renaming ≡ true
+lower_ns_row = refl
+
+star_hash_row : is_wildcard_nsec3 (entry (under (codes "*")) 50 []) ≡ true
+star_hash_row = refl
+
 below_dname_row : is_below_dname (renaming ∷ []) (entry (two_under (codes "a") (codes "D")) 1 address) ≡ true
 below_dname_row = refl
 
@@ -140,6 +180,11 @@ missing_row = refl
 under_star_row : names_missing apex (entry (under (codes "*")) 1 address ∷ []) (mail_to (under (codes "mx"))) ≡ false
 unfolding type_shapes labels_in_octets
 under_star_row = refl
+
+-- no host is asked for where the target is the root, also in the zone that has all names
+no_target_row : names_missing ([] ∷ []) [] (entry apex 33 (0 ∷ 0 ∷ 0 ∷ 0 ∷ 0 ∷ 0 ∷ 0 ∷ [])) ≡ false
+unfolding type_shapes labels_in_octets
+no_target_row = refl
 
 -- nothing is known of hosts outside of the zone
 elsewhere_row : names_missing apex [] (mail_to (codes "mx" ∷ [] ∷ [])) ≡ false

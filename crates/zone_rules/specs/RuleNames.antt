@@ -1,7 +1,7 @@
 -- The names of the rules, and which are faults.
 use Rattle.std.specs.Prelude.{ℕ, Bool, true, false, List, codes}
 use Rattle.zone_rules.specs.declared.rule.Rule.{Rule}
-use Rattle.zone_rules.specs.declared.rule.Rule.TheVariants.{NoSoa, NoNs, Outside, TwoSoas, NsAddress, Cname, TwoDnames, BelowDname, DsAtApex, WildcardNs, MissingGlue, HostIsAlias, HostMissing, HostName, CdsWithoutKey, TtlDiffers, Duplicate}
+use Rattle.zone_rules.specs.declared.rule.Rule.TheVariants.{NoSoa, NoNs, Outside, TwoSoas, NsAddress, Cname, TwoDnames, BelowDname, DsAtApex, WildcardNs, SoaNotApex, NsBesideDname, Nsec3AtWildcard, MissingGlue, HostIsAlias, HostMissing, HostName, CdsWithoutKey, TtlDiffers, Duplicate}
 
 abbrev pub rule_name : Rule → List ℕ
 rule_name NoSoa = codes "no-soa"
@@ -14,6 +14,9 @@ rule_name TwoDnames = codes "dname"
 rule_name BelowDname = codes "below-dname"
 rule_name DsAtApex = codes "ds-apex"
 rule_name WildcardNs = codes "wildcard-ns"
+rule_name SoaNotApex = codes "soa-not-apex"
+rule_name NsBesideDname = codes "ns-beside-dname"
+rule_name Nsec3AtWildcard = codes "nsec3-wildcard"
 rule_name MissingGlue = codes "glue"
 rule_name HostIsAlias = codes "target-cname"
 rule_name HostMissing = codes "target-missing"
@@ -34,6 +37,9 @@ is_fault_rule TwoDnames = true
 is_fault_rule BelowDname = true
 is_fault_rule DsAtApex = true
 is_fault_rule WildcardNs = true
+is_fault_rule SoaNotApex = true
+is_fault_rule NsBesideDname = true
+is_fault_rule Nsec3AtWildcard = true
 is_fault_rule MissingGlue = false
 is_fault_rule HostIsAlias = false
 is_fault_rule HostMissing = false

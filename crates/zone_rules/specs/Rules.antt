@@ -5,9 +5,9 @@ use Rattle.std.specs.Option.{option_map_or}
 use Rattle.dns_wire.specs.Order.{same_name}
 use Rattle.dns_resource.specs.declared.record.Record.{Record}
 use Rattle.zone_rules.specs.Above.{names_above, is_below, is_within, is_wildcard, has_underscore}
-use Rattle.zone_rules.specs.Zones.{type_of, has_type_at, has_owner, has_address_at, is_equal_record, record_before, host_of, is_one_set}
+use Rattle.zone_rules.specs.Zones.{type_of, has_type_at, has_owner, has_address_at, is_equal_record, record_before, host_of, set_type, is_one_set}
 use Rattle.zone_rules.specs.declared.rule.Rule.{Rule}
-use Rattle.zone_rules.specs.declared.rule.Rule.TheVariants.{NoSoa, NoNs, Outside, TwoSoas, NsAddress, Cname, TwoDnames, BelowDname, DsAtApex, WildcardNs, MissingGlue, HostIsAlias, HostMissing, HostName, CdsWithoutKey, TtlDiffers, Duplicate}
+use Rattle.zone_rules.specs.declared.rule.Rule.TheVariants.{NoSoa, NoNs, Outside, TwoSoas, NsAddress, Cname, TwoDnames, BelowDname, DsAtApex, WildcardNs, SoaNotApex, NsBesideDname, Nsec3AtWildcard, MissingGlue, HostIsAlias, HostMissing, HostName, CdsWithoutKey, TtlDiffers, Duplicate}
 
 -- the record is neither at the origin nor below it
 abbrev pub is_out_of_zone : {N O : Type 0} → List (List ℕ) → Record N O → Bool
@@ -38,12 +38,28 @@ abbrev pub is_alias_in_company : {N O : Type 0} → List (Record N O) → Record
 is_alias_in_company records r = type_of r == 5 && list_any (is_beside_alias r) records
 
 -- a DNAME stands at a name above the record
+abbrev pub has_dname_over : {N O : Type 0} → List (Record N O) → Record N O → Bool
+has_dname_over records r = list_any (λ above. has_type_at 39 above records) (names_above r.owner)
+
+-- the record is an NSEC3, or an RRSIG over such
+abbrev pub is_of_hashed_chain : {N O : Type 0} → Record N O → Bool
+is_of_hashed_chain r = type_of r == 50 || set_type r == 50
+
+-- and so; but the chain of NSEC3 stands below the apex, also where that has a DNAME (RFC 5155 section 3)
 abbrev pub is_below_dname : {N O : Type 0} → List (Record N O) → Record N O → Bool
-is_below_dname records r = list_any (λ above. has_type_at 39 above records) (names_above r.owner)
+is_below_dname records r = not (is_of_hashed_chain r) && has_dname_over records r
+
+-- the record is an SOA below the apex
+abbrev pub is_soa_below_apex : {N O : Type 0} → List (List ℕ) → Record N O → Bool
+is_soa_below_apex origin r = type_of r == 6 && is_below r.owner origin
 
 -- the record is an NS at a wildcard
 abbrev pub is_wildcard_ns : {N O : Type 0} → Record N O → Bool
 is_wildcard_ns r = type_of r == 2 && is_wildcard r.owner
+
+-- the record is an NSEC3 at a wildcard
+abbrev pub is_wildcard_nsec3 : {N O : Type 0} → Record N O → Bool
+is_wildcard_nsec3 r = type_of r == 50 && is_wildcard r.owner
 
 -- ---- hosts
 
@@ -74,6 +90,10 @@ has_wildcard_above origin records name = list_any (λ above. is_within above ori
 -- an NS stands at a name below the apex
 abbrev pub is_zone_cut : {N O : Type 0} → List (List ℕ) → List (Record N O) → List (List ℕ) → Bool
 is_zone_cut origin records name = is_below name origin && has_type_at 2 name records
+
+-- the record is a DNAME at a delegation
+abbrev pub is_dname_at_cut : {N O : Type 0} → List (List ℕ) → List (Record N O) → Record N O → Bool
+is_dname_at_cut origin records r = type_of r == 39 && is_zone_cut origin records r.owner
 
 -- a delegation stands at a name or above it
 abbrev pub is_delegated : {N O : Type 0} → List (List ℕ) → List (Record N O) → List (List ℕ) → Bool
@@ -116,6 +136,9 @@ breaks TwoDnames origin records place r = follows (are_two_of 39) records place 
 breaks BelowDname origin records place r = is_below_dname records r
 breaks DsAtApex origin records place r = is_record_at_apex 43 origin r
 breaks WildcardNs origin records place r = is_wildcard_ns r
+breaks SoaNotApex origin records place r = is_soa_below_apex origin r
+breaks NsBesideDname origin records place r = is_dname_at_cut origin records r
+breaks Nsec3AtWildcard origin records place r = is_wildcard_nsec3 r
 breaks MissingGlue origin records place r = lacks_glue origin records r
 breaks HostIsAlias origin records place r = names_alias records r
 breaks HostMissing origin records place r = names_missing origin records r

@@ -60,8 +60,14 @@ host_field type = if type == 2 then Some 0 else (if type == 15 then Some 1 else 
 abbrev pub host_octets : TypeData → Option (List ℕ)
 host_octets d = option_and_then (data_part d) (host_field d.code)
 
+-- the root is no host: as a target it says that there is none (RFC 7505 section 3, RFC 2782)
+abbrev pub but_root : List (List ℕ) → Option (List (List ℕ))
+but_root [] = None
+but_root (label ∷ []) = None
+but_root (label ∷ next ∷ others) = Some (label ∷ next ∷ others)
+
 abbrev pub host_of : {N O : Type 0} → Record N O → Option (List (List ℕ))
-host_of r = option_map labels_in_octets (host_octets (data_of r))
+host_of r = option_and_then but_root (option_map labels_in_octets (host_octets (data_of r)))
 
 -- the type that an RRSIG covers, in the first two octets of its data (RFC 4034 section 3.1.1)
 abbrev pub covered_type : List ℕ → ℕ

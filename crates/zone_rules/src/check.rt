@@ -4,11 +4,13 @@ ghost use Rattle.std.specs.List.{flat_map};
 ghost use Rattle.zone_rules.specs.Findings.{breaks_at, found_at, found_at_apex, found_if, found_in_zone, found_of};
 ghost use Rattle.zone_rules.specs.Rules.{breaks};
 
-use crate::hosts::{is_ns_without_address, is_to_alias, is_to_missing, is_without_glue};
+use crate::hosts::{
+    is_dname_at_delegation, is_ns_without_address, is_to_alias, is_to_missing, is_without_glue,
+};
 use crate::names::view;
 use crate::owners::{
-    has_company, is_apex_record, is_no_host_name, is_ns_at_wildcard, is_outside_zone,
-    is_under_dname, is_without_key,
+    has_company, is_apex_record, is_no_host_name, is_ns_at_wildcard, is_nsec3_at_wildcard,
+    is_outside_zone, is_soa_elsewhere, is_under_dname, is_without_key,
 };
 use crate::pairs::{has_other_ttl, is_duplicate, is_second};
 use crate::rule::{Finding, Rule};
@@ -20,7 +22,7 @@ use dns_wire::Name;
 use std::alloc::{AllocError, Allocator};
 
 /// The rules for records, in the order in which they are told of a record.
-const RECORD_RULES: [Rule; 15] = [
+const RECORD_RULES: [Rule; 18] = [
     Rule::Outside,
     Rule::TwoSoas,
     Rule::NsAddress,
@@ -29,6 +31,9 @@ const RECORD_RULES: [Rule; 15] = [
     Rule::BelowDname,
     Rule::DsAtApex,
     Rule::WildcardNs,
+    Rule::SoaNotApex,
+    Rule::NsBesideDname,
+    Rule::Nsec3AtWildcard,
     Rule::MissingGlue,
     Rule::HostIsAlias,
     Rule::HostMissing,
@@ -58,6 +63,9 @@ fn breaks_rule<Owner: AsOctets, Octets: AsOctets>(
         Rule::BelowDname => is_under_dname(records, record),
         Rule::DsAtApex => is_apex_record(DS, origin, record),
         Rule::WildcardNs => is_ns_at_wildcard(record),
+        Rule::SoaNotApex => is_soa_elsewhere(origin, record),
+        Rule::NsBesideDname => is_dname_at_delegation(origin, records, record),
+        Rule::Nsec3AtWildcard => is_nsec3_at_wildcard(record),
         Rule::MissingGlue => is_without_glue(origin, records, record),
         Rule::HostIsAlias => is_to_alias(records, record),
         Rule::HostMissing => is_to_missing(origin, records, record),

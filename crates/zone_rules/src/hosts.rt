@@ -5,13 +5,13 @@ ghost use Rattle.std.specs.Option.{option_copied};
 ghost use Rattle.dns_spelling.specs.NameSpelling.{IsWireName};
 ghost use Rattle.dns_wire.specs.Wire.{wire_length};
 ghost use Rattle.zone_rules.specs.Above.{names_above};
-ghost use Rattle.zone_rules.specs.Rules.{has_wildcard_above, is_delegated, is_missing, is_zone_cut, lacks_address, lacks_glue, lacks_ns_address, names_alias, names_missing};
-ghost use Rattle.zone_rules.specs.Zones.{has_owner, host_octets, host_of};
+ghost use Rattle.zone_rules.specs.Rules.{has_wildcard_above, is_delegated, is_dname_at_cut, is_missing, is_zone_cut, lacks_address, lacks_glue, lacks_ns_address, names_alias, names_missing};
+ghost use Rattle.zone_rules.specs.Zones.{but_root, has_owner, host_octets, host_of};
 
 use crate::names::{is_name_below, is_name_within, name_of, octets_of, parent, view};
 use crate::owners::is_apex_record;
 use crate::sorted::{SortedRecords, has_address, has_record, has_type};
-use crate::types::{CNAME, MX, NS, SRV};
+use crate::types::{CNAME, DNAME, MX, NS, SRV};
 use arrayvec::ArrayVec;
 use dns_octets::AsOctets;
 use dns_resource::{Data, Record};
@@ -32,12 +32,23 @@ fn host_part<Octets: AsOctets>(data: &Data<Octets>) -> Option<&[u8]>
     }
 }
 
+/// A name, unless it is the root: as a target that says that there is none (RFC 7505 section 3, RFC
+/// 2782).
+fn but_root<'a>(name: Name<&'a [u8]>) -> Option<Name<&'a [u8]>>
+    ensures { result ≡ but_root name.entry }
+{
+    match parent(&name) {
+        Some(_) => Some(name),
+        None => None,
+    }
+}
+
 /// The host that a record names.
 fn host<Owner: AsOctets, Octets: AsOctets>(record: &Record<Owner, Octets>) -> Option<Name<&[u8]>>
     ensures { result ≡ host_of «record».now }
 {
     match host_part(&record.data) {
-        Some(octets) => Some(name_of(octets)),
+        Some(octets) => but_root(name_of(octets)),
         None => None,
     }
 }
@@ -154,6 +165,17 @@ pub fn is_cut<Owner: AsOctets, Octets: AsOctets>(
     ensures { result ≡ is_zone_cut origin.now records.now name.now }
 {
     is_name_below(name, origin) && has_type(records, name, NS)
+}
+
+/// Whether a record is a DNAME at a delegation.
+pub(crate) fn is_dname_at_delegation<Owner: AsOctets, Octets: AsOctets>(
+    origin: &Name<&[u8]>,
+    records: &SortedRecords<'_, Owner, Octets>,
+    record: &Record<Owner, Octets>,
+) -> bool
+    ensures { result ≡ is_dname_at_cut origin.now records.now «record».now }
+{
+    record.data.code() == DNAME && is_cut(origin, records, &view(&record.owner))
 }
 
 /// Whether a delegation stands above a name.

@@ -2,13 +2,15 @@
 ghost use Rattle.std.specs.Prelude.{◌≡◌};
 ghost use Rattle.std.specs.List.{list_any};
 ghost use Rattle.zone_rules.specs.Above.{names_above};
-ghost use Rattle.zone_rules.specs.Rules.{is_alias_in_company, is_record_at_apex, is_bad_host_name, is_below_dname, is_beside_alias, is_host_record, is_out_of_zone, is_wildcard_ns, lacks_key};
+ghost use Rattle.zone_rules.specs.Rules.{is_alias_in_company, is_record_at_apex, has_dname_over, is_bad_host_name, is_below_dname, is_beside_alias, is_host_record, is_of_hashed_chain, is_out_of_zone, is_soa_below_apex, is_wildcard_ns, is_wildcard_nsec3, lacks_key};
 ghost use Rattle.zone_rules.specs.Zones.{has_type_at};
 
-use crate::names::{has_name_underscore, is_name_within, is_same, is_wildcard_name, parent, view};
-use crate::pairs::{are_equal, have_one_owner};
+use crate::names::{
+    has_name_underscore, is_name_below, is_name_within, is_same, is_wildcard_name, parent, view,
+};
+use crate::pairs::{are_equal, have_one_owner, set_type_of};
 use crate::sorted::{SortedRecords, has_type, owned_by};
-use crate::types::{A, AAAA, CDNSKEY, CDS, CNAME, DNAME, DNSKEY, MX, NS, NSEC, RRSIG};
+use crate::types::{A, AAAA, CDNSKEY, CDS, CNAME, DNAME, DNSKEY, MX, NS, NSEC, NSEC3, RRSIG, SOA};
 use dns_octets::AsOctets;
 use dns_resource::Record;
 use dns_wire::Name;
@@ -74,14 +76,41 @@ fn has_dname_above<Owner: AsOctets, Octets: AsOctets>(
     }
 }
 
-/// Whether a record stands below a DNAME.
+/// Whether a DNAME stands above a record.
+fn is_owner_under_dname<Owner: AsOctets, Octets: AsOctets>(
+    records: &SortedRecords<'_, Owner, Octets>,
+    record: &Record<Owner, Octets>,
+) -> bool
+    ensures { result ≡ has_dname_over records.now «record».now }
+{
+    records.has_dname() && has_dname_above(records, &view(&record.owner))
+}
+
+/// Whether a record is an NSEC3, or an RRSIG over such.
+fn is_of_hashed_chain<Owner: AsOctets, Octets: AsOctets>(record: &Record<Owner, Octets>) -> bool
+    ensures { result ≡ is_of_hashed_chain «record».now }
+{
+    record.data.code() == NSEC3 || set_type_of(record) == NSEC3
+}
+
+/// Whether a record stands below a DNAME and must not.
 pub(crate) fn is_under_dname<Owner: AsOctets, Octets: AsOctets>(
     records: &SortedRecords<'_, Owner, Octets>,
     record: &Record<Owner, Octets>,
 ) -> bool
     ensures { result ≡ is_below_dname records.now «record».now }
 {
-    records.has_dname() && has_dname_above(records, &view(&record.owner))
+    !is_of_hashed_chain(record) && is_owner_under_dname(records, record)
+}
+
+/// Whether a record is an SOA below the apex.
+pub(crate) fn is_soa_elsewhere<Owner: AsOctets, Octets: AsOctets>(
+    origin: &Name<&[u8]>,
+    record: &Record<Owner, Octets>,
+) -> bool
+    ensures { result ≡ is_soa_below_apex origin.now «record».now }
+{
+    record.data.code() == SOA && is_name_below(&view(&record.owner), origin)
 }
 
 /// Whether a record is an NS at a wildcard.
@@ -91,6 +120,15 @@ pub(crate) fn is_ns_at_wildcard<Owner: AsOctets, Octets: AsOctets>(
     ensures { result ≡ is_wildcard_ns «record».now }
 {
     record.data.code() == NS && is_wildcard_name(&view(&record.owner))
+}
+
+/// Whether a record is an NSEC3 at a wildcard.
+pub(crate) fn is_nsec3_at_wildcard<Owner: AsOctets, Octets: AsOctets>(
+    record: &Record<Owner, Octets>,
+) -> bool
+    ensures { result ≡ is_wildcard_nsec3 «record».now }
+{
+    record.data.code() == NSEC3 && is_wildcard_name(&view(&record.owner))
 }
 
 /// Whether a record is of a type whose owners are host names.

@@ -24,6 +24,8 @@ pub(crate) const NSEC: u16 = 47;
 
 pub(crate) const DNSKEY: u16 = 48;
 
+pub(crate) const NSEC3: u16 = 50;
+
 pub(crate) const CDS: u16 = 59;
 
 pub(crate) const CDNSKEY: u16 = 60;

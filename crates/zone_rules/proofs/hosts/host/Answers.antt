@@ -1,10 +1,12 @@
-use Rattle.std.proofs.Common.{Some, sym, ap, ◌∙◌}
+use Rattle.std.proofs.Common.{sym, ap, ◌∙◌}
+use Rattle.std.specs.Prelude.{option_and_then}
 use Rattle.std.specs.Option.{option_map}
 use Rattle.dns_spelling.specs.PrintedNames.{labels_in_octets}
 use Rattle.dns_spelling.proofs.NameLaws.{wire_labels}
+use Rattle.zone_rules.specs.Zones.{but_root}
 use Rattle.zone_rules.proofs.hosts.host.Goals as goal
 
 pub returns-in-Some : goal.returns-in-Some
 returns-in-Some g c =
-    ap (λ l. Some l) (sym (wire_labels c.name_of.result)) ∙ ap (λ o. Some (labels_in_octets o)) (sym c.name_of.ensures)
-    ∙ ap (option_map labels_in_octets) c.in-Some.ensures.value
+    c.but_root.ensures ∙ ap but_root (sym (wire_labels c.name_of.result)) ∙ ap (λ o. but_root (labels_in_octets o)) (sym c.name_of.ensures)
+    ∙ ap (λ h. option_and_then but_root (option_map labels_in_octets h)) c.in-Some.ensures.value

@@ -1,7 +1,7 @@
 use Rattle.std.proofs.Common.{sym, ◌∙◌}
 use Rattle.zone_rules.specs.Above.{names_above}
 use Rattle.zone_rules.proofs.Lookups.{none_at_names}
-use Rattle.zone_rules.proofs.owners.is_under_dname.Goals as goal
+use Rattle.zone_rules.proofs.owners.is_owner_under_dname.Goals as goal
 
 pub returns-else-has_dname : goal.returns-else-has_dname
 returns-else-has_dname g c =
