@@ -19,6 +19,8 @@ complete -c zonetext -n '__fish_seen_subcommand_from check' -l text -d 'Look at 
 complete -c zonetext -n '__fish_seen_subcommand_from check' -l zone -x -d 'The zone, whose rules are to hold'
 complete -c zonetext -n '__fish_seen_subcommand_from check' -l zone-from-name -d 'The same, by the name of the file'
 complete -c zonetext -n '__fish_seen_subcommand_from check' -l include -r -d 'A folder of which files may be included'
+complete -c zonetext -n '__fish_seen_subcommand_from check records canon diff digest' -l base -r -d 'The folder of relative names of included files'
+complete -c zonetext -n '__fish_seen_subcommand_from check' -l stdin-name -r -d 'The name of standard input'
 complete -c zonetext -n '__fish_seen_subcommand_from check' -l dnssec -d 'The zone is signed: signatures, NSEC and NSEC3 are looked at too'
 complete -c zonetext -n '__fish_seen_subcommand_from check' -l within -x -d 'Also tell of signatures that expire within a time'
 complete -c zonetext -n '__fish_seen_subcommand_from check' -l now -x -d 'The time instead of now'
@@ -53,6 +55,8 @@ complete -c zonetext -n '__fish_seen_subcommand_from canon diff' -l no-soa -d 'L
 complete -c zonetext -n '__fish_seen_subcommand_from digest' -s w -l write -d 'Put the digests right in the file, and one in where there is none'
 complete -c zonetext -n '__fish_seen_subcommand_from digest' -x -l hash -a 'sha384 sha512' -d 'The hash algorithm of a digest that is put in'
 complete -c zonetext -n '__fish_seen_subcommand_from digest' -l force -d 'Also write into zones that a server changes itself'
+complete -c zonetext -n '__fish_seen_subcommand_from digest' -l any -d 'One digest that matches is enough'
+complete -c zonetext -n '__fish_seen_subcommand_from digest' -s v -l verbose -d 'Also name digests whose scheme or hash algorithm is not known'
 complete -c zonetext -n '__fish_seen_subcommand_from cut' -s o -l output -r -d 'The parts are PREFIX.000, PREFIX.001, and so on'
 complete -c zonetext -n '__fish_seen_subcommand_from cut' -l soa -d 'Repeat the SOA in each part behind it'
 complete -c zonetext -n '__fish_seen_subcommand_from help' -f -a "$commands"

@@ -2,7 +2,7 @@
 use crate::gathered::{Gathered, gather};
 use crate::lines::Lines;
 use crate::reading::Reading;
-use crate::stop::{Stop, TROUBLE, conclude};
+use crate::stop::{Stop, conclude};
 use dns_kinds::RecordType;
 use dns_octets::AsOctets;
 use std::alloc::{AllocError, Global};
@@ -135,7 +135,7 @@ fn compare(rt: &HostRuntime, old: &Gathered, new: &Gathered, output: Output) -> 
     Ok(true)
 }
 
-/// Compares two files, and returns the status: 1 if their records differ.
+/// Compares two files, and returns the status: 1 if their records differ, or an entry is refused.
 pub fn run(
     rt: &HostRuntime,
     first: &str,
@@ -146,8 +146,10 @@ pub fn run(
 ) -> u8 {
     let old = gather(rt, &[first], reading, selection);
     let new = gather(rt, &[second], reading, selection);
-    let (Ok(old), Ok(new)) = (old, new) else {
-        return TROUBLE;
+    let (old, new) = match (old, new) {
+        (Ok(old), Ok(new)) => (old, new),
+        (Err(status), Err(other)) => return status.max(other),
+        (Err(status), Ok(_)) | (Ok(_), Err(status)) => return status,
     };
     match compare(rt, &old, &new, output) {
         Ok(differ) => u8::from(differ),

@@ -1,11 +1,13 @@
 //! The command `check`: what is wrong with zone files.
 use crate::checking::{Checker, Limits};
+use crate::files::check_text;
 use crate::options;
-use crate::options::{USAGE, Usage, class_of, name_of, number_of};
+use crate::options::{USAGE, Usage, class_of, name_of, number_of, seconds_of};
 use crate::reporter::{Form, Reporter};
+use crate::shown::Shown;
 use crate::stop::{Stop, conclude};
 use crate::times::times_of;
-use crate::zone_files::{Begin, visit_file};
+use crate::zone_files::{Begin, shown_name, visit_file};
 use clap::ArgMatches;
 use dns_reader::{NameBuffer, State};
 use dns_wire::DisplayWithDot;
@@ -16,7 +18,7 @@ use zone_dnssec::Times;
 use zonetext_report::code::Code;
 use zonetext_report::policy::Policy;
 
-/// How many findings are said, unless another number is asked for.
+/// How many findings are said as lines, unless another number is asked for.
 const MOST: usize = 20;
 
 /// Where a file's zone is said.
@@ -39,27 +41,60 @@ struct Options<'o> {
     class: u16,
     max_ttl: Option<u32>,
     folders: &'o [&'o str],
+    base: Option<&'o str>,
+    stdin_name: Option<&'o str>,
     zone: Zone<'o>,
     /// The times for signatures, if they are to be looked at.
     times: Option<Times>,
     is_verbose: bool,
+    /// Whether the text alone is looked at.
+    is_text: bool,
     is_quiet: bool,
 }
 
+/// Whether a finding is one of the text alone.
+fn is_of_text(code: Code) -> bool {
+    code.is_text_fault()
+        || matches!(
+            code,
+            Code::HighOctet
+                | Code::ControlOctet
+                | Code::Crlf
+                | Code::NestedParentheses
+                | Code::NoFinalNewline
+        )
+}
+
+/// The code that an option names.
+fn code_of<'o>(value: &'o str, option: &'static str, is_text: bool) -> Result<Code, Usage<'o>> {
+    match Code::named(value) {
+        Some(code) if is_text && !is_of_text(code) => Err(Usage::OfRecords { option, value }),
+        Some(code) => Ok(code),
+        None => Err(Usage::Value {
+            option,
+            value,
+            wants: "the code of a finding: zonetext(1) lists them",
+        }),
+    }
+}
+
 /// The codes that an option names.
-fn codes_of(alloc: Global, names: &[&str], option: &'static str) -> Result<Vec<Code>, Usage> {
+fn codes_of<'o>(
+    alloc: Global,
+    names: &[&'o str],
+    option: &'static str,
+    is_text: bool,
+) -> Result<Vec<Code>, Usage<'o>> {
     let mut codes = Vec::new(alloc);
     for name in names {
-        match Code::named(name) {
-            Some(code) => codes.push(code).map_err(AllocError::from)?,
-            None => return Err(Usage::Value(option)),
-        }
+        let code = code_of(name, option, is_text)?;
+        codes.push(code).map_err(AllocError::from)?;
     }
     Ok(codes)
 }
 
 /// Whether output is coloured, and whether it goes to a terminal.
-fn form_of(rt: &HostRuntime, inner: &ArgMatches) -> Result<Form, Usage> {
+fn form_of<'o>(rt: &HostRuntime, inner: &'o ArgMatches) -> Result<Form, Usage<'o>> {
     if inner.get_flag("json") {
         return Ok(Form::Json);
     }
@@ -68,7 +103,8 @@ fn form_of(rt: &HostRuntime, inner: &ArgMatches) -> Result<Form, Usage> {
         Ok(value) => !value.is_empty(),
         Err(_) => false,
     };
-    match inner.get_str("color").unwrap_or("auto") {
+    let value = inner.get_str("color").unwrap_or("auto");
+    match value {
         "auto" => Ok(Form::Lines {
             is_coloured: is_terminal && !is_plain,
             has_excerpt: is_terminal,
@@ -81,12 +117,16 @@ fn form_of(rt: &HostRuntime, inner: &ArgMatches) -> Result<Form, Usage> {
             is_coloured: false,
             has_excerpt: is_terminal,
         }),
-        _ => Err(Usage::Value("--color")),
+        _ => Err(Usage::Value {
+            option: "--color",
+            value,
+            wants: "auto, always or never",
+        }),
     }
 }
 
 /// Where the zone of files is said.
-fn zone_of<'o>(inner: &'o ArgMatches) -> Result<Zone<'o>, Usage> {
+fn zone_of<'o>(inner: &'o ArgMatches) -> Result<Zone<'o>, Usage<'o>> {
     if inner.get_flag("zone-from-name") {
         return Ok(Zone::InName);
     }
@@ -97,25 +137,41 @@ fn zone_of<'o>(inner: &'o ArgMatches) -> Result<Zone<'o>, Usage> {
 }
 
 /// What the words of the command ask for.
-fn options_of<'o>(rt: &HostRuntime, inner: &'o ArgMatches) -> Result<Options<'o>, Usage> {
+fn options_of<'o>(rt: &HostRuntime, inner: &'o ArgMatches) -> Result<Options<'o>, Usage<'o>> {
     let alloc = rt.alloc();
     let most = number_of(inner.get_str("max"), "--max")?;
     let zone = zone_of(inner)?;
+    let form = form_of(rt, inner)?;
+    let is_text = inner.get_flag("text");
     Ok(Options {
-        form: form_of(rt, inner)?,
+        form,
         most: match most {
             Some(most) => most as usize,
+            None if form == Form::Json => 0,
             None => MOST,
         },
-        denied: codes_of(alloc, inner.get_strs("deny").unwrap_or(&[]), "--deny")?,
-        allowed: codes_of(alloc, inner.get_strs("allow").unwrap_or(&[]), "--allow")?,
+        denied: codes_of(
+            alloc,
+            inner.get_strs("deny").unwrap_or(&[]),
+            "--deny",
+            is_text,
+        )?,
+        allowed: codes_of(
+            alloc,
+            inner.get_strs("allow").unwrap_or(&[]),
+            "--allow",
+            is_text,
+        )?,
         is_strict: inner.get_flag("strict"),
         class: class_of(inner.get_str("class"))?,
-        max_ttl: number_of(inner.get_str("max-ttl"), "--max-ttl")?,
+        max_ttl: seconds_of(inner.get_str("max-ttl"), "--max-ttl")?,
         folders: inner.get_strs("include").unwrap_or(&[]),
+        base: inner.get_str("base"),
+        stdin_name: inner.get_str("stdin-name"),
         zone,
         times: times_of(rt, inner, !matches!(zone, Zone::Unsaid))?,
         is_verbose: inner.get_flag("verbose"),
+        is_text,
         is_quiet: inner.get_flag("quiet"),
     })
 }
@@ -123,6 +179,7 @@ fn options_of<'o>(rt: &HostRuntime, inner: &'o ArgMatches) -> Result<Options<'o>
 /// Says how much was read: on standard output, unless that has JSON.
 fn tell_zone(rt: &HostRuntime, file: &str, checker: &Checker, form: Form) -> Result<(), Stop> {
     let records = checker.records;
+    let file = Shown(file);
     let text = match &checker.seen {
         Some(seen) => {
             let (zone, serial) = (DisplayWithDot::new(&seen.zone), seen.serial);
@@ -146,17 +203,20 @@ fn go_through(
     state: State,
 ) -> Result<(), Stop> {
     let begin = Begin {
-        includes: true,
+        includes: !options.is_text,
         is_whole: false,
         state,
         folders: options.folders,
+        base: options.base,
+        stdin_name: options.stdin_name,
         is_quiet: options.is_quiet,
     };
     visit_file(rt, file, begin, checker)?;
     checker.finish()?;
     checker.reporter.summarize()?;
     if options.is_verbose {
-        tell_zone(rt, file, checker, options.form)?;
+        let name = shown_name(file, options.stdin_name);
+        tell_zone(rt, name, checker, options.form)?;
     }
     Ok(())
 }
@@ -185,8 +245,8 @@ fn origin_of(file: &str, zone: Zone) -> Option<NameBuffer> {
 }
 
 /// Whether the name of a file is to name its zone, and does not.
-fn names_no_zone(file: &str, options: &Options) -> bool {
-    matches!(options.zone, Zone::InName) && origin_of(file, options.zone).is_none()
+fn names_no_zone(name: &str, options: &Options) -> bool {
+    matches!(options.zone, Zone::InName) && origin_of(name, options.zone).is_none()
 }
 
 /// Checks a file, and returns the status.
@@ -196,7 +256,8 @@ fn check_file(rt: &HostRuntime, file: &str, options: &Options) -> u8 {
         denied: options.denied.as_slice(),
         is_strict: options.is_strict,
     };
-    let zone = origin_of(file, options.zone);
+    let name = shown_name(file, options.stdin_name);
+    let zone = origin_of(name, options.zone);
     let limits = Limits {
         class: options.class,
         max_ttl: options.max_ttl,
@@ -204,9 +265,11 @@ fn check_file(rt: &HostRuntime, file: &str, options: &Options) -> u8 {
         is_strict: options.is_strict,
         tells_slips: true,
         times: options.times,
+        is_standard: file == "-",
+        is_text: options.is_text,
     };
     let state = State::new(options.class);
-    let state = match origin_of(file, options.zone).or(name_of(".")) {
+    let state = match origin_of(name, options.zone).or(name_of(".")) {
         Some(origin) => state.with_origin(origin),
         None => state,
     };
@@ -214,20 +277,42 @@ fn check_file(rt: &HostRuntime, file: &str, options: &Options) -> u8 {
     let mut checker = Checker::new(rt, reporter, limits, zone);
     match go_through(rt, file, options, &mut checker, state) {
         Ok(()) => checker.reporter.tally.status(),
-        Err(stop) => conclude(rt, file, stop),
+        Err(stop) => conclude(rt, name, stop),
     }
+}
+
+/// Whether words ask for findings of the text: else the first fault of each file is said.
+fn asks_for_findings(inner: &ArgMatches) -> bool {
+    let has_codes = inner.get_strs("deny").is_some() || inner.get_strs("allow").is_some();
+    let has_most = inner.get_str("max").is_some() || inner.get_str("color").is_some();
+    has_codes || has_most || inner.get_flag("json") || inner.get_flag("strict")
+}
+
+/// Says where files are no zone text, and returns the greatest status.
+fn run_text(rt: &HostRuntime, inner: &ArgMatches, files: &[&str]) -> io::Result<u8> {
+    let mut status = 0;
+    for file in files {
+        let name = shown_name(file, inner.get_str("stdin-name"));
+        status = check_text(rt, file, name, inner.get_flag("quiet"))?.max(status);
+    }
+    Ok(status)
 }
 
 /// Checks files, and returns the greatest status.
 pub fn run(rt: &HostRuntime, inner: &ArgMatches, files: &[&str]) -> io::Result<u8> {
+    if inner.get_flag("text") && !asks_for_findings(inner) {
+        return run_text(rt, inner, files);
+    }
     let options = match options_of(rt, inner) {
         Ok(options) => options,
         Err(usage) => return options::status_of(rt, Err(usage)),
     };
     let mut status = 0;
     for file in files {
-        let checked = if names_no_zone(file, &options) {
-            eprintln!(rt; "zonetext: {file}: its name is no zone's")?;
+        let name = shown_name(file, options.stdin_name);
+        let checked = if names_no_zone(name, &options) {
+            let name = Shown(name);
+            eprintln!(rt; "zonetext: {name}: its name is no zone's")?;
             USAGE
         } else {
             check_file(rt, file, &options)

@@ -1,5 +1,6 @@
 //! What the command `check` finds in the entries of zone files.
-use crate::held::{Held, line_of};
+use crate::file_lines::FileLines;
+use crate::held::Held;
 use crate::open_file::first_place;
 use crate::reporter::{Reporter, Spot};
 use crate::scan::{OctetScan, needs_lint, repeats_origin, scan_octets};
@@ -57,6 +58,10 @@ pub struct Limits {
     pub tells_slips: bool,
     /// The times for signatures, if the zone is to be signed.
     pub times: Option<Times>,
+    /// Whether the first file is standard input, which can't be read again.
+    pub is_standard: bool,
+    /// Whether the text alone is looked at. What its octets show is told then if it is denied.
+    pub is_text: bool,
 }
 
 /// Where a record stands.
@@ -104,8 +109,8 @@ impl HeldZone {
 /// Finds faults in entries, and says them.
 #[derive(Drop)]
 pub struct Checker<'a> {
-    rt: &'a HostRuntime,
     alloc: Global,
+    lines: FileLines<'a>,
     pub reporter: Reporter<'a>,
     limits: Limits,
     /// The zone whose rules are to hold.
@@ -190,14 +195,6 @@ fn refusal_text(alloc: Global, refusal: &EntryRefusal, code: Code) -> Result<Str
 /// A record that knows where it stands.
 type StandingRecord<'h> = Record<TaggedOctets<'h, Stand>, &'h [u8]>;
 
-/// Whether a record is an SOA.
-fn is_soa(record: Option<&StandingRecord<'_>>) -> bool {
-    match record {
-        Some(record) => record.data.code() == SOA,
-        None => false,
-    }
-}
-
 /// A column of a line, with the line.
 fn line_spot<'s>(file: &'s str, position: Position, line: Option<&'s [u8]>) -> Spot<'s> {
     Spot {
@@ -218,10 +215,10 @@ impl<'a> Checker<'a> {
         zone: Option<NameBuffer>,
     ) -> Checker<'a> {
         let alloc = rt.alloc();
-        let holds = limits.is_strict || zone.is_some();
+        let holds = !limits.is_text && (limits.is_strict || zone.is_some());
         Checker {
-            rt,
             alloc,
+            lines: FileLines::new(rt),
             reporter,
             limits,
             zone,
@@ -426,6 +423,9 @@ impl<'a> Checker<'a> {
         if needs_lint(entry.octets, scan) {
             return false;
         }
+        if self.limits.is_text {
+            return !matches!(entry.read, Err(RecordRefusal::Text(_)));
+        }
         match entry.read {
             Ok(EntryRead::Nothing) => true,
             Ok(
@@ -565,9 +565,7 @@ impl<'a> Checker<'a> {
         for finding in &found {
             let record = finding.record.and_then(|place| records.get(place));
             let is_told = match finding.rule {
-                // What a server sends of a zone ends with the SOA with which it begins.
-                Rule::Duplicate => !is_soa(record),
-                Rule::TtlDiffers => true,
+                Rule::Duplicate | Rule::TtlDiffers => true,
                 _ => is_zone,
             };
             if is_told {
@@ -615,8 +613,8 @@ impl<'a> Checker<'a> {
         };
         let position = stand.position;
         let name = held.file(stand.file);
-        let line = if self.reporter.shows_lines() {
-            line_of(self.rt, name, position.line)?
+        let line = if self.reads_line(code, stand.file) {
+            self.lines.line(stand.file, name, position.line)?
         } else {
             None
         };
@@ -626,6 +624,12 @@ impl<'a> Checker<'a> {
         }
     }
 
+    /// Whether a line of a file, by its number, is to be read again for a finding that is told next.
+    fn reads_line(&self, code: Code, file: usize) -> bool {
+        let can_be_read = file > 0 || !self.limits.is_standard;
+        can_be_read && self.reporter.shows_lines() && self.reporter.shows(code)
+    }
+
     /// Whether it is to be told that the lines of an entry's file end in CR LF: once a file, and not
     /// where a fault cuts the entry off.
     fn tells_crlf(&self, entry: &Entry<'_>) -> bool {
@@ -633,6 +637,11 @@ impl<'a> Checker<'a> {
             return false;
         }
         !self.crlf_files.contains(&entry.number)
+    }
+
+    /// Whether it is told what octets show: of the text alone only if it is denied.
+    fn tells_octets(&self, code: Code) -> bool {
+        !self.limits.is_text || self.reporter.denies(code)
     }
 
     /// Says what the octets of an entry show. Returns whether Ctrl-Z begins it.
@@ -651,6 +660,9 @@ impl<'a> Checker<'a> {
         lint(entry.octets, block, &mut remarks)?;
         let mut is_end = false;
         for remark in &remarks {
+            if !self.tells_octets(remark.code) {
+                continue;
+            }
             is_end = is_end || remark.code == Code::ControlZ;
             if remark.code == Code::Crlf {
                 self.crlf_files.push(entry.number)?;
@@ -669,6 +681,8 @@ impl<'a> Checker<'a> {
         let is_end = self.lint(entry, scan)?;
         match entry.read {
             _ if is_end => Ok(()),
+            Err(RecordRefusal::Text(fault)) => self.tell_fault(entry, *fault),
+            _ if self.limits.is_text => Ok(()),
             Ok(EntryRead::Nothing) => Ok(()),
             Ok(EntryRead::Directive) => self.check_directive(entry),
             Ok(EntryRead::Include { .. }) => self.check_directive(entry),
@@ -680,7 +694,6 @@ impl<'a> Checker<'a> {
                     code,
                 },
             ) => self.check_record(entry, scan, *at, *ttl, *class, *code),
-            Err(RecordRefusal::Text(fault)) => self.tell_fault(entry, *fault),
             Err(RecordRefusal::Entry(refusal)) => self.tell_refusal(entry, refusal),
         }
     }
@@ -696,6 +709,9 @@ impl<'a> Visit for Checker<'a> {
             return Ok(());
         }
         self.is_cut = self.is_cut || mark.len() == 2;
+        if !self.tells_octets(Code::ByteOrderMark) {
+            return Ok(());
+        }
         self.tell(
             line_spot(file, first_place().position, None),
             Code::ByteOrderMark,
@@ -728,6 +744,9 @@ impl<'a> Visit for Checker<'a> {
     }
 
     fn refuse(&mut self, entry: &Entry<'_>, why: &str) -> Result<(), Stop> {
+        if self.limits.is_text {
+            return Ok(());
+        }
         let tokens = tokens_of(self.alloc, entry)?;
         let spot = match tokens.as_slice().get(1) {
             Some(token) => token_at(entry, token),

@@ -49,6 +49,11 @@ const ZONE_FROM_NAME: &str = "the same, by the file's name without .zone or .db"
 
 const INCLUDE: &str = "a folder of which files may be included, besides the first file's";
 
+pub const BASE: &str =
+    "the folder of relative names of included files, not that of the including file";
+
+const STDIN_NAME: &str = "the name of standard input: in messages, and for files that it includes";
+
 const DNSSEC: &str = "the zone is signed: signatures, NSEC and NSEC3 are looked at too";
 
 const WITHIN: &str = "also tell of signatures that expire within a time, as 7d";
@@ -57,13 +62,25 @@ const NOW: &str = "the time instead of now, as 20260131235959 or in seconds sinc
 
 const WHEN: [&str; 3] = ["auto", "always", "never"];
 
+/// The options of records, which do not go with a look at the text alone.
+const OF_RECORDS: [&str; 8] = [
+    "zone",
+    "zone-from-name",
+    "dnssec",
+    "include",
+    "base",
+    "class",
+    "max-ttl",
+    "verbose",
+];
+
 /// The options that say what is found.
 fn with_findings<'a>(alloc: Global, command: Command<'a>) -> Result<Command<'a>, AllocError> {
     command
         .arg(values(alloc, "deny", "CODE", "take a finding for an error"))?
         .arg(values(alloc, "allow", "CODE", "leave a finding out"))?
         .arg(flag(alloc, "strict", "take every finding for an error"))?
-        .arg(valued(alloc, "max-ttl", "SECONDS", "the greatest time to live"))?
+        .arg(valued(alloc, "max-ttl", "TIME", "the greatest time to live, as 1d"))?
         .arg(valued(
             alloc,
             "class",
@@ -84,7 +101,7 @@ fn with_signatures<'a>(alloc: Global, command: Command<'a>) -> Result<Command<'a
 
 /// The options that say how findings are written.
 fn with_forms<'a>(alloc: Global, command: Command<'a>) -> Result<Command<'a>, AllocError> {
-    let most = "how many findings are written, 20 unless given; 0 for all";
+    let most = "how many findings are written, 20 unless given, or all as JSON; 0 for all";
     let verbose = "write the zone, its serial number and how many records there are";
     let color = valued(
         alloc,
@@ -102,11 +119,17 @@ fn with_forms<'a>(alloc: Global, command: Command<'a>) -> Result<Command<'a>, Al
 /// The command that checks files.
 fn check_command<'a>(alloc: Global, name: &'a str) -> Result<Command<'a>, AllocError> {
     let zone = valued(alloc, "zone", "ORIGIN", ZONE).conflicts_with("zone-from-name")?;
+    let mut text = flag(alloc, "text", "look at the text alone, not at records");
+    for option in &OF_RECORDS {
+        text = text.conflicts_with(*option)?;
+    }
     let command = over_files(alloc, name, "Say what is wrong with zone files")?
-        .arg(flag(alloc, "text", "look at the text alone, not at records"))?
+        .arg(text)?
         .arg(zone)?
         .arg(flag(alloc, "zone-from-name", ZONE_FROM_NAME))?
-        .arg(values(alloc, "include", "DIR", INCLUDE))?;
+        .arg(values(alloc, "include", "DIR", INCLUDE))?
+        .arg(valued(alloc, "base", "DIR", BASE))?
+        .arg(valued(alloc, "stdin-name", "NAME", STDIN_NAME))?;
     let command = with_signatures(alloc, command)?;
     with_forms(alloc, with_findings(alloc, command)?)
 }
@@ -301,7 +324,6 @@ impl Which {
     /// Runs it, and returns the exit status.
     fn run(self, rt: &HostRuntime, inner: &ArgMatches) -> io::Result<u8> {
         match self {
-            Which::Check if inner.get_flag("text") => run_text_check(rt, inner),
             Which::Check => check::run(rt, inner, names_of(inner)),
             Which::Tokens => run_tokens(rt, inner),
             Which::Format => run_format(rt, inner, names_of(inner)),
@@ -319,15 +341,6 @@ impl Which {
 /// The files that are named, or standard input.
 fn names_of<'m>(inner: &'m ArgMatches) -> &'m [&'m str] {
     inner.get_strs("FILE").unwrap_or(&["-"])
-}
-
-/// Checks files as text alone, and returns the greatest status.
-fn run_text_check(rt: &HostRuntime, inner: &ArgMatches) -> io::Result<u8> {
-    let mut status = 0;
-    for file in names_of(inner) {
-        status = files::check_file(rt, file, inner.get_flag("quiet"))?.max(status);
-    }
-    Ok(status)
 }
 
 /// Writes what is made of files, and returns the greatest status.

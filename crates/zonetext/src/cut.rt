@@ -1,6 +1,7 @@
 //! The command `cut`: a zone file in parts that are read apart.
 use crate::part_files::PartFiles;
 use crate::reading::{Outcome, Reading, TakeEntry, give_entries};
+use crate::shown::Shown;
 use crate::stop::{Stop, TROUBLE, conclude};
 use crate::zone_files::{Entry, Given};
 use std::alloc::Global;
@@ -47,7 +48,7 @@ impl<'p> Parter<'p> {
     /// Says why no part can begin with the record of an entry.
     fn refuse(&mut self, entry: &Entry<'_>, error: CutError) -> Result<(), Stop> {
         self.has_refused = true;
-        let (file, position) = (entry.file, entry.place().position);
+        let (file, position) = (Shown(entry.file), entry.place().position);
         let (line, column, why) = (position.line, position.column, error.as_str());
         eprintln!(self.rt; "{file}:{line}:{column}: error: {why}")?;
         Ok(())
@@ -150,10 +151,12 @@ pub fn run<'p>(rt: &'p HostRuntime, file: &str, reading: Reading<'_>, work: Work
     let octets = match octets_of(rt, file) {
         Ok(Some(octets)) => octets,
         Ok(None) => {
+            let file = Shown(file);
             let _ = eprintln!(rt; "zonetext: {file}: not a regular file");
             return TROUBLE;
         }
         Err(error) => {
+            let file = Shown(file);
             let _ = eprintln!(rt; "zonetext: {file}: {error}");
             return TROUBLE;
         }

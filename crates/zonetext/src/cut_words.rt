@@ -30,15 +30,20 @@ pub fn cut_command<'a>(alloc: Global, name: &'a str) -> Result<Command<'a>, Allo
 }
 
 /// How many parts are asked for.
-fn count_of(text: &str) -> Result<usize, Usage> {
-    match text.parse::<usize>() {
+fn count_of<'o>(value: &'o str) -> Result<usize, Usage<'o>> {
+    match value.parse::<usize>() {
         Ok(count) if count > 0 => Ok(count),
-        _ => Err(Usage::Value("N")),
+        _ => Err(Usage::Value {
+            option: "N",
+            value,
+            wants: "a number from 1 on",
+        }),
     }
 }
 
 /// Cuts a file by the words.
-fn cut_by(rt: &HostRuntime, inner: &ArgMatches) -> Result<u8, Usage> {
+fn cut_by<'o>(rt: &HostRuntime, inner: &'o ArgMatches) -> Result<u8, Usage<'o>> {
+    let base: Option<&'o str> = None;
     let reading = Reading {
         origin: zone_of(inner)?,
         class: class_of(inner.get_str("class"))?,
@@ -46,6 +51,8 @@ fn cut_by(rt: &HostRuntime, inner: &ArgMatches) -> Result<u8, Usage> {
         includes: false,
         is_whole: true,
         folders: &[],
+        base,
+        is_one_zone: inner.get_flag("soa"),
         is_quiet: inner.get_flag("quiet"),
     };
     let work = cut::Work {

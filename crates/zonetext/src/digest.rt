@@ -1,11 +1,24 @@
 //! The command `digest`: whether the digests in a zone are those of its records.
 use crate::gathered::{Gathered, NumberedSet, gather};
 use crate::reading::Reading;
+use crate::shown::Shown;
 use crate::stop::{Stop, TROUBLE, conclude};
 use dns_reader::NameBuffer;
+use std::io;
 use zone_digest::scope::is_apex;
-use zone_digest::{CheckError, Verdict, Zonemd, check_zone};
+use zone_digest::{CheckError, HashAlgorithm, Verdict, Zonemd, check_zone};
 use zone_set::Selection;
+
+/// The scheme SIMPLE.
+const SIMPLE: u8 = 1;
+
+/// The hash algorithm of a digest, if it and the scheme are known.
+pub fn algorithm_of(zonemd: &Zonemd<'_>) -> Option<HashAlgorithm> {
+    if zonemd.scheme != SIMPLE {
+        return None;
+    }
+    HashAlgorithm::of_code(zonemd.hash)
+}
 
 /// What is said of a digest.
 fn verdict_text(verdict: Verdict) -> &'static str {
@@ -19,16 +32,56 @@ fn verdict_text(verdict: Verdict) -> &'static str {
     }
 }
 
-/// Says what became of each ZONEMD at the apex, and returns whether there is one and all match.
+/// What is asked for.
+#[derive(Clone, Copy)]
+pub struct Work {
+    /// Whether one digest that matches is enough (RFC 8976 section 4), whatever others do.
+    pub takes_any: bool,
+    /// Whether also digests are named whose scheme or hash algorithm is not known.
+    pub is_verbose: bool,
+}
+
+/// What became of the digests whose scheme and hash algorithm are known.
+#[derive(Clone, Copy)]
+struct Outcome {
+    /// Whether one matches.
+    matches: bool,
+    /// Whether one does not.
+    differs: bool,
+}
+
+impl Outcome {
+    /// The status: 0 if a digest matches, and all do or one is enough.
+    fn status(self, work: Work) -> u8 {
+        u8::from(!self.matches || (self.differs && !work.takes_any))
+    }
+}
+
+/// What is said of a digest whose scheme or hash algorithm is not known.
+pub fn unknown_text(zonemd: &Zonemd<'_>) -> &'static str {
+    if zonemd.scheme == SIMPLE {
+        "unknown hash algorithm"
+    } else {
+        "unknown scheme"
+    }
+}
+
+/// Says what became of each ZONEMD at the apex whose scheme and hash algorithm are known, and names the
+/// others if that is asked for.
 fn tell_verdicts(
     rt: &HostRuntime,
     file: &str,
     apex: &NameBuffer,
     set: &NumberedSet<'_>,
     verdicts: &[Verdict],
-) -> Result<bool, Stop> {
-    let mut matches = !verdicts.is_empty();
+    work: Work,
+) -> Result<Outcome, Stop> {
+    let mut outcome = Outcome {
+        matches: false,
+        differs: false,
+    };
     let mut verdicts = verdicts.iter();
+    let file = Shown(file);
     for record in set.as_slice() {
         let Some(zonemd) = Zonemd::of_data(&record.data) else {
             continue;
@@ -39,42 +92,69 @@ fn tell_verdicts(
         let Some(verdict) = verdicts.next() else {
             continue;
         };
-        matches = matches && *verdict == Verdict::Matches;
+        let is_known = algorithm_of(&zonemd).is_some();
+        if is_known && *verdict == Verdict::Matches {
+            outcome.matches = true;
+        } else if is_known {
+            outcome.differs = true;
+        } else if !work.is_verbose {
+            continue;
+        }
         let (serial, scheme, hash) = (zonemd.serial, zonemd.scheme, zonemd.hash);
-        let text = verdict_text(*verdict);
+        let text = if is_known {
+            verdict_text(*verdict)
+        } else {
+            unknown_text(&zonemd)
+        };
         println!(rt; "{file}: ZONEMD {serial} {scheme} {hash}: {text}")?;
     }
-    Ok(matches)
+    Ok(outcome)
+}
+
+/// Says that there is no digest, or none that can be checked.
+fn tell_none(rt: &HostRuntime, file: &str, verdicts: &[Verdict]) -> io::Result<()> {
+    let file = Shown(file);
+    if verdicts.is_empty() {
+        eprintln!(rt; "zonetext: {file}: no ZONEMD at the zone's name")
+    } else {
+        eprintln!(rt;
+            "zonetext: {file}: nothing to verify by: no ZONEMD has a known scheme and hash algorithm"
+        )
+    }
 }
 
 /// Checks the digests of a zone, and returns the status.
-fn check(rt: &HostRuntime, file: &str, gathered: &Gathered) -> Result<u8, Stop> {
+fn check(rt: &HostRuntime, file: &str, gathered: &Gathered, work: Work) -> Result<u8, Stop> {
+    let name = Shown(file);
     let Some(seen) = &gathered.seen else {
-        eprintln!(rt; "zonetext: {file}: no SOA")?;
+        eprintln!(rt; "zonetext: {name}: no SOA")?;
         return Ok(TROUBLE);
     };
     let (set, _) = gathered.set()?;
     let verdicts = match check_zone(rt.alloc(), &seen.zone, &set) {
         Ok(verdicts) => verdicts,
         Err(CheckError::NoSingleSoa) => {
-            eprintln!(rt; "zonetext: {file}: no single SOA at the zone's name")?;
+            eprintln!(rt; "zonetext: {name}: no single SOA at the zone's name")?;
             return Ok(TROUBLE);
         }
         Err(CheckError::ShortBuf) => return Err(Stop::OutOfMemory),
     };
-    if verdicts.is_empty() {
-        eprintln!(rt; "zonetext: {file}: no ZONEMD at the zone's name")?;
+    let verdicts = verdicts.as_slice();
+    let outcome = tell_verdicts(rt, file, &seen.zone, &set, verdicts, work)?;
+    if !outcome.matches && !outcome.differs {
+        tell_none(rt, file, verdicts)?;
     }
-    let matches = tell_verdicts(rt, file, &seen.zone, &set, verdicts.as_slice())?;
-    Ok(u8::from(!matches))
+    Ok(outcome.status(work))
 }
 
-/// Checks the digests of the zone in a file, and returns the status: 0 if all match.
-pub fn run(rt: &HostRuntime, file: &str, reading: Reading<'_>) -> u8 {
-    let Ok(gathered) = gather(rt, &[file], reading, Selection::ALL) else {
-        return TROUBLE;
+/// Checks the digests of the zone in a file, and returns the status: 0 if one matches, and no other of a
+/// known scheme and hash algorithm does not, unless one is enough.
+pub fn run(rt: &HostRuntime, file: &str, reading: Reading<'_>, work: Work) -> u8 {
+    let gathered = match gather(rt, &[file], reading, Selection::ALL) {
+        Ok(gathered) => gathered,
+        Err(status) => return status,
     };
-    match check(rt, file, &gathered) {
+    match check(rt, file, &gathered, work) {
         Ok(status) => status,
         Err(stop) => conclude(rt, file, stop),
     }

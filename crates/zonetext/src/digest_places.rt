@@ -28,6 +28,8 @@ pub struct Placed {
     pub data: Vec<u8>,
     /// Whether its file is included by another.
     pub is_included: bool,
+    /// Whether its owner is the origin where it stands.
+    pub is_origin: bool,
     /// Where the tokens of its data stand.
     pub tokens: Vec<Span>,
     /// Where its entry ends.
@@ -66,6 +68,10 @@ fn data_tokens(alloc: Global, entry: &Entry<'_>) -> Result<Vec<Span>, AllocError
 
 /// The record of an entry, and where it stands.
 fn placed_of(alloc: Global, entry: &Entry<'_>, given: Given<'_>) -> Result<Placed, AllocError> {
+    let is_origin = match entry.state.origin.name() {
+        Some(origin) => origin.as_slice().eq_ignore_ascii_case(given.owner),
+        None => false,
+    };
     Ok(Placed {
         owner: given.owner.to_vec(alloc)?,
         ttl: given.ttl,
@@ -73,6 +79,7 @@ fn placed_of(alloc: Global, entry: &Entry<'_>, given: Given<'_>) -> Result<Place
         code: given.code,
         data: given.data.to_vec(alloc)?,
         is_included: entry.number > 0,
+        is_origin,
         tokens: data_tokens(alloc, entry)?,
         end: entry.offset.saturating_add(entry.octets.len()),
     })

@@ -1,9 +1,11 @@
 //! The command `digest --write`: the digests in a zone are put right, in the file itself.
+use crate::digest::{algorithm_of, unknown_text};
 use crate::digest_places::{Placed, SOA, ZONEMD, find};
 use crate::format::leave;
 use crate::gathered::NumberedSet;
 use crate::options::USAGE;
 use crate::reading::Reading;
+use crate::shown::Shown;
 use crate::stop::{Stop, TROUBLE, conclude};
 use dns_codec::base16::encode_string;
 use dns_reader::NameBuffer;
@@ -13,10 +15,11 @@ use dns_wire::Name;
 use std::alloc::{AllocError, Global};
 use std::fs::File;
 use std::io::{ErrorKind, Read};
-use std::{io, mem};
+use std::{io, mem, process};
 use zone_digest::scope::is_apex;
 use zone_digest::{CheckError, HashAlgorithm, Zonemd, right_data};
-use zone_set::push_record;
+use zone_set::{push_record, serial_of};
+use zonetext_lib::formatter::{Formatter, NoForm};
 use zonetext_lib::patch::{Change, PatchError, append_changed, append_stretches};
 use zonetext_lib::replace::{Batch, Incomplete, NewText, Original, Refusal};
 
@@ -36,14 +39,11 @@ const NSEC: u16 = 47;
 
 const NSEC3: u16 = 50;
 
-/// The scheme SIMPLE.
-const SIMPLE: u8 = 1;
-
 /// Why nothing is written.
 #[derive(Drop)]
 enum Unwritten {
-    /// Entries are refused, and that was said.
-    Told,
+    /// Entries are refused, or a file can't be read, with this status; and that was said.
+    Told(u8),
     NoSoa,
     NoSingleSoa,
     /// The SOA or a digest stands in an included file.
@@ -106,8 +106,6 @@ struct Plan<'p> {
     lines: String,
     /// Whether one was added.
     is_added: bool,
-    /// Whether one is left that can't be checked.
-    has_unknown: bool,
 }
 
 /// Octets in hexadecimal digits.
@@ -132,23 +130,6 @@ fn data_of(octets: &[u8]) -> Option<Data<&[u8]>> {
     Data::from_octets(ZONEMD, octets).ok()
 }
 
-/// The hash algorithm of a digest, if it and the scheme are known.
-fn algorithm_of(zonemd: &Zonemd<'_>) -> Option<HashAlgorithm> {
-    if zonemd.scheme != SIMPLE {
-        return None;
-    }
-    HashAlgorithm::of_code(zonemd.hash)
-}
-
-/// What is said of a digest whose scheme or hash algorithm is not known.
-fn unknown_text(zonemd: &Zonemd<'_>) -> &'static str {
-    if zonemd.scheme == SIMPLE {
-        "unknown hash algorithm, left as it is"
-    } else {
-        "unknown scheme, left as it is"
-    }
-}
-
 /// The data of the digest that is right for a zone.
 fn right_of(
     alloc: Global,
@@ -163,8 +144,48 @@ fn right_of(
     }
 }
 
-/// The line of a digest that stands beside an SOA.
+/// The serial number of the SOA of a zone.
+fn serial_at(apex: &NameBuffer, set: &NumberedSet<'_>) -> Option<u32> {
+    for record in set.as_slice() {
+        if record.data.code() == SOA && is_apex(&record.owner, apex) {
+            return serial_of(&record.data);
+        }
+    }
+    None
+}
+
+/// The form of a line.
+fn formed(alloc: Global, line: &str) -> Result<Vec<u8>, NoForm> {
+    let mut formatter = Formatter::new(alloc);
+    let mut form = Vec::new(alloc);
+    formatter.add(line.as_bytes(), &mut form)?;
+    formatter.finish(&mut form)?;
+    Ok(form)
+}
+
+/// The line of a digest that stands beside an SOA, in the form that `fmt` gives it. The owner is `@` if it
+/// is the origin there.
 fn line_of(alloc: Global, soa: &Placed, data: &[u8]) -> Result<String, AllocError> {
+    let full = full_line_of(alloc, soa, data)?;
+    let mut line = String::new(alloc);
+    match full.as_str().split_once('\t') {
+        Some((_, rest)) if soa.is_origin => {
+            line.push_str("@\t")?;
+            line.push_str(rest)?;
+        }
+        _ => line.push_str(full.as_str())?,
+    }
+    let Ok(form) = formed(alloc, line.as_str()) else {
+        return Err(AllocError);
+    };
+    match str::from_utf8(form.as_slice()) {
+        Ok(form) => String::from_str(alloc, form),
+        Err(_) => Ok(line),
+    }
+}
+
+/// The line of a digest that stands beside an SOA, with its owner in full.
+fn full_line_of(alloc: Global, soa: &Placed, data: &[u8]) -> Result<String, AllocError> {
     let mut line = String::new(alloc);
     let owner = Name::from_octets(soa.owner.as_slice());
     if let (Ok(owner), Some(data)) = (owner, data_of(data)) {
@@ -188,7 +209,6 @@ impl<'p> Plan<'p> {
             patches: Vec::new(alloc),
             lines: String::new(alloc),
             is_added: false,
-            has_unknown: false,
         }
     }
 
@@ -251,9 +271,7 @@ impl<'p> Plan<'p> {
             return Ok(());
         };
         let Some(algorithm) = algorithm_of(&old) else {
-            self.has_unknown = true;
-            self.tell(&old, unknown_text(&old))?;
-            return Ok(());
+            return self.leave(&old, apex, set);
         };
         let right = right_of(self.alloc, apex, set, algorithm)?;
         if right.as_slice() == one.data.as_slice() {
@@ -261,6 +279,25 @@ impl<'p> Plan<'p> {
             return Ok(());
         }
         self.write(one.tokens.as_slice(), &old, right.as_slice())
+    }
+
+    /// Says that a digest stays as it is, whose scheme or hash algorithm is not known.
+    fn leave(
+        &mut self,
+        old: &Zonemd<'_>,
+        apex: &NameBuffer,
+        set: &NumberedSet<'_>,
+    ) -> Result<(), Unwritten> {
+        let is_old = serial_at(apex, set) != Some(old.serial);
+        let serial = if is_old {
+            ", with an old serial number"
+        } else {
+            ""
+        };
+        let why = unknown_text(old);
+        let text = format!(in self.alloc; "{why}, left as it is{serial}")?;
+        self.tell(old, text.as_str())?;
+        Ok(())
     }
 
     /// Puts other data in place of a digest's, and says so.
@@ -408,7 +445,7 @@ fn patched(alloc: Global, octets: &[u8], patches: &[Patch]) -> Result<Vec<u8>, U
 
 /// Puts a text in the place of a file's.
 fn put(rt: &HostRuntime, original: Original, text: &[u8]) -> Result<(), Unwritten> {
-    let mut new = NewText::create(rt, rt.alloc(), original)?;
+    let mut new = NewText::create(rt, rt.alloc(), original, process::id(rt.process()))?;
     if let Err(error) = new.write(text) {
         let _ = new.discard(rt);
         return Err(Unwritten::Refusal(Refusal::Io(error)));
@@ -445,8 +482,6 @@ struct Done {
     lines: String,
     /// Whether one was added.
     is_added: bool,
-    /// Whether one is left that can't be checked.
-    has_unknown: bool,
     /// Whether the file was changed, and signatures in it no longer hold.
     breaks_signatures: bool,
 }
@@ -460,8 +495,9 @@ fn write(
 ) -> Result<Done, Unwritten> {
     let alloc = rt.alloc();
     let original = Original::find(rt, alloc, file, work.ignores_journal)?;
-    let Ok((gathered, found)) = find(rt, file, reading) else {
-        return Err(Unwritten::Told);
+    let (gathered, found) = match find(rt, file, reading) {
+        Ok(read) => read,
+        Err(status) => return Err(Unwritten::Told(status)),
     };
     let Some(seen) = &gathered.seen else {
         return Err(Unwritten::NoSoa);
@@ -479,19 +515,18 @@ fn write(
     let Plan {
         lines,
         is_added,
-        has_unknown,
         ..
     } = plan;
     Ok(Done {
         lines,
         is_added,
-        has_unknown,
         breaks_signatures: is_changed && is_signed(&set),
     })
 }
 
 /// Says what was done, and returns the status.
 fn tell_done(rt: &HostRuntime, file: &str, done: &Done) -> io::Result<u8> {
+    let file = Shown(file);
     for line in done.lines.as_str().lines() {
         println!(rt; "{file}: {line}")?;
     }
@@ -503,19 +538,21 @@ fn tell_done(rt: &HostRuntime, file: &str, done: &Done) -> io::Result<u8> {
         let what = "the zone is signed: the set of ZONEMD must be signed again";
         eprintln!(rt; "zonetext: {file}: {what}")?;
     }
-    Ok(u8::from(done.has_unknown))
+    Ok(0)
 }
 
 /// Says why nothing is written, and returns the status.
 fn refuse(rt: &HostRuntime, file: &str, why: Unwritten) -> io::Result<u8> {
+    let name = Shown(file);
+    let mut status = TROUBLE;
     match why {
-        Unwritten::Told => {}
-        Unwritten::NoSoa => eprintln!(rt; "zonetext: {file}: no SOA")?,
+        Unwritten::Told(found) => status = found,
+        Unwritten::NoSoa => eprintln!(rt; "zonetext: {name}: no SOA")?,
         Unwritten::NoSingleSoa => {
-            eprintln!(rt; "zonetext: {file}: no single SOA at the zone's name")?;
+            eprintln!(rt; "zonetext: {name}: no single SOA at the zone's name")?;
         }
         Unwritten::Included { what } => {
-            eprintln!(rt; "zonetext: {file}: its {what} stands in an included file")?;
+            eprintln!(rt; "zonetext: {name}: its {what} stands in an included file")?;
         }
         Unwritten::Stop(stop) => {
             conclude(rt, file, stop);
@@ -524,12 +561,12 @@ fn refuse(rt: &HostRuntime, file: &str, why: Unwritten) -> io::Result<u8> {
             leave(rt, file, &refusal)?;
         }
         Unwritten::Unsettled(refusal) => {
-            eprintln!(rt; "zonetext: {file}: has its digest")?;
+            eprintln!(rt; "zonetext: {name}: has its digest")?;
             return leave(rt, file, &refusal);
         }
     }
     eprintln!(rt; "zonetext: nothing is written")?;
-    Ok(TROUBLE)
+    Ok(status)
 }
 
 /// Puts the digests of the zone in a file right, in the file itself, and returns the status: 0 if

@@ -2,6 +2,7 @@
 use crate::blocks::{Ended, Printer, Take, go_through_file};
 use crate::pair::compare_files;
 use crate::progress::Progress;
+use crate::shown::Shown;
 use crate::stop::TROUBLE;
 use dns_split::pieces::Wrong;
 use std::io;
@@ -26,6 +27,7 @@ pub fn reason(wrong: Wrong) -> &'static str {
 /// Says where a file is no zone text, and returns the exit status.
 pub fn report(rt: &HostRuntime, file: &str, found: Found) -> io::Result<u8> {
     let why = reason(found.fault.wrong);
+    let file = Shown(file);
     let (line, column) = (found.position.line, found.position.column);
     match found.opened {
         Some(opened) => {
@@ -46,6 +48,7 @@ fn conclude(rt: &HostRuntime, file: &str, answer: Result<(), Ended>) -> io::Resu
         Err(Ended::Halt(Halt::TooLong)) => Err(io::Error::from(ErrorKind::FileTooLarge)),
         Err(Ended::NoForm(_)) => Ok(1),
         Err(Ended::Read(error)) => {
+            let file = Shown(file);
             eprintln!(rt; "zonetext: {file}: {error}")?;
             Ok(TROUBLE)
         }
@@ -62,9 +65,13 @@ fn run<T: Take>(rt: &HostRuntime, file: &str, is_quiet: bool, taker: &mut T) -> 
     conclude(rt, file, answer)
 }
 
-/// Says where a file is no zone text.
-pub fn check_file(rt: &HostRuntime, file: &str, is_quiet: bool) -> io::Result<u8> {
-    run(rt, file, is_quiet, &mut Checker::new(rt.alloc()))
+/// Says where a file is no zone text, and returns the exit status. `name` is the file's name in messages.
+pub fn check_text(rt: &HostRuntime, file: &str, name: &str, is_quiet: bool) -> io::Result<u8> {
+    let mut checker = Checker::new(rt.alloc());
+    let mut progress = Progress::new(rt, name, is_quiet)?;
+    let answer = go_through_file(rt, file, &mut checker, &mut progress);
+    progress.clear()?;
+    conclude(rt, name, answer)
 }
 
 /// Writes a row for each token of a file, or a line for each entry.
@@ -82,8 +89,9 @@ pub fn compare(rt: &HostRuntime, first: &str, second: &str, is_quiet: bool) -> i
         Ok(Comparison::Differ(one, other)) => {
             let (line, column) = (one.line, one.column);
             let (row, along) = (other.line, other.column);
+            let (one_file, other_file) = (Shown(first), Shown(second));
             let text = format!(in rt.alloc();
-                "{first}:{line}:{column}: differs\n{second}:{row}:{along}: differs\n"
+                "{one_file}:{line}:{column}: differs\n{other_file}:{row}:{along}: differs\n"
             )?;
             match rt.stdout().write_all(text.as_bytes()) {
                 Ok(()) => Ok(1),

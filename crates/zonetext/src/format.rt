@@ -3,12 +3,13 @@ use crate::blocks::{Ended, Take, go_through_file, go_through_octets};
 use crate::files::report;
 use crate::formed::{Former, Looker, Shower};
 use crate::progress::Progress;
+use crate::shown::Shown;
 use crate::stop::TROUBLE;
 use dns_split::position::Position;
 use std::alloc::AllocError;
 use std::fs::{File, metadata};
-use std::io;
 use std::io::{ErrorKind, Read, Write};
+use std::{io, process};
 use zonetext_lib::blocks::Halt;
 use zonetext_lib::formatter::NoForm;
 use zonetext_lib::replace::{Batch, Incomplete, NewText, Original, Refusal};
@@ -41,6 +42,7 @@ const FOUND: u8 = 1;
 
 /// Says something of a file on standard error, and returns the status.
 fn say(rt: &HostRuntime, file: &str, what: &str) -> io::Result<u8> {
+    let file = Shown(file);
     eprintln!(rt; "zonetext: {file}: {what}")?;
     Ok(TROUBLE)
 }
@@ -48,6 +50,7 @@ fn say(rt: &HostRuntime, file: &str, what: &str) -> io::Result<u8> {
 /// Says at which place a file is refused, and returns the status.
 fn say_at(rt: &HostRuntime, file: &str, at: Position, why: &str) -> io::Result<u8> {
     let (line, column) = (at.line, at.column);
+    let file = Shown(file);
     eprintln!(rt; "{file}:{line}:{column}: {why}")?;
     Ok(FOUND)
 }
@@ -70,6 +73,7 @@ fn conclude(rt: &HostRuntime, file: &str, ended: Ended) -> io::Result<u8> {
         Ended::NoForm(why) => refuse(rt, file, why),
         Ended::Halt(halt) => refuse(rt, file, NoForm::from(halt)),
         Ended::Read(error) => {
+            let file = Shown(file);
             eprintln!(rt; "zonetext: {file}: {error}")?;
             Ok(TROUBLE)
         }
@@ -192,6 +196,7 @@ fn show_changes(rt: &HostRuntime, file: &str, source: &Source, work: Work) -> io
 pub fn leave(rt: &HostRuntime, file: &str, refusal: &Refusal) -> io::Result<u8> {
     match refusal {
         Refusal::Io(error) => {
+            let file = Shown(file);
             eprintln!(rt; "zonetext: {file}: {error}")?;
             Ok(TROUBLE)
         }
@@ -201,11 +206,11 @@ pub fn leave(rt: &HostRuntime, file: &str, refusal: &Refusal) -> io::Result<u8> 
             file,
             "a journal lies beside it: a server changes this zone (--force)",
         ),
-        Refusal::Busy => say(
-            rt,
-            file,
-            "the file .zonetext-new beside it is there already",
-        ),
+        Refusal::Owner(error) => {
+            let file = Shown(file);
+            eprintln!(rt; "zonetext: {file}: its owner and group can't be kept: {error}")?;
+            Ok(TROUBLE)
+        }
         Refusal::Changed => say(rt, file, "changed while it was read"),
     }
 }
@@ -259,7 +264,7 @@ fn write_beside(
     batch: &mut Batch,
     work: Work,
 ) -> Result<(), Refusal> {
-    let new = NewText::create(rt, rt.alloc(), change.original)?;
+    let new = NewText::create(rt, rt.alloc(), change.original, process::id(rt.process()))?;
     let mut former = Former::new(rt.alloc(), new);
     match Source::File(change.file).go_through(rt, &mut former, work.is_quiet) {
         Ok(()) => batch.add(rt, former.sink),
@@ -275,11 +280,13 @@ fn tell_of(rt: &HostRuntime, names: &[&str], incomplete: &Incomplete) -> io::Res
     let mut status = TROUBLE;
     for (at, file) in names.iter().enumerate() {
         if at < incomplete.replaced {
+            let file = Shown(file);
             eprintln!(rt; "zonetext: {file}: has its form")?;
         }
         if at == incomplete.at {
             status = leave(rt, file, &incomplete.why)?;
         } else if at >= incomplete.replaced {
+            let file = Shown(file);
             eprintln!(rt; "zonetext: {file}: is as it was")?;
         }
     }

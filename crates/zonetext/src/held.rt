@@ -4,8 +4,6 @@ use crate::zone_files::Given;
 use dns_resource::{Data, Record};
 use dns_wire::Name;
 use std::alloc::Global;
-use std::fs::File;
-use std::io::{BufRead, BufReader};
 use zone_set::{TaggedOctets, ZoneSet};
 
 /// Where octets stand among those that are held.
@@ -115,30 +113,4 @@ impl<Tag: Copy> Held<Tag> {
         }
         Ok(set)
     }
-}
-
-/// The line of a file that has a number, without its end, unless the file is standard input or
-/// can't be read again.
-pub fn line_of(rt: &HostRuntime, file: &str, number: usize) -> Result<Option<Vec<u8>>, Stop> {
-    if file == "-" {
-        return Ok(None);
-    }
-    let Ok(reader) = File::open(rt, file) else {
-        return Ok(None);
-    };
-    let mut reader = BufReader::new(rt.alloc(), reader)?;
-    let mut line = Vec::new(rt.alloc());
-    for _ in 0..number {
-        line.truncate(0);
-        match reader.read_until(b'\n', &mut line) {
-            Ok(0) => return Ok(None),
-            Ok(_) => {}
-            Err(_) => return Ok(None),
-        }
-    }
-    let text = line.as_slice();
-    let text = text.strip_suffix(b"\n").unwrap_or(text);
-    let count = text.strip_suffix(b"\r").unwrap_or(text).len();
-    line.truncate(count);
-    Ok(Some(line))
 }

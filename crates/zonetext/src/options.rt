@@ -1,8 +1,9 @@
 //! What options say.
+use crate::shown::Shown;
 use crate::stop::TROUBLE;
 use arrayvec::ArrayVec;
 use clap::ArgMatches;
-use dns_kinds::Class;
+use dns_kinds::{Class, interval_from_text};
 use dns_reader::NameBuffer;
 use dns_spelling::append_name;
 use dns_wire::{MAX_NAME, Name};
@@ -18,9 +19,18 @@ const IN: u16 = 1;
 
 /// Why words are no options.
 #[derive(Drop)]
-pub enum Usage {
-    /// This option has no such value.
-    Value(&'static str),
+pub enum Usage<'o> {
+    /// This option has no such value. What it wants is said.
+    Value {
+        option: &'static str,
+        value: &'o str,
+        wants: &'static str,
+    },
+    /// The code that this option names is of records, and the text alone is looked at.
+    OfRecords {
+        option: &'static str,
+        value: &'o str,
+    },
     /// So much memory can't be said.
     Size,
     /// Signatures are to be looked at, and no zone is said.
@@ -30,8 +40,8 @@ pub enum Usage {
     Memory,
 }
 
-impl From<AllocError> for Usage {
-    fn from(_error: AllocError) -> Usage {
+impl From<AllocError> for Usage<'_> {
+    fn from(_error: AllocError) -> Self {
         Usage::Memory
     }
 }
@@ -45,24 +55,53 @@ pub fn name_of(text: &str) -> Option<NameBuffer> {
 }
 
 /// The class that an option names, IN if none.
-pub fn class_of(text: Option<&str>) -> Result<u16, Usage> {
-    let Some(text) = text else {
+pub fn class_of<'o>(text: Option<&'o str>) -> Result<u16, Usage<'o>> {
+    let Some(value) = text else {
         return Ok(IN);
     };
-    match Class::from_text(text.as_bytes()) {
+    match Class::from_text(value.as_bytes()) {
         Ok(class) => Ok(class.0),
-        Err(_) => Err(Usage::Value("--class")),
+        Err(_) => Err(Usage::Value {
+            option: "--class",
+            value,
+            wants: "a class, as IN or CLASS3",
+        }),
     }
 }
 
 /// The number that an option has, if it is given.
-pub fn number_of(text: Option<&str>, option: &'static str) -> Result<Option<u32>, Usage> {
-    let Some(text) = text else {
+pub fn number_of<'o>(
+    text: Option<&'o str>,
+    option: &'static str,
+) -> Result<Option<u32>, Usage<'o>> {
+    let Some(value) = text else {
         return Ok(None);
     };
-    match text.parse::<u32>() {
+    match value.parse::<u32>() {
         Ok(number) => Ok(Some(number)),
-        Err(_) => Err(Usage::Value(option)),
+        Err(_) => Err(Usage::Value {
+            option,
+            value,
+            wants: "a number up to 4294967295",
+        }),
+    }
+}
+
+/// The seconds that an option says, as `86400` or `1d`, if it is given.
+pub fn seconds_of<'o>(
+    text: Option<&'o str>,
+    option: &'static str,
+) -> Result<Option<u32>, Usage<'o>> {
+    let Some(value) = text else {
+        return Ok(None);
+    };
+    match interval_from_text(value.as_bytes()) {
+        Ok(seconds) => Ok(Some(seconds)),
+        Err(_) => Err(Usage::Value {
+            option,
+            value,
+            wants: "a time in seconds, or as 7d or 12h30m",
+        }),
     }
 }
 
@@ -84,7 +123,7 @@ fn octets_of(text: &str) -> Option<usize> {
 }
 
 /// The octets of memory that an option says, if it is given.
-pub fn size_of(text: Option<&str>) -> Result<Option<usize>, Usage> {
+pub fn size_of<'o>(text: Option<&'o str>) -> Result<Option<usize>, Usage<'o>> {
     let Some(text) = text else {
         return Ok(None);
     };
@@ -95,19 +134,36 @@ pub fn size_of(text: Option<&str>) -> Result<Option<usize>, Usage> {
 }
 
 /// The zone that is named, if its option is given.
-pub fn zone_of<'o>(inner: &'o ArgMatches) -> Result<Option<&'o str>, Usage> {
+pub fn zone_of<'o>(inner: &'o ArgMatches) -> Result<Option<&'o str>, Usage<'o>> {
     match inner.get_str("zone") {
-        Some(zone) if name_of(zone).is_none() => Err(Usage::Value("--zone")),
+        Some(value) if name_of(value).is_none() => Err(Usage::Value {
+            option: "--zone",
+            value,
+            wants: "a domain name",
+        }),
         zone => Ok(zone),
     }
 }
 
 /// The status that comes of options, or that of words that are none: that is said.
-pub fn status_of(rt: &HostRuntime, answer: Result<u8, Usage>) -> io::Result<u8> {
+pub fn status_of(rt: &HostRuntime, answer: Result<u8, Usage<'_>>) -> io::Result<u8> {
     match answer {
         Ok(status) => Ok(status),
-        Err(Usage::Value(option)) => {
-            eprintln!(rt; "zonetext: {option} has no such value")?;
+        Err(
+            Usage::Value {
+                option,
+                value,
+                wants,
+            },
+        ) => {
+            let value = Shown(value);
+            eprintln!(rt; "zonetext: {option} {value}: wants {wants}")?;
+            Ok(USAGE)
+        }
+        Err(Usage::OfRecords { option, value }) => {
+            eprintln!(rt;
+                "zonetext: {option} {value}: a finding of records, which --text does not look at"
+            )?;
             Ok(USAGE)
         }
         Err(Usage::Size) => {

@@ -21,6 +21,9 @@ pub struct PartFiles<'p> {
     count: usize,
     /// The names of those that were begun.
     paths: Vec<String>,
+    /// The names that these have until they are complete. They are kept, so that no memory is taken to
+    /// remove the files.
+    besides: Vec<String>,
     /// How many of them have their names.
     named: usize,
     /// The one that is written.
@@ -69,10 +72,9 @@ fn with_suffix(alloc: Global, path: &str, suffix: &str) -> Result<String, AllocE
 }
 
 /// Gives a file its name, unless something has it.
-fn give_name(rt: &HostRuntime, path: &str) -> io::Result<()> {
+fn give_name(rt: &HostRuntime, beside: &str, path: &str) -> io::Result<()> {
     check_free(rt, path)?;
-    let beside = with_suffix(rt.alloc(), path, NEW)?;
-    rt.rename(beside.as_str(), path)
+    rt.rename(beside, path)
 }
 
 /// The folder in which a path stands.
@@ -92,6 +94,7 @@ impl<'p> PartFiles<'p> {
             prefix,
             count,
             paths: Vec::new(rt.alloc()),
+            besides: Vec::new(rt.alloc()),
             named: 0,
             open: None,
             out: Vec::new(rt.alloc()),
@@ -143,14 +146,26 @@ impl<'p> PartFiles<'p> {
             return Err(stop_at(self.rt, path.as_str(), error));
         }
         self.paths.push(path)?;
+        self.besides.push(beside)?;
+        self.create_last()
+    }
+
+    /// Creates the file that has the last name. If that fails, the name is not kept: what has it is
+    /// not ours.
+    fn create_last(&mut self) -> Result<(), Stop> {
+        let Some(beside) = self.besides.last() else {
+            return Ok(());
+        };
         match create(self.rt, beside.as_str()) {
             Ok(file) => {
                 self.open = Some(file);
                 Ok(())
             }
             Err(error) => {
+                let stop = stop_at(self.rt, beside.as_str(), error);
                 self.paths.pop();
-                Err(stop_at(self.rt, beside.as_str(), error))
+                self.besides.pop();
+                Err(stop)
             }
         }
     }
@@ -173,8 +188,8 @@ impl<'p> PartFiles<'p> {
         if self.paths.is_empty() {
             return Ok(());
         }
-        for path in &self.paths {
-            if let Err(error) = give_name(self.rt, path.as_str()) {
+        for (path, beside) in self.paths.iter().zip(&self.besides) {
+            if let Err(error) = give_name(self.rt, beside.as_str(), path.as_str()) {
                 return Err(stop_at(self.rt, path.as_str(), error));
             }
             self.named = self.named.saturating_add(1);
@@ -189,12 +204,11 @@ impl<'p> PartFiles<'p> {
     /// Removes all files, also those that have their names.
     pub fn discard(&mut self) {
         self.open = None;
-        for (number, path) in self.paths.iter().enumerate() {
-            if number < self.named {
-                let _ = self.rt.remove_file(path.as_str());
-            } else if let Ok(beside) = with_suffix(self.rt.alloc(), path.as_str(), NEW) {
-                let _ = self.rt.remove_file(beside.as_str());
-            }
+        for path in self.paths.iter().take(self.named) {
+            let _ = self.rt.remove_file(path.as_str());
+        }
+        for beside in self.besides.iter().skip(self.named) {
+            let _ = self.rt.remove_file(beside.as_str());
         }
     }
 }

@@ -1,4 +1,5 @@
 //! How far reading has come, said on a terminal.
+use crate::shown::Shown;
 use std::io;
 use std::io::{IsTerminal, Write};
 use std::time::Instant;
@@ -47,7 +48,7 @@ impl<'a> Progress<'a> {
         }
         self.said = seconds;
         let megabytes = self.octets / 1_000_000;
-        let file = self.file;
+        let file = Shown(self.file);
         eprint!(self.rt; "\r{file}: {megabytes} MB read")?;
         self.rt.stderr().flush()
     }

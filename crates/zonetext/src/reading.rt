@@ -2,16 +2,23 @@
 use crate::checking::{Checker, Limits, Seen};
 use crate::options::name_of;
 use crate::reporter::{Form, Reporter};
+use crate::shown::Shown;
+use crate::spots::position_at;
 use crate::stop::{Stop, conclude};
 use crate::zone_files::{Begin, Entry, Visit, visit_file};
-use dns_reader::State;
+use dns_reader::{EntryRead, NameBuffer, State};
+use dns_wire::DisplayWithDot;
 use std::alloc::{AllocError, Global};
+use zone_digest::scope::is_apex;
 use zone_format::place::Place;
 use zonetext_report::code::{Code, Severity};
 use zonetext_report::policy::Policy;
 
 /// How many faults are said.
 const MOST: usize = 20;
+
+/// The code of SOA.
+const SOA: u16 = 6;
 
 /// How files are read.
 #[derive(Clone, Copy)]
@@ -28,6 +35,12 @@ pub struct Reading<'o> {
     pub is_whole: bool,
     /// The folders, besides that of a file, of which files may be included.
     pub folders: &'o [&'o str],
+    /// The folder in which relative paths of included files are looked up, if it is not that of the file
+    /// that includes them.
+    pub base: Option<&'o str>,
+    /// Whether the records are of one zone: the origin that is given, or the owner of the first SOA. An
+    /// SOA of another owner is refused then.
+    pub is_one_zone: bool,
     /// Whether nothing is said of how far reading has come.
     pub is_quiet: bool,
 }
@@ -41,8 +54,56 @@ pub trait TakeEntry {
 /// Gives entries to what takes them, and says what is refused.
 #[derive(Drop)]
 struct Giver<'g, T: Drop> {
+    rt: &'g HostRuntime,
     checker: Checker<'g>,
+    /// The zone that is given.
+    zone: Option<NameBuffer>,
+    /// Whether SOAs of other zones are refused.
+    is_one_zone: bool,
+    /// Whether one was.
+    has_other_soa: bool,
     taker: T,
+}
+
+impl<T: Drop> Giver<'_, T> {
+    /// The zone, if it is known: the one that is given, or that of the first SOA.
+    fn zone(&self) -> Option<&NameBuffer> {
+        match (&self.zone, &self.checker.seen) {
+            (Some(zone), _) => Some(zone),
+            (None, Some(seen)) => Some(&seen.zone),
+            (None, None) => None,
+        }
+    }
+
+    /// Refuses an entry if it is an SOA of another zone. The first one is told.
+    fn check_soa(&mut self, entry: &Entry<'_>) -> Result<(), Stop> {
+        let rt = self.rt;
+        if !self.is_one_zone || self.has_other_soa {
+            return Ok(());
+        }
+        let (Some(given), Ok(EntryRead::Record { at, .. }), Ok(owner)) = (
+            entry.record(),
+            entry.read,
+            entry.state.owner(),
+        ) else {
+            return Ok(());
+        };
+        let Some(zone) = self.zone() else {
+            return Ok(());
+        };
+        if given.code != SOA || is_apex(owner, zone) {
+            return Ok(());
+        }
+        let (file, position) = (
+            Shown(entry.file),
+            position_at(entry, at.saturating_sub(entry.offset)),
+        );
+        let (line, column) = (position.line, position.column);
+        let (other, zone) = (DisplayWithDot::new(owner), DisplayWithDot::new(zone));
+        eprintln!(rt; "{file}:{line}:{column}: error: SOA of {other}, and the zone is {zone}")?;
+        self.has_other_soa = true;
+        Ok(())
+    }
 }
 
 impl<T: TakeEntry + Drop> Visit for Giver<'_, T> {
@@ -60,6 +121,7 @@ impl<T: TakeEntry + Drop> Visit for Giver<'_, T> {
 
     fn take(&mut self, entry: &Entry<'_>) -> Result<(), Stop> {
         self.checker.take(entry)?;
+        self.check_soa(entry)?;
         self.taker.take_entry(entry)
     }
 
@@ -108,6 +170,8 @@ fn give_files<T: TakeEntry + Drop>(
             includes: reading.includes,
             is_whole: reading.is_whole,
             folders: reading.folders,
+            base: reading.base,
+            stdin_name: None,
             is_quiet: reading.is_quiet,
         };
         if let Err(stop) = visit_file(rt, file, begin, giver) {
@@ -121,7 +185,8 @@ fn give_files<T: TakeEntry + Drop>(
     if let Err(stop) = giver.checker.reporter.summarize() {
         return conclude(rt, "-", stop);
     }
-    giver.checker.reporter.tally.status().max(status)
+    let found = giver.checker.reporter.tally.status();
+    found.max(u8::from(giver.has_other_soa)).max(status)
 }
 
 /// What became of files.
@@ -139,7 +204,7 @@ pub struct Outcome<T: Drop> {
 /// Says that there is no origin, if relative names were refused for that, and returns what became of
 /// files.
 fn finish<T: TakeEntry + Drop>(rt: &HostRuntime, giver: Giver<'_, T>, status: u8) -> Outcome<T> {
-    let Giver { checker, taker } = giver;
+    let Giver { checker, taker, .. } = giver;
     if checker.has_told_origin {
         let _ = eprintln!(rt; "zonetext: no origin: give --zone");
     }
@@ -183,10 +248,19 @@ pub fn give_entries<T: TakeEntry + Drop>(
         is_strict: false,
         tells_slips: false,
         times: None,
+        is_standard: true,
+        is_text: false,
     };
     let reporter = Reporter::new(rt, policy, form, MOST);
     let checker = Checker::new(rt, reporter, limits, None);
-    let mut giver = Giver { checker, taker };
+    let mut giver = Giver {
+        rt,
+        checker,
+        zone: reading.origin.and_then(name_of),
+        is_one_zone: reading.is_one_zone,
+        has_other_soa: false,
+        taker,
+    };
     let status = give_files(rt, files, reading, &mut giver);
     finish(rt, giver, status)
 }

@@ -2,7 +2,7 @@
 use crate::stop::Stop;
 use dns_split::position::Position;
 use std::io::Write;
-use zonetext_report::code::{Code, Severity};
+use zonetext_report::code::Code;
 use zonetext_report::excerpt::push_excerpt;
 use zonetext_report::finding::{Finding, push_line};
 use zonetext_report::json::push_json;
@@ -66,8 +66,8 @@ impl<'a> Reporter<'a> {
         Ok(())
     }
 
-    /// Says that something was found, and counts it. What keeps a record from being read is an error
-    /// at least where it is not left out.
+    /// Says that something was found, and counts it. What keeps a record from being read is an error,
+    /// and is not left out.
     pub fn tell(
         &mut self,
         spot: Spot<'_>,
@@ -75,10 +75,8 @@ impl<'a> Reporter<'a> {
         is_refused: bool,
         message: &str,
     ) -> Result<(), Stop> {
-        let severity = match self.policy.severity(code) {
-            None => return Ok(()),
-            Some(_) if is_refused => Severity::Error,
-            Some(severity) => severity,
+        let Some(severity) = self.policy.severity(code, is_refused) else {
+            return Ok(());
         };
         if !self.tally.count(severity) {
             return Ok(());
@@ -120,12 +118,25 @@ impl<'a> Reporter<'a> {
         )
     }
 
-    /// Says how much was found, unless it was nothing.
+    /// Whether a finding is an error because of what was asked for.
+    pub fn denies(&self, code: Code) -> bool {
+        self.policy.is_strict || self.policy.denied.contains(&code)
+    }
+
+    /// Whether a finding is shown that is told next, and keeps no record from being read.
+    pub fn shows(&self, code: Code) -> bool {
+        self.tally.has_room() && self.policy.severity(code, false).is_some()
+    }
+
+    /// Says how much was found, unless it was nothing. Beside JSON that is said only if something is not
+    /// shown.
     pub fn summarize(&mut self) -> Result<(), Stop> {
-        if let Form::Json = self.form {
+        if self.form == Form::Json && self.tally.hidden() == 0 {
             return Ok(());
         }
         self.tally.push_summary(&mut self.out)?;
-        self.write()
+        self.rt.stderr().write_all(self.out.as_slice())?;
+        self.out.truncate(0);
+        Ok(())
     }
 }

@@ -1,4 +1,5 @@
 //! Why reading and writing do not go on.
+use crate::shown::Shown;
 use dns_zonefile::AddError;
 use std::alloc::{AllocError, AllocFailed};
 use std::io;
@@ -60,18 +61,21 @@ impl From<io::Error> for Stop {
 /// Says that something could not be read or written, and returns the status. Whoever closed the
 /// output needs no word of that.
 pub fn conclude(rt: &HostRuntime, file: &str, stop: Stop) -> u8 {
+    let name = Shown(file);
     let _ = match stop {
         Stop::Read { file, error } | Stop::Create { file, error } => {
-            eprintln!(rt; "zonetext: {file}: {error}")
+            let name = Shown(file.as_str());
+            eprintln!(rt; "zonetext: {name}: {error}")
         }
         Stop::Write(error) if error.kind() == ErrorKind::BrokenPipe => Ok(()),
         Stop::Write(error) => eprintln!(rt; "zonetext: {error}"),
         Stop::Runs { folder, error } => {
+            let folder = Shown(folder.as_str());
             eprintln!(rt; "zonetext: sorted runs below {folder}: {error}")
         }
-        Stop::Damaged => eprintln!(rt; "zonetext: {file}: records in memory are damaged"),
-        Stop::OutOfMemory => eprintln!(rt; "zonetext: {file}: not enough memory"),
-        Stop::TooLong => eprintln!(rt; "zonetext: {file}: more octets than can be counted"),
+        Stop::Damaged => eprintln!(rt; "zonetext: {name}: records in memory are damaged"),
+        Stop::OutOfMemory => eprintln!(rt; "zonetext: {name}: not enough memory"),
+        Stop::TooLong => eprintln!(rt; "zonetext: {name}: more octets than can be counted"),
     };
     TROUBLE
 }

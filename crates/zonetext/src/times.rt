@@ -1,12 +1,12 @@
 //! The times at which signatures are looked at.
-use crate::options::Usage;
+use crate::options::{Usage, seconds_of};
 use clap::ArgMatches;
-use dns_kinds::{Date, interval_from_text};
+use dns_kinds::Date;
 use std::time::{SystemTime, UNIX_EPOCH};
 use zone_dnssec::Times;
 
 /// The seconds since 1970, modulo 2^32.
-fn seconds_now(rt: &HostRuntime) -> Result<u32, Usage> {
+fn seconds_now<'o>(rt: &HostRuntime) -> Result<u32, Usage<'o>> {
     let Ok(now) = SystemTime::now(rt) else {
         return Err(Usage::Clock);
     };
@@ -17,33 +17,26 @@ fn seconds_now(rt: &HostRuntime) -> Result<u32, Usage> {
 }
 
 /// The instant that an option says: the present one, if none.
-fn instant_of(rt: &HostRuntime, text: Option<&str>) -> Result<u32, Usage> {
-    let Some(text) = text else {
+fn instant_of<'o>(rt: &HostRuntime, text: Option<&'o str>) -> Result<u32, Usage<'o>> {
+    let Some(value) = text else {
         return seconds_now(rt);
     };
-    match Date::from_text(text.as_bytes()) {
+    match Date::from_text(value.as_bytes()) {
         Ok(date) if date.is_valid() => Ok(date.seconds()),
-        _ => Err(Usage::Value("--now")),
-    }
-}
-
-/// How long before their end signatures are told of: not before, if no option says it.
-fn margin_of(text: Option<&str>) -> Result<u32, Usage> {
-    let Some(text) = text else {
-        return Ok(0);
-    };
-    match interval_from_text(text.as_bytes()) {
-        Ok(seconds) => Ok(seconds),
-        Err(_) => Err(Usage::Value("--within")),
+        _ => Err(Usage::Value {
+            option: "--now",
+            value,
+            wants: "a time, as 20260131235959 or in seconds since 1970",
+        }),
     }
 }
 
 /// The times for signatures, if they are to be looked at, which wants a zone.
-pub fn times_of(
+pub fn times_of<'o>(
     rt: &HostRuntime,
-    inner: &ArgMatches,
+    inner: &'o ArgMatches,
     has_zone: bool,
-) -> Result<Option<Times>, Usage> {
+) -> Result<Option<Times>, Usage<'o>> {
     if !inner.get_flag("dnssec") {
         return Ok(None);
     }
@@ -52,6 +45,6 @@ pub fn times_of(
     }
     Ok(Some(Times {
         instant: instant_of(rt, inner.get_str("now"))?,
-        margin: margin_of(inner.get_str("within"))?,
+        margin: seconds_of(inner.get_str("within"), "--within")?.unwrap_or(0),
     }))
 }

@@ -9,7 +9,7 @@ use dns_zonefile::BlockReader;
 use std::alloc::{AllocError, Global};
 use std::fs::{File, canonicalize, metadata};
 use std::io::ErrorKind;
-use std::path::{Component, Path};
+use std::path::Path;
 use std::{io, mem};
 use zone_format::place::Place;
 use zonetext_report::lint::order_mark_len;
@@ -123,6 +123,9 @@ struct ZoneFiles<'a> {
     is_whole: bool,
     /// The folders of which files may be included, by their paths from the root on, without links.
     folders: Vec<String>,
+    /// The folder in which relative paths of included files are looked up, if it is not that of the file
+    /// that includes them.
+    base: Option<String>,
     /// Those that are open, each but the first included by the one before it.
     files: Vec<OpenFile>,
     state: State,
@@ -137,19 +140,49 @@ fn full_path(rt: &HostRuntime, path: &str) -> io::Result<String> {
     Ok(canonicalize(rt, path)?.into_string())
 }
 
-/// The folder of the first file, from the root on, without links. That of standard input, or of a
-/// pipe, is the one in which the program runs.
-fn first_folder(rt: &HostRuntime, file: &OpenFile) -> io::Result<String> {
-    match Path::new(file.full.as_str()).parent() {
-        Some(folder) => Ok(String::from_str(rt.alloc(), folder.to_string_lossy())?),
-        None => full_path(rt, "."),
+/// The reason to stop at a file or a folder that can't be read.
+fn unread(alloc: Global, path: &str, error: io::Error) -> Stop {
+    match String::from_str(alloc, path) {
+        Ok(file) => Stop::Read { file, error },
+        Err(_) => Stop::OutOfMemory,
     }
 }
 
-/// Opens the first file.
-fn open_first(rt: &HostRuntime, file: &str) -> io::Result<OpenFile> {
+/// The path of a folder from the root on, without links.
+fn full_folder(rt: &HostRuntime, folder: &str) -> Result<String, Stop> {
+    match full_path(rt, folder) {
+        Ok(full) => Ok(full),
+        Err(error) => Err(unread(rt.alloc(), folder, error)),
+    }
+}
+
+/// Adds the folders of the first file, from the root on: the one that its path names, and the one of its
+/// real path. Standard input and pipes have no real path, and the folder in which the program runs instead.
+fn add_folders(rt: &HostRuntime, file: &OpenFile, folders: &mut Vec<String>) -> Result<(), Stop> {
+    let named = match Path::new(file.name.as_str()).parent() {
+        Some(folder) => String::from_str(rt.alloc(), folder.to_string_lossy())?,
+        None => String::new(rt.alloc()),
+    };
+    let named = if named.is_empty() {
+        "."
+    } else {
+        named.as_str()
+    };
+    if let Ok(full) = full_path(rt, named) {
+        folders.push(full)?;
+    }
+    let real = match Path::new(file.full.as_str()).parent() {
+        Some(folder) => String::from_str(rt.alloc(), folder.to_string_lossy())?,
+        None => full_folder(rt, ".")?,
+    };
+    folders.push(real)?;
+    Ok(())
+}
+
+/// Opens the first file, and gives it a name for messages.
+fn open_first(rt: &HostRuntime, file: &str, name: &str) -> io::Result<OpenFile> {
     let alloc = rt.alloc();
-    let name = String::from_str(alloc, file)?;
+    let name = String::from_str(alloc, name)?;
     if file == "-" {
         return Ok(OpenFile::new(alloc, name, String::new(alloc), 0, Input::Standard));
     }
@@ -157,16 +190,6 @@ fn open_first(rt: &HostRuntime, file: &str) -> io::Result<OpenFile> {
     // A pipe has no path.
     let full = full_path(rt, file).unwrap_or(String::new(alloc));
     Ok(OpenFile::new(alloc, name, full, 0, input))
-}
-
-/// Whether a path goes up: one of its parts is `..`.
-fn goes_up(path: Path<'_>) -> bool {
-    for part in path.components() {
-        if let Component::ParentDir = part {
-            return true;
-        }
-    }
-    false
 }
 
 /// Why a file is not included.
@@ -200,23 +223,34 @@ impl Unfit {
 
 impl<'a> ZoneFiles<'a> {
     /// A file that is opened, `-` for standard input.
-    fn open(rt: &'a HostRuntime, file: &str, begin: Begin<'_>) -> io::Result<ZoneFiles<'a>> {
+    fn open<'f>(
+        rt: &'a HostRuntime,
+        file: &'f str,
+        begin: Begin<'f>,
+    ) -> Result<ZoneFiles<'a>, Stop> {
         let alloc = rt.alloc();
-        let first = open_first(rt, file)?;
-        let mut open_folders = Vec::new(alloc);
-        open_folders.push(first_folder(rt, &first)?)?;
+        let first = match open_first(rt, file, begin.name_of(file)) {
+            Ok(first) => first,
+            Err(error) => return Err(unread(alloc, file, error)),
+        };
+        let mut folders = Vec::new(alloc);
+        add_folders(rt, &first, &mut folders)?;
         for folder in begin.folders {
-            open_folders.push(full_path(rt, folder)?)?;
+            folders.push(full_folder(rt, folder)?)?;
+        }
+        let mut base = None;
+        if let Some(folder) = begin.base {
+            folders.push(full_folder(rt, folder)?)?;
+            base = Some(String::from_str(alloc, folder)?);
         }
         let mut files = Vec::new(alloc);
-        if files.push(first).is_err() {
-            return Err(io::Error::from(ErrorKind::OutOfMemory));
-        }
+        files.push(first)?;
         Ok(ZoneFiles {
             rt,
             includes: begin.includes,
             is_whole: begin.is_whole,
-            folders: open_folders,
+            folders,
+            base,
             files,
             state: begin.state,
             count: 1,
@@ -437,13 +471,13 @@ impl<'a> ZoneFiles<'a> {
         let Ok(name) = str::from_utf8(self.data.as_slice()) else {
             return Err(Unfit::Told("file name is not UTF-8"));
         };
-        let path = Path::new(name);
-        if goes_up(path) {
-            return Err(Unfit::Told("file name with .."));
-        }
         let alloc = self.rt.alloc();
-        let beside = Path::new(file.name.as_str());
-        let joined = match beside.parent() {
+        let path = Path::new(name);
+        let folder = match &self.base {
+            Some(base) => Some(Path::new(base.as_str())),
+            None => Path::new(file.name.as_str()).parent(),
+        };
+        let joined = match folder {
             Some(folder) => folder.join(alloc, path)?,
             None => path.to_path_buf(alloc)?,
         };
@@ -538,26 +572,40 @@ pub struct Begin<'f> {
     pub is_whole: bool,
     /// The folders, besides its own, of which files may be included.
     pub folders: &'f [&'f str],
+    /// The folder in which relative paths of included files are looked up, if it is not that of the file
+    /// that includes them. Files in it may be included.
+    pub base: Option<&'f str>,
+    /// The name of standard input, if it has one.
+    pub stdin_name: Option<&'f str>,
     /// Whether nothing is said of how far reading has come.
     pub is_quiet: bool,
 }
 
+impl<'f> Begin<'f> {
+    /// The name of a file in messages.
+    fn name_of(&self, file: &'f str) -> &'f str {
+        shown_name(file, self.stdin_name)
+    }
+}
+
+/// The name of a file in messages: standard input may have one.
+pub fn shown_name<'f>(file: &'f str, stdin_name: Option<&'f str>) -> &'f str {
+    match stdin_name {
+        Some(name) if file == "-" => name,
+        _ => file,
+    }
+}
+
 /// Gives all entries of a file, and of those that it includes, to what takes them.
-pub fn visit_file<V: Visit>(
+pub fn visit_file<'f, V: Visit>(
     rt: &HostRuntime,
-    file: &str,
-    begin: Begin<'_>,
+    file: &'f str,
+    begin: Begin<'f>,
     visitor: &mut V,
 ) -> Result<(), Stop> {
-    let is_quiet = begin.is_quiet;
-    let mut files = match ZoneFiles::open(rt, file, begin) {
-        Ok(files) => files,
-        Err(error) => {
-            let file = String::from_str(rt.alloc(), file)?;
-            return Err(Stop::Read { file, error });
-        }
-    };
-    let mut progress = Progress::new(rt, file, is_quiet)?;
+    let (name, is_quiet) = (begin.name_of(file), begin.is_quiet);
+    let mut files = ZoneFiles::open(rt, file, begin)?;
+    let mut progress = Progress::new(rt, name, is_quiet)?;
     let answer = files.go_through(visitor, &mut progress);
     progress.clear()?;
     answer

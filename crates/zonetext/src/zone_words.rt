@@ -1,5 +1,5 @@
 //! The words of the commands that read records: `records`, `canon`, `diff` and `digest`.
-use crate::command::{QUIET, flag, over_files, required_file, valued, values};
+use crate::command::{BASE, QUIET, flag, over_files, required_file, valued, values};
 use crate::options::{Usage, class_of, number_of, size_of, status_of, zone_of};
 use crate::reading::Reading;
 use crate::{canon, changes, digest, digest_writing, records};
@@ -26,7 +26,8 @@ fn with_reading<'a>(alloc: Global, command: Command<'a>) -> Result<Command<'a>, 
     command
         .arg(zone)?
         .arg(valued(alloc, "class", "CLASS", CLASS))?
-        .arg(values(alloc, "include", "DIR", INCLUDE))
+        .arg(values(alloc, "include", "DIR", INCLUDE))?
+        .arg(valued(alloc, "base", "DIR", BASE))
 }
 
 /// The options that leave records out.
@@ -90,48 +91,65 @@ pub fn digest_command<'a>(alloc: Global, name: &'a str) -> Result<Command<'a>, A
     )
     .value_parser(HASHES.as_slice())
     .requires_arg("write")?;
+    let any = "one digest that matches is enough, whatever the others do";
+    let verbose = "also name digests whose scheme or hash algorithm is not known";
     let command = Command::new(alloc, name)
         .about("Check the digests in a zone, or write them (ZONEMD, RFC 8976)")
         .arg(required_file(alloc, "FILE", "a zone file, or - for standard input"))?
         .arg(flag(alloc, "write", write).short('w'))?
         .arg(hash)?
         .arg(flag(alloc, "force", force).requires_arg("write")?)?
+        .arg(flag(alloc, "any", any).conflicts_with("write")?)?
+        .arg(flag(alloc, "verbose", verbose).short('v'))?
         .arg(flag(alloc, "quiet", QUIET))?;
     with_reading(alloc, command)
 }
 
 /// The codes of the types that an option names.
-fn types_of(alloc: Global, names: &[&str]) -> Result<Vec<u16>, Usage> {
+fn types_of<'o>(alloc: Global, names: &[&'o str]) -> Result<Vec<u16>, Usage<'o>> {
     let mut codes = Vec::new(alloc);
     for name in names {
-        match RecordType::from_text(name.as_bytes()) {
+        let value = *name;
+        match RecordType::from_text(value.as_bytes()) {
             Ok(record_type) => codes.push(record_type.0).map_err(AllocError::from)?,
-            Err(_) => return Err(Usage::Value("--type")),
+            Err(_) => {
+                return Err(Usage::Value {
+                    option: "--type",
+                    value,
+                    wants: "a type, as MX or TYPE15",
+                });
+            }
         }
     }
     Ok(codes)
 }
 
 /// How the words of a command ask files to be read.
-fn reading_of<'o>(inner: &'o ArgMatches, is_one_class: bool) -> Result<Reading<'o>, Usage> {
+fn reading_of<'o>(inner: &'o ArgMatches, is_one_zone: bool) -> Result<Reading<'o>, Usage<'o>> {
     Ok(Reading {
         origin: zone_of(inner)?,
         class: class_of(inner.get_str("class"))?,
-        is_one_class,
+        is_one_class: is_one_zone,
         includes: true,
         is_whole: false,
         folders: inner.get_strs("include").unwrap_or(&[]),
+        base: inner.get_str("base"),
+        is_one_zone,
         is_quiet: inner.get_flag("quiet"),
     })
 }
 
 /// Writes the records of files as they come.
-fn list(rt: &HostRuntime, inner: &ArgMatches, files: &[&str]) -> Result<u8, Usage> {
+fn list<'o>(rt: &HostRuntime, inner: &'o ArgMatches, files: &[&str]) -> Result<u8, Usage<'o>> {
     Ok(records::run(rt, files, reading_of(inner, false)?))
 }
 
 /// Writes the records of files in canonical form.
-fn write_canonical(rt: &HostRuntime, inner: &ArgMatches, files: &[&str]) -> Result<u8, Usage> {
+fn write_canonical<'o>(
+    rt: &HostRuntime,
+    inner: &'o ArgMatches,
+    files: &[&str],
+) -> Result<u8, Usage<'o>> {
     let types = types_of(rt.alloc(), inner.get_strs("type").unwrap_or(&[]))?;
     let selection = Selection {
         types: types.as_slice(),
@@ -151,7 +169,7 @@ fn write_canonical(rt: &HostRuntime, inner: &ArgMatches, files: &[&str]) -> Resu
 }
 
 /// Compares two files by their records.
-fn compare(rt: &HostRuntime, inner: &ArgMatches) -> Result<u8, Usage> {
+fn compare<'o>(rt: &HostRuntime, inner: &'o ArgMatches) -> Result<u8, Usage<'o>> {
     let selection = Selection {
         without_soa: inner.get_flag("no-soa"),
         without_dnssec: inner.get_flag("no-dnssec"),
@@ -168,9 +186,13 @@ fn compare(rt: &HostRuntime, inner: &ArgMatches) -> Result<u8, Usage> {
 }
 
 /// Checks the digests of a file.
-fn check_digests(rt: &HostRuntime, inner: &ArgMatches) -> Result<u8, Usage> {
+fn check_digests<'o>(rt: &HostRuntime, inner: &'o ArgMatches) -> Result<u8, Usage<'o>> {
     let file = inner.get_str("FILE").unwrap_or("-");
-    Ok(digest::run(rt, file, reading_of(inner, true)?))
+    let work = digest::Work {
+        takes_any: inner.get_flag("any"),
+        is_verbose: inner.get_flag("verbose"),
+    };
+    Ok(digest::run(rt, file, reading_of(inner, true)?, work))
 }
 
 /// Runs the command `records`, and returns the status.
@@ -189,7 +211,7 @@ pub fn run_diff(rt: &HostRuntime, inner: &ArgMatches) -> io::Result<u8> {
 }
 
 /// Writes the digests of a file.
-fn write_digests(rt: &HostRuntime, inner: &ArgMatches) -> Result<u8, Usage> {
+fn write_digests<'o>(rt: &HostRuntime, inner: &'o ArgMatches) -> Result<u8, Usage<'o>> {
     let file = inner.get_str("FILE").unwrap_or("-");
     let work = digest_writing::Work {
         algorithm: match inner.get_str("hash") {

@@ -16,7 +16,7 @@ use std::marker::Model;
 use zone_format::place::{Place, advance, moved};
 
 /// Why no more octets are taken.
-#[derive(Clone, Copy, Debug, PartialEq, Eq)]
+#[derive(Clone, Copy, PartialEq, Eq)]
 pub enum Halt {
     /// The octets are not zone text.
     Wrong(Found),

@@ -9,7 +9,7 @@ use dns_split::position::Position;
 use zone_format::place::{advance, line_start};
 
 /// The first fault of octets that are not zone text.
-#[derive(Clone, Copy, Debug, PartialEq, Eq)]
+#[derive(Clone, Copy, PartialEq, Eq)]
 pub struct Found {
     pub fault: Fault,
     /// Where the fault is.

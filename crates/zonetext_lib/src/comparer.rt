@@ -48,7 +48,7 @@ fn after_lines(lines_before: usize, position: Position) -> Position
 }
 
 /// One of two texts.
-#[derive(Clone, Copy, Debug, PartialEq, Eq)]
+#[derive(Clone, Copy)]
 pub enum Side {
     First,
     Second,

@@ -13,7 +13,7 @@ use dns_split::position::Position;
 use zone_format::place::position_after;
 
 /// How two zone texts compare.
-#[derive(Clone, Copy, Debug, PartialEq, Eq)]
+#[derive(Clone, Copy, PartialEq, Eq)]
 pub enum Comparison {
     /// They have the same entries that have tokens, with the same leading blanks and the same glue.
     Same,

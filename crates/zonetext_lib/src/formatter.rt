@@ -15,7 +15,7 @@ use zone_format::place::{Place, advance};
 use zone_format::refusal::Refusal;
 
 /// Why octets have no form.
-#[derive(Clone, Copy, Debug, PartialEq, Eq)]
+#[derive(Clone, Copy)]
 pub enum NoForm {
     /// They are not zone text.
     Wrong(Found),

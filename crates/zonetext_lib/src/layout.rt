@@ -11,7 +11,7 @@ use dns_split::pieces::{Piece, Pieces};
 use std::alloc::{AllocError, Allocator};
 
 /// What stands between two tokens, and before the first of an entry that begins with a blank.
-#[derive(Clone, Copy, Debug, PartialEq, Eq)]
+#[derive(Clone, Copy)]
 pub enum Gap {
     Space,
     Tab,

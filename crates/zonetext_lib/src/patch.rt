@@ -6,7 +6,7 @@ use dns_split::pieces::Span;
 use std::alloc::{AllocError, Allocator};
 
 /// A stretch of a text, and what stands in its place then.
-#[derive(Clone, Copy, Debug)]
+#[derive(Clone, Copy)]
 pub struct Change<'c> {
     /// Where it begins, in octets.
     pub start: usize,
@@ -17,7 +17,7 @@ pub struct Change<'c> {
 }
 
 /// Why no text is made.
-#[derive(Clone, Copy, Debug, PartialEq, Eq)]
+#[derive(Clone, Copy)]
 pub enum PatchError {
     /// A change begins before the one before it ends, or goes beyond the text.
     OutOfOrder,

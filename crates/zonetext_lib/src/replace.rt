@@ -7,17 +7,20 @@ use std::alloc::{AllocError, Global};
 use std::fs::{Files, Metadata, OpenFile, OpenOptions, Permissions};
 use std::io;
 use std::io::{ErrorKind, Write};
-use std::os::unix::fs::{MetadataExt, OpenOptionsExt, PermissionsExt};
+use std::os::fd::AsFd;
+use std::os::unix::fs::{MetadataExt, OpenOptionsExt, PermissionsExt, fchown};
 
-/// What stands behind a file's name in the name of the file with its new text.
-const NEW: &str = ".zonetext-new";
+/// What stands behind a file's name, and before two numbers, in the name of the file with its new text.
+const NEW: &str = ".zonetext-new-";
+/// How many names are tried for the file with a new text.
+const MOST_NAMES: usize = 10_000;
 /// What a name server puts behind the name of a zone that it changes itself.
 const JOURNAL: &str = ".jnl";
 /// The bits of a file's mode that say who may read, write and run it.
 const PERMISSIONS: u32 = 0o7777;
 
 /// Why a file gets no new text.
-#[derive(Debug, Drop)]
+#[derive(Drop)]
 pub enum Refusal {
     /// It can't be found, read, written or renamed.
     Io(io::Error),
@@ -25,8 +28,8 @@ pub enum Refusal {
     NoFile,
     /// A journal lies beside it: a name server changes the zone itself (dynamic updates, RFC 2136).
     Journal,
-    /// The file for its new text is there already: another run is at work, or was killed.
-    Busy,
+    /// Its owner and group can't be kept.
+    Owner(io::Error),
     /// It changed since it was looked at.
     Changed,
 }
@@ -44,7 +47,7 @@ impl From<AllocError> for Refusal {
 }
 
 /// What tells a file from one that was changed, or that took its place.
-#[derive(Clone, Copy, Debug, PartialEq, Eq)]
+#[derive(Clone, Copy, PartialEq, Eq)]
 struct Stamp {
     device: u64,
     node: u64,
@@ -148,54 +151,69 @@ pub struct NewText<F: Drop> {
     file: F,
 }
 
-/// Gives a new file the owner and the mode of the original, as far as that is allowed.
-fn take_after<R: Files>(
-    files: &R,
-    file: &R::File,
-    path: &str,
-    original: &Original,
-) -> io::Result<()> {
+/// Gives a new file the owner, the group and the mode of the original.
+fn take_after<F: OpenFile + AsFd>(file: &F, original: &Original) -> Result<(), Refusal> {
     let mine = file.metadata()?;
-    if (mine.uid(), mine.gid()) != (original.user, original.group) {
-        let (user, group) = (Some(original.user), Some(original.group));
-        if files.chown(path, user, group).is_err() {
-            // One who isn't the superuser may still give it a group of theirs.
-            let _ = files.chown(path, None, group);
+    let (user, group) = (original.user, original.group);
+    if mine.uid() != user || mine.gid() != group {
+        // Without a new owner, whoever owns the file may give it a group of theirs.
+        let owner = if mine.uid() == user { None } else { Some(user) };
+        if let Err(error) = fchown(file.as_fd(), owner, Some(group)) {
+            return Err(Refusal::Owner(error));
         }
     }
-    file.set_permissions(Permissions::from_mode(original.mode))
+    file.set_permissions(Permissions::from_mode(original.mode))?;
+    Ok(())
 }
 
-impl<F: Write + OpenFile + Drop> NewText<F> {
-    /// Makes the file for a new text, beside the original, with its mode and owner.
+/// Creates a file beside another. Its name is that of the other, the number of the process, and the first
+/// number that is free: a file that another process left is in nobody's way.
+fn create_beside<R: Files>(
+    files: &R,
+    alloc: Global,
+    path: &str,
+    process: u32,
+) -> Result<(String, R::File), Refusal> {
+    let mut options = OpenOptions::new();
+    options.write(true).create_new(true).mode(0o600);
+    for number in 0..MOST_NAMES {
+        let name = format!(in alloc; "{path}{NEW}{process}-{number}")?;
+        match files.open_file(&options, name.as_str()) {
+            Ok(file) => return Ok((name, file)),
+            Err(error) if error.kind() == ErrorKind::AlreadyExists => {}
+            Err(error) => return Err(Refusal::Io(error)),
+        }
+    }
+    Err(Refusal::Io(io::Error::from(ErrorKind::AlreadyExists)))
+}
+
+impl<F: Write + OpenFile + AsFd + Drop> NewText<F> {
+    /// Makes the file for a new text, beside the original, with its owner, group and mode, for the process
+    /// of that number.
     ///
-    /// Where that fails the file is removed again.
+    /// If that fails the file is removed again.
     pub fn create<R: Files<File = F>>(
         files: &R,
         alloc: Global,
         original: Original,
+        process: u32,
     ) -> Result<NewText<F>, Refusal> {
-        let path = with_suffix(alloc, original.path(), NEW)?;
-        let mut options = OpenOptions::new();
-        options.write(true).create_new(true).mode(0o600);
-        let file = match files.open_file(&options, path.as_str()) {
-            Ok(file) => file,
-            Err(error) if error.kind() == ErrorKind::AlreadyExists => return Err(Refusal::Busy),
-            Err(error) => return Err(Refusal::Io(error)),
-        };
-        match take_after(files, &file, path.as_str(), &original) {
+        let (path, file) = create_beside(files, alloc, original.path(), process)?;
+        match take_after(&file, &original) {
             Ok(()) => Ok(NewText {
                 original,
                 path,
                 file,
             }),
-            Err(error) => {
+            Err(refusal) => {
                 let _ = files.remove_file(path.as_str());
-                Err(Refusal::Io(error))
+                Err(refusal)
             }
         }
     }
+}
 
+impl<F: Write + OpenFile + Drop> NewText<F> {
     /// Appends octets to the new text.
     pub fn write(&mut self, octets: &[u8]) -> io::Result<()> {
         self.file.write_all(octets)
@@ -268,7 +286,7 @@ impl Ready {
 }
 
 /// Why files that were to be replaced together were not, or not all.
-#[derive(Debug, Drop)]
+#[derive(Drop)]
 pub struct Incomplete {
     /// How many have their new text: the first ones.
     pub replaced: usize,

@@ -13,7 +13,7 @@ use zonetext_report::json::{Charset, push_string};
 use zonetext_report::push::{push_number, push_text};
 
 /// How a row is written.
-#[derive(Clone, Copy, Debug, PartialEq, Eq)]
+#[derive(Clone, Copy)]
 pub enum Form {
     /// `LINE:COLUMN`, the kind and the token, with tabs between; the kind of a token that begins
     /// where the one before it ended has `glued-` before it.
@@ -23,7 +23,7 @@ pub enum Form {
 }
 
 /// Why a command stopped.
-#[derive(Clone, Copy, Debug, PartialEq, Eq)]
+#[derive(Clone, Copy)]
 pub enum Stop {
     /// The octets are not zone text.
     Wrong(Found),

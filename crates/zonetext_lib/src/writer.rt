@@ -18,7 +18,7 @@ use std::alloc::{AllocError, Allocator};
 use std::marker::Model;
 
 /// What is written of zone text.
-#[derive(Clone, Copy, Debug, PartialEq, Eq)]
+#[derive(Clone, Copy)]
 pub enum Output {
     /// A row for each token, as [`tokens`] writes them.
     Rows(Form),

@@ -4,7 +4,7 @@ use Rattle.dns_split.specs.declared.pieces.Wrong.{Wrong}
 use Rattle.dns_split.specs.declared.pieces.Wrong.TheVariants.{Closing, OpenParenthesis as OpenWrong, OpenQuote as QuoteWrong, LoneReturn as ReturnWrong, BadEscape as EscapeWrong}
 use Rattle.zonetext_report.specs.Code.{code_name}
 use Rattle.zonetext_report.specs.declared.code.Code.{Code}
-use Rattle.zonetext_report.specs.declared.code.Code.TheVariants.{Nul, ByteOrderMark, ControlZ, OtherClass, NoSoa, TwoSoas, NoNs, NsAddress, Cname, Dname, DsApex, WildcardNs, BelowDname, Outside, MaxTtl, NoOrigin, HighOctet, ControlOctet, Crlf, NestedParentheses, NoFinalNewline, RelativeOrigin, SoaMinimumTtl, IncludeTtl, MissingDot, EmptyUri, TlsaLength, Glue, TargetCname, TargetMissing, HostName, Cds, TtlDiffers, Duplicate, NoDnskey, Expired, ExpiresSoon, NotYetValid, Unsigned, SignsNothing, NoNsec, NsecNext, NsecTypes, DsWithoutNs, NoNsec3, Nsec3Next, Nsec3Types}
+use Rattle.zonetext_report.specs.declared.code.Code.TheVariants.{Nul, ByteOrderMark, ControlZ, OtherClass, NoSoa, TwoSoas, NoNs, NsAddress, Cname, Dname, DsApex, WildcardNs, SoaNotApex, NsBesideDname, Nsec3Wildcard, BelowDname, Outside, MaxTtl, NoOrigin, HighOctet, ControlOctet, Crlf, NestedParentheses, NoFinalNewline, RelativeOrigin, SoaMinimumTtl, IncludeTtl, MissingDot, EmptyUri, TlsaLength, Glue, TargetCname, TargetMissing, HostName, Cds, TtlDiffers, Duplicate, NoDnskey, Expired, ExpiresSoon, NotYetValid, Unsigned, SignsNothing, NoNsec, NsecNext, NsecTypes, DsWithoutNs, NoNsec3, Nsec3Next, Nsec3Types}
 
 -- the faults of the text
 abbrev pub text_fault_text : Wrong → List ℕ
@@ -28,6 +28,9 @@ finding_text Cname = codes "CNAME beside other records"
 finding_text Dname = codes "two DNAMEs of one name"
 finding_text DsApex = codes "DS at the zone's name"
 finding_text WildcardNs = codes "NS of a wildcard"
+finding_text SoaNotApex = codes "SOA below the zone's name"
+finding_text NsBesideDname = codes "DNAME beside an NS"
+finding_text Nsec3Wildcard = codes "NSEC3 of a wildcard"
 finding_text BelowDname = codes "record below a DNAME"
 finding_text Outside = codes "record outside of the zone"
 finding_text MaxTtl = codes "time to live above the greatest that is allowed"

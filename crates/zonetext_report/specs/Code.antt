@@ -3,7 +3,7 @@ use Rattle.std.specs.Prelude.{ℕ, Bool, true, false, List, codes}
 use Rattle.zonetext_report.specs.declared.code.Severity.{Severity}
 use Rattle.zonetext_report.specs.declared.code.Severity.TheVariants.{Error, Warning}
 use Rattle.zonetext_report.specs.declared.code.Code.{Code}
-use Rattle.zonetext_report.specs.declared.code.Code.TheVariants.{OpenQuote, OpenParenthesis, ClosingParenthesis, LoneReturn, BadEscape, Nul, ByteOrderMark, ControlZ, Directive, Owner, Ttl, Class, RecordType, Data, Include, NoOwner, NoTtl, OtherClass, NoSoa, TwoSoas, NoNs, NsAddress, Cname, Dname, DsApex, WildcardNs, BelowDname, Outside, MaxTtl, NoOrigin, HighOctet, ControlOctet, Crlf, NestedParentheses, NoFinalNewline, RelativeOrigin, SoaMinimumTtl, IncludeTtl, MissingDot, EmptyUri, TlsaLength, Glue, TargetCname, TargetMissing, HostName, Cds, TtlDiffers, Duplicate, NoDnskey, Expired, ExpiresSoon, NotYetValid, Unsigned, SignsNothing, NoNsec, NsecNext, NsecTypes, DsWithoutNs, NoNsec3, Nsec3Next, Nsec3Types}
+use Rattle.zonetext_report.specs.declared.code.Code.TheVariants.{OpenQuote, OpenParenthesis, ClosingParenthesis, LoneReturn, BadEscape, Nul, ByteOrderMark, ControlZ, Directive, Owner, Ttl, Class, RecordType, Data, Include, NoOwner, NoTtl, OtherClass, NoSoa, TwoSoas, NoNs, NsAddress, Cname, Dname, DsApex, WildcardNs, SoaNotApex, NsBesideDname, Nsec3Wildcard, BelowDname, Outside, MaxTtl, NoOrigin, HighOctet, ControlOctet, Crlf, NestedParentheses, NoFinalNewline, RelativeOrigin, SoaMinimumTtl, IncludeTtl, MissingDot, EmptyUri, TlsaLength, Glue, TargetCname, TargetMissing, HostName, Cds, TtlDiffers, Duplicate, NoDnskey, Expired, ExpiresSoon, NotYetValid, Unsigned, SignsNothing, NoNsec, NsecNext, NsecTypes, DsWithoutNs, NoNsec3, Nsec3Next, Nsec3Types}
 
 abbrev pub severity_name : Severity → List ℕ
 severity_name Error = codes "error"
@@ -37,6 +37,9 @@ code_name Cname = codes "cname"
 code_name Dname = codes "dname"
 code_name DsApex = codes "ds-apex"
 code_name WildcardNs = codes "wildcard-ns"
+code_name SoaNotApex = codes "soa-not-apex"
+code_name NsBesideDname = codes "ns-beside-dname"
+code_name Nsec3Wildcard = codes "nsec3-wildcard"
 code_name BelowDname = codes "below-dname"
 code_name Outside = codes "outside"
 code_name MaxTtl = codes "max-ttl"

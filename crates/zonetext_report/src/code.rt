@@ -81,6 +81,12 @@ pub enum Code {
     DsApex,
     /// A wildcard has an NS.
     WildcardNs,
+    /// An SOA stands below the apex.
+    SoaNotApex,
+    /// A DNAME stands below the apex beside an NS.
+    NsBesideDname,
+    /// A wildcard has an NSEC3.
+    Nsec3Wildcard,
     /// A record stands below a DNAME.
     BelowDname,
     /// A record stands outside of the zone.
@@ -163,7 +169,7 @@ fn find_named(codes: &[Code], name: &str) -> Option<Code>
 impl Code {
     /// Every code.
 
-    pub const ALL: [Code; 61] = [
+    pub const ALL: [Code; 64] = [
         Code::OpenQuote,
         Code::OpenParenthesis,
         Code::ClosingParenthesis,
@@ -190,6 +196,9 @@ impl Code {
         Code::Dname,
         Code::DsApex,
         Code::WildcardNs,
+        Code::SoaNotApex,
+        Code::NsBesideDname,
+        Code::Nsec3Wildcard,
         Code::BelowDname,
         Code::Outside,
         Code::MaxTtl,
@@ -258,6 +267,9 @@ impl Code {
             Code::Dname => "dname",
             Code::DsApex => "ds-apex",
             Code::WildcardNs => "wildcard-ns",
+            Code::SoaNotApex => "soa-not-apex",
+            Code::NsBesideDname => "ns-beside-dname",
+            Code::Nsec3Wildcard => "nsec3-wildcard",
             Code::BelowDname => "below-dname",
             Code::Outside => "outside",
             Code::MaxTtl => "max-ttl",

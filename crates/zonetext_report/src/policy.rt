@@ -27,17 +27,20 @@ pub struct Policy<'a> {
 impl Policy<'_> {
     /// What a finding weighs, or `None` where it is left out.
     ///
-    /// A fault of the text is an error whatever is allowed.
-    pub fn severity(&self, code: Code) -> Option<Severity>
+    /// A fault of the text is an error whatever is allowed, and so is what keeps a record from being
+    /// read.
+    pub fn severity(&self, code: Code, is_refused: bool) -> Option<Severity>
         ensures text { is_text_fault code ≡ true → result ≡ Some Error }
-        ensures allowed { is_text_fault code ≡ false → Contains self.now.allowed.now code → result ≡ None }
+        ensures refused { is_refused ≡ true → result ≡ Some Error }
+        ensures allowed { is_refused ≡ false → is_text_fault code ≡ false
+            → Contains self.now.allowed.now code → result ≡ None }
         ensures denied { is_text_fault code ≡ false → ¬ (Contains self.now.allowed.now code)
             → Contains self.now.denied.now code ⊎ (self.now.is_strict ≡ true) → result ≡ Some Error }
-        ensures other { is_text_fault code ≡ false → ¬ (Contains self.now.allowed.now code)
-            → ¬ (Contains self.now.denied.now code) → self.now.is_strict ≡ false
-            → result ≡ Some (default_severity code) }
+        ensures other { is_refused ≡ false → is_text_fault code ≡ false
+            → ¬ (Contains self.now.allowed.now code) → ¬ (Contains self.now.denied.now code)
+            → self.now.is_strict ≡ false → result ≡ Some (default_severity code) }
     {
-        if code.is_text_fault() {
+        if is_refused || code.is_text_fault() {
             Some(Severity::Error)
         } else if lists(self.allowed, code) {
             None

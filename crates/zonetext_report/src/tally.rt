@@ -30,7 +30,7 @@ impl Tally {
     }
 
     /// Whether the next finding is shown.
-    fn has_room(&self) -> bool
+    pub fn has_room(&self) -> bool
         ensures room { result ≡ has_room self.now.most self.now.errors self.now.warnings }
         ensures fits { self.now.most < 2 ^ 64 }
     {
@@ -61,7 +61,7 @@ impl Tally {
     }
 
     /// How many findings are not shown.
-    fn hidden(&self) -> usize
+    pub fn hidden(&self) -> usize
         ensures { result ≡ hidden self.now.most self.now.errors self.now.warnings }
     {
         if self.most == 0 {
