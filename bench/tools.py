@@ -19,16 +19,20 @@ import re
 import shutil
 import subprocess
 import sys
+import tempfile
+from urllib.parse import unquote_to_bytes
 
 TOP = os.path.dirname(os.path.dirname(os.path.abspath(__file__)))
 ZONETEXT = os.path.join(TOP, "crates/zonetext/out/zonetext")
 ZONE = "example."
+# What + stands for in zones.tsv.
+FRONT = b"$TTL 60\n@ SOA ns h 1 2 3 4 5\n@ NS ns\nns A 192.0.2.1\n"
 HEAD = ("$ORIGIN example.\n$TTL 3600\n@ IN SOA ns1.example. host.example. 1 7200 3600 1209600 3600\n"
         "@ IN NS ns1.example.\nns1 IN A 192.0.2.1\n")
 SIZE = 10_500_000
 SIZES = [1_000, 10_000, 100_000, 1_000_000, 10_000_000, 100_000_000]
 WC = [("`wc -l`", ["wc", "-l"]), ("`wc -lw`", ["wc", "-lw"])]
-COMMANDS = ["check --text", "check", "records", "lines", "tokens", "tokens --json", "fmt", "fmt --check", "canon"]
+COMMANDS = ["check --text", "check", f"check --zone {ZONE}", "records", "lines", "tokens", "tokens --json", "fmt", "fmt --check", "canon"]
 PEERS = {
     "kzonecheck": ["kzonecheck", "-o", ZONE],
     "nsd-checkzone": ["nsd-checkzone", ZONE],
@@ -154,11 +158,25 @@ def table(files, large, turns):
     return rows, measured["mix"]
 
 
+def refused_without_zone(texts):
+    """How many of the zone files of zones.tsv `check` refuses that is told no zone."""
+    refused = 0
+    with tempfile.TemporaryDirectory() as folder:
+        path = os.path.join(folder, "zone")
+        for text in texts:
+            with open(path, "wb") as file:
+                file.write((FRONT if text.startswith("+") else b"") + unquote_to_bytes(text.removeprefix("+")))
+            run = subprocess.run([ZONETEXT, "check", path], capture_output=True, check=False)
+            refused += run.returncode == 1
+    return refused
+
+
 def found_by():
     """Of the zone files of crates/zonetext/zones.tsv: how many `check` and each peer refuse, and of how many."""
     with open(os.path.join(TOP, "crates/zonetext/zones.tsv"), encoding="utf-8") as lines:
         rows = [line.rstrip("\n").split("\t") for line in lines if not line.startswith("#")]
-    refused = {"zonetext check": sum("error" in it[2] for it in rows)}
+    refused = {"zonetext check": refused_without_zone(it[1] for it in rows),
+               f"zonetext check --zone {ZONE}": sum("error" in it[2] for it in rows)}
     for place, name in enumerate(["named-checkzone", "kzonecheck", "nsd-checkzone", "ldns-read-zone"], 3):
         refused[name] = sum(len(it) > place and it[place] == "refuses" for it in rows)
     return refused, len(rows)
@@ -167,7 +185,8 @@ def found_by():
 def peers_table(mix_path, measured):
     refused, count = found_by()
     rows = [f"| On `mix`, 10.5 MB | refuses, of {count} files | ms | MB |", "|---|---|---|---|"]
-    words = {"zonetext check": ours("check", mix_path), **{name: [*it, mix_path] for name, it in PEERS.items()}}
+    words = {f"zonetext {it}": ours(it, mix_path) for it in COMMANDS}
+    words |= {name: [*it, mix_path] for name, it in PEERS.items()}
     for name, files in refused.items():
         if name in measured:
             rows.append(f"| {name} | {files} | {number(measured[name] * 1000, 0)} | {number(peak(words[name]), 1)} |")

@@ -5,10 +5,10 @@ use crate::texts;
 
 mod library {
     extern "C" {
-        pub fn dns_name_read(text: *const u8, length: usize) -> usize;
-        pub fn dns_name_print(octets: *const u8, length: usize) -> usize;
-        pub fn dns_name_print_dotted(octets: *const u8, length: usize) -> usize;
-        pub fn dns_name_print_zone(octets: *const u8, length: usize) -> usize;
+        pub fn dnstext_name_read(text: *const u8, length: usize) -> usize;
+        pub fn dnstext_name_print(octets: *const u8, length: usize) -> usize;
+        pub fn dnstext_name_print_dotted(octets: *const u8, length: usize) -> usize;
+        pub fn dnstext_name_print_zone(octets: *const u8, length: usize) -> usize;
         pub fn dns_numbers_scan(text: *const u8, length: usize) -> usize;
     }
 }
@@ -168,7 +168,7 @@ pub fn add(rows: &mut Rows) {
         let texts = names.each_ref().map(|it| text_of(it));
         rows.add("Names", &format!("from text, {kind}"), || {
             texts.each_ref().map(|text| {
-                let call = library::dns_name_read;
+                let call = library::dnstext_name_read;
                 Case::new(
                     text.len(),
                     move || unsafe { call(text.as_ptr(), text.len()) },
@@ -177,9 +177,9 @@ pub fn add(rows: &mut Rows) {
             })
         });
         let name = |form: &str| format!("{form}, {kind}");
-        let call = library::dns_name_print;
+        let call = library::dnstext_name_print;
         printed(rows, &name("printed"), &names, call, plain::label, false);
-        let call = library::dns_name_print_dotted;
+        let call = library::dnstext_name_print_dotted;
         printed(
             rows,
             &name("printed with dot"),
@@ -188,7 +188,7 @@ pub fn add(rows: &mut Rows) {
             plain::label,
             true,
         );
-        let call = library::dns_name_print_zone;
+        let call = library::dnstext_name_print_zone;
         printed(
             rows,
             &name("printed for zone text"),

@@ -7,7 +7,7 @@ use crate::texts;
 
 mod library {
     extern "C" {
-        pub fn dns_charstr_read(text: *const u8, length: usize) -> usize;
+        pub fn dnstext_charstr_read(text: *const u8, length: usize) -> usize;
         pub fn dns_charstr_plain(octets: *const u8, length: usize) -> usize;
         pub fn dns_charstr_quoted(octets: *const u8, length: usize) -> usize;
         pub fn dns_charstr_unquoted(octets: *const u8, length: usize) -> usize;
@@ -113,7 +113,7 @@ pub fn add(rows: &mut Rows) {
             .map(|octets| octets.chunks(255).map(texts::spelled).collect());
         rows.add("Character strings", &format!("from text, {kind}"), || {
             texts.each_ref().map(|texts| {
-                let call = library::dns_charstr_read;
+                let call = library::dnstext_charstr_read;
                 Case::new(
                     texts.iter().map(Vec::len).sum(),
                     move || {

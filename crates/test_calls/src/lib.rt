@@ -1,13 +1,13 @@
 //! Tests alone, of what rows can't say: generic code at a caller's own types, loans that outlive
-//! their iterators, clones, small buffers, sinks that fail, laws at work, and long values.
+//! their iterators, clones, names in small arrays, and the memory that refuses one call.
 #![tactic(auto)]
 
 #[cfg(test)]
 mod checks;
 #[cfg(test)]
-mod names;
+mod memory;
 #[cfg(test)]
-mod records;
+mod names;
 #[cfg(test)]
 mod scanning;
 #[cfg(test)]

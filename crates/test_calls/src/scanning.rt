@@ -12,7 +12,6 @@ use std::process::Abort;
 use std::slice::Iter;
 
 mod converters;
-mod long;
 mod small;
 
 // Tokens in memory.

@@ -1,5 +1,3 @@
-//! Octets, symbols, character strings and the encodings, at a caller's own types.
+//! Symbols and character strings, at a caller's own types.
 mod charstr;
-mod codec;
-mod octets;
 mod symbol;

@@ -1,5 +1,6 @@
 //! The calls that rows name.
 mod absolute;
+mod author;
 mod build;
 mod charstr;
 mod dnstext;
@@ -7,6 +8,7 @@ mod encoding;
 mod format;
 mod kinds;
 mod label;
+mod law;
 mod name;
 mod octets;
 mod pieces;
@@ -54,6 +56,7 @@ fn call(name: &str, inputs: &Inputs, answer: &mut Answer) {
         "base64" => encoding::call(Base::Base64, name, inputs, answer),
         "kinds" => kinds::call(name, inputs, answer),
         "label" => label::call(name, inputs, answer),
+        "law" => law::call(name, inputs, answer),
         "name" => name::call(name, inputs, answer),
         "octets" => octets::call(name, inputs, answer),
         "scan" => scan::call(name, inputs, answer),
@@ -62,6 +65,8 @@ fn call(name: &str, inputs: &Inputs, answer: &mut Answer) {
         "zonetext" => zonetext::call(name, inputs, answer),
         "report" => report::call(name, inputs, answer),
         "dnstext" => dnstext::run(inputs.all(), answer),
+        "failing" => dnstext::fail(name, inputs.all(), answer),
+        "author" => author::call(name, inputs, answer),
         _ => answer.fail(Failure::NoCall),
     }
 }

@@ -17,6 +17,9 @@ fn keeps_to_the_buffer(rt: HostRuntime) {
     equal(&rt, &None::root(()).err(), &Some(ShortBuf));
     holds(&rt, None::empty(()).is_relative());
     holds(&rt, UncertainName::<ArrayVec<u8, 1>>::root(()).is_ok());
+    octets_are(&rt, UncertainName::root_ref().as_slice(), b"\x00");
+    octets_are(&rt, UncertainName::empty_ref().as_slice(), b"");
+    octets_are(&rt, Vector::empty_vec(rt.alloc()).as_slice(), b"");
 }
 
 // A name is returned as what it is, and given back as what it isn't.
@@ -50,13 +53,4 @@ fn clones_names(rt: HostRuntime) {
     let empty = RelativeName::<Vec<u8>>::empty(alloc);
     equal(&rt, &empty.clone().expect(&rt, "memory"), &empty);
     is_made(&rt, empty.into_absolute(), Ok(b"\x00"));
-}
-
-#[test]
-fn makes_the_shortest_names(rt: HostRuntime) {
-    let empty = Vector::empty_vec(rt.alloc());
-    holds(&rt, empty.is_relative());
-    octets_are(&rt, empty.as_slice(), b"");
-    octets_are(&rt, UncertainName::root_ref().as_slice(), b"\x00");
-    octets_are(&rt, UncertainName::empty_ref().as_slice(), b"");
 }

@@ -1,20 +1,10 @@
 //! Character strings: their builders, views, clones and iterators.
-use crate::checks::{equal, holds, is_made, octets_are};
+use crate::checks::{equal, is_made, octets_are};
 use arrayvec::ArrayVec;
 use dns_charstr::charstr::{CharStr, CharStrBuilder};
 use dns_octets::{OctetsBuilder, ShortBuf};
 use std::alloc::Global;
 use std::process::Abort;
-
-type Array = ArrayVec<u8, 255>;
-
-#[test]
-fn has_an_empty_one(rt: HostRuntime) {
-    equal(&rt, &CharStr::<&[u8]>::MAX_LEN, &255);
-    holds(&rt, CharStr::<&[u8]>::empty_slice().is_empty());
-    holds(&rt, CharStr::<Array>::empty(()).is_empty());
-    holds(&rt, CharStr::<Vec<u8>>::empty(rt.alloc()).is_empty());
-}
 
 // Writes the first octet, where there is one.
 fn write_first(octets: &mut [u8], octet: u8) {
@@ -50,24 +40,6 @@ fn goes_on_from_a_builder(rt: HostRuntime) {
     appends(&rt, &mut builder, &[0], Ok(()));
     appends(&rt, &mut builder, &[0], Err(ShortBuf));
     equal(&rt, &builder.len(), &255);
-}
-
-#[test]
-fn goes_back_to_a_builder(rt: HostRuntime) {
-    let mut builder = CharStr::<Vec<u8>>::builder(rt.alloc());
-    appends(&rt, &mut builder, b"foo", Ok(()));
-    let mut builder = builder.finish().into_builder();
-    appends(&rt, &mut builder, b"bar", Ok(()));
-    octets_are(&rt, builder.finish().into_octets().as_slice(), b"foobar");
-}
-
-#[test]
-fn builders_begin_empty(rt: HostRuntime) {
-    let empty = CharStrBuilder::<Vec<u8>>::with_capacity(rt.alloc(), 16);
-    is_made(&rt, empty, Ok(b""));
-    let empty = CharStrBuilder::<Array>::with_capacity((), 16);
-    is_made(&rt, empty, Ok(b""));
-    holds(&rt, CharStrBuilder::<Array>::default().is_empty());
 }
 
 // The character string of a text.

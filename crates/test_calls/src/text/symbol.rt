@@ -1,32 +1,11 @@
 //! A caller's own writers, which fail, and symbols for a closure.
-use crate::checks::{equal, holds};
-use dns_symbol::form::{Form, Quoted, write_octets};
-use dns_symbol::symbol::{EntrySymbol, Symbol, SymbolCharsError};
+use crate::checks::equal;
+use dns_charstr::charstr::DisplayQuoted;
+use dns_symbol::symbol::{Symbol, SymbolCharsError};
 use dns_symbol::symbols::Symbols;
 use std::fmt;
 use std::fmt::Write;
-use std::marker::PhantomData;
 use std::process::Abort;
-
-/// Octets that print in a form.
-#[derive(Drop)]
-struct Shown<'a, F> {
-    octets: &'a [u8],
-    form: PhantomData<F>,
-}
-
-impl<F: Form> fmt::Display for Shown<'_, F> {
-    fn fmt<W: fmt::Write>(&self, f: &mut fmt::Formatter<W>) -> fmt::Result {
-        write_octets::<F, W>(self.octets, f)
-    }
-}
-
-fn in_form<F: Form>(octets: &[u8]) -> Shown<'_, F> {
-    Shown {
-        octets,
-        form: PhantomData,
-    }
-}
 
 /// A writer that has room for so many bytes.
 #[derive(Drop)]
@@ -44,24 +23,17 @@ impl fmt::Write for Room {
 
 // Quoted octets are written to so much room, or refused.
 fn writes_to(rt: &impl Abort, octets: &[u8], room: usize, wanted: fmt::Result) {
-    let answer = write!(Room(room), "{}", in_form::<Quoted>(octets));
+    let answer = write!(Room(room), "{}", DisplayQuoted::from_slice(octets));
     assert_eq!(rt; answer, wanted, "{room}");
 }
 
 #[test]
 fn fails_where_a_writer_does(rt: HostRuntime) {
     let octets = [0xFF; 1000];
-    for room in [0, 1, 255, 256, 257, 3999] {
+    for room in [0, 1, 255, 256, 257, 4001] {
         writes_to(&rt, &octets, room, Err(fmt::Error));
     }
-    writes_to(&rt, &octets, 4000, Ok(()));
-}
-
-#[test]
-fn symbols_are_those_of_entries(rt: HostRuntime) {
-    let symbol = EntrySymbol::from(Symbol::Char('a'));
-    equal(&rt, &symbol, &EntrySymbol::Symbol(Symbol::Char('a')));
-    holds(&rt, symbol != EntrySymbol::EndOfToken);
+    writes_to(&rt, &octets, 4002, Ok(()));
 }
 
 #[derive(Clone, Copy, Debug, PartialEq, Eq)]

@@ -1,5 +1,5 @@
 //! Values in a row, a token each.
-use super::{Abort, AllocError, DisplayKind, Global, equal, prints, prints_as};
+use super::{DisplayKind, prints, prints_as};
 use dns_zone::tokens::{Each, ZoneToken, ZoneTokens, write_each};
 use dns_zone::zonefile_fmt::{self, FormatWriter, Formatter, ZonefileFmt};
 
@@ -52,48 +52,29 @@ impl ZonefileFmt for Flags<'_> {
     }
 }
 
-/// Every third flag is set.
-fn add_flags(flags: &mut Vec<Flag>, count: usize) -> Result<(), AllocError> {
-    for place in 0..count {
-        flags.push(Flag {
-            set: place % 3 == 0,
-        })?;
-    }
-    Ok(())
-}
+const SET: Flag = Flag { set: true };
 
-/// So many flags.
-fn flags_of(rt: &impl Abort, alloc: Global, count: usize) -> Vec<Flag> {
-    let mut flags = Vec::new(alloc);
-    let made = add_flags(&mut flags, count);
-    equal(rt, &made, &Ok(()));
-    flags
-}
+const UNSET: Flag = Flag { set: false };
 
 #[test]
 fn prints_none_and_many(rt: HostRuntime) {
     let alloc = rt.alloc();
-    let flags = flags_of(&rt, alloc, 5);
     let spaced = "yes no no yes no";
+    let flags = [SET, UNSET, UNSET, SET, UNSET];
     let each = Each::new(&flags);
     each.known();
     prints(&rt, alloc, &each, spaced, "yes\tno\tno\tyes\tno", spaced);
-    let empty = flags_of(&rt, alloc, 0);
-    let none = Each::new(&empty);
-    prints(&rt, alloc, &none, "", "", "");
-}
-
-/// The word, and the words of so many times three flags.
-fn words_of(alloc: Global, times: usize) -> Result<String, AllocError> {
-    let rest = " yes no no".repeat(alloc, times)?;
-    format!(in alloc; "flags{rest}")
+    prints(&rt, alloc, &Each::new(&[] as &[Flag]), "", "", "");
 }
 
 #[test]
 fn prints_many_after_a_word(rt: HostRuntime) {
     let alloc = rt.alloc();
-    let flags = flags_of(&rt, alloc, 4998);
-    let text = words_of(alloc, 1666).expect(&rt, "memory");
+    let flags = [SET, UNSET, UNSET]
+        .repeat(alloc, 1666)
+        .expect(&rt, "memory");
+    let rest = " yes no no".repeat(alloc, 1666).expect(&rt, "memory");
+    let text = format!(in alloc; "flags{rest}").expect(&rt, "memory");
     let all = Flags { flags: &flags };
     prints_as(&rt, alloc, &all, DisplayKind::Simple, text.as_str());
     let none = Flags { flags: &[] };

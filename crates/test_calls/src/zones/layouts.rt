@@ -1,13 +1,11 @@
-//! A caller's own values in blocks, writers step by step, and sinks that fail.
+//! A caller's own values in blocks, writers step by step, and a sink that fails.
 ghost use Rattle.std.specs.Prelude.{◌≡◌, [], ◌∷◌, codes, refl};
 ghost use Rattle.dns_zone.specs.Layout.{token, begin, end};
 
-use super::{
-    Abort, AllocError, DS, DisplayKind, Document, Global, NESTED, ZonefileFmt, document_of, equal,
-    holds, prints,
-};
+use super::{Abort, AllocError, Global, ZonefileFmt, equal, holds, prints};
+use dns_zone::document::{Document, Item};
 use dns_zone::zonefile_fmt::{
-    self, FormatWriter, Formatter, MultiLineWriter, SimpleWriter, TabbedWriter, ZoneFileDisplay,
+    self, FormatWriter, Formatter, MultiLineWriter, SimpleWriter, TabbedWriter,
 };
 use refusing_heap::sink::Sink;
 use std::fmt::Write;
@@ -92,10 +90,31 @@ fn open_blocks(rt: HostRuntime) {
     one_is_left(&rt, &blocks_left(&mut multiline));
 }
 
+/// Adds a comment, where there is one, and a token.
+fn add_items(
+    alloc: Global,
+    comment: Option<&str>,
+    token: &str,
+    items: &mut Vec<Item>,
+) -> Result<(), AllocError> {
+    if let Some(text) = comment {
+        items.push(Item::Comment(String::from_str(alloc, text)?))?;
+    }
+    items.push(Item::Token(String::from_str(alloc, token)?))?;
+    Ok(())
+}
+
+/// The document of these.
+fn document_of(rt: &impl Abort, alloc: Global, comment: Option<&str>, token: &str) -> Document {
+    let mut items = Vec::new(alloc);
+    equal(rt, &add_items(alloc, comment, token, &mut items), &Ok(()));
+    Document::from_items(items).ok().expect(rt, "a document")
+}
+
 #[test]
 fn one_after_another(rt: HostRuntime) {
-    let first = document_of(&rt, rt.alloc(), &["a"]);
-    let second = document_of(&rt, rt.alloc(), &["; k", "b"]);
+    let first = document_of(&rt, rt.alloc(), None, "a");
+    let second = document_of(&rt, rt.alloc(), Some("k"), "b");
     let mut text = String::new(rt.alloc());
     let mut writer = MultiLineWriter::new(&mut text);
     // the second is written where the first is known to have left no block open
@@ -112,60 +131,7 @@ fn text_beside_steps(rt: HostRuntime) {
     holds(&rt, writer.begin_block().is_ok());
     holds(&rt, writer.write_comment("k").is_ok());
     holds(&rt, writer.write_token("a").is_ok());
-    holds(&rt, text.as_str() == "> (\t; k\n    a");
-}
-
-/// Whether a sink that takes so many writes takes a document's text in a layout.
-fn takes(
-    rt: &impl Abort,
-    alloc: Global,
-    display: &ZoneFileDisplay<Document>,
-    text: &str,
-    left: usize,
-) -> bool {
-    let mut sink = Sink::new(alloc, left);
-    let is_taken = write!(sink, "{display}").is_ok();
-    let is_wanted = if is_taken {
-        sink.text.as_str() == text
-    } else {
-        sink.has_refused && text.starts_with(sink.text.as_str())
-    };
-    holds(rt, is_wanted);
-    is_taken
-}
-
-/// How many writes a sink has to take for a document's text in a layout; it takes a beginning of
-/// it where it takes fewer. 200 stands for more.
-fn writes(
-    rt: &impl Abort,
-    alloc: Global,
-    document: &Document,
-    kind: DisplayKind,
-) -> Result<usize, AllocError> {
-    let display = document.display_zonefile(kind);
-    let text = display.to_string(alloc)?;
-    for left in 0..200 {
-        if takes(rt, alloc, &display, text.as_str(), left) {
-            return Ok(left);
-        }
-    }
-    Ok(200)
-}
-
-/// Each write of a document's text in a layout fails in turn, and there are several.
-fn fails_at_each_write(rt: &impl Abort, alloc: Global, document: &Document, kind: DisplayKind) {
-    let writes = writes(rt, alloc, document, kind);
-    assert!(rt; matches!(writes, Ok(writes) if 5 < writes && writes < 200));
-}
-
-#[test]
-fn sinks_fail(rt: HostRuntime) {
-    for words in [DS.as_slice(), NESTED.as_slice()] {
-        let document = document_of(&rt, rt.alloc(), words);
-        fails_at_each_write(&rt, rt.alloc(), &document, DisplayKind::Simple);
-        fails_at_each_write(&rt, rt.alloc(), &document, DisplayKind::Tabbed);
-        fails_at_each_write(&rt, rt.alloc(), &document, DisplayKind::Multiline);
-    }
+    equal(&rt, &text.as_str(), &"> (\t; k\n    a");
 }
 
 #[test]

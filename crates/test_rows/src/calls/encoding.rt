@@ -1,9 +1,11 @@
 //! The encodings.
 use super::steps;
+use arrayvec::ArrayVec;
 use dns_codec::base64::DecodeError;
 use dns_codec::{base16, base32, base64};
 use dns_octets::ShortBuf;
 use row_table::{Answer, Failure, Heap, Inputs};
+use std::str;
 
 /// Octets in memory of which one growth may be refused.
 pub(crate) type Octets<'a> = Vec<u8, &'a Heap>;
@@ -21,7 +23,9 @@ pub fn call(base: Base, name: &str, inputs: &Inputs, answer: &mut Answer) {
         "convert" => steps::convert(base, inputs.text(answer), answer),
         "print" => print(base, inputs.octets(answer), answer),
         "push" => steps::push(base, inputs.text(answer), answer),
+        "push_into" => steps::push_into(base, inputs.octets_and_number(answer), answer),
         "read" => read(base, inputs.text(answer), answer),
+        "read_into" => read_into(base, inputs.octets_and_number(answer), answer),
         _ => answer.fail(Failure::NoCall),
     }
 }
@@ -105,6 +109,24 @@ fn just_read(base: Base, text: &[u8], octets: &[u8], room: &mut [u8], answer: &m
     answer.check(*exact == *octets);
     if let [_, short @ ..] = exact {
         answer.check(decode_slice(base, text, short).is_none());
+    }
+}
+
+/// What was read into an array, or the refusal.
+fn tell<const N: usize>(read: Result<ArrayVec<u8, N>, DecodeError>, answer: &mut Answer) {
+    match read {
+        Ok(octets) => answer.add(octets.as_slice()),
+        Err(error) => answer.refuse(&error),
+    }
+}
+
+/// The octets of a text, in an array of so many.
+fn read_into(base: Base, (text, room): (&[u8], usize), answer: &mut Answer) {
+    let text = str::from_utf8(text).unwrap_or("");
+    match (base, room) {
+        (Base::Base64, 0) => tell(base64::decode::<ArrayVec<u8, 0>>((), text), answer),
+        (Base::Base32, 3) => tell(base32::decode_hex::<ArrayVec<u8, 3>>((), text), answer),
+        _ => answer.fail(Failure::BadInputs),
     }
 }
 

@@ -183,7 +183,7 @@ fn judge(fields: &[Vec<u8>], answer: &mut Answer) {
         denied: &denied,
         is_strict: strict.as_slice() == b"strict".as_slice(),
     };
-    match policy.severity(code_of(code.as_slice(), answer)) {
+    match policy.severity(code_of(code.as_slice(), answer), false) {
         Some(severity) => answer.add_text(severity.name()),
         None => answer.add_text("left out"),
     }

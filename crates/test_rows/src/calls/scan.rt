@@ -13,8 +13,9 @@ use dns_scan::{
 };
 use dns_split::splitting::split;
 use dns_symbol::symbol::{EntrySymbol, Symbol};
+use row_table::input::number_of;
 use row_table::{Answer, Failure, Inputs};
-use std::alloc::Allocator;
+use std::alloc::{AllocError, Allocator};
 use std::iter::Copied;
 use std::slice::Iter;
 use std::{fmt, str};
@@ -24,10 +25,17 @@ type Words<'a> = Copied<Iter<'a, &'a str>>;
 
 type FourScanner<'a> = IterScanner<Words<'a>, ArrayVec<u8, 4>>;
 
+type FiveScanner<'a> = IterScanner<Words<'a>, ArrayVec<u8, 5>>;
+
+type SevenScanner<'a> = IterScanner<Words<'a>, ArrayVec<u8, 7>>;
+
 pub fn call(name: &str, inputs: &Inputs, answer: &mut Answer) {
     match name {
         "tokens" => tokens(inputs.all(), answer),
         "four" => four(inputs.all(), answer),
+        "five" => five(inputs.all(), answer),
+        "seven" => seven(inputs.all(), answer),
+        "many" => many(inputs.all(), answer),
         "entry" => entry(inputs.all(), answer),
         "text" => text(inputs.two(answer), answer),
         _ => answer.fail(Failure::NoCall),
@@ -305,6 +313,78 @@ fn four(inputs: &[Vec<u8>], answer: &mut Answer) {
     };
     let mut scanner: FourScanner = IterScanner::new((), words.iter().copied());
     take_steps(&mut scanner, steps, answer);
+}
+
+/// The same into at most five octets.
+fn five(inputs: &[Vec<u8>], answer: &mut Answer) {
+    let (steps, words) = steps_and_words(inputs, answer);
+    let Ok(words) = words_of(answer.alloc(), words) else {
+        return answer.fail_for_memory();
+    };
+    let mut scanner: FiveScanner = IterScanner::new((), words.iter().copied());
+    take_steps(&mut scanner, steps, answer);
+}
+
+/// The same into at most seven octets.
+fn seven(inputs: &[Vec<u8>], answer: &mut Answer) {
+    let (steps, words) = steps_and_words(inputs, answer);
+    let Ok(words) = words_of(answer.alloc(), words) else {
+        return answer.fail_for_memory();
+    };
+    let mut scanner: SevenScanner = IterScanner::new((), words.iter().copied());
+    take_steps(&mut scanner, steps, answer);
+}
+
+/// So many times a part.
+fn repeated(answer: &Answer, part: &[u8], times: usize) -> Result<Vec<u8>, AllocError> {
+    let mut octets = Vec::new(answer.alloc());
+    for _ in 0..times {
+        octets.extend_from_slice(part)?;
+    }
+    Ok(octets)
+}
+
+/// How many times a text begins with a unit, and what is left of it. A refusal stays one.
+fn add_units(text: &str, unit: &str, answer: &mut Answer) {
+    if let Some(refusal) = text.strip_prefix('!') {
+        return answer.refuse_text(refusal);
+    }
+    let (mut left, mut count) = (text, 0);
+    for times in 1..=text.len() {
+        match left.strip_prefix(unit) {
+            Some(rest) => (left, count) = (rest, times),
+            None => break,
+        }
+    }
+    answer.add_number(count);
+    answer.add_text(left);
+}
+
+/// Scans so many tokens, each of them a part so many times: how many times the answer repeats a unit.
+fn many(inputs: &[Vec<u8>], answer: &mut Answer) {
+    let [steps, part, times, tokens, unit] = inputs else {
+        return answer.fail(Failure::BadInputs);
+    };
+    let (Some(times), Some(tokens)) = (number_of(times), number_of(tokens)) else {
+        return answer.fail(Failure::BadInputs);
+    };
+    let Ok(token) = repeated(answer, part.as_slice(), times) else {
+        return answer.fail_for_memory();
+    };
+    let mut words = Vec::new(answer.alloc());
+    for _ in 0..tokens {
+        if words.push(text_of(token.as_slice())).is_err() {
+            return answer.fail_for_memory();
+        }
+    }
+    let mut made = answer.another();
+    scan_words(answer.heap(), words.as_slice(), text_of(steps), &mut made);
+    let mut wanted = answer.another();
+    wanted.add(unit);
+    match (made.into_text(), wanted.into_text()) {
+        (Ok(made), Ok(unit)) => add_units(made.as_str(), unit.as_str(), answer),
+        (Err(failure), _) | (_, Err(failure)) => answer.fail(failure),
+    }
 }
 
 /// Scans the tokens of an entry that began with a blank, into memory of an allocator.

@@ -9,8 +9,9 @@ use dns_octets::{AsOctets, FreezeBuilder, OctetsBuilder};
 use dns_scan::{ConvertSymbols, StrError};
 use dns_symbol::symbol::{EntrySymbol, Symbol};
 use dns_symbol::symbols::Symbols;
-use row_table::Answer;
+use row_table::{Answer, Failure};
 use std::alloc::AllocError;
+use std::str;
 
 /// What a converter returns to a symbol; `|` is the end of a token, and `$` the end of them all.
 fn step<C: ConvertSymbols<EntrySymbol, StrError>>(
@@ -155,5 +156,26 @@ pub fn push(base: Base, text: &str, answer: &mut Answer) {
             push_by(base64::Decoder::<Octets>::new(heap), text, answer);
             push_alike(base64::Decoder::<Array>::default(), text, answer);
         }
+    }
+}
+
+/// The same into an array of so many octets.
+pub fn push_into(base: Base, (text, room): (&[u8], usize), answer: &mut Answer) {
+    let text = str::from_utf8(text).unwrap_or("");
+    match (base, room) {
+        (Base::Base16, 0) => {
+            push_by(base16::Decoder::<ArrayVec<u8, 0>>::new(()), text, answer);
+        }
+        (Base::Base32, 3) => {
+            push_by(
+                base32::Decoder::<ArrayVec<u8, 3>>::new_hex(()),
+                text,
+                answer,
+            );
+        }
+        (Base::Base64, 2) => {
+            push_by(base64::Decoder::<ArrayVec<u8, 2>>::new(()), text, answer);
+        }
+        _ => answer.fail(Failure::BadInputs),
     }
 }

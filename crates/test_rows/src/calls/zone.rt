@@ -8,6 +8,7 @@ use dns_split::splitting::split;
 use dns_split::token::{content, is_token};
 use dns_zone::document::{Document, Item};
 use dns_zone::zonefile_fmt::{DisplayKind, ZonefileFmt};
+use refusing_heap::sink::Sink;
 use row_table::{Answer, Failure, Heap, Inputs};
 use std::alloc::AllocError;
 use std::fmt::Write;
@@ -30,6 +31,7 @@ pub fn call(name: &str, inputs: &Inputs, answer: &mut Answer) {
         "simple" => layout(DisplayKind::Simple, inputs.all(), answer),
         "tabbed" => layout(DisplayKind::Tabbed, inputs.all(), answer),
         "multiline" => layout(DisplayKind::Multiline, inputs.all(), answer),
+        "failing" => failing(inputs.all(), answer),
         _ => answer.fail(Failure::NoCall),
     }
 }
@@ -250,7 +252,7 @@ fn item<'a>(heap: &'a Heap, word: &str) -> Result<Item<&'a Heap>, AllocError> {
     })
 }
 
-fn items<'a>(
+pub fn items<'a>(
     heap: &'a Heap,
     words: &[Vec<u8>],
 ) -> Result<Vec<Item<&'a Heap>, &'a Heap>, AllocError> {
@@ -278,7 +280,7 @@ fn add_words(words: &[Vec<u8>], answer: &mut Answer) {
 }
 
 /// A layout of words splits into their entries.
-fn check_entries(text: &str, words: &[Vec<u8>], answer: &mut Answer) {
+pub fn check_entries(text: &str, words: &[Vec<u8>], answer: &mut Answer) {
     let mut wanted = answer.another();
     add_words(words, &mut wanted);
     let mut found = answer.another();
@@ -343,5 +345,55 @@ fn layout(kind: DisplayKind, words: &[Vec<u8>], answer: &mut Answer) {
             answer.hold(are_items(items.as_slice(), words));
             answer.refuse(&error);
         }
+    }
+}
+
+/// Whether a sink that takes so many writes takes all of a value's text; else it has a beginning of it.
+fn takes(value: &impl fmt::Display, text: &str, writes: usize, answer: &mut Answer) -> bool {
+    let mut sink = Sink::new(answer.alloc(), writes);
+    let is_taken = write!(sink, "{value}").is_ok();
+    let is_begun = sink.has_refused && text.starts_with(sink.text.as_str());
+    answer.hold(if is_taken {
+        sink.text.as_str() == text
+    } else {
+        is_begun
+    });
+    is_taken
+}
+
+/// The text of a document of words, each of whose writes fails in turn.
+fn print_failing(kind: DisplayKind, words: &[Vec<u8>], answer: &mut Answer) {
+    let Ok(items) = items(answer.heap(), words) else {
+        return answer.fail_for_memory();
+    };
+    let Ok(document) = Document::from_items(items) else {
+        return answer.fail(Failure::BadInputs);
+    };
+    let display = document.display_zonefile(kind);
+    let Ok(text) = display.to_string(answer.alloc()) else {
+        return answer.fail_for_memory();
+    };
+    let mut is_taken = false;
+    for writes in 0..200 {
+        is_taken = takes(&display, text.as_str(), writes, answer);
+        if is_taken {
+            answer.hold(5 < writes);
+            break;
+        }
+    }
+    answer.hold(is_taken);
+    answer.add_text(text.as_str());
+}
+
+/// The same, after the name of a layout.
+fn failing(inputs: &[Vec<u8>], answer: &mut Answer) {
+    let [kind, words @ ..] = inputs else {
+        return answer.fail(Failure::BadInputs);
+    };
+    match kind.as_slice() {
+        b"simple" => print_failing(DisplayKind::Simple, words, answer),
+        b"tabbed" => print_failing(DisplayKind::Tabbed, words, answer),
+        b"multiline" => print_failing(DisplayKind::Multiline, words, answer),
+        _ => answer.fail(Failure::BadInputs),
     }
 }

@@ -1,15 +1,20 @@
-//! The memory itself: one call is refused, and those before and after it are not.
+//! The memory of tests: one call is refused, and those before and after it are not.
+use crate::checks::{equal, holds};
 use refusing_heap::Refusing;
 use std::alloc::Global;
 use std::process::Abort;
 
-/// Of three calls for memory just the one of the number is refused, and this is known from then on.
+// Of three calls for memory just the one of the number is refused, and this is known from then on.
 fn refuses_one(rt: &impl Abort, alloc: Global, nth: u64) {
     let heap = Refusing::new(alloc, nth);
-    assert!(rt; !heap.has_refused());
+    holds(rt, !heap.has_refused());
     for call in 1..4 {
         let found = Vec::<u8, &Refusing<Global>>::with_capacity(&heap, 8).is_ok();
-        assert_eq!(rt; (found, heap.has_refused()), (call != nth, nth <= call));
+        equal(
+            rt,
+            &(found, heap.has_refused()),
+            &(call != nth, nth <= call),
+        );
     }
 }
 

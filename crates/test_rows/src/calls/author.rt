@@ -1,0 +1,149 @@
+//! Record types of an author, and what takes all tokens that are left.
+use super::dnstext::words_of;
+use dns_records::caa::Caa;
+use dns_records::mx::Mx;
+use dns_text::document::split;
+use dns_text::record::{
+    RecordData, base64_rest, hex_rest, record_reads_back, record_reads_back_in_room, scan_five,
+    scan_record, strings_rest,
+};
+use dns_text::scan::{EntryScanner, Scanner, ScannerError, StrError, entry_scanner};
+use dns_text::wire::Ttl;
+use dns_text::zonefile_fmt::{DisplayKind, ZonefileFmt};
+use row_table::{Answer, Failure, Heap, Inputs};
+use std::alloc::Allocator;
+
+/// Octets in memory of which one growth may be refused.
+type Octets<'a> = Vec<u8, &'a Heap>;
+
+const KINDS: [DisplayKind; 3] = [
+    DisplayKind::Simple,
+    DisplayKind::Tabbed,
+    DisplayKind::Multiline,
+];
+
+pub fn call<'a>(name: &str, inputs: &Inputs, answer: &mut Answer<'a>) {
+    match name {
+        "mx" => read::<Mx<Octets<'a>>>(inputs.text(answer), answer),
+        "caa" => read::<Caa<Octets<'a>>>(inputs.text(answer), answer),
+        "hex_rest" | "base64_rest" | "strings_rest" | "five" => {
+            let Ok(words) = words_of(answer.alloc(), inputs.all()) else {
+                return answer.fail_for_memory();
+            };
+            scan_words(answer.heap(), name, words.as_slice(), answer);
+        }
+        _ => answer.fail(Failure::NoCall),
+    }
+}
+
+/// The record data of a text that is one entry.
+fn scanned<R, A: Allocator + Copy>(alloc: A, text: &str) -> Result<R, StrError>
+where
+    R: RecordData<Vec<u8, A>, A> + Drop,
+{
+    let Ok(entries) = split(alloc, text) else {
+        return Err(StrError::short_buf());
+    };
+    let Some((tokens, _)) = entries.split_first() else {
+        return Err(StrError::end_of_entry());
+    };
+    let mut scanner: EntryScanner<'_, String<A>, Vec<u8, A>> = entry_scanner(alloc, tokens, false);
+    scan_record(alloc, &mut scanner)
+}
+
+/// The text of a value in each layout, with a bar after each.
+fn add_layouts<T: ZonefileFmt>(value: &T, answer: &mut Answer) {
+    for kind in KINDS {
+        match value.display_zonefile(kind).to_string(answer.heap()) {
+            Ok(text) => answer.add_text(text.as_str()),
+            Err(_) => answer.fail_for_memory(),
+        }
+        answer.add_text("|");
+    }
+}
+
+/// Record data that were read back print as the answer so far.
+fn check_same<T: ZonefileFmt + Drop>(back: Result<T, StrError>, answer: &mut Answer) {
+    let mut other = answer.another();
+    match back {
+        Ok(back) => add_layouts(&back, &mut other),
+        Err(error) => other.refuse(&error),
+    }
+    answer.check_same(&other);
+}
+
+/// The record data of a text in each layout, from each of which they are read back.
+fn read<'a, R>(text: &str, answer: &mut Answer<'a>)
+where
+    R: RecordData<Octets<'a>, &'a Heap> + Drop,
+{
+    let heap = answer.heap();
+    let record: R = match scanned(heap, text) {
+        Ok(record) => record,
+        Err(error) => return answer.refuse(&error),
+    };
+    add_layouts(&record, answer);
+    for kind in KINDS {
+        let back: Result<R, StrError> = record_reads_back(heap, heap, &record, kind);
+        check_same(back, answer);
+    }
+    for kind in KINDS {
+        let back: Option<Result<R, StrError>> = record_reads_back_in_room(
+            heap, heap, &record, kind,
+        );
+        match back {
+            Some(back) => check_same(back, answer),
+            None => answer.fail_for_memory(),
+        }
+    }
+}
+
+/// What all tokens left make: octets, strings in each layout, or five numbers.
+fn take_rest<S: Scanner<Error = StrError>>(scanner: &mut S, name: &str, answer: &mut Answer)
+where
+    S::Octets: Drop,
+    requires { S.can_scan scanner.old }
+    ensures { S.can_scan scanner.new }
+{
+    match name {
+        "hex_rest" => match hex_rest(scanner) {
+            Ok(octets) => answer.add(octets.as_slice()),
+            Err(error) => answer.refuse(&error),
+        },
+        "base64_rest" => match base64_rest(scanner) {
+            Ok(octets) => answer.add(octets.as_slice()),
+            Err(error) => answer.refuse(&error),
+        },
+        "strings_rest" => match strings_rest(answer.heap(), scanner) {
+            Ok(strings) => add_layouts(&strings, answer),
+            Err(error) => answer.refuse(&error),
+        },
+        _ => add_five(scanner, answer),
+    }
+}
+
+/// Five values in a row, with commas between.
+fn add_five<S: Scanner<Error = StrError>>(scanner: &mut S, answer: &mut Answer)
+    requires { S.can_scan scanner.old }
+    ensures { S.can_scan scanner.new }
+{
+    let made: Result<(u32, Ttl, Ttl, Ttl, Ttl), StrError> = scan_five(scanner);
+    match made {
+        Ok((first, second, third, fourth, fifth)) => {
+            answer.add_number(first as usize);
+            for ttl in [second, third, fourth, fifth] {
+                answer.add_text(",");
+                answer.add_number(ttl.as_secs() as usize);
+            }
+        }
+        Err(error) => answer.refuse(&error),
+    }
+}
+
+/// What all tokens left make, a comma, and what the same call returns then.
+fn scan_words<A: Allocator + Copy>(alloc: A, name: &str, words: &[&str], answer: &mut Answer) {
+    let mut scanner: EntryScanner<'_, &str, Vec<u8, A>> = entry_scanner(alloc, words, false);
+    take_rest(&mut scanner, name, answer);
+    answer.add_text(",");
+    take_rest(&mut scanner, name, answer);
+}
