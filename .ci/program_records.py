@@ -165,7 +165,9 @@ def record_canonical(row):
     code, group, ttl, length = (int.from_bytes(rest[a:b], "big") for a, b in ((0, 2), (2, 4), (4, 8), (8, 10)))
     if len(rest) != 10 + length or zone_name(name) is None:
         return None
-    words = zonetext("canon", "--wire", *origin_words(as_data.EXAMPLE), "--class", class_name(row.inputs[2]), "f")
+    # (an SOA names its zone)
+    zone = row.inputs[0] if row.inputs[3] == b"SOA" else as_data.EXAMPLE
+    words = zonetext("canon", "--wire", *origin_words(zone), "--class", class_name(row.inputs[2]), "f")
     return exact(words, wire_line(name, ttl, group, code, rest[10:]), files={"f": line})
 
 
