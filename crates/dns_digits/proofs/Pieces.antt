@@ -6,7 +6,7 @@ use Rattle.std.proofs.lemmas.List.Elements.{All-nil}
 use Rattle.std.specs.Prelude.{Result, Ok, Err, OnOk, OnErr, IfErr}
 use Rattle.dns_octets.specs.Room.{Room}
 use Rattle.dns_octets.specs.Appending.{Extends}
-use Rattle.dns_codec.specs.Bits.{digits, filled, joined, cut}
+use Rattle.dns_codec.specs.Bits.{digits, filled, joined, digits_from_bits}
 use Rattle.dns_codec.specs.Base.{padded, encoded}
 use Rattle.dns_codec.proofs.Encoding.{mod_front}
 use Rattle.dns_digits.specs.Spelled.{SpellsDigits, opens_group, base_of, illegal}
@@ -21,7 +21,7 @@ pub cons_not_nil : (x : ℕ) (xs : List ℕ) → x ∷ xs ≢ []
 cons_not_nil x xs is = cc is
 
 nothing_printed : (k : DigitsKind) → encoded (base_of k) [] ≡ []
-unfolding encoded padded digits filled joined cut
+unfolding encoded padded digits filled joined digits_from_bits
 nothing_printed Hex = refl
 nothing_printed Base64 = refl
 

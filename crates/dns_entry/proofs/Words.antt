@@ -15,7 +15,7 @@ use Rattle.dns_symbol.specs.declared.symbol.Symbol.TheVariants.{Char}
 use Rattle.dns_symbol.specs.Symbol.{bytes, is_word_symbol}
 use Rattle.dns_symbol.specs.Printed.{text_of, is_unquoted_escape}
 use Rattle.dns_charstr.proofs.ReadBack.{is_a_word}
-use Rattle.dns_codec.specs.Bits.{bits, joined, cut, whole, digits}
+use Rattle.dns_codec.specs.Bits.{bits, joined, digits_from_bits, whole, digits}
 use Rattle.dns_codec.specs.Base.{Base, base16, base64, digit_char, padded, encoded}
 use Rattle.dns_codec.specs.Grammar.{Decodes}
 use Rattle.dns_codec.proofs.RoundTrip.{encoded16-decodes, encoded64-decodes}
@@ -83,11 +83,11 @@ some_text b [] octets once empty is some = absurd (omega (arith, some, ap length
 some_text b (c ∷ cs) octets once empty is some = omega arith
 
 none16 : Decodes base16 [] []
-unfolding bits joined cut whole
+unfolding bits joined digits_from_bits whole
 none16 = record { chars = []; digits = []; valued = tt; count = refl; spelled = refl; value_is = refl }
 
 none64 : Decodes base64 [] []
-unfolding bits joined cut whole
+unfolding bits joined digits_from_bits whole
 none64 = record { chars = []; digits = []; valued = tt; count = refl; spelled = refl; value_is = refl }
 
 pub hex_word : (octets : List ℕ) → All (λ o. o < 256) octets → 0 < length octets → IsWord (encoded base16 octets)

@@ -9,7 +9,7 @@ use Rattle.dns_symbol.specs.declared.error.BadSymbol.TheVariants.{NonAscii}
 use Rattle.dns_charstr.specs.Reading.{ReadsText}
 use Rattle.dns_charstr.specs.declared.charstr.error.FromStrError.TheVariants.{Presentation}
 use Rattle.dns_charstr.specs.declared.charstr.error.PresentationError.TheVariants.{BadSymbol}
-use Rattle.dns_codec.specs.Bits.{bits, joined, cut, filled, digits, whole}
+use Rattle.dns_codec.specs.Bits.{bits, joined, digits_from_bits, filled, digits, whole}
 use Rattle.dns_codec.specs.Base.{base16, base64, digit_char, value, padded, encoded}
 use Rattle.dns_digits.specs.Spelled.{SpellsDigits}
 use Rattle.dns_digits.proofs.Spelling.{spelled_decodes}
@@ -142,7 +142,7 @@ nothing_is_no_number = inl (refl, λ h. omega (arith, h.0))
 -- ---- digits: spare bits that aren't zero, and escapes
 
 spare_read : IsEncodingOf base64 (codes "AR==") (1 ∷ [])
-unfolding encode_utf8 value bits joined cut whole
+unfolding encode_utf8 value bits joined digits_from_bits whole
 spare_read = record {
   symbols = Char 65 ∷ Char 82 ∷ Char 61 ∷ Char 61 ∷ [];
   read = record { rest = []; readable = refl; spelled = refl; ends = refl };
@@ -152,7 +152,7 @@ spare_read = record {
 }
 
 spare_is_none : (octets : List ℕ) → SpellsDigits base64 (codes "AR==") octets → ⊥
-unfolding bits joined cut filled digits digit_char padded encoded
+unfolding bits joined digits_from_bits filled digits digit_char padded encoded
 spare_is_none octets h =
     let same : 1 ∷ [] ≡ octets = digits_same base64 (inr (inr refl)) (codes "AR==") (1 ∷ []) octets spare_read h in
     let printed : codes "AR==" ≡ codes "AQ==" = h.text_is ∙ ap (encoded base64) (sym same) in
@@ -160,7 +160,7 @@ spare_is_none octets h =
     absurd (omega (arith, bad))
 
 escape_read : IsEncodingOf base16 (codes "\\F\\F") (255 ∷ [])
-unfolding encode_utf8 value bits joined cut whole
+unfolding encode_utf8 value bits joined digits_from_bits whole
 escape_read = record {
   symbols = SimpleEscape 70 ∷ SimpleEscape 70 ∷ [];
   read = record { rest = []; readable = refl; spelled = refl; ends = refl };

@@ -3,7 +3,7 @@ use Rattle.std.specs.Char.{encode_utf8}
 use Rattle.std.specs.Prelude.{false, ◌≡◌, [], ◌∷◌, Some, None, Err, codes, refl}
 use Rattle.dns_symbol.specs.declared.symbol.Symbol.TheVariants.{Char, SimpleEscape, DecimalEscape}
 use Rattle.dns_symbol.specs.declared.error.SymbolCharsError.TheVariants.{ShortInput}
-use Rattle.dns_codec.specs.Bits.{bits, joined, cut, whole}
+use Rattle.dns_codec.specs.Bits.{bits, joined, digits_from_bits, whole}
 use Rattle.dns_codec.specs.Group.{fresh}
 use Rattle.dns_codec.specs.Base.{base16, value}
 use Rattle.dns_symbol.specs.Cause.{custom_text}
@@ -11,7 +11,7 @@ use Rattle.dns_entry.specs.Codecs.{converted_symbols, made_of, hex_codec, base32
 
 -- a simple escape counts as its character, and letter case doesn't matter
 escaped : IsEncodingOf base16 (codes "Ca\\FE") (202 ∷ 254 ∷ [])
-unfolding bits joined cut whole value encode_utf8
+unfolding bits joined digits_from_bits whole value encode_utf8
 escaped = record {
   symbols = Char 67 ∷ Char 97 ∷ SimpleEscape 70 ∷ Char 69 ∷ [];
   read = record { rest = []; readable = refl; spelled = refl; ends = refl };
@@ -22,19 +22,19 @@ escaped = record {
 
 -- a decimal escape has no character
 no_character : converted_symbols hex_codec (fresh, false) [] (Char 67 ∷ Char 65 ∷ DecimalEscape 70 ∷ []) None ≡ Err (custom_text (codes "expected hex digits"))
-unfolding bits joined cut whole value
+unfolding bits joined digits_from_bits whole value
 no_character = refl
 
 -- what was made before the refusal
 before_refusal : made_of hex_codec (fresh, false) (Char 67 ∷ Char 65 ∷ Char 70 ∷ Char 71 ∷ Char 70 ∷ Char 70 ∷ []) None ≡ 202 ∷ []
-unfolding bits joined cut whole value
+unfolding bits joined digits_from_bits whole value
 before_refusal = refl
 
 -- the last group's octets, by the tail; and none where an error follows the symbols
 by_tail : made_of base32hex_codec (fresh, false) (Char 67 ∷ Char 79 ∷ []) None ≡ codes "f"
-unfolding bits joined cut whole value
+unfolding bits joined digits_from_bits whole value
 by_tail = refl
 
 cut_off : made_of base32hex_codec (fresh, false) (Char 67 ∷ Char 79 ∷ []) (Some ShortInput) ≡ []
-unfolding bits joined cut whole value
+unfolding bits joined digits_from_bits whole value
 cut_off = refl
