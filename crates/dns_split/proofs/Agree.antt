@@ -7,7 +7,7 @@ use Rattle.dns_split.specs.declared.reader.Mode.TheVariants.{Outside}
 use Rattle.dns_split.specs.declared.pieces.Piece.{Piece}
 use Rattle.dns_split.specs.declared.pieces.Fault.{Fault}
 use Rattle.dns_split.specs.Viable.{IsBad}
-use Rattle.dns_split.specs.Pieces.{IsPieces, moved_piece, moved, place_of, Reads, cut, IsOctetPieces}
+use Rattle.dns_split.specs.Pieces.{IsPieces, moved_piece, moved, place_of, Reads, tokens_by_entry, IsOctetPieces}
 use Rattle.dns_split.specs.Run.{first_blank, run}
 use Rattle.dns_split.proofs.PieceFaults.{reads}
 use Rattle.dns_split.proofs.PieceWhole.{pieces_run}
@@ -77,7 +77,7 @@ octets_are_bad text u ok at bad = go (reads text u) (reads (encode_utf8_all text
   where
     go : Reads text (run Outside 0 0 0 (first_blank text) text) → Reads (encode_utf8_all text) (run Outside 0 0 0 (first_blank (encode_utf8_all text)) (encode_utf8_all text))
         → IsBad (encode_utf8_all text) (place_of text at)
-    go (inl w) r = elim (bad.splits_not (cut text w.found) (pieces_split text w.found w.placed)) [ ]
+    go (inl w) r = elim (bad.splits_not (tokens_by_entry text w.found) (pieces_split text w.found w.placed)) [ ]
     go (inr f) (inl w) = elim (moved_fault (place_of text) f.found w.found f.fault (ap (map (moved (place_of text))) (sym f.is) ∙ sym (octets_run text) ∙ w.is)) [ ]
     go (inr f) (inr g) =
         let same = bad_once text at f.fault.at bad f.is_fault.bad in

@@ -10,7 +10,7 @@ use Rattle.dns_split.specs.declared.pieces.Piece.{Piece}
 use Rattle.dns_split.specs.declared.pieces.Piece.TheVariants.{Word as WordAt, Quote as QuoteAt, Comment as CommentAt, End as EndAt}
 use Rattle.dns_split.specs.declared.pieces.Fault.{Fault}
 use Rattle.dns_split.specs.Splitting.{Entries, Splits, with_token}
-use Rattle.dns_split.specs.Pieces.{AreOctets, EachWithin, IsGiven, between, cut}
+use Rattle.dns_split.specs.Pieces.{AreOctets, EachWithin, IsGiven, between, tokens_by_entry}
 use Rattle.dns_split.specs.EntryTokens.{IsSeen, PartSeen, StandsAsSpelled, TokenSeen, entries_seen, quote_seen, seen_from, spelled, word_seen}
 use Rattle.dns_split.proofs.PieceSplit.{split_pieces}
 use Rattle.dns_split.proofs.OctetsOnce.{given_once}
@@ -43,7 +43,7 @@ quote_spelled : (octets : List ℕ) (ended : Option ℕ) (p : Span) → (p.start
 quote_spelled octets ended p w q = ap (λ l. 34 ∷ (l ++ 34 ∷ [])) (inner_between octets q.0 p.start p.end w.0 w.1 q.1) ∙ sym q.1
 
 cut_alike : (octets : List ℕ) (began : ℕ) (ended : Option ℕ) (found : List Piece) → EachWithin (length octets) (map Ok found) → AllByRecursion (IsQuotedAt octets) (map Ok found)
-    → entries_seen (seen_from octets began ended (map Ok found)) ≡ cut octets found
+    → entries_seen (seen_from octets began ended (map Ok found)) ≡ tokens_by_entry octets found
 cut_alike octets began ended [] w q = refl
 cut_alike octets began ended (WordAt p ∷ found) w q = ap (with_token (between octets p.start p.end)) (cut_alike octets began (Some p.end) found w.1 q.1)
 cut_alike octets began ended (QuoteAt p ∷ found) w q =
@@ -52,7 +52,7 @@ cut_alike octets began ended (QuoteAt p ∷ found) w q =
 cut_alike octets began ended (CommentAt p ∷ found) w q = cut_alike octets began ended found w.1 q.1
 cut_alike octets began ended (EndAt e ∷ found) w q = ap (λ l. [] ∷ l) (cut_alike octets e.at None found w.1 q.1)
 
-pub octet_entries : (octets : List ℕ) (found : List Piece) (seen : List (Result PartSeen Fault)) → IsGiven octets (map Ok found) → IsSeen octets seen → entries_seen seen ≡ cut octets found
+pub octet_entries : (octets : List ℕ) (found : List Piece) (seen : List (Result PartSeen Fault)) → IsGiven octets (map Ok found) → IsSeen octets seen → entries_seen seen ≡ tokens_by_entry octets found
 octet_entries octets found seen g s =
     ap entries_seen (s.2 ∙ ap (seen_from octets 0 None) (given_once octets s.0 (map Ok found) s.1 g)) ∙ cut_alike octets 0 None found g.1 (given_quoted octets (map Ok found) g)
 

@@ -12,7 +12,7 @@ use Rattle.dns_split.specs.declared.pieces.Piece.{Piece}
 use Rattle.dns_split.specs.declared.pieces.Fault.{Fault}
 use Rattle.dns_split.specs.Reader.{step}
 use Rattle.dns_split.specs.Opening.{IsOpener, IsLeftOpen}
-use Rattle.dns_split.specs.Pieces.{Reads, IsFault, IsGiven, AreOctets, cut, moved, moved_fault, place_of}
+use Rattle.dns_split.specs.Pieces.{Reads, IsFault, IsGiven, AreOctets, tokens_by_entry, moved, moved_fault, place_of}
 use Rattle.dns_split.specs.Run.{first_blank, run}
 use Rattle.dns_split.proofs.Complete.{Some_same}
 use Rattle.dns_split.proofs.Viable.{walk, walk_append}
@@ -54,8 +54,8 @@ octets_fault text u ok f h = go (reads text u) (reads (encode_utf8_all text) (te
   where
     go : Reads text (run Outside 0 0 0 (first_blank text) text) → Reads (encode_utf8_all text) (run Outside 0 0 0 (first_blank (encode_utf8_all text)) (encode_utf8_all text))
         → IsFault (encode_utf8_all text) (moved_fault (place_of text) f)
-    go (inl w) r = elim (h.bad.splits_not (cut text w.found) (pieces_split text w.found w.placed)) [ ]
-    go (inr b) (inl w) = elim ((octets_are_bad text u ok f.at h.bad).splits_not (cut (encode_utf8_all text) w.found) (pieces_split (encode_utf8_all text) w.found w.placed)) [ ]
+    go (inl w) r = elim (h.bad.splits_not (tokens_by_entry text w.found) (pieces_split text w.found w.placed)) [ ]
+    go (inr b) (inl w) = elim ((octets_are_bad text u ok f.at h.bad).splits_not (tokens_by_entry (encode_utf8_all text) w.found) (pieces_split (encode_utf8_all text) w.found w.placed)) [ ]
     go (inr b) (inr g) =
         let there : g.fault ≡ moved_fault (place_of text) b.fault =
         sym (fault_last f g.found g.fault) ∙ ap (last_fault f) (sym g.is ∙ octets_run text ∙ ap (map (moved (place_of text))) b.is) ∙ moved_last (place_of text) f b.found b.fault in

@@ -12,7 +12,7 @@ use Rattle.dns_split.specs.declared.pieces.Piece.{Piece}
 use Rattle.dns_split.specs.Lexeme.{characters}
 use Rattle.dns_split.specs.Splitting.{Entries, Splits}
 use Rattle.dns_split.specs.Opening.{IsOpener, IsLeftOpen}
-use Rattle.dns_split.specs.Pieces.{Reads, cut, moved_piece, place_of}
+use Rattle.dns_split.specs.Pieces.{Reads, tokens_by_entry, moved_piece, place_of}
 use Rattle.dns_split.specs.Run.{first_blank, run}
 use Rattle.dns_split.proofs.Complete.{bytes_all}
 use Rattle.dns_split.proofs.Viable.{low_encodes, low_scalars, low_close, scalars_both, scalars_left}
@@ -29,13 +29,13 @@ pub octets_split : (text : List ℕ) (e : Entries) → scalars text ≡ true →
 octets_split text e ok s =
     let p = split_pieces text e s in
     let found : List Piece = map (moved_piece (place_of text)) p.0 in
-    (cut (encode_utf8_all text) found, pieces_split (encode_utf8_all text) found (octets_have_pieces text ok p.0 p.1))
+    (tokens_by_entry (encode_utf8_all text) found, pieces_split (encode_utf8_all text) found (octets_have_pieces text ok p.0 p.1))
 
 pub text_splits : (text : List ℕ) (f : Entries) → IsUtf8 text → scalars text ≡ true → Splits (encode_utf8_all text) f → (e : Entries) × Splits text e
 text_splits text f u ok s = go (reads text u)
   where
     go : Reads text (run Outside 0 0 0 (first_blank text) text) → (e : Entries) × Splits text e
-    go (inl w) = (cut text w.found, pieces_split text w.found w.placed)
+    go (inl w) = (tokens_by_entry text w.found, pieces_split text w.found w.placed)
     go (inr b) = elim ((octets_are_bad text u ok b.fault.at b.is_fault.bad).splits_not f s) [ ]
 
 -- the octets before and after a place

@@ -11,7 +11,7 @@ use Rattle.dns_split.specs.declared.pieces.Fault.{Fault}
 use Rattle.dns_split.specs.declared.splitting.Collected.{Collected}
 use Rattle.dns_split.specs.Lexeme.{Lexeme, Blank, Line, Open, Close, Note, Word, Quote, lexeme_bytes}
 use Rattle.dns_split.specs.Splitting.{Splits, Entries, nests, with_token, entries}
-use Rattle.dns_split.specs.Pieces.{begins_blank, pieces, IsPieces, Reads, between, cut}
+use Rattle.dns_split.specs.Pieces.{begins_blank, pieces, IsPieces, Reads, between, tokens_by_entry}
 use Rattle.dns_split.specs.Answer.{texts, entries_of}
 use Rattle.dns_split.proofs.Collecting.{front, glue}
 use Rattle.dns_split.proofs.Complete.{Some_same}
@@ -38,33 +38,33 @@ past of_lexemes of_pieces l ls agrees text before d at b e k n =
 abbrev entries_at : ℕ → Bool → List Lexeme → Entries
 entries_at d b ls = entries d ls
 
-cuts : (ls : List Lexeme) → Agrees entries_at cut ls
+cuts : (ls : List Lexeme) → Agrees entries_at tokens_by_entry ls
 cuts [] text before d at b e k n = refl
-cuts (Open ∷ ls) text before d at b e k n = past entries_at cut Open ls (cuts ls) text before (suc d) at b e k n
+cuts (Open ∷ ls) text before d at b e k n = past entries_at tokens_by_entry Open ls (cuts ls) text before (suc d) at b e k n
 cuts (Close ∷ ls) text before zero at b e k n = cc
-cuts (Close ∷ ls) text before (suc d) at b e k n = past entries_at cut Close ls (cuts ls) text before d at b e k n
-cuts (Line r ∷ ls) text before zero at b e k n = ap (λ x. [] ∷ x) (past entries_at cut (Line r) ls (cuts ls) text before zero at (begins_blank ls) e k n)
-cuts (Line r ∷ ls) text before (suc d) at b e k n = past entries_at cut (Line r) ls (cuts ls) text before (suc d) at b e k n
-cuts (Blank t ∷ ls) text before d at b e k n = past entries_at cut (Blank t) ls (cuts ls) text before d at b e k n
-cuts (Note cs ∷ ls) text before d at b e k n = past entries_at cut (Note cs) ls (cuts ls) text before d at b e k n
+cuts (Close ∷ ls) text before (suc d) at b e k n = past entries_at tokens_by_entry Close ls (cuts ls) text before d at b e k n
+cuts (Line r ∷ ls) text before zero at b e k n = ap (λ x. [] ∷ x) (past entries_at tokens_by_entry (Line r) ls (cuts ls) text before zero at (begins_blank ls) e k n)
+cuts (Line r ∷ ls) text before (suc d) at b e k n = past entries_at tokens_by_entry (Line r) ls (cuts ls) text before (suc d) at b e k n
+cuts (Blank t ∷ ls) text before d at b e k n = past entries_at tokens_by_entry (Blank t) ls (cuts ls) text before d at b e k n
+cuts (Note cs ∷ ls) text before d at b e k n = past entries_at tokens_by_entry (Note cs) ls (cuts ls) text before d at b e k n
 cuts (Word y ss ∷ ls) text before d at b e k n =
-    ap (with_token (lexeme_bytes (Word y ss))) (past entries_at cut (Word y ss) ls (cuts ls) text before d at b e k n)
-    ∙ ap (λ t. with_token t (cut text (pieces (at + length (lexeme_bytes (Word y ss))) d b ls))) (sym (between_is before (lexeme_bytes (Word y ss)) (flat_map lexeme_bytes ls) text at e k))
+    ap (with_token (lexeme_bytes (Word y ss))) (past entries_at tokens_by_entry (Word y ss) ls (cuts ls) text before d at b e k n)
+    ∙ ap (λ t. with_token t (tokens_by_entry text (pieces (at + length (lexeme_bytes (Word y ss))) d b ls))) (sym (between_is before (lexeme_bytes (Word y ss)) (flat_map lexeme_bytes ls) text at e k))
 cuts (Quote ss ∷ ls) text before d at b e k n =
-    ap (with_token (lexeme_bytes (Quote ss))) (past entries_at cut (Quote ss) ls (cuts ls) text before d at b e k n)
-    ∙ ap (λ t. with_token t (cut text (pieces (at + length (lexeme_bytes (Quote ss))) d b ls))) (sym (between_is before (lexeme_bytes (Quote ss)) (flat_map lexeme_bytes ls) text at e k))
+    ap (with_token (lexeme_bytes (Quote ss))) (past entries_at tokens_by_entry (Quote ss) ls (cuts ls) text before d at b e k n)
+    ∙ ap (λ t. with_token t (tokens_by_entry text (pieces (at + length (lexeme_bytes (Quote ss))) d b ls))) (sym (between_is before (lexeme_bytes (Quote ss)) (flat_map lexeme_bytes ls) text at e k))
 
-pub pieces_split : (text : List ℕ) (found : List Piece) → IsPieces text found → Splits text (cut text found)
+pub pieces_split : (text : List ℕ) (found : List Piece) → IsPieces text found → Splits text (tokens_by_entry text found)
 pieces_split text found p = record {
   lexemes = p.lexemes;
   spelled = p.spelled;
   valid = p.valid;
   nested = p.nested;
-  cut = cuts p.lexemes text [] 0 0 (begins_blank p.lexemes) p.spelled refl p.nested ∙ ap (cut text) p.placed;
+  cut = cuts p.lexemes text [] 0 0 (begins_blank p.lexemes) p.spelled refl p.nested ∙ ap (tokens_by_entry text) p.placed;
 }
 
 -- whatever splits has pieces, and these are cut into its entries
-pub split_pieces : (text : List ℕ) (e : Entries) → Splits text e → (found : List Piece) × IsPieces text found × (cut text found ≡ e)
+pub split_pieces : (text : List ℕ) (e : Entries) → Splits text e → (found : List Piece) × IsPieces text found × (tokens_by_entry text found ≡ e)
 split_pieces text e s = (
   pieces 0 0 (begins_blank s.lexemes) s.lexemes,
   record { lexemes = s.lexemes; spelled = s.spelled; valid = s.valid; nested = s.nested; placed = refl },
@@ -137,7 +137,7 @@ pub given_close : (text : List ℕ) (l : List (Result Piece Fault)) → Reads te
 given_close text l (inl w) = ap (closes true) (w.is ∙ ap (map Ok) (sym w.placed.placed)) ∙ pieces_close w.placed.lexemes true 0 0 _
 given_close text l (inr f) = ap (closes true) f.is ∙ bad_close f.found true _
 
-answer_found : (text : List ℕ) (found : List Piece) → answer text (map Ok found) ≡ Some (cut text found)
+answer_found : (text : List ℕ) (found : List Piece) → answer text (map Ok found) ≡ Some (tokens_by_entry text found)
 answer_found text [] = refl
 answer_found text (WordAt p ∷ k) = ap (option_map (with_token (between text p.start p.end))) (answer_found text k)
 answer_found text (QuoteAt p ∷ k) = ap (option_map (with_token (between text p.start p.end))) (answer_found text k)

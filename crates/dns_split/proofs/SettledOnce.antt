@@ -5,7 +5,7 @@ use Rattle.dns_split.specs.declared.pieces.Piece.{Piece}
 use Rattle.dns_split.specs.declared.pieces.Fault.{Fault}
 use Rattle.dns_split.specs.declared.pieces.Wrong.{Wrong}
 use Rattle.dns_split.specs.declared.pieces.Wrong.TheVariants.{LoneReturn}
-use Rattle.dns_split.specs.Pieces.{end_at, EachWithin, Begins, Settles, Faulty, Whole, Reads, cut}
+use Rattle.dns_split.specs.Pieces.{end_at, EachWithin, Begins, Settles, Faulty, Whole, Reads, tokens_by_entry}
 use Rattle.dns_split.proofs.PieceSplit.{pieces_split, pieces_one_way}
 use Rattle.dns_split.proofs.OneCause.{one_fault}
 use Rattle.dns_split.proofs.PieceSettled.{Ended}
@@ -42,7 +42,7 @@ faults_once text given other f g =
     (settled_once (take g.fault.at text) f.fault.wrong g.fault.wrong f.found g.found (subst (λ i. Settles (take i text) f.fault.wrong f.found) place f.settled) g.settled, same)
 
 pieces_or_fault : (text : List ℕ) (given other : List (Result Piece Fault)) → Whole text given → Faulty text other → ⊥
-pieces_or_fault text given other w f = f.is_fault.bad.splits_not (cut text w.found) (pieces_split text w.found w.placed)
+pieces_or_fault text given other w f = f.is_fault.bad.splits_not (tokens_by_entry text w.found) (pieces_split text w.found w.placed)
 
 -- a text is read in one way
 pub read_once : (text : List ℕ) (given other : List (Result Piece Fault)) → Reads text given → Reads text other → given ≡ other

@@ -184,12 +184,12 @@ abbrev pub between : List ℕ → ℕ → ℕ → List ℕ
 between text s e = take (e - s) (drop s text)
 
 -- the words and quotes of a text, cut where entries end
-abbrev pub cut : List ℕ → List Piece → Entries
-cut text [] = []
-cut text (WordAt p ∷ ps) = with_token (between text p.start p.end) (cut text ps)
-cut text (QuoteAt p ∷ ps) = with_token (between text p.start p.end) (cut text ps)
-cut text (CommentAt p ∷ ps) = cut text ps
-cut text (EndAt p ∷ ps) = [] ∷ cut text ps
+abbrev pub tokens_by_entry : List ℕ → List Piece → Entries
+tokens_by_entry text [] = []
+tokens_by_entry text (WordAt p ∷ ps) = with_token (between text p.start p.end) (tokens_by_entry text ps)
+tokens_by_entry text (QuoteAt p ∷ ps) = with_token (between text p.start p.end) (tokens_by_entry text ps)
+tokens_by_entry text (CommentAt p ∷ ps) = tokens_by_entry text ps
+tokens_by_entry text (EndAt p ∷ ps) = [] ∷ tokens_by_entry text ps
 
 -- between its places stands what the piece says
 abbrev pub IsSpelled : List ℕ → Result Piece Fault → Type 0

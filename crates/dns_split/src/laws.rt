@@ -10,7 +10,7 @@ ghost use Rattle.dns_split.specs.Viable.{IsBad, IsViable};
 ghost use Rattle.dns_split.specs.Opening.{IsLeftOpen, IsOpener};
 ghost use Rattle.dns_split.specs.Token.{IsToken};
 ghost use Rattle.dns_split.specs.Pieces.{AreOctets, Faulty, IsFault, IsGiven, IsOctetPieces};
-ghost use Rattle.dns_split.specs.Pieces.{IsPieces, IsSpelled, Reads, cut, end_at, later};
+ghost use Rattle.dns_split.specs.Pieces.{IsPieces, IsSpelled, Reads, tokens_by_entry, end_at, later};
 ghost use Rattle.dns_split.specs.Pieces.{moved_fault, moved_piece, place_of};
 ghost use Rattle.dns_split.specs.EntryTokens.{IsSeen, PartSeen, StandsAsSpelled, entries_seen};
 ghost use Rattle.dns_split.specs.declared.pieces.Piece.{Piece};
@@ -98,13 +98,13 @@ pub fn faults_stay()
 /// The words and quotes of a text's pieces, cut where entries end, are its entries.
 pub fn pieces_are_tokens()
     ensures { (text : List ℕ) (found : List Piece) → IsPieces text found
-        → Splits text (cut text found) }
+        → Splits text (tokens_by_entry text found) }
 {}
 
 /// A text that splits has pieces.
 pub fn splits_have_pieces()
     ensures { (text : List ℕ) (e : Entries) → Splits text e → (found : List Piece)
-        × IsPieces text found × (cut text found ≡ e) }
+        × IsPieces text found × (tokens_by_entry text found ≡ e) }
 {}
 
 /// Texts that split join: with a line's end between them they split into the entries of both.
@@ -193,7 +193,7 @@ pub fn tokens_are_seen_one_way()
 /// octets' pieces so cut; and so those of the entries that a text splits into.
 pub fn seen_tokens_are_entries()
     ensures octets { (octets : List ℕ) (found : List Piece) (seen : List (Result PartSeen Fault))
-        → IsGiven octets (map Ok found) → IsSeen octets seen → entries_seen seen ≡ cut octets found }
+        → IsGiven octets (map Ok found) → IsSeen octets seen → entries_seen seen ≡ tokens_by_entry octets found }
     ensures text { (text : List ℕ) (found : Entries) (seen : List (Result PartSeen Fault))
         → AreOctets text → Splits text found → IsSeen text seen → entries_seen seen ≡ found }
 {}

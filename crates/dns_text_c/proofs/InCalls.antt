@@ -5,7 +5,7 @@ use Rattle.std.proofs.lemmas.Bool.{and_parts, cases_lt}
 use Rattle.std.proofs.lemmas.List.{length-drop, take-append-drop}
 use Rattle.dns_octets.specs.Octets.{greatest_length}
 use Rattle.dns_split.specs.Opening.{IsOpener}
-use Rattle.dns_split.specs.Pieces.{AreOctets, EachWithin, IsGiven, ReadsOctetsFrom, between, cut, end_at, later, moved, moved_fault, moved_piece, place_of}
+use Rattle.dns_split.specs.Pieces.{AreOctets, EachWithin, IsGiven, ReadsOctetsFrom, between, tokens_by_entry, end_at, later, moved, moved_fault, moved_piece, place_of}
 use Rattle.dns_split.specs.declared.pieces.Fault.{Fault as TextFault}
 use Rattle.dns_split.specs.declared.pieces.Piece.{Piece}
 use Rattle.dns_split.specs.declared.pieces.Piece.TheVariants.{Word as WordAt, Quote as QuoteAt, Comment as CommentAt, End as EndAt}
@@ -293,7 +293,7 @@ token_octets : (text : List ℕ) (t : TokenAt) (es : List ToldEntry) → map (oc
 token_octets text t [] = refl
 token_octets text t (e ∷ es) = refl
 
-told_cut : (text : List ℕ) (found : List Piece) → map (octets_of text) (told_entries (map Ok found)) ≡ cut text found
+told_cut : (text : List ℕ) (found : List Piece) → map (octets_of text) (told_entries (map Ok found)) ≡ tokens_by_entry text found
 told_cut text [] = refl
 told_cut text (WordAt p ∷ found) =
     token_octets text (token_between p.start p.end 0) (told_entries (map Ok found)) ∙ ap (with_token (between text p.start p.end)) (told_cut text found)
@@ -303,7 +303,7 @@ told_cut text (CommentAt p ∷ found) = told_cut text found
 told_cut text (EndAt p ∷ found) = ap (λ l. [] ∷ l) (told_cut text found)
 
 -- a text that splits gives pieces that are cut into its entries
-pub split_given : (text : List ℕ) (e : Entries) → AreOctets text → Splits text e → (found : List Piece) × IsGiven text (map Ok found) × (cut text found ≡ e)
+pub split_given : (text : List ℕ) (e : Entries) → AreOctets text → Splits text e → (found : List Piece) × IsGiven text (map Ok found) × (tokens_by_entry text found ≡ e)
 split_given text e o s =
     let p = split_pieces text e s in
     let octets = octets_have_pieces text (octet_scalars text o) p.0 p.1 in

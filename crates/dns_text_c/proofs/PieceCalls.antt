@@ -2,7 +2,7 @@
 use Rattle.std.proofs.Common.{◌≡◌, ◌≢◌, ◌≤◌, ℕ, zero, suc, Bool, true, ◌==◌, List, [], ◌∷◌, length, refl, sym, ap, subst, ◌∙◌, arith, Result, Ok, Err}
 use Rattle.std.specs.Prelude.{map, not}
 use Rattle.std.proofs.lemmas.Bool.{ne_eqb}
-use Rattle.dns_split.specs.Pieces.{AreOctets, IsGiven, between, cut}
+use Rattle.dns_split.specs.Pieces.{AreOctets, IsGiven, between, tokens_by_entry}
 use Rattle.dns_split.specs.Standing.{IsLeft, LeftIf, at_entry, began_after, blank_at}
 use Rattle.dns_split.specs.Splitting.{Entries, Splits, with_token}
 use Rattle.dns_split.specs.declared.pieces.Fault.{Fault as TextFault}
@@ -113,7 +113,7 @@ tell_pieces text given first last told o g a d b i calls =
     tell_left text told first last given (record { left = left; within = omega (arith, a); deep = omega (arith, d) }) calls ∙ ap (λ n. told_from text n given) b
 
 -- so they tell the entries of a text that splits
-told_entries : (text : List ℕ) (began : ℕ) (found : List TextPiece) → entries_told text (told_from text began (map Ok found)) ≡ cut text found
+told_entries : (text : List ℕ) (began : ℕ) (found : List TextPiece) → entries_told text (told_from text began (map Ok found)) ≡ tokens_by_entry text found
 told_entries text began [] = refl
 told_entries text began (WordAt p ∷ found) = ap (with_token (between text p.start p.end)) (told_entries text began found)
 told_entries text began (QuoteAt p ∷ found) = ap (with_token (between text p.start p.end)) (told_entries text began found)

@@ -15,7 +15,7 @@ use Rattle.dns_split.specs.declared.position.Position.{Position}
 use Rattle.dns_split.specs.Lexeme.{Line, lexeme_bytes}
 use Rattle.dns_split.specs.Opening.{IsOpener}
 use Rattle.dns_split.specs.Splitting.{Entries, Splits, with_token}
-use Rattle.dns_split.specs.Pieces.{IsGiven, IsPieces, IsWrong, cut, between, end_at, moved_piece, moved_fault, moved_wrong, place_of}
+use Rattle.dns_split.specs.Pieces.{IsGiven, IsPieces, IsWrong, tokens_by_entry, between, end_at, moved_piece, moved_fault, moved_wrong, place_of}
 use Rattle.dns_split.proofs.FaultJoins.{opener_joined}
 use Rattle.dns_split.proofs.Joins.{split_cut}
 use Rattle.dns_split.proofs.PieceJoins.{pieces_joined}
@@ -56,21 +56,21 @@ rest_of [] = []
 rest_of (x ∷ xs) = xs
 
 -- pieces of no entry, and of one without tokens
-no_entry : (text : List ℕ) (f : ℕ → ℕ) (ps : List Piece) (a b : ℕ) → cut text ps ≡ [] → last_but_one a b (map (moved_piece f) ps) ≡ a
+no_entry : (text : List ℕ) (f : ℕ → ℕ) (ps : List Piece) (a b : ℕ) → tokens_by_entry text ps ≡ [] → last_but_one a b (map (moved_piece f) ps) ≡ a
 no_entry text f [] a b h = refl
 no_entry text f (WordAt p ∷ ps) a b h = absurd (token_some _ _ h)
 no_entry text f (QuoteAt p ∷ ps) a b h = absurd (token_some _ _ h)
 no_entry text f (CommentAt p ∷ ps) a b h = no_entry text f ps a b h
 no_entry text f (EndAt p ∷ ps) a b h = cc
 
-one_entry : (text : List ℕ) (f : ℕ → ℕ) (ps : List Piece) (a b : ℕ) → cut text ps ≡ [] ∷ [] → last_but_one a b (map (moved_piece f) ps) ≡ b
+one_entry : (text : List ℕ) (f : ℕ → ℕ) (ps : List Piece) (a b : ℕ) → tokens_by_entry text ps ≡ [] ∷ [] → last_but_one a b (map (moved_piece f) ps) ≡ b
 one_entry text f [] a b h = cc
 one_entry text f (WordAt p ∷ ps) a b h = absurd (token_not_none _ _ h)
 one_entry text f (QuoteAt p ∷ ps) a b h = absurd (token_not_none _ _ h)
 one_entry text f (CommentAt p ∷ ps) a b h = one_entry text f ps a b h
 one_entry text f (EndAt p ∷ ps) a b h = no_entry text f ps b (f p.at) (ap rest_of h)
 
-after_one : (text : List ℕ) (f : ℕ → ℕ) (xs ps : List Piece) (a b i : ℕ) (s : Bool) → cut text ps ≡ [] ∷ [] → last_but_one a b (xs ++ end_at i s ∷ map (moved_piece f) ps) ≡ i
+after_one : (text : List ℕ) (f : ℕ → ℕ) (xs ps : List Piece) (a b i : ℕ) (s : Bool) → tokens_by_entry text ps ≡ [] ∷ [] → last_but_one a b (xs ++ end_at i s ∷ map (moved_piece f) ps) ≡ i
 after_one text f [] ps a b i s h = one_entry text f ps b i h
 after_one text f (WordAt p ∷ xs) ps a b i s h = after_one text f xs ps a b i s h
 after_one text f (QuoteAt p ∷ xs) ps a b i s h = after_one text f xs ps a b i s h
@@ -90,7 +90,7 @@ token_before t e l = go l.front l.some l.is
     go [] s h = absurd (omega (arith, s))
     go (x ∷ f) s h = record { front = (t ∷ x) ∷ f; some = omega arith; is = ap (with_token t) h }
 
-last_none : (text : List ℕ) (xs : List Piece) (i j : ℕ) (s t : Bool) → LastNone (cut text (xs ++ end_at i s ∷ end_at j t ∷ []))
+last_none : (text : List ℕ) (xs : List Piece) (i j : ℕ) (s t : Bool) → LastNone (tokens_by_entry text (xs ++ end_at i s ∷ end_at j t ∷ []))
 last_none text [] i j s t = record { front = [] ∷ []; some = omega arith; is = refl }
 last_none text (WordAt p ∷ xs) i j s t = token_before (between text p.start p.end) _ (last_none text xs i j s t)
 last_none text (QuoteAt p ∷ xs) i j s t = token_before (between text p.start p.end) _ (last_none text xs i j s t)

@@ -5,7 +5,7 @@ use Rattle.dns_split.specs.declared.pieces.Piece.{Piece}
 use Rattle.dns_split.specs.declared.pieces.Piece.TheVariants.{Word as WordAt, Quote as QuoteAt, Comment as CommentAt, End as EndAt}
 use Rattle.dns_split.specs.declared.pieces.Fault.{Fault}
 use Rattle.dns_split.specs.declared.position.Position.{Position}
-use Rattle.dns_split.specs.Pieces.{ReadsOctets, EachWithin, IsWithin, cut, moved_piece, place_of}
+use Rattle.dns_split.specs.Pieces.{ReadsOctets, EachWithin, IsWithin, tokens_by_entry, moved_piece, place_of}
 use Rattle.dns_split.proofs.PieceSplit.{pieces_split}
 use Rattle.zonetext_lib.specs.Entries.{ComparedPart, HasTokenEntries, ended_after_pieces, ended_by, parts, with_tokens}
 use Rattle.zonetext_lib.specs.Found.{IsOctetFault}
@@ -33,7 +33,7 @@ zone_has octets given es r w h = go (first_fault given) refl
         let bad = fault_of octets given f r w some in
         let text = encode_utf8_all octets in
         let found = map (moved_piece (place_of octets)) h.1.0 in
-        absurd (bad.is.bad.splits_not (cut text found) (pieces_split text found h.1.1))
+        absurd (bad.is.bad.splits_not (tokens_by_entry text found) (pieces_split text found h.1.1))
 
 abbrev first_part : List ComparedPart → Option ComparedPart
 first_part [] = None

@@ -7,7 +7,7 @@ use Rattle.dns_split.specs.declared.pieces.Piece.{Piece}
 use Rattle.dns_split.specs.declared.pieces.Piece.TheVariants.{Word as WordAt, Quote as QuoteAt, Comment as CommentAt, End as EndAt}
 use Rattle.dns_split.specs.declared.pieces.Fault.{Fault}
 use Rattle.dns_split.specs.Lexeme.{Lexeme, Blank, Line, Open, Close, Note, Word, Quote}
-use Rattle.dns_split.specs.Pieces.{AreOctets, EachWithin, IsGiven, begins_blank, cut, end_at, later, moved, moved_fault, moved_piece, pieces, place_of}
+use Rattle.dns_split.specs.Pieces.{AreOctets, EachWithin, IsGiven, begins_blank, tokens_by_entry, end_at, later, moved, moved_fault, moved_piece, pieces, place_of}
 use Rattle.dns_split.proofs.Blocks.{faults_stay}
 use Rattle.dns_split.proofs.OctetsOnce.{given_once, run_given}
 use Rattle.dns_split.proofs.PieceSplit.{pieces_split}
@@ -34,7 +34,7 @@ pub zone_not_bad : (octets : List ℕ) (es : List ComparedPart) (f : Fault) → 
 zone_not_bad octets es f h bad =
     let text = encode_utf8_all octets in
     let found = map (moved_piece (place_of octets)) h.0 in
-    bad.is.bad.splits_not (cut text found) (pieces_split text found h.1)
+    bad.is.bad.splits_not (tokens_by_entry text found) (pieces_split text found h.1)
 
 pub zone_none : (octets : List ℕ) (es : List ComparedPart) (given : List (Result Piece Fault)) → HasEntries octets es → IsGiven octets given → first_fault given ≡ None
 zone_none octets es given h g = go (first_fault given) refl
