@@ -20,7 +20,7 @@ use Rattle.dns_split.specs.Viable.{IsBad}
 use Rattle.dns_split.specs.Answer.{IsSplitOf}
 use Rattle.dns_split.specs.declared.error.SplitError.{SplitError}
 use Rattle.dns_split.specs.declared.error.SplitError.TheVariants.{BadText, ShortBuf}
-use Rattle.dns_laws.specs.Refusal.{IsRefusal}
+use Rattle.dns_laws.specs.Refusal.{IsDocumentRefusal}
 use Rattle.dns_laws.specs.declared.layouts.Refusal.TheVariants.{Split}
 use Rattle.std.specs.Prelude.{Err}
 use Rattle.dns_split.proofs.Complete.{no_word, one_way}
@@ -355,6 +355,6 @@ never_bad kind steps text i is w bad = bad.splits_not (document_entries steps) (
 
 -- what splitting it can refuse
 pub refusal : (A : Type 0) (kind : DisplayKind) (steps : List Step) (text : List ℕ) → text ≡ printed kind steps → IsWellFormed steps → (e : SplitError)
-    → IsSplitOf {A = A} (Err e) text → IsRefusal steps (Split e)
+    → IsSplitOf {A = A} (Err e) text → IsDocumentRefusal steps (Split e)
 refusal A kind steps text is w ShortBuf h = tt
 refusal A kind steps text is w (BadText i) h = absurd (never_bad kind steps text i is w h)

@@ -34,7 +34,7 @@ use Rattle.dns_entry.specs.Line.{AreContents, IsLine, field_step, line_document}
 use Rattle.dns_entry.proofs.Words.{line_formed, number_word, hex_word, base64_word, text_word}
 use Rattle.dns_laws.specs.declared.lines.Refusal.TheVariants.{Split}
 use Rattle.dns_laws.specs.Encodings.{EncodingBack}
-use Rattle.dns_laws.specs.Lines.{line_entries, kind_of, IsRefusal, IsScannedOf, GivesField, GivesOctets}
+use Rattle.dns_laws.specs.Lines.{line_entries, kind_of, IsLineRefusal, IsScannedOf, GivesField, GivesOctets}
 use Rattle.dns_entry.specs.declared.entry.FieldKind.TheVariants.{Number, Hex, Base64, Text}
 use Rattle.dns_laws.specs.declared.lines.Scanned.{Scanned}
 use Rattle.dns_laws.specs.declared.lines.Scanned.TheVariants.{Number as NumberScanned, Octets, Text as TextScanned}
@@ -54,7 +54,7 @@ line_only kind fields text are line is e =
     (text_only kind (line_document fields) text is e (line_formed fields are line))
 
 -- what splitting a text that splits into a line's entries can refuse
-pub split_refusal : (fields : List Content) (text : List ℕ) → SplitsOnlyInto text (line_entries fields) → (e : SplitError) → IsSplitOf {A = Global} (Err e) text → IsRefusal fields (Split e)
+pub split_refusal : (fields : List Content) (text : List ℕ) → SplitsOnlyInto text (line_entries fields) → (e : SplitError) → IsSplitOf {A = Global} (Err e) text → IsLineRefusal fields (Split e)
 split_refusal fields text only ShortBuf h = tt
 split_refusal fields text only (BadText i) bad = absurd (bad.splits_not (line_entries fields) ((only (line_entries fields)).1 refl))
 

@@ -22,10 +22,10 @@ abbrev pub line_entries : List Content → Entries
 line_entries fields = map field_text fields ∷ []
 
 -- why fields were not printed as a line and split: the first that is no token, or lack of memory
-abbrev pub IsRefusal : List Content → Refusal → Type 0
-IsRefusal fields (Line error) = IsFirstEmpty fields (error_place error)
-IsRefusal fields (Split (BadText place)) = ⊥
-IsRefusal fields (Split ShortBuf) = ⊤
+abbrev pub IsLineRefusal : List Content → Refusal → Type 0
+IsLineRefusal fields (Line error) = IsFirstEmpty fields (error_place error)
+IsLineRefusal fields (Split (BadText place)) = ⊥
+IsLineRefusal fields (Split ShortBuf) = ⊤
 
 -- what of a token is scanned: a word as it is, and of a quoted text what stands between its quotes
 abbrev pub IsScannedOf : (token scanned : Token) → Type 0

@@ -8,10 +8,10 @@ use Rattle.dns_laws.specs.declared.layouts.Refusal.{Refusal}
 use Rattle.dns_laws.specs.declared.layouts.Refusal.TheVariants.{Document, Split}
 
 -- the list's first fault, or lack of memory; a printed text is never refused
-abbrev pub IsRefusal : List Step → Refusal → Type 0
-IsRefusal steps (Document fault) = IsFirstFault [] steps fault
-IsRefusal steps (Split ShortBuf) = ⊤
-IsRefusal steps (Split (BadText i)) = ⊥
+abbrev pub IsDocumentRefusal : List Step → Refusal → Type 0
+IsDocumentRefusal steps (Document fault) = IsFirstFault [] steps fault
+IsDocumentRefusal steps (Split ShortBuf) = ⊤
+IsDocumentRefusal steps (Split (BadText i)) = ⊥
 
 -- what it prints: the fault's text, or the error's
 abbrev pub refusal_text : Refusal → List ℕ

@@ -10,7 +10,7 @@ ghost use Rattle.dns_zone.specs.Layout.{Step};
 ghost use Rattle.dns_zone.specs.Printed.{printed};
 ghost use Rattle.dns_zone.specs.declared.zonefile_fmt.DisplayKind.{DisplayKind};
 ghost use Rattle.dns_laws.specs.Entries.{document_entries, document_of, normal_text};
-ghost use Rattle.dns_laws.specs.Refusal.{IsRefusal};
+ghost use Rattle.dns_laws.specs.Refusal.{IsDocumentRefusal};
 
 use dns_split::splitting::{SplitError, split};
 use dns_zone::document::{Document, DocumentError, Item};
@@ -125,7 +125,7 @@ pub fn items_split<A: Allocator + Copy>(
     ensures meaning { IfOk result (λ r. SplitsOnlyInto (string_bytes r.0) (document_entries (item_steps items.items))) }
     ensures tight { IfOk result (λ r. BeginsNoBlank (string_bytes r.0)) }
     ensures entries { IfOk result (λ r. entries_of r.1.items ≡ document_entries (item_steps items.items)) }
-    ensures refused { IfErr result (IsRefusal (item_steps items.items)) }
+    ensures refused { IfErr result (IsDocumentRefusal (item_steps items.items)) }
 {
     let document = match Document::from_items(items) {
         Ok(document) => document,

@@ -8,7 +8,7 @@ ghost use Rattle.dns_zone.specs.Printed.{printed};
 ghost use Rattle.dns_zone.specs.declared.zonefile_fmt.DisplayKind.{DisplayKind};
 ghost use Rattle.dns_entry.specs.Field.{Content, contents_of, IsContent, IsPrintable, field_text};
 ghost use Rattle.dns_entry.specs.Line.{AreContents, IsLine, line_document};
-ghost use Rattle.dns_laws.specs.Lines.{GivesField, IsRefusal, IsScannedOf, kind_of, line_entries};
+ghost use Rattle.dns_laws.specs.Lines.{GivesField, IsLineRefusal, IsScannedOf, kind_of, line_entries};
 
 use crate::encodings::{base64_is_scanned_back, hex_is_scanned_back};
 use crate::layouts::values_split;
@@ -65,7 +65,7 @@ pub fn fields_split<A: Allocator + Copy>(
     ensures text { IfOk result (λ r. string_bytes r.0 ≡ printed kind (line_document (contents_of fields.items))) }
     ensures meaning { IfOk result (λ r. SplitsOnlyInto (string_bytes r.0) (line_entries (contents_of fields.items))) }
     ensures entries { IfOk result (λ r. entries_of r.1.items ≡ line_entries (contents_of fields.items)) }
-    ensures refused { IfErr result (IsRefusal (contents_of fields.items)) }
+    ensures refused { IfErr result (IsLineRefusal (contents_of fields.items)) }
 {
     let line = match EntryLine::new(fields) {
         Ok(line) => line,
