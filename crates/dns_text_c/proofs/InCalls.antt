@@ -19,7 +19,7 @@ use Rattle.dns_split.proofs.PieceSplit.{split_pieces}
 use Rattle.dns_split.proofs.PieceWhole.{pieces_run}
 use Rattle.dns_split.specs.declared.pieces.Wrong.{Wrong}
 use Rattle.dns_split.specs.declared.pieces.Wrong.TheVariants.{Closing as NoneOpen, OpenParenthesis as NotClosed, OpenQuote as NotQuoted, LoneReturn as NoFeed, BadEscape as NoEscape}
-use Rattle.dns_text_c.specs.Calls.{ToldEntry, told, with_told_token, told_entries, Tells, Calls, last_status, octets_of}
+use Rattle.dns_text_c.specs.Calls.{ToldEntry, told, with_told_token, told_entries, Tells, Calls, last_status, token_octets}
 use Rattle.dns_text_c.specs.Entries.{bit, counted, is_nothing, refusal_of_wrong, stop_of, token_between, tokens_of, written_over_start, TellsEntry, Opens, ReadsEntry}
 use Rattle.dns_text_c.specs.declared.outcome.Refusal.TheVariants.{OpenParenthesis}
 use Rattle.dns_text_c.proofs.Row.{map_ok}
@@ -289,16 +289,16 @@ later_zero : (text : List ℕ) (given : Given) → AreOctets text → IsGiven te
 later_zero text given o g = sym (given_once text given (later 0 given) g (nothing_given text given o g))
 
 -- the tokens of pieces are the text between their places
-token_octets : (text : List ℕ) (t : TokenAt) (es : List ToldEntry) → map (octets_of text) (with_told_token t es) ≡ with_token (between text t.start t.end) (map (octets_of text) es)
-token_octets text t [] = refl
-token_octets text t (e ∷ es) = refl
+with_token_octets : (text : List ℕ) (t : TokenAt) (es : List ToldEntry) → map (token_octets text) (with_told_token t es) ≡ with_token (between text t.start t.end) (map (token_octets text) es)
+with_token_octets text t [] = refl
+with_token_octets text t (e ∷ es) = refl
 
-told_cut : (text : List ℕ) (found : List Piece) → map (octets_of text) (told_entries (map Ok found)) ≡ tokens_by_entry text found
+told_cut : (text : List ℕ) (found : List Piece) → map (token_octets text) (told_entries (map Ok found)) ≡ tokens_by_entry text found
 told_cut text [] = refl
 told_cut text (WordAt p ∷ found) =
-    token_octets text (token_between p.start p.end 0) (told_entries (map Ok found)) ∙ ap (with_token (between text p.start p.end)) (told_cut text found)
+    with_token_octets text (token_between p.start p.end 0) (told_entries (map Ok found)) ∙ ap (with_token (between text p.start p.end)) (told_cut text found)
 told_cut text (QuoteAt p ∷ found) =
-    token_octets text (token_between p.start p.end 1) (told_entries (map Ok found)) ∙ ap (with_token (between text p.start p.end)) (told_cut text found)
+    with_token_octets text (token_between p.start p.end 1) (told_entries (map Ok found)) ∙ ap (with_token (between text p.start p.end)) (told_cut text found)
 told_cut text (CommentAt p ∷ found) = told_cut text found
 told_cut text (EndAt p ∷ found) = ap (λ l. [] ∷ l) (told_cut text found)
 
@@ -320,10 +320,10 @@ module _ (text : List ℕ) (cursor last : Cursor) (entries : List ToldEntry) (o 
   tell_all given g = (from_start given g).0 ∙ ap (λ n. told_entries (later n given)) start ∙ ap told_entries (later_zero text given o g)
 
   -- so they tell the entries of a text that splits
-  pub tell_entries : (e : Entries) → Splits text e → map (octets_of text) entries ≡ e
+  pub tell_entries : (e : Entries) → Splits text e → map (token_octets text) entries ≡ e
   tell_entries e s =
       let p = split_given text e o s in
-      ap (map (octets_of text)) (tell_all (map Ok p.0) p.1) ∙ told_cut text p.0 ∙ p.2
+      ap (map (token_octets text)) (tell_all (map Ok p.0) p.1) ∙ told_cut text p.0 ∙ p.2
 
   -- and where the outermost parenthesis stands that is left open
   pub tell_opener : last_status entries ≡ number_of OpenParenthesis → IsOpener (encode_utf8_all text) (place_of text last.opened)

@@ -58,5 +58,5 @@ last_status (entry ∷ []) = entry.status
 last_status (entry ∷ next ∷ more) = last_status (next ∷ more)
 
 -- the octets of each of its tokens
-abbrev pub octets_of : List ℕ → ToldEntry → List (List ℕ)
-octets_of text entry = map (λ t. between text t.start t.end) entry.tokens
+abbrev pub token_octets : List ℕ → ToldEntry → List (List ℕ)
+token_octets text entry = map (λ t. between text t.start t.end) entry.tokens

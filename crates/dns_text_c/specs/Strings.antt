@@ -82,6 +82,6 @@ ReadsOctetString text (Err fault) =
     (octets : List ℕ) × SpellsOctets text octets (drop fault.place text) × (fault.place ≤ length text) × StopsOctets octets (drop fault.place text) fault.refusal
 
 -- the octets that were read
-abbrev pub octets_of : Result (ArrayVec ℕ) Fault → Result (List ℕ) Fault
-octets_of (Ok octets) = Ok octets.items
-octets_of (Err fault) = Err fault
+abbrev pub string_octets : Result (ArrayVec ℕ) Fault → Result (List ℕ) Fault
+string_octets (Ok octets) = Ok octets.items
+string_octets (Err fault) = Err fault

@@ -6,7 +6,7 @@ ghost use Rattle.dns_split.specs.Pieces.{AreOctets, IsGiven, IsOctetPieces, Each
 ghost use Rattle.dns_split.specs.Splitting.{Entries, Splits};
 ghost use Rattle.dns_split.specs.declared.pieces.Piece.{Piece};
 ghost use Rattle.dns_split.specs.declared.pieces.Fault.{Fault};
-ghost use Rattle.dns_text_c.specs.Calls.{ToldEntry, Calls, told_entries, octets_of, last_status};
+ghost use Rattle.dns_text_c.specs.Calls.{ToldEntry, Calls, told_entries, token_octets, last_status};
 ghost use Rattle.dns_text_c.specs.Entries.{entries_of_pieces, InARow};
 ghost use Rattle.dns_text_c.specs.Pieces.{PieceCalls, ToldPiece, told_from, entries_told};
 ghost use Rattle.dns_text_c.specs.RecordCalls.{RecordCallsTellAll};
@@ -30,7 +30,7 @@ pub fn calls_tell_all()
     ensures entries { (text : List ℕ) (given : List (Result Piece Fault)) (first last : Cursor) (entries : List ToldEntry) → AreOctets text → IsGiven text given → first.at ≡ 0
         → first.is_done ≡ 0 → Calls text first entries last → entries ≡ told_entries given }
     ensures tokens { (text : List ℕ) (found : Entries) (first last : Cursor) (entries : List ToldEntry) → AreOctets text → Splits text found → first.at ≡ 0
-        → first.is_done ≡ 0 → Calls text first entries last → map (octets_of text) entries ≡ found }
+        → first.is_done ≡ 0 → Calls text first entries last → map (token_octets text) entries ≡ found }
     ensures opened { (text : List ℕ) (first last : Cursor) (entries : List ToldEntry) → AreOctets text → first.at ≡ 0 → first.is_done ≡ 0 → Calls text first entries last
         → last_status entries ≡ number_of OpenParenthesis → IsOpener (encode_utf8_all text) (place_of text last.opened) }
 {}

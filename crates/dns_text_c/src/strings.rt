@@ -8,7 +8,7 @@ ghost use Rattle.dns_symbol.specs.Printed.{is_plain_escape, is_unquoted_escape, 
 ghost use Rattle.dns_charstr.specs.OctetText.{OctetAt};
 ghost use Rattle.dns_charstr.specs.Printed.{quoted_text};
 ghost use Rattle.dns_text_c.specs.Told.{IsTold};
-ghost use Rattle.dns_text_c.specs.Strings.{ReadsString, ReadsOctetString, PrintsString, octets_of, escape_of, refusal_of, refusal_of_escape, string_text};
+ghost use Rattle.dns_text_c.specs.Strings.{ReadsString, ReadsOctetString, PrintsString, string_octets, escape_of, refusal_of, refusal_of_escape, string_text};
 ghost use Rattle.dns_text_c.specs.declared.outcome.Fault.{Fault};
 ghost use Rattle.dns_charstr.specs.Limits.{max_string};
 
@@ -173,7 +173,7 @@ pub(crate) fn symbol_at(text: &[u8], place: usize) -> Result<Option<(Symbol, usi
 
 /// The octets of a text's symbols, or the first fault.
 fn read_string(text: &[u8]) -> Result<ArrayVec<u8, MOST>, Fault>
-    ensures { ReadsString text.now (octets_of result) }
+    ensures { ReadsString text.now (string_octets result) }
 {
     let mut octets = ArrayVec::new();
     let mut place = 0;
@@ -233,7 +233,7 @@ fn spelled_at(text: &[u8], place: usize) -> Result<Option<(u8, usize)>, Fault>
 
 /// The octets that a text spells, or the first fault.
 fn read_octets(text: &[u8]) -> Result<ArrayVec<u8, MOST>, Fault>
-    ensures { ReadsOctetString text.now (octets_of result) }
+    ensures { ReadsOctetString text.now (string_octets result) }
 {
     let mut octets = ArrayVec::new();
     let mut place = 0;
