@@ -25,6 +25,7 @@ pub mod Decoders
 pub mod Conversions
 pub mod Pushed
 pub mod Refusals
+pub mod Refusing
 pub mod Each
 pub mod Halves
 pub mod Short
