@@ -6,7 +6,7 @@ ghost use Rattle.dns_codec.specs.Grammar.{may_end_after};
 use crate::read::{VALUES16, VALUES32HEX, VALUES64};
 
 /// The rules in which encodings differ.
-#[derive(Clone, Copy, Debug)]
+#[derive(Clone, Copy)]
 pub struct Rules {
     /// Whether `=` fills a last group.
     pub is_padded: bool,

@@ -20,7 +20,7 @@ use std::alloc::Allocator;
 use std::fmt;
 
 /// The `=` that were read of a group.
-#[derive(Clone, Copy, Debug, PartialEq, Eq)]
+#[derive(Clone, Copy, Debug)]
 pub enum Padding {
     /// None.
     Absent,
