@@ -3,6 +3,7 @@ use Rattle.std.proofs.Common.{◌≡◌, ℕ, zero, suc, ◌+◌, ◌-◌, ◌<�
 use Rattle.std.specs.Prelude.{◌≢◌, if◌then◌else◌, map, Option, Some, None, option_map, unwrap_or, Result, Ok}
 use Rattle.std.proofs.Common.{get_or}
 use Rattle.std.proofs.lemmas.List.{drop_more}
+use Rattle.std.proofs.lemmas.Bool.{cases_lt}
 use Rattle.dns_split.specs.declared.reader.Mode.{Mode}
 use Rattle.dns_split.specs.declared.reader.Mode.TheVariants.{Outside}
 use Rattle.dns_split.specs.declared.reader.Act.TheVariants.{EndToken}
@@ -11,10 +12,10 @@ use Rattle.dns_split.specs.declared.skip.Class.TheVariants.{Blank, Line}
 use Rattle.dns_split.specs.declared.pieces.Fault.{Fault}
 use Rattle.dns_split.specs.declared.pieces.Piece.{Piece}
 use Rattle.dns_split.specs.Pieces.{end_at, word_at}
-use Rattle.dns_split.specs.PassedLine.{HasNoEnd, PassesEntry}
+use Rattle.dns_split.specs.PassedLine.{HasNoEnd, HasNoLine, LacksLine, PassesEntry}
 use Rattle.dns_split.specs.Reader.{may_end, move_to, step}
-use Rattle.dns_split.specs.Run.{Still, before, closed_piece, fault, finished, first_blank, open_piece, run, start_after, wrong_at, wrong_at_end}
-use Rattle.dns_split.specs.Skip.{EachIn, is_in}
+use Rattle.dns_split.specs.Run.{Still, before, closed_piece, fault, finished, first_blank, open_piece, run, wrong_at, wrong_at_end}
+use Rattle.dns_split.specs.Skip.{EachIn, StopsAt, is_in}
 use Rattle.dns_split.proofs.PieceSteps.{run_step, stepped}
 
 -- ---- something is left
@@ -117,3 +118,36 @@ line_passed text false zero at e b k old is ready none on within all feed blank 
     }
 line_passed text true d at e b k old is ready none on within all feed blank = cc
 line_passed text false (suc d) at e b k old is ready none on within all feed blank = cc
+
+-- ---- no line to pass over
+clash : (t : Bool) → t ≡ true → t ≡ false → ⊥
+clash t is not_so = cc
+
+feed_stops : (c : ℕ) → is_in Line c ≡ true → c ≢ 10
+feed_stops c plain feed = clash (is_in Line c) plain (ap (is_in Line) feed)
+
+-- the first octet that isn't of such a line is no line feed
+no_line : (text : List ℕ) (at e : ℕ) → at ≤ e → EachIn Line text at e → (e < length text → StopsAt Line text e) → (e < length text → get_or text e 0 ≢ 10) → HasNoLine text at
+no_line text at e on each stops other feed from within plain is = elim (cases_lt feed e) [
+  | inl early ↦ feed_stops (get_or text feed 0) (each feed from early) is
+  | inr late ↦ elim (cases_lt e feed) [
+    | inl before ↦ clash (is_in Line (get_or text e 0)) (plain e on before) (stops (omega (arith, before, within)))
+    | inr here ↦
+        let same : feed ≡ e = omega (arith, late, here) in
+        other (subst (λ n. n < length text) same within) (subst (λ n. get_or text n 0 ≡ 10) same is)
+  ]
+]
+
+-- where the reader is done or inside parentheses
+pub none_left : (text : List ℕ) (done : Bool) (d at : ℕ) (b : Bool) (old : List (Result Piece Fault)) → old ≡ (if done then [] else run Outside d at at b (drop at text))
+    → (done ≡ true) ⊎ (0 < d) → LacksLine old
+none_left text true d at b old is why = inl is
+none_left text false d at b old is (inl why) = cc
+none_left text false d at b old is (inr deep) = inr (record { octets = text; depth = d; at = at; began = b; is = is; none = inl deep })
+
+-- where the line goes on with something else
+pub other_line : (text : List ℕ) (done : Bool) (d at e : ℕ) (b : Bool) (old : List (Result Piece Fault)) → old ≡ (if done then [] else run Outside d at at b (drop at text)) → at ≤ e
+    → EachIn Line text at e → (e < length text → StopsAt Line text e) → (e < length text → get_or text e 0 ≢ 10) → LacksLine old
+other_line text true d at e b old is on each stops other = inl is
+other_line text false d at e b old is on each stops other =
+    inr (record { octets = text; depth = d; at = at; began = b; is = is; none = inr (no_line text at e on each stops other) })

@@ -1,9 +1,14 @@
 -- The rest of an entry that is passed over at once.
-use Rattle.std.specs.Prelude.{⊤, ◌≡◌, ◌≢◌, ℕ, List, [], ◌∷◌, ◌++◌, map, Option, Some, None, Result, Ok}
+use Rattle.std.specs.Prelude.{⊤, ◌≡◌, ◌≢◌, ◌<◌, ◌≤◌, ◌⊎◌, ℕ, Bool, List, [], ◌∷◌, ◌++◌, length, drop, map, slice_index, Option, Some, None, Result, Ok}
+use Rattle.dns_symbol.specs.Characters.{line_feed}
 use Rattle.dns_split.specs.declared.pieces.EndOfEntry.{EndOfEntry}
 use Rattle.dns_split.specs.declared.pieces.Fault.{Fault}
 use Rattle.dns_split.specs.declared.pieces.Piece.{Piece}
 use Rattle.dns_split.specs.declared.pieces.Piece.TheVariants.{Word as WordAt, Quote as QuoteAt, Comment as CommentAt, End as EndAt}
+use Rattle.dns_split.specs.declared.reader.Mode.TheVariants.{Outside}
+use Rattle.dns_split.specs.declared.skip.Class.TheVariants.{Line}
+use Rattle.dns_split.specs.Run.{run}
+use Rattle.dns_split.specs.Skip.{EachIn}
 
 -- pieces of one entry, without its end
 abbrev pub HasNoEnd : List Piece → Type 0
@@ -22,7 +27,24 @@ pub record PassesEntry (old : List (Result Piece Fault)) (at : ℕ) (new : List 
   pub is : old ≡ map Ok found ++ Ok (EndAt end) ∷ new
   pub some : new ≢ []
 
--- or nothing is
+-- or nothing is taken
 abbrev pub PassesIf : List (Result Piece Fault) → Option ℕ → List (Result Piece Fault) → Type 0
 PassesIf old (Some at) new = PassesEntry old at new
 PassesIf old None new = new ≡ old
+
+-- from a place on, no line feed comes after words without escapes and blanks alone
+abbrev pub HasNoLine : List ℕ → ℕ → Type 0
+HasNoLine octets at = (feed : ℕ) → at ≤ feed → feed < length octets → EachIn Line octets at feed → slice_index octets feed ≢ line_feed
+
+-- what octets give from a place on, where parentheses are open or no such line begins
+pub record GivenWithoutLine (given : List (Result Piece Fault)) : Type 0 where
+  pub octets : List ℕ
+  pub depth : ℕ
+  pub at : ℕ
+  pub began : Bool
+  pub is : given ≡ run Outside depth at at began (drop at octets)
+  pub none : (0 < depth) ⊎ HasNoLine octets at
+
+-- no line can be passed over: nothing is left, or it is given so
+abbrev pub LacksLine : List (Result Piece Fault) → Type 0
+LacksLine given = (given ≡ []) ⊎ GivenWithoutLine given

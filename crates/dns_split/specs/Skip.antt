@@ -1,5 +1,5 @@
 -- Octets that the reader passes over together.
-use Rattle.std.specs.Prelude.{◌≡◌, ◌≤◌, ◌<◌, ℕ, ◌+◌, if◌then◌else◌, Bool, true, not, nat_lt, nat_le, ◌&&◌, ◌||◌, ◌==◌, List, map, slice_index}
+use Rattle.std.specs.Prelude.{◌≡◌, ◌≤◌, ◌<◌, ℕ, ◌+◌, if◌then◌else◌, Bool, true, false, not, nat_lt, nat_le, ◌&&◌, ◌||◌, ◌==◌, List, map, slice_index}
 use Rattle.std.specs.Int.{w64, trailing_zeros}
 use lib.Lanes.{mask_l}
 use Rattle.dns_symbol.specs.Characters.{tab, line_feed, carriage_return, space, double_quote, open_parenthesis, close_parenthesis, semicolon, backslash}
@@ -20,15 +20,19 @@ is_in Line c = not ((c == line_feed || (c == carriage_return || c == semicolon))
 abbrev pub EachIn : Class → List ℕ → ℕ → ℕ → Type 0
 EachIn k text i j = (n : ℕ) → i ≤ n → n < j → is_in k (slice_index text n) ≡ true
 
--- the first octets of 16
-abbrev pub RunIn : Class → List ℕ → ℕ → ℕ → Type 0
-RunIn k text i run = (run ≤ 16) × EachIn k text i (i + run)
+-- an octet at this place is of another class
+abbrev pub StopsAt : Class → List ℕ → ℕ → Type 0
+StopsAt k text i = is_in k (slice_index text i) ≡ false
 
--- the bits of marks on octets, the lowest first, and each octet without a mark is of a class
+-- the first octets of 16, as many as are of the class
+abbrev pub RunIn : Class → List ℕ → ℕ → ℕ → Type 0
+RunIn k text i run = (run ≤ 16) × EachIn k text i (i + run) × (run < 16 → StopsAt k text (i + run))
+
+-- the bits of marks on octets, the lowest first, and the octets without a mark are those of a class
 pub record Marks (k : Class) (octets : List ℕ) (bits : ℕ) : Type 0 where
   pub marked : ℕ → Bool
   pub is : bits ≡ mask_l (map marked octets)
-  pub unmarked : (c : ℕ) → c < 256 → (marked c || is_in k c) ≡ true
+  pub exact : (c : ℕ) → c < 256 → is_in k c ≡ not (marked c)
 
 -- the class in a word, and in a quoted text
 abbrev pub class_of : Within → Class

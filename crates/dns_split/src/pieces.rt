@@ -1,11 +1,11 @@
 //! The pieces of a zone text, one by one, with their places and without memory.
-ghost use Rattle.std.specs.Prelude.{◌≡◌, ◌+◌, ◌<◌, ◌^◌, ◌≤◌, IfSome, IsTrue, length, drop};
+ghost use Rattle.std.specs.Prelude.{◌≡◌, ◌+◌, ◌<◌, ◌^◌, ◌≤◌, IfNone, IfSome, IsTrue, length, drop};
 ghost use Rattle.std.specs.Prelude.{slice_index, encode_utf8_all, ◌↔◌};
 ghost use Rattle.std.specs.Str.{IsCharBoundary};
 ghost use Rattle.dns_split.specs.Pieces.{Reads, EachFits, ReadsOctets, ReadsOctetsFrom, EachWithin};
 ghost use Rattle.dns_split.specs.Pieces.{IsPart, between, ReadsFrom, EachIsPart, next_blank};
 ghost use Rattle.dns_split.specs.Pieces.{IsFault, moved_fault, place_of};
-ghost use Rattle.dns_split.specs.PassedLine.{PassesIf};
+ghost use Rattle.dns_split.specs.PassedLine.{LacksLine, PassesIf};
 ghost use Rattle.dns_split.specs.Viable.{IsViable};
 ghost use Rattle.dns_split.specs.Run.{open_piece, goes_on, closed_piece, finished, start_after};
 ghost use Rattle.dns_split.specs.Run.{first_blank, blank_after, wrong_at, wrong_at_end, run};
@@ -554,10 +554,12 @@ impl<'t> Pieces<'t> {
     }
 
     /// Passes over what is left of an entry, and returns where it ends: at the end of its line, if
-    /// words and blanks alone stand before that; or stays, and returns `None`.
+    /// a line feed ends it and words without escapes and blanks alone stand before that, outside
+    /// parentheses. Else it stays, and returns `None`.
     #[inline(always)]
     pub fn pass_line(&mut self) -> Option<usize>
-        ensures { PassesIf self.old result self.new }
+        ensures passes { PassesIf self.old result self.new }
+        ensures stays { IfNone result (LacksLine self.old) }
     {
         if self.is_done || self.depth > 0 {
             return None;

@@ -3,7 +3,7 @@ ghost use Rattle.std.specs.Prelude.{◌≡◌, ◌+◌, ◌<◌, ◌≤◌, true
 ghost use Rattle.dns_symbol.specs.Symbol.{is_digit};
 ghost use Rattle.dns_split.specs.Reader.{home};
 ghost use Rattle.dns_split.specs.Run.{SameRun, Skips, GoesOn, Passes};
-ghost use Rattle.dns_split.specs.Skip.{is_in, EachIn, RunIn, Marks, class_of, first_set};
+ghost use Rattle.dns_split.specs.Skip.{is_in, EachIn, StopsAt, RunIn, Marks, class_of, first_set};
 
 use crate::reader::Within;
 use std::simd::prelude::*;
@@ -129,6 +129,7 @@ pub(crate) fn skip_class(class: Class, octets: &[u8], at: usize) -> usize
     ensures on { at ≤ result }
     ensures within { result ≤ length octets.now }
     ensures each { EachIn class octets.now at result }
+    ensures stops { result < length octets.now → StopsAt class octets.now result }
 {
     let few = few(class);
     let mut place = at;
