@@ -12,7 +12,7 @@ use Rattle.dns_split.specs.declared.splitting.Collected.{Collected}
 use Rattle.dns_split.specs.Lexeme.{Lexeme, Blank, Line, Open, Close, Note, Word, Quote, lexeme_bytes}
 use Rattle.dns_split.specs.Splitting.{Splits, Entries, nests, with_token, entries}
 use Rattle.dns_split.specs.Pieces.{begins_blank, pieces, IsPieces, Reads, between, tokens_by_entry}
-use Rattle.dns_split.specs.Answer.{texts, entries_of}
+use Rattle.dns_split.specs.Answer.{KeepsPiece, texts, entries_of}
 use Rattle.dns_split.proofs.Collecting.{front, glue}
 use Rattle.dns_split.proofs.Complete.{Some_same}
 use Rattle.dns_split.proofs.PieceWhole.{pieces_run}
@@ -194,3 +194,18 @@ done_glue c h = go (texts c.entry.items) h
 pub none_more : (ts : List (List ℕ)) (t : List ℕ) → is_none (ts ++ t ∷ []) ≡ false
 none_more [] t = refl
 none_more (x ∷ ts) t = refl
+
+-- one more piece that is kept
+pub kept_on : {A : Type 0} (text : List ℕ) (p : Piece) (old new : Collected A) (k : List (Result Piece Fault)) → KeepsPiece text p old new
+    → glue new (answer text k) ≡ glue old (answer text (Ok p ∷ k))
+kept_on text (WordAt p) old new k h = sym (token_glue old new (between text p.start p.end) (answer text k) h.0 h.1)
+kept_on text (QuoteAt p) old new k h = sym (token_glue old new (between text p.start p.end) (answer text k) h.0 h.1)
+kept_on text (CommentAt p) old new k h = ap (λ c. glue c (answer text k)) h
+kept_on text (EndAt p) old new k h = sym (end_glue old new (answer text k) h.0 h.1)
+
+pub closes_on : {A : Type 0} (text : List ℕ) (p : Piece) (old new : Collected A) (k : List (Result Piece Fault)) → KeepsPiece text p old new
+    → closes (is_none (texts new.entry.items)) k ≡ closes (is_none (texts old.entry.items)) (Ok p ∷ k)
+closes_on text (WordAt p) old new k h = ap (λ t. closes t k) (ap is_none h.1 ∙ none_more _ _)
+closes_on text (QuoteAt p) old new k h = ap (λ t. closes t k) (ap is_none h.1 ∙ none_more _ _)
+closes_on text (CommentAt p) old new k h = ap (λ c. closes (is_none (texts c.entry.items)) k) h
+closes_on text (EndAt p) old new k h = ap (λ t. closes (is_none t) k) h.1

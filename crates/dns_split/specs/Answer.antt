@@ -1,10 +1,14 @@
 -- What `split` answers.
-use Rattle.std.specs.Prelude.{⊤, ℕ, List, ◌++◌, map, codes, Result, Ok, Err, Vec, String, string_bytes}
+use Rattle.std.specs.Prelude.{⊤, ◌≡◌, ℕ, List, [], ◌∷◌, ◌++◌, map, codes, Result, Ok, Err, Vec, String, string_bytes}
 use Rattle.dns_split.specs.declared.error.SplitError.{SplitError}
 use Rattle.dns_split.specs.declared.error.SplitError.TheVariants.{BadText, ShortBuf}
 use Rattle.dns_split.specs.declared.entry_tokens.NextEntryError.{NextEntryError}
 use Rattle.dns_split.specs.declared.entry_tokens.NextEntryError.TheVariants.{BadText as NotText, ShortBuf as NoRoom}
 use Rattle.std.specs.Fmt.{decimal}
+use Rattle.dns_split.specs.declared.pieces.Piece.{Piece}
+use Rattle.dns_split.specs.declared.pieces.Piece.TheVariants.{Word as WordAt, Quote as QuoteAt, Comment as CommentAt, End as EndAt}
+use Rattle.dns_split.specs.declared.splitting.Collected.{Collected}
+use Rattle.dns_split.specs.Pieces.{between}
 use Rattle.dns_split.specs.Splitting.{Entries, Splits}
 use Rattle.dns_split.specs.Viable.{IsBad}
 
@@ -21,6 +25,19 @@ abbrev pub IsSplitOf : {A : Type 0} → Result (Vec (Vec (String A) A) A) SplitE
 IsSplitOf (Ok v) text = Splits text (entries_of v.items)
 IsSplitOf (Err (BadText i)) text = IsBad text i
 IsSplitOf (Err ShortBuf) text = ⊤
+
+-- a piece is kept: a word or a quoted text is one more token, and an entry's end ends the entry
+abbrev pub KeepsPiece : {A : Type 0} → List ℕ → Piece → Collected A → Collected A → Type 0
+KeepsPiece text (WordAt p) old new = (new.found ≡ old.found) × (texts new.entry.items ≡ texts old.entry.items ++ between text p.start p.end ∷ [])
+KeepsPiece text (QuoteAt p) old new = (new.found ≡ old.found) × (texts new.entry.items ≡ texts old.entry.items ++ between text p.start p.end ∷ [])
+KeepsPiece text (CommentAt p) old new = new ≡ old
+KeepsPiece text (EndAt p) old new = (entries_of new.found.items ≡ entries_of old.found.items ++ texts old.entry.items ∷ []) × (texts new.entry.items ≡ [])
+
+-- all pieces of the text were kept, as these entries; or its fault, or nothing is said where memory ran out
+abbrev pub IsKeptOf : Result (Unit {0}) SplitError → List ℕ → Entries → Type 0
+IsKeptOf (Ok u) text e = Splits text e
+IsKeptOf (Err (BadText i)) text e = IsBad text i
+IsKeptOf (Err ShortBuf) text e = ⊤
 
 -- what an error prints
 abbrev pub split_error_text : SplitError → List ℕ

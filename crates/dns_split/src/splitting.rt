@@ -1,7 +1,8 @@
 //! Splitting a zone text into entries.
 ghost use Rattle.std.specs.Prelude.{◌≡◌, ◌++◌, ◌∷◌, [], Some, OnOk, IfOk};
 ghost use Rattle.std.specs.List.{All, AllByRecursion};
-ghost use Rattle.dns_split.specs.Answer.{IsSplitOf, texts, entries_of};
+ghost use Rattle.dns_split.specs.Answer.{IsKeptOf, IsSplitOf, KeepsPiece, texts, entries_of};
+ghost use Rattle.dns_split.specs.Pieces.{IsPieceOf};
 ghost use Rattle.dns_split.specs.Splitting.{SplitsOnlyInto};
 ghost use Rattle.dns_split.specs.Token.{IsToken};
 
@@ -38,6 +39,39 @@ impl<A: Allocator + Copy> Collected<A> {
         self.found.push(entry)?;
         Ok(())
     }
+
+    /// Keeps a piece.
+    #[inline(always)]
+    fn keep(&mut self, alloc: A, text: &str, piece: Piece) -> Result<(), AllocError>
+        requires { IsPieceOf text.now piece }
+        ensures { OnOk result (KeepsPiece text.now piece self.old self.new) }
+    {
+        match piece {
+            Piece::Word(part) | Piece::Quote(part) => {
+                self.add_token(alloc, &text[part.start..part.end])
+            }
+            Piece::Comment(_) => Ok(()),
+            Piece::End(_) => self.end_entry(alloc),
+        }
+    }
+
+    /// Keeps the pieces of a text, up to a fault.
+    fn keep_all(&mut self, alloc: A, text: &str) -> Result<(), SplitError>
+        requires found { self.old.found.items ≡ [] }
+        requires entry { self.old.entry.items ≡ [] }
+        ensures { IsKeptOf result text.now (entries_of self.new.found.items) }
+    {
+        for piece in Pieces::new(text) {
+            match piece {
+                Ok(piece) => match self.keep(alloc, text, piece) {
+                    Ok(()) => {}
+                    Err(_) => return Err(SplitError::ShortBuf),
+                },
+                Err(fault) => return Err(SplitError::BadText(fault.at)),
+            }
+        }
+        Ok(())
+    }
 }
 
 /// Splits a zone text into entries, each a list of tokens (RFC 1035 section 5.1).
@@ -63,14 +97,9 @@ pub fn split<A: Allocator + Copy>(
         found: Vec::new(alloc),
         entry: Vec::new(alloc),
     };
-    for piece in Pieces::new(text) {
-        match piece {
-            Ok(Piece::Word(part)) => collected.add_token(alloc, &text[part.start..part.end])?,
-            Ok(Piece::Quote(part)) => collected.add_token(alloc, &text[part.start..part.end])?,
-            Ok(Piece::Comment(_)) => {}
-            Ok(Piece::End(_)) => collected.end_entry(alloc)?,
-            Err(fault) => return Err(SplitError::BadText(fault.at)),
-        }
+    match collected.keep_all(alloc, text) {
+        Ok(()) => {}
+        Err(error) => return Err(error),
     }
     let Collected { found, .. } = collected;
     Ok(found)

@@ -3,11 +3,11 @@ use Rattle.dns_split.specs.Answer.{texts}
 use Rattle.dns_split.proofs.Collecting.{glue}
 use Rattle.dns_split.specs.Pieces.{EachFits}
 use Rattle.dns_split.proofs.PieceSplit.{answer, closes, is_none}
-use Rattle.dns_split.proofs.splitting.split.Given as goal
+use Rattle.dns_split.proofs.splitting.Collected.keep_all.Given as goal
 
 abbrev pub invariant-loop-piece : goal.invariant-loop-piece
 invariant-loop-piece g l = record {
   fits : EachFits l.text l.piece-iterator;
-  kept : glue l.collected (answer l.text l.piece-iterator) ≡ answer l.text l.initial.piece-iterator;
-  closed : closes (is_none (texts l.collected.entry.items)) l.piece-iterator ≡ true;
+  kept : glue l.self (answer l.text l.piece-iterator) ≡ answer l.text l.initial.piece-iterator;
+  closed : closes (is_none (texts l.self.entry.items)) l.piece-iterator ≡ true;
 }
