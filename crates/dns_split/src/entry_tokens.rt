@@ -19,7 +19,7 @@ use std::fmt;
 use std::marker::Model;
 
 /// A token of an entry.
-#[derive(Clone, Copy, Debug, PartialEq, Eq)]
+#[derive(Clone, Copy, PartialEq, Eq)]
 pub struct EntryToken<'t> {
     /// The octets of a word, or those between the double quotes of a quoted text, with their
     /// escapes.
@@ -33,7 +33,7 @@ pub struct EntryToken<'t> {
 }
 
 /// What comes next of an entry.
-#[derive(Clone, Copy, Debug, PartialEq, Eq)]
+#[derive(Clone, Copy)]
 pub enum EntryPart<'t> {
     /// A token of it, and whether the entry begins with a blank.
     Token {

@@ -16,7 +16,7 @@ use crate::skip::{Class, Place, past_all, skip_class, token_end};
 use std::marker::Model;
 
 /// Octets of a text, from `start` to before `end`.
-#[derive(Clone, Copy, Debug, PartialEq, Eq)]
+#[derive(Clone, Copy, PartialEq, Eq)]
 pub struct Span {
     pub start: usize,
     pub end: usize,
@@ -42,7 +42,7 @@ impl Span {
 }
 
 /// The end of an entry.
-#[derive(Clone, Copy, Debug, PartialEq, Eq)]
+#[derive(Clone, Copy, PartialEq, Eq)]
 pub struct EndOfEntry {
     /// Where the next entry begins, or the text's length.
     pub at: usize,
@@ -52,7 +52,7 @@ pub struct EndOfEntry {
 }
 
 /// A piece of a zone text.
-#[derive(Clone, Copy, Debug, PartialEq, Eq)]
+#[derive(Clone, Copy, PartialEq, Eq)]
 pub enum Piece {
     Word(Span),
     /// A quoted text with its double quotes.

@@ -15,7 +15,7 @@ use crate::pieces::{Fault, Piece, first_blank, step_on};
 use crate::skip::Place;
 
 /// Where a reader stands among octets, with no piece begun.
-#[derive(Clone, Copy, Debug, PartialEq, Eq)]
+#[derive(Clone, Copy, PartialEq, Eq)]
 pub struct Standing {
     /// How many octets stand before it.
     pub at: usize,
