@@ -33,25 +33,25 @@ pub returns-then-is_last-2 : goal.returns-then-is_last-2
 returns-then-is_last-2 c =
     let given = c.pass_line.new.self in
     let now : c.loop-piece.pieces ≡ Err c.in-Err.fault ∷ c.next.new.self = c.in-Some-next.ensures.steps ∙ ap (λ x. x ∷ c.next.new.self) c.in-Err.is in
-    (fails_here c.args.octets.now given c.next.new.self c.loop-piece.pieces c.in-Err.fault now (subst (λ x. IsGiven c.args.octets.now x) (sym c.in_default.ensures) (c.of_octets-pieces.ensures.reads, c.of_octets-pieces.ensures.within)) c.loop-piece.invariant.stands, inr c.if-is_last-2.true)
+    (fails_here c.args.octets.now given c.next.new.self c.loop-piece.pieces c.in-Err.fault now (subst (λ x. IsGiven c.args.octets.now x) (sym c.in_default.ensures.passes) (c.of_octets-pieces.ensures.reads, c.of_octets-pieces.ensures.within)) c.loop-piece.invariant.stands, inr c.if-is_last-2.true)
 
 pub returns-then-needs_more : goal.returns-then-needs_more
 returns-then-needs_more c =
     let given = c.pass_line.new.self in
     let now : c.loop-piece.pieces ≡ Err c.in-Err.fault ∷ c.next.new.self = c.in-Some-next.ensures.steps ∙ ap (λ x. x ∷ c.next.new.self) c.in-Err.is in
-    let fails = fails_here c.args.octets.now given c.next.new.self c.loop-piece.pieces c.in-Err.fault now (subst (λ x. IsGiven c.args.octets.now x) (sym c.in_default.ensures) (c.of_octets-pieces.ensures.reads, c.of_octets-pieces.ensures.within)) c.loop-piece.invariant.stands in
+    let fails = fails_here c.args.octets.now given c.next.new.self c.loop-piece.pieces c.in-Err.fault now (subst (λ x. IsGiven c.args.octets.now x) (sym c.in_default.ensures.passes) (c.of_octets-pieces.ensures.reads, c.of_octets-pieces.ensures.within)) c.loop-piece.invariant.stands in
     (c.if-is_last-2.false, inr (c.in-Err.fault, fails, c.needs_more.ensures.place.0 c.if-needs_more.true))
 
 pub returns-else-needs_more : goal.returns-else-needs_more
 returns-else-needs_more c =
     let given = c.pass_line.new.self in
     let now : c.loop-piece.pieces ≡ Err c.in-Err.fault ∷ c.next.new.self = c.in-Some-next.ensures.steps ∙ ap (λ x. x ∷ c.next.new.self) c.in-Err.is in
-    let fails = fails_here c.args.octets.now given c.next.new.self c.loop-piece.pieces c.in-Err.fault now (subst (λ x. IsGiven c.args.octets.now x) (sym c.in_default.ensures) (c.of_octets-pieces.ensures.reads, c.of_octets-pieces.ensures.within)) c.loop-piece.invariant.stands in
+    let fails = fails_here c.args.octets.now given c.next.new.self c.loop-piece.pieces c.in-Err.fault now (subst (λ x. IsGiven c.args.octets.now x) (sym c.in_default.ensures.passes) (c.of_octets-pieces.ensures.reads, c.of_octets-pieces.ensures.within)) c.loop-piece.invariant.stands in
     (fails, inl (before_end c.in-Err.fault.at (length c.args.octets.now) c.needs_more.result c.needs_more.ensures.place c.if-needs_more.false))
 
 pub returns : goal.returns
-returns c = absurd (never_ends c.args.octets.now c.pass_line.new.self c.loop-piece.pieces c.in_default-next.ensures.steps.0 (subst (λ x. IsGiven c.args.octets.now x) (sym c.in_default.ensures) (c.of_octets-pieces.ensures.reads, c.of_octets-pieces.ensures.within)) c.loop-piece.invariant.stands)
+returns c = absurd (never_ends c.args.octets.now c.pass_line.new.self c.loop-piece.pieces c.in_default-next.ensures.steps.0 (subst (λ x. IsGiven c.args.octets.now x) (sym c.in_default.ensures.passes) (c.of_octets-pieces.ensures.reads, c.of_octets-pieces.ensures.within)) c.loop-piece.invariant.stands)
 
 pub returns-in-Some : goal.returns-in-Some
 returns-in-Some c =
-    passed_first c.args.octets.now c.args.is_last c.of_octets-pieces.result c.pass_line.new.self c.in-Some.end (c.of_octets-pieces.ensures.reads, c.of_octets-pieces.ensures.within) c.in-Some.ensures
+    passed_first c.args.octets.now c.args.is_last c.of_octets-pieces.result c.pass_line.new.self c.in-Some.end (c.of_octets-pieces.ensures.reads, c.of_octets-pieces.ensures.within) c.in-Some.ensures.passes
