@@ -9,13 +9,14 @@ use Rattle.std.proofs.Math.Seq.{take-suc}
 use Rattle.dns_split.specs.Pieces.{between}
 use Rattle.dns_split.specs.Run.{is_blank}
 use Rattle.dns_split.specs.declared.pieces.Span.{Span}
+use Rattle.dns_split.specs.Standing.{blank_at}
 use Rattle.zone_format.specs.declared.columns.Turn.{Turn}
 use Rattle.zone_format.specs.declared.columns.Turn.TheVariants.{Edge, Led, Inside, Owned, Head, Typed, Rest}
 use Rattle.zone_format.specs.declared.format.Progress.{Progress}
 use Rattle.zone_format.specs.declared.stand.Stand.{Stand}
 use Rattle.zone_format.specs.Columns.{moved_in}
 use Rattle.zone_format.specs.Form.{led_turn}
-use Rattle.zone_format.specs.Marks.{Mark, Token, Note, Open, Close, Feed, gap_mark, gap_marks, lead, lead_at, shortened}
+use Rattle.zone_format.specs.Marks.{Mark, Token, Note, Open, Close, Feed, gap_mark, gap_marks, lead, shortened}
 use Rattle.zone_format.specs.Writing.{Accepts, Advances, LineFits, Goes, Moves, PushesNote, PushesToken, Reaches, WritesEnd, WritesNote, WritesToken, accepts, led, stands_after}
 use Rattle.zone_format.proofs.Going.{accepts_on, goes_on, lead_accepts, lead_goes, lead_stands, note_accepts, note_goes, stands_on, token_accepts, token_goes}
 
@@ -105,7 +106,7 @@ led_depth true t u e = ap (λ (v : Stand). v.depth) e
 led_depth false t u e = ap (λ (v : Stand). v.depth) e
 
 pub writes_end : (octets old mid : List ℕ) (b : Bool) (p : Progress) (at : ℕ) (t u : Stand) → Moves (gap_marks octets p.at at) old p.stand (length (between octets p.at at)) mid t
-    → b ≡ lead_at octets at → u ≡ (if b then led t else t) → Reaches octets p → p.at ≤ at → at ≤ length octets → WritesEnd octets p at old mid (record { stand = u; at = at; is_token = false })
+    → b ≡ blank_at octets at → u ≡ (if b then led t else t) → Reaches octets p → p.at ≤ at → at ≤ length octets → WritesEnd octets p at old mid (record { stand = u; at = at; is_token = false })
 writes_end octets old mid b p at t u m e k r o w =
     let all = advanced octets (lead b) old mid mid p at at false t u m (lead_goes b mid t u k) (lead_accepts b t u k) (lead_stands b t u k) (led_fits b mid t u k m.fits) (led_depth b t u k) r o (omega arith) w in
     subst (λ x. Advances octets (gap_marks octets p.at at ++ lead x) old p at false mid (record { stand = u; at = at; is_token = false })) e all

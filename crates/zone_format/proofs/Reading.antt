@@ -15,10 +15,11 @@ use Rattle.dns_split.specs.Splitting.{are_lexemes, may_precede, nests}
 use Rattle.dns_split.specs.Pieces.{pieces, begins_blank, between, IsPieces}
 use Rattle.dns_split.specs.declared.pieces.Piece.{Piece}
 use Rattle.dns_split.specs.Run.{first_blank, is_blank}
+use Rattle.dns_split.specs.Standing.{blank_at}
 use Rattle.dns_split.proofs.PieceLexemes.{first_blank_char, blank_bytes, line_bytes, open_bytes, close_bytes, note_bytes, quote_bytes}
 use Rattle.dns_split.proofs.PieceSplit.{between_is}
 use Rattle.zone_format.specs.declared.stand.Above.TheVariants.{Nothing}
-use Rattle.zone_format.specs.Marks.{Mark, Feed, gap_mark, gap_marks, lead, lead_at, marks, shortened}
+use Rattle.zone_format.specs.Marks.{Mark, Feed, gap_mark, gap_marks, lead, marks, shortened}
 use Rattle.zone_format.specs.Marks.{Token as TokenMark, Note as NoteMark, Open as OpenMark, Close as CloseMark}
 use Rattle.zone_format.proofs.Respelling.{respelt, sq}
 use Rattle.zone_format.proofs.Build.{build, built_bytes, built_nests, built_valid, marks_of}
@@ -163,12 +164,12 @@ marks_cut (Line r ∷ ls) text before from zero at b k tied e a f g n v =
     let o = onward before (Line r) ls text at e a in
     let at' = at + length (lexeme_bytes (Line r)) in
     let w = rest_valid (Line r) ls v in
-    let led : begins_blank ls ≡ lead_at text at' = sym (ap first_blank (ap (drop at') (sym o.0) ∙ drop_at (before ++ lexeme_bytes (Line r)) (flat_map lexeme_bytes ls) at' (sym o.1)) ∙ blank_lexemes ls w) in
+    let led : begins_blank ls ≡ blank_at text at' = sym (ap first_blank (ap (drop at') (sym o.0) ∙ drop_at (before ++ lexeme_bytes (Line r)) (flat_map lexeme_bytes ls) at' (sym o.1)) ∙ blank_lexemes ls w) in
     let rest = marks text false at' (pieces at' zero (begins_blank ls) ls) in
     let more : marks_of false zero ls ≡ rest =
     after_piece text at' (marks_of false zero ls) rest (marks_cut ls text (before ++ lexeme_bytes (Line r)) at' zero at' (begins_blank ls) false false o.0 o.1 (omega arith) refl n w) in
     pass text from at at' (Feed ∷ []) (lead (begins_blank ls) ++ marks_of false zero ls) _ (gap_on before (Line r) ls text from at (Feed ∷ []) e a f (line_marks r))
-    (ap (λ c. gap_marks text from at' ++ (lead c ++ marks_of false zero ls)) led ∙ ap (λ l. gap_marks text from at' ++ (lead (lead_at text at') ++ l)) more)
+    (ap (λ c. gap_marks text from at' ++ (lead c ++ marks_of false zero ls)) led ∙ ap (λ l. gap_marks text from at' ++ (lead (blank_at text at') ++ l)) more)
 marks_cut (Word y ss ∷ ls) text before from d at b k tied e a f g n v =
     let o = onward before (Word y ss) ls text at e a in
     let at' = at + length (lexeme_bytes (Word y ss)) in
@@ -190,7 +191,7 @@ marks_cut (Note cs ∷ ls) text before from d at b k tied e a f g n v =
 
 -- the marks of a whole text
 abbrev pub all_marks : List ℕ → List Piece → List Mark
-all_marks text found = lead (lead_at text 0) ++ marks text false 0 found
+all_marks text found = lead (blank_at text 0) ++ marks text false 0 found
 
 abbrev pub rewritten : List ℕ → List Mark → List ℕ
 rewritten plan ms = respelt plan Nothing false 0 false ms
@@ -199,7 +200,7 @@ pub all_is : (text : List ℕ) (found : List Piece) (p : IsPieces text found) �
 all_is text found p =
     let ls = p.lexemes in
     let own : marks_of false 0 ls ≡ marks text false 0 found = marks_cut ls text [] 0 0 0 (begins_blank ls) false false p.spelled refl (omega arith) refl p.nested p.valid ∙ ap (marks text false 0) p.placed in
-    let led : lead_at text 0 ≡ begins_blank ls = ap first_blank (sym p.spelled) ∙ blank_lexemes ls p.valid in
+    let led : blank_at text 0 ≡ begins_blank ls = ap first_blank (sym p.spelled) ∙ blank_lexemes ls p.valid in
     ap (λ b. lead b ++ marks text false 0 found) led ∙ ap (λ l. lead (begins_blank ls) ++ l) (sym own)
 
 respelt_led : (b : Bool) (plan : List ℕ) (ms : List Mark) → rewritten plan (lead b ++ ms) ≡ respelt plan Nothing false 0 b ms

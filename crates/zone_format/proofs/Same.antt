@@ -13,6 +13,7 @@ use Rattle.dns_split.specs.declared.pieces.Piece.TheVariants.{Word as WordAt, Qu
 use Rattle.dns_split.specs.declared.pieces.Fault.{Fault}
 use Rattle.dns_split.specs.Pieces.{EachWithin, between, IsPieces, moved, moved_fault, moved_piece, place_of}
 use Rattle.dns_split.specs.Run.{first_blank, run}
+use Rattle.dns_split.specs.Standing.{blank_at}
 use Rattle.dns_split.proofs.PieceLexemes.{first_blank_char, is_high, high_bytes}
 use Rattle.dns_split.proofs.PieceMoved.{mono, octets_run}
 use Rattle.dns_split.proofs.PieceParts.{each_within}
@@ -20,7 +21,7 @@ use Rattle.dns_split.proofs.PieceSplit.{pieces_one_way, same_found}
 use Rattle.dns_split.proofs.PieceWhole.{pieces_run}
 use Rattle.zone_format.specs.declared.stand.Above.{Above}
 use Rattle.zone_format.specs.declared.stand.Above.TheVariants.{Nothing, Line, Gap}
-use Rattle.zone_format.specs.Marks.{Mark, Feed, Lead, HasMarks, gap_mark, gap_marks, lead, lead_at, marks, shortened}
+use Rattle.zone_format.specs.Marks.{Mark, Feed, Lead, HasMarks, gap_mark, gap_marks, lead, marks, shortened}
 use Rattle.zone_format.specs.Marks.{Token as TokenMark, Note as NoteMark, Open as OpenMark, Close as CloseMark}
 use Rattle.zone_format.proofs.Givens.{first_fault, pieces_in, all_ok, moved_first, moved_oks, first_of_oks}
 use Rattle.zone_format.proofs.Reading.{all_marks, rewritten, text_marks}
@@ -116,7 +117,7 @@ first_same : (os : List ℕ) → first_blank (encode_utf8_all os) ≡ first_blan
 first_same [] = refl
 first_same (c ∷ os) = first_blank_char c (encode_utf8_all os)
 
-moved_lead : (octets : List ℕ) (at : ℕ) → lead_at (encode_utf8_all octets) (place_of octets at) ≡ lead_at octets at
+moved_lead : (octets : List ℕ) (at : ℕ) → blank_at (encode_utf8_all octets) (place_of octets at) ≡ blank_at octets at
 moved_lead octets at = ap first_blank (dropped octets at) ∙ first_same (drop at octets)
 
 lead_same : (b : Bool) (ms : List Mark) → lead b ++ map encoded_mark ms ≡ map encoded_mark (lead b ++ ms)
@@ -151,15 +152,15 @@ moved_marks octets tied from (CommentAt p ∷ ps) f w =
     ∙ ap (λ l. NoteMark (encode_utf8_all (shortened (between octets p.start p.end))) ∷ l) (moved_marks octets false p.end ps w.0.1 w.1)
     )
 moved_marks octets tied from (EndAt p ∷ ps) f w =
-    turn octets from p.at _ (lead (lead_at octets p.at) ++ marks octets false p.at ps) (
+    turn octets from p.at _ (lead (blank_at octets p.at) ++ marks octets false p.at ps) (
     ap (λ b. lead b ++ marks (encode_utf8_all octets) false (place_of octets p.at) (map (moved_piece (place_of octets)) ps)) (moved_lead octets p.at)
-    ∙ ap (λ l. lead (lead_at octets p.at) ++ l) (moved_marks octets false p.at ps w.0 w.1) ∙ lead_same (lead_at octets p.at) (marks octets false p.at ps)
+    ∙ ap (λ l. lead (blank_at octets p.at) ++ l) (moved_marks octets false p.at ps w.0 w.1) ∙ lead_same (blank_at octets p.at) (marks octets false p.at ps)
     )
 
 pub moved_all : (octets : List ℕ) (found : List Piece) → EachWithin (length octets) (map Ok found) → all_marks (encode_utf8_all octets) (map (moved_piece (place_of octets)) found) ≡ map encoded_mark (all_marks octets found)
 moved_all octets found w =
     ap (λ b. lead b ++ marks (encode_utf8_all octets) false 0 (map (moved_piece (place_of octets)) found)) (moved_lead octets 0)
-    ∙ ap (λ l. lead (lead_at octets 0) ++ l) (moved_marks octets false 0 found (omega arith) w) ∙ lead_same (lead_at octets 0) (marks octets false 0 found)
+    ∙ ap (λ l. lead (blank_at octets 0) ++ l) (moved_marks octets false 0 found (omega arith) w) ∙ lead_same (blank_at octets 0) (marks octets false 0 found)
 
 -- blanks and line ends are ASCII
 blanks_same : (n : ℕ) → encode_utf8_all (replicate n 32) ≡ replicate n 32

@@ -8,13 +8,14 @@ use Rattle.dns_split.specs.declared.pieces.Piece.TheVariants.{Word as WordAt, Qu
 use Rattle.dns_split.specs.declared.pieces.Fault.{Fault}
 use Rattle.dns_split.specs.declared.pieces.Span.{Span}
 use Rattle.dns_split.specs.Pieces.{EachWithin, IsGiven, between}
+use Rattle.dns_split.specs.Standing.{blank_at}
 use Rattle.zone_format.specs.declared.format.Progress.{Progress}
 use Rattle.zone_format.specs.declared.refusal.Refusal.{Refusal}
 use Rattle.zone_format.specs.declared.refusal.Refusal.TheVariants.{Wrong, Nul, OrderMark, OutOfMemory}
 use Rattle.zone_format.specs.declared.stand.Stand.{Stand}
 use Rattle.zone_format.specs.declared.stand.Seam.{Seam}
 use Rattle.zone_format.specs.Blocks.{resting}
-use Rattle.zone_format.specs.Marks.{Mark, Token, Note, Lead, gap_marks, lead, lead_at, marks, shortened}
+use Rattle.zone_format.specs.Marks.{Mark, Token, Note, Lead, gap_marks, lead, marks, shortened}
 use Rattle.zone_format.specs.Refusal.{HasToken, IsWithoutForm, IsUnfit, begins_order_mark}
 use Rattle.zone_format.specs.Writing.{Advances, LineFits, Reaches, WritesEnd, WritesNote, WritesToken, accepts_from, led, stands_after, written_from}
 use Rattle.zone_format.proofs.Follow.{Follows}
@@ -87,7 +88,7 @@ pub stays_end : (octets : List ℕ) (all : List (Result Piece Fault)) (old : Lis
     → Stays octets all old from (Ok (EndAt x) ∷ rest) mid p → WritesEnd octets p x.at mid new q → Stays octets all old from rest new q
 stays_end octets all old from x rest mid p new q h a =
     stays octets all old from (EndAt x) rest mid p _ x.at false new q h a
-    (append_assoc (gap_marks octets p.at x.at) (lead (lead_at octets x.at)) (marks octets false x.at (pieces_in rest))) h.order.1 (λ s e k. k)
+    (append_assoc (gap_marks octets p.at x.at) (lead (blank_at octets x.at)) (marks octets false x.at (pieces_in rest))) h.order.1 (λ s e k. k)
 
 -- a token that may not be written
 pub unfit_refused : (octets : List ℕ) (s e : ℕ) (given : List (Result Piece Fault)) → IsGiven octets given → HasToken s e given → s ≤ e → e ≤ length octets

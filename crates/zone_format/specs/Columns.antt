@@ -4,18 +4,15 @@ use Rattle.std.specs.List.{count_by, list_all}
 use Rattle.dns_symbol.specs.Characters.{semicolon}
 use Rattle.dns_symbol.specs.Symbol.{is_digit}
 use Rattle.dns_split.specs.Run.{is_blank}
+use Rattle.zone_format.specs.Place.{begins_character}
 use Rattle.zone_format.specs.declared.columns.Role.{Role}
 use Rattle.zone_format.specs.declared.columns.Role.TheVariants.{Ttl, Class, RecordType}
 use Rattle.zone_format.specs.declared.columns.Turn.{Turn}
 use Rattle.zone_format.specs.declared.columns.Turn.TheVariants.{Edge, Led, Inside, Owned, Head, Typed, Rest}
 
--- each octet begins a character, but those that go on with one of UTF-8
-abbrev pub starts_character : ℕ → Bool
-starts_character c = nat_lt c 128 || nat_le 192 c
-
 -- how many characters octets are
 abbrev pub width_of : List ℕ → ℕ
-width_of octets = count_by starts_character octets
+width_of octets = count_by begins_character octets
 
 -- the least multiple of 8 from a number on
 abbrev pub next_eighth : ℕ → ℕ

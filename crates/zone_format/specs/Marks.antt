@@ -1,11 +1,12 @@
 -- What a formatter keeps of zone text: all but blanks, and of each token whether it is glued to the one before.
-use Rattle.std.specs.Prelude.{◌≡◌, ℕ, Bool, true, false, if◌then◌else◌, ◌==◌, ◌&&◌, List, [], ◌∷◌, ◌++◌, length, drop, map, Ok}
+use Rattle.std.specs.Prelude.{◌≡◌, ℕ, Bool, true, false, if◌then◌else◌, ◌==◌, ◌&&◌, List, [], ◌∷◌, ◌++◌, length, map, Ok}
 use Rattle.std.specs.List.{flat_map}
 use Rattle.dns_symbol.specs.Characters.{line_feed, open_parenthesis, close_parenthesis}
 use Rattle.dns_split.specs.Pieces.{EachWithin, IsOctetPieces, between}
-use Rattle.dns_split.specs.Run.{first_blank, is_blank}
+use Rattle.dns_split.specs.Run.{is_blank}
 use Rattle.dns_split.specs.declared.pieces.Piece.{Piece}
 use Rattle.dns_split.specs.declared.pieces.Piece.TheVariants.{Word as WordAt, Quote as QuoteAt, Comment as CommentAt, End as EndAt}
+use Rattle.dns_split.specs.Standing.{blank_at}
 
 -- a token as it is spelled, a comment, a parenthesis, a line's end, and a blank that an entry begins with; a token is glued if the one before it ends where it begins
 pub data Mark : Type 0 where
@@ -37,18 +38,14 @@ abbrev pub lead : Bool → List Mark
 lead true = Lead ∷ []
 lead false = []
 
--- whether a blank stands at a place
-abbrev pub lead_at : List ℕ → ℕ → Bool
-lead_at octets at = first_blank (drop at octets)
-
 -- the marks of pieces and of what stands between them, from a place on, where a token ends or something else
 abbrev pub marks : List ℕ → Bool → ℕ → List Piece → List Mark
 marks octets tied from [] = []
 marks octets tied from (WordAt p ∷ ps) = gap_marks octets from p.start ++ (Token (tied && (p.start == from)) (between octets p.start p.end) ∷ marks octets true p.end ps)
 marks octets tied from (QuoteAt p ∷ ps) = gap_marks octets from p.start ++ (Token (tied && (p.start == from)) (between octets p.start p.end) ∷ marks octets true p.end ps)
 marks octets tied from (CommentAt p ∷ ps) = gap_marks octets from p.start ++ (Note (shortened (between octets p.start p.end)) ∷ marks octets false p.end ps)
-marks octets tied from (EndAt p ∷ ps) = gap_marks octets from p.at ++ (lead (lead_at octets p.at) ++ marks octets false p.at ps)
+marks octets tied from (EndAt p ∷ ps) = gap_marks octets from p.at ++ (lead (blank_at octets p.at) ++ marks octets false p.at ps)
 
 -- octets are zone text with these marks
 abbrev pub HasMarks : List ℕ → List Mark → Type 0
-HasMarks octets ms = (found : List Piece) × IsOctetPieces octets found × EachWithin (length octets) (map Ok found) × (lead (lead_at octets 0) ++ marks octets false 0 found ≡ ms)
+HasMarks octets ms = (found : List Piece) × IsOctetPieces octets found × EachWithin (length octets) (map Ok found) × (lead (blank_at octets 0) ++ marks octets false 0 found ≡ ms)

@@ -3,6 +3,7 @@ use Rattle.std.specs.Prelude.{◌≡◌, ◌≤◌, ℕ, ◌+◌, ◌-◌, Bool,
 use Rattle.dns_symbol.specs.Characters.{line_feed, space as blank, open_parenthesis, close_parenthesis}
 use Rattle.dns_split.specs.Pieces.{between}
 use Rattle.dns_split.specs.declared.pieces.Span.{Span}
+use Rattle.dns_split.specs.Standing.{blank_at}
 use Rattle.zone_format.specs.declared.columns.Turn.{Turn}
 use Rattle.zone_format.specs.declared.columns.Turn.TheVariants.{Edge, Led, Inside, Rest}
 use Rattle.zone_format.specs.declared.format.Progress.{Progress}
@@ -12,7 +13,7 @@ use Rattle.zone_format.specs.declared.stand.Stand.{Stand}
 use Rattle.zone_format.specs.Columns.{width_of, token_column, after_token, parenthesis_column, note_column, moved_in}
 use Rattle.zone_format.specs.Form.{blank_below, gap, led_turn, start}
 use Rattle.zone_format.specs.Refusal.{begins_order_mark, has_no_nul}
-use Rattle.zone_format.specs.Marks.{Mark, Token, Note, Open, Close, Feed, Lead, gap_marks, lead, lead_at, shortened}
+use Rattle.zone_format.specs.Marks.{Mark, Token, Note, Open, Close, Feed, Lead, gap_marks, lead, shortened}
 
 -- a line is empty
 abbrev pub is_start : Turn → Bool
@@ -157,4 +158,4 @@ abbrev pub WritesNote : List ℕ → Progress → Span → List ℕ → List ℕ
 WritesNote octets p span old new q = Advances octets (gap_marks octets p.at span.start ++ (Note (shortened (between octets span.start span.end)) ∷ [])) old p span.end false new q
 
 abbrev pub WritesEnd : List ℕ → Progress → ℕ → List ℕ → List ℕ → Progress → Type 0
-WritesEnd octets p at old new q = Advances octets (gap_marks octets p.at at ++ lead (lead_at octets at)) old p at false new q
+WritesEnd octets p at old new q = Advances octets (gap_marks octets p.at at ++ lead (blank_at octets at)) old p at false new q

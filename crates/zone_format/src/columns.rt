@@ -7,8 +7,10 @@ ghost use Rattle.zone_format.specs.Columns.{after_token, begins_digit, begins_do
 ghost use Rattle.zone_format.specs.Columns.{first_moved, has_second, head_after, is_class};
 ghost use Rattle.zone_format.specs.Columns.{is_numbered_class, later_column, moved_by, moved_in};
 ghost use Rattle.zone_format.specs.Columns.{next_eighth, note_column, parenthesis_column};
-ghost use Rattle.zone_format.specs.Columns.{parted_column, role_of, spells, starts_character};
+ghost use Rattle.zone_format.specs.Columns.{parted_column, role_of, spells};
 ghost use Rattle.zone_format.specs.Columns.{token_column, under, width_of};
+
+use crate::place::begins_character;
 
 /// What a token is that stands before the data of its entry.
 #[derive(Clone, Copy)]
@@ -41,14 +43,6 @@ pub(crate) enum Turn {
     Rest,
 }
 
-/// Whether an octet begins a character: each does but those from 0x80 to 0xBF, which go on with a
-/// character of UTF-8.
-fn starts_character(octet: u8) -> bool
-    ensures { result ≡ starts_character octet }
-{
-    octet < 0x80 || octet >= 0xC0
-}
-
 /// How many characters octets are.
 #[inline(always)]
 pub(crate) fn width(octets: &[u8]) -> usize
@@ -57,7 +51,7 @@ pub(crate) fn width(octets: &[u8]) -> usize
 {
     let mut count = 0;
     for octet in octets {
-        if starts_character(*octet) {
+        if begins_character(*octet) {
             count += 1;
         }
     }

@@ -2,7 +2,8 @@
 ghost use Rattle.std.specs.Prelude.{◌≡◌, ◌==◌, ◌&&◌, ◌+◌, ◌<◌, ◌≤◌, ◌^◌, IfErr, IfOk, IfSome, IsNone};
 ghost use Rattle.std.specs.Prelude.{if◌then◌else◌, length, slice_index, true};
 ghost use Rattle.dns_split.specs.Pieces.{between};
-ghost use Rattle.zone_format.specs.Marks.{lead_at, shortened};
+ghost use Rattle.dns_split.specs.Standing.{blank_at};
+ghost use Rattle.zone_format.specs.Marks.{shortened};
 ghost use Rattle.zone_format.specs.Refusal.{begins_order_mark, has_no_nul, IsWithoutForm, IsUnfit};
 ghost use Rattle.zone_format.specs.Formats.{Formats};
 ghost use Rattle.zone_format.specs.Writing.{accepts, LineFits, is_edge, led, Reaches};
@@ -31,7 +32,7 @@ fn shortened(comment: &[u8]) -> &[u8]
 /// Whether octets begin with a blank from a place on.
 #[inline(always)]
 fn blank_at(octets: &[u8], at: usize) -> bool
-    ensures { result ≡ lead_at octets.now at }
+    ensures { result ≡ blank_at octets.now at }
 {
     match octets.get(at) {
         Some(octet) => is_blank(*octet),

@@ -3,8 +3,9 @@ use Rattle.std.specs.Prelude.{Some, None, Ok}
 use Rattle.std.proofs.lemmas.Result.{err_from_is_err_and}
 use Rattle.dns_split.specs.Pieces.{ReadsOctets, EachWithin, IsGiven}
 use Rattle.dns_split.specs.declared.pieces.Piece.TheVariants.{Word as WordAt, Quote as QuoteAt, Comment as CommentAt, End as EndAt}
+use Rattle.dns_split.specs.Standing.{blank_at}
 use Rattle.zone_format.specs.Blocks.{resting}
-use Rattle.zone_format.specs.Marks.{lead, lead_at, marks}
+use Rattle.zone_format.specs.Marks.{lead, marks}
 use Rattle.zone_format.specs.Writing.{accepts_from, stands_after, written_from}
 use Rattle.zone_format.proofs.Follow.{follow}
 use Rattle.zone_format.proofs.Givens.{all_ok, first_fault, pieces_in, whole_of, fault_of}
@@ -22,8 +23,8 @@ loop-piece-init g c =
       within = within;
       order = follow octets c.into_iter-piece-iterator.result (subst (ReadsOctets octets) (sym same) given.reads) within;
       tokens = λ s e k. k;
-      fits = first_fits c.args.out.now.items c.blank_at.result (lead_at octets 0) c.led_if.result c.stand.result c.args.seam c.stand.ensures c.led_if.ensures c.blank_at.ensures;
-      reaches = first_reaches octets c.blank_at.result (lead_at octets 0) c.led_if.result c.stand.result c.args.seam c.stand.ensures c.led_if.ensures c.blank_at.ensures;
+      fits = first_fits c.args.out.now.items c.blank_at.result (blank_at octets 0) c.led_if.result c.stand.result c.args.seam c.stand.ensures c.led_if.ensures c.blank_at.ensures;
+      reaches = first_reaches octets c.blank_at.result (blank_at octets 0) c.led_if.result c.stand.result c.args.seam c.stand.ensures c.led_if.ensures c.blank_at.ensures;
       stand = refl;
       out = refl;
       accepted = refl;
@@ -89,7 +90,7 @@ returns-clause-well g c =
     let none : first_fault c.into_iter-piece-iterator.result ≡ None = sym inv.fault ∙ ap first_fault over in
     let found = pieces_in c.into_iter-piece-iterator.result in
     let ms = marks octets false 0 found in
-    let b = lead_at octets 0 in
+    let b = blank_at octets 0 in
     let z = resting c.args.seam in
     let p = c.loop-piece.progress in
     let last = marks octets p.is_token p.at in

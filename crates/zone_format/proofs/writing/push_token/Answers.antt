@@ -1,6 +1,6 @@
 use Rattle.std.proofs.Common.{◌≡◌, ◌++◌, sym, ap, ◌∙◌, subst, arith, append_assoc}
 use Rattle.std.proofs.lemmas.List.Sums.{count_by-le-length}
-use Rattle.zone_format.specs.Columns.{starts_character}
+use Rattle.zone_format.specs.Place.{begins_character}
 use Rattle.zone_format.specs.Writing.{LineFits, blanks_before, token_before}
 use Rattle.zone_format.proofs.Fitting.{token_fits}
 use Rattle.zone_format.proofs.writing.push_token.Goals as goal
@@ -19,5 +19,5 @@ returns g c =
     record {
       stand = c.after_token.ensures;
       out = out;
-      fits = subst (LineFits c.extend_from_slice.new.self.items) (sym c.after_token.ensures) (token_fits old s glued x c.extend_from_slice.new.self.items (count_by-le-length starts_character x) c.requires.fits out);
+      fits = subst (LineFits c.extend_from_slice.new.self.items) (sym c.after_token.ensures) (token_fits old s glued x c.extend_from_slice.new.self.items (count_by-le-length begins_character x) c.requires.fits out);
     }
