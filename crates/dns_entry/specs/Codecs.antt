@@ -1,14 +1,13 @@
 -- What the converters make of a token.
-use Rattle.std.specs.Prelude.{ℕ, List, [], ◌∷◌, ◌++◌, ◌≡◌, ◌<◌, ◌≤◌, ◌⊎◌, length, map, Bool, false, Option, Some, None, Result, Ok, Err, MatchResult}
+use Rattle.std.specs.Prelude.{ℕ, List, [], ◌∷◌, ◌++◌, ◌≡◌, ◌<◌, ◌≤◌, ◌⊎◌, length, Bool, false, Option, Some, None, Result, Ok, Err, MatchResult}
 use Rattle.dns_octets.specs.Room.{Room}
 use Rattle.dns_symbol.specs.declared.symbol.Symbol.{Symbol}
 use Rattle.dns_symbol.specs.declared.error.SymbolCharsError.{SymbolCharsError}
-use Rattle.dns_symbol.specs.Symbol.{chars_error_text, char_of}
+use Rattle.dns_symbol.specs.Symbol.{chars_error_text}
 use Rattle.dns_symbol.specs.Text.{SymbolsOf}
 use Rattle.dns_codec.specs.Base.{Base, base16, base32hex, base64, encoded}
 use Rattle.dns_codec.specs.Group.{Group, fresh}
 use Rattle.dns_codec.specs.Converting.{made, convert, convert_tail}
-use Rattle.dns_codec.specs.Grammar.{Decodes}
 use Rattle.dns_symbol.specs.Cause.{Cause, custom_text, short_buf}
 use Rattle.dns_scan.specs.Tokens.{Token}
 
@@ -85,11 +84,3 @@ base32hex_codec = codec_of base32hex
 
 abbrev pub base64_codec : Codec
 base64_codec = codec_of base64
-
--- a token that is a text of the encoding, of that value: its symbols all have a character, nothing else stands in it, and the grammar has their characters
-pub record IsEncodingOf (b : Base) (token : Token) (octets : List ℕ) : Type 0 where
-  pub symbols : List Symbol
-  pub read : SymbolsOf token symbols None
-  pub text : List ℕ
-  pub chars : map char_of symbols ≡ map Ok text
-  pub decodes : Decodes b text octets

@@ -9,13 +9,13 @@ use Rattle.dns_symbol.specs.declared.symbol.Symbol.{Symbol}
 use Rattle.dns_symbol.specs.declared.symbol.Symbol.TheVariants.{Char}
 use Rattle.dns_codec.specs.Base.{Base, encoded}
 use Rattle.dns_codec.specs.Converting.{char_in}
-use Rattle.dns_codec.specs.Grammar.{Decodes}
+use Rattle.dns_codec.specs.Grammar.{Decodes, IsEncodingOf}
 use Rattle.dns_symbol.specs.Cause.{Cause}
 use Rattle.dns_scan.specs.Join.{IsJoin, IsSymbols}
 use Rattle.dns_scan.specs.Octets.{GivesWhere}
 use Rattle.dns_scan.specs.Tokens.{Token}
 use Rattle.dns_scan.proofs.Joined.{whole_join}
-use Rattle.dns_entry.specs.Codecs.{Codec, converted_symbols, AnswersConverted, IsEncodingOf}
+use Rattle.dns_entry.specs.Codecs.{Codec, converted_symbols, AnswersConverted}
 use Rattle.dns_laws.proofs.Converted.{is_plain, plain_read, plain_symbols, encoded_plain}
 use Rattle.dns_laws.proofs.Spelled.{gives_value, gives_only}
 

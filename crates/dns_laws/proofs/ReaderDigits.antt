@@ -14,13 +14,12 @@ use Rattle.dns_symbol.specs.declared.error.BadSymbol.TheVariants.{NonUtf8}
 use Rattle.dns_symbol.proofs.Escapes.{bytes_simple}
 use Rattle.dns_symbol.proofs.Unique.{symbols_same}
 use Rattle.dns_codec.specs.Base.{Base, base16, base32hex, base64, value, IsEncoding}
-use Rattle.dns_codec.specs.Grammar.{HaveValues, Decodes, may_end_after}
+use Rattle.dns_codec.specs.Grammar.{HaveValues, Decodes, may_end_after, IsEncodingOf}
 use Rattle.dns_codec.proofs.Alphabets.{value-past}
 use Rattle.dns_codec.proofs.Each.{once}
 use Rattle.dns_codec.proofs.Wholes.{HaveValues-length, length-whole}
 use Rattle.dns_scan.specs.Join.{IsSymbols}
 use Rattle.dns_scan.specs.Tokens.{Token}
-use Rattle.dns_entry.specs.Codecs.{IsEncodingOf}
 use Rattle.dns_digits.specs.Spelled.{SpellsDigits, opens_group}
 use Rattle.dns_digits.proofs.Spelling.{folding16, folding32, plain_chars as chars_alone, spelled_decodes, whole_spells}
 use Rattle.dns_laws.specs.Readers.{HasNoBackslash}

@@ -11,9 +11,9 @@ use Rattle.dns_charstr.specs.declared.charstr.error.FromStrError.TheVariants.{Pr
 use Rattle.dns_charstr.specs.declared.charstr.error.PresentationError.TheVariants.{BadSymbol}
 use Rattle.dns_codec.specs.Bits.{bits, joined, digits_from_bits, filled, digits, whole}
 use Rattle.dns_codec.specs.Base.{base16, base64, digit_char, value, padded, encoded}
+use Rattle.dns_codec.specs.Grammar.{IsEncodingOf}
 use Rattle.dns_digits.specs.Spelled.{SpellsDigits}
 use Rattle.dns_digits.proofs.Spelling.{spelled_decodes}
-use Rattle.dns_entry.specs.Codecs.{IsEncodingOf}
 use Rattle.dns_fields.specs.Words.{NumberReason}
 use Rattle.dns_kinds.specs.declared.error.KindError.TheVariants.{ExpectedNumber}
 use Rattle.dns_name.specs.Reading.{Names, ReadsAs, ReadsName}

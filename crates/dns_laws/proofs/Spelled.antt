@@ -14,12 +14,12 @@ use Rattle.dns_symbol.proofs.Unique.{symbols_same}
 use Rattle.dns_codec.specs.Base.{Base, encoded, IsEncoding}
 use Rattle.dns_codec.specs.Group.{Group}
 use Rattle.dns_codec.specs.Converting.{char_in, made, convert_char}
-use Rattle.dns_codec.specs.Grammar.{Decodes}
+use Rattle.dns_codec.specs.Grammar.{Decodes, IsEncodingOf}
 use Rattle.dns_codec.proofs.Each.{decodes}
 use Rattle.dns_symbol.specs.Cause.{Cause}
 use Rattle.dns_scan.specs.Octets.{GivesWhere}
 use Rattle.dns_scan.specs.Tokens.{Token}
-use Rattle.dns_entry.specs.Codecs.{Codec, then_made, then_more, converted_symbols, made_of, ConvertsTo, MadeOf, AnswersConverted, IsEncodingOf, codec_of}
+use Rattle.dns_entry.specs.Codecs.{Codec, then_made, then_more, converted_symbols, made_of, ConvertsTo, MadeOf, AnswersConverted, codec_of}
 use Rattle.dns_laws.proofs.Converted.{plain_symbols, is_plain, plain_read, plain_alphabet, encoded_plain}
 
 -- a step that went well, and what followed

@@ -8,11 +8,10 @@ use Rattle.dns_symbol.specs.Text.{SymbolsOf}
 use Rattle.dns_symbol.specs.declared.symbol.Symbol.{Symbol}
 use Rattle.dns_symbol.specs.declared.error.SymbolCharsError.{SymbolCharsError}
 use Rattle.dns_codec.specs.Base.{Base, encoded}
-use Rattle.dns_codec.specs.Grammar.{Decodes}
+use Rattle.dns_codec.specs.Grammar.{Decodes, IsEncodingOf}
 use Rattle.dns_scan.specs.Join.{IsJoin, IsSymbols}
 use Rattle.dns_scan.specs.Octets.{GivesWhere}
 use Rattle.dns_scan.specs.Tokens.{Token}
-use Rattle.dns_entry.specs.Codecs.{IsEncodingOf}
 
 -- a text of the encoding begins with these characters
 abbrev pub BeginsEncoding : Base → List ℕ → Type 0

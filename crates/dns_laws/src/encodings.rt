@@ -3,10 +3,11 @@ ghost use Rattle.std.specs.Prelude.{◌≡◌, ◌↔◌, ℕ, ◌<◌, List, Ok
 ghost use Rattle.std.specs.List.{AllByRecursion};
 ghost use Rattle.dns_octets.specs.Room.{Room, exactly};
 ghost use Rattle.dns_codec.specs.Base.{Base, IsEncoding, base16, base32hex, base64, encoded};
+ghost use Rattle.dns_codec.specs.Grammar.{IsEncodingOf};
 ghost use Rattle.dns_symbol.specs.Cause.{Cause};
 ghost use Rattle.dns_scan.specs.Stands.{TakesOne};
 ghost use Rattle.dns_scan.specs.Tokens.{Token};
-ghost use Rattle.dns_entry.specs.Codecs.{AnswersConverted, ConvertsTo, IsEncodingOf, codec_of};
+ghost use Rattle.dns_entry.specs.Codecs.{AnswersConverted, ConvertsTo, codec_of};
 ghost use Rattle.dns_laws.specs.Encodings.{AnswersEncoding, EncodingBack};
 
 use dns_codec::base::{Base16, Base32Hex, Base64, Encoding};
