@@ -11,7 +11,7 @@ use Rattle.dns_scan.specs.Stands.{HasTokens}
 use Rattle.dns_scan.specs.Tokens.{Token}
 use Rattle.dns_name.specs.Reading.{ReadsAs}
 use Rattle.dns_name.specs.declared.name.UncertainName.TheVariants.{Absolute, Relative}
-use Rattle.dns_entry.specs.Codecs.{IsEncodingOf}
+use Rattle.dns_codec.specs.Grammar.{IsEncodingOf}
 use Rattle.dns_record.specs.Values.{Value, number8, number16, number32, name, hex, base64_octets, string, listed}
 
 -- the token is plain digits of that number, which has at most so many bits; no digit is 0
