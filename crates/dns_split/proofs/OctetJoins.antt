@@ -7,7 +7,7 @@ use Rattle.std.proofs.lemmas.Str.{encodes-append}
 use Rattle.std.proofs.Math.Seq.{take-append-add, drop-append_seam}
 use Rattle.dns_split.specs.declared.pieces.Piece.{Piece}
 use Rattle.dns_split.specs.declared.pieces.Piece.TheVariants.{Word as WordAt, Quote as QuoteAt, Comment as CommentAt, End as EndAt}
-use Rattle.dns_split.specs.Pieces.{word_at, quote_at, comment_at, end_at, IsPieces, IsOctetPieces, moved_piece, place_of}
+use Rattle.dns_split.specs.Pieces.{word_at, quote_at, comment_at, end_at, IsPieces, IsOctetPieces, moved_piece, place_of, piece_start}
 use Rattle.dns_split.proofs.PieceMoved.{mono}
 use Rattle.dns_split.proofs.PieceSettled.{end_of}
 use Rattle.dns_split.proofs.PieceJoins.{further, pieces_go_on}
@@ -38,31 +38,25 @@ module _ (octets : List ℕ) (at : ℕ) (fits : at ≤ length octets) where
   abbrev Back : Piece → Piece → Type 0
   Back p q = (p ≡ moved_piece (λ i. at + i) (moved_piece back p)) × (moved_piece (place_of (drop at octets)) (moved_piece back p) ≡ q)
 
-  abbrev start_of : Piece → ℕ
-  start_of (WordAt p) = p.start
-  start_of (QuoteAt p) = p.start
-  start_of (CommentAt p) = p.start
-  start_of (EndAt p) = p.at
-
   abbrev blank_of : Bool → Piece → Bool
   blank_of b (EndAt p) = p.begins_blank
   blank_of b _ = b
 
   piece_back : (p q : Piece) → moved_piece (place_of octets) p ≡ moved_piece (λ i. place_of octets at + i) q → Back p q
   piece_back (WordAt p) (WordAt q) e =
-      let s = place_back p.start q.start (ap start_of e) in
+      let s = place_back p.start q.start (ap piece_start e) in
       let t = place_back p.end q.end (ap end_of e) in
       (ap (λ i. word_at i p.end) s.0 ∙ ap (λ i. word_at (at + (p.start - at)) i) t.0, ap (λ i. word_at i (place_of (drop at octets) (p.end - at))) s.1 ∙ ap (λ i. word_at q.start i) t.1)
   piece_back (QuoteAt p) (QuoteAt q) e =
-      let s = place_back p.start q.start (ap start_of e) in
+      let s = place_back p.start q.start (ap piece_start e) in
       let t = place_back p.end q.end (ap end_of e) in
       (ap (λ i. quote_at i p.end) s.0 ∙ ap (λ i. quote_at (at + (p.start - at)) i) t.0, ap (λ i. quote_at i (place_of (drop at octets) (p.end - at))) s.1 ∙ ap (λ i. quote_at q.start i) t.1)
   piece_back (CommentAt p) (CommentAt q) e =
-      let s = place_back p.start q.start (ap start_of e) in
+      let s = place_back p.start q.start (ap piece_start e) in
       let t = place_back p.end q.end (ap end_of e) in
       (ap (λ i. comment_at i p.end) s.0 ∙ ap (λ i. comment_at (at + (p.start - at)) i) t.0, ap (λ i. comment_at i (place_of (drop at octets) (p.end - at))) s.1 ∙ ap (λ i. comment_at q.start i) t.1)
   piece_back (EndAt p) (EndAt q) e =
-      let s = place_back p.at q.at (ap start_of e) in
+      let s = place_back p.at q.at (ap piece_start e) in
       (ap (λ i. end_at i p.begins_blank) s.0, ap (λ i. end_at i p.begins_blank) s.1 ∙ ap (end_at q.at) (ap (blank_of p.begins_blank) e))
   piece_back (WordAt p) (QuoteAt q) e = cc
   piece_back (WordAt p) (CommentAt q) e = cc

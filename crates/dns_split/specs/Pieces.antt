@@ -30,6 +30,13 @@ comment_at s e = CommentAt (record { start = s; end = e })
 abbrev pub end_at : ℕ → Bool → Piece
 end_at e b = EndAt (record { at = e; begins_blank = b })
 
+-- where a piece begins, and where the one after an entry's end does
+abbrev pub piece_start : Piece → ℕ
+piece_start (WordAt p) = p.start
+piece_start (QuoteAt p) = p.start
+piece_start (CommentAt p) = p.start
+piece_start (EndAt p) = p.at
+
 -- a blank comes first
 abbrev pub begins_blank : List Lexeme → Bool
 begins_blank (Blank _ ∷ _) = true

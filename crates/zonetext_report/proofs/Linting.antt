@@ -4,11 +4,11 @@ use Rattle.std.specs.Prelude.{Result, Ok}
 use Rattle.dns_split.specs.declared.pieces.Piece.{Piece}
 use Rattle.dns_split.specs.declared.pieces.Piece.TheVariants.{Word as WordAt, Quote as QuoteAt, Comment as CommentAt, End as EndAt}
 use Rattle.dns_split.specs.declared.pieces.Fault.{Fault}
-use Rattle.dns_split.specs.Pieces.{EachWithin, between}
+use Rattle.dns_split.specs.Pieces.{EachWithin, between, piece_start}
 use Rattle.zone_format.proofs.Follow.{Follows}
 use Rattle.zonetext_report.specs.declared.lint.Reached.{Reached}
 use Rattle.zonetext_report.specs.declared.lint.Remark.{Remark}
-use Rattle.zonetext_report.specs.Lint.{Shows, open_after, entry_remarks, next_remarks, piece_end, piece_start}
+use Rattle.zonetext_report.specs.Lint.{Shows, open_after, entry_remarks, next_remarks, piece_end}
 
 pub follows_next : (n : ℕ) (p : Piece) (left : List (Result Piece Fault)) → Follows n (Ok p ∷ left) → (n ≤ piece_start p) × Follows (piece_end p) left
 follows_next n (WordAt p) left h = h

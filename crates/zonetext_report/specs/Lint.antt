@@ -2,7 +2,7 @@
 use Rattle.std.specs.Prelude.{◌≡◌, ℕ, ◌+◌, ◌-◌, ◌==◌, ◌||◌, ◌&&◌, not, nat_lt, nat_le, if◌then◌else◌, Bool, true, false, List, [], ◌∷◌, ◌++◌, length, drop, slice_index, ◌≤◌, Option, Some, None, Result, Ok, Err}
 use Rattle.std.specs.List.{position}
 use Rattle.dns_symbol.specs.Characters.{tab, line_feed, carriage_return, open_parenthesis, close_parenthesis}
-use Rattle.dns_split.specs.Pieces.{IsGiven, between}
+use Rattle.dns_split.specs.Pieces.{IsGiven, between, piece_start}
 use Rattle.dns_split.specs.declared.pieces.Piece.{Piece}
 use Rattle.dns_split.specs.declared.pieces.Piece.TheVariants.{Word as WordAt, Quote as QuoteAt, Comment as CommentAt, End as EndAt}
 use Rattle.dns_split.specs.declared.pieces.Fault.{Fault}
@@ -66,13 +66,7 @@ begins_control_z (c ∷ cs) = c == 26
 abbrev pub control_z : (octets : List ℕ) → (at : ℕ) → List Remark
 control_z octets at = if begins_control_z (drop at octets) then remark at ControlZ ∷ [] else []
 
--- where a piece begins, and where the octets behind it do
-abbrev pub piece_start : Piece → ℕ
-piece_start (WordAt p) = p.start
-piece_start (QuoteAt p) = p.start
-piece_start (CommentAt p) = p.start
-piece_start (EndAt p) = p.at
-
+-- where the octets behind a piece begin
 abbrev pub piece_end : Piece → ℕ
 piece_end (WordAt p) = p.end
 piece_end (QuoteAt p) = p.end

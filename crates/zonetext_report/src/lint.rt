@@ -2,11 +2,11 @@
 ghost use Rattle.std.specs.Prelude.{◌≡◌, ◌+◌, ◌++◌, ◌<◌, ◌≤◌, ◌^◌, IfOk, IfSome, OnOk, length, true, false, Ok};
 ghost use Rattle.std.specs.List.{position};
 ghost use Rattle.std.specs.Option.{ForSome};
-ghost use Rattle.dns_split.specs.Pieces.{IsWithin};
+ghost use Rattle.dns_split.specs.Pieces.{IsWithin, piece_start};
 ghost use Rattle.zone_format.specs.Refusal.{begins_order_mark};
 ghost use Rattle.zonetext_report.specs.Lint.{control_z, open_after, depth_by, is_high, is_nul};
 ghost use Rattle.zonetext_report.specs.Lint.{is_quoted_control, is_return, nested_remarks, opens_inside, piece_end};
-ghost use Rattle.zonetext_report.specs.Lint.{piece_remarks, piece_start, remarks_at, token_remarks};
+ghost use Rattle.zonetext_report.specs.Lint.{piece_remarks, remarks_at, token_remarks};
 ghost use Rattle.zonetext_report.specs.Lint.{Shows, ShowsBlock, ShowsPieces, unended};
 
 use crate::code::Code;
