@@ -39,6 +39,10 @@ MultilinePasses most past newline = ⊥
 abbrev pub MultilineFails : {W : Type 0} → Type 0 → ℕ → MultiLineWriter W → Step → Type 0
 MultilineFails refused most = FailsStep MultilineStands refused (MultilinePasses most)
 
+-- so many more bytes make the count of the line pass `most`
+abbrev pub LinePasses : {W : Type 0} → ℕ → MultiLineWriter W → ℕ → Type 0
+LinePasses most w more = (n : ℕ) → w.line.column ≡ Some n → most < n + more
+
 -- bytes that a writer is given directly: they are counted, and are no step
 pub record WritesLine {W : Type 0} (took : W → List ℕ → W → Type 0) (w : MultiLineWriter W) (bs : List ℕ) (v : MultiLineWriter W) : Type 0 where
   pub first : v.first ≡ w.first

@@ -1,9 +1,9 @@
 //! The multiline layout.
-ghost use Rattle.std.specs.Prelude.{◌≡◌, ◌<◌, ℕ, List, [], ◌∷◌, false, IsOk, OnOk, OnErr, IfSome, replicate};
+ghost use Rattle.std.specs.Prelude.{◌≡◌, ◌<◌, ◌⊎◌, ℕ, length, List, [], ◌∷◌, false, IsOk, OnOk, OnErr, IfSome, replicate};
 ghost use Rattle.std.specs.Fmt.{WritesInCalls};
 ghost use Rattle.dns_symbol.specs.Characters.{space};
 ghost use Rattle.dns_zone.specs.Layout.{Step, begin, comment, is_shown, line_width};
-ghost use Rattle.dns_zone.specs.Multiline.{MultilineStands, MultilineStep, IndentFits, MultilineFails, WritesLine, multiline_sink, multiline_blocks};
+ghost use Rattle.dns_zone.specs.Multiline.{MultilineStands, MultilineStep, IndentFits, LinePasses, MultilineFails, WritesLine, multiline_sink, multiline_blocks};
 ghost use Rattle.dns_zone.specs.Sinks.{greatest_usize};
 ghost use Rattle.dns_zone.specs.Writers.{WritesStep};
 
@@ -67,11 +67,15 @@ impl<W> MultiLineWriter<W> {
     }
 }
 
-impl<W: fmt::Write> Write for MultiLineWriter<W> {
+/// Refused only where the sink refuses, or a count would pass the greatest `usize`.
+impl<W: Sink> Write for MultiLineWriter<W> {
     ghost write_str_gives = { WritesLine W.write_str_gives };
 
-    fn write_str(&mut self, s: &str) -> fmt::Result {
-        self.line.put_counted(s)?;
+    fn write_str(&mut self, s: &str) -> fmt::Result
+        ensures ok { IsOk result → WritesLine W.write_str_gives self.old s.now self.new }
+        ensures err { OnErr result (W.refused ⊎ LinePasses greatest_usize self.old (length s.now)) }
+    {
+        self.line.write_str(s)?;
         match self.line.column {
             Some(_) => Ok(()),
             None => Err(fmt::Error),
@@ -102,10 +106,10 @@ impl<W: Sink> FormatWriter for MultiLineWriter<W> {
 
     fn fmt_token<T: Display + Drop>(&mut self, text: T) -> Result {
         if !self.first {
-            self.line.put_counted(SPACE)?;
+            self.line.write_str(SPACE)?;
         }
         self.first = false;
-        W::put_on_line(&mut self.line, text)?;
+        W::print(&mut self.line, text)?;
         match self.line.column {
             Some(_) => Ok(()),
             None => Err(Error),
@@ -145,7 +149,7 @@ impl<W: Sink> FormatWriter for MultiLineWriter<W> {
     {
         if let Some(indent) = self.block_indent {
             self.line.writer.put_str(COMMENT_MARK)?;
-            self.line.writer.put(text)?;
+            W::print(&mut self.line.writer, text)?;
             self.line.writer.put_str(LINE_FEED)?;
             write_spaces(&mut self.line.writer, indent)?;
             self.line.column = Some(indent);

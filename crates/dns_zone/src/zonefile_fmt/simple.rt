@@ -53,7 +53,7 @@ impl<W: Sink> FormatWriter for SimpleWriter<W> {
             self.writer.put_str(SPACE)?;
         }
         self.first = false;
-        self.writer.put(text)?;
+        W::print(&mut self.writer, text)?;
         Ok(())
     }
 

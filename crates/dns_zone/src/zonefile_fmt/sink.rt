@@ -1,5 +1,5 @@
 //! What the writers print on: sinks, and lines over sinks.
-ghost use Rattle.std.specs.Prelude.{ℕ, ◌+◌, ⊤, OnOk, OnErr};
+ghost use Rattle.std.specs.Prelude.{ℕ, ◌+◌, ⊤, IsOk, OnOk, OnErr};
 ghost use Rattle.std.specs.Fmt.{WritesText};
 ghost use Rattle.dns_zone.specs.Sinks.{Counts, CountsTo, greatest_usize};
 
@@ -8,8 +8,8 @@ use std::fmt::{Display, Write};
 
 /// What a writer prints on. Every `fmt::Write` is one.
 ///
-/// The contracts of the writers are proved over any sink. So where a step fails and no count would
-/// pass the greatest `usize`, the sink has refused.
+/// The contracts of the writers and of [`Line`] are proved over any sink. So where a step fails and
+/// no count would pass the greatest `usize`, the sink has refused.
 pub trait Sink: Write + Sized {
     /// What holds once a call has failed: the sink has refused, or the `Display` of what it was to
     /// print.
@@ -20,14 +20,9 @@ pub trait Sink: Write + Sized {
         ensures ok { OnOk result (Self.write_str_gives self.old text.now self.new) }
         ensures err { OnErr result refused };
 
-    /// Prints a value.
-    fn put<T: Display + Drop>(&mut self, value: T) -> fmt::Result
-        ensures ok { OnOk result (WritesText Self.write_str_gives self.old (T.output value) self.new) }
-        ensures err { OnErr result refused };
-
-    /// Prints a value on a line over a sink.
-    fn put_on_line<T: Display + Drop>(line: &mut Line<Self>, value: T) -> fmt::Result
-        ensures ok { OnOk result (WritesText (Counts greatest_usize Self.write_str_gives) line.old (T.output value) line.new) }
+    /// Prints a value on what writes to such a sink: on the sink itself, or on a [`Line`] over it.
+    fn print<V: Write, T: Display + Drop>(writer: &mut V, value: T) -> fmt::Result
+        ensures ok { OnOk result (WritesText V.write_str_gives writer.old (T.output value) writer.new) }
         ensures err { OnErr result refused };
 }
 
@@ -38,12 +33,8 @@ impl<W: Write> Sink for W {
         self.write_str(text)
     }
 
-    fn put<T: Display + Drop>(&mut self, value: T) -> fmt::Result {
-        self.write(value)
-    }
-
-    fn put_on_line<T: Display + Drop>(line: &mut Line<W>, value: T) -> fmt::Result {
-        line.write(value)
+    fn print<V: Write, T: Display + Drop>(writer: &mut V, value: T) -> fmt::Result {
+        writer.write(value)
     }
 }
 
@@ -55,23 +46,15 @@ pub struct Line<W> {
     pub(super) writer: W,
 }
 
-impl<W: Sink> Line<W> {
-    /// Writes a text, and counts it.
-    pub(super) fn put_counted(&mut self, text: &str) -> fmt::Result
-        ensures ok { OnOk result (Counts greatest_usize W.write_str_gives self.old text.now self.new) }
-        ensures err { OnErr result W.refused }
-    {
-        self.writer.put_str(text)?;
-        self.column = count_on(self.column, text.len());
-        Ok(())
-    }
-}
-
-impl<W: Write> Write for Line<W> {
+/// Writes a text, and counts it. Refused only where the sink refuses, whatever the count is.
+impl<W: Sink> Write for Line<W> {
     ghost write_str_gives = { Counts greatest_usize W.write_str_gives };
 
-    fn write_str(&mut self, s: &str) -> fmt::Result {
-        self.writer.write_str(s)?;
+    fn write_str(&mut self, s: &str) -> fmt::Result
+        ensures ok { IsOk result → Counts greatest_usize W.write_str_gives self.old s.now self.new }
+        ensures err { OnErr result W.refused }
+    {
+        self.writer.put_str(s)?;
         self.column = count_on(self.column, s.len());
         Ok(())
     }

@@ -67,7 +67,7 @@ impl<W: Sink> FormatWriter for TabbedWriter<W> {
         }
         self.first = false;
         self.first_block = false;
-        self.writer.put(text)?;
+        W::print(&mut self.writer, text)?;
         Ok(())
     }
 

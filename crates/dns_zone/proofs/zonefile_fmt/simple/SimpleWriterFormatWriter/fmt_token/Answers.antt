@@ -11,4 +11,4 @@ returns-clause-gives g c =
       | then-not-self+in_ok-put_str w ↦ rw w.self-is (record { blocks = refl; wrote = rw w.if-not-self.true (writes_in_calls_single _ _ _ _ (w.in_ok-put_str.ensures.ok)) })
       | else-not-self w ↦ rw w.self-is (record { blocks = refl; wrote = rw w.if-not-self.false (writes_in_calls_nil _ _) })
     ] in
-    if_some_weaken (g.T.Display.output c.args.text) _ _ (λ bs p. simple_token _ c.args.self.now c.if-not-self.self _ bs space p) c.in_ok-put.ensures.ok
+    if_some_weaken (g.T.Display.output c.args.text) _ _ (λ bs p. simple_token _ c.args.self.now c.if-not-self.self _ bs space p) c.in_ok-print.ensures.ok

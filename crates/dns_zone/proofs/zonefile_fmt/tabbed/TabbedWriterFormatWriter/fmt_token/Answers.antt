@@ -12,4 +12,4 @@ returns-clause-gives g c =
           (record { blocks = refl; wrote = rw w.if-not-self.true (rw (← w.open.ensures, ← w.gap.ensures) (writes_in_calls_single _ _ _ _ (w.in_ok-put_str.ensures.ok))) })
       | else-not-self w ↦ rw w.self-is (record { blocks = refl; wrote = rw w.if-not-self.false (writes_in_calls_nil _ _) })
     ] in
-    if_some_weaken (g.T.Display.output c.args.text) _ _ (λ bs p. tabbed_token _ c.args.self.now c.if-not-self.self _ bs gap p) c.in_ok-put.ensures.ok
+    if_some_weaken (g.T.Display.output c.args.text) _ _ (λ bs p. tabbed_token _ c.args.self.now c.if-not-self.self _ bs gap p) c.in_ok-print.ensures.ok
