@@ -359,7 +359,7 @@ def params(row):
     if what == "read":
         (text,) = row.inputs
         # Errors in a missing or wrong value have an offset inside the token.
-        is_value = text.endswith(b"=") or row.wanted.startswith(b"!wrong value")
+        is_value = text.endswith(b"=") or row.wanted.startswith((b"!wrong value", b"!mandatory names"))
         place = 4 if row.is_refused and is_word(text) and not is_value else None
         return tail_token(row, "SVCB", lead, b"1 . " + text, "parameter", place)
     if what == "print":

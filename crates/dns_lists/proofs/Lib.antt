@@ -16,5 +16,6 @@ pub mod InOrder
 pub mod Checking
 pub mod Items
 pub mod Printing
-pub mod Queries
 pub mod ListFaults
+pub mod Marks
+pub mod Templates

@@ -10,7 +10,7 @@ use Rattle.std.proofs.lemmas.Bool.{cases_lt, le-ltb, lt-ltb, eq-eqb, ne_eqb}
 use Rattle.std.proofs.lemmas.Nat.{from_be_bytes-to_be_bytes_2}
 use Rattle.dns_lists.specs.Params.{param, params_wire, value_at, param_first, param_list, params_of, BeginsNoParam, HasAscendingKeys, HasFittingValues, IsParams, IsNoParams, IsCutOff, StandsOutOfOrder}
 use Rattle.dns_lists.specs.Values.{IsParamValue}
-use Rattle.dns_lists.specs.ParamsFaults.{IsRight, IsFirstWrong}
+use Rattle.dns_lists.specs.ParamsFaults.{IsRight, IsFirstWrongParam}
 use Rattle.dns_lists.proofs.Entries.{keys_skipped}
 use Rattle.dns_lists.proofs.Reading.{ReadsParams, params_none, params_more, params_all, no_key_order, no_param, param_length, split_param, in_order}
 
@@ -194,14 +194,14 @@ right_more all params rest after v k (front, each, is) e lk lv right = (
 )
 
 pub wrong_here : (params : List (ℕ × List ℕ)) (rest after v : List ℕ) (k : ℕ) → RightSoFar params params rest → rest ≡ param k v ++ after → k < 65536 → length v < 65536
-    → (IsParamValue params k v → ⊥) → IsFirstWrong k params
-wrong_here params rest after v k (front, each, is) e lk lv wrong = (front, params_of after, v, is ∙ ap (λ ps. front ++ ps) (next_is rest after v k e lk lv), each, wrong)
+    → (IsParamValue params k v → ⊥) → IsFirstWrongParam k v params
+wrong_here params rest after v k (front, each, is) e lk lv wrong = (front, params_of after, is ∙ ap (λ ps. front ++ ps) (next_is rest after v k e lk lv), each, wrong)
 
 pub all_right : (all params : List (ℕ × List ℕ)) (rest : List ℕ) → RightSoFar all params rest → params_of rest ≡ [] → All (IsRight all) params
 all_right all params rest (front, each, is) e = All-same (IsRight all) params front (is ∙ ap (λ ps. front ++ ps) e ∙ append-nil front) each
 
-pub not_right : (key : ℕ) (params : List (ℕ × List ℕ)) → IsFirstWrong key params → All (IsRight params) params → ⊥
-not_right key params (front, back, value, is, each, wrong) right =
+pub not_right : (key : ℕ) (value : List ℕ) (params : List (ℕ × List ℕ)) → IsFirstWrongParam key value params → All (IsRight params) params → ⊥
+not_right key value params (front, back, is, each, wrong) right =
     let P : List (ℕ × List ℕ) → Type 0 = λ ps. All (IsRight params) ps in
     let there = subst P is right in
     wrong (All-head (IsRight params) (key, value) back (λ k d l.

@@ -7,3 +7,4 @@ pub mod TextFaults
 pub mod ParamsFaults
 pub mod Left
 pub mod Members
+pub mod Template

@@ -1,5 +1,5 @@
 -- A set of types as the bits of 8192 octets.
-use Rattle.std.specs.Prelude.{◌≡◌, ◌≢◌, ℕ, ◌+◌, ◌*◌, ◌%◌, ◌<◌, ◌≤◌, true, false, List}
+use Rattle.std.specs.Prelude.{◌≡◌, ◌≢◌, ℕ, ◌+◌, ◌*◌, ◌%◌, ◌<◌, ◌≤◌, true, List}
 use Rattle.dns_lists.specs.Bitmap.{bit_in, has, set_places}
 
 -- the codes whose bits are set

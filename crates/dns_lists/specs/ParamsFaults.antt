@@ -1,9 +1,10 @@
 -- Why octets are no service parameters, and why one can't be added.
-use Rattle.std.specs.Prelude.{◌≡◌, ℕ, ◌+◌, ◌-◌, ◌<◌, ◌≤◌, All, None, IsSome, List, [], ◌∷◌, ◌++◌, length, take, drop, Result, Ok, Err}
+use Rattle.std.specs.Prelude.{◌≡◌, ◌==◌, if◌then◌else◌, ℕ, ◌+◌, ◌-◌, ◌<◌, ◌≤◌, All, None, IsSome, List, [], ◌∷◌, ◌++◌, length, take, drop, Result, Ok, Err}
+use Rattle.std.specs.Option.{option_map_or}
 use Rattle.dns_lists.specs.Params.{value_at, params_from, params_wire, params_of, IsParams, IsNoParams, IsCutOff, StandsOutOfOrder}
-use Rattle.dns_lists.specs.Values.{IsParamValue}
+use Rattle.dns_lists.specs.Values.{IsParamValue, first_missing}
 use Rattle.dns_lists.specs.declared.params.ParamsFault.{ParamsFault}
-use Rattle.dns_lists.specs.declared.params.ParamsFault.TheVariants.{Short, Order, Value}
+use Rattle.dns_lists.specs.declared.params.ParamsFault.TheVariants.{Short, Order, Value, Missing}
 use Rattle.dns_lists.specs.declared.params.SettleError.{SettleError}
 use Rattle.dns_lists.specs.declared.params.SettleError.TheVariants.{Long, Repeated}
 
@@ -12,14 +13,27 @@ abbrev pub IsFormFault : ParamsFault → List ℕ → Type 0
 IsFormFault Short octets = IsNoParams octets × IsCutOff octets
 IsFormFault (Order key) octets = IsNoParams octets × StandsOutOfOrder key octets
 IsFormFault (Value key) octets = ⊥
+IsFormFault (Missing key) octets = ⊥
 
 -- a value that is right beside these parameters
 abbrev pub IsRight : List (ℕ × List ℕ) → ℕ × List ℕ → Type 0
 IsRight params p = IsParamValue params p.0 p.1
 
--- the first of the parameters whose value is wrong has this key
+-- the first of the parameters whose value is wrong has this key and value
+abbrev pub IsFirstWrongParam : ℕ → List ℕ → List (ℕ × List ℕ) → Type 0
+IsFirstWrongParam key value params = (front back : List (ℕ × List ℕ)) × (params ≡ front ++ (key, value) ∷ back) × All (IsRight params) front × ¬ IsParamValue params key value
+
 abbrev pub IsFirstWrong : ℕ → List (ℕ × List ℕ) → Type 0
-IsFirstWrong key params = (front back : List (ℕ × List ℕ)) × (value : List ℕ) × (params ≡ front ++ (key, value) ∷ back) × All (IsRight params) front × ¬ IsParamValue params key value
+IsFirstWrong key params = (value : List ℕ) × IsFirstWrongParam key value params
+
+-- what is wrong with a value: that of `mandatory` lists a key that is missing, of several the first; or anything else
+abbrev pub value_fault : List (ℕ × List ℕ) → ℕ → List ℕ → ParamsFault
+value_fault params key value = if key == 0 then option_map_or (λ missing. Missing missing) (first_missing params value) (Value 0) else Value key
+
+-- octets are parameters, of which the first wrong one has this fault
+abbrev pub HasValueFault : ParamsFault → List ℕ → Type 0
+HasValueFault fault octets =
+    IsParams octets × ((key : ℕ) × (value : List ℕ) × IsFirstWrongParam key value (params_of octets) × (fault ≡ value_fault (params_of octets) key value))
 
 -- octets that are parameters, with right values
 abbrev pub AreRightParams : List ℕ → Type 0
@@ -29,7 +43,8 @@ AreRightParams octets = IsParams octets × All (IsRight (params_of octets)) (par
 abbrev pub IsParamsFault : ParamsFault → List ℕ → Type 0
 IsParamsFault Short octets = IsNoParams octets × IsCutOff octets
 IsParamsFault (Order key) octets = IsNoParams octets × StandsOutOfOrder key octets
-IsParamsFault (Value key) octets = IsParams octets × IsFirstWrong key (params_of octets)
+IsParamsFault (Value key) octets = HasValueFault (Value key) octets
+IsParamsFault (Missing key) octets = HasValueFault (Missing key) octets
 
 -- where a key would stand among parameters, if it is not there
 abbrev pub FindsPlace : List (ℕ × List ℕ) → ℕ → List ℕ → Result ℕ SettleError → Type 0

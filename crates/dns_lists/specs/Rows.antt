@@ -1,8 +1,11 @@
 -- Worked rows of the definitions, each computed.
-use Rattle.std.specs.Prelude.{◌≡◌, [], ◌∷◌, ◌++◌, codes, refl}
+use Rattle.std.specs.Prelude.{◌≡◌, true, false, Some, [], ◌∷◌, ◌++◌, codes, refl}
+use Rattle.std.specs.List.{list_all, list_any}
 use Rattle.dns_lists.specs.Bitmap.{types_octet, window_octets_of, trimmed, window_block, set_places, block_types, types_of}
 use Rattle.dns_lists.specs.Params.{param, param_list, params_of}
+use Rattle.dns_lists.specs.Template.{are_variable_octets, begins_expression, begins_query, behind_braces}
 use Rattle.dns_lists.specs.Texts.{item_octet, list_text, wire_strings}
+use Rattle.dns_lists.specs.Values.{first_missing}
 
 -- the example of RFC 4034 section 4.3: A, MX, RRSIG and NSEC in the first window, TYPE1234 in the
 -- fifth
@@ -41,3 +44,42 @@ list = refl
 
 strings : wire_strings (codes "h2" ∷ codes "h3-19" ∷ []) ≡ 2 ∷ codes "h2" ++ (5 ∷ codes "h3-19")
 strings = refl
+
+-- templates: the grammar of RFC 6570 section 2, and the variable of RFC 9461 section 5
+template : list_all begins_expression (behind_braces (codes "/q}{?d%6es,dns:9999}{x.y_1*}")) ≡ true
+unfolding are_variable_octets
+template = refl
+
+query : list_any begins_query (behind_braces (codes "/q{x}{&a,dns:3}")) ≡ true
+query = refl
+
+no_query : list_any begins_query (behind_braces (codes "/dns{?dn%73,dns.x,Dns}")) ≡ false
+no_query = refl
+
+inside : list_all begins_expression (behind_braces (codes "/{a{?dns}")) ≡ false
+unfolding are_variable_octets
+inside = refl
+
+operator : list_all begins_expression (behind_braces (codes "/q{=dns}")) ≡ false
+unfolding are_variable_octets
+operator = refl
+
+zero : list_all begins_expression (behind_braces (codes "/q{?dns:03}")) ≡ false
+unfolding are_variable_octets
+zero = refl
+
+five_digits : list_all begins_expression (behind_braces (codes "/q{?dns:10000}")) ≡ false
+unfolding are_variable_octets
+five_digits = refl
+
+no_variable : list_all begins_expression (behind_braces (codes "/q{}{?dns}")) ≡ false
+unfolding are_variable_octets
+no_variable = refl
+
+two_dots : list_all begins_expression (behind_braces (codes "/q{?a..b,dns}")) ≡ false
+unfolding are_variable_octets
+two_dots = refl
+
+-- alpn is there, port is not
+missing : first_missing ((1, 2 ∷ codes "h2") ∷ []) (0 ∷ 1 ∷ 0 ∷ 3 ∷ []) ≡ Some 3
+missing = refl

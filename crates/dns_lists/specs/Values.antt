@@ -1,7 +1,8 @@
--- What a value of a service parameter has to be (RFC 9460 sections 7 and 8).
-use Rattle.std.specs.Prelude.{◌≡◌, ◌≢◌, ℕ, ◌+◌, ◌*◌, ◌%◌, ◌<◌, List, [], ◌∷◌, ◌++◌, length, codes, All, IsSome}
+-- What a value of a service parameter has to be (RFC 9460 sections 7 and 8, RFC 9461 section 5).
+use Rattle.std.specs.Prelude.{◌≡◌, ◌≢◌, ℕ, ◌+◌, ◌*◌, ◌%◌, ◌<◌, if◌then◌else◌, Option, Some, None, is_some, List, [], ◌∷◌, length, All, IsSome}
 use Rattle.std.specs.List.{flat_map}
 use Rattle.dns_lists.specs.Params.{value_at}
+use Rattle.dns_lists.specs.Template.{IsQueryPath}
 
 -- strings of 1 to 255 octets, each behind its length
 abbrev pub AreWireStrings : List ℕ → Type 0
@@ -17,9 +18,11 @@ AreKeys params above (high ∷ low ∷ octets) = (above < 256 * high + low) × I
 abbrev pub AreGroups : ℕ → List ℕ → Type 0
 AreGroups size octets = (0 < length octets) × (length octets % size ≡ 0)
 
--- octets in which the variable of a query stands (RFC 9461 section 5)
-abbrev pub HoldsQuery : List ℕ → Type 0
-HoldsQuery octets = (front back : List ℕ) × (octets ≡ front ++ codes "{?dns}" ++ back)
+-- of the keys that octets list, the first that no parameter has
+abbrev pub first_missing : List (ℕ × List ℕ) → List ℕ → Option ℕ
+first_missing params (high ∷ low ∷ octets) = if is_some (value_at params (256 * high + low)) then first_missing params octets else Some (256 * high + low)
+first_missing params (high ∷ []) = None
+first_missing params [] = None
 
 -- what the value of a key has to be, beside the other parameters
 pub record IsParamValue (params : List (ℕ × List ℕ)) (key : ℕ) (value : List ℕ) : Type 0 where
@@ -30,4 +33,4 @@ pub record IsParamValue (params : List (ℕ × List ℕ)) (key : ℕ) (value : L
   pub ipv4hint : key ≡ 4 → AreGroups 4 value
   pub ech : key ≡ 5 → value ≢ []
   pub ipv6hint : key ≡ 6 → AreGroups 16 value
-  pub dohpath : key ≡ 7 → HoldsQuery value
+  pub dohpath : key ≡ 7 → IsQueryPath value

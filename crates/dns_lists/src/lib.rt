@@ -5,6 +5,7 @@
 pub mod bitmap;
 pub mod laws;
 pub mod params;
+mod template;
 pub mod texts;
 pub mod type_set;
 pub mod values;

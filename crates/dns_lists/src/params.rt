@@ -28,6 +28,9 @@ pub enum ParamsFault {
     /// The value of this key is not what it has to be.
     #[error("key {0} of a service parameter has a wrong value")]
     Value(u16),
+    /// The value of `mandatory` lists this key, which no parameter has.
+    #[error("mandatory names key {0}, which is missing")]
+    Missing(u16),
 }
 
 /// Why a parameter can't be added to others.

@@ -1,10 +1,11 @@
 //! The values of service parameters (RFC 9460 sections 7 and 8, RFC 9461 section 5).
 ghost use Rattle.std.specs.Prelude.{◌≡◌, ◌≢◌, ℕ, [], MatchBool, MatchOption, All, IfErr, OnOk, is_some, length};
 ghost use Rattle.dns_lists.specs.Params.{params_of, value_at};
-ghost use Rattle.dns_lists.specs.ParamsFaults.{IsRight, IsFirstWrong, AreRightParams, IsParamsFault};
-ghost use Rattle.dns_lists.specs.Values.{AreWireStrings, AreKeys, AreGroups, HoldsQuery, IsParamValue};
+ghost use Rattle.dns_lists.specs.ParamsFaults.{IsRight, IsFirstWrong, IsFirstWrongParam, AreRightParams, IsParamsFault, value_fault};
+ghost use Rattle.dns_lists.specs.Values.{AreWireStrings, AreKeys, AreGroups, IsParamValue, first_missing};
 
-use crate::params::{ParamsFault, check_form, first_param};
+use crate::params::{Param, ParamsFault, check_form, first_param};
+use crate::template::is_query_path;
 
 pub const MANDATORY: u16 = 0;
 
@@ -80,20 +81,6 @@ fn are_keys(params: &[u8], octets: &[u8]) -> bool
     true
 }
 
-/// Whether octets hold the variable of a query, as a template has to (RFC 9461 section 5).
-fn holds_query(octets: &[u8]) -> bool
-    ensures { MatchBool result (HoldsQuery octets.now) (¬ HoldsQuery octets.now) }
-{
-    let mut rest = octets;
-    while !rest.is_empty() {
-        if rest.starts_with(b"{?dns}") {
-            return true;
-        }
-        rest = &rest[1..];
-    }
-    false
-}
-
 /// Whether the value of a key is what it has to be.
 fn is_value(params: &[u8], key: u16, value: &[u8]) -> bool
     ensures { MatchBool result (IsParamValue (params_of params.now) key value.now) (¬ IsParamValue (params_of params.now) key value.now) }
@@ -106,23 +93,61 @@ fn is_value(params: &[u8], key: u16, value: &[u8]) -> bool
         IPV4HINT => are_groups(value, 4),
         ECH => !value.is_empty(),
         IPV6HINT => are_groups(value, 16),
-        DOHPATH => holds_query(value),
+        DOHPATH => is_query_path(value),
         _ => true,
     }
+}
+
+/// Of octets that are parameters, the first whose value is not what it has to be.
+fn first_wrong(params: &[u8]) -> Option<Param<'_>>
+    ensures { MatchOption result (All (IsRight (params_of params.now)) (params_of params.now)) (λ p. IsFirstWrongParam p.key p.value.now (params_of params.now)) }
+{
+    let mut rest = params;
+    while let Some(front) = first_param(rest) {
+        if !is_value(params, front.param.key, front.param.value) {
+            return Some(front.param);
+        }
+        rest = front.rest;
+    }
+    None
 }
 
 /// Of octets that are parameters, the first key whose value is not what it has to be.
 pub fn wrong_value(params: &[u8]) -> Option<u16>
     ensures { MatchOption result (All (IsRight (params_of params.now)) (params_of params.now)) (λ key. IsFirstWrong key (params_of params.now)) }
 {
-    let mut rest = params;
-    while let Some(front) = first_param(rest) {
-        if !is_value(params, front.param.key, front.param.value) {
-            return Some(front.param.key);
+    match first_wrong(params) {
+        Some(param) => Some(param.key),
+        None => None,
+    }
+}
+
+/// Of the keys that octets list, the first that none of the parameters has.
+fn first_missing(params: &[u8], octets: &[u8]) -> Option<u16>
+    ensures { result ≡ first_missing (params_of params.now) octets.now }
+{
+    let mut rest = octets;
+    while rest.len() > 1 {
+        let key = 256 * u16::from(rest[0]) + u16::from(rest[1]);
+        if !has_value(params, key) {
+            return Some(key);
         }
-        rest = front.rest;
+        rest = &rest[2..];
     }
     None
+}
+
+/// What is wrong with the value of a key.
+fn value_fault(params: &[u8], key: u16, value: &[u8]) -> ParamsFault
+    ensures { result ≡ value_fault (params_of params.now) key value.now }
+{
+    if key != MANDATORY {
+        return ParamsFault::Value(key);
+    }
+    match first_missing(params, value) {
+        Some(missing) => ParamsFault::Missing(missing),
+        None => ParamsFault::Value(MANDATORY),
+    }
 }
 
 /// Says whether octets are the wire form of parameters, each of whose values is what its key asks
@@ -133,8 +158,8 @@ pub fn check_params(octets: &[u8]) -> Result<(), ParamsFault>
     ensures err { IfErr result (λ _. ¬ AreRightParams octets.now) }
 {
     check_form(octets)?;
-    match wrong_value(octets) {
+    match first_wrong(octets) {
         None => Ok(()),
-        Some(key) => Err(ParamsFault::Value(key)),
+        Some(wrong) => Err(value_fault(octets, wrong.key, wrong.value)),
     }
 }

@@ -1,5 +1,5 @@
 -- Why service parameters are refused.
-use Rattle.std.specs.Prelude.{ℕ, List, codes}
+use Rattle.std.specs.Prelude.{ℕ, ◌==◌, if◌then◌else◌, List, codes}
 use Rattle.dns_kinds.specs.KindError.{kind_error_text}
 use Rattle.dns_digits.specs.DigitsError.{digits_error_text}
 use Rattle.dns_digits.specs.declared.error.DigitsError.{DigitsError}
@@ -10,7 +10,7 @@ use Rattle.dns_spelling.specs.declared.error.SpellingError.TheVariants.{BadEscap
 use Rattle.dns_lists.specs.declared.texts.ListError.{ListError}
 use Rattle.dns_lists.specs.declared.texts.ListError.TheVariants.{Length, Escape, ShortBuf as NoListRoom}
 use Rattle.dns_lists.specs.declared.params.ParamsFault.{ParamsFault}
-use Rattle.dns_lists.specs.declared.params.ParamsFault.TheVariants.{Short, Order, Value}
+use Rattle.dns_lists.specs.declared.params.ParamsFault.TheVariants.{Short, Order, Value, Missing}
 use Rattle.dns_lists.specs.declared.params.SettleError.{SettleError}
 use Rattle.dns_lists.specs.declared.params.SettleError.TheVariants.{Long, Repeated}
 use Rattle.dns_params.specs.declared.error.ParamError.{ParamError}
@@ -53,10 +53,19 @@ list_error_text Length = codes "string of a list without 1 to 255 octets"
 list_error_text Escape = codes "illegal escape in a list"
 list_error_text NoListRoom = codes "buffer size exceeded"
 
+-- a key that the value of `mandatory` lists, and that is missing
+abbrev pub missing_key_text : ℕ → List ℕ
+missing_key_text key =
+    if key == 1 then codes "mandatory names alpn, which is missing" else (if key == 2 then codes "mandatory names no-default-alpn, which is missing" else (
+    if key == 3 then codes "mandatory names port, which is missing" else (if key == 4 then codes "mandatory names ipv4hint, which is missing" else (
+    if key == 5 then codes "mandatory names ech, which is missing" else (if key == 6 then codes "mandatory names ipv6hint, which is missing" else (
+    if key == 7 then codes "mandatory names dohpath, which is missing" else (if key == 8 then codes "mandatory names ohttp, which is missing" else codes "mandatory names a key that is missing")))))))
+
 abbrev pub params_fault_text : ParamsFault → List ℕ
 params_fault_text Short = codes "service parameters are cut off"
 params_fault_text (Order key) = codes "service parameter out of order"
 params_fault_text (Value key) = codes "wrong value of a service parameter"
+params_fault_text (Missing key) = missing_key_text key
 
 abbrev pub param_error_text : ParamError → List ℕ
 param_error_text ShortBuf = codes "buffer size exceeded"

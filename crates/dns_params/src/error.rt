@@ -1,6 +1,6 @@
 //! Why service parameters are refused.
 ghost use Rattle.std.specs.Prelude.{◌≡◌, Some};
-ghost use Rattle.dns_params.specs.ParamError.{param_error_text, list_error_text, params_fault_text, of_value_digits, of_list, of_spelled, of_settled};
+ghost use Rattle.dns_params.specs.ParamError.{param_error_text, list_error_text, missing_key_text, params_fault_text, of_value_digits, of_list, of_spelled, of_settled};
 ghost use Rattle.dns_params.specs.declared.error.ParamError.TheVariants.{ShortBuf as NoRoom, Kind};
 
 use dns_digits::DigitsError;
@@ -53,6 +53,23 @@ fn list_text(why: ListError) -> &'static str
     }
 }
 
+/// The text of a key that the value of `mandatory` lists, and that is missing.
+fn missing_text(key: u16) -> &'static str
+    ensures { result.now ≡ missing_key_text key }
+{
+    match key {
+        1 => "mandatory names alpn, which is missing",
+        2 => "mandatory names no-default-alpn, which is missing",
+        3 => "mandatory names port, which is missing",
+        4 => "mandatory names ipv4hint, which is missing",
+        5 => "mandatory names ech, which is missing",
+        6 => "mandatory names ipv6hint, which is missing",
+        7 => "mandatory names dohpath, which is missing",
+        8 => "mandatory names ohttp, which is missing",
+        _ => "mandatory names a key that is missing",
+    }
+}
+
 /// The text of refused parameters.
 fn params_text(why: ParamsFault) -> &'static str
     ensures { result.now ≡ params_fault_text why }
@@ -61,6 +78,7 @@ fn params_text(why: ParamsFault) -> &'static str
         ParamsFault::Short => "service parameters are cut off",
         ParamsFault::Order(_) => "service parameter out of order",
         ParamsFault::Value(_) => "wrong value of a service parameter",
+        ParamsFault::Missing(key) => missing_text(key),
     }
 }
 

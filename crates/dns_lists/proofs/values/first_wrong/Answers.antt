@@ -1,7 +1,7 @@
 use Rattle.std.proofs.Common.{[], refl, arith}
 use Rattle.dns_lists.specs.Params.{params_of}
 use Rattle.dns_lists.proofs.ParamLists.{shorter_param, right_more, wrong_here, all_right}
-use Rattle.dns_lists.proofs.values.wrong_value.Goals as goal
+use Rattle.dns_lists.proofs.values.first_wrong.Goals as goal
 
 pub loop-front-init : goal.loop-front-init
 loop-front-init c = ([], (λ k d l. absurd (omega arith)), refl)

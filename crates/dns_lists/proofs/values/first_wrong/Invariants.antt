@@ -1,7 +1,7 @@
 use Rattle.std.proofs.Common.{length}
 use Rattle.dns_lists.specs.Params.{params_of}
 use Rattle.dns_lists.proofs.ParamLists.{RightSoFar}
-use Rattle.dns_lists.proofs.values.wrong_value.Given as goal
+use Rattle.dns_lists.proofs.values.first_wrong.Given as goal
 
 abbrev pub invariant-loop-front : goal.invariant-loop-front
 invariant-loop-front l = RightSoFar (params_of l.params) (params_of l.params) l.rest
