@@ -103,4 +103,4 @@ small_by (Some r) text code kind h k = omega (arith, h, k.0)
 pub small_key : (text : List ℕ) (code : ℕ) (kind : ValueKind) → NamesKey text code kind → code < 65536
 small_key text code kind h =
     small_by (named_row key_rows text) text code kind
-    (small_row key_rows text (omega arith, (omega arith, (omega arith, (omega arith, (omega arith, (omega arith, (omega arith, (omega arith, tt))))))))) h
+    (small_row key_rows text (omega arith, (omega arith, (omega arith, (omega arith, (omega arith, (omega arith, (omega arith, (omega arith, (omega arith, tt)))))))))) h

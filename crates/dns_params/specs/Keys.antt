@@ -29,6 +29,7 @@ key_rows =
     key_row 5 (codes "ech") Digits ∷
     key_row 6 (codes "ipv6hint") Ipv6 ∷
     key_row 7 (codes "dohpath") Octets ∷
+    key_row 8 (codes "ohttp") Nothing ∷
     []
 
 -- the row with this name

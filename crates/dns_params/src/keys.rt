@@ -33,8 +33,8 @@ pub(crate) struct NamedKey(
     pub(crate) ValueKind,
 );
 
-/// The keys that have names (RFC 9460 section 14.3.2, RFC 9461 section 8).
-static KEYS: [NamedKey; 8] = [
+/// The keys that have names (RFC 9460 section 14.3.2, RFC 9461 section 8, RFC 9540 section 8).
+static KEYS: [NamedKey; 9] = [
     NamedKey(0, "mandatory", ValueKind::Keys),
     NamedKey(1, "alpn", ValueKind::Strings),
     NamedKey(2, "no-default-alpn", ValueKind::Nothing),
@@ -43,6 +43,7 @@ static KEYS: [NamedKey; 8] = [
     NamedKey(5, "ech", ValueKind::Digits),
     NamedKey(6, "ipv6hint", ValueKind::Ipv6),
     NamedKey(7, "dohpath", ValueKind::Octets),
+    NamedKey(8, "ohttp", ValueKind::Nothing),
 ];
 
 /// A key as it is spelled: its number, and what the text of its value is.
