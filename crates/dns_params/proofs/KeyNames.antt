@@ -1,16 +1,14 @@
 -- Keys that a text names.
-use Rattle.std.proofs.Common.{ℕ, zero, suc, ◌≡◌, ◌≢◌, ◌<◌, ◌≤◌, ◌+◌, ◌^◌, ◌⊎◌, Bool, true, false, List, [], ◌∷◌, ◌++◌, length, take, drop, get_or, decimal, refl, sym, subst, arith, ap, ◌∙◌, Option, Some, None, inl, inr}
-use Rattle.std.specs.Prelude.{find, MatchOption, cond}
+use Rattle.std.proofs.Common.{ℕ, zero, suc, ◌≡◌, ◌≢◌, ◌<◌, ◌≤◌, ◌+◌, ◌^◌, ◌⊎◌, Bool, true, false, List, [], ◌∷◌, length, drop, get_or, decimal, refl, sym, subst, arith, ap, ◌∙◌, Option, Some, None, inl, inr}
+use Rattle.std.specs.Prelude.{MatchOption, cond}
 use Rattle.std.specs.Str.{bytes_eq}
 use Rattle.std.specs.Str.Parse.{IsNumeral, AllDigits, digits_value}
 use Rattle.std.proofs.lemmas.Fmt.{decimal_is_IsNumeral, decimal_digit, first_decimal, decimal-digits_value}
 use Rattle.std.proofs.lemmas.Str.Parse.{IsNumeralModel}
-use Rattle.std.proofs.lemmas.Slice.Eq.{bytes_eq-Decides}
 use Rattle.std.proofs.lemmas.List.{drop_more, drop_all}
 use Rattle.dns_kinds.specs.Numbers.{SpellsNumber}
 use Rattle.dns_params.specs.declared.keys.NamedKey.{NamedKey}
 use Rattle.dns_params.specs.declared.keys.SpelledKey.{SpelledKey}
-use Rattle.dns_params.specs.declared.keys.ValueKind.{ValueKind}
 use Rattle.dns_kinds.specs.declared.error.KindError.{KindError}
 use Rattle.dns_kinds.specs.declared.error.KindError.TheVariants.{ExpectedNumber, NumberOverflow}
 use Rattle.dns_params.specs.declared.keys.ValueKind.TheVariants.{Octets}

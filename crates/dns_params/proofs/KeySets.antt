@@ -1,16 +1,15 @@
 -- Sets of keys, and their octets in ascending order.
-use Rattle.std.proofs.Common.{ℕ, zero, suc, ◌≡◌, ◌≢◌, ◌<◌, ◌≤◌, ◌+◌, ◌-◌, ◌||◌, ◌==◌, Bool, true, false, cond, List, [], ◌∷◌, ◌++◌, length, get_or, refl, sym, ap, ◌∙◌, arith, Option, Some, None, append_assoc, append-nil}
+use Rattle.std.proofs.Common.{ℕ, zero, suc, ◌≡◌, ◌≢◌, ◌<◌, ◌≤◌, ◌+◌, ◌||◌, ◌==◌, Bool, true, false, cond, List, [], ◌∷◌, ◌++◌, length, get_or, refl, sym, ap, ◌∙◌, arith, Option, Some, append_assoc, append-nil}
 use Rattle.std.specs.Int.{w16, to_be_bytes}
-use Rattle.std.specs.List.{AllPairs, list_any}
+use Rattle.std.specs.List.{AllPairs}
 use Rattle.std.proofs.lemmas.List.Folds.{list_any-append}
 use Rattle.std.proofs.lemmas.List.Quantifiers.{all_pairs_push}
 use Rattle.std.proofs.lemmas.Bool.{eq-eqb}
 use Rattle.dns_octets.specs.Appending.{Gains}
 use Rattle.dns_lists.specs.Bitmap.{has, SameTypes}
 use Rattle.dns_params.specs.Items.{IsWithout, SpellsApart}
-use Rattle.dns_params.specs.Keys.{NamesKey}
 use Rattle.dns_params.specs.ParamValues.{NamesAKey, SpellsKeys, keys_from, keys_wire}
-use Rattle.dns_params.proofs.Apart.{TakesApart, IsSplit, apart_none, apart_more, apart_all}
+use Rattle.dns_params.proofs.Apart.{TakesApart, IsSplit, apart_none, apart_more}
 
 pub record TakesKeys (text : List ℕ) (left : Option (List ℕ)) (set : List ℕ) : Type 0 where
   pub keys : List ℕ

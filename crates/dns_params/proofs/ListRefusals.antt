@@ -1,8 +1,8 @@
 -- Texts that spell no list of strings.
-use Rattle.std.proofs.Common.{ℕ, ◌≡◌, ◌≢◌, ◌<◌, ◌≤◌, ◌+◌, ◌-◌, ◌⊎◌, Bool, true, false, cond, List, [], ◌∷◌, ◌++◌, length, map, refl, sym, subst, ap, ◌∙◌, arith, append_assoc, append-nil, inl, inr}
+use Rattle.std.proofs.Common.{ℕ, ◌≡◌, ◌≢◌, ◌<◌, ◌≤◌, ◌+◌, ◌-◌, Bool, true, false, List, [], ◌∷◌, ◌++◌, length, map, refl, sym, subst, ap, ◌∙◌, arith, append_assoc, append-nil, inl, inr}
 use Rattle.std.specs.Prelude.{All}
 use Rattle.std.proofs.lemmas.Bool.{both_ways}
-use Rattle.std.proofs.lemmas.List.{length-append, append_cancel_left}
+use Rattle.std.proofs.lemmas.List.{length-append}
 use Rattle.std.proofs.lemmas.List.Concat.{flat_map-append}
 use Rattle.std.proofs.lemmas.List.Elements.{All-head, All-tail}
 use Rattle.dns_octets.specs.Room.{Room}
@@ -15,7 +15,6 @@ use Rattle.dns_spelling.proofs.Spellings.{AreSpellings, spellings_head, goes_on,
 use Rattle.dns_lists.specs.Texts.{is_special, item_octet, item_text, list_text, later_text, wire_strings, IsItem, IsList, EndsItem}
 use Rattle.dns_lists.proofs.Items.{one_item, ends_empty, ends_comma, later_ends, same_first}
 use Rattle.dns_params.specs.declared.error.ParamError.{ParamError}
-use Rattle.dns_params.specs.declared.error.ParamError.TheVariants.{ShortBuf}
 use Rattle.dns_params.specs.ListItems.{EndsAtComma, BeginsUnspecial, BeginsBadItem, GoesOnToItem, BeginsItem, BeginsNoItem, EachList, RefusesItem}
 use Rattle.dns_params.specs.ParamValues.{SpellsStrings}
 use Rattle.dns_params.specs.ParamRefusals.{RefusesSpelled, StringsReason}

@@ -1,5 +1,5 @@
 -- Parameters behind other octets.
-use Rattle.std.proofs.Common.{ℕ, ◌≡◌, ◌≢◌, ◌<◌, ◌≤◌, ◌+◌, ◌-◌, List, [], ◌∷◌, ◌++◌, length, take, drop, refl, sym, subst, ap, ◌∙◌, arith, append_assoc, append-nil}
+use Rattle.std.proofs.Common.{ℕ, ◌≡◌, ◌-◌, List, ◌++◌, length, take, drop, sym, ap, ◌∙◌, arith, append-nil}
 use Rattle.std.proofs.lemmas.List.{take_at, drop_at, take_all, drop_all, length-append, length-drop}
 use borrow.Rule.Slice.PartMut.{post_of}
 use Rattle.dns_octets.specs.Octets.{written_over, written_over_whole}

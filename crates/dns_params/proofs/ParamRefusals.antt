@@ -1,28 +1,23 @@
 -- Parameters that are refused.
-use Rattle.std.proofs.Common.{ℕ, ◌≡◌, ◌≢◌, ◌<◌, ◌≤◌, ◌+◌, ◌-◌, ◌⊎◌, true, false, true≢false, List, [], ◌∷◌, ◌++◌, length, refl, sym, subst, ap, ◌∙◌, arith, inl, inr, Option, Some, None, Result, Ok, Err, append_assoc}
-use Rattle.std.specs.Prelude.{All, IsSome, IfErr}
-use Rattle.std.specs.List.{AllPairs}
-use Rattle.std.specs.Int.{w16, to_be_bytes}
+use Rattle.std.proofs.Common.{ℕ, ◌≡◌, ◌<◌, ◌+◌, true≢false, List, [], ◌∷◌, ◌++◌, length, refl, sym, subst, ap, ◌∙◌, arith, inl, inr, Option, Some, None, Result, Ok, Err, append_assoc}
+use Rattle.std.specs.Prelude.{IsSome}
 use Rattle.std.proofs.lemmas.List.{length-append}
 use Rattle.dns_octets.specs.Room.{Room}
-use Rattle.dns_octets.specs.Appending.{Extends, Gains}
 use Rattle.dns_lists.specs.Params.{params_wire, value_at, HasFittingValues, IsUnsettled}
-use Rattle.dns_lists.specs.ParamsFaults.{AreRightParams}
 use Rattle.dns_lists.specs.declared.params.SettleError.{SettleError}
 use Rattle.dns_lists.specs.declared.params.SettleError.TheVariants.{Long, Repeated}
 use Rattle.dns_split.specs.EntryTokens.{TokenSeen}
 use Rattle.dns_params.specs.Keys.{NamesKey}
 use Rattle.dns_params.specs.ParamError.{of_settled}
-use Rattle.dns_params.specs.ParamRefusals.{NewReason, ParamReason, ParamsReason, RefusesSpelled, ValueFault, ValueReason, WordFault, FirstTokenReason}
+use Rattle.dns_params.specs.ParamRefusals.{NewReason, ParamReason, RefusesSpelled, ValueFault, ValueReason, FirstTokenReason}
 use Rattle.dns_params.specs.ParamSteps.{param_head, GainsParam, GoesOnApart, IsClosedWord, CanBeAdded, IsOnlyFront, IsValueBehind, NamesNoParam, RefusesBegun, RefusesNew, SettlesBehind, SettlesValue, SpellsOpenValue, SpellsNew, StandsBehind, StandsOpen, TakesParamWord, TakesQuoted}
-use Rattle.dns_params.specs.ParamTokens.{IsOpenWord, SplitsParam, SplitsValue, SplitsWord, StandsApart, SpellsParam, SpellsFrontParam, SpellsFrontParams, SpellsParams}
+use Rattle.dns_params.specs.ParamTokens.{SplitsParam, SplitsValue, SplitsWord, SpellsParam, SpellsFrontParam}
 use Rattle.dns_params.specs.ParamValues.{SpellsValue}
 use Rattle.dns_params.specs.declared.error.ParamError.{ParamError}
-use Rattle.dns_params.specs.declared.error.ParamError.TheVariants.{ShortBuf, LongValue, RepeatedParam}
+use Rattle.dns_params.specs.declared.error.ParamError.TheVariants.{ShortBuf}
 use Rattle.dns_params.specs.declared.keys.ValueKind.{ValueKind}
 use Rattle.dns_params.proofs.KeyRefusals.{key_once}
-use Rattle.dns_params.proofs.Fronts.{value_once, param_once, split_once, closed_once, open_once, behind_once, goes_on_apart, front_goes_on}
-use Rattle.dns_params.proofs.Sizes.{wire_longer, new_of_all, small_key}
+use Rattle.dns_params.proofs.Fronts.{value_once, param_once, closed_once, open_once, behind_once}
 
 -- settling, as the caller sees it
 abbrev pub Settling : ℕ → ℕ → List ℕ → List ℕ → Result (Unit {0}) SettleError → Type 0

@@ -1,10 +1,9 @@
 -- Parameters of tokens, one after another.
-use Rattle.std.proofs.Common.{ℕ, zero, suc, ◌≡◌, ◌≢◌, ◌<◌, ◌≤◌, ◌+◌, ◌-◌, ◌==◌, Bool, true, false, true≢false, cond, List, [], ◌∷◌, ◌++◌, length, take, drop, get_or, refl, sym, subst, ap, ◌∙◌, arith, Option, Some, None, Ok, append_assoc, append-nil, inl, inr}
-use Rattle.std.specs.Prelude.{All, is_some, option_map, slice_get}
+use Rattle.std.proofs.Common.{ℕ, zero, suc, ◌≡◌, ◌≢◌, ◌<◌, ◌≤◌, ◌+◌, ◌==◌, Bool, true, false, true≢false, cond, List, [], ◌∷◌, ◌++◌, length, get_or, refl, sym, subst, ap, ◌∙◌, arith, Option, Some, None, append_assoc, append-nil, inl, inr}
+use Rattle.std.specs.Prelude.{is_some, option_map, slice_get}
 use Rattle.std.proofs.lemmas.Option.{none-some}
 use Rattle.dns_split.specs.EntryTokens.{token_seen}
 use Rattle.dns_split.specs.declared.entry_tokens.EntryToken.{EntryToken}
-use Rattle.std.specs.Int.{w16, to_be_bytes}
 use Rattle.std.specs.List.{AllPairs}
 use Rattle.std.proofs.lemmas.Bool.{eq-eqb}
 use Rattle.std.proofs.lemmas.List.{length-append}
@@ -12,7 +11,7 @@ use Rattle.std.proofs.lemmas.List.Elements.{All-nil, All-cons, All-append, All-h
 use Rattle.std.proofs.lemmas.List.Quantifiers.{all_pairs_push}
 use Rattle.dns_octets.specs.Appending.{Gains}
 use Rattle.dns_split.specs.EntryTokens.{TokenSeen}
-use Rattle.dns_lists.specs.Params.{params_wire, params_from, value_at, HasFittingValues, IsUnsettled}
+use Rattle.dns_lists.specs.Params.{params_wire, params_from, value_at, HasFittingValues}
 use Rattle.dns_lists.specs.ParamsFaults.{AreRightParams}
 use Rattle.dns_lists.proofs.Entries.{entries_none, entries_first}
 use Rattle.dns_octets.specs.Room.{Room}

@@ -1,8 +1,7 @@
 -- Values that are refused, by their kinds.
-use Rattle.std.proofs.Common.{ℕ, ◌≡◌, ◌⊎◌, List, refl, Result, Ok, Err, inl, inr}
+use Rattle.std.proofs.Common.{ℕ, ◌≡◌, List, refl, Result, Ok, Err, inl, inr}
 use Rattle.std.specs.Prelude.{IfErr}
 use Rattle.dns_octets.specs.Room.{Room}
-use Rattle.dns_kinds.specs.declared.error.KindError.{KindError}
 use Rattle.dns_kinds.specs.declared.error.KindError.TheVariants.{ExpectedIpv6}
 use Rattle.dns_codec.specs.Base.{base64}
 use Rattle.dns_digits.specs.Spelled.{SpellsDigits}

@@ -1,6 +1,5 @@
 -- Names of keys (RFC 9460 section 2.1).
-use Rattle.std.specs.Prelude.{ℕ, ◌≡◌, ◌≢◌, ◌<◌, ◌^◌, ◌++◌, List, [], ◌∷◌, codes, decimal, length, slice_index, find, map, Option, Some, None, MatchOption}
-use Rattle.std.specs.Option.{option_map}
+use Rattle.std.specs.Prelude.{ℕ, ◌≡◌, ◌≢◌, ◌<◌, ◌^◌, ◌++◌, List, [], ◌∷◌, codes, decimal, length, slice_index, find, map, Option, MatchOption}
 use Rattle.std.specs.Str.{bytes_eq}
 use Rattle.dns_params.specs.declared.keys.NamedKey.{NamedKey}
 use Rattle.dns_params.specs.declared.keys.SpelledKey.{SpelledKey}

@@ -1,5 +1,5 @@
 -- Why a value of a service parameter is refused.
-use Rattle.std.specs.Prelude.{ℕ, ◌≡◌, ◌≢◌, ◌⊎◌, ◌^◌, true, List, [], ◌∷◌}
+use Rattle.std.specs.Prelude.{ℕ, ◌≡◌, ◌⊎◌, ◌^◌, true, List, [], ◌∷◌}
 use Rattle.dns_octets.specs.Room.{Room}
 use Rattle.dns_octets.specs.Appending.{LacksRoom}
 use Rattle.dns_kinds.specs.declared.error.KindError.{KindError}

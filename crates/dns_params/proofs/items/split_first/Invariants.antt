@@ -1,4 +1,4 @@
-use Rattle.std.proofs.Common.{◌≡◌, ◌≢◌, ℕ, ◌<◌, get_or}
+use Rattle.std.proofs.Common.{◌≢◌, ℕ, ◌<◌, get_or}
 use Rattle.dns_params.proofs.items.split_first.Given as goal
 
 abbrev pub invariant-loop-index : goal.invariant-loop-index

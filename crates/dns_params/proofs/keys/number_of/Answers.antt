@@ -1,5 +1,3 @@
-use Rattle.std.proofs.Common.{sym, subst, ap, ◌∙◌, ◌<◌, ◌^◌, ℕ, List, length, decimal, arith, true, refl, inl, inr}
-use Rattle.std.specs.Str.Parse.{IsNumeral}
 use Rattle.dns_params.proofs.KeyNames.{with_zeros, is_decimal, none_decimal}
 use Rattle.dns_params.proofs.keys.number_of.Goals as goal
 

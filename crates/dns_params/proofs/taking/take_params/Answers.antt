@@ -1,4 +1,4 @@
-use Rattle.std.proofs.Common.{ap, inl, inr, length, refl, sym, ◌∙◌}
+use Rattle.std.proofs.Common.{ap, inr, length, refl, sym, ◌∙◌}
 use Rattle.dns_fields.specs.Source.{next_place}
 use Rattle.dns_fields.proofs.Tokens.{none_left}
 use Rattle.dns_params.proofs.ParamParts.{part_behind}

@@ -1,4 +1,4 @@
-use Rattle.std.proofs.Common.{ap, length, refl}
+use Rattle.std.proofs.Common.{ap, length}
 use Rattle.std.proofs.lemmas.Result.{err_from_is_err_and}
 use Rattle.dns_split.specs.EntryTokens.{token_seen}
 use Rattle.dns_params.proofs.ParamRefusals.{gains_param, head_refused, value_refused, word_refused}
