@@ -245,7 +245,7 @@ def rest_of(name, octets):
     if name == "TLSA":
         return b"00", b"\0"
     # The last field is the algorithm of the digest.
-    size = {"DS": {1: 20, 2: 32, 4: 48}, "SSHFP": {1: 20, 2: 32}, "ZONEMD": {1: 48, 2: 64}}.get(name)
+    size = {"DS": {1: 20, 2: 32, 3: 32, 4: 48, 5: 32, 6: 32}, "SSHFP": {1: 20, 2: 32}, "ZONEMD": {1: 48, 2: 64}}.get(name)
     digest = bytes(size.get(octets[-1], 12)) if size else None
     return (digest.hex().encode(), digest) if digest else None
 

@@ -4,9 +4,9 @@ use Rattle.std.specs.Map.{lookup}
 use Rattle.dns_digits.specs.declared.digests.Digests.{Digests}
 use Rattle.dns_digits.specs.declared.digests.Digests.TheVariants.{Ds, Sshfp, Zonemd}
 
--- the numbers that are named, with the octets of their digests: RFC 4034, 4509 and 6605; RFC 4255 and 6594; RFC 8976
+-- the numbers that are named, with the octets of their digests: RFC 4034, 4509, 5933, 6605, 9558 and 9563; RFC 4255 and 6594; RFC 8976
 abbrev pub digest_rows : Digests → List (ℕ × ℕ)
-digest_rows Ds = (1, 20) ∷ (2, 32) ∷ (4, 48) ∷ []
+digest_rows Ds = (1, 20) ∷ (2, 32) ∷ (3, 32) ∷ (4, 48) ∷ (5, 32) ∷ (6, 32) ∷ []
 digest_rows Sshfp = (1, 20) ∷ (2, 32) ∷ []
 digest_rows Zonemd = (1, 48) ∷ (2, 64) ∷ []
 

@@ -6,7 +6,8 @@ ghost use Rattle.dns_digits.specs.DigestLengths.{IsDigestLength};
 /// The lists of digests.
 #[derive(Clone, Copy, Debug, PartialEq, Eq)]
 pub enum Digests {
-    /// Digest types of DS, CDS and DLV: 1 SHA-1, 2 SHA-256 (RFC 4509) and 4 SHA-384 (RFC 6605).
+    /// Digest types of DS, CDS, DLV and TA: 1 SHA-1, 2 SHA-256 (RFC 4509), 3 GOST R 34.11-94 (RFC
+    /// 5933), 4 SHA-384 (RFC 6605), 5 GOST R 34.11-2012 (RFC 9558) and 6 SM3 (RFC 9563).
     Ds,
     /// Fingerprint types of SSHFP: 1 SHA-1 (RFC 4255) and 2 SHA-256 (RFC 6594).
     Sshfp,
@@ -21,7 +22,7 @@ pub fn is_digest_length(digests: Digests, number: u8, length: usize) -> bool
 {
     match (digests, number) {
         (Digests::Ds, 1) => length == 20,
-        (Digests::Ds, 2) => length == 32,
+        (Digests::Ds, 2 | 3 | 5 | 6) => length == 32,
         (Digests::Ds, 4) => length == 48,
         (Digests::Sshfp, 1) => length == 20,
         (Digests::Sshfp, 2) => length == 32,
