@@ -8,7 +8,7 @@ use Rattle.dns_kinds.specs.Numbers.{SpellsNumber}
 use Rattle.dns_kinds.specs.Registry.{IsNumbered, SpellsCode}
 use Rattle.dns_kinds.specs.Types.{type_rows, type_prefix, SpellsType, type_text, TypesAreKind, is_portable, portable_text, SpellsPortable, PortableTypesAreKind, SpellsSigType, sig_type_text, SigTypesAreKind}
 use Rattle.dns_kinds.specs.Classes.{class_rows, class_prefix, SpellsClass, class_text, ClassesAreKind}
-use Rattle.dns_kinds.specs.Algorithms.{algorithm_rows, certificate_rows, SpellsAlgorithm, algorithm_text, AlgorithmsAreKind, NumbersOfAlgorithmsAreKind, SpellsCertificate, certificate_text, CertificatesAreKind}
+use Rattle.dns_kinds.specs.Algorithms.{algorithm_rows, certificate_rows, SpellsAlgorithm, AlgorithmsAreKind, SpellsCertificate, certificate_text, CertificatesAreKind}
 use Rattle.dns_kinds.specs.declared.types.PortableType.{PortableType}
 use Rattle.dns_kinds.specs.declared.types.RecordType.{RecordType}
 use Rattle.dns_kinds.specs.declared.types.SigType.{SigType}
@@ -100,10 +100,7 @@ one_algorithm : (text : List ℕ) (a b : Algorithm) → SpellsAlgorithm text a �
 one_algorithm text a b h k = let same = once algorithm_rows [] 255 text a.0 b.0 h k in λ i. record { 0 = same i }
 
 pub algorithms_are_kind : AlgorithmsAreKind
-algorithms_are_kind = is_kind (λ a. a.0 < 2 ^ 8) SpellsAlgorithm algorithm_text (λ a small. spelled algorithm_rows [] 255 algorithm_registry (omega arith) a.0 (omega (arith, small))) one_algorithm
-
-pub numbers_of_algorithms_are_kind : NumbersOfAlgorithmsAreKind
-numbers_of_algorithms_are_kind =
+algorithms_are_kind =
     is_kind (λ a. a.0 < 2 ^ 8) SpellsAlgorithm (λ a. decimal a.0) (λ a small. numbered algorithm_rows [] 255 algorithm_registry (omega arith) a.0 (omega (arith, small))) one_algorithm
 
 pub certificates_are_kind : CertificatesAreKind

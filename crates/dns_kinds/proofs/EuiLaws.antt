@@ -11,7 +11,7 @@ use Rattle.dns_kinds.specs.declared.eui.Eui64.{Eui64}
 use Rattle.dns_kinds.proofs.HexLaws.{one_way}
 use Rattle.dns_kinds.proofs.ReadBack.{is_kind}
 
-lower : (n : ℕ) → n < 16 → digit_value (pair_digit 97 n) ≡ n
+pub lower : (n : ℕ) → n < 16 → digit_value (pair_digit 97 n) ≡ n
 lower n small = Prim.grind (arith, nat_tests)
 
 behind_three : (a b c : ℕ) (text : List ℕ) (at o : ℕ) → IsPair text at o → IsPair (a ∷ b ∷ c ∷ text) (suc (suc (suc at))) o

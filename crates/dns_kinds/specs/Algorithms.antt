@@ -25,6 +25,10 @@ algorithm_rows =
     code_row 252 (codes "INDIRECT") ∷
     code_row 253 (codes "PRIVATEDNS") ∷
     code_row 254 (codes "PRIVATEOID") ∷
+    -- as BIND writes them
+    code_row 6 (codes "NSEC3DSA") ∷
+    code_row 7 (codes "NSEC3RSASHA1") ∷
+    code_row 12 (codes "ECCGOST") ∷
     []
 
 abbrev pub certificate_rows : List Row
@@ -45,15 +49,9 @@ certificate_rows =
 abbrev pub SpellsAlgorithm : List ℕ → Algorithm → Type 0
 SpellsAlgorithm text a = SpellsCode algorithm_rows [] 255 text a.0
 
-abbrev pub algorithm_text : Algorithm → List ℕ
-algorithm_text a = code_text algorithm_rows [] a.0
-
+-- it is printed as its number
 abbrev pub AlgorithmsAreKind : Type 0
-AlgorithmsAreKind = IsKind (λ a. a.0 < 2 ^ 8) SpellsAlgorithm algorithm_text
-
--- most types of records print the number
-abbrev pub NumbersOfAlgorithmsAreKind : Type 0
-NumbersOfAlgorithmsAreKind = IsKind (λ a. a.0 < 2 ^ 8) SpellsAlgorithm (λ a. decimal a.0)
+AlgorithmsAreKind = IsKind (λ a. a.0 < 2 ^ 8) SpellsAlgorithm (λ a. decimal a.0)
 
 abbrev pub SpellsCertificate : List ℕ → CertificateType → Type 0
 SpellsCertificate text t = SpellsCode certificate_rows [] 65535 text t.0

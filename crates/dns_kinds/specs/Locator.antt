@@ -1,9 +1,9 @@
 -- Locators and identifiers of 64 bits (RFC 6742 section 2).
 use Rattle.std.specs.Prelude.{ℕ, ◌≡◌, ◌<◌, ◌≤◌, false, List, [], ◌∷◌, ◌++◌, length, All, slice_index, Option, MatchOption}
 use Rattle.std.specs.Char.{digit_value}
-use Rattle.std.specs.Fmt.{digits}
-use Rattle.std.specs.Net.Addr.{segments_of, octets_of}
+use Rattle.std.specs.Net.Addr.{octets_of}
 use Rattle.std.specs.Net.Grammar.{IsGroup, IsGroups}
+use Rattle.dns_kinds.specs.Hex.{pair_text}
 use Rattle.dns_kinds.specs.Kind.{IsKind}
 use Rattle.dns_kinds.specs.declared.locator.Locator.{Locator}
 use Rattle.dns_kinds.specs.declared.locator.Group.{Group}
@@ -34,18 +34,16 @@ TakesGroup Has text r = MatchOption r ((number : ℕ) (rest : List ℕ) → Has 
 abbrev pub FindsGroups : List ℕ → Option (List ℕ) → Type 0
 FindsGroups text r = MatchOption r ((groups : List ℕ) → length groups ≡ 4 → IsGroups false text groups → ⊥) (λ groups. (length groups ≡ 4) × IsGroups false text groups)
 
--- hexadecimal digits in small letters without leading zeros
-abbrev pub group_text : ℕ → List ℕ
-group_text n = digits 16 false n
+-- two octets as four hexadecimal digits in small letters
+abbrev pub group_text : ℕ → ℕ → List ℕ
+group_text high low = pair_text 97 high ++ pair_text 97 low
 
--- groups, and colons between them
-abbrev pub joined_groups : List ℕ → List ℕ
-joined_groups [] = []
-joined_groups (n ∷ []) = group_text n
-joined_groups (n ∷ m ∷ more) = group_text n ++ 58 ∷ joined_groups (m ∷ more)
-
+-- a group for every two octets, and colons between the groups
 abbrev pub locator_text : List ℕ → List ℕ
-locator_text octets = joined_groups (segments_of octets)
+locator_text [] = []
+locator_text (a ∷ []) = []
+locator_text (a ∷ b ∷ []) = group_text a b
+locator_text (a ∷ b ∷ c ∷ more) = group_text a b ++ 58 ∷ locator_text (c ∷ more)
 
 abbrev pub LocatorsAreKind : Type 0
 LocatorsAreKind = IsKind (λ l. (length l.0 ≡ 8) × All (λ o. o < 256) l.0) SpellsLocator (λ l. locator_text l.0)

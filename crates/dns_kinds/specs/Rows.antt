@@ -7,7 +7,7 @@ use Rattle.dns_kinds.specs.Algorithms.{algorithm_rows, certificate_rows}
 use Rattle.dns_kinds.specs.Classes.{class_rows, class_prefix}
 use Rattle.dns_kinds.specs.Eui.{dashed_text}
 use Rattle.dns_kinds.specs.Locator.{locator_text}
-use Rattle.dns_kinds.specs.Registry.{row_code, code_text}
+use Rattle.dns_kinds.specs.Registry.{row_code, row_name, code_text}
 use Rattle.dns_kinds.specs.Salt.{salt_text}
 use Rattle.dns_kinds.specs.Time.{is_leap, month_days, seconds_at, date_of, date_text, date_at, year_at, month_at, holding}
 use Rattle.dns_kinds.specs.Ttl.{unit_seconds, Period, period_text, period_seconds}
@@ -72,8 +72,12 @@ sig_types = refl
 classes : map (code_text class_rows class_prefix) (1 ∷ 3 ∷ 4 ∷ 254 ∷ []) ≡ codes "IN" ∷ codes "CH" ∷ codes "HS" ∷ (codes "CLASS" ++ decimal 254) ∷ []
 classes = refl
 
-algorithms : map (row_code algorithm_rows) (codes "RsaSha256" ∷ codes "RSASHA1-NSEC3-SHA1" ∷ codes "NSEC3RSASHA1" ∷ []) ≡ Some 8 ∷ Some 7 ∷ None ∷ []
+-- IANA's names, and those of BIND
+algorithms : map (row_code algorithm_rows) (codes "RsaSha256" ∷ codes "RSASHA1-NSEC3-SHA1" ∷ codes "NSEC3RSASHA1" ∷ codes "NSEC3DSA" ∷ codes "ECCGOST" ∷ codes "NSEC3" ∷ []) ≡ Some 8 ∷ Some 7 ∷ Some 7 ∷ Some 6 ∷ Some 12 ∷ None ∷ []
 algorithms = refl
+
+algorithm_names : map (row_name algorithm_rows) (6 ∷ 7 ∷ 12 ∷ 0 ∷ []) ≡ Some (codes "DSA-NSEC3-SHA1") ∷ Some (codes "RSASHA1-NSEC3-SHA1") ∷ Some (codes "ECC-GOST") ∷ None ∷ []
+algorithm_names = refl
 
 certificates : map (code_text certificate_rows []) (1 ∷ 253 ∷ 9 ∷ []) ≡ codes "PKIX" ∷ codes "URI" ∷ decimal 9 ∷ []
 certificates = refl
@@ -84,10 +88,9 @@ certificates = refl
 eui48 : dashed_text (0 ∷ 0 ∷ 0x5e ∷ 0 ∷ 0x53 ∷ 0x2a ∷ []) ≡ codes "00-00-5e-00-53-2a"
 eui48 = refl
 
--- the example of RFC 6742 section 2.1
-locator : locator_text (0 ∷ 0x14 ∷ 0x4f ∷ 0xff ∷ 0xff ∷ 0x20 ∷ 0xee ∷ 0x64 ∷ []) ≡ codes "14:4fff:ff20:ee64"
-unfolding digits
-locator = refl
+-- the examples of RFC 6742 sections 2.1 and 2.3
+locators : map locator_text ((0 ∷ 0x14 ∷ 0x4f ∷ 0xff ∷ 0xff ∷ 0x20 ∷ 0xee ∷ 0x64 ∷ []) ∷ (0x20 ∷ 1 ∷ 0x0d ∷ 0xb8 ∷ 0x11 ∷ 0x40 ∷ 0x10 ∷ 0 ∷ []) ∷ []) ≡ codes "0014:4fff:ff20:ee64" ∷ codes "2001:0db8:1140:1000" ∷ []
+locators = refl
 
 salts : map salt_text ([] ∷ (0xaa ∷ 0xbb ∷ 0xcc ∷ 0xdd ∷ []) ∷ []) ≡ codes "-" ∷ codes "AABBCCDD" ∷ []
 salts = refl

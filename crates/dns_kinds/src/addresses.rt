@@ -1,6 +1,6 @@
 //! Addresses of IPv4 and IPv6 (RFC 1035 section 3.4.1, RFC 3596).
-ghost use Rattle.std.specs.Prelude.{◌≡◌, Some};
-ghost use Rattle.std.specs.Net.Addr.{ipv6_segments};
+ghost use Rattle.std.specs.Prelude.{◌≡◌, ◌∷◌, [], Some};
+ghost use Rattle.std.specs.Net.Addr.{ipv4_octets, ipv6_segments, octets_of};
 ghost use Rattle.std.specs.Net.Grammar.{IsIpv4Text, IsIpv6Text};
 ghost use Rattle.dns_kinds.specs.Kind.{ReadsKind};
 ghost use Rattle.dns_kinds.specs.Addresses.{has_ipv4_end, shown_ipv6, Ipv4IsKind, Ipv6IsKind};
@@ -38,6 +38,15 @@ fn has_ipv4_end(segments: &[u16; 8]) -> bool
     [a, b, c, d, e, f] == [0; 6] && g > 0
 }
 
+/// Returns the IPv4 address of two segments.
+fn ipv4_of(high: u16, low: u16) -> Ipv4Addr
+    ensures { ipv4_octets result ≡ octets_of (high ∷ low ∷ []) }
+{
+    let [a, b] = high.to_be_bytes();
+    let [c, d] = low.to_be_bytes();
+    Ipv4Addr::from_octets([a, b, c, d])
+}
+
 /// An IPv6 address that prints as name servers print it: as RFC 5952 has it, but with an IPv4
 /// address at the end where all other bits are zero and the first 16 of its own are not, as in
 /// `::192.0.2.1`.
@@ -52,10 +61,8 @@ impl fmt::Display for Ipv6Shown {
         if !has_ipv4_end(&segments) {
             return write!(f, "{}", self.0);
         }
-        let [.., g, h] = segments;
-        let [a, b] = g.to_be_bytes();
-        let [c, d] = h.to_be_bytes();
-        write!(f, "::{a}.{b}.{c}.{d}")
+        let [.., high, low] = segments;
+        write!(f, "::{}", ipv4_of(high, low))
     }
 }
 

@@ -1,16 +1,17 @@
 //! Algorithms of keys and signatures (RFC 4034 appendix A.1), and types of certificates (RFC 4398).
-ghost use Rattle.std.specs.Prelude.{◌≡◌, Some, option_copied};
+ghost use Rattle.std.specs.Prelude.{◌≡◌, Some, decimal, option_copied};
 ghost use Rattle.dns_kinds.specs.Kind.{ReadsKind};
 ghost use Rattle.dns_kinds.specs.Registry.{row_name};
-ghost use Rattle.dns_kinds.specs.Algorithms.{algorithm_rows, certificate_rows, SpellsAlgorithm, algorithm_text, AlgorithmsAreKind, SpellsCertificate, certificate_text, CertificatesAreKind, NumbersOfAlgorithmsAreKind};
+ghost use Rattle.dns_kinds.specs.Algorithms.{algorithm_rows, certificate_rows, SpellsAlgorithm, AlgorithmsAreKind, SpellsCertificate, certificate_text, CertificatesAreKind};
 ghost use Rattle.dns_kinds.specs.declared.error.KindError.TheVariants.{UnknownAlgorithm, UnknownCertificate};
 
 use crate::error::KindError;
 use crate::registry::{Named, code_from_text, name_of};
 use std::fmt;
 
-/// The algorithms that have a name. 0 is written as a number alone.
-pub static ALGORITHMS: [Named; 18] = [
+/// The algorithms that have a name: IANA's names, and then the three that BIND writes otherwise. 0 is
+/// written as a number alone.
+pub static ALGORITHMS: [Named; 21] = [
     Named(1, "RSAMD5"),
     Named(2, "DH"),
     Named(3, "DSA"),
@@ -29,6 +30,9 @@ pub static ALGORITHMS: [Named; 18] = [
     Named(252, "INDIRECT"),
     Named(253, "PRIVATEDNS"),
     Named(254, "PRIVATEOID"),
+    Named(6, "NSEC3DSA"),
+    Named(7, "NSEC3RSASHA1"),
+    Named(12, "ECCGOST"),
 ];
 
 /// The types of certificates that have a name.
@@ -45,9 +49,8 @@ pub static CERTIFICATES: [Named; 10] = [
     Named(254, "OID"),
 ];
 
-/// An algorithm, by its number. It prints as its name or, without one, as the number; in most types
-/// of records it is the number that is printed.
-#[derive(Clone, Copy, Debug, PartialEq, Eq)]
+/// An algorithm, by its number. It prints as the number.
+#[derive(Clone, Copy)]
 pub struct Algorithm(pub u8);
 
 impl Algorithm {
@@ -61,7 +64,7 @@ impl Algorithm {
         }
     }
 
-    /// The name of the algorithm, if it has one.
+    /// Returns IANA's name of the algorithm, if it has one.
     pub fn name(&self) -> Option<&'static str>
         ensures { option_copied result ≡ row_name algorithm_rows self.now.0 }
     {
@@ -70,18 +73,15 @@ impl Algorithm {
 }
 
 impl fmt::Display for Algorithm {
-    ghost output = { λ a. Some (algorithm_text a) };
+    ghost output = { λ a. Some (decimal a.0) };
 
     fn fmt<W: fmt::Write>(&self, f: &mut fmt::Formatter<W>) -> fmt::Result {
-        match self.name() {
-            Some(name) => f.write_str(name),
-            None => write!(f, "{}", self.0),
-        }
+        write!(f, "{}", self.0)
     }
 }
 
 /// A type of certificates, by its number. It prints as its name or, without one, as the number.
-#[derive(Clone, Copy, Debug, PartialEq, Eq)]
+#[derive(Clone, Copy)]
 pub struct CertificateType(pub u16);
 
 impl CertificateType {
@@ -120,10 +120,9 @@ impl fmt::Display for CertificateType {
     }
 }
 
-/// States that algorithms and types of certificates are read as they are printed, an algorithm also
-/// where its number is printed, and does nothing else.
+/// States that algorithms and types of certificates are read as they are printed, and does nothing
+/// else.
 pub fn algorithms_are_read_back()
     ensures algorithms { AlgorithmsAreKind }
-    ensures numbers { NumbersOfAlgorithmsAreKind }
     ensures certificates { CertificatesAreKind }
 {}

@@ -13,7 +13,7 @@ use std::fmt;
 pub static CLASSES: [Named; 3] = [Named(1, "IN"), Named(3, "CH"), Named(4, "HS")];
 
 /// A class of records, by its code. It prints as its name or, without one, as `CLASS` and the code.
-#[derive(Clone, Copy, Debug, PartialEq, Eq)]
+#[derive(Clone, Copy)]
 pub struct Class(pub u16);
 
 impl Class {

@@ -41,11 +41,11 @@ fn dashed_into(text: &[u8], octets: &mut [u8]) -> bool
 }
 
 /// An EUI-48. It prints in small letters.
-#[derive(Clone, Copy, Debug, PartialEq, Eq)]
+#[derive(Clone, Copy)]
 pub struct Eui48(pub [u8; 6]);
 
 /// An EUI-64. It prints in small letters.
-#[derive(Clone, Copy, Debug, PartialEq, Eq)]
+#[derive(Clone, Copy)]
 pub struct Eui64(pub [u8; 8]);
 
 impl Eui48 {

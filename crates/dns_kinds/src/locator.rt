@@ -7,11 +7,11 @@ ghost use Rattle.dns_kinds.specs.Locator.{BeginsWithGroup, GoesOnWith, TakesGrou
 ghost use Rattle.dns_kinds.specs.declared.error.KindError.TheVariants.{ExpectedLocator};
 
 use crate::error::KindError;
-use crate::hex::value_of;
+use crate::hex::{digits_of, value_of};
 use std::fmt;
 
-/// A locator or an identifier of 64 bits. It prints in small letters, without leading zeros.
-#[derive(Clone, Copy, Debug, PartialEq, Eq)]
+/// A locator or an identifier of 64 bits. It prints as groups of four digits, in small letters.
+#[derive(Clone, Copy)]
 pub struct Locator(pub [u8; 8]);
 
 /// The number of a group, and the text after it.
@@ -106,16 +106,29 @@ impl Locator {
     }
 }
 
+/// xxxx:xxxx:xxxx:xxxx.
+fn text_of(octets: [u8; 8]) -> [u8; 19]
+    ensures { result ≡ locator_text octets }
+{
+    let [a, b] = digits_of(octets[0], b'a');
+    let [c, d] = digits_of(octets[1], b'a');
+    let [e, f] = digits_of(octets[2], b'a');
+    let [g, h] = digits_of(octets[3], b'a');
+    let [i, j] = digits_of(octets[4], b'a');
+    let [k, l] = digits_of(octets[5], b'a');
+    let [m, n] = digits_of(octets[6], b'a');
+    let [o, p] = digits_of(octets[7], b'a');
+    [
+        a, b, c, d, b':', e, f, g, h, b':', i, j, k, l, b':', m, n, o, p,
+    ]
+}
+
 impl fmt::Display for Locator {
     ghost output = { λ l. Some (locator_text l.0) };
 
     fn fmt<W: fmt::Write>(&self, f: &mut fmt::Formatter<W>) -> fmt::Result {
-        let [a, b, c, d, e, g, h, i] = self.0;
-        let first = u16::from_be_bytes([a, b]);
-        let second = u16::from_be_bytes([c, d]);
-        let third = u16::from_be_bytes([e, g]);
-        let fourth = u16::from_be_bytes([h, i]);
-        write!(f, "{first:x}:{second:x}:{third:x}:{fourth:x}")
+        let text = text_of(self.0);
+        f.write_str(str::from_utf8(&text).map_err(|_| fmt::Error)?)
     }
 }
 

@@ -10,7 +10,7 @@ use crate::numbers::{are_digits, number_from_text};
 use std::fmt;
 
 /// A second of the Gregorian calendar, in UTC. It prints as YYYYMMDDHHmmSS.
-#[derive(Clone, Copy, Debug, PartialEq, Eq)]
+#[derive(Clone, Copy)]
 pub struct Date {
     pub year: u16,
     pub month: u8,

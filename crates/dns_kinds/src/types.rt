@@ -122,7 +122,7 @@ const PORTABLE: [u16; 48] = [
 ];
 
 /// A type of records, by its code. It prints as its name or, without one, as `TYPE` and the code.
-#[derive(Clone, Copy, Debug, PartialEq, Eq)]
+#[derive(Clone, Copy)]
 pub struct RecordType(pub u16);
 
 /// Returns the code of the common type whose name is `text`, in capital letters.
@@ -222,7 +222,7 @@ impl fmt::Display for RecordType {
 
 /// A type in a type bitmap, in RRSIG, or before record data in the generic form. It prints as its
 /// name if every reader knows that, and otherwise as `TYPE` and the code (RFC 3597 section 5).
-#[derive(Clone, Copy, Debug, PartialEq, Eq)]
+#[derive(Clone, Copy)]
 pub struct PortableType(pub RecordType);
 
 impl fmt::Display for PortableType {
@@ -239,7 +239,7 @@ impl fmt::Display for PortableType {
 
 /// The type that a SIG covers. It prints as [`PortableType`] does, but type 0 as `0`: such a SIG
 /// signs a message (RFC 2931 section 3).
-#[derive(Clone, Copy, Debug, PartialEq, Eq)]
+#[derive(Clone, Copy)]
 pub struct SigType(pub RecordType);
 
 impl SigType {
