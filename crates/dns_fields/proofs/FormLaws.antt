@@ -27,11 +27,11 @@ use Rattle.dns_spelling.proofs.NameReadings.{name_once}
 use Rattle.dns_spelling.proofs.NameFronts.{names_in_front}
 use Rattle.dns_spelling.proofs.FormLaws.{strings_spelled, strings_in_front, tags_spelled, tags_in_front}
 use Rattle.dns_fields.specs.declared.field.Field.{Field}
-use Rattle.dns_fields.specs.declared.field.Field.TheVariants.{Number8 as OfNumber8, Number16 as OfNumber16, Number32 as OfNumber32, Interval as OfInterval, Ipv4 as OfIpv4, Ipv6 as OfIpv6, RecordType as OfRecordType, SigType as OfSigType, Algorithm as OfAlgorithm, NamedAlgorithm as OfNamedAlgorithm, CertificateType as OfCertificateType, Eui48 as OfEui48, Eui64 as OfEui64, Time as OfTime, Locator as OfLocator, String as OfString, PsdnAddress as OfPsdnAddress, Tag as OfTag, Salt as OfSalt, Hash as OfHash, Name as OfName}
+use Rattle.dns_fields.specs.declared.field.Field.TheVariants.{Number8 as OfNumber8, Number16 as OfNumber16, Number32 as OfNumber32, Interval as OfInterval, Ipv4 as OfIpv4, Ipv6 as OfIpv6, RecordType as OfRecordType, SigType as OfSigType, Algorithm as OfAlgorithm, CertificateType as OfCertificateType, Eui48 as OfEui48, Eui64 as OfEui64, Time as OfTime, Locator as OfLocator, String as OfString, PsdnAddress as OfPsdnAddress, Tag as OfTag, Salt as OfSalt, Hash as OfHash, Name as OfName}
 use Rattle.dns_fields.specs.Fields.{field_form}
 use Rattle.dns_fields.specs.Forms.{IsFieldForm, IsPsdnAddress, IsWireHash, IsWirePsdnAddress, word_form, string_form, psdn_address_form, tag_form, salt_form, hash_form, name_form}
 use Rattle.dns_fields.specs.Words.{AreOctetsOf, IsWordKind}
-use Rattle.dns_fields.specs.WordLaws.{number8_is_kind, number16_is_kind, number32_is_kind, interval_is_kind, ipv4_is_word, ipv6_is_word, type_is_word, sig_type_is_word, algorithm_is_word, certificate_is_word, named_algorithm_is_word, eui48_is_word, eui64_is_word, date_is_word, locator_is_word}
+use Rattle.dns_fields.specs.WordLaws.{number8_is_kind, number16_is_kind, number32_is_kind, interval_is_kind, ipv4_is_word, ipv6_is_word, type_is_word, sig_type_is_word, algorithm_is_word, certificate_is_word, eui48_is_word, eui64_is_word, date_is_word, locator_is_word}
 
 -- so many octets stand in front in one way
 of_one_width : (width : ℕ) → StandInFront (AreOctetsOf width)
@@ -211,7 +211,6 @@ fields_are_forms origin is OfIpv6 = word_is_form _ _ _ _ _ _ ipv6_is_word
 fields_are_forms origin is OfRecordType = word_is_form _ _ _ _ _ _ type_is_word
 fields_are_forms origin is OfSigType = word_is_form _ _ _ _ _ _ sig_type_is_word
 fields_are_forms origin is OfAlgorithm = word_is_form _ _ _ _ _ _ algorithm_is_word
-fields_are_forms origin is OfNamedAlgorithm = word_is_form _ _ _ _ _ _ named_algorithm_is_word
 fields_are_forms origin is OfCertificateType = word_is_form _ _ _ _ _ _ certificate_is_word
 fields_are_forms origin is OfEui48 = word_is_form _ _ _ _ _ _ eui48_is_word
 fields_are_forms origin is OfEui64 = word_is_form _ _ _ _ _ _ eui64_is_word
@@ -235,7 +234,6 @@ fields_once origin OfIpv6 quoted text a b h k = (fields_are_forms None tt OfIpv6
 fields_once origin OfRecordType quoted text a b h k = (fields_are_forms None tt OfRecordType).once quoted text a b h k
 fields_once origin OfSigType quoted text a b h k = (fields_are_forms None tt OfSigType).once quoted text a b h k
 fields_once origin OfAlgorithm quoted text a b h k = (fields_are_forms None tt OfAlgorithm).once quoted text a b h k
-fields_once origin OfNamedAlgorithm quoted text a b h k = (fields_are_forms None tt OfNamedAlgorithm).once quoted text a b h k
 fields_once origin OfCertificateType quoted text a b h k = (fields_are_forms None tt OfCertificateType).once quoted text a b h k
 fields_once origin OfEui48 quoted text a b h k = (fields_are_forms None tt OfEui48).once quoted text a b h k
 fields_once origin OfEui64 quoted text a b h k = (fields_are_forms None tt OfEui64).once quoted text a b h k

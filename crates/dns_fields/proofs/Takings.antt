@@ -1,6 +1,6 @@
 -- Fields taken one after another.
-use Rattle.std.proofs.Common.{ℕ, Option, zero, suc, replicate, Some, ◌≡◌, ◌<◌, ◌≤◌, ◌+◌, arith, Err, List, [], ◌∷◌, ◌++◌, length, take, get_or, refl, sym, subst, ap, ◌∙◌}
-use Rattle.std.proofs.Math.Seq.{take-suc, take-length}
+use Rattle.std.proofs.Common.{ℕ, Option, zero, suc, replicate, Some, ◌≡◌, ◌<◌, ◌≤◌, ◌+◌, ◌-◌, arith, Err, List, [], ◌∷◌, ◌++◌, length, take, drop, get_or, refl, sym, subst, ap, ◌∙◌, length-take-le}
+use Rattle.std.proofs.Math.Seq.{take-suc, take-length, drop-append_seam}
 use Rattle.std.proofs.lemmas.List.{append_assoc, append-nil, length-replicate}
 use Rattle.std.specs.Prelude.{slice_get}
 use Rattle.dns_split.specs.EntryTokens.{TokenSeen}
@@ -66,6 +66,18 @@ module _ (origin : Option (List (List ℕ))) where
   as_many [] (t ∷ ts) octets h = absurd h
   as_many (f ∷ fs) [] octets h = absurd h
   as_many (f ∷ fs) (t ∷ ts) octets h = ap suc (as_many fs ts h.1 h.4)
+
+  -- the tokens behind those that are taken
+  pub left_behind : (fields : List Field) (place : ℕ) (tokens left : List TokenSeen) (old new : List ℕ) → place ≤ length fields → HasTaken origin (take place fields) tokens old left new → left ≡ drop place tokens
+  left_behind fields place tokens left old new few h =
+      let long : length h.taken ≡ place = sym (as_many (take place fields) h.taken h.octets h.spelled) ∙ length-take-le place fields few in
+      sym (ap (λ n. drop n tokens) (sym long) ∙ ap (drop (length h.taken)) h.whole ∙ drop-append_seam h.taken left)
+
+  pub next_last : (fields : List Field) (place begun end at : ℕ) (tokens left : List TokenSeen) (old new : List ℕ) → place ≤ length fields → HasTaken origin (take place fields) tokens old left new → end ≡ begun → at ≡ next_place left end
+      → at ≡ next_place (drop (place + 1 - 1) tokens) begun
+  next_last fields place begun end at tokens left old new few h ends is =
+      let same : place ≡ place + 1 - 1 = omega arith in
+      is ∙ ap (next_place left) ends ∙ ap (λ l. next_place l begun) (left_behind fields place tokens left old new few h) ∙ ap (λ n. next_place (drop n tokens) begun) same
 
   pub take_last : {A : Type 0} (count : ℕ) (x : A) → take count (replicate (suc count) x) ≡ replicate count x
   take_last zero x = refl

@@ -1,5 +1,5 @@
 -- Fields that are read of the tokens of an entry, one token each.
-use Rattle.std.specs.Prelude.{ℕ, Option, suc, length, replicate, ◌≡◌, List, [], ◌∷◌, ◌++◌, take, slice_get, Some, Result, Ok, Err}
+use Rattle.std.specs.Prelude.{ℕ, Option, suc, length, replicate, ◌≡◌, ◌-◌, List, [], ◌∷◌, ◌++◌, take, drop, slice_get, Some, Result, Ok, Err}
 use Rattle.dns_octets.specs.Room.{Room}
 use Rattle.dns_octets.specs.Appending.{Extends, Gains}
 use Rattle.dns_split.specs.EntryTokens.{TokenSeen}
@@ -51,9 +51,13 @@ pub record RefusesAField (origin : Option (List (List ℕ))) (room : Room) (fiel
   pub why : RefusesNext origin room field left middle r.refusal.why
   pub extends : Extends middle new
 
--- all fields are taken; or one is refused
-abbrev pub TakesAllFields : Option (List (List ℕ)) → Room → List Field → ℕ → List TokenSeen → List ℕ → Result (Unit {0}) FieldRefusal → List TokenSeen → List ℕ → Type 0
-TakesAllFields origin room fields end tokens old (Ok _) left new = HasTaken origin fields tokens old left new
+-- the place of the last of the tokens that are taken as fields
+abbrev pub last_place : List Field → List TokenSeen → ℕ → ℕ
+last_place fields tokens end = next_place (drop (length fields - 1) tokens) end
+
+-- all fields are taken, and this is the place of the last; or one is refused
+abbrev pub TakesAllFields : Option (List (List ℕ)) → Room → List Field → ℕ → List TokenSeen → List ℕ → Result ℕ FieldRefusal → List TokenSeen → List ℕ → Type 0
+TakesAllFields origin room fields end tokens old (Ok at) left new = HasTaken origin fields tokens old left new × (at ≡ last_place fields tokens end)
 TakesAllFields origin room fields end tokens old (Err r) left new = RefusesAField origin room fields end tokens old r left new
 
 -- each of the tokens spells the field, and the octets are theirs, one after another

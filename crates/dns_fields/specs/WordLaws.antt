@@ -10,22 +10,20 @@ use Rattle.std.proofs.lemmas.Nat.{be_bytes_4}
 use Rattle.std.proofs.lemmas.Fmt.{decimal_is_IsNumeral}
 use Rattle.dns_kinds.specs.Kind.{IsKind}
 use Rattle.dns_kinds.specs.Addresses.{shown_ipv6}
-use Rattle.dns_kinds.specs.Algorithms.{SpellsAlgorithm, SpellsCertificate, algorithm_text, certificate_text}
+use Rattle.dns_kinds.specs.Algorithms.{SpellsAlgorithm, SpellsCertificate, certificate_text}
 use Rattle.dns_kinds.specs.Eui.{AreEuiOctets, SpellsEui48, SpellsEui64, dashed_text}
 use Rattle.dns_kinds.specs.Locator.{SpellsLocator, locator_text}
 use Rattle.dns_kinds.specs.Time.{IsDate, SpellsDate, seconds_at, date_at, date_text}
 use Rattle.dns_kinds.specs.Ttl.{SpellsInterval}
 use Rattle.dns_kinds.specs.Types.{SpellsPortable, portable_text, SpellsSigType, sig_type_text}
 use Rattle.dns_kinds.specs.declared.addresses.Ipv6Shown.{Ipv6Shown}
-use Rattle.dns_kinds.specs.declared.algorithms.Algorithm.{Algorithm}
 use Rattle.dns_kinds.proofs.AddressLaws.{ipv4_is_kind, ipv6_is_kind}
-use Rattle.dns_kinds.proofs.CodeLaws.{portable_types_are_kind, sig_types_are_kind, algorithms_are_kind, numbers_of_algorithms_are_kind, certificates_are_kind}
+use Rattle.dns_kinds.proofs.CodeLaws.{portable_types_are_kind, sig_types_are_kind, algorithms_are_kind, certificates_are_kind}
 use Rattle.dns_kinds.proofs.DateLaws.{dates_are_kind}
 use Rattle.dns_kinds.proofs.DatesAt.{seconds_have_dates}
 use Rattle.dns_kinds.proofs.LocatorLaws.{locators_are_kind}
 use Rattle.dns_kinds.proofs.EuiLaws.{euis_are_kind}
 use Rattle.dns_kinds.proofs.TtlLaws.{intervals_are_kind}
-use Rattle.dns_fields.specs.declared.words.AlgorithmNumber.{AlgorithmNumber}
 use Rattle.dns_fields.specs.declared.words.Interval.{Interval}
 use Rattle.dns_fields.specs.Words.{IsWordKind, SpellsBelow, SpellsAs, AreOctetsOf}
 
@@ -181,15 +179,8 @@ sig_type_is_word = of_kind 2 (λ t. t.0.0 < 2 ^ 16) SpellsSigType (λ t. sig_typ
 pub certificate_is_word : IsWordKind 2 (λ t. t.0 < 2 ^ 16) SpellsCertificate (λ t. to_be_bytes w16 t.0) (λ octets. certificate_text (record { 0 = from_be_bytes w16 octets }))
 certificate_is_word = of_kind 2 (λ t. t.0 < 2 ^ 16) SpellsCertificate certificate_text (λ t. to_be_bytes w16 t.0) (λ octets. record { 0 = from_be_bytes w16 octets }) certificates_are_kind (λ t small. octets16 t.0) number16_of
 
-pub named_algorithm_is_word : IsWordKind 1 (λ a. a.0 < 2 ^ 8) SpellsAlgorithm (λ a. a.0 ∷ []) (λ octets. algorithm_text (record { 0 = slice_index octets 0 }))
-named_algorithm_is_word = of_kind 1 (λ a. a.0 < 2 ^ 8) SpellsAlgorithm algorithm_text (λ a. a.0 ∷ []) (λ octets. record { 0 = slice_index octets 0 }) algorithms_are_kind (λ a small. octets8 a.0 small) number8_of
-
-pub algorithm_is_word : IsWordKind 1 (λ (a : AlgorithmNumber). a.0.0 < 2 ^ 8) (λ text a. SpellsAlgorithm text a.0) (λ a. a.0.0 ∷ []) (λ octets. decimal (slice_index octets 0))
-algorithm_is_word = record {
-  sized = λ a small. octets8 a.0.0 small;
-  spelled = λ octets h. let n = slice_index octets 0 in let is = number8_of octets h in (record { 0 = record { 0 = n } }, is.0, numbers_of_algorithms_are_kind.spelled (record { 0 = n }) is.0, is.1);
-  once = λ text v w h k. ap (λ (a : Algorithm). a.0 ∷ []) (numbers_of_algorithms_are_kind.once text v.0 w.0 h k);
-}
+pub algorithm_is_word : IsWordKind 1 (λ a. a.0 < 2 ^ 8) SpellsAlgorithm (λ a. a.0 ∷ []) (λ octets. decimal (slice_index octets 0))
+algorithm_is_word = of_kind 1 (λ a. a.0 < 2 ^ 8) SpellsAlgorithm (λ a. decimal a.0) (λ a. a.0 ∷ []) (λ octets. record { 0 = slice_index octets 0 }) algorithms_are_kind (λ a small. octets8 a.0 small) number8_of
 
 pub eui48_is_word : IsWordKind 6 (λ e. AreEuiOctets 6 e.0) SpellsEui48 (λ e. e.0) dashed_text
 eui48_is_word = of_kind 6 (λ e. AreEuiOctets 6 e.0) SpellsEui48 (λ e. dashed_text e.0) (λ e. e.0) (λ octets. record { 0 = octets }) euis_are_kind.0 (λ e h. h) (λ octets h. (h, refl))

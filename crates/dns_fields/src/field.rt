@@ -13,7 +13,7 @@ use crate::texts::{
     write_psdn_address, write_salt, write_string, write_tag,
 };
 use crate::word::{append_word, word_width, write_word};
-use crate::words::{AlgorithmNumber, Interval};
+use crate::words::Interval;
 use dns_kinds::{
     Algorithm, CertificateType, Date, Eui48, Eui64, Ipv6Shown, Locator, PortableType, SigType,
 };
@@ -25,7 +25,7 @@ use std::fmt;
 use std::net::Ipv4Addr;
 
 /// A kind of field that is one token of an entry.
-#[derive(Clone, Copy, Debug, PartialEq, Eq)]
+#[derive(Clone, Copy)]
 pub enum Field {
     /// A number of 8 bits.
     Number8,
@@ -43,10 +43,8 @@ pub enum Field {
     RecordType,
     /// The type that a SIG covers, which may be the digit 0.
     SigType,
-    /// An algorithm of keys and signatures, which prints as its number.
+    /// An algorithm of keys and signatures, by name or number, which prints as its number.
     Algorithm,
-    /// The same, which prints as its name.
-    NamedAlgorithm,
     /// A type of certificates.
     CertificateType,
     /// An EUI-48.
@@ -89,8 +87,7 @@ pub fn append_field<Octets: AsOctets, B: OctetsBuilder>(
         Field::Ipv6 => append_word::<Ipv6Shown, B>(token, target),
         Field::RecordType => append_word::<PortableType, B>(token, target),
         Field::SigType => append_word::<SigType, B>(token, target),
-        Field::Algorithm => append_word::<AlgorithmNumber, B>(token, target),
-        Field::NamedAlgorithm => append_word::<Algorithm, B>(token, target),
+        Field::Algorithm => append_word::<Algorithm, B>(token, target),
         Field::CertificateType => append_word::<CertificateType, B>(token, target),
         Field::Eui48 => append_word::<Eui48, B>(token, target),
         Field::Eui64 => append_word::<Eui64, B>(token, target),
@@ -118,8 +115,7 @@ pub fn field_width(field: Field, octets: &[u8]) -> Option<usize>
         Field::Ipv6 => word_width::<Ipv6Shown>(octets),
         Field::RecordType => word_width::<PortableType>(octets),
         Field::SigType => word_width::<SigType>(octets),
-        Field::Algorithm => word_width::<AlgorithmNumber>(octets),
-        Field::NamedAlgorithm => word_width::<Algorithm>(octets),
+        Field::Algorithm => word_width::<Algorithm>(octets),
         Field::CertificateType => word_width::<CertificateType>(octets),
         Field::Eui48 => word_width::<Eui48>(octets),
         Field::Eui64 => word_width::<Eui64>(octets),
@@ -152,8 +148,7 @@ pub fn write_field<W: fmt::Write>(
         Field::Ipv6 => write_word::<Ipv6Shown, W>(octets, f),
         Field::RecordType => write_word::<PortableType, W>(octets, f),
         Field::SigType => write_word::<SigType, W>(octets, f),
-        Field::Algorithm => write_word::<AlgorithmNumber, W>(octets, f),
-        Field::NamedAlgorithm => write_word::<Algorithm, W>(octets, f),
+        Field::Algorithm => write_word::<Algorithm, W>(octets, f),
         Field::CertificateType => write_word::<CertificateType, W>(octets, f),
         Field::Eui48 => write_word::<Eui48, W>(octets, f),
         Field::Eui64 => write_word::<Eui64, W>(octets, f),

@@ -16,4 +16,4 @@ pub use field::{Field, append_field, field_width, write_field};
 pub use source::{TokenList, TokenSource};
 pub use taking::{FieldRefusal, Refusal, take_each, take_field, take_fields};
 pub use word::{Word, append_word};
-pub use words::{AlgorithmNumber, Interval};
+pub use words::Interval;

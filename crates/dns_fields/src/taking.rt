@@ -10,14 +10,14 @@ use dns_octets::{AsOctets, OctetsBuilder};
 use dns_wire::Name;
 
 /// A token that is refused, by its place, and why. Where none is left, the place is the entry's end.
-#[derive(Clone, Copy, Debug, PartialEq, Eq)]
+#[derive(Clone, Copy)]
 pub struct Refusal {
     pub at: usize,
     pub why: FieldError,
 }
 
 /// A field that is refused, by its place among the fields of a record, and why.
-#[derive(Clone, Copy, Debug, PartialEq, Eq)]
+#[derive(Clone, Copy)]
 pub struct FieldRefusal {
     pub field: usize,
     pub refusal: Refusal,
@@ -47,17 +47,20 @@ pub fn take_field<S: TokenSource, Octets: AsOctets, B: OctetsBuilder>(
 }
 
 /// Takes a token for each of the fields, and appends their octets one after another. Where one is
-/// refused, those before it are taken.
+/// refused, those before it are taken. Returns the place of the last of these tokens, or without
+/// fields that of the token that comes next.
 pub fn take_fields<S: TokenSource, Octets: AsOctets, B: OctetsBuilder>(
     fields: &[Field],
     origin: Option<&Name<Octets>>,
     source: &mut S,
     target: &mut B,
-) -> Result<(), FieldRefusal>
+) -> Result<usize, FieldRefusal>
     ensures takes { TakesAllFields (option_copied origin.entry) B.room fields.now (S.end source.old).at (S.left source.old) (B.octets target.old) result (S.left source.new) (B.octets target.new) }
     ensures end { S.end source.new ≡ S.end source.old }
 {
+    let mut last = source.place();
     for (place, field) in fields.iter().enumerate() {
+        last = source.place();
         if let Err(refusal) = take_field(*field, origin, source, target) {
             return Err(FieldRefusal {
                 field: place,
@@ -65,7 +68,7 @@ pub fn take_fields<S: TokenSource, Octets: AsOctets, B: OctetsBuilder>(
             });
         }
     }
-    Ok(())
+    Ok(last)
 }
 
 /// Takes the tokens that are left, each as the same field, and appends their octets one after

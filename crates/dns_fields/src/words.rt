@@ -5,7 +5,7 @@ ghost use Rattle.std.specs.Net.Addr.{ipv4_octets, ipv6_octets, segments_of, IsIp
 ghost use Rattle.std.specs.Net.Grammar.{IsIpv4Text, IsIpv6Text};
 ghost use Rattle.std.specs.Net.Text.{ipv4_text};
 ghost use Rattle.dns_kinds.specs.Addresses.{shown_ipv6};
-ghost use Rattle.dns_kinds.specs.Algorithms.{SpellsAlgorithm, SpellsCertificate, algorithm_text, certificate_text};
+ghost use Rattle.dns_kinds.specs.Algorithms.{SpellsAlgorithm, SpellsCertificate, certificate_text};
 ghost use Rattle.dns_kinds.specs.Eui.{AreEuiOctets, SpellsEui48, SpellsEui64, dashed_text};
 ghost use Rattle.dns_kinds.specs.Locator.{SpellsLocator, locator_text};
 ghost use Rattle.dns_kinds.specs.Time.{IsDate, SpellsDate, seconds_at, date_at, date_text};
@@ -13,7 +13,7 @@ ghost use Rattle.dns_kinds.specs.Ttl.{SpellsInterval};
 ghost use Rattle.dns_kinds.specs.Types.{SpellsPortable, portable_text, SpellsSigType, sig_type_text};
 ghost use Rattle.dns_kinds.specs.declared.error.KindError.TheVariants.{ExpectedIpv4, ExpectedIpv6, ExpectedInterval, UnknownType, UnknownAlgorithm, UnknownCertificate, ExpectedEui48, ExpectedEui64, ExpectedTime, ExpectedLocator};
 ghost use Rattle.dns_fields.specs.Words.{SpellsBelow, NumberReason};
-ghost use Rattle.dns_fields.specs.WordLaws.{number8_is_kind, number16_is_kind, number32_is_kind, interval_is_kind, ipv4_is_word, ipv6_is_word, type_is_word, sig_type_is_word, algorithm_is_word, certificate_is_word, named_algorithm_is_word, eui48_is_word, eui64_is_word, date_is_word, locator_is_word};
+ghost use Rattle.dns_fields.specs.WordLaws.{number8_is_kind, number16_is_kind, number32_is_kind, interval_is_kind, ipv4_is_word, ipv6_is_word, type_is_word, sig_type_is_word, algorithm_is_word, certificate_is_word, eui48_is_word, eui64_is_word, date_is_word, locator_is_word};
 
 use crate::word::Word;
 use dns_kinds::numbers::{u8_from_text, u16_from_text, u32_from_text};
@@ -27,7 +27,7 @@ use std::net::{Ipv4Addr, Ipv6Addr};
 
 /// A number of seconds below 2^32, which may be written with units (the timers of SOA). It prints
 /// in decimal.
-#[derive(Clone, Copy, Debug, PartialEq, Eq)]
+#[derive(Clone, Copy)]
 pub struct Interval(pub u32);
 
 impl fmt::Display for Interval {
@@ -35,18 +35,6 @@ impl fmt::Display for Interval {
 
     fn fmt<W: fmt::Write>(&self, f: &mut fmt::Formatter<W>) -> fmt::Result {
         write!(f, "{}", self.0)
-    }
-}
-
-/// An algorithm that is written by name or number, and prints as its number.
-#[derive(Clone, Copy, Debug, PartialEq, Eq)]
-pub struct AlgorithmNumber(pub Algorithm);
-
-impl fmt::Display for AlgorithmNumber {
-    ghost output = { λ a. Some (decimal a.0.0) };
-
-    fn fmt<W: fmt::Write>(&self, f: &mut fmt::Formatter<W>) -> fmt::Result {
-        write!(f, "{}", self.0.0)
     }
 }
 
@@ -328,41 +316,6 @@ impl Word for SigType {
     ghost is_kind = { sig_type_is_word };
 }
 
-impl Word for AlgorithmNumber {
-    ghost width = { 1 };
-
-    ghost valid = { λ a. a.0.0 < 2 ^ 8 };
-
-    ghost spells = { λ text a. SpellsAlgorithm text a.0 };
-
-    ghost reason = { λ _ e. e ≡ UnknownAlgorithm };
-
-    ghost wire = { λ a. a.0.0 ∷ [] };
-
-    ghost printed = { λ octets. decimal (slice_index octets 0) };
-
-    fn width() -> usize {
-        1
-    }
-
-    fn from_text(text: &[u8]) -> Result<Self, KindError> {
-        match Algorithm::from_text(text) {
-            Ok(value) => Ok(AlgorithmNumber(value)),
-            Err(why) => Err(why),
-        }
-    }
-
-    fn from_wire(octets: &[u8]) -> Self {
-        AlgorithmNumber(Algorithm(octets[0]))
-    }
-
-    fn append<B: OctetsBuilder>(&self, target: &mut B) -> Result<(), ShortBuf> {
-        target.append_slice(&[self.0.0])
-    }
-
-    ghost is_kind = { algorithm_is_word };
-}
-
 impl Word for CertificateType {
     ghost width = { 2 };
 
@@ -406,7 +359,7 @@ impl Word for Algorithm {
 
     ghost wire = { λ a. a.0 ∷ [] };
 
-    ghost printed = { λ octets. algorithm_text (record { 0 = slice_index octets 0 }) };
+    ghost printed = { λ octets. decimal (slice_index octets 0) };
 
     fn width() -> usize {
         1
@@ -424,7 +377,7 @@ impl Word for Algorithm {
         target.append_slice(&[self.0])
     }
 
-    ghost is_kind = { named_algorithm_is_word };
+    ghost is_kind = { algorithm_is_word };
 }
 
 impl Word for Eui48 {

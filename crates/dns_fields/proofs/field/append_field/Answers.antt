@@ -27,9 +27,6 @@ returns-in-SigType g c = rw c.in-SigType.is c.append_word-in-SigType.ensures.rea
 pub returns-in-Algorithm : goal.returns-in-Algorithm
 returns-in-Algorithm g c = rw c.in-Algorithm.is c.append_word-in-Algorithm.ensures.reads
 
-pub returns-in-NamedAlgorithm : goal.returns-in-NamedAlgorithm
-returns-in-NamedAlgorithm g c = rw c.in-NamedAlgorithm.is c.append_word-in-NamedAlgorithm.ensures.reads
-
 pub returns-in-CertificateType : goal.returns-in-CertificateType
 returns-in-CertificateType g c = rw c.in-CertificateType.is c.append_word-in-CertificateType.ensures.reads
 

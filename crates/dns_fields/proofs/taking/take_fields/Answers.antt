@@ -1,9 +1,10 @@
-use Rattle.std.proofs.Common.{refl, ◌∙◌, ap}
-use Rattle.dns_fields.proofs.Takings.{none_taken, taken_next, all_taken, refused_at}
+use Rattle.std.proofs.Common.{◌≡◌, ◌-◌, length, drop, refl, ◌∙◌, ap, arith}
+use Rattle.dns_fields.specs.Source.{next_place}
+use Rattle.dns_fields.proofs.Takings.{none_taken, taken_next, next_last, all_taken, refused_at}
 use Rattle.dns_fields.proofs.taking.take_fields.Goals as goal
 
 pub loop-place-init : goal.loop-place-init
-loop-place-init g c = record { taken = none_taken _ _ _; end = refl }
+loop-place-init g c = record { taken = none_taken _ _ _; end = refl; last = c.place-last.ensures }
 
 pub returns-in-Err-clause-takes : goal.returns-in-Err-clause-takes
 returns-in-Err-clause-takes g c =
@@ -18,10 +19,17 @@ loop-place-preserved g c =
     record {
       taken = taken_next _ c.args.fields.now c.loop-place.place _ t.0 _ _ _ _ _ _ c.loop-place-test.true c.loop-place.invariant.taken t.1 t.2;
       end = c.take_field.ensures.end ∙ c.loop-place.invariant.end;
+      last = next_last _ c.args.fields.now c.loop-place.place _ _ _ _ _ _ _ (omega (arith, c.loop-place-test.true)) c.loop-place.invariant.taken (ap (λ e. e.at) c.loop-place.invariant.end) c.place-last-in-loop-place.ensures;
     }
 
 pub returns-clause-takes : goal.returns-clause-takes
-returns-clause-takes g c = all_taken _ c.args.fields.now c.loop-place.place _ _ _ _ c.loop-place-test.false c.loop-place.auto.place-end c.loop-place.invariant.taken
+returns-clause-takes g c =
+    let tokens = g.S.TokenSource.left c.args.source.now in
+    let end = (g.S.TokenSource.end c.args.source.now).at in
+    let all : c.loop-place.place ≡ length c.args.fields.now = omega (arith, c.loop-place-test.false, c.loop-place.auto.place-end) in (
+      all_taken _ c.args.fields.now c.loop-place.place _ _ _ _ c.loop-place-test.false c.loop-place.auto.place-end c.loop-place.invariant.taken,
+      c.loop-place.invariant.last ∙ ap (λ n. next_place (drop (n - 1) tokens) end) all,
+    )
 
 pub returns-clause-end : goal.returns-clause-end
 returns-clause-end g c = c.loop-place.invariant.end

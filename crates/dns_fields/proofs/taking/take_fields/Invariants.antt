@@ -1,5 +1,6 @@
-use Rattle.std.proofs.Common.{◌≡◌, take}
+use Rattle.std.proofs.Common.{◌≡◌, ◌-◌, take, drop}
 use Rattle.std.specs.Option.{option_copied}
+use Rattle.dns_fields.specs.Source.{next_place}
 use Rattle.dns_fields.specs.Taking.{HasTaken}
 use Rattle.dns_fields.proofs.taking.take_fields.Given as goal
 
@@ -11,4 +12,5 @@ invariant-loop-place g l =
     record {
       taken : HasTaken (option_copied l.origin) (take l.place l.fields) (left l.fn.source) (octets l.fn.target) (left l.source) (octets l.target);
       end : g.S.TokenSource.end l.source ≡ g.S.TokenSource.end l.fn.source;
+      last : l.last ≡ next_place (drop (l.place - 1) (left l.fn.source)) (g.S.TokenSource.end l.fn.source).at;
     }
