@@ -30,7 +30,6 @@ FIELDS = {
     "locator": ("L64", "0 ", "", "0000", "", "locator"),
     "type": ("RRSIG", "", " 0 0 0 19700101000000 19700101000000 0 . AA==", "", "00 00 00000000 00000000 00000000 0000 00 00", "type covered"),
     "algorithm": ("DNSKEY", "0 0 ", " AA==", "0000 00", "00", "algorithm"),
-    "named_algorithm": ("CERT", "0 0 ", " AA==", "0000 0000", "00", "algorithm"),
     "certificate": ("CERT", "", " 0 0 AA==", "", "0000 00 00", "type"),
     "string": ("HINFO", '"" ', "", "00", "", "system"),
     "tag": ("CAA", "0 ", ' ""', "00", "", "tag"),
@@ -42,7 +41,7 @@ FIELDS = {
 # Widths of fixed-width fields, in octets.
 WIDTHS = {
     "u8": 1, "u16": 2, "u32": 4, "interval": 4, "time": 4, "ipv4": 4, "ipv6": 16, "eui48": 6, "eui64": 8,
-    "locator": 8, "type": 2, "algorithm": 1, "named_algorithm": 1, "certificate": 2,
+    "locator": 8, "type": 2, "algorithm": 1, "certificate": 2,
 }
 # Kinds whose field ends the RDATA in FIELDS: one octet more or less makes the RDATA invalid.
 LAST = [kind for kind, form in FIELDS.items() if form[2] == "" and form[4] == "" and kind != "hash"]
@@ -64,7 +63,7 @@ SHAPES = {
     "u8,u8": ("SSHFP", "algorithm fingerprint_type fingerprint"),
     "u8,u8,u8": ("TLSA", "usage selector matching_type data"),
     "u32,u8,u8": ("ZONEMD", "serial scheme hash_algorithm digest"),
-    "certificate,u16,named_algorithm": ("CERT", "type key_tag algorithm certificate"),
+    "certificate,u16,algorithm": ("CERT", "type key_tag algorithm certificate"),
     "type,algorithm,u8,u32,time,time,u16,name": (
         "RRSIG", "type_covered algorithm labels original_TTL expiration inception key_tag signer signature"),
     "u16,u16": ("URI", "priority weight target"),

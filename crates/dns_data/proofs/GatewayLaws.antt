@@ -1,7 +1,6 @@
 -- Gateways, as words and as octets.
-use Rattle.std.proofs.Common.{ℕ, true, false, ◌≡◌, ◌≢◌, ◌<◌, ◌≤◌, ◌-◌, ◌*◌, ◌^◌, Option, Some, None, List, [], ◌∷◌, ◌++◌, length, take, drop, refl, sym, ap, subst, ◌∙◌, inl, inr, arith, length-append, take_at, take-append-drop, length-take-le, length-drop}
-use Rattle.std.specs.Prelude.{Result, Err, slice_index, nat_lt}
-use Rattle.std.proofs.lemmas.Bool.{ltb-true, lt-ltb}
+use Rattle.std.proofs.Common.{ℕ, zero, suc, true, false, ◌≡◌, ◌≢◌, ◌<◌, ◌≤◌, ◌-◌, ◌*◌, ◌^◌, Option, Some, None, List, [], ◌∷◌, ◌++◌, length, take, drop, refl, sym, ap, subst, ◌∙◌, inl, inr, arith, length-append, take_at, take-append-drop, length-take-le, length-drop}
+use Rattle.std.specs.Prelude.{Result, Ok, Err, slice_index}
 use Rattle.std.proofs.lemmas.List.Elements.{All-tail}
 use Rattle.dns_digits.proofs.Pieces.{rest_of}
 use Rattle.std.specs.Net.Addr.{ipv6_segments}
@@ -24,9 +23,9 @@ use Rattle.dns_spelling.specs.Spelling.{AreOctetValues}
 use Rattle.dns_spelling.proofs.FormLaws.{values_front, values_back}
 use Rattle.dns_spelling.proofs.NameFronts.{names_in_front}
 use Rattle.dns_split.specs.EntryTokens.{TokenSeen}
-use Rattle.dns_data.specs.GatewayKeys.{octet_form, gateway_type_form, ReadsGatewayType, SpellsAddress, AddressReason, IsAddressOf, gateway_form, gateway_key_form}
-use Rattle.dns_data.specs.Rests.{RestForm, TakesRest, some_form}
+use Rattle.dns_data.specs.GatewayKeys.{octet_form, gateway_type_form, ReadsGatewayType, SpellsAddress, AddressReason, IsAddressOf, gateway_form, gateway_key_form, IsGatewayPart, key_form}
 use Rattle.dns_data.specs.Digits.{digits_form}
+use Rattle.dns_data.specs.Rests.{RestForm, RefusesAs, RefusesRest, TakesRest, some_form}
 use Rattle.dns_data.specs.TokenForms.{FieldReason, TakesTokenAs, then_form}
 use Rattle.dns_data.specs.declared.error.DataError.TheVariants.{UnknownGateway}
 use Rattle.dns_data.specs.declared.error.DataRefusal.{DataRefusal}
@@ -62,24 +61,22 @@ gateway_once origin number t a b (inl h) (inr k) = absurd (no_name number k.1.0 
 gateway_once origin number t a b (inr h) (inl k) = absurd (no_name number h.1.0 k.0 h.1.1.1)
 gateway_once origin number t a b (inr h) (inr k) = address_once number t a b h k
 
--- a key; a gateway and a key; and with the algorithm before them
-abbrev pub key_form : RestForm
-key_form = some_form (digits_form InBase64)
-
-abbrev pub behind_algorithm : Option (List (List ℕ)) → ℕ → RestForm
-behind_algorithm origin number = then_form (gateway_form origin number) (λ gateway. key_form)
+-- a gateway and a key of an algorithm; and with the algorithm before them
+abbrev pub behind_algorithm : Option (List (List ℕ)) → ℕ → ℕ → RestForm
+behind_algorithm origin number algorithm = then_form (gateway_form origin number) (λ gateway. key_form algorithm)
 
 abbrev pub behind_type : Option (List (List ℕ)) → ℕ → RestForm
-behind_type origin number = then_form octet_form (λ algorithm. behind_algorithm origin number)
+behind_type origin number = then_form octet_form (λ algorithm. behind_algorithm origin number (slice_index algorithm 0))
 
-key_once : (tokens : List TokenSeen) (a b : List ℕ) → key_form.spells tokens a → key_form.spells tokens b → a ≡ b
-key_once tokens a b h k = joined_once InBase64 tokens a b h.0 k.0
+key_once : (algorithm : ℕ) (tokens : List TokenSeen) (a b : List ℕ) → (key_form algorithm).spells tokens a → (key_form algorithm).spells tokens b → a ≡ b
+key_once algorithm tokens a b h k = joined_once InBase64 tokens a b h.0 k.0
 
-algorithm_once : (origin : Option (List (List ℕ))) (number : ℕ) (tokens : List TokenSeen) (a b : List ℕ) → (behind_algorithm origin number).spells tokens a → (behind_algorithm origin number).spells tokens b → a ≡ b
-algorithm_once origin number tokens a b h k = then_once (gateway_form origin number) (λ gateway. key_form) (gateway_once origin number) (λ front ts. key_once ts) tokens a b h k
+algorithm_once : (origin : Option (List (List ℕ))) (number algorithm : ℕ) (tokens : List TokenSeen) (a b : List ℕ) → (behind_algorithm origin number algorithm).spells tokens a → (behind_algorithm origin number algorithm).spells tokens b → a ≡ b
+algorithm_once origin number algorithm tokens a b h k = then_once (gateway_form origin number) (λ gateway. key_form algorithm) (gateway_once origin number) (λ front ts. key_once algorithm ts) tokens a b h k
 
 type_once : (origin : Option (List (List ℕ))) (number : ℕ) (tokens : List TokenSeen) (a b : List ℕ) → (behind_type origin number).spells tokens a → (behind_type origin number).spells tokens b → a ≡ b
-type_once origin number tokens a b h k = then_once octet_form (λ algorithm. behind_algorithm origin number) octet_once (λ front ts. algorithm_once origin number ts) tokens a b h k
+type_once origin number tokens a b h k =
+    then_once octet_form (λ algorithm. behind_algorithm origin number (slice_index algorithm 0)) octet_once (λ front ts. algorithm_once origin number (slice_index front 0) ts) tokens a b h k
 
 pub gateway_key_once : (origin : Option (List (List ℕ))) (tokens : List TokenSeen) (a b : List ℕ) → (gateway_key_form origin).spells tokens a → (gateway_key_form origin).spells tokens b → a ≡ b
 gateway_key_once origin tokens a b h k =
@@ -126,19 +123,84 @@ module _ (origin : Option (List (List ℕ))) (number : ℕ) (room : Room) (end :
 
 -- ---- what is taken one behind the other
 
-module _ (origin : Option (List (List ℕ))) (number : ℕ) (room : Room) (end : ℕ) (tokens : List TokenSeen) (old : List ℕ) (begun : ℕ) (rest : List TokenSeen) (middle : List ℕ) (r : Result (Unit {0}) DataRefusal) (left : List TokenSeen) (new : List ℕ) where
+module _ (origin : Option (List (List ℕ))) (number algorithm : ℕ) (room : Room) (end : ℕ) (tokens : List TokenSeen) (old : List ℕ) (begun : ℕ) (rest : List TokenSeen) (middle : List ℕ) (r : Result (Unit {0}) DataRefusal) (left : List TokenSeen) (new : List ℕ) where
   pub type_before : begun ≡ end → (t : TokenSeen) × (tokens ≡ t ∷ rest) × gateway_type_form.spells t (number ∷ []) × (middle ≡ old ++ number ∷ [])
       → TakesRest room (behind_type origin number) begun rest middle r left new → TakesRest room (gateway_key_form origin) end tokens old r left new
   type_before ends k h =
       behind_taken gateway_type_form (λ number. behind_type origin (slice_index number 0)) room end tokens old gateway_type_once k.0 rest (number ∷ []) middle k.1 k.2 k.3 begun r left new ends h
 
-  pub algorithm_before : begun ≡ end → (t : TokenSeen) × (tokens ≡ t ∷ rest) × Gains (octet_form.spells t) old middle
-      → TakesRest room (behind_algorithm origin number) begun rest middle r left new → TakesRest room (behind_type origin number) end tokens old r left new
-  algorithm_before ends k h = behind_taken octet_form (λ algorithm. behind_algorithm origin number) room end tokens old octet_once k.0 rest k.2.0 middle k.1 k.2.1 k.2.2 begun r left new ends h
+  pub algorithm_before : begun ≡ end → (t : TokenSeen) × (tokens ≡ t ∷ rest) × octet_form.spells t (algorithm ∷ []) × (middle ≡ old ++ algorithm ∷ [])
+      → TakesRest room (behind_algorithm origin number algorithm) begun rest middle r left new → TakesRest room (behind_type origin number) end tokens old r left new
+  algorithm_before ends k h =
+      behind_taken octet_form (λ algorithm. behind_algorithm origin number (slice_index algorithm 0)) room end tokens old octet_once k.0 rest (algorithm ∷ []) middle k.1 k.2 k.3 begun r left new ends h
 
   pub gateway_before : begun ≡ end → (t : TokenSeen) × (tokens ≡ t ∷ rest) × Gains ((gateway_form origin number).spells t) old middle
-      → TakesRest room key_form begun rest middle r left new → TakesRest room (behind_algorithm origin number) end tokens old r left new
-  gateway_before ends k h = behind_taken (gateway_form origin number) (λ gateway. key_form) room end tokens old (gateway_once origin number) k.0 rest k.2.0 middle k.1 k.2.1 k.2.2 begun r left new ends h
+      → TakesRest room (key_form algorithm) begun rest middle r left new → TakesRest room (behind_algorithm origin number algorithm) end tokens old r left new
+  gateway_before ends k h = behind_taken (gateway_form origin number) (λ gateway. key_form algorithm) room end tokens old (gateway_once origin number) k.0 rest k.2.0 middle k.1 k.2.1 k.2.2 begun r left new ends h
+
+-- ---- which part is refused
+
+module _ (origin : Option (List (List ℕ))) where
+  pub part_few : (tokens left : List TokenSeen) (part : ℕ) → IsGatewayPart origin tokens left part → part ≤ 3
+  part_few tokens left zero h = omega arith
+  part_few [] left (suc part) h = absurd h
+  part_few (t ∷ ts) left (suc zero) h = omega arith
+  part_few (t ∷ []) left (suc (suc part)) h = absurd h.2
+  part_few (t ∷ u ∷ us) left (suc (suc zero)) h = omega arith
+  part_few (t ∷ u ∷ []) left (suc (suc (suc part))) h = absurd h.2.2
+  part_few (t ∷ u ∷ v ∷ vs) left (suc (suc (suc part))) h = omega (arith, h.2.2.2)
+
+  module _ (tokens left : List TokenSeen) (t : TokenSeen) (rest : List TokenSeen) (is : tokens ≡ t ∷ rest) (number : ℕ) (spelled : gateway_type_form.spells t (number ∷ [])) where
+    pub algorithm_part : left ≡ rest → IsGatewayPart origin tokens left 1
+    algorithm_part at = subst (λ ts. IsGatewayPart origin ts left 1) (sym is) (number ∷ [], spelled, at)
+
+    module _ (u : TokenSeen) (more : List TokenSeen) (next : rest ≡ u ∷ more) (algorithm : ℕ) (named : octet_form.spells u (algorithm ∷ [])) where
+      pub gateway_part : left ≡ more → IsGatewayPart origin tokens left 2
+      gateway_part at = subst (λ ts. IsGatewayPart origin ts left 2) (sym (is ∙ ap (λ l. t ∷ l) next)) (number ∷ [], spelled, (algorithm ∷ [], named, at))
+
+      pub key_part : (v : TokenSeen) (last : List TokenSeen) (octets : List ℕ) → more ≡ v ∷ last → (gateway_form origin number).spells v octets → IsGatewayPart origin tokens left 3
+      key_part v last octets third gateway =
+          subst (λ ts. IsGatewayPart origin ts left 3) (sym (is ∙ ap (λ l. t ∷ l) (next ∙ ap (λ l. u ∷ l) third))) (number ∷ [], spelled, (algorithm ∷ [], named, (octets, gateway, refl)))
+
+-- ---- the algorithm, and the key
+
+-- a number that was appended is the octet behind those before it
+pub octet_taken : (t : TokenSeen) (old new : List ℕ) → Gains (octet_form.spells t) old new → octet_form.spells t (slice_index new (length old) ∷ []) × (new ≡ old ++ slice_index new (length old) ∷ [])
+octet_taken t old new g =
+    let octets : List ℕ = g.0 in
+    let number : ℕ = g.1.1.0 in
+    let is : octets ≡ number ∷ [] = g.1.1.3 in
+    let whole : new ≡ old ++ number ∷ [] = g.2 ∙ ap (λ o. old ++ o) is in
+    let at : slice_index new (length old) ≡ number = ap (λ o. slice_index o (length old)) whole ∙ first_behind old number in (
+      subst (octet_form.spells t) (is ∙ ap (λ n. n ∷ []) (sym at)) g.1,
+      whole ∙ ap (λ n. old ++ n ∷ []) (sym at),
+    )
+  where
+    first_behind : (old : List ℕ) (number : ℕ) → slice_index (old ++ number ∷ []) (length old) ≡ number
+    first_behind [] number = refl
+    first_behind (o ∷ os) number = first_behind os number
+
+module _ (room : Room) (algorithm end : ℕ) (tokens : List TokenSeen) (old : List ℕ) where
+  key_refused : (f : RestForm) (r : DataRefusal) (left : List TokenSeen) (new : List ℕ) → ((octets : List ℕ) → (key_form algorithm).spells tokens octets → f.spells tokens octets) → (f.reason tokens left r.why → (key_form algorithm).reason tokens left r.why)
+      → RefusesRest room f end tokens old r left new → RefusesRest room (key_form algorithm) end tokens old r left new
+  key_refused f r left new from why h = record { at = h.at; why = by h.why; extends = h.extends }
+    where
+      by : RefusesAs room f tokens old left r.why → RefusesAs room (key_form algorithm) tokens old left r.why
+      by (inl short) = inl (short.0, λ octets sp. short.1 octets (from octets sp))
+      by (inr bad) = inr (why bad.0, λ octets sp. bad.1 octets (from octets sp))
+
+  -- a key that may be left out, and one that may not
+  pub any_key : algorithm ≡ 0 → (r : Result (Unit {0}) DataRefusal) (left : List TokenSeen) (new : List ℕ) → TakesRest room (digits_form InBase64) end tokens old r left new → TakesRest room (key_form algorithm) end tokens old r left new
+  any_key is (Ok x) left new h = (h.0, (h.1.0, (h.1.1, λ none. is), h.1.2))
+  any_key is (Err r) left new h = key_refused (digits_form InBase64) r left new (λ octets sp. sp.0) inl h
+
+  pub own_key : algorithm ≢ 0 → (r : Result (Unit {0}) DataRefusal) (left : List TokenSeen) (new : List ℕ) → TakesRest room (some_form (digits_form InBase64)) end tokens old r left new → TakesRest room (key_form algorithm) end tokens old r left new
+  own_key other (Ok x) left new h = (h.0, (h.1.0, (h.1.1.0, λ none. absurd (h.1.1.1 none)), h.1.2))
+  own_key other (Err r) left new h = key_refused (some_form (digits_form InBase64)) r left new (λ octets sp. (sp.0, λ none. other (sp.1 none))) why h
+    where
+      why : (some_form (digits_form InBase64)).reason tokens left r.why → (key_form algorithm).reason tokens left r.why
+      why (inl bad) = inl bad
+      why (inr none) = inr (none.0, none.1, other, none.2)
 
 -- ---- in octets
 
@@ -174,12 +236,12 @@ type_most : (number : ℕ) (octets : List ℕ) → (gateway_form None number).is
 type_most number octets (inl name) = omega (arith, name.0)
 type_most number octets (inr own) = let few = type_few own.0 in omega (arith, own.2, few)
 
-is_long : (octets : List ℕ) → octets ≢ [] → 0 < length octets
-is_long [] some = absurd (some refl)
-is_long (o ∷ os) some = omega arith
-
 abbrev IsOctet : ℕ → Type 0
 IsOctet o = o < 256
+
+no_octets : (octets : List ℕ) → length octets ≡ 0 → octets ≡ []
+no_octets [] none = refl
+no_octets (o ∷ os) none = absurd (omega (arith, none))
 
 -- octets are a gateway and a key, behind two others
 pub record IsKeyed (a b : ℕ) (octets : List ℕ) : Type 0 where
@@ -187,7 +249,7 @@ pub record IsKeyed (a b : ℕ) (octets : List ℕ) : Type 0 where
   pub key : List ℕ
   pub split : octets ≡ gateway ++ key
   pub is_wire : (gateway_form None a).is_wire gateway
-  pub some : key ≢ []
+  pub some : key ≡ [] → b ≡ 0
 
 one_octet : (front : List ℕ) → length front ≡ 1 → front ≡ slice_index front 0 ∷ []
 one_octet [] h = absurd (omega (arith, h))
@@ -213,29 +275,28 @@ keyed a b octets h =
       key = l.back;
       split = sym second.1 ∙ l.octets_are;
       is_wire = subst (λ n. (gateway_form None n).is_wire l.front) first.0 l.is_wire;
-      some = l.rest.1;
+      some = λ none. sym second.0 ∙ l.rest.1 none;
     }
 
 module _ (a b : ℕ) (octets : List ℕ) where
   pub no_key : FindsWidth (gateway_form None a).is_wire octets None → (gateway_key_form None).is_wire (a ∷ b ∷ octets) → ⊥
   no_key none h = let k = keyed a b octets h in none k.gateway k.key k.is_wire k.split
 
-  pub key_behind : (w : ℕ) → FindsWidth (gateway_form None a).is_wire octets (Some w) → (gateway_key_form None).is_wire (a ∷ b ∷ octets) → w < length octets
-  key_behind w found h =
+  pub key_behind : (w : ℕ) → FindsWidth (gateway_form None a).is_wire octets (Some w) → (gateway_key_form None).is_wire (a ∷ b ∷ octets) → length octets - w ≡ 0 → b ≡ 0
+  key_behind w found h zero_long =
       let k = keyed a b octets h in
       let same : Some w ≡ Some (length k.gateway) = gateway_width_is a k.gateway k.key (Some w) k.is_wire (subst (λ o. FindsWidth (gateway_form None a).is_wire o (Some w)) k.split found) in
       let width : w ≡ length k.gateway = cc same in
       let sum = ap length k.split ∙ length-append k.gateway k.key in
-      let some = is_long k.key k.some in
-      omega (arith, width, sum, some)
+      k.some (no_octets k.key (omega (arith, width, sum, zero_long)))
 
-  pub is_key : (w : ℕ) → AreOctetValues (a ∷ b ∷ octets) → FindsWidth (gateway_form None a).is_wire octets (Some w) → w < length octets → (gateway_key_form None).is_wire (a ∷ b ∷ octets)
-  is_key w values found less =
+  pub is_key : (w : ℕ) → AreOctetValues (a ∷ b ∷ octets) → FindsWidth (gateway_form None a).is_wire octets (Some w) → (length octets - w ≡ 0 → b ≡ 0) → (gateway_key_form None).is_wire (a ∷ b ∷ octets)
+  is_key w values found lacks =
       let whole : octets ≡ take w octets ++ drop w octets = sym (take-append-drop w octets) in
       let later : AreOctetValues octets = All-tail IsOctet b octets (All-tail IsOctet a (b ∷ octets) values) in
       let tail : AreOctetValues (drop w octets) = values_back (take w octets) (drop w octets) (subst AreOctetValues whole later) in
       let long : length (drop w octets) ≡ length octets - w = length-drop w octets in
-      let some : drop w octets ≢ [] = λ none. (let zero_long = ap length none in omega (arith, long, less, zero_long)) in
+      let some : drop w octets ≡ [] → b ≡ 0 = λ none. lacks (sym long ∙ ap length none) in
       record {
         front = a ∷ [];
         back = b ∷ octets;
@@ -262,19 +323,14 @@ module _ (octets : List ℕ) (long : 2 ≤ length octets) where
       no_key (slice_index octets 0) (slice_index octets 1) (drop 2 octets) (subst (λ o. FindsWidth (gateway_form None (slice_index octets 0)).is_wire o None) (rest_of 2 octets) none) (subst (gateway_key_form None).is_wire (two_in_front octets long) h)
 
   pub key_in : (w : ℕ) → AreOctetValues octets → FindsWidth (gateway_form None (slice_index octets 0)).is_wire (take (length octets - 2) (drop 2 octets)) (Some w)
-      → (nat_lt w (length octets - 2) ≡ true → (gateway_key_form None).is_wire octets) × ((gateway_key_form None).is_wire octets → nat_lt w (length octets - 2) ≡ true)
+      → ((length octets - 2 - w ≡ 0 → slice_index octets 1 ≡ 0) → (gateway_key_form None).is_wire octets) × ((gateway_key_form None).is_wire octets → length octets - 2 - w ≡ 0 → slice_index octets 1 ≡ 0)
   key_in w values cut =
       let whole = two_in_front octets long in
       let rest : List ℕ = drop 2 octets in
       let size : length rest ≡ length octets - 2 = length-drop 2 octets in
       let found : FindsWidth (gateway_form None (slice_index octets 0)).is_wire rest (Some w) = subst (λ o. FindsWidth (gateway_form None (slice_index octets 0)).is_wire o (Some w)) (rest_of 2 octets) cut in (
-        λ yes. (
-            let less : w < length octets - 2 = ltb-true w (length octets - 2) yes in
-            let few : w < length rest = omega (arith, less, size) in
-            subst (gateway_key_form None).is_wire (sym whole) (is_key (slice_index octets 0) (slice_index octets 1) rest w (subst AreOctetValues whole values) found few)
-            ),
-        λ h. (
-            let few : w < length rest = key_behind (slice_index octets 0) (slice_index octets 1) rest w found (subst (gateway_key_form None).is_wire whole h) in
-            lt-ltb w (length octets - 2) (omega (arith, few, size))
-            ),
+        λ lacks.
+            subst (gateway_key_form None).is_wire (sym whole)
+            (is_key (slice_index octets 0) (slice_index octets 1) rest w (subst AreOctetValues whole values) found (λ none. lacks (ap (λ n. n - w) (sym size) ∙ none))),
+        λ h none. key_behind (slice_index octets 0) (slice_index octets 1) rest w found (subst (gateway_key_form None).is_wire whole h) (ap (λ n. n - w) size ∙ none),
       )

@@ -25,11 +25,11 @@ use Rattle.dns_spelling.specs.NameSpelling.{IsOrigin, IsWireName}
 use Rattle.dns_spelling.specs.Spelling.{AreOctetValues}
 use Rattle.dns_split.specs.EntryTokens.{TokenSeen}
 use Rattle.dns_data.specs.Digits.{SpellsJoined, printed_digits}
-use Rattle.dns_data.specs.GatewayKeys.{octet_form, gateway_type_form, labels_size, gateway_size, gateway_word, gateway_form, gateway_key_form}
+use Rattle.dns_data.specs.GatewayKeys.{octet_form, gateway_type_form, labels_size, gateway_size, gateway_word, gateway_form, gateway_key_form, key_form}
 use Rattle.dns_data.specs.PrefixLists.{IsPrefixItem, with_zeros, family_address, item_prefix, item_size, prefix_form, prefixes_form}
 use Rattle.dns_data.specs.Rests.{RestForm, ArePrinted}
 use Rattle.dns_data.specs.TokenForms.{TokenForm, AreParts, SpellOctets, printed_each, SpellsThen, IsThen, then_form}
-use Rattle.dns_data.proofs.GatewayLaws.{behind_algorithm, behind_type, key_form, four_octets, sixteen_octets}
+use Rattle.dns_data.proofs.GatewayLaws.{behind_algorithm, behind_type, four_octets, sixteen_octets}
 
 -- what is printed of octets spells them, and they are as many as the width says
 pub record IsBack (f : TokenForm) (Spells : TokenSeen → List ℕ → Type 0) : Type 0 where
@@ -200,16 +200,17 @@ module _ (origin : Option (List (List ℕ))) (known : IsOrigin origin) (names : 
   gateway_back : (number : ℕ) → IsBack (gateway_form None number) (gateway_form origin number).spells
   gateway_back number = record { back = gateway_spelled number; sized = gateway_sized names number }
 
-  key_back : (octets : List ℕ) (tokens : List TokenSeen) → key_form.is_wire octets → ArePrinted (key_form.printed octets) tokens → key_form.spells tokens octets
-  key_back octets tokens is p = (digits octets tokens is.0 p, is.1)
+  key_back : (algorithm : ℕ) (octets : List ℕ) (tokens : List TokenSeen) → (key_form algorithm).is_wire octets → ArePrinted ((key_form algorithm).printed octets) tokens → (key_form algorithm).spells tokens octets
+  key_back algorithm octets tokens is p = (digits octets tokens is.0 p, is.1)
 
-  algorithm_back : (number : ℕ) (octets : List ℕ) (tokens : List TokenSeen) → (behind_algorithm None number).is_wire octets → ArePrinted ((behind_algorithm None number).printed octets) tokens → (behind_algorithm origin number).spells tokens octets
-  algorithm_back number octets tokens is p =
-      then_back (gateway_form None number) (gateway_form origin number) (gateway_back number) (λ gateway. key_form) (λ gateway. key_form) (λ front. key_back) octets tokens is p
+  algorithm_back : (number algorithm : ℕ) (octets : List ℕ) (tokens : List TokenSeen) → (behind_algorithm None number algorithm).is_wire octets → ArePrinted ((behind_algorithm None number algorithm).printed octets) tokens
+      → (behind_algorithm origin number algorithm).spells tokens octets
+  algorithm_back number algorithm octets tokens is p =
+      then_back (gateway_form None number) (gateway_form origin number) (gateway_back number) (λ gateway. key_form algorithm) (λ gateway. key_form algorithm) (λ front. key_back algorithm) octets tokens is p
 
   behind_back : (number : ℕ) (octets : List ℕ) (tokens : List TokenSeen) → (behind_type None number).is_wire octets → ArePrinted ((behind_type None number).printed octets) tokens → (behind_type origin number).spells tokens octets
   behind_back number octets tokens is p =
-      then_back octet_form octet_form octet_back (λ algorithm. behind_algorithm None number) (λ algorithm. behind_algorithm origin number) (λ front. algorithm_back number) octets tokens is p
+      then_back octet_form octet_form octet_back (λ algorithm. behind_algorithm None number (slice_index algorithm 0)) (λ algorithm. behind_algorithm origin number (slice_index algorithm 0)) (λ front. algorithm_back number (slice_index front 0)) octets tokens is p
 
   pub gateway_key_back : (octets : List ℕ) (tokens : List TokenSeen) → (gateway_key_form None).is_wire octets → ArePrinted ((gateway_key_form None).printed octets) tokens → (gateway_key_form origin).spells tokens octets
   gateway_key_back octets tokens is p =

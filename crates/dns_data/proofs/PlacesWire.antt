@@ -10,12 +10,12 @@ use Rattle.dns_spelling.specs.Spelling.{AreOctetValues}
 use Rattle.dns_spelling.proofs.NameLaws.{names_spelled}
 use Rattle.dns_split.specs.EntryTokens.{TokenSeen}
 use Rattle.dns_data.specs.Digits.{digits_form}
-use Rattle.dns_data.specs.GatewayKeys.{octet_form, gateway_type_form, gateway_form, gateway_key_form}
+use Rattle.dns_data.specs.GatewayKeys.{octet_form, gateway_type_form, gateway_form, gateway_key_form, key_form}
 use Rattle.dns_data.specs.PrefixLists.{IsPrefixItem, prefix_form, prefixes_form}
 use Rattle.dns_data.specs.RestLaws.{HoldOctets}
 use Rattle.dns_data.specs.Rests.{RestForm, some_form}
 use Rattle.dns_data.specs.TokenForms.{TokenForm, SpellOctets, AreParts, SpellsThen, IsThen, then_form}
-use Rattle.dns_data.proofs.GatewayLaws.{key_form, behind_algorithm, behind_type}
+use Rattle.dns_data.proofs.GatewayLaws.{behind_algorithm, behind_type}
 
 each_wire : (f : TokenForm) → ((t : TokenSeen) (octets : List ℕ) → AreOctetValues t.text → f.spells t octets → f.is_wire octets)
     → (tokens : List TokenSeen) (octets : List ℕ) → HoldOctets tokens → SpellOctets f tokens octets → AreParts f.is_wire octets
@@ -42,14 +42,15 @@ module _ (origin : Option (List (List ℕ))) (is : IsOrigin origin) where
   gateway_wire number t octets values (inl s) = inl (s.0, (names_spelled origin is).spelled t.text octets values s.1.1)
   gateway_wire number t octets values (inr s) = inr (s.1.0, s.1.1.0, s.1.1.1, s.1.2)
 
-  key_wire : (tokens : List TokenSeen) (octets : List ℕ) → HoldOctets tokens → key_form.spells tokens octets → key_form.is_wire octets
-  key_wire tokens octets h k = (k.0.1.bytes, k.1)
+  key_wire : (algorithm : ℕ) (tokens : List TokenSeen) (octets : List ℕ) → HoldOctets tokens → (key_form algorithm).spells tokens octets → (key_form algorithm).is_wire octets
+  key_wire algorithm tokens octets h k = (k.0.1.bytes, k.1)
 
-  algorithm_wire : (number : ℕ) (tokens : List TokenSeen) (octets : List ℕ) → HoldOctets tokens → (behind_algorithm origin number).spells tokens octets → (behind_algorithm origin number).is_wire octets
-  algorithm_wire number tokens octets h k = then_wire (gateway_form origin number) (λ gateway. key_form) (gateway_wire number) (λ front. key_wire) tokens octets h k
+  algorithm_wire : (number algorithm : ℕ) (tokens : List TokenSeen) (octets : List ℕ) → HoldOctets tokens → (behind_algorithm origin number algorithm).spells tokens octets → (behind_algorithm origin number algorithm).is_wire octets
+  algorithm_wire number algorithm tokens octets h k = then_wire (gateway_form origin number) (λ gateway. key_form algorithm) (gateway_wire number) (λ front. key_wire algorithm) tokens octets h k
 
   type_wire : (number : ℕ) (tokens : List TokenSeen) (octets : List ℕ) → HoldOctets tokens → (behind_type origin number).spells tokens octets → (behind_type origin number).is_wire octets
-  type_wire number tokens octets h k = then_wire octet_form (λ algorithm. behind_algorithm origin number) octet_wire (λ front. algorithm_wire number) tokens octets h k
+  type_wire number tokens octets h k =
+      then_wire octet_form (λ algorithm. behind_algorithm origin number (slice_index algorithm 0)) octet_wire (λ front. algorithm_wire number (slice_index front 0)) tokens octets h k
 
   pub gateway_key_is_wire : (tokens : List TokenSeen) (octets : List ℕ) → HoldOctets tokens → (gateway_key_form origin).spells tokens octets → (gateway_key_form origin).is_wire octets
   gateway_key_is_wire tokens octets h k =

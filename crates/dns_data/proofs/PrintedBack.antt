@@ -13,7 +13,7 @@ use Rattle.dns_digits.proofs.Spelling.{printed_spells}
 use Rattle.dns_fields.specs.Fields.{field_form}
 use Rattle.dns_fields.specs.Taking.{SpellsField, SpellsFields, SpellsEach}
 use Rattle.dns_fields.specs.declared.field.Field.{Field}
-use Rattle.dns_fields.specs.declared.field.Field.TheVariants.{Number8, Number16, Number32, Interval, Ipv4, Ipv6, RecordType, SigType, Algorithm, NamedAlgorithm, CertificateType, Eui48, Eui64, Time, Locator, String, PsdnAddress, Tag, Salt, Hash, Name}
+use Rattle.dns_fields.specs.declared.field.Field.TheVariants.{Number8, Number16, Number32, Interval, Ipv4, Ipv6, RecordType, SigType, Algorithm, CertificateType, Eui48, Eui64, Time, Locator, String, PsdnAddress, Tag, Salt, Hash, Name}
 use Rattle.dns_fields.proofs.FormLaws.{fields_are_forms}
 use Rattle.dns_kinds.specs.Types.{portable_text, SpellsType}
 use Rattle.dns_kinds.proofs.CodeLaws.{portable_types_are_kind}
@@ -119,7 +119,6 @@ module _ (origin : Option (List (List ℕ))) (known : IsOrigin origin) where
   field_back RecordType form is = (fields_are_forms origin known RecordType).back form is
   field_back SigType form is = (fields_are_forms origin known SigType).back form is
   field_back Algorithm form is = (fields_are_forms origin known Algorithm).back form is
-  field_back NamedAlgorithm form is = (fields_are_forms origin known NamedAlgorithm).back form is
   field_back CertificateType form is = (fields_are_forms origin known CertificateType).back form is
   field_back Eui48 form is = (fields_are_forms origin known Eui48).back form is
   field_back Eui64 form is = (fields_are_forms origin known Eui64).back form is

@@ -11,7 +11,7 @@ use Rattle.dns_digits.specs.declared.kind.DigitsKind.{DigitsKind}
 use Rattle.dns_digits.specs.declared.kind.DigitsKind.TheVariants.{Hex as InHex, Base64 as InBase64}
 use Rattle.dns_fields.specs.Fields.{field_form}
 use Rattle.dns_fields.specs.declared.field.Field.{Field}
-use Rattle.dns_fields.specs.declared.field.Field.TheVariants.{Number8, Number16, Number32, Interval, Ipv4, Ipv6, RecordType, SigType, Algorithm, NamedAlgorithm, CertificateType, Eui48, Eui64, Time, Locator, String, PsdnAddress, Tag, Salt, Hash, Name}
+use Rattle.dns_fields.specs.declared.field.Field.TheVariants.{Number8, Number16, Number32, Interval, Ipv4, Ipv6, RecordType, SigType, Algorithm, CertificateType, Eui48, Eui64, Time, Locator, String, PsdnAddress, Tag, Salt, Hash, Name}
 use Rattle.dns_fields.proofs.FormLaws.{psdn_address_is_string}
 use Rattle.dns_kinds.specs.Types.{portable_text}
 use Rattle.dns_lists.specs.Bitmap.{types_of}
@@ -76,7 +76,6 @@ field_well Ipv6 form is quoted = absurd (true≢false (sym quoted))
 field_well RecordType form is quoted = absurd (true≢false (sym quoted))
 field_well SigType form is quoted = absurd (true≢false (sym quoted))
 field_well Algorithm form is quoted = absurd (true≢false (sym quoted))
-field_well NamedAlgorithm form is quoted = absurd (true≢false (sym quoted))
 field_well CertificateType form is quoted = absurd (true≢false (sym quoted))
 field_well Eui48 form is quoted = absurd (true≢false (sym quoted))
 field_well Eui64 form is quoted = absurd (true≢false (sym quoted))

@@ -16,9 +16,9 @@ use Rattle.dns_digits.specs.Spelled.{base_of}
 use Rattle.dns_fields.specs.Fields.{field_form}
 use Rattle.dns_fields.specs.Words.{AreOctetsOf}
 use Rattle.dns_fields.specs.declared.field.Field.{Field}
-use Rattle.dns_fields.specs.declared.field.Field.TheVariants.{Number8, Number16, Number32, Interval, Ipv4, Ipv6, RecordType, SigType, Algorithm, NamedAlgorithm, CertificateType, Eui48, Eui64, Time, Locator, String, PsdnAddress, Tag, Salt, Hash, Name}
+use Rattle.dns_fields.specs.declared.field.Field.TheVariants.{Number8, Number16, Number32, Interval, Ipv4, Ipv6, RecordType, SigType, Algorithm, CertificateType, Eui48, Eui64, Time, Locator, String, PsdnAddress, Tag, Salt, Hash, Name}
 use Rattle.dns_fields.proofs.FormLaws.{fields_are_forms}
-use Rattle.dns_kinds.specs.Algorithms.{algorithm_rows, certificate_rows}
+use Rattle.dns_kinds.specs.Algorithms.{certificate_rows}
 use Rattle.dns_codec.specs.Base.{base32hex, encoded}
 use Rattle.dns_kinds.specs.Eui.{dashed_text}
 use Rattle.dns_kinds.specs.Registry.{Row, code_text}
@@ -44,7 +44,7 @@ use Rattle.dns_spelling.proofs.NameWords.{name_is_word}
 use Rattle.dns_split.specs.Token.{IsToken, IsWord}
 use Rattle.dns_data.specs.Data.{IsDataOf}
 use Rattle.dns_data.specs.Digits.{printed_digits}
-use Rattle.dns_data.specs.GatewayKeys.{plain_word, octet_form, gateway_type_form, gateway_form, gateway_key_form}
+use Rattle.dns_data.specs.GatewayKeys.{plain_word, octet_form, gateway_type_form, gateway_form, gateway_key_form, key_form}
 use Rattle.dns_data.specs.PrefixLists.{prefix_form, prefixes_form}
 use Rattle.dns_data.specs.PrintLaws.{IsQuotedWell, IsWordWell}
 use Rattle.dns_data.specs.Printing.{field_size, printed_field, printed_parts, printed_data, token_bytes}
@@ -56,7 +56,7 @@ use Rattle.dns_data.specs.Wire.{BeginsWithFields}
 use Rattle.dns_data.specs.declared.rest.Rest.{Rest}
 use Rattle.dns_data.specs.declared.rest.Rest.TheVariants.{Nothing as NoRest, Strings, Hex, Base64, Types, SomeTypes, Text, QuotedText, Location as OfLocation, Prefixes, GatewayKey, Params}
 use Rattle.dns_data.specs.declared.shape.Shape.{Shape}
-use Rattle.dns_data.proofs.GatewayLaws.{behind_algorithm, behind_type, key_form}
+use Rattle.dns_data.proofs.GatewayLaws.{behind_algorithm, behind_type}
 use Rattle.dns_data.proofs.LocationLemmas.{location_at_is}
 use Rattle.dns_data.proofs.PlacesBack.{gateway_sized, item_sized, prefix_is, word_is}
 use Rattle.dns_data.proofs.PlainWords.{ArePlain, IsPlainWord, is_plain_char, plain_is_word, plain_append, plain_before, word_front, word_before, numeral_word, decimal_word, digits_plain, pairs_plain, dashed_word, groups_word, ipv4_word, ipv6_word, encoded16_word, encoded32_word, encoded64_word, letters_plain}
@@ -73,9 +73,6 @@ has_word r = nat_lt 0 (length r.name) && list_all is_plain_char r.name
 type_names : list_all has_word type_rows ≡ true
 unfolding type_rows
 type_names = refl
-
-algorithm_names : list_all has_word algorithm_rows ≡ true
-algorithm_names = refl
 
 certificate_names : list_all has_word certificate_rows ≡ true
 certificate_names = refl
@@ -153,7 +150,6 @@ field_word Ipv6 form is = let back = ((fields_are_forms None tt Ipv6).back form 
 field_word RecordType form is = a_word _ (type_word (from_be_bytes w16 form) (pair_small form is))
 field_word SigType form is = a_word _ (sig_type_word (from_be_bytes w16 form) (pair_small form is))
 field_word Algorithm form is = a_word _ (numeral_word 10 _ (omega arith) ((fields_are_forms None tt Number8).back form is).1.2.0.0)
-field_word NamedAlgorithm form is = a_word _ (code_word [] refl (slice_index form 0) (octet_small form is) algorithm_rows algorithm_names)
 field_word CertificateType form is = a_word _ (code_word [] refl (from_be_bytes w16 form) (pair_small form is) certificate_rows certificate_names)
 field_word Eui48 form is = a_word _ (eui_word form (omega (arith, is.0)) is.1)
 field_word Eui64 form is = a_word _ (eui_word form (omega (arith, is.0)) is.1)
@@ -335,12 +331,12 @@ gateway_key_words : (octets : List ℕ) → (gateway_key_form None).is_wire octe
 gateway_key_words octets is =
     then_words gateway_type_form (λ octets h. octet_word octets h.0) (λ front more h. octet_sized front more h.0) (λ number. behind_type None (slice_index number 0)) (λ number. type_words (slice_index number 0)) octets is
   where
-    gateway_words : (number : ℕ) (octets : List ℕ) → (behind_algorithm None number).is_wire octets → AreWell ((behind_algorithm None number).printed octets)
-    gateway_words number octets is =
-        then_words (gateway_form None number) (gateway_is_word number) (gateway_sized name_sized number) (λ gateway. key_form) (λ gateway back h. digits_words InBase64 back) octets is
+    gateway_words : (number algorithm : ℕ) (octets : List ℕ) → (behind_algorithm None number algorithm).is_wire octets → AreWell ((behind_algorithm None number algorithm).printed octets)
+    gateway_words number algorithm octets is =
+        then_words (gateway_form None number) (gateway_is_word number) (gateway_sized name_sized number) (λ gateway. key_form algorithm) (λ gateway back h. digits_words InBase64 back) octets is
 
     type_words : (number : ℕ) (octets : List ℕ) → (behind_type None number).is_wire octets → AreWell ((behind_type None number).printed octets)
-    type_words number octets is = then_words octet_form octet_word octet_sized (λ algorithm. behind_algorithm None number) (λ algorithm. gateway_words number) octets is
+    type_words number octets is = then_words octet_form octet_word octet_sized (λ algorithm. behind_algorithm None number (slice_index algorithm 0)) (λ algorithm. gateway_words number (slice_index algorithm 0)) octets is
 
 -- ---- all kinds of what goes to the end of an entry
 

@@ -1,27 +1,29 @@
 -- Tokens that are refused as data of a shape.
-use Rattle.std.specs.Prelude.{Err}
+use Rattle.std.specs.Prelude.{Err, slice_index}
 use Rattle.std.proofs.Common.{ℕ, Option, true, false, ◌≡◌, ◌<◌, ◌+◌, ◌-◌, List, [], ◌∷◌, ◌++◌, length, take, drop, refl, sym, ap, subst, ◌∙◌, inl, inr, arith, length-append}
 use Rattle.std.proofs.Math.Seq.{drop-append_seam}
-use Rattle.std.proofs.lemmas.List.{append_assoc}
+use Rattle.std.proofs.lemmas.List.{append_assoc, get_or_append_left}
 use Rattle.dns_octets.specs.Room.{Room}
 use Rattle.dns_octets.specs.Appending.{Extends, Gains}
 use Rattle.dns_digits.specs.declared.kind.DigitsKind.TheVariants.{Hex as InHex, Base64 as InBase64}
 use Rattle.dns_digits.proofs.Pieces.{rest_of}
 use Rattle.dns_fields.specs.Source.{next_place}
-use Rattle.dns_fields.specs.Taking.{HasTaken, RefusesAField}
+use Rattle.dns_fields.specs.Taking.{HasTaken, RefusesAField, last_place}
 use Rattle.dns_fields.specs.declared.taking.FieldRefusal.{FieldRefusal}
 use Rattle.dns_fields.proofs.Refused.{only_room_lacks, fields_front, all_once}
 use Rattle.dns_spelling.proofs.FormLaws.{octets_spelled}
 use Rattle.dns_split.specs.EntryTokens.{TokenSeen}
-use Rattle.dns_data.specs.Data.{HasLength, SpellsData, ReadsData}
+use Rattle.dns_data.specs.Data.{HasLength, HasWrongHash, SpellsData, ReadsData}
 use Rattle.dns_data.specs.Errors.{no_room}
 use Rattle.dns_data.specs.Rests.{RefusesAs, RefusesRest}
-use Rattle.dns_data.specs.RestKinds.{rest_form}
+use Rattle.dns_data.specs.RestKinds.{IsRestPart, rest_form}
 use Rattle.dns_data.specs.Texts.{AreText}
 use Rattle.dns_data.specs.declared.error.DataError.TheVariants.{Field as OfField, WrongLength}
-use Rattle.dns_data.specs.declared.error.DataRefusal.{DataRefusal}
 use Rattle.dns_data.specs.declared.rest.Rest.{Rest}
 use Rattle.dns_data.specs.declared.rest.Rest.TheVariants.{Nothing, Strings, Hex, Base64, Types, SomeTypes, Text, QuotedText, Location as OfLocation, Prefixes, GatewayKey, Params}
+use Rattle.dns_data.specs.declared.shape.Length.{Length}
+use Rattle.dns_data.specs.declared.shape.Length.TheVariants.{Any, Digest, Hash}
+use Rattle.dns_data.specs.declared.shape.PartRefusal.{PartRefusal}
 use Rattle.dns_data.specs.declared.shape.Shape.{Shape}
 use Rattle.dns_params.proofs.ParamLaws.{all_params_once}
 use Rattle.dns_places.proofs.LocationLaws.{locations_are_read}
@@ -88,22 +90,49 @@ module _ (origin : Option (List (List ℕ))) (room : Room) (shape : Shape) (end 
         (h.0, omega (arith, lacks, sum, start))
     only_room left e octets (inr h) sp = absurd (h.1 sp.back (parts octets sp).0)
 
-    pub rest_refused : (begun part : ℕ) (r : DataRefusal) (left : List TokenSeen) (new : List ℕ) → begun ≡ end → part ≡ length shape.fields.now → RefusesRest room (rest_form origin shape.rest) begun behind middle r left new
-        → ReadsData origin room shape end tokens old (Err (record { part = part; at = r.at; why = r.why })) left new
-    rest_refused begun part r left new ends is h = (
-      inr (record { behind = behind; middle = middle; taken = t; part = is; why = inl (subst (λ e. RefusesRest room (rest_form origin shape.rest) e behind middle r left new) ends h) }),
+    pub rest_refused : (begun part : ℕ) (r : PartRefusal) (left : List TokenSeen) (new : List ℕ) → begun ≡ end → (HasWrongHash shape.length t.octets → ⊥) → r.part ≡ length shape.fields.now + part → IsRestPart origin shape.rest behind left part
+        → RefusesRest room (rest_form origin shape.rest) begun behind middle (record { at = r.at; why = r.why }) left new → ReadsData origin room shape end tokens old (Err r) left new
+    rest_refused begun part r left new ends hashed is which h = (
+      inr (record {
+        behind = behind;
+        middle = middle;
+        taken = t;
+        why = inr (hashed, inl (part, is, which, subst (λ e. RefusesRest room (rest_form origin shape.rest) e behind middle (record { at = r.at; why = r.why }) left new) ends h));
+      }),
       λ octets sp. only_room left r.why octets h.why sp,
       extends_on new h.extends,
     )
 
-    pub length_refused : (begun part at : ℕ) (left : List TokenSeen) (new : List ℕ) → begun ≡ end → part ≡ length shape.fields.now → at ≡ next_place behind begun
+    -- a hash among the fields is the same with what comes behind them
+    wrong_in : (length_is : Length) (back : List ℕ) → HasWrongHash length_is t.octets → HasLength length_is (t.octets ++ back) → ⊥
+    wrong_in Any back h k = h
+    wrong_in (Digest digests place) back h k = h
+    wrong_in Hash back h k =
+        let front = λ (i : ℕ) (less : i < length t.octets). get_or_append_left t.octets back 0 i less in
+        let first = front 0 (omega (arith, h.0)) in
+        let salt = front 4 (omega (arith, h.0)) in
+        let count = front (5 + slice_index t.octets 4) h.0 in
+        let place : 5 + slice_index (t.octets ++ back) 4 ≡ 5 + slice_index t.octets 4 = ap (λ n. 5 + n) salt in
+        h.1 (λ one. sym (ap (slice_index (t.octets ++ back)) place ∙ count) ∙ k (first ∙ one))
+
+    pub hash_refused : (r : PartRefusal) (left : List TokenSeen) (new : List ℕ) → r.why ≡ WrongLength → r.part ≡ length shape.fields.now - 1 → r.at ≡ last_place shape.fields.now tokens end → left ≡ behind → new ≡ middle
+        → HasWrongHash shape.length (drop (length old) middle) → ReadsData origin room shape end tokens old (Err r) left new
+    hash_refused r left new why part place rest same wrong =
+        let all : drop (length old) middle ≡ t.octets = ap (drop (length old)) t.gained ∙ drop-append_seam old t.octets in
+        let bad : HasWrongHash shape.length t.octets = subst (HasWrongHash shape.length) all wrong in (
+          inr (record { behind = behind; middle = middle; taken = t; why = inl (why, part, place, rest, same, bad) }),
+          λ octets sp. (let p = parts octets sp in absurd (wrong_in shape.length sp.back bad (subst (HasLength shape.length) p.1 sp.lengths))),
+          (t.octets, same ∙ t.gained),
+        )
+
+    pub length_refused : (begun part at : ℕ) (left : List TokenSeen) (new : List ℕ) → begun ≡ end → (HasWrongHash shape.length t.octets → ⊥) → part ≡ length shape.fields.now → at ≡ next_place behind begun
         → (left ≡ []) × Gains ((rest_form origin shape.rest).spells behind) middle new → (HasLength shape.length (drop (length old) new) → ⊥)
         → ReadsData origin room shape end tokens old (Err (record { part = part; at = at; why = WrongLength })) left new
-    length_refused begun part at left new ends is place h wrong =
+    length_refused begun part at left new ends hashed is place h wrong =
         let back : List ℕ = h.1.0 in
         let all : drop (length old) new ≡ t.octets ++ back = ap (drop (length old)) (h.1.2 ∙ ap (λ o. o ++ back) t.gained ∙ append_assoc old t.octets back) ∙ drop-append_seam old (t.octets ++ back) in
         let bad : HasLength shape.length (t.octets ++ back) → ⊥ = λ l. wrong (subst (HasLength shape.length) (sym all) l) in (
-          inr (record { behind = behind; middle = middle; taken = t; part = is; why = inr (refl, place ∙ ap (next_place behind) ends, h.0, (back, (h.1.1, bad), h.1.2)) }),
+          inr (record { behind = behind; middle = middle; taken = t; why = inr (hashed, inr (refl, is, place ∙ ap (next_place behind) ends, h.0, (back, (h.1.1, bad), h.1.2))) }),
           λ octets sp. (
               let p = parts octets sp in
               let same : sp.back ≡ back = rest_once origin shape.rest behind sp.back back p.0 h.1.1 in
@@ -111,6 +140,10 @@ module _ (origin : Option (List (List ℕ))) (room : Room) (shape : Shape) (end 
               ),
           extends_on new (back, h.1.2),
         )
+
+    -- no hash among the fields is wrong
+    pub none_wrong : (HasWrongHash shape.length (drop (length old) middle) → ⊥) → HasWrongHash shape.length t.octets → ⊥
+    none_wrong none h = none (subst (HasWrongHash shape.length) (sym (ap (drop (length old)) t.gained ∙ drop-append_seam old t.octets)) h)
 
     -- behind the fields comes what it should
     pub data_taken : (left : List TokenSeen) (new : List ℕ) → (left ≡ []) × Gains ((rest_form origin shape.rest).spells behind) middle new → HasLength shape.length (drop (length old) new)

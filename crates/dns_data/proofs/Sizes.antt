@@ -18,7 +18,7 @@ use Rattle.dns_spelling.proofs.NameLaws.{wire_labels}
 use Rattle.dns_fields.specs.Fields.{field_form}
 use Rattle.dns_fields.specs.Forms.{IsWireHash, IsWirePsdnAddress}
 use Rattle.dns_fields.specs.declared.field.Field.{Field}
-use Rattle.dns_fields.specs.declared.field.Field.TheVariants.{Number8, Number16, Number32, Interval, Ipv4, Ipv6, RecordType, SigType, Algorithm, NamedAlgorithm, CertificateType, Eui48, Eui64, Time, Locator, String, PsdnAddress, Tag, Salt, Hash, Name}
+use Rattle.dns_fields.specs.declared.field.Field.TheVariants.{Number8, Number16, Number32, Interval, Ipv4, Ipv6, RecordType, SigType, Algorithm, CertificateType, Eui48, Eui64, Time, Locator, String, PsdnAddress, Tag, Salt, Hash, Name}
 use Rattle.dns_fields.proofs.FormLaws.{fields_are_forms}
 use Rattle.dns_data.specs.GatewayKeys.{labels_size}
 use Rattle.dns_data.specs.Printing.{field_size, counted_size}
@@ -63,7 +63,6 @@ field_sized Ipv6 form more h = sym h.0
 field_sized RecordType form more h = sym h.0
 field_sized SigType form more h = sym h.0
 field_sized Algorithm form more h = sym h.0
-field_sized NamedAlgorithm form more h = sym h.0
 field_sized CertificateType form more h = sym h.0
 field_sized Eui48 form more h = sym h.0
 field_sized Eui64 form more h = sym h.0
@@ -172,7 +171,6 @@ surely_wire Ipv6 octets values t = (∥∥₁_elim t (Coded-set coded_ℕ _ _) (
 surely_wire RecordType octets values t = (∥∥₁_elim t (Coded-set coded_ℕ _ _) (λ h. h.0), values)
 surely_wire SigType octets values t = (∥∥₁_elim t (Coded-set coded_ℕ _ _) (λ h. h.0), values)
 surely_wire Algorithm octets values t = (∥∥₁_elim t (Coded-set coded_ℕ _ _) (λ h. h.0), values)
-surely_wire NamedAlgorithm octets values t = (∥∥₁_elim t (Coded-set coded_ℕ _ _) (λ h. h.0), values)
 surely_wire CertificateType octets values t = (∥∥₁_elim t (Coded-set coded_ℕ _ _) (λ h. h.0), values)
 surely_wire Eui48 octets values t = (∥∥₁_elim t (Coded-set coded_ℕ _ _) (λ h. h.0), values)
 surely_wire Eui64 octets values t = (∥∥₁_elim t (Coded-set coded_ℕ _ _) (λ h. h.0), values)

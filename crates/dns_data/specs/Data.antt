@@ -4,13 +4,13 @@ use Rattle.dns_digits.specs.DigestLengths.{IsDigestLength}
 use Rattle.dns_octets.specs.Room.{Room}
 use Rattle.dns_octets.specs.Appending.{Extends, Gains}
 use Rattle.dns_fields.specs.Source.{next_place}
-use Rattle.dns_fields.specs.Taking.{SpellsFields, RefusesAField, HasTaken}
+use Rattle.dns_fields.specs.Taking.{SpellsFields, RefusesAField, HasTaken, last_place}
 use Rattle.dns_fields.specs.declared.error.FieldError.{FieldError}
 use Rattle.dns_fields.specs.declared.taking.FieldRefusal.{FieldRefusal}
 use Rattle.dns_split.specs.EntryTokens.{TokenSeen}
 use Rattle.dns_data.specs.Errors.{no_room}
 use Rattle.dns_data.specs.Rests.{RefusesRest}
-use Rattle.dns_data.specs.RestKinds.{rest_form}
+use Rattle.dns_data.specs.RestKinds.{IsRestPart, rest_form}
 use Rattle.dns_data.specs.Wire.{BeginsWithFields}
 use Rattle.dns_data.specs.declared.error.DataError.TheVariants.{Field as OfField, WrongLength}
 use Rattle.dns_data.specs.declared.error.DataRefusal.{DataRefusal}
@@ -50,14 +50,23 @@ abbrev pub RefusesPart : Option (List (List ℕ)) → Room → Shape → ℕ →
 RefusesPart origin room shape end tokens old r left new =
     (why : FieldError) × (r.why ≡ OfField why) × RefusesAField origin room shape.fields.now end tokens old (record { field = r.part; refusal = record { at = r.at; why = why } }) left new
 
--- the fields are taken, and what comes behind them is refused, or taken and not as long as it has to be
+-- the octets of the fields have a hash among them that is not as long as it has to be
+abbrev pub HasWrongHash : Length → List ℕ → Type 0
+HasWrongHash Any octets = ⊥
+HasWrongHash (Digest digests place) octets = ⊥
+HasWrongHash Hash octets = (5 + slice_index octets 4 < length octets) × (HasLength Hash octets → ⊥)
+
+-- The fields are taken, and the data is refused: for a hash among the fields, the last of them; for what comes behind the fields; or for the length of
+-- that, once all is taken.
 pub record RefusesBehindFields (origin : Option (List (List ℕ))) (room : Room) (shape : Shape) (end : ℕ) (tokens : List TokenSeen) (old : List ℕ) (r : PartRefusal) (left : List TokenSeen) (new : List ℕ) : Type 0 where
   pub behind : List TokenSeen
   pub middle : List ℕ
   pub taken : HasTaken origin shape.fields.now tokens old behind middle
-  pub part : r.part ≡ length shape.fields.now
-  pub why : RefusesRest room (rest_form origin shape.rest) end behind middle (record { at = r.at; why = r.why }) left new
-      ⊎ ((r.why ≡ WrongLength) × (r.at ≡ next_place behind end) × (left ≡ []) × Gains (λ back. (rest_form origin shape.rest).spells behind back × (HasLength shape.length (taken.octets ++ back) → ⊥)) middle new)
+  pub why : ((r.why ≡ WrongLength) × (r.part ≡ length shape.fields.now - 1) × (r.at ≡ last_place shape.fields.now tokens end) × (left ≡ behind) × (new ≡ middle) × HasWrongHash shape.length taken.octets)
+      ⊎ ((HasWrongHash shape.length taken.octets → ⊥)
+      × (((part : ℕ) × (r.part ≡ length shape.fields.now + part) × IsRestPart origin shape.rest behind left part × RefusesRest room (rest_form origin shape.rest) end behind middle (record { at = r.at; why = r.why }) left new)
+      ⊎ ((r.why ≡ WrongLength) × (r.part ≡ length shape.fields.now) × (r.at ≡ next_place behind end) × (left ≡ [])
+      × Gains (λ back. (rest_form origin shape.rest).spells behind back × (HasLength shape.length (taken.octets ++ back) → ⊥)) middle new)))
 
 -- all tokens are taken, and the target gained the data that they spell; or a part is refused, and if the tokens spell data, for lack of room alone
 abbrev pub ReadsData : Option (List (List ℕ)) → Room → Shape → ℕ → List TokenSeen → List ℕ → Result (Unit {0}) PartRefusal → List TokenSeen → List ℕ → Type 0

@@ -6,7 +6,7 @@ use Rattle.dns_octets.specs.Room.{Room}
 use Rattle.dns_digits.specs.declared.kind.DigitsKind.TheVariants.{Base64 as InBase64}
 use Rattle.dns_fields.specs.Fields.{field_form}
 use Rattle.dns_fields.specs.Taking.{SpellsField}
-use Rattle.dns_fields.specs.declared.error.FieldError.TheVariants.{Quoted}
+use Rattle.dns_fields.specs.declared.error.FieldError.TheVariants.{EndOfEntry, Quoted}
 use Rattle.dns_fields.specs.declared.field.Field.TheVariants.{Number8 as OfNumber8, Name as OfName}
 use Rattle.dns_kinds.specs.Addresses.{shown_ipv6}
 use Rattle.dns_places.specs.Gateways.{IsGateway, gateway_type, SpellsGateway, gateway_octets}
@@ -16,8 +16,8 @@ use Rattle.dns_spelling.specs.NameSpelling.{IsWireName}
 use Rattle.dns_spelling.specs.PrintedNames.{wire_name_text}
 use Rattle.dns_split.specs.EntryTokens.{TokenSeen}
 use Rattle.dns_data.specs.Digits.{digits_form}
-use Rattle.dns_data.specs.Rests.{RestForm, PrintedToken, some_form}
-use Rattle.dns_data.specs.TokenForms.{TokenForm, FieldReason, TakesTokenAs, then_form}
+use Rattle.dns_data.specs.Rests.{RestForm, PrintedToken}
+use Rattle.dns_data.specs.TokenForms.{TokenForm, FieldReason, PartBehind, TakesTokenAs, then_form}
 use Rattle.dns_data.specs.declared.error.DataError.{DataError}
 use Rattle.dns_data.specs.declared.error.DataError.TheVariants.{Field, Place, UnknownGateway}
 use Rattle.dns_data.specs.declared.error.DataRefusal.{DataRefusal}
@@ -54,10 +54,17 @@ abbrev pub ReadsGatewayType : TokenSeen → Result ℕ DataError → Type 0
 ReadsGatewayType t (Ok number) = gateway_type_form.spells t (number ∷ [])
 ReadsGatewayType t (Err e) = GatewayTypeReason t e × ((octets : List ℕ) → gateway_type_form.spells t octets → ⊥)
 
--- the type that the next token names is appended, and the token taken; or it is refused
+-- the number that the next token spells is appended, and the token taken; or it is refused
+abbrev pub TakesNumberAs : TokenForm → Room → ℕ → List TokenSeen → List ℕ → Result ℕ DataRefusal → List TokenSeen → List ℕ → Type 0
+TakesNumberAs f room end tokens old (Ok number) left new = (t : TokenSeen) × (tokens ≡ t ∷ left) × f.spells t (number ∷ []) × (new ≡ old ++ number ∷ [])
+TakesNumberAs f room end tokens old (Err r) left new = TakesTokenAs room f.spells f.reason end tokens old (Err r) left new
+
+-- the type of a gateway so, and the algorithm of a key
 abbrev pub TakesGatewayType : Room → ℕ → List TokenSeen → List ℕ → Result ℕ DataRefusal → List TokenSeen → List ℕ → Type 0
-TakesGatewayType room end tokens old (Ok number) left new = (t : TokenSeen) × (tokens ≡ t ∷ left) × gateway_type_form.spells t (number ∷ []) × (new ≡ old ++ number ∷ [])
-TakesGatewayType room end tokens old (Err r) left new = TakesTokenAs room gateway_type_form.spells gateway_type_form.reason end tokens old (Err r) left new
+TakesGatewayType = TakesNumberAs gateway_type_form
+
+abbrev pub TakesAlgorithm : Room → ℕ → List TokenSeen → List ℕ → Result ℕ DataRefusal → List TokenSeen → List ℕ → Type 0
+TakesAlgorithm = TakesNumberAs octet_form
 
 -- ---- the gateway of a type
 
@@ -96,7 +103,23 @@ gateway_form origin number = record {
   printed = λ octets. plain_word (gateway_word number octets);
 }
 
--- the type of the gateway, the algorithm of the key, the gateway, and the key in base 64, of one octet at least
+-- ---- the key
+
+-- a key in base 64, which may be left out only if the algorithm is 0: that says that there is none (RFC 4025 section 2.4)
+abbrev pub key_form : ℕ → RestForm
+key_form algorithm = record {
+  spells = λ tokens octets. (digits_form InBase64).spells tokens octets × (octets ≡ [] → algorithm ≡ 0);
+  reason = λ tokens left e. (digits_form InBase64).reason tokens left e ⊎ ((e ≡ Field EndOfEntry) × (left ≡ []) × (algorithm ≢ 0) × (digits_form InBase64).spells tokens []);
+  is_wire = λ octets. (digits_form InBase64).is_wire octets × (octets ≡ [] → algorithm ≡ 0);
+  printed = (digits_form InBase64).printed;
+}
+
+-- the type of the gateway, the algorithm of the key, the gateway, and the key
 abbrev pub gateway_key_form : Option (List (List ℕ)) → RestForm
 gateway_key_form origin =
-    then_form gateway_type_form (λ number. then_form octet_form (λ algorithm. then_form (gateway_form origin (slice_index number 0)) (λ gateway. some_form (digits_form InBase64))))
+    then_form gateway_type_form (λ number. then_form octet_form (λ algorithm. then_form (gateway_form origin (slice_index number 0)) (λ gateway. key_form (slice_index algorithm 0))))
+
+-- these are four parts; a refused token is of the part that this tells, by its place, once those before it are taken
+abbrev pub IsGatewayPart : Option (List (List ℕ)) → List TokenSeen → List TokenSeen → ℕ → Type 0
+IsGatewayPart origin =
+    PartBehind gateway_type_form (λ number. PartBehind octet_form (λ algorithm. PartBehind (gateway_form origin (slice_index number 0)) (λ gateway tokens left part. part ≡ 0)))

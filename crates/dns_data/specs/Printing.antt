@@ -5,7 +5,7 @@ use Rattle.dns_zone.specs.Layout.{Step, token}
 use Rattle.dns_zone.specs.Writers.{WritesSteps}
 use Rattle.dns_fields.specs.Fields.{field_form}
 use Rattle.dns_fields.specs.declared.field.Field.{Field}
-use Rattle.dns_fields.specs.declared.field.Field.TheVariants.{Number8, Number16, Number32, Interval, Ipv4, Ipv6, RecordType, SigType, Algorithm, NamedAlgorithm, CertificateType, Eui48, Eui64, Time, Locator, String, PsdnAddress, Tag, Salt, Hash, Name}
+use Rattle.dns_fields.specs.declared.field.Field.TheVariants.{Number8, Number16, Number32, Interval, Ipv4, Ipv6, RecordType, SigType, Algorithm, CertificateType, Eui48, Eui64, Time, Locator, String, PsdnAddress, Tag, Salt, Hash, Name}
 use Rattle.dns_data.specs.GatewayKeys.{labels_size}
 use Rattle.dns_data.specs.Rests.{PrintedToken}
 use Rattle.dns_data.specs.RestKinds.{rest_form}
@@ -27,7 +27,6 @@ field_size Ipv6 octets = 16
 field_size RecordType octets = 2
 field_size SigType octets = 2
 field_size Algorithm octets = 1
-field_size NamedAlgorithm octets = 1
 field_size CertificateType octets = 2
 field_size Eui48 octets = 6
 field_size Eui64 octets = 8

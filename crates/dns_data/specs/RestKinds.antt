@@ -10,7 +10,7 @@ use Rattle.dns_fields.specs.declared.error.FieldError.{FieldError}
 use Rattle.dns_fields.specs.declared.field.Field.TheVariants.{String as OfString}
 use Rattle.dns_split.specs.EntryTokens.{TokenSeen}
 use Rattle.dns_data.specs.Digits.{digits_form}
-use Rattle.dns_data.specs.GatewayKeys.{gateway_key_form}
+use Rattle.dns_data.specs.GatewayKeys.{IsGatewayPart, gateway_key_form}
 use Rattle.dns_data.specs.ParamsRest.{params_form}
 use Rattle.dns_data.specs.PrefixLists.{prefixes_form}
 use Rattle.dns_data.specs.Rests.{RestForm, BehindSome, some_form}
@@ -70,3 +70,18 @@ rest_form origin OfLocation = location_form
 rest_form origin Prefixes = prefixes_form
 rest_form origin GatewayKey = gateway_key_form origin
 rest_form origin Params = params_form
+
+-- the part that a refused token is of: a gateway and a key have four, and each other kind one
+abbrev pub IsRestPart : Option (List (List ℕ)) → Rest → List TokenSeen → List TokenSeen → ℕ → Type 0
+IsRestPart origin Nothing tokens left part = part ≡ 0
+IsRestPart origin Strings tokens left part = part ≡ 0
+IsRestPart origin Hex tokens left part = part ≡ 0
+IsRestPart origin Base64 tokens left part = part ≡ 0
+IsRestPart origin Types tokens left part = part ≡ 0
+IsRestPart origin SomeTypes tokens left part = part ≡ 0
+IsRestPart origin Text tokens left part = part ≡ 0
+IsRestPart origin QuotedText tokens left part = part ≡ 0
+IsRestPart origin OfLocation tokens left part = part ≡ 0
+IsRestPart origin Prefixes tokens left part = part ≡ 0
+IsRestPart origin GatewayKey tokens left part = IsGatewayPart origin tokens left part
+IsRestPart origin Params tokens left part = part ≡ 0

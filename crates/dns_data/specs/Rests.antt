@@ -6,6 +6,7 @@ use Rattle.dns_split.specs.EntryTokens.{TokenSeen}
 use Rattle.dns_fields.specs.Source.{next_place}
 use Rattle.dns_data.specs.declared.error.DataError.{DataError}
 use Rattle.dns_data.specs.declared.error.DataRefusal.{DataRefusal}
+use Rattle.dns_data.specs.declared.error.RestRefusal.{RestRefusal}
 use Rattle.dns_fields.specs.declared.error.FieldError.TheVariants.{EndOfEntry}
 use Rattle.dns_data.specs.declared.error.DataError.TheVariants.{Field}
 use Rattle.dns_data.specs.Errors.{no_room}
@@ -50,6 +51,11 @@ pub record RefusesRest (room : Room) (f : RestForm) (end : ℕ) (tokens : List T
 abbrev pub TakesRest : Room → RestForm → ℕ → List TokenSeen → List ℕ → Result (Unit {0}) DataRefusal → List TokenSeen → List ℕ → Type 0
 TakesRest room f end tokens old (Ok _) left new = (left ≡ []) × Gains (f.spells tokens) old new
 TakesRest room f end tokens old (Err r) left new = RefusesRest room f end tokens old r left new
+
+-- the same, of what has parts: of a token that is refused this tells the part, by its place among them
+abbrev pub TakesInParts : Room → RestForm → (List TokenSeen → List TokenSeen → ℕ → Type 0) → ℕ → List TokenSeen → List ℕ → Result (Unit {0}) RestRefusal → List TokenSeen → List ℕ → Type 0
+TakesInParts room f IsPart end tokens old (Ok x) left new = TakesRest room f end tokens old (Ok x) left new
+TakesInParts room f IsPart end tokens old (Err r) left new = RefusesRest room f end tokens old r.refusal left new × IsPart tokens left r.part
 
 -- the same, with one octet at least
 abbrev pub some_form : RestForm → RestForm

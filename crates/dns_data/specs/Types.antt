@@ -2,7 +2,7 @@
 use Rattle.std.specs.Prelude.{ℕ, ◌≡◌, ◌==◌, find, map, Option, option_map, List, [], ◌∷◌, codes}
 use Rattle.dns_digits.specs.declared.digests.Digests.TheVariants.{Ds, Sshfp, Zonemd}
 use Rattle.dns_fields.specs.declared.field.Field.{Field}
-use Rattle.dns_fields.specs.declared.field.Field.TheVariants.{Number8, Number16, Number32, Interval, Ipv4, Ipv6, RecordType, SigType, Algorithm, NamedAlgorithm, CertificateType, Eui48, Eui64, Time, Locator, String, PsdnAddress, Tag, Salt, Hash, Name}
+use Rattle.dns_fields.specs.declared.field.Field.TheVariants.{Number8, Number16, Number32, Interval, Ipv4, Ipv6, RecordType, SigType, Algorithm, CertificateType, Eui48, Eui64, Time, Locator, String, PsdnAddress, Tag, Salt, Hash, Name}
 use Rattle.dns_data.specs.declared.rest.Rest.{Rest}
 use Rattle.dns_data.specs.declared.rest.Rest.TheVariants.{Base64, GatewayKey, Hex, Location as OfLocation, Nothing, Params, Prefixes, QuotedText, SomeTypes, Strings, Text, Types}
 use Rattle.dns_data.specs.declared.shape.Length.{Length}
@@ -91,7 +91,7 @@ type_shapes =
     -- KX
     type_shape 36 (Number16 ∷ Name ∷ []) Nothing Any (codes "preference" ∷ codes "exchanger" ∷ []) ∷
     -- CERT
-    type_shape 37 (CertificateType ∷ Number16 ∷ NamedAlgorithm ∷ []) Base64 Any (codes "type" ∷ codes "key tag" ∷ codes "algorithm" ∷ codes "certificate" ∷ []) ∷
+    type_shape 37 (CertificateType ∷ Number16 ∷ Algorithm ∷ []) Base64 Any (codes "type" ∷ codes "key tag" ∷ codes "algorithm" ∷ codes "certificate" ∷ []) ∷
     -- DNAME
     type_shape 39 (Name ∷ []) Nothing Any (codes "target" ∷ []) ∷
     -- APL
@@ -101,7 +101,7 @@ type_shapes =
     -- SSHFP
     type_shape 44 (Number8 ∷ Number8 ∷ []) Hex (Digest Sshfp 1) (codes "algorithm" ∷ codes "fingerprint type" ∷ codes "fingerprint" ∷ []) ∷
     -- IPSECKEY
-    type_shape 45 (Number8 ∷ []) GatewayKey Any (codes "precedence" ∷ codes "gateway" ∷ []) ∷
+    type_shape 45 (Number8 ∷ []) GatewayKey Any (codes "precedence" ∷ codes "gateway type" ∷ codes "algorithm" ∷ codes "gateway" ∷ codes "public key" ∷ []) ∷
     -- RRSIG
     type_shape 46 (RecordType ∷ Algorithm ∷ Number8 ∷ Number32 ∷ Time ∷ Time ∷ Number16 ∷ Name ∷ []) Base64 Any
     (codes "type covered" ∷ codes "algorithm" ∷ codes "labels" ∷ codes "original TTL" ∷ codes "expiration" ∷ codes "inception" ∷ codes "key tag" ∷ codes "signer" ∷ codes "signature" ∷ []) ∷

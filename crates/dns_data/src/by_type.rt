@@ -17,7 +17,7 @@ use dns_wire::Name;
 
 /// A part of a record's data that is refused, by its name, the place of the token, and why. Data in
 /// the generic form, and data of which nothing is read, have no parts.
-#[derive(Clone, Copy, Debug, PartialEq, Eq)]
+#[derive(Clone, Copy)]
 pub struct TypeRefusal {
     pub part: Option<&'static str>,
     pub at: usize,

@@ -45,10 +45,19 @@ pub enum DataError {
 }
 
 /// A token that is refused, by its place, and why. Where none is left, the place is the entry's end.
-#[derive(Clone, Copy, Debug, PartialEq, Eq)]
+#[derive(Clone, Copy)]
 pub struct DataRefusal {
     pub at: usize,
     pub why: DataError,
+}
+
+/// What goes to the entry's end is refused: at a token, and why, and which of its parts, by the place
+/// of the part among them. Most kinds have one part. A gateway and a key have four: the gateway's type,
+/// the algorithm, the gateway, and the key.
+#[derive(Clone, Copy)]
+pub struct RestRefusal {
+    pub part: usize,
+    pub refusal: DataRefusal,
 }
 
 impl DataError {

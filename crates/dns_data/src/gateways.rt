@@ -1,14 +1,15 @@
 //! A gateway and a public key (IPSECKEY, RFC 4025 section 2.1), behind the precedence.
-ghost use Rattle.std.specs.Prelude.{◌≡◌, ◌↔◌, IsTrue, None};
+ghost use Rattle.std.specs.Prelude.{◌≡◌, ◌≤◌, ◌↔◌, IfErr, IsTrue, None};
 ghost use Rattle.std.specs.Option.{option_copied};
 ghost use Rattle.dns_fields.specs.Taking.{SpellsField};
 ghost use Rattle.dns_spelling.specs.Forms.{FindsWidth};
 ghost use Rattle.dns_split.specs.EntryTokens.{token_seen};
-ghost use Rattle.dns_data.specs.GatewayKeys.{ReadsGatewayType, TakesGatewayType, SpellsAddress, AddressReason, IsAddressOf, gateway_form, gateway_key_form};
-ghost use Rattle.dns_data.specs.Rests.{TakesRest};
+ghost use Rattle.dns_data.specs.GatewayKeys.{ReadsGatewayType, TakesGatewayType, TakesAlgorithm, SpellsAddress, AddressReason, IsAddressOf, IsGatewayPart, gateway_form, gateway_key_form, key_form};
+ghost use Rattle.dns_data.specs.Rests.{TakesInParts, TakesRest};
 ghost use Rattle.dns_data.specs.TokenForms.{FieldReason, TakesTokenAs};
 
-use crate::error::{DataError, DataRefusal};
+use crate::digits::take_digits;
+use crate::error::{DataError, DataRefusal, RestRefusal};
 use crate::rest::take_some_digits;
 use dns_digits::DigitsKind;
 use dns_fields::{Field, FieldError, TokenSource, take_field};
@@ -133,10 +134,70 @@ fn take_gateway<S: TokenSource, Octets: AsOctets, B: OctetsBuilder>(
     }
 }
 
+/// Takes the next token as the algorithm of a key, and appends it.
+fn take_algorithm<S: TokenSource, Octets: AsOctets, B: OctetsBuilder>(
+    origin: Option<&Name<Octets>>,
+    source: &mut S,
+    target: &mut B,
+) -> Result<u8, DataRefusal>
+    ensures takes { TakesAlgorithm B.room (S.end source.old).at (S.left source.old) (B.octets target.old) result (S.left source.new) (B.octets target.new) }
+    ensures end { S.end source.new ≡ S.end source.old }
+{
+    let begun = target.as_slice().len();
+    if let Err(refusal) = take_one(Field::Number8, origin, source, target) {
+        return Err(refusal);
+    }
+    Ok(target.as_slice()[begun])
+}
+
+/// Takes the tokens that are left as a key in base 64, which may be left out if the algorithm is 0.
+fn take_key<S: TokenSource, B: OctetsBuilder>(
+    algorithm: u8,
+    source: &mut S,
+    target: &mut B,
+) -> Result<(), DataRefusal>
+    ensures takes { TakesRest B.room (key_form algorithm) (S.end source.old).at (S.left source.old) (B.octets target.old) result (S.left source.new) (B.octets target.new) }
+    ensures end { S.end source.new ≡ S.end source.old }
+{
+    if algorithm == 0 {
+        take_digits(DigitsKind::Base64, source, target)
+    } else {
+        take_some_digits(DigitsKind::Base64, source, target)
+    }
+}
+
 /// Takes the tokens that are left as the type of a gateway (0 for none, 1 for an IPv4 address, 2 for
-/// an IPv6 address, 3 for a name), an algorithm, the gateway, and a key of one octet or more in base
-/// 64, and appends their octets. A gateway of type 0 is written `.`. A name stands uncompressed,
-/// and a relative one before the origin. Other types are refused.
+/// an IPv6 address, 3 for a name), an algorithm, the gateway, and a key in base 64, and appends their
+/// octets. A gateway of type 0 is written `.`. A name stands uncompressed, and a relative one before
+/// the origin. Other types are refused. The key may be left out only if the algorithm is 0 (RFC 4025
+/// section 2.4).
+pub(crate) fn take_gateway_parts<S: TokenSource, Octets: AsOctets, B: OctetsBuilder>(
+    origin: Option<&Name<Octets>>,
+    source: &mut S,
+    target: &mut B,
+) -> Result<(), RestRefusal>
+    ensures takes { TakesInParts B.room (gateway_key_form (option_copied origin.entry)) (IsGatewayPart (option_copied origin.entry)) (S.end source.old).at (S.left source.old) (B.octets target.old) result (S.left source.new) (B.octets target.new) }
+    ensures few { IfErr result (λ r. r.part ≤ 3) }
+    ensures end { S.end source.new ≡ S.end source.old }
+{
+    let number = match take_gateway_type(source, target) {
+        Ok(number) => number,
+        Err(refusal) => return Err(RestRefusal { part: 0, refusal }),
+    };
+    let algorithm = match take_algorithm(origin, source, target) {
+        Ok(algorithm) => algorithm,
+        Err(refusal) => return Err(RestRefusal { part: 1, refusal }),
+    };
+    if let Err(refusal) = take_gateway(number, origin, source, target) {
+        return Err(RestRefusal { part: 2, refusal });
+    }
+    if let Err(refusal) = take_key(algorithm, source, target) {
+        return Err(RestRefusal { part: 3, refusal });
+    }
+    Ok(())
+}
+
+/// Takes the tokens that are left as a gateway and a key, as [`take_gateway_parts`] does.
 pub fn take_gateway_key<S: TokenSource, Octets: AsOctets, B: OctetsBuilder>(
     origin: Option<&Name<Octets>>,
     source: &mut S,
@@ -145,10 +206,10 @@ pub fn take_gateway_key<S: TokenSource, Octets: AsOctets, B: OctetsBuilder>(
     ensures takes { TakesRest B.room (gateway_key_form (option_copied origin.entry)) (S.end source.old).at (S.left source.old) (B.octets target.old) result (S.left source.new) (B.octets target.new) }
     ensures end { S.end source.new ≡ S.end source.old }
 {
-    let number = take_gateway_type(source, target)?;
-    take_one(Field::Number8, origin, source, target)?;
-    take_gateway(number, origin, source, target)?;
-    take_some_digits(DigitsKind::Base64, source, target)
+    match take_gateway_parts(origin, source, target) {
+        Ok(()) => Ok(()),
+        Err(refused) => Err(refused.refusal),
+    }
 }
 
 /// How many of the octets in front are a gateway of a type that is no name.
@@ -173,6 +234,13 @@ pub(crate) fn gateway_width(number: u8, octets: &[u8]) -> Option<usize>
     }
 }
 
+/// Whether a key may have so many octets.
+fn may_have(algorithm: u8, count: usize) -> bool
+    ensures { IsTrue result ↔ (count ≡ 0 → algorithm ≡ 0) }
+{
+    count > 0 || algorithm == 0
+}
+
 /// Whether octets are a gateway and a key, behind the gateway's type and the algorithm.
 pub(crate) fn is_gateway_key(octets: &[u8]) -> bool
     ensures { IsTrue result ↔ (gateway_key_form None).is_wire octets.now }
@@ -181,7 +249,7 @@ pub(crate) fn is_gateway_key(octets: &[u8]) -> bool
         return false;
     }
     match gateway_width(octets[0], &octets[2..]) {
-        Some(width) => width < octets.len() - 2,
+        Some(width) => may_have(octets[1], octets.len() - 2 - width),
         None => false,
     }
 }

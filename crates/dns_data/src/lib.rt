@@ -25,7 +25,7 @@ pub mod wire;
 pub use builder::{DataBuilder, MAX_DATA};
 pub use by_type::{TypeRefusal, data_of_type, is_data_type, read_type};
 pub use digits::take_digits;
-pub use error::{DataError, DataRefusal};
+pub use error::{DataError, DataRefusal, RestRefusal};
 pub use field_text::FieldText;
 pub use gateways::take_gateway_key;
 pub use generic::{begins_generic, take_generic};

@@ -1,14 +1,14 @@
 //! What goes to the end of an entry, after the fields that are one token each.
-ghost use Rattle.std.specs.Prelude.{◌≡◌};
+ghost use Rattle.std.specs.Prelude.{◌≡◌, ◌≤◌, IfErr};
 ghost use Rattle.std.specs.Option.{option_copied};
 ghost use Rattle.dns_data.specs.Digits.{digits_form};
-ghost use Rattle.dns_data.specs.Rests.{TakesRest, WantsMore, some_form};
-ghost use Rattle.dns_data.specs.RestKinds.{rest_form, strings_form};
+ghost use Rattle.dns_data.specs.Rests.{TakesInParts, TakesRest, WantsMore, some_form};
+ghost use Rattle.dns_data.specs.RestKinds.{IsRestPart, rest_form, strings_form};
 ghost use Rattle.dns_data.specs.TypeLists.{types_form};
 
 use crate::digits::take_digits;
-use crate::error::{DataError, DataRefusal};
-use crate::gateways::take_gateway_key;
+use crate::error::{DataError, DataRefusal, RestRefusal};
+use crate::gateways::{take_gateway_key, take_gateway_parts};
 use crate::locations::take_place;
 use crate::params::take_service_params;
 use crate::prefixes::take_prefixes;
@@ -20,7 +20,7 @@ use dns_octets::{AsOctets, AsOctetsMut, OctetsBuilder};
 use dns_wire::Name;
 
 /// A kind of what goes to the end of an entry.
-#[derive(Clone, Copy, Debug, PartialEq, Eq)]
+#[derive(Clone, Copy)]
 pub enum Rest {
     /// Nothing.
     Nothing,
@@ -42,7 +42,8 @@ pub enum Rest {
     Location,
     /// Any number of items of an address prefix list.
     Prefixes,
-    /// The type of a gateway, an algorithm, the gateway, and a key in base 64.
+    /// The type of a gateway, an algorithm, the gateway, and a key in base 64, which may be left out
+    /// if the algorithm is 0.
     GatewayKey,
     /// Any number of service parameters.
     Params,
@@ -149,5 +150,26 @@ pub fn take_rest<S: TokenSource, Octets: AsOctets, B: OctetsBuilder + AsOctetsMu
         Rest::Prefixes => take_prefixes(source, target),
         Rest::GatewayKey => take_gateway_key(origin, source, target),
         Rest::Params => take_service_params(source, target),
+    }
+}
+
+/// Takes the tokens that are left, and appends the octets that they spell. A refusal tells which part of
+/// them is refused.
+pub(crate) fn take_parts<S: TokenSource, Octets: AsOctets, B: OctetsBuilder + AsOctetsMut>(
+    rest: Rest,
+    origin: Option<&Name<Octets>>,
+    source: &mut S,
+    target: &mut B,
+) -> Result<(), RestRefusal>
+    ensures takes { TakesInParts B.room (rest_form (option_copied origin.entry) rest) (IsRestPart (option_copied origin.entry) rest) (S.end source.old).at (S.left source.old) (B.octets target.old) result (S.left source.new) (B.octets target.new) }
+    ensures few { IfErr result (λ r. r.part ≤ 3) }
+    ensures end { S.end source.new ≡ S.end source.old }
+{
+    if let Rest::GatewayKey = rest {
+        return take_gateway_parts(origin, source, target);
+    }
+    match take_rest(rest, origin, source, target) {
+        Ok(()) => Ok(()),
+        Err(refusal) => Err(RestRefusal { part: 0, refusal }),
     }
 }

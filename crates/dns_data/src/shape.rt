@@ -1,17 +1,17 @@
 //! Shapes of record data: fields that are one token each, and what goes to the entry's end.
 ghost use Rattle.std.specs.Prelude.{◌≡◌, ◌↔◌, IsTrue, slice_index};
 ghost use Rattle.std.specs.Option.{option_copied};
-ghost use Rattle.dns_data.specs.Data.{HasLength, ReadsData};
+ghost use Rattle.dns_data.specs.Data.{HasLength, HasWrongHash, ReadsData};
 
 use crate::error::DataError;
-use crate::rest::{Rest, take_rest};
+use crate::rest::{Rest, take_parts};
 use dns_digits::{Digests, is_digest_length};
 use dns_fields::{Field, TokenSource, take_fields};
 use dns_octets::{AsOctets, AsOctetsMut, OctetsBuilder};
 use dns_wire::Name;
 
 /// The lengths that octets of the data ask for.
-#[derive(Clone, Copy, Debug, PartialEq, Eq)]
+#[derive(Clone, Copy)]
 pub enum Length {
     /// None.
     Any,
@@ -33,9 +33,10 @@ pub struct Shape {
     pub length: Length,
 }
 
-/// A part of record data that is refused, the place of the token, and why. A field is told by its
-/// place among the fields, and what comes behind them by their count.
-#[derive(Clone, Copy, Debug, PartialEq, Eq)]
+/// A part of record data that is refused, the place of the token, and why. The parts are the fields,
+/// and behind them those of the rest: four of a gateway and a key, else one. A part is told by its place
+/// among these.
+#[derive(Clone, Copy)]
 pub struct PartRefusal {
     pub part: usize,
     pub at: usize,
@@ -71,6 +72,18 @@ pub(crate) fn has_length(length: Length, octets: &[u8]) -> bool
     }
 }
 
+/// Whether the hash of NSEC3 is among octets and has not the length that its algorithm asks for.
+fn has_wrong_hash(length: Length, octets: &[u8]) -> bool
+    ensures { IsTrue result ↔ HasWrongHash length octets.now }
+{
+    match length {
+        Length::Any | Length::Digest(_, _) => false,
+        Length::Hash => {
+            5 + usize::from(octet_at(octets, 4)) < octets.len() && !has_length(length, octets)
+        }
+    }
+}
+
 /// Takes the tokens that are left as data of a shape, and appends its octets. A relative name stands
 /// before the origin.
 pub fn read_data<S: TokenSource, Octets: AsOctets, B: OctetsBuilder + AsOctetsMut>(
@@ -83,20 +96,30 @@ pub fn read_data<S: TokenSource, Octets: AsOctets, B: OctetsBuilder + AsOctetsMu
     ensures end { S.end source.new ≡ S.end source.old }
 {
     let begun = target.as_slice().len();
-    if let Err(refused) = take_fields(shape.fields, origin, source, target) {
+    let last = match take_fields(shape.fields, origin, source, target) {
+        Ok(at) => at,
+        Err(refused) => {
+            return Err(PartRefusal {
+                part: refused.field,
+                at: refused.refusal.at,
+                why: DataError::Field(refused.refusal.why),
+            });
+        }
+    };
+    let part = shape.fields.len();
+    if has_wrong_hash(shape.length, &target.as_slice()[begun..]) {
         return Err(PartRefusal {
-            part: refused.field,
-            at: refused.refusal.at,
-            why: DataError::Field(refused.refusal.why),
+            part: part.saturating_sub(1),
+            at: last,
+            why: DataError::WrongLength,
         });
     }
-    let part = shape.fields.len();
     let at = source.place();
-    if let Err(refusal) = take_rest(shape.rest, origin, source, target) {
+    if let Err(refused) = take_parts(shape.rest, origin, source, target) {
         return Err(PartRefusal {
-            part,
-            at: refusal.at,
-            why: refusal.why,
+            part: part + refused.part,
+            at: refused.refusal.at,
+            why: refused.refusal.why,
         });
     }
     if !has_length(shape.length, &target.as_slice()[begun..]) {

@@ -8,8 +8,8 @@ use dns_digits::Digests;
 use dns_fields::Field;
 
 /// A type of records: its code, the fields of its data, what comes behind them, the lengths that are
-/// asked for, and the names of its parts in refusals. What comes behind the fields has the last
-/// name.
+/// asked for, and the names of its parts in refusals: of the fields, and behind them of the parts of the
+/// rest.
 pub struct TypeRow(
     pub u16,
     pub &'static [Field],
@@ -225,11 +225,7 @@ pub static TYPES: [TypeRow; 66] = [
     // CERT (RFC 4398 section 2).
     TypeRow(
         37,
-        &[
-            Field::CertificateType,
-            Field::Number16,
-            Field::NamedAlgorithm,
-        ],
+        &[Field::CertificateType, Field::Number16, Field::Algorithm],
         Rest::Base64,
         Length::Any,
         &["type", "key tag", "algorithm", "certificate"],
@@ -260,7 +256,13 @@ pub static TYPES: [TypeRow; 66] = [
         &[Field::Number8],
         Rest::GatewayKey,
         Length::Any,
-        &["precedence", "gateway"],
+        &[
+            "precedence",
+            "gateway type",
+            "algorithm",
+            "gateway",
+            "public key",
+        ],
     ),
     // RRSIG (RFC 4034 section 3.1).
     TypeRow(

@@ -64,7 +64,7 @@ fn take(inputs: &[Vec<u8>], answer: &mut Answer) {
     let mut source = TokenList::new(tokens.as_slice(), text.len());
     let mut target: Octets = Vec::new(answer.heap());
     match take_fields(fields.as_slice(), origin.as_ref(), &mut source, &mut target) {
-        Ok(()) => tell_taken(target.as_slice(), source.place(), answer),
+        Ok(_) => tell_taken(target.as_slice(), source.place(), answer),
         Err(refused) => {
             tell_refusal(refused.refusal, answer);
             answer.add_text("|");

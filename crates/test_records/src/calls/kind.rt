@@ -25,7 +25,6 @@ fn kind_of(name: &[u8]) -> Option<Field> {
         b"type" => Some(Field::RecordType),
         b"sig_type" => Some(Field::SigType),
         b"algorithm" => Some(Field::Algorithm),
-        b"named_algorithm" => Some(Field::NamedAlgorithm),
         b"certificate" => Some(Field::CertificateType),
         b"string" => Some(Field::String),
         b"psdn_address" => Some(Field::PsdnAddress),
