@@ -6,7 +6,7 @@ use Rattle.std.proofs.lemmas.Option.{none-some}
 use Rattle.dns_reader.specs.Source.{SourceSeen, behind_left, entry_end}
 
 abbrev with_open : SourceSeen → Bool → SourceSeen
-with_open s b = record { began = s.began; is_open = b; parts = s.parts }
+with_open s b = record { began = s.began; is_open = b; taken = s.taken; parts = s.parts }
 
 pub rest_kept : (old new : SourceSeen) → entry_end new ≡ entry_end old → old.is_open ≡ true → (new.is_open ≡ true) × (behind_left new ≡ behind_left old)
 rest_kept old new = go new.is_open old.is_open

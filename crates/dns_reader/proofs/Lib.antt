@@ -21,5 +21,6 @@ pub mod SplitTexts
 pub mod StepsSeen
 pub mod TextParts
 pub mod TextPieces
+pub mod TokenEnds
 pub mod WholeRecords
 pub mod WholeTexts

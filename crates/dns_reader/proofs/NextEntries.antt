@@ -21,7 +21,7 @@ module _ (octets : List ℕ) (begun middle : SourceSeen) (same : entry_end middl
   pub ended : (end : Option EndOfEntry) (after : SourceSeen) → FinishesEntry middle (Ok end) after → (e : EndOfEntry) × StandsAfter octets begun (Ok e) after
   ended (Some e) after h =
       let kept = rest_kept begun middle same is_open in
-      (e, (sym kept.1 ∙ h.1, h.2, h.3))
+      (e, (sym kept.1 ∙ h.1, h.2, h.3, h.4))
   ended None after h =
       let kept = rest_kept begun middle same is_open in
       absurd (false≢true (sym h.0 ∙ kept.0))

@@ -40,7 +40,7 @@ passes_more old now new None p f = record {
   began_at = ap (λ s. s.began) f.1 ∙ p.began_at;
 }
   where
-    closed : (b : Bool) → b ≡ false → behind_left (record { began = now.began; is_open = b; parts = now.parts }) ≡ now.parts
+    closed : (b : Bool) → b ≡ false → behind_left (record { began = now.began; is_open = b; taken = now.taken; parts = now.parts }) ≡ now.parts
     closed false e = refl
     closed true e = cc
 passes_more old now new (Some end) p f = record {
@@ -55,8 +55,8 @@ pub begins_at : (old new : SourceSeen) (result : Result (Option StartOfEntry) Fa
 begins_at old new result p s = record { ends = p.ends; passed = p.passed; began = p.began_at; start = s }
 
 pub at_token : (began : ℕ) (token : EntryToken) (b : Bool) (tokens : Parts) → IsOpenBefore (Some (Ok (TokenOf token b))) tokens
-    → IsAtStart (Ok (Some (record { at = began; begins_blank = b }))) (source_seen began (Some (Ok (TokenOf token b))) tokens)
-at_token began token b tokens o = (refl, refl, (refl, subst (λ x. IsOpen x tokens) (sym o.1.0) o.1.1), tt)
+    → IsAtStart (Ok (Some (record { at = began; begins_blank = b }))) (source_seen began (Some (Ok (TokenOf token b))) None tokens)
+at_token began token b tokens o = (refl, refl, (refl, subst (λ x. IsOpen x tokens) (sym o.1.0) o.1.1), tt, refl)
 
 -- a fault that `finish` finds stays
 pub stops_at : (old now new : SourceSeen) (f : Fault) → PassesTo old (behind_left now) now.began → FinishesEntry now (Err f) new → BeginsEntry old (Err f) new
@@ -68,8 +68,8 @@ stops_at old now new f p h = record {
 }
 
 -- where no entry is open and the next part is looked at
-module _ (old now middle : SourceSeen) (r : Option EndOfEntry) (began : ℕ) (before next : Next) (tokens later : Parts) (p : PassesTo old (behind_left now) now.began) (f : FinishesEntry now (Ok r) middle)
-    (seen : source_seen began before tokens ≡ middle) (looks : YieldsFirstBy answer_seen (λ (left : Parts). left) tokens next later) (entries : IsInEntries tokens) where
+module _ (old now middle : SourceSeen) (r : Option EndOfEntry) (began : ℕ) (taken : Option ℕ) (before next : Next) (tokens later : Parts) (p : PassesTo old (behind_left now) now.began) (f : FinishesEntry now (Ok r) middle)
+    (seen : source_seen began before taken tokens ≡ middle) (looks : YieldsFirstBy answer_seen (λ (left : Parts). left) tokens next later) (entries : IsInEntries tokens) where
   finished_closed : (o : Option EndOfEntry) → FinishesEntry now (Ok o) middle → middle.is_open ≡ false
   finished_closed None h = ap (λ s. s.is_open) h.1 ∙ h.0
   finished_closed (Some x) h = h.2
@@ -84,17 +84,17 @@ module _ (old now middle : SourceSeen) (r : Option EndOfEntry) (began : ℕ) (be
       same : middle.parts ≡ tokens
       same = ap (λ s. s.parts) (sym seen) ∙ none before (ap (λ s. s.is_open) seen ∙ finished_closed r f)
 
-  pub begins_token : (token : EntryToken) (b : Bool) → next ≡ Some (Ok (TokenOf token b)) → BeginsEntry old (Ok (Some (record { at = began; begins_blank = b }))) (source_seen began next later)
-  begins_token token b e = begins_at old (source_seen began next later) _ passes_on
-      (subst (λ n. IsOpenBefore n later → IsAtStart (Ok (Some (record { at = began; begins_blank = b }))) (source_seen began n later)) (sym e) (at_token began token b later) (opens_before tokens later next looks entries))
+  pub begins_token : (token : EntryToken) (b : Bool) → next ≡ Some (Ok (TokenOf token b)) → BeginsEntry old (Ok (Some (record { at = began; begins_blank = b }))) (source_seen began next None later)
+  begins_token token b e = begins_at old (source_seen began next None later) _ passes_on
+      (subst (λ n. IsOpenBefore n later → IsAtStart (Ok (Some (record { at = began; begins_blank = b }))) (source_seen began n None later)) (sym e) (at_token began token b later) (opens_before tokens later next looks entries))
 
-  pub begins_fault : (fault : Fault) → next ≡ Some (Err fault) → BeginsEntry old (Err fault) (source_seen began next later)
-  begins_fault fault e = begins_at old (source_seen began next later) _ passes_on
-      (subst (λ n. IsOpenBefore n later → IsAtStart (Err fault) (source_seen began n later)) (sym e) (λ o. (refl, ap (λ l. Err fault ∷ l) o.1)) (opens_before tokens later next looks entries))
+  pub begins_fault : (fault : Fault) → next ≡ Some (Err fault) → BeginsEntry old (Err fault) (source_seen began next None later)
+  begins_fault fault e = begins_at old (source_seen began next None later) _ passes_on
+      (subst (λ n. IsOpenBefore n later → IsAtStart (Err fault) (source_seen began n None later)) (sym e) (λ o. (refl, ap (λ l. Err fault ∷ l) o.1)) (opens_before tokens later next looks entries))
 
-  pub begins_none : next ≡ None → BeginsEntry old (Ok None) (source_seen began next later)
-  begins_none e = begins_at old (source_seen began next later) _ passes_on
-      (subst (λ n. YieldsFirstBy answer_seen (λ (left : Parts). left) tokens n later → IsAtStart (Ok None) (source_seen began n later)) (sym e) (λ y. (refl, y.1)) looks)
+  pub begins_none : next ≡ None → BeginsEntry old (Ok None) (source_seen began next None later)
+  begins_none e = begins_at old (source_seen began next None later) _ passes_on
+      (subst (λ n. YieldsFirstBy answer_seen (λ (left : Parts). left) tokens n later → IsAtStart (Ok None) (source_seen began n None later)) (sym e) (λ y. (refl, y.1)) looks)
 
-  pub passes_end : (end : EndOfEntry) → next ≡ Some (Ok (EndOf end)) → PassesTo old (behind_left (source_seen began next later)) began
-  passes_end end e = subst (λ n. PassesTo old (with_next n later) began → PassesTo old (behind_left (source_seen began n later)) began) (sym e) (λ q. q) passes_on
+  pub passes_end : (end : EndOfEntry) → next ≡ Some (Ok (EndOf end)) → PassesTo old (behind_left (source_seen began next None later)) began
+  passes_end end e = subst (λ n. PassesTo old (with_next n later) began → PassesTo old (behind_left (source_seen began n None later)) began) (sym e) (λ q. q) passes_on

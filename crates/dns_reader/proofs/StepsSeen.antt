@@ -1,14 +1,14 @@
 -- What a call of `next_entry` reads, as an entry of the text.
 use Rattle.std.proofs.Common.{ℕ, ◌≡◌, Bool, true, false, List, [], ◌∷◌, ◌++◌, refl, sym, ap, ◌∙◌, subst, append_assoc, Option, Some, None, Result, Ok, Err}
-use Rattle.std.specs.Prelude.{map}
+use Rattle.std.specs.Prelude.{map, unwrap_or}
 use Rattle.dns_octets.specs.Room.{Room}
 use Rattle.dns_split.specs.declared.pieces.EndOfEntry.{EndOfEntry}
 use Rattle.dns_split.specs.declared.pieces.Fault.{Fault}
-use Rattle.dns_split.specs.EntryTokens.{TokenIs, TokenSeen}
+use Rattle.dns_split.specs.EntryTokens.{EndIs, TokenIs, TokenSeen}
 use Rattle.dns_reader.specs.EntryReading.{ReadsZoneEntry}
 use Rattle.dns_reader.specs.Records.{ReadsBegun, ReadsNextEntry, StandsAfter, given_of}
-use Rattle.dns_reader.specs.Source.{BeginsEntry, SourceSeen, StartsBehindLine, behind_left, behind_tokens, end_first, entry_end, entry_left, tokens_first}
-use Rattle.dns_reader.specs.TextEntries.{TextEntry, end_seen, entry_counts, parts_of_entry, place_of_end}
+use Rattle.dns_reader.specs.Source.{BeginsEntry, BeginsToken, SourceSeen, StartsBehindLine, behind_left, behind_tokens, entry_end, entry_left, last_token_end, tokens_first}
+use Rattle.dns_reader.specs.TextEntries.{TextEntry, end_seen, entry_counts, parts_of_entry, tokens_end}
 use Rattle.dns_reader.specs.declared.entry.EntryRead.{EntryRead}
 use Rattle.dns_reader.specs.declared.entry.EntryRead.TheVariants.{Nothing}
 use Rattle.dns_reader.specs.declared.entry_error.EntryRefusal.{EntryRefusal}
@@ -24,7 +24,7 @@ use Rattle.dns_reader.proofs.TextParts.{closed_left, open_parts, tokens_count}
 
 -- behind an end the source has the rest; behind a fault it starts again
 abbrev pub GoesOn : List ℕ → Result EndOfEntry Fault → Parts → SourceSeen → Type 0
-GoesOn octets (Ok e) rest s = (s.parts ≡ rest) × (s.is_open ≡ false) × (s.began ≡ e.at)
+GoesOn octets (Ok e) rest s = (s.parts ≡ rest) × (s.is_open ≡ false) × (s.began ≡ e.at) × (s.taken ≡ None)
 GoesOn octets (Err f) rest s = (rest ≡ []) × StartsBehindLine octets f.at s
 
 pub record StepSeen (room : Room) (octets : List ℕ) (parts : Parts) (before : State) (old : List ℕ) (result : Result EntryRead RecordRefusal) (after : State) (source : SourceSeen) (new : List ℕ) : Type 0 where
@@ -34,7 +34,7 @@ pub record StepSeen (room : Room) (octets : List ℕ) (parts : Parts) (before : 
   pub parts_are : parts ≡ ends_of ends ++ (parts_of_entry entry ++ rest)
   pub counts : entry_counts entry ≡ true
   pub read : Result EntryRead EntryRefusal
-  pub reads : ReadsZoneEntry room entry.begins_blank (place_of_end entry.end) entry.tokens before old read after new
+  pub reads : ReadsZoneEntry room entry.begins_blank (tokens_end entry.tokens) entry.tokens before old read after new
   pub given : result ≡ given_of entry.end read
   pub goes_on : GoesOn octets entry.end rest source
 
@@ -42,26 +42,27 @@ pub open_left : (s : SourceSeen) → s.is_open ≡ true → (entry_left s ≡ to
 open_left s = go s.is_open
   where
     go : (b : Bool) → b ≡ true
-        → (entry_left (record { began = s.began; is_open = b; parts = s.parts }) ≡ tokens_first s.parts) × (behind_left (record { began = s.began; is_open = b; parts = s.parts }) ≡ behind_tokens s.parts)
+        → (entry_left (record { began = s.began; is_open = b; taken = s.taken; parts = s.parts }) ≡ tokens_first s.parts) × (behind_left (record { began = s.began; is_open = b; taken = s.taken; parts = s.parts }) ≡ behind_tokens s.parts)
     go true e = (refl, refl)
     go false e = cc
 
--- where the open entry ends
-end_of_first : (began : ℕ) (end : Result EndOfEntry Fault) (rest behind : Parts) → behind ≡ end_seen end ∷ rest → end_first began behind ≡ place_of_end end
-end_of_first began (Ok e) rest behind is = ap (end_first began) is
-end_of_first began (Err f) rest behind is = ap (end_first began) is
+-- where the tokens of the open entry end
+same_last : (parts : Parts) (n m : ℕ) → BeginsToken parts → last_token_end n (tokens_first parts) ≡ last_token_end m (tokens_first parts)
+same_last [] n m h = absurd h
+same_last (Ok (TokenIs t b) ∷ parts) n m h = refl
+same_last (Ok (EndIs e) ∷ parts) n m h = absurd h
+same_last (Err f ∷ parts) n m h = absurd h
 
-end_place : (s : SourceSeen) (end : Result EndOfEntry Fault) (rest : Parts) → s.is_open ≡ true → behind_left s ≡ end_seen end ∷ rest → (entry_end s).at ≡ place_of_end end
+end_place : (s : SourceSeen) → s.is_open ≡ true → BeginsToken s.parts → (entry_end s).at ≡ tokens_end (tokens_first s.parts)
 end_place s = go s.is_open
   where
-    go : (b : Bool) (end : Result EndOfEntry Fault) (rest : Parts) → b ≡ true → behind_left (record { began = s.began; is_open = b; parts = s.parts }) ≡ end_seen end ∷ rest
-        → (entry_end (record { began = s.began; is_open = b; parts = s.parts })).at ≡ place_of_end end
-    go true end rest e is = end_of_first s.began end rest (behind_tokens s.parts) is
-    go false end rest e is = cc
+    go : (b : Bool) → b ≡ true → BeginsToken s.parts → (entry_end (record { began = s.began; is_open = b; taken = s.taken; parts = s.parts })).at ≡ tokens_end (tokens_first s.parts)
+    go true e h = same_last s.parts (unwrap_or s.taken s.began) 0 h
+    go false e h = cc
 
 -- what comes behind the tokens, and where the source stands then
 stands_rest : (octets : List ℕ) (begun after : SourceSeen) (end : Result EndOfEntry Fault) → StandsAfter octets begun end after → (rest : Parts) × (behind_left begun ≡ end_seen end ∷ rest) × GoesOn octets end rest after
-stands_rest octets begun after (Ok e) h = (after.parts, h.0, (refl, h.1, h.2))
+stands_rest octets begun after (Ok e) h = (after.parts, h.0, (refl, h.1, h.2, h.3))
 stands_rest octets begun after (Err f) h = ([], h.0, (refl, h.1))
 
 module _ (room : Room) (before after : RecordReader) (old new : List ℕ) (result : Result EntryRead RecordRefusal) (closed : before.source.is_open ≡ false) where
@@ -87,8 +88,8 @@ module _ (room : Room) (before after : RecordReader) (old new : List ℕ) (resul
         parts_are = passed_parts begun (Ok (Some start)) h ∙ ap (λ l. ends_of h.ends ++ l) (all ∙ sym (append_assoc (map (λ t. Ok (TokenIs t blank)) tokens) (end_seen end ∷ []) rest.0));
         counts = tokens_count begun.parts end h.start.3;
         read = read;
-        reads = subst (λ l. ReadsZoneEntry room blank (place_of_end end) l before.state old read after.state new) left.0
-            (subst (λ n. ReadsZoneEntry room blank n (entry_left begun) before.state old read after.state new) (end_place begun end rest.0 h.start.0 rest.1) reads);
+        reads = subst (λ l. ReadsZoneEntry room blank (tokens_end tokens) l before.state old read after.state new) left.0
+            (subst (λ n. ReadsZoneEntry room blank n (entry_left begun) before.state old read after.state new) (end_place begun h.start.0 h.start.3) reads);
         given = cc;
         goes_on = rest.2;
       }
@@ -101,8 +102,8 @@ module _ (room : Room) (before after : RecordReader) (old new : List ℕ) (resul
     parts_are = passed_parts begun (Err fault) h ∙ ap (λ l. ends_of h.ends ++ l) h.start.1;
     counts = refl;
     read = Ok Nothing;
-    reads = subst (λ s. ReadsZoneEntry room false fault.at [] before.state old (Ok Nothing) s new) (sym state)
-        (subst (λ o. ReadsZoneEntry room false fault.at [] before.state old (Ok Nothing) before.state o) (sym octets) (nothing_read room false fault.at [] before.state old refl));
+    reads = subst (λ s. ReadsZoneEntry room false 0 [] before.state old (Ok Nothing) s new) (sym state)
+        (subst (λ o. ReadsZoneEntry room false 0 [] before.state old (Ok Nothing) before.state o) (sym octets) (nothing_read room false 0 [] before.state old refl));
     given = cc;
     goes_on = (refl, behind);
   }

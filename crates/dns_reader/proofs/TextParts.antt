@@ -42,7 +42,7 @@ tokens_count (Err f ∷ parts) end h = absurd h
 pub closed_left : (s : SourceSeen) → s.is_open ≡ false → behind_left s ≡ s.parts
 closed_left s = go s.is_open
   where
-    go : (b : Bool) → b ≡ false → behind_left (record { began = s.began; is_open = b; parts = s.parts }) ≡ s.parts
+    go : (b : Bool) → b ≡ false → behind_left (record { began = s.began; is_open = b; taken = s.taken; parts = s.parts }) ≡ s.parts
     go false e = refl
     go true e = cc
 

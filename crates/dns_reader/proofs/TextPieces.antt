@@ -1,5 +1,5 @@
 -- Reading that stops behind an entry goes on there.
-use Rattle.std.proofs.Common.{ℕ, ◌≡◌, false, List, [], ◌∷◌, ◌++◌, length, sym, ap, ◌∙◌, subst, arith, append_assoc, inl, inr, Result, Ok, Err}
+use Rattle.std.proofs.Common.{ℕ, ◌≡◌, false, List, [], ◌∷◌, ◌++◌, length, sym, ap, ◌∙◌, subst, arith, append_assoc, inl, inr, None, Result, Ok, Err}
 use Rattle.std.specs.Prelude.{◌⊎◌, map}
 use Rattle.dns_octets.specs.Room.{Room}
 use Rattle.dns_split.specs.declared.pieces.EndOfEntry.{EndOfEntry}
@@ -40,16 +40,21 @@ module _ (octets : List ℕ) (are : AreOctets octets) (at : ℕ) (ends tokens : 
 pub record Stops (octets : List ℕ) (r : RecordReader) : Type 0 where
   pub octets_is : r.octets.now ≡ octets
   pub closed : r.source.is_open ≡ false
+  pub taken : r.source.taken ≡ None
   pub there : IsThere octets r.source
 
 closed_then : (octets : List ℕ) (end : Result EndOfEntry Fault) (rest : Parts) (source : SourceSeen) → GoesOn octets end rest source → source.is_open ≡ false
 closed_then octets (Ok e) rest source k = k.1
 closed_then octets (Err f) rest source k = k.1.closed
 
+taken_then : (octets : List ℕ) (end : Result EndOfEntry Fault) (rest : Parts) (source : SourceSeen) → GoesOn octets end rest source → source.taken ≡ None
+taken_then octets (Ok e) rest source k = k.3
+taken_then octets (Err f) rest source k = k.1.taken
+
 pub calls_stop : (room : Room) (octets : List ℕ) (start : State) (first last : RecordReader) (given : List EntryGiven) → StartsText octets start first → AreGivenInARow room first given last → Stops octets last
 calls_stop room octets start first last given h none_given =
     let from = seen_from_start octets first.source.parts h.are_octets h.parts in
-    record { octets_is = h.octets_is; closed = h.closed; there = inr (subst (λ n. IsSeenFrom octets n first.source.parts) (sym h.began) from) }
+    record { octets_is = h.octets_is; closed = h.closed; taken = h.taken; there = inr (subst (λ n. IsSeenFrom octets n first.source.parts) (sym h.began) from) }
 calls_stop room octets start first last given h (given_next before middle end g row next state) =
     let s = calls_stop room octets start first middle before h row in
     let q = step_seen room middle end g.old g.new g.result s.closed next in
@@ -58,6 +63,7 @@ calls_stop room octets start first last given h (given_next before middle end g 
     record {
       octets_is = next.octets_stay ∙ s.octets_is;
       closed = closed_then octets q.entry.end q.rest end.source goes;
+      taken = taken_then octets q.entry.end q.rest end.source goes;
       there = elim s.there [
         | inl none ↦ absurd (never_empty (ends_of q.ends) tokens q.rest (end_seen q.entry.end) (sym none ∙ q.parts_are))
         | inr from ↦ there_then octets h.are_octets middle.source.began (ends_of q.ends) tokens end.source q.entry.end q.rest goes (subst (IsSeenFrom octets middle.source.began) q.parts_are from)
@@ -75,4 +81,4 @@ pub pieces_are_read_on : PiecesAreReadOn
 pieces_are_read_on room octets start given stopped other h k =
     let s = calls_stop room octets start h.first stopped given h.starts h.row in
     let parts = seen_from_once octets stopped.source.began other.source.parts stopped.source.parts k.parts (left_there room octets start given stopped h) in
-    (k.octets_is ∙ sym s.octets_is, (λ i. record { began = k.began i; is_open = (k.closed ∙ sym s.closed) i; parts = parts i }), k.state_is)
+    (k.octets_is ∙ sym s.octets_is, (λ i. record { began = k.began i; is_open = (k.closed ∙ sym s.closed) i; taken = (k.taken ∙ sym s.taken) i; parts = parts i }), k.state_is)

@@ -24,6 +24,7 @@ pub record StartsText (octets : List ℕ) (state : State) (r : RecordReader) : T
   pub parts : IsSeen octets r.source.parts
   pub closed : r.source.is_open ≡ false
   pub began : r.source.began ≡ 0
+  pub taken : r.source.taken ≡ None
   pub state_is : r.state ≡ state
 
 -- what is given of an entry that is read
@@ -37,7 +38,7 @@ Unread before old after new = (after ≡ before) × (new ≡ old)
 
 -- the source stands behind the end of an entry, or behind the line of the fault that cuts it off
 abbrev pub StandsAfter : List ℕ → SourceSeen → Result EndOfEntry Fault → SourceSeen → Type 0
-StandsAfter octets begun (Ok end) after = (behind_left begun ≡ Ok (EndIs end) ∷ after.parts) × (after.is_open ≡ false) × (after.began ≡ end.at)
+StandsAfter octets begun (Ok end) after = (behind_left begun ≡ Ok (EndIs end) ∷ after.parts) × (after.is_open ≡ false) × (after.began ≡ end.at) × (after.taken ≡ None)
 StandsAfter octets begun (Err fault) after = (behind_left begun ≡ Err fault ∷ []) × StartsBehindLine octets fault.at after
 
 -- what is given of an entry that has an end; and of one that a fault cuts off

@@ -1,35 +1,57 @@
 -- Where a reader of entries stands among the parts of a text.
-use Rattle.std.specs.Prelude.{⊤, ◌≡◌, ◌≤◌, ℕ, Bool, true, false, if◌then◌else◌, List, [], ◌∷◌, ◌++◌, drop, length, map, Option, Some, None, option_map, is_some, Result, Ok, Err}
+use Rattle.std.specs.Prelude.{⊤, ◌≡◌, ◌≤◌, ◌<◌, ◌+◌, ◌^◌, ℕ, Bool, true, false, if◌then◌else◌, List, [], ◌∷◌, ◌++◌, drop, length, map, Option, Some, None, option_map, is_some, unwrap_or, Result, Ok, Err}
 use Rattle.std.specs.Io.BufRead.{drop_through}
 use Rattle.std.specs.Option.{option_to_list}
 use Rattle.dns_symbol.specs.Characters.{line_feed}
 use Rattle.dns_split.specs.declared.pieces.EndOfEntry.{EndOfEntry}
 use Rattle.dns_split.specs.declared.pieces.Fault.{Fault}
 use Rattle.dns_split.specs.declared.entry_tokens.EntryPart.{EntryPart}
-use Rattle.dns_split.specs.EntryTokens.{EndIs, IsOpen, IsSeenFrom, PartSeen, TokenIs, TokenSeen, answer_seen}
+use Rattle.dns_split.specs.EntryTokens.{EndIs, IsOpen, IsSeenFrom, PartSeen, TokenIs, TokenSeen, answer_seen, spelled}
 use Rattle.dns_fields.specs.Source.{EntryEnd}
 use Rattle.dns_reader.specs.declared.source.StartOfEntry.{StartOfEntry}
 
--- where the open entry began, or the next one begins; whether one is open; and what is left of the text
+-- where a token ends: a quoted text behind its closing double quote
+abbrev pub token_end : TokenSeen → ℕ
+token_end t = t.at + length (spelled t)
+
+-- where the last of some tokens ends; where there is none, this place
+abbrev pub last_token_end : ℕ → List TokenSeen → ℕ
+last_token_end at [] = at
+last_token_end at (t ∷ tokens) = last_token_end (token_end t) tokens
+
+-- where the open entry began, or the next one begins; whether one is open, and where the last token that was taken of it ended, if one was; and what is left of the text
 pub record SourceSeen : Type 0 where
   pub began : ℕ
   pub is_open : Bool
+  pub taken : Option ℕ
   pub parts : List (Result PartSeen Fault)
 
 -- the part that was looked at, if an entry is open, comes before the others
-abbrev pub source_seen : ℕ → Option (Result EntryPart Fault) → List (Result PartSeen Fault) → SourceSeen
-source_seen began next parts = record { began = began; is_open = is_some next; parts = option_to_list (option_map answer_seen next) ++ parts }
+abbrev pub source_seen : ℕ → Option (Result EntryPart Fault) → Option ℕ → List (Result PartSeen Fault) → SourceSeen
+source_seen began next taken parts = record { began = began; is_open = is_some next; taken = taken; parts = option_to_list (option_map answer_seen next) ++ parts }
 
 -- an entry that is open has an end, or a fault
 abbrev pub IsOpenBefore : Option (Result EntryPart Fault) → List (Result PartSeen Fault) → Type 0
 IsOpenBefore None parts = ⊤
 IsOpenBefore (Some x) parts = (blank : Bool) × IsOpen blank (answer_seen x ∷ parts)
 
+-- each token ends at a place that is one
+abbrev pub TokensEnd : List (Result PartSeen Fault) → Type 0
+TokensEnd [] = ⊤
+TokensEnd (Ok (TokenIs t b) ∷ parts) = (token_end t < 2 ^ 64) × TokensEnd parts
+TokensEnd (Ok (EndIs e) ∷ parts) = TokensEnd parts
+TokensEnd (Err f ∷ parts) = TokensEnd parts
+
+pub record IsSourceOf (next : Option (Result EntryPart Fault)) (parts : List (Result PartSeen Fault)) : Type 0 where
+  pub opens : IsOpenBefore next parts
+  pub ends : TokensEnd (option_to_list (option_map answer_seen next) ++ parts)
+
 -- the source stands behind the first line feed at a place or after it, or at the octets' end where none is; nothing of what it then reads leans on what stands before
 pub record StartsBehindLine (octets : List ℕ) (at : ℕ) (s : SourceSeen) : Type 0 where
   pub within : s.began ≤ length octets
   pub behind : drop s.began octets ≡ drop_through line_feed (drop at octets)
   pub closed : s.is_open ≡ false
+  pub taken : s.taken ≡ None
   pub parts : IsSeenFrom octets s.began s.parts
 
 -- the tokens that come first, and what comes behind them
@@ -55,9 +77,13 @@ entry_left s = if s.is_open then tokens_first s.parts else []
 abbrev pub behind_left : SourceSeen → List (Result PartSeen Fault)
 behind_left s = if s.is_open then behind_tokens s.parts else s.parts
 
--- where it ends, or the fault stands that cuts it off, and what the text has from there on; where none is open, where the last one ended
+-- where its line ends, or the fault stands that cuts it off; where none is open, where the last one ended
+abbrev pub stop_place : SourceSeen → ℕ
+stop_place s = if s.is_open then end_first s.began (behind_tokens s.parts) else s.began
+
+-- where the last of its tokens ends, and what the text has behind them; where none is open, where the last one ended
 abbrev pub entry_end : SourceSeen → EntryEnd
-entry_end s = if s.is_open then record { at = end_first s.began (behind_tokens s.parts); behind = Some (behind_tokens s.parts) } else record { at = s.began; behind = None }
+entry_end s = if s.is_open then record { at = last_token_end (unwrap_or s.taken s.began) (tokens_first s.parts); behind = Some (behind_tokens s.parts) } else record { at = s.began; behind = None }
 
 abbrev pub BeginsToken : List (Result PartSeen Fault) → Type 0
 BeginsToken (Ok (TokenIs t b) ∷ parts) = ⊤
@@ -65,7 +91,7 @@ BeginsToken _ = ⊥
 
 -- the source stands where an entry of tokens begins; or nothing is left; or a fault comes next
 abbrev pub IsAtStart : Result (Option StartOfEntry) Fault → SourceSeen → Type 0
-IsAtStart (Ok (Some start)) s = (s.is_open ≡ true) × (start.at ≡ s.began) × IsOpen start.begins_blank s.parts × BeginsToken s.parts
+IsAtStart (Ok (Some start)) s = (s.is_open ≡ true) × (start.at ≡ s.began) × IsOpen start.begins_blank s.parts × BeginsToken s.parts × (s.taken ≡ None)
 IsAtStart (Ok None) s = (s.is_open ≡ false) × (s.parts ≡ [])
 IsAtStart (Err f) s = (s.is_open ≡ true) × (s.parts ≡ Err f ∷ [])
 
@@ -83,6 +109,6 @@ pub record BeginsEntry (old : SourceSeen) (result : Result (Option StartOfEntry)
 
 -- what was left of the open entry is taken, and its end; or none is open, and nothing is taken; or a fault comes before the end, and it stays
 abbrev pub FinishesEntry : SourceSeen → Result (Option EndOfEntry) Fault → SourceSeen → Type 0
-FinishesEntry old (Ok (Some end)) new = (old.is_open ≡ true) × (behind_left old ≡ Ok (EndIs end) ∷ new.parts) × (new.is_open ≡ false) × (new.began ≡ end.at)
+FinishesEntry old (Ok (Some end)) new = (old.is_open ≡ true) × (behind_left old ≡ Ok (EndIs end) ∷ new.parts) × (new.is_open ≡ false) × (new.began ≡ end.at) × (new.taken ≡ None)
 FinishesEntry old (Ok None) new = (old.is_open ≡ false) × (new ≡ old)
-FinishesEntry old (Err f) new = (old.is_open ≡ true) × (behind_left old ≡ Err f ∷ []) × (new ≡ record { began = old.began; is_open = true; parts = Err f ∷ [] })
+FinishesEntry old (Err f) new = (old.is_open ≡ true) × (behind_left old ≡ Err f ∷ []) × (new ≡ record { began = old.began; is_open = true; taken = old.taken; parts = Err f ∷ [] })

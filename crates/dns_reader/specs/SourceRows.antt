@@ -10,7 +10,7 @@ use Rattle.dns_split.specs.declared.pieces.Wrong.TheVariants.{Closing}
 use Rattle.dns_split.specs.Lexeme.{Blank, Line, Word}
 use Rattle.dns_split.specs.Pieces.{IsGiven, end_at, word_at}
 use Rattle.dns_split.specs.EntryTokens.{EndIs, IsSeen, PartSeen, TokenIs, TokenSeen}
-use Rattle.dns_reader.specs.Source.{BeginsEntry, FinishesEntry, SourceSeen, StartsBehindLine, entry_end, entry_left}
+use Rattle.dns_reader.specs.Source.{BeginsEntry, FinishesEntry, SourceSeen, StartsBehindLine, entry_end, entry_left, last_token_end, stop_place}
 
 abbrev word : List ℕ → ℕ → TokenSeen
 word text at = record { text = text; is_quoted = false; is_glued = false; at = at }
@@ -19,7 +19,7 @@ abbrev end : ℕ → Bool → EndOfEntry
 end at blank = record { at = at; begins_blank = blank }
 
 abbrev source : ℕ → Bool → List (Result PartSeen Fault) → SourceSeen
-source began is_open parts = record { began = began; is_open = is_open; parts = parts }
+source began is_open parts = record { began = began; is_open = is_open; taken = None; parts = parts }
 
 -- two words, a blank line, and an entry that begins with a blank
 abbrev last_entry : List (Result PartSeen Fault)
@@ -55,19 +55,40 @@ seen_of_all : IsSeen (codes "a b\n\n c") all_entries
 seen_of_all = (map Ok pieces_of_all, given_of_all, refl)
 
 first_begins : BeginsEntry (source 0 false all_entries) (Ok (Some (record { at = 0; begins_blank = false }))) (source 0 true all_entries)
-first_begins = record { ends = []; passed = refl; began = refl; start = (refl, refl, (refl, (refl, refl)), tt) }
+first_begins = record { ends = []; passed = refl; began = refl; start = (refl, refl, (refl, (refl, refl)), tt, refl) }
 
 first_is_left : entry_left (source 0 true all_entries) ≡ word (codes "a") 0 ∷ word (codes "b") 2 ∷ []
 first_is_left = refl
 
-first_ends : entry_end (source 0 true all_entries) ≡ record { at = 4; behind = Some (Ok (EndIs (end 4 false)) ∷ later_entries) }
+-- behind its last token, and not behind its line
+first_ends : entry_end (source 0 true all_entries) ≡ record { at = 3; behind = Some (Ok (EndIs (end 4 false)) ∷ later_entries) }
 first_ends = refl
 
+first_stops : stop_place (source 0 true all_entries) ≡ 4
+first_stops = refl
+
+-- so also where its first token was taken, and where both were
+abbrev one_taken : SourceSeen
+one_taken = record { began = 0; is_open = true; taken = Some 1; parts = Ok (TokenIs (word (codes "b") 2) false) ∷ Ok (EndIs (end 4 false)) ∷ later_entries }
+
+abbrev both_taken : SourceSeen
+both_taken = record { began = 0; is_open = true; taken = Some 3; parts = Ok (EndIs (end 4 false)) ∷ later_entries }
+
+one_taken_ends : entry_end one_taken ≡ entry_end (source 0 true all_entries)
+one_taken_ends = refl
+
+both_taken_end : entry_end both_taken ≡ entry_end (source 0 true all_entries)
+both_taken_end = refl
+
+-- `a ( "b" ; c`, and a parenthesis on the next line: behind the double quote
+quote_ends : last_token_end 0 (word (codes "a") 0 ∷ record { text = codes "b"; is_quoted = true; is_glued = false; at = 4 } ∷ []) ≡ 7
+quote_ends = refl
+
 first_is_finished : FinishesEntry (source 0 true all_entries) (Ok (Some (end 4 false))) (source 4 false later_entries)
-first_is_finished = (refl, refl, refl, refl)
+first_is_finished = (refl, refl, refl, refl, refl)
 
 blank_line_is_passed : BeginsEntry (source 4 false later_entries) (Ok (Some (record { at = 5; begins_blank = true }))) (source 5 true last_entry)
-blank_line_is_passed = record { ends = end 5 false ∷ []; passed = refl; began = refl; start = (refl, refl, (refl, refl), tt) }
+blank_line_is_passed = record { ends = end 5 false ∷ []; passed = refl; began = refl; start = (refl, refl, (refl, refl), tt, refl) }
 
 nothing_is_left : BeginsEntry (source 5 true last_entry) (Ok None) (source 7 false [])
 nothing_is_left = record { ends = end 7 true ∷ []; passed = refl; began = refl; start = (refl, refl) }
@@ -79,7 +100,7 @@ cut_off = Ok (TokenIs (word (codes "a") 0) false) ∷ Err (record { at = 2; wron
 cut_is_left : entry_left (source 0 true cut_off) ≡ word (codes "a") 0 ∷ []
 cut_is_left = refl
 
-cut_ends : entry_end (source 0 true cut_off) ≡ record { at = 2; behind = Some (Err (record { at = 2; wrong = Closing }) ∷ []) }
+cut_ends : entry_end (source 0 true cut_off) ≡ record { at = 1; behind = Some (Err (record { at = 2; wrong = Closing }) ∷ []) }
 cut_ends = refl
 
 cut_is_refused : FinishesEntry (source 0 true cut_off) (Err (record { at = 2; wrong = Closing })) (source 0 true (Err (record { at = 2; wrong = Closing }) ∷ []))
@@ -102,5 +123,6 @@ goes_on_behind = record {
   within = lit≤ tt;
   behind = refl;
   closed = refl;
+  taken = refl;
   parts = (map Ok (word_at 4 5 ∷ end_at 5 false ∷ []), (map Ok (word_at 0 1 ∷ end_at 1 false ∷ []), given_of_line, refl), refl);
 }

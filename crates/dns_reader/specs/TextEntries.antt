@@ -6,6 +6,7 @@ use Rattle.dns_symbol.specs.Characters.{line_feed}
 use Rattle.dns_split.specs.declared.pieces.EndOfEntry.{EndOfEntry}
 use Rattle.dns_split.specs.declared.pieces.Fault.{Fault}
 use Rattle.dns_split.specs.EntryTokens.{EndIs, IsSeenFrom, PartSeen, TokenIs, TokenSeen, spelled}
+use Rattle.dns_reader.specs.Source.{last_token_end}
 
 -- an entry: whether it begins with a blank, its tokens, and its end, or the fault that cuts it off
 pub record TextEntry : Type 0 where
@@ -24,10 +25,9 @@ parts_of_entry e = map (λ t. Ok (TokenIs t e.begins_blank)) e.tokens ++ end_see
 abbrev pub parts_of_entries : List TextEntry → List (Result PartSeen Fault)
 parts_of_entries entries = flat_map parts_of_entry entries
 
--- where it ends, or is cut off
-abbrev pub place_of_end : Result EndOfEntry Fault → ℕ
-place_of_end (Ok e) = e.at
-place_of_end (Err f) = f.at
+-- where the last of its tokens ends
+abbrev pub tokens_end : List TokenSeen → ℕ
+tokens_end tokens = last_token_end 0 tokens
 
 -- the tokens as they are spelled
 abbrev pub spelled_tokens : TextEntry → List (List ℕ)

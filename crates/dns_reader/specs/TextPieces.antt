@@ -1,5 +1,5 @@
 -- A text in pieces: where an entry has ended, reading may stop and go on.
-use Rattle.std.specs.Prelude.{◌≡◌, ◌<◌, ◌+◌, ℕ, false, List, ◌∷◌, ◌++◌, drop, length, map, take, Result, Ok, Err}
+use Rattle.std.specs.Prelude.{◌≡◌, ◌<◌, ◌+◌, ℕ, false, List, ◌∷◌, ◌++◌, drop, length, map, take, None, Result, Ok, Err}
 use Rattle.dns_octets.specs.Room.{Room}
 use Rattle.dns_split.specs.declared.pieces.EndOfEntry.{EndOfEntry}
 use Rattle.dns_split.specs.declared.pieces.Fault.{Fault}
@@ -27,6 +27,7 @@ pub record StartsAt (octets : List ℕ) (at : ℕ) (state : State) (r : RecordRe
   pub parts : IsSeenFrom octets at r.source.parts
   pub closed : r.source.is_open ≡ false
   pub began : r.source.began ≡ at
+  pub taken : r.source.taken ≡ None
   pub state_is : r.state ≡ state
 
 -- calls from a text's start on have come to a place behind which something is left

@@ -10,7 +10,7 @@ use Rattle.dns_heads.specs.Directives.{first_directive}
 use Rattle.dns_reader.specs.EntryReading.{ReadsZoneEntry, said_of_entry}
 use Rattle.dns_reader.specs.Past.{Knows, Said}
 use Rattle.dns_reader.specs.Records.{AreGivenInARow, EntryGiven, ReadsNextEntry, ReadsNextRecord, StartsText, given_of}
-use Rattle.dns_reader.specs.TextEntries.{IsSeenPastFaults, TextEntry, entry_counts, parts_of_entries, place_of_end, spelled_tokens}
+use Rattle.dns_reader.specs.TextEntries.{IsSeenPastFaults, TextEntry, entry_counts, parts_of_entries, spelled_tokens, tokens_end}
 use Rattle.dns_reader.specs.declared.entry.EntryRead.{EntryRead}
 use Rattle.dns_reader.specs.declared.entry.EntryRead.TheVariants.{Nothing}
 use Rattle.dns_reader.specs.declared.entry_error.EntryRefusal.{EntryRefusal}
@@ -38,7 +38,7 @@ all_said entries = flat_map (λ r. r.said) entries
 pub record IsReadBehind (room : Room) (start : State) (past : List Said) (r : EntryAsRead) : Type 0 where
   pub state : State
   pub knows : Knows start past state
-  pub reads : ReadsZoneEntry room r.entry.begins_blank (place_of_end r.entry.end) r.entry.tokens state r.old r.read r.after r.new
+  pub reads : ReadsZoneEntry room r.entry.begins_blank (tokens_end r.entry.tokens) r.entry.tokens state r.old r.read r.after r.new
   pub says : r.said ≡ said_of_entry (first_directive r.entry.begins_blank r.entry.tokens) reads.meaning r.read
 
 -- What was given of octets is what was read of their entries in order, but for those that have neither tokens nor a fault;

@@ -25,7 +25,8 @@ pub enum EntryError {
 }
 
 /// An entry that is refused: the place of the token, and why. Where no token is left, the place is
-/// the entry's end; where no owner or no time to live is known, it is the record's first token.
+/// where the last one ends: parentheses, comments and blanks that follow don't count. Where no owner
+/// or no time to live is known, it is the record's first token.
 #[derive(Clone, Copy, Debug, PartialEq, Eq)]
 pub struct EntryRefusal {
     /// The code of the record's type, where its data are refused.

@@ -1,5 +1,5 @@
 //! The entries of zone text, each read token by token, without memory.
-ghost use Rattle.std.specs.Prelude.{◌≡◌, ◌≤◌, ◌∷◌, [], List, Result, Ok, Err, Some, drop, true, length, map};
+ghost use Rattle.std.specs.Prelude.{◌≡◌, ◌≤◌, ◌<◌, ◌^◌, ◌∷◌, [], List, Result, Ok, Err, Some, drop, true, length, map};
 ghost use Rattle.std.specs.Io.BufRead.{drop_through};
 ghost use Rattle.dns_symbol.specs.Characters.{line_feed};
 ghost use Rattle.dns_split.specs.EntryTokens.{EndIs, GivesEntry, IsSeen, IsSeenFrom, PartSeen, token_seen};
@@ -8,7 +8,7 @@ ghost use Rattle.dns_split.specs.declared.entry_tokens.NextEntryError.TheVariant
 ghost use Rattle.dns_split.specs.declared.pieces.EndOfEntry.{EndOfEntry};
 ghost use Rattle.dns_split.specs.declared.pieces.Fault.{Fault};
 ghost use Rattle.dns_reader.specs.Source.{BeginsEntry, FinishesEntry, behind_left, behind_tokens};
-ghost use Rattle.dns_reader.specs.Source.{SourceSeen, StartsBehindLine, entry_end, tokens_first};
+ghost use Rattle.dns_reader.specs.Source.{SourceSeen, StartsBehindLine, entry_end, stop_place, token_end, tokens_first};
 
 use dns_fields::TokenSource;
 use dns_split::entry_tokens::{EntryPart, EntryToken, EntryTokens};
@@ -40,42 +40,72 @@ fn next_line(octets: &[u8], at: usize) -> usize
     octets.len()
 }
 
+/// No effect at run time: the proof reads that the octets can be counted.
+fn can_count(octets: &[u8])
+    ensures { length octets.now < 2 ^ 64 }
+{
+    let _count = octets.len();
+}
+
+/// Where a token ends among the octets.
+fn token_end(token: EntryToken<'_>) -> usize
+    requires { token_end (token_seen token) < 2 ^ 64 }
+    ensures { result ≡ token_end (token_seen token.entry) }
+{
+    let end = token.at + token.text.len();
+    if token.is_quoted {
+        return end + 2;
+    }
+    end
+}
+
 /// The entries of a text that are left, and the tokens of the one that is open.
 ///
 /// [`EntrySource::begin`] opens an entry, [`TokenSource`] gives its tokens, and
 /// [`EntrySource::finish`] takes what is left of it. A fault of the text ends the tokens of its
 /// entry, and the source stays there.
+///
+/// Its place as a [`TokenSource`], once no token is left, is where the last one ended: parentheses,
+/// comments and blanks may follow.
 #[derive(Drop)]
 pub struct EntrySource<'t> {
     tokens: EntryTokens<'t>,
     /// What comes next of the entry that is open.
     next: Option<Result<EntryPart<'t>, Fault>>,
+    /// Where the last token ended that was taken of that entry, if one was.
+    taken: Option<usize>,
     /// Where that entry began, or the next one begins.
     began: usize,
 }
 
 impl<'t> Model for EntrySource<'t> {
-    ghost use Rattle.dns_reader.specs.Source.{IsOpenBefore, SourceSeen, source_seen};
+    ghost use Rattle.dns_reader.specs.Source.{IsSourceOf, SourceSeen, source_seen};
 
     ghost Value = { SourceSeen };
 
-    ghost view = { λ s. source_seen s.began s.next s.tokens };
+    ghost view = { λ s. source_seen s.began s.next s.taken s.tokens };
 
-    ghost invariant = { λ s. IsOpenBefore s.next s.tokens };
+    ghost invariant = { λ s. IsSourceOf s.next s.tokens };
 }
 
 impl<'t> EntrySource<'t> {
-    ghost use Rattle.std.specs.Prelude.{false};
+    ghost use Rattle.std.specs.Prelude.{false, None};
+    ghost use Rattle.dns_fields.specs.Source.{next_place};
+    ghost use Rattle.dns_reader.specs.Source.{entry_left};
 
     /// The entries of octets that need not be UTF-8: each octet counts as a character of its own.
     pub fn of_octets(octets: &'t [u8]) -> EntrySource<'t>
         ensures parts { IsSeen octets.now result.parts }
         ensures closed { result.is_open ≡ false }
         ensures began { result.began ≡ 0 }
+        ensures taken { result.taken ≡ None }
     {
+        can_count(octets);
+        let tokens = EntryTokens::of_octets(octets);
         EntrySource {
-            tokens: EntryTokens::of_octets(octets),
+            tokens,
             next: None,
+            taken: None,
             began: 0,
         }
     }
@@ -88,10 +118,14 @@ impl<'t> EntrySource<'t> {
         ensures parts { IsSeenFrom octets.now at result.parts }
         ensures closed { result.is_open ≡ false }
         ensures began { result.began ≡ at }
+        ensures taken { result.taken ≡ None }
     {
+        can_count(octets);
+        let tokens = EntryTokens::of_octets_starting_at(octets, at);
         EntrySource {
-            tokens: EntryTokens::of_octets_starting_at(octets, at),
+            tokens,
             next: None,
+            taken: None,
             began: at,
         }
     }
@@ -102,9 +136,12 @@ impl<'t> EntrySource<'t> {
         ensures { StartsBehindLine octets.now fault.at result }
     {
         let began = next_line(octets, fault.at);
+        can_count(octets);
+        let tokens = EntryTokens::of_octets_starting_at(octets, began);
         EntrySource {
-            tokens: EntryTokens::of_octets_starting_at(octets, began),
+            tokens,
             next: None,
+            taken: None,
             began,
         }
     }
@@ -117,6 +154,7 @@ impl<'t> EntrySource<'t> {
     {
         'entries: loop {
             self.finish()?;
+            self.taken = None;
             self.next = self.tokens.next_token();
             match self.next {
                 Some(Ok(EntryPart::Token { begins_blank, .. })) => {
@@ -127,6 +165,19 @@ impl<'t> EntrySource<'t> {
                 Some(Err(fault)) => return Err(fault),
                 None => return Ok(None),
             }
+        }
+    }
+
+    /// The place of the token that comes next, or where the entry's line ends, or of the fault that
+    /// cuts it off.
+    pub fn stop_place(&self) -> usize
+        ensures { result ≡ next_place (entry_left self.now) (stop_place self.now) }
+    {
+        match self.next {
+            Some(Ok(EntryPart::Token { token, .. })) => token.at,
+            Some(Ok(EntryPart::End(end))) => end.at,
+            Some(Err(fault)) => fault.at,
+            None => self.began,
         }
     }
 
@@ -142,6 +193,7 @@ impl<'t> EntrySource<'t> {
                 Some(Ok(EntryPart::Token { .. })) => self.next = self.tokens.next_token(),
                 Some(Ok(EntryPart::End(end))) => {
                     self.next = None;
+                    self.taken = None;
                     self.began = end.at;
                     return Ok(Some(end));
                 }
@@ -169,8 +221,8 @@ impl<'t> TokenSource for EntrySource<'t> {
     fn place(&self) -> usize {
         match self.next {
             Some(Ok(EntryPart::Token { token, .. })) => token.at,
-            Some(Ok(EntryPart::End(end))) => end.at,
-            Some(Err(fault)) => fault.at,
+            Some(Ok(EntryPart::End(_))) => self.taken.unwrap_or(self.began),
+            Some(Err(_)) => self.taken.unwrap_or(self.began),
             None => self.began,
         }
     }
@@ -181,8 +233,10 @@ impl<'t> TokenSource for EntrySource<'t> {
         ensures behind { behind_left self.new ≡ behind_left self.old }
         ensures open { self.new.is_open ≡ self.old.is_open }
         ensures began { self.new.began ≡ self.old.began }
+        ensures stop { stop_place self.new ≡ stop_place self.old }
     {
-        if let Some(Ok(EntryPart::Token { .. })) = self.next {
+        if let Some(Ok(EntryPart::Token { token, .. })) = self.next {
+            self.taken = Some(token_end(token));
             self.next = self.tokens.next_token();
         }
     }

@@ -113,6 +113,7 @@ IsThere octets s = ((s.parts ≡ []) × (drop s.began octets ≡ [])) ⊎ IsSeen
 record Stands (octets : List ℕ) (r : RecordReader) : Type 0 where
   octets_is : r.octets.now ≡ octets
   closed : r.source.is_open ≡ false
+  taken : r.source.taken ≡ None
   within : r.source.began ≤ length octets
   there : IsThere octets r.source
 
@@ -139,10 +140,14 @@ closed_then : (octets : List ℕ) (end : Result EndOfEntry Fault) (rest : Parts)
 closed_then octets (Ok e) rest source k = k.1
 closed_then octets (Err f) rest source k = k.1.closed
 
+taken_then : (octets : List ℕ) (end : Result EndOfEntry Fault) (rest : Parts) (source : SourceSeen) → GoesOn octets end rest source → source.taken ≡ None
+taken_then octets (Ok e) rest source k = k.3
+taken_then octets (Err f) rest source k = k.1.taken
+
 stands_first : (octets : List ℕ) (state : State) (first : RecordReader) → StartsText octets state first → Stands octets first
 stands_first octets state first h =
     let from = seen_from_start octets first.source.parts h.are_octets h.parts in
-    record { octets_is = h.octets_is; closed = h.closed; within = omega (arith, h.began); there = inr (subst (λ n. IsSeenFrom octets n first.source.parts) (sym h.began) from) }
+    record { octets_is = h.octets_is; closed = h.closed; taken = h.taken; within = omega (arith, h.began); there = inr (subst (λ n. IsSeenFrom octets n first.source.parts) (sym h.began) from) }
 
 stands_next : (octets : List ℕ) (r after : RecordReader) (old new : List ℕ) (result : Result EntryRead RecordRefusal) → AreOctets octets → Stands octets r → ReadsNextEntry room r old (Some result) after new → Stands octets after
 stands_next octets r after old new result are s next =
@@ -156,6 +161,7 @@ stands_next octets r after old new result are s next =
     record {
       octets_is = next.octets_stay ∙ s.octets_is;
       closed = closed_then octets q.entry.end q.rest after.source goes;
+      taken = taken_then octets q.entry.end q.rest after.source goes;
       within = within_then octets are r.source.began (ends_of q.ends) tokens after.source q.entry.end q.rest goes s.within seen;
       there = there_then octets are r.source.began (ends_of q.ends) tokens after.source q.entry.end q.rest goes seen;
     }
@@ -332,7 +338,7 @@ module _ (text : List ℕ) (are : AreOctets text) (r : RecordReader) (stands : S
       let parts = seen_from_once text r.source.began before.source.parts r.source.parts there from in
       record {
         octets = starts.octets_is ∙ sym stands.octets_is;
-        source = λ i. record { began = (starts.began ∙ held.at) i; is_open = (starts.closed ∙ sym stands.closed) i; parts = parts i };
+        source = λ i. record { began = (starts.began ∙ held.at) i; is_open = (starts.closed ∙ sym stands.closed) i; taken = (starts.taken ∙ sym stands.taken) i; parts = parts i };
         state = starts.state_is ∙ is;
       }
 
@@ -395,6 +401,7 @@ module _ (text : List ℕ) (are : AreOctets text) where
     parts = first_parts r.source.parts (subst (λ n. IsSeenFrom text n r.source.parts) zero s.parts);
     closed = s.closed;
     began = s.began ∙ zero;
+    taken = s.taken;
     state_is = s.state_is;
   }
 

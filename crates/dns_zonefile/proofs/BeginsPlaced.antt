@@ -10,7 +10,7 @@ use Rattle.dns_split.specs.Pieces.{EachWithin}
 use Rattle.dns_split.specs.Standing.{blank_at}
 use Rattle.dns_split.proofs.OctetsOnce.{given_once}
 use Rattle.dns_reader.specs.declared.source.StartOfEntry.{StartOfEntry}
-use Rattle.dns_reader.specs.Source.{BeginsEntry, BeginsToken, IsAtStart, SourceSeen, behind_tokens, end_first, entry_end, entry_left, last_end, tokens_first}
+use Rattle.dns_reader.specs.Source.{BeginsEntry, BeginsToken, IsAtStart, SourceSeen, behind_tokens, end_first, entry_left, last_end, stop_place, tokens_first}
 use Rattle.dns_tape.specs.FirstEntry.{StopsFirst, piece_tokens, stop_offset}
 use Rattle.dns_tape.specs.Source.{tokens_after}
 use Rattle.dns_zonefile.specs.First.{parts_of}
@@ -56,7 +56,7 @@ fits_end n began (Ok (EndIs e) ∷ parts) b w = w.0
 fits_end n began (Err f ∷ parts) b w = w.0
 
 abbrev source_of : ℕ → Bool → Parts → SourceSeen
-source_of began is_open parts = record { began = began; is_open = is_open; parts = parts }
+source_of began is_open parts = record { began = began; is_open = is_open; taken = None; parts = parts }
 
 fits_source : (base n began : ℕ) (is_open : Bool) (parts : Parts) → base + n < 2 ^ 64 → began ≤ n → PartsWithin n parts → FitsFrom base (source_of began is_open parts)
 fits_source base n began true parts room b w = record { tokens = fits_tokens base n parts room w; end = omega (arith, room, fits_end n began parts b w) }
@@ -73,7 +73,7 @@ behind_first b [] behind = refl
 behind_first b (t ∷ tokens) behind = behind_first b tokens behind
 
 abbrev HasSeen : SourceSeen → List TokenSeen → ℕ → Type 0
-HasSeen s tokens at = (entry_left s ≡ tokens) × ((entry_end s).at ≡ at)
+HasSeen s tokens at = (entry_left s ≡ tokens) × (stop_place s ≡ at)
 
 open_seen : (began : ℕ) (is_open : Bool) (parts behind : Parts) (b : Bool) (tokens : List TokenSeen) (at : ℕ) → is_open ≡ true → parts ≡ parts_of b tokens ++ behind → tokens_first behind ≡ []
     → end_first began (behind_tokens behind) ≡ at → HasSeen (source_of began is_open parts) tokens at
@@ -86,6 +86,11 @@ closed_seen began true parts at o h = cc
 
 abbrev Started : Type 0
 Started = Result (Option StartOfEntry) Fault
+
+started : (r : Started) (s : SourceSeen) → IsAtStart r s → IsAtStart r (source_of s.began s.is_open s.parts)
+started (Ok (Some start)) s h = (h.0, h.1, h.2, h.3, refl)
+started (Ok None) s h = h
+started (Err f) s h = h
 
 -- where a token comes first, none was passed
 token_begun : (began first : ℕ) (is_open : Bool) (parts behind : Parts) (ends : List EndOfEntry) (b : Bool) (t : TokenSeen) (tokens : List TokenSeen) (at : ℕ) (r : Started)
@@ -158,12 +163,13 @@ module _ (octets : List ℕ) (base : ℕ) (s : SourceSeen) (r : Started) (t : So
       let low : s.began ≤ length octets = omega (arith, from) in
       let w = behind_ends (length octets) s.began begins.ends t.parts low all in
       let at : t.began ≤ length octets = omega (arith, begins.began, w.0) in
-      fits_source base (length octets) t.began t.is_open t.parts room at w.1
+      let f = fits_source base (length octets) t.began t.is_open t.parts room at w.1 in
+      record { tokens = f.tokens; end = f.end }
 
   pub begins_placed : BeginsPlaced octets base (placed_after base t)
   begins_placed stop left x a =
       let shape = behind stop left x a in
-      let b = begun octets t.began s.began (length octets) t.is_open t.parts begins.ends (blank_at octets 0) (piece_tokens octets None x.found) r stop left (shape ∙ passed) begins.began begins.start a in
+      let b = begun octets t.began s.began (length octets) t.is_open t.parts begins.ends (blank_at octets 0) (piece_tokens octets None x.found) r stop left (shape ∙ passed) begins.began (started r t begins.start) a in
       (ap (tokens_after base) b.0, ap (λ n. base + n) b.1)
     where
       behind : (stop : Result EndOfEntry Fault) (left : List (Result Piece Fault)) (x : StopsFirst octets stop left) → IsAllBehind (length octets) stop left

@@ -18,7 +18,7 @@ use Rattle.dns_reader.specs.EntryReading.{ReadsZoneEntry, minimum_of_record, min
 use Rattle.dns_reader.specs.Past.{Said, Silent, known_name, no_origin_said, origin_said}
 use Rattle.dns_reader.specs.ReadingLaws.{SaysWholeRecord, WholeRecordsStandAlone}
 use Rattle.dns_reader.specs.Records.{given_of, given_read}
-use Rattle.dns_reader.specs.TextEntries.{parts_of_entries, place_of_end}
+use Rattle.dns_reader.specs.TextEntries.{parts_of_entries, tokens_end}
 use Rattle.dns_reader.specs.WholeTexts.{EntryAsRead, IsReadBehind, IsReadSoFar, TextsAreReadToTheEnd, all_said, given_as}
 use Rattle.dns_reader.specs.declared.entry.EntryRead.{EntryRead}
 use Rattle.dns_reader.specs.declared.entry.EntryRead.TheVariants.{Nothing, Directive, Include, Record as IsRecord}
@@ -54,7 +54,7 @@ module _ (whole : WholeRecordsStandAlone) (room : Room) (start : State) (known :
     tokens = x.entry.tokens
 
     abbrev end : ℕ
-    end = place_of_end x.entry.end
+    end = tokens_end x.entry.tokens
 
     origin_is : IsOrigin (known_name b.state.origin)
     origin_is = subst (λ o. IsOrigin (known_name o)) (sym (origin_once start past b.state.origin start.origin b.knows.origin (no_origin_said past start.origin quiet refl))) known

@@ -5,13 +5,13 @@ use Rattle.dns_split.specs.Pieces.{end_at}
 use Rattle.dns_split.specs.declared.pieces.EndOfEntry.{EndOfEntry}
 use Rattle.dns_split.specs.declared.pieces.Fault.{Fault}
 use Rattle.dns_split.specs.declared.pieces.Piece.{Piece}
-use Rattle.dns_reader.specs.Source.{SourceSeen, entry_end, entry_left}
+use Rattle.dns_reader.specs.Source.{SourceSeen, entry_end, entry_left, stop_place}
 use Rattle.dns_tape.specs.FirstEntry.{StopsFirst, piece_tokens, stop_offset}
 use Rattle.dns_tape.specs.Source.{UnreadSeen, tokens_after}
 
 -- the unread tokens and the end of an entry, so much further on
 abbrev pub placed_after : ℕ → SourceSeen → UnreadSeen
-placed_after base s = record { tokens = tokens_after base (entry_left s); end = record { at = base + (entry_end s).at; behind = (entry_end s).behind } }
+placed_after base s = record { tokens = tokens_after base (entry_left s); end = record { at = base + stop_place s; behind = (entry_end s).behind } }
 
 -- each place so much further on is one
 abbrev pub EachFitsFrom : ℕ → List TokenSeen → Type 0
@@ -20,7 +20,7 @@ EachFitsFrom base (t ∷ ts) = (base + t.at < 2 ^ 64) × EachFitsFrom base ts
 
 pub record FitsFrom (base : ℕ) (s : SourceSeen) : Type 0 where
   pub tokens : EachFitsFrom base (entry_left s)
-  pub end : base + (entry_end s).at < 2 ^ 64
+  pub end : base + stop_place s < 2 ^ 64
 
 -- nothing is left, or an entry without octets
 abbrev pub IsAllBehind : ℕ → Result EndOfEntry Fault → List (Result Piece Fault) → Type 0

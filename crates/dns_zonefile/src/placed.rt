@@ -59,7 +59,7 @@ impl<'t> TokenSource for PlacedTokens<'t> {
     }
 
     fn place(&self) -> usize {
-        self.base + self.source.place()
+        self.base + self.source.stop_place()
     }
 
     fn advance(&mut self) {

@@ -9,5 +9,6 @@ returns c = record {
   parts = c.of_octets-source.ensures.parts;
   closed = c.of_octets-source.ensures.closed;
   began = c.of_octets-source.ensures.began;
+  taken = c.of_octets-source.ensures.taken;
   state_is = refl;
 }

@@ -1,15 +1,18 @@
 use Rattle.std.proofs.Common.{◌≡◌, length}
 use Rattle.std.specs.Prelude.{is_some}
-use Rattle.dns_reader.specs.Source.{IsOpenBefore, behind_left, source_seen}
+use Rattle.dns_reader.specs.Source.{IsOpenBefore, TokensEnd, behind_left, source_seen}
+use Rattle.dns_reader.proofs.Parts.{with_next}
 use Rattle.dns_reader.proofs.source.EntrySource.finish.Given as goal
 
 abbrev pub invariant-tokens : goal.invariant-tokens
 invariant-tokens l = record {
   goes_on : IsOpenBefore l.self-inside.next l.self-inside.tokens;
+  ends : TokensEnd (with_next l.self-inside.next l.self-inside.tokens);
   began : l.self-inside.began ≡ l.initial.self-inside.began;
+  taken : l.self-inside.taken ≡ l.initial.self-inside.taken;
   some : is_some l.self-inside.next ≡ is_some l.initial.self-inside.next;
-  behind : behind_left (source_seen l.self-inside.began l.self-inside.next l.self-inside.tokens)
-      ≡ behind_left (source_seen l.initial.self-inside.began l.initial.self-inside.next l.initial.self-inside.tokens);
+  behind : behind_left (source_seen l.self-inside.began l.self-inside.next l.self-inside.taken l.self-inside.tokens)
+      ≡ behind_left (source_seen l.initial.self-inside.began l.initial.self-inside.next l.initial.self-inside.taken l.initial.self-inside.tokens);
 }
 
 abbrev pub decreases-tokens : goal.decreases-tokens
