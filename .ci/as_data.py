@@ -108,7 +108,8 @@ def is_word(text):
 
 def is_quotable(text):
     """Returns whether a text is the content of one quoted token."""
-    return is_word(b"a" + text.translate(None, b" \t;()"))
+    # (within quotes these are as letters, and a tab as another control)
+    return is_word(b"a" + text.translate(bytes.maketrans(b" \t;()", b"a\x01aaa")))
 
 
 def escaped(octets):
