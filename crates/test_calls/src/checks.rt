@@ -1,5 +1,9 @@
-//! What the tests check of values, each in a function of its own, which is cheap to call.
+//! What the tests check of values, each in a function of its own, which is cheap to call; and a
+//! caller's own writer and error.
 use dns_octets::AsOctets;
+use dns_scan::ScannerError;
+use dns_symbol::symbol::SymbolCharsError;
+use std::error::Error;
 use std::fmt;
 use std::process::Abort;
 
@@ -31,10 +35,62 @@ pub(crate) fn is_made<O: AsOctets + Drop, E: PartialEq + Copy>(
     assert!(rt; is_so);
 }
 
-/// This text was made.
-pub(crate) fn text_is<E>(rt: &impl Abort, made: &Result<String, E>, wanted: &str) {
-    assert!(rt;
-        matches!(made, Ok(made) if made.as_str() == wanted),
-        "{wanted}"
-    );
+/// A writer with room for this number of bytes.
+#[derive(Drop)]
+pub(crate) struct Room(pub(crate) usize);
+
+impl fmt::Write for Room {
+    fn write_str(&mut self, s: &str) -> fmt::Result {
+        if s.len() > self.0 {
+            return Err(fmt::Error);
+        }
+        self.0 -= s.len();
+        Ok(())
+    }
+}
+
+/// An error of a caller's own.
+#[derive(Clone, Copy, Debug, PartialEq, Eq)]
+pub(crate) enum Refusal {
+    Custom(&'static str),
+    EndOfEntry,
+    ShortBuf,
+    TrailingTokens,
+}
+
+impl fmt::Display for Refusal {
+    fn fmt<W: fmt::Write>(&self, f: &mut fmt::Formatter<W>) -> fmt::Result {
+        write!(f, "refused")
+    }
+}
+
+impl Error for Refusal {}
+
+impl From<SymbolCharsError> for Refusal {
+    fn from(error: SymbolCharsError) -> Refusal {
+        Refusal::Custom(error.as_str())
+    }
+}
+
+impl ScannerError for Refusal {
+    ghost use Rattle.dns_symbol.specs.Cause.{Cause, custom_text, end_of_entry, short_buf, trailing_tokens};
+    ghost use Rattle.test_calls.specs.declared.checks.Refusal.TheVariants.{Custom, EndOfEntry, ShortBuf, TrailingTokens};
+
+    ghost cause = { λ e. elim e [ Custom t ↦ custom_text t.now | EndOfEntry ↦ end_of_entry | ShortBuf ↦ short_buf | TrailingTokens ↦ trailing_tokens ] };
+
+    fn custom(msg: &'static str) -> Self {
+        Refusal::Custom(msg)
+    }
+
+    fn end_of_entry() -> Self {
+        Refusal::EndOfEntry
+    }
+
+    fn short_buf() -> Self {
+        Refusal::ShortBuf
+    }
+
+    fn trailing_tokens() -> Self {
+        Refusal::TrailingTokens
+    }
 }

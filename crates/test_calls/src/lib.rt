@@ -3,6 +3,8 @@
 #![tactic(auto)]
 
 #[cfg(test)]
+mod charstr;
+#[cfg(test)]
 mod checks;
 #[cfg(test)]
 mod memory;
@@ -11,6 +13,6 @@ mod names;
 #[cfg(test)]
 mod scanning;
 #[cfg(test)]
-mod text;
+mod symbol;
 #[cfg(test)]
 mod zones;

@@ -1,14 +1,11 @@
 //! A caller's own values in each layout, and writers step by step.
-use crate::checks::{equal, holds, text_is};
 use dns_zone::zonefile_fmt::{DisplayKind, ZonefileFmt};
-use std::alloc::{AllocError, Global};
+use std::alloc::Global;
 use std::process::Abort;
 
 mod example;
 mod in_a_row;
-mod layouts;
-mod long;
-mod long_lines;
+mod writers;
 
 // A value's text in a layout.
 fn prints_as<T: ZonefileFmt>(
@@ -18,18 +15,16 @@ fn prints_as<T: ZonefileFmt>(
     kind: DisplayKind,
     text: &str,
 ) {
-    text_is(rt, &value.display_zonefile(kind).to_string(alloc), text);
+    let made = value.display_zonefile(kind).to_string(alloc);
+    assert!(rt;
+        matches!(&made, Ok(made) if made.as_str() == text),
+        "{text}"
+    );
 }
 
 // The texts of a value in the simple layout, the tabbed one and the multiline one.
-fn prints<T: ZonefileFmt>(
-    rt: &impl Abort,
-    alloc: Global,
-    value: &T,
-    simple: &str,
-    tabbed: &str,
-    multiline: &str,
-) {
+fn prints<T: ZonefileFmt>(rt: &impl Abort, alloc: Global, value: &T, texts: [&str; 3]) {
+    let [simple, tabbed, multiline] = texts;
     prints_as(rt, alloc, value, DisplayKind::Simple, simple);
     prints_as(rt, alloc, value, DisplayKind::Tabbed, tabbed);
     prints_as(rt, alloc, value, DisplayKind::Multiline, multiline);

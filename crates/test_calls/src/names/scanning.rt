@@ -2,7 +2,8 @@
 ghost use Rattle.std.specs.Prelude.{◌≡◌, codes};
 ghost use Rattle.dns_symbol.specs.Cause.{custom_text};
 
-use super::{absolute, chain_of, equal, relative, uncertain_chain_of};
+use super::{absolute, equal, relative};
+use crate::checks::Refusal;
 use arrayvec::ArrayVec;
 use dns_charstr::charstr::CharStr;
 use dns_name::chain::{Chain, UncertainChain};
@@ -11,48 +12,10 @@ use dns_octets::Str;
 use dns_scan::{ConvertSymbols, Scanner, ScannerError};
 use dns_symbol::symbol::{EntrySymbol, Symbol, SymbolCharsError};
 use dns_wire::{ToLabelIter, ToName};
-use std::error::Error;
-use std::fmt;
 use std::marker::PhantomData;
 
-#[derive(Clone, Copy, Debug, PartialEq, Eq)]
-enum Refusal {
-    Custom(&'static str),
-    EndOfEntry,
-    ShortBuf,
-    TrailingTokens,
-}
-
-impl fmt::Display for Refusal {
-    fn fmt<W: fmt::Write>(&self, f: &mut fmt::Formatter<W>) -> fmt::Result {
-        write!(f, "refused")
-    }
-}
-
-impl Error for Refusal {}
-
-impl ScannerError for Refusal {
-    ghost use Rattle.dns_symbol.specs.Cause.{Cause, custom_text, end_of_entry, short_buf, trailing_tokens};
-    ghost use Rattle.test_calls.specs.declared.names.scanning.Refusal.TheVariants.{Custom, EndOfEntry, ShortBuf, TrailingTokens};
-
-    ghost cause = { λ e. elim e [ Custom t ↦ custom_text t.now | EndOfEntry ↦ end_of_entry | ShortBuf ↦ short_buf | TrailingTokens ↦ trailing_tokens ] };
-
-    fn custom(msg: &'static str) -> Self {
-        Refusal::Custom(msg)
-    }
-
-    fn end_of_entry() -> Self {
-        Refusal::EndOfEntry
-    }
-
-    fn short_buf() -> Self {
-        Refusal::ShortBuf
-    }
-
-    fn trailing_tokens() -> Self {
-        Refusal::TrailingTokens
-    }
-}
+// Octets that are scanned: there are none.
+type Empty = ArrayVec<u8, 0>;
 
 // The refusal of a token that is a backslash alone.
 fn cut<E: ScannerError>() -> E
@@ -72,9 +35,9 @@ struct Names<N, E = Refusal> {
 impl<N: ToName + Drop, E: ScannerError> Scanner for Names<N, E> {
     ghost use Rattle.std.specs.Prelude.{◌≡◌, Some, false, ⊤, codes, refl};
 
-    type Octets = ArrayVec<u8, 0>;
+    type Octets = Empty;
 
-    type OctetsBuilder = ArrayVec<u8, 0>;
+    type OctetsBuilder = Empty;
 
     type Name = N;
 
@@ -100,10 +63,7 @@ impl<N: ToName + Drop, E: ScannerError> Scanner for Names<N, E> {
         true
     }
 
-    fn scan_symbols<F>(&mut self, _op: &mut F) -> Result<(), E>
-    where
-        F: FnMut(Symbol) -> Result<(), E>,
-    {
+    fn scan_symbols<F: FnMut(Symbol) -> Result<(), E>>(&mut self, _op: &mut F) -> Result<(), E> {
         Err(cut())
     }
 
@@ -114,21 +74,18 @@ impl<N: ToName + Drop, E: ScannerError> Scanner for Names<N, E> {
         Err(cut())
     }
 
-    fn convert_token<C: ConvertSymbols<Symbol, E>>(
-        &mut self,
-        _convert: C,
-    ) -> Result<ArrayVec<u8, 0>, E> {
+    fn convert_token<C: ConvertSymbols<Symbol, E>>(&mut self, _convert: C) -> Result<Empty, E> {
         Err(cut())
     }
 
-    fn convert_entry<C: ConvertSymbols<EntrySymbol, E>>(
-        &mut self,
-        _convert: C,
-    ) -> Result<ArrayVec<u8, 0>, E> {
+    fn convert_entry<C>(&mut self, _convert: C) -> Result<Empty, E>
+    where
+        C: ConvertSymbols<EntrySymbol, E>,
+    {
         Err(cut())
     }
 
-    fn scan_octets(&mut self) -> Result<ArrayVec<u8, 0>, E> {
+    fn scan_octets(&mut self) -> Result<Empty, E> {
         Err(cut())
     }
 
@@ -143,15 +100,15 @@ impl<N: ToName + Drop, E: ScannerError> Scanner for Names<N, E> {
         self.name.take().ok_or(E::custom("no name"))
     }
 
-    fn scan_charstr(&mut self) -> Result<CharStr<ArrayVec<u8, 0>>, E> {
+    fn scan_charstr(&mut self) -> Result<CharStr<Empty>, E> {
         Err(cut())
     }
 
-    fn scan_string(&mut self) -> Result<Str<ArrayVec<u8, 0>>, E> {
+    fn scan_string(&mut self) -> Result<Str<Empty>, E> {
         Err(cut())
     }
 
-    fn scan_charstr_entry(&mut self) -> Result<ArrayVec<u8, 0>, E> {
+    fn scan_charstr_entry(&mut self) -> Result<Empty, E> {
         Err(cut())
     }
 
@@ -159,34 +116,29 @@ impl<N: ToName + Drop, E: ScannerError> Scanner for Names<N, E> {
         Ok(false)
     }
 
-    fn octets_builder(&mut self) -> Result<ArrayVec<u8, 0>, E> {
-        Ok(ArrayVec::new())
+    fn octets_builder(&mut self) -> Result<Empty, E> {
+        Ok(Empty::new())
     }
 }
 
 #[test]
 fn chains_are_scanned(rt: HostRuntime) {
-    let chain = chain_of(&rt, relative(b"\x03www"), absolute(b"\x03com\x00"));
+    let refused = Some(Refusal::Custom("no name"));
+    let chain = Chain::new(relative(b"\x03www"), absolute(b"\x03com\x00")).expect(&rt, "a chain");
     let mut scanner: Names<_> = Names {
         name: Some(chain),
         error: PhantomData,
     };
     let chain = Chain::scan(&mut scanner).expect(&rt, "a chain");
     equal(&rt, &chain.compose_len(), &9);
-    let refused = Some(Refusal::Custom("no name"));
     equal(&rt, &Chain::scan(&mut scanner).err(), &refused);
-}
-
-#[test]
-fn uncertain_chains_are_scanned(rt: HostRuntime) {
     let left = UncertainName::from(relative(b"\x03www"));
-    let chain = uncertain_chain_of(&rt, left, absolute(b"\x03com\x00"));
+    let chain = left.chain(absolute(b"\x03com\x00")).expect(&rt, "a chain");
     let mut scanner: Names<_> = Names {
         name: Some(chain),
         error: PhantomData,
     };
     let chain = UncertainChain::scan(&mut scanner).expect(&rt, "a chain");
     equal(&rt, &chain.compose_len(), &9);
-    let refused = Some(Refusal::Custom("no name"));
     equal(&rt, &UncertainChain::scan(&mut scanner).err(), &refused);
 }

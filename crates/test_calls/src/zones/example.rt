@@ -1,20 +1,31 @@
-//! The worked example on the page of `dns_zone`: a record with a block and comments.
+//! The worked example on the page of `dns_zone`, a record with a block and comments; and a record
+//! within a record.
 ghost use Rattle.std.specs.Prelude.{◌≡◌, [], ◌∷◌, ◌++◌, codes, false, refl};
 ghost use Rattle.std.specs.Fmt.{decimal};
 ghost use Rattle.std.specs.String.{string_bytes};
 ghost use Rattle.dns_zone.specs.Layout.{token, begin, end, comment};
-ghost use Rattle.dns_zone.specs.Nesting.{has_line, nested_in_block};
+ghost use Rattle.dns_zone.specs.Nesting.{has_line, nested_in_block, no_line_append};
 
-use super::{Global, prints};
+use super::prints;
 use dns_zone::zonefile_fmt::{self, FormatWriter, Formatter, ZonefileFmt};
-use std::alloc::AllocError;
+use std::alloc::{AllocError, Global};
 use std::test::Fail;
 
 /// The data of an MX record (RFC 1035, section 3.3.9).
 #[derive(Drop)]
-struct Mx {
+pub(super) struct Mx {
     preference: u16,
     exchange: String,
+}
+
+impl Mx {
+    pub(super) fn new(alloc: Global) -> Result<Mx, AllocError> {
+        let exchange = String::from_str(alloc, "mail.example.com.")?;
+        Ok(Mx {
+            preference: 10,
+            exchange,
+        })
+    }
 }
 
 impl ZonefileFmt for Mx {
@@ -32,7 +43,7 @@ impl ZonefileFmt for Mx {
     }
 }
 
-/// Data that stands in a block.
+/// Data that is put in a block.
 trait RecordData: ZonefileFmt {
     ghost one_line: { (x : Self) → has_line (Self.document x) ≡ false };
 }
@@ -63,28 +74,46 @@ impl<D: RecordData> ZonefileFmt for Record<D> {
     }
 }
 
-fn sample(alloc: Global) -> Result<Record<Mx>, AllocError> {
+impl<D: RecordData> RecordData for Record<D> {
+    ghost one_line = { λ x. no_line_append (D.document x.rdata) (end ∷ []) (D.one_line x.rdata) refl };
+}
+
+fn record_of<D: Drop>(
+    alloc: Global,
+    owner: &str,
+    rtype: &str,
+    rdata: D,
+) -> Result<Record<D>, AllocError> {
     Ok(Record {
-        owner: String::from_str(alloc, "example.com.")?,
-        rtype: String::from_str(alloc, "MX")?,
-        rdata: Mx {
-            preference: 10,
-            exchange: String::from_str(alloc, "mail.example.com.")?,
-        },
+        owner: String::from_str(alloc, owner)?,
+        rtype: String::from_str(alloc, rtype)?,
+        rdata,
     })
 }
 
 #[test]
-fn prints_a_record(rt: HostRuntime) -> Result<(), Fail> {
-    let record = sample(rt.alloc())?;
-    prints(
-        &rt,
-        rt.alloc(),
-        &record,
+fn prints_records(rt: HostRuntime) -> Result<(), Fail> {
+    let alloc = rt.alloc();
+    let record = record_of(alloc, "example.com.", "MX", Mx::new(alloc)?)?;
+    let texts = [
         "example.com. MX 10 mail.example.com.",
         "example.com.\tMX\t10 mail.example.com.",
         "example.com. MX ( 10\t; preference\n                  \
             mail.example.com.\t; exchange\n                  )",
-    );
+    ];
+    prints(&rt, alloc, &record, texts);
+    let nested = record_of(
+        alloc,
+        "a",
+        "b",
+        record_of(alloc, "c", "d", Mx::new(alloc)?)?,
+    )?;
+    let texts = [
+        "a b c d 10 mail.example.com.",
+        "a\tb\tc d 10 mail.example.com.",
+        "a b ( c d ( 10\t; preference\n            \
+            mail.example.com.\t; exchange\n            ) )",
+    ];
+    prints(&rt, alloc, &nested, texts);
     Ok(())
 }

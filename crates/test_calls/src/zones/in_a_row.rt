@@ -56,24 +56,25 @@ const SET: Flag = Flag { set: true };
 
 const UNSET: Flag = Flag { set: false };
 
+const FLAGS: [Flag; 5] = [SET, UNSET, UNSET, SET, UNSET];
+
 #[test]
 fn prints_none_and_many(rt: HostRuntime) {
     let alloc = rt.alloc();
     let spaced = "yes no no yes no";
-    let flags = [SET, UNSET, UNSET, SET, UNSET];
-    let each = Each::new(&flags);
+    let each = Each::new(&FLAGS);
     each.known();
-    prints(&rt, alloc, &each, spaced, "yes\tno\tno\tyes\tno", spaced);
-    prints(&rt, alloc, &Each::new(&[] as &[Flag]), "", "", "");
+    prints(&rt, alloc, &each, [spaced, "yes\tno\tno\tyes\tno", spaced]);
+    prints(&rt, alloc, &Each::new(&[] as &[Flag]), [""; 3]);
 }
 
 #[test]
 fn prints_many_after_a_word(rt: HostRuntime) {
     let alloc = rt.alloc();
-    let flags = [SET, UNSET, UNSET]
-        .repeat(alloc, 1666)
+    let flags = FLAGS.repeat(alloc, 1000).expect(&rt, "memory");
+    let rest = " yes no no yes no"
+        .repeat(alloc, 1000)
         .expect(&rt, "memory");
-    let rest = " yes no no".repeat(alloc, 1666).expect(&rt, "memory");
     let text = format!(in alloc; "flags{rest}").expect(&rt, "memory");
     let all = Flags { flags: &flags };
     prints_as(&rt, alloc, &all, DisplayKind::Simple, text.as_str());

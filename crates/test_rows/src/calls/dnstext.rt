@@ -32,7 +32,7 @@ pub fn run(inputs: &[Vec<u8>], answer: &mut Answer) {
     }
 }
 
-/// What the program writes to two sinks, of which each takes so many writes, and its status.
+/// What the program writes to two sinks, each with a limit of writes, and its status.
 #[derive(Drop)]
 struct Ran {
     out: Sink,

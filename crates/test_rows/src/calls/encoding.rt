@@ -120,7 +120,7 @@ fn tell<const N: usize>(read: Result<ArrayVec<u8, N>, DecodeError>, answer: &mut
     }
 }
 
-/// The octets of a text, in an array of so many.
+/// The octets of a text, in an array of that capacity.
 fn read_into(base: Base, (text, room): (&[u8], usize), answer: &mut Answer) {
     let text = str::from_utf8(text).unwrap_or("");
     match (base, room) {

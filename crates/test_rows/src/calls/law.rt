@@ -1,5 +1,6 @@
 //! Laws across crates at work: each function that states one, and each short document.
 use super::dnstext::words_of;
+use super::tally::repeated;
 use super::zone::{check_entries, items};
 use dns_charstr::charstr::CharStr;
 use dns_iter::scanner::IterScanner;
@@ -16,6 +17,7 @@ use refusing_heap::Refusing;
 use row_table::input::number_of;
 use row_table::{Answer, Failure, Heap, Inputs};
 use std::alloc::{AllocError, Allocator, Global};
+use std::slice;
 
 const KINDS: [DisplayKind; 3] = [
     DisplayKind::Simple,
@@ -28,6 +30,7 @@ pub fn call(name: &str, inputs: &Inputs, answer: &mut Answer) {
         "short" => short(inputs.octets_and_number(answer), answer),
         "tokens_split" => tokens_split(inputs.all(), answer),
         "items_split" => split_items(inputs.all(), answer),
+        "long_item_split" => split_long_item(inputs.all(), answer),
         "fields_split" => split_fields(answer),
         "token" => token(inputs.octets(answer), answer),
         "hex" | "number" => scan_back(name, inputs.all(), answer),
@@ -37,7 +40,7 @@ pub fn call(name: &str, inputs: &Inputs, answer: &mut Answer) {
 
 const CHOICES: [&[u8]; 6] = [b"a", b"\"b\"", b"(", b")", b"; k", b"\n"];
 
-/// The choice of each place of a list of so many words, by a number below 6 to that power.
+/// The words of a list of that length, by a number below 6 to that power.
 fn words_by(alloc: Global, length: usize, number: usize) -> Result<Vec<Vec<u8>>, AllocError> {
     let mut words = Vec::new(alloc);
     let mut left = number;
@@ -66,7 +69,7 @@ fn is_split(words: &[Vec<u8>], answer: &mut Answer) -> bool {
     true
 }
 
-/// How many lists of so many words are documents, of the lists with a number below a limit.
+/// How many lists of that many words are documents, of the lists with a number below a limit.
 fn short((length, lists): (&[u8], usize), answer: &mut Answer) {
     let Some(length) = number_of(length) else {
         return answer.fail(Failure::BadInputs);
@@ -118,6 +121,27 @@ fn split_items(words: &[Vec<u8>], answer: &mut Answer) {
     };
     match items_split(answer.heap(), items, DisplayKind::Multiline) {
         Ok((text, entries)) => tell(text.as_str(), entries.len(), answer),
+        Err(error) => answer.refuse(&error),
+    }
+}
+
+/// One token of parts, each repeated by a number: how many octets its tabbed layout has, a bar, and how
+/// many entries that splits into.
+fn split_long_item(parts: &[Vec<u8>], answer: &mut Answer) {
+    let token = match repeated(answer, parts) {
+        Ok(token) => token,
+        Err(failure) => return answer.fail(failure),
+    };
+    let Ok(items) = items(answer.heap(), slice::from_ref(&token)) else {
+        return answer.fail_for_memory();
+    };
+    match items_split(answer.heap(), items, DisplayKind::Tabbed) {
+        Ok((text, entries)) => {
+            answer.check(*text.as_str().as_bytes() == *token.as_slice());
+            answer.add_number(text.len());
+            answer.add_text("|");
+            answer.add_number(entries.len());
+        }
         Err(error) => answer.refuse(&error),
     }
 }

@@ -80,11 +80,30 @@ fn zone(octets: &[u8], answer: &mut Answer) {
     answer.add_shown(&ZoneName::new(&name));
 }
 
+/// A name is returned as what it is, and given back as what it isn't.
+fn check_kind(name: UncertainName<&[u8]>, is_absolute: bool, octets: &[u8], answer: &mut Answer) {
+    answer.check(name.as_absolute().is_some() == is_absolute);
+    answer.check(name.as_relative().is_some() != is_absolute);
+    match name.try_into_absolute() {
+        Ok(absolute) => match UncertainName::from(absolute).try_into_relative() {
+            Ok(_) => answer.check(false),
+            Err(name) => answer.check(is_absolute && *name.as_slice() == *octets),
+        },
+        Err(name) => match name.try_into_relative() {
+            Ok(relative) => answer.check(!is_absolute && *relative.as_slice() == *octets),
+            Err(_) => answer.check(false),
+        },
+    }
+}
+
 /// Whether octets are an absolute or a relative name; the octet of a bad label type after a bar.
 fn of(octets: &[u8], answer: &mut Answer) {
     match UncertainName::from_octets(octets) {
-        Ok(name) if name.is_absolute() => answer.add_text("absolute"),
-        Ok(_) => answer.add_text("relative"),
+        Ok(name) => {
+            let is_absolute = name.is_absolute();
+            check_kind(name, is_absolute, octets, answer);
+            answer.add_text(if is_absolute { "absolute" } else { "relative" });
+        }
         Err(error) => {
             answer.refuse(&error);
             if let UncertainDnameError::BadLabel(LabelTypeError(octet)) = error {

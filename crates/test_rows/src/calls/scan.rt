@@ -360,7 +360,7 @@ fn add_units(text: &str, unit: &str, answer: &mut Answer) {
     answer.add_text(left);
 }
 
-/// Scans so many tokens, each of them a part so many times: how many times the answer repeats a unit.
+/// Scans a number of equal tokens, each a repeated part: how many times the answer repeats a unit.
 fn many(inputs: &[Vec<u8>], answer: &mut Answer) {
     let [steps, part, times, tokens, unit] = inputs else {
         return answer.fail(Failure::BadInputs);

@@ -159,7 +159,7 @@ pub fn push(base: Base, text: &str, answer: &mut Answer) {
     }
 }
 
-/// The same into an array of so many octets.
+/// The same into an array of that capacity.
 pub fn push_into(base: Base, (text, room): (&[u8], usize), answer: &mut Answer) {
     let text = str::from_utf8(text).unwrap_or("");
     match (base, room) {

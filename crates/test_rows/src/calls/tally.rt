@@ -131,8 +131,8 @@ fn tally_octets(octets: &[u8], answer: &mut Answer) {
     add_open(octets, found, answer);
 }
 
-/// The octets of parts, each so many times.
-fn repeated(answer: &Answer, inputs: &[Vec<u8>]) -> Result<Vec<u8>, Failure> {
+/// The octets of parts, each repeated by a number.
+pub fn repeated(answer: &Answer, inputs: &[Vec<u8>]) -> Result<Vec<u8>, Failure> {
     let mut octets = Vec::new(answer.alloc());
     for pair in inputs.chunks(2) {
         let [part, times] = pair else {

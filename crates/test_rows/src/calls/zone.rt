@@ -348,7 +348,7 @@ fn layout(kind: DisplayKind, words: &[Vec<u8>], answer: &mut Answer) {
     }
 }
 
-/// Whether a sink that takes so many writes takes all of a value's text; else it has a beginning of it.
+/// Whether a sink with a limit of writes takes all of a value's text; else it has a beginning of it.
 fn takes(value: &impl fmt::Display, text: &str, writes: usize, answer: &mut Answer) -> bool {
     let mut sink = Sink::new(answer.alloc(), writes);
     let is_taken = write!(sink, "{value}").is_ok();

@@ -6,45 +6,31 @@ use dns_octets::{OctetsBuilder, ShortBuf};
 use std::alloc::Global;
 use std::process::Abort;
 
-// Writes the first octet, where there is one.
-fn write_first(octets: &mut [u8], octet: u8) {
-    if let Some(first) = octets.first_mut() {
-        *first = octet;
-    }
-}
-
-// Octets are appended to a builder, or refused.
-fn appends<B: OctetsBuilder>(
-    rt: &impl Abort,
-    builder: &mut B,
-    octets: &[u8],
-    wanted: Result<(), ShortBuf>,
-) {
-    assert_eq!(rt; builder.append_slice(octets), wanted);
-}
-
 #[test]
-fn clones_what_it_builds(rt: HostRuntime) {
+fn builds_on_from_octets_and_clones(rt: HostRuntime) {
     let mut builder = CharStrBuilder::<ArrayVec<u8, 300>>::new(());
-    appends(&rt, &mut builder, b"foo", Ok(()));
+    equal(&rt, &builder.append_slice(b"foo"), &Ok(()));
     let copy = builder.clone().expect(&rt, "memory");
-    appends(&rt, &mut builder, b"bar", Ok(()));
+    equal(&rt, &builder.append_slice(b"bar"), &Ok(()));
     octets_are(&rt, copy.finish().as_slice(), b"foo");
     octets_are(&rt, builder.finish().as_slice(), b"foobar");
-}
-
-#[test]
-fn goes_on_from_a_builder(rt: HostRuntime) {
     let zeros = vec![in rt.alloc(); 0u8; 254].expect(&rt, "memory");
     let mut builder = CharStrBuilder::from_builder(zeros).expect(&rt, "254");
-    appends(&rt, &mut builder, &[0], Ok(()));
-    appends(&rt, &mut builder, &[0], Err(ShortBuf));
+    equal(&rt, &builder.append_slice(&[0]), &Ok(()));
+    equal(&rt, &builder.append_slice(&[0]), &Err(ShortBuf));
     equal(&rt, &builder.len(), &255);
 }
 
 // The character string of a text.
 fn string_of(rt: &impl Abort, alloc: Global, text: &str) -> CharStr<Vec<u8>> {
     CharStr::from_str(alloc, text).expect(rt, "a character string")
+}
+
+// Writes the first octet, where there is one.
+fn write_first(octets: &mut [u8], octet: u8) {
+    if let Some(first) = octets.first_mut() {
+        *first = octet;
+    }
 }
 
 #[test]
@@ -66,15 +52,14 @@ fn gives_its_octets_in_order(rt: HostRuntime) {
     drop(octets);
     let mut seen = ArrayVec::<u8, 3>::new();
     for octet in &string {
-        appends(&rt, &mut seen, &[octet], Ok(()));
+        equal(&rt, &seen.append_slice(&[octet]), &Ok(()));
     }
     octets_are(&rt, seen.as_slice(), b"abc");
     let mut octets = string.for_slice().into_iter();
     equal(&rt, &octets.next(), &Some(b'a'));
     drop(octets);
     let mut octets = string.into_iter();
-    equal(&rt, &octets.next(), &Some(b'a'));
-    equal(&rt, &octets.next(), &Some(b'b'));
-    equal(&rt, &octets.next(), &Some(b'c'));
-    equal(&rt, &octets.next(), &None);
+    for octet in [Some(b'a'), Some(b'b'), Some(b'c'), None] {
+        equal(&rt, &octets.next(), &octet);
+    }
 }

@@ -1,3 +1,0 @@
-//! Symbols and character strings, at a caller's own types.
-mod charstr;
-mod symbol;
