@@ -32,7 +32,7 @@ static uint8_t *contents(const char *path, size_t *length) {
     return text;
 }
 
-/* The position goes on from that of the refusal before: all of them take the time of one reading. */
+/* The position moves on from that of the refusal before: all of them take the time of one reading. */
 static void tell(const char *path, const uint8_t *text, size_t length, struct dnstext_position *position,
                  uint32_t status, struct dnstext_outcome outcome) {
     dnstext_position_move(text, length, position, outcome.place);

@@ -58,7 +58,7 @@ static bool same_name(const struct dnstext_kept_name *a, const struct dnstext_ke
     return true;
 }
 
-/* The position goes on from that of the refusal before: all of them take the time of one reading. */
+/* The position moves on from that of the refusal before: all of them take the time of one reading. */
 static void complain(struct dnstext_position *position, uint32_t status, struct dnstext_outcome outcome) {
     dnstext_position_move(text, text_len, position, outcome.place);
     fprintf(stderr, "%lu:%lu: ", (unsigned long)position->line, (unsigned long)position->column);

@@ -8,7 +8,7 @@
  * struct or to one number is not NULL. What is pointed to need not be initialized where a call only
  * writes it.
  *
- * A call returns one of the statuses below and writes a struct dnstext_outcome. What it gives stands at
+ * A call returns one of the statuses below and writes a struct dnstext_outcome. What it returns is at
  * the start of the memory that it was passed; what follows there stays as it was. Where there is no
  * room, DNSTEXT_NO_ROOM is returned and the length is what is needed: so a call with no room at all
  * asks for it. With each other status the length is what was written, and never more than the room.
@@ -38,7 +38,7 @@ enum dnstext_status {
     DNSTEXT_BAD_ESCAPE = 3,        /* a backslash with what makes no escape */
     DNSTEXT_SHORT_INPUT = 4,       /* the end inside an escape or a character */
     DNSTEXT_BAD_UTF8 = 5,          /* no UTF-8 */
-    DNSTEXT_BAD_SYMBOL = 6,        /* a plain octet or character outside printable ASCII, which stands for
+    DNSTEXT_BAD_SYMBOL = 6,        /* a plain octet or character outside printable ASCII, which has
                                       no octet */
     DNSTEXT_TOO_LONG = 7,          /* more than 255 octets, 65535 of data, or 2^60 for the encodings; of a
                                       name's text more than 254 before the root */
@@ -63,8 +63,8 @@ enum dnstext_status {
     DNSTEXT_UNKNOWN_TYPE = 24,     /* no type of records */
     DNSTEXT_UNKNOWN_CLASS = 25,    /* no class */
     DNSTEXT_INCLUDE = 26,          /* a file to include, which is given */
-    DNSTEXT_BAD_HEAD = 27,         /* a directive that is unknown or has other arguments than it wants; or words
-                                      in front of a record's data */
+    DNSTEXT_BAD_HEAD = 27,         /* a directive that is unknown or has other arguments than it wants; or the
+                                      header of a record */
     DNSTEXT_NOT_SUPPORTED = 28,    /* $GENERATE, which another tool has to expand first */
     DNSTEXT_BAD_NAME = 29,         /* a token that is no name of an owner or an origin */
     DNSTEXT_NO_ORIGIN = 30,        /* a relative name where there is no origin, also in data */
@@ -83,10 +83,10 @@ struct dnstext_outcome {
 /* ---- Character strings (RFC 1035 section 5.1): at most 255 octets.
  *
  * Reading takes the octets of a text's symbols. Symbols are handled in order: what is no symbol is
- * refused first, then a symbol after 255 octets, then one that stands for no octet. */
+ * refused first, then a symbol after 255 octets, then one that has no octet. */
 uint32_t dnstext_charstr_read(const uint8_t *text, size_t text_len, uint8_t *octets, size_t octets_len,
                               struct dnstext_outcome *outcome);
-/* Reads a text as name servers do: each octet but the backslash stands for itself, a tab and 0x80 to
+/* Reads a text as name servers do: each octet but the backslash is read as itself, a tab and 0x80 to
  * 0xFF too. A backslash and three digits are the octet of that number, at most 255, and a backslash and
  * an octet that is no digit are that octet, whichever it is. What is no escape is refused first, then
  * an octet after 255 others, which are the only faults: DNSTEXT_BAD_ESCAPE, DNSTEXT_SHORT_INPUT,
@@ -173,13 +173,12 @@ uint32_t dnstext_class_print(uint16_t code, uint8_t *text, size_t text_len, stru
 uint32_t dnstext_data_print(uint16_t code, const uint8_t *octets, size_t octets_len, uint8_t *text,
                             size_t text_len, struct dnstext_outcome *outcome);
 /* Reads data in either form: one entry of zone text, which may have parentheses and comments. The
- * origin is an absolute name in wire form, before which relative names stand, or no octets. One that is
- * no name is refused as by dnstext_zone_origin, with the place 0.
+ * origin is an absolute name in wire form, which is appended to relative names, or no octets. One that
+ * is no name is refused as by dnstext_zone_origin, with the place 0.
  *
  * What is no data is refused by DNSTEXT_BAD_DATA or DNSTEXT_NO_ORIGIN, with its place; the octets are
- * then the text of the refusal, as dnstext_record_next gives it: at most 255 characters, and as many of
- * them as fit. A fault of the text comes with its place and the length 0. A call has up to 80 KB on the
- * stack. */
+ * then the text of the refusal, as dnstext_record_next gives it: at most 255 characters, cut to the
+ * room. A fault of the text comes with its place and the length 0. A call has up to 80 KB on the stack. */
 uint32_t dnstext_data_read(uint16_t code, const uint8_t *text, size_t text_len, const uint8_t *origin,
                            size_t origin_len, uint8_t *octets, size_t octets_len,
                            struct dnstext_outcome *outcome);
@@ -263,9 +262,9 @@ struct dnstext_standing {
 #define DNSTEXT_STANDING_INIT {0, 0, 0, false}
 
 /* Gives the next piece, and moves the standing on. The last piece is an end. A fault comes with its
- * place, after the pieces before it, and then the text is done; where what is not closed was opened,
- * dnstext_entry_next tells from `began`, with no room. Once nothing is left the status is DNSTEXT_END.
- * The piece is written with DNSTEXT_OK alone, and the length is 0. With DNSTEXT_BAD_CURSOR the standing
+ * place, after the pieces before it, and then the text is done; dnstext_entry_next from `began`, with no
+ * room, reports where what is not closed was opened. Once nothing is left the status is DNSTEXT_END. The
+ * piece is written with DNSTEXT_OK alone, and the length is 0. With DNSTEXT_BAD_CURSOR the standing
  * stays. */
 uint32_t dnstext_tokens_next(const uint8_t *text, size_t text_len, struct dnstext_standing *standing,
                              struct dnstext_piece *piece, struct dnstext_outcome *outcome);
@@ -289,7 +288,7 @@ struct dnstext_zone {
     uint32_t default_ttl;        /* in seconds, by $TTL, or by an SOA before which none was known */
     uint32_t last_ttl;           /* in seconds, of the last record that said one */
     size_t at;                   /* where the next entry begins */
-    struct dnstext_kept_name origin; /* before which relative names stand */
+    struct dnstext_kept_name origin; /* appended to relative names */
     struct dnstext_kept_name owner;  /* of records that leave it out */
 };
 #define DNSTEXT_ZONE_INIT {1, false, false, 0, 0, 0, {0, false, {0}}, {0, false, {0}}}
@@ -303,7 +302,7 @@ struct dnstext_record {
     struct dnstext_kept_name name; /* its owner */
 };
 
-/* Says the origin by the octets of an absolute name in wire form, or by no octets that there is none.
+/* Sets the origin to an absolute name in wire form, or with no octets to none.
  * Others are refused as by printing a name, or by DNSTEXT_RELATIVE_NAME, with no place, and then the
  * zone stays. The length is 0. */
 uint32_t dnstext_zone_origin(struct dnstext_zone *zone, const uint8_t *name, size_t name_len,
@@ -313,16 +312,16 @@ uint32_t dnstext_zone_origin(struct dnstext_zone *zone, const uint8_t *name, siz
  * 65535. It takes $ORIGIN and $TTL on the way. Once nothing is left the status is DNSTEXT_END.
  *
  * For $INCLUDE the status is DNSTEXT_INCLUDE, and the octets are those that name the file, as they
- * stand in the text without quotes. The record has the origin that is said for the file, or a name of
+ * are in the text without quotes. The record has the origin that is said for the file, or a name of
  * length 0, and zeros. To read the file: keep the zone, put 0 for `at` and that origin, if there is
  * one, into a copy, and read the file by it; then take the copy's times to live into the zone that was
  * kept.
  *
  * A refusal of an entry comes with its place, and a fault of the text does; the record stays as it was.
- * Reading goes on at the next entry, or behind the line of a fault. Of a refusal of an entry the octets
- * are the text, as in "MX preference: decimal number overflow", of which there are at most 255
- * characters: as many of them as fit, which is the length. The owner and the time to live of a refused
- * record count for the entries that follow, where they can be read.
+ * Reading continues at the next entry, or after the line of a fault. Of a refusal of an entry the octets
+ * are the text, as in "MX preference: decimal number overflow": at most 255 characters, cut to the room,
+ * and the length is what was written. The owner and the time to live of a refused record count for the
+ * entries that follow, where they can be read.
  *
  * With DNSTEXT_NO_ROOM the zone and the record stay: call again with more room. With DNSTEXT_BAD_CURSOR
  * too. */
@@ -357,11 +356,11 @@ uint32_t dnstext_position_move(const uint8_t *text, size_t text_len, struct dnst
 uint32_t dnstext_status_text(uint32_t status, uint8_t *text, size_t text_len,
                              struct dnstext_outcome *outcome);
 /* The same text with an end mark, and the name, such as "DNSTEXT_BAD_ESCAPE", or "unknown". These
- * strings stand as long as the program; nobody frees or writes them. */
+ * strings live as long as the program; nobody frees or writes them. */
 const char *dnstext_status_message(uint32_t status);
 const char *dnstext_status_name(uint32_t status);
 
-/* The version of the library, such as "0.2.0": a string that stands as long as the program. */
+/* The version of the library, such as "0.2.0": a string that lives as long as the program. */
 const char *dnstext_version(void);
 
 #ifdef __cplusplus

@@ -54,8 +54,8 @@ static void strings(void) {
     refuses(dnstext_charstr_print_unquoted, long_string, 256, DNSTEXT_TOO_LONG, 255, __LINE__);
 }
 
-/* What dnstext_name_read has to tell of the name being absolute, or that it tells nothing; and the line of
- * the row that says so. */
+/* Whether dnstext_name_read has to report an absolute name, a relative one or nothing; and the line of the
+ * row that says so. */
 enum { RELATIVE, ABSOLUTE, UNTOLD };
 static int absolute;
 static int row;

@@ -23,7 +23,7 @@ static uint32_t canonical_data(const uint8_t *octets, size_t octets_len, uint8_t
     return dnstext_data_canonical(data_code, octets, octets_len, form, form_len, outcome);
 }
 
-/* A refusal of a text, with as much of its text as fits, and the memory behind it as it was. */
+/* A refusal of a text, with as much of its text as fits, and the memory after it as it was. */
 static void refuses_data(const uint8_t *text, size_t text_len, uint32_t status, size_t place,
                          const char *why, int line) {
     uint8_t memory[300];
