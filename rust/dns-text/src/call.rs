@@ -2,7 +2,7 @@
 use crate::{library, Status};
 use dns_text_sys::{dnstext_call, dnstext_outcome, DNSTEXT_NO_ROOM, DNSTEXT_OK};
 
-/// A status other than `DNSTEXT_OK`, and the place that was told.
+/// A status other than `DNSTEXT_OK`, and the reported place.
 pub(crate) struct Refused {
     pub(crate) status: u32,
     pub(crate) place: usize,

@@ -205,7 +205,7 @@ pub struct Records<'t> {
 }
 
 impl Records<'_> {
-    /// The same with an origin, before which relative names stand. A relative name is refused.
+    /// The same with an origin, which is appended to relative names. A relative origin is refused.
     pub fn with_origin(mut self, origin: &Name) -> Result<Self, RelativeOrigin> {
         self.state.set_origin(origin)?;
         Ok(self)

@@ -87,8 +87,8 @@ pub fn wire(record_type: &str, octets: &str, wanted: &str) -> bool {
     true
 }
 
-/// A row of a name's token, by the name of NS data. Zone text has no escape of a control octet or of one
-/// beyond ASCII as it stands.
+/// A row of a name's token, by the name of NS data. Zone text has no plain escape of a control
+/// octet or of one beyond ASCII.
 pub fn name(text: &str, origin: Option<&str>, wanted: &str) -> bool {
     let octets = octets_of(text);
     if octets.windows(2).any(|it| it[0] == b'\\' && !matches!(it[1], b' '..=b'~')) {
