@@ -21,13 +21,13 @@ lines_few : (lines : List (List ℕ)) → length lines ≤ length (flat_map line
 lines_few [] = omega arith
 lines_few (l ∷ lines) = omega (arith, lines_few lines, length-append (line_of l) (flat_map line_of lines), length-append l (10 ∷ []))
 
--- no line and no column is beyond what stands before them
+-- no line and no column exceeds the number of octets before it
 small : (before : List ℕ) (line column : ℕ) → IsPosition before line column → (line ≤ length before + 1) × (column ≤ length before + 1)
 small before line column p =
     let all = ap length p.is ∙ length-append (flat_map line_of p.lines) p.last in
     (omega (arith, p.counted, lines_few p.lines, all), omega (arith, p.along, all))
 
--- octets without an LF behind others
+-- octets without an LF after others
 same_line : (a b : List ℕ) (l c m d : ℕ) (p : IsPosition a l c) (q : IsPosition b m d) → q.lines ≡ [] → IsPosition (a ++ b) l (c + (d - 1))
 same_line a b l c m d p q none = record {
   lines = p.lines;
@@ -47,7 +47,7 @@ regrouped f l x n m q =
     ∙ sym (append_assoc f (((l ++ x) ++ n) ++ m) q
     ∙ ap (λ t. f ++ t) (append_assoc ((l ++ x) ++ n) m q ∙ append_assoc (l ++ x) n (m ++ q) ∙ append_assoc l x (n ++ (m ++ q))))
 
--- octets with an LF behind others
+-- octets with an LF after others
 next_lines : (a b : List ℕ) (l c m d : ℕ) (p : IsPosition a l c) (q : IsPosition b m d) (first : List ℕ) (more : List (List ℕ)) → q.lines ≡ first ∷ more
     → IsPosition (a ++ b) (l + (m - 1)) d
 next_lines a b l c m d p q first more are =
@@ -64,7 +64,7 @@ next_lines a b l c m d p q first more are =
       along = q.along;
     }
 
--- the position behind both
+-- the position after both
 joined : (a b : List ℕ) (l c m d line column : ℕ) → IsPosition a l c → IsPosition b m d → length (a ++ b) < greatest_length → line ≡ min (l + (m - 1)) greatest_length
     → (m ≡ 1 → column ≡ min (c + (d - 1)) greatest_length) → (m ≢ 1 → column ≡ d) → IsPosition (a ++ b) line column
 joined a b l c m d line column p q few is same next = go q.lines refl

@@ -99,7 +99,7 @@ module _ (one other : Room) where
     is_last = h.is_last;
   }
 
-  -- what is refused is no data, whatever stands behind it
+  -- what is refused is no data, whatever follows it
   never_data : (code : ℕ) (r : TypeRefusal) (octets out : List ℕ) (parts : List (Result PartSeen Fault)) → Ok out ≡ data_answer code (Err r) octets parts → ⊥
   never_data code r octets out [] is = cc
   never_data code r octets out (Ok p ∷ parts) is = cc

@@ -59,7 +59,7 @@ PrintsData code octets old status new outcome =
     (IsTypeData code octets × TellsText (data_text (record { code = code; octets = octets })) old status new outcome)
     ⊎ ((e : WireError) × RefusesWire code octets e × TellsFault (fault_of_wire e) status outcome × (new ≡ old))
 
--- octets are data of a type, and their canonical form is told; or why they are none, and nothing was written
+-- octets are data of a type, and their canonical form is written; or why they are none is reported, and nothing is written
 abbrev pub TellsCanonical : ℕ → List ℕ → List ℕ → ℕ → List ℕ → Outcome → Type 0
 TellsCanonical code octets old status new outcome =
     (IsTypeData code octets × TellsOctets (canonical_data code octets) old status new outcome)

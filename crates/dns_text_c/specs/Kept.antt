@@ -59,7 +59,7 @@ abbrev pub said_origin : Option (List (List ℕ)) → Known
 said_origin None = Unsaid
 said_origin (Some labels) = Name labels
 
--- the origin that the octets are is the zone's from here on; or they are no name, which is told, and nothing was written
+-- the origin that the octets are is the zone's from here on; or they are no name, which is reported, and nothing was written
 abbrev pub TakesOrigin : List ℕ → Zone → Zone → ℕ → Outcome → Type 0
 TakesOrigin name old new status outcome =
     ((origin : Option (List (List ℕ))) × IsOriginOf name origin × (status ≡ 0) × (outcome ≡ record { length = 0; place = 0 })

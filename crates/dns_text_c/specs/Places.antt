@@ -10,7 +10,7 @@ pub record TellsPosition (text : List ℕ) (place status : ℕ) (old new : ℕ �
   pub within : place ≤ length text → (status ≡ 0) × IsPosition (take place text) new.0 new.1
   pub past : length text < place → (status ≡ number_of BadPlace) × (new ≡ old)
 
--- the position is the line and the column after what stands before its offset
+-- the position is the line and the column of its offset
 abbrev pub IsPositionIn : List ℕ → Position → Type 0
 IsPositionIn text p = IsPosition (take p.offset text) p.line p.column
 

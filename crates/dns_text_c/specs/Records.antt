@@ -43,7 +43,7 @@ pub record TellsFound (status : ℕ) (reader : RecordReader) (octets : List ℕ)
       × KeepsName name old.found.name new.found.name × (head_of new.found ≡ head) × KeepsReader reader old.zone new.zone
   pub lacks : length old.octets < length octets → (told ≡ number_of NoRoom) × (new ≡ old)
 
--- a refusal is told, and the zone goes on behind it
+-- a refusal is reported, and the zone moves past it
 pub record TellsRefused (reader : RecordReader) (refusal : EntryRefusal) (old new : Memory) (told : ℕ) (outcome : Outcome) : Type 0 where
   pub reason : TellsReason refusal old.octets told new.octets outcome
   pub keeps : KeepsReader reader old.zone new.zone

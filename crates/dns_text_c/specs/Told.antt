@@ -50,7 +50,7 @@ pub record TellsOctets (octets old : List ℕ) (status : ℕ) (new : List ℕ) (
   pub fits : length octets ≤ length old → (status ≡ 0) × (take (length octets) new ≡ octets) × (drop (length octets) new ≡ drop (length octets) old)
   pub lacks : length old < length octets → (status ≡ number_of NoRoom) × (new ≡ old)
 
--- the octets, as many as fit, stand at the start of the buffer, and what follows them is as it was
+-- the octets, cut to the buffer, are at its start, and what follows them is as it was
 pub record GivesCut (octets old new : List ℕ) (count : ℕ) : Type 0 where
   pub count_is : count ≡ min (length octets) (length old)
   pub put : take count new ≡ take count octets

@@ -29,7 +29,7 @@ fn give_short_form(content: &Data<&[u8]>, form: &mut [u8], outcome: &mut Outcome
 
 /// Gives the canonical form of data of any length.
 ///
-/// It stands apart, since the compiler fills so much room with zeros at each call.
+/// A function of its own, since the compiler fills its 64 KB with zeros at each call.
 #[cold]
 #[inline(never)]
 fn give_long_form(content: &Data<&[u8]>, form: &mut [u8], outcome: &mut Outcome) -> u32

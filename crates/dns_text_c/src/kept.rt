@@ -169,8 +169,8 @@ pub(crate) fn refusal_of_name(error: NameError) -> Refusal
     }
 }
 
-/// Says the origin of the entries that follow, by the wire octets of an absolute name; or that there
-/// is none, by no octets.
+/// Sets the origin of the entries that follow to an absolute name in wire form, or with no octets to
+/// none.
 ///
 /// Octets that are no such name are refused, with no place, and then the zone stays as it was.
 #[unsafe(no_mangle)]

@@ -176,7 +176,7 @@ pub(crate) fn give(octets: &[u8], buffer: &mut [u8], outcome: &mut Outcome) -> u
     OK
 }
 
-/// Puts octets at the start of a buffer, as many as fit, and returns how many.
+/// Copies octets to the start of a buffer, cut to its length, and returns the number copied.
 pub(crate) fn give_cut(octets: &[u8], buffer: &mut [u8]) -> usize
     ensures { GivesCut octets.now buffer.old buffer.new result }
 {

@@ -10,7 +10,7 @@ use dns_split::position::{Position as Passed, line_and_column_of_octets};
 #[repr(C)]
 #[derive(Clone, Copy, Debug, PartialEq, Eq)]
 pub struct Position {
-    /// How many octets stand before it. It is 0 at first.
+    /// The number of octets before it. It is 0 at first.
     pub offset: usize,
     /// The line, from 1. Each LF ends one.
     pub line: usize,
@@ -46,7 +46,7 @@ pub extern "C" fn dnstext_position(
     OK
 }
 
-/// The column behind octets that follow a column, by the position behind these alone.
+/// Returns the column after octets that follow a column, by the position after these alone.
 fn column_behind(column: usize, passed: Passed) -> usize
     requires { 1 ≤ passed.column }
     ensures same { passed.line ≡ 1 → result ≡ counted (column + (passed.column - 1)) }

@@ -185,11 +185,11 @@ fn read_behind(
 
 /// Reads the text of data of a type, in the type's text form or as `\#`, the number of octets, and
 /// these in hexadecimal (RFC 3597 section 5). The text is one entry of zone text, which may have
-/// parentheses and comments. The origin is the octets of an absolute name, behind which relative
-/// names stand, or no octets, and then a relative name is refused.
+/// parentheses and comments. The origin is the octets of an absolute name, which is appended to
+/// relative names, or no octets, and then a relative name is refused.
 ///
 /// The octets are the data in wire form, at most 65,535; or the text of a refusal, at most 255 of
-/// them and as many as fit. A refusal and a fault of the text are told with their place; an origin
+/// them, cut to the room. A refusal and a fault of the text are reported with their place; an origin
 /// that is no name is refused with none.
 #[unsafe(no_mangle)]
 pub extern "C" fn dnstext_data_read(

@@ -265,8 +265,8 @@ fn next_with_all_room(
 /// section 4). `$ORIGIN` and `$TTL` are taken on the way.
 ///
 /// The octets are the record's data; or with [`INCLUDE`] those that name a file; or the text of an
-/// entry's refusal, at most 255 of them and as many as fit. A refusal is told with its place, as a
-/// fault of the text is, and reading goes on at the next entry, or behind the line of the fault.
+/// entry's refusal, at most 255 of them, cut to the room. A refusal is reported with its place, as a
+/// fault of the text is, and reading continues at the next entry, or after the line of the fault.
 /// Where data don't fit, nothing is written, and the zone stays. Once nothing is left the status is
 /// [`END`]. A zone past the end of the text, or with a name that is none, is refused.
 #[unsafe(no_mangle)]

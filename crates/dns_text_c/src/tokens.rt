@@ -201,8 +201,8 @@ fn tell_stop(
 /// Gives the tokens of the next entry of a zone text by their places, and moves the cursor on.
 ///
 /// The length is the number of tokens. Where they don't all fit, the first ones are given, the
-/// status says so, and the cursor stays. A fault is told with its place, after as many of the tokens
-/// before it as fit, and then the text is done. Once nothing is left the status is [`END`].
+/// status says so, and the cursor stays. A fault is reported with its place, after those tokens before
+/// it that fit, and then the text is done. Once nothing is left the status is [`END`].
 #[unsafe(no_mangle)]
 pub extern "C" fn dnstext_entry_next(
     text: &[u8],

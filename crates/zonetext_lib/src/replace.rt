@@ -10,7 +10,7 @@ use std::io::{ErrorKind, Write};
 use std::os::fd::AsFd;
 use std::os::unix::fs::{MetadataExt, OpenOptionsExt, PermissionsExt, fchown};
 
-/// What stands behind a file's name, and before two numbers, in the name of the file with its new text.
+/// What follows a file's name, before two numbers, in the name of the file with its new text.
 const NEW: &str = ".zonetext-new-";
 /// How many names are tried for the file with a new text.
 const MOST_NAMES: usize = 10_000;
