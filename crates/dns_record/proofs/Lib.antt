@@ -1,4 +1,5 @@
 pub mod FieldsBack
+pub mod LongTexts
 pub mod Marker
 pub mod OneEntry
 pub mod OnlySpelled

@@ -22,7 +22,7 @@ use Rattle.dns_scan.specs.Tokens.{Token, MarkerCall, marker}
 use Rattle.dns_scan.proofs.Decimal.{decimal_read}
 use Rattle.dns_scan.proofs.TokensLeft.{peeked}
 use Rattle.dns_laws.proofs.Converted.{plain_read, plain_symbols, plain_alphabet, encoded_plain}
-use Rattle.dns_record.specs.Values.{Value, number8, number16, number32, name, hex, base64_octets, string, listed, IsValue, AreFields, IsText, AreTexts}
+use Rattle.dns_record.specs.Values.{Value, number8, number16, number32, name, hex, base64_octets, string, listed, long_text, IsValue, AreFields, IsText, AreTexts}
 
 -- its one symbol is the number sign, escaped
 sign : List Symbol
@@ -97,6 +97,7 @@ no_value (hex octets) t is text at = no_encoding base16 (inl refl) octets (sym t
 no_value (base64_octets octets) t is text at = no_encoding base64 (inr (inr refl)) octets (sym text ∙ at)
 no_value (string octets) t is text at = no_string t octets is.0 text at
 no_value (listed octets) t is text at = no_string t octets is.0 text at
+no_value (long_text octets) t is text at = no_string t octets is text at
 
 -- a call that asks for the marker takes it where it comes first, and else nothing
 module _ {S : Type 0} (next : S → Option Token → S → Type 0) (old new : S) (tokens : List Token) (stands : HasTokens next old tokens) where

@@ -7,7 +7,7 @@ use Rattle.dns_octets.specs.Room.{Room}
 use Rattle.dns_symbol.specs.Cause.{Cause, IsCause, end_of_entry}
 use Rattle.dns_charstr.specs.Reading.{HasOctets}
 use Rattle.dns_codec.specs.Base.{base16, base64, encoded, padded, digit_char}
-use Rattle.dns_codec.specs.Bits.{bits, joined, cut, filled, digits}
+use Rattle.dns_codec.specs.Bits.{bits, joined, digits_from_bits, filled, digits}
 use Rattle.dns_scan.specs.Join.{LeavesOf}
 use Rattle.dns_scan.specs.Numbers.{by_cause}
 use Rattle.dns_scan.specs.Stands.{HasTokens}
@@ -18,11 +18,11 @@ use Rattle.dns_record.specs.Values.{Value}
 
 -- no octets have no text
 pub no_hex : [] ≡ encoded base16 []
-unfolding encoded padded digits cut filled joined bits digit_char
+unfolding encoded padded digits digits_from_bits filled joined bits digit_char
 no_hex = refl
 
 pub no_base64 : [] ≡ encoded base64 []
-unfolding encoded padded digits cut filled joined bits digit_char
+unfolding encoded padded digits digits_from_bits filled joined bits digit_char
 no_base64 = refl
 
 -- there is always room for no octets

@@ -28,8 +28,8 @@ use Rattle.dns_wire.specs.Wire.{EndsInRoot}
 use Rattle.dns_wire.specs.ZoneText.{zone_text}
 use Rattle.dns_laws.proofs.ZoneNames.{zone_word}
 use Rattle.dns_iter.specs.Contents.{HasContent, HaveContents}
-use Rattle.dns_record.specs.Parts.{Part, field, unquoted, note, opens, closes, value_token, steps_of, values_of, is_note_ascii, is_plain, IsLaidOut}
-use Rattle.dns_record.specs.Values.{Value, number8, number16, number32, name, hex, base64_octets, string, listed, IsValue, IsText, AreValues, AreTexts}
+use Rattle.dns_record.specs.Parts.{Part, field, unquoted, note, opens, closes, value_token, steps_of, values_of, is_plain, IsLaidOut}
+use Rattle.dns_record.specs.Values.{Value, number8, number16, number32, name, hex, base64_octets, string, listed, long_text, IsValue, IsText, AreValues, AreTexts}
 
 -- ---- tokens and comments
 
@@ -70,6 +70,7 @@ held (hex octets) = encoded base16 octets
 held (base64_octets octets) = encoded base64 octets
 held (string octets) = quoted_token octets
 held (listed octets) = quoted_token octets
+held (long_text octets) = quoted_token octets
 
 value_content : (v : Value) → IsValue v → HasContent (value_token v) (held v)
 unfolding held string_quote
@@ -81,6 +82,7 @@ value_content (hex octets) is = inl (hex_word octets is.0 is.1, refl)
 value_content (base64_octets octets) is = inl (base64_word octets is.0 is.1, refl)
 value_content (string octets) is = inr (string_quote octets is.0, printed_bytes is_quoted_escape octets)
 value_content (listed octets) is = inr (string_quote octets is.0, printed_bytes is_quoted_escape octets)
+value_content (long_text octets) is = inr (string_quote octets is, printed_bytes is_quoted_escape octets)
 
 value_text : (v : Value) → IsText v (held v)
 unfolding held
@@ -92,6 +94,7 @@ value_text (hex octets) = refl
 value_text (base64_octets octets) = refl
 value_text (string octets) = inr refl
 value_text (listed octets) = inr refl
+value_text (long_text octets) = inr refl
 
 unquoted_content : (octets : List ℕ) → All (λ o. o < 256) octets → HasContent (field_text (text_octets octets)) (unquoted_token octets)
 unquoted_content [] all = inr (record { symbols = []; valid = refl; spelled = refl }, refl)
@@ -101,25 +104,25 @@ is_token : (token content : List ℕ) → HasContent token content → IsToken t
 is_token token content (inl h) = inl h.0
 is_token token content (inr h) = inr h.0
 
-note_plain : (text : List ℕ) → list_all is_note_ascii text ≡ true → list_all is_note_char text ≡ true
+note_plain : (text : List ℕ) → list_all is_printable text ≡ true → list_all is_note_char text ≡ true
 note_plain [] h = refl
 note_plain (c ∷ cs) h =
-    let parts = and_parts (is_note_ascii c) (list_all is_note_ascii cs) h in
+    let parts = and_parts (is_printable c) (list_all is_printable cs) h in
     rw (one c parts.0, note_plain cs parts.1) refl
   where
-    one : (c : ℕ) → is_note_ascii c ≡ true → is_note_char c ≡ true
+    one : (c : ℕ) → is_printable c ≡ true → is_note_char c ≡ true
     one c k = Prim.grind (arith, nat_tests)
 
-note_low : (c : ℕ) → is_note_ascii c ≡ true → c < 128
+note_low : (c : ℕ) → is_printable c ≡ true → c < 128
 note_low c h = Prim.grind (arith, nat_tests)
 
-note_bytes : (text : List ℕ) → list_all is_note_ascii text ≡ true → encode_utf8_all text ≡ text
+note_bytes : (text : List ℕ) → list_all is_printable text ≡ true → encode_utf8_all text ≡ text
 note_bytes [] h = refl
 note_bytes (c ∷ cs) h =
-    let parts = and_parts (is_note_ascii c) (list_all is_note_ascii cs) h in
+    let parts = and_parts (is_printable c) (list_all is_printable cs) h in
     λ i. encode_ascii c (note_low c parts.0) i ++ note_bytes cs parts.1 i
 
-note_comment : (text : List ℕ) → list_all is_note_ascii text ≡ true → IsCommentText text
+note_comment : (text : List ℕ) → list_all is_printable text ≡ true → IsCommentText text
 note_comment text h = record { characters = text; plain = note_plain text h; spelled = note_bytes text h }
 
 -- ---- the document
@@ -128,7 +131,7 @@ parts_proper : (ps : List Part) → AreValues (values_of ps) → list_all is_pla
 parts_proper [] is plain = tt
 parts_proper (opens ∷ ps) is plain = (tt, parts_proper ps is plain)
 parts_proper (closes ∷ ps) is plain = (tt, parts_proper ps is plain)
-parts_proper (note text ∷ ps) is plain = let parts = and_parts (list_all is_note_ascii text) (list_all is_plain ps) plain in (note_comment text parts.0, parts_proper ps is parts.1)
+parts_proper (note text ∷ ps) is plain = let parts = and_parts (list_all is_printable text) (list_all is_plain ps) plain in (note_comment text parts.0, parts_proper ps is parts.1)
 parts_proper (field v ∷ ps) is plain = (is_token (value_token v) (held v) (value_content v is.0), parts_proper ps is.1 plain)
 parts_proper (unquoted os ∷ ps) is plain = (is_token (field_text (text_octets os)) (unquoted_token os) (unquoted_content os is.0.0), parts_proper ps is.1 plain)
 

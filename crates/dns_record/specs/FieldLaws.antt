@@ -29,7 +29,7 @@ use Rattle.dns_iter.specs.Name.{ReadsToken}
 use Rattle.dns_laws.specs.Names.{GivesName}
 use Rattle.dns_laws.proofs.NameBack.{name_back}
 use Rattle.dns_record.specs.ReadsBack.{FieldBack, Lacks}
-use Rattle.dns_record.specs.Values.{Value, number8, number16, number32, name, string, AreValues, AreTexts, SomeMayLack}
+use Rattle.dns_record.specs.Values.{Value, number8, number16, number32, name, string, long_text, AreValues, AreTexts, MayLack, SomeMayLack}
 
 -- ---- numbers
 
@@ -103,7 +103,8 @@ fault_short room (x ∷ xs) rest (o ∷ os) (p ∷ ps) count why is gives fault 
     let sum = length-append p (concat ps) in
     omega (arith, fault_short room xs rest os ps (count + 1) why others more (subst (λ n. IsSymbolFault octet_given room n rest None why) (omega arith) fault))
 
-module _ (room : Room) (octets : List ℕ) where
+-- octets that are written as a character string, of a value that lacks room only where they do
+module _ (make : List ℕ → Value) (room : Room) (octets : List ℕ) (lacks : room.fits < length octets → MayLack room (make octets)) where
   -- room for all that may be held
   abbrev size : ℕ
   size = room.capacity + length octets
@@ -112,26 +113,26 @@ module _ (room : Room) (octets : List ℕ) where
   given_all symbols is = record { parts = map (λ o. o ∷ []) octets; gives = gives_each symbols octets is; joined = joined_each octets; ends = refl; fits = omega arith }
 
   answered : (others rest : List Token) (symbols : List Symbol) (r : Result (List ℕ) Cause) → map octet_of symbols ≡ map Ok octets → rest ≡ others
-      → AnswersGiven octet_given room (λ why. why) (λ s. s) symbols None r → FieldBack room (λ s. string s ∷ []) (string octets ∷ []) others r rest
+      → AnswersGiven octet_given room (λ why. why) (λ s. s) symbols None r → FieldBack room (λ s. make s ∷ []) (make octets ∷ []) others r rest
   answered others rest symbols (Ok s) is end h =
       let same = one_answer octet_given size symbols None (Ok s) (Ok octets) (all_given_in octet_given room size (omega arith) symbols None s h) (given_all symbols is) in
       let value : s ≡ octets = cc same in
-      inl (ap (λ x. string x ∷ []) value, end)
+      inl (ap (λ x. make x ∷ []) value, end)
   answered others rest symbols (Err why) is end h =
       ⊎_elim
       (λ fault. let same = one_answer octet_given size symbols None (Err why) (Ok octets) fault (given_all symbols is) in let z : ⊥ = cc same in absurd z)
       (λ short. inr (
         inl short,
-        inl (omega (
+        inl (lacks (omega (
           arith,
           fault_short room h.front h.rest octets h.parts 0 why (subst (λ l. map octet_of l ≡ map Ok octets) h.whole is) h.gives
               (subst (λ n. IsSymbolFault octet_given room n h.rest None why) (sym (zero-add (length (concat h.parts)))) h.fault),
-        )),
+        ))),
       ))
       (first_fault_in octet_given room size (omega arith) symbols None why h)
 
   read_back : (f : ℕ → Bool) → IsForm f → All (λ o. o < 256) octets → (others rest : List Token) (r : Result (List ℕ) Cause) → rest ≡ others
-      → OctetsRead room (encode_utf8_all (text_of f octets)) r → FieldBack room (λ s. string s ∷ []) (string octets ∷ []) others r rest
+      → OctetsRead room (encode_utf8_all (text_of f octets)) r → FieldBack room (λ s. make s ∷ []) (make octets ∷ []) others r rest
   read_back f form all others rest r end (symbols, error, read, answers) =
       let same = symbols_same (encode_utf8_all (text_of f octets)) symbols (map (symbol_of f) octets) error None read (printed_symbols f form octets all) in
       answered others rest (map (symbol_of f) octets) r (printed_octets f octets) end
@@ -139,7 +140,7 @@ module _ (room : Room) (octets : List ℕ) where
       (subst (λ ss. AnswersGiven octet_given room (λ why. why) (λ s. s) ss error r) same.0 answers))
 
   string_text : (t : Token) (ts others rest : List Token) (r : Result (List ℕ) Cause) → All (λ o. o < 256) octets → IsPrinted t octets → ts ≡ others
-      → ReadsFirstToken (OctetsRead room) (t ∷ ts) r rest → FieldBack room (λ s. string s ∷ []) (string octets ∷ []) others r rest
+      → ReadsFirstToken (OctetsRead room) (t ∷ ts) r rest → FieldBack room (λ s. make s ∷ []) (make octets ∷ []) others r rest
   string_text t ts others rest r all (inl unquoted) end reads =
       read_back is_unquoted_escape unquoted_form all others rest r (reads.1 ∙ end) (subst (λ (x : Token). OctetsRead room x r) unquoted reads.0)
   string_text t ts others rest r all (inr quoted) end reads =
@@ -149,11 +150,19 @@ pub string_back : (room : Room) (octets : List ℕ) (tokens others rest : List T
     → ReadsFirstToken (OctetsRead (within 255 room)) tokens r rest → FieldBack room (λ s. string s ∷ []) (string octets ∷ []) others r rest
 string_back room octets [] others rest r is texts reads = absurd texts
 string_back room octets (t ∷ ts) others rest r is texts reads =
-    ⊎_elim (λ a. inl a) (λ l. inr (l.0, in_room l.1)) (string_text (within 255 room) octets t ts others rest r is.0.0 texts.0 texts.1 reads)
+    ⊎_elim (λ a. inl a) (λ l. inr (l.0, in_room l.1)) (string_text (λ s. string s) (within 255 room) octets (λ less. less) t ts others rest r is.0.0 texts.0 texts.1 reads)
   where
     in_room : SomeMayLack (within 255 room) (string octets ∷ []) → SomeMayLack room (string octets ∷ [])
     in_room (inl less) = inl (omega (arith, less, is.0.1))
     in_room (inr none) = absurd none
+
+-- and a text of any length
+pub long_text_back : (room : Room) (octets : List ℕ) (tokens others rest : List Token) (r : Result (List ℕ) Cause) → AreValues (long_text octets ∷ [])
+    → AreTexts (long_text octets ∷ []) tokens others
+    → ReadsFirstToken (OctetsRead room) tokens r rest → FieldBack room (λ s. long_text s ∷ []) (long_text octets ∷ []) others r rest
+long_text_back room octets [] others rest r is texts reads = absurd texts
+long_text_back room octets (t ∷ ts) others rest r is texts reads =
+    string_text (λ s. long_text s) room octets (λ less. less) t ts others rest r is.0 texts.0 texts.1 reads
 
 -- ---- one field and then another
 

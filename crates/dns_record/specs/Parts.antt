@@ -1,15 +1,15 @@
 -- The parts of a record's text: fields, and how the multiline layout sets them.
-use Rattle.std.specs.Prelude.{ℕ, ◌≡◌, ◌&&◌, Bool, true, List, [], ◌∷◌, map, nat_le, encode_utf8_all}
+use Rattle.std.specs.Prelude.{ℕ, ◌≡◌, ◌&&◌, Bool, true, List, [], ◌∷◌, map, encode_utf8_all}
 use Rattle.std.specs.Fmt.{decimal}
 use Rattle.std.specs.List.{list_all}
-use Rattle.dns_symbol.specs.Characters.{space, tilde}
+use Rattle.dns_symbol.specs.Symbol.{is_printable}
 use Rattle.dns_codec.specs.Base.{base16, base64, encoded}
 use Rattle.dns_charstr.specs.Printed.{quoted_text}
 use Rattle.dns_entry.specs.Field.{field_text, text_octets}
 use Rattle.dns_zone.specs.Layout.{Step, token, begin, end, comment}
 use Rattle.dns_zone.specs.Nesting.{is_nested}
 use Rattle.dns_wire.specs.ZoneText.{zone_text}
-use Rattle.dns_record.specs.Values.{Value, number8, number16, number32, name, hex, base64_octets, string, listed}
+use Rattle.dns_record.specs.Values.{Value, number8, number16, number32, name, hex, base64_octets, string, listed, long_text}
 
 -- a field, a character string that needs no double quotes, a note on what stands before it, or a parenthesis of a block
 pub data Part : Type 0 where
@@ -29,6 +29,7 @@ value_token (hex octets) = encoded base16 octets
 value_token (base64_octets octets) = encoded base64 octets
 value_token (string octets) = encode_utf8_all (quoted_text octets)
 value_token (listed octets) = encode_utf8_all (quoted_text octets)
+value_token (long_text octets) = encode_utf8_all (quoted_text octets)
 
 abbrev pub step_of : Part → Step
 step_of (field v) = token (value_token v)
@@ -50,13 +51,9 @@ values_of (note text ∷ ps) = values_of ps
 values_of (opens ∷ ps) = values_of ps
 values_of (closes ∷ ps) = values_of ps
 
--- a printable ASCII character
-abbrev pub is_note_ascii : ℕ → Bool
-is_note_ascii c = nat_le space c && nat_le c tilde
-
 -- a note of printable ASCII, or any other part
 abbrev pub is_plain : Part → Bool
-is_plain (note text) = list_all is_note_ascii text
+is_plain (note text) = list_all is_printable text
 is_plain (field v) = true
 is_plain (unquoted octets) = true
 is_plain opens = true

@@ -1,16 +1,17 @@
 -- Worked examples of the definitions, computed.
-use Rattle.std.specs.Prelude.{ℕ, ◌≡◌, List, [], ◌∷◌, map, Some, None, codes, refl}
-use Rattle.std.proofs.Common.{ap, lit≤}
+use Rattle.std.specs.Prelude.{ℕ, ◌≡◌, List, [], ◌∷◌, length, map, Some, None, codes, refl}
+use Rattle.std.proofs.Common.{ap, arith, lit≤, replicate}
 use Rattle.std.specs.Char.{encode_utf8}
 use Rattle.dns_symbol.specs.declared.symbol.Symbol.{Symbol}
 use Rattle.dns_symbol.specs.declared.symbol.Symbol.TheVariants.{Char, DecimalEscape}
 use Rattle.dns_symbol.specs.Text.{SymbolsOf}
 use Rattle.dns_symbol.proofs.Unique.{symbols_same}
-use Rattle.dns_codec.specs.Bits.{bits, joined, cut, whole}
+use Rattle.dns_codec.specs.Bits.{bits, joined, digits_from_bits, whole}
 use Rattle.dns_codec.specs.Base.{value}
 use Rattle.dns_scan.specs.Numbers.{plain_digit_of}
+use Rattle.dns_scan.specs.Tokens.{Token}
 use Rattle.dns_record.specs.Spellings.{IsDecimalOf, IsStringOf, IsSpellingOf, AreSpellingsOf}
-use Rattle.dns_record.specs.Values.{number16, hex, string}
+use Rattle.dns_record.specs.Values.{number16, hex, long_text, string}
 
 ten : IsDecimalOf 16 10 (codes "10")
 unfolding encode_utf8
@@ -44,9 +45,21 @@ escaped = (
   lit≤ tt,
 )
 
+-- 256 octets are a text of any length, and no character string
+a_text : IsSpellingOf (long_text (replicate 256 97)) (replicate 256 97 ∷ [])
+unfolding encode_utf8
+a_text = (
+  replicate 256 97,
+  refl,
+  record { symbols = replicate 256 (Char 97); read = record { rest = []; readable = refl; spelled = refl; ends = refl }; octets_are = refl },
+)
+
+no_string : (t : Token) → IsStringOf (replicate 256 97) t → ⊥
+no_string t is = let long : length {A = ℕ} (replicate 256 97) ≡ 256 = refl in omega (arith, is.1, long)
+
 -- the text of an encoding may be cut into tokens, and letter case doesn't matter
 in_two : IsSpellingOf (hex (202 ∷ 254 ∷ [])) (codes "Ca" ∷ codes "FE" ∷ [])
-unfolding bits joined cut whole value encode_utf8
+unfolding bits joined digits_from_bits whole value encode_utf8
 in_two = record {
   symbols = Char 67 ∷ Char 97 ∷ Char 70 ∷ Char 69 ∷ [];
   read = record { rest = []; readable = refl; spelled = refl; ends = refl };

@@ -9,6 +9,7 @@ use Rattle.dns_symbol.specs.Cause.{Cause}
 use Rattle.dns_symbol.specs.Symbol.{octet_of}
 use Rattle.dns_symbol.specs.Text.{SymbolsOf}
 use Rattle.dns_charstr.specs.Limits.{max_string}
+use Rattle.dns_charstr.specs.Reading.{HasOctets}
 use Rattle.dns_scan.specs.Numbers.{greatest, by_cause}
 use Rattle.dns_scan.specs.Reads.{ReadsFirstToken, ReadsBoth, NameReads, NumberReads, OctetsRead}
 use Rattle.dns_scan.specs.Steps.{octet_given, bad_or}
@@ -19,7 +20,7 @@ use Rattle.dns_name.specs.declared.name.UncertainName.TheVariants.{Absolute, Rel
 use Rattle.dns_name.specs.declared.name.error.FromStrError.{FromStrError}
 use Rattle.dns_name.specs.declared.name.error.FromStrError.TheVariants.{Symbol, BadOctet, BinaryLabel, EmptyLabel, LongLabel, LongName, ShortBuf}
 use Rattle.dns_iter.specs.Name.{AnswersName, ReadsToken}
-use Rattle.dns_record.specs.Values.{Value, number8, number16, number32, name, string}
+use Rattle.dns_record.specs.Values.{Value, number8, number16, number32, name, string, long_text}
 use Rattle.dns_record.specs.Spellings.{IsDecimalOf, IsNameOf, IsStringOf, IsSpellingOf, AreSpellingsOf}
 
 -- one token of one value
@@ -62,20 +63,25 @@ given_octets (x ∷ xs) (p ∷ ps) e =
     let more = given_octets xs ps others in
     (λ i. one.1 i ∷ more i) ∙ ap (λ (l : List ℕ). map Ok (l ++ concat ps)) (sym one.2)
 
+octets_spelled : (room : Room) (octets : List ℕ) (t : Token) → OctetsRead room t (Ok octets) → HasOctets t octets
+octets_spelled room octets t (symbols, error, read, given) = record {
+  symbols = symbols;
+  read = subst (λ (e : Option SymbolCharsError). SymbolsOf t symbols e) given.ends read;
+  octets_are = given_octets symbols given.parts given.gives ∙ ap (map Ok) (sym given.joined);
+}
+
 string_spelled : (room : Room) (octets : List ℕ) (t : Token) → OctetsRead (within max_string room) t (Ok octets) → IsStringOf octets t
-string_spelled room octets t (symbols, error, read, given) = (
-  record {
-    symbols = symbols;
-    read = subst (λ (e : Option SymbolCharsError). SymbolsOf t symbols e) given.ends read;
-    octets_are = given_octets symbols given.parts given.gives ∙ ap (map Ok) (sym given.joined);
-  },
-  omega (arith, given.fits),
-)
+string_spelled room octets t read = (octets_spelled (within max_string room) octets t read, let given = read.3 in omega (arith, given.fits))
 
 pub string_only : (room : Room) (octets : List ℕ) (tokens rest : List Token) → ReadsFirstToken (OctetsRead (within max_string room)) tokens (Ok octets) rest
     → AreSpellingsOf (string octets ∷ []) tokens rest
 string_only room octets [] rest reads = let no = reads.0 in cc
 string_only room octets (t ∷ ts) rest reads = first_spelled (string octets) t ts rest (t, refl, string_spelled room octets t reads.0) reads.1
+
+-- and texts of any length
+pub long_text_only : (room : Room) (octets : List ℕ) (tokens rest : List Token) → ReadsFirstToken (OctetsRead room) tokens (Ok octets) rest → AreSpellingsOf (long_text octets ∷ []) tokens rest
+long_text_only room octets [] rest reads = let no = reads.0 in cc
+long_text_only room octets (t ∷ ts) rest reads = first_spelled (long_text octets) t ts rest (t, refl, octets_spelled room octets t reads.0) reads.1
 
 -- ---- names
 

@@ -12,7 +12,7 @@ use Rattle.dns_scan.specs.Tokens.{Token}
 use Rattle.dns_name.specs.Reading.{ReadsAs}
 use Rattle.dns_name.specs.declared.name.UncertainName.TheVariants.{Absolute, Relative}
 use Rattle.dns_codec.specs.Grammar.{IsEncodingOf}
-use Rattle.dns_record.specs.Values.{Value, number8, number16, number32, name, hex, base64_octets, string, listed}
+use Rattle.dns_record.specs.Values.{Value, number8, number16, number32, name, hex, base64_octets, string, listed, long_text}
 
 -- the token is plain digits of that number, which has at most so many bits; no digit is 0
 abbrev pub IsDecimalOf : ℕ → ℕ → Token → Type 0
@@ -42,6 +42,7 @@ IsSpellingOf (hex octets) tokens = IsEncodingOf base16 (concat tokens) octets
 IsSpellingOf (base64_octets octets) tokens = IsEncodingOf base64 (concat tokens) octets
 IsSpellingOf (string octets) tokens = IsOneToken (IsStringOf octets) tokens
 IsSpellingOf (listed octets) tokens = IsOneToken (IsStringOf octets) tokens
+IsSpellingOf (long_text octets) tokens = IsOneToken (λ t. HasOctets t octets) tokens
 
 -- spellings of the values in turn, and then others
 abbrev pub AreSpellingsOf : List Value → List Token → List Token → Type 0

@@ -9,7 +9,7 @@ use Rattle.dns_scan.specs.Octets.{IsPrinted}
 use Rattle.dns_scan.specs.Tokens.{Token}
 use Rattle.dns_wire.specs.ZoneText.{zone_text}
 
--- a number of 8, 16 or 32 bits, the labels of a name, octets in an encoding, or the octets of a character string, by itself or in a list
+-- a number of 8, 16 or 32 bits, the labels of a name, octets in an encoding, the octets of a character string, by itself or in a list, or those of a text of any length
 pub data Value : Type 0 where
   number8 : ℕ → Value
   number16 : ℕ → Value
@@ -19,6 +19,7 @@ pub data Value : Type 0 where
   base64_octets : List ℕ → Value
   string : List ℕ → Value
   listed : List ℕ → Value
+  long_text : List ℕ → Value
 
 -- what such a field can hold: an encoding of no octets would have no text
 abbrev pub IsValue : Value → Type 0
@@ -30,6 +31,7 @@ IsValue (hex octets) = All (λ o. o < 256) octets × (0 < length octets)
 IsValue (base64_octets octets) = All (λ o. o < 256) octets × (0 < length octets)
 IsValue (string octets) = All (λ o. o < 256) octets × (length octets ≤ 255)
 IsValue (listed octets) = All (λ o. o < 256) octets × (length octets ≤ 255)
+IsValue (long_text octets) = All (λ o. o < 256) octets
 
 abbrev pub AreValues : List Value → Type 0
 AreValues = AllByRecursion IsValue
@@ -48,6 +50,7 @@ IsText (hex octets) text = text ≡ encoded base16 octets
 IsText (base64_octets octets) text = text ≡ encoded base64 octets
 IsText (string octets) text = IsPrinted text octets
 IsText (listed octets) text = IsPrinted text octets
+IsText (long_text octets) text = IsPrinted text octets
 
 -- texts of the values, and then others
 abbrev pub AreTexts : List Value → List Token → List Token → Type 0
@@ -65,6 +68,7 @@ MayLack room (hex octets) = room.fits < length octets
 MayLack room (base64_octets octets) = room.fits < length octets
 MayLack room (string octets) = room.fits < length octets
 MayLack room (listed octets) = Unit {0}
+MayLack room (long_text octets) = room.fits < length octets
 
 -- some field may
 abbrev pub SomeMayLack : (room : Room) → List Value → Type 0

@@ -1,22 +1,24 @@
 //! The fields of records: each is scanned back from the text that it prints.
-ghost use Rattle.std.specs.Prelude.{◌≡◌, List, [], ◌∷◌, ◌++◌, OnOk, Ok, Result, min, encode_utf8_all};
+ghost use Rattle.std.specs.Prelude.{◌≡◌, ◌<◌, List, [], ◌∷◌, ◌++◌, All, OnOk, Ok, Result, min, encode_utf8_all};
 ghost use Rattle.dns_charstr.specs.Printed.{quoted_text};
 ghost use Rattle.dns_symbol.specs.Cause.{Cause};
+ghost use Rattle.dns_scan.specs.Reads.{ReadsFirstToken, OctetsRead};
 ghost use Rattle.dns_scan.specs.Tokens.{Token};
 ghost use Rattle.dns_zone.specs.Layout.{token};
 ghost use Rattle.dns_entry.specs.Field.{field_text, text_octets};
-ghost use Rattle.dns_record.specs.FieldLaws.{number8_back, number16_back, number32_back, string_back, both_back, name_read};
+ghost use Rattle.dns_record.specs.FieldLaws.{number8_back, number16_back, number32_back, string_back, long_text_back, both_back, name_read};
 ghost use Rattle.dns_record.specs.ReadsBack.{FieldBack, TakesFields, five_values, three_values};
-ghost use Rattle.dns_record.specs.SpellingLaws.{number8_only, number16_only, number32_only, string_only, both_only, name_only};
+ghost use Rattle.dns_record.specs.SpellingLaws.{number8_only, number16_only, number32_only, string_only, long_text_only, both_only, name_only};
 ghost use Rattle.dns_record.specs.Spellings.{AreSpellingsOf};
-ghost use Rattle.dns_record.specs.Values.{Value, number8, number16, number32, name, string, AreValues, AreTexts};
+ghost use Rattle.dns_record.specs.Values.{Value, number8, number16, number32, name, string, long_text, AreValues, AreTexts};
 
-use dns_charstr::charstr::CharStr;
+use dns_charstr::charstr::{CharStr, DisplayQuoted};
 use dns_iter::{IterScanner, ScanOctets};
 use dns_octets::{AsOctets, Ttl};
 use dns_scan::{Scan, Scanner, ScannerError};
 use dns_wire::Name;
 use dns_zone::zonefile_fmt::{self, FormatWriter, Formatter};
+use std::marker::Model;
 
 /// A value that is one field of a record, or several in a row.
 pub trait FieldValue: Sized {
@@ -77,6 +79,58 @@ impl<Octets: AsOctets> FieldValue for CharStr<Octets> {
     }
 }
 
+/// A text of any length in one token, which prints as a character string does: the value of CAA
+/// (RFC 8659 section 4.1).
+#[derive(Drop)]
+pub struct LongText<Octets: AsOctets> {
+    octets: Octets,
+}
+
+impl<Octets: AsOctets> Model for LongText<Octets> {
+    ghost use Rattle.std.specs.Prelude.{List, ℕ};
+
+    ghost Value = { List ℕ };
+
+    ghost view = { λ s. Octets.octets s.octets };
+}
+
+impl<Octets: AsOctets> LongText<Octets> {
+    /// Returns the text of these octets.
+    pub fn new(octets: Octets) -> Self
+        ensures { result ≡ Octets.octets octets }
+    {
+        LongText { octets }
+    }
+
+    /// Returns the octets.
+    pub fn as_slice(&self) -> &[u8]
+        ensures value { result.now ≡ self.now }
+        ensures bytes { All (λ o. o < 256) self.now }
+    {
+        self.octets.as_slice()
+    }
+}
+
+impl<Octets: AsOctets> FieldValue for LongText<Octets> {
+    ghost values = { λ octets. long_text octets ∷ [] };
+
+    fn known(&self) {
+        let _octets = self.as_slice();
+    }
+}
+
+/// A token of any number of octets, as [`Scanner::scan_octets`] takes it.
+impl<S: Scanner> Scan<S> for LongText<S::Octets> {
+    ghost scan_reads = { ReadsFirstToken (OctetsRead S.OctetsBuilder.room) };
+
+    fn scan(scanner: &mut S) -> Result<Self, S::Error> {
+        match scanner.scan_octets() {
+            Ok(octets) => Ok(LongText { octets }),
+            Err(error) => Err(error),
+        }
+    }
+}
+
 impl<A: FieldValue, B: FieldValue> FieldValue for (A, B) {
     ghost values = { λ pair. A.values pair.0 ++ B.values pair.1 };
 
@@ -124,6 +178,12 @@ impl<S: Scanner> Field<S> for CharStr<S::Octets> {
     ghost back = { string_back S.OctetsBuilder.room };
 
     ghost only = { string_only S.OctetsBuilder.room };
+}
+
+impl<S: Scanner> Field<S> for LongText<S::Octets> {
+    ghost back = { long_text_back S.OctetsBuilder.room };
+
+    ghost only = { long_text_only S.OctetsBuilder.room };
 }
 
 impl<S: Scanner, A: Field<S> + Drop, B: Field<S>> Field<S> for (A, B) {
@@ -208,4 +268,15 @@ pub fn write_unquoted<F: FormatWriter, Octets: AsOctets>(
         return p.write_token(string.display_quoted());
     }
     p.write_token(string.display_unquoted())
+}
+
+/// Prints a text of any length as one token, between double quotes.
+pub fn write_long_text<F: FormatWriter, Octets: AsOctets>(
+    p: &mut F,
+    text: &LongText<Octets>,
+) -> zonefile_fmt::Result
+    ensures blocks { OnOk result (F.blocks p.new ≡ F.blocks p.old) }
+    ensures gives { OnOk result (F.step_gives p.old (token (encode_utf8_all (quoted_text text.now))) p.new) }
+{
+    p.write_token(DisplayQuoted::from_slice(text.as_slice()))
 }
