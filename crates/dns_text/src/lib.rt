@@ -55,7 +55,8 @@ pub mod cursor {
 /// Record data between zone text and values.
 pub mod record {
     pub use dns_record::fields::{
-        Field, FieldValue, scan_fields, scan_five, scan_three, write_quoted, write_unquoted,
+        Field, FieldValue, LongText, scan_fields, scan_five, scan_three, write_long_text,
+        write_quoted, write_unquoted,
     };
     pub use dns_record::record::{
         RecordData, expect_no_marker, record_reads_back, record_reads_back_in_room, scan_record,
