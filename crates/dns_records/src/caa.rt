@@ -4,7 +4,9 @@ ghost use Rattle.dns_record.specs.Parts.{steps_of};
 ghost use Rattle.dns_records.specs.Parts.{caa_parts};
 
 use dns_text::charstr::CharStr;
-use dns_text::record::{FieldValue, RecordData, scan_three, write_unquoted};
+use dns_text::record::{
+    FieldValue, LongText, RecordData, scan_three, write_long_text, write_unquoted,
+};
 use dns_text::scan::{EntryScanner, ScanOctets, ScannerError, TokenText};
 use dns_text::wire::AsOctets;
 use dns_text::zonefile_fmt::{self, FormatWriter, Formatter, ZonefileFmt};
@@ -15,7 +17,8 @@ use std::alloc::Allocator;
 pub struct Caa<Octets: AsOctets> {
     pub flags: u8,
     pub tag: CharStr<Octets>,
-    pub value: CharStr<Octets>,
+    /// Text of any length (RFC 8659 section 4.1).
+    pub value: LongText<Octets>,
 }
 
 impl<Octets: AsOctets> ZonefileFmt for Caa<Octets> {
@@ -28,7 +31,7 @@ impl<Octets: AsOctets> ZonefileFmt for Caa<Octets> {
         p.write_comment("flags")?;
         write_unquoted(p, &self.tag)?;
         p.write_comment("tag")?;
-        p.write_token(self.value.display_quoted())
+        write_long_text(p, &self.value)
     }
 }
 
