@@ -11,7 +11,7 @@ use dns_text::scan::{EntryScanner, Scanner, ScannerError, StrError, entry_scanne
 use dns_text::wire::Ttl;
 use dns_text::zonefile_fmt::{DisplayKind, ZonefileFmt};
 use row_table::{Answer, Failure, Heap, Inputs};
-use std::alloc::Allocator;
+use std::alloc::{AllocError, Allocator};
 
 /// Octets in memory of which one growth may be refused.
 type Octets<'a> = Vec<u8, &'a Heap>;
@@ -26,6 +26,7 @@ pub fn call<'a>(name: &str, inputs: &Inputs, answer: &mut Answer<'a>) {
     match name {
         "mx" => read::<Mx<Octets<'a>>>(inputs.text(answer), answer),
         "caa" => read::<Caa<Octets<'a>>>(inputs.text(answer), answer),
+        "caa_value" => read_value(inputs, answer),
         "hex_rest" | "base64_rest" | "strings_rest" | "five" => {
             let Ok(words) = words_of(answer.alloc(), inputs.all()) else {
                 return answer.fail_for_memory();
@@ -95,6 +96,46 @@ where
             Some(back) => check_same(back, answer),
             None => answer.fail_for_memory(),
         }
+    }
+}
+
+/// The text of a CAA record whose value is a part so many times.
+fn caa_text(answer: &Answer, part: &[u8], times: usize) -> Result<String, AllocError> {
+    let mut text = String::from_str(answer.alloc(), "0 issue \"")?;
+    let part = str::from_utf8(part).unwrap_or("");
+    for _ in 0..times {
+        text.push_str(part)?;
+    }
+    text.push_str("\"")?;
+    Ok(text)
+}
+
+/// The length of a value of CAA, a part so many times, and that of its text in each layout, from the
+/// last of which the value is read back.
+fn read_value(inputs: &Inputs, answer: &mut Answer) {
+    let (part, times) = inputs.octets_and_number(answer);
+    let Ok(text) = caa_text(answer, part, times) else {
+        return answer.fail_for_memory();
+    };
+    let heap = answer.heap();
+    let record: Caa<Octets> = match scanned(heap, text.as_str()) {
+        Ok(record) => record,
+        Err(error) => return answer.refuse(&error),
+    };
+    let value = record.value.as_slice();
+    answer.add_number(value.len());
+    for kind in KINDS {
+        answer.add_text(",");
+        match record.display_zonefile(kind).to_string(heap) {
+            Ok(text) => answer.add_number(text.as_str().len()),
+            Err(_) => answer.fail_for_memory(),
+        }
+    }
+    let kind = DisplayKind::Multiline;
+    let back: Result<Caa<Octets>, StrError> = record_reads_back(heap, heap, &record, kind);
+    match back {
+        Ok(back) => answer.check(back.value.as_slice() == value),
+        Err(error) => answer.refuse(&error),
     }
 }
 
