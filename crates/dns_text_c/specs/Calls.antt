@@ -34,7 +34,7 @@ told_entries (Ok (CommentAt p) ∷ given) = told_entries given
 told_entries (Ok (EndAt e) ∷ given) = told [] 0 0 ∷ told_entries given
 told_entries (Err f ∷ given) = told [] (number_of (refusal_of_wrong f.wrong)) f.at ∷ []
 
--- a call that found an entry, with room for all of its tokens, and for one more where a fault follows them; and what it told
+-- a call that found an entry, with room for one token more than it gave where it was refused; and what it told
 pub record Tells (text : List ℕ) (old new : Cursor) (entry : ToldEntry) : Type 0 where
   pub before : List TokenAt
   pub after : List TokenAt

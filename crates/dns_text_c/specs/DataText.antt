@@ -122,6 +122,12 @@ TellsData (Ok octets) old status new outcome = TellsOctets octets old status new
 TellsData (Err (Text f)) old status new outcome = TellsFault (record { refusal = refusal_of_wrong f.wrong; place = f.at }) status outcome × (new ≡ old)
 TellsData (Err (Entry r)) old status new outcome = TellsReason r old status new outcome
 
+-- the octets of data are given, with room for some; or they are refused, and nothing was written
+abbrev pub WritesData : Room → ℕ → Option (List (List ℕ)) → List ℕ → List ℕ → Result ℕ RecordRefusal → List ℕ → Outcome → Type 0
+WritesData room code origin text old (Ok status) new outcome =
+    (octets : List ℕ) × ReadsDataText room code origin text (Ok octets) × TellsOctets octets old status new outcome
+WritesData room code origin text old (Err refusal) new outcome = ReadsDataText room code origin text (Err refusal) × (new ≡ old)
+
 -- a text is read behind an origin, and what comes of it is told
 abbrev pub ReadsTextBehind : ℕ → List ℕ → Option (List (List ℕ)) → List ℕ → ℕ → List ℕ → Outcome → Type 0
 ReadsTextBehind code text origin old status new outcome = (answer : DataAnswer) × ReadsDataText (exactly 65535) code origin text answer × TellsData answer old status new outcome

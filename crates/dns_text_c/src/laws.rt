@@ -21,9 +21,9 @@ pub fn entries_in_a_row()
     ensures { (text : List ℕ) (found : List Piece) → IsOctetPieces text found → EachWithin (length text) (map Ok found) → InARow text 0 (entries_of_pieces found) }
 {}
 
-/// Calls for the next entry, one after another from a text's start until the text is done, each
-/// with room for its tokens, and for one more where a fault follows them, tell just what the text
-/// gives: the words and quoted texts of its entries, and its fault. What it gives is one list
+/// Calls for the next entry, one after another from a text's start until the text is done, tell just
+/// what the text gives: the words and quoted texts of its entries, and its fault. A call that is
+/// refused has to have room for one token more than it gave. What a text gives is one list
 /// (`octets_are_read_one_way` of `dns_split`). Of a text that splits the tokens' octets are its
 /// entries.
 pub fn calls_tell_all()

@@ -1,10 +1,10 @@
 //! The text of record data.
-ghost use Rattle.std.specs.Prelude.{◌≡◌, ℕ, List, [], Err, false, true, option_copied};
+ghost use Rattle.std.specs.Prelude.{◌≡◌, ◌≤◌, ℕ, List, [], Err, false, true, option_copied};
 ghost use Rattle.dns_data.specs.ByType.{ReadsType};
 ghost use Rattle.dns_octets.specs.Room.{exactly};
 ghost use Rattle.dns_reader.specs.Source.{entry_end, entry_left};
 ghost use Rattle.dns_reader.specs.declared.records.RecordRefusal.TheVariants.{Entry};
-ghost use Rattle.dns_text_c.specs.DataText.{ReadsTextBehind, TellsReadData, ReadsDataText, ReadsTokens, TellsData, answer_before, answered, refused_data_of, trailing_token};
+ghost use Rattle.dns_text_c.specs.DataText.{ReadsTextBehind, TellsReadData, ReadsDataText, ReadsTokens, TellsData, WritesData, answer_before, answered, refused_data_of, trailing_token};
 
 use crate::kept::{name_of, refusal_of_name};
 use crate::outcome::{Fault, Outcome, give, refuse};
@@ -128,45 +128,43 @@ fn read_text<const N: usize>(
     }
 }
 
-/// Tells what was read.
-fn tell_read(
-    read: Result<(), RecordRefusal>,
-    content: &[u8],
+/// Reads data of a type behind an origin into room for `N` octets, and writes them. Where they are
+/// refused, it writes nothing.
+///
+/// It is not inlined, since the compiler fills that room with zeros at each call.
+#[inline(never)]
+fn read_in_room<const N: usize>(
+    code: u16,
+    text: &[u8],
+    origin: Option<&NameBuffer>,
     octets: &mut [u8],
     outcome: &mut Outcome,
-) -> u32
-    ensures { TellsData (answered read content.now) octets.old result octets.new outcome.new }
+) -> Result<u32, RecordRefusal>
+    requires { N ≤ 65535 }
+    ensures { WritesData (exactly N) code (option_copied origin.entry) text.now octets.old result octets.new outcome.new }
 {
-    match read {
-        Ok(()) => give(content, octets, outcome),
-        Err(RecordRefusal::Entry(refusal)) => tell_reason(refusal, octets, outcome),
-        Err(RecordRefusal::Text(TextFault { wrong, at })) => {
+    let mut content: ArrayVec<u8, N> = ArrayVec::new();
+    match read_text(code, text, origin, &mut content) {
+        Ok(()) => Ok(give(content.as_slice(), octets, outcome)),
+        Err(refusal) => Err(refusal),
+    }
+}
+
+/// Tells why data are refused.
+fn tell_refusal(refusal: RecordRefusal, octets: &mut [u8], outcome: &mut Outcome) -> u32
+    ensures { TellsData (Err refusal) octets.old result octets.new outcome.new }
+{
+    match refusal {
+        RecordRefusal::Entry(refusal) => tell_reason(refusal, octets, outcome),
+        RecordRefusal::Text(TextFault { wrong, at }) => {
             let refusal = refusal_of_wrong(wrong);
             refuse(Fault { refusal, place: at }, outcome)
         }
     }
 }
 
-/// Reads data of a type behind an origin, with room for the most octets that there can be.
-///
-/// It stands apart, since the compiler fills so much room with zeros at each call.
-#[cold]
-#[inline(never)]
-fn read_with_all_room(
-    code: u16,
-    text: &[u8],
-    origin: Option<&NameBuffer>,
-    octets: &mut [u8],
-    outcome: &mut Outcome,
-) -> u32
-    ensures { ReadsTextBehind code text.now (option_copied origin.entry) octets.old result octets.new outcome.new }
-{
-    let mut content: ArrayVec<u8, MOST> = ArrayVec::new();
-    let read = read_text(code, text, origin, &mut content);
-    tell_read(read, content.as_slice(), octets, outcome)
-}
-
-/// Reads data of a type behind an origin.
+/// Reads data of a type behind an origin, with room for the most octets that there can be only where
+/// those of most records are not enough.
 fn read_behind(
     code: u16,
     text: &[u8],
@@ -176,10 +174,12 @@ fn read_behind(
 ) -> u32
     ensures { ReadsTextBehind code text.now (option_copied origin.entry) octets.old result octets.new outcome.new }
 {
-    let mut content: ArrayVec<u8, FEW> = ArrayVec::new();
-    match read_text(code, text, origin, &mut content) {
-        Ok(()) => give(content.as_slice(), octets, outcome),
-        Err(_) => read_with_all_room(code, text, origin, octets, outcome),
+    if let Ok(status) = read_in_room::<FEW>(code, text, origin, octets, outcome) {
+        return status;
+    }
+    match read_in_room::<MOST>(code, text, origin, octets, outcome) {
+        Ok(status) => status,
+        Err(refusal) => tell_refusal(refusal, octets, outcome),
     }
 }
 
