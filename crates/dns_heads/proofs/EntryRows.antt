@@ -30,30 +30,34 @@ thirty_minutes_are : IsPeriod thirty_minutes
 thirty_minutes_are = ((omega arith, (omega arith, (omega arith, tt))), refl)
 
 one_hour : (at : ℕ) → SaysTtl (word_at (codes "1h") at) 3600
-one_hour at = (refl, ((omega arith, inr (record { periods = hour ∷ []; each = All-cons IsPeriod hour [] hour_is (All-nil IsPeriod); written = refl; value = refl })), omega arith))
+one_hour at = (refl, (3600, ((omega arith, inr (record { periods = hour ∷ []; each = All-cons IsPeriod hour [] hour_is (All-nil IsPeriod); written = refl; value = refl })), omega arith), refl))
 
 hour_and_half : (at : ℕ) → SaysTtl (word_at (codes "1h30m") at) 5400
 hour_and_half at = (
   refl,
   (
+    5400,
     (
+      (
+        omega arith,
+        inr (record {
+          periods = hour ∷ thirty_minutes ∷ [];
+          each = All-cons IsPeriod hour (thirty_minutes ∷ []) hour_is (All-cons IsPeriod thirty_minutes [] thirty_minutes_are (All-nil IsPeriod));
+          written = refl;
+          value = refl;
+        }),
+      ),
       omega arith,
-      inr (record {
-        periods = hour ∷ thirty_minutes ∷ [];
-        each = All-cons IsPeriod hour (thirty_minutes ∷ []) hour_is (All-cons IsPeriod thirty_minutes [] thirty_minutes_are (All-nil IsPeriod));
-        written = refl;
-        value = refl;
-      }),
     ),
-    omega arith,
+    refl,
   ),
 )
 
 five : (at : ℕ) → SaysTtl (word_at (codes "5") at) 5
-five at = (refl, ((omega arith, inl ((omega arith, (omega arith, tt)), refl)), omega arith))
+five at = (refl, (5, ((omega arith, inl ((omega arith, (omega arith, tt)), refl)), omega arith), refl))
 
 six : (at : ℕ) → SaysTtl (word_at (codes "6") at) 6
-six at = (refl, ((omega arith, inl ((omega arith, (omega arith, tt)), refl)), omega arith))
+six at = (refl, (6, ((omega arith, inl ((omega arith, (omega arith, tt)), refl)), omega arith), refl))
 
 internet : (at : ℕ) → SaysClass (word_at (codes "IN") at) 1
 internet at = (refl, refl)

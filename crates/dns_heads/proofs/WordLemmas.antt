@@ -1,5 +1,5 @@
 -- No word is two of a time to live, a class and a type, and each says one thing.
-use Rattle.std.proofs.Common.{◌≡◌, ℕ, ◌<◌, Bool, true, false, List, [], ◌∷◌, length, take, Option, Some, None, refl, ap, subst, arith, ◌∙◌, ⊎_elim}
+use Rattle.std.proofs.Common.{◌≡◌, ℕ, ◌<◌, ◌^◌, Bool, true, false, List, [], ◌∷◌, length, take, Option, Some, None, refl, sym, ap, subst, arith, ◌∙◌, ⊎_elim}
 use Rattle.std.specs.Prelude.{◌||◌, not, cond, find, codes, MatchOption}
 use Rattle.std.specs.Char.{digit_value, is_ascii_digit, is_ascii_lowercase, to_ascii_lowercase}
 use Rattle.std.specs.List.{list_all}
@@ -11,18 +11,18 @@ use Rattle.std.proofs.lemmas.List.{take-map}
 use Rattle.std.proofs.lemmas.Slice.Eq.{bytes_eq-Decides}
 use Rattle.dns_kinds.specs.Classes.{class_rows, class_prefix, SpellsClass}
 use Rattle.dns_kinds.specs.Registry.{Row, in_small_letters, row_code, IsNumbered, SpellsCode}
-use Rattle.dns_kinds.specs.Ttl.{SpellsTtl}
+use Rattle.dns_kinds.specs.Ttl.{SpellsInterval, SpellsTtl}
 use Rattle.dns_kinds.specs.Types.{type_rows, type_prefix, SpellsType}
 use Rattle.dns_kinds.proofs.CodeLaws.{classes_are_kind, types_are_kind}
 use Rattle.dns_kinds.proofs.Periods.{after_periods}
 use Rattle.dns_kinds.proofs.TtlLaws.{seconds_once}
 use Rattle.dns_split.specs.EntryTokens.{TokenSeen}
-use Rattle.dns_heads.specs.HeadWords.{SaysTtl, SaysClass, SaysType, HeadWordsApart, begins_with_digit}
+use Rattle.dns_heads.specs.HeadWords.{SaysTtl, SaysClass, SaysType, HeadWordsApart, begins_with_digit, ttl_of_seconds}
 
 -- ---- each says one thing
 
 pub ttl_once : (t : TokenSeen) (n m : ℕ) → SaysTtl t n → SaysTtl t m → n ≡ m
-ttl_once t n m h k = seconds_once t.text n m h.1.0 k.1.0
+ttl_once t n m h k = h.1.2 ∙ ap ttl_of_seconds (seconds_once t.text h.1.0 k.1.0 h.1.1.0 k.1.1.0) ∙ sym k.1.2
 
 pub class_once : (t : TokenSeen) (n m : ℕ) → SaysClass t n → SaysClass t m → n ≡ m
 class_once t n m h k = ap (λ c. c.0) (classes_are_kind.once t.text (record { 0 = n }) (record { 0 = m }) h.1 k.1)
@@ -30,12 +30,20 @@ class_once t n m h k = ap (λ c. c.0) (classes_are_kind.once t.text (record { 0 
 pub type_once : (t : TokenSeen) (n m : ℕ) → SaysType t n → SaysType t m → n ≡ m
 type_once t n m h k = ap (λ c. c.0) (types_are_kind.once t.text (record { 0 = n }) (record { 0 = m }) h.1 k.1)
 
+-- ---- below 2^31 a time to live is as it is spelled
+
+short_ttl : (n : ℕ) → n < 2 ^ 31 → n ≡ ttl_of_seconds n
+short_ttl n h = Prim.grind (arith, nat_tests)
+
+pub says_short_ttl : (t : TokenSeen) (n : ℕ) → t.is_quoted ≡ false → SpellsTtl t.text n → SaysTtl t n
+says_short_ttl t n q h = (q, (n, (h.0, omega (arith, h.1)), short_ttl n h.1))
+
 -- ---- a time to live begins with a digit
 
 is_digit_value : (c : ℕ) → digit_value c < 10 → is_ascii_digit c ≡ true
 is_digit_value c h = Prim.grind (arith, nat_tests)
 
-pub ttl_digit : (text : List ℕ) (n : ℕ) → SpellsTtl text n → begins_with_digit text ≡ true
+pub ttl_digit : (text : List ℕ) (n : ℕ) → SpellsInterval text n → begins_with_digit text ≡ true
 ttl_digit [] n h = absurd (omega (arith, h.0.0))
 ttl_digit (c ∷ cs) n h = ⊎_elim (λ k. is_digit_value c k.0.1.0) (λ k. is_digit_value c (after_periods (c ∷ cs) n k).1) h.0.1
 
@@ -134,7 +142,7 @@ not_both false h k = cc
 
 pub apart : HeadWordsApart
 apart = record {
-  ttl_and_class = λ t ttl code h k. digit_or_letter t.text (ttl_digit t.text ttl h.1) (class_letter t.text code k.1);
-  ttl_and_type = λ t ttl code h k. digit_or_letter t.text (ttl_digit t.text ttl h.1) (type_letter t.text code k.1);
+  ttl_and_class = λ t ttl code h k. digit_or_letter t.text (ttl_digit t.text h.1.0 h.1.1) (class_letter t.text code k.1);
+  ttl_and_type = λ t ttl code h k. digit_or_letter t.text (ttl_digit t.text h.1.0 h.1.1) (type_letter t.text code k.1);
   class_and_type = λ t class code h k. not_both (is_like_class (in_small_letters t.text)) (class_like t.text class h.1) (type_unlike t.text code k.1);
 }

@@ -1,18 +1,22 @@
 -- The words in front of a record's data, and which tokens are one.
-use Rattle.std.specs.Prelude.{ℕ, ◌≡◌, ◌&&◌, Bool, false, if◌then◌else◌, List, [], ◌∷◌, Option, MatchOption}
+use Rattle.std.specs.Prelude.{ℕ, ◌≡◌, ◌&&◌, Bool, false, if◌then◌else◌, ◌^◌, nat_lt, List, [], ◌∷◌, Option, MatchOption}
 use Rattle.std.specs.Char.{is_ascii_digit}
 use Rattle.dns_fields.specs.declared.error.FieldError.TheVariants.{Quoted, Kind}
 use Rattle.dns_kinds.specs.Classes.{SpellsClass}
-use Rattle.dns_kinds.specs.Ttl.{SpellsTtl}
+use Rattle.dns_kinds.specs.Ttl.{SpellsInterval}
 use Rattle.dns_kinds.specs.Types.{SpellsType}
 use Rattle.dns_kinds.specs.declared.error.KindError.TheVariants.{ExpectedTtl, UnknownType}
 use Rattle.dns_split.specs.EntryTokens.{TokenSeen}
 use Rattle.dns_heads.specs.declared.error.HeadError.{HeadError}
 use Rattle.dns_heads.specs.declared.error.HeadError.TheVariants.{Field}
 
--- a token without quotes spells a time to live, of so many seconds
+-- a time to live of so many seconds: from 2^31 on it is 0 (RFC 2181 section 8)
+abbrev pub ttl_of_seconds : ℕ → ℕ
+ttl_of_seconds seconds = if nat_lt seconds (2 ^ 31) then seconds else 0
+
+-- a token without quotes spells seconds, below 2^32, whose time to live is this
 abbrev pub SaysTtl : TokenSeen → ℕ → Type 0
-SaysTtl t ttl = (t.is_quoted ≡ false) × SpellsTtl t.text ttl
+SaysTtl t ttl = (t.is_quoted ≡ false) × ((seconds : ℕ) × SpellsInterval t.text seconds × (ttl ≡ ttl_of_seconds seconds))
 
 -- or a class, or a type, of such a code
 abbrev pub SaysClass : TokenSeen → ℕ → Type 0

@@ -51,8 +51,8 @@ fn take_ttl_argument<S: TokenSource>(source: &mut S) -> Result<u32, HeadRefusal>
     Ok(ttl)
 }
 
-/// Takes the argument of `$TTL` (RFC 2308 section 4), which is one token: seconds below 2^31, as a
-/// number or as periods such as `1h30m`.
+/// Takes the argument of `$TTL` (RFC 2308 section 4), which is one token: seconds, as a number or as
+/// periods such as `1h30m`, below 2^32. From 2^31 on they are 0 (RFC 2181 section 8).
 ///
 /// A token that is no time to live is refused, and left. So is one behind it.
 pub fn take_default_ttl<S: TokenSource>(source: &mut S) -> Result<u32, HeadRefusal>

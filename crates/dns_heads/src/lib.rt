@@ -13,4 +13,4 @@ pub use arguments::{take_default_ttl, take_end, take_file};
 pub use directive::{Directive, directive_word, take_directive};
 pub use error::{HeadError, HeadRefusal};
 pub use head::{Words, WordsRefusal, take_words};
-pub use words::{class_word, ttl_word, type_word};
+pub use words::{class_word, ttl_of_seconds, ttl_word, type_word};

@@ -3,21 +3,31 @@
 //! Each is a token without quotes and escapes.
 ghost use Rattle.std.specs.Prelude.{◌≡◌};
 ghost use Rattle.dns_split.specs.EntryTokens.{token_seen};
-ghost use Rattle.dns_heads.specs.HeadWords.{FindsWord, SaysTtl, SaysClass, SaysType, begins_with_digit};
+ghost use Rattle.dns_heads.specs.HeadWords.{FindsWord, SaysTtl, SaysClass, SaysType, begins_with_digit, ttl_of_seconds};
 
-use dns_kinds::{Class, RecordType, ttl_from_text};
+use dns_kinds::{Class, RecordType, interval_from_text};
 use dns_split::entry_tokens::EntryToken;
 
-/// The seconds of the time to live that a token spells, below 2^31: a number of them, or periods
-/// such as `1h30m`.
+/// The number of seconds from which on a time to live is 0.
+const LONG: u32 = 0x8000_0000;
+
+/// Returns a time to live of so many seconds, which is 0 if they are 2^31 or more (RFC 2181 section 8).
+pub fn ttl_of_seconds(seconds: u32) -> u32
+    ensures { result ≡ ttl_of_seconds seconds }
+{
+    if seconds < LONG { seconds } else { 0 }
+}
+
+/// The seconds of the time to live that a token spells: a number of them, or periods such as `1h30m`,
+/// below 2^32. From 2^31 on it is 0 (RFC 2181 section 8).
 pub fn ttl_word(token: &EntryToken<'_>) -> Option<u32>
     ensures { FindsWord SaysTtl (token_seen token.now) result }
 {
     if token.is_quoted {
         return None;
     }
-    match ttl_from_text(token.text) {
-        Ok(ttl) => Some(ttl),
+    match interval_from_text(token.text) {
+        Ok(seconds) => Some(ttl_of_seconds(seconds)),
         Err(_) => None,
     }
 }

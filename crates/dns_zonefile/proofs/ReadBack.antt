@@ -9,6 +9,7 @@ use Rattle.dns_split.specs.EntryTokens.{TokenSeen}
 use Rattle.dns_data.specs.Rests.{ArePrinted}
 use Rattle.dns_heads.specs.Directives.{directive_in, directive_of, directive_of_word}
 use Rattle.dns_heads.specs.EntrySays.{FirstSays, says_record}
+use Rattle.dns_heads.proofs.WordLemmas.{says_short_ttl}
 use Rattle.dns_heads.specs.declared.head.Words.{Words}
 use Rattle.dns_resource.specs.RecordLaws.{AreRecordValues, IsOwnerWord, IsRecordReadBack}
 use Rattle.dns_resource.specs.Records.{data_of, record_tokens}
@@ -44,7 +45,7 @@ module _ {N O : Type 0} (r : Record N O) (values : AreRecordValues r) (back : Is
             record {
               head = t ∷ c ∷ [];
               whole = refl;
-              is = record { front = t ∷ []; back = c ∷ []; whole = refl; order = inl ((s.unquoted.1, s.ttl_is), (s.unquoted.2, s.class_is)) };
+              is = record { front = t ∷ []; back = c ∷ []; whole = refl; order = inl (says_short_ttl t r.ttl s.unquoted.1 s.ttl_is, (s.unquoted.2, s.class_is)) };
               ends = (λ e. cc, λ e. cc);
             },
             (s.unquoted.3, s.type_is),

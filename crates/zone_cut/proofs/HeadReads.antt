@@ -20,6 +20,7 @@ use Rattle.dns_heads.specs.Directives.{directive_of, directive_of_word, first_di
 use Rattle.dns_heads.specs.EntrySays.{EntrySays, FirstSays, says_default_ttl, says_origin}
 use Rattle.dns_heads.specs.declared.directive.Directive.TheVariants.{Origin, Ttl}
 use Rattle.dns_heads.proofs.EntryLaws.{entries_say_once}
+use Rattle.dns_heads.proofs.WordLemmas.{says_short_ttl}
 use Rattle.dns_reader.specs.EntryReading.{ReadsZoneEntry, said_of_entry}
 use Rattle.dns_reader.specs.Learning.{Learns}
 use Rattle.dns_reader.specs.Past.{SaysOrigin, SaysDefaultTtl, known_name, nothing_said, seconds_of}
@@ -72,7 +73,7 @@ module _ (room : Room) (end : ℕ) (before after : State) (old new : List ℕ) (
       let is : directive_of t ≡ Some (Ok Ttl) = ap (λ b. if b then None else directive_of_word t.text) p.0 ∙ ap directive_of_word p.1 in
       let spelled : SpellsTtl u.text ttl = subst (λ l. SpellsTtl l ttl) (sym p.3.1) (ttls_are_kind.spelled ttl small) in
       let says : EntrySays false end (t ∷ u ∷ []) (says_default_ttl (Ok ttl)) =
-      subst (λ d. FirstSays d end t (u ∷ []) (says_default_ttl (Ok ttl))) (sym is) (Ok ttl, [], ((u, refl, (p.3.0, spelled)), refl), refl) in
+      subst (λ d. FirstSays d end t (u ∷ []) (says_default_ttl (Ok ttl))) (sym is) (Ok ttl, [], ((u, refl, says_short_ttl u ttl p.3.0 spelled), refl), refl) in
       let same : h.meaning ≡ says_default_ttl (Ok ttl) = entries_say_once false end (t ∷ u ∷ []) h.meaning (says_default_ttl (Ok ttl)) h.says says in
       let learns : Learns (SaysDefaultTtl ttl ∷ []) before after = subst (λ m. Learns (said_of_entry (first_directive false (t ∷ u ∷ [])) m result) before after) same h.learns in
       known_once before (SaysDefaultTtl ttl ∷ []) after (record before { default_ttl = Some ttl }) (learns before [] (starts before)) (default_learned before ttl before [] (starts before))
