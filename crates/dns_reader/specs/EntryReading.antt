@@ -1,5 +1,5 @@
 -- What is read of an entry, by what its tokens say and the state before it.
-use Rattle.std.specs.Prelude.{ℕ, ◌≡◌, ◌≢◌, ◌<◌, ◌+◌, ◌⊎◌, Bool, List, [], ◌∷◌, ◌++◌, length, drop, unwrap_or, Option, Some, None, Result, Ok, Err}
+use Rattle.std.specs.Prelude.{ℕ, ◌≡◌, ◌≢◌, ◌<◌, ◌+◌, ◌⊎◌, Bool, List, [], ◌∷◌, ◌++◌, length, drop, unwrap_or, option_map, Option, Some, None, Result, Ok, Err}
 use Rattle.std.specs.Int.{from_be_bytes, w32}
 use Rattle.dns_octets.specs.Appending.{Extends}
 use Rattle.dns_octets.specs.Room.{Room, exactly}
@@ -15,6 +15,7 @@ use Rattle.dns_data.specs.ByType.{ReadsType}
 use Rattle.dns_data.specs.declared.by_type.TypeRefusal.{TypeRefusal}
 use Rattle.dns_heads.specs.Directives.{first_directive}
 use Rattle.dns_heads.specs.EntrySays.{EntryMeaning, EntrySays, says_nothing, says_origin, says_default_ttl, says_include, says_record, says_refused}
+use Rattle.dns_heads.specs.HeadWords.{ttl_of_seconds}
 use Rattle.dns_heads.specs.declared.directive.Directive.{Directive}
 use Rattle.dns_heads.specs.declared.directive.Directive.TheVariants.{Origin}
 use Rattle.dns_heads.specs.declared.error.HeadError.{HeadError}
@@ -86,9 +87,9 @@ abbrev pub EndsInNumber : List ℕ → Option ℕ → Type 0
 EndsInNumber octets None = length octets < 4
 EndsInNumber octets (Some n) = (front : List ℕ) × (last : List ℕ) × (octets ≡ front ++ last) × (length last ≡ 4) × (n ≡ from_be_bytes w32 last)
 
--- the minimum of an SOA is the number at the end of its data; other records have none (RFC 1035 section 3.3.13)
+-- the minimum of an SOA, as a time to live, is that of the number at the end of its data; other records have none (RFC 1035 section 3.3.13)
 abbrev pub IsMinimum : ℕ → List ℕ → Option ℕ → Type 0
-IsMinimum code octets minimum = ((code ≡ 6) × EndsInNumber octets minimum) ⊎ ((code ≢ 6) × (minimum ≡ None))
+IsMinimum code octets minimum = ((code ≡ 6) × ((seconds : Option ℕ) × EndsInNumber octets seconds × (minimum ≡ option_map ttl_of_seconds seconds))) ⊎ ((code ≢ 6) × (minimum ≡ None))
 
 -- a record, whose class is its own or the state's; or the refusal of one without a time to live
 abbrev pub record_with : State → ℕ → Words → Option RecordTtl → Result EntryRead EntryRefusal

@@ -23,7 +23,11 @@ a_record = record { ttl = None; class = None; code = 1 }
 
 -- an SOA whose data end in 0, 0, 3 and 132; another record has no minimum
 minimum_row : IsMinimum 6 (1 ∷ 0 ∷ 0 ∷ 3 ∷ 132 ∷ []) (Some 900)
-minimum_row = inl (refl, (1 ∷ [], 0 ∷ 0 ∷ 3 ∷ 132 ∷ [], refl, refl, refl))
+minimum_row = inl (refl, (Some 900, (1 ∷ [], 0 ∷ 0 ∷ 3 ∷ 132 ∷ [], refl, refl, refl), refl))
+
+-- 2^31 is no time to live, so it is 0
+long_minimum_row : IsMinimum 6 (1 ∷ 128 ∷ 0 ∷ 0 ∷ 0 ∷ []) (Some 0)
+long_minimum_row = inl (refl, (Some 2147483648, (1 ∷ [], 128 ∷ 0 ∷ 0 ∷ 0 ∷ [], refl, refl, refl), refl))
 
 no_minimum_row : IsMinimum 1 (192 ∷ 0 ∷ 2 ∷ 1 ∷ []) None
 no_minimum_row = inr (λ e. omega (arith, e), refl)

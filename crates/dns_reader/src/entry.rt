@@ -18,7 +18,7 @@ use dns_data::read_type;
 use dns_fields::{FieldError, TokenSource};
 use dns_heads::{
     Directive, HeadError, Words, WordsRefusal, take_default_ttl, take_directive, take_end,
-    take_file, take_words,
+    take_file, take_words, ttl_of_seconds,
 };
 use dns_octets::{AsOctetsMut, OctetsBuilder};
 
@@ -284,14 +284,17 @@ fn last_number(octets: &[u8]) -> Option<u32>
     Some(u32::from_be_bytes(last))
 }
 
-/// The minimum of a record, if it is an SOA (RFC 1035 section 3.3.13).
+/// The minimum of a record as a time to live, if it is an SOA (RFC 1035 section 3.3.13).
 fn minimum_of(code: u16, octets: &[u8]) -> Option<u32>
     ensures { IsMinimum code octets.now result }
 {
     if code != SOA {
         return None;
     }
-    last_number(octets)
+    match last_number(octets) {
+        Some(seconds) => Some(ttl_of_seconds(seconds)),
+        None => None,
+    }
 }
 
 /// A record of which all but the time to live is read.
