@@ -1,6 +1,7 @@
 //! What the command `check` finds in the entries of zone files.
 use crate::file_lines::FileLines;
 use crate::held::Held;
+use crate::long_ttls::{long_ttl, long_ttl_of};
 use crate::open_file::first_place;
 use crate::reporter::{Reporter, Spot};
 use crate::scan::{OctetScan, needs_lint, repeats_origin, scan_octets};
@@ -384,6 +385,18 @@ impl<'a> Checker<'a> {
         self.tell(spot_at(entry, tokens.as_slice(), at), code)
     }
 
+    /// Reports a token that spells a TTL of 2^31 or more, if there is one.
+    fn tell_long_ttl(
+        &mut self,
+        entry: &Entry<'_>,
+        token: Option<EntryToken<'_>>,
+    ) -> Result<(), Stop> {
+        match token {
+            Some(token) => self.tell(token_at(entry, &token), Code::Ttl),
+            None => Ok(()),
+        }
+    }
+
     /// Says what the time to live and the data of a record show, whose type begins at a place.
     fn check_values(
         &mut self,
@@ -394,6 +407,11 @@ impl<'a> Checker<'a> {
     ) -> Result<(), Stop> {
         if let RecordTtl::Minimum(_) = ttl {
             self.tell_record(entry, at, Code::SoaMinimumTtl)?;
+        }
+        if ttl.seconds() == 0 {
+            let tokens = tokens_of(self.alloc, entry)?;
+            let token = long_ttl_of(tokens.as_slice(), begins_blank(entry), ttl, entry.data);
+            self.tell_long_ttl(entry, token)?;
         }
         if let Some(most) = self.limits.max_ttl {
             if ttl.seconds() > most {
@@ -413,6 +431,8 @@ impl<'a> Checker<'a> {
     fn is_usual_ttl(&self, ttl: RecordTtl) -> bool {
         match (ttl, self.limits.max_ttl) {
             (RecordTtl::Minimum(_), _) => false,
+            // A TTL of 2^31 or more is 0.
+            (RecordTtl::Own(0), _) => false,
             (_, Some(most)) => ttl.seconds() <= most,
             (_, None) => true,
         }
@@ -529,6 +549,10 @@ impl<'a> Checker<'a> {
             }
             Some(word) if word.text.eq_ignore_ascii_case(b"$INCLUDE") => self.check_origin(
                 entry, tokens, 2,
+            ),
+            Some(word) if word.text.eq_ignore_ascii_case(b"$TTL") => self.tell_long_ttl(
+                entry,
+                long_ttl(tokens),
             ),
             _ => Ok(()),
         }

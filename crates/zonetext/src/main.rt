@@ -19,6 +19,7 @@ mod formed;
 mod gathered;
 mod held;
 mod lines;
+mod long_ttls;
 mod merging;
 mod open_file;
 mod options;

@@ -4,7 +4,7 @@ use Rattle.dns_split.specs.declared.pieces.Wrong.{Wrong}
 use Rattle.dns_split.specs.declared.pieces.Wrong.TheVariants.{Closing, OpenParenthesis as OpenWrong, OpenQuote as QuoteWrong, LoneReturn as ReturnWrong, BadEscape as EscapeWrong}
 use Rattle.zonetext_report.specs.Code.{code_name}
 use Rattle.zonetext_report.specs.declared.code.Code.{Code}
-use Rattle.zonetext_report.specs.declared.code.Code.TheVariants.{Nul, ByteOrderMark, ControlZ, OtherClass, NoSoa, TwoSoas, NoNs, NsAddress, Cname, Dname, DsApex, WildcardNs, SoaNotApex, NsBesideDname, Nsec3Wildcard, BelowDname, Outside, MaxTtl, NoOrigin, HighOctet, ControlOctet, Crlf, NestedParentheses, NoFinalNewline, RelativeOrigin, SoaMinimumTtl, IncludeTtl, MissingDot, EmptyUri, TlsaLength, Glue, TargetCname, TargetMissing, HostName, Cds, TtlDiffers, Duplicate, NoDnskey, Expired, ExpiresSoon, NotYetValid, Unsigned, SignsNothing, NoNsec, NsecNext, NsecTypes, DsWithoutNs, NoNsec3, Nsec3Next, Nsec3Types}
+use Rattle.zonetext_report.specs.declared.code.Code.TheVariants.{Nul, ByteOrderMark, ControlZ, Ttl, OtherClass, NoSoa, TwoSoas, NoNs, NsAddress, Cname, Dname, DsApex, WildcardNs, SoaNotApex, NsBesideDname, Nsec3Wildcard, BelowDname, Outside, MaxTtl, NoOrigin, HighOctet, ControlOctet, Crlf, NestedParentheses, NoFinalNewline, RelativeOrigin, SoaMinimumTtl, IncludeTtl, MissingDot, EmptyUri, TlsaLength, Glue, TargetCname, TargetMissing, HostName, Cds, TtlDiffers, Duplicate, NoDnskey, Expired, ExpiresSoon, NotYetValid, Unsigned, SignsNothing, NoNsec, NsecNext, NsecTypes, DsWithoutNs, NoNsec3, Nsec3Next, Nsec3Types}
 
 -- the faults of the text
 abbrev pub text_fault_text : Wrong → List ℕ
@@ -19,6 +19,7 @@ abbrev pub finding_text : Code → List ℕ
 finding_text Nul = codes "NUL"
 finding_text ByteOrderMark = codes "byte order mark"
 finding_text ControlZ = codes "Ctrl-Z"
+finding_text Ttl = codes "time to live above 2147483647: read as 0"
 finding_text OtherClass = codes "another class than the zone's"
 finding_text NoSoa = codes "no SOA at the zone's name"
 finding_text TwoSoas = codes "two SOAs that differ"

@@ -26,6 +26,7 @@ pub fn code_text(code: Code) -> &'static str
         Code::Nul => "NUL",
         Code::ByteOrderMark => "byte order mark",
         Code::ControlZ => "Ctrl-Z",
+        Code::Ttl => "time to live above 2147483647: read as 0",
         Code::OtherClass => "another class than the zone's",
         Code::NoSoa => "no SOA at the zone's name",
         Code::TwoSoas => "two SOAs that differ",

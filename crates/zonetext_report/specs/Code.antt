@@ -88,8 +88,9 @@ is_text_fault ByteOrderMark = true
 is_text_fault ControlZ = true
 is_text_fault _ = false
 
--- a warning where servers take the file, else an error
+-- a warning where servers take the file, else an error; what keeps a record from being read is an error in any case
 abbrev pub default_severity : Code → Severity
+default_severity Ttl = Warning
 default_severity NoOrigin = Warning
 default_severity HighOctet = Warning
 default_severity ControlOctet = Warning

@@ -49,7 +49,7 @@ pub enum Code {
     Directive,
     /// The owner is no name.
     Owner,
-    /// The time to live is none.
+    /// The time to live is none; or it is 2^31 or more, and read as 0.
     Ttl,
     /// The class is none.
     Class,
@@ -338,7 +338,8 @@ impl Code {
         ensures { result ≡ default_severity self }
     {
         match self {
-            Code::NoOrigin
+            Code::Ttl
+            | Code::NoOrigin
             | Code::HighOctet
             | Code::ControlOctet
             | Code::Crlf
