@@ -296,7 +296,8 @@ struct dnstext_zone {
 struct dnstext_record {
     size_t place;              /* where its first token stands */
     uint32_t ttl;              /* in seconds: its own; else the default; else the last that a record said;
-                                  else, of an SOA, its minimum */
+                                  else, of an SOA, its minimum. What is 2^31 or more in the text is 0
+                                  (RFC 2181 section 8) */
     uint16_t class_code;
     uint16_t type_code;
     struct dnstext_kept_name name; /* its owner */

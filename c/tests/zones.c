@@ -212,6 +212,32 @@ static void files(void) {
     ENDS(text);
 }
 
+/* From 2^31 on a time to live is 0, also of those after it (RFC 2181 section 8). */
+static void long_ttls(void) {
+    static const char text[] = "$TTL 2147483648\n"
+                               "a A 192.0.2.1\n"
+                               "b 4294967295 A 192.0.2.2\n";
+    static const char minimum[] = "@ SOA . . 1 2 3 4 4294967295\n"
+                                  "a A 192.0.2.1\n";
+    begin();
+    GIVES(text, "\300\0\2\1");
+    IS(16, 0, 1, 1, "\1a\7example\0");
+    EXPECT(zone.has_default_ttl && zone.default_ttl == 0);
+    GIVES(text, "\300\0\2\2");
+    IS(30, 0, 1, 1, "\1b\7example\0");
+    EXPECT(zone.has_last_ttl && zone.last_ttl == 0);
+    ENDS(text);
+    begin();
+    GIVES(minimum, "\0\0\0\0\0\1\0\0\0\2\0\0\0\3\0\0\0\4\377\377\377\377");
+    IS(0, 0, 1, 6, "\7example\0");
+    EXPECT(zone.has_default_ttl && zone.default_ttl == 0);
+    GIVES(minimum, "\300\0\2\1");
+    IS(29, 0, 1, 1, "\1a\7example\0");
+    ENDS(minimum);
+    begin();
+    REFUSES("a 4294967296 A 192.0.2.1", DNSTEXT_BAD_HEAD, 2, "expected time to live");
+}
+
 static void refusals(void) {
     static const char text[] = "a 1 MX 65536 m\n"
                                "b 1 A 192.0.2.1\n";
@@ -438,6 +464,7 @@ int main(int count, char **words) {
     records();
     long_data();
     files();
+    long_ttls();
     refusals();
     origins();
     zones_that_no_call_left();

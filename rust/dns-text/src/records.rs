@@ -18,7 +18,8 @@ pub struct Record {
     pub place: usize,
     pub owner: Name,
     /// Its own time to live; else the default, by `$TTL`; else the last that a record said; else, of an
-    /// SOA, its minimum (RFC 1035 section 5.1, RFC 2308 section 4).
+    /// SOA, its minimum (RFC 1035 section 5.1, RFC 2308 section 4). What is 2^31 seconds or more in the
+    /// text is 0 (RFC 2181 section 8).
     pub ttl: Ttl,
     pub class: Class,
     pub data: RecordData,

@@ -1,9 +1,9 @@
 //! Each refusal, and what comes before it.
 use dns_text::codec::{BadEncoding, BASE16, BASE32HEX, BASE64};
 use dns_text::{
-    entries, number, pieces, position, tokens, CharStr, Class, FaultKind, LongString, Name,
+    entries, number, pieces, position, records, tokens, CharStr, Class, FaultKind, LongString, Name,
     NameErrorKind, NameOctetsError, NumberErrorKind, Positions, ReadErrorKind, RecordType, Ttl,
-    WordErrorKind,
+    WordErrorKind, ZoneItem,
 };
 use std::time::Duration;
 
@@ -145,6 +145,20 @@ fn words() {
         assert_eq!(kind.to_string().parse(), Ok(kind));
         assert_eq!(class.to_string().parse(), Ok(class));
     }
+}
+
+/// A time to live of 2^31 or more is 0 (RFC 2181 section 8): of an SOA's minimum, of a record and of `$TTL`.
+#[test]
+fn long_ttls() {
+    let zone = b"a. SOA . . 1 2 3 4 2147483648\na. A 192.0.2.1\nb. 4294967295 A 192.0.2.2\n$TTL 3551w\nc. A 192.0.2.3\n";
+    let ttls: Vec<_> = records(zone)
+        .map(|item| match item {
+            Ok(ZoneItem::Record(record)) => record.ttl.seconds(),
+            other => panic!("{other:?}"),
+        })
+        .collect();
+    assert_eq!(ttls, [0, 0, 0, 0]);
+    assert!(records(b"a. 4294967296 A 192.0.2.1").next().unwrap().is_err());
 }
 
 /// The codes of RFC 1035, 2782, 3596, 4034 and 8659.
