@@ -297,7 +297,8 @@ def location(row):
     (text,) = row.inputs
     if row.call == "loc.print":
         if row.wanted == b"none":
-            return [of_octets("LOC", text, False)]
+            # Octets of another version than 0 are valid, and have no text.
+            return [of_octets("LOC", text, text[:1] > b"\0")]
         return [printed("LOC", generic(text), row.wanted)]
     if row.is_refused:
         reason, place = row.wanted[1:].rsplit(b"|", 1)
@@ -307,15 +308,17 @@ def location(row):
 
 def prefixes(row):
     (text,) = row.inputs
+    # Items of other families than 1 and 2 are valid, and have no text.
+    is_other = len(text) == 4 and text[:2] not in (b"\0\1", b"\0\2")
     if row.call == "apl.item":
         return tail_token(row, "APL", b"", text, "prefix", 0) if is_word(text) else []
     if row.call == "apl.width":
         if row.wanted == b"none":
-            return [of_octets("APL", text, False)] if text else []
+            return [of_octets("APL", text, is_other)] if text else []
         width = int(row.wanted)
         return [of_octets("APL", text[:width]), of_octets("APL", text[: width - 1], False)]
     if row.is_refused:
-        return [of_octets("APL", text, False)]
+        return [of_octets("APL", text, is_other)]
     return [printed("APL", generic(text), row.wanted)]
 
 

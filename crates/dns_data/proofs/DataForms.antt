@@ -9,7 +9,7 @@ use Rattle.dns_fields.proofs.FormLaws.{fields_are_forms}
 use Rattle.dns_fields.proofs.Refused.{fields_front}
 use Rattle.dns_spelling.specs.NameSpelling.{IsOrigin}
 use Rattle.dns_split.specs.EntryTokens.{TokenSeen}
-use Rattle.dns_data.specs.Data.{IsDataOf, SpellsData}
+use Rattle.dns_data.specs.Data.{IsTextData, SpellsData}
 use Rattle.dns_data.specs.DataLaws.{AreSpelledData}
 use Rattle.dns_data.specs.RestKinds.{rest_form}
 use Rattle.dns_data.specs.RestLaws.{HoldOctets}
@@ -63,7 +63,7 @@ module _ (origin : Option (List (List ℕ))) (is : IsOrigin origin) where
   )
 
   module _ (shape : Shape) (tokens : List TokenSeen) where
-    data_of_shape : (octets : List ℕ) → HoldOctets tokens → SpellsData origin shape tokens octets → IsDataOf shape octets
+    data_of_shape : (octets : List ℕ) → HoldOctets tokens → SpellsData origin shape tokens octets → IsTextData shape octets
     data_of_shape octets h sp =
         let held : HoldOctets (sp.first ++ sp.last) = subst HoldOctets sp.tokens_are h in record {
           back = sp.back;

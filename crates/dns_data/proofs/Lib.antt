@@ -3,6 +3,7 @@ pub mod FieldFronts
 pub mod GatewayLaws
 pub mod GatewayPrints
 pub mod GenericLaws
+pub mod ItemLaws
 pub mod Joinings
 pub mod LocationLemmas
 pub mod Namings
@@ -23,6 +24,7 @@ pub mod Somes
 pub mod Sources
 pub mod Strings
 pub mod TextLaws
+pub mod Textless
 pub mod TokenRests
 pub mod Tokens
 pub mod TypeLaws

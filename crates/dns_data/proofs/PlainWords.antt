@@ -1,12 +1,13 @@
 -- Words of zone text whose characters stand for themselves.
 use Rattle.std.proofs.Common.{◌≡◌, ℕ, zero, suc, ◌+◌, ◌-◌, ◌/◌, ◌%◌, ◌^◌, ◌<◌, ◌≤◌, Bool, true, false, List, [], ◌∷◌, ◌++◌, length, map, replicate, decimal, refl, sym, ap, subst, ◌∙◌, arith, inl, inr, length-append}
-use Rattle.std.specs.Prelude.{All, slice_index, nat_lt, ◌&&◌}
+use Rattle.std.specs.Prelude.{All, slice_index, nat_lt, ◌&&◌, ◌==◌, if◌then◌else◌}
 use Rattle.std.specs.Char.{digit_value, is_ascii_alphanumeric}
 use Rattle.std.specs.List.{list_all, flat_map}
 use Rattle.std.specs.Net.Grammar.{IsDotted, IsGroupsAfter, IsIpv4Text, IsIpv6Text}
 use Rattle.std.specs.Str.Parse.{AllDigits, IsNumeral}
 use Rattle.std.specs.declared.net.ipv4_addr.Ipv4Addr.{Ipv4Addr}
 use Rattle.std.specs.declared.net.ipv6_addr.Ipv6Addr.{Ipv6Addr}
+use Rattle.std.specs.Fmt.{digits as shown_digits, digits_onto, digit_glyph}
 use Rattle.std.proofs.lemmas.Bool.{and_parts}
 use Rattle.std.proofs.lemmas.Bool.Decides.{nat_tests}
 use Rattle.std.proofs.lemmas.Fmt.{decimal_is_IsNumeral}
@@ -88,6 +89,30 @@ numeral_word radix text few is = record { some = is.0; plain = digits_plain radi
 
 pub decimal_word : (n : ℕ) → n < 2 ^ 64 → IsPlainWord (decimal n)
 decimal_word n small = numeral_word 10 (decimal n) (omega arith) (decimal_is_IsNumeral n small).0
+
+-- a number of any size
+glyph_plain : (d : ℕ) → d < 10 → is_plain_char (digit_glyph false d) ≡ true
+glyph_plain d few = grind (arith, nat_tests)
+
+glyph_word : (n : ℕ) (acc : List ℕ) → ArePlain acc → IsPlainWord (digit_glyph false (n % 10) ∷ acc)
+glyph_word n acc p = word_before (digit_glyph false (n % 10)) acc (glyph_plain (n % 10) (omega arith)) p
+
+either_word : (b : Bool) (x y : List ℕ) → IsPlainWord x → IsPlainWord y → IsPlainWord (if b then x else y)
+either_word true x y h k = h
+either_word false x y h k = k
+
+glyphs_word : (k n : ℕ) (acc : List ℕ) → ArePlain acc → IsPlainWord (digits_onto (suc k) 10 false n acc)
+glyphs_word zero n acc p =
+    let next : List ℕ = digit_glyph false (n % 10) ∷ acc in
+    either_word (n / 10 == 0) next next (glyph_word n acc p) (glyph_word n acc p)
+glyphs_word (suc k) n acc p =
+    let next : List ℕ = digit_glyph false (n % 10) ∷ acc in
+    let plain : ArePlain next = plain_before (digit_glyph false (n % 10)) acc (glyph_plain (n % 10) (omega arith)) p in
+    either_word (n / 10 == 0) next (digits_onto (suc k) 10 false (n / 10) next) (glyph_word n acc p) (glyphs_word k (n / 10) next plain)
+
+pub any_decimal_word : (n : ℕ) → IsPlainWord (decimal n)
+unfolding shown_digits
+any_decimal_word n = glyphs_word 63 n [] refl
 
 pub number_char : (n : ℕ) → n < 10 → is_plain_char (48 + n) ≡ true
 number_char n few = grind (arith, nat_tests)

@@ -23,7 +23,7 @@ use Rattle.dns_spelling.specs.NameSpelling.{IsOrigin}
 use Rattle.dns_spelling.specs.Spelling.{AreOctetValues, SpellsOctetList}
 use Rattle.dns_spelling.proofs.FormLaws.{octets_spelled}
 use Rattle.dns_split.specs.EntryTokens.{TokenSeen}
-use Rattle.dns_data.specs.Data.{IsDataOf, SpellsData}
+use Rattle.dns_data.specs.Data.{IsTextData, SpellsData}
 use Rattle.dns_data.specs.Digits.{SpellsJoined, printed_digits}
 use Rattle.dns_data.specs.Printing.{field_size, printed_parts, printed_data}
 use Rattle.dns_data.specs.RestKinds.{rest_form, strings_wire, strings_in_octets, AreShortStrings}
@@ -39,6 +39,7 @@ use Rattle.dns_data.proofs.ParamsRestLaws.{params_back}
 use Rattle.dns_data.proofs.PlacesBack.{prefixes_back, gateway_key_back}
 use Rattle.dns_data.proofs.PrintedStrings.{front_string, quoted_token}
 use Rattle.dns_data.proofs.Sizes.{field_sized, name_sized}
+use Rattle.dns_data.proofs.Textless.{text_printed}
 
 text_back : (wants_quotes : Bool) (octets : List ℕ) (tokens : List TokenSeen) → AreOctetValues octets → ArePrinted ((text_form wants_quotes).printed octets) tokens → AreText wants_quotes tokens octets
 text_back wants_quotes octets [] values p = absurd p
@@ -192,9 +193,9 @@ module _ (origin : Option (List (List ℕ))) (known : IsOrigin origin) where
         rest_is = later.rest_is;
       }
 
-  pub data_back : (shape : Shape) (octets : List ℕ) (tokens : List TokenSeen) → IsDataOf shape octets → ArePrinted (printed_data shape octets) tokens → SpellsData origin shape tokens octets
+  pub data_back : (shape : Shape) (octets : List ℕ) (tokens : List TokenSeen) → IsTextData shape octets → ArePrinted (printed_data shape octets) tokens → SpellsData origin shape tokens octets
   data_back shape octets tokens is p =
-      let parts = parts_back shape.fields.now shape.rest octets is.back tokens is.fields is.rest p in
+      let parts = parts_back shape.fields.now shape.rest octets is.back tokens is.fields is.rest (subst (λ ts. ArePrinted ts tokens) (text_printed shape octets is) p) in
       record {
         first = parts.first;
         last = parts.last;

@@ -1,5 +1,5 @@
 -- What is printed in quotes is a quoted text.
-use Rattle.std.proofs.Common.{ℕ, zero, suc, ◌≡◌, ◌<◌, Bool, true, false, true≢false, None, List, [], ◌∷◌, ◌++◌, length, take, drop, map, refl, sym, ap, subst, ◌∙◌, arith}
+use Rattle.std.proofs.Common.{ℕ, zero, suc, ◌≡◌, ◌⊎◌, inl, inr, ◌<◌, Bool, true, false, true≢false, None, List, [], ◌∷◌, ◌++◌, length, take, drop, map, refl, sym, ap, subst, ◌∙◌, arith}
 use Rattle.std.specs.Prelude.{if◌then◌else◌}
 use Rattle.std.specs.List.{list_all, AllByRecursion}
 use Rattle.std.proofs.Math.Seq.{take-append_seam, drop-append_seam}
@@ -30,7 +30,7 @@ use Rattle.dns_data.specs.GatewayKeys.{plain_word}
 use Rattle.dns_data.specs.LocationRest.{location_at}
 use Rattle.dns_data.specs.PrefixLists.{prefix_form, item_size}
 use Rattle.dns_data.specs.TokenForms.{printed_each}
-use Rattle.dns_data.specs.Data.{IsDataOf}
+use Rattle.dns_data.specs.Data.{IsDataOf, IsTextData}
 use Rattle.dns_data.specs.Digits.{printed_digits}
 use Rattle.dns_data.specs.PrintLaws.{IsQuotedWell}
 use Rattle.dns_data.specs.Printing.{field_size, printed_field, printed_parts, printed_data}
@@ -42,6 +42,8 @@ use Rattle.dns_data.specs.declared.shape.Shape.{Shape}
 use Rattle.dns_data.proofs.PrintedBack.{strings_again}
 use Rattle.dns_data.proofs.PrintedStrings.{quoted_token}
 use Rattle.dns_data.proofs.Sizes.{field_sized}
+use Rattle.dns_data.proofs.Textless.{HasNoText, generic_printed, text_or_none, text_printed}
+use Rattle.dns_data.specs.Generic.{generic_form}
 
 quote_symbol : (o : ℕ) → o < 256 → is_quote_symbol (symbol_of is_quoted_escape o) ≡ true
 quote_symbol o small = by_tests (is_printable o) (is_quoted_escape o) refl refl
@@ -141,5 +143,12 @@ parts_well (f ∷ fs) r octets back b is =
       subst (λ o. AllByRecursion IsQuotedWell (printed_parts fs r o)) (sym behind) (parts_well fs r more back b.4 is),
     )
 
+generic_well : (octets : List ℕ) → AllByRecursion IsQuotedWell (generic_form.printed octets)
+generic_well octets = (plain_well _, (plain_well _, digits_well InHex octets))
+
 pub data_well : (shape : Shape) (octets : List ℕ) → IsDataOf shape octets → AllByRecursion IsQuotedWell (printed_data shape octets)
-data_well shape octets is = parts_well shape.fields.now shape.rest octets is.back is.fields is.rest
+data_well shape octets is = by (text_or_none shape octets is)
+  where
+    by : IsTextData shape octets ⊎ HasNoText shape octets → AllByRecursion IsQuotedWell (printed_data shape octets)
+    by (inl own) = subst (AllByRecursion IsQuotedWell) (sym (text_printed shape octets own)) (parts_well shape.fields.now shape.rest octets own.back own.fields own.rest)
+    by (inr none) = subst (AllByRecursion IsQuotedWell) (sym (generic_printed shape octets none)) (generic_well octets)

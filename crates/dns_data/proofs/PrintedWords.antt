@@ -1,5 +1,5 @@
 -- Each token that record data is printed as is one of zone text.
-use Rattle.std.proofs.Common.{ℕ, zero, suc, ◌≡◌, ◌-◌, ◌*◌, ◌/◌, ◌%◌, ◌^◌, ◌<◌, Bool, true, false, true≢false, Some, None, List, [], ◌∷◌, ◌++◌, length, take, drop, map, decimal, refl, sym, ap, subst, ◌∙◌, inl, inr, arith, length-append}
+use Rattle.std.proofs.Common.{ℕ, zero, suc, ◌≡◌, ◌⊎◌, ◌-◌, ◌*◌, ◌/◌, ◌%◌, ◌^◌, ◌<◌, Bool, true, false, true≢false, Some, None, List, [], ◌∷◌, ◌++◌, length, take, drop, map, decimal, refl, sym, ap, subst, ◌∙◌, inl, inr, arith, length-append}
 use Rattle.std.proofs.Math.Seq.{take-append_seam, drop-append_seam}
 use Rattle.std.proofs.lemmas.Bool.{and_parts, ltb-true}
 use Rattle.std.proofs.lemmas.List.Elements.{All-head, All-tail}
@@ -42,7 +42,7 @@ use Rattle.dns_places.proofs.HeightLemmas.{zeros_fit}
 use Rattle.dns_places.proofs.PrefixLaws.{prefixes_are_read}
 use Rattle.dns_spelling.proofs.NameWords.{name_is_word}
 use Rattle.dns_split.specs.Token.{IsToken, IsWord}
-use Rattle.dns_data.specs.Data.{IsDataOf}
+use Rattle.dns_data.specs.Data.{IsDataOf, IsTextData}
 use Rattle.dns_data.specs.Digits.{printed_digits}
 use Rattle.dns_data.specs.GatewayKeys.{plain_word, octet_form, gateway_type_form, gateway_form, gateway_key_form, key_form}
 use Rattle.dns_data.specs.PrefixLists.{prefix_form, prefixes_form}
@@ -59,10 +59,13 @@ use Rattle.dns_data.specs.declared.shape.Shape.{Shape}
 use Rattle.dns_data.proofs.GatewayLaws.{behind_algorithm, behind_type}
 use Rattle.dns_data.proofs.LocationLemmas.{location_at_is}
 use Rattle.dns_data.proofs.PlacesBack.{gateway_sized, item_sized, prefix_is, word_is}
-use Rattle.dns_data.proofs.PlainWords.{ArePlain, IsPlainWord, is_plain_char, plain_is_word, plain_append, plain_before, word_front, word_before, numeral_word, decimal_word, digits_plain, pairs_plain, dashed_word, groups_word, ipv4_word, ipv6_word, encoded16_word, encoded32_word, encoded64_word, letters_plain}
+use Rattle.dns_data.proofs.PlainWords.{ArePlain, IsPlainWord, is_plain_char, plain_is_word, plain_append, plain_before, word_front, word_before, numeral_word, decimal_word, digits_plain, pairs_plain, dashed_word, groups_word, ipv4_word, ipv6_word, encoded16_word, encoded32_word, encoded64_word, letters_plain, any_decimal_word}
 use Rattle.dns_data.proofs.PrintedQuotes.{data_well}
 use Rattle.dns_data.proofs.PrintedStrings.{quoted_token}
 use Rattle.dns_data.proofs.Sizes.{field_sized, name_sized}
+use Rattle.dns_data.proofs.Textless.{HasNoText, generic_printed, text_or_none, text_printed}
+use Rattle.dns_data.specs.Generic.{generic_form}
+use Rattle.dns_symbol.specs.declared.symbol.Symbol.TheVariants.{SimpleEscape}
 
 -- ---- names of registries
 
@@ -327,6 +330,14 @@ digits_words kind [] = tt
 digits_words InHex (o ∷ os) = (a_word _ (encoded16_word (o ∷ os) (omega arith)), tt)
 digits_words InBase64 (o ∷ os) = (a_word _ (encoded64_word (o ∷ os) (omega arith)), tt)
 
+-- the mark is a backslash and a character
+mark_word : IsWordWell (record { is_quoted = false; text = codes "\\#" })
+unfolding lib.Utf8.encode
+mark_word plain = record { symbols = SimpleEscape 35 ∷ []; some = omega arith; valid = refl; spelled = refl }
+
+generic_words : (octets : List ℕ) → AreWell (generic_form.printed octets)
+generic_words octets = (mark_word, (a_word _ (any_decimal_word (length octets)), digits_words InHex octets))
+
 gateway_key_words : (octets : List ℕ) → (gateway_key_form None).is_wire octets → AreWell ((gateway_key_form None).printed octets)
 gateway_key_words octets is =
     then_words gateway_type_form (λ octets h. octet_word octets h.0) (λ front more h. octet_sized front more h.0) (λ number. behind_type None (slice_index number 0)) (λ number. type_words (slice_index number 0)) octets is
@@ -382,7 +393,11 @@ parts_words (f ∷ fs) r octets back b is =
     )
 
 pub data_words : (shape : Shape) (octets : List ℕ) → IsDataOf shape octets → AllByRecursion IsWordWell (printed_data shape octets)
-data_words shape octets is = parts_words shape.fields.now shape.rest octets is.back is.fields is.rest
+data_words shape octets is = by (text_or_none shape octets is)
+  where
+    by : IsTextData shape octets ⊎ HasNoText shape octets → AreWell (printed_data shape octets)
+    by (inl own) = subst AreWell (sym (text_printed shape octets own)) (parts_words shape.fields.now shape.rest octets own.back own.fields own.rest)
+    by (inr none) = subst AreWell (sym (generic_printed shape octets none)) (generic_words octets)
 
 -- ---- words and quoted texts are tokens
 

@@ -6,14 +6,12 @@ use Rattle.dns_octets.specs.Appending.{Extends, Gains}
 use Rattle.dns_fields.specs.Source.{next_place}
 use Rattle.dns_fields.specs.Taking.{SpellsFields, RefusesAField, HasTaken, last_place}
 use Rattle.dns_fields.specs.declared.error.FieldError.{FieldError}
-use Rattle.dns_fields.specs.declared.taking.FieldRefusal.{FieldRefusal}
 use Rattle.dns_split.specs.EntryTokens.{TokenSeen}
 use Rattle.dns_data.specs.Errors.{no_room}
 use Rattle.dns_data.specs.Rests.{RefusesRest}
-use Rattle.dns_data.specs.RestKinds.{IsRestPart, rest_form}
+use Rattle.dns_data.specs.RestKinds.{IsRestOf, IsRestPart, rest_form}
 use Rattle.dns_data.specs.Wire.{BeginsWithFields}
 use Rattle.dns_data.specs.declared.error.DataError.TheVariants.{Field as OfField, WrongLength}
-use Rattle.dns_data.specs.declared.error.DataRefusal.{DataRefusal}
 use Rattle.dns_data.specs.declared.shape.Length.{Length}
 use Rattle.dns_data.specs.declared.shape.Length.TheVariants.{Any, Digest, Hash}
 use Rattle.dns_data.specs.declared.shape.PartRefusal.{PartRefusal}
@@ -38,11 +36,18 @@ pub record SpellsData (origin : Option (List (List ℕ))) (shape : Shape) (token
   pub rest : (rest_form origin shape.rest).spells last back
   pub lengths : HasLength shape.length octets
 
--- octets are data of a shape
-pub record IsDataOf (shape : Shape) (octets : List ℕ) : Type 0 where
+-- octets are data of a shape in its text form
+pub record IsTextData (shape : Shape) (octets : List ℕ) : Type 0 where
   pub back : List ℕ
   pub fields : BeginsWithFields shape.fields.now octets back
   pub rest : (rest_form None shape.rest).is_wire back
+  pub lengths : HasLength shape.length octets
+
+-- octets are data of a shape, in its text form or without one
+pub record IsDataOf (shape : Shape) (octets : List ℕ) : Type 0 where
+  pub back : List ℕ
+  pub fields : BeginsWithFields shape.fields.now octets back
+  pub rest : IsRestOf shape.rest back
   pub lengths : HasLength shape.length octets
 
 -- a field is refused, once those before it are taken

@@ -1,15 +1,14 @@
 -- Locations (RFC 1876), which go to the end of an entry.
-use Rattle.std.specs.Prelude.{ℕ, ◌≡◌, false, List, [], ◌∷◌, map, take, drop, slice_index}
+use Rattle.std.specs.Prelude.{ℕ, ◌≡◌, ◌==◌, Bool, not, false, List, map, take, drop, slice_index}
 use Rattle.std.specs.Int.{from_be_bytes, w32}
 use Rattle.dns_places.specs.LocationPlaces.{IsFirstRefused}
 use Rattle.dns_places.specs.LocationTaking.{RefusesTokens}
 use Rattle.dns_places.specs.LocationWords.{IsLocation, location_words}
 use Rattle.dns_places.specs.Locations.{SpellsLocation}
 use Rattle.dns_places.specs.declared.location.Location.{Location}
-use Rattle.dns_places.specs.declared.location.Sizes.{Sizes}
 use Rattle.dns_places.specs.declared.location_error.LocationError.{LocationError}
 use Rattle.dns_data.specs.Errors.{of_location}
-use Rattle.dns_data.specs.Rests.{RestForm, PrintedToken}
+use Rattle.dns_data.specs.Rests.{RestForm}
 
 -- the location of 16 octets: a version, three sizes, and three numbers
 abbrev pub location_at : List ℕ → Location
@@ -19,6 +18,10 @@ location_at octets = record {
   longitude = from_be_bytes w32 (take 4 (drop 8 octets));
   altitude = from_be_bytes w32 (take 4 (drop 12 octets));
 }
+
+-- another version than 0, of which no meaning is known (RFC 1876 section 2)
+abbrev pub is_other_version : List ℕ → Bool
+is_other_version octets = not (slice_index octets 0 == 0)
 
 abbrev pub location_form : RestForm
 location_form = record {

@@ -1,5 +1,5 @@
 -- Address prefix lists to the end of an entry (RFC 3123).
-use Rattle.std.specs.Prelude.{ℕ, ◌≡◌, ◌⊎◌, ◌+◌, ◌-◌, ◌%◌, ◌==◌, nat_le, if◌then◌else◌, true, false, List, ◌++◌, length, drop, replicate, slice_index}
+use Rattle.std.specs.Prelude.{ℕ, zero, suc, ◌≡◌, ◌≤◌, ◌⊎◌, ◌+◌, ◌-◌, ◌%◌, ◌==◌, ◌&&◌, ◌||◌, Bool, not, nat_le, if◌then◌else◌, true, false, List, [], ◌∷◌, ◌++◌, length, drop, replicate, slice_index}
 use Rattle.std.specs.Net.Addr.{segments_of}
 use Rattle.std.specs.declared.net.ip_addr.IpAddr.{IpAddr}
 use Rattle.std.specs.declared.net.ip_addr.IpAddr.TheVariants.{V4, V6}
@@ -51,3 +51,27 @@ prefix_form = record {
 -- items, any number of them
 abbrev pub prefixes_form : RestForm
 prefixes_form = each_form prefix_form
+
+-- ---- items of other families
+
+-- another address family than 1 and 2
+abbrev pub is_other_family : List ℕ → Bool
+is_other_family octets = not ((slice_index octets 0 == 0) && ((slice_index octets 1 == 1) || (slice_index octets 1 == 2)))
+
+-- such an item has the length that it says, and nothing more is known of it (RFC 3123 section 4)
+pub record IsOtherItem (octets : List ℕ) : Type 0 where
+  pub family : is_other_family octets ≡ true
+  pub head : 4 ≤ length octets
+  pub whole : length octets ≡ item_size octets
+
+abbrev pub IsAnyItem : List ℕ → Type 0
+IsAnyItem octets = IsPrefixItem octets ⊎ IsOtherItem octets
+
+-- one of the items, of which there are at most so many, is of another family
+abbrev pub is_other_in : ℕ → List ℕ → Bool
+is_other_in zero octets = false
+is_other_in (suc count) [] = false
+is_other_in (suc count) (o ∷ os) = let octets = o ∷ os in is_other_family octets || is_other_in count (drop (item_size octets) octets)
+
+abbrev pub has_other_family : List ℕ → Bool
+has_other_family octets = is_other_in (length octets) octets

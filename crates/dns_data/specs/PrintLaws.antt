@@ -4,15 +4,20 @@ use Rattle.std.specs.List.{AllByRecursion}
 use Rattle.dns_spelling.specs.NameSpelling.{IsOrigin}
 use Rattle.dns_split.specs.EntryTokens.{TokenSeen}
 use Rattle.dns_split.specs.Token.{IsQuote, IsToken, IsWord}
-use Rattle.dns_data.specs.Data.{IsDataOf, SpellsData}
+use Rattle.dns_data.specs.Data.{IsDataOf, IsTextData, SpellsData}
+use Rattle.dns_data.specs.Generic.{generic_form}
 use Rattle.dns_data.specs.Printing.{printed_data, token_bytes}
 use Rattle.dns_data.specs.Rests.{ArePrinted, PrintedToken}
 use Rattle.dns_data.specs.declared.shape.Shape.{Shape}
 
--- whatever the origin is, the tokens that data is printed as spell it
+-- whatever the origin is, the tokens that data in the text form is printed as spell it
 abbrev pub IsDataReadBack : Type 0
-IsDataReadBack = (origin : Option (List (List ℕ))) (shape : Shape) (octets : List ℕ) (tokens : List TokenSeen) → IsOrigin origin → IsDataOf shape octets
+IsDataReadBack = (origin : Option (List (List ℕ))) (shape : Shape) (octets : List ℕ) (tokens : List TokenSeen) → IsOrigin origin → IsTextData shape octets
     → ArePrinted (printed_data shape octets) tokens → SpellsData origin shape tokens octets
+
+-- and data without a text form is printed in the generic form
+abbrev pub IsPrintedGeneric : Type 0
+IsPrintedGeneric = (shape : Shape) (octets : List ℕ) → IsDataOf shape octets → (IsTextData shape octets → ⊥) → printed_data shape octets ≡ generic_form.printed octets
 
 -- a token that is printed as a quoted text is one of zone text
 abbrev pub IsQuotedWell : PrintedToken → Type 0

@@ -8,7 +8,8 @@ use Rattle.dns_fields.specs.declared.field.Field.{Field}
 use Rattle.dns_fields.specs.declared.field.Field.TheVariants.{Number8, Number16, Number32, Interval, Ipv4, Ipv6, RecordType, SigType, Algorithm, CertificateType, Eui48, Eui64, Time, Locator, String, PsdnAddress, Tag, Salt, Hash, Name}
 use Rattle.dns_data.specs.GatewayKeys.{labels_size}
 use Rattle.dns_data.specs.Rests.{PrintedToken}
-use Rattle.dns_data.specs.RestKinds.{rest_form}
+use Rattle.dns_data.specs.Generic.{generic_form}
+use Rattle.dns_data.specs.RestKinds.{has_no_text, rest_form}
 use Rattle.dns_data.specs.declared.rest.Rest.{Rest}
 use Rattle.dns_data.specs.declared.shape.Shape.{Shape}
 
@@ -48,8 +49,17 @@ abbrev pub printed_parts : List Field → Rest → List ℕ → List PrintedToke
 printed_parts [] rest octets = (rest_form None rest).printed octets
 printed_parts (f ∷ fs) rest octets = printed_field f (take (field_size f octets) octets) ∷ printed_parts fs rest (drop (field_size f octets) octets)
 
+-- what follows the fields in front
+abbrev pub behind_fields : List Field → List ℕ → List ℕ
+behind_fields [] octets = octets
+behind_fields (f ∷ fs) octets = behind_fields fs (drop (field_size f octets) octets)
+
+-- data that have no text form are printed in the generic form
+abbrev pub printed_with : List Field → Rest → List ℕ → List PrintedToken
+printed_with fields rest octets = if has_no_text rest (behind_fields fields octets) then generic_form.printed octets else printed_parts fields rest octets
+
 abbrev pub printed_data : Shape → List ℕ → List PrintedToken
-printed_data shape octets = printed_parts shape.fields.now shape.rest octets
+printed_data shape octets = printed_with shape.fields.now shape.rest octets
 
 -- a token as it stands in zone text: what a quoted text holds stands between double quotes
 abbrev pub token_bytes : PrintedToken → List ℕ

@@ -1,5 +1,5 @@
 -- The kinds of what goes to the end of an entry.
-use Rattle.std.specs.Prelude.{ℕ, zero, suc, ◌≡◌, ◌≤◌, true, false, Option, List, [], ◌∷◌, ◌++◌, map, take, drop, length}
+use Rattle.std.specs.Prelude.{ℕ, zero, suc, ◌≡◌, ◌≤◌, ◌⊎◌, Bool, true, false, Option, None, List, [], ◌∷◌, ◌++◌, map, take, drop, length}
 use Rattle.std.specs.List.{AllByRecursion}
 use Rattle.dns_spelling.specs.Shown.{text_in_quotes}
 use Rattle.dns_spelling.specs.Spelling.{AreOctetValues}
@@ -12,9 +12,10 @@ use Rattle.dns_split.specs.EntryTokens.{TokenSeen}
 use Rattle.dns_data.specs.Digits.{digits_form}
 use Rattle.dns_data.specs.GatewayKeys.{IsGatewayPart, gateway_key_form}
 use Rattle.dns_data.specs.ParamsRest.{params_form}
-use Rattle.dns_data.specs.PrefixLists.{prefixes_form}
+use Rattle.dns_data.specs.PrefixLists.{IsAnyItem, has_other_family, prefixes_form}
 use Rattle.dns_data.specs.Rests.{RestForm, BehindSome, some_form}
-use Rattle.dns_data.specs.LocationRest.{location_form}
+use Rattle.dns_data.specs.LocationRest.{is_other_version, location_form}
+use Rattle.dns_data.specs.TokenForms.{AreParts}
 use Rattle.dns_data.specs.Texts.{nothing_form, text_form}
 use Rattle.dns_data.specs.TypeLists.{types_form}
 use Rattle.dns_data.specs.declared.error.DataError.{DataError}
@@ -85,3 +86,21 @@ IsRestPart origin OfLocation tokens left part = part ≡ 0
 IsRestPart origin Prefixes tokens left part = part ≡ 0
 IsRestPart origin GatewayKey tokens left part = IsGatewayPart origin tokens left part
 IsRestPart origin Params tokens left part = part ≡ 0
+
+-- ---- octets without a text form
+
+-- a location of another version than 0, and an address prefix list with an item of another family than 1 and 2
+abbrev pub IsTextless : Rest → List ℕ → Type 0
+IsTextless OfLocation octets = is_other_version octets ≡ true
+IsTextless Prefixes octets = AreParts IsAnyItem octets × (has_other_family octets ≡ true)
+IsTextless _ octets = ⊥
+
+-- of octets that a kind can have, whether they are such
+abbrev pub has_no_text : Rest → List ℕ → Bool
+has_no_text OfLocation octets = is_other_version octets
+has_no_text Prefixes octets = has_other_family octets
+has_no_text _ octets = false
+
+-- the octets that a kind can have, with a text form or without one
+abbrev pub IsRestOf : Rest → List ℕ → Type 0
+IsRestOf r octets = (rest_form None r).is_wire octets ⊎ IsTextless r octets

@@ -30,7 +30,7 @@ pub use field_text::FieldText;
 pub use gateways::take_gateway_key;
 pub use generic::{begins_generic, take_generic};
 pub use prefixes::take_prefixes;
-pub use print::write_data;
+pub use print::{write_data, write_generic};
 pub use rest::{Rest, take_rest};
 pub use shape::{Length, PartRefusal, Shape, read_data};
 pub use texts::{take_nothing, take_text};

@@ -1,12 +1,19 @@
 //! Locations (RFC 1876) to the end of an entry.
 ghost use Rattle.std.specs.Prelude.{◌≡◌};
-ghost use Rattle.dns_data.specs.LocationRest.{location_form};
+ghost use Rattle.dns_data.specs.LocationRest.{is_other_version, location_form};
 ghost use Rattle.dns_data.specs.Rests.{TakesRest};
 
 use crate::error::{DataError, DataRefusal};
 use dns_fields::TokenSource;
 use dns_octets::OctetsBuilder;
 use dns_places::take_location;
+
+/// Whether octets begin with another version than 0, of which no meaning is known (RFC 1876 section 2).
+pub(crate) fn is_other_version(octets: &[u8]) -> bool
+    ensures { result ≡ is_other_version octets.now }
+{
+    !octets.is_empty() && octets[0] != 0
+}
 
 /// Takes the tokens that are left as a location, and appends its octets.
 pub(crate) fn take_place<S: TokenSource, B: OctetsBuilder>(

@@ -1,8 +1,9 @@
 //! Address prefix lists (APL, RFC 3123) to the end of an entry.
-ghost use Rattle.std.specs.Prelude.{◌≡◌, ◌↔◌, IsTrue};
-ghost use Rattle.dns_data.specs.PrefixLists.{prefix_form, prefixes_form};
+ghost use Rattle.std.specs.Prelude.{◌≡◌, ◌≤◌, ◌<◌, ◌↔◌, IsTrue, drop, length};
+ghost use Rattle.dns_spelling.specs.Forms.{FindsWidth};
+ghost use Rattle.dns_data.specs.PrefixLists.{has_other_family, is_other_family, item_size, prefix_form, prefixes_form, IsAnyItem, IsOtherItem};
 ghost use Rattle.dns_data.specs.Rests.{TakesRest};
-ghost use Rattle.dns_data.specs.TokenForms.{TakesTokenAs};
+ghost use Rattle.dns_data.specs.TokenForms.{AreParts, TakesTokenAs};
 
 use crate::error::{DataError, DataRefusal};
 use dns_fields::{FieldError, TokenSource};
@@ -63,4 +64,88 @@ pub(crate) fn are_prefixes(octets: &[u8]) -> bool
         left = &left[width..];
     }
     true
+}
+
+/// Whether octets begin with an item of another family than 1 and 2.
+fn is_other_family(octets: &[u8]) -> bool
+    requires { 4 ≤ length octets.now }
+    ensures { result ≡ is_other_family octets.now }
+{
+    octets[0] != 0 || octets[1] != 1 && octets[1] != 2
+}
+
+/// How many octets the item in front says that it has.
+fn item_size(octets: &[u8]) -> usize
+    requires { 4 ≤ length octets.now }
+    ensures size { result ≡ item_size octets.now }
+    ensures some { 4 ≤ result }
+{
+    4 + usize::from(octets[3] % 128)
+}
+
+/// What follows the item in front.
+fn behind_item(octets: &[u8]) -> &[u8]
+    requires head { 4 ≤ length octets.now }
+    requires whole { item_size octets.now ≤ length octets.now }
+    ensures rest { result.now ≡ drop (item_size octets.now) octets.now }
+    ensures shorter { length result.now < length octets.now }
+{
+    &octets[item_size(octets)..]
+}
+
+/// How many of the octets in front are an item of another family than 1 and 2.
+fn other_width(octets: &[u8]) -> Option<usize>
+    ensures { FindsWidth IsOtherItem octets.now result }
+{
+    if octets.len() < 4 {
+        return None;
+    }
+    if !is_other_family(octets) {
+        return None;
+    }
+    let width = item_size(octets);
+    if width <= octets.len() {
+        Some(width)
+    } else {
+        None
+    }
+}
+
+/// How many of the octets in front are an item, whatever its family.
+fn any_width(octets: &[u8]) -> Option<usize>
+    ensures { FindsWidth IsAnyItem octets.now result }
+{
+    match item_width(octets) {
+        Some(width) => Some(width),
+        None => other_width(octets),
+    }
+}
+
+/// Whether octets are items of any family, one after another.
+pub(crate) fn are_items(octets: &[u8]) -> bool
+    ensures { IsTrue result ↔ AreParts IsAnyItem octets.now }
+{
+    let mut left = octets;
+    while !left.is_empty() {
+        let Some(width) = any_width(left) else {
+            return false;
+        };
+        left = &left[width..];
+    }
+    true
+}
+
+/// Whether one of the items that octets are is of another family than 1 and 2.
+pub(crate) fn has_other_family(octets: &[u8]) -> bool
+    requires { AreParts IsAnyItem octets.now }
+    ensures { result ≡ has_other_family octets.now }
+{
+    let mut left = octets;
+    while left.len() >= 4 {
+        if is_other_family(left) {
+            return true;
+        }
+        left = behind_item(left);
+    }
+    false
 }

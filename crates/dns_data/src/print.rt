@@ -2,21 +2,25 @@
 ghost use Rattle.std.specs.Prelude.{◌≡◌, ◌≤◌, ◌+◌, ℕ, List, [], ◌∷◌, None, length, take, drop, slice_index, OnOk, OnErr};
 ghost use Rattle.dns_zone.specs.Writers.{WritesSteps};
 ghost use Rattle.dns_fields.specs.Fields.{field_form};
-ghost use Rattle.dns_data.specs.Data.{IsDataOf};
+ghost use Rattle.dns_data.specs.Data.{IsDataOf, IsTextData};
 ghost use Rattle.dns_data.specs.Digits.{digits_form};
 ghost use Rattle.dns_data.specs.GatewayKeys.{gateway_form, gateway_key_form, gateway_size};
+ghost use Rattle.dns_data.specs.Generic.{generic_form};
 ghost use Rattle.dns_data.specs.LocationRest.{location_form};
 ghost use Rattle.dns_data.specs.ParamsRest.{params_form};
 ghost use Rattle.dns_data.specs.PrefixLists.{prefixes_form};
-ghost use Rattle.dns_data.specs.Printing.{FailsInSteps, field_size, printed_data, token_step, token_steps};
-ghost use Rattle.dns_data.specs.RestKinds.{rest_form, strings_form};
+ghost use Rattle.dns_data.specs.Printing.{FailsInSteps, behind_fields, field_size, printed_data, printed_parts, token_step, token_steps};
+ghost use Rattle.dns_data.specs.RestKinds.{has_no_text, rest_form, strings_form};
 ghost use Rattle.dns_data.specs.TypeLists.{types_form};
 ghost use Rattle.dns_data.specs.Wire.{BeginsWithFields};
 
 use crate::field_text::FieldText;
 use crate::gateways::{NAME, gateway_width};
+use crate::locations::is_other_version;
+use crate::prefixes::has_other_family;
 use crate::rest::Rest;
 use crate::shape::Shape;
+use crate::wire::split_fields;
 use dns_codec::{base16, base64};
 use dns_digits::DigitsKind;
 use dns_fields::{Field, field_width};
@@ -77,6 +81,17 @@ fn write_types<F: FormatWriter>(octets: &[u8], p: &mut F) -> zonefile_fmt::Resul
         p.write_token(PortableType(RecordType(code)))?;
     }
     Ok(())
+}
+
+/// Prints octets in the generic form (RFC 3597 section 5): the mark, how many there are, and these in
+/// hexadecimal as one word, or no word if there are none. An error comes from the writer alone.
+pub fn write_generic<F: FormatWriter>(octets: &[u8], p: &mut F) -> zonefile_fmt::Result
+    ensures gives { OnOk result (WritesSteps F.blocks F.step_gives p.old (token_steps (generic_form.printed octets.now)) p.new) }
+    ensures fails { OnErr result (FailsInSteps F.blocks F.step_gives F.step_fails p.old (token_steps (generic_form.printed octets.now))) }
+{
+    p.write_token("\\#")?;
+    p.write_token(octets.len())?;
+    write_digits(DigitsKind::Hex, octets, p)
 }
 
 /// Prints the items of an address prefix list, each as a word.
@@ -192,14 +207,35 @@ fn write_rest<F: FormatWriter>(rest: Rest, octets: &[u8], p: &mut F) -> zonefile
     }
 }
 
-/// Prints data of a shape: a token for each of its fields, and then the tokens of what goes to the
-/// end of an entry. Names print absolute, character strings and text between double quotes, octets
-/// in digits as one word, and types in ascending order. An error comes from the writer alone: it
-/// failed at one of these tokens, once those before it were printed.
-pub fn write_data<F: FormatWriter>(shape: &Shape, octets: &[u8], p: &mut F) -> zonefile_fmt::Result
+/// What follows the fields that octets begin with.
+fn behind_fields<'a>(fields: &[Field], octets: &'a [u8]) -> &'a [u8]
+    requires { (back : List ℕ) × BeginsWithFields fields.now octets.now back }
+    ensures { result.now ≡ behind_fields fields.now octets.now }
+{
+    match split_fields(fields, octets) {
+        Some(back) => back,
+        None => unreachable!(),
+    }
+}
+
+/// Whether data of a shape has no text form.
+fn has_no_text(shape: &Shape, octets: &[u8]) -> bool
     requires { IsDataOf shape.now octets.now }
-    ensures gives { OnOk result (WritesSteps F.blocks F.step_gives p.old (token_steps (printed_data shape.now octets.now)) p.new) }
-    ensures fails { OnErr result (FailsInSteps F.blocks F.step_gives F.step_fails p.old (token_steps (printed_data shape.now octets.now))) }
+    ensures { result ≡ has_no_text shape.now.rest (behind_fields shape.now.fields.now octets.now) }
+{
+    match shape.rest {
+        Rest::Location => is_other_version(behind_fields(shape.fields, octets)),
+        Rest::Prefixes => has_other_family(behind_fields(shape.fields, octets)),
+        _ => false,
+    }
+}
+
+/// Prints data of a shape in its text form: a token for each of its fields, and then the tokens of what
+/// goes to the end of an entry.
+fn write_parts<F: FormatWriter>(shape: &Shape, octets: &[u8], p: &mut F) -> zonefile_fmt::Result
+    requires { IsTextData shape.now octets.now }
+    ensures gives { OnOk result (WritesSteps F.blocks F.step_gives p.old (token_steps (printed_parts shape.now.fields.now shape.now.rest octets.now)) p.new) }
+    ensures fails { OnErr result (FailsInSteps F.blocks F.step_gives F.step_fails p.old (token_steps (printed_parts shape.now.fields.now shape.now.rest octets.now))) }
 {
     let mut rest = octets;
     for field in shape.fields {
@@ -211,4 +247,21 @@ pub fn write_data<F: FormatWriter>(shape: &Shape, octets: &[u8], p: &mut F) -> z
         rest = &rest[width..];
     }
     write_rest(shape.rest, rest, p)
+}
+
+/// Prints data of a shape: in its text form, or if it has none in the generic form. The text form is a
+/// token for each field, and then the tokens of what goes to the end of an entry. Names print absolute,
+/// character strings and text between double quotes, octets in digits as one word, and types in
+/// ascending order. An error comes from the writer alone: it failed at one of these tokens, once those
+/// before it were printed.
+pub fn write_data<F: FormatWriter>(shape: &Shape, octets: &[u8], p: &mut F) -> zonefile_fmt::Result
+    requires { IsDataOf shape.now octets.now }
+    ensures gives { OnOk result (WritesSteps F.blocks F.step_gives p.old (token_steps (printed_data shape.now octets.now)) p.new) }
+    ensures fails { OnErr result (FailsInSteps F.blocks F.step_gives F.step_fails p.old (token_steps (printed_data shape.now octets.now))) }
+{
+    if has_no_text(shape, octets) {
+        write_generic(octets, p)
+    } else {
+        write_parts(shape, octets, p)
+    }
 }

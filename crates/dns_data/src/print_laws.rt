@@ -1,10 +1,11 @@
 //! What holds of record data that is printed.
-ghost use Rattle.dns_data.specs.PrintLaws.{IsDataOfTokens, IsDataQuotedWell, IsDataReadBack, IsDataWordedWell};
+ghost use Rattle.dns_data.specs.PrintLaws.{IsDataOfTokens, IsDataQuotedWell, IsDataReadBack, IsDataWordedWell, IsPrintedGeneric};
 
-/// States that the tokens that data is printed as spell it, whatever the origin is. It does nothing
-/// else.
+/// States that the tokens that data in its text form is printed as spell it, whatever the origin is,
+/// and that data without a text form is printed in the generic form. It does nothing else.
 pub fn printed_data_is_read_back()
-    ensures { IsDataReadBack }
+    ensures back { IsDataReadBack }
+    ensures generic { IsPrintedGeneric }
 {}
 
 /// States that each token of data that is printed as a quoted text is a quoted text of zone text: no

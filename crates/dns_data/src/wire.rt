@@ -2,13 +2,14 @@
 ghost use Rattle.std.specs.Prelude.{◌≡◌, ◌↔◌, IsTrue, None, MatchOption, List, ℕ};
 ghost use Rattle.dns_lists.specs.Bitmap.{has, types_of, IsBitmap};
 ghost use Rattle.dns_data.specs.Data.{IsDataOf};
-ghost use Rattle.dns_data.specs.RestKinds.{rest_form, AreCharacterStrings};
+ghost use Rattle.dns_data.specs.RestKinds.{rest_form, AreCharacterStrings, IsRestOf, IsTextless};
 ghost use Rattle.dns_data.specs.TypeLists.{types_form};
 ghost use Rattle.dns_data.specs.Wire.{BeginsWithFields};
 
 use crate::gateways::is_gateway_key;
+use crate::locations::is_other_version;
 use crate::params::are_params;
-use crate::prefixes::are_prefixes;
+use crate::prefixes::{are_items, are_prefixes, has_other_family};
 use crate::rest::Rest;
 use crate::shape::{Shape, has_length};
 use dns_fields::{Field, field_width};
@@ -61,7 +62,7 @@ fn are_types(octets: &[u8]) -> bool
     check_bitmap(octets).is_ok() && !has_type_zero(octets)
 }
 
-/// Whether octets are what goes to the end of an entry.
+/// Whether octets are what goes to the end of an entry, in its text form.
 pub(crate) fn is_rest(rest: Rest, octets: &[u8]) -> bool
     ensures { IsTrue result ↔ (rest_form None rest).is_wire octets.now }
 {
@@ -81,12 +82,31 @@ pub(crate) fn is_rest(rest: Rest, octets: &[u8]) -> bool
     }
 }
 
-/// Whether octets are data of a shape.
+/// Whether octets go to the end of an entry and have no text form: those of a location of another
+/// version than 0, and those of an address prefix list with an item of another family than 1 and 2.
+fn is_textless(rest: Rest, octets: &[u8]) -> bool
+    ensures { IsTrue result ↔ IsTextless rest octets.now }
+{
+    match rest {
+        Rest::Location => is_other_version(octets),
+        Rest::Prefixes => are_items(octets) && has_other_family(octets),
+        _ => false,
+    }
+}
+
+/// Whether octets are what goes to the end of an entry, in its text form or without one.
+fn is_any_rest(rest: Rest, octets: &[u8]) -> bool
+    ensures { IsTrue result ↔ IsRestOf rest octets.now }
+{
+    is_rest(rest, octets) || is_textless(rest, octets)
+}
+
+/// Whether octets are data of a shape, in its text form or without one.
 pub fn check_data(shape: &Shape, octets: &[u8]) -> bool
     ensures { IsTrue result ↔ IsDataOf shape.now octets.now }
 {
     match split_fields(shape.fields, octets) {
-        Some(rest) => is_rest(shape.rest, rest) && has_length(shape.length, octets),
+        Some(rest) => is_any_rest(shape.rest, rest) && has_length(shape.length, octets),
         None => false,
     }
 }

@@ -1,5 +1,5 @@
 -- What record data is printed as spells it again.
-use Rattle.std.proofs.Common.{ℕ, ◌≡◌, ◌≤◌, ◌^◌, Option, Some, None, List, [], ◌∷◌, refl, sym, subst, ◌∙◌, arith, inl, inr, length, append-nil, decimal}
+use Rattle.std.proofs.Common.{ℕ, ◌≡◌, ◌⊎◌, ◌≤◌, ◌^◌, Option, Some, None, List, [], ◌∷◌, refl, sym, subst, ◌∙◌, arith, inl, inr, length, append-nil, decimal}
 use Rattle.std.proofs.lemmas.Fmt.{decimal_is_IsNumeral}
 use Rattle.dns_codec.specs.Base.{base16}
 use Rattle.dns_digits.specs.Spelled.{SpellsDigits}
@@ -13,11 +13,13 @@ use Rattle.dns_split.specs.EntryTokens.{TokenSeen}
 use Rattle.dns_data.specs.ByType.{HasShape, shape_of_code, SpellsTypeData}
 use Rattle.dns_data.specs.Digits.{SpellsJoined, printed_digits}
 use Rattle.dns_data.specs.Generic.{SpellsGeneric, generic_form}
+use Rattle.dns_data.specs.Data.{IsTextData}
 use Rattle.dns_data.specs.Printing.{printed_parts}
 use Rattle.dns_data.specs.Rests.{ArePrinted}
 use Rattle.dns_data.specs.Types.{TypeShape}
 use Rattle.dns_data.specs.declared.shape.Shape.{Shape}
 use Rattle.dns_data.proofs.PrintedBack.{data_back}
+use Rattle.dns_data.proofs.Textless.{HasNoText, generic_printed, text_or_none, text_printed}
 use Rattle.dns_resource.specs.DataBack.{IsTypeDataReadBack}
 use Rattle.dns_resource.specs.DataTokens.{tokens_of_shape}
 use Rattle.dns_resource.specs.TypeData.{IsTypeData}
@@ -53,15 +55,21 @@ shape_back : (origin : Option (List (List ℕ))) (code : ℕ) (octets : List ℕ
 shape_back origin code octets tokens known values is None found p =
     (is.in_zones, inl (generic_back octets tokens values is.short p, λ shape has. absurd (subst (λ f. HasShape f shape) found has)))
 shape_back origin code octets tokens known values is (Some s) found p =
-    let shape : Shape = shape_with s in
-    let has : HasShape (shape_of_code code) shape = subst (λ f. HasShape f shape) (sym found) (refl, refl, refl) in
-    let own = is.shaped shape has in (
+    let has : HasShape (shape_of_code code) (shape_with s) = subst (λ f. HasShape f (shape_with s)) (sym found) (refl, refl, refl) in
+    by has (text_or_none (shape_with s) octets (is.shaped (shape_with s) has))
+  where
+    by : HasShape (shape_of_code code) (shape_with s) → IsTextData (shape_with s) octets ⊎ HasNoText (shape_with s) octets → SpellsTypeData origin code tokens octets
+    by has (inl own) = (
       is.in_zones,
       inr (
-        λ generic. shape_unmarked code s octets own.back found own.fields own.rest (from_generic (printed_parts s.fields s.rest octets) tokens p generic),
-        (shape, has, data_back origin known shape octets tokens own p),
+        λ generic. shape_unmarked code s octets own.back found own.fields own.rest
+            (from_generic (printed_parts s.fields s.rest octets) tokens (subst (λ ts. ArePrinted ts tokens) (text_printed (shape_with s) octets own) p) generic),
+        (shape_with s, has, data_back origin known (shape_with s) octets tokens own p),
       ),
     )
+    by has (inr none) =
+        let generic = subst (λ ts. ArePrinted ts tokens) (generic_printed (shape_with s) octets none) p in
+        (is.in_zones, inl (generic_back octets tokens values is.short generic, is.shaped))
 
 pub type_data_back : IsTypeDataReadBack
 type_data_back origin code octets tokens known values is p = shape_back origin code octets tokens known values is (shape_of_code code) refl p

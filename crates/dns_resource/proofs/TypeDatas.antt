@@ -6,14 +6,15 @@ use Rattle.dns_data.specs.ByType.{IsDataType, IsShapeOf, HasShape, shape_of_code
 use Rattle.dns_data.specs.Data.{HasLength, IsDataOf, SpellsData}
 use Rattle.dns_data.specs.Generic.{BeginsGeneric}
 use Rattle.dns_data.specs.Limits.{max_data}
-use Rattle.dns_data.specs.Printing.{printed_data, printed_parts}
-use Rattle.dns_data.specs.RestKinds.{rest_form}
+use Rattle.dns_data.specs.Printing.{printed_data, printed_with}
+use Rattle.dns_data.specs.RestKinds.{IsRestOf}
 use Rattle.dns_data.specs.RestLaws.{HoldOctets}
 use Rattle.dns_data.specs.Types.{TypeShape, row_shape}
 use Rattle.dns_data.specs.Wire.{BeginsWithFields}
 use Rattle.dns_data.specs.declared.shape.Shape.{Shape}
 use Rattle.dns_data.specs.declared.types.TypeRow.{TypeRow}
 use Rattle.dns_data.proofs.DataForms.{data_are_spelled}
+use Rattle.dns_data.proofs.Textless.{text_is_data}
 use Rattle.dns_data.proofs.TypeLaws.{has_shape}
 use Rattle.dns_resource.specs.DataTokens.{data_tokens, tokens_of_shape}
 use Rattle.dns_resource.specs.TypeData.{IsTypeData}
@@ -27,7 +28,7 @@ same_data None a b octets h k own = absurd h
 same_data (Some s) a b octets h k own = record {
   back = own.back;
   fields = subst (λ fs. BeginsWithFields fs octets own.back) (h.0 ∙ sym k.0) own.fields;
-  rest = subst (λ r. (rest_form None r).is_wire own.back) (h.1 ∙ sym k.1) own.rest;
+  rest = subst (λ r. IsRestOf r own.back) (h.1 ∙ sym k.1) own.rest;
   lengths = subst (λ l. HasLength l octets) (h.2 ∙ sym k.2) own.lengths;
 }
 
@@ -62,9 +63,9 @@ spelled_is_type_data origin code tokens octets known held short sp = record { in
     by (inl generic) shape has = generic.1 shape has
     by (inr own) shape has =
         let spelled : Shape = own.1.0 in
-        same_data (shape_of_code code) spelled shape octets own.1.1 has ((data_are_spelled origin known spelled).are_data tokens octets held own.1.2)
+        same_data (shape_of_code code) spelled shape octets own.1.1 has (text_is_data spelled octets ((data_are_spelled origin known spelled).are_data tokens octets held own.1.2))
 
 -- the tokens of a row
 pub row_tokens : (code : ℕ) (octets : List ℕ) (row : TypeRow) (shape : Shape) → Some (row_shape row) ≡ shape_of_code code → IsShapeOf (row_shape row) shape → printed_data shape octets ≡ data_tokens code octets
 row_tokens code octets row shape found same =
-    ap (λ fs. printed_parts fs shape.rest octets) same.0 ∙ ap (λ r. printed_parts (row_shape row).fields r octets) same.1 ∙ ap (λ f. tokens_of_shape f octets) found
+    ap (λ fs. printed_with fs shape.rest octets) same.0 ∙ ap (λ r. printed_with (row_shape row).fields r octets) same.1 ∙ ap (λ f. tokens_of_shape f octets) found

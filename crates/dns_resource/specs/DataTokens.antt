@@ -4,7 +4,7 @@ use Rattle.dns_zone.specs.Layout.{Step}
 use Rattle.dns_zone.specs.Nesting.{IsNested, has_line}
 use Rattle.dns_data.specs.ByType.{shape_of_code}
 use Rattle.dns_data.specs.Generic.{generic_form}
-use Rattle.dns_data.specs.Printing.{printed_parts, token_steps}
+use Rattle.dns_data.specs.Printing.{printed_with, token_steps}
 use Rattle.dns_data.specs.Rests.{PrintedToken}
 use Rattle.dns_data.specs.Types.{TypeShape}
 use Rattle.dns_resource.specs.TypeData.{TypeData}
@@ -12,9 +12,9 @@ use Rattle.dns_resource.specs.TypeData.{TypeData}
 -- the tokens of a shape, and without one those of the generic form
 abbrev pub tokens_of_shape : Option TypeShape → List ℕ → List PrintedToken
 tokens_of_shape None octets = generic_form.printed octets
-tokens_of_shape (Some s) octets = printed_parts s.fields s.rest octets
+tokens_of_shape (Some s) octets = printed_with s.fields s.rest octets
 
--- data of a type in its text form, and of a type that has none in the generic form
+-- data of a type in its text form, and in the generic form where it has none, or the type has none
 abbrev pub data_tokens : ℕ → List ℕ → List PrintedToken
 data_tokens code octets = tokens_of_shape (shape_of_code code) octets
 

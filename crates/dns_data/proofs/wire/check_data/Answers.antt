@@ -1,13 +1,12 @@
 use Rattle.std.proofs.Common.{◌∙◌, sym, subst, true≢false}
-use Rattle.std.proofs.Common.{None}
-use Rattle.dns_data.specs.RestKinds.{rest_form}
+use Rattle.dns_data.specs.RestKinds.{IsRestOf}
 use Rattle.dns_data.proofs.FieldFronts.{fields_begin_once}
 use Rattle.dns_data.proofs.wire.check_data.Goals as goal
 
-pub returns-else-is_rest : goal.returns-else-is_rest
-returns-else-is_rest c =
+pub returns-else-is_any_rest : goal.returns-else-is_any_rest
+returns-else-is_any_rest c =
     let shape = c.args.shape.now in
     let rest = c.in-Some.rest.now in (
-      λ is. absurd (true≢false (sym is ∙ c.if-is_rest.false)),
-      λ h. c.is_rest.ensures.1 (subst (rest_form None shape.rest).is_wire (fields_begin_once shape.fields.now c.args.octets.now h.back rest h.fields c.in-Some.ensures) h.rest),
+      λ is. absurd (true≢false (sym is ∙ c.if-is_any_rest.false)),
+      λ h. c.is_any_rest.ensures.1 (subst (IsRestOf shape.rest) (fields_begin_once shape.fields.now c.args.octets.now h.back rest h.fields c.in-Some.ensures) h.rest),
     )

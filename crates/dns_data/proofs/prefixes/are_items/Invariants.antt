@@ -1,0 +1,10 @@
+use Rattle.std.proofs.Common.{length}
+use Rattle.dns_data.proofs.ItemLaws.{SameAny}
+use Rattle.dns_data.proofs.prefixes.are_items.Given as goal
+
+-- what is left are items exactly where all are
+abbrev pub invariant-loop-left : goal.invariant-loop-left
+invariant-loop-left l = SameAny l.octets l.left
+
+abbrev pub decreases-loop-left : goal.decreases-loop-left
+decreases-loop-left l = length l.left
