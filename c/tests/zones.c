@@ -178,6 +178,7 @@ static size_t strings(size_t left, char *text, char *wire) {
 /* Data of as many octets as their length says in 16 bits (RFC 1035 section 3.2.1), and of one more: as a
  * record, and both ways alone. */
 static void long_data(void) {
+    static const char reason[] = "TXT text: RDATA exceeds 65535 octets";
     static const size_t lengths[] = {255, 1023, 1024, 1025, 1281, 4096, LONGEST - 1, LONGEST};
     static char spelled[LONGEST + 1024], wire[LONGEST + 1];
     static uint8_t printed[LONGEST + 1024];
@@ -198,6 +199,10 @@ static void long_data(void) {
     length = strings(LONGEST + 1, spelled, wire);
     EXPECT(next(spelled, length, LONGEST) == DNSTEXT_BAD_DATA);
     EXPECT(outcome.length < 255 && octets[outcome.length] == '-' && zone.at == length);
+    EXPECT(outcome.length == sizeof reason - 1 && memcmp(octets, reason, outcome.length) == 0);
+    EXPECT(dnstext_data_read(16, (const uint8_t *)spelled + 8, length - 8, NULL, 0, octets, LONGEST, &outcome)
+           == DNSTEXT_BAD_DATA);
+    EXPECT(outcome.length == sizeof reason - 1 && memcmp(octets, reason, outcome.length) == 0);
     ends(spelled, length, __LINE__);
 }
 

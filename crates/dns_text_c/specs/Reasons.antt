@@ -4,7 +4,7 @@ use Rattle.std.specs.Borrow.{Bor}
 use Rattle.dns_data.specs.declared.error.DataError.{DataError}
 use Rattle.dns_data.specs.declared.error.DataError.TheVariants.{Field as OfDataField}
 use Rattle.dns_fields.specs.declared.error.FieldError.{FieldError}
-use Rattle.dns_fields.specs.declared.error.FieldError.TheVariants.{Spelling}
+use Rattle.dns_fields.specs.declared.error.FieldError.TheVariants.{Spelling, ShortBuf}
 use Rattle.dns_heads.specs.declared.error.HeadError.{HeadError}
 use Rattle.dns_heads.specs.declared.error.HeadError.TheVariants.{Field as OfHeadField, NotSupported as NoneSuch}
 use Rattle.dns_reader.specs.EntryErrors.{zone_entry_error_text}
@@ -73,9 +73,14 @@ abbrev pub part_prefix : Option ℕ → Option (Bor (List ℕ)) → List ℕ
 part_prefix None part = []
 part_prefix (Some code) part = part_text code part ++ codes ": "
 
+-- there is room for 65,535 octets of RDATA, so what finds none exceeds them (RFC 1035 section 3.2.1)
+abbrev pub cause_text : EntryError → List ℕ
+cause_text (Data (OfDataField ShortBuf)) = codes "RDATA exceeds 65535 octets"
+cause_text e = zone_entry_error_text e
+
 -- and why
 abbrev pub reason_text : EntryRefusal → List ℕ
-reason_text r = part_prefix r.code r.part ++ zone_entry_error_text r.why
+reason_text r = part_prefix r.code r.part ++ cause_text r.why
 
 -- the status and the place of a refusal, and its text, as much of it as fits
 pub record TellsReason (refusal : EntryRefusal) (old : List ℕ) (told : ℕ) (new : List ℕ) (outcome : Outcome) : Type 0 where

@@ -292,6 +292,20 @@ fn names_in_data_are_compared_without_case() {
     }
 }
 
+/// RFC 1035 section 3.2.1: 65,535 octets are read, and no more.
+#[test]
+fn long_data_are_refused() {
+    let strings = [vec![b'x'; 255], vec![b' ']].concat().repeat(255);
+    let text = |last: usize| [strings.clone(), vec![b'x'; last]].concat();
+    let data = RecordData::from_text(RecordType::TXT, &text(254), None).unwrap();
+    assert_eq!(data.to_octets().unwrap().len(), 65535);
+    let fault = RecordData::from_text(RecordType::TXT, &text(255), None).unwrap_err();
+    assert_eq!(
+        fault.to_string(),
+        "TXT text: RDATA exceeds 65535 octets at 65280"
+    );
+}
+
 /// A relative name is no origin.
 #[test]
 fn relative_origins_are_refused() {
