@@ -10,7 +10,8 @@ from row_file import octets_of
 RULES = {
     "no-soa", "no-ns", "outside", "two-soas", "ns-address", "cname", "dname", "below-dname", "ds-apex", "wildcard-ns",
     "soa-not-apex", "ns-beside-dname", "nsec3-wildcard",
-    "glue", "target-cname", "target-missing", "host-name", "cds", "ttl-differs", "duplicate",
+    "glue", "target-cname", "target-missing", "host-name", "cds", "ds-without-ns", "not-at-apex", "key-protocol",
+    "key-algorithm", "ttl-differs", "duplicate",
 }
 SECURITY = {
     "expired", "expires-soon", "not-yet-valid", "unsigned", "signs-nothing", "no-nsec", "nsec-next",

@@ -20,7 +20,7 @@ field_same : (f g : Field) → Some f ≡ Some g → f ≡ g
 field_same f g h = cc
 
 -- a part that is a name among the fields in front
-part_name : (fields : List Field) (place : ℕ) (octets part : List ℕ) → StartsWithFields fields octets → slice_get fields place ≡ Some Name → field_part fields place octets ≡ Some part → IsWireName part
+pub part_name : (fields : List Field) (place : ℕ) (octets part : List ℕ) → StartsWithFields fields octets → slice_get fields place ≡ Some Name → field_part fields place octets ≡ Some part → IsWireName part
 part_name [] place octets part h k found = cc
 part_name (f ∷ fs) zero octets part h k found =
     let cut = front_cut f octets h.0 h.1 h.2 h.3 in

@@ -1,5 +1,10 @@
+mod BelowNames
+mod FieldNames
+pub mod HostNameParts
 mod HostParts
 pub mod Lookups
 pub mod NameParts
+pub mod Searches
 pub mod Steps
 mod ToldRules
+pub mod Within

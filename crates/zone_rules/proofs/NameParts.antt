@@ -1,11 +1,11 @@
 -- Names, their octets and the names above them.
-use Rattle.std.proofs.Common.{ℕ, ◌≡◌, ◌+◌, ◌-◌, ◌<◌, ◌≤◌, Bool, false, List, [], ◌∷◌, ◌++◌, length, take, drop, get_or, refl, sym, ap, ◌∙◌, arith, inr, length-append, length-drop, Some, None, Ok, Err}
-use Rattle.std.specs.Prelude.{All, ◌==◌, ◌||◌}
-use Rattle.std.specs.List.{list_any}
-use Rattle.std.proofs.lemmas.Bool.Decides.{nat_tests}
+use Rattle.std.proofs.Common.{ℕ, ◌≡◌, ◌+◌, ◌-◌, ◌<◌, ◌≤◌, Bool, true, false, cond, List, [], ◌∷◌, ◌++◌, length, take, drop, get_or, refl, sym, ap, ◌∙◌, arith, inr, length-append, length-drop, Some, None, Ok, Err}
+use Rattle.std.specs.Prelude.{◌||◌}
+use Rattle.std.specs.List.{find, list_any}
+use Rattle.std.specs.Option.{option_map_or}
+use Rattle.std.proofs.Math.Seq.{take-append_seam}
 use Rattle.std.proofs.lemmas.List.{take_all, drop_at}
-use Rattle.std.proofs.lemmas.List.Elements.{All-cons, All-head, All-tail, All-drop}
-use Rattle.std.proofs.lemmas.List.Folds.{list_any-append}
+use Rattle.std.proofs.lemmas.List.Elements.{All-append, All-cons, All-drop, All-nil, All-tail}
 use Rattle.dns_wire.specs.FromOctets.{SplitsIntoLabels, MakesName}
 use Rattle.dns_wire.specs.Labelled.{wire_same}
 use Rattle.dns_wire.specs.Wire.{wire, wire_label, wire_length, IsName, EndsInRoot, IsPlain}
@@ -16,7 +16,7 @@ use Rattle.dns_spelling.specs.Spelling.{AreOctetValues}
 use Rattle.dns_spelling.specs.NameSpelling.{IsWireName}
 use Rattle.dns_spelling.proofs.LabelParts.{wire_push, wire_length_cons}
 use Rattle.dns_spelling.proofs.NameFronts.{name_front_plain}
-use Rattle.zone_rules.specs.Above.{parent_of, names_above, has_underscore}
+use Rattle.zone_rules.specs.Above.{first_label_of, parent_of, names_above}
 use Rattle.zone_rules.specs.Zones.{but_root}
 
 -- ---- octets of a name are one name
@@ -147,21 +147,37 @@ above_fewer (label ∷ []) parent e = cc
 above_fewer (label ∷ next ∷ others) parent e =
     let is : next ∷ others ≡ parent = cc in omega (arith, ap length is)
 
--- ---- underscores
+-- the closest of the names above that passes a test
+module _ (f g : List (List ℕ) → Bool) where
+  pub closest_none : (name : List (List ℕ)) → parent_of name ≡ None → option_map_or f (find g (names_above name)) false ≡ false
+  closest_none [] e = refl
+  closest_none (label ∷ []) e = refl
+  closest_none (label ∷ next ∷ others) e = cc
 
-abbrev is_underscore : ℕ → Bool
-is_underscore o = o == 95
+  pub closest_is : (name parent : List (List ℕ)) → parent_of name ≡ Some parent → g parent ≡ true → option_map_or f (find g (names_above name)) false ≡ f parent
+  closest_is [] parent e h = cc
+  closest_is (label ∷ []) parent e h = cc
+  closest_is (label ∷ next ∷ others) parent e h =
+      let is : next ∷ others ≡ parent = cc in
+      ap (λ b. option_map_or f (cond b (Some (next ∷ others)) (find g (names_above (next ∷ others)))) false) (ap g is ∙ h) ∙ ap f is
 
--- no length octet is an underscore
-short_length : (n : ℕ) → n ≤ 63 → (n == 95) ≡ false
-short_length n h = grind (arith, nat_tests)
+  pub closest_above : (name parent : List (List ℕ)) → parent_of name ≡ Some parent → g parent ≡ false → option_map_or f (find g (names_above name)) false ≡ option_map_or f (find g (names_above parent)) false
+  closest_above [] parent e h = cc
+  closest_above (label ∷ []) parent e h = cc
+  closest_above (label ∷ next ∷ others) parent e h =
+      let is : next ∷ others ≡ parent = cc in
+      ap (λ b. option_map_or f (cond b (Some (next ∷ others)) (find g (names_above (next ∷ others)))) false) (ap g is ∙ h) ∙ ap (λ p. option_map_or f (find g (names_above p)) false) is
 
-pub underscore_octets : (labels : List (List ℕ)) → All (λ l. length l ≤ 63) labels → list_any is_underscore (wire labels) ≡ has_underscore labels
-underscore_octets [] h = refl
-underscore_octets (label ∷ labels) h =
-    list_any-append is_underscore (wire_label label) (wire labels)
-    ∙ ap (λ b. (b || list_any is_underscore label) || list_any is_underscore (wire labels)) (short_length (length label) (All-head (λ l. length l ≤ 63) label labels h))
-    ∙ ap (λ b. list_any is_underscore label || b) (underscore_octets labels (All-tail (λ l. length l ≤ 63) label labels h))
+-- ---- first labels
+
+pub ends_some : (labels : List (List ℕ)) → EndsInRoot labels → 0 < length labels
+ends_some labels a = omega (arith, ap length a.1, length-append a.0 ([] ∷ []))
+
+pub first_slice : (labels : List (List ℕ)) (octets : List ℕ) → EndsInRoot labels → octets ≡ wire labels → take (get_or octets 0 0) (drop 1 octets) ≡ first_label_of labels
+first_slice [] octets a whole = absurd (let l = ap length a.1 in omega (arith, length-append a.0 ([] ∷ [])))
+first_slice (label ∷ labels) octets a whole =
+    let cut = behind_label label (wire labels) octets whole in
+    (λ i. take (cut.0 i) (drop 1 (whole i))) ∙ take-append_seam label (wire labels)
 
 -- ---- wildcards
 
@@ -177,20 +193,29 @@ parent_short (label ∷ next ∷ others) parent e n =
     some [] n = absurd (let last = ap length (n.root_last [] (next ∷ others) refl) in omega arith)
     some (o ∷ os) n = omega arith
 
-star_last : (labels front back : List (List ℕ)) → IsName labels → (42 ∷ []) ∷ labels ≡ front ++ [] ∷ back → back ≡ []
-star_last labels [] back n e = cc
-star_last labels (x ∷ front) back n e = n.root_last front back cc
+label_last : (label : List ℕ) (labels front back : List (List ℕ)) → 0 < length label → IsName labels → label ∷ labels ≡ front ++ [] ∷ back → back ≡ []
+label_last label labels [] back some n e = absurd (omega (arith, some, ap (λ l. length (first_label_of l)) e))
+label_last label labels (x ∷ front) back some n e = n.root_last front back cc
+
+-- a label in front of a name makes a name
+pub longer_is : (label : List ℕ) (labels : List (List ℕ)) → 0 < length label → length label ≤ 63 → IsName labels → wire_length labels + 1 + length label ≤ 255 → IsName (label ∷ labels)
+longer_is label labels some few n short = record {
+  short = All-cons (λ l. length l ≤ 63) label labels few n.short;
+  root_last = λ front back e. label_last label labels front back some n e;
+  fits = omega (arith, short, wire_length_cons label labels);
+}
+
+pub longer_name : (label : List ℕ) (labels : List (List ℕ)) → 0 < length label → length label ≤ 63 → AreOctetValues label → IsName labels → EndsInRoot labels → IsWireName (wire labels)
+    → wire_length labels + 1 + length label ≤ 255 → IsWireName (wire (label ∷ labels))
+longer_name label labels some few values n a w short = record {
+  labels = label ∷ labels;
+  is_name = longer_is label labels some few n short;
+  absolute = (label ∷ a.0, ap (λ l. label ∷ l) a.1);
+  values = All-cons (λ o. o < 256) (length label) (label ++ wire labels) (omega (arith, few)) (All-append (λ o. o < 256) label (wire labels) values w.values);
+  whole = refl;
+}
 
 -- an asterisk in front of a name makes a name
 pub wildcard_name : (labels : List (List ℕ)) → IsName labels → EndsInRoot labels → IsWireName (wire labels) → wire_length labels ≤ 253 → IsWireName (1 ∷ 42 ∷ wire labels)
-wildcard_name labels n a w short = record {
-  labels = (42 ∷ []) ∷ labels;
-  is_name = record {
-    short = All-cons (λ l. length l ≤ 63) (42 ∷ []) labels (omega arith) n.short;
-    root_last = λ front back e. star_last labels front back n e;
-    fits = omega (arith, short, wire_length_cons (42 ∷ []) labels);
-  };
-  absolute = ((42 ∷ []) ∷ a.0, ap (λ l. (42 ∷ []) ∷ l) a.1);
-  values = All-cons (λ o. o < 256) 1 (42 ∷ wire labels) (omega arith) (All-cons (λ o. o < 256) 42 (wire labels) (omega arith) w.values);
-  whole = refl;
-}
+wildcard_name labels n a w short =
+    longer_name (42 ∷ []) labels (omega arith) (omega arith) (All-cons (λ o. o < 256) 42 [] (omega arith) (All-nil (λ o. o < 256))) n a w (omega (arith, short))

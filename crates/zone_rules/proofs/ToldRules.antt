@@ -6,7 +6,8 @@ use Rattle.std.proofs.lemmas.List.Elements.{Contains-append_left, Contains-appen
 use Rattle.std.proofs.lemmas.List.FromFn.{length-range_with_len, get_or-range_with_len}
 use Rattle.dns_resource.specs.declared.record.Record.{Record}
 use Rattle.zone_rules.specs.Findings.{found_if, found_at_apex, record_rules, breaks_at, found_of, found_at, found_in_zone, TellsBrokenRules}
-use Rattle.zone_rules.specs.Zones.{has_type_at}
+use Rattle.zone_rules.specs.Present.{is_present}
+use Rattle.zone_rules.specs.declared.refused.RrsetName.{RrsetName}
 use Rattle.zone_rules.specs.declared.rule.Finding.{Finding}
 use Rattle.zone_rules.specs.declared.rule.Rule.{Rule}
 use Rattle.zone_rules.specs.declared.rule.Rule.TheVariants.{NoSoa, NoNs}
@@ -65,39 +66,39 @@ none_is place e = cc
 some_is : (i place : ℕ) → Some i ≡ Some place → i ≡ place
 some_is i place e = cc
 
-module _ {N O : Type 0} (origin : List (List ℕ)) (records : List (Record N O)) where
-  not_at_apex : (rule : Rule) (place : ℕ) → Contains (found_at_apex origin records) (record { rule = rule; «record» = Some place }) → ⊥
+module _ {N O : Type 0} (origin : List (List ℕ)) (records : List (Record N O)) (refused : List RrsetName) where
+  not_at_apex : (rule : Rule) (place : ℕ) → Contains (found_at_apex origin records refused) (record { rule = rule; «record» = Some place }) → ⊥
   not_at_apex rule place h =
       let told : Finding = record { rule = rule; «record» = Some place } in
       ⊎_elim
-      (λ a. none_is place (from_found (not (has_type_at 6 origin records)) NoSoa None told a).2)
-      (λ a. none_is place (from_found (not (has_type_at 2 origin records)) NoNs None told a).2)
-      (Contains-append_cases (found_if (not (has_type_at 6 origin records)) NoSoa None) (found_if (not (has_type_at 2 origin records)) NoNs None) told h)
+      (λ a. none_is place (from_found (not (is_present 6 origin records refused)) NoSoa None told a).2)
+      (λ a. none_is place (from_found (not (is_present 2 origin records refused)) NoNs None told a).2)
+      (Contains-append_cases (found_if (not (is_present 6 origin records refused)) NoSoa None) (found_if (not (is_present 2 origin records refused)) NoNs None) told h)
 
-  told_is_broken : (rule : Rule) (place : ℕ) → Contains (found_in_zone origin records) (record { rule = rule; «record» = Some place })
-      → Contains record_rules rule × (place < length records) × (breaks_at origin records place rule ≡ true)
+  told_is_broken : (rule : Rule) (place : ℕ) → Contains (found_in_zone origin records refused) (record { rule = rule; «record» = Some place })
+      → Contains record_rules rule × (place < length records) × (breaks_at origin records refused place rule ≡ true)
   told_is_broken rule place h =
       let told : Finding = record { rule = rule; «record» = Some place } in
       ⊎_elim
       (λ a. absurd (not_at_apex rule place a))
       (λ a.
-      let at = from_flat (found_at origin records) (range_with_len 0 (length records)) told a in
-      let by = from_flat (found_of origin records at.0) record_rules told at.2 in
-      let is = from_found (breaks_at origin records at.0 by.0) by.0 (Some at.0) told by.2 in
+      let at = from_flat (found_at origin records refused) (range_with_len 0 (length records)) told a in
+      let by = from_flat (found_of origin records refused at.0) record_rules told at.2 in
+      let is = from_found (breaks_at origin records refused at.0 by.0) by.0 (Some at.0) told by.2 in
       let same = some_is at.0 place is.2 in (
         subst (Contains record_rules) is.1 by.1,
         subst (λ i. i < length records) same (from_range (length records) at.0 at.1),
-        subst (λ i. breaks_at origin records i rule ≡ true) same (subst (λ r. breaks_at origin records at.0 r ≡ true) is.1 is.0),
+        subst (λ i. breaks_at origin records refused i rule ≡ true) same (subst (λ r. breaks_at origin records refused at.0 r ≡ true) is.1 is.0),
       ))
-      (Contains-append_cases (found_at_apex origin records) (flat_map (found_at origin records) (range_with_len 0 (length records))) told h)
+      (Contains-append_cases (found_at_apex origin records refused) (flat_map (found_at origin records refused) (range_with_len 0 (length records))) told h)
 
-  broken_is_told : (rule : Rule) (place : ℕ) → Contains record_rules rule × (place < length records) × (breaks_at origin records place rule ≡ true)
-      → Contains (found_in_zone origin records) (record { rule = rule; «record» = Some place })
+  broken_is_told : (rule : Rule) (place : ℕ) → Contains record_rules rule × (place < length records) × (breaks_at origin records refused place rule ≡ true)
+      → Contains (found_in_zone origin records refused) (record { rule = rule; «record» = Some place })
   broken_is_told rule place h =
       let told : Finding = record { rule = rule; «record» = Some place } in
-      Contains-append_right (found_at_apex origin records) (flat_map (found_at origin records) (range_with_len 0 (length records))) told
-      (in_flat (found_at origin records) (range_with_len 0 (length records)) place told (in_range (length records) place h.1)
-      (in_flat (found_of origin records place) record_rules rule told h.0 (in_found (breaks_at origin records place rule) rule (Some place) h.2)))
+      Contains-append_right (found_at_apex origin records refused) (flat_map (found_at origin records refused) (range_with_len 0 (length records))) told
+      (in_flat (found_at origin records refused) (range_with_len 0 (length records)) place told (in_range (length records) place h.1)
+      (in_flat (found_of origin records refused place) record_rules rule told h.0 (in_found (breaks_at origin records refused place rule) rule (Some place) h.2)))
 
-  pub broken_rules_are_told : TellsBrokenRules origin records (found_in_zone origin records)
+  pub broken_rules_are_told : TellsBrokenRules origin records refused (found_in_zone origin records refused)
   broken_rules_are_told rule place = (told_is_broken rule place, broken_is_told rule place)

@@ -1,5 +1,5 @@
 -- Where names stand to one another (RFC 1034 section 3.1).
-use Rattle.std.specs.Prelude.{ℕ, nat_eq, ◌==◌, ◌||◌, Bool, false, Option, Some, None, List, [], ◌∷◌}
+use Rattle.std.specs.Prelude.{ℕ, nat_eq, ◌||◌, Bool, false, Option, Some, None, List, [], ◌∷◌}
 use Rattle.std.specs.List.{list_any}
 use Rattle.std.specs.Cmp.Lexicographic.{pointwise}
 use Rattle.dns_wire.specs.Order.{same_name}
@@ -29,6 +29,7 @@ abbrev pub is_wildcard : List (List ℕ) → Bool
 is_wildcard [] = false
 is_wildcard (label ∷ labels) = pointwise nat_eq label (42 ∷ [])
 
--- a label has an underscore
-abbrev pub has_underscore : List (List ℕ) → Bool
-has_underscore labels = list_any (λ label. list_any (λ octet. octet == 95) label) labels
+-- the first label of a name; the root's is empty
+abbrev pub first_label_of : List (List ℕ) → List ℕ
+first_label_of [] = []
+first_label_of (label ∷ labels) = label

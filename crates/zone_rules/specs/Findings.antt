@@ -3,43 +3,44 @@ use Rattle.std.specs.Prelude.{ℕ, ◌<◌, ◌↔◌, IsTrue, not, if◌then◌
 use Rattle.std.specs.List.{Contains, flat_map, range_with_len}
 use Rattle.std.specs.Option.{option_map_or}
 use Rattle.dns_resource.specs.declared.record.Record.{Record}
+use Rattle.zone_rules.specs.Present.{is_present}
 use Rattle.zone_rules.specs.Rules.{breaks}
-use Rattle.zone_rules.specs.Zones.{has_type_at}
+use Rattle.zone_rules.specs.declared.refused.RrsetName.{RrsetName}
 use Rattle.zone_rules.specs.declared.rule.Finding.{Finding}
 use Rattle.zone_rules.specs.declared.rule.Rule.{Rule}
-use Rattle.zone_rules.specs.declared.rule.Rule.TheVariants.{NoSoa, NoNs, Outside, TwoSoas, NsAddress, Cname, TwoDnames, BelowDname, DsAtApex, WildcardNs, SoaNotApex, NsBesideDname, Nsec3AtWildcard, MissingGlue, HostIsAlias, HostMissing, HostName, CdsWithoutKey, TtlDiffers, Duplicate}
+use Rattle.zone_rules.specs.declared.rule.Rule.TheVariants.{NoSoa, NoNs, Outside, TwoSoas, NsAddress, Cname, TwoDnames, BelowDname, DsAtApex, WildcardNs, SoaNotApex, NsBesideDname, Nsec3Owner, MissingGlue, HostIsAlias, HostBelowDname, HostMissing, HostName, CdsWithoutKey, DsWithoutNs, NotAtApex, KeyProtocol, KeyAlgorithm, TtlDiffers, Duplicate}
 
 -- a rule, told where it is broken
 abbrev pub found_if : Bool → Rule → Option ℕ → List Finding
 found_if is_broken rule place = if is_broken then record { rule = rule; «record» = place } ∷ [] else []
 
 -- what the zone lacks at its apex
-abbrev pub found_at_apex : {N O : Type 0} → List (List ℕ) → List (Record N O) → List Finding
-found_at_apex origin records = found_if (not (has_type_at 6 origin records)) NoSoa None ++ found_if (not (has_type_at 2 origin records)) NoNs None
+abbrev pub found_at_apex : {N O : Type 0} → List (List ℕ) → List (Record N O) → List RrsetName → List Finding
+found_at_apex origin records refused = found_if (not (is_present 6 origin records refused)) NoSoa None ++ found_if (not (is_present 2 origin records refused)) NoNs None
 
 -- the rules for records
 abbrev pub record_rules : List Rule
 record_rules =
-    Outside ∷ TwoSoas ∷ NsAddress ∷ Cname ∷ TwoDnames ∷ BelowDname ∷ DsAtApex ∷ WildcardNs ∷ SoaNotApex ∷ NsBesideDname ∷ Nsec3AtWildcard ∷ MissingGlue ∷ HostIsAlias ∷ HostMissing ∷ HostName
-    ∷ CdsWithoutKey ∷ TtlDiffers ∷ Duplicate ∷ []
+    Outside ∷ TwoSoas ∷ NsAddress ∷ Cname ∷ TwoDnames ∷ BelowDname ∷ DsAtApex ∷ WildcardNs ∷ SoaNotApex ∷ NsBesideDname ∷ Nsec3Owner ∷ MissingGlue ∷ HostIsAlias
+    ∷ HostBelowDname ∷ HostMissing ∷ HostName ∷ CdsWithoutKey ∷ DsWithoutNs ∷ NotAtApex ∷ KeyProtocol ∷ KeyAlgorithm ∷ TtlDiffers ∷ Duplicate ∷ []
 
 -- the record at a place breaks the rule
-abbrev pub breaks_at : {N O : Type 0} → List (List ℕ) → List (Record N O) → ℕ → Rule → Bool
-breaks_at origin records place rule = option_map_or (breaks rule origin records place) (slice_get records place) false
+abbrev pub breaks_at : {N O : Type 0} → List (List ℕ) → List (Record N O) → List RrsetName → ℕ → Rule → Bool
+breaks_at origin records refused place rule = option_map_or (breaks rule origin records refused place) (slice_get records place) false
 
 -- a rule, if the record at a place breaks it
-abbrev pub found_of : {N O : Type 0} → List (List ℕ) → List (Record N O) → ℕ → Rule → List Finding
-found_of origin records place rule = found_if (breaks_at origin records place rule) rule (Some place)
+abbrev pub found_of : {N O : Type 0} → List (List ℕ) → List (Record N O) → List RrsetName → ℕ → Rule → List Finding
+found_of origin records refused place rule = found_if (breaks_at origin records refused place rule) rule (Some place)
 
 -- the rules that the record at a place breaks
-abbrev pub found_at : {N O : Type 0} → List (List ℕ) → List (Record N O) → ℕ → List Finding
-found_at origin records place = flat_map (found_of origin records place) record_rules
+abbrev pub found_at : {N O : Type 0} → List (List ℕ) → List (Record N O) → List RrsetName → ℕ → List Finding
+found_at origin records refused place = flat_map (found_of origin records refused place) record_rules
 
 -- what the zone lacks, and then the rules that each record breaks, record by record
-abbrev pub found_in_zone : {N O : Type 0} → List (List ℕ) → List (Record N O) → List Finding
-found_in_zone origin records = found_at_apex origin records ++ flat_map (found_at origin records) (range_with_len 0 (length records))
+abbrev pub found_in_zone : {N O : Type 0} → List (List ℕ) → List (Record N O) → List RrsetName → List Finding
+found_in_zone origin records refused = found_at_apex origin records refused ++ flat_map (found_at origin records refused) (range_with_len 0 (length records))
 
 -- a rule for records is told of the record at a place exactly where that breaks it
-abbrev pub TellsBrokenRules : {N O : Type 0} → List (List ℕ) → List (Record N O) → List Finding → Type 0
-TellsBrokenRules origin records found = (rule : Rule) (place : ℕ)
-    → Contains found (record { rule = rule; «record» = Some place }) ↔ (Contains record_rules rule × (place < length records) × IsTrue (breaks_at origin records place rule))
+abbrev pub TellsBrokenRules : {N O : Type 0} → List (List ℕ) → List (Record N O) → List RrsetName → List Finding → Type 0
+TellsBrokenRules origin records refused found = (rule : Rule) (place : ℕ)
+    → Contains found (record { rule = rule; «record» = Some place }) ↔ (Contains record_rules rule × (place < length records) × IsTrue (breaks_at origin records refused place rule))

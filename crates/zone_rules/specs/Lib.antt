@@ -1,5 +1,8 @@
 pub mod Above
+pub mod Base32Texts
 pub mod Findings
+pub mod HostNames
+pub mod Present
 pub mod Rows
 pub mod RuleNames
 pub mod Rules

@@ -4,10 +4,14 @@ use Rattle.dns_spelling.specs.PrintedNames.{labels_in_octets}
 use Rattle.dns_wire.specs.Wire.{wire}
 use Rattle.dns_data.specs.Types.{type_shapes}
 use Rattle.dns_resource.specs.declared.record.Record.{Record}
-use Rattle.zone_rules.specs.Above.{names_above, is_below, is_within, is_wildcard, has_underscore}
+use Rattle.zone_rules.specs.Above.{names_above, is_below, is_within, is_wildcard}
+use Rattle.zone_rules.specs.Base32Texts.{is_base32_text}
 use Rattle.zone_rules.specs.Findings.{found_in_zone}
-use Rattle.zone_rules.specs.Rules.{are_two_of, have_other_ttls, is_alias_in_company, is_bad_host_name, is_below_dname, is_dname_at_cut, is_soa_below_apex, is_wildcard_nsec3, lacks_glue, lacks_ns_address, names_alias, names_missing}
+use Rattle.zone_rules.specs.HostNames.{is_bad_host_name, is_host_label, is_host_name, is_mailbox_name}
+use Rattle.zone_rules.specs.Present.{closest_encloser, is_synthesized}
+use Rattle.zone_rules.specs.Rules.{are_two_of, have_other_ttls, has_no_algorithm, has_other_protocol, is_alias_in_company, is_below_dname, is_below_its_apex, is_dname_at_cut, is_soa_below_apex, is_unhashed_nsec3, lacks_glue, lacks_key, lacks_ns, lacks_ns_address, names_alias, names_missing, names_renamed}
 use Rattle.zone_rules.specs.Zones.{host_of, is_one_set}
+use Rattle.zone_rules.specs.declared.refused.RrsetName.{RrsetName}
 use Rattle.zone_rules.specs.declared.rule.Rule.TheVariants.{NoSoa, NsAddress}
 
 -- `example.`, and names below it
@@ -50,9 +54,6 @@ wildcard_row = refl
 no_wildcard_row : is_wildcard (two_under (codes "a") (codes "*")) ≡ false
 no_wildcard_row = refl
 
-underscore_row : has_underscore (two_under (codes "_sip") (codes "_tcp")) ≡ true
-underscore_row = refl
-
 -- ---- hosts: behind a preference in MX, and behind three numbers in SRV (RFC 2782)
 
 mail_row : host_of (entry apex 15 (0 ∷ 10 ∷ wire (under (codes "mail")))) ≡ Some (under (codes "mail"))
@@ -76,13 +77,44 @@ alias_host_row = refl
 abbrev server : Record ℕ ℕ
 server = entry apex 2 (wire (under (codes "ns")))
 
-address_row : lacks_ns_address apex (server ∷ entry (under (codes "NS")) 28 address ∷ []) server ≡ false
+address_row : lacks_ns_address apex (server ∷ entry (under (codes "NS")) 28 address ∷ []) [] server ≡ false
 unfolding type_shapes labels_in_octets
 address_row = refl
 
-no_address_row : lacks_ns_address apex (server ∷ entry (under (codes "ns")) 16 (0 ∷ []) ∷ []) server ≡ true
+no_address_row : lacks_ns_address apex (server ∷ entry (under (codes "ns")) 16 (0 ∷ []) ∷ []) [] server ≡ true
 unfolding type_shapes labels_in_octets
 no_address_row = refl
+
+-- an address whose entry was refused is there
+abbrev named : List (List ℕ) → ℕ → RrsetName
+named owner code = record { owner = owner; code = code }
+
+refused_address_row : lacks_ns_address apex (server ∷ []) (named (under (codes "ns")) 1 ∷ []) server ≡ false
+unfolding type_shapes labels_in_octets
+refused_address_row = refl
+
+-- a wildcard gives an address, but not where the name or a closer one exists, and an alias is none
+star_address_row : lacks_ns_address apex (server ∷ entry (under (codes "*")) 1 address ∷ []) [] server ≡ false
+unfolding type_shapes labels_in_octets
+star_address_row = refl
+
+own_text_row : lacks_ns_address apex (server ∷ entry (under (codes "*")) 1 address ∷ entry (under (codes "ns")) 16 (0 ∷ []) ∷ []) [] server ≡ true
+unfolding type_shapes labels_in_octets
+own_text_row = refl
+
+star_alias_row : lacks_ns_address apex (server ∷ entry (under (codes "*")) 5 (wire (under (codes "o"))) ∷ []) [] server ≡ true
+unfolding type_shapes labels_in_octets
+star_alias_row = refl
+
+-- RFC 4592 section 2.2.2: `ns.b` exists by what is below it, so `*` is not the source of synthesis
+abbrev below_b : List (Record ℕ ℕ)
+below_b = entry (under (codes "*")) 1 address ∷ entry (codes "x" ∷ two_under (codes "ns") (codes "b")) 1 address ∷ []
+
+encloser_row : closest_encloser (codes "a" ∷ two_under (codes "ns") (codes "b")) below_b [] ≡ Some (two_under (codes "ns") (codes "b"))
+encloser_row = refl
+
+closer_row : is_synthesized 1 (two_under (codes "a") (codes "b")) below_b [] ≡ false
+closer_row = refl
 
 -- an RRSIG and an equal alias may stand beside an alias, a TXT must not
 abbrev alias : Record ℕ ℕ
@@ -140,8 +172,18 @@ apex_ns_row = refl
 lower_ns_row : is_dname_at_cut apex (renaming ∷ entry (under (codes "D")) 2 (wire (under (codes "ns"))) ∷ []) renaming ≡ true
 lower_ns_row = refl
 
-star_hash_row : is_wildcard_nsec3 (entry (under (codes "*")) 50 []) ≡ true
+star_hash_row : is_unhashed_nsec3 (entry (under (codes "*")) 50 []) ≡ true
 star_hash_row = refl
+
+-- RFC 5155 appendix A, and two digits of which the second has spare bits that are not zero
+hash_row : is_base32_text (codes "0p9mhaveqvm6t7vbl5lop2u3t2rp3tom") ≡ true
+hash_row = refl
+
+spare_row : is_base32_text (codes "01") ≡ false
+spare_row = refl
+
+odd_row : is_base32_text (codes "000") ≡ false
+odd_row = refl
 
 below_dname_row : is_below_dname (renaming ∷ []) (entry (two_under (codes "a") (codes "D")) 1 address) ≡ true
 below_dname_row = refl
@@ -154,52 +196,123 @@ two_row = refl
 abbrev delegation : Record ℕ ℕ
 delegation = entry (under (codes "sub")) 2 (wire (two_under (codes "ns") (codes "sub")))
 
-glue_row : lacks_glue apex (delegation ∷ entry (two_under (codes "ns") (codes "sub")) 1 address ∷ []) delegation ≡ false
+glue_row : lacks_glue apex (delegation ∷ entry (two_under (codes "ns") (codes "sub")) 1 address ∷ []) [] delegation ≡ false
 unfolding type_shapes labels_in_octets
 glue_row = refl
 
-no_glue_row : lacks_glue apex (delegation ∷ []) delegation ≡ true
+no_glue_row : lacks_glue apex (delegation ∷ []) [] delegation ≡ true
 unfolding type_shapes labels_in_octets
 no_glue_row = refl
 
-beside_row : lacks_glue apex [] (entry (under (codes "sub")) 2 (wire (under (codes "ns")))) ≡ false
+beside_row : lacks_glue apex [] [] (entry (under (codes "sub")) 2 (wire (under (codes "ns")))) ≡ false
 unfolding type_shapes labels_in_octets
 beside_row = refl
 
 abbrev mail_to : List (List ℕ) → Record ℕ ℕ
 mail_to host = entry apex 15 (0 ∷ 10 ∷ wire host)
 
-delegated_row : names_missing apex (delegation ∷ []) (mail_to (two_under (codes "mx") (codes "sub"))) ≡ false
+delegated_row : names_missing apex (delegation ∷ []) [] (mail_to (two_under (codes "mx") (codes "sub"))) ≡ false
 unfolding type_shapes labels_in_octets
 delegated_row = refl
 
-missing_row : names_missing apex (delegation ∷ []) (mail_to (under (codes "mx"))) ≡ true
+missing_row : names_missing apex (delegation ∷ []) [] (mail_to (under (codes "mx"))) ≡ true
 unfolding type_shapes labels_in_octets
 missing_row = refl
 
-under_star_row : names_missing apex (entry (under (codes "*")) 1 address ∷ []) (mail_to (under (codes "mx"))) ≡ false
+under_star_row : names_missing apex (entry (under (codes "*")) 1 address ∷ []) [] (mail_to (under (codes "mx"))) ≡ false
 unfolding type_shapes labels_in_octets
 under_star_row = refl
 
 -- no host is asked for where the target is the root, also in the zone that has all names
-no_target_row : names_missing ([] ∷ []) [] (entry apex 33 (0 ∷ 0 ∷ 0 ∷ 0 ∷ 0 ∷ 0 ∷ 0 ∷ [])) ≡ false
+no_target_row : names_missing ([] ∷ []) [] [] (entry apex 33 (0 ∷ 0 ∷ 0 ∷ 0 ∷ 0 ∷ 0 ∷ 0 ∷ [])) ≡ false
 unfolding type_shapes labels_in_octets
 no_target_row = refl
 
 -- nothing is known of hosts outside of the zone
-elsewhere_row : names_missing apex [] (mail_to (codes "mx" ∷ [] ∷ [])) ≡ false
+elsewhere_row : names_missing apex [] [] (mail_to (codes "mx" ∷ [] ∷ [])) ≡ false
 unfolding type_shapes labels_in_octets
 elsewhere_row = refl
 
-mail_alias_row : names_alias (alias ∷ []) (mail_to (under (codes "www"))) ≡ true
+mail_alias_row : names_alias apex (alias ∷ []) [] (mail_to (under (codes "www"))) ≡ true
 unfolding type_shapes labels_in_octets
 mail_alias_row = refl
 
+star_target_row : names_alias apex (entry (under (codes "*")) 5 (wire (under (codes "o"))) ∷ []) [] (mail_to (under (codes "mx"))) ≡ true
+unfolding type_shapes labels_in_octets
+star_target_row = refl
+
+-- a host below a DNAME (RFC 6672 section 5.1) is not missing
+renamed_row : names_renamed apex (renaming ∷ []) [] (mail_to (two_under (codes "x") (codes "d"))) ≡ true
+unfolding type_shapes labels_in_octets
+renamed_row = refl
+
+renamed_found_row : names_missing apex (renaming ∷ []) [] (mail_to (two_under (codes "x") (codes "d"))) ≡ false
+unfolding type_shapes labels_in_octets
+renamed_found_row = refl
+
+-- ---- host names (RFC 952, RFC 1123 section 2.1)
+
+letters_row : is_host_label (codes "A--9") ≡ true
+letters_row = refl
+
+hyphen_row : is_host_label (codes "-a") ≡ false
+hyphen_row = refl
+
+last_hyphen_row : is_host_label (codes "a-") ≡ false
+last_hyphen_row = refl
+
+root_row : is_host_name ([] ∷ []) ≡ true
+root_row = refl
+
+mailbox_row : is_mailbox_name (codes "h_x" ∷ codes "o" ∷ [] ∷ []) ≡ true
+mailbox_row = refl
+
+other_mailbox_row : is_mailbox_name (codes "h" ∷ codes "_o" ∷ codes "o" ∷ [] ∷ []) ≡ false
+other_mailbox_row = refl
+
+mail_target_row : is_bad_host_name (mail_to (under (codes "a_b"))) ≡ true
+unfolding type_shapes labels_in_octets
+mail_target_row = refl
+
+star_owner_row : is_bad_host_name (entry (under (codes "*")) 1 address) ≡ false
+unfolding type_shapes labels_in_octets
+star_owner_row = refl
+
+catalog_row : is_bad_host_name (entry (two_under (codes "GC") (codes "_msdcs")) 1 address) ≡ false
+unfolding type_shapes labels_in_octets
+catalog_row = refl
+
 service_owner_row : is_bad_host_name (entry (two_under (codes "_sip") (codes "_tcp")) 33 []) ≡ false
+unfolding type_shapes labels_in_octets
 service_owner_row = refl
 
 host_owner_row : is_bad_host_name (entry (under (codes "a_b")) 28 []) ≡ true
+unfolding type_shapes labels_in_octets
 host_owner_row = refl
+
+-- ---- keys
+
+-- the one that asks to delete (RFC 8078 section 4), and another
+deletion_row : lacks_key apex [] [] (entry apex 59 (0 ∷ 0 ∷ 0 ∷ 0 ∷ 0 ∷ [])) ≡ false
+deletion_row = refl
+
+key_row : lacks_key apex [] [] (entry apex 60 (1 ∷ 1 ∷ 3 ∷ 8 ∷ 1 ∷ [])) ≡ true
+key_row = refl
+
+no_delegation_row : lacks_ns apex [] [] (entry (under (codes "d")) 43 []) ≡ true
+no_delegation_row = refl
+
+key_at_cut_row : is_below_its_apex apex (entry (under (codes "d")) 2 [] ∷ []) [] (entry (under (codes "d")) 48 []) ≡ false
+key_at_cut_row = refl
+
+lower_key_row : is_below_its_apex apex [] [] (entry (under (codes "d")) 48 []) ≡ true
+lower_key_row = refl
+
+protocol_row : has_other_protocol (entry apex 48 (1 ∷ 0 ∷ 2 ∷ 8 ∷ 1 ∷ [])) ≡ true
+protocol_row = refl
+
+algorithm_row : has_no_algorithm (entry apex 43 (0 ∷ 1 ∷ 0 ∷ 1 ∷ [])) ≡ true
+algorithm_row = refl
 
 -- RRSIGs of one owner are of the set of the type that they cover
 one_set_row : is_one_set (entry apex 46 (0 ∷ 1 ∷ [])) (entry apex 46 (0 ∷ 2 ∷ [])) ≡ false
@@ -210,6 +323,6 @@ ttl_row = refl
 
 -- ---- a zone of one record
 
-zone_row : found_in_zone apex (server ∷ []) ≡ record { rule = NoSoa; «record» = None } ∷ record { rule = NsAddress; «record» = Some 0 } ∷ []
+zone_row : found_in_zone apex (server ∷ []) [] ≡ record { rule = NoSoa; «record» = None } ∷ record { rule = NsAddress; «record» = Some 0 } ∷ []
 unfolding type_shapes labels_in_octets
 zone_row = refl

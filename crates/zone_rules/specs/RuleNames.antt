@@ -1,7 +1,7 @@
 -- The names of the rules, and which are faults.
 use Rattle.std.specs.Prelude.{ℕ, Bool, true, false, List, codes}
 use Rattle.zone_rules.specs.declared.rule.Rule.{Rule}
-use Rattle.zone_rules.specs.declared.rule.Rule.TheVariants.{NoSoa, NoNs, Outside, TwoSoas, NsAddress, Cname, TwoDnames, BelowDname, DsAtApex, WildcardNs, SoaNotApex, NsBesideDname, Nsec3AtWildcard, MissingGlue, HostIsAlias, HostMissing, HostName, CdsWithoutKey, TtlDiffers, Duplicate}
+use Rattle.zone_rules.specs.declared.rule.Rule.TheVariants.{NoSoa, NoNs, Outside, TwoSoas, NsAddress, Cname, TwoDnames, BelowDname, DsAtApex, WildcardNs, SoaNotApex, NsBesideDname, Nsec3Owner, MissingGlue, HostIsAlias, HostBelowDname, HostMissing, HostName, CdsWithoutKey, DsWithoutNs, NotAtApex, KeyProtocol, KeyAlgorithm, TtlDiffers, Duplicate}
 
 abbrev pub rule_name : Rule → List ℕ
 rule_name NoSoa = codes "no-soa"
@@ -16,12 +16,17 @@ rule_name DsAtApex = codes "ds-apex"
 rule_name WildcardNs = codes "wildcard-ns"
 rule_name SoaNotApex = codes "soa-not-apex"
 rule_name NsBesideDname = codes "ns-beside-dname"
-rule_name Nsec3AtWildcard = codes "nsec3-wildcard"
+rule_name Nsec3Owner = codes "nsec3-wildcard"
 rule_name MissingGlue = codes "glue"
 rule_name HostIsAlias = codes "target-cname"
+rule_name HostBelowDname = codes "target-cname"
 rule_name HostMissing = codes "target-missing"
 rule_name HostName = codes "host-name"
 rule_name CdsWithoutKey = codes "cds"
+rule_name DsWithoutNs = codes "ds-without-ns"
+rule_name NotAtApex = codes "not-at-apex"
+rule_name KeyProtocol = codes "key-protocol"
+rule_name KeyAlgorithm = codes "key-algorithm"
 rule_name TtlDiffers = codes "ttl-differs"
 rule_name Duplicate = codes "duplicate"
 
@@ -39,11 +44,16 @@ is_fault_rule DsAtApex = true
 is_fault_rule WildcardNs = true
 is_fault_rule SoaNotApex = true
 is_fault_rule NsBesideDname = true
-is_fault_rule Nsec3AtWildcard = true
+is_fault_rule Nsec3Owner = true
 is_fault_rule MissingGlue = false
 is_fault_rule HostIsAlias = false
+is_fault_rule HostBelowDname = false
 is_fault_rule HostMissing = false
 is_fault_rule HostName = false
 is_fault_rule CdsWithoutKey = false
+is_fault_rule DsWithoutNs = false
+is_fault_rule NotAtApex = false
+is_fault_rule KeyProtocol = false
+is_fault_rule KeyAlgorithm = false
 is_fault_rule TtlDiffers = false
 is_fault_rule Duplicate = false

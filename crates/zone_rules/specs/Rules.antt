@@ -1,13 +1,19 @@
 -- When a record breaks a rule.
-use Rattle.std.specs.Prelude.{ℕ, ◌==◌, ◌&&◌, ◌||◌, not, Bool, false, List, [], ◌∷◌}
+use Rattle.std.specs.Prelude.{ℕ, ◌==◌, ◌&&◌, ◌||◌, not, nat_eq, Bool, false, List, [], ◌∷◌, slice_get}
+use Rattle.std.specs.Cmp.Lexicographic.{pointwise}
 use Rattle.std.specs.List.{list_any}
 use Rattle.std.specs.Option.{option_map_or}
 use Rattle.dns_wire.specs.Order.{same_name}
+use Rattle.dns_resource.specs.Records.{data_of}
 use Rattle.dns_resource.specs.declared.record.Record.{Record}
-use Rattle.zone_rules.specs.Above.{names_above, is_below, is_within, is_wildcard, has_underscore}
-use Rattle.zone_rules.specs.Zones.{type_of, has_type_at, has_owner, has_address_at, is_equal_record, record_before, host_of, set_type, is_one_set}
+use Rattle.zone_rules.specs.Above.{first_label_of, names_above, is_below, is_within, is_wildcard}
+use Rattle.zone_rules.specs.Base32Texts.{is_base32_text}
+use Rattle.zone_rules.specs.HostNames.{is_bad_host_name}
+use Rattle.zone_rules.specs.Present.{gives_address, has_address_in, is_own, is_present, is_renamed, is_synthesized}
+use Rattle.zone_rules.specs.Zones.{type_of, has_type_at, is_equal_record, record_before, host_of, set_type, is_one_set}
+use Rattle.zone_rules.specs.declared.refused.RrsetName.{RrsetName}
 use Rattle.zone_rules.specs.declared.rule.Rule.{Rule}
-use Rattle.zone_rules.specs.declared.rule.Rule.TheVariants.{NoSoa, NoNs, Outside, TwoSoas, NsAddress, Cname, TwoDnames, BelowDname, DsAtApex, WildcardNs, SoaNotApex, NsBesideDname, Nsec3AtWildcard, MissingGlue, HostIsAlias, HostMissing, HostName, CdsWithoutKey, TtlDiffers, Duplicate}
+use Rattle.zone_rules.specs.declared.rule.Rule.TheVariants.{NoSoa, NoNs, Outside, TwoSoas, NsAddress, Cname, TwoDnames, BelowDname, DsAtApex, WildcardNs, SoaNotApex, NsBesideDname, Nsec3Owner, MissingGlue, HostIsAlias, HostBelowDname, HostMissing, HostName, CdsWithoutKey, DsWithoutNs, NotAtApex, KeyProtocol, KeyAlgorithm, TtlDiffers, Duplicate}
 
 -- the record is neither at the origin nor below it
 abbrev pub is_out_of_zone : {N O : Type 0} → List (List ℕ) → Record N O → Bool
@@ -57,35 +63,11 @@ is_soa_below_apex origin r = type_of r == 6 && is_below r.owner origin
 abbrev pub is_wildcard_ns : {N O : Type 0} → Record N O → Bool
 is_wildcard_ns r = type_of r == 2 && is_wildcard r.owner
 
--- the record is an NSEC3 at a wildcard
-abbrev pub is_wildcard_nsec3 : {N O : Type 0} → Record N O → Bool
-is_wildcard_nsec3 r = type_of r == 50 && is_wildcard r.owner
+-- the record is an NSEC3, and the first label of its owner no hash in base 32 hex
+abbrev pub is_unhashed_nsec3 : {N O : Type 0} → Record N O → Bool
+is_unhashed_nsec3 r = type_of r == 50 && not (is_base32_text (first_label_of r.owner))
 
--- ---- hosts
-
--- the record names a host that passes the test
-abbrev pub names_host : {N O : Type 0} → (List (List ℕ) → Bool) → Record N O → Bool
-names_host test r = option_map_or test (host_of r) false
-
--- a name is at or below another, and no A or AAAA stands there
-abbrev pub lacks_address : {N O : Type 0} → List (List ℕ) → List (Record N O) → List (List ℕ) → Bool
-lacks_address top records name = is_within name top && not (has_address_at name records)
-
--- an NS at the apex names a host in the zone without address
-abbrev pub lacks_ns_address : {N O : Type 0} → List (List ℕ) → List (Record N O) → Record N O → Bool
-lacks_ns_address origin records r = is_record_at_apex 2 origin r && names_host (lacks_address origin records) r
-
--- an NS below the apex names a host at or below its owner without address
-abbrev pub lacks_glue : {N O : Type 0} → List (List ℕ) → List (Record N O) → Record N O → Bool
-lacks_glue origin records r = type_of r == 2 && (is_below r.owner origin && names_host (lacks_address r.owner records) r)
-
--- an MX, SRV or NS names an alias
-abbrev pub names_alias : {N O : Type 0} → List (Record N O) → Record N O → Bool
-names_alias records r = names_host (λ host. has_type_at 5 host records) r
-
--- below a name above this one, in the zone, stands a wildcard
-abbrev pub has_wildcard_above : {N O : Type 0} → List (List ℕ) → List (Record N O) → List (List ℕ) → Bool
-has_wildcard_above origin records name = list_any (λ above. is_within above origin && has_owner ((42 ∷ []) ∷ above) records) (names_above name)
+-- ---- delegations
 
 -- an NS stands at a name below the apex
 abbrev pub is_zone_cut : {N O : Type 0} → List (List ℕ) → List (Record N O) → List (List ℕ) → Bool
@@ -95,54 +77,117 @@ is_zone_cut origin records name = is_below name origin && has_type_at 2 name rec
 abbrev pub is_dname_at_cut : {N O : Type 0} → List (List ℕ) → List (Record N O) → Record N O → Bool
 is_dname_at_cut origin records r = type_of r == 39 && is_zone_cut origin records r.owner
 
--- a delegation stands at a name or above it
-abbrev pub is_delegated : {N O : Type 0} → List (List ℕ) → List (Record N O) → List (List ℕ) → Bool
-is_delegated origin records name = list_any (is_zone_cut origin records) (name ∷ names_above name)
+-- ---- hosts
 
--- a name in the zone that has no address, and no alias, wildcard or delegation in its place
-abbrev pub is_missing : {N O : Type 0} → List (List ℕ) → List (Record N O) → List (List ℕ) → Bool
-is_missing origin records name =
-    lacks_address origin records name && (not (has_type_at 5 name records) && (not (has_wildcard_above origin records name) && not (is_delegated origin records name)))
+-- the record names a host that passes the test
+abbrev pub names_host : {N O : Type 0} → (List (List ℕ) → Bool) → Record N O → Bool
+names_host test r = option_map_or test (host_of r) false
 
--- an MX, SRV or NS names a host that is missing; of an NS at the apex that is told as a fault
-abbrev pub names_missing : {N O : Type 0} → List (List ℕ) → List (Record N O) → Record N O → Bool
-names_missing origin records r = not (is_record_at_apex 2 origin r) && names_host (is_missing origin records) r
+-- and its class is IN, where a host has addresses
+abbrev pub names_internet_host : {N O : Type 0} → (List (List ℕ) → Bool) → Record N O → Bool
+names_internet_host test r = r.class == 1 && names_host test r
 
--- ---- owners and keys
+-- a name has CNAME, of its own or, where the zone has its data, from a wildcard
+abbrev pub is_alias : {N O : Type 0} → List (List ℕ) → List (Record N O) → List RrsetName → List (List ℕ) → Bool
+is_alias origin records refused name = is_present 5 name records refused || (is_synthesized 5 name records refused && is_own origin records refused name)
 
--- the owners of A, AAAA and MX are host names
-abbrev pub is_host_record : {N O : Type 0} → Record N O → Bool
-is_host_record r = type_of r == 1 || (type_of r == 28 || type_of r == 15)
+-- the zone has the data of a name, and a DNAME is above it
+abbrev pub is_below_own_dname : {N O : Type 0} → List (List ℕ) → List (Record N O) → List RrsetName → List (List ℕ) → Bool
+is_below_own_dname origin records refused name = is_renamed name records refused && is_own origin records refused name
 
--- such an owner has an underscore
-abbrev pub is_bad_host_name : {N O : Type 0} → Record N O → Bool
-is_bad_host_name r = is_host_record r && has_underscore r.owner
+-- the zone has the data of a name, and no address for it
+abbrev pub lacks_address : {N O : Type 0} → List (List ℕ) → List (Record N O) → List RrsetName → List (List ℕ) → Bool
+lacks_address origin records refused name = (is_renamed name records refused || not (gives_address name records refused)) && is_own origin records refused name
 
--- a CDS or CDNSKEY, and no DNSKEY at the apex
-abbrev pub lacks_key : {N O : Type 0} → List (List ℕ) → List (Record N O) → Record N O → Bool
-lacks_key origin records r = (type_of r == 59 || type_of r == 60) && not (has_type_at 48 origin records)
+-- an NS at the apex names a host without an address
+abbrev pub lacks_ns_address : {N O : Type 0} → List (List ℕ) → List (Record N O) → List RrsetName → Record N O → Bool
+lacks_ns_address origin records refused r = is_record_at_apex 2 origin r && names_internet_host (lacks_address origin records refused) r
+
+-- a name is at or below a delegation, and no A or AAAA is there
+abbrev pub is_without_glue : {N O : Type 0} → List (List ℕ) → List (Record N O) → List RrsetName → List (List ℕ) → Bool
+is_without_glue delegation records refused name = is_within name delegation && not (has_address_in name records refused)
+
+-- an NS below the apex names a host at or below its owner without address
+abbrev pub lacks_glue : {N O : Type 0} → List (List ℕ) → List (Record N O) → List RrsetName → Record N O → Bool
+lacks_glue origin records refused r = type_of r == 2 && (is_below r.owner origin && names_internet_host (is_without_glue r.owner records refused) r)
+
+-- an MX, SRV or NS names an alias
+abbrev pub names_alias : {N O : Type 0} → List (List ℕ) → List (Record N O) → List RrsetName → Record N O → Bool
+names_alias origin records refused r = names_host (is_alias origin records refused) r
+
+-- an MX, SRV or NS names a host below a DNAME
+abbrev pub names_renamed : {N O : Type 0} → List (List ℕ) → List (Record N O) → List RrsetName → Record N O → Bool
+names_renamed origin records refused r = names_host (is_below_own_dname origin records refused) r
+
+-- the zone has no address for a name, which is neither an alias nor below a DNAME
+abbrev pub is_missing : {N O : Type 0} → List (List ℕ) → List (Record N O) → List RrsetName → List (List ℕ) → Bool
+is_missing origin records refused name = lacks_address origin records refused name && (not (is_renamed name records refused) && not (is_alias origin records refused name))
+
+-- an MX, SRV or NS names a host that is missing; of an NS at the apex that is an error of its own
+abbrev pub names_missing : {N O : Type 0} → List (List ℕ) → List (Record N O) → List RrsetName → Record N O → Bool
+names_missing origin records refused r = not (is_record_at_apex 2 origin r) && names_internet_host (is_missing origin records refused) r
+
+-- ---- keys
+
+-- DNSKEY (RFC 4034 section 2), DS (section 5), and those for the parent (RFC 7344)
+abbrev pub is_delete_request : {N O : Type 0} → Record N O → Bool
+is_delete_request r =
+    (type_of r == 59 && pointwise nat_eq (data_of r).octets (0 ∷ 0 ∷ 0 ∷ 0 ∷ 0 ∷ [])) || (type_of r == 60 && pointwise nat_eq (data_of r).octets (0 ∷ 0 ∷ 3 ∷ 0 ∷ 0 ∷ []))
+
+-- a CDS or CDNSKEY that asks for more than to delete (RFC 8078 section 4), and no DNSKEY at the apex
+abbrev pub lacks_key : {N O : Type 0} → List (List ℕ) → List (Record N O) → List RrsetName → Record N O → Bool
+lacks_key origin records refused r = (type_of r == 59 || type_of r == 60) && (not (is_delete_request r) && not (is_present 48 origin records refused))
+
+-- a DS below the apex, and no NS at its owner
+abbrev pub lacks_ns : {N O : Type 0} → List (List ℕ) → List (Record N O) → List RrsetName → Record N O → Bool
+lacks_ns origin records refused r = type_of r == 43 && (is_below r.owner origin && not (is_present 2 r.owner records refused))
+
+-- the types that belong at an apex: NSEC3PARAM, CDS, CDNSKEY, CSYNC and ZONEMD
+abbrev pub is_apex_type : ℕ → Bool
+is_apex_type type = type == 51 || (type == 59 || (type == 60 || (type == 62 || type == 63)))
+
+-- such a record below the apex, or a DNSKEY below it at no delegation
+abbrev pub is_below_its_apex : {N O : Type 0} → List (List ℕ) → List (Record N O) → List RrsetName → Record N O → Bool
+is_below_its_apex origin records refused r = (is_apex_type (type_of r) || (type_of r == 48 && not (is_present 2 r.owner records refused))) && is_below r.owner origin
+
+-- the octet at a place of a record's data
+abbrev pub has_octet_at : {N O : Type 0} → (ℕ → Bool) → ℕ → Record N O → Bool
+has_octet_at test place r = option_map_or test (slice_get (data_of r).octets place) false
+
+-- a DNSKEY of another protocol than 3 (RFC 4034 section 2.1.2)
+abbrev pub has_other_protocol : {N O : Type 0} → Record N O → Bool
+has_other_protocol r = type_of r == 48 && has_octet_at (λ o. not (o == 3)) 2 r
+
+-- a DNSKEY or DS of algorithm 0, which is reserved (RFC 4034 appendix A.1)
+abbrev pub has_no_algorithm : {N O : Type 0} → Record N O → Bool
+has_no_algorithm r = (type_of r == 48 && has_octet_at (λ o. o == 0) 3 r) || (type_of r == 43 && has_octet_at (λ o. o == 0) 2 r)
 
 -- ---- all rules
 
 -- whether the record at a place breaks a rule; what the zone lacks no record breaks
-abbrev pub breaks : {N O : Type 0} → Rule → List (List ℕ) → List (Record N O) → ℕ → Record N O → Bool
-breaks NoSoa origin records place r = false
-breaks NoNs origin records place r = false
-breaks Outside origin records place r = is_out_of_zone origin r
-breaks TwoSoas origin records place r = follows (are_two_of 6) records place r
-breaks NsAddress origin records place r = lacks_ns_address origin records r
-breaks Cname origin records place r = is_alias_in_company records r
-breaks TwoDnames origin records place r = follows (are_two_of 39) records place r
-breaks BelowDname origin records place r = is_below_dname records r
-breaks DsAtApex origin records place r = is_record_at_apex 43 origin r
-breaks WildcardNs origin records place r = is_wildcard_ns r
-breaks SoaNotApex origin records place r = is_soa_below_apex origin r
-breaks NsBesideDname origin records place r = is_dname_at_cut origin records r
-breaks Nsec3AtWildcard origin records place r = is_wildcard_nsec3 r
-breaks MissingGlue origin records place r = lacks_glue origin records r
-breaks HostIsAlias origin records place r = names_alias records r
-breaks HostMissing origin records place r = names_missing origin records r
-breaks HostName origin records place r = is_bad_host_name r
-breaks CdsWithoutKey origin records place r = lacks_key origin records r
-breaks TtlDiffers origin records place r = follows have_other_ttls records place r
-breaks Duplicate origin records place r = follows is_equal_record records place r
+abbrev pub breaks : {N O : Type 0} → Rule → List (List ℕ) → List (Record N O) → List RrsetName → ℕ → Record N O → Bool
+breaks NoSoa origin records refused place r = false
+breaks NoNs origin records refused place r = false
+breaks Outside origin records refused place r = is_out_of_zone origin r
+breaks TwoSoas origin records refused place r = follows (are_two_of 6) records place r
+breaks NsAddress origin records refused place r = lacks_ns_address origin records refused r
+breaks Cname origin records refused place r = is_alias_in_company records r
+breaks TwoDnames origin records refused place r = follows (are_two_of 39) records place r
+breaks BelowDname origin records refused place r = is_below_dname records r
+breaks DsAtApex origin records refused place r = is_record_at_apex 43 origin r
+breaks WildcardNs origin records refused place r = is_wildcard_ns r
+breaks SoaNotApex origin records refused place r = is_soa_below_apex origin r
+breaks NsBesideDname origin records refused place r = is_dname_at_cut origin records r
+breaks Nsec3Owner origin records refused place r = is_unhashed_nsec3 r
+breaks MissingGlue origin records refused place r = lacks_glue origin records refused r
+breaks HostIsAlias origin records refused place r = names_alias origin records refused r
+breaks HostBelowDname origin records refused place r = names_renamed origin records refused r
+breaks HostMissing origin records refused place r = names_missing origin records refused r
+breaks HostName origin records refused place r = is_bad_host_name r
+breaks CdsWithoutKey origin records refused place r = lacks_key origin records refused r
+breaks DsWithoutNs origin records refused place r = lacks_ns origin records refused r
+breaks NotAtApex origin records refused place r = is_below_its_apex origin records refused r
+breaks KeyProtocol origin records refused place r = has_other_protocol r
+breaks KeyAlgorithm origin records refused place r = has_no_algorithm r
+breaks TtlDiffers origin records refused place r = follows have_other_ttls records place r
+breaks Duplicate origin records refused place r = follows is_equal_record records place r

@@ -1,8 +1,8 @@
 -- What stands at a name, among the records of a zone.
-use Rattle.std.specs.Prelude.{◌≡◌, ℕ, ◌-◌, ◌==◌, ◌&&◌, ◌||◌, if◌then◌else◌, Bool, IsTrue, Option, Some, None, List, [], ◌∷◌, length, slice_get, option_and_then}
+use Rattle.std.specs.Prelude.{◌≡◌, ℕ, ◌-◌, ◌==◌, ◌&&◌, if◌then◌else◌, Bool, IsTrue, true, Option, Some, None, List, [], ◌∷◌, length, slice_get, option_and_then}
 use Rattle.std.specs.Int.{from_be_bytes, w16}
-use Rattle.std.specs.List.{AllAdjacentBelow, list_any}
-use Rattle.std.specs.Option.{option_map}
+use Rattle.std.specs.List.{AllAdjacentBelow, list_all, list_any}
+use Rattle.std.specs.Option.{option_map, option_map_or}
 use Rattle.std.specs.Ordering.{is_eq, is_le}
 use Rattle.dns_wire.specs.Order.{same_name}
 use Rattle.dns_spelling.specs.PrintedNames.{labels_in_octets}
@@ -12,6 +12,7 @@ use Rattle.dns_resource.specs.Parts.{data_part}
 use Rattle.dns_resource.specs.Records.{data_of}
 use Rattle.dns_resource.specs.TypeData.{TypeData}
 use Rattle.dns_resource.specs.declared.record.Record.{Record}
+use Rattle.zone_rules.specs.Above.{is_within}
 
 abbrev pub type_of : {N O : Type 0} → Record N O → ℕ
 type_of r = (data_of r).code
@@ -28,13 +29,9 @@ has_type_among type records = list_any (λ r. type_of r == type) records
 abbrev pub has_owner : {N O : Type 0} → List (List ℕ) → List (Record N O) → Bool
 has_owner name records = list_any (λ r. same_name r.owner name) records
 
--- a record is an A or AAAA
-abbrev pub is_address_record : {N O : Type 0} → Record N O → Bool
-is_address_record r = type_of r == 1 || type_of r == 28
-
--- a name has an A or AAAA record
-abbrev pub has_address_at : {N O : Type 0} → List (List ℕ) → List (Record N O) → Bool
-has_address_at name records = has_type_at 1 name records || has_type_at 28 name records
+-- some record is at a name or below it
+abbrev pub has_owner_within : {N O : Type 0} → List (List ℕ) → List (Record N O) → Bool
+has_owner_within name records = list_any (λ r. is_within r.owner name) records
 
 -- records are equal in canonical form, whatever their times to live
 abbrev pub is_equal_record : {N O : Type 0} → Record N O → Record N O → Bool
@@ -44,10 +41,15 @@ is_equal_record a b = is_eq (record_order (record_key a) (record_key b))
 abbrev pub AreInOrder : {N O : Type 0} → List (Record N O) → Type 0
 AreInOrder records = AllAdjacentBelow (λ a b. IsTrue (is_le (record_order (record_key a) (record_key b)))) records (length records)
 
--- records are in canonical order, and a flag says whether one is a DNAME
-pub record IsSortedWith {N O : Type 0} (records : List (Record N O)) (has_dname : Bool) : Type 0 where
+-- all records have the class of the first
+abbrev pub is_one_class : {N O : Type 0} → List (Record N O) → Bool
+is_one_class records = option_map_or (λ first. list_all (λ r. r.class == first.class) records) (slice_get records 0) true
+
+-- records are in canonical order, and flags say whether one is a DNAME, and whether they have one class
+pub record IsSortedWith {N O : Type 0} (records : List (Record N O)) (has_dname in_one_class : Bool) : Type 0 where
   pub in_order : AreInOrder records
   pub dname : has_dname ≡ has_type_among 39 records
+  pub one_class : in_one_class ≡ is_one_class records
 
 -- the record before a place
 abbrev pub record_before : {N O : Type 0} → List (Record N O) → ℕ → Option (Record N O)

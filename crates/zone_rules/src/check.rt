@@ -4,17 +4,25 @@ ghost use Rattle.std.specs.List.{flat_map};
 ghost use Rattle.zone_rules.specs.Findings.{breaks_at, found_at, found_at_apex, found_if, found_in_zone, found_of};
 ghost use Rattle.zone_rules.specs.Rules.{breaks};
 
+use crate::hash_owners::is_nsec3_without_hash;
+use crate::host_names::is_no_host_name;
 use crate::hosts::{
-    is_dname_at_delegation, is_ns_without_address, is_to_alias, is_to_missing, is_without_glue,
+    is_dname_at_delegation, is_ns_without_address, is_ns_without_glue, is_to_alias, is_to_missing,
+    is_to_renamed,
+};
+use crate::keys::{
+    is_ds_without_ns, is_not_at_apex, is_of_other_protocol, is_without_algorithm, is_without_key,
 };
 use crate::names::view;
 use crate::owners::{
-    has_company, is_apex_record, is_no_host_name, is_ns_at_wildcard, is_nsec3_at_wildcard,
-    is_outside_zone, is_soa_elsewhere, is_under_dname, is_without_key,
+    has_company, is_apex_record, is_ns_at_wildcard, is_outside_zone, is_soa_elsewhere,
+    is_under_dname,
 };
 use crate::pairs::{has_other_ttl, is_duplicate, is_second};
+use crate::present::has_set;
+use crate::refused::SortedSets;
 use crate::rule::{Finding, Rule};
-use crate::sorted::{SortedRecords, has_type};
+use crate::sorted::SortedRecords;
 use crate::types::{DNAME, DS, NS, SOA};
 use dns_octets::AsOctets;
 use dns_resource::Record;
@@ -22,7 +30,7 @@ use dns_wire::Name;
 use std::alloc::{AllocError, Allocator};
 
 /// The rules for records, in the order in which they are told of a record.
-const RECORD_RULES: [Rule; 18] = [
+const RECORD_RULES: [Rule; 23] = [
     Rule::Outside,
     Rule::TwoSoas,
     Rule::NsAddress,
@@ -33,12 +41,17 @@ const RECORD_RULES: [Rule; 18] = [
     Rule::WildcardNs,
     Rule::SoaNotApex,
     Rule::NsBesideDname,
-    Rule::Nsec3AtWildcard,
+    Rule::Nsec3Owner,
     Rule::MissingGlue,
     Rule::HostIsAlias,
+    Rule::HostBelowDname,
     Rule::HostMissing,
     Rule::HostName,
     Rule::CdsWithoutKey,
+    Rule::DsWithoutNs,
+    Rule::NotAtApex,
+    Rule::KeyProtocol,
+    Rule::KeyAlgorithm,
     Rule::TtlDiffers,
     Rule::Duplicate,
 ];
@@ -48,16 +61,17 @@ fn breaks_rule<Owner: AsOctets, Octets: AsOctets>(
     rule: Rule,
     origin: &Name<&[u8]>,
     records: &SortedRecords<'_, Owner, Octets>,
+    refused: &SortedSets<'_>,
     place: usize,
     record: &Record<Owner, Octets>,
 ) -> bool
-    ensures { result ≡ breaks rule origin.now records.now place «record».now }
+    ensures { result ≡ breaks rule origin.now records.now refused.now place «record».now }
 {
     match rule {
         Rule::NoSoa | Rule::NoNs => false,
         Rule::Outside => is_outside_zone(origin, record),
         Rule::TwoSoas => is_second(SOA, records, place, record),
-        Rule::NsAddress => is_ns_without_address(origin, records, record),
+        Rule::NsAddress => is_ns_without_address(origin, records, refused, record),
         Rule::Cname => has_company(records, record),
         Rule::TwoDnames => is_second(DNAME, records, place, record),
         Rule::BelowDname => is_under_dname(records, record),
@@ -65,12 +79,17 @@ fn breaks_rule<Owner: AsOctets, Octets: AsOctets>(
         Rule::WildcardNs => is_ns_at_wildcard(record),
         Rule::SoaNotApex => is_soa_elsewhere(origin, record),
         Rule::NsBesideDname => is_dname_at_delegation(origin, records, record),
-        Rule::Nsec3AtWildcard => is_nsec3_at_wildcard(record),
-        Rule::MissingGlue => is_without_glue(origin, records, record),
-        Rule::HostIsAlias => is_to_alias(records, record),
-        Rule::HostMissing => is_to_missing(origin, records, record),
+        Rule::Nsec3Owner => is_nsec3_without_hash(record),
+        Rule::MissingGlue => is_ns_without_glue(origin, records, refused, record),
+        Rule::HostIsAlias => is_to_alias(origin, records, refused, record),
+        Rule::HostBelowDname => is_to_renamed(origin, records, refused, record),
+        Rule::HostMissing => is_to_missing(origin, records, refused, record),
         Rule::HostName => is_no_host_name(record),
-        Rule::CdsWithoutKey => is_without_key(origin, records, record),
+        Rule::CdsWithoutKey => is_without_key(origin, records, refused, record),
+        Rule::DsWithoutNs => is_ds_without_ns(origin, records, refused, record),
+        Rule::NotAtApex => is_not_at_apex(origin, records, refused, record),
+        Rule::KeyProtocol => is_of_other_protocol(record),
+        Rule::KeyAlgorithm => is_without_algorithm(record),
         Rule::TtlDiffers => has_other_ttl(records, place, record),
         Rule::Duplicate => is_duplicate(records, place, record),
     }
@@ -81,12 +100,13 @@ fn is_broken_at<Owner: AsOctets, Octets: AsOctets>(
     rule: Rule,
     origin: &Name<&[u8]>,
     records: &SortedRecords<'_, Owner, Octets>,
+    refused: &SortedSets<'_>,
     place: usize,
 ) -> bool
-    ensures { result ≡ breaks_at origin.now records.now place rule }
+    ensures { result ≡ breaks_at origin.now records.now refused.now place rule }
 {
     match records.as_slice().get(place) {
-        Some(record) => breaks_rule(rule, origin, records, place, record),
+        Some(record) => breaks_rule(rule, origin, records, refused, place, record),
         None => false,
     }
 }
@@ -115,13 +135,14 @@ fn add_each<Owner: AsOctets, Octets: AsOctets, A: Allocator>(
     rules: &[Rule],
     origin: &Name<&[u8]>,
     records: &SortedRecords<'_, Owner, Octets>,
+    refused: &SortedSets<'_>,
     place: usize,
     found: &mut Vec<Finding, A>,
 ) -> Result<(), AllocError>
-    ensures { OnOk result (found.new.items ≡ found.old.items ++ flat_map (found_of origin.now records.now place) rules.now) }
+    ensures { OnOk result (found.new.items ≡ found.old.items ++ flat_map (found_of origin.now records.now refused.now place) rules.now) }
 {
     for rule in rules {
-        let is_broken = is_broken_at(*rule, origin, records, place);
+        let is_broken = is_broken_at(*rule, origin, records, refused, place);
         add_if(is_broken, *rule, Some(place), found)?;
     }
     Ok(())
@@ -131,28 +152,42 @@ fn add_each<Owner: AsOctets, Octets: AsOctets, A: Allocator>(
 fn add_broken<Owner: AsOctets, Octets: AsOctets, A: Allocator>(
     origin: &Name<&[u8]>,
     records: &SortedRecords<'_, Owner, Octets>,
+    refused: &SortedSets<'_>,
     place: usize,
     found: &mut Vec<Finding, A>,
 ) -> Result<(), AllocError>
-    ensures { OnOk result (found.new.items ≡ found.old.items ++ found_at origin.now records.now place) }
+    ensures { OnOk result (found.new.items ≡ found.old.items ++ found_at origin.now records.now refused.now place) }
 {
-    add_each(&RECORD_RULES, origin, records, place, found)
+    add_each(&RECORD_RULES, origin, records, refused, place, found)
 }
 
 /// Adds what the zone lacks at its apex.
 fn add_lacking<Owner: AsOctets, Octets: AsOctets, A: Allocator>(
     origin: &Name<&[u8]>,
     records: &SortedRecords<'_, Owner, Octets>,
+    refused: &SortedSets<'_>,
     found: &mut Vec<Finding, A>,
 ) -> Result<(), AllocError>
-    ensures { OnOk result (found.new.items ≡ found.old.items ++ found_at_apex origin.now records.now) }
+    ensures { OnOk result (found.new.items ≡ found.old.items ++ found_at_apex origin.now records.now refused.now) }
 {
-    add_if(!has_type(records, origin, SOA), Rule::NoSoa, None, found)?;
-    add_if(!has_type(records, origin, NS), Rule::NoNs, None, found)
+    add_if(
+        !has_set(records, refused, origin, SOA),
+        Rule::NoSoa,
+        None,
+        found,
+    )?;
+    add_if(
+        !has_set(records, refused, origin, NS),
+        Rule::NoNs,
+        None,
+        found,
+    )
 }
 
 /// What is found in the zone that has this origin and these records: first what it lacks at its
-/// apex, and then the rules that each record breaks, record by record. Classes don't count.
+/// apex, and then the rules that each record breaks, record by record. Classes count in sets and hosts
+/// alone. The RRsets of which an entry was refused are in the zone, though their data are not known:
+/// they are not missed.
 ///
 /// Where there is no memory nothing is returned.
 #[tactic(auto, using(crate::proofs::Steps::zone_more))]
@@ -160,14 +195,15 @@ pub fn check_zone<Owner: AsOctets, Octets: AsOctets, Origin: AsOctets, A: Alloca
     alloc: A,
     origin: &Name<Origin>,
     records: &SortedRecords<'_, Owner, Octets>,
+    refused: &SortedSets<'_>,
 ) -> Result<Vec<Finding, A>, AllocError>
-    ensures { IfOk result (λ found. found.items ≡ found_in_zone origin.now records.now) }
+    ensures { IfOk result (λ found. found.items ≡ found_in_zone origin.now records.now refused.now) }
 {
     let apex = view(origin);
     let mut found = Vec::new(alloc);
-    add_lacking(&apex, records, &mut found)?;
+    add_lacking(&apex, records, refused, &mut found)?;
     for place in 0..records.as_slice().len() {
-        add_broken(&apex, records, place, &mut found)?;
+        add_broken(&apex, records, refused, place, &mut found)?;
     }
     Ok(found)
 }

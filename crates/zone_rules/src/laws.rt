@@ -1,6 +1,7 @@
 //! What holds of all findings.
 ghost use Rattle.zone_rules.specs.Findings.{TellsBrokenRules, found_in_zone};
 
+use crate::refused::SortedSets;
 use crate::sorted::SortedRecords;
 use dns_octets::AsOctets;
 use dns_wire::Name;
@@ -9,6 +10,7 @@ use dns_wire::Name;
 pub fn broken_rules_are_told<Owner: AsOctets, Octets: AsOctets, Origin: AsOctets>(
     origin: &Name<Origin>,
     records: &SortedRecords<'_, Owner, Octets>,
+    refused: &SortedSets<'_>,
 )
-    ensures { TellsBrokenRules origin.now records.now (found_in_zone origin.now records.now) }
+    ensures { TellsBrokenRules origin.now records.now refused.now (found_in_zone origin.now records.now refused.now) }
 {}

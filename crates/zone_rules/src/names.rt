@@ -1,10 +1,10 @@
 //! Where names stand to one another (RFC 1034 section 3.1), the case of letters apart (RFC 4343).
-ghost use Rattle.std.specs.Prelude.{◌≡◌, ℕ, List, ◌∷◌, [], Some, None};
+ghost use Rattle.std.specs.Prelude.{◌≡◌, ◌≤◌, ℕ, List, length, ◌∷◌, [], Some, None};
 ghost use Rattle.dns_wire.specs.Order.{same_name};
 ghost use Rattle.dns_wire.specs.Wire.{wire, IsName, EndsInRoot};
 ghost use Rattle.dns_spelling.specs.NameSpelling.{IsWireName};
 ghost use Rattle.dns_canonical.specs.Names.{name_order};
-ghost use Rattle.zone_rules.specs.Above.{parent_of, is_below, is_within, is_wildcard, has_underscore};
+ghost use Rattle.zone_rules.specs.Above.{first_label_of, parent_of, is_below, is_within, is_wildcard};
 
 use dns_canonical::compare_names;
 use dns_octets::AsOctets;
@@ -69,6 +69,16 @@ pub fn parent<'a>(name: &Name<&'a [u8]>) -> Option<Name<&'a [u8]>>
     Some(name_of(&octets[behind..]))
 }
 
+/// Returns the first label of a name; the root's is empty.
+pub(crate) fn first_label<'a>(name: &'a Name<&[u8]>) -> &'a [u8]
+    ensures value { result.now ≡ first_label_of name.now }
+    ensures short { length result.now ≤ 255 }
+{
+    let octets = octets_of(name);
+    let end = 1 + usize::from(octets[0]);
+    &octets[1..end]
+}
+
 /// Whether a name is below another.
 #[tactic(auto, using(crate::proofs::NameParts::above_none, crate::proofs::NameParts::above_some, crate::proofs::NameParts::above_fewer))]
 pub fn is_name_below(name: &Name<&[u8]>, top: &Name<&[u8]>) -> bool
@@ -92,12 +102,4 @@ pub(crate) fn is_wildcard_name(name: &Name<&[u8]>) -> bool
     ensures { result ≡ is_wildcard name.now }
 {
     matches!(octets_of(name), [1, b'*', ..])
-}
-
-/// Whether a label of a name has an underscore, which no host name has (RFC 952, RFC 1123 section
-/// 2.1).
-pub(crate) fn has_name_underscore(name: &Name<&[u8]>) -> bool
-    ensures { result ≡ has_underscore name.now }
-{
-    octets_of(name).contains(&b'_')
 }

@@ -2,15 +2,13 @@
 ghost use Rattle.std.specs.Prelude.{◌≡◌};
 ghost use Rattle.std.specs.List.{list_any};
 ghost use Rattle.zone_rules.specs.Above.{names_above};
-ghost use Rattle.zone_rules.specs.Rules.{is_alias_in_company, is_record_at_apex, has_dname_over, is_bad_host_name, is_below_dname, is_beside_alias, is_host_record, is_of_hashed_chain, is_out_of_zone, is_soa_below_apex, is_wildcard_ns, is_wildcard_nsec3, lacks_key};
+ghost use Rattle.zone_rules.specs.Rules.{is_alias_in_company, is_record_at_apex, is_below_dname, is_beside_alias, is_of_hashed_chain, is_out_of_zone, is_soa_below_apex, is_wildcard_ns};
 ghost use Rattle.zone_rules.specs.Zones.{has_type_at};
 
-use crate::names::{
-    has_name_underscore, is_name_below, is_name_within, is_same, is_wildcard_name, parent, view,
-};
+use crate::names::{is_name_below, is_name_within, is_same, is_wildcard_name, parent, view};
 use crate::pairs::{are_equal, have_one_owner, set_type_of};
 use crate::sorted::{SortedRecords, has_type, owned_by};
-use crate::types::{A, AAAA, CDNSKEY, CDS, CNAME, DNAME, DNSKEY, MX, NS, NSEC, NSEC3, RRSIG, SOA};
+use crate::types::{CNAME, DNAME, NS, NSEC, NSEC3, RRSIG, SOA};
 use dns_octets::AsOctets;
 use dns_resource::Record;
 use dns_wire::Name;
@@ -62,28 +60,28 @@ pub(crate) fn has_company<Owner: AsOctets, Octets: AsOctets>(
             .any(|other| is_beside(record, other))
 }
 
-/// Whether a DNAME stands above a name.
+/// Whether a DNAME stands above a name, of which one is in the zone.
 #[tactic(auto, using(crate::proofs::NameParts::above_none, crate::proofs::NameParts::above_some, crate::proofs::NameParts::above_fewer))]
-fn has_dname_above<Owner: AsOctets, Octets: AsOctets>(
+fn is_below_some_dname<Owner: AsOctets, Octets: AsOctets>(
     records: &SortedRecords<'_, Owner, Octets>,
     name: &Name<&[u8]>,
 ) -> bool
     ensures { result ≡ list_any (λ above. has_type_at 39 above records.now) (names_above name.now) }
 {
     match parent(name) {
-        Some(above) => has_type(records, &above, DNAME) || has_dname_above(records, &above),
+        Some(above) => has_type(records, &above, DNAME) || is_below_some_dname(records, &above),
         None => false,
     }
 }
 
-/// Whether a DNAME stands above a record.
-fn is_owner_under_dname<Owner: AsOctets, Octets: AsOctets>(
+/// Whether a DNAME stands above a name.
+pub(crate) fn has_dname_above<Owner: AsOctets, Octets: AsOctets>(
     records: &SortedRecords<'_, Owner, Octets>,
-    record: &Record<Owner, Octets>,
+    name: &Name<&[u8]>,
 ) -> bool
-    ensures { result ≡ has_dname_over records.now «record».now }
+    ensures { result ≡ list_any (λ above. has_type_at 39 above records.now) (names_above name.now) }
 {
-    records.has_dname() && has_dname_above(records, &view(&record.owner))
+    records.has_dname() && is_below_some_dname(records, name)
 }
 
 /// Whether a record is an NSEC3, or an RRSIG over such.
@@ -100,7 +98,7 @@ pub(crate) fn is_under_dname<Owner: AsOctets, Octets: AsOctets>(
 ) -> bool
     ensures { result ≡ is_below_dname records.now «record».now }
 {
-    !is_of_hashed_chain(record) && is_owner_under_dname(records, record)
+    !is_of_hashed_chain(record) && has_dname_above(records, &view(&record.owner))
 }
 
 /// Whether a record is an SOA below the apex.
@@ -120,40 +118,4 @@ pub(crate) fn is_ns_at_wildcard<Owner: AsOctets, Octets: AsOctets>(
     ensures { result ≡ is_wildcard_ns «record».now }
 {
     record.data.code() == NS && is_wildcard_name(&view(&record.owner))
-}
-
-/// Whether a record is an NSEC3 at a wildcard.
-pub(crate) fn is_nsec3_at_wildcard<Owner: AsOctets, Octets: AsOctets>(
-    record: &Record<Owner, Octets>,
-) -> bool
-    ensures { result ≡ is_wildcard_nsec3 «record».now }
-{
-    record.data.code() == NSEC3 && is_wildcard_name(&view(&record.owner))
-}
-
-/// Whether a record is of a type whose owners are host names.
-fn is_of_host<Owner: AsOctets, Octets: AsOctets>(record: &Record<Owner, Octets>) -> bool
-    ensures { result ≡ is_host_record «record».now }
-{
-    matches!(record.data.code(), A | AAAA | MX)
-}
-
-/// Whether the owner of an A, AAAA or MX has an underscore.
-pub(crate) fn is_no_host_name<Owner: AsOctets, Octets: AsOctets>(
-    record: &Record<Owner, Octets>,
-) -> bool
-    ensures { result ≡ is_bad_host_name «record».now }
-{
-    is_of_host(record) && has_name_underscore(&view(&record.owner))
-}
-
-/// Whether a record asks for a key at the parent, and the zone has none.
-pub(crate) fn is_without_key<Owner: AsOctets, Octets: AsOctets>(
-    origin: &Name<&[u8]>,
-    records: &SortedRecords<'_, Owner, Octets>,
-    record: &Record<Owner, Octets>,
-) -> bool
-    ensures { result ≡ lacks_key origin.now records.now «record».now }
-{
-    matches!(record.data.code(), CDS | CDNSKEY) && !has_type(records, origin, DNSKEY)
 }

@@ -16,7 +16,9 @@ pub enum Rule {
     Outside,
     /// The record and the one before it are two SOAs of one owner that differ.
     TwoSoas,
-    /// The record is an NS at the apex, its host is in the zone, and no A or AAAA stands there.
+    /// The record is an NS of class IN at the apex, the zone has the data of its host, which is neither a
+    /// delegation nor below one, and there is no A or AAAA for it, of its own or from a wildcard (RFC
+    /// 4592 section 3.3.1).
     NsAddress,
     /// The record is a CNAME, and at its owner stands another record that isn't equal to it, and
     /// is neither an RRSIG nor an NSEC (RFC 1034 section 3.6.2, RFC 4034 section 4).
@@ -35,21 +37,37 @@ pub enum Rule {
     SoaNotApex,
     /// The record is a DNAME below the apex, and an NS stands at its owner (RFC 6672 section 2.3).
     NsBesideDname,
-    /// The record is an NSEC3, and its owner a wildcard (RFC 5155 section 3).
-    Nsec3AtWildcard,
+    /// The record is an NSEC3, and the first label of its owner is no hash in base 32 hex (RFC 5155
+    /// section 3).
+    Nsec3Owner,
     /// The record is an NS below the apex, its host is at or below its owner, and no A or AAAA
     /// stands there (RFC 1034 section 4.2.1).
     MissingGlue,
-    /// The record is an MX, SRV or NS, and at its host stands a CNAME (RFC 2181 section 10.3).
+    /// The record is an MX, SRV or NS, and its host has a CNAME, of its own or from a wildcard (RFC 2181
+    /// section 10.3).
     HostIsAlias,
-    /// The record is an MX, SRV or NS, but no NS at the apex, and its host is in the zone and has
-    /// no A, AAAA or CNAME, no wildcard above it, and no delegation at it or above it. The root is no
-    /// host (RFC 7505 section 3, RFC 2782).
+    /// The record is an MX, SRV or NS, and its host is below a DNAME of the zone (RFC 6672 section 5.1).
+    HostBelowDname,
+    /// The record is an MX, SRV or NS of class IN, but no NS at the apex. The zone has the data of its
+    /// host, which is neither a delegation nor below one, and there is no A, AAAA or CNAME for it, of its
+    /// own or from a wildcard, and no DNAME above it. The root is no host (RFC 7505 section 3, RFC 2782).
     HostMissing,
-    /// The record is an A, AAAA or MX, and its owner has an underscore (RFC 952).
+    /// A name in the record has to be a host name (RFC 952, RFC 1123 section 2.1), and isn't: the owner
+    /// of A, AAAA, WKS, A6 and MX, the host or target of NS, MX, SRV, AFSDB, RT, SVCB and HTTPS, both
+    /// names of SOA, or the target of PTR in the reverse trees.
     HostName,
-    /// The record is a CDS or CDNSKEY, and no DNSKEY stands at the apex (RFC 7344 section 4.1).
+    /// The record is a CDS or CDNSKEY that asks for more than to delete (RFC 8078 section 4), and no
+    /// DNSKEY is at the apex (RFC 7344 section 4.1).
     CdsWithoutKey,
+    /// The record is a DS below the apex, and no NS is at its owner (RFC 4035 section 2.4).
+    DsWithoutNs,
+    /// The record is a CDS, CDNSKEY, CSYNC, ZONEMD or NSEC3PARAM below the apex, or a DNSKEY below it at
+    /// no delegation.
+    NotAtApex,
+    /// The record is a DNSKEY of another protocol than 3 (RFC 4034 section 2.1.2).
+    KeyProtocol,
+    /// The record is a DNSKEY or DS of algorithm 0 (RFC 4034 appendix A.1).
+    KeyAlgorithm,
     /// The record and the one before it are of one set, and their times to live differ (RFC 2181
     /// section 5.2).
     TtlDiffers,
@@ -58,7 +76,7 @@ pub enum Rule {
 }
 
 impl Rule {
-    /// A short name that stays the same.
+    /// Returns a short name that stays the same. Two rules may have one.
     pub fn name(&self) -> &'static str
         ensures { result.now ≡ rule_name self.now }
     {
@@ -75,12 +93,16 @@ impl Rule {
             Rule::WildcardNs => "wildcard-ns",
             Rule::SoaNotApex => "soa-not-apex",
             Rule::NsBesideDname => "ns-beside-dname",
-            Rule::Nsec3AtWildcard => "nsec3-wildcard",
+            Rule::Nsec3Owner => "nsec3-wildcard",
             Rule::MissingGlue => "glue",
-            Rule::HostIsAlias => "target-cname",
+            Rule::HostIsAlias | Rule::HostBelowDname => "target-cname",
             Rule::HostMissing => "target-missing",
             Rule::HostName => "host-name",
             Rule::CdsWithoutKey => "cds",
+            Rule::DsWithoutNs => "ds-without-ns",
+            Rule::NotAtApex => "not-at-apex",
+            Rule::KeyProtocol => "key-protocol",
+            Rule::KeyAlgorithm => "key-algorithm",
             Rule::TtlDiffers => "ttl-differs",
             Rule::Duplicate => "duplicate",
         }
@@ -94,7 +116,7 @@ impl Rule {
             Rule::NoSoa | Rule::NoNs | Rule::Outside | Rule::TwoSoas | Rule::NsAddress => true,
             Rule::Cname | Rule::TwoDnames | Rule::BelowDname | Rule::DsAtApex => true,
             Rule::WildcardNs | Rule::SoaNotApex => true,
-            Rule::NsBesideDname | Rule::Nsec3AtWildcard => true,
+            Rule::NsBesideDname | Rule::Nsec3Owner => true,
             _ => false,
         }
     }

@@ -1,17 +1,39 @@
 //! The records of a zone in canonical order, and lookups by owner and type among them.
-ghost use Rattle.std.specs.Prelude.{◌≡◌, ◌≤◌, ◌↔◌, IfSome, IsSome, filter, length, true, false};
+ghost use Rattle.std.specs.Prelude.{◌≡◌, ◌≤◌, ◌↔◌, ◌==◌, ◌&&◌, IfSome, IsSome, filter, length, true, false};
+ghost use Rattle.std.specs.List.{list_all};
 ghost use Rattle.std.specs.List.Sorted.{IsPartitionPoint, IsPartitionedBy};
-ghost use Rattle.std.specs.Ordering.{is_le};
+ghost use Rattle.std.specs.Ordering.{is_le, is_lt, nat_cmp, ordering_then};
 ghost use Rattle.dns_wire.specs.Order.{same_name};
 ghost use Rattle.dns_canonical.specs.Names.{name_order};
-ghost use Rattle.zone_rules.specs.Zones.{AreInOrder, has_type_among, has_type_at, has_owner, has_address_at, is_address_record};
+ghost use Rattle.zone_rules.specs.Above.{is_within};
+ghost use Rattle.zone_rules.specs.Zones.{AreInOrder, has_owner_within, has_type_among, has_type_at, is_one_class, type_of};
 
-use crate::names::order_of;
-use crate::types::{A, AAAA, DNAME};
+use crate::names::{is_name_within, is_same, octets_of, order_of, view};
+use crate::types::DNAME;
 use dns_octets::AsOctets;
 use dns_resource::Record;
 use dns_wire::Name;
 use std::marker::Model;
+
+/// Returns whether records have a class.
+fn are_of_class<Owner: AsOctets, Octets: AsOctets>(
+    records: &[Record<Owner, Octets>],
+    class: u16,
+) -> bool
+    ensures { result ≡ list_all (λ r. r.class == class) records.now }
+{
+    records.iter().all(|record| record.class == class)
+}
+
+/// Returns whether records are of one class.
+fn are_of_one_class<Owner: AsOctets, Octets: AsOctets>(records: &[Record<Owner, Octets>]) -> bool
+    ensures { result ≡ is_one_class records.now }
+{
+    match records.first() {
+        Some(first) => are_of_class(records, first.class),
+        None => true,
+    }
+}
 
 /// Records in canonical order (RFC 4034 section 6), as `Record::compare` has it. Of equal ones
 /// there may be more than one.
@@ -20,6 +42,8 @@ pub struct SortedRecords<'a, Owner: AsOctets, Octets: AsOctets> {
     records: &'a [Record<Owner, Octets>],
     /// Whether one of the records is a DNAME.
     has_dname: bool,
+    /// Whether the records are of one class, so that those of an owner are in the order of their types.
+    is_one_class: bool,
 }
 
 impl<'a, Owner: AsOctets, Octets: AsOctets> Model for SortedRecords<'a, Owner, Octets> {
@@ -31,7 +55,7 @@ impl<'a, Owner: AsOctets, Octets: AsOctets> Model for SortedRecords<'a, Owner, O
 
     ghost view = { λ s. s.records.now };
 
-    ghost invariant = { λ s. IsSortedWith s.records.now s.has_dname };
+    ghost invariant = { λ s. IsSortedWith s.records.now s.has_dname s.is_one_class };
 }
 
 impl<'a, Owner: AsOctets, Octets: AsOctets> SortedRecords<'a, Owner, Octets> {
@@ -44,7 +68,11 @@ impl<'a, Owner: AsOctets, Octets: AsOctets> SortedRecords<'a, Owner, Octets> {
             return None;
         }
         let has_dname = records.iter().any(|record| record.data.code() == DNAME);
-        Some(SortedRecords { records, has_dname })
+        Some(SortedRecords {
+            records,
+            has_dname,
+            is_one_class: are_of_one_class(records),
+        })
     }
 
     /// Returns whether one of the records is a DNAME, as `new` found.
@@ -52,6 +80,13 @@ impl<'a, Owner: AsOctets, Octets: AsOctets> SortedRecords<'a, Owner, Octets> {
         ensures { result ≡ has_type_among 39 self.now }
     {
         self.has_dname
+    }
+
+    /// Returns whether the records are of one class, as `new` found.
+    fn is_one_class(&self) -> bool
+        ensures { result ≡ is_one_class self.now }
+    {
+        self.is_one_class
     }
 
     /// The records.
@@ -98,7 +133,50 @@ pub fn owned_by<'a, Owner: AsOctets, Octets: AsOctets>(
     &rest[..count]
 }
 
+/// Returns whether a record is before those of a name and a type.
+fn is_before<Owner: AsOctets, Octets: AsOctets>(
+    record: &Record<Owner, Octets>,
+    name: &Name<&[u8]>,
+    code: u16,
+) -> bool
+    ensures { result ≡ is_lt (ordering_then (name_order «record».now.owner name.now) (nat_cmp (type_of «record».now) code)) }
+{
+    order_of(&record.owner, name)
+        .then(record.data.code().cmp(&code))
+        .is_lt()
+}
+
+/// Returns whether a record is at a name and of a type.
+fn is_of<Owner: AsOctets, Octets: AsOctets>(
+    record: &Record<Owner, Octets>,
+    name: &Name<&[u8]>,
+    code: u16,
+) -> bool
+    ensures { result ≡ (same_name «record».now.owner name.now && type_of «record».now == code) }
+{
+    is_same(&view(&record.owner), name) && record.data.code() == code
+}
+
+/// Returns whether a name has a record of a type, among records of one class.
+fn finds_type<Owner: AsOctets, Octets: AsOctets>(
+    records: &SortedRecords<'_, Owner, Octets>,
+    name: &Name<&[u8]>,
+    code: u16,
+) -> bool
+    requires { is_one_class records.now ≡ true }
+    ensures { result ≡ has_type_at code name.now records.now }
+{
+    let all = records.as_slice();
+    let place = all.partition_point(|record| is_before(record, name, code));
+    match all.get(place) {
+        Some(record) => is_of(record, name, code),
+        None => false,
+    }
+}
+
 /// Returns whether a name has a record of a type.
+///
+/// Makes one binary search. Where records are of several classes, it looks at those of the owner.
 pub fn has_type<Owner: AsOctets, Octets: AsOctets>(
     records: &SortedRecords<'_, Owner, Octets>,
     name: &Name<&[u8]>,
@@ -106,36 +184,37 @@ pub fn has_type<Owner: AsOctets, Octets: AsOctets>(
 ) -> bool
     ensures { result ≡ has_type_at code name.now records.now }
 {
+    if records.is_one_class() {
+        return finds_type(records, name, code);
+    }
     owned_by(records, name)
         .iter()
         .any(|record| record.data.code() == code)
 }
 
-/// Returns whether a name has a record.
-pub(crate) fn has_record<Owner: AsOctets, Octets: AsOctets>(
+/// Returns whether a record is at a name or below it.
+fn is_within<Owner: AsOctets, Octets: AsOctets>(
+    record: &Record<Owner, Octets>,
+    name: &Name<&[u8]>,
+) -> bool
+    ensures { result ≡ is_within «record».now.owner name.now }
+{
+    is_name_within(&view(&record.owner), name)
+}
+
+/// Returns whether a name or one below it has a record.
+pub(crate) fn has_within<Owner: AsOctets, Octets: AsOctets>(
     records: &SortedRecords<'_, Owner, Octets>,
     name: &Name<&[u8]>,
 ) -> bool
-    ensures { result ≡ has_owner name.now records.now }
+    ensures { result ≡ has_owner_within name.now records.now }
 {
-    !owned_by(records, name).is_empty()
-}
-
-/// Returns whether a record is an A or AAAA.
-fn is_address<Owner: AsOctets, Octets: AsOctets>(record: &Record<Owner, Octets>) -> bool
-    ensures { result ≡ is_address_record «record».now }
-{
-    matches!(record.data.code(), A | AAAA)
-}
-
-/// Returns whether a name has an A or AAAA record.
-pub(crate) fn has_address<Owner: AsOctets, Octets: AsOctets>(
-    records: &SortedRecords<'_, Owner, Octets>,
-    name: &Name<&[u8]>,
-) -> bool
-    ensures { result ≡ has_address_at name.now records.now }
-{
-    owned_by(records, name)
-        .iter()
-        .any(|record| is_address(record))
+    // No effect at run time: the proof reads that the name ends in the root.
+    let _octets = octets_of(name);
+    let all = records.as_slice();
+    let place = all.partition_point(|record| order_of(&record.owner, name).is_lt());
+    match all.get(place) {
+        Some(record) => is_within(record, name),
+        None => false,
+    }
 }

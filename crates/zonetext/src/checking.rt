@@ -24,7 +24,7 @@ use zone_dnssec::{Times, check_signed};
 use zone_format::place::Place;
 use zone_rules::names::view;
 use zone_rules::sorted::has_type;
-use zone_rules::{Rule, SortedRecords, check_zone};
+use zone_rules::{Rule, SortedRecords, SortedSets, check_zone};
 use zone_set::{TaggedOctets, serial_of};
 use zonetext_records::codes::{
     code_of_entry, code_of_fault, code_of_rule, code_of_security, is_for_lack_of_room,
@@ -585,11 +585,13 @@ impl<'a> Checker<'a> {
         let Some(sorted) = SortedRecords::new(records) else {
             return Ok(());
         };
-        let found = check_zone(self.alloc, zone, &sorted)?;
+        let found = check_zone(self.alloc, zone, &sorted, &SortedSets::none())?;
         for finding in &found {
             let record = finding.record.and_then(|place| records.get(place));
             let is_told = match finding.rule {
                 Rule::Duplicate | Rule::TtlDiffers => true,
+                // The rules of signed zones have this one too.
+                Rule::DsWithoutNs => is_zone && self.limits.times.is_none(),
                 _ => is_zone,
             };
             if is_told {

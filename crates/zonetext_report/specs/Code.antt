@@ -3,7 +3,7 @@ use Rattle.std.specs.Prelude.{ℕ, Bool, true, false, List, codes}
 use Rattle.zonetext_report.specs.declared.code.Severity.{Severity}
 use Rattle.zonetext_report.specs.declared.code.Severity.TheVariants.{Error, Warning}
 use Rattle.zonetext_report.specs.declared.code.Code.{Code}
-use Rattle.zonetext_report.specs.declared.code.Code.TheVariants.{OpenQuote, OpenParenthesis, ClosingParenthesis, LoneReturn, BadEscape, Nul, ByteOrderMark, ControlZ, Directive, Owner, Ttl, Class, RecordType, Data, Include, NoOwner, NoTtl, OtherClass, NoSoa, TwoSoas, NoNs, NsAddress, Cname, Dname, DsApex, WildcardNs, SoaNotApex, NsBesideDname, Nsec3Wildcard, BelowDname, Outside, MaxTtl, NoOrigin, HighOctet, ControlOctet, Crlf, NestedParentheses, NoFinalNewline, RelativeOrigin, SoaMinimumTtl, IncludeTtl, MissingDot, EmptyUri, TlsaLength, Glue, TargetCname, TargetMissing, HostName, Cds, TtlDiffers, Duplicate, NoDnskey, Expired, ExpiresSoon, NotYetValid, Unsigned, SignsNothing, NoNsec, NsecNext, NsecTypes, DsWithoutNs, NoNsec3, Nsec3Next, Nsec3Types}
+use Rattle.zonetext_report.specs.declared.code.Code.TheVariants.{OpenQuote, OpenParenthesis, ClosingParenthesis, LoneReturn, BadEscape, Nul, ByteOrderMark, ControlZ, Directive, Owner, Ttl, Class, RecordType, Data, Include, NoOwner, NoTtl, OtherClass, NoSoa, TwoSoas, NoNs, NsAddress, Cname, Dname, DsApex, WildcardNs, SoaNotApex, NsBesideDname, Nsec3Wildcard, BelowDname, Outside, MaxTtl, NoOrigin, HighOctet, ControlOctet, Crlf, NestedParentheses, NoFinalNewline, RelativeOrigin, SoaMinimumTtl, IncludeTtl, MissingDot, EmptyUri, TlsaLength, Glue, TargetCname, TargetMissing, HostName, Cds, TtlDiffers, Duplicate, NotAtApex, KeyProtocol, KeyAlgorithm, NoDnskey, Expired, ExpiresSoon, NotYetValid, Unsigned, SignsNothing, NoNsec, NsecNext, NsecTypes, DsWithoutNs, NoNsec3, Nsec3Next, Nsec3Types}
 
 abbrev pub severity_name : Severity → List ℕ
 severity_name Error = codes "error"
@@ -62,6 +62,9 @@ code_name HostName = codes "host-name"
 code_name Cds = codes "cds"
 code_name TtlDiffers = codes "ttl-differs"
 code_name Duplicate = codes "duplicate"
+code_name NotAtApex = codes "not-at-apex"
+code_name KeyProtocol = codes "key-protocol"
+code_name KeyAlgorithm = codes "key-algorithm"
 code_name NoDnskey = codes "no-dnskey"
 code_name Expired = codes "expired"
 code_name ExpiresSoon = codes "expires-soon"
@@ -110,5 +113,9 @@ default_severity HostName = Warning
 default_severity Cds = Warning
 default_severity TtlDiffers = Warning
 default_severity Duplicate = Warning
+default_severity DsWithoutNs = Warning
+default_severity NotAtApex = Warning
+default_severity KeyProtocol = Warning
+default_severity KeyAlgorithm = Warning
 default_severity ExpiresSoon = Warning
 default_severity _ = Error

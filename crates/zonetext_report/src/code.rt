@@ -85,7 +85,7 @@ pub enum Code {
     SoaNotApex,
     /// A DNAME stands below the apex beside an NS.
     NsBesideDname,
-    /// A wildcard has an NSEC3.
+    /// The first label of an NSEC3's owner is not base 32 hex.
     Nsec3Wildcard,
     /// A record stands below a DNAME.
     BelowDname,
@@ -119,7 +119,7 @@ pub enum Code {
     TlsaLength,
     /// The address of a name server below a delegation is missing.
     Glue,
-    /// The target of a record has a CNAME.
+    /// The target of a record has a CNAME, or is below a DNAME.
     TargetCname,
     /// The target of a record is not in the zone.
     TargetMissing,
@@ -131,6 +131,12 @@ pub enum Code {
     TtlDiffers,
     /// A record stands twice.
     Duplicate,
+    /// A record below the apex has a type that belongs there.
+    NotAtApex,
+    /// The protocol of a DNSKEY is not 3.
+    KeyProtocol,
+    /// The algorithm of a DNSKEY or DS is 0.
+    KeyAlgorithm,
     /// The zone is to be signed, and has no DNSKEY at its apex.
     NoDnskey,
     /// An RRSIG has expired.
@@ -169,7 +175,7 @@ fn find_named(codes: &[Code], name: &str) -> Option<Code>
 impl Code {
     /// Every code.
 
-    pub const ALL: [Code; 64] = [
+    pub const ALL: [Code; 67] = [
         Code::OpenQuote,
         Code::OpenParenthesis,
         Code::ClosingParenthesis,
@@ -221,6 +227,9 @@ impl Code {
         Code::Cds,
         Code::TtlDiffers,
         Code::Duplicate,
+        Code::NotAtApex,
+        Code::KeyProtocol,
+        Code::KeyAlgorithm,
         Code::NoDnskey,
         Code::Expired,
         Code::ExpiresSoon,
@@ -292,6 +301,9 @@ impl Code {
             Code::Cds => "cds",
             Code::TtlDiffers => "ttl-differs",
             Code::Duplicate => "duplicate",
+            Code::NotAtApex => "not-at-apex",
+            Code::KeyProtocol => "key-protocol",
+            Code::KeyAlgorithm => "key-algorithm",
             Code::NoDnskey => "no-dnskey",
             Code::Expired => "expired",
             Code::ExpiresSoon => "expires-soon",
@@ -358,6 +370,10 @@ impl Code {
             | Code::Cds
             | Code::TtlDiffers
             | Code::Duplicate
+            | Code::DsWithoutNs
+            | Code::NotAtApex
+            | Code::KeyProtocol
+            | Code::KeyAlgorithm
             | Code::ExpiresSoon => Severity::Warning,
             _ => Severity::Error,
         }

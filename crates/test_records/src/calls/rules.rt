@@ -11,7 +11,8 @@ use row_table::{Answer, Failure, Heap};
 use std::slice;
 use zone_dnssec::nsec3_hash::{hash_name, hashed_name};
 use zone_dnssec::{SecurityFinding, Times, check_signed};
-use zone_rules::{Finding, SortedRecords, check_zone};
+use zone_rules::names::view;
+use zone_rules::{Finding, RrsetName, SortedRecords, SortedSets, check_zone};
 
 /// A record in memory of which one growth may be refused.
 type HeapRecord<'a> = Record<Octets<'a>, Octets<'a>>;
@@ -128,6 +129,26 @@ fn tell_insecure(finding: &SecurityFinding, records: &[HeapRecord<'_>], answer: 
     tell_broken(finding.rule.name(), place, records, answer);
 }
 
+/// What is found in a zone of sorted records, beside RRsets of which an entry was refused.
+fn tell_found(
+    records: &[HeapRecord<'_>],
+    refused: &SortedSets<'_>,
+    name: &Name<&[u8]>,
+    answer: &mut Answer,
+) {
+    let Some(sorted) = SortedRecords::new(records) else {
+        return answer.fail(Failure::Unlike);
+    };
+    match check_zone(answer.heap(), name, &sorted, refused) {
+        Ok(found) => {
+            for finding in found.as_slice() {
+                tell_finding(finding, records, answer);
+            }
+        }
+        Err(_) => answer.refuse(&ShortBuf),
+    }
+}
+
 /// What is found in a zone: its text, and its origin.
 pub fn rules(inputs: &[Vec<u8>], answer: &mut Answer) {
     let [text, origin @ ..] = inputs else {
@@ -141,17 +162,41 @@ pub fn rules(inputs: &[Vec<u8>], answer: &mut Answer) {
     if records.sort_by(|left, right| left.compare(right)).is_err() {
         return answer.refuse(&ShortBuf);
     }
-    let Some(sorted) = SortedRecords::new(records.as_slice()) else {
+    tell_found(records.as_slice(), &SortedSets::none(), &name, answer);
+}
+
+/// What is found in a zone of which entries were refused: its text, its origin, and a text of records
+/// whose owners and types are those of the refused entries.
+pub fn refused(inputs: &[Vec<u8>], answer: &mut Answer) {
+    let [text, origin, others] = inputs else {
+        return answer.fail(Failure::BadInputs);
+    };
+    let origin = slice::from_ref(origin);
+    let Some(name) = origin_of(origin, answer) else {
+        return answer.fail(Failure::BadInputs);
+    };
+    let state = state_of(origin, answer);
+    let mut records = read_records(text.as_slice(), state, answer);
+    let state = state_of(origin, answer);
+    let others = read_records(others.as_slice(), state, answer);
+    let mut sets: Vec<RrsetName<'_>, &Heap> = Vec::new(answer.heap());
+    for other in others.as_slice() {
+        let owner = view(&other.owner);
+        let code = other.data.code();
+        if sets.push(RrsetName { owner, code }).is_err() {
+            return answer.refuse(&ShortBuf);
+        }
+    }
+    if sets.sort_by(|left, right| left.compare(right)).is_err() {
+        return answer.refuse(&ShortBuf);
+    }
+    if records.sort_by(|left, right| left.compare(right)).is_err() {
+        return answer.refuse(&ShortBuf);
+    }
+    let Some(sets) = SortedSets::new(sets.as_slice()) else {
         return answer.fail(Failure::Unlike);
     };
-    match check_zone(answer.heap(), &name, &sorted) {
-        Ok(found) => {
-            for finding in found.as_slice() {
-                tell_finding(finding, records.as_slice(), answer);
-            }
-        }
-        Err(_) => answer.refuse(&ShortBuf),
-    }
+    tell_found(records.as_slice(), &sets, &name, answer);
 }
 
 /// The seconds that a text spells.

@@ -1,7 +1,7 @@
 //! Entries of zone text, each by the state before it.
 use super::blocks::blocks;
 use super::cut::cut;
-use super::rules::{dnssec, hash, rules};
+use super::rules::{dnssec, hash, refused, rules};
 use super::tell::{Octets, origin_of};
 use dns_data::DataError;
 use dns_fields::FieldError;
@@ -35,6 +35,7 @@ pub fn call(name: &str, inputs: &Inputs, answer: &mut Answer) {
         "blocks" => blocks(inputs, answer),
         "cut" => cut(inputs, answer),
         "dnssec" => dnssec(inputs.all(), answer),
+        "refused" => refused(inputs.all(), answer),
         "hash" => hash(inputs.all(), answer),
         _ => answer.fail(Failure::NoCall),
     }

@@ -16,6 +16,7 @@ invariant_of-result g c = record {
   in_order = λ k d lt. sym (c.if-not-is_sorted_by.ensures.cases (λ a b. is_le (record_order (record_key a) (record_key b)))
       (answers_always _ (λ a r. r ≡ is_le (record_order (record_key a.0.now) (record_key a.1.0.now))) _ (λ f a r q k. search rules)) k d lt);
   dname = any_from_yields_List (λ r. type_of r == 39) _ _ c.any-has_dname.result c.any-has_dname.ensures.ran (YieldsList-from_slice c.args.records.now cc) (λ x b q k. search (rules, tests));
+  one_class = c.are_of_one_class.ensures;
 }
 
 pub returns-clause-accepts : goal.returns-clause-accepts

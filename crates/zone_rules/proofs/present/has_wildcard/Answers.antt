@@ -2,9 +2,9 @@ use Rattle.std.proofs.Common.{[], ◌∷◌, length, sym, ap, subst, ◌∙◌, 
 use Rattle.dns_wire.specs.Labelled.{wire_same}
 use Rattle.dns_wire.proofs.Wires.{length_wire}
 use Rattle.dns_spelling.specs.NameSpelling.{IsWireName}
-use Rattle.zone_rules.specs.Zones.{has_owner}
+use Rattle.zone_rules.specs.Present.{is_present}
 use Rattle.zone_rules.proofs.NameParts.{wildcard_name}
-use Rattle.zone_rules.proofs.hosts.has_wildcard.Goals as goal
+use Rattle.zone_rules.proofs.present.has_wildcard.Goals as goal
 
 pub wildcard_octets-octets-requires : goal.wildcard_octets-octets-requires
 wildcard_octets-octets-requires g c = omega (arith, ap length c.octets_of.ensures.value, length_wire c.args.name.now, c.requires)
@@ -17,7 +17,7 @@ name_of-requires g c =
 
 pub returns : goal.returns
 returns g c =
-    c.has_record.ensures
-    ∙ ap (λ n. has_owner n c.args.records.now)
+    c.has_set.ensures
+    ∙ ap (λ n. is_present c.args.code n c.args.records.now c.args.refused.now)
     (wire_same c.name_of.result ((42 ∷ []) ∷ c.args.name.now)
     (sym c.name_of.ensures ∙ c.as_slice.ensures.value ∙ c.wildcard_octets-octets.ensures ∙ ap (λ o. 1 ∷ 42 ∷ o) c.octets_of.ensures.value))

@@ -1,8 +1,8 @@
 use Rattle.std.proofs.Common.{sym, ◌∙◌}
 use Rattle.zone_rules.specs.Above.{names_above}
 use Rattle.zone_rules.proofs.Lookups.{none_at_names}
-use Rattle.zone_rules.proofs.owners.is_owner_under_dname.Goals as goal
+use Rattle.zone_rules.proofs.owners.has_dname_above.Goals as goal
 
 pub returns-else-has_dname : goal.returns-else-has_dname
 returns-else-has_dname g c =
-    c.if-has_dname.false ∙ sym (none_at_names 39 c.args.records.now (names_above c.args.record.now.owner) (sym c.has_dname.ensures ∙ c.if-has_dname.false))
+    c.if-has_dname.false ∙ sym (none_at_names 39 c.args.records.now (names_above c.args.name.now) (sym c.has_dname.ensures ∙ c.if-has_dname.false))

@@ -1,0 +1,106 @@
+-- The names in fields of data, and names that are constants.
+use Rattle.std.proofs.Common.{ℕ, ◌≡◌, ◌<◌, ◌≤◌, Bool, true, false, Option, Some, None, List, [], ◌∷◌, ◌++◌, length, refl, sym, ap, subst, arith, length-append}
+use Rattle.std.specs.Prelude.{◌==◌, ◌&&◌, if◌then◌else◌, nat_lt, slice_get, codes}
+use Rattle.std.specs.List.{list_all}
+use Rattle.std.proofs.lemmas.Bool.{eqb-true}
+use Rattle.std.proofs.lemmas.Bool.Decides.{nat_tests}
+use Rattle.std.proofs.lemmas.List.Elements.{All-cons, All-nil}
+use Rattle.dns_spelling.specs.NameSpelling.{IsWireName}
+use Rattle.dns_spelling.specs.Spelling.{AreOctetValues}
+use Rattle.dns_wire.specs.Wire.{wire, IsName}
+use Rattle.dns_data.specs.ByType.{HasShape, shape_of_code}
+use Rattle.dns_data.specs.Types.{TypeShape, type_shapes}
+use Rattle.dns_fields.specs.declared.field.Field.TheVariants.{Name}
+use Rattle.dns_resource.specs.Parts.{data_part, field_part}
+use Rattle.dns_resource.specs.CanonicalData.{fields_of_shape}
+use Rattle.dns_resource.specs.TypeData.{IsTypeData, TypeData}
+use Rattle.dns_resource.proofs.CanonicalForms.{begins_start}
+use Rattle.dns_resource.proofs.DataBack.{shape_with}
+use Rattle.zone_rules.specs.HostNames.{IsNameField, target_field}
+use Rattle.zone_rules.proofs.HostParts.{part_name}
+use Rattle.zone_rules.proofs.NameParts.{longer_is, longer_name}
+
+-- ---- fields
+
+in_shape : (code field : ℕ) (octets part : List ℕ) (found : Option TypeShape) → shape_of_code code ≡ found → slice_get (fields_of_shape found) field ≡ Some Name → IsTypeData code octets
+    → field_part (fields_of_shape found) field octets ≡ Some part → IsWireName part
+in_shape code field octets part None same k is h = cc
+in_shape code field octets part (Some s) same k is h =
+    let own = is.shaped (shape_with s) (subst (λ f. HasShape f (shape_with s)) (sym same) (refl, refl, refl)) in
+    part_name s.fields field octets part (begins_start s.fields octets own.back own.fields) k h
+
+-- the part of data in a field that is a name is a name
+pub field_name : (d : TypeData) (field : ℕ) (part : List ℕ) → IsNameField d.code field → IsTypeData d.code d.octets → data_part d field ≡ Some part → IsWireName part
+field_name d field part k is h = in_shape d.code field d.octets part (shape_of_code d.code) refl k is h
+
+named_if : (code n place field : ℕ) (others : Option ℕ) → IsNameField n place → (others ≡ Some field → IsNameField code field) → (if code == n then Some place else others) ≡ Some field → IsNameField code field
+named_if code n place field others known more h = by (code == n) refl h
+  where
+    by : (b : Bool) → (code == n) ≡ b → (if b then Some place else others) ≡ Some field → IsNameField code field
+    by true e k =
+        let is : place ≡ field = cc in
+        subst (λ c. IsNameField c field) (sym (eqb-true code n e)) (subst (IsNameField n) is known)
+    by false e k = more k
+
+pub target_named : (code field : ℕ) → target_field code ≡ Some field → IsNameField code field
+unfolding type_shapes
+target_named code field =
+    named_if code 2 0 field _ refl
+    (named_if code 6 0 field _ refl
+    (named_if code 12 0 field _ refl
+    (named_if code 15 1 field _ refl
+    (named_if code 18 1 field _ refl
+    (named_if code 21 1 field _ refl
+    (named_if code 33 3 field _ refl
+    (named_if code 64 1 field _ refl
+    (named_if code 65 1 field _ refl (λ e. cc)))))))))
+
+pub mailbox_named : IsNameField 6 1
+unfolding type_shapes
+mailbox_named = refl
+
+-- ---- constants
+
+value_test : (o : ℕ) → nat_lt o 256 ≡ true → o < 256
+value_test o h = grind (arith, nat_tests)
+
+all_values : (octets : List ℕ) → list_all (λ o. nat_lt o 256) octets ≡ true → AreOctetValues octets
+all_values [] h = All-nil (λ o. o < 256)
+all_values (o ∷ os) h = All-cons (λ p. p < 256) o os (value_test o (front (nat_lt o 256) _ h)) (all_values os (back (nat_lt o 256) _ h))
+  where
+    front : (b c : Bool) → (b && c) ≡ true → b ≡ true
+    front true c e = refl
+    front false c e = e
+
+    back : (b c : Bool) → (b && c) ≡ true → c ≡ true
+    back true c e = e
+    back false c e = cc
+
+root_alone : (front back : List (List ℕ)) → [] ∷ [] ≡ front ++ [] ∷ back → back ≡ []
+root_alone [] back e = cc
+root_alone (x ∷ xs) back e = absurd (let l = ap length e in omega (arith, length-append xs ([] ∷ back)))
+
+root_name : IsName ([] ∷ [])
+root_name = record {
+  short = All-cons (λ l. length l ≤ 63) [] [] (omega arith) (All-nil (λ l. length l ≤ 63));
+  root_last = root_alone;
+  fits = omega arith;
+}
+
+root_wire : IsWireName (wire ([] ∷ []))
+root_wire = record { labels = [] ∷ []; is_name = root_name; absolute = ([], refl); values = all_values (0 ∷ []) refl; whole = refl }
+
+abbrev arpa : List (List ℕ)
+arpa = codes "arpa" ∷ [] ∷ []
+
+arpa_name : IsName arpa
+arpa_name = longer_is (codes "arpa") ([] ∷ []) (omega arith) (omega arith) root_name (omega arith)
+
+arpa_wire : IsWireName (wire arpa)
+arpa_wire = longer_name (codes "arpa") ([] ∷ []) (omega arith) (omega arith) (all_values (codes "arpa") refl) root_name ([], refl) root_wire (omega arith)
+
+pub in_addr_wire : IsWireName (wire (codes "in-addr" ∷ codes "arpa" ∷ [] ∷ []))
+in_addr_wire = longer_name (codes "in-addr") arpa (omega arith) (omega arith) (all_values (codes "in-addr") refl) arpa_name (codes "arpa" ∷ [], refl) arpa_wire (omega arith)
+
+pub ip6_wire : IsWireName (wire (codes "ip6" ∷ codes "arpa" ∷ [] ∷ []))
+ip6_wire = longer_name (codes "ip6") arpa (omega arith) (omega arith) (all_values (codes "ip6") refl) arpa_name (codes "arpa" ∷ [], refl) arpa_wire (omega arith)

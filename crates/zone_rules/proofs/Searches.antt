@@ -1,0 +1,126 @@
+-- What a search among sorted owners finds.
+use Rattle.std.proofs.Common.{ℕ, zero, suc, ◌≡◌, ◌+◌, ◌<◌, ◌≤◌, Bool, true, false, List, [], ◌∷◌, length, get_or, refl, sym, ap, ◌∙◌, arith}
+use Rattle.std.specs.Prelude.{nat_le, ◌==◌, ◌&&◌, ◌||◌, slice_get}
+use Rattle.std.specs.List.{AllAdjacentBelow, AllWithin, list_any}
+use Rattle.std.specs.List.Sorted.{IsNonDecreasingBy, IsPartitionedBy, IsPartitionPoint}
+use Rattle.std.specs.Option.{option_map_or}
+use Rattle.std.specs.Ordering.{is_eq, is_lt, is_le, nat_cmp, ordering_index, ordering_reverse, ordering_then}
+use Rattle.std.specs.declared.cmp.Ordering.{Ordering}
+use Rattle.std.specs.declared.cmp.Ordering.TheVariants.{Less, Equal, Greater}
+use Rattle.std.specs.Cmp.{IsTotalOrder}
+use Rattle.std.proofs.lemmas.Bool.{false≢true}
+use Rattle.std.proofs.lemmas.Bool.Decides.{nat_tests}
+use Rattle.std.proofs.lemmas.Cmp.{nat_cmp_total, on_total, then_total}
+use Rattle.std.proofs.lemmas.List.Sorted.{searchable_from_sorted, IsPartitionedBy-leb}
+use Rattle.dns_wire.specs.Order.{same_name}
+use Rattle.dns_canonical.specs.Names.{name_order}
+use Rattle.dns_canonical.proofs.Orders.{names_total}
+use Rattle.zone_rules.specs.Present.{set_order}
+use Rattle.zone_rules.specs.declared.refused.RrsetName.{RrsetName}
+use Rattle.zone_rules.proofs.Lookups.{same_is}
+
+-- ---- the first of those that pass a test
+
+module _ {X : Type 0} (p : X → Bool) where
+  none_passes : (xs : List X) → ((i : ℕ) (d : X) → i < length xs → p (get_or xs i d) ≡ false) → list_any p xs ≡ false
+  none_passes [] h = refl
+  none_passes (x ∷ xs) h = ap (λ b. b || list_any p xs) (h 0 x (omega arith)) ∙ none_passes xs (λ i d lt. h (suc i) d (omega arith))
+
+  -- one that passes comes with the first that is not before it
+  pub any_at : (xs : List X) (place : ℕ) → AllWithin (λ x. p x ≡ false) xs 0 place → ((i : ℕ) (d : X) → place ≤ i → i < length xs → p (get_or xs i d) ≡ true → p (get_or xs place d) ≡ true)
+      → list_any p xs ≡ option_map_or p (slice_get xs place) false
+  any_at [] place h k = refl
+  any_at (x ∷ xs) zero h k = by (p x) refl
+    where
+      decided : (b : Bool) → (b ≡ true → p x ≡ true) → p x ≡ false → b ≡ false
+      decided true f e = absurd (false≢true (sym e ∙ f refl))
+      decided false f e = refl
+
+      by : (b : Bool) → p x ≡ b → (b || list_any p xs) ≡ b
+      by true e = refl
+      by false e = none_passes xs (λ i d lt. decided (p (get_or xs i d)) (k (suc i) d (omega arith) (omega arith)) e)
+  any_at (x ∷ xs) (suc n) h k =
+      ap (λ b. b || list_any p xs) (h 0 x (omega arith) (omega arith))
+      ∙ any_at xs n (λ i d low lt. h (suc i) d (omega arith) (omega arith)) (λ i d low lt. k (suc i) d (omega arith) (omega arith))
+
+-- ---- orders
+
+pub lt_index : (o : Ordering) → nat_le (ordering_index o) 0 ≡ is_lt o
+lt_index Less = refl
+lt_index Equal = refl
+lt_index Greater = refl
+
+pub le_index : (o : Ordering) → nat_le (ordering_index o) 1 ≡ is_le o
+le_index Less = refl
+le_index Equal = refl
+le_index Greater = refl
+
+pub back_not : (o back : Ordering) → back ≡ ordering_reverse o → is_le o ≡ true → is_lt back ≡ false
+back_not Less back e h = ap is_lt e
+back_not Equal back e h = ap is_lt e
+back_not Greater back e h = cc
+
+is_tied : (o : Ordering) → is_lt o ≡ false → is_le o ≡ true → is_eq o ≡ true
+is_tied Less h k = cc
+is_tied Equal h k = refl
+is_tied Greater h k = cc
+
+tied_not_less : (o : Ordering) → is_lt o ≡ true → is_eq o ≡ false
+tied_not_less Less h = refl
+tied_not_less Equal h = cc
+tied_not_less Greater h = cc
+
+tied_le : (o : Ordering) → is_eq o ≡ true → is_le o ≡ true
+tied_le Less h = refl
+tied_le Equal h = refl
+tied_le Greater h = cc
+
+number_tied : (m n : ℕ) → (m == n) ≡ is_eq (nat_cmp m n)
+number_tied m n = grind (arith, nat_tests)
+
+then_tied : (o p : Ordering) → is_eq (ordering_then o p) ≡ (is_eq o && is_eq p)
+then_tied Less p = refl
+then_tied Equal p = refl
+then_tied Greater p = refl
+
+sets_total : IsTotalOrder set_order
+sets_total = then_total (on_total (λ s. s.owner) names_total) (on_total (λ s. s.code) nat_cmp_total)
+
+-- ---- by owner and type
+
+module _ {X : Type 0} (set_of : X → RrsetName) (name : List (List ℕ)) (code : ℕ) where
+  abbrev pub wanted : RrsetName
+  wanted = record { owner = name; code = code }
+
+  abbrev pub is_wanted : X → Bool
+  is_wanted x = same_name (set_of x).owner name && (set_of x).code == code
+
+  wanted_is : (x : X) → is_wanted x ≡ is_eq (set_order (set_of x) wanted)
+  wanted_is x =
+      (λ i. same_is (set_of x).owner name i && number_tied (set_of x).code code i) ∙ sym (then_tied (name_order (set_of x).owner name) (nat_cmp (set_of x).code code))
+
+  sets_rise : (xs : List X) → AllAdjacentBelow (λ a b. is_le (set_order (set_of a) (set_of b)) ≡ true) xs (length xs) → IsNonDecreasingBy (λ x. ordering_index (set_order (set_of x) wanted)) xs
+  sets_rise xs h =
+      searchable_from_sorted sets_total set_of xs wanted
+      (λ k d low lt. back_not (set_order (set_of (get_or xs k d)) (set_of (get_or xs (k + 1) d))) _ (sets_total.antisymm (set_of (get_or xs (k + 1) d)) (set_of (get_or xs k d))) (h k d lt))
+
+  pub sets_parted : (xs : List X) → AllAdjacentBelow (λ a b. is_le (set_order (set_of a) (set_of b)) ≡ true) xs (length xs) → IsPartitionedBy (λ x. is_lt (set_order (set_of x) wanted)) xs
+  sets_parted xs h i j d le lt t =
+      sym (lt_index (set_order (set_of (get_or xs i d)) wanted))
+      ∙ IsPartitionedBy-leb (λ x. ordering_index (set_order (set_of x) wanted)) xs 0 (sets_rise xs h) i j d le lt (lt_index (set_order (set_of (get_or xs j d)) wanted) ∙ t)
+
+  upto_wanted : (xs : List X) → AllAdjacentBelow (λ a b. is_le (set_order (set_of a) (set_of b)) ≡ true) xs (length xs) → IsPartitionedBy (λ x. is_le (set_order (set_of x) wanted)) xs
+  upto_wanted xs h i j d le lt t =
+      sym (le_index (set_order (set_of (get_or xs i d)) wanted))
+      ∙ IsPartitionedBy-leb (λ x. ordering_index (set_order (set_of x) wanted)) xs 1 (sets_rise xs h) i j d le lt (le_index (set_order (set_of (get_or xs j d)) wanted) ∙ t)
+
+  pub set_found : (xs : List X) (place : ℕ) → AllAdjacentBelow (λ a b. is_le (set_order (set_of a) (set_of b)) ≡ true) xs (length xs)
+      → IsPartitionPoint (λ x. is_lt (set_order (set_of x) wanted) ≡ true) (λ x. is_lt (set_order (set_of x) wanted) ≡ false) xs place
+      → list_any is_wanted xs ≡ option_map_or is_wanted (slice_get xs place) false
+  set_found xs place h point =
+      any_at is_wanted xs place
+      (λ i d low lt. wanted_is (get_or xs i d) ∙ tied_not_less (set_order (set_of (get_or xs i d)) wanted) (point.0 i d low lt))
+      (λ i d low lt t.
+      wanted_is (get_or xs place d)
+      ∙ is_tied (set_order (set_of (get_or xs place d)) wanted) (point.1 place d (omega arith) (omega (arith, low, lt)))
+      (upto_wanted xs h place i d low lt (tied_le (set_order (set_of (get_or xs i d)) wanted) (sym (wanted_is (get_or xs i d)) ∙ t))))

@@ -1,0 +1,115 @@
+-- What a search finds at a name and below it.
+use Rattle.std.proofs.Common.{ℕ, ◌≡◌, ◌+◌, ◌<◌, Bool, true, false, List, [], ◌∷◌, length, get_or, refl, sym, ap, ◌∙◌, arith}
+use Rattle.std.specs.Prelude.{◌==◌, ◌&&◌, slice_get}
+use Rattle.std.specs.List.{AllAdjacentBelow, list_all, list_any}
+use Rattle.std.specs.List.Sorted.{IsNonDecreasingBy, IsPartitionedBy, IsPartitionPoint}
+use Rattle.std.specs.Option.{option_map_or}
+use Rattle.std.specs.Ordering.{is_lt, is_le, nat_cmp, ordering_index, ordering_then}
+use Rattle.std.specs.declared.cmp.Ordering.{Ordering}
+use Rattle.std.specs.declared.cmp.Ordering.TheVariants.{Less, Equal, Greater}
+use Rattle.std.proofs.lemmas.Bool.{eqb-true, false≢true}
+use Rattle.std.proofs.lemmas.Cmp.{nat_cmp_total, tied_itself}
+use Rattle.std.proofs.lemmas.List.Folds.{list_all_at}
+use Rattle.std.proofs.lemmas.List.Sorted.{searchable_from_sorted, IsPartitionedBy-leb}
+use Rattle.dns_wire.specs.Order.{same_name}
+use Rattle.dns_canonical.specs.Names.{name_order}
+use Rattle.dns_canonical.proofs.Orders.{names_total}
+use Rattle.dns_resource.specs.declared.record.Record.{Record}
+use Rattle.zone_rules.specs.Above.{is_within}
+use Rattle.zone_rules.specs.Present.{AreSetsInOrder, set_order}
+use Rattle.zone_rules.specs.Zones.{AreInOrder, has_type_at, is_one_class, type_of}
+use Rattle.zone_rules.specs.declared.refused.RrsetName.{RrsetName}
+use Rattle.zone_rules.proofs.BelowNames.{within_not_before, within_between}
+use Rattle.zone_rules.proofs.Searches.{any_at, back_not, lt_index, le_index, sets_parted, set_found}
+
+front_le : (o rest : Ordering) → is_le (ordering_then o rest) ≡ true → is_le o ≡ true
+front_le Less rest h = refl
+front_le Equal rest h = refl
+front_le Greater rest h = cc
+
+pub record_owners : {N O : Type 0} (rs : List (Record N O)) → AreInOrder rs → AllAdjacentBelow (λ a b. is_le (name_order a.owner b.owner) ≡ true) rs (length rs)
+record_owners rs h k d lt = front_le (name_order (get_or rs k d).owner (get_or rs (k + 1) d).owner) _ (h k d lt)
+
+pub set_owners : (ss : List RrsetName) → AreSetsInOrder ss → AllAdjacentBelow (λ a b. is_le (name_order a.owner b.owner) ≡ true) ss (length ss)
+set_owners ss h k d lt = front_le (name_order (get_or ss k d).owner (get_or ss (k + 1) d).owner) _ (h k d lt)
+
+abbrev pub is_record_within : {N O : Type 0} → List (List ℕ) → Record N O → Bool
+is_record_within top r = is_within r.owner top
+
+abbrev pub is_set_within : List (List ℕ) → RrsetName → Bool
+is_set_within top s = is_within s.owner top
+
+module _ {X : Type 0} (owner : X → List (List ℕ)) where
+  rise : (name : List (List ℕ)) (xs : List X) → AllAdjacentBelow (λ a b. is_le (name_order (owner a) (owner b)) ≡ true) xs (length xs) → IsNonDecreasingBy (λ x. ordering_index (name_order (owner x) name)) xs
+  rise name xs h =
+      searchable_from_sorted names_total owner xs name
+      (λ k d low lt. back_not (name_order (owner (get_or xs k d)) (owner (get_or xs (k + 1) d))) _ (names_total.antisymm (owner (get_or xs (k + 1) d)) (owner (get_or xs k d))) (h k d lt))
+
+  pub owners_parted : (name : List (List ℕ)) (xs : List X) → AllAdjacentBelow (λ a b. is_le (name_order (owner a) (owner b)) ≡ true) xs (length xs) → IsPartitionedBy (λ x. is_lt (name_order (owner x) name)) xs
+  owners_parted name xs h i j d le lt t =
+      sym (lt_index (name_order (owner (get_or xs i d)) name))
+      ∙ IsPartitionedBy-leb (λ x. ordering_index (name_order (owner x) name)) xs 0 (rise name xs h) i j d le lt (lt_index (name_order (owner (get_or xs j d)) name) ∙ t)
+
+  upto : (name : List (List ℕ)) (xs : List X) → AllAdjacentBelow (λ a b. is_le (name_order (owner a) (owner b)) ≡ true) xs (length xs) → IsPartitionedBy (λ x. is_le (name_order (owner x) name)) xs
+  upto name xs h i j d le lt t =
+      sym (le_index (name_order (owner (get_or xs i d)) name))
+      ∙ IsPartitionedBy-leb (λ x. ordering_index (name_order (owner x) name)) xs 1 (rise name xs h) i j d le lt (le_index (name_order (owner (get_or xs j d)) name) ∙ t)
+
+  pub within_found : (top : List (List ℕ)) (xs : List X) (place : ℕ) → 0 < length top → AllAdjacentBelow (λ a b. is_le (name_order (owner a) (owner b)) ≡ true) xs (length xs)
+      → IsPartitionPoint (λ x. is_lt (name_order (owner x) top) ≡ true) (λ x. is_lt (name_order (owner x) top) ≡ false) xs place
+      → list_any (λ x. is_within (owner x) top) xs ≡ option_map_or (λ x. is_within (owner x) top) (slice_get xs place) false
+  within_found top xs place some h point =
+      any_at (λ x. is_within (owner x) top) xs place
+      (λ i d low lt. within_not_before (owner (get_or xs i d)) top some (point.0 i d low lt))
+      (λ i d low lt t.
+      let name = owner (get_or xs i d) in
+      within_between (owner (get_or xs place d)) name top some (point.1 place d (omega arith) (omega (arith, low, lt)))
+      (upto name xs h place i d low lt (ap is_le (tied_itself names_total name))) t)
+
+-- ---- records of one class are in the order of owner and type
+
+passes_at : {X : Type 0} (p : X → Bool) (xs : List X) (k : ℕ) (d : X) → list_all p xs ≡ true → k < length xs → p (get_or xs k d) ≡ true
+passes_at p xs k d all lt = by (p (get_or xs k d)) refl
+  where
+    by : (b : Bool) → p (get_or xs k d) ≡ b → b ≡ true
+    by true e = refl
+    by false e = absurd (false≢true (sym (list_all_at p xs k d lt e) ∙ all))
+
+class_at : {N O : Type 0} (r : Record N O) (rs : List (Record N O)) (k : ℕ) (d : Record N O) → is_one_class (r ∷ rs) ≡ true → k < length (r ∷ rs) → (get_or (r ∷ rs) k d).class ≡ r.class
+class_at r rs k d one lt = eqb-true (get_or (r ∷ rs) k d).class r.class (passes_at (λ s. s.class == r.class) (r ∷ rs) k d one lt)
+
+same_class : {N O : Type 0} (rs : List (Record N O)) (k : ℕ) (d : Record N O) → is_one_class rs ≡ true → k + 1 < length rs → nat_cmp (get_or rs k d).class (get_or rs (k + 1) d).class ≡ Equal
+same_class [] k d one lt = absurd (omega (arith, lt))
+same_class (r ∷ rs) k d one lt =
+    (λ i. nat_cmp (class_at r rs k d one (omega (arith, lt)) i) (class_at r rs (k + 1) d one lt i)) ∙ tied_itself nat_cmp_total r.class
+
+by_type : (o c t rest : Ordering) → c ≡ Equal → is_le (ordering_then o (ordering_then c (ordering_then t rest))) ≡ true → is_le (ordering_then o t) ≡ true
+by_type Less c t rest e h = refl
+by_type Equal c t rest e h = front_le t rest (sym (ap (λ x. is_le (ordering_then x (ordering_then t rest))) e) ∙ h)
+by_type Greater c t rest e h = cc
+
+abbrev pub set_of_record : {N O : Type 0} → Record N O → RrsetName
+set_of_record r = record { owner = r.owner; code = type_of r }
+
+pub record_sets : {N O : Type 0} (rs : List (Record N O)) → AreInOrder rs → is_one_class rs ≡ true → AllAdjacentBelow (λ a b. is_le (set_order (set_of_record a) (set_of_record b)) ≡ true) rs (length rs)
+record_sets rs h one k d lt =
+    let a = get_or rs k d in
+    let b = get_or rs (k + 1) d in
+    by_type (name_order a.owner b.owner) (nat_cmp a.class b.class) (nat_cmp (type_of a) (type_of b)) _ (same_class rs k d one lt) (h k d lt)
+
+abbrev pub is_record_of : {N O : Type 0} → List (List ℕ) → ℕ → Record N O → Bool
+is_record_of name code r = same_name r.owner name && type_of r == code
+
+pub types_parted : {N O : Type 0} (name : List (List ℕ)) (code : ℕ) (rs : List (Record N O)) → AreInOrder rs → is_one_class rs ≡ true → IsPartitionedBy (λ r. is_lt (ordering_then (name_order r.owner name) (nat_cmp (type_of r) code))) rs
+types_parted name code rs h one = sets_parted (λ r. set_of_record r) name code rs (record_sets rs h one)
+
+pub type_found : {N O : Type 0} (name : List (List ℕ)) (code : ℕ) (rs : List (Record N O)) (place : ℕ) → AreInOrder rs → is_one_class rs ≡ true
+    → IsPartitionPoint (λ r. is_lt (ordering_then (name_order r.owner name) (nat_cmp (type_of r) code)) ≡ true) (λ r. is_lt (ordering_then (name_order r.owner name) (nat_cmp (type_of r) code)) ≡ false) rs place
+    → has_type_at code name rs ≡ option_map_or (λ r. same_name r.owner name && type_of r == code) (slice_get rs place) false
+type_found name code rs place h one point = set_found (λ r. set_of_record r) name code rs place (record_sets rs h one) point
+
+-- ---- RRsets that are not in order
+
+pub sets_not_in_order : (ss : List RrsetName) → (k : ℕ) × (k + 1 < length ss) × ((d : RrsetName) → false ≡ is_le (set_order (get_or ss k d) (get_or ss (k + 1) d))) → AreSetsInOrder ss → false ≡ true
+sets_not_in_order [] w h = absurd (omega (arith, w.1))
+sets_not_in_order (s ∷ ss) w h = w.2 s ∙ h w.0 s w.1

@@ -1,0 +1,93 @@
+//! Owners of NSEC3, which are hashes in base 32 hex (RFC 5155 section 3).
+ghost use Rattle.std.specs.Prelude.{◌≡◌, ◌<◌, ◌≤◌, ◌-◌, is_some, length, slice_get, false};
+ghost use Rattle.std.specs.List.{list_all};
+ghost use Rattle.std.specs.Option.{option_map_or};
+ghost use Rattle.zone_rules.specs.Base32Texts.{are_whole_octets, base32_value, ends_in_zeros, is_base32_text, spare_bits};
+ghost use Rattle.zone_rules.specs.Rules.{is_unhashed_nsec3};
+
+use crate::names::{first_label, view};
+use crate::types::NSEC3;
+use dns_octets::AsOctets;
+use dns_resource::Record;
+
+/// What a digit of base 32 hex stands for, in either case (RFC 4648 section 7).
+fn base32_value(digit: u8) -> Option<u8>
+    ensures { result ≡ base32_value digit }
+{
+    match digit {
+        b'0'..=b'9' => Some(digit - b'0'),
+        b'A'..=b'V' => Some(digit - 55),
+        b'a'..=b'v' => Some(digit - 87),
+        _ => None,
+    }
+}
+
+/// Whether octets are digits of base 32 hex.
+fn are_base32_digits(text: &[u8]) -> bool
+    ensures { result ≡ list_all (λ o. is_some (base32_value o)) text.now }
+{
+    text.iter().all(|digit| base32_value(*digit).is_some())
+}
+
+/// Whether the last bits of a digit, so many, are zero.
+fn has_zero_bits(digit: u8, spare: usize) -> bool
+    requires { spare < 5 }
+    ensures { result ≡ ends_in_zeros spare digit }
+{
+    let unit: u8 = match spare {
+        0 => 1,
+        1 => 2,
+        2 => 4,
+        3 => 8,
+        _ => 16,
+    };
+    match base32_value(digit) {
+        Some(value) => value % unit == 0,
+        None => false,
+    }
+}
+
+/// The bits of so many digits that are in no octet.
+fn spare_of(count: usize) -> usize
+    requires { count ≤ 255 }
+    ensures { result ≡ spare_bits count }
+{
+    5 * count % 8
+}
+
+/// Whether the last digit has zeros in its spare bits. Without digits there is none.
+fn ends_in_zero_bits(text: &[u8], spare: usize) -> bool
+    requires { spare < 5 }
+    ensures { result ≡ option_map_or (ends_in_zeros spare) (slice_get text.now (length text.now - 1)) false }
+{
+    match text.last() {
+        Some(digit) => has_zero_bits(*digit, spare),
+        None => false,
+    }
+}
+
+/// Whether digits have whole octets, but for spare bits that are zero.
+fn has_whole_octets(text: &[u8]) -> bool
+    requires { length text.now ≤ 255 }
+    ensures { result ≡ are_whole_octets text.now }
+{
+    let spare = spare_of(text.len());
+    spare < 5 && ends_in_zero_bits(text, spare)
+}
+
+/// Whether octets are some in base 32 hex without padding.
+fn is_base32(text: &[u8]) -> bool
+    requires { length text.now ≤ 255 }
+    ensures { result ≡ is_base32_text text.now }
+{
+    are_base32_digits(text) && has_whole_octets(text)
+}
+
+/// Whether a record is an NSEC3, and the first label of its owner no hash.
+pub(crate) fn is_nsec3_without_hash<Owner: AsOctets, Octets: AsOctets>(
+    record: &Record<Owner, Octets>,
+) -> bool
+    ensures { result ≡ is_unhashed_nsec3 «record».now }
+{
+    record.data.code() == NSEC3 && !is_base32(first_label(&view(&record.owner)))
+}

@@ -1,0 +1,128 @@
+//! Rules for keys, and for records that belong at an apex.
+ghost use Rattle.std.specs.Prelude.{◌≡◌, ◌==◌, slice_get};
+ghost use Rattle.dns_resource.specs.Records.{data_of};
+ghost use Rattle.zone_rules.specs.Rules.{has_no_algorithm, has_octet_at, has_other_protocol, is_apex_type, is_below_its_apex, is_delete_request, lacks_key, lacks_ns};
+
+use crate::names::{is_name_below, view};
+use crate::present::has_set;
+use crate::refused::SortedSets;
+use crate::sorted::SortedRecords;
+use crate::types::{CDNSKEY, CDS, CSYNC, DNSKEY, DS, NS, NSEC3PARAM, ZONEMD};
+use dns_octets::AsOctets;
+use dns_resource::Record;
+use dns_wire::Name;
+
+/// Whether a record asks the parent to delete all DS (RFC 8078 section 4).
+fn is_deletion<Owner: AsOctets, Octets: AsOctets>(record: &Record<Owner, Octets>) -> bool
+    ensures { result ≡ is_delete_request «record».now }
+{
+    let octets = record.data.as_slice();
+    match record.data.code() {
+        CDS => matches!(octets, [0, 0, 0, 0, 0]),
+        CDNSKEY => matches!(octets, [0, 0, 3, 0, 0]),
+        _ => false,
+    }
+}
+
+/// Whether a record asks for a key at the parent, and the zone has none.
+pub(crate) fn is_without_key<Owner: AsOctets, Octets: AsOctets>(
+    origin: &Name<&[u8]>,
+    records: &SortedRecords<'_, Owner, Octets>,
+    refused: &SortedSets<'_>,
+    record: &Record<Owner, Octets>,
+) -> bool
+    ensures { result ≡ lacks_key origin.now records.now refused.now «record».now }
+{
+    matches!(record.data.code(), CDS | CDNSKEY)
+        && !is_deletion(record)
+        && !has_set(records, refused, origin, DNSKEY)
+}
+
+/// Whether a record is a DS below the apex, and no NS is at its owner.
+pub(crate) fn is_ds_without_ns<Owner: AsOctets, Octets: AsOctets>(
+    origin: &Name<&[u8]>,
+    records: &SortedRecords<'_, Owner, Octets>,
+    refused: &SortedSets<'_>,
+    record: &Record<Owner, Octets>,
+) -> bool
+    ensures { result ≡ lacks_ns origin.now records.now refused.now «record».now }
+{
+    if record.data.code() != DS {
+        return false;
+    }
+    let owner = view(&record.owner);
+    is_name_below(&owner, origin) && !has_set(records, refused, &owner, NS)
+}
+
+/// Whether records of a type belong at an apex.
+fn is_for_apex(code: u16) -> bool
+    ensures { result ≡ is_apex_type code }
+{
+    matches!(code, NSEC3PARAM | CDS | CDNSKEY | CSYNC | ZONEMD)
+}
+
+/// Whether a record is below the apex and belongs there.
+pub(crate) fn is_not_at_apex<Owner: AsOctets, Octets: AsOctets>(
+    origin: &Name<&[u8]>,
+    records: &SortedRecords<'_, Owner, Octets>,
+    refused: &SortedSets<'_>,
+    record: &Record<Owner, Octets>,
+) -> bool
+    ensures { result ≡ is_below_its_apex origin.now records.now refused.now «record».now }
+{
+    let code = record.data.code();
+    let owner = view(&record.owner);
+    (is_for_apex(code) || (code == DNSKEY && !has_set(records, refused, &owner, NS)))
+        && is_name_below(&owner, origin)
+}
+
+/// The octet at a place of a record's data.
+fn octet_at<Owner: AsOctets, Octets: AsOctets>(
+    record: &Record<Owner, Octets>,
+    place: usize,
+) -> Option<u8>
+    ensures { result ≡ slice_get (data_of «record».now).octets place }
+{
+    record.data.as_slice().get(place).copied()
+}
+
+/// Whether a record is a DNSKEY of another protocol than 3.
+pub(crate) fn is_of_other_protocol<Owner: AsOctets, Octets: AsOctets>(
+    record: &Record<Owner, Octets>,
+) -> bool
+    ensures { result ≡ has_other_protocol «record».now }
+{
+    if record.data.code() != DNSKEY {
+        return false;
+    }
+    match octet_at(record, 2) {
+        Some(protocol) => protocol != 3,
+        None => false,
+    }
+}
+
+/// Whether the octet at a place of a record's data is zero.
+fn is_zero_at<Owner: AsOctets, Octets: AsOctets>(
+    record: &Record<Owner, Octets>,
+    place: usize,
+) -> bool
+    ensures { result ≡ has_octet_at (λ o. o == 0) place «record».now }
+{
+    match octet_at(record, place) {
+        Some(octet) => octet == 0,
+        None => false,
+    }
+}
+
+/// Whether a record is a DNSKEY or DS of algorithm 0.
+pub(crate) fn is_without_algorithm<Owner: AsOctets, Octets: AsOctets>(
+    record: &Record<Owner, Octets>,
+) -> bool
+    ensures { result ≡ has_no_algorithm «record».now }
+{
+    match record.data.code() {
+        DNSKEY => is_zero_at(record, 3),
+        DS => is_zero_at(record, 2),
+        _ => false,
+    }
+}
