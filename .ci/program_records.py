@@ -14,8 +14,10 @@ RULES = {
     "key-algorithm", "ttl-differs", "duplicate",
 }
 SECURITY = {
-    "expired", "expires-soon", "not-yet-valid", "unsigned", "signs-nothing", "no-nsec", "nsec-next",
-    "nsec-types", "ds-without-ns", "no-nsec3", "nsec3-next", "nsec3-types",
+    "expired", "expires-soon", "not-yet-valid", "rrsig-times", "rrsig-signer", "rrsig-labels", "original-ttl",
+    "rrsig-ttl", "unsigned", "no-key", "key-missing", "rrsig-key", "signs-nothing", "occluded-dnssec",
+    "no-nsec", "nsec-next", "nsec-types", "ds-without-ns", "no-nsec3", "nsec3-next", "nsec3-types",
+    "nsec3-owner", "nsec3-iterations", "nsec3-iterations-50", "nsec3-iterations-0", "nsec-ttl", "cds-delete",
 }
 # Syntax errors by the code that `check` reports, with their name in rows.
 FAULTS = {b"closing-parenthesis": b"closing", b"open-parenthesis": b"open parenthesis", b"open-quote": b"open quote",

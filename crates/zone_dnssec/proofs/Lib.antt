@@ -1,2 +1,4 @@
 mod HashLabels
+mod KeyTags
+mod LabelCounts
 mod Searches

@@ -1,5 +1,5 @@
 -- What NSEC3 records are to say of the names of a zone (RFC 5155 section 7.1).
-use Rattle.std.specs.Prelude.{ℕ, ◌==◌, ◌&&◌, ◌||◌, not, Bool, true, false, List}
+use Rattle.std.specs.Prelude.{ℕ, nat_le, ◌==◌, ◌&&◌, ◌||◌, not, Bool, true, false, List}
 use Rattle.std.specs.List.{list_any}
 use Rattle.std.specs.Option.{option_map_or}
 use Rattle.dns_wire.specs.Order.{same_name}
@@ -10,7 +10,7 @@ use Rattle.zone_rules.specs.Zones.{type_of, has_type_at, has_owner}
 use Rattle.zone_dnssec.specs.HashedNames.{hashed_owner}
 use Rattle.zone_dnssec.specs.NsecChain.{are_at_one_name}
 use Rattle.zone_dnssec.specs.NsecTypes.{lists_exactly}
-use Rattle.zone_dnssec.specs.Nsec3Chain.{next_hash_of, hashed_bitmap, opts_out, is_link, some_chain, matching_owner, matching_link, link_after, link_before}
+use Rattle.zone_dnssec.specs.Nsec3Chain.{next_hash_of, hashed_bitmap, opts_out, iterations_of, is_link, some_chain, matching_owner, matching_link, link_after, link_before}
 use Rattle.zone_dnssec.specs.SignedSets.{is_authoritative, starts}
 use Rattle.zone_dnssec.specs.declared.hashed.LinkFault.{LinkFault}
 use Rattle.zone_dnssec.specs.declared.hashed.LinkFault.TheVariants.{Missing, DifferentTypes}
@@ -65,8 +65,12 @@ abbrev pub is_represented : {N O : Type 0} → List (List ℕ) → List (Record 
 is_represented origin records chain name =
     is_authoritative origin records name && (not (has_type_at 50 name records) && not (is_opted_out origin records chain name))
 
--- the record is the first at a name that is represented in a chain which fails it
+-- names are hashed for a chain of at most 150 iterations (RFC 9276 section 3.2)
+abbrev pub is_bounded : {N O : Type 0} → Record N O → Bool
+is_bounded chain = nat_le (iterations_of chain) 150
+
+-- the record is the first at a name that is represented in such a chain which fails it
 abbrev pub fails_chain : {N O : Type 0} → LinkFault → List (List ℕ) → List (Record N O) → ℕ → Record N O → Bool
 fails_chain fault origin records place r =
     starts are_at_one_name records place r
-    && some_chain (λ chain. is_represented origin records chain r.owner && fails_at_or_above fault origin records chain r.owner) origin records
+    && some_chain (λ chain. is_bounded chain && (is_represented origin records chain r.owner && fails_at_or_above fault origin records chain r.owner)) origin records

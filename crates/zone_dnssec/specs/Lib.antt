@@ -1,3 +1,5 @@
+pub mod DeleteForms
+pub mod DenialRecords
 pub mod HashedLinks
 pub mod HashedNames
 pub mod Nsec3Chain
@@ -7,5 +9,7 @@ pub mod Parameters
 pub mod Rows
 pub mod SecurityFindings
 pub mod SecurityNames
+pub mod SignatureFields
 pub mod SignatureTimes
 pub mod SignedSets
+pub mod ZoneKeys

@@ -3,11 +3,10 @@ use Rattle.std.specs.Prelude.{ℕ, ◌%◌, nat_eq, ◌==◌, ◌&&◌, Bool, Op
 use Rattle.std.specs.Cmp.Lexicographic.{pointwise}
 use Rattle.std.specs.Int.{from_be_bytes, w16}
 use Rattle.std.specs.List.{find, list_any}
-use Rattle.std.specs.Option.{option_map_or, option_or}
+use Rattle.std.specs.Option.{option_or}
 use Rattle.std.specs.Ordering.{is_lt}
 use Rattle.dns_wire.specs.Order.{same_name}
 use Rattle.dns_canonical.specs.Names.{name_order}
-use Rattle.dns_resource.specs.Parts.{data_part}
 use Rattle.dns_resource.specs.Records.{data_of}
 use Rattle.dns_resource.specs.declared.record.Record.{Record}
 use Rattle.zone_rules.specs.Zones.{type_of}

@@ -1,11 +1,16 @@
 -- Worked rows of the rules, each computed.
-use Rattle.std.specs.Prelude.{◌≡◌, ℕ, true, false, List, [], ◌∷◌, codes, refl}
+use Rattle.std.specs.Prelude.{◌≡◌, ℕ, Some, None, true, false, List, [], ◌∷◌, codes, refl}
 use Rattle.dns_resource.specs.declared.record.Record.{Record}
 use Rattle.dns_data.specs.Types.{type_shapes}
+use Rattle.dns_wire.specs.Wire.{wire}
+use Rattle.zone_dnssec.specs.DeleteForms.{asks_for_key, is_delete_form}
+use Rattle.zone_dnssec.specs.DenialRecords.{begins_with_hash, is_child, is_occluded}
 use Rattle.zone_dnssec.specs.NsecChain.{comes_after, next_name}
 use Rattle.zone_dnssec.specs.Parameters.{has_named_chain}
+use Rattle.zone_dnssec.specs.SignatureFields.{label_count}
 use Rattle.zone_dnssec.specs.SignatureTimes.{has_passed, seconds_between}
 use Rattle.zone_dnssec.specs.SignedSets.{has_signature, lacks_delegation, must_be_signed, signs_nothing}
+use Rattle.zone_dnssec.specs.ZoneKeys.{modulus, modulus_tag, sum_tag}
 
 -- ---- times: after 4294967295 comes 0 (RFC 1982 section 3.1)
 
@@ -103,3 +108,76 @@ algorithm_row = refl
 second_row : has_named_chain origin (parameters 1 1 ∷ parameters 1 0 ∷ []) ≡ true
 unfolding type_shapes
 second_row = refl
+
+-- ---- labels that an RRSIG counts (RFC 4034 section 3.1.3)
+
+labels_row : label_count sub ≡ 2
+labels_row = refl
+
+wildcard_labels_row : label_count ((42 ∷ []) ∷ sub) ≡ 2
+wildcard_labels_row = refl
+
+root_labels_row : label_count ([] ∷ []) ≡ 0
+root_labels_row = refl
+
+-- ---- what may be signed at and below a delegation
+
+nsec_at_row : is_occluded origin delegated (at sub 47 []) ≡ false
+nsec_at_row = refl
+
+nsec_below_row : is_occluded origin delegated (at (codes "ns" ∷ sub) 47 []) ≡ true
+nsec_below_row = refl
+
+signed_ds_row : is_occluded origin delegated signature ≡ false
+signed_ds_row = refl
+
+signed_ns_row : is_occluded origin delegated (at sub 46 (0 ∷ 2 ∷ [])) ≡ true
+signed_ns_row = refl
+
+signed_below_row : is_occluded origin delegated (at (codes "ns" ∷ sub) 46 (0 ∷ 1 ∷ [])) ≡ true
+signed_below_row = refl
+
+-- ---- key tags: of `256 3 8 AQID`, and of RSA/MD5 with the exponent 3 (RFC 4034 appendix B)
+
+tag_row : sum_tag (1 ∷ 0 ∷ 3 ∷ 8 ∷ 1 ∷ 2 ∷ 3 ∷ []) ≡ 2058
+tag_row = refl
+
+carry_row : sum_tag (255 ∷ 255 ∷ 255 ∷ 255 ∷ []) ≡ 65535
+carry_row = refl
+
+modulus_row : modulus_tag (modulus (1 ∷ 3 ∷ 4 ∷ 5 ∷ 6 ∷ 7 ∷ [])) ≡ Some 1286
+modulus_row = refl
+
+long_exponent_row : modulus_tag (modulus (0 ∷ 0 ∷ 1 ∷ 3 ∷ 4 ∷ 5 ∷ 6 ∷ 7 ∷ [])) ≡ Some 1286
+long_exponent_row = refl
+
+short_modulus_row : modulus_tag (modulus (1 ∷ 3 ∷ 4 ∷ 5 ∷ [])) ≡ None
+short_modulus_row = refl
+
+-- ---- owners of NSEC3
+
+hash_row : begins_with_hash (wire (codes "2vptu5timamqttgl4luu9kg21e0aor3s" ∷ origin)) ≡ true
+hash_row = refl
+
+short_hash_row : begins_with_hash (wire (codes "2vptu5ti" ∷ origin)) ≡ false
+short_hash_row = refl
+
+no_digit_row : begins_with_hash (wire (codes "wvptu5timamqttgl4luu9kg21e0aor3s" ∷ origin)) ≡ false
+no_digit_row = refl
+
+child_row : is_child sub origin ≡ true
+child_row = refl
+
+grandchild_row : is_child (codes "ns" ∷ sub) origin ≡ false
+grandchild_row = refl
+
+-- ---- forms that ask to delete (RFC 8078 section 4)
+
+delete_row : is_delete_form (at origin 59 (0 ∷ 0 ∷ 0 ∷ 0 ∷ 0 ∷ [])) ≡ true
+delete_row = refl
+
+key_delete_row : is_delete_form (at origin 60 (0 ∷ 0 ∷ 3 ∷ 0 ∷ 0 ∷ [])) ≡ true
+key_delete_row = refl
+
+key_row : asks_for_key (at origin 60 (1 ∷ 1 ∷ 3 ∷ 8 ∷ 1 ∷ [])) ≡ true
+key_row = refl

@@ -1,14 +1,23 @@
 -- The names of the rules, and which are faults.
 use Rattle.std.specs.Prelude.{ℕ, Bool, true, false, List, codes}
 use Rattle.zone_dnssec.specs.declared.rule.SecurityRule.{SecurityRule}
-use Rattle.zone_dnssec.specs.declared.rule.SecurityRule.TheVariants.{Expired, ExpiresSoon, NotYetValid, Unsigned, SignsNothing, NoNsec, OtherNext, OtherTypes, DsWithoutNs, NoNsec3, OtherNextHash, OtherHashedTypes}
+use Rattle.zone_dnssec.specs.declared.rule.SecurityRule.TheVariants.{Expired, ExpiresSoon, NotYetValid, TimesReversed, OtherSigner, OtherLabels, OtherOriginalTtl, OtherSignatureTtl, Unsigned, NoKey, KeyMissing, RevokedKey, SignsNothing, Occluded, NoNsec, OtherNext, OtherTypes, DsWithoutNs, NoNsec3, OtherNextHash, OtherHashedTypes, OtherLinkOwner, TooManyIterations, ManyIterations, SomeIterations, OtherDenialTtl, DeleteBesideKeys}
 
 abbrev pub security_name : SecurityRule → List ℕ
 security_name Expired = codes "expired"
 security_name ExpiresSoon = codes "expires-soon"
 security_name NotYetValid = codes "not-yet-valid"
+security_name TimesReversed = codes "rrsig-times"
+security_name OtherSigner = codes "rrsig-signer"
+security_name OtherLabels = codes "rrsig-labels"
+security_name OtherOriginalTtl = codes "original-ttl"
+security_name OtherSignatureTtl = codes "rrsig-ttl"
 security_name Unsigned = codes "unsigned"
+security_name NoKey = codes "no-key"
+security_name KeyMissing = codes "key-missing"
+security_name RevokedKey = codes "rrsig-key"
 security_name SignsNothing = codes "signs-nothing"
+security_name Occluded = codes "occluded-dnssec"
 security_name NoNsec = codes "no-nsec"
 security_name OtherNext = codes "nsec-next"
 security_name OtherTypes = codes "nsec-types"
@@ -16,14 +25,29 @@ security_name DsWithoutNs = codes "ds-without-ns"
 security_name NoNsec3 = codes "no-nsec3"
 security_name OtherNextHash = codes "nsec3-next"
 security_name OtherHashedTypes = codes "nsec3-types"
+security_name OtherLinkOwner = codes "nsec3-owner"
+security_name TooManyIterations = codes "nsec3-iterations"
+security_name ManyIterations = codes "nsec3-iterations-50"
+security_name SomeIterations = codes "nsec3-iterations-0"
+security_name OtherDenialTtl = codes "nsec-ttl"
+security_name DeleteBesideKeys = codes "cds-delete"
 
--- a signature that is soon to expire is a warning
+-- what may be so while keys change, or is advised against, is a warning
 abbrev pub is_security_fault : SecurityRule → Bool
 is_security_fault Expired = true
 is_security_fault ExpiresSoon = false
 is_security_fault NotYetValid = true
+is_security_fault TimesReversed = true
+is_security_fault OtherSigner = true
+is_security_fault OtherLabels = true
+is_security_fault OtherOriginalTtl = true
+is_security_fault OtherSignatureTtl = false
 is_security_fault Unsigned = true
+is_security_fault NoKey = true
+is_security_fault KeyMissing = false
+is_security_fault RevokedKey = true
 is_security_fault SignsNothing = true
+is_security_fault Occluded = true
 is_security_fault NoNsec = true
 is_security_fault OtherNext = true
 is_security_fault OtherTypes = true
@@ -31,3 +55,9 @@ is_security_fault DsWithoutNs = true
 is_security_fault NoNsec3 = true
 is_security_fault OtherNextHash = true
 is_security_fault OtherHashedTypes = true
+is_security_fault OtherLinkOwner = true
+is_security_fault TooManyIterations = true
+is_security_fault ManyIterations = false
+is_security_fault SomeIterations = false
+is_security_fault OtherDenialTtl = false
+is_security_fault DeleteBesideKeys = true

@@ -27,14 +27,22 @@ number_in (a ∷ b ∷ c ∷ d ∷ others) = from_be_bytes w32 (a ∷ b ∷ c �
 abbrev pub signature_number : {N O : Type 0} → ℕ → (ℕ → Bool) → Record N O → Bool
 signature_number place test r = type_of r == 46 && option_map_or (λ octets. test (number_in octets)) (data_part (data_of r) place) false
 
--- the expiration, the fifth field, has passed
+-- the expiration, the fifth field, lies before the inception, the sixth
+abbrev pub has_reversed_times : {N O : Type 0} → Record N O → Bool
+has_reversed_times r = signature_number 4 (λ expiration. signature_number 5 (λ inception. has_passed expiration inception) r) r
+
+-- so it does not, and the expiration passes the test
+abbrev pub has_expiration : {N O : Type 0} → (ℕ → Bool) → Record N O → Bool
+has_expiration test r = not (has_reversed_times r) && signature_number 4 test r
+
+-- the expiration has passed
 abbrev pub is_expired : {N O : Type 0} → ℕ → Record N O → Bool
-is_expired instant r = signature_number 4 (λ expiration. has_passed expiration instant) r
+is_expired instant r = has_expiration (λ expiration. has_passed expiration instant) r
 
 -- the expiration has not passed, and lies within a margin
 abbrev pub expires_within : {N O : Type 0} → ℕ → ℕ → Record N O → Bool
-expires_within margin instant r = signature_number 4 (λ expiration. not (has_passed expiration instant) && nat_le (seconds_between instant expiration) margin) r
+expires_within margin instant r = has_expiration (λ expiration. not (has_passed expiration instant) && nat_le (seconds_between instant expiration) margin) r
 
--- the inception, the sixth field, is still to come
+-- the inception is still to come
 abbrev pub is_early : {N O : Type 0} → ℕ → Record N O → Bool
-is_early instant r = signature_number 5 (λ inception. has_passed instant inception) r
+is_early instant r = not (has_reversed_times r) && signature_number 5 (λ inception. has_passed instant inception) r

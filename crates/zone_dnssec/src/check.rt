@@ -2,15 +2,25 @@
 ghost use Rattle.std.specs.Prelude.{◌≡◌, ◌++◌, OnOk, IfOk};
 ghost use Rattle.std.specs.List.{flat_map, range_with_len};
 ghost use Rattle.zone_dnssec.specs.SecurityFindings.{breaks_security, breaks_security_at, insecure_at, insecure_if, insecure_in_zone, insecure_of};
+ghost use Rattle.zone_dnssec.specs.DenialRecords.{denial_ttl};
+ghost use Rattle.zone_dnssec.specs.ZoneKeys.{zone_keys};
 ghost use Rattle.zone_rules.specs.Zones.{has_type_at};
 
 use crate::bitmaps::has_wrong_types;
 use crate::chain::is_without_nsec;
-use crate::hashed::{LinkFault, has_wrong_next_hash, is_link_wrong};
+use crate::deletes::is_delete_beside_keys;
+use crate::denial::{
+    has_iterations, has_wrong_denial_ttl, has_wrong_owner, is_out_of_place, ttl_of_denial,
+};
+use crate::hashed::{LinkFault, MOST_ITERATIONS, has_wrong_next_hash, is_link_wrong};
+use crate::keys::{Key, is_of_revoked_key, is_of_unknown_key, is_without_key, keys_at_apex};
 use crate::links::has_wrong_next;
 use crate::rule::{SecurityFinding, SecurityRule};
 use crate::sets::{is_unsigned, is_without_delegation, is_without_set};
-use crate::times::{Times, has_expired, is_expiring, is_too_early};
+use crate::signatures::{
+    has_wrong_labels, has_wrong_original_ttl, has_wrong_own_ttl, has_wrong_signer,
+};
+use crate::times::{Times, has_expired, has_reversed_times, is_expiring, is_too_early};
 use crate::types::DNSKEY;
 use dns_octets::AsOctets;
 use dns_resource::Record;
@@ -20,13 +30,22 @@ use zone_rules::SortedRecords;
 use zone_rules::names::view;
 use zone_rules::sorted::has_type;
 
-/// The rules, in the order in which they are told of a record.
-const SECURITY_RULES: [SecurityRule; 12] = [
+/// The rules, in the order in which they are reported of a record.
+const SECURITY_RULES: [SecurityRule; 27] = [
     SecurityRule::Expired,
     SecurityRule::ExpiresSoon,
     SecurityRule::NotYetValid,
+    SecurityRule::TimesReversed,
+    SecurityRule::OtherSigner,
+    SecurityRule::OtherLabels,
+    SecurityRule::OtherOriginalTtl,
+    SecurityRule::OtherSignatureTtl,
     SecurityRule::Unsigned,
+    SecurityRule::NoKey,
+    SecurityRule::KeyMissing,
+    SecurityRule::RevokedKey,
     SecurityRule::SignsNothing,
+    SecurityRule::Occluded,
     SecurityRule::NoNsec,
     SecurityRule::OtherNext,
     SecurityRule::OtherTypes,
@@ -34,49 +53,100 @@ const SECURITY_RULES: [SecurityRule; 12] = [
     SecurityRule::NoNsec3,
     SecurityRule::OtherNextHash,
     SecurityRule::OtherHashedTypes,
+    SecurityRule::OtherLinkOwner,
+    SecurityRule::TooManyIterations,
+    SecurityRule::ManyIterations,
+    SecurityRule::SomeIterations,
+    SecurityRule::OtherDenialTtl,
+    SecurityRule::DeleteBesideKeys,
 ];
+
+/// The most iterations with which older validators only don't treat a zone as unsigned.
+const FEW_ITERATIONS: u16 = 50;
+
+/// What the rules ask of the zone as a whole: the keys at its apex, and the TTL of NSEC and NSEC3.
+#[derive(Clone, Copy)]
+struct Facts<'a> {
+    keys: &'a [Key],
+    denial_ttl: Option<u32>,
+}
 
 /// Whether a record at a place breaks a rule.
 fn breaks_rule<Owner: AsOctets, Octets: AsOctets>(
     rule: SecurityRule,
     origin: &Name<&[u8]>,
     times: Times,
+    facts: Facts<'_>,
     records: &SortedRecords<'_, Owner, Octets>,
     place: usize,
     record: &Record<Owner, Octets>,
 ) -> bool
+    requires keys { facts.keys.now ≡ zone_keys origin.now records.now }
+    requires ttl { facts.denial_ttl ≡ denial_ttl origin.now records.now }
     ensures { result ≡ breaks_security rule origin.now times records.now place «record».now }
 {
     match rule {
         SecurityRule::Expired => has_expired(times.instant, record),
         SecurityRule::ExpiresSoon => is_expiring(times, record),
         SecurityRule::NotYetValid => is_too_early(times.instant, record),
+        SecurityRule::TimesReversed => has_reversed_times(record),
+        SecurityRule::OtherSigner => has_wrong_signer(origin, record),
+        SecurityRule::OtherLabels => has_wrong_labels(record),
+        SecurityRule::OtherOriginalTtl => has_wrong_original_ttl(records, record),
+        SecurityRule::OtherSignatureTtl => has_wrong_own_ttl(records, record),
         SecurityRule::Unsigned => is_unsigned(origin, records, place, record),
+        SecurityRule::NoKey => is_without_key(facts.keys, origin, records, place, record),
+        SecurityRule::KeyMissing => is_of_unknown_key(facts.keys, records, record),
+        SecurityRule::RevokedKey => is_of_revoked_key(facts.keys, record),
         SecurityRule::SignsNothing => is_without_set(records, record),
+        SecurityRule::Occluded => is_out_of_place(origin, records, record),
         SecurityRule::NoNsec => is_without_nsec(origin, records, place, record),
         SecurityRule::OtherNext => has_wrong_next(origin, records, record),
         SecurityRule::OtherTypes => has_wrong_types(origin, records, record),
         SecurityRule::DsWithoutNs => is_without_delegation(records, record),
         SecurityRule::NoNsec3 => is_link_wrong(LinkFault::Missing, origin, records, place, record),
         SecurityRule::OtherNextHash => has_wrong_next_hash(origin, records, record),
-        SecurityRule::OtherHashedTypes => {
-            is_link_wrong(LinkFault::DifferentTypes, origin, records, place, record)
-        }
+        SecurityRule::OtherHashedTypes => is_link_wrong(
+            LinkFault::DifferentTypes,
+            origin,
+            records,
+            place,
+            record,
+        ),
+        SecurityRule::OtherLinkOwner => has_wrong_owner(origin, record),
+        SecurityRule::TooManyIterations => has_iterations(
+            MOST_ITERATIONS,
+            u16::MAX,
+            origin,
+            record,
+        ),
+        SecurityRule::ManyIterations => has_iterations(
+            FEW_ITERATIONS,
+            MOST_ITERATIONS,
+            origin,
+            record,
+        ),
+        SecurityRule::SomeIterations => has_iterations(0, FEW_ITERATIONS, origin, record),
+        SecurityRule::OtherDenialTtl => has_wrong_denial_ttl(facts.denial_ttl, record),
+        SecurityRule::DeleteBesideKeys => is_delete_beside_keys(origin, records, record),
     }
 }
 
-/// Whether the record at a place breaks a rule. Behind the last there is none.
+/// Whether the record at a place breaks a rule. After the last there is none.
 fn is_broken_at<Owner: AsOctets, Octets: AsOctets>(
     rule: SecurityRule,
     origin: &Name<&[u8]>,
     times: Times,
+    facts: Facts<'_>,
     records: &SortedRecords<'_, Owner, Octets>,
     place: usize,
 ) -> bool
+    requires keys { facts.keys.now ≡ zone_keys origin.now records.now }
+    requires ttl { facts.denial_ttl ≡ denial_ttl origin.now records.now }
     ensures { result ≡ breaks_security_at origin.now times records.now place rule }
 {
     match records.as_slice().get(place) {
-        Some(record) => breaks_rule(rule, origin, times, records, place, record),
+        Some(record) => breaks_rule(rule, origin, times, facts, records, place, record),
         None => false,
     }
 }
@@ -105,14 +175,17 @@ fn add_each<Owner: AsOctets, Octets: AsOctets, A: Allocator>(
     rules: &[SecurityRule],
     origin: &Name<&[u8]>,
     times: Times,
+    facts: Facts<'_>,
     records: &SortedRecords<'_, Owner, Octets>,
     place: usize,
     found: &mut Vec<SecurityFinding, A>,
 ) -> Result<(), AllocError>
+    requires keys { facts.keys.now ≡ zone_keys origin.now records.now }
+    requires ttl { facts.denial_ttl ≡ denial_ttl origin.now records.now }
     ensures { OnOk result (found.new.items ≡ found.old.items ++ flat_map (insecure_of origin.now times records.now place) rules.now) }
 {
     for rule in rules {
-        let is_broken = is_broken_at(*rule, origin, times, records, place);
+        let is_broken = is_broken_at(*rule, origin, times, facts, records, place);
         add_if(is_broken, *rule, place, found)?;
     }
     Ok(())
@@ -122,13 +195,16 @@ fn add_each<Owner: AsOctets, Octets: AsOctets, A: Allocator>(
 fn add_broken<Owner: AsOctets, Octets: AsOctets, A: Allocator>(
     origin: &Name<&[u8]>,
     times: Times,
+    facts: Facts<'_>,
     records: &SortedRecords<'_, Owner, Octets>,
     place: usize,
     found: &mut Vec<SecurityFinding, A>,
 ) -> Result<(), AllocError>
+    requires keys { facts.keys.now ≡ zone_keys origin.now records.now }
+    requires ttl { facts.denial_ttl ≡ denial_ttl origin.now records.now }
     ensures { OnOk result (found.new.items ≡ found.old.items ++ insecure_at origin.now times records.now place) }
 {
-    add_each(&SECURITY_RULES, origin, times, records, place, found)
+    add_each(&SECURITY_RULES, origin, times, facts, records, place, found)
 }
 
 /// What is found in the zone that has this origin and these records: the rules that each record
@@ -136,7 +212,7 @@ fn add_broken<Owner: AsOctets, Octets: AsOctets, A: Allocator>(
 /// is found. Classes don't count.
 ///
 /// Where there is no memory nothing is returned.
-pub fn check_signed<Owner: AsOctets, Octets: AsOctets, Origin: AsOctets, A: Allocator>(
+pub fn check_signed<Owner: AsOctets, Octets: AsOctets, Origin: AsOctets, A: Allocator + Copy>(
     alloc: A,
     origin: &Name<Origin>,
     times: Times,
@@ -149,8 +225,13 @@ pub fn check_signed<Owner: AsOctets, Octets: AsOctets, Origin: AsOctets, A: Allo
     if !has_type(records, &apex, DNSKEY) {
         return Ok(found);
     }
+    let keys = keys_at_apex(alloc, &apex, records)?;
+    let facts = Facts {
+        keys: keys.as_slice(),
+        denial_ttl: ttl_of_denial(&apex, records),
+    };
     for place in 0..records.as_slice().len() {
-        add_broken(&apex, times, records, place, &mut found)?;
+        add_broken(&apex, times, facts, records, place, &mut found)?;
     }
     Ok(found)
 }

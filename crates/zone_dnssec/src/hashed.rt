@@ -3,15 +3,15 @@ ghost use Rattle.std.specs.Prelude.{◌≡◌, ◌&&◌, not};
 ghost use Rattle.std.specs.List.{list_any};
 ghost use Rattle.zone_rules.specs.Above.{names_above};
 ghost use Rattle.zone_rules.specs.Zones.{has_owner};
-ghost use Rattle.zone_dnssec.specs.HashedLinks.{fails_at_or_above, fails_chain, fails_name, is_covered_by_opt_out, is_empty_in_zone, is_hash_of, is_opted_out, is_represented, lacks_link, lists_other_hashed_types, names_other_hash, points_to_next};
+ghost use Rattle.zone_dnssec.specs.HashedLinks.{fails_at_or_above, fails_chain, fails_name, is_bounded, is_covered_by_opt_out, is_empty_in_zone, is_hash_of, is_opted_out, is_represented, lacks_link, lists_other_hashed_types, names_other_hash, points_to_next};
 ghost use Rattle.zone_dnssec.specs.Nsec3Chain.{is_link, some_chain};
 ghost use Rattle.zone_dnssec.specs.Parameters.{names_chain};
 
 use crate::bitmaps::lists_types;
 use crate::chain::is_first_at_owner;
 use crate::nsec3::{
-    bitmap, covering_link, has_opt_out, is_chain, is_of_chain, link_for, next_hash, next_in_chain,
-    owner_for,
+    bitmap, covering_link, has_opt_out, is_chain, is_of_chain, iterations, link_for, next_hash,
+    next_in_chain, owner_for,
 };
 use crate::nsec3_hash::hashed_name;
 use crate::sets::has_authority;
@@ -23,6 +23,9 @@ use zone_rules::SortedRecords;
 use zone_rules::hosts::is_cut;
 use zone_rules::names::{is_name_within, is_same, parent, view};
 use zone_rules::sorted::{has_type, owned_by};
+
+/// The most iterations with which validators don't treat a zone as unsigned (RFC 9276 section 3.2).
+pub(crate) const MOST_ITERATIONS: u16 = 150;
 
 /// What is wrong with the NSEC3 of a name.
 #[derive(Clone, Copy)]
@@ -247,7 +250,15 @@ fn is_in_chain<Owner: AsOctets, Octets: AsOctets>(
         && !is_left_out(origin, records, chain, name)
 }
 
-/// Whether an NSEC3PARAM names a chain in which a name is represented, and which has a fault there.
+/// Returns whether names are hashed for a chain: it has at most 150 iterations.
+fn is_short<Owner: AsOctets, Octets: AsOctets>(chain: &Record<Owner, Octets>) -> bool
+    ensures { result ≡ is_bounded chain.now }
+{
+    iterations(chain) <= MOST_ITERATIONS
+}
+
+/// Whether an NSEC3PARAM names a chain of few iterations in which a name is represented, and which
+/// has a fault there.
 fn is_chain_wrong<Owner: AsOctets, Octets: AsOctets>(
     fault: LinkFault,
     origin: &Name<&[u8]>,
@@ -255,28 +266,30 @@ fn is_chain_wrong<Owner: AsOctets, Octets: AsOctets>(
     chain: &Record<Owner, Octets>,
     name: &Name<&[u8]>,
 ) -> bool
-    ensures { result ≡ names_chain chain.now && (is_represented origin.now records.now chain.now name.now && fails_at_or_above fault origin.now records.now chain.now name.now) }
+    ensures { result ≡ names_chain chain.now && (is_bounded chain.now && (is_represented origin.now records.now chain.now name.now && fails_at_or_above fault origin.now records.now chain.now name.now)) }
 {
     is_chain(chain)
+        && is_short(chain)
         && is_in_chain(origin, records, chain, name)
         && has_fault_from(fault, origin, records, chain, name)
 }
 
-/// Whether a name is represented in a chain which has a fault there.
+/// Whether a name is represented in a chain of few iterations which has a fault there.
 fn has_fault_in_chain<Owner: AsOctets, Octets: AsOctets>(
     fault: LinkFault,
     origin: &Name<&[u8]>,
     records: &SortedRecords<'_, Owner, Octets>,
     name: &Name<&[u8]>,
 ) -> bool
-    ensures { result ≡ some_chain (λ chain. is_represented origin.now records.now chain name.now && fails_at_or_above fault origin.now records.now chain name.now) origin.now records.now }
+    ensures { result ≡ some_chain (λ chain. is_bounded chain && (is_represented origin.now records.now chain name.now && fails_at_or_above fault origin.now records.now chain name.now)) origin.now records.now }
 {
     owned_by(records, origin).iter().any(|chain| is_chain_wrong(
         fault, origin, records, chain, name,
     ))
 }
 
-/// Whether a record is the first at a name that is represented in a chain which has a fault there.
+/// Whether a record is the first at a name that is represented in a chain of few iterations which
+/// has a fault there.
 pub fn is_link_wrong<Owner: AsOctets, Octets: AsOctets>(
     fault: LinkFault,
     origin: &Name<&[u8]>,

@@ -5,12 +5,16 @@
 pub mod bitmaps;
 pub mod chain;
 pub mod check;
+pub mod deletes;
+pub mod denial;
 pub mod hashed;
+pub mod keys;
 pub mod links;
 pub mod nsec3;
 pub mod nsec3_hash;
 pub mod rule;
 pub mod sets;
+pub mod signatures;
 pub mod times;
 mod types;
 

@@ -32,7 +32,10 @@ const SALT: usize = 3;
 const NEXT_HASH: usize = 4;
 
 /// The octets of a field.
-fn field<Owner: AsOctets, Octets: AsOctets>(record: &Record<Owner, Octets>, place: usize) -> &[u8]
+pub(crate) fn field<Owner: AsOctets, Octets: AsOctets>(
+    record: &Record<Owner, Octets>,
+    place: usize,
+) -> &[u8]
     ensures { result.now ≡ field_octets place «record».now }
 {
     match record.data.part(place) {
@@ -42,7 +45,7 @@ fn field<Owner: AsOctets, Octets: AsOctets>(record: &Record<Owner, Octets>, plac
 }
 
 /// The number that two octets spell.
-fn number(octets: &[u8]) -> u16
+pub(crate) fn short_number(octets: &[u8]) -> u16
     ensures { result ≡ short_number octets.now }
 {
     match octets {
@@ -83,6 +86,13 @@ pub fn is_chain<Owner: AsOctets, Octets: AsOctets>(record: &Record<Owner, Octets
         && matches!(field(record, FLAGS), [0])
 }
 
+/// Returns the iterations of an NSEC3 or NSEC3PARAM.
+pub(crate) fn iterations<Owner: AsOctets, Octets: AsOctets>(record: &Record<Owner, Octets>) -> u16
+    ensures { result ≡ iterations_of «record».now }
+{
+    short_number(field(record, ITERATIONS))
+}
+
 /// Whether a field of two records is the same.
 fn has_same_field<Owner: AsOctets, Octets: AsOctets>(
     place: usize,
@@ -116,7 +126,7 @@ pub fn owner_for<Owner: AsOctets, Octets: AsOctets>(
     ensures { result ≡ matching_owner origin.now chain.now name.now }
 {
     let salt = behind(field(chain, SALT), 1);
-    let hash = hash_name(name, salt, number(field(chain, ITERATIONS)));
+    let hash = hash_name(name, salt, iterations(chain));
     hashed_name(origin, &hash)
 }
 

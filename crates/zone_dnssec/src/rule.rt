@@ -4,22 +4,48 @@ ghost use Rattle.zone_dnssec.specs.SecurityNames.{security_name, is_security_fau
 
 /// A rule of DNSSEC that a record of a signed zone breaks.
 ///
-/// All are faults, with which resolvers refuse names of the zone, but `ExpiresSoon`, which is a
-/// warning.
+/// All are faults, with which resolvers refuse names of the zone, except for those that say that
+/// they are warnings.
 #[derive(Clone, Copy, Debug, PartialEq, Eq)]
 pub enum SecurityRule {
     /// The record is an RRSIG, and its time of expiration has passed (RFC 4034 section 3.1.5).
     Expired,
-    /// The record is an RRSIG that expires within the margin.
+    /// The record is an RRSIG that expires within the margin. A warning.
     ExpiresSoon,
     /// The record is an RRSIG, and its time of inception is still to come (RFC 4034 section
     /// 3.1.5).
     NotYetValid,
+    /// The record is an RRSIG that expires before its inception (RFC 4034 section 3.1.5). It is then
+    /// neither expired nor early.
+    TimesReversed,
+    /// The record is an RRSIG, and its signer is not the zone (RFC 4034 section 3.1.7).
+    OtherSigner,
+    /// The record is an RRSIG, and its labels are not as many as its owner has without the root and
+    /// without an asterisk as the first label (RFC 4034 section 3.1.3).
+    OtherLabels,
+    /// The record is an RRSIG, and no record of the set that it covers has its original TTL (RFC 4034
+    /// section 3).
+    OtherOriginalTtl,
+    /// The record is an RRSIG, and no record of the set that it covers has the TTL of the RRSIG (RFC
+    /// 4034 section 3). A warning.
+    OtherSignatureTtl,
     /// The record is the first of a set that has to be signed, and no RRSIG at its owner covers
     /// its type (RFC 4035 section 2.2).
     Unsigned,
+    /// The record is the first of a set that has to be signed and is, and none of its RRSIGs fits a
+    /// DNSKEY at the apex by algorithm and key tag (RFC 4035 section 2.2).
+    NoKey,
+    /// The record is an RRSIG that fits no DNSKEY at the apex, and another RRSIG of the set does. A
+    /// warning: so it is while an algorithm is rolled over (RFC 6781 section 4.1.4).
+    KeyMissing,
+    /// The record is an RRSIG by a revoked key, and covers another type than DNSKEY (RFC 5011 section
+    /// 2.1).
+    RevokedKey,
     /// The record is an RRSIG, and no record at its owner is of the type that it covers.
     SignsNothing,
+    /// The record is an RRSIG or NSEC below a delegation, or an RRSIG at one that covers another type
+    /// than DS and NSEC (RFC 4035 sections 2.2 and 2.3).
+    Occluded,
     /// The record is the first at a name whose data the zone has authority over, or at a
     /// delegation, no NSEC stands there, and no NSEC3PARAM at the apex names a chain (RFC 4035 section
     /// 2.3, RFC 5155 section 4.1.2).
@@ -45,6 +71,24 @@ pub enum SecurityRule {
     /// empty non-terminal above it, lists other types than those there; at a delegation NS, DS and
     /// RRSIG count alone (RFC 5155 section 7.1).
     OtherHashedTypes,
+    /// The record is an NSEC3, and its owner is not one label below the apex, or the label is no hash
+    /// of 20 octets in base 32 hex, with hash algorithm 1 (RFC 5155 section 3).
+    OtherLinkOwner,
+    /// The record is an NSEC3PARAM that names a chain of more than 150 iterations. Validators treat
+    /// the zone as unsigned (RFC 9276 section 3.2), and no name is hashed for the chain.
+    TooManyIterations,
+    /// The record is an NSEC3PARAM that names a chain of 51 to 150 iterations. A warning: newer
+    /// validators treat the zone as unsigned (RFC 9276 section 3.2).
+    ManyIterations,
+    /// The record is an NSEC3PARAM that names a chain of 1 to 50 iterations. A warning: there should
+    /// be none (RFC 9276 section 3.1).
+    SomeIterations,
+    /// The record is an NSEC or NSEC3, and its TTL is not the lesser of the SOA's TTL and minimum (RFC
+    /// 9077 section 3). A warning.
+    OtherDenialTtl,
+    /// The record is a CDS or CDNSKEY at the apex that asks to delete DS records, and another there
+    /// asks for keys (RFC 8078 section 4).
+    DeleteBesideKeys,
 }
 
 impl SecurityRule {
@@ -56,8 +100,17 @@ impl SecurityRule {
             SecurityRule::Expired => "expired",
             SecurityRule::ExpiresSoon => "expires-soon",
             SecurityRule::NotYetValid => "not-yet-valid",
+            SecurityRule::TimesReversed => "rrsig-times",
+            SecurityRule::OtherSigner => "rrsig-signer",
+            SecurityRule::OtherLabels => "rrsig-labels",
+            SecurityRule::OtherOriginalTtl => "original-ttl",
+            SecurityRule::OtherSignatureTtl => "rrsig-ttl",
             SecurityRule::Unsigned => "unsigned",
+            SecurityRule::NoKey => "no-key",
+            SecurityRule::KeyMissing => "key-missing",
+            SecurityRule::RevokedKey => "rrsig-key",
             SecurityRule::SignsNothing => "signs-nothing",
+            SecurityRule::Occluded => "occluded-dnssec",
             SecurityRule::NoNsec => "no-nsec",
             SecurityRule::OtherNext => "nsec-next",
             SecurityRule::OtherTypes => "nsec-types",
@@ -65,6 +118,12 @@ impl SecurityRule {
             SecurityRule::NoNsec3 => "no-nsec3",
             SecurityRule::OtherNextHash => "nsec3-next",
             SecurityRule::OtherHashedTypes => "nsec3-types",
+            SecurityRule::OtherLinkOwner => "nsec3-owner",
+            SecurityRule::TooManyIterations => "nsec3-iterations",
+            SecurityRule::ManyIterations => "nsec3-iterations-50",
+            SecurityRule::SomeIterations => "nsec3-iterations-0",
+            SecurityRule::OtherDenialTtl => "nsec-ttl",
+            SecurityRule::DeleteBesideKeys => "cds-delete",
         }
     }
 
@@ -72,7 +131,15 @@ impl SecurityRule {
     pub fn is_fault(&self) -> bool
         ensures { result ≡ is_security_fault self.now }
     {
-        !matches!(self, SecurityRule::ExpiresSoon)
+        !matches!(
+            self,
+            SecurityRule::ExpiresSoon
+                | SecurityRule::OtherSignatureTtl
+                | SecurityRule::KeyMissing
+                | SecurityRule::ManyIterations
+                | SecurityRule::SomeIterations
+                | SecurityRule::OtherDenialTtl
+        )
     }
 }
 

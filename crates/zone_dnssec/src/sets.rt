@@ -25,14 +25,14 @@ pub fn has_authority<Owner: AsOctets, Octets: AsOctets>(
 }
 
 /// Whether sets of a type at a delegation are the parent's.
-fn is_of_parent(code: u16) -> bool
+pub(crate) fn is_of_parent(code: u16) -> bool
     ensures { result ≡ belongs_to_parent code }
 {
     matches!(code, DS | NSEC)
 }
 
 /// Whether the set of a record has to be signed.
-fn needs_signature<Owner: AsOctets, Octets: AsOctets>(
+pub(crate) fn needs_signature<Owner: AsOctets, Octets: AsOctets>(
     origin: &Name<&[u8]>,
     records: &SortedRecords<'_, Owner, Octets>,
     record: &Record<Owner, Octets>,
@@ -46,7 +46,7 @@ fn needs_signature<Owner: AsOctets, Octets: AsOctets>(
 }
 
 /// Whether a record is an RRSIG that covers a type.
-fn is_signature_of<Owner: AsOctets, Octets: AsOctets>(
+pub(crate) fn is_signature_of<Owner: AsOctets, Octets: AsOctets>(
     record: &Record<Owner, Octets>,
     code: u16,
 ) -> bool
@@ -56,7 +56,7 @@ fn is_signature_of<Owner: AsOctets, Octets: AsOctets>(
 }
 
 /// Whether an RRSIG at a name covers a type.
-fn is_signed<Owner: AsOctets, Octets: AsOctets>(
+pub(crate) fn is_signed<Owner: AsOctets, Octets: AsOctets>(
     records: &SortedRecords<'_, Owner, Octets>,
     name: &Name<&[u8]>,
     code: u16,
@@ -69,7 +69,7 @@ fn is_signed<Owner: AsOctets, Octets: AsOctets>(
 }
 
 /// Whether a record is the first of its set: the one before it is of another.
-fn is_first_of_set<Owner: AsOctets, Octets: AsOctets>(
+pub(crate) fn is_first_of_set<Owner: AsOctets, Octets: AsOctets>(
     records: &SortedRecords<'_, Owner, Octets>,
     place: usize,
     record: &Record<Owner, Octets>,

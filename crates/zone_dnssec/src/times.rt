@@ -3,7 +3,7 @@
 ghost use Rattle.std.specs.Prelude.{◌≡◌};
 ghost use Rattle.std.specs.Option.{option_map_or};
 ghost use Rattle.dns_resource.specs.Parts.{data_part};
-ghost use Rattle.zone_dnssec.specs.SignatureTimes.{expires_within, has_passed, is_early, is_expired, number_in, seconds_between};
+ghost use Rattle.zone_dnssec.specs.SignatureTimes.{expires_within, has_passed, has_reversed_times, is_early, is_expired, number_in, seconds_between};
 
 use crate::types::RRSIG;
 use dns_octets::AsOctets;
@@ -39,7 +39,7 @@ fn is_before(earlier: u32, later: u32) -> bool
 }
 
 /// The number that four octets spell.
-fn number(octets: &[u8]) -> u32
+pub(crate) fn number(octets: &[u8]) -> u32
     ensures { result ≡ number_in octets.now }
 {
     match octets {
@@ -50,6 +50,22 @@ fn number(octets: &[u8]) -> u32
     }
 }
 
+/// Returns whether a record is an RRSIG that expires before its inception.
+pub fn has_reversed_times<Owner: AsOctets, Octets: AsOctets>(record: &Record<Owner, Octets>) -> bool
+    ensures { result ≡ has_reversed_times «record».now }
+{
+    if record.data.code() != RRSIG {
+        return false;
+    }
+    match record.data.part(EXPIRATION) {
+        Some(end) => match record.data.part(INCEPTION) {
+            Some(start) => is_before(number(end), number(start)),
+            None => false,
+        },
+        None => false,
+    }
+}
+
 /// Whether a record is an RRSIG that has expired at an instant.
 pub fn has_expired<Owner: AsOctets, Octets: AsOctets>(
     instant: u32,
@@ -57,7 +73,7 @@ pub fn has_expired<Owner: AsOctets, Octets: AsOctets>(
 ) -> bool
     ensures { result ≡ is_expired instant «record».now }
 {
-    if record.data.code() != RRSIG {
+    if record.data.code() != RRSIG || has_reversed_times(record) {
         return false;
     }
     match record.data.part(EXPIRATION) {
@@ -73,11 +89,14 @@ pub fn is_expiring<Owner: AsOctets, Octets: AsOctets>(
 ) -> bool
     ensures { result ≡ expires_within times.margin times.instant «record».now }
 {
-    if record.data.code() != RRSIG || has_expired(times.instant, record) {
+    if record.data.code() != RRSIG || has_reversed_times(record) {
         return false;
     }
     match record.data.part(EXPIRATION) {
-        Some(end) => seconds_after(times.instant, number(end)) <= times.margin,
+        Some(end) => {
+            let end = number(end);
+            !is_before(end, times.instant) && seconds_after(times.instant, end) <= times.margin
+        }
         None => false,
     }
 }
@@ -89,7 +108,7 @@ pub fn is_too_early<Owner: AsOctets, Octets: AsOctets>(
 ) -> bool
     ensures { result ≡ is_early instant «record».now }
 {
-    if record.data.code() != RRSIG {
+    if record.data.code() != RRSIG || has_reversed_times(record) {
         return false;
     }
     match record.data.part(INCEPTION) {

@@ -2,6 +2,8 @@
 
 pub(crate) const NS: u16 = 2;
 
+pub(crate) const SOA: u16 = 6;
+
 pub(crate) const DS: u16 = 43;
 
 pub(crate) const RRSIG: u16 = 46;
@@ -13,3 +15,7 @@ pub(crate) const DNSKEY: u16 = 48;
 pub(crate) const NSEC3: u16 = 50;
 
 pub(crate) const NSEC3PARAM: u16 = 51;
+
+pub(crate) const CDS: u16 = 59;
+
+pub(crate) const CDNSKEY: u16 = 60;

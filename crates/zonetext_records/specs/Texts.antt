@@ -4,7 +4,7 @@ use Rattle.dns_split.specs.declared.pieces.Wrong.{Wrong}
 use Rattle.dns_split.specs.declared.pieces.Wrong.TheVariants.{Closing, OpenParenthesis as OpenWrong, OpenQuote as QuoteWrong, LoneReturn as ReturnWrong, BadEscape as EscapeWrong}
 use Rattle.zonetext_report.specs.Code.{code_name}
 use Rattle.zonetext_report.specs.declared.code.Code.{Code}
-use Rattle.zonetext_report.specs.declared.code.Code.TheVariants.{Nul, ByteOrderMark, ControlZ, Ttl, OtherClass, NoSoa, TwoSoas, NoNs, NsAddress, Cname, Dname, DsApex, WildcardNs, SoaNotApex, NsBesideDname, Nsec3Wildcard, BelowDname, Outside, MaxTtl, NoOrigin, HighOctet, ControlOctet, Crlf, NestedParentheses, NoFinalNewline, RelativeOrigin, SoaMinimumTtl, IncludeTtl, MissingDot, EmptyUri, TlsaLength, Glue, TargetCname, TargetMissing, HostName, Cds, TtlDiffers, Duplicate, NoDnskey, Expired, ExpiresSoon, NotYetValid, Unsigned, SignsNothing, NoNsec, NsecNext, NsecTypes, DsWithoutNs, NoNsec3, Nsec3Next, Nsec3Types}
+use Rattle.zonetext_report.specs.declared.code.Code.TheVariants.{Nul, ByteOrderMark, ControlZ, Ttl, OtherClass, NoSoa, TwoSoas, NoNs, NsAddress, Cname, Dname, DsApex, WildcardNs, SoaNotApex, NsBesideDname, Nsec3Wildcard, BelowDname, Outside, MaxTtl, NoOrigin, HighOctet, ControlOctet, Crlf, NestedParentheses, NoFinalNewline, RelativeOrigin, SoaMinimumTtl, IncludeTtl, MissingDot, EmptyUri, TlsaLength, Glue, TargetCname, TargetMissing, HostName, Cds, TtlDiffers, Duplicate, NoDnskey, Expired, ExpiresSoon, NotYetValid, RrsigTimes, RrsigSigner, RrsigLabels, OriginalTtl, RrsigTtl, Unsigned, NoKey, KeyMissing, RrsigKey, SignsNothing, OccludedDnssec, NoNsec, NsecNext, NsecTypes, DsWithoutNs, NoNsec3, Nsec3Next, Nsec3Types, Nsec3Owner, Nsec3Iterations, Nsec3Iterations50, Nsec3Iterations0, NsecTtl, CdsDelete}
 
 -- the faults of the text
 abbrev pub text_fault_text : Wrong → List ℕ
@@ -61,8 +61,17 @@ finding_text NoDnskey = codes "no DNSKEY at the zone's name: it is not signed"
 finding_text Expired = codes "signature has expired"
 finding_text ExpiresSoon = codes "signature expires soon"
 finding_text NotYetValid = codes "signature is not valid yet"
+finding_text RrsigTimes = codes "signature ends before it begins"
+finding_text RrsigSigner = codes "signer is not the zone"
+finding_text RrsigLabels = codes "labels are not as many as the owner's"
+finding_text OriginalTtl = codes "original TTL is not the set's TTL"
+finding_text RrsigTtl = codes "TTL of the signature is not the set's TTL"
 finding_text Unsigned = codes "set without a signature"
+finding_text NoKey = codes "no signature of the set fits a DNSKEY of the zone"
+finding_text KeyMissing = codes "signature fits no DNSKEY of the zone"
+finding_text RrsigKey = codes "signature by a revoked key"
 finding_text SignsNothing = codes "signature of records that are not there"
+finding_text OccludedDnssec = codes "NSEC or RRSIG where the zone has no authority"
 finding_text NoNsec = codes "name without an NSEC"
 finding_text NsecNext = codes "NSEC names another than the next name"
 finding_text NsecTypes = codes "NSEC lists other types than the name has"
@@ -70,4 +79,10 @@ finding_text DsWithoutNs = codes "DS without an NS"
 finding_text NoNsec3 = codes "name, or empty name above it, without an NSEC3"
 finding_text Nsec3Next = codes "NSEC3 names another than the next hash"
 finding_text Nsec3Types = codes "NSEC3 of the name, or of an empty name above it, lists other types"
+finding_text Nsec3Owner = codes "owner of the NSEC3 is not a hash one label below the zone's name"
+finding_text Nsec3Iterations = codes "more than 150 iterations: validators treat the zone as unsigned"
+finding_text Nsec3Iterations50 = codes "more than 50 iterations: newer validators treat the zone as unsigned"
+finding_text Nsec3Iterations0 = codes "NSEC3 has iterations: 0 is advised (RFC 9276)"
+finding_text NsecTtl = codes "TTL is not the lesser of the SOA's TTL and minimum"
+finding_text CdsDelete = codes "CDS or CDNSKEY asks to delete, and another asks for keys"
 finding_text c = code_name c

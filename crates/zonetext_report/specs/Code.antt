@@ -3,7 +3,7 @@ use Rattle.std.specs.Prelude.{ℕ, Bool, true, false, List, codes}
 use Rattle.zonetext_report.specs.declared.code.Severity.{Severity}
 use Rattle.zonetext_report.specs.declared.code.Severity.TheVariants.{Error, Warning}
 use Rattle.zonetext_report.specs.declared.code.Code.{Code}
-use Rattle.zonetext_report.specs.declared.code.Code.TheVariants.{OpenQuote, OpenParenthesis, ClosingParenthesis, LoneReturn, BadEscape, Nul, ByteOrderMark, ControlZ, Directive, Owner, Ttl, Class, RecordType, Data, Include, NoOwner, NoTtl, OtherClass, NoSoa, TwoSoas, NoNs, NsAddress, Cname, Dname, DsApex, WildcardNs, SoaNotApex, NsBesideDname, Nsec3Wildcard, BelowDname, Outside, MaxTtl, NoOrigin, HighOctet, ControlOctet, Crlf, NestedParentheses, NoFinalNewline, RelativeOrigin, SoaMinimumTtl, IncludeTtl, MissingDot, EmptyUri, TlsaLength, Glue, TargetCname, TargetMissing, HostName, Cds, TtlDiffers, Duplicate, NotAtApex, KeyProtocol, KeyAlgorithm, NoDnskey, Expired, ExpiresSoon, NotYetValid, Unsigned, SignsNothing, NoNsec, NsecNext, NsecTypes, DsWithoutNs, NoNsec3, Nsec3Next, Nsec3Types}
+use Rattle.zonetext_report.specs.declared.code.Code.TheVariants.{OpenQuote, OpenParenthesis, ClosingParenthesis, LoneReturn, BadEscape, Nul, ByteOrderMark, ControlZ, Directive, Owner, Ttl, Class, RecordType, Data, Include, NoOwner, NoTtl, OtherClass, NoSoa, TwoSoas, NoNs, NsAddress, Cname, Dname, DsApex, WildcardNs, SoaNotApex, NsBesideDname, Nsec3Wildcard, BelowDname, Outside, MaxTtl, NoOrigin, HighOctet, ControlOctet, Crlf, NestedParentheses, NoFinalNewline, RelativeOrigin, SoaMinimumTtl, IncludeTtl, MissingDot, EmptyUri, TlsaLength, Glue, TargetCname, TargetMissing, HostName, Cds, TtlDiffers, Duplicate, NotAtApex, KeyProtocol, KeyAlgorithm, NoDnskey, Expired, ExpiresSoon, NotYetValid, RrsigTimes, RrsigSigner, RrsigLabels, OriginalTtl, RrsigTtl, Unsigned, NoKey, KeyMissing, RrsigKey, SignsNothing, OccludedDnssec, NoNsec, NsecNext, NsecTypes, DsWithoutNs, NoNsec3, Nsec3Next, Nsec3Types, Nsec3Owner, Nsec3Iterations, Nsec3Iterations50, Nsec3Iterations0, NsecTtl, CdsDelete}
 
 abbrev pub severity_name : Severity → List ℕ
 severity_name Error = codes "error"
@@ -69,8 +69,17 @@ code_name NoDnskey = codes "no-dnskey"
 code_name Expired = codes "expired"
 code_name ExpiresSoon = codes "expires-soon"
 code_name NotYetValid = codes "not-yet-valid"
+code_name RrsigTimes = codes "rrsig-times"
+code_name RrsigSigner = codes "rrsig-signer"
+code_name RrsigLabels = codes "rrsig-labels"
+code_name OriginalTtl = codes "original-ttl"
+code_name RrsigTtl = codes "rrsig-ttl"
 code_name Unsigned = codes "unsigned"
+code_name NoKey = codes "no-key"
+code_name KeyMissing = codes "key-missing"
+code_name RrsigKey = codes "rrsig-key"
 code_name SignsNothing = codes "signs-nothing"
+code_name OccludedDnssec = codes "occluded-dnssec"
 code_name NoNsec = codes "no-nsec"
 code_name NsecNext = codes "nsec-next"
 code_name NsecTypes = codes "nsec-types"
@@ -78,6 +87,12 @@ code_name DsWithoutNs = codes "ds-without-ns"
 code_name NoNsec3 = codes "no-nsec3"
 code_name Nsec3Next = codes "nsec3-next"
 code_name Nsec3Types = codes "nsec3-types"
+code_name Nsec3Owner = codes "nsec3-owner"
+code_name Nsec3Iterations = codes "nsec3-iterations"
+code_name Nsec3Iterations50 = codes "nsec3-iterations-50"
+code_name Nsec3Iterations0 = codes "nsec3-iterations-0"
+code_name NsecTtl = codes "nsec-ttl"
+code_name CdsDelete = codes "cds-delete"
 
 -- the text can't be read as entries, or not safely
 abbrev pub is_text_fault : Code → Bool
@@ -118,4 +133,9 @@ default_severity NotAtApex = Warning
 default_severity KeyProtocol = Warning
 default_severity KeyAlgorithm = Warning
 default_severity ExpiresSoon = Warning
+default_severity RrsigTtl = Warning
+default_severity KeyMissing = Warning
+default_severity Nsec3Iterations50 = Warning
+default_severity Nsec3Iterations0 = Warning
+default_severity NsecTtl = Warning
 default_severity _ = Error

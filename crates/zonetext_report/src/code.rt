@@ -145,10 +145,28 @@ pub enum Code {
     ExpiresSoon,
     /// An RRSIG is not valid yet.
     NotYetValid,
+    /// An RRSIG ends before it begins.
+    RrsigTimes,
+    /// The signer of an RRSIG is not the zone.
+    RrsigSigner,
+    /// The labels of an RRSIG are not as many as its owner's.
+    RrsigLabels,
+    /// The original TTL of an RRSIG is not the TTL of its set.
+    OriginalTtl,
+    /// The TTL of an RRSIG is not the TTL of its set.
+    RrsigTtl,
     /// A set of records has no RRSIG.
     Unsigned,
+    /// No RRSIG of a set fits a DNSKEY at the apex.
+    NoKey,
+    /// An RRSIG fits no DNSKEY at the apex, and another of its set does.
+    KeyMissing,
+    /// An RRSIG over another set than DNSKEY is by a revoked key.
+    RrsigKey,
     /// An RRSIG covers a type that is not at its owner.
     SignsNothing,
+    /// An NSEC or RRSIG is below a delegation, or an RRSIG at one covers what is not the parent's.
+    OccludedDnssec,
     /// A name has no NSEC.
     NoNsec,
     /// An NSEC names another than the next name.
@@ -163,6 +181,18 @@ pub enum Code {
     Nsec3Next,
     /// The NSEC3 of a name, or of an empty one above it, lists other types.
     Nsec3Types,
+    /// The owner of an NSEC3 is not a hash one label below the apex.
+    Nsec3Owner,
+    /// An NSEC3PARAM has more than 150 iterations.
+    Nsec3Iterations,
+    /// An NSEC3PARAM has more than 50 iterations.
+    Nsec3Iterations50,
+    /// An NSEC3PARAM has iterations.
+    Nsec3Iterations0,
+    /// The TTL of an NSEC or NSEC3 is not the lesser of the SOA's TTL and minimum.
+    NsecTtl,
+    /// A CDS or CDNSKEY asks to delete, and another asks for keys.
+    CdsDelete,
 }
 
 /// The first of some codes that has a name.
@@ -175,7 +205,7 @@ fn find_named(codes: &[Code], name: &str) -> Option<Code>
 impl Code {
     /// Every code.
 
-    pub const ALL: [Code; 67] = [
+    pub const ALL: [Code; 82] = [
         Code::OpenQuote,
         Code::OpenParenthesis,
         Code::ClosingParenthesis,
@@ -234,8 +264,17 @@ impl Code {
         Code::Expired,
         Code::ExpiresSoon,
         Code::NotYetValid,
+        Code::RrsigTimes,
+        Code::RrsigSigner,
+        Code::RrsigLabels,
+        Code::OriginalTtl,
+        Code::RrsigTtl,
         Code::Unsigned,
+        Code::NoKey,
+        Code::KeyMissing,
+        Code::RrsigKey,
         Code::SignsNothing,
+        Code::OccludedDnssec,
         Code::NoNsec,
         Code::NsecNext,
         Code::NsecTypes,
@@ -243,6 +282,12 @@ impl Code {
         Code::NoNsec3,
         Code::Nsec3Next,
         Code::Nsec3Types,
+        Code::Nsec3Owner,
+        Code::Nsec3Iterations,
+        Code::Nsec3Iterations50,
+        Code::Nsec3Iterations0,
+        Code::NsecTtl,
+        Code::CdsDelete,
     ];
 
     /// The name of a code, in small letters and dashes.
@@ -308,8 +353,17 @@ impl Code {
             Code::Expired => "expired",
             Code::ExpiresSoon => "expires-soon",
             Code::NotYetValid => "not-yet-valid",
+            Code::RrsigTimes => "rrsig-times",
+            Code::RrsigSigner => "rrsig-signer",
+            Code::RrsigLabels => "rrsig-labels",
+            Code::OriginalTtl => "original-ttl",
+            Code::RrsigTtl => "rrsig-ttl",
             Code::Unsigned => "unsigned",
+            Code::NoKey => "no-key",
+            Code::KeyMissing => "key-missing",
+            Code::RrsigKey => "rrsig-key",
             Code::SignsNothing => "signs-nothing",
+            Code::OccludedDnssec => "occluded-dnssec",
             Code::NoNsec => "no-nsec",
             Code::NsecNext => "nsec-next",
             Code::NsecTypes => "nsec-types",
@@ -317,6 +371,12 @@ impl Code {
             Code::NoNsec3 => "no-nsec3",
             Code::Nsec3Next => "nsec3-next",
             Code::Nsec3Types => "nsec3-types",
+            Code::Nsec3Owner => "nsec3-owner",
+            Code::Nsec3Iterations => "nsec3-iterations",
+            Code::Nsec3Iterations50 => "nsec3-iterations-50",
+            Code::Nsec3Iterations0 => "nsec3-iterations-0",
+            Code::NsecTtl => "nsec-ttl",
+            Code::CdsDelete => "cds-delete",
         }
     }
 
@@ -374,7 +434,12 @@ impl Code {
             | Code::NotAtApex
             | Code::KeyProtocol
             | Code::KeyAlgorithm
-            | Code::ExpiresSoon => Severity::Warning,
+            | Code::ExpiresSoon
+            | Code::RrsigTtl
+            | Code::KeyMissing
+            | Code::Nsec3Iterations50
+            | Code::Nsec3Iterations0
+            | Code::NsecTtl => Severity::Warning,
             _ => Severity::Error,
         }
     }

@@ -6,13 +6,13 @@ use Rattle.std.proofs.lemmas.Iterator.Search.{any_from_yields_List}
 use Rattle.dns_wire.specs.Order.{same_name}
 use Rattle.dns_resource.specs.declared.record.Record.{Record}
 use Rattle.zone_rules.proofs.Lookups.{any_in_filter}
-use Rattle.zone_dnssec.specs.HashedLinks.{fails_at_or_above, is_represented}
+use Rattle.zone_dnssec.specs.HashedLinks.{fails_at_or_above, is_bounded, is_represented}
 use Rattle.zone_dnssec.specs.Parameters.{names_chain}
 use Rattle.zone_dnssec.specs.declared.hashed.LinkFault.{LinkFault}
 use Rattle.zone_dnssec.proofs.hashed.has_fault_in_chain.Goals as goal
 
 abbrev has_fault : {N O : Type 0} → LinkFault → List (List ℕ) → List (Record N O) → List (List ℕ) → Record N O → Bool
-has_fault fault origin records name chain = names_chain chain && (is_represented origin records chain name && fails_at_or_above fault origin records chain name)
+has_fault fault origin records name chain = names_chain chain && (is_bounded chain && (is_represented origin records chain name && fails_at_or_above fault origin records chain name))
 
 pub returns : goal.returns
 returns g c =

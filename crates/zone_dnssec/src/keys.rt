@@ -1,0 +1,269 @@
+//! The keys of a zone, and which of them a signature fits (RFC 4034 sections 2.1 and 3.1, appendix
+//! B).
+ghost use Rattle.std.specs.Prelude.{◌≡◌, ◌≤◌, ◌*◌, ◌++◌, ◌&&◌, not, length, IfOk, OnOk};
+ghost use Rattle.std.specs.List.{list_any};
+ghost use Rattle.zone_dnssec.specs.SignedSets.{covers};
+ghost use Rattle.zone_dnssec.specs.ZoneKeys.{fits_key, has_fitting_signature, is_by_revoked_key, is_named, key_in, key_tag, keys_of, lacks_known_key, long_modulus, misses_key, modulus, modulus_tag, sum_tag, weighed, weighed_sum, zone_keys};
+
+use crate::bitmaps::behind;
+use crate::nsec3::{field, short_number};
+use crate::sets::{is_first_of_set, is_signature_of, is_signed, needs_signature};
+use crate::signatures::first;
+use crate::types::{DNSKEY, RRSIG};
+use dns_octets::AsOctets;
+use dns_resource::Record;
+use dns_wire::Name;
+use std::alloc::{AllocError, Allocator};
+use zone_rules::SortedRecords;
+use zone_rules::names::view;
+use zone_rules::pairs::set_type_of;
+use zone_rules::sorted::owned_by;
+
+/// The places of fields of an RRSIG (RFC 4034 section 3.1).
+const ALGORITHM: usize = 1;
+
+const KEY_TAG: usize = 6;
+
+/// The algorithm RSA/MD5, with key tags of its own (RFC 4034 appendix B.1).
+const RSA_MD5: u8 = 1;
+
+/// A key that signs a zone: what RRSIGs name it by, and whether it is revoked (RFC 5011 section 2.1).
+#[derive(Clone, Copy)]
+pub struct Key {
+    tag: u16,
+    algorithm: u8,
+    is_revoked: bool,
+}
+
+/// Returns what an octet adds to the sum of a key tag: if its index is even, 256 times itself.
+fn weighed(index: usize, octet: u8) -> u64
+    ensures value { result ≡ weighed index octet }
+    ensures bound { result ≤ 65280 }
+{
+    if index % 2 == 0 {
+        u64::from(octet) * 256
+    } else {
+        u64::from(octet)
+    }
+}
+
+/// Returns the sum of a key tag.
+fn weighed_sum(octets: &[u8]) -> u64
+    requires { length octets.now ≤ 65535 }
+    ensures value { result ≡ weighed_sum 0 octets.now }
+    ensures bound { result ≤ 65280 * 65535 }
+{
+    let mut sum: u64 = 0;
+    for index in 0..octets.len() {
+        sum += weighed(index, octets[index]);
+    }
+    sum
+}
+
+/// Returns the key tag of the data of a DNSKEY, if its algorithm is not RSA/MD5.
+fn sum_tag(octets: &[u8]) -> u16
+    requires { length octets.now ≤ 65535 }
+    ensures { result ≡ sum_tag octets.now }
+{
+    let sum = weighed_sum(octets);
+    ((sum + sum / 65536) % 65536) as u16
+}
+
+/// Returns the modulus after an exponent whose length has two octets.
+fn long_modulus(octets: &[u8]) -> &[u8]
+    ensures { result.now ≡ long_modulus octets.now }
+{
+    match octets {
+        [high, low, rest @ ..] => { behind(rest, usize::from(u16::from_be_bytes([*high, *low]))) }
+        _ => &[],
+    }
+}
+
+/// Returns the modulus of an RSA key (RFC 3110 section 2).
+fn modulus(key: &[u8]) -> &[u8]
+    ensures { result.now ≡ modulus key.now }
+{
+    match key {
+        [count, rest @ ..] => {
+            if *count == 0 {
+                long_modulus(rest)
+            } else {
+                behind(rest, usize::from(*count))
+            }
+        }
+        _ => &[],
+    }
+}
+
+/// Returns the key tag of a modulus with the algorithm RSA/MD5. There is none of fewer than three
+/// octets.
+fn modulus_tag(octets: &[u8]) -> Option<u16>
+    ensures { result ≡ modulus_tag octets.now }
+{
+    let count = octets.len();
+    if count < 3 {
+        return None;
+    }
+    Some(u16::from_be_bytes([octets[count - 3], octets[count - 2]]))
+}
+
+/// Returns the key tag of a DNSKEY with an algorithm, these data, and this key at their end.
+fn key_tag(algorithm: u8, octets: &[u8], key: &[u8]) -> Option<u16>
+    requires { length octets.now ≤ 65535 }
+    ensures { result ≡ key_tag algorithm octets.now key.now }
+{
+    if algorithm == RSA_MD5 {
+        return modulus_tag(modulus(key));
+    }
+    Some(sum_tag(octets))
+}
+
+/// Returns the key in the data of a DNSKEY: with the Zone flag, and protocol 3.
+fn key_in(octets: &[u8]) -> Option<Key>
+    requires { length octets.now ≤ 65535 }
+    ensures { result ≡ key_in octets.now }
+{
+    match octets {
+        [high, low, protocol, algorithm, key @ ..] => {
+            if high % 2 != 1 || *protocol != 3 {
+                return None;
+            }
+            match key_tag(*algorithm, octets, key) {
+                Some(tag) => Some(Key {
+                    tag,
+                    algorithm: *algorithm,
+                    is_revoked: *low >= 128,
+                }),
+                None => None,
+            }
+        }
+        _ => None,
+    }
+}
+
+/// Adds the key of a record, if it is a DNSKEY that signs zones.
+fn add_key<Owner: AsOctets, Octets: AsOctets, A: Allocator>(
+    record: &Record<Owner, Octets>,
+    keys: &mut Vec<Key, A>,
+) -> Result<(), AllocError>
+    ensures { OnOk result (keys.new.items ≡ keys.old.items ++ keys_of «record».now) }
+{
+    if record.data.code() != DNSKEY {
+        return Ok(());
+    }
+    if let Some(key) = key_in(record.data.as_slice()) {
+        keys.push(key)?;
+    }
+    Ok(())
+}
+
+/// Returns the keys of the zone: those of the DNSKEYs at its apex.
+///
+/// Where there is no memory nothing is returned.
+#[tactic(auto, using(zone_rules::proofs::Steps::found_more))]
+pub fn keys_at_apex<Owner: AsOctets, Octets: AsOctets, A: Allocator>(
+    alloc: A,
+    origin: &Name<&[u8]>,
+    records: &SortedRecords<'_, Owner, Octets>,
+) -> Result<Vec<Key, A>, AllocError>
+    ensures { IfOk result (λ keys. keys.items ≡ zone_keys origin.now records.now) }
+{
+    let all = owned_by(records, origin);
+    let mut keys = Vec::new(alloc);
+    for record in all {
+        add_key(record, &mut keys)?;
+    }
+    Ok(keys)
+}
+
+/// Returns whether an RRSIG fits a key.
+fn fits<Owner: AsOctets, Octets: AsOctets>(keys: &[Key], record: &Record<Owner, Octets>) -> bool
+    ensures { result ≡ fits_key keys.now «record».now }
+{
+    let algorithm = first(field(record, ALGORITHM));
+    let tag = short_number(field(record, KEY_TAG));
+    keys.iter()
+        .any(|key| key.algorithm == algorithm && key.tag == tag)
+}
+
+/// Returns whether an RRSIG fits a key that is not revoked.
+fn fits_valid<Owner: AsOctets, Octets: AsOctets>(
+    keys: &[Key],
+    record: &Record<Owner, Octets>,
+) -> bool
+    ensures { result ≡ list_any (λ key. is_named «record».now key && not key.is_revoked) keys.now }
+{
+    let algorithm = first(field(record, ALGORITHM));
+    let tag = short_number(field(record, KEY_TAG));
+    keys.iter().any(|key| key.algorithm == algorithm && key.tag == tag && !key.is_revoked)
+}
+
+/// Returns whether a record is an RRSIG that covers a type and fits a key.
+fn is_fitting<Owner: AsOctets, Octets: AsOctets>(
+    keys: &[Key],
+    record: &Record<Owner, Octets>,
+    code: u16,
+) -> bool
+    ensures { result ≡ covers code «record».now && fits_key keys.now «record».now }
+{
+    is_signature_of(record, code) && fits(keys, record)
+}
+
+/// Returns whether an RRSIG at a name covers a type and fits a key.
+fn has_fitting<Owner: AsOctets, Octets: AsOctets>(
+    keys: &[Key],
+    records: &SortedRecords<'_, Owner, Octets>,
+    name: &Name<&[u8]>,
+    code: u16,
+) -> bool
+    ensures { result ≡ has_fitting_signature keys.now code name.now records.now }
+{
+    owned_by(records, name)
+        .iter()
+        .any(|record| is_fitting(keys, record, code))
+}
+
+/// Returns whether a record is the first of a set that has to be signed and is, but by no key.
+pub fn is_without_key<Owner: AsOctets, Octets: AsOctets>(
+    keys: &[Key],
+    origin: &Name<&[u8]>,
+    records: &SortedRecords<'_, Owner, Octets>,
+    place: usize,
+    record: &Record<Owner, Octets>,
+) -> bool
+    ensures { result ≡ lacks_known_key keys.now origin.now records.now place «record».now }
+{
+    let code = record.data.code();
+    let owner = view(&record.owner);
+    is_first_of_set(records, place, record)
+        && needs_signature(origin, records, record)
+        && is_signed(records, &owner, code)
+        && !has_fitting(keys, records, &owner, code)
+}
+
+/// Returns whether a record is an RRSIG that fits no key, and another of the same set does.
+pub fn is_of_unknown_key<Owner: AsOctets, Octets: AsOctets>(
+    keys: &[Key],
+    records: &SortedRecords<'_, Owner, Octets>,
+    record: &Record<Owner, Octets>,
+) -> bool
+    ensures { result ≡ misses_key keys.now records.now «record».now }
+{
+    record.data.code() == RRSIG
+        && !fits(keys, record)
+        && has_fitting(keys, records, &view(&record.owner), set_type_of(record))
+}
+
+/// Returns whether a record is an RRSIG over another set than DNSKEY that fits a key, and each that
+/// it fits is revoked.
+pub fn is_of_revoked_key<Owner: AsOctets, Octets: AsOctets>(
+    keys: &[Key],
+    record: &Record<Owner, Octets>,
+) -> bool
+    ensures { result ≡ is_by_revoked_key keys.now «record».now }
+{
+    record.data.code() == RRSIG
+        && set_type_of(record) != DNSKEY
+        && fits(keys, record)
+        && !fits_valid(keys, record)
+}

@@ -1,0 +1,153 @@
+//! What an RRSIG says of its zone and of the set that it covers (RFC 4034 section 3.1).
+ghost use Rattle.std.specs.Prelude.{◌≡◌, ◌-◌, ◌==◌, ◌&&◌, length, slice_index};
+ghost use Rattle.zone_dnssec.specs.SignatureFields.{covers_other_ttl, has_other_labels, has_other_original_ttl, has_other_own_ttl, has_other_signer, is_ttl_in_set, label_count};
+ghost use Rattle.zone_rules.specs.Above.{is_wildcard};
+ghost use Rattle.zone_rules.specs.Zones.{type_of};
+
+use crate::nsec3::field;
+use crate::times::number;
+use crate::types::RRSIG;
+use dns_octets::AsOctets;
+use dns_octets::lowered::same_octets;
+use dns_resource::Record;
+use dns_wire::Name;
+use zone_rules::SortedRecords;
+use zone_rules::names::{octets_of, parent, view};
+use zone_rules::pairs::set_type_of;
+use zone_rules::sorted::{has_type, owned_by};
+
+/// The places of fields of an RRSIG (RFC 4034 section 3.1).
+const LABELS: usize = 2;
+
+const ORIGINAL_TTL: usize = 3;
+
+const SIGNER: usize = 7;
+
+/// Returns whether a record is an RRSIG whose signer is not the zone.
+pub fn has_wrong_signer<Owner: AsOctets, Octets: AsOctets>(
+    origin: &Name<&[u8]>,
+    record: &Record<Owner, Octets>,
+) -> bool
+    ensures { result ≡ has_other_signer origin.now «record».now }
+{
+    if record.data.code() != RRSIG {
+        return false;
+    }
+    match record.data.part(SIGNER) {
+        Some(signer) => !same_octets(signer, octets_of(origin)),
+        None => false,
+    }
+}
+
+/// Returns the number of labels of a name, without the root.
+#[tactic(auto, using(crate::proofs::LabelCounts::none_above, crate::proofs::LabelCounts::one_above, crate::proofs::LabelCounts::few_labels))]
+fn count_labels(name: &Name<&[u8]>) -> usize
+    ensures { result ≡ length name.now - 1 }
+{
+    // No effect at run time: the proof reads that the name has at most 255 octets.
+    let _octets = octets_of(name);
+    match parent(name) {
+        Some(above) => count_labels(&above) + 1,
+        None => 0,
+    }
+}
+
+/// Returns whether the first label of a name is an asterisk (RFC 4592 section 2.1.1).
+fn is_asterisk(name: &Name<&[u8]>) -> bool
+    ensures { result ≡ is_wildcard name.now }
+{
+    matches!(octets_of(name), [1, b'*', ..])
+}
+
+/// Returns the number of labels that an RRSIG says of its owner.
+fn signed_labels(name: &Name<&[u8]>) -> usize
+    ensures { result ≡ label_count name.now }
+{
+    let count = count_labels(name);
+    if is_asterisk(name) {
+        count.saturating_sub(1)
+    } else {
+        count
+    }
+}
+
+/// Returns the first of some octets, and 0 if there is none.
+pub(crate) fn first(octets: &[u8]) -> u8
+    ensures { result ≡ slice_index octets.now 0 }
+{
+    match octets {
+        [octet, ..] => *octet,
+        _ => 0,
+    }
+}
+
+/// Returns whether a record is an RRSIG whose labels are not as many as those of its owner.
+pub fn has_wrong_labels<Owner: AsOctets, Octets: AsOctets>(record: &Record<Owner, Octets>) -> bool
+    ensures { result ≡ has_other_labels «record».now }
+{
+    if record.data.code() != RRSIG {
+        return false;
+    }
+    usize::from(first(field(record, LABELS))) != signed_labels(&view(&record.owner))
+}
+
+/// Returns whether a record has a type and a TTL.
+fn has_type_and_ttl<Owner: AsOctets, Octets: AsOctets>(
+    record: &Record<Owner, Octets>,
+    code: u16,
+    ttl: u32,
+) -> bool
+    ensures { result ≡ type_of «record».now == code && «record».now.ttl == ttl }
+{
+    record.data.code() == code && record.ttl == ttl
+}
+
+/// Returns whether a record of a type at a name has a TTL.
+fn has_ttl_in_set<Owner: AsOctets, Octets: AsOctets>(
+    ttl: u32,
+    records: &SortedRecords<'_, Owner, Octets>,
+    name: &Name<&[u8]>,
+    code: u16,
+) -> bool
+    ensures { result ≡ is_ttl_in_set ttl code name.now records.now }
+{
+    owned_by(records, name)
+        .iter()
+        .any(|record| has_type_and_ttl(record, code, ttl))
+}
+
+/// Returns whether a record is an RRSIG that covers a set, of which no record has a TTL.
+fn is_ttl_missing<Owner: AsOctets, Octets: AsOctets>(
+    ttl: u32,
+    records: &SortedRecords<'_, Owner, Octets>,
+    record: &Record<Owner, Octets>,
+) -> bool
+    ensures { result ≡ covers_other_ttl ttl records.now «record».now }
+{
+    let owner = view(&record.owner);
+    let code = set_type_of(record);
+    record.data.code() == RRSIG
+        && has_type(records, &owner, code)
+        && !has_ttl_in_set(ttl, records, &owner, code)
+}
+
+/// Returns whether a record is an RRSIG, and no record of the set that it covers has its original
+/// TTL.
+pub fn has_wrong_original_ttl<Owner: AsOctets, Octets: AsOctets>(
+    records: &SortedRecords<'_, Owner, Octets>,
+    record: &Record<Owner, Octets>,
+) -> bool
+    ensures { result ≡ has_other_original_ttl records.now «record».now }
+{
+    is_ttl_missing(number(field(record, ORIGINAL_TTL)), records, record)
+}
+
+/// Returns whether a record is an RRSIG, and no record of the set that it covers has its TTL.
+pub fn has_wrong_own_ttl<Owner: AsOctets, Octets: AsOctets>(
+    records: &SortedRecords<'_, Owner, Octets>,
+    record: &Record<Owner, Octets>,
+) -> bool
+    ensures { result ≡ has_other_own_ttl records.now «record».now }
+{
+    is_ttl_missing(record.ttl, records, record)
+}
