@@ -1,3 +1,4 @@
+mod ChainSearch
 mod HashLabels
 mod KeyTags
 mod LabelCounts

@@ -13,6 +13,7 @@ use crate::denial::{
     has_iterations, has_wrong_denial_ttl, has_wrong_owner, is_out_of_place, ttl_of_denial,
 };
 use crate::hashed::{LinkFault, MOST_ITERATIONS, has_wrong_next_hash, is_link_wrong};
+use crate::hashes::Hashes;
 use crate::keys::{Key, is_of_revoked_key, is_of_unknown_key, is_without_key, keys_at_apex};
 use crate::links::has_wrong_next;
 use crate::rule::{SecurityFinding, SecurityRule};
@@ -72,14 +73,15 @@ struct Facts<'a> {
 }
 
 /// Whether a record at a place breaks a rule.
-fn breaks_rule<Owner: AsOctets, Octets: AsOctets>(
+fn breaks_rule<'a, Owner: AsOctets, Octets: AsOctets>(
     rule: SecurityRule,
     origin: &Name<&[u8]>,
     times: Times,
     facts: Facts<'_>,
-    records: &SortedRecords<'_, Owner, Octets>,
+    hashes: &mut Hashes<'a>,
+    records: &SortedRecords<'a, Owner, Octets>,
     place: usize,
-    record: &Record<Owner, Octets>,
+    record: &'a Record<Owner, Octets>,
 ) -> bool
     requires keys { facts.keys.now ≡ zone_keys origin.now records.now }
     requires ttl { facts.denial_ttl ≡ denial_ttl origin.now records.now }
@@ -104,10 +106,18 @@ fn breaks_rule<Owner: AsOctets, Octets: AsOctets>(
         SecurityRule::OtherNext => has_wrong_next(origin, records, record),
         SecurityRule::OtherTypes => has_wrong_types(origin, records, record),
         SecurityRule::DsWithoutNs => is_without_delegation(records, record),
-        SecurityRule::NoNsec3 => is_link_wrong(LinkFault::Missing, origin, records, place, record),
+        SecurityRule::NoNsec3 => is_link_wrong(
+            LinkFault::Missing,
+            hashes,
+            origin,
+            records,
+            place,
+            record,
+        ),
         SecurityRule::OtherNextHash => has_wrong_next_hash(origin, records, record),
         SecurityRule::OtherHashedTypes => is_link_wrong(
             LinkFault::DifferentTypes,
+            hashes,
             origin,
             records,
             place,
@@ -133,12 +143,13 @@ fn breaks_rule<Owner: AsOctets, Octets: AsOctets>(
 }
 
 /// Whether the record at a place breaks a rule. After the last there is none.
-fn is_broken_at<Owner: AsOctets, Octets: AsOctets>(
+fn is_broken_at<'a, Owner: AsOctets, Octets: AsOctets>(
     rule: SecurityRule,
     origin: &Name<&[u8]>,
     times: Times,
     facts: Facts<'_>,
-    records: &SortedRecords<'_, Owner, Octets>,
+    hashes: &mut Hashes<'a>,
+    records: &SortedRecords<'a, Owner, Octets>,
     place: usize,
 ) -> bool
     requires keys { facts.keys.now ≡ zone_keys origin.now records.now }
@@ -146,7 +157,7 @@ fn is_broken_at<Owner: AsOctets, Octets: AsOctets>(
     ensures { result ≡ breaks_security_at origin.now times records.now place rule }
 {
     match records.as_slice().get(place) {
-        Some(record) => breaks_rule(rule, origin, times, facts, records, place, record),
+        Some(record) => breaks_rule(rule, origin, times, facts, hashes, records, place, record),
         None => false,
     }
 }
@@ -171,12 +182,13 @@ fn add_if<A: Allocator>(
 
 /// Adds those of some rules that the record at a place breaks.
 #[tactic(auto, using(zone_rules::proofs::Steps::found_more))]
-fn add_each<Owner: AsOctets, Octets: AsOctets, A: Allocator>(
+fn add_each<'a, Owner: AsOctets, Octets: AsOctets, A: Allocator>(
     rules: &[SecurityRule],
     origin: &Name<&[u8]>,
     times: Times,
     facts: Facts<'_>,
-    records: &SortedRecords<'_, Owner, Octets>,
+    hashes: &mut Hashes<'a>,
+    records: &SortedRecords<'a, Owner, Octets>,
     place: usize,
     found: &mut Vec<SecurityFinding, A>,
 ) -> Result<(), AllocError>
@@ -185,18 +197,19 @@ fn add_each<Owner: AsOctets, Octets: AsOctets, A: Allocator>(
     ensures { OnOk result (found.new.items ≡ found.old.items ++ flat_map (insecure_of origin.now times records.now place) rules.now) }
 {
     for rule in rules {
-        let is_broken = is_broken_at(*rule, origin, times, facts, records, place);
+        let is_broken = is_broken_at(*rule, origin, times, facts, hashes, records, place);
         add_if(is_broken, *rule, place, found)?;
     }
     Ok(())
 }
 
 /// Adds the rules that the record at a place breaks.
-fn add_broken<Owner: AsOctets, Octets: AsOctets, A: Allocator>(
+fn add_broken<'a, Owner: AsOctets, Octets: AsOctets, A: Allocator>(
     origin: &Name<&[u8]>,
     times: Times,
     facts: Facts<'_>,
-    records: &SortedRecords<'_, Owner, Octets>,
+    hashes: &mut Hashes<'a>,
+    records: &SortedRecords<'a, Owner, Octets>,
     place: usize,
     found: &mut Vec<SecurityFinding, A>,
 ) -> Result<(), AllocError>
@@ -204,7 +217,16 @@ fn add_broken<Owner: AsOctets, Octets: AsOctets, A: Allocator>(
     requires ttl { facts.denial_ttl ≡ denial_ttl origin.now records.now }
     ensures { OnOk result (found.new.items ≡ found.old.items ++ insecure_at origin.now times records.now place) }
 {
-    add_each(&SECURITY_RULES, origin, times, facts, records, place, found)
+    add_each(
+        &SECURITY_RULES,
+        origin,
+        times,
+        facts,
+        hashes,
+        records,
+        place,
+        found,
+    )
 }
 
 /// What is found in the zone that has this origin and these records: the rules that each record
@@ -230,8 +252,9 @@ pub fn check_signed<Owner: AsOctets, Octets: AsOctets, Origin: AsOctets, A: Allo
         keys: keys.as_slice(),
         denial_ttl: ttl_of_denial(&apex, records),
     };
+    let mut hashes = Hashes::new();
     for place in 0..records.as_slice().len() {
-        add_broken(&apex, times, facts, records, place, &mut found)?;
+        add_broken(&apex, times, facts, &mut hashes, records, place, &mut found)?;
     }
     Ok(found)
 }

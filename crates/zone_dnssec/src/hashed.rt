@@ -9,6 +9,7 @@ ghost use Rattle.zone_dnssec.specs.Parameters.{names_chain};
 
 use crate::bitmaps::lists_types;
 use crate::chain::is_first_at_owner;
+use crate::hashes::Hashes;
 use crate::nsec3::{
     bitmap, covering_link, has_opt_out, is_chain, is_of_chain, iterations, link_for, next_hash,
     next_in_chain, owner_for,
@@ -103,30 +104,32 @@ pub fn has_wrong_next_hash<Owner: AsOctets, Octets: AsOctets>(
 }
 
 /// Whether no NSEC3 matches a name.
-fn is_without_link<Owner: AsOctets, Octets: AsOctets>(
+fn is_without_link<'a, Owner: AsOctets, Octets: AsOctets>(
+    hashes: &mut Hashes<'a>,
     origin: &Name<&[u8]>,
-    records: &SortedRecords<'_, Owner, Octets>,
-    chain: &Record<Owner, Octets>,
-    name: &Name<&[u8]>,
+    records: &SortedRecords<'a, Owner, Octets>,
+    chain: &'a Record<Owner, Octets>,
+    name: &Name<&'a [u8]>,
 ) -> bool
     ensures { result ≡ lacks_link origin.now records.now chain.now name.now }
 {
-    link_for(origin, records, chain, name).is_none()
+    link_for(hashes, origin, records, chain, name).is_none()
 }
 
 /// Whether no NSEC3 matches a name, and the one that covers it has Opt-Out.
-fn is_in_opt_out<Owner: AsOctets, Octets: AsOctets>(
+fn is_in_opt_out<'a, Owner: AsOctets, Octets: AsOctets>(
+    hashes: &mut Hashes<'a>,
     origin: &Name<&[u8]>,
-    records: &SortedRecords<'_, Owner, Octets>,
-    chain: &Record<Owner, Octets>,
-    name: &Name<&[u8]>,
+    records: &SortedRecords<'a, Owner, Octets>,
+    chain: &'a Record<Owner, Octets>,
+    name: &Name<&'a [u8]>,
 ) -> bool
     ensures { result ≡ is_covered_by_opt_out origin.now records.now chain.now name.now }
 {
-    if !is_without_link(origin, records, chain, name) {
+    if !is_without_link(hashes, origin, records, chain, name) {
         return false;
     }
-    let Some(owner) = owner_for(origin, chain, name) else {
+    let Some(owner) = owner_for(hashes, origin, chain, name) else {
         return false;
     };
     match covering_link(records, chain, &view(&owner)) {
@@ -136,47 +139,50 @@ fn is_in_opt_out<Owner: AsOctets, Octets: AsOctets>(
 }
 
 /// Whether a name is a delegation without DS that a chain leaves out.
-fn is_left_out<Owner: AsOctets, Octets: AsOctets>(
+fn is_left_out<'a, Owner: AsOctets, Octets: AsOctets>(
+    hashes: &mut Hashes<'a>,
     origin: &Name<&[u8]>,
-    records: &SortedRecords<'_, Owner, Octets>,
-    chain: &Record<Owner, Octets>,
-    name: &Name<&[u8]>,
+    records: &SortedRecords<'a, Owner, Octets>,
+    chain: &'a Record<Owner, Octets>,
+    name: &Name<&'a [u8]>,
 ) -> bool
     ensures { result ≡ is_opted_out origin.now records.now chain.now name.now }
 {
     is_cut(origin, records, name)
         && !has_type(records, name, DS)
-        && is_in_opt_out(origin, records, chain, name)
+        && is_in_opt_out(hashes, origin, records, chain, name)
 }
 
 /// Whether the NSEC3 that matches a name lists other types than those at the name.
-fn has_wrong_hashed_types<Owner: AsOctets, Octets: AsOctets>(
+fn has_wrong_hashed_types<'a, Owner: AsOctets, Octets: AsOctets>(
+    hashes: &mut Hashes<'a>,
     origin: &Name<&[u8]>,
-    records: &SortedRecords<'_, Owner, Octets>,
-    chain: &Record<Owner, Octets>,
-    name: &Name<&[u8]>,
+    records: &SortedRecords<'a, Owner, Octets>,
+    chain: &'a Record<Owner, Octets>,
+    name: &Name<&'a [u8]>,
 ) -> bool
     ensures { result ≡ lists_other_hashed_types origin.now records.now chain.now name.now }
 {
-    match link_for(origin, records, chain, name) {
+    match link_for(hashes, origin, records, chain, name) {
         Some(link) => !lists_types(origin, records, name, bitmap(link)),
         None => false,
     }
 }
 
 /// Whether a chain has a fault at a name.
-fn has_fault<Owner: AsOctets, Octets: AsOctets>(
+fn has_fault<'a, Owner: AsOctets, Octets: AsOctets>(
     fault: LinkFault,
+    hashes: &mut Hashes<'a>,
     origin: &Name<&[u8]>,
-    records: &SortedRecords<'_, Owner, Octets>,
-    chain: &Record<Owner, Octets>,
-    name: &Name<&[u8]>,
+    records: &SortedRecords<'a, Owner, Octets>,
+    chain: &'a Record<Owner, Octets>,
+    name: &Name<&'a [u8]>,
 ) -> bool
     ensures { result ≡ fails_name fault origin.now records.now chain.now name.now }
 {
     match fault {
-        LinkFault::Missing => is_without_link(origin, records, chain, name),
-        LinkFault::DifferentTypes => has_wrong_hashed_types(origin, records, chain, name),
+        LinkFault::Missing => is_without_link(hashes, origin, records, chain, name),
+        LinkFault::DifferentTypes => has_wrong_hashed_types(hashes, origin, records, chain, name),
     }
 }
 
@@ -203,51 +209,54 @@ fn is_empty_name<Owner: AsOctets, Octets: AsOctets>(
 
 /// Whether a chain has a fault at an empty non-terminal above a name.
 #[tactic(auto, using(zone_rules::proofs::NameParts::above_none, zone_rules::proofs::NameParts::above_some, zone_rules::proofs::NameParts::above_fewer))]
-fn has_fault_above<Owner: AsOctets, Octets: AsOctets>(
+fn has_fault_above<'a, Owner: AsOctets, Octets: AsOctets>(
     fault: LinkFault,
+    hashes: &mut Hashes<'a>,
     origin: &Name<&[u8]>,
-    records: &SortedRecords<'_, Owner, Octets>,
-    chain: &Record<Owner, Octets>,
-    name: &Name<&[u8]>,
+    records: &SortedRecords<'a, Owner, Octets>,
+    chain: &'a Record<Owner, Octets>,
+    name: &Name<&'a [u8]>,
 ) -> bool
     ensures { result ≡ list_any (λ above. is_empty_in_zone origin.now records.now above && fails_name fault origin.now records.now chain.now above) (names_above name.now) }
 {
     match parent(name) {
         Some(above) => {
             (is_empty_name(origin, records, &above)
-                && has_fault(fault, origin, records, chain, &above))
-                || has_fault_above(fault, origin, records, chain, &above)
+                && has_fault(fault, hashes, origin, records, chain, &above))
+                || has_fault_above(fault, hashes, origin, records, chain, &above)
         }
         None => false,
     }
 }
 
 /// Whether a chain has a fault at a name, or at an empty non-terminal above it.
-fn has_fault_from<Owner: AsOctets, Octets: AsOctets>(
+fn has_fault_from<'a, Owner: AsOctets, Octets: AsOctets>(
     fault: LinkFault,
+    hashes: &mut Hashes<'a>,
     origin: &Name<&[u8]>,
-    records: &SortedRecords<'_, Owner, Octets>,
-    chain: &Record<Owner, Octets>,
-    name: &Name<&[u8]>,
+    records: &SortedRecords<'a, Owner, Octets>,
+    chain: &'a Record<Owner, Octets>,
+    name: &Name<&'a [u8]>,
 ) -> bool
     ensures { result ≡ fails_at_or_above fault origin.now records.now chain.now name.now }
 {
-    has_fault(fault, origin, records, chain, name)
-        || has_fault_above(fault, origin, records, chain, name)
+    has_fault(fault, hashes, origin, records, chain, name)
+        || has_fault_above(fault, hashes, origin, records, chain, name)
 }
 
 /// Whether a name is represented in a chain.
-fn is_in_chain<Owner: AsOctets, Octets: AsOctets>(
+fn is_in_chain<'a, Owner: AsOctets, Octets: AsOctets>(
+    hashes: &mut Hashes<'a>,
     origin: &Name<&[u8]>,
-    records: &SortedRecords<'_, Owner, Octets>,
-    chain: &Record<Owner, Octets>,
-    name: &Name<&[u8]>,
+    records: &SortedRecords<'a, Owner, Octets>,
+    chain: &'a Record<Owner, Octets>,
+    name: &Name<&'a [u8]>,
 ) -> bool
     ensures { result ≡ is_represented origin.now records.now chain.now name.now }
 {
     has_authority(origin, records, name)
         && !has_type(records, name, NSEC3)
-        && !is_left_out(origin, records, chain, name)
+        && !is_left_out(hashes, origin, records, chain, name)
 }
 
 /// Returns whether names are hashed for a chain: it has at most 150 iterations.
@@ -259,46 +268,55 @@ fn is_short<Owner: AsOctets, Octets: AsOctets>(chain: &Record<Owner, Octets>) ->
 
 /// Whether an NSEC3PARAM names a chain of few iterations in which a name is represented, and which
 /// has a fault there.
-fn is_chain_wrong<Owner: AsOctets, Octets: AsOctets>(
+fn is_chain_wrong<'a, Owner: AsOctets, Octets: AsOctets>(
     fault: LinkFault,
+    hashes: &mut Hashes<'a>,
     origin: &Name<&[u8]>,
-    records: &SortedRecords<'_, Owner, Octets>,
-    chain: &Record<Owner, Octets>,
-    name: &Name<&[u8]>,
+    records: &SortedRecords<'a, Owner, Octets>,
+    chain: &'a Record<Owner, Octets>,
+    name: &Name<&'a [u8]>,
 ) -> bool
     ensures { result ≡ names_chain chain.now && (is_bounded chain.now && (is_represented origin.now records.now chain.now name.now && fails_at_or_above fault origin.now records.now chain.now name.now)) }
 {
     is_chain(chain)
         && is_short(chain)
-        && is_in_chain(origin, records, chain, name)
-        && has_fault_from(fault, origin, records, chain, name)
+        && is_in_chain(hashes, origin, records, chain, name)
+        && has_fault_from(fault, hashes, origin, records, chain, name)
 }
 
 /// Whether a name is represented in a chain of few iterations which has a fault there.
-fn has_fault_in_chain<Owner: AsOctets, Octets: AsOctets>(
+#[tactic(auto, using(crate::proofs::ChainSearch::any_more))]
+fn has_fault_in_chain<'a, Owner: AsOctets, Octets: AsOctets>(
     fault: LinkFault,
+    hashes: &mut Hashes<'a>,
     origin: &Name<&[u8]>,
-    records: &SortedRecords<'_, Owner, Octets>,
-    name: &Name<&[u8]>,
+    records: &SortedRecords<'a, Owner, Octets>,
+    name: &Name<&'a [u8]>,
 ) -> bool
     ensures { result ≡ some_chain (λ chain. is_bounded chain && (is_represented origin.now records.now chain name.now && fails_at_or_above fault origin.now records.now chain name.now)) origin.now records.now }
 {
-    owned_by(records, origin).iter().any(|chain| is_chain_wrong(
-        fault, origin, records, chain, name,
-    ))
+    let all = owned_by(records, origin);
+    let mut is_wrong = false;
+    for chain in all {
+        if !is_wrong {
+            is_wrong = is_chain_wrong(fault, hashes, origin, records, chain, name);
+        }
+    }
+    is_wrong
 }
 
 /// Whether a record is the first at a name that is represented in a chain of few iterations which
 /// has a fault there.
-pub fn is_link_wrong<Owner: AsOctets, Octets: AsOctets>(
+pub fn is_link_wrong<'a, Owner: AsOctets, Octets: AsOctets>(
     fault: LinkFault,
+    hashes: &mut Hashes<'a>,
     origin: &Name<&[u8]>,
-    records: &SortedRecords<'_, Owner, Octets>,
+    records: &SortedRecords<'a, Owner, Octets>,
     place: usize,
-    record: &Record<Owner, Octets>,
+    record: &'a Record<Owner, Octets>,
 ) -> bool
     ensures { result ≡ fails_chain fault origin.now records.now place «record».now }
 {
     is_first_at_owner(records, place, record)
-        && has_fault_in_chain(fault, origin, records, &view(&record.owner))
+        && has_fault_in_chain(fault, hashes, origin, records, &view(&record.owner))
 }

@@ -8,6 +8,7 @@ pub mod check;
 pub mod deletes;
 pub mod denial;
 pub mod hashed;
+pub mod hashes;
 pub mod keys;
 pub mod links;
 pub mod nsec3;

@@ -10,7 +10,8 @@ ghost use Rattle.zone_dnssec.specs.NsecChain.{comes_after};
 ghost use Rattle.zone_dnssec.specs.Parameters.{field_octets, names_chain};
 
 use crate::bitmaps::behind;
-use crate::nsec3_hash::{hash_name, hashed_name};
+use crate::hashes::Hashes;
+use crate::nsec3_hash::hashed_name;
 use crate::types::{NSEC3, NSEC3PARAM};
 use arrayvec::ArrayVec;
 use dns_octets::AsOctets;
@@ -118,15 +119,16 @@ pub fn is_of_chain<Owner: AsOctets, Octets: AsOctets>(
 }
 
 /// The owner of the NSEC3 that matches a name.
-pub fn owner_for<Owner: AsOctets, Octets: AsOctets>(
+pub fn owner_for<'a, Owner: AsOctets, Octets: AsOctets>(
+    hashes: &mut Hashes<'a>,
     origin: &Name<&[u8]>,
-    chain: &Record<Owner, Octets>,
-    name: &Name<&[u8]>,
+    chain: &'a Record<Owner, Octets>,
+    name: &Name<&'a [u8]>,
 ) -> Option<Name<ArrayVec<u8, 255>>>
     ensures { result ≡ matching_owner origin.now chain.now name.now }
 {
     let salt = behind(field(chain, SALT), 1);
-    let hash = hash_name(name, salt, iterations(chain));
+    let hash = hashes.hash(name, salt, iterations(chain));
     hashed_name(origin, &hash)
 }
 
@@ -145,14 +147,15 @@ fn link_owned_by<'a, Owner: AsOctets, Octets: AsOctets>(
 
 /// The NSEC3 that matches a name.
 pub fn link_for<'a, Owner: AsOctets, Octets: AsOctets>(
+    hashes: &mut Hashes<'a>,
     origin: &Name<&[u8]>,
     records: &SortedRecords<'a, Owner, Octets>,
-    chain: &Record<Owner, Octets>,
-    name: &Name<&[u8]>,
+    chain: &'a Record<Owner, Octets>,
+    name: &Name<&'a [u8]>,
 ) -> Option<&'a Record<Owner, Octets>>
     ensures { option_copied result ≡ matching_link origin.now records.now chain.now name.now }
 {
-    match owner_for(origin, chain, name) {
+    match owner_for(hashes, origin, chain, name) {
         Some(owner) => link_owned_by(records, chain, &view(&owner)),
         None => None,
     }

@@ -41,7 +41,7 @@ pub fn has_wrong_signer<Owner: AsOctets, Octets: AsOctets>(
 
 /// Returns the number of labels of a name, without the root.
 #[tactic(auto, using(crate::proofs::LabelCounts::none_above, crate::proofs::LabelCounts::one_above, crate::proofs::LabelCounts::few_labels))]
-fn count_labels(name: &Name<&[u8]>) -> usize
+pub(crate) fn count_labels(name: &Name<&[u8]>) -> usize
     ensures { result ≡ length name.now - 1 }
 {
     // No effect at run time: the proof reads that the name has at most 255 octets.
