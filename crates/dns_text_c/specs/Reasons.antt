@@ -74,13 +74,13 @@ part_prefix None part = []
 part_prefix (Some code) part = part_text code part ++ codes ": "
 
 -- there is room for 65,535 octets of RDATA, so what finds none exceeds them (RFC 1035 section 3.2.1)
-abbrev pub cause_text : EntryError → List ℕ
-cause_text (Data (OfDataField ShortBuf)) = codes "RDATA exceeds 65535 octets"
-cause_text e = zone_entry_error_text e
+abbrev pub call_error_text : EntryError → List ℕ
+call_error_text (Data (OfDataField ShortBuf)) = codes "RDATA exceeds 65535 octets"
+call_error_text e = zone_entry_error_text e
 
 -- and why
 abbrev pub reason_text : EntryRefusal → List ℕ
-reason_text r = part_prefix r.code r.part ++ cause_text r.why
+reason_text r = part_prefix r.code r.part ++ call_error_text r.why
 
 -- the status and the place of a refusal, and its text, as much of it as fits
 pub record TellsReason (refusal : EntryRefusal) (old : List ℕ) (told : ℕ) (new : List ℕ) (outcome : Outcome) : Type 0 where

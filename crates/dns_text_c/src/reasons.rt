@@ -1,7 +1,7 @@
 //! Why an entry is refused: its status, and its text.
 ghost use Rattle.std.specs.Prelude.{◌≡◌, ◌+◌, ◌≤◌, ◌++◌, codes, length, take};
 ghost use Rattle.dns_text_c.specs.Kinds.{text_of_type};
-ghost use Rattle.dns_text_c.specs.Reasons.{TellsReason, cause_text, part_text, part_prefix, reason_text, refusal_of_data, refusal_of_entry, refusal_of_field, refusal_of_head, refusal_of_owner, refusal_of_spelling};
+ghost use Rattle.dns_text_c.specs.Reasons.{TellsReason, call_error_text, part_text, part_prefix, reason_text, refusal_of_data, refusal_of_entry, refusal_of_field, refusal_of_head, refusal_of_owner, refusal_of_spelling};
 
 use crate::kinds::numbered;
 use crate::outcome::{Outcome, Refusal, give_cut, number_of};
@@ -159,8 +159,8 @@ fn put_what(code: Option<u16>, part: Option<&'static str>, reason: &mut ArrayVec
 
 /// The text of an error. RDATA is read into room for 65,535 octets, so it lacks room only if it exceeds
 /// these (RFC 1035 section 3.2.1).
-fn cause_text(error: EntryError) -> &'static str
-    ensures { result.now ≡ cause_text error }
+fn call_error_text(error: EntryError) -> &'static str
+    ensures { result.now ≡ call_error_text error }
 {
     match error {
         EntryError::Data(DataError::Field(FieldError::ShortBuf)) => "RDATA exceeds 65535 octets",
@@ -174,7 +174,7 @@ fn reason_of(refusal: EntryRefusal) -> ArrayVec<u8, REASON>
 {
     let mut reason = ArrayVec::new();
     put_what(refusal.code, refusal.part, &mut reason);
-    put_text(cause_text(refusal.why).as_bytes(), &mut reason);
+    put_text(call_error_text(refusal.why).as_bytes(), &mut reason);
     reason
 }
 

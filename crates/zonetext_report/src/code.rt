@@ -410,6 +410,7 @@ impl Code {
         ensures { result ≡ default_severity self }
     {
         match self {
+            // (the text and records of a file)
             Code::Ttl
             | Code::NoOrigin
             | Code::HighOctet
@@ -422,8 +423,9 @@ impl Code {
             | Code::IncludeTtl
             | Code::MissingDot
             | Code::EmptyUri
-            | Code::TlsaLength
-            | Code::Glue
+            | Code::TlsaLength => Severity::Warning,
+            // (the rules of a zone)
+            Code::Glue
             | Code::TargetCname
             | Code::TargetMissing
             | Code::HostName
@@ -433,8 +435,9 @@ impl Code {
             | Code::DsWithoutNs
             | Code::NotAtApex
             | Code::KeyProtocol
-            | Code::KeyAlgorithm
-            | Code::ExpiresSoon
+            | Code::KeyAlgorithm => Severity::Warning,
+            // (the rules of a signed zone)
+            Code::ExpiresSoon
             | Code::RrsigTtl
             | Code::KeyMissing
             | Code::Nsec3Iterations50
