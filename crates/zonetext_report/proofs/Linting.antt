@@ -4,11 +4,11 @@ use Rattle.std.specs.Prelude.{Result, Ok}
 use Rattle.dns_split.specs.declared.pieces.Piece.{Piece}
 use Rattle.dns_split.specs.declared.pieces.Piece.TheVariants.{Word as WordAt, Quote as QuoteAt, Comment as CommentAt, End as EndAt}
 use Rattle.dns_split.specs.declared.pieces.Fault.{Fault}
-use Rattle.dns_split.specs.Pieces.{EachWithin, between, piece_start}
+use Rattle.dns_split.specs.Pieces.{EachWithin, piece_start}
 use Rattle.zone_format.proofs.Follow.{Follows}
 use Rattle.zonetext_report.specs.declared.lint.Reached.{Reached}
 use Rattle.zonetext_report.specs.declared.lint.Remark.{Remark}
-use Rattle.zonetext_report.specs.Lint.{Shows, open_after, entry_remarks, next_remarks, piece_end}
+use Rattle.zonetext_report.specs.Lint.{Shows, entry_remarks, first_reached, next_remarks, piece_end, reached_after}
 
 pub follows_next : (n : ℕ) (p : Piece) (left : List (Result Piece Fault)) → Follows n (Ok p ∷ left) → (n ≤ piece_start p) × Follows (piece_end p) left
 follows_next n (WordAt p) left h = h
@@ -21,14 +21,14 @@ pub record Looks (octets : List ℕ) (given : List (Result Piece Fault)) (begun 
   pub within : EachWithin (length octets) left
   pub follows : Follows reached.at left
   pub deep : reached.depth ≤ reached.at
-  pub told : found ++ entry_remarks octets reached.at reached.depth left ≡ begun ++ entry_remarks octets 0 0 given
+  pub told : found ++ entry_remarks octets reached left ≡ begun ++ entry_remarks octets first_reached given
 
 told_more : (octets : List ℕ) (p : Piece) (left : List (Result Piece Fault)) (old new : Reached) (found more : List Remark) → Shows octets old p found more new
-    → more ++ entry_remarks octets new.at new.depth left ≡ found ++ entry_remarks octets old.at old.depth (Ok p ∷ left)
+    → more ++ entry_remarks octets new left ≡ found ++ entry_remarks octets old (Ok p ∷ left)
 told_more octets p left old new found more s =
-    let rest : List Remark = entry_remarks octets (piece_end p) (open_after old.depth (between octets old.at (piece_start p))) left in
-    ap (λ n. more ++ entry_remarks octets n new.depth left) s.at ∙ ap (λ n. more ++ entry_remarks octets (piece_end p) n left) s.depth
-    ∙ ap (λ l. l ++ rest) s.remarks ∙ append_assoc found (next_remarks octets old.at old.depth p) rest
+    let rest : List Remark = entry_remarks octets (reached_after octets old p) left in
+    ap (λ (r : Reached). more ++ entry_remarks octets r left) s.reached
+    ∙ ap (λ l. l ++ rest) s.remarks ∙ append_assoc found (next_remarks octets old p) rest
 
 pub looks_on : (octets : List ℕ) (given : List (Result Piece Fault)) (begun : List Remark) (now left : List (Result Piece Fault)) (p : Piece) (old new : Reached) (found more : List Remark) → now ≡ Ok p ∷ left
     → Shows octets old p found more new → Looks octets given begun now old found → Looks octets given begun left new more
@@ -37,7 +37,7 @@ looks_on octets given begun now left p old new found more step s l =
     let follows : Follows old.at (Ok p ∷ left) = subst (Follows old.at) step l.follows in
     record {
       within = within.1;
-      follows = subst (λ (n : ℕ). Follows n left) (sym s.at) (follows_next old.at p left follows).1;
+      follows = subst (λ (r : Reached). Follows r.at left) (sym s.reached) (follows_next old.at p left follows).1;
       deep = s.deep;
-      told = told_more octets p left old new found more s ∙ ap (λ (x : List (Result Piece Fault)). found ++ entry_remarks octets old.at old.depth x) (sym step) ∙ l.told;
+      told = told_more octets p left old new found more s ∙ ap (λ (x : List (Result Piece Fault)). found ++ entry_remarks octets old x) (sym step) ∙ l.told;
     }

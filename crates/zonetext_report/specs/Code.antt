@@ -3,7 +3,7 @@ use Rattle.std.specs.Prelude.{ℕ, Bool, true, false, List, codes}
 use Rattle.zonetext_report.specs.declared.code.Severity.{Severity}
 use Rattle.zonetext_report.specs.declared.code.Severity.TheVariants.{Error, Warning}
 use Rattle.zonetext_report.specs.declared.code.Code.{Code}
-use Rattle.zonetext_report.specs.declared.code.Code.TheVariants.{OpenQuote, OpenParenthesis, ClosingParenthesis, LoneReturn, BadEscape, Nul, ByteOrderMark, ControlZ, Directive, Owner, Ttl, Class, RecordType, Data, Include, NoOwner, NoTtl, OtherClass, NoSoa, TwoSoas, NoNs, NsAddress, Cname, Dname, DsApex, WildcardNs, SoaNotApex, NsBesideDname, Nsec3Wildcard, BelowDname, Outside, MaxTtl, NoOrigin, HighOctet, ControlOctet, Crlf, NestedParentheses, NoFinalNewline, RelativeOrigin, SoaMinimumTtl, IncludeTtl, MissingDot, EmptyUri, TlsaLength, Glue, TargetCname, TargetMissing, HostName, Cds, TtlDiffers, Duplicate, NotAtApex, KeyProtocol, KeyAlgorithm, NoDnskey, Expired, ExpiresSoon, NotYetValid, RrsigTimes, RrsigSigner, RrsigLabels, OriginalTtl, RrsigTtl, Unsigned, NoKey, KeyMissing, RrsigKey, SignsNothing, OccludedDnssec, NoNsec, NsecNext, NsecTypes, DsWithoutNs, NoNsec3, Nsec3Next, Nsec3Types, Nsec3Owner, Nsec3Iterations, Nsec3Iterations50, Nsec3Iterations0, NsecTtl, CdsDelete}
+use Rattle.zonetext_report.specs.declared.code.Code.TheVariants.{OpenQuote, OpenParenthesis, ClosingParenthesis, LoneReturn, BadEscape, Nul, ByteOrderMark, ControlZ, Directive, Owner, Ttl, Class, RecordType, Data, Include, NoOwner, NoTtl, OtherClass, NoSoa, TwoSoas, NoNs, NsAddress, Cname, Dname, DsApex, WildcardNs, SoaNotApex, NsBesideDname, Nsec3Wildcard, BelowDname, Outside, MaxTtl, NoOrigin, HighOctet, ControlOctet, Crlf, NestedParentheses, LeadingParenthesis, AdjacentTokens, NoFinalNewline, RelativeOrigin, SoaMinimumTtl, IncludeTtl, MissingDot, EmptyUri, TlsaLength, IpseckeyAlgorithm, OhttpValue, Glue, TargetCname, TargetMissing, HostName, Cds, TtlDiffers, Duplicate, NotAtApex, KeyProtocol, KeyAlgorithm, NoDnskey, Expired, ExpiresSoon, NotYetValid, RrsigTimes, RrsigSigner, RrsigLabels, OriginalTtl, RrsigTtl, Unsigned, NoKey, KeyMissing, RrsigKey, SignsNothing, OccludedDnssec, NoNsec, NsecNext, NsecTypes, DsWithoutNs, NoNsec3, Nsec3Next, Nsec3Types, Nsec3Owner, Nsec3Iterations, Nsec3Iterations50, Nsec3Iterations0, NsecTtl, CdsDelete}
 
 abbrev pub severity_name : Severity → List ℕ
 severity_name Error = codes "error"
@@ -48,6 +48,8 @@ code_name HighOctet = codes "high-octet"
 code_name ControlOctet = codes "control-octet"
 code_name Crlf = codes "crlf"
 code_name NestedParentheses = codes "nested-parentheses"
+code_name LeadingParenthesis = codes "leading-parenthesis"
+code_name AdjacentTokens = codes "adjacent-tokens"
 code_name NoFinalNewline = codes "no-final-newline"
 code_name RelativeOrigin = codes "relative-origin"
 code_name SoaMinimumTtl = codes "soa-minimum-ttl"
@@ -55,6 +57,8 @@ code_name IncludeTtl = codes "include-ttl"
 code_name MissingDot = codes "missing-dot"
 code_name EmptyUri = codes "empty-uri"
 code_name TlsaLength = codes "tlsa-length"
+code_name IpseckeyAlgorithm = codes "ipseckey-algorithm"
+code_name OhttpValue = codes "ohttp-value"
 code_name Glue = codes "glue"
 code_name TargetCname = codes "target-cname"
 code_name TargetMissing = codes "target-missing"
@@ -114,6 +118,8 @@ default_severity HighOctet = Warning
 default_severity ControlOctet = Warning
 default_severity Crlf = Warning
 default_severity NestedParentheses = Warning
+default_severity LeadingParenthesis = Warning
+default_severity AdjacentTokens = Warning
 default_severity NoFinalNewline = Warning
 default_severity RelativeOrigin = Warning
 default_severity SoaMinimumTtl = Warning
@@ -121,6 +127,8 @@ default_severity IncludeTtl = Warning
 default_severity MissingDot = Warning
 default_severity EmptyUri = Warning
 default_severity TlsaLength = Warning
+default_severity IpseckeyAlgorithm = Warning
+default_severity OhttpValue = Warning
 default_severity Glue = Warning
 default_severity TargetCname = Warning
 default_severity TargetMissing = Warning

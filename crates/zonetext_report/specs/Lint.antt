@@ -7,7 +7,7 @@ use Rattle.dns_split.specs.declared.pieces.Piece.{Piece}
 use Rattle.dns_split.specs.declared.pieces.Piece.TheVariants.{Word as WordAt, Quote as QuoteAt, Comment as CommentAt, End as EndAt}
 use Rattle.dns_split.specs.declared.pieces.Fault.{Fault}
 use Rattle.zonetext_report.specs.declared.code.Code.{Code}
-use Rattle.zonetext_report.specs.declared.code.Code.TheVariants.{Nul, HighOctet, ControlOctet, ControlZ, NestedParentheses, Crlf, NoFinalNewline}
+use Rattle.zonetext_report.specs.declared.code.Code.TheVariants.{Nul, HighOctet, ControlOctet, ControlZ, NestedParentheses, LeadingParenthesis, AdjacentTokens, Crlf, NoFinalNewline}
 use Rattle.zonetext_report.specs.declared.lint.Block.{Block}
 use Rattle.zonetext_report.specs.declared.lint.Reached.{Reached}
 use Rattle.zonetext_report.specs.declared.lint.Remark.{Remark}
@@ -34,13 +34,13 @@ is_return c = c == carriage_return
 abbrev pub is_high : ℕ → Bool
 is_high c = nat_le 128 c
 
--- a control octet that is told of in quoted texts: not NUL, which is a fault, and not a tab
-abbrev pub is_quoted_control : ℕ → Bool
-is_quoted_control c = is_control c && not (is_nul c || c == tab)
+-- a control octet other than NUL, which is a fault, and a tab
+abbrev pub is_unusual_control : ℕ → Bool
+is_unusual_control c = is_control c && not (is_nul c || c == tab)
 
--- a token shows its first NUL, its first octet from 128 on, and a quoted text its first control octet
-abbrev pub token_remarks : (is_quoted : Bool) → (from : ℕ) → (token : List ℕ) → List Remark
-token_remarks is_quoted from token = first_passing is_nul from token Nul ++ first_passing is_high from token HighOctet ++ (if is_quoted then first_passing is_quoted_control from token ControlOctet else [])
+-- a token shows its first NUL, its first octet from 128 on, and its first other control octet than a tab
+abbrev pub token_remarks : (from : ℕ) → (token : List ℕ) → List Remark
+token_remarks from token = first_passing is_nul from token Nul ++ first_passing is_high from token HighOctet ++ first_passing is_unusual_control from token ControlOctet
 
 -- how many parentheses are open after an octet between two pieces, and after several
 abbrev pub depth_by : (depth octet : ℕ) → ℕ
@@ -58,13 +58,31 @@ abbrev pub nested_remarks : (depth from : ℕ) → List ℕ → List Remark
 nested_remarks depth from [] = []
 nested_remarks depth from (c ∷ cs) = (if opens_inside depth c then remark from NestedParentheses ∷ [] else []) ++ nested_remarks (depth_by depth c) (from + 1) cs
 
--- an entry begins with Ctrl-Z
-abbrev pub begins_control_z : List ℕ → Bool
-begins_control_z [] = false
-begins_control_z (c ∷ cs) = c == 26
+-- an entry begins with Ctrl-Z or with a parenthesis
+abbrev pub code_of_first : ℕ → Option Code
+code_of_first c = if c == 26 then Some ControlZ else if c == open_parenthesis then Some LeadingParenthesis else None
 
-abbrev pub control_z : (octets : List ℕ) → (at : ℕ) → List Remark
-control_z octets at = if begins_control_z (drop at octets) then remark at ControlZ ∷ [] else []
+abbrev pub coded_remarks : (at : ℕ) → Option Code → List Remark
+coded_remarks at None = []
+coded_remarks at (Some code) = remark at code ∷ []
+
+abbrev pub first_remarks : (at : ℕ) → List ℕ → List Remark
+first_remarks at [] = []
+first_remarks at (c ∷ cs) = coded_remarks at (code_of_first c)
+
+-- the entry that begins at a place shows its first octet
+abbrev pub beginning_remarks : (octets : List ℕ) → (at : ℕ) → List Remark
+beginning_remarks octets at = first_remarks at (drop at octets)
+
+-- a word or a quoted text
+abbrev pub is_token_piece : Piece → Bool
+is_token_piece (WordAt p) = true
+is_token_piece (QuoteAt p) = true
+is_token_piece _ = false
+
+-- a token begins where another ends
+abbrev pub adjacent_remarks : Reached → Piece → List Remark
+adjacent_remarks old p = if old.is_after_token && (is_token_piece p && piece_start p == old.at) then remark old.at AdjacentTokens ∷ [] else []
 
 -- where the octets behind a piece begin
 abbrev pub piece_end : Piece → ℕ
@@ -73,32 +91,39 @@ piece_end (QuoteAt p) = p.end
 piece_end (CommentAt p) = p.end
 piece_end (EndAt p) = p.at
 
--- what a piece shows: an entry's end, whether the next one begins with Ctrl-Z
+-- what a piece shows: an entry's end, how the next one begins
 abbrev pub piece_remarks : List ℕ → Piece → List Remark
-piece_remarks octets (WordAt p) = token_remarks false p.start (between octets p.start p.end)
-piece_remarks octets (QuoteAt p) = token_remarks true p.start (between octets p.start p.end)
+piece_remarks octets (WordAt p) = token_remarks p.start (between octets p.start p.end)
+piece_remarks octets (QuoteAt p) = token_remarks p.start (between octets p.start p.end)
 piece_remarks octets (CommentAt p) = []
-piece_remarks octets (EndAt p) = control_z octets p.at
+piece_remarks octets (EndAt p) = beginning_remarks octets p.at
 
--- the octets from a place to a piece show what is nested in so many parentheses, and then the piece what it shows
-abbrev pub next_remarks : List ℕ → (from depth : ℕ) → Piece → List Remark
-next_remarks octets from depth p = nested_remarks depth from (between octets from (piece_start p)) ++ piece_remarks octets p
+-- the octets up to a piece show what is nested in parentheses, and then the piece what it shows
+abbrev pub next_remarks : List ℕ → Reached → Piece → List Remark
+next_remarks octets old p = nested_remarks old.depth old.at (between octets old.at (piece_start p)) ++ (adjacent_remarks old p ++ piece_remarks octets p)
 
-abbrev pub entry_remarks : List ℕ → (from depth : ℕ) → List (Result Piece Fault) → List Remark
-entry_remarks octets from depth [] = []
-entry_remarks octets from depth (Ok p ∷ given) = next_remarks octets from depth p ++ entry_remarks octets (piece_end p) (open_after depth (between octets from (piece_start p))) given
-entry_remarks octets from depth (Err f ∷ given) = []
+-- how far octets were looked at, after a piece
+abbrev pub reached_after : List ℕ → Reached → Piece → Reached
+reached_after octets old p = record { at = piece_end p; depth = open_after old.depth (between octets old.at (piece_start p)); is_after_token = is_token_piece p }
+
+abbrev pub entry_remarks : List ℕ → Reached → List (Result Piece Fault) → List Remark
+entry_remarks octets old [] = []
+entry_remarks octets old (Ok p ∷ given) = next_remarks octets old p ++ entry_remarks octets (reached_after octets old p) given
+entry_remarks octets old (Err f ∷ given) = []
+
+-- where octets begin
+abbrev pub first_reached : Reached
+first_reached = record { at = 0; depth = 0; is_after_token = false }
 
 -- a piece and the octets before it were looked at
 pub record Shows (octets : List ℕ) (old : Reached) (p : Piece) (before after : List Remark) (new : Reached) : Type 0 where
-  pub at : new.at ≡ piece_end p
-  pub depth : new.depth ≡ open_after old.depth (between octets old.at (piece_start p))
+  pub reached : new ≡ reached_after octets old p
   pub deep : new.depth ≤ new.at
-  pub remarks : after ≡ before ++ next_remarks octets old.at old.depth p
+  pub remarks : after ≡ before ++ next_remarks octets old p
 
 -- all pieces that the octets give
 abbrev pub ShowsPieces : List ℕ → (before after : List Remark) → Type 0
-ShowsPieces octets before after = (given : List (Result Piece Fault)) × IsGiven octets given × (after ≡ before ++ entry_remarks octets 0 0 given)
+ShowsPieces octets before after = (given : List (Result Piece Fault)) × IsGiven octets given × (after ≡ before ++ entry_remarks octets first_reached given)
 
 -- the last octet is no line's end
 abbrev pub unended : List ℕ → List Remark
@@ -113,4 +138,4 @@ end_remarks block octets = if block.is_last then unended octets else []
 -- what octets of whole entries show
 abbrev pub ShowsBlock : List ℕ → Block → (before after : List Remark) → Type 0
 ShowsBlock octets block before after = (given : List (Result Piece Fault)) × IsGiven octets given
-    × (after ≡ before ++ (control_z octets 0 ++ entry_remarks octets 0 0 given ++ crlf_remarks block octets ++ end_remarks block octets))
+    × (after ≡ before ++ (beginning_remarks octets 0 ++ entry_remarks octets first_reached given ++ crlf_remarks block octets ++ end_remarks block octets))

@@ -1,14 +1,14 @@
 -- Worked findings, lines and texts.
 use Rattle.std.specs.Prelude.{◌≡◌, true, false, [], ◌∷◌, ◌++◌, codes, Some, Ok, refl, replicate}
 use Rattle.std.specs.Fmt.{digits}
-use Rattle.dns_split.specs.Pieces.{end_at, quote_at, word_at}
+use Rattle.dns_split.specs.Pieces.{comment_at, end_at, quote_at, word_at}
 use Rattle.zonetext_report.specs.Excerpt.{caret_line, first_shown, mark_width}
 use Rattle.zonetext_report.specs.Finding.{opened_text, place_text, severity_text}
 use Rattle.zonetext_report.specs.Json.{json_opened, json_position, json_text}
-use Rattle.zonetext_report.specs.Lint.{entry_remarks, remark, unended}
+use Rattle.zonetext_report.specs.Lint.{entry_remarks, first_reached, remark, unended}
 use Rattle.zonetext_report.specs.Shown.{columns, has_c1, shown_text}
 use Rattle.zonetext_report.specs.Tally.{shows, summary}
-use Rattle.zonetext_report.specs.declared.code.Code.TheVariants.{ControlOctet, ControlZ, HighOctet, NestedParentheses, NoFinalNewline, Nul}
+use Rattle.zonetext_report.specs.declared.code.Code.TheVariants.{AdjacentTokens, ControlOctet, ControlZ, HighOctet, LeadingParenthesis, NestedParentheses, NoFinalNewline, Nul}
 use Rattle.zonetext_report.specs.declared.code.Severity.TheVariants.{Error, Warning}
 
 place : place_text false (codes "zone.db") (record { line = 7; column = 22 }) ++ severity_text false Error ≡ codes "zone.db:7:22: error: "
@@ -86,11 +86,20 @@ second_of_two = refl
 third_of_two : shows 2 (Error ∷ Warning ∷ []) ≡ false
 third_of_two = refl
 
-tokens : entry_remarks (codes "a \"b" ++ 0 ∷ 1 ∷ 252 ∷ codes "\"\n" ++ 26 ∷ []) 0 0 (Ok (word_at 0 1) ∷ Ok (quote_at 2 8) ∷ Ok (end_at 9 false) ∷ []) ≡ remark 4 Nul ∷ remark 6 HighOctet ∷ remark 5 ControlOctet ∷ remark 9 ControlZ ∷ []
+tokens : entry_remarks (codes "a \"b" ++ 0 ∷ 1 ∷ 252 ∷ codes "\"\n" ++ 26 ∷ []) first_reached (Ok (word_at 0 1) ∷ Ok (quote_at 2 8) ∷ Ok (end_at 9 false) ∷ []) ≡ remark 4 Nul ∷ remark 6 HighOctet ∷ remark 5 ControlOctet ∷ remark 9 ControlZ ∷ []
 tokens = refl
 
-parentheses : entry_remarks (codes "a (b (c)) (d)\n") 0 0 (Ok (word_at 0 1) ∷ Ok (word_at 3 4) ∷ Ok (word_at 6 7) ∷ Ok (word_at 11 12) ∷ Ok (end_at 14 false) ∷ []) ≡ remark 5 NestedParentheses ∷ []
+parentheses : entry_remarks (codes "a (b (c)) (d)\n") first_reached (Ok (word_at 0 1) ∷ Ok (word_at 3 4) ∷ Ok (word_at 6 7) ∷ Ok (word_at 11 12) ∷ Ok (end_at 14 false) ∷ []) ≡ remark 5 NestedParentheses ∷ []
 parentheses = refl
+
+control_in_word : entry_remarks (97 ∷ 7 ∷ 127 ∷ codes "\n") first_reached (Ok (word_at 0 3) ∷ Ok (end_at 4 false) ∷ []) ≡ remark 1 ControlOctet ∷ []
+control_in_word = refl
+
+leading : entry_remarks (codes "a\n(b)\n") first_reached (Ok (word_at 0 1) ∷ Ok (end_at 2 false) ∷ Ok (word_at 3 4) ∷ Ok (end_at 6 false) ∷ []) ≡ remark 2 LeadingParenthesis ∷ []
+leading = refl
+
+adjacent : entry_remarks (codes "a\"b\"\"c\" \"d\";e\n") first_reached (Ok (word_at 0 1) ∷ Ok (quote_at 1 4) ∷ Ok (quote_at 4 7) ∷ Ok (quote_at 8 11) ∷ Ok (comment_at 11 13) ∷ Ok (end_at 14 false) ∷ []) ≡ remark 1 AdjacentTokens ∷ remark 4 AdjacentTokens ∷ []
+adjacent = refl
 
 no_end : unended (codes "a\nb") ≡ remark 3 NoFinalNewline ∷ []
 no_end = refl

@@ -97,12 +97,16 @@ pub enum Code {
     NoOrigin,
     /// An octet from 0x80 on stands in a token.
     HighOctet,
-    /// A control octet stands in a quoted text.
+    /// A token contains a control octet.
     ControlOctet,
     /// A line ends in CR LF.
     Crlf,
     /// A parenthesis is opened inside of others.
     NestedParentheses,
+    /// An entry begins with a parenthesis.
+    LeadingParenthesis,
+    /// A token begins where the one before it ends.
+    AdjacentTokens,
     /// The last line has no end.
     NoFinalNewline,
     /// An origin is relative.
@@ -117,6 +121,10 @@ pub enum Code {
     EmptyUri,
     /// The data of a TLSA have not the length of their matching type.
     TlsaLength,
+    /// The algorithm of an IPSECKEY is 0.
+    IpseckeyAlgorithm,
+    /// The service parameter `ohttp` has a value.
+    OhttpValue,
     /// The address of a name server below a delegation is missing.
     Glue,
     /// The target of a record has a CNAME, or is below a DNAME.
@@ -205,7 +213,7 @@ fn find_named(codes: &[Code], name: &str) -> Option<Code>
 impl Code {
     /// Every code.
 
-    pub const ALL: [Code; 82] = [
+    pub const ALL: [Code; 86] = [
         Code::OpenQuote,
         Code::OpenParenthesis,
         Code::ClosingParenthesis,
@@ -243,6 +251,8 @@ impl Code {
         Code::ControlOctet,
         Code::Crlf,
         Code::NestedParentheses,
+        Code::LeadingParenthesis,
+        Code::AdjacentTokens,
         Code::NoFinalNewline,
         Code::RelativeOrigin,
         Code::SoaMinimumTtl,
@@ -250,6 +260,8 @@ impl Code {
         Code::MissingDot,
         Code::EmptyUri,
         Code::TlsaLength,
+        Code::IpseckeyAlgorithm,
+        Code::OhttpValue,
         Code::Glue,
         Code::TargetCname,
         Code::TargetMissing,
@@ -332,6 +344,8 @@ impl Code {
             Code::ControlOctet => "control-octet",
             Code::Crlf => "crlf",
             Code::NestedParentheses => "nested-parentheses",
+            Code::LeadingParenthesis => "leading-parenthesis",
+            Code::AdjacentTokens => "adjacent-tokens",
             Code::NoFinalNewline => "no-final-newline",
             Code::RelativeOrigin => "relative-origin",
             Code::SoaMinimumTtl => "soa-minimum-ttl",
@@ -339,6 +353,8 @@ impl Code {
             Code::MissingDot => "missing-dot",
             Code::EmptyUri => "empty-uri",
             Code::TlsaLength => "tlsa-length",
+            Code::IpseckeyAlgorithm => "ipseckey-algorithm",
+            Code::OhttpValue => "ohttp-value",
             Code::Glue => "glue",
             Code::TargetCname => "target-cname",
             Code::TargetMissing => "target-missing",
@@ -417,13 +433,17 @@ impl Code {
             | Code::ControlOctet
             | Code::Crlf
             | Code::NestedParentheses
+            | Code::LeadingParenthesis
+            | Code::AdjacentTokens
             | Code::NoFinalNewline
             | Code::RelativeOrigin
             | Code::SoaMinimumTtl
             | Code::IncludeTtl
             | Code::MissingDot
             | Code::EmptyUri
-            | Code::TlsaLength => Severity::Warning,
+            | Code::TlsaLength
+            | Code::IpseckeyAlgorithm
+            | Code::OhttpValue => Severity::Warning,
             // (the rules of a zone)
             Code::Glue
             | Code::TargetCname

@@ -4,8 +4,8 @@ ghost use Rattle.std.specs.List.{position};
 ghost use Rattle.std.specs.Option.{ForSome};
 ghost use Rattle.dns_split.specs.Pieces.{IsWithin, piece_start};
 ghost use Rattle.zone_format.specs.Refusal.{begins_order_mark};
-ghost use Rattle.zonetext_report.specs.Lint.{control_z, open_after, depth_by, is_high, is_nul};
-ghost use Rattle.zonetext_report.specs.Lint.{is_quoted_control, is_return, nested_remarks, opens_inside, piece_end};
+ghost use Rattle.zonetext_report.specs.Lint.{adjacent_remarks, beginning_remarks, code_of_first, open_after, depth_by, is_high, is_nul};
+ghost use Rattle.zonetext_report.specs.Lint.{is_token_piece, is_unusual_control, is_return, nested_remarks, opens_inside, piece_end};
 ghost use Rattle.zonetext_report.specs.Lint.{piece_remarks, remarks_at, token_remarks};
 ghost use Rattle.zonetext_report.specs.Lint.{Shows, ShowsBlock, ShowsPieces, unended};
 
@@ -62,8 +62,8 @@ fn push_at<A: Allocator>(
 }
 
 /// Whether an octet is a control octet, but no tab and no NUL.
-fn is_quoted_control(octet: u8) -> bool
-    ensures { result ≡ is_quoted_control octet }
+fn is_unusual_control(octet: u8) -> bool
+    ensures { result ≡ is_unusual_control octet }
 {
     octet != 0 && octet != b'\t' && (octet < 0x20 || octet == 0x7F)
 }
@@ -86,10 +86,10 @@ fn find_high(octets: &[u8]) -> Option<usize>
 
 /// Where the first control octet stands that is no tab and no NUL.
 fn find_control(octets: &[u8]) -> Option<usize>
-    ensures first { result ≡ position is_quoted_control octets.now }
+    ensures first { result ≡ position is_unusual_control octets.now }
     ensures within { IfSome result (λ i. i < length octets.now) }
 {
-    octets.iter().position(|octet| is_quoted_control(*octet))
+    octets.iter().position(|octet| is_unusual_control(*octet))
 }
 
 /// Where the first CR stands.
@@ -104,18 +104,14 @@ fn find_return(octets: &[u8]) -> Option<usize>
 fn lint_token<A: Allocator>(
     token: &[u8],
     from: usize,
-    is_quoted: bool,
     found: &mut Vec<Remark, A>,
 ) -> Result<(), AllocError>
     requires { from + length token.now < 2 ^ 64 }
-    ensures { OnOk result (found.new.items
-        ≡ found.old.items ++ token_remarks is_quoted from token.now) }
+    ensures { OnOk result (found.new.items ≡ found.old.items ++ token_remarks from token.now) }
 {
     push_at(found, from, find_nul(token), Code::Nul)?;
     push_at(found, from, find_high(token), Code::HighOctet)?;
-    if is_quoted {
-        push_at(found, from, find_control(token), Code::ControlOctet)?;
-    }
+    push_at(found, from, find_control(token), Code::ControlOctet)?;
     Ok(())
 }
 
@@ -165,21 +161,39 @@ fn lint_gap<A: Allocator>(
     Ok(open)
 }
 
-/// Appends Ctrl-Z where an entry begins with it at a place.
+/// Returns what the first octet of an entry shows.
+fn code_of_first(octet: u8) -> Option<Code>
+    ensures { result ≡ code_of_first octet }
+{
+    match octet {
+        0x1A => Some(Code::ControlZ),
+        b'(' => Some(Code::LeadingParenthesis),
+        _ => None,
+    }
+}
+
+/// Appends what the first octet of the entry shows that begins at an offset.
 fn lint_beginning<A: Allocator>(
     octets: &[u8],
     at: usize,
     found: &mut Vec<Remark, A>,
 ) -> Result<(), AllocError>
-    ensures { OnOk result (found.new.items ≡ found.old.items ++ control_z octets.now at) }
+    ensures { OnOk result (found.new.items ≡ found.old.items ++ beginning_remarks octets.now at) }
 {
-    if octets.get(at) == Some(&0x1A) {
-        found.push(Remark {
-            at,
-            code: Code::ControlZ,
-        })?;
+    let Some(octet) = octets.get(at) else {
+        return Ok(());
+    };
+    if let Some(code) = code_of_first(*octet) {
+        found.push(Remark { at, code })?;
     }
     Ok(())
+}
+
+/// Returns whether a piece is a token.
+fn is_token_piece(piece: Piece) -> bool
+    ensures { result ≡ is_token_piece piece }
+{
+    matches!(piece, Piece::Word(_) | Piece::Quote(_))
 }
 
 /// Appends what a piece shows.
@@ -192,8 +206,8 @@ fn lint_piece<A: Allocator>(
     ensures { OnOk result (found.new.items ≡ found.old.items ++ piece_remarks octets.now piece) }
 {
     match piece {
-        Piece::Word(span) => lint_token(span.of_octets(octets), span.start, false, found),
-        Piece::Quote(span) => lint_token(span.of_octets(octets), span.start, true, found),
+        Piece::Word(span) => lint_token(span.of_octets(octets), span.start, found),
+        Piece::Quote(span) => lint_token(span.of_octets(octets), span.start, found),
         Piece::Comment(_) => Ok(()),
         Piece::End(end) => lint_beginning(octets, end.at, found),
     }
@@ -219,11 +233,31 @@ fn piece_end(piece: Piece) -> usize
     }
 }
 
-/// How far octets were looked at, and how many parentheses are open there.
+/// How far octets were looked at.
 #[derive(Clone, Copy)]
 struct Reached {
     at: usize,
+    /// How many parentheses are open there.
     depth: usize,
+    /// Whether a token ends there.
+    is_after_token: bool,
+}
+
+/// Appends the start of a piece, if it is a token that begins where another ends.
+fn lint_start<A: Allocator>(
+    reached: Reached,
+    piece: Piece,
+    found: &mut Vec<Remark, A>,
+) -> Result<(), AllocError>
+    ensures { OnOk result (found.new.items ≡ found.old.items ++ adjacent_remarks reached piece) }
+{
+    if reached.is_after_token && is_token_piece(piece) && piece_start(piece) == reached.at {
+        found.push(Remark {
+            at: reached.at,
+            code: Code::AdjacentTokens,
+        })?;
+    }
+    Ok(())
 }
 
 /// Appends what a piece shows, and what the octets before it do.
@@ -241,10 +275,12 @@ fn lint_next<A: Allocator>(
 {
     let gap = &octets[reached.at..piece_start(piece)];
     let depth = lint_gap(gap, reached.at, reached.depth, found)?;
+    lint_start(reached, piece, found)?;
     lint_piece(octets, piece, found)?;
     Ok(Reached {
         at: piece_end(piece),
         depth,
+        is_after_token: is_token_piece(piece),
     })
 }
 
@@ -253,7 +289,11 @@ fn lint_pieces<A: Allocator>(octets: &[u8], found: &mut Vec<Remark, A>) -> Resul
     requires { length octets.now + 1 < 2 ^ 64 }
     ensures { OnOk result (ShowsPieces octets.now found.old.items found.new.items) }
 {
-    let mut reached = Reached { at: 0, depth: 0 };
+    let mut reached = Reached {
+        at: 0,
+        depth: 0,
+        is_after_token: false,
+    };
     for piece in Pieces::of_octets(octets) {
         match piece {
             Ok(piece) => reached = lint_next(octets, reached, piece, found)?,
@@ -283,9 +323,11 @@ fn lint_end<A: Allocator>(octets: &[u8], found: &mut Vec<Remark, A>) -> Result<(
 ///
 /// - `nul`: the first NUL of a word or a quoted text.
 /// - `control-z`: Ctrl-Z where an entry begins.
+/// - `leading-parenthesis`: a parenthesis where an entry begins.
 /// - `high-octet`: the first octet from 0x80 on of a word or a quoted text.
-/// - `control-octet`: the first control octet of a quoted text that is no tab and no NUL.
+/// - `control-octet`: the first control octet of a word or a quoted text that is no tab and no NUL.
 /// - `nested-parentheses`: each parenthesis that is opened inside of others.
+/// - `adjacent-tokens`: each word or quoted text that begins where another ends.
 /// - `crlf`, where it is asked for: the first CR, which in zone text ends a line with LF.
 /// - `no-final-newline`, of the last octets: their end, where the last is no LF.
 ///

@@ -45,7 +45,7 @@ returns-in-Err g c =
     let now : c.loop-piece.piece-iterator ≡ Err c.in-Err.field-0 ∷ c.next.new.self = c.in-Some.ensures.steps ∙ ap (λ x. x ∷ c.next.new.self) c.in-Err.is in (
       c.into_iter-piece-iterator.result,
       subst (IsGiven octets) (sym same) (c.of_octets-piece-items.ensures.reads, c.of_octets-piece-items.ensures.within),
-      sym (append-nil c.loop-piece.found.items) ∙ ap (λ l. c.loop-piece.found.items ++ entry_remarks octets c.loop-piece.reached.at c.loop-piece.reached.depth l) (sym now) ∙ inv.told,
+      sym (append-nil c.loop-piece.found.items) ∙ ap (λ l. c.loop-piece.found.items ++ entry_remarks octets c.loop-piece.reached l) (sym now) ∙ inv.told,
     )
 
 pub returns : goal.returns
@@ -56,5 +56,5 @@ returns g c =
     let over = c.in-None.ensures.steps.0 in (
       c.into_iter-piece-iterator.result,
       subst (IsGiven octets) (sym same) (c.of_octets-piece-items.ensures.reads, c.of_octets-piece-items.ensures.within),
-      sym (append-nil c.loop-piece.found.items) ∙ ap (λ l. c.loop-piece.found.items ++ entry_remarks octets c.loop-piece.reached.at c.loop-piece.reached.depth l) (sym over) ∙ inv.told,
+      sym (append-nil c.loop-piece.found.items) ∙ ap (λ l. c.loop-piece.found.items ++ entry_remarks octets c.loop-piece.reached l) (sym over) ∙ inv.told,
     )
