@@ -21,3 +21,12 @@ has_other_match_length code octets = (code == 52 || code == 53) && is_other_matc
 -- URI is type 256: a priority and a weight of two octets each, and a target
 abbrev pub has_empty_target : (code : ℕ) → List ℕ → Bool
 has_empty_target code octets = code == 256 && length octets == 4
+
+-- the third octet, after a precedence and the type of the gateway, is an algorithm
+abbrev pub is_algorithm_zero : List ℕ → Bool
+is_algorithm_zero (precedence ∷ gateway ∷ algorithm ∷ rest) = algorithm == 0
+is_algorithm_zero _ = false
+
+-- IPSECKEY is type 45
+abbrev pub has_key_algorithm_zero : (code : ℕ) → List ℕ → Bool
+has_key_algorithm_zero code octets = code == 45 && is_algorithm_zero octets

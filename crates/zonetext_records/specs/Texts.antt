@@ -4,7 +4,7 @@ use Rattle.dns_split.specs.declared.pieces.Wrong.{Wrong}
 use Rattle.dns_split.specs.declared.pieces.Wrong.TheVariants.{Closing, OpenParenthesis as OpenWrong, OpenQuote as QuoteWrong, LoneReturn as ReturnWrong, BadEscape as EscapeWrong}
 use Rattle.zonetext_report.specs.Code.{code_name}
 use Rattle.zonetext_report.specs.declared.code.Code.{Code}
-use Rattle.zonetext_report.specs.declared.code.Code.TheVariants.{Nul, ByteOrderMark, ControlZ, Ttl, OtherClass, NoSoa, TwoSoas, NoNs, NsAddress, Cname, Dname, DsApex, WildcardNs, SoaNotApex, NsBesideDname, Nsec3Wildcard, BelowDname, Outside, MaxTtl, NoOrigin, HighOctet, ControlOctet, Crlf, NestedParentheses, NoFinalNewline, RelativeOrigin, SoaMinimumTtl, IncludeTtl, MissingDot, EmptyUri, TlsaLength, Glue, TargetCname, TargetMissing, HostName, Cds, TtlDiffers, Duplicate, NoDnskey, Expired, ExpiresSoon, NotYetValid, RrsigTimes, RrsigSigner, RrsigLabels, OriginalTtl, RrsigTtl, Unsigned, NoKey, KeyMissing, RrsigKey, SignsNothing, OccludedDnssec, NoNsec, NsecNext, NsecTypes, DsWithoutNs, NoNsec3, Nsec3Next, Nsec3Types, Nsec3Owner, Nsec3Iterations, Nsec3Iterations50, Nsec3Iterations0, NsecTtl, CdsDelete}
+use Rattle.zonetext_report.specs.declared.code.Code.TheVariants.{Nul, ByteOrderMark, ControlZ, Ttl, OtherClass, NoSoa, TwoSoas, NoNs, NsAddress, Cname, Dname, DsApex, WildcardNs, SoaNotApex, NsBesideDname, Nsec3Wildcard, BelowDname, Outside, MaxTtl, NoOrigin, HighOctet, ControlOctet, Crlf, NestedParentheses, LeadingParenthesis, AdjacentTokens, NoFinalNewline, RelativeOrigin, SoaMinimumTtl, IncludeTtl, MissingDot, EmptyUri, TlsaLength, IpseckeyAlgorithm, OhttpValue, Glue, TargetCname, TargetMissing, HostName, Cds, TtlDiffers, Duplicate, NoDnskey, Expired, ExpiresSoon, NotYetValid, RrsigTimes, RrsigSigner, RrsigLabels, OriginalTtl, RrsigTtl, Unsigned, NoKey, KeyMissing, RrsigKey, SignsNothing, OccludedDnssec, NoNsec, NsecNext, NsecTypes, DsWithoutNs, NoNsec3, Nsec3Next, Nsec3Types, Nsec3Owner, Nsec3Iterations, Nsec3Iterations50, Nsec3Iterations0, NsecTtl, CdsDelete}
 
 -- the faults of the text
 abbrev pub text_fault_text : Wrong → List ℕ
@@ -37,9 +37,11 @@ finding_text Outside = codes "record outside of the zone"
 finding_text MaxTtl = codes "time to live above the greatest that is allowed"
 finding_text NoOrigin = codes "relative name, and no origin: read below the root"
 finding_text HighOctet = codes "octet outside of ASCII"
-finding_text ControlOctet = codes "control octet in a quoted text"
+finding_text ControlOctet = codes "control octet"
 finding_text Crlf = codes "lines end in CR LF"
 finding_text NestedParentheses = codes "parenthesis inside of parentheses"
+finding_text LeadingParenthesis = codes "entry begins with a parenthesis"
+finding_text AdjacentTokens = codes "no blank between two tokens"
 finding_text NoFinalNewline = codes "no line end at the end of the file"
 finding_text RelativeOrigin = codes "relative name as origin"
 finding_text SoaMinimumTtl = codes "minimum of the SOA is taken as time to live"
@@ -47,6 +49,8 @@ finding_text IncludeTtl = codes "$TTL of the included file stays in force"
 finding_text MissingDot = codes "name ends like the origin: a dot at its end may be missing"
 finding_text EmptyUri = codes "empty target"
 finding_text TlsaLength = codes "wrong number of octets for the matching type"
+finding_text IpseckeyAlgorithm = codes "algorithm 0: BIND 9.18 doesn't load it without a key, Knot 3.2 doesn't with one"
+finding_text OhttpValue = codes "ohttp has no value (RFC 9540)"
 finding_text Glue = codes "name server below the delegation without an address"
 finding_text TargetCname = codes "target is a CNAME or below a DNAME"
 finding_text TargetMissing = codes "target is not in the zone"

@@ -1,7 +1,9 @@
 //! Data of records that look like a slip.
 ghost use Rattle.std.specs.Prelude.{◌≡◌};
-ghost use Rattle.zonetext_records.specs.Data.{has_empty_target, has_other_match_length, match_length};
+ghost use Rattle.zonetext_records.specs.Data.{has_empty_target, has_key_algorithm_zero, has_other_match_length, match_length};
 
+/// The code of IPSECKEY.
+const IPSECKEY: u16 = 45;
 /// The code of TLSA.
 const TLSA: u16 = 52;
 /// The code of SMIMEA.
@@ -43,4 +45,18 @@ pub fn has_empty_target(code: u16, data: &[u8]) -> bool
     ensures { result ≡ has_empty_target code «data».now }
 {
     code == URI && data.len() == 4
+}
+
+/// Returns whether data of IPSECKEY have the public key algorithm 0, which says that there is no key
+/// (RFC 4025 section 2.4). Not all servers load such a record, be there a key or not.
+pub fn has_key_algorithm_zero(code: u16, data: &[u8]) -> bool
+    ensures { result ≡ has_key_algorithm_zero code «data».now }
+{
+    if code != IPSECKEY {
+        return false;
+    }
+    match data {
+        [_, _, algorithm, ..] => *algorithm == 0,
+        _ => false,
+    }
 }

@@ -44,9 +44,11 @@ pub fn code_text(code: Code) -> &'static str
         Code::MaxTtl => "time to live above the greatest that is allowed",
         Code::NoOrigin => "relative name, and no origin: read below the root",
         Code::HighOctet => "octet outside of ASCII",
-        Code::ControlOctet => "control octet in a quoted text",
+        Code::ControlOctet => "control octet",
         Code::Crlf => "lines end in CR LF",
         Code::NestedParentheses => "parenthesis inside of parentheses",
+        Code::LeadingParenthesis => "entry begins with a parenthesis",
+        Code::AdjacentTokens => "no blank between two tokens",
         Code::NoFinalNewline => "no line end at the end of the file",
         Code::RelativeOrigin => "relative name as origin",
         Code::SoaMinimumTtl => "minimum of the SOA is taken as time to live",
@@ -54,6 +56,10 @@ pub fn code_text(code: Code) -> &'static str
         Code::MissingDot => "name ends like the origin: a dot at its end may be missing",
         Code::EmptyUri => "empty target",
         Code::TlsaLength => "wrong number of octets for the matching type",
+        Code::IpseckeyAlgorithm => {
+            "algorithm 0: BIND 9.18 doesn't load it without a key, Knot 3.2 doesn't with one"
+        }
+        Code::OhttpValue => "ohttp has no value (RFC 9540)",
         Code::Glue => "name server below the delegation without an address",
         Code::TargetCname => "target is a CNAME or below a DNAME",
         Code::TargetMissing => "target is not in the zone",
