@@ -61,6 +61,7 @@ fn is_of_text(code: Code) -> bool {
                 | Code::ControlOctet
                 | Code::Crlf
                 | Code::NestedParentheses
+                | Code::LeadingParenthesis
                 | Code::NoFinalNewline
         )
 }

@@ -1,35 +1,35 @@
 //! What the command `check` finds in the entries of zone files.
 use crate::file_lines::FileLines;
-use crate::held::Held;
+use crate::held_zone::{
+    HeldZone, Stand, StandingRecord, is_of_absence, is_of_signed_absence, other_soa,
+};
 use crate::long_ttls::{long_ttl, long_ttl_of};
 use crate::open_file::first_place;
+use crate::refusals::refusal_text;
 use crate::reporter::{Reporter, Spot};
 use crate::scan::{OctetScan, needs_lint, repeats_origin, scan_octets};
+use crate::slips::{is_of_parameters, slip_of};
 use crate::spots::{beginning, fault_at, octet_at, position_at, spot_at, token_at, tokens_of};
 use crate::stop::Stop;
-use crate::zone_files::{Entry, Given, Visit};
+use crate::zone_files::{Entry, Visit};
 use dns_data::type_row;
 use dns_fields::Field;
 use dns_heads::{class_word, directive_word, type_word};
-use dns_kinds::RecordType;
 use dns_octets::AsOctets;
 use dns_reader::{EntryRead, EntryRefusal, NameBuffer, RecordRefusal, RecordTtl};
-use dns_resource::{Data, Record};
+use dns_resource::Data;
 use dns_split::entry_tokens::EntryToken;
 use dns_split::pieces::Fault;
 use dns_split::position::Position;
 use dns_wire::{DisplayWithDot, DisplayWithoutDot, Name};
-use std::alloc::{AllocError, Global};
+use std::alloc::Global;
 use zone_dnssec::{Times, check_signed};
 use zone_format::place::Place;
 use zone_rules::names::view;
 use zone_rules::sorted::has_type;
 use zone_rules::{Rule, SortedRecords, SortedSets, check_zone};
 use zone_set::{TaggedOctets, serial_of};
-use zonetext_records::codes::{
-    code_of_entry, code_of_fault, code_of_rule, code_of_security, is_for_lack_of_room,
-};
-use zonetext_records::data::{has_empty_target, has_other_match_length};
+use zonetext_records::codes::{code_of_entry, code_of_fault, code_of_rule, code_of_security};
 use zonetext_records::names::{ends_in_dot, ends_like};
 use zonetext_records::texts::{code_text, fault_text};
 use zonetext_report::code::Code;
@@ -65,46 +65,12 @@ pub struct Limits {
     pub is_text: bool,
 }
 
-/// Where a record stands.
-#[derive(Clone, Copy)]
-struct Stand {
-    /// The number of its file.
-    file: usize,
-    position: Position,
-}
-
 /// What the first SOA of a file says.
 #[derive(Drop)]
 pub struct Seen {
     /// The name of the zone.
     pub zone: NameBuffer,
     pub serial: u32,
-}
-
-/// The records of files, with their places.
-#[derive(Drop)]
-struct HeldZone {
-    records: Held<Stand>,
-    /// The paths of the files, by their numbers.
-    files: Vec<String>,
-}
-
-impl HeldZone {
-    /// No records.
-    fn new(alloc: Global) -> HeldZone {
-        HeldZone {
-            records: Held::new(alloc),
-            files: Vec::new(alloc),
-        }
-    }
-
-    /// The path of a file, by its number.
-    fn file(&self, number: usize) -> &str {
-        match self.files.get(number) {
-            Some(file) => file.as_str(),
-            None => "-",
-        }
-    }
 }
 
 /// Finds faults in entries, and says them.
@@ -130,6 +96,9 @@ pub struct Checker<'a> {
     has_told_owner: bool,
     /// Whether a file is left unread, which is no text of octets.
     is_cut: bool,
+    /// Whether records are unread that a directive brings: a file is not included, or an origin is
+    /// refused.
+    has_gap: bool,
 }
 
 /// The word of a directive with which an entry begins, if it begins with one.
@@ -166,35 +135,6 @@ fn data_start(tokens: &[EntryToken<'_>], is_blank: bool) -> usize {
 fn begins_blank(entry: &Entry<'_>) -> bool {
     matches!(entry.octets.first(), Some(b' ' | b'\t'))
 }
-
-/// Why an entry is refused. Its octets lack room alone where they are more than record data has.
-fn refusal_reason(refusal: &EntryRefusal) -> &'static str {
-    if is_for_lack_of_room(refusal.why) {
-        "data above 65535 octets"
-    } else {
-        refusal.why.as_str()
-    }
-}
-
-/// What is said of a refused entry.
-fn refusal_text(alloc: Global, refusal: &EntryRefusal, code: Code) -> Result<String, AllocError> {
-    let why = refusal_reason(refusal);
-    match (refusal.code, refusal.part) {
-        (Some(code), Some(part)) => {
-            let record_type = RecordType(code);
-            format!(in alloc; "{record_type} {part}: {why}")
-        }
-        (Some(code), None) => {
-            let record_type = RecordType(code);
-            format!(in alloc; "{record_type}: {why}")
-        }
-        _ if code == Code::Owner => format!(in alloc; "owner: {why}"),
-        _ => String::from_str(alloc, why),
-    }
-}
-
-/// A record that knows where it stands.
-type StandingRecord<'h> = Record<TaggedOctets<'h, Stand>, &'h [u8]>;
 
 /// A column of a line, with the line.
 fn line_spot<'s>(file: &'s str, position: Position, line: Option<&'s [u8]>) -> Spot<'s> {
@@ -234,6 +174,7 @@ impl<'a> Checker<'a> {
             has_told_origin: false,
             has_told_owner: false,
             is_cut: false,
+            has_gap: false,
         }
     }
 
@@ -271,6 +212,7 @@ impl<'a> Checker<'a> {
         let tokens = tokens_of(self.alloc, entry)?;
         let is_directive = directive_of(tokens.as_slice(), begins_blank(entry)).is_some();
         let code = code_of_entry(is_directive, refusal.why);
+        self.has_gap = self.has_gap || code == Code::Directive;
         if code != Code::NoOwner {
             self.has_told_owner = false;
         }
@@ -418,11 +360,8 @@ impl<'a> Checker<'a> {
                 self.tell_record(entry, at, Code::MaxTtl)?;
             }
         }
-        if has_empty_target(code, entry.data) {
-            self.tell_record(entry, at, Code::EmptyUri)?;
-        }
-        if has_other_match_length(code, entry.data) {
-            self.tell_record(entry, at, Code::TlsaLength)?;
+        if let Some(code) = slip_of(code, entry.data) {
+            self.tell_record(entry, at, code)?;
         }
         Ok(())
     }
@@ -460,8 +399,7 @@ impl<'a> Checker<'a> {
                     && *code != SOA
                     && (!self.limits.tells_slips
                         || (self.is_usual_ttl(*ttl)
-                            && !has_empty_target(*code, entry.data)
-                            && !has_other_match_length(*code, entry.data)
+                            && slip_of(*code, entry.data).is_none()
                             && !self.may_show_names(entry, scan)))
             }
             _ => false,
@@ -479,7 +417,7 @@ impl<'a> Checker<'a> {
         let Some(held) = &mut self.held else {
             return Ok(());
         };
-        let Some(given) = entry.record() else {
+        let Some(given) = entry.record()? else {
             return Ok(());
         };
         let position = position_at(entry, at.saturating_sub(entry.offset));
@@ -583,18 +521,18 @@ impl<'a> Checker<'a> {
         set.sort()?;
         let records = set.as_slice();
         let Some(sorted) = SortedRecords::new(records) else {
-            return Ok(());
+            return Err(Stop::Damaged);
         };
         let found = check_zone(self.alloc, zone, &sorted, &SortedSets::none())?;
+        if is_zone {
+            if let Some(finding) = other_soa(found.as_slice(), records) {
+                let record = finding.record.and_then(|place| records.get(place));
+                return self.tell_other_soa(held, code_of_rule(finding.rule), record, zone);
+            }
+        }
         for finding in &found {
-            let record = finding.record.and_then(|place| records.get(place));
-            let is_told = match finding.rule {
-                Rule::Duplicate | Rule::TtlDiffers => true,
-                // The rules of signed zones have this one too.
-                Rule::DsWithoutNs => is_zone && self.limits.times.is_none(),
-                _ => is_zone,
-            };
-            if is_told {
+            if self.tells_rule(finding.rule, is_zone) {
+                let record = finding.record.and_then(|place| records.get(place));
                 self.tell_broken(held, code_of_rule(finding.rule), record)?;
             }
         }
@@ -602,6 +540,28 @@ impl<'a> Checker<'a> {
             Some(times) if is_zone => self.check_signatures(held, zone, times, &sorted),
             _ => Ok(()),
         }
+    }
+
+    /// Returns whether a broken rule is reported: without a zone those of sets alone, and what a zone lacks
+    /// only if all of its records were read.
+    fn tells_rule(&self, rule: Rule, is_zone: bool) -> bool {
+        match rule {
+            Rule::Duplicate | Rule::TtlDiffers => true,
+            _ => is_zone && !(self.has_gap && is_of_absence(rule)),
+        }
+    }
+
+    /// Reports that the records have an SOA at another name than the zone's alone.
+    fn tell_other_soa<Origin: AsOctets>(
+        &mut self,
+        held: &HeldZone,
+        code: Code,
+        record: Option<&StandingRecord<'_>>,
+        zone: &Name<Origin>,
+    ) -> Result<(), Stop> {
+        let zone = DisplayWithDot::new(zone);
+        let text = format!(in self.alloc; "the SOA is not that of the zone {zone}")?;
+        self.tell_at(held, code, record, text.as_str())
     }
 
     /// Says which rules of DNSSEC the records of a zone break.
@@ -613,10 +573,17 @@ impl<'a> Checker<'a> {
         records: &SortedRecords<'_, TaggedOctets<'_, Stand>, &[u8]>,
     ) -> Result<(), Stop> {
         if !has_type(records, &view(zone), DNSKEY) {
-            return self.tell_broken(held, Code::NoDnskey, None);
+            return if self.has_gap {
+                Ok(())
+            } else {
+                self.tell_broken(held, Code::NoDnskey, None)
+            };
         }
         let found = check_signed(self.alloc, zone, times, records)?;
         for finding in &found {
+            if self.has_gap && is_of_signed_absence(finding.rule) {
+                continue;
+            }
             let record = records.as_slice().get(finding.record);
             self.tell_broken(held, code_of_security(finding.rule), record)?;
         }
@@ -629,6 +596,17 @@ impl<'a> Checker<'a> {
         held: &HeldZone,
         code: Code,
         record: Option<&StandingRecord<'_>>,
+    ) -> Result<(), Stop> {
+        self.tell_at(held, code, record, code_text(code))
+    }
+
+    /// Reports a finding at a record, or at the first file's start.
+    fn tell_at(
+        &mut self,
+        held: &HeldZone,
+        code: Code,
+        record: Option<&StandingRecord<'_>>,
+        text: &str,
     ) -> Result<(), Stop> {
         let stand = match record {
             Some(record) => record.owner.as_octets().tag,
@@ -644,10 +622,9 @@ impl<'a> Checker<'a> {
         } else {
             None
         };
-        match &line {
-            Some(line) => self.tell(line_spot(name, position, Some(line.as_slice())), code),
-            None => self.tell(line_spot(name, position, None), code),
-        }
+        let octets = line.as_ref().map(|line| line.as_slice());
+        self.reporter
+            .tell(line_spot(name, position, octets), code, false, text)
     }
 
     /// Whether a line of a file, by its number, is to be read again for a finding that is told next.
@@ -670,6 +647,17 @@ impl<'a> Checker<'a> {
         !self.limits.is_text || self.reporter.denies(code)
     }
 
+    /// Returns whether a finding in the octets of an entry is reported. Of an entry that begins with Ctrl-Z
+    /// other control octets are not. A service parameter's value is adjacent to its key (RFC 9460 section
+    /// 2.1), and in the text alone types are not known.
+    fn tells_remark(&self, entry: &Entry<'_>, code: Code, is_end: bool) -> bool {
+        match code {
+            Code::ControlOctet if is_end => false,
+            Code::AdjacentTokens => !self.limits.is_text && !is_of_parameters(entry),
+            _ => self.tells_octets(code),
+        }
+    }
+
     /// Says what the octets of an entry show. Returns whether Ctrl-Z begins it.
     fn lint(&mut self, entry: &Entry<'_>, scan: OctetScan) -> Result<bool, Stop> {
         if entry.is_shortened || !needs_lint(entry.octets, scan) {
@@ -686,7 +674,7 @@ impl<'a> Checker<'a> {
         lint(entry.octets, block, &mut remarks)?;
         let mut is_end = false;
         for remark in &remarks {
-            if !self.tells_octets(remark.code) {
+            if !self.tells_remark(entry, remark.code, is_end) {
                 continue;
             }
             is_end = is_end || remark.code == Code::ControlZ;
@@ -773,6 +761,7 @@ impl<'a> Visit for Checker<'a> {
         if self.limits.is_text {
             return Ok(());
         }
+        self.has_gap = true;
         let tokens = tokens_of(self.alloc, entry)?;
         let spot = match tokens.as_slice().get(1) {
             Some(token) => token_at(entry, token),

@@ -84,7 +84,7 @@ impl<'p> Parter<'p> {
 
 impl TakeEntry for Parter<'_> {
     fn take_entry(&mut self, entry: &Entry<'_>) -> Result<(), Stop> {
-        match entry.record() {
+        match entry.record()? {
             _ if self.has_refused => Ok(()),
             Some(given) => self.take_record(entry, given),
             None => self.files.write(entry.octets),

@@ -96,7 +96,7 @@ struct Finder {
 impl TakeEntry for Finder {
     fn take_entry(&mut self, entry: &Entry<'_>) -> Result<(), Stop> {
         self.gatherer.take_entry(entry)?;
-        if let Some(given) = entry.record() {
+        if let Some(given) = entry.record()? {
             if given.code == SOA || given.code == ZONEMD {
                 self.found.push(placed_of(self.alloc, entry, given)?)?;
             }

@@ -265,10 +265,10 @@ impl<'p> Plan<'p> {
         set: &NumberedSet<'_>,
     ) -> Result<(), Unwritten> {
         let Some(data) = data_of(one.data.as_slice()) else {
-            return Ok(());
+            return Err(Unwritten::Stop(Stop::Damaged));
         };
         let Some(old) = Zonemd::of_data(&data) else {
-            return Ok(());
+            return Err(Unwritten::Stop(Stop::Damaged));
         };
         let Some(algorithm) = algorithm_of(&old) else {
             return self.leave(&old, apex, set);
@@ -303,10 +303,10 @@ impl<'p> Plan<'p> {
     /// Puts other data in place of a digest's, and says so.
     fn write(&mut self, tokens: &[Span], old: &Zonemd<'_>, right: &[u8]) -> Result<(), Unwritten> {
         let Some(data) = data_of(right) else {
-            return Ok(());
+            return Err(Unwritten::Stop(Stop::Damaged));
         };
         let Some(new) = Zonemd::of_data(&data) else {
-            return Ok(());
+            return Err(Unwritten::Stop(Stop::Damaged));
         };
         if self.is_generic(tokens) {
             let text = hex_of(self.alloc, right)?;
@@ -339,10 +339,10 @@ impl<'p> Plan<'p> {
     /// Adds the digest that has these data, behind the SOA.
     fn add(&mut self, soa: &Placed, right: &[u8]) -> Result<(), Unwritten> {
         let Some(data) = data_of(right) else {
-            return Ok(());
+            return Err(Unwritten::Stop(Stop::Damaged));
         };
         let Some(new) = Zonemd::of_data(&data) else {
-            return Ok(());
+            return Err(Unwritten::Stop(Stop::Damaged));
         };
         let front = self.octets.get(..soa.end).unwrap_or(self.octets);
         let end = line_end(front);

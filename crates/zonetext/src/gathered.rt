@@ -102,7 +102,7 @@ impl<'s> Gatherer<'s> {
 
 impl TakeEntry for Gatherer<'_> {
     fn take_entry(&mut self, entry: &Entry<'_>) -> Result<(), Stop> {
-        let Some(given) = entry.record() else {
+        let Some(given) = entry.record()? else {
             return Ok(());
         };
         if !self.selection.takes(given.code) {

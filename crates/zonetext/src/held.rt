@@ -91,7 +91,8 @@ impl<Tag: Copy> Held<Tag> {
         Ok(())
     }
 
-    /// The records, in the order in which they came.
+    /// Returns the records, in the order in which they came. Fails with `Damaged` if an owner is no name, or
+    /// data are not those of their type.
     pub fn set(&self) -> Result<HeldSet<'_, Tag>, Stop> {
         let mut set = ZoneSet::new(self.alloc);
         for row in &self.rows {
@@ -101,15 +102,16 @@ impl<Tag: Copy> Held<Tag> {
             };
             let owner = Name::from_octets(octets);
             let data = Data::from_octets(row.code, self.part(row.data));
-            if let (Ok(owner), Ok(data)) = (owner, data) {
-                let (ttl, class) = (row.ttl, row.class);
-                set.push(Record {
-                    owner,
-                    ttl,
-                    class,
-                    data,
-                })?;
-            }
+            let (Ok(owner), Ok(data)) = (owner, data) else {
+                return Err(Stop::Damaged);
+            };
+            let (ttl, class) = (row.ttl, row.class);
+            set.push(Record {
+                owner,
+                ttl,
+                class,
+                data,
+            })?;
         }
         Ok(set)
     }

@@ -82,7 +82,7 @@ impl<T: Drop> Giver<'_, T> {
             return Ok(());
         }
         let (Some(given), Ok(EntryRead::Record { at, .. }), Ok(owner)) = (
-            entry.record(),
+            entry.record()?,
             entry.read,
             entry.state.owner(),
         ) else {

@@ -9,22 +9,23 @@ use zone_set::push_record;
 
 impl TakeEntry for Lines<'_> {
     fn take_entry(&mut self, entry: &Entry<'_>) -> Result<(), Stop> {
-        let Some(given) = entry.record() else {
+        let Some(given) = entry.record()? else {
             return Ok(());
         };
         let owner = Name::from_octets(given.owner);
         let data = Data::from_octets(given.code, given.data);
-        if let (Ok(owner), Ok(data)) = (owner, data) {
-            let (ttl, class) = (given.ttl, given.class);
-            let record = Record {
-                owner,
-                ttl,
-                class,
-                data,
-            };
-            push_record(&mut self.text, &record)?;
-            self.flush_block()?;
-        }
+        let (Ok(owner), Ok(data)) = (owner, data) else {
+            return Err(Stop::Damaged);
+        };
+        let (ttl, class) = (given.ttl, given.class);
+        let record = Record {
+            owner,
+            ttl,
+            class,
+            data,
+        };
+        push_record(&mut self.text, &record)?;
+        self.flush_block()?;
         Ok(())
     }
 }

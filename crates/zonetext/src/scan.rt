@@ -13,6 +13,8 @@ pub struct OctetScan {
     pub is_plain: bool,
     /// Whether there is an opening parenthesis.
     pub has_parenthesis: bool,
+    /// Whether there is a double quote.
+    pub has_quote: bool,
     /// Whether there is a backslash.
     pub has_backslash: bool,
 }
@@ -36,6 +38,7 @@ fn scan_few(octets: &[u8]) -> OctetScan {
     OctetScan {
         is_plain: octets.iter().all(|octet| is_plain(*octet)),
         has_parenthesis: octets.contains(&b'('),
+        has_quote: octets.contains(&b'"'),
         has_backslash: octets.contains(&b'\\'),
     }
 }
@@ -50,18 +53,21 @@ pub fn scan_octets(octets: &[u8]) -> OctetScan {
     let load = u8x16::from_slice(&octets[last..]);
     let mut others = other_octets(load);
     let mut opens = load.simd_eq(u8x16::splat(b'('));
+    let mut quotes = load.simd_eq(u8x16::splat(b'"'));
     let mut escapes = load.simd_eq(u8x16::splat(b'\\'));
     let mut start = 0;
     while start < last {
         let load = u8x16::from_slice(&octets[start..]);
         others = others | other_octets(load);
         opens = opens | load.simd_eq(u8x16::splat(b'('));
+        quotes = quotes | load.simd_eq(u8x16::splat(b'"'));
         escapes = escapes | load.simd_eq(u8x16::splat(b'\\'));
         start += LANES;
     }
     OctetScan {
         is_plain: !others.any(),
         has_parenthesis: opens.any(),
+        has_quote: quotes.any(),
         has_backslash: escapes.any(),
     }
 }
@@ -106,12 +112,38 @@ fn has_two_parentheses(octets: &[u8]) -> bool {
     }
 }
 
+/// Returns whether a plain octet separates tokens.
+fn separates(octet: u8) -> bool {
+    matches!(octet, b' ' | b'\t' | b'\n' | b'(' | b')')
+}
+
+/// Returns whether a quoted string of an entry without escapes may be adjacent to another token. Returns
+/// `true` if a comment begins, whose quotes are none.
+fn may_be_adjacent(octets: &[u8]) -> bool {
+    let mut before = b' ';
+    let mut is_quoted = false;
+    for octet in octets {
+        let octet = *octet;
+        if !is_quoted {
+            let is_joint = octet == b'"' || before == b'"';
+            if octet == b';' || (is_joint && !separates(before) && !separates(octet)) {
+                return true;
+            }
+        }
+        is_quoted = is_quoted != (octet == b'"');
+        before = octet;
+    }
+    false
+}
+
 /// Returns whether the octets of an entry may contain something that `lint` reports. It reports nothing
-/// if all are plain, at most one parenthesis opens, and the last is a line feed.
+/// if all are plain, no parenthesis is first or opens after another, the last is a line feed, and each
+/// quoted string has separators on both sides.
 pub fn needs_lint(octets: &[u8], scan: OctetScan) -> bool {
     !scan.is_plain
         || octets.last() != Some(&b'\n')
-        || (scan.has_parenthesis && has_two_parentheses(octets))
+        || (scan.has_parenthesis && (octets.first() == Some(&b'(') || has_two_parentheses(octets)))
+        || (scan.has_quote && (scan.has_backslash || may_be_adjacent(octets)))
 }
 
 /// Returns whether octets begin with the labels of an origin, followed by the origin itself.

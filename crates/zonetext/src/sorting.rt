@@ -47,7 +47,7 @@ impl<'s> Sorting<'s> {
 
 impl TakeEntry for Sorting<'_> {
     fn take_entry(&mut self, entry: &Entry<'_>) -> Result<(), Stop> {
-        let Some(given) = entry.record() else {
+        let Some(given) = entry.record()? else {
             return Ok(());
         };
         if !self.selection.takes(given.code) {

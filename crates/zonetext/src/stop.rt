@@ -19,7 +19,7 @@ pub enum Stop {
     Create { file: String, error: io::Error },
     /// Sorted runs can't be written below a folder, or read again.
     Runs { folder: String, error: io::Error },
-    /// What is in memory is no record any more.
+    /// A record in memory has no owner, or its octets are no record: which can't happen.
     Damaged,
     /// There is no more memory.
     OutOfMemory,

@@ -17,6 +17,9 @@ use zonetext_report::lint::order_mark_len;
 /// How many files may be open that others include.
 const MOST_INCLUDED: usize = 10;
 
+/// How many files may be included in all. A file that is included again counts again.
+const MOST_FILES: usize = 10_000;
+
 /// So many octets of an entry without its end are held before what can be let go of it is.
 const LONG_ENTRY: usize = 1 << 20;
 
@@ -67,8 +70,9 @@ impl<'e> Entry<'e> {
         place_from(self.reader, self.counted, self.offset)
     }
 
-    /// The record that was read of it, if it is one.
-    pub fn record(&self) -> Option<Given<'e>> {
+    /// Returns the record that was read of it, if it is one. Fails with `Damaged` if no owner is known of
+    /// a record.
+    pub fn record(&self) -> Result<Option<Given<'e>>, Stop> {
         let Ok(
             EntryRead::Record {
                 ttl,
@@ -78,18 +82,18 @@ impl<'e> Entry<'e> {
             },
         ) = self.read
         else {
-            return None;
+            return Ok(None);
         };
         let Ok(owner) = self.state.owner() else {
-            return None;
+            return Err(Stop::Damaged);
         };
-        Some(Given {
+        Ok(Some(Given {
             owner: owner.as_slice(),
             ttl: ttl.seconds(),
             class: *class,
             code: *code,
             data: self.data,
-        })
+        }))
     }
 }
 
@@ -131,6 +135,8 @@ struct ZoneFiles<'a> {
     state: State,
     /// How many were opened.
     count: usize,
+    /// Whether a file was refused because too many were included before it.
+    is_full: bool,
     data: ArrayVec<u8, MOST_DATA>,
     block: Vec<u8>,
 }
@@ -196,6 +202,8 @@ fn open_first(rt: &HostRuntime, file: &str, name: &str) -> io::Result<OpenFile> 
 #[derive(Drop)]
 enum Unfit {
     Told(&'static str),
+    /// Too many files were included before it.
+    Full,
     Io(io::Error),
 }
 
@@ -216,6 +224,7 @@ impl Unfit {
     fn text(&self, alloc: Global) -> Result<String, AllocError> {
         match self {
             Unfit::Told(why) => String::from_str(alloc, why),
+            Unfit::Full => String::from_str(alloc, "10000 files are included already"),
             Unfit::Io(error) => error.to_string(alloc),
         }
     }
@@ -254,6 +263,7 @@ impl<'a> ZoneFiles<'a> {
             files,
             state: begin.state,
             count: 1,
+            is_full: false,
             data: ArrayVec::new(),
             block: vec![in alloc; 0; BLOCK]?,
         })
@@ -446,10 +456,14 @@ impl<'a> ZoneFiles<'a> {
         let read = Ok(EntryRead::Include { origin });
         let entry = self.entry(&file, &read);
         visitor.take(&entry)?;
+        let is_full = matches!(found, Err(Unfit::Full));
         if let Err(unfit) = &found {
-            let why = unfit.text(self.rt.alloc())?;
-            visitor.refuse(&entry, why.as_str())?;
+            if !is_full || !self.is_full {
+                let why = unfit.text(self.rt.alloc())?;
+                visitor.refuse(&entry, why.as_str())?;
+            }
         }
+        self.is_full = self.is_full || is_full;
         let place = file.place;
         self.files.push(file)?;
         match (read, found) {
@@ -467,6 +481,9 @@ impl<'a> ZoneFiles<'a> {
         }
         if self.files.len() >= MOST_INCLUDED {
             return Err(Unfit::Told("more than 10 files include one another"));
+        }
+        if self.count > MOST_FILES {
+            return Err(Unfit::Full);
         }
         let Ok(name) = str::from_utf8(self.data.as_slice()) else {
             return Err(Unfit::Told("file name is not UTF-8"));

@@ -1,0 +1,102 @@
+//! The records of zone files, with their positions.
+use crate::held::Held;
+use dns_resource::Record;
+use dns_split::position::Position;
+use std::alloc::Global;
+use zone_dnssec::SecurityRule;
+use zone_rules::{Finding, Rule};
+use zone_set::TaggedOctets;
+
+/// The code of SOA.
+const SOA: u16 = 6;
+
+/// The position of a record.
+#[derive(Clone, Copy)]
+pub struct Stand {
+    /// The number of its file.
+    pub file: usize,
+    pub position: Position,
+}
+
+/// A record with its position.
+pub type StandingRecord<'h> = Record<TaggedOctets<'h, Stand>, &'h [u8]>;
+
+/// The records of files, with their positions.
+#[derive(Drop)]
+pub struct HeldZone {
+    pub records: Held<Stand>,
+    /// The paths of the files, by their numbers.
+    pub files: Vec<String>,
+}
+
+impl HeldZone {
+    /// No records.
+    pub fn new(alloc: Global) -> HeldZone {
+        HeldZone {
+            records: Held::new(alloc),
+            files: Vec::new(alloc),
+        }
+    }
+
+    /// The path of a file, by its number.
+    pub fn file(&self, number: usize) -> &str {
+        match self.files.get(number) {
+            Some(file) => file.as_str(),
+            None => "-",
+        }
+    }
+}
+
+/// Returns whether a finding is an SOA at another name than the zone's.
+fn is_other_soa(finding: &Finding, records: &[StandingRecord<'_>]) -> bool {
+    if !matches!(finding.rule, Rule::Outside | Rule::SoaNotApex) {
+        return false;
+    }
+    match finding.record.and_then(|place| records.get(place)) {
+        Some(record) => record.data.code() == SOA,
+        None => false,
+    }
+}
+
+/// Returns the first finding that is an SOA at another name than the zone's, if there is none at the
+/// zone's name: then the records are probably those of another zone.
+pub fn other_soa(found: &[Finding], records: &[StandingRecord<'_>]) -> Option<Finding> {
+    let mut lacks_soa = false;
+    let mut other = None;
+    for finding in found {
+        lacks_soa = lacks_soa || finding.rule == Rule::NoSoa;
+        if other.is_none() && is_other_soa(finding, records) {
+            other = Some(*finding);
+        }
+    }
+    if lacks_soa { other } else { None }
+}
+
+/// Returns whether a zone breaks a rule by what it lacks.
+pub fn is_of_absence(rule: Rule) -> bool {
+    match rule {
+        Rule::NoSoa
+        | Rule::NoNs
+        | Rule::NsAddress
+        | Rule::MissingGlue
+        | Rule::HostMissing
+        | Rule::CdsWithoutKey => true,
+        _ => false,
+    }
+}
+
+/// Returns whether a signed zone may break a rule by what it lacks.
+pub fn is_of_signed_absence(rule: SecurityRule) -> bool {
+    match rule {
+        SecurityRule::Unsigned
+        | SecurityRule::SignsNothing
+        | SecurityRule::NoNsec
+        | SecurityRule::OtherNext
+        | SecurityRule::OtherTypes
+        | SecurityRule::DsWithoutNs
+        | SecurityRule::NoNsec3
+        | SecurityRule::OtherNextHash
+        | SecurityRule::OtherHashedTypes => true,
+        _ => false,
+    }
+}

@@ -1,0 +1,80 @@
+//! What the data of records show.
+use crate::zone_files::Entry;
+use dns_reader::{EntryRead, RecordRefusal};
+use zonetext_records::data::{has_empty_target, has_key_algorithm_zero, has_other_match_length};
+use zonetext_report::code::Code;
+
+/// The code of SVCB.
+const SVCB: u16 = 64;
+
+/// The code of HTTPS.
+const HTTPS: u16 = 65;
+
+/// The key of `ohttp`.
+const OHTTP: [u8; 2] = [0, 8];
+
+/// Returns whether a type has service parameters.
+fn has_parameters(code: u16) -> bool {
+    code == SVCB || code == HTTPS
+}
+
+/// Returns the octets after a name in wire format.
+fn after_name(octets: &[u8]) -> &[u8] {
+    let mut left = 0;
+    for (place, octet) in octets.iter().enumerate() {
+        if left > 0 {
+            left -= 1;
+        } else if *octet == 0 {
+            return &octets[place + 1..];
+        } else {
+            left = usize::from(*octet);
+        }
+    }
+    &[]
+}
+
+/// Returns whether service parameters have the key `ohttp` with a value.
+fn has_value(parameters: &[u8]) -> bool {
+    let mut rest = parameters;
+    while let [high, low, more, less, values @ ..] = rest {
+        let length = usize::from(u16::from_be_bytes([*more, *less]));
+        if [*high, *low] == OHTTP && length > 0 {
+            return true;
+        }
+        rest = values.get(length..).unwrap_or(&[]);
+    }
+    false
+}
+
+/// Returns whether data of SVCB or HTTPS give the key `ohttp` a value, which it must not have (RFC 9540
+/// section 4).
+fn has_ohttp_value(code: u16, data: &[u8]) -> bool {
+    match data {
+        [_, _, rest @ ..] if has_parameters(code) => has_value(after_name(rest)),
+        _ => false,
+    }
+}
+
+/// Returns whether the type of an entry is known, and has service parameters.
+pub fn is_of_parameters(entry: &Entry<'_>) -> bool {
+    match entry.read {
+        Ok(EntryRead::Record { code, .. }) => has_parameters(*code),
+        Err(RecordRefusal::Entry(refusal)) => refusal.code.is_some_and(has_parameters),
+        _ => false,
+    }
+}
+
+/// Returns what the data of a type show.
+pub fn slip_of(code: u16, data: &[u8]) -> Option<Code> {
+    if has_empty_target(code, data) {
+        Some(Code::EmptyUri)
+    } else if has_other_match_length(code, data) {
+        Some(Code::TlsaLength)
+    } else if has_key_algorithm_zero(code, data) {
+        Some(Code::IpseckeyAlgorithm)
+    } else if has_ohttp_value(code, data) {
+        Some(Code::OhttpValue)
+    } else {
+        None
+    }
+}
