@@ -9,6 +9,7 @@ mod checking;
 mod command;
 mod cut;
 mod cut_words;
+mod data_buffer;
 mod digest;
 mod digest_places;
 mod digest_writing;

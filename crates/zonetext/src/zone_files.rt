@@ -1,9 +1,9 @@
 //! Zone files and those that they include, entry by entry.
 use crate::blocks::BLOCK;
+use crate::data_buffer::DataBuffer;
 use crate::open_file::{Includer, Input, OpenFile, behind, place_from};
 use crate::progress::Progress;
 use crate::stop::Stop;
-use arrayvec::ArrayVec;
 use dns_reader::{EntryRead, Known, NameBuffer, RecordRefusal, State};
 use dns_zonefile::BlockReader;
 use std::alloc::{AllocError, Global};
@@ -22,9 +22,6 @@ const MOST_FILES: usize = 10_000;
 
 /// So many octets of an entry without its end are held before what can be let go of it is.
 const LONG_ENTRY: usize = 1 << 20;
-
-/// The most octets of record data (RFC 1035 section 3.2.1).
-const MOST_DATA: usize = 65535;
 
 /// An entry of a file, and what was read of it.
 #[derive(Drop)]
@@ -137,7 +134,7 @@ struct ZoneFiles<'a> {
     count: usize,
     /// Whether a file was refused because too many were included before it.
     is_full: bool,
-    data: ArrayVec<u8, MOST_DATA>,
+    data: DataBuffer<Vec<u8>>,
     block: Vec<u8>,
 }
 
@@ -254,6 +251,9 @@ impl<'a> ZoneFiles<'a> {
         }
         let mut files = Vec::new(alloc);
         files.push(first)?;
+        let Ok(data) = DataBuffer::with_room(alloc) else {
+            return Err(Stop::OutOfMemory);
+        };
         Ok(ZoneFiles {
             rt,
             includes: begin.includes,
@@ -264,7 +264,7 @@ impl<'a> ZoneFiles<'a> {
             state: begin.state,
             count: 1,
             is_full: false,
-            data: ArrayVec::new(),
+            data,
             block: vec![in alloc; 0; BLOCK]?,
         })
     }
