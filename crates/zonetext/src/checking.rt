@@ -5,7 +5,7 @@ use crate::held_zone::{
 };
 use crate::long_ttls::{long_ttl, long_ttl_of};
 use crate::open_file::first_place;
-use crate::refusals::refusal_text;
+use crate::refusals::{refusal_text, refused_type};
 use crate::reporter::{Reporter, Spot};
 use crate::scan::{OctetScan, needs_lint, repeats_origin, scan_octets};
 use crate::slips::{is_of_parameters, slip_of};
@@ -215,6 +215,10 @@ impl<'a> Checker<'a> {
         self.has_gap = self.has_gap || code == Code::Directive;
         if code != Code::NoOwner {
             self.has_told_owner = false;
+        }
+        if !is_directive {
+            let rtype = refused_type(refusal, tokens.as_slice(), begins_blank(entry));
+            self.hold_refused(entry, rtype)?;
         }
         if !self.is_news(code) {
             return Ok(());
@@ -430,6 +434,14 @@ impl<'a> Checker<'a> {
         )
     }
 
+    /// Stores the RRset of a refused record, if records are held and its owner and its type are known.
+    fn hold_refused(&mut self, entry: &Entry<'_>, code: Option<u16>) -> Result<(), Stop> {
+        match (&mut self.held, code, entry.state.owner()) {
+            (Some(held), Some(code), Ok(owner)) => held.refused.add(owner.as_slice(), code),
+            _ => Ok(()),
+        }
+    }
+
     /// Says what a record shows.
     fn check_record(
         &mut self,
@@ -453,6 +465,7 @@ impl<'a> Checker<'a> {
             self.check_names(entry, tokens.as_slice(), code)?;
         }
         if !has_class {
+            self.hold_refused(entry, Some(code))?;
             let tokens = tokens_of(self.alloc, entry)?;
             return self.tell_class(entry, tokens.as_slice());
         }
@@ -523,7 +536,11 @@ impl<'a> Checker<'a> {
         let Some(sorted) = SortedRecords::new(records) else {
             return Err(Stop::Damaged);
         };
-        let found = check_zone(self.alloc, zone, &sorted, &SortedSets::none())?;
+        let refused = held.refused.sorted()?;
+        let Some(refused) = SortedSets::new(refused.as_slice()) else {
+            return Err(Stop::Damaged);
+        };
+        let found = check_zone(self.alloc, zone, &sorted, &refused)?;
         if is_zone {
             if let Some(finding) = other_soa(found.as_slice(), records) {
                 let record = finding.record.and_then(|place| records.get(place));
@@ -572,16 +589,18 @@ impl<'a> Checker<'a> {
         times: Times,
         records: &SortedRecords<'_, TaggedOctets<'_, Stand>, &[u8]>,
     ) -> Result<(), Stop> {
+        // What an unread record leaves open is not reported.
+        let is_whole = !self.has_gap && held.refused.is_empty();
         if !has_type(records, &view(zone), DNSKEY) {
-            return if self.has_gap {
-                Ok(())
-            } else {
+            return if is_whole {
                 self.tell_broken(held, Code::NoDnskey, None)
+            } else {
+                Ok(())
             };
         }
         let found = check_signed(self.alloc, zone, times, records)?;
         for finding in &found {
-            if self.has_gap && is_of_signed_absence(finding.rule) {
+            if !is_whole && is_of_signed_absence(finding.rule) {
                 continue;
             }
             let record = records.as_slice().get(finding.record);

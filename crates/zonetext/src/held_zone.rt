@@ -1,5 +1,6 @@
 //! The records of zone files, with their positions.
 use crate::held::Held;
+use crate::refused_sets::RefusedSets;
 use dns_resource::Record;
 use dns_split::position::Position;
 use std::alloc::Global;
@@ -25,6 +26,8 @@ pub type StandingRecord<'h> = Record<TaggedOctets<'h, Stand>, &'h [u8]>;
 #[derive(Drop)]
 pub struct HeldZone {
     pub records: Held<Stand>,
+    /// The RRsets of which an entry was refused.
+    pub refused: RefusedSets,
     /// The paths of the files, by their numbers.
     pub files: Vec<String>,
 }
@@ -34,6 +37,7 @@ impl HeldZone {
     pub fn new(alloc: Global) -> HeldZone {
         HeldZone {
             records: Held::new(alloc),
+            refused: RefusedSets::new(alloc),
             files: Vec::new(alloc),
         }
     }
@@ -80,7 +84,8 @@ pub fn is_of_absence(rule: Rule) -> bool {
         | Rule::NsAddress
         | Rule::MissingGlue
         | Rule::HostMissing
-        | Rule::CdsWithoutKey => true,
+        | Rule::CdsWithoutKey
+        | Rule::DsWithoutNs => true,
         _ => false,
     }
 }

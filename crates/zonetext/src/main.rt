@@ -30,6 +30,7 @@ mod part_files;
 mod progress;
 mod reading;
 mod records;
+mod refused_sets;
 mod refusals;
 mod reporter;
 mod run_files;

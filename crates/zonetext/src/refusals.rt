@@ -1,6 +1,8 @@
 //! What is said of refused entries.
+use dns_heads::{class_word, type_word};
 use dns_kinds::RecordType;
 use dns_reader::EntryRefusal;
+use dns_split::entry_tokens::EntryToken;
 use std::alloc::{AllocError, Global};
 use zonetext_records::codes::is_for_lack_of_room;
 use zonetext_report::code::Code;
@@ -33,4 +35,29 @@ pub fn refusal_text(
         _ if code == Code::Owner => format!(in alloc; "owner: {why}"),
         _ => String::from_str(alloc, why),
     }
+}
+
+/// Returns whether a token may be before the type of a record: a class, or a word that begins with a digit.
+fn may_precede_type(token: &EntryToken<'_>) -> bool {
+    matches!(token.text.first(), Some(b'0'..=b'9')) || class_word(token).is_some()
+}
+
+/// Returns the type of a refused record, if it can be read.
+pub fn refused_type(
+    refusal: &EntryRefusal,
+    tokens: &[EntryToken<'_>],
+    is_blank: bool,
+) -> Option<u16> {
+    if refusal.code.is_some() {
+        return refusal.code;
+    }
+    for token in tokens.get(usize::from(!is_blank)..).unwrap_or(&[]) {
+        if let Some(code) = type_word(token) {
+            return Some(code);
+        }
+        if !may_precede_type(token) {
+            return None;
+        }
+    }
+    None
 }

@@ -1,0 +1,82 @@
+//! The RRsets of which an entry was refused.
+use crate::stop::Stop;
+use dns_wire::Name;
+use std::alloc::Global;
+use zone_rules::RrsetName;
+
+/// An RRset: its owner among the octets, and the code of its type.
+#[derive(Clone, Copy)]
+struct Row {
+    start: usize,
+    end: usize,
+    code: u16,
+}
+
+/// The RRsets of which an entry was refused. They are in the zone, and their data are not known.
+#[derive(Drop)]
+pub struct RefusedSets {
+    alloc: Global,
+    /// The owners in wire format, one after the other.
+    octets: Vec<u8>,
+    rows: Vec<Row>,
+}
+
+impl RefusedSets {
+    /// No RRsets.
+    pub fn new(alloc: Global) -> RefusedSets {
+        RefusedSets {
+            alloc,
+            octets: Vec::new(alloc),
+            rows: Vec::new(alloc),
+        }
+    }
+
+    /// Returns whether there are none.
+    pub fn is_empty(&self) -> bool {
+        self.rows.is_empty()
+    }
+
+    /// Returns the owner of an RRset.
+    fn owner(&self, row: Row) -> &[u8] {
+        self.octets
+            .as_slice()
+            .get(row.start..row.end)
+            .unwrap_or(&[])
+    }
+
+    /// Returns whether an RRset was added last.
+    fn is_last(&self, owner: &[u8], code: u16) -> bool {
+        match self.rows.last() {
+            Some(last) => last.code == code && self.owner(*last) == owner,
+            None => false,
+        }
+    }
+
+    /// Adds an RRset, unless it was added last.
+    pub fn add(&mut self, owner: &[u8], code: u16) -> Result<(), Stop> {
+        if self.is_last(owner, code) {
+            return Ok(());
+        }
+        let start = self.octets.len();
+        self.octets.extend_from_slice(owner)?;
+        let end = self.octets.len();
+        self.rows.push(Row { start, end, code })?;
+        Ok(())
+    }
+
+    /// Returns the RRsets in canonical order.
+    pub fn sorted(&self) -> Result<Vec<RrsetName<'_>>, Stop> {
+        let mut sets = Vec::with_capacity(self.alloc, self.rows.len())?;
+        for row in &self.rows {
+            let Ok(owner) = Name::from_octets(self.owner(*row)) else {
+                return Err(Stop::Damaged);
+            };
+            sets.push(RrsetName {
+                owner,
+                code: row.code,
+            })?;
+        }
+        sets.sort_by(|left, right| left.compare(right))?;
+        Ok(sets)
+    }
+}
