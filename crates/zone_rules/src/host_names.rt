@@ -197,7 +197,9 @@ fn host_place(code: u16) -> Option<usize>
 }
 
 /// Returns the name of a host in the data of a record, if its type names one.
-fn target<Owner: AsOctets, Octets: AsOctets>(record: &Record<Owner, Octets>) -> Option<Name<&[u8]>>
+fn named_host<Owner: AsOctets, Octets: AsOctets>(
+    record: &Record<Owner, Octets>,
+) -> Option<Name<&[u8]>>
     ensures { result ≡ name_in «record».now (target_field (type_of «record».now)) }
 {
     let Some(field) = host_place(record.data.code()) else {
@@ -216,7 +218,7 @@ fn has_bad_target<Owner: AsOctets, Octets: AsOctets>(record: &Record<Owner, Octe
     if record.data.code() == PTR && !is_reverse(&view(&record.owner)) {
         return false;
     }
-    match target(record) {
+    match named_host(record) {
         Some(name) => !is_host(&name),
         None => false,
     }
