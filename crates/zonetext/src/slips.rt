@@ -36,7 +36,10 @@ fn after_name(octets: &[u8]) -> &[u8] {
 /// Returns whether service parameters have the key `ohttp` with a value.
 fn has_value(parameters: &[u8]) -> bool {
     let mut rest = parameters;
-    while let [high, low, more, less, values @ ..] = rest {
+    for _ in 0..parameters.len() {
+        let [high, low, more, less, values @ ..] = rest else {
+            return false;
+        };
         let length = usize::from(u16::from_be_bytes([*more, *less]));
         if [*high, *low] == OHTTP && length > 0 {
             return true;
