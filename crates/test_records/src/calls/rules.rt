@@ -8,6 +8,7 @@ use dns_resource::{Data, Record};
 use dns_spelling::NameText;
 use dns_wire::Name;
 use row_table::{Answer, Failure, Heap};
+use std::alloc::{AllocError, Allocator};
 use std::slice;
 use zone_dnssec::nsec3_hash::{hash_name, hashed_name};
 use zone_dnssec::{SecurityFinding, Times, check_signed};
@@ -165,6 +166,23 @@ pub fn rules(inputs: &[Vec<u8>], answer: &mut Answer) {
     tell_found(records.as_slice(), &SortedSets::none(), &name, answer);
 }
 
+/// The RRsets of records, in canonical order.
+fn sets_of<'r, A: Allocator + Copy>(
+    records: &'r [HeapRecord<'_>],
+    alloc: A,
+) -> Result<Vec<RrsetName<'r>, A>, AllocError> {
+    let mut sets = Vec::with_capacity(alloc, records.len())?;
+    for record in records {
+        let owner = view(&record.owner);
+        sets.push(RrsetName {
+            owner,
+            code: record.data.code(),
+        })?;
+    }
+    sets.sort_by(|left, right| left.compare(right))?;
+    Ok(sets)
+}
+
 /// What is found in a zone of which entries were refused: its text, its origin, and a text of records
 /// whose owners and types are those of the refused entries.
 pub fn refused(inputs: &[Vec<u8>], answer: &mut Answer) {
@@ -179,17 +197,9 @@ pub fn refused(inputs: &[Vec<u8>], answer: &mut Answer) {
     let mut records = read_records(text.as_slice(), state, answer);
     let state = state_of(origin, answer);
     let others = read_records(others.as_slice(), state, answer);
-    let mut sets: Vec<RrsetName<'_>, &Heap> = Vec::new(answer.heap());
-    for other in others.as_slice() {
-        let owner = view(&other.owner);
-        let code = other.data.code();
-        if sets.push(RrsetName { owner, code }).is_err() {
-            return answer.refuse(&ShortBuf);
-        }
-    }
-    if sets.sort_by(|left, right| left.compare(right)).is_err() {
+    let Ok(sets) = sets_of(others.as_slice(), answer.heap()) else {
         return answer.refuse(&ShortBuf);
-    }
+    };
     if records.sort_by(|left, right| left.compare(right)).is_err() {
         return answer.refuse(&ShortBuf);
     }
