@@ -12,6 +12,7 @@ import sys
 
 sys.dont_write_bytecode = True
 sys.path.insert(0, os.path.dirname(os.path.abspath(__file__)))
+import zone_text
 from row_file import field_of, octets_of, rows_of
 
 EXAMPLE = b"\x07example\x00"
@@ -122,7 +123,15 @@ def data(kind, text, octets, origin=EXAMPLE):
     return ("data", kind, field_of(text), field_of(origin), "!refused" if octets is None else field_of(octets))
 
 
+def end_of_tokens(text):
+    """Returns where the last token of a text ends, or 0."""
+    return max([places[1] for name, *places in zone_text.pieces(text) if name in ("word", "quote")], default=0)
+
+
 def why(kind, text, part, reason, place, origin=EXAMPLE):
+    # (what an entry lacks is refused where its last token ends)
+    if reason == b"unexpected end of entry":
+        place = end_of_tokens(text)
     # The reason is encoded already.
     return ("data.why", kind, field_of(text), field_of(origin), f"!{kind} {part}: {reason.decode()}|{place}")
 

@@ -51,7 +51,8 @@ pub fn read(record_type: &str, text: &str, origin: &str, wanted: &str) -> bool {
 pub fn refused(record_type: &str, text: &str, wanted: &str) -> bool {
     let (data, start) = read_data(record_type, text, Some(crate::EXAMPLE));
     let fault = data.unwrap_err();
-    let place = fault.place.checked_sub(start).unwrap();
+    // (what an entry without data lacks is refused where its type ends)
+    let place = fault.place.saturating_sub(start);
     assert_eq!(
         format!("!{}|{place}", fault.reason),
         wanted,
