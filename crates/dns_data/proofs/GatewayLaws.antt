@@ -164,7 +164,7 @@ module _ (origin : Option (List (List ℕ))) where
 
 -- ---- the algorithm, and the key
 
--- a number that was appended is the octet behind those before it
+-- a number that was appended is the octet after those before it
 pub octet_taken : (t : TokenSeen) (old new : List ℕ) → Gains (octet_form.spells t) old new → octet_form.spells t (slice_index new (length old) ∷ []) × (new ≡ old ++ slice_index new (length old) ∷ [])
 octet_taken t old new g =
     let octets : List ℕ = g.0 in

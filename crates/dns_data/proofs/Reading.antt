@@ -103,7 +103,7 @@ module _ (origin : Option (List (List ℕ))) (room : Room) (shape : Shape) (end 
       extends_on new h.extends,
     )
 
-    -- a hash among the fields is the same with what comes behind them
+    -- a hash among the fields is the same with what comes after them
     wrong_in : (length_is : Length) (back : List ℕ) → HasWrongHash length_is t.octets → HasLength length_is (t.octets ++ back) → ⊥
     wrong_in Any back h k = h
     wrong_in (Digest digests place) back h k = h

@@ -16,7 +16,7 @@ use Rattle.dns_data.specs.declared.shape.Shape.{Shape}
 use Rattle.dns_data.proofs.ItemLaws.{AreItems, prefixes_are_items, prefixes_known}
 use Rattle.dns_data.proofs.Sizes.{field_sized}
 
--- ---- behind the fields
+-- ---- after the fields
 
 pub behind_is : (fields : List Field) (octets back : List ℕ) → BeginsWithFields fields octets back → behind_fields fields octets ≡ back
 behind_is [] octets back b = b
@@ -94,7 +94,7 @@ module _ (shape : Shape) (octets : List ℕ) where
   pub generic_printed : HasNoText shape octets → printed_data shape octets ≡ generic_form.printed octets
   generic_printed none = printed_as true none
 
-  -- items behind the fields
+  -- items after the fields
   pub items_behind_fields : IsDataOf shape octets → shape.rest ≡ Prefixes → AreItems (behind_fields shape.fields.now octets)
   items_behind_fields is prefixes = subst AreItems (sym (behind_is shape.fields.now octets is.back is.fields)) (by (subst (λ r. IsRestOf r is.back) prefixes is.rest))
     where

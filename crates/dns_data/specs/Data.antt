@@ -61,7 +61,7 @@ HasWrongHash Any octets = ⊥
 HasWrongHash (Digest digests place) octets = ⊥
 HasWrongHash Hash octets = (5 + slice_index octets 4 < length octets) × (HasLength Hash octets → ⊥)
 
--- The fields are taken, and the data is refused: for a hash among the fields, the last of them; for what comes behind the fields; or for the length of
+-- The fields are taken, and the data is refused: for a hash among the fields, the last of them; for what comes after the fields; or for the length of
 -- that, once all is taken.
 pub record RefusesBehindFields (origin : Option (List (List ℕ))) (room : Room) (shape : Shape) (end : ℕ) (tokens : List TokenSeen) (old : List ℕ) (r : PartRefusal) (left : List TokenSeen) (new : List ℕ) : Type 0 where
   pub behind : List TokenSeen

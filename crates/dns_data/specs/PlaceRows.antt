@@ -13,7 +13,7 @@ items_printed : prefixes_form.printed (0 ∷ 1 ∷ 21 ∷ 3 ∷ 192 ∷ 168 ∷ 
 unfolding digits
 items_printed = refl
 
--- an item of family 3, alone and behind one of family 1; and a location of version 1
+-- an item of family 3, alone and after one of family 1; and a location of version 1
 other_family_printed : printed_with [] Prefixes (0 ∷ 3 ∷ 0 ∷ 0 ∷ []) ≡ map plain_word (codes "\\#" ∷ codes "4" ∷ encoded base16 (0 ∷ 3 ∷ 0 ∷ 0 ∷ []) ∷ [])
 unfolding digits
 other_family_printed = refl

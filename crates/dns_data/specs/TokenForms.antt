@@ -102,7 +102,7 @@ then_form f behind = record {
   printed = λ octets. let front = take (f.width octets) octets in f.printed front ∷ (behind front).printed (drop (f.width octets) octets);
 }
 
--- which part of such tokens is refused: the first, of which none is taken, or behind it a part of the others
+-- which part of such tokens is refused: the first, of which none is taken, or after it a part of the others
 abbrev pub PartBehind : TokenForm → (List ℕ → List TokenSeen → List TokenSeen → ℕ → Type 0) → List TokenSeen → List TokenSeen → ℕ → Type 0
 PartBehind f Behind tokens left zero = left ≡ tokens
 PartBehind f Behind [] left (suc part) = ⊥

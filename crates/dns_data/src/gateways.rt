@@ -168,7 +168,7 @@ fn take_key<S: TokenSource, B: OctetsBuilder>(
 
 /// Takes the tokens that are left as the type of a gateway (0 for none, 1 for an IPv4 address, 2 for
 /// an IPv6 address, 3 for a name), an algorithm, the gateway, and a key in base 64, and appends their
-/// octets. A gateway of type 0 is written `.`. A name stands uncompressed, and a relative one before
+/// octets. A gateway of type 0 is written `.`. A name is uncompressed, and a relative one before
 /// the origin. Other types are refused. The key may be left out only if the algorithm is 0 (RFC 4025
 /// section 2.4).
 pub(crate) fn take_gateway_parts<S: TokenSource, Octets: AsOctets, B: OctetsBuilder>(
@@ -234,7 +234,7 @@ pub(crate) fn gateway_width(number: u8, octets: &[u8]) -> Option<usize>
     }
 }
 
-/// Whether a key may have so many octets.
+/// Whether a key may have a number of octets.
 fn may_have(algorithm: u8, count: usize) -> bool
     ensures { IsTrue result ↔ (count ≡ 0 → algorithm ≡ 0) }
 {

@@ -34,7 +34,7 @@ pub struct Shape {
 }
 
 /// A part of record data that is refused, the place of the token, and why. The parts are the fields,
-/// and behind them those of the rest: four of a gateway and a key, else one. A part is told by its place
+/// and after them those of the rest: four of a gateway and a key, else one. A part is told by its place
 /// among these.
 #[derive(Clone, Copy)]
 pub struct PartRefusal {

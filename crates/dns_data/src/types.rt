@@ -8,7 +8,7 @@ use dns_digits::Digests;
 use dns_fields::Field;
 
 /// A type of records: its code, the fields of its data, what comes behind them, the lengths that are
-/// asked for, and the names of its parts in refusals: of the fields, and behind them of the parts of the
+/// asked for, and the names of its parts in refusals: of the fields, and after them of the parts of the
 /// rest.
 pub struct TypeRow(
     pub u16,

@@ -67,7 +67,7 @@ module _ (origin : Option (List (List ℕ))) where
   as_many (f ∷ fs) [] octets h = absurd h
   as_many (f ∷ fs) (t ∷ ts) octets h = ap suc (as_many fs ts h.1 h.4)
 
-  -- the tokens behind those that are taken
+  -- the tokens after those that are taken
   pub left_behind : (fields : List Field) (place : ℕ) (tokens left : List TokenSeen) (old new : List ℕ) → place ≤ length fields → HasTaken origin (take place fields) tokens old left new → left ≡ drop place tokens
   left_behind fields place tokens left old new few h =
       let long : length h.taken ≡ place = sym (as_many (take place fields) h.taken h.octets h.spelled) ∙ length-take-le place fields few in

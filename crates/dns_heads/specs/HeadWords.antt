@@ -10,7 +10,7 @@ use Rattle.dns_split.specs.EntryTokens.{TokenSeen}
 use Rattle.dns_heads.specs.declared.error.HeadError.{HeadError}
 use Rattle.dns_heads.specs.declared.error.HeadError.TheVariants.{Field}
 
--- a time to live of so many seconds: from 2^31 on it is 0 (RFC 2181 section 8)
+-- a time to live of a number of seconds: from 2^31 on it is 0 (RFC 2181 section 8)
 abbrev pub ttl_of_seconds : ℕ → ℕ
 ttl_of_seconds seconds = if nat_lt seconds (2 ^ 31) then seconds else 0
 

@@ -53,7 +53,7 @@ split_at_mark c (x ∷ xs) ys h = rw (head_differs c x xs h, split_at_mark c xs 
 pub ended_lacks : (c n : ℕ) (xs : List ℕ) → length xs ≤ n → ((k : ℕ) → k < n → get_or xs k 0 ≢ c) → Lacks c xs
 ended_lacks c n xs end h k l = h k (omega (arith, l, end))
 
--- a text is what stands before its first mark, this, and what stands behind it
+-- a text is what is before its first mark, this, and what is after it
 pub record CutsAt (c : ℕ) (text before behind : List ℕ) : Type 0 where
   pub before_is : before ≡ before_first (λ x. x == c) text
   pub found : true ≡ list_any (λ x. x == c) text

@@ -30,7 +30,7 @@ abbrev pub are_some_variable_octets : List ℕ → Bool
 are_some_variable_octets [] = false
 are_some_variable_octets (o ∷ rest) = are_variable_octets (o ∷ rest)
 
--- the name of a variable: some of them, and again some behind each dot
+-- the name of a variable: some of them, and again some after each dot
 abbrev pub is_variable_name : List ℕ → Bool
 is_variable_name name = list_all are_some_variable_octets (slice_split (λ o. o == 46) name)
 
@@ -42,7 +42,7 @@ abbrev pub is_length_limit : List ℕ → Bool
 is_length_limit [] = false
 is_length_limit (d ∷ digits) = nat_le (length digits) 3 && not (d == 48) && list_all is_limit_digit (d ∷ digits)
 
--- behind the name: nothing, an asterisk, or a colon and such a number
+-- after the name: nothing, an asterisk, or a colon and such a number
 abbrev pub is_modifier : List ℕ → Bool
 is_modifier [] = true
 is_modifier (o ∷ rest) = if o == 42 then length rest == 0 else (o == 58 && is_length_limit rest)
@@ -66,7 +66,7 @@ abbrev pub without_operator : List ℕ → List ℕ
 without_operator [] = []
 without_operator (o ∷ rest) = if is_operator o then rest else o ∷ rest
 
--- the variables of the expression in front of a text, which goes up to a closing brace: apart by commas, behind an operator if there is one
+-- the variables of the expression before a text, which goes up to a closing brace: apart by commas, after an operator if there is one
 abbrev pub variables_in_front : List ℕ → List (List ℕ)
 variables_in_front text = slice_split (λ o. o == 44) (without_operator (before_first (λ o. o == 125) text))
 
@@ -76,7 +76,7 @@ begins_expression text = list_any (λ o. o == 125) text && list_all is_variable 
 abbrev pub begins_query : List ℕ → Bool
 begins_query text = list_any is_named_dns (variables_in_front text)
 
--- what stands behind each opening brace, up to the next
+-- what is after each opening brace, up to the next
 abbrev pub behind_braces : List ℕ → List (List ℕ)
 behind_braces text = drop 1 (slice_split (λ o. o == 123) text)
 

@@ -7,14 +7,14 @@ ghost use Rattle.dns_lists.specs.Template.{is_limit_digit, is_length_limit, is_m
 
 use std::str;
 
-/// A text up to a mark, and what stands behind the mark if there is one.
+/// A text up to a mark, and what is after the mark if there is one.
 #[derive(Clone, Copy)]
 struct Split<'a> {
     before: &'a [u8],
     behind: Option<&'a [u8]>,
 }
 
-/// A text up to the first such mark, and what stands behind it.
+/// A text up to the first such mark, and what is after it.
 fn split_first(text: &[u8], mark: u8) -> Split<'_>
     ensures before { result.before.now ≡ before_first (λ o. o == mark) text.now }
     ensures found { is_some result.behind ≡ list_any (λ o. o == mark) text.now }
@@ -115,7 +115,7 @@ fn is_limit(digits: &[u8]) -> bool
     !digits.is_empty() && digits.len() < 5 && digits[0] != b'0' && are_digits(digits)
 }
 
-/// Whether a text may stand behind the name of a variable.
+/// Whether a text may be after the name of a variable.
 fn is_modifier(text: &[u8]) -> bool
     ensures { result ≡ is_modifier text.now }
 {
@@ -136,7 +136,7 @@ fn is_mark(octet: u8) -> bool
     octet == b'*' || octet == b':'
 }
 
-/// How many octets stand before an asterisk or a colon.
+/// How many octets are before an asterisk or a colon.
 fn name_width(text: &[u8]) -> usize
     ensures width { result ≡ position_or_len is_modifier_mark text.now }
     ensures within { result ≤ length text.now }
@@ -164,7 +164,7 @@ fn is_named_dns(text: &[u8]) -> bool
     &text[..name_width(text)] == b"dns".as_slice()
 }
 
-/// What stands behind the operator of an expression, if it has one.
+/// What is after the operator of an expression, if it has one.
 fn without_operator(expression: &[u8]) -> &[u8]
     ensures { result.now ≡ without_operator expression.now }
 {
@@ -207,7 +207,7 @@ fn has_dns(list: &[u8]) -> bool
     false
 }
 
-/// Whether a text, which stands behind an opening brace, begins with an expression and a closing
+/// Whether a text, which is after an opening brace, begins with an expression and a closing
 /// brace.
 fn begins_expression(text: &[u8]) -> bool
     ensures { result ≡ begins_expression text.now }
@@ -223,7 +223,7 @@ fn begins_query(text: &[u8]) -> bool
     has_dns(without_operator(split_first(text, b'}').before))
 }
 
-/// Whether an expression stands behind each opening brace, and one has the variable `dns`.
+/// Whether an expression is after each opening brace, and one has the variable `dns`.
 fn is_template(text: &[u8]) -> bool
     ensures { result ≡ (list_all begins_expression (behind_braces text.now) && list_any begins_query (behind_braces text.now)) }
 {

@@ -37,7 +37,7 @@ seen_begin n octets began ended (Ok (CommentAt p) ∷ given) w = seen_begin n oc
 seen_begin n octets began ended (Ok (EndAt e) ∷ given) w = seen_begin n octets e.at None given w.1
 seen_begin n octets began ended (Err f ∷ given) w = seen_begin n octets began ended given w.1
 
--- a token that stands as it is spelled has all its octets there
+-- a token that is as it is spelled has all its octets there
 one_ends : (octets : List ℕ) (t : TokenSeen) → t.at ≤ length octets → between octets t.at (token_end t) ≡ spelled t → token_end t ≤ length octets
 one_ends octets t within stands =
     let n : ℕ = length (spelled t) in
@@ -104,7 +104,7 @@ module _ (old new : Parts) (next : Next) (looks : YieldsFirstBy answer_seen (λ 
   pub source_goes_on : TokensEnd old → IsInEntries old → IsSourceOf next new
   source_goes_on h i = record { opens = opens_before old new next looks i; ends = ends_before h }
 
--- what is behind the next part
+-- what is after the next part
 pub ends_behind : (next : Next) (parts : Parts) → TokensEnd (with_next next parts) → TokensEnd parts
 ends_behind None parts h = h
 ends_behind (Some (Ok (TokenOf token b))) parts h = h.1

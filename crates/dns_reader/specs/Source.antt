@@ -10,7 +10,7 @@ use Rattle.dns_split.specs.EntryTokens.{EndIs, IsOpen, IsSeenFrom, PartSeen, Tok
 use Rattle.dns_fields.specs.Source.{EntryEnd}
 use Rattle.dns_reader.specs.declared.source.StartOfEntry.{StartOfEntry}
 
--- where a token ends: a quoted text behind its closing double quote
+-- where a token ends: a quoted text after its closing double quote
 abbrev pub token_end : TokenSeen → ℕ
 token_end t = t.at + length (spelled t)
 
@@ -77,11 +77,11 @@ entry_left s = if s.is_open then tokens_first s.parts else []
 abbrev pub behind_left : SourceSeen → List (Result PartSeen Fault)
 behind_left s = if s.is_open then behind_tokens s.parts else s.parts
 
--- where its line ends, or the fault stands that cuts it off; where none is open, where the last one ended
+-- where its line ends, or where the fault is that cuts it off; where none is open, where the last one ended
 abbrev pub stop_place : SourceSeen → ℕ
 stop_place s = if s.is_open then end_first s.began (behind_tokens s.parts) else s.began
 
--- where the last of its tokens ends, and what the text has behind them; where none is open, where the last one ended
+-- where the last of its tokens ends, and what the text has after them; where none is open, where the last one ended
 abbrev pub entry_end : SourceSeen → EntryEnd
 entry_end s = if s.is_open then record { at = last_token_end (unwrap_or s.taken s.began) (tokens_first s.parts); behind = Some (behind_tokens s.parts) } else record { at = s.began; behind = None }
 

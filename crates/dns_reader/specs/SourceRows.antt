@@ -60,7 +60,7 @@ first_begins = record { ends = []; passed = refl; began = refl; start = (refl, r
 first_is_left : entry_left (source 0 true all_entries) ≡ word (codes "a") 0 ∷ word (codes "b") 2 ∷ []
 first_is_left = refl
 
--- behind its last token, and not behind its line
+-- after its last token, and not after its line
 first_ends : entry_end (source 0 true all_entries) ≡ record { at = 3; behind = Some (Ok (EndIs (end 4 false)) ∷ later_entries) }
 first_ends = refl
 
@@ -80,7 +80,7 @@ one_taken_ends = refl
 both_taken_end : entry_end both_taken ≡ entry_end (source 0 true all_entries)
 both_taken_end = refl
 
--- `a ( "b" ; c`, and a parenthesis on the next line: behind the double quote
+-- `a ( "b" ; c`, and a parenthesis on the next line: after the double quote
 quote_ends : last_token_end 0 (word (codes "a") 0 ∷ record { text = codes "b"; is_quoted = true; is_glued = false; at = 4 } ∷ []) ≡ 7
 quote_ends = refl
 

@@ -128,7 +128,7 @@ fn read_text<const N: usize>(
     }
 }
 
-/// Reads data of a type behind an origin into room for `N` octets, and writes them. Where they are
+/// Reads data of a type below an origin into room for `N` octets, and writes them. Where they are
 /// refused, it writes nothing.
 ///
 /// It is not inlined, since the compiler fills that room with zeros at each call.
@@ -163,7 +163,7 @@ fn tell_refusal(refusal: RecordRefusal, octets: &mut [u8], outcome: &mut Outcome
     }
 }
 
-/// Reads data of a type behind an origin, with room for the most octets that there can be only where
+/// Reads data of a type below an origin, with room for the most octets that there can be only where
 /// those of most records are not enough.
 fn read_behind(
     code: u16,

@@ -27,7 +27,7 @@ number_in (a ∷ b ∷ c ∷ d ∷ others) = from_be_bytes w32 (a ∷ b ∷ c �
 abbrev pub signature_number : {N O : Type 0} → ℕ → (ℕ → Bool) → Record N O → Bool
 signature_number place test r = type_of r == 46 && option_map_or (λ octets. test (number_in octets)) (data_part (data_of r) place) false
 
--- the expiration, the fifth field, lies before the inception, the sixth
+-- the expiration, the fifth field, is before the inception, the sixth
 abbrev pub has_reversed_times : {N O : Type 0} → Record N O → Bool
 has_reversed_times r = signature_number 4 (λ expiration. signature_number 5 (λ inception. has_passed expiration inception) r) r
 

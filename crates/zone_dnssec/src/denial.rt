@@ -51,7 +51,7 @@ fn is_digit(octet: u8) -> bool
     matches!(octet, b'0'..=b'9' | b'A'..=b'V' | b'a'..=b'v')
 }
 
-/// Returns so many octets, or all if there are fewer.
+/// Returns the first octets, or all if there are fewer.
 fn front(octets: &[u8], count: usize) -> &[u8]
     ensures { result.now ≡ take count octets.now }
 {

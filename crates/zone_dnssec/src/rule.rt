@@ -47,7 +47,7 @@ pub enum SecurityRule {
     /// than DS and NSEC (RFC 4035 sections 2.2 and 2.3).
     Occluded,
     /// The record is the first at a name whose data the zone has authority over, or at a
-    /// delegation, no NSEC stands there, and no NSEC3PARAM at the apex names a chain (RFC 4035 section
+    /// delegation, no NSEC is there, and no NSEC3PARAM at the apex names a chain (RFC 4035 section
     /// 2.3, RFC 5155 section 4.1.2).
     NoNsec,
     /// The record is an NSEC, and names another than the next name of the chain: the next one with

@@ -197,7 +197,7 @@ label_last : (label : List ℕ) (labels front back : List (List ℕ)) → 0 < le
 label_last label labels [] back some n e = absurd (omega (arith, some, ap (λ l. length (first_label_of l)) e))
 label_last label labels (x ∷ front) back some n e = n.root_last front back cc
 
--- a label in front of a name makes a name
+-- a label before a name makes a name
 pub longer_is : (label : List ℕ) (labels : List (List ℕ)) → 0 < length label → length label ≤ 63 → IsName labels → wire_length labels + 1 + length label ≤ 255 → IsName (label ∷ labels)
 longer_is label labels some few n short = record {
   short = All-cons (λ l. length l ≤ 63) label labels few n.short;
@@ -215,7 +215,7 @@ longer_name label labels some few values n a w short = record {
   whole = refl;
 }
 
--- an asterisk in front of a name makes a name
+-- an asterisk before a name makes a name
 pub wildcard_name : (labels : List (List ℕ)) → IsName labels → EndsInRoot labels → IsWireName (wire labels) → wire_length labels ≤ 253 → IsWireName (1 ∷ 42 ∷ wire labels)
 wildcard_name labels n a w short =
     longer_name (42 ∷ []) labels (omega arith) (omega arith) (All-cons (λ o. o < 256) 42 [] (omega arith) (All-nil (λ o. o < 256))) n a w (omega (arith, short))

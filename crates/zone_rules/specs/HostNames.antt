@@ -38,7 +38,7 @@ is_host_owner (label ∷ labels) = (pointwise nat_eq label (42 ∷ []) || is_hos
 abbrev pub is_graphic : ℕ → Bool
 is_graphic o = nat_le 33 o && nat_le o 126
 
--- printable octets in the first label, and behind it a host name (RFC 1035 section 8)
+-- printable octets in the first label, and after it a host name (RFC 1035 section 8)
 abbrev pub is_mailbox_name : List (List ℕ) → Bool
 is_mailbox_name [] = true
 is_mailbox_name (label ∷ labels) = list_all is_graphic label && is_host_name labels

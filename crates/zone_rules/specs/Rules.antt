@@ -51,7 +51,7 @@ has_dname_over records r = list_any (λ above. has_type_at 39 above records) (na
 abbrev pub is_of_hashed_chain : {N O : Type 0} → Record N O → Bool
 is_of_hashed_chain r = type_of r == 50 || set_type r == 50
 
--- and so; but the chain of NSEC3 stands below the apex, also where that has a DNAME (RFC 5155 section 3)
+-- and so; but the chain of NSEC3 is below the apex, also where that has a DNAME (RFC 5155 section 3)
 abbrev pub is_below_dname : {N O : Type 0} → List (Record N O) → Record N O → Bool
 is_below_dname records r = not (is_of_hashed_chain r) && has_dname_over records r
 
@@ -69,7 +69,7 @@ is_unhashed_nsec3 r = type_of r == 50 && not (is_base32_text (first_label_of r.o
 
 -- ---- delegations
 
--- an NS stands at a name below the apex
+-- an NS is at a name below the apex
 abbrev pub is_zone_cut : {N O : Type 0} → List (List ℕ) → List (Record N O) → List (List ℕ) → Bool
 is_zone_cut origin records name = is_below name origin && has_type_at 2 name records
 

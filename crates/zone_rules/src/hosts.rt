@@ -82,7 +82,7 @@ pub(crate) fn is_dname_at_delegation<Owner: AsOctets, Octets: AsOctets>(
     record.data.code() == DNAME && is_cut(origin, records, &view(&record.owner))
 }
 
-/// Whether a delegation stands above a name.
+/// Whether a delegation is above a name.
 #[tactic(auto, using(crate::proofs::NameParts::above_none, crate::proofs::NameParts::above_some, crate::proofs::NameParts::above_fewer))]
 pub fn is_under_cut<Owner: AsOctets, Octets: AsOctets>(
     origin: &Name<&[u8]>,

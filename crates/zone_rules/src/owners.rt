@@ -60,7 +60,7 @@ pub(crate) fn has_company<Owner: AsOctets, Octets: AsOctets>(
             .any(|other| is_beside(record, other))
 }
 
-/// Whether a DNAME stands above a name, of which one is in the zone.
+/// Whether a DNAME is above a name, of which one is in the zone.
 #[tactic(auto, using(crate::proofs::NameParts::above_none, crate::proofs::NameParts::above_some, crate::proofs::NameParts::above_fewer))]
 fn is_below_some_dname<Owner: AsOctets, Octets: AsOctets>(
     records: &SortedRecords<'_, Owner, Octets>,
@@ -74,7 +74,7 @@ fn is_below_some_dname<Owner: AsOctets, Octets: AsOctets>(
     }
 }
 
-/// Whether a DNAME stands above a name.
+/// Whether a DNAME is above a name.
 pub(crate) fn has_dname_above<Owner: AsOctets, Octets: AsOctets>(
     records: &SortedRecords<'_, Owner, Octets>,
     name: &Name<&[u8]>,
@@ -91,7 +91,7 @@ fn is_of_hashed_chain<Owner: AsOctets, Octets: AsOctets>(record: &Record<Owner, 
     record.data.code() == NSEC3 || set_type_of(record) == NSEC3
 }
 
-/// Whether a record stands below a DNAME and must not.
+/// Whether a record is below a DNAME and must not.
 pub(crate) fn is_under_dname<Owner: AsOctets, Octets: AsOctets>(
     records: &SortedRecords<'_, Owner, Octets>,
     record: &Record<Owner, Octets>,

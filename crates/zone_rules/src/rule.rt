@@ -26,7 +26,7 @@ pub enum Rule {
     /// The record and the one before it are two DNAMEs of one owner that differ (RFC 6672 section
     /// 2.4).
     TwoDnames,
-    /// A DNAME stands above the record (RFC 6672 section 2.4), which is neither an NSEC3 nor an RRSIG
+    /// A DNAME is above the record (RFC 6672 section 2.4), which is neither an NSEC3 nor an RRSIG
     /// over NSEC3 (RFC 5155 section 3).
     BelowDname,
     /// The record is a DS at the apex (RFC 4035 section 2.4).
@@ -35,7 +35,7 @@ pub enum Rule {
     WildcardNs,
     /// The record is an SOA below the apex (RFC 1034 section 4.2.1).
     SoaNotApex,
-    /// The record is a DNAME below the apex, and an NS stands at its owner (RFC 6672 section 2.3).
+    /// The record is a DNAME below the apex, and an NS is at its owner (RFC 6672 section 2.3).
     NsBesideDname,
     /// The record is an NSEC3, and the first label of its owner is no hash in base 32 hex (RFC 5155
     /// section 3).

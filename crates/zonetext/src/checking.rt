@@ -61,7 +61,7 @@ pub struct Limits {
     pub times: Option<Times>,
     /// Whether the first file is standard input, which can't be read again.
     pub is_standard: bool,
-    /// Whether the text alone is looked at. What its octets show is told then if it is denied.
+    /// Whether the text alone is looked at. What its octets show is reported if it is denied.
     pub is_text: bool,
 }
 
@@ -648,7 +648,7 @@ impl<'a> Checker<'a> {
             .tell(line_spot(name, position, octets), code, false, text)
     }
 
-    /// Whether a line of a file, by its number, is to be read again for a finding that is told next.
+    /// Whether a line of a file, by its number, is to be read again for a finding reported next.
     fn reads_line(&self, code: Code, file: usize) -> bool {
         let can_be_read = file > 0 || !self.limits.is_standard;
         can_be_read && self.reporter.shows_lines() && self.reporter.shows(code)

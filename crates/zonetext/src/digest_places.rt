@@ -28,7 +28,7 @@ pub struct Placed {
     pub data: Vec<u8>,
     /// Whether its file is included by another.
     pub is_included: bool,
-    /// Whether its owner is the origin where it stands.
+    /// Whether its owner is the origin where it is.
     pub is_origin: bool,
     /// Where the tokens of its data stand.
     pub tokens: Vec<Span>,

@@ -163,7 +163,7 @@ fn formed(alloc: Global, line: &str) -> Result<Vec<u8>, NoForm> {
     Ok(form)
 }
 
-/// The line of a digest that stands beside an SOA, in the form that `fmt` gives it. The owner is `@` if it
+/// The line of a digest that is beside an SOA, in the form that `fmt` gives it. The owner is `@` if it
 /// is the origin there.
 fn line_of(alloc: Global, soa: &Placed, data: &[u8]) -> Result<String, AllocError> {
     let full = full_line_of(alloc, soa, data)?;
@@ -184,7 +184,7 @@ fn line_of(alloc: Global, soa: &Placed, data: &[u8]) -> Result<String, AllocErro
     }
 }
 
-/// The line of a digest that stands beside an SOA, with its owner in full.
+/// The line of a digest that is beside an SOA, with its owner in full.
 fn full_line_of(alloc: Global, soa: &Placed, data: &[u8]) -> Result<String, AllocError> {
     let mut line = String::new(alloc);
     let owner = Name::from_octets(soa.owner.as_slice());

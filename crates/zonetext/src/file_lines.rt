@@ -23,7 +23,7 @@ pub struct FileLines<'l> {
     opened: Option<Opened>,
 }
 
-/// Returns where the lines of a file begin, and behind them where the last one ends, as far as the file can
+/// Returns where the lines of a file begin, and after them where the last one ends, as far as the file can
 /// be read.
 fn starts_of(alloc: Global, file: &File) -> Result<Vec<u64>, Stop> {
     let mut starts: Vec<u64> = Vec::new(alloc);

@@ -22,7 +22,7 @@ pub fn long_ttl<'e>(tokens: &[EntryToken<'e>]) -> Option<EntryToken<'e>> {
     None
 }
 
-/// Returns the token of a record that makes its TTL 0 by 2^31 or more seconds: of the two in front of its
+/// Returns the token of a record that makes its TTL 0 by 2^31 or more seconds: of the two before its
 /// type, or the last, which is the minimum of an SOA.
 pub fn long_ttl_of<'e>(
     tokens: &[EntryToken<'e>],

@@ -75,7 +75,7 @@ impl<T: Drop> Giver<'_, T> {
         }
     }
 
-    /// Refuses an entry if it is an SOA of another zone. The first one is told.
+    /// Refuses an entry if it is an SOA of another zone. The first is reported.
     fn check_soa(&mut self, entry: &Entry<'_>) -> Result<(), Stop> {
         let rt = self.rt;
         if !self.is_one_zone || self.has_other_soa {

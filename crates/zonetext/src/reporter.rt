@@ -123,7 +123,7 @@ impl<'a> Reporter<'a> {
         self.policy.is_strict || self.policy.denied.contains(&code)
     }
 
-    /// Whether a finding is shown that is told next, and keeps no record from being read.
+    /// Whether the next finding is shown, and keeps no record from being read.
     pub fn shows(&self, code: Code) -> bool {
         self.tally.has_room() && self.policy.severity(code, false).is_some()
     }

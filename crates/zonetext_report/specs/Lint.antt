@@ -84,7 +84,7 @@ is_token_piece _ = false
 abbrev pub adjacent_remarks : Reached → Piece → List Remark
 adjacent_remarks old p = if old.is_after_token && (is_token_piece p && piece_start p == old.at) then remark old.at AdjacentTokens ∷ [] else []
 
--- where the octets behind a piece begin
+-- where the octets after a piece begin
 abbrev pub piece_end : Piece → ℕ
 piece_end (WordAt p) = p.end
 piece_end (QuoteAt p) = p.end

@@ -81,9 +81,9 @@ pub enum Code {
     DsApex,
     /// A wildcard has an NS.
     WildcardNs,
-    /// An SOA stands below the apex.
+    /// An SOA is below the apex.
     SoaNotApex,
-    /// A DNAME stands below the apex beside an NS.
+    /// A DNAME is below the apex beside an NS.
     NsBesideDname,
     /// The first label of an NSEC3's owner is not base 32 hex.
     Nsec3Wildcard,
