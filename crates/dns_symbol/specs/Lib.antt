@@ -1,6 +1,7 @@
 pub mod Cause
 pub mod Characters
 pub mod Convert
+pub mod Escape
 pub mod Index
 pub mod Printed
 pub mod Reading

@@ -1,10 +1,11 @@
 -- Worked rows of the definitions, each computed.
 use Rattle.std.specs.Prelude.{◌≡◌, true, false, [], ◌∷◌, map, None, Ok, Err, codes, refl}
 use Rattle.std.specs.Char.{encode_utf8}
-use Rattle.dns_symbol.specs.Symbol.{spell, is_readable, octet_of, ascii_of, char_of, digit_of, is_word_char, stands_in_word}
+use Rattle.dns_symbol.specs.Symbol.{spell, is_escape_by, is_readable, octet_of, ascii_of, char_of, digit_of, is_word_char, stands_in_word}
 use Rattle.dns_symbol.specs.Printed.{text_of, is_unquoted_escape, is_quoted_escape, is_plain_escape}
 use Rattle.dns_symbol.specs.Index.{BeginsWith, octets_error}
 use Rattle.dns_symbol.specs.Text.{SymbolsOf, chars_error}
+use Rattle.dns_symbol.specs.declared.escape.EscapeRule.TheVariants.{Printable, AnyOctet}
 use Rattle.dns_symbol.specs.declared.symbol.Symbol.TheVariants.{Char, SimpleEscape, DecimalEscape}
 use Rattle.dns_symbol.specs.declared.error.SymbolCharsError.TheVariants.{BadEscape as Bad, ShortInput as Short}
 use Rattle.dns_symbol.specs.declared.error.SymbolOctetsError.TheVariants.{BadUtf8, BadEscape, ShortInput}
@@ -28,6 +29,15 @@ readable_not = refl
 
 readable_all : map is_readable (Char 0 ∷ Char 233 ∷ Char 0x1F600 ∷ SimpleEscape 92 ∷ SimpleEscape 32 ∷ DecimalEscape 0 ∷ []) ≡ true ∷ true ∷ true ∷ true ∷ true ∷ true ∷ []
 readable_all = refl
+
+-- a digit is escaped by neither rule; a tab, the delete octet and one of 0x80 or more by that of name servers alone; no octet has the number 256
+escapes_printable : map (is_escape_by Printable) (SimpleEscape 32 ∷ SimpleEscape 126 ∷ SimpleEscape 48 ∷ SimpleEscape 9 ∷ SimpleEscape 127 ∷ SimpleEscape 200 ∷ DecimalEscape 255 ∷ DecimalEscape 256 ∷ Char 97 ∷ [])
+    ≡ true ∷ true ∷ false ∷ false ∷ false ∷ false ∷ true ∷ false ∷ false ∷ []
+escapes_printable = refl
+
+escapes_any : map (is_escape_by AnyOctet) (SimpleEscape 32 ∷ SimpleEscape 126 ∷ SimpleEscape 48 ∷ SimpleEscape 9 ∷ SimpleEscape 127 ∷ SimpleEscape 200 ∷ DecimalEscape 255 ∷ DecimalEscape 256 ∷ Char 97 ∷ [])
+    ≡ true ∷ true ∷ false ∷ true ∷ true ∷ true ∷ true ∷ false ∷ false ∷ []
+escapes_any = refl
 
 -- ---- what symbols stand for
 

@@ -1,8 +1,10 @@
 -- Symbols: how they are spelled, and what they stand for.
-use Rattle.std.specs.Prelude.{ℕ, ◌+◌, ◌/◌, ◌%◌, Bool, true, ◌==◌, ◌&&◌, ◌||◌, not, nat_le, nat_lt, if◌then◌else◌, List, [], ◌∷◌, Result, Ok, Err, encode_utf8_all, codes}
+use Rattle.std.specs.Prelude.{ℕ, ◌+◌, ◌/◌, ◌%◌, Bool, true, false, ◌==◌, ◌&&◌, ◌||◌, not, nat_le, nat_lt, if◌then◌else◌, List, [], ◌∷◌, Result, Ok, Err, encode_utf8_all, codes}
 use Rattle.std.specs.Char.{digit_value}
 use lib.Utf8.{scalar}
 use Rattle.dns_symbol.specs.Characters.{tab, line_feed, carriage_return, space, double_quote, open_parenthesis, close_parenthesis, semicolon, backslash, tilde}
+use Rattle.dns_symbol.specs.declared.escape.EscapeRule.{EscapeRule}
+use Rattle.dns_symbol.specs.declared.escape.EscapeRule.TheVariants.{Printable, AnyOctet}
 use Rattle.dns_symbol.specs.declared.symbol.Symbol.{Symbol}
 use Rattle.dns_symbol.specs.declared.symbol.Symbol.TheVariants.{Char, SimpleEscape, DecimalEscape}
 use Rattle.dns_symbol.specs.declared.error.SymbolCharsError.{SymbolCharsError}
@@ -30,11 +32,22 @@ spell (DecimalEscape o) = backslash ∷ (48 + o / 100) ∷ (48 + o / 10 % 10) �
 abbrev pub bytes : Symbol → List ℕ
 bytes s = encode_utf8_all (spell s)
 
--- the symbols that can be read back from their spelling: no plain backslash, no surrogate, no simple escape of a digit or of what isn't printable
+-- which octets may stand after a backslash, unless they are digits
+abbrev pub may_be_escaped : EscapeRule → ℕ → Bool
+may_be_escaped Printable o = is_printable o
+may_be_escaped AnyOctet o = true
+
+-- the escapes: an octet that may stand after a backslash, or the number of any octet
+abbrev pub is_escape_by : EscapeRule → Symbol → Bool
+is_escape_by rule (Char c) = false
+is_escape_by rule (SimpleEscape o) = may_be_escaped rule o && not (is_digit o)
+is_escape_by rule (DecimalEscape o) = nat_lt o 256
+
+-- the symbols that can be read back from their spelling: no plain backslash, no surrogate, and escapes of what is printable
 abbrev pub is_readable : Symbol → Bool
 is_readable (Char c) = scalar c && not (c == backslash)
-is_readable (SimpleEscape o) = is_printable o && not (is_digit o)
-is_readable (DecimalEscape o) = nat_lt o 256
+is_readable (SimpleEscape o) = is_escape_by Printable (SimpleEscape o)
+is_readable (DecimalEscape o) = is_escape_by Printable (DecimalEscape o)
 
 -- the octet of a symbol, or why it has none
 abbrev pub octet_of : Symbol → Result ℕ BadSymbol

@@ -1,4 +1,4 @@
-use Rattle.std.proofs.Common.{◌≡◌, ◌+◌, ◌*◌, ◌≤◌, ◌<◌, take, All, ◌++◌}
+use Rattle.std.proofs.Common.{◌≡◌, ◌+◌, ◌*◌, ◌≤◌, take, ◌++◌}
 use Rattle.dns_symbol.specs.Printed.{text_of}
 use Rattle.dns_symbol.proofs.form.put_octets.Given as goal
 
