@@ -1,42 +1,29 @@
 -- Octets that a text spells one after another: they exist, and are one list.
-use Rattle.std.proofs.Common.{◌≡◌, ℕ, zero, suc, ◌<◌, ◌≤◌, ◌+◌, ◌-◌, ◌*◌, ◌/◌, ◌%◌, ◌⊎◌, false, List, [], ◌∷◌, ◌++◌, length, append-nil, length-append, refl, sym, ap, subst, ◌∙◌, arith, Option, Some, None, inl, inr, ⊎_elim}
+use Rattle.std.proofs.Common.{◌≡◌, ℕ, zero, suc, ◌<◌, ◌≤◌, ◌⊎◌, List, [], ◌∷◌, ◌++◌, length, append-nil, length-append, refl, sym, ap, subst, ◌∙◌, arith, Option, Some, None, Result, Ok, Err, inl, inr, ⊎_elim}
 use Rattle.std.specs.Prelude.{slice_index}
-use Rattle.std.proofs.lemmas.Bool.{cases_lt, cases_eq, cases_Bool}
-use Rattle.std.proofs.lemmas.Bool.Decides.{nat_tests}
-use Rattle.dns_symbol.specs.Symbol.{is_digit}
+use Rattle.std.proofs.lemmas.Bool.{cases_eq}
+use Rattle.dns_symbol.specs.Escape.{ReadsEscape, octet_for}
+use Rattle.dns_symbol.specs.Symbol.{spell}
+use Rattle.dns_symbol.specs.declared.escape.EscapedOctet.{EscapedOctet}
+use Rattle.dns_symbol.specs.declared.escape.EscapeRule.TheVariants.{AnyOctet}
 use Rattle.dns_symbol.specs.declared.error.SymbolCharsError.{SymbolCharsError}
-use Rattle.dns_charstr.specs.OctetText.{SpellsOctet, SpellsOctets, SpellsNone, plain, escaped, numbered}
-use Rattle.dns_charstr.proofs.OctetEscapes.{spells_plain, spells_escaped, spells_numbered, cut_short, no_second, no_third, too_great}
-
-no_digit : (o p : ℕ) → is_digit o ≡ false → p < 256 → o ≡ 48 + p / 100 → ⊥
-no_digit o p isnt low e = let few : p / 100 < 3 = omega arith in grind (arith, nat_tests)
+use Rattle.dns_symbol.proofs.Escapes.{escape_read}
+use Rattle.dns_symbol.proofs.Spelled.{spell_same, spell_some}
+use Rattle.dns_charstr.specs.OctetText.{SpellsOctet, SpellsOctets, SpellsNone}
+use Rattle.dns_charstr.proofs.OctetEscapes.{spells_plain, spells_escape, spells_no_escape}
 
 -- a text spells one octet first
 pub spells_same : (text m n : List ℕ) (o p : ℕ) → SpellsOctet text o m → SpellsOctet text p n → (o ≡ p) × (m ≡ n)
-spells_same text m n o p (plain e i) (plain f j) = (cc, cc)
-spells_same text m n o p (plain e i) (escaped f j) = let is : o ≡ 92 = cc in absurd (i is)
-spells_same text m n o p (plain e i) (numbered f j) = let is : o ≡ 92 = cc in absurd (i is)
-spells_same text m n o p (escaped e i) (plain f j) = let is : p ≡ 92 = cc in absurd (j is)
-spells_same text m n o p (escaped e i) (escaped f j) = (cc, cc)
-spells_same text m n o p (escaped e i) (numbered f j) = let is : o ≡ 48 + p / 100 = cc in absurd (no_digit o p i j is)
-spells_same text m n o p (numbered e i) (plain f j) = let is : p ≡ 92 = cc in absurd (j is)
-spells_same text m n o p (numbered e i) (escaped f j) = let is : p ≡ 48 + o / 100 = cc in absurd (no_digit p o j i is)
-spells_same text m n o p (numbered e i) (numbered f j) =
-    let x : 48 + o / 100 ≡ 48 + p / 100 = cc in
-    let y : 48 + o / 10 % 10 ≡ 48 + p / 10 % 10 = cc in
-    let z : 48 + o % 10 ≡ 48 + p % 10 = cc in
-    (omega (arith, x, y, z), cc)
+spells_same text m n o p h k =
+    let e = spell_same h.symbol k.symbol m n h.spelling k.spelling (sym h.whole ∙ k.whole) in
+    (h.stands_for ∙ ap octet_for e.0 ∙ sym k.stands_for, e.1)
+
+spells_shorter : (text rest : List ℕ) (o : ℕ) → SpellsOctet text o rest → length rest < length text
+spells_shorter text rest o h = omega (arith, ap length h.whole, length-append (spell h.symbol) rest, spell_some h.symbol)
 
 -- no text is no spelling
 pub empty_none : (o : ℕ) (rest : List ℕ) → SpellsOctet [] o rest → ⊥
-empty_none o rest (plain e i) = cc
-empty_none o rest (escaped e i) = cc
-empty_none o rest (numbered e i) = cc
-
-spells_shorter : (text rest : List ℕ) (o : ℕ) → SpellsOctet text o rest → length rest < length text
-spells_shorter text rest o (plain e i) = omega (arith, ap length e)
-spells_shorter text rest o (escaped e i) = omega (arith, ap length e)
-spells_shorter text rest o (numbered e i) = omega (arith, ap length e)
+empty_none o rest h = omega (arith, spells_shorter [] rest o h)
 
 -- one octet more
 pub spells_one_more : (text octets rest after : List ℕ) (octet : ℕ) → SpellsOctets text octets rest → SpellsOctet rest octet after → SpellsOctets text (octets ++ octet ∷ []) after
@@ -85,29 +72,11 @@ abbrev First : List ℕ → Type 0
 First text = ((o : ℕ) × (rest : List ℕ) × SpellsOctet text o rest) ⊎ ((e : SymbolCharsError) × SpellsNone text e)
 
 escaped_or_none : (text : List ℕ) → 0 < length text → slice_index text 0 ≡ 92 → First text
-escaped_or_none text some lead =
-    ⊎_elim
-    (λ short. inr (_, cut_short text lead some (omega arith) (λ h. absurd (omega arith)) (λ h. absurd (omega arith))))
-    (λ two. ⊎_elim
-    (λ d1. ⊎_elim
-    (λ short. inr (_, cut_short text lead some (omega arith) (λ h. d1) (λ h. absurd (omega arith))))
-    (λ three. ⊎_elim
-    (λ d2. ⊎_elim
-    (λ short. inr (_, cut_short text lead some short (λ h. d1) (λ h. d2)))
-    (λ four. ⊎_elim
-    (λ d3. ⊎_elim
-    (λ low. inl (_, _, spells_numbered text lead four d1 d2 d3 _ refl low))
-    (λ high. inr (_, too_great text lead four d1 high))
-    (cases_lt ((slice_index text 1 - 48) * 100 + (slice_index text 2 - 48) * 10 + (slice_index text 3 - 48)) 256))
-    (λ n3. inr (_, no_third text lead four d1 n3))
-    (cases_Bool (is_digit (slice_index text 3))))
-    (cases_lt (length text) 4))
-    (λ n2. inr (_, no_second text lead three d1 n2))
-    (cases_Bool (is_digit (slice_index text 2))))
-    (cases_lt (length text) 3))
-    (λ n1. inl (_, _, spells_escaped text lead two n1))
-    (cases_Bool (is_digit (slice_index text 1))))
-    (cases_lt (length text) 2)
+escaped_or_none text some lead = let read = escape_read AnyOctet text some lead in by_answer read.0 read.1
+  where
+    by_answer : (r : Result EscapedOctet SymbolCharsError) → ReadsEscape AnyOctet text r → First text
+    by_answer (Ok e) h = inl (_, _, spells_escape text e h)
+    by_answer (Err e) h = inr (e, spells_no_escape text e some lead h)
 
 first_or_none : (text : List ℕ) → 0 < length text → First text
 first_or_none text some =

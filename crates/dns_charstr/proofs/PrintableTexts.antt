@@ -1,5 +1,5 @@
 -- Texts of printable ASCII are read alike as characters and as octets.
-use Rattle.std.proofs.Common.{◌≡◌, ℕ, ◌+◌, ◌/◌, ◌%◌, ◌<◌, Bool, true, false, List, [], ◌∷◌, ◌++◌, length, map, All, refl, sym, ap, subst, ◌∙◌, arith, append_assoc, append-nil, length-append, Some, Result, Ok, Err}
+use Rattle.std.proofs.Common.{◌≡◌, ℕ, ◌<◌, Bool, true, false, List, [], ◌∷◌, ◌++◌, length, map, All, refl, sym, ap, subst, ◌∙◌, arith, append_assoc, append-nil, length-append, Some, Result, Ok, Err}
 use Rattle.std.specs.Prelude.{slice_index, encode_utf8, if◌then◌else◌}
 use Rattle.std.specs.List.{flat_map, list_all}
 use Rattle.std.specs.Str.{IsUtf8}
@@ -11,7 +11,8 @@ use Rattle.std.proofs.lemmas.Grind.{common_steps, flat_map-append}
 use Rattle.std.proofs.lemmas.List.Elements.{All-cons, All-nil}
 use Rattle.std.proofs.lemmas.List.Folds.{list_all-append}
 use Rattle.dns_octets.specs.Room.{Room}
-use Rattle.dns_symbol.specs.Symbol.{bytes, is_printable, is_readable, octet_of}
+use Rattle.dns_symbol.specs.Escape.{is_spelling, octet_for}
+use Rattle.dns_symbol.specs.Symbol.{bytes, spell, is_printable, is_readable, octet_of}
 use Rattle.dns_symbol.specs.Index.{BeginsWith}
 use Rattle.dns_symbol.specs.Text.{EndsAs}
 use Rattle.dns_symbol.specs.declared.symbol.Symbol.{Symbol}
@@ -20,7 +21,7 @@ use Rattle.dns_symbol.specs.declared.error.BadSymbol.TheVariants.{NonAscii}
 use Rattle.dns_symbol.specs.declared.error.SymbolCharsError.{SymbolCharsError}
 use Rattle.dns_symbol.proofs.Escapes.{bytes_simple, bytes_decimal}
 use Rattle.dns_symbol.proofs.Unique.{bytes_some}
-use Rattle.dns_charstr.specs.OctetText.{SpellsOctet, SpellsOctets, SpellsNone, SpellsMore, SpellsUntil, ReadsOctetText, plain, escaped, numbered}
+use Rattle.dns_charstr.specs.OctetText.{SpellsOctet, SpellsOctets, SpellsNone, SpellsMore, SpellsUntil, ReadsOctetText}
 use Rattle.dns_charstr.specs.Reading.{HasOctets, BreaksOff, GoesOnWithSymbol, ReadsText}
 use Rattle.dns_charstr.proofs.SoFar.{HasRead, read_all, read_broken, read_next}
 use Rattle.dns_charstr.specs.declared.charstr.error.FromStrError.{FromStrError}
@@ -35,16 +36,16 @@ symbol_spells (Char c) o rest r is = by_test (is_printable c) refl is
     by_test true p e =
         let same : c ≡ o = cc in
         let low : c < 128 = grind (arith, nat_tests) in
-        plain (ap (λ t. (t ++ []) ++ rest) (encode_ascii c low) ∙ ap (λ n. n ∷ rest) same) (λ b. grind (arith, nat_tests))
+        record { symbol = Char c; spelling = grind (arith, nat_tests); whole = ap (λ t. (t ++ []) ++ rest) (encode_ascii c low); stands_for = sym same }
     by_test false p e = absurd (cc)
 symbol_spells (SimpleEscape c) o rest r is =
     let same : c ≡ o = cc in
     let low : c < 128 = grind (arith, nat_tests) in
-    escaped (ap (λ t. t ++ rest) (bytes_simple c low) ∙ ap (λ n. 92 ∷ n ∷ rest) same) (rw (← same) (grind (arith, nat_tests)))
+    record { symbol = SimpleEscape c; spelling = grind (arith, nat_tests); whole = ap (λ t. t ++ rest) (bytes_simple c low); stands_for = sym same }
 symbol_spells (DecimalEscape c) o rest r is =
     let same : c ≡ o = cc in
     let low : c < 256 = grind (arith, nat_tests) in
-    numbered (ap (λ t. t ++ rest) (bytes_decimal c low) ∙ ap (λ n. 92 ∷ (48 + n / 100) ∷ (48 + n / 10 % 10) ∷ (48 + n % 10) ∷ rest) same) (rw (← same) low)
+    record { symbol = DecimalEscape c; spelling = r; whole = ap (λ t. t ++ rest) (bytes_decimal c low); stands_for = sym same }
 
 -- and symbols one after another spell theirs
 pub symbols_spell : (symbols : List Symbol) (octets text rest : List ℕ) → list_all is_readable symbols ≡ true → map octet_of symbols ≡ map Ok octets
@@ -82,16 +83,20 @@ printable_utf8 text h = IsUtf8-from_ascii text (IsAscii-from_all text (all_below
 
 -- a spelled octet among printable ones is a symbol
 spelling_begins : (text rest : List ℕ) (o : ℕ) → Printable text → SpellsOctet text o rest → (x : Symbol) × BeginsWith text x rest × (octet_of x ≡ Ok o)
-spelling_begins text rest o p (plain e isnt) =
-    let shown : is_printable o ≡ true = printable_first o rest (subst Printable e p) in
-    let low : o < 128 = grind (arith, nat_tests) in
-    (Char o, record { readable = grind (arith, nat_tests); spelled = e ∙ ap (λ t. (t ++ []) ++ rest) (sym (encode_ascii o low)) }, rw shown refl)
-spelling_begins text rest o p (escaped e isnt) =
-    let shown : is_printable o ≡ true = printable_first o rest (printable_rest (92 ∷ []) (o ∷ rest) (subst Printable e p)) in
-    let low : o < 128 = grind (arith, nat_tests) in
-    (SimpleEscape o, record { readable = rw (shown, isnt) refl; spelled = e ∙ ap (λ t. t ++ rest) (sym (bytes_simple o low)) }, refl)
-spelling_begins text rest o p (numbered e low) =
-    (DecimalEscape o, record { readable = grind (arith, nat_tests); spelled = e ∙ ap (λ t. t ++ rest) (sym (bytes_decimal o low)) }, refl)
+spelling_begins text rest o p h = by_symbol h.symbol h.spelling h.whole h.stands_for
+  where
+    by_symbol : (x : Symbol) → is_spelling x ≡ true → text ≡ spell x ++ rest → o ≡ octet_for x → (x : Symbol) × BeginsWith text x rest × (octet_of x ≡ Ok o)
+    by_symbol (Char c) is e same =
+        let shown : is_printable c ≡ true = printable_first c rest (subst Printable e p) in
+        let low : c < 128 = grind (arith, nat_tests) in
+        (Char c, record { readable = grind (arith, nat_tests); spelled = e ∙ ap (λ t. (t ++ []) ++ rest) (sym (encode_ascii c low)) }, rw shown (ap Ok (sym same)))
+    by_symbol (SimpleEscape c) is e same =
+        let shown : is_printable c ≡ true = printable_first c rest (printable_rest (92 ∷ []) (c ∷ rest) (subst Printable e p)) in
+        let low : c < 128 = grind (arith, nat_tests) in
+        (SimpleEscape c, record { readable = rw shown is; spelled = e ∙ ap (λ t. t ++ rest) (sym (bytes_simple c low)) }, ap Ok (sym same))
+    by_symbol (DecimalEscape c) is e same =
+        let low : c < 256 = grind (arith, nat_tests) in
+        (DecimalEscape c, record { readable = is; spelled = e ∙ ap (λ t. t ++ rest) (sym (bytes_decimal c low)) }, ap Ok (sym same))
 
 first_shown : (text : List ℕ) → 0 < length text → Printable text → is_printable (slice_index text 0) ≡ true
 first_shown [] some p = absurd (omega (arith, some))

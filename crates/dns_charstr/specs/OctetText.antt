@@ -1,21 +1,22 @@
 -- Texts in which each octet but the backslash stands for itself (RFC 1035 section 5.1).
-use Rattle.std.specs.Prelude.{◌≡◌, ◌≢◌, ℕ, ◌<◌, ◌≤◌, false, List, [], ◌∷◌, ◌++◌, length, drop, Option, Some, None, Result, Ok, Err}
+use Rattle.std.specs.Prelude.{◌≡◌, ℕ, ◌<◌, ◌≤◌, true, List, [], ◌∷◌, ◌++◌, length, drop, Option, Some, None, Result, Ok, Err}
 use Rattle.dns_octets.specs.Room.{Room}
-use Rattle.dns_symbol.specs.Characters.{backslash}
-use Rattle.dns_symbol.specs.Symbol.{spell, is_digit}
+use Rattle.dns_symbol.specs.Escape.{is_spelling, octet_for}
+use Rattle.dns_symbol.specs.Symbol.{spell}
 use Rattle.dns_symbol.specs.Text.{chars_error}
-use Rattle.dns_symbol.specs.declared.symbol.Symbol.TheVariants.{DecimalEscape}
+use Rattle.dns_symbol.specs.declared.symbol.Symbol.{Symbol}
 use Rattle.dns_symbol.specs.declared.error.SymbolCharsError.{SymbolCharsError}
 use Rattle.dns_charstr.specs.declared.charstr.error.PresentationError.TheVariants.{LongString, SymbolChars, BadSymbol}
 use Rattle.dns_charstr.specs.declared.charstr.error.FromStrError.{FromStrError}
 use Rattle.dns_charstr.specs.declared.charstr.error.FromStrError.TheVariants.{Presentation, ShortBuf}
 use Rattle.dns_charstr.specs.Limits.{max_string}
 
--- the text spells the octet first, and then the rest: as itself, but for the backslash; after a backslash, but for a digit; by its number in three digits
-pub data SpellsOctet (text : List ℕ) (octet : ℕ) (rest : List ℕ) : Type 0 where
-  plain : text ≡ octet ∷ rest → octet ≢ backslash → SpellsOctet text octet rest
-  escaped : text ≡ backslash ∷ octet ∷ rest → is_digit octet ≡ false → SpellsOctet text octet rest
-  numbered : text ≡ spell (DecimalEscape octet) ++ rest → octet < 256 → SpellsOctet text octet rest
+-- the text spells the octet first, and then the rest
+pub record SpellsOctet (text : List ℕ) (octet : ℕ) (rest : List ℕ) : Type 0 where
+  pub symbol : Symbol
+  pub spelling : is_spelling symbol ≡ true
+  pub whole : text ≡ spell symbol ++ rest
+  pub stands_for : octet ≡ octet_for symbol
 
 -- the text spells these octets one after another, and then the rest
 abbrev pub SpellsOctets : List ℕ → List ℕ → List ℕ → Type 0

@@ -6,8 +6,8 @@
 //! [`CharStr::from_octets_text`]: crate::charstr::CharStr::from_octets_text
 ghost use Rattle.std.specs.Prelude.{◌≡◌, ◌<◌, ◌≤◌, length, slice_index, IfOk, IfSome};
 ghost use Rattle.dns_charstr.specs.OctetText.{OctetAt, OctetFirst};
-ghost use Rattle.dns_symbol.specs.Symbol.{is_digit};
 
+use dns_symbol::escape::{EscapeRule, first_escape};
 use dns_symbol::symbol::SymbolCharsError;
 
 /// Returns the octet that is written at a place of a text, and the place after it (RFC 1035
@@ -52,36 +52,8 @@ fn escaped_octet(text: &[u8]) -> Result<(u8, usize), SymbolCharsError>
     ensures reads { OctetFirst text.now result }
     ensures goes { IfOk result (λ p. (0 < p.1) × (p.1 ≤ length text.now)) }
 {
-    if text.len() < 2 {
-        return Err(SymbolCharsError::ShortInput);
+    match first_escape(EscapeRule::AnyOctet, text) {
+        Ok(escape) => Ok((escape.octet, escape.len())),
+        Err(error) => Err(error),
     }
-    if !is_digit(text[1]) {
-        return Ok((text[1], 2));
-    }
-    if text.len() < 3 {
-        return Err(SymbolCharsError::ShortInput);
-    }
-    if !is_digit(text[2]) {
-        return Err(SymbolCharsError::BadEscape);
-    }
-    if text.len() < 4 {
-        return Err(SymbolCharsError::ShortInput);
-    }
-    if !is_digit(text[3]) {
-        return Err(SymbolCharsError::BadEscape);
-    }
-    let hundreds = u32::from(text[1] - b'0');
-    let tens = u32::from(text[2] - b'0');
-    let ones = u32::from(text[3] - b'0');
-    let value = hundreds * 100 + tens * 10 + ones;
-    if value > 255 {
-        return Err(SymbolCharsError::BadEscape);
-    }
-    Ok((value as u8, 4))
-}
-
-fn is_digit(octet: u8) -> bool
-    ensures { result ≡ is_digit octet }
-{
-    octet.is_ascii_digit()
 }
