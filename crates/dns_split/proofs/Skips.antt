@@ -1,8 +1,9 @@
 -- Octets passed over, and the reader that takes them one by one.
-use Rattle.std.proofs.Common.{◌≡◌, ℕ, zero, suc, ◌+◌, ◌-◌, ◌*◌, ◌<◌, ◌≤◌, arith, rules, Bool, true, false, ◌&&◌, nat_le, List, ◌∷◌, length, drop, refl, ap, ◌∙◌, subst, inl, inr, ◌⊎◌}
+use Rattle.std.proofs.Common.{◌≡◌, ℕ, zero, suc, ◌+◌, ◌-◌, ◌*◌, ◌/◌, ◌%◌, ◌<◌, ◌≤◌, arith, rules, Bool, true, false, not, ◌&&◌, nat_le, List, ◌∷◌, ◌++◌, length, length-append, take, drop, Ok, refl, ap, ◌∙◌, subst, inl, inr, ◌⊎◌}
 use Rattle.std.proofs.Common.{get_or}
-use Rattle.std.proofs.lemmas.List.{drop_more}
-use Rattle.std.proofs.lemmas.Bool.{eq-eqb, cond-true, cond-false, cases_lt, le-leb}
+use Rattle.std.proofs.lemmas.List.{drop_more, drop-drop, length-drop, take_all}
+use Rattle.std.proofs.lemmas.Bool.{and_parts, eq-eqb, cond-true, cond-false, cases_lt, le-leb}
+use Rattle.std.proofs.lemmas.Bool.Decides.{nat_tests}
 use Rattle.dns_split.specs.declared.reader.Mode.{Mode}
 use Rattle.dns_split.specs.declared.reader.Mode.TheVariants.{Outside, Quoted, Comment, Escape, OneDigit, TwoDigits}
 use Rattle.dns_split.specs.declared.reader.Act.TheVariants.{Add, EndToken}
@@ -11,7 +12,13 @@ use Rattle.dns_split.specs.declared.reader.Within.TheVariants.{InQuote, InWord}
 use Rattle.dns_split.specs.declared.skip.Class.{Class}
 use Rattle.dns_split.specs.declared.skip.Class.TheVariants.{Word, Quote, Comment as Note, Blank}
 use Rattle.dns_split.specs.declared.skip.Place.{Place}
-use Rattle.dns_symbol.specs.Symbol.{is_digit, is_printable}
+use Rattle.dns_symbol.specs.Escape.{ReadsEscape, escape_symbol}
+use Rattle.dns_symbol.specs.Symbol.{spell, is_digit, is_escape_by, is_printable}
+use Rattle.dns_symbol.specs.declared.escape.EscapedOctet.{EscapedOctet}
+use Rattle.dns_symbol.specs.declared.escape.EscapeRule.TheVariants.{Printable}
+use Rattle.dns_symbol.specs.declared.symbol.Symbol.{Symbol}
+use Rattle.dns_symbol.specs.declared.symbol.Symbol.TheVariants.{Char, SimpleEscape, DecimalEscape}
+use Rattle.dns_symbol.proofs.Spelled.{spell_some}
 use Rattle.dns_split.specs.Reader.{home, move_to, step}
 use Rattle.dns_split.specs.Run.{run, before, closed_piece, Still, SameRun, Skips, GoesOn, Passes, EndsWord, EndsComment, Gives}
 use Rattle.dns_split.specs.Pieces.{word_at, quote_at, comment_at}
@@ -106,55 +113,53 @@ begun : (q : Within) (d s at : ℕ) (b : Bool) (bs : List ℕ) → run (home q) 
 begun InWord d s at b bs = refl
 begun InQuote d s at b bs = refl
 
--- a simple escape, and one of three digits, in a text
-simple_escape : (q : Within) (text : List ℕ) (i : ℕ) → i + 2 ≤ length text → get_or text i 0 ≡ 92 → is_printable (get_or text (i + 1) 0) ≡ true → is_digit (get_or text (i + 1) 0) ≡ false
-    → SameRun (home q) text i (i + 2)
-simple_escape q text i w e p g d s b =
-    ap (run (home q) d s i b) (at_drop text i (omega arith) ∙ ap (λ c. c ∷ drop (i + 1) text) e) ∙ begun q d s i b (drop (i + 1) text)
-    ∙ ap (run (Escape q) d s (i + 1) b) (at_drop text (i + 1) (omega arith)) ∙ simple_left q (get_or text (i + 1) 0) d s (i + 1) b (drop (i + 1 + 1) text) p g
-    ∙ ap (λ j. run (home q) d s j b (drop j text)) (omega arith)
+-- an escape, one octet after the other
+escape_run : (q : Within) (x : Symbol) → is_escape_by Printable x ≡ true → (d s at : ℕ) (b : Bool) (rest : List ℕ)
+    → run (home q) d s at b (spell x ++ rest) ≡ run (home q) d s (at + length (spell x)) b rest
+escape_run q (Char c) is d s at b rest = absurd (cc)
+escape_run q (SimpleEscape o) is d s at b rest =
+    let parts = and_parts (is_printable o) (not (is_digit o)) is in
+    let isnt : not (is_digit o) ≡ true = parts.1 in
+    begun q d s at b (o ∷ rest) ∙ simple_left q o d s (at + 1) b rest parts.0 (grind (arith, nat_tests)) ∙ ap (λ j. run (home q) d s j b rest) (omega arith)
+escape_run q (DecimalEscape o) is d s at b rest =
+    let low : o < 256 = grind (arith, nat_tests) in
+    let x : ℕ = 48 + o / 100 in
+    let y : ℕ = 48 + o / 10 % 10 in
+    let z : ℕ = 48 + o % 10 in
+    let small : o / 100 < 3 = omega arith in
+    let digit_x : is_digit x ≡ true = grind (arith, nat_tests) in
+    let digit_y : is_digit y ≡ true = digit (o / 10 % 10) (omega arith) in
+    let digit_z : is_digit z ≡ true = digit (o % 10) (omega arith) in
+    let first : nat_le x 50 ≡ true = le-leb x 50 (omega arith) in
+    let second : nat_le (10 * (x - 48) + (y - 48)) 25 ≡ true = le-leb (10 * (x - 48) + (y - 48)) 25 (omega arith) in
+    let third : nat_le (10 * (10 * (x - 48) + (y - 48)) + (z - 48)) 255 ≡ true = le-leb (10 * (10 * (x - 48) + (y - 48)) + (z - 48)) 255 (omega arith) in
+    begun q d s at b (x ∷ y ∷ z ∷ rest) ∙ first_left q x d s (at + 1) b (y ∷ z ∷ rest) digit_x first
+    ∙ second_left q (x - 48) y d s (at + 1 + 1) b (z ∷ rest) digit_y second
+    ∙ third_left q (10 * (x - 48) + (y - 48)) z d s (at + 1 + 1 + 1) b rest digit_z third ∙ ap (λ j. run (home q) d s j b rest) (omega arith)
+  where
+    digit : (n : ℕ) → n < 10 → is_digit (48 + n) ≡ true
+    digit n few = grind (arith, nat_tests)
 
-digits_escape : (q : Within) (text : List ℕ) (i x y z : ℕ) → i + 4 ≤ length text → get_or text i 0 ≡ 92 → is_digit (get_or text (i + 1) 0) ≡ true → get_or text (i + 1) 0 ≡ x + 48
-    → is_digit (get_or text (i + 1 + 1) 0) ≡ true → get_or text (i + 1 + 1) 0 ≡ y + 48 → is_digit (get_or text (i + 1 + 1 + 1) 0) ≡ true → get_or text (i + 1 + 1 + 1) 0 ≡ z + 48
-    → 100 * x + 10 * y + z ≤ 255 → SameRun (home q) text i (i + 4)
-digits_escape q text i x y z w e gx ex gy ey gz ez small d s b =
-    let c : ℕ = get_or text (i + 1) 0 in
-    let e1 : c - 48 ≡ x = omega (arith, ex) in
-    let f : ℕ = get_or text (i + 1 + 1) 0 in
-    let e2 : f - 48 ≡ y = omega (arith, ey) in
-    let g : ℕ = get_or text (i + 1 + 1 + 1) 0 in
-    let e3 : g - 48 ≡ z = omega (arith, ez) in
-    let first : nat_le c 50 ≡ true = le-leb c 50 (omega (arith, ex, small)) in
-    let second : nat_le (10 * (c - 48) + (f - 48)) 25 ≡ true = le-leb (10 * (c - 48) + (f - 48)) 25 (omega (arith, e1, e2, small)) in
-    let third : nat_le (10 * (10 * (c - 48) + (f - 48)) + (g - 48)) 255 ≡ true = le-leb (10 * (10 * (c - 48) + (f - 48)) + (g - 48)) 255 (omega (arith, e1, e2, e3, small)) in
-    ap (run (home q) d s i b) (at_drop text i (omega arith) ∙ ap (λ o. o ∷ drop (i + 1) text) e) ∙ begun q d s i b (drop (i + 1) text)
-    ∙ ap (run (Escape q) d s (i + 1) b) (at_drop text (i + 1) (omega arith)) ∙ first_left q c d s (i + 1) b (drop (i + 1 + 1) text) gx first
-    ∙ ap (run (OneDigit q (c - 48)) d s (i + 1 + 1) b) (at_drop text (i + 1 + 1) (omega arith)) ∙ second_left q (c - 48) f d s (i + 1 + 1) b (drop (i + 1 + 1 + 1) text) gy second
-    ∙ ap (run (TwoDigits q (10 * (c - 48) + (f - 48))) d s (i + 1 + 1 + 1) b) (at_drop text (i + 1 + 1 + 1) (omega arith))
-    ∙ third_left q (10 * (c - 48) + (f - 48)) g d s (i + 1 + 1 + 1) b (drop (i + 1 + 1 + 1 + 1) text) gz third
-    ∙ ap (λ j. run (home q) d s j b (drop j text)) (omega arith)
+-- and in a text, in a word and in a quoted text
+pub escape_skipped : (text : List ℕ) (i : ℕ) (e : EscapedOctet) → i < length text → ReadsEscape Printable (take (length text - i) (drop i text)) (Ok e)
+    → Skips text i (i + length (spell (escape_symbol e)))
+escape_skipped text i e in_text read = record {
+  on = omega (arith, spell_some (escape_symbol e));
+  within = omega (arith, in_text, few, ap length here.1, length-append (spell (escape_symbol e)) (drop (length (spell (escape_symbol e))) (drop i text)));
+  word = same InWord;
+  quoted = same InQuote;
+}
+  where
+    few : length text - i ≡ length (drop i text)
+    few = simp length-drop refl
 
--- each in a word and in a quoted text
-pub simple_skipped : (text : List ℕ) (i : ℕ) → i + 2 ≤ length text → get_or text i 0 ≡ 92 → is_printable (get_or text (i + 1) 0) ≡ true → is_digit (get_or text (i + 1) 0) ≡ false
-    → Skips text i (i + 2)
-simple_skipped text i w e p g = record { on = omega arith; within = w; word = simple_escape InWord text i w e p g; quoted = simple_escape InQuote text i w e p g }
+    here : ReadsEscape Printable (drop i text) (Ok e)
+    here = subst (λ t. ReadsEscape Printable t (Ok e)) (take_all (length text - i) (drop i text) (omega (arith, few))) read
 
-pub digits_skipped : (text : List ℕ) (i x y z : ℕ) → i + 4 ≤ length text → get_or text i 0 ≡ 92 → is_digit (get_or text (i + 1) 0) ≡ true → get_or text (i + 1) 0 ≡ x + 48
-    → is_digit (get_or text (i + 2) 0) ≡ true → get_or text (i + 2) 0 ≡ y + 48 → is_digit (get_or text (i + 3) 0) ≡ true → get_or text (i + 3) 0 ≡ z + 48
-    → 100 * x + 10 * y + z ≤ 255 → Skips text i (i + 4)
-digits_skipped text i x y z w e gx ex gy ey gz ez small =
-    let p : i + 2 ≡ i + 1 + 1 = omega arith in
-    let r : i + 3 ≡ i + 1 + 1 + 1 = omega arith in
-    let dy = subst (λ j. is_digit (get_or text j 0) ≡ true) p gy in
-    let vy = subst (λ j. get_or text j 0 ≡ y + 48) p ey in
-    let dz = subst (λ j. is_digit (get_or text j 0) ≡ true) r gz in
-    let vz = subst (λ j. get_or text j 0 ≡ z + 48) r ez in
-    record {
-      on = omega arith;
-      within = w;
-      word = digits_escape InWord text i x y z w e gx ex dy vy dz vz small;
-      quoted = digits_escape InQuote text i x y z w e gx ex dy vy dz vz small;
-    }
+    same : (q : Within) → SameRun (home q) text i (i + length (spell (escape_symbol e)))
+    same q d s b =
+        let n : ℕ = length (spell (escape_symbol e)) in
+        ap (run (home q) d s i b) here.1 ∙ escape_run q (escape_symbol e) here.0 d s i b (drop n (drop i text)) ∙ ap (run (home q) d s (i + n) b) (drop-drop n i text)
 
 -- ---- tokens
 -- a class in its mode

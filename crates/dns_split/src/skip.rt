@@ -1,11 +1,11 @@
 //! Runs of octets that give no piece, passed over without a step of the reader for each.
 ghost use Rattle.std.specs.Prelude.{◌≡◌, ◌+◌, ◌<◌, ◌≤◌, true, IfSome, length};
-ghost use Rattle.dns_symbol.specs.Symbol.{is_digit};
 ghost use Rattle.dns_split.specs.Reader.{home};
 ghost use Rattle.dns_split.specs.Run.{SameRun, Skips, GoesOn, Passes};
 ghost use Rattle.dns_split.specs.Skip.{is_in, EachIn, StopsAt, RunIn, Marks, class_of, first_set};
 
 use crate::reader::Within;
+use dns_symbol::escape::{EscapeRule, first_escape};
 use std::simd::prelude::*;
 
 /// The octets of one load.
@@ -152,43 +152,18 @@ pub(crate) fn skip_class(class: Class, octets: &[u8], at: usize) -> usize
     place
 }
 
-/// The value of a decimal digit.
-#[inline(always)]
-fn digit(octet: u8) -> Option<u32>
-    ensures { IfSome result (λ n. (is_digit octet ≡ true) × (octet ≡ n + 48)) }
-{
-    match octet {
-        b'0'..=b'9' => Some(u32::from(octet) - 48),
-        _ => None,
-    }
-}
-
 /// The end of the escape that begins here, if one does.
 #[inline(always)]
 fn escape_end(octets: &[u8], at: usize) -> Option<usize>
     requires { at < length octets.now }
     ensures { IfSome result (Skips octets.now at) }
 {
-    let left = octets.len() - at;
-    if left < 2 || octets[at] != b'\\' {
+    if octets[at] != b'\\' {
         return None;
     }
-    let octet = octets[at + 1];
-    match octet {
-        b'0'..=b'9' => {
-            if left < 4 {
-                return None;
-            }
-            let first = digit(octet)?;
-            let second = digit(octets[at + 2])?;
-            let third = digit(octets[at + 3])?;
-            if 100 * first + 10 * second + third > 255 {
-                return None;
-            }
-            Some(at + 4)
-        }
-        b' '..=b'~' => Some(at + 2),
-        _ => None,
+    match first_escape(EscapeRule::Printable, &octets[at..]) {
+        Ok(escape) => Some(at + escape.len()),
+        Err(_) => None,
     }
 }
 
