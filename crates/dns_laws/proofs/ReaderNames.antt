@@ -18,7 +18,7 @@ use Rattle.dns_name.specs.Reading.{is_dot, SpellsLabel, dotted, HasNamed, ReadsA
 use Rattle.dns_name.specs.declared.name.UncertainName.TheVariants.{Absolute, Relative}
 use Rattle.dns_name.proofs.Naming.{dot_bytes}
 use Rattle.dns_name.proofs.WholeName.{named_empty}
-use Rattle.dns_spelling.specs.Spelling.{octet_for, is_spelling}
+use Rattle.dns_symbol.specs.Escape.{is_spelling, octet_for}
 use Rattle.dns_spelling.specs.NameSpelling.{is_plain_dot, is_label_spelling, AreLabelSpellings, IsLabelPart, dotted_parts, part_labels, SpellsParts, SpellsLabels, root_alone, origin_alone, absolute, relative, SpellsName, IsRelative}
 use Rattle.dns_spelling.proofs.LabelParts.{labels_are_spellings, dotted_cons}
 use Rattle.dns_spelling.proofs.NameReadings.{parts_once, root_no_parts}

@@ -10,7 +10,7 @@ use Rattle.dns_spelling.specs.Spelling.{SpellsFront, SpellsOctetList, BeginsBadE
 use Rattle.std.specs.List.{flat_map}
 use Rattle.dns_symbol.specs.Symbol.{spell}
 use Rattle.dns_symbol.specs.declared.symbol.Symbol.{Symbol}
-use Rattle.dns_spelling.specs.Spelling.{octet_for}
+use Rattle.dns_symbol.specs.Escape.{octet_for}
 use Rattle.dns_spelling.proofs.Spellings.{AreSpellings, spellings_head, goes_on, none_spelled, front_none, spelled_once}
 use Rattle.dns_lists.specs.Texts.{is_special, item_octet, item_text, list_text, later_text, wire_strings, IsItem, IsList, EndsItem}
 use Rattle.dns_lists.proofs.Items.{one_item, ends_empty, ends_comma, later_ends, same_first}

@@ -8,8 +8,9 @@ use Rattle.dns_spelling.specs.Spelling.{SpellsFront}
 use Rattle.std.specs.List.{flat_map}
 use Rattle.dns_symbol.specs.Symbol.{spell}
 use Rattle.dns_symbol.specs.declared.symbol.Symbol.{Symbol}
-use Rattle.dns_spelling.specs.Spelling.{octet_for}
-use Rattle.dns_spelling.proofs.Spellings.{AreSpellings, front_join, spell_same, spellings_head}
+use Rattle.dns_symbol.specs.Escape.{octet_for}
+use Rattle.dns_symbol.proofs.Spelled.{spell_same}
+use Rattle.dns_spelling.proofs.Spellings.{AreSpellings, front_join, spellings_head}
 use Rattle.dns_spelling.proofs.Fronts.{front_length}
 use Rattle.dns_lists.specs.Texts.{is_special, item_octet, item_text, list_text, wire_strings, IsItem, IsList}
 use Rattle.dns_lists.proofs.Items.{list_push, pushed_some}

@@ -19,7 +19,8 @@ use Rattle.dns_kinds.specs.Addresses.{has_ipv4_end, shown_ipv6}
 use Rattle.dns_lists.specs.Bitmap.{has}
 use Rattle.dns_lists.specs.Texts.{is_special, item_octet, item_text, later_text, list_text, wire_strings}
 use Rattle.dns_lists.specs.Values.{AreGroups, AreKeys, AreWireStrings}
-use Rattle.dns_spelling.specs.Spelling.{octet_for, is_spelling, AreOctetValues, SpellsOctetList}
+use Rattle.dns_symbol.specs.Escape.{is_spelling, octet_for}
+use Rattle.dns_spelling.specs.Spelling.{AreOctetValues, SpellsOctetList}
 use Rattle.dns_spelling.proofs.FormLaws.{printed_spells, values_front, values_back}
 use Rattle.dns_symbol.specs.Symbol.{spell, is_printable}
 use Rattle.dns_symbol.specs.Printed.{symbol_of, text_of, is_unquoted_escape}

@@ -14,7 +14,8 @@ use Rattle.dns_symbol.specs.declared.symbol.Symbol.TheVariants.{Char, SimpleEsca
 use Rattle.dns_symbol.proofs.PrintedForms.{printed_ascii}
 use Rattle.dns_wire.specs.Labelled.{label_same}
 use Rattle.dns_spelling.specs.declared.error.SpellingError.{SpellingError}
-use Rattle.dns_spelling.specs.Spelling.{octet_for, is_spelling, SpellsFront, SpellsOctetList, AreOctetValues, SpellsBehind, RefusesBehind}
+use Rattle.dns_symbol.specs.Escape.{is_spelling, octet_for}
+use Rattle.dns_spelling.specs.Spelling.{SpellsFront, SpellsOctetList, AreOctetValues, SpellsBehind, RefusesBehind}
 use Rattle.dns_spelling.specs.Forms.{IsWireString, SpellsString, IsTag, IsWireTag, SpellsTag, FindsWidth, AreSpelled, StandInFront, RefusesString}
 use Rattle.dns_spelling.specs.Shown.{text_in_quotes, octets_in_quotes, string_in_quotes, tag_text}
 use Rattle.dns_spelling.proofs.Spellings.{AreSpellings, spelled_once, spellings_head, spellings_tail}

@@ -1,25 +1,23 @@
 -- What a text spells first, and what is appended of it.
-use Rattle.std.proofs.Common.{ℕ, zero, suc, ◌≡◌, ◌+◌, ◌-◌, ◌<◌, ◌≤◌, true, false, List, [], ◌∷◌, ◌++◌, length, map, take, drop, get_or, refl, sym, ap, ◌∙◌, arith, append_assoc, length-append}
+use Rattle.std.proofs.Common.{ℕ, zero, suc, ◌≡◌, ◌+◌, ◌-◌, ◌<◌, ◌≤◌, true, false, List, [], ◌∷◌, ◌++◌, length, map, take, drop, get_or, refl, sym, ap, subst, ◌∙◌, arith, Ok, append_assoc, length-append}
 use Rattle.std.specs.Prelude.{IsTrue}
 use Rattle.std.specs.List.{flat_map}
 use Rattle.std.proofs.lemmas.Bool.Decides.{nat_tests}
 use Rattle.std.proofs.lemmas.List.{take_all, length-drop}
 use Rattle.dns_octets.specs.Room.{Room}
 use Rattle.dns_octets.specs.Appending.{LacksRoom}
-use Rattle.dns_symbol.specs.Symbol.{spell, is_digit}
+use Rattle.dns_symbol.specs.Symbol.{spell}
+use Rattle.dns_symbol.specs.declared.escape.EscapedOctet.{EscapedOctet}
+use Rattle.dns_symbol.specs.declared.escape.EscapeRule.TheVariants.{AnyOctet}
 use Rattle.dns_symbol.specs.declared.symbol.Symbol.{Symbol}
-use Rattle.dns_symbol.specs.declared.symbol.Symbol.TheVariants.{Char, SimpleEscape, DecimalEscape}
-use Rattle.dns_spelling.specs.Spelling.{octet_for, is_spelling, SpellsFront, SpellsOctetList}
-use Rattle.dns_spelling.proofs.Spellings.{AreSpellings, spell_some, front_one, front_join, goes_on}
+use Rattle.dns_symbol.specs.declared.symbol.Symbol.TheVariants.{Char}
+use Rattle.dns_symbol.specs.Escape.{ReadsEscape, escape_symbol, is_spelling, octet_for}
+use Rattle.dns_spelling.specs.Spelling.{SpellsFront, SpellsOctetList}
+use Rattle.dns_symbol.proofs.Spelled.{escape_spelling, escaped_octet_is, spell_some}
+use Rattle.dns_spelling.proofs.Spellings.{AreSpellings, front_one, front_join, goes_on}
 
 plain_spelling : (o : ℕ) → (o ≡ 92 → ⊥) → is_spelling (Char o) ≡ true
 plain_spelling o h = grind (arith, nat_tests)
-
-simple_spelling : (o : ℕ) → is_digit o ≡ false → is_spelling (SimpleEscape o) ≡ true
-simple_spelling o h = rw h refl
-
-decimal_spelling : (o : ℕ) → o < 256 → is_spelling (DecimalEscape o) ≡ true
-decimal_spelling o h = grind (arith, nat_tests)
 
 -- all of a rest
 all_of : (xs : List ℕ) (n : ℕ) → n ≡ length xs → take n xs ≡ xs
@@ -29,22 +27,13 @@ pub plain_front : (text : List ℕ) → 0 < length text → (get_or text 0 0 ≡
 plain_front [] some h = absurd (omega arith)
 plain_front (x ∷ xs) some h = front_one (Char x) (x ∷ xs) _ (plain_spelling x h) (ap (λ r. x ∷ r) (sym (all_of xs _ (omega arith))))
 
-pub escaped_front : (text : List ℕ) → 2 ≤ length text → get_or text 0 0 ≡ 92 → is_digit (get_or text 1 0) ≡ false
-    → SpellsFront text (get_or text 1 0 ∷ []) (take (length text - 2) (drop 2 text))
-escaped_front [] some h d = absurd (omega arith)
-escaped_front (x ∷ []) some h d = absurd (omega arith)
-escaped_front (x ∷ y ∷ ys) some h d =
-    front_one (SimpleEscape y) (x ∷ y ∷ ys) _ (simple_spelling y d) (let e = all_of ys (length (x ∷ y ∷ ys) - 2) (omega arith) in cc)
-
-pub numbered_front : (text : List ℕ) (o : ℕ) → 4 ≤ length text → get_or text 0 0 ≡ 92 → o < 256
-    → spell (DecimalEscape o) ≡ 92 ∷ get_or text 1 0 ∷ get_or text 2 0 ∷ get_or text 3 0 ∷ []
-    → SpellsFront text (o ∷ []) (take (length text - 4) (drop 4 text))
-numbered_front [] o some h low e = absurd (omega arith)
-numbered_front (a ∷ []) o some h low e = absurd (omega arith)
-numbered_front (a ∷ b ∷ []) o some h low e = absurd (omega arith)
-numbered_front (a ∷ b ∷ c ∷ []) o some h low e = absurd (omega arith)
-numbered_front (a ∷ b ∷ c ∷ d ∷ ds) o some h low e =
-    front_one (DecimalEscape o) (a ∷ b ∷ c ∷ d ∷ ds) _ (decimal_spelling o low) (let f = all_of ds (length (a ∷ b ∷ c ∷ d ∷ ds) - 4) (omega arith) in cc)
+pub escape_front : (text : List ℕ) (e : EscapedOctet) (n : ℕ) → n ≡ length (spell (escape_symbol e)) → ReadsEscape AnyOctet text (Ok e)
+    → SpellsFront text (e.octet ∷ []) (take (length text - n) (drop n text))
+escape_front text e n same h =
+    let s : Symbol = escape_symbol e in
+    let rest : drop (length (spell s)) text ≡ take (length text - n) (drop n text) = ap (λ k. drop k text) (sym same) ∙ sym (all_of (drop n text) _ (simp length-drop refl)) in
+    subst (λ o. SpellsFront text (o ∷ []) (take (length text - n) (drop n text))) (escaped_octet_is e)
+    (front_one s text _ (escape_spelling s h.0) (h.1 ∙ ap (λ r. spell s ++ r) rest))
 
 -- octets that are no backslash spell themselves
 run_spelled : (text : List ℕ) (n : ℕ) → ((k : ℕ) → k < n → get_or text k 0 ≡ 92 → ⊥) → n ≤ length text

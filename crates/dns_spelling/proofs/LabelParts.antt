@@ -17,9 +17,11 @@ use Rattle.dns_symbol.specs.declared.symbol.Symbol.TheVariants.{Char, SimpleEsca
 use Rattle.dns_wire.specs.Building.{closed}
 use Rattle.dns_wire.specs.Wire.{wire, wire_label, wire_length}
 use Rattle.dns_wire.proofs.Wires.{wire_append, wire_length_append, length_wire}
-use Rattle.dns_spelling.specs.Spelling.{octet_for, is_spelling, SpellsFront, SpellsOctetList, SpellsBehind}
+use Rattle.dns_symbol.specs.Escape.{is_spelling, octet_for}
+use Rattle.dns_spelling.specs.Spelling.{SpellsFront, SpellsOctetList, SpellsBehind}
 use Rattle.dns_spelling.specs.NameSpelling.{is_plain_dot, is_label_spelling, AreLabelSpellings, IsLabelPart, dotted_parts, part_labels, HasParts, OpensLabel, EndsLabel, GainsLabels, LacksRoomForLabels}
-use Rattle.dns_spelling.proofs.Spellings.{AreSpellings, spell_some, spell_same, symbols_go_on, spelled_once}
+use Rattle.dns_symbol.proofs.Spelled.{spell_same, spell_some}
+use Rattle.dns_spelling.proofs.Spellings.{AreSpellings, symbols_go_on, spelled_once}
 
 -- ---- symbols of labels
 

@@ -12,7 +12,7 @@ use Rattle.dns_wire.specs.Wire.{wire, wire_length, IsPlain, IsName, EndsInRoot}
 use Rattle.dns_wire.proofs.Wires.{wire_append, wire_length_append, length_wire, IsName-append, IsName-plain, IsName-absolute, is_root}
 use Rattle.dns_spelling.specs.declared.error.SpellingError.{SpellingError}
 use Rattle.dns_spelling.specs.declared.error.SpellingError.TheVariants.{BadEscape, LongString, BadTag, EmptyLabel, LongLabel, LongName, NoOrigin, ShortBuf}
-use Rattle.dns_spelling.specs.Spelling.{octet_for}
+use Rattle.dns_symbol.specs.Escape.{octet_for}
 use Rattle.dns_spelling.specs.NameSpelling.{IsLabelPart, part_labels, SpellsParts, SpellsLabels, root_alone, origin_alone, absolute, relative, SpellsName, HasBadLabel, IsRelative, IsLongWithOrigin, WhyNoName, RefusesName, GainsLabels, LacksRoomForLabels}
 use Rattle.dns_spelling.proofs.LabelParts.{labels_last, wire_length_cons}
 use Rattle.dns_spelling.proofs.NameReadings.{parts_once, root_no_parts, origin_no_dot, same_some, not_both, name_once, Fitting, none_fitting}

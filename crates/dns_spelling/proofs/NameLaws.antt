@@ -12,7 +12,8 @@ use Rattle.dns_wire.specs.Printed.{joined_by, dotted_by}
 use Rattle.dns_wire.specs.Wire.{wire, wire_label, IsPlain, IsName}
 use Rattle.dns_wire.proofs.Texts.{dotted_joined}
 use Rattle.dns_wire.proofs.Wires.{wire_append, labels_bytes}
-use Rattle.dns_spelling.specs.Spelling.{octet_for, AreOctetValues}
+use Rattle.dns_symbol.specs.Escape.{octet_for}
+use Rattle.dns_spelling.specs.Spelling.{AreOctetValues}
 use Rattle.dns_spelling.specs.Forms.{AreSpelled}
 use Rattle.dns_spelling.specs.NameSpelling.{is_label_spelling, AreLabelSpellings, IsLabelPart, dotted_parts, part_labels, SpellsParts, SpellsLabels, root_alone, origin_alone, absolute, relative, SpellsName, IsWireName, IsOrigin}
 use Rattle.dns_spelling.specs.PrintedNames.{is_name_escape, name_symbol, name_label, labels_in_octets, wire_name_text}

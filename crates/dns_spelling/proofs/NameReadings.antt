@@ -11,7 +11,7 @@ use Rattle.dns_spelling.specs.declared.error.SpellingError.{SpellingError}
 use Rattle.dns_spelling.specs.declared.error.SpellingError.TheVariants.{BadEscape, LongString, BadTag, EmptyLabel, LongLabel, LongName, NoOrigin, ShortBuf}
 use Rattle.dns_spelling.specs.Spelling.{BeginsBadEscape}
 use Rattle.dns_spelling.specs.NameSpelling.{IsLabelPart, dotted_parts, part_labels, HasParts, SpellsParts, SpellsLabels, root_alone, origin_alone, absolute, relative, SpellsName, OpensLabel, GoesOnWithOctet, EndsLabel, HasBadLabel}
-use Rattle.dns_spelling.proofs.Spellings.{spell_some}
+use Rattle.dns_symbol.proofs.Spelled.{spell_some}
 use Rattle.dns_spelling.proofs.LabelParts.{label_is_spelling, label_head, label_tail, no_dot, empty_symbols, Within, in_part, in_last, within, within_long}
 
 -- ---- one reading of a text as labels

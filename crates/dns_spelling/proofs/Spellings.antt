@@ -1,45 +1,18 @@
 -- A text is spelled in one way.
-use Rattle.std.proofs.Common.{ℕ, ◌≡◌, ◌+◌, ◌/◌, ◌%◌, ◌<◌, true, List, [], ◌∷◌, ◌++◌, length, map, refl, sym, ap, ◌∙◌, arith, append_assoc, append-nil, length-append}
+use Rattle.std.proofs.Common.{ℕ, ◌≡◌, true, List, [], ◌∷◌, ◌++◌, length, map, refl, sym, ap, ◌∙◌, arith, append_assoc, append-nil, length-append}
 use Rattle.std.specs.List.{flat_map, list_all}
 use Rattle.std.proofs.lemmas.Bool.{and_parts}
-use Rattle.std.proofs.lemmas.Bool.Decides.{nat_tests}
 use Rattle.std.proofs.lemmas.List.{map-append}
 use Rattle.std.proofs.lemmas.List.Folds.{list_all-append}
 use Rattle.std.proofs.lemmas.Grind.{flat_map-append}
 use Rattle.dns_symbol.specs.Symbol.{spell}
 use Rattle.dns_symbol.specs.declared.symbol.Symbol.{Symbol}
-use Rattle.dns_symbol.specs.declared.symbol.Symbol.TheVariants.{Char, SimpleEscape, DecimalEscape}
-use Rattle.dns_spelling.specs.Spelling.{octet_for, is_spelling, SpellsFront, SpellsOctetList, BeginsBadEscape, SpellsToBadEscape}
+use Rattle.dns_symbol.proofs.Spelled.{spell_some, spell_same}
+use Rattle.dns_symbol.specs.Escape.{is_spelling, octet_for}
+use Rattle.dns_spelling.specs.Spelling.{SpellsFront, SpellsOctetList, BeginsBadEscape, SpellsToBadEscape}
 
 abbrev pub AreSpellings : List Symbol → Type 0
 AreSpellings symbols = list_all is_spelling symbols ≡ true
-
-pub spell_some : (s : Symbol) → 0 < length (spell s)
-spell_some (Char c) = omega arith
-spell_some (SimpleEscape o) = omega arith
-spell_some (DecimalEscape o) = omega arith
-
-no_backslash : (c : ℕ) → is_spelling (Char c) ≡ true → c ≡ 92 → ⊥
-no_backslash c h e = grind (arith, nat_tests)
-
-pub no_digit : (o n : ℕ) → is_spelling (SimpleEscape o) ≡ true → is_spelling (DecimalEscape n) ≡ true → o ≡ 48 + n / 100 → ⊥
-no_digit o n h k e = let low : n < 256 = grind (arith, nat_tests) in let few : n / 100 < 3 = omega arith in grind (arith, nat_tests)
-
-digits_same : (o n : ℕ) → 48 + o / 100 ≡ 48 + n / 100 → 48 + o / 10 % 10 ≡ 48 + n / 10 % 10 → 48 + o % 10 ≡ 48 + n % 10 → o ≡ n
-digits_same o n p q r = omega (arith, p, q, r)
-
--- what is spelled in front of a text
-pub spell_same : (x y : Symbol) (a b : List ℕ) → is_spelling x ≡ true → is_spelling y ≡ true → spell x ++ a ≡ spell y ++ b → (x ≡ y) × (a ≡ b)
-spell_same (Char c) (Char d) a b p q h = (cc, cc)
-spell_same (Char c) (SimpleEscape o) a b p q h = absurd (no_backslash c p (cc))
-spell_same (Char c) (DecimalEscape o) a b p q h = absurd (no_backslash c p (cc))
-spell_same (SimpleEscape o) (Char d) a b p q h = absurd (no_backslash d q (cc))
-spell_same (SimpleEscape o) (SimpleEscape n) a b p q h = (cc, cc)
-spell_same (SimpleEscape o) (DecimalEscape n) a b p q h = absurd (no_digit o n p q (cc))
-spell_same (DecimalEscape o) (Char d) a b p q h = absurd (no_backslash d q (cc))
-spell_same (DecimalEscape o) (SimpleEscape n) a b p q h = absurd (no_digit n o q p (cc))
-spell_same (DecimalEscape o) (DecimalEscape n) a b p q h =
-    let e = digits_same o n (cc) (cc) (cc) in (ap (λ n. DecimalEscape n) e, cc)
 
 pub spellings_head : (s : Symbol) (ss : List Symbol) → AreSpellings (s ∷ ss) → is_spelling s ≡ true
 spellings_head s ss h = (and_parts (is_spelling s) (list_all is_spelling ss) h).0

@@ -10,7 +10,8 @@ use Rattle.dns_symbol.specs.declared.symbol.Symbol.TheVariants.{Char, SimpleEsca
 use Rattle.dns_wire.specs.Building.{closed}
 use Rattle.dns_wire.specs.Limits.{max_label, max_name, max_relative}
 use Rattle.dns_wire.specs.Wire.{wire, wire_length, IsName, EndsInRoot}
-use Rattle.dns_spelling.specs.Spelling.{octet_for, is_spelling, AreOctetValues, BeginsBadEscape}
+use Rattle.dns_symbol.specs.Escape.{is_spelling, octet_for}
+use Rattle.dns_spelling.specs.Spelling.{AreOctetValues, BeginsBadEscape}
 use Rattle.dns_spelling.specs.declared.error.SpellingError.{SpellingError}
 use Rattle.dns_spelling.specs.declared.error.SpellingError.TheVariants.{BadEscape, LongString, BadTag, EmptyLabel, LongLabel, LongName, NoOrigin, ShortBuf}
 

@@ -1,26 +1,13 @@
 -- Octets as text with escapes (RFC 1035 section 5.1).
-use Rattle.std.specs.Prelude.{ℕ, ◌≡◌, ◌≢◌, ◌⊎◌, ◌<◌, ◌==◌, Bool, true, not, nat_lt, List, [], ◌∷◌, ◌++◌, length, map, All}
+use Rattle.std.specs.Prelude.{ℕ, ◌≡◌, ◌≢◌, ◌⊎◌, ◌<◌, true, List, [], ◌∷◌, ◌++◌, length, map, All}
 use Rattle.std.specs.List.{flat_map, list_all}
 use Rattle.dns_octets.specs.Room.{Room}
 use Rattle.dns_octets.specs.Appending.{LacksRoom}
-use Rattle.dns_symbol.specs.Characters.{backslash}
-use Rattle.dns_symbol.specs.Symbol.{spell, is_digit}
+use Rattle.dns_symbol.specs.Escape.{is_spelling, octet_for}
+use Rattle.dns_symbol.specs.Symbol.{spell}
 use Rattle.dns_symbol.specs.declared.symbol.Symbol.{Symbol}
-use Rattle.dns_symbol.specs.declared.symbol.Symbol.TheVariants.{Char, SimpleEscape, DecimalEscape}
 use Rattle.dns_spelling.specs.declared.error.SpellingError.{SpellingError}
 use Rattle.dns_spelling.specs.declared.error.SpellingError.TheVariants.{BadEscape, LongString, BadTag, EmptyLabel, LongLabel, LongName, NoOrigin, ShortBuf}
-
--- the octet that a symbol stands for
-abbrev pub octet_for : Symbol → ℕ
-octet_for (Char o) = o
-octet_for (SimpleEscape o) = o
-octet_for (DecimalEscape o) = o
-
--- an octet is spelled by itself, but for the backslash; behind a backslash, but for a digit; by its three digits behind a backslash
-abbrev pub is_spelling : Symbol → Bool
-is_spelling (Char o) = not (o == backslash)
-is_spelling (SimpleEscape o) = not (is_digit o)
-is_spelling (DecimalEscape o) = nat_lt o 256
 
 -- a text spells octets one after another, and goes on with the rest
 pub record SpellsFront (text octets rest : List ℕ) : Type 0 where

@@ -1,38 +1,19 @@
 //! Octets that a text spells.
-ghost use Rattle.std.specs.Prelude.{ℕ, ◌≡◌, ◌≢◌, ◌<◌, ◌≤◌, List, [], ◌∷◌, length, slice_index, MatchResult, MatchOption, IfErr, OnOk, OnErr};
+ghost use Rattle.std.specs.Prelude.{ℕ, ◌≡◌, ◌≢◌, ◌<◌, ◌≤◌, List, [], ◌∷◌, length, slice_index, MatchResult, IfErr, OnOk, OnErr};
 ghost use Rattle.dns_octets.specs.Appending.{Extends, Gains};
-ghost use Rattle.dns_symbol.specs.Symbol.{spell};
 ghost use Rattle.dns_symbol.specs.Characters.{backslash};
-ghost use Rattle.dns_symbol.specs.declared.symbol.Symbol.TheVariants.{DecimalEscape};
 ghost use Rattle.dns_spelling.specs.Spelling.{SpellsFront, SpellsOctetList, BeginsBadEscape, SpellsToBadEscape, RefusesOctets, SpellsBehind, RefusesBehind};
 ghost use Rattle.dns_spelling.specs.declared.error.SpellingError.TheVariants.{BadEscape};
 
 use crate::error::SpellingError;
 use dns_octets::OctetsBuilder;
+use dns_symbol::escape::{EscapeRule, first_escape};
 
 /// An octet that is spelled in front of a text, and the text after it.
 #[derive(Clone, Copy)]
 pub struct Spelled<'a> {
     pub octet: u8,
     pub rest: &'a [u8],
-}
-
-/// The number of three decimal digits, up to 255.
-fn octet_of_digits(hundreds: u8, tens: u8, ones: u8) -> Option<u8>
-    ensures { MatchOption result
-        ((o : ℕ) → o < 256 → spell (DecimalEscape o) ≢ 92 ∷ hundreds ∷ tens ∷ ones ∷ [])
-        (λ o. (o < 256) × (spell (DecimalEscape o) ≡ 92 ∷ hundreds ∷ tens ∷ ones ∷ [])) }
-{
-    if !(hundreds.is_ascii_digit() && tens.is_ascii_digit() && ones.is_ascii_digit()) {
-        return None;
-    }
-    let number = u16::from(hundreds - b'0') * 100
-        + u16::from(tens - b'0') * 10
-        + u16::from(ones - b'0');
-    if number > 255 {
-        return None;
-    }
-    Some(number as u8)
 }
 
 /// The octet that is spelled in front of a text, which is not empty.
@@ -47,25 +28,12 @@ pub fn first_spelled(text: &[u8]) -> Result<Spelled<'_>, SpellingError>
             rest: &text[1..],
         });
     }
-    if text.len() < 2 {
-        return Err(SpellingError::BadEscape);
-    }
-    let second = text[1];
-    if !second.is_ascii_digit() {
-        return Ok(Spelled {
-            octet: second,
-            rest: &text[2..],
-        });
-    }
-    if text.len() < 4 {
-        return Err(SpellingError::BadEscape);
-    }
-    match octet_of_digits(second, text[2], text[3]) {
-        Some(octet) => Ok(Spelled {
-            octet,
-            rest: &text[4..],
+    match first_escape(EscapeRule::AnyOctet, text) {
+        Ok(escape) => Ok(Spelled {
+            octet: escape.octet,
+            rest: &text[escape.len()..],
         }),
-        None => Err(SpellingError::BadEscape),
+        Err(_) => Err(SpellingError::BadEscape),
     }
 }
 
