@@ -68,9 +68,8 @@ pub mod plain {
 
     pub fn zone(octet: u8) -> Symbol {
         match octet {
-            b'A'..=b'Z' | b'a'..=b'z' | b'0'..=b'9' | b'-' | b'_' | b'*' => {
-                Symbol::Char(octet as char)
-            }
+            b'"' | b'$' | b'(' | b')' | b'.' | b';' | b'@' | b'\\' => Symbol::SimpleEscape(octet),
+            b'!'..=b'~' => Symbol::Char(octet as char),
             _ => Symbol::DecimalEscape(octet),
         }
     }

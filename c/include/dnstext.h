@@ -117,17 +117,18 @@ uint32_t dnstext_charstr_print_unquoted(const uint8_t *octets, size_t octets_len
 uint32_t dnstext_name_read(const uint8_t *text, size_t text_len, uint8_t *name, size_t name_len,
                            bool *is_absolute, struct dnstext_outcome *outcome);
 /* The labels joined by dots, without a dot at the end; the root alone is one dot. Labels escape the
- * space, the dot and the backslash, and what is not printable ASCII by its decimal value. Printing
- * refuses octets that are no name's by DNSTEXT_TOO_LONG, DNSTEXT_SHORT_INPUT, DNSTEXT_BAD_LABEL,
- * DNSTEXT_POINTER or DNSTEXT_TRAILING_OCTETS, with no place. */
+ * space, the dot and the backslash, and what is not printable ASCII by its decimal value, as `domain`
+ * does. Printing refuses octets that are no name's by DNSTEXT_TOO_LONG, DNSTEXT_SHORT_INPUT,
+ * DNSTEXT_BAD_LABEL, DNSTEXT_POINTER or DNSTEXT_TRAILING_OCTETS, with no place. */
 uint32_t dnstext_name_print(const uint8_t *name, size_t name_len, uint8_t *text, size_t text_len,
                             struct dnstext_outcome *outcome);
 /* The same with a dot at the end of an absolute name. */
 uint32_t dnstext_name_print_dotted(const uint8_t *name, size_t name_len, uint8_t *text, size_t text_len,
                                    struct dnstext_outcome *outcome);
-/* As zone text has it: letters, digits, '-', '_' and '*' stand plain, and every other octet by its
- * decimal value, with a dot at the end of an absolute name. So a name of one label or more is one
- * word. */
+/* As zone files have it, with a dot at the end of an absolute name. A backslash precedes '"', '$',
+ * '(', ')', '.', ';', '@' and the backslash. Other octets from 0x21 to 0x7E are plain, and the rest
+ * are printed by their decimal value. So a name of one label or more is one word, which reads as
+ * that name; dnstext_data_print prints names alike. */
 uint32_t dnstext_name_print_zone(const uint8_t *name, size_t name_len, uint8_t *text, size_t text_len,
                                  struct dnstext_outcome *outcome);
 

@@ -131,7 +131,8 @@ static void names(void) {
     GIVES(dnstext_name_print_dotted, "", "");
     GIVES(dnstext_name_print_zone, "", "");
     GIVES(dnstext_name_print, "\5a;(.\n", "a;(\\.\\010");
-    GIVES(dnstext_name_print_zone, "\5a;(.\n", "a\\059\\040\\046\\010");
+    GIVES(dnstext_name_print_zone, "\5a;(.\n", "a\\;\\(\\.\\010");
+    GIVES(dnstext_name_print_zone, "\4\"$)@\2\\/\3 \xC3\xA9\0", "\\\"\\$\\)\\@.\\\\/.\\032\\195\\169.");
     REFUSES(dnstext_name_print, "\2a", DNSTEXT_SHORT_INPUT, 0);
     REFUSES(dnstext_name_print_dotted, "\1a\0" "b", DNSTEXT_TRAILING_OCTETS, 0);
     REFUSES(dnstext_name_print_zone, "\1a\xC0\x0C", DNSTEXT_POINTER, 0);

@@ -1,6 +1,6 @@
 -- The zone text of a name is a word.
 use Rattle.std.proofs.Common.{◌≡◌, ◌≢◌, ℕ, ◌<◌, Bool, true, false, List, [], ◌∷◌, ◌++◌, length, map, refl, sym, ap, ◌∙◌, arith, append-nil, length-append}
-use Rattle.std.specs.Prelude.{All, encode_utf8_all, if◌then◌else◌}
+use Rattle.std.specs.Prelude.{All, encode_utf8_all, if◌then◌else◌, ◌&&◌, nat_lt, nat_le}
 use Rattle.std.specs.List.{flat_map, list_all}
 use Rattle.std.proofs.lemmas.Str.{encodes-append}
 use Rattle.std.proofs.lemmas.Grind.{flat_map-append}
@@ -9,20 +9,21 @@ use Rattle.std.proofs.lemmas.List.Folds.{list_all-append}
 use Rattle.std.proofs.lemmas.Bool.Decides.{nat_tests}
 use Rattle.dns_symbol.specs.Symbol.{bytes, spell, is_word_symbol}
 use Rattle.dns_symbol.specs.declared.symbol.Symbol.{Symbol}
-use Rattle.dns_symbol.specs.declared.symbol.Symbol.TheVariants.{Char, DecimalEscape}
+use Rattle.dns_symbol.specs.declared.symbol.Symbol.TheVariants.{Char, SimpleEscape, DecimalEscape}
 use Rattle.dns_split.specs.Token.{IsWord}
 use Rattle.dns_wire.specs.Printed.{joined_by}
 use Rattle.dns_wire.specs.Wire.{wire}
-use Rattle.dns_wire.specs.ZoneText.{is_zone_plain, zone_symbol, zone_label, zone_text}
+use Rattle.dns_wire.specs.ZoneText.{is_zone_escape, zone_symbol, zone_label, zone_text}
 use Rattle.dns_wire.proofs.Texts.{dotted_joined}
 use Rattle.dns_wire.proofs.Wires.{Bytes, labels_bytes}
 
 symbol_word : (o : ℕ) → o < 256 → is_word_symbol (zone_symbol o) ≡ true
-symbol_word o small = by (is_zone_plain o) refl
+symbol_word o small = by_tests (is_zone_escape o) (nat_lt 32 o && nat_le o 126) refl refl
   where
-    by : (b : Bool) → is_zone_plain o ≡ b → is_word_symbol (if b then Char o else DecimalEscape o) ≡ true
-    by true h = grind (arith, nat_tests)
-    by false h = grind (arith, nat_tests)
+    by_tests : (e p : Bool) → is_zone_escape o ≡ e → (nat_lt 32 o && nat_le o 126) ≡ p → is_word_symbol (if e then SimpleEscape o else (if p then Char o else DecimalEscape o)) ≡ true
+    by_tests true p is shown = grind (arith, nat_tests)
+    by_tests false true is shown = grind (arith, nat_tests)
+    by_tests false false is shown = grind (arith, nat_tests)
 
 label_words : (label : List ℕ) → Bytes label → list_all is_word_symbol (map zone_symbol label) ≡ true
 label_words [] h = refl

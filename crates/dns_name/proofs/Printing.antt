@@ -1,6 +1,6 @@
 -- The printed text of a name is that name's.
 use Rattle.std.proofs.Common.{◌≡◌, ℕ, ◌<◌, ◌≤◌, Bool, true, false, List, [], ◌∷◌, ◌++◌, length, map, refl, sym, ap, subst, ◌∙◌, arith, append_assoc, append-nil, length-append, inl, inr, Ok}
-use Rattle.std.specs.Prelude.{All, not, encode_utf8_all, if◌then◌else◌}
+use Rattle.std.specs.Prelude.{All, not, encode_utf8_all, if◌then◌else◌, ◌&&◌, nat_lt, nat_le}
 use Rattle.std.specs.List.{flat_map, list_all, AllZip}
 use Rattle.std.proofs.lemmas.Str.{encodes-append}
 use Rattle.std.proofs.lemmas.Grind.{flat_map-append}
@@ -15,7 +15,7 @@ use Rattle.dns_symbol.proofs.PrintedForms.{IsForm, printed_octet, printed_readab
 use Rattle.dns_wire.specs.Wire.{wire, wire_length, IsName, HasNoRoot}
 use Rattle.dns_wire.specs.Building.{closed}
 use Rattle.dns_wire.specs.Printed.{is_label_escape, joined_by, dotted_by, dotted_text}
-use Rattle.dns_wire.specs.ZoneText.{is_zone_plain, zone_symbol, zone_text}
+use Rattle.dns_wire.specs.ZoneText.{is_zone_escape, zone_symbol, zone_text}
 use Rattle.dns_wire.proofs.Wires.{Bytes, labels_bytes, wire_length_append}
 use Rattle.dns_wire.proofs.Texts.{dotted_joined}
 use Rattle.dns_name.specs.Uncertain.{labels_of, IsUncertain}
@@ -54,40 +54,44 @@ label_form = record { stands = printed_octet is_label_escape; readable = printed
         by true false shown is = cc
         by false e shown is = cc
 
--- in zone text
+-- in zone files
 zone_form : IsLabelForm zone_symbol
 zone_form = record { stands = stands; readable = readable; no_dot = dot; no_bracket = no_bracket }
   where
-    stands : (o : ℕ) → octet_of (zone_symbol o) ≡ Ok o
-    stands o = by (is_zone_plain o) refl
-      where
-        printable : is_zone_plain o ≡ true → is_printable o ≡ true
-        printable h = Prim.grind (arith, nat_tests)
+    printable : (o : ℕ) → (nat_lt 32 o && nat_le o 126) ≡ true → is_printable o ≡ true
+    printable o h = Prim.grind (arith, nat_tests)
 
-        by : (b : Bool) → is_zone_plain o ≡ b → octet_of (if b then Char o else DecimalEscape o) ≡ Ok o
-        by true h = rw (printable h) refl
-        by false h = refl
+    stands : (o : ℕ) → octet_of (zone_symbol o) ≡ Ok o
+    stands o = by (is_zone_escape o) (nat_lt 32 o && nat_le o 126) refl refl
+      where
+        by : (e p : Bool) → is_zone_escape o ≡ e → (nat_lt 32 o && nat_le o 126) ≡ p → octet_of (if e then SimpleEscape o else (if p then Char o else DecimalEscape o)) ≡ Ok o
+        by true p h k = refl
+        by false true h k = rw (printable o k) refl
+        by false false h k = refl
 
     readable : (o : ℕ) → o < 256 → is_readable (zone_symbol o) ≡ true
-    readable o small = by (is_zone_plain o) refl
+    readable o small = by (is_zone_escape o) (nat_lt 32 o && nat_le o 126) refl refl
       where
-        by : (b : Bool) → is_zone_plain o ≡ b → is_readable (if b then Char o else DecimalEscape o) ≡ true
-        by true h = Prim.grind (arith, nat_tests)
-        by false h = Prim.grind (arith, nat_tests)
+        by : (e p : Bool) → is_zone_escape o ≡ e → (nat_lt 32 o && nat_le o 126) ≡ p → is_readable (if e then SimpleEscape o else (if p then Char o else DecimalEscape o)) ≡ true
+        by true p h k = Prim.grind (arith, nat_tests)
+        by false true h k = Prim.grind (arith, nat_tests)
+        by false false h k = Prim.grind (arith, nat_tests)
 
     dot : (o : ℕ) → is_dot (zone_symbol o) ≡ false
-    dot o = by (is_zone_plain o) refl
+    dot o = by (is_zone_escape o) (nat_lt 32 o && nat_le o 126) refl
       where
-        by : (b : Bool) → is_zone_plain o ≡ b → is_dot (if b then Char o else DecimalEscape o) ≡ false
-        by true h = Prim.grind (arith, nat_tests)
-        by false h = refl
+        by : (e p : Bool) → is_zone_escape o ≡ e → is_dot (if e then SimpleEscape o else (if p then Char o else DecimalEscape o)) ≡ false
+        by true p h = refl
+        by false true h = Prim.grind (arith, nat_tests)
+        by false false h = refl
 
     no_bracket : (o : ℕ) → zone_symbol o ≡ bracket → ⊥
-    no_bracket o h = by (is_zone_plain o) h
+    no_bracket o h = by (is_zone_escape o) (nat_lt 32 o && nat_le o 126) refl h
       where
-        by : (b : Bool) → (if b then Char o else DecimalEscape o) ≡ bracket → ⊥
-        by true is = cc
-        by false is = cc
+        by : (e p : Bool) → is_zone_escape o ≡ e → (if e then SimpleEscape o else (if p then Char o else DecimalEscape o)) ≡ bracket → ⊥
+        by true p h is = let f : o ≡ 91 = cc is in Prim.grind (arith, nat_tests)
+        by false true h is = cc
+        by false false h is = cc
 
 pub All-before : (P : List ℕ → Type 0) (a b : List (List ℕ)) → All P (a ++ b) → All P a
 All-before P [] b h = λ k d lt. absurd (omega arith)

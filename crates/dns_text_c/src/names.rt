@@ -177,8 +177,8 @@ fn print_name(octets: &[u8], form: Form, dot: bool, text: &mut [u8], outcome: &m
 
 /// Prints a name's labels joined by dots, without a dot at the end. The root alone is one dot.
 ///
-/// Labels escape the space, the dot and the backslash, and octets outside 0x20 to 0x7E by their
-/// decimal value. Octets that are no name's are refused, in the order of
+/// This is the form of `domain`: labels escape the space, the dot and the backslash, and octets
+/// outside 0x20 to 0x7E by their decimal value. Octets that are no name's are refused, in the order of
 /// [`UncertainName::from_octets`]; no place is told.
 #[unsafe(no_mangle)]
 pub extern "C" fn dnstext_name_print(name: &[u8], text: &mut [u8], outcome: &mut Outcome) -> u32
@@ -199,9 +199,10 @@ pub extern "C" fn dnstext_name_print_dotted(
     print_name(name, Form::Label, true, text, outcome)
 }
 
-/// Prints a name as zone text has it: letters, digits, `-`, `_` and `*` stand plain, and every
-/// other octet by its decimal value, with a dot at the end of an absolute name. So a name of one
-/// label or more is one word, in which every reader of zone text sees that name.
+/// Prints a name as zone files have it, with a dot at the end of an absolute name. A backslash
+/// precedes `"`, `$`, `(`, `)`, `.`, `;`, `@` and the backslash. Other octets from 0x21 to 0x7E are
+/// plain, and the rest are printed by their decimal value. So a name of one label or more is one
+/// word, which reads as that name.
 #[unsafe(no_mangle)]
 pub extern "C" fn dnstext_name_print_zone(
     name: &[u8],

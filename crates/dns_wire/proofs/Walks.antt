@@ -1,39 +1,23 @@
 -- Labels put into a text one after another.
 use Rattle.std.proofs.Common.{◌≡◌, ℕ, ◌+◌, ◌-◌, ◌*◌, ◌<◌, ◌≤◌, Bool, true, false, List, [], ◌∷◌, ◌++◌, length, take, refl, sym, ap, ◌∙◌, arith, append_assoc, append-nil, length-append}
-use Rattle.std.specs.Prelude.{All, IsTrue, ◌↔◌, encode_utf8_all, Result, Ok, Err, IsOk, OnOk}
+use Rattle.std.specs.Prelude.{IsTrue, ◌↔◌, encode_utf8_all, Result, Ok, Err, IsOk, OnOk}
 use Rattle.std.specs.Str.{IsAscii}
-use Rattle.std.proofs.lemmas.Bool.Decides.{nat_tests}
-use Rattle.std.proofs.lemmas.List.Elements.{All-tail, All-head}
+use Rattle.std.proofs.lemmas.List.Elements.{All-head}
 use Rattle.std.proofs.lemmas.Grind.{common_steps}
 use Rattle.std.proofs.lemmas.Str.{IsAscii-append, IsAscii-take, encodes-IsAscii}
 use Rattle.std.proofs.lemmas.List.{length-take-le, take-take}
 use Rattle.dns_octets.specs.declared.error.ShortBuf.{ShortBuf}
 use Rattle.std.proofs.lemmas.Str.Ascii.{IsAscii-from_all, IsAscii-nil}
 use Rattle.std.proofs.Math.Seq.{take-append_seam}
-use Rattle.dns_symbol.specs.Symbol.{spell}
 use Rattle.dns_wire.specs.Form.{form_text, next_text, name_text}
 use Rattle.dns_wire.specs.Opened.{snoc_same}
 use Rattle.dns_wire.specs.Printed.{joined_by, dotted_by, label_text, without_root}
 use Rattle.dns_wire.specs.Labelled.{Labelled}
 use Rattle.dns_wire.specs.Wire.{wire, wire_length, IsName, EndsInRoot, HasNoRoot}
-use Rattle.dns_wire.specs.ZoneText.{is_zone_plain, zone_symbol, zone_label}
 use Rattle.dns_wire.specs.declared.display.Form.{Form}
 use Rattle.dns_wire.specs.declared.display.Form.TheVariants.{Label, Zone}
 use Rattle.dns_wire.proofs.Texts.{joined_push, without_root_push, none_left_out, dotted_joined, undotted_joined}
-use Rattle.dns_wire.proofs.Wires.{wire_length_append, nil_not, labelled_is, Bytes}
-
--- an octet in zone text is ASCII
-zone_octet_ascii : (o : ℕ) → o < 256 → IsAscii (spell (zone_symbol o))
-zone_octet_ascii o h = IsAscii-from_all _ (by_test (is_zone_plain o) refl)
-  where
-    by_test : (p : Bool) → is_zone_plain o ≡ p → All (λ b. b < 128) (spell (zone_symbol o))
-    by_test true plain = rw plain (Prim.grind (arith, nat_tests))
-    by_test false plain = rw plain (Prim.grind (arith, nat_tests))
-
-pub zone_ascii : (octets : List ℕ) → Bytes octets → IsAscii (zone_label octets)
-zone_ascii [] h = IsAscii-nil
-zone_ascii (o ∷ os) h =
-    IsAscii-append _ _ (zone_octet_ascii o (All-head (λ o. o < 256) o os h)) (zone_ascii os (All-tail (λ o. o < 256) o os h))
+use Rattle.dns_wire.proofs.Wires.{wire_length_append, nil_not, labelled_is}
 
 -- the labels that were put, before those that are left: their characters, and whether the last is the root
 pub record Walked (form : Form) (all rest : List (List ℕ)) (first root : Bool) (put : List ℕ) (end : ℕ) : Type 0 where

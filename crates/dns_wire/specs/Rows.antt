@@ -38,9 +38,19 @@ zone_row : zone_text (codes "_dns-sd" ∷ codes "Az09" ∷ [] ∷ []) ≡ codes 
 unfolding lib.Utf8.encode
 zone_row = refl
 
-zone_escapes_row : zone_text ((59 ∷ 46 ∷ 0 ∷ 255 ∷ []) ∷ codes "*" ∷ [] ∷ []) ≡ codes "\\059\\046\\000\\255.*."
+zone_escapes_row : zone_text (codes "\"$(" ∷ codes ").;" ∷ codes "@\\" ∷ [] ∷ []) ≡ codes "\\\"\\$\\(.\\)\\.\\;.\\@\\\\."
 unfolding lib.Utf8.encode
 zone_escapes_row = refl
+
+-- outside 0x21 to 0x7E
+zone_decimal_row : zone_text ((0 ∷ 32 ∷ 127 ∷ []) ∷ (195 ∷ 169 ∷ 255 ∷ []) ∷ [] ∷ []) ≡ codes "\\000\\032\\127.\\195\\169\\255."
+unfolding lib.Utf8.encode
+zone_decimal_row = refl
+
+-- a slash is plain (RFC 2317), as is all else
+zone_plain_row : zone_text (codes "0/25" ∷ codes "*" ∷ codes "!#%&'+,:<=>?[]^`{|}~" ∷ [] ∷ []) ≡ codes "0/25.*.!#%&'+,:<=>?[]^`{|}~."
+unfolding lib.Utf8.encode
+zone_plain_row = refl
 
 zone_root_row : zone_text ([] ∷ []) ≡ codes "."
 unfolding lib.Utf8.encode
@@ -53,6 +63,6 @@ zone_relative_row = refl
 zone_no_labels_row : zone_text [] ≡ []
 zone_no_labels_row = refl
 
-zone_origin_row : zone_text (codes "@" ∷ []) ≡ codes "\\064"
+zone_origin_row : zone_text (codes "@" ∷ []) ≡ codes "\\@"
 unfolding lib.Utf8.encode
 zone_origin_row = refl

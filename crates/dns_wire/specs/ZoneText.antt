@@ -1,22 +1,27 @@
--- Names in zone text (RFC 1035 section 5.1): no octet is printed as what a reader of zone text gives a meaning of its own.
-use Rattle.std.specs.Prelude.{ℕ, Bool, ◌==◌, ◌||◌, ◌&&◌, nat_le, if◌then◌else◌, List, encode_utf8_all}
+-- Names in zone files (RFC 1035 section 5.1), with the escapes that BIND prints: no octet is printed as what a zone file gives a meaning of its own.
+use Rattle.std.specs.Prelude.{ℕ, Bool, ◌==◌, ◌||◌, ◌&&◌, nat_lt, nat_le, if◌then◌else◌, List, encode_utf8_all}
 use Rattle.std.specs.List.{flat_map}
-use Rattle.dns_symbol.specs.Symbol.{spell, is_digit}
+use Rattle.dns_symbol.specs.Characters.{space, double_quote, open_parenthesis, close_parenthesis, dot, semicolon, backslash, tilde}
+use Rattle.dns_symbol.specs.Symbol.{spell}
 use Rattle.dns_symbol.specs.declared.symbol.Symbol.{Symbol}
-use Rattle.dns_symbol.specs.declared.symbol.Symbol.TheVariants.{Char, DecimalEscape}
+use Rattle.dns_symbol.specs.declared.symbol.Symbol.TheVariants.{Char, SimpleEscape, DecimalEscape}
 use Rattle.dns_wire.specs.Printed.{dotted_by}
 
--- a letter from A to Z, in either case
-abbrev pub is_letter : ℕ → Bool
-is_letter o = (nat_le 65 o && nat_le o 90) || (nat_le 97 o && nat_le o 122)
+-- the sign of a directive
+abbrev dollar_sign : ℕ
+dollar_sign = 36
 
--- letters, digits, the hyphen, the underscore and the asterisk
-abbrev pub is_zone_plain : ℕ → Bool
-is_zone_plain o = is_letter o || is_digit o || o == 45 || o == 95 || o == 42
+-- the sign of the origin
+abbrev origin_sign : ℕ
+origin_sign = 64
 
--- these stand plain, and every other octet by its decimal value
+-- a backslash precedes these
+abbrev pub is_zone_escape : ℕ → Bool
+is_zone_escape o = o == double_quote || o == dollar_sign || o == open_parenthesis || o == close_parenthesis || o == dot || o == semicolon || o == origin_sign || o == backslash
+
+-- the others from 0x21 to 0x7E are plain, and each other octet is a backslash and its three decimal digits
 abbrev pub zone_symbol : ℕ → Symbol
-zone_symbol o = if is_zone_plain o then Char o else DecimalEscape o
+zone_symbol o = if is_zone_escape o then SimpleEscape o else (if nat_lt space o && nat_le o tilde then Char o else DecimalEscape o)
 
 -- the characters of a label
 abbrev pub zone_label : List ℕ → List ℕ

@@ -1,28 +1,28 @@
-//! The text of labels and names.
+//! The text of labels and names (RFC 1035 section 5.1), in one of two forms ([`Form`]).
 //!
-//! A label escapes the space, the dot and the backslash by a backslash, and octets outside 0x20 to
-//! 0x7E by their decimal value (RFC 1035 section 5.1). It prints the double quote, the semicolon
-//! and parentheses plain, which end a token of zone text: [`ZoneName`] prints a name there.
+//! [`Form::Label`] is the form of `domain`, in which labels and names print by themselves. It
+//! escapes the space, the dot and the backslash by a backslash, and octets outside 0x20 to 0x7E by
+//! their decimal value. The double quote, the semicolon and parentheses are plain, which end a
+//! token of a zone file: there [`ZoneName`] prints a name, in [`Form::Zone`].
 ghost use Rattle.std.specs.Prelude.{◌≡◌, ◌≤◌, ◌<◌, ◌+◌, ◌*◌, ◌↔◌, ◌++◌, Bool, List, ℕ, length, take, IsTrue, encode_utf8_all};
 ghost use Rattle.std.specs.Fmt.{WritesOnOk};
 ghost use Rattle.std.specs.Str.{IsAscii};
-ghost use Rattle.dns_symbol.specs.Symbol.{spell};
 ghost use Rattle.dns_wire.specs.Form.{form_text, next_text, name_text};
 ghost use Rattle.dns_wire.specs.Printed.{is_label_escape, joined_by};
 ghost use Rattle.dns_wire.specs.Wire.{wire, wire_length, EndsInRoot};
-ghost use Rattle.dns_wire.specs.ZoneText.{zone_label, zone_symbol};
 
 use crate::label::Label;
 use crate::name::Name;
 use crate::name_iter::NameIter;
 use crate::relative::RelativeName;
 use crate::to_label_iter::ToLabelIter;
+use crate::zone_label::put_zone_octets;
 use arrayvec::ArrayVec;
 use dns_octets::AsOctets;
-use dns_symbol::form::{self, ascii_text, put_decimal, put_octets, write_octets};
+use dns_symbol::form::{self, ascii_text, put_octets, write_octets};
 use std::fmt;
 
-// The form of a label: it escapes the space, the dot and the backslash.
+// The form of a label in `domain`: it escapes the space, the dot and the backslash.
 struct InLabel;
 
 impl form::Form for InLabel {
@@ -34,43 +34,12 @@ impl form::Form for InLabel {
     }
 }
 
-// Puts the characters of an octet in zone text into a text at a place, and returns the place after
-// them: a letter, a digit, `-`, `_` or `*` alone, another octet by its decimal value.
-#[inline(always)]
-fn put_zone_octet(octet: u8, text: &mut [u8], at: usize) -> usize
-    requires room { at + 4 ≤ length text.old }
-    ensures text { take result text.new ≡ take at text.old ++ spell (zone_symbol octet) }
-    ensures fits { result ≤ at + 4 }
-{
-    match octet {
-        b'A'..=b'Z' | b'a'..=b'z' | b'0'..=b'9' | b'-' | b'_' | b'*' => {
-            text[at] = octet;
-            at + 1
-        }
-        _ => put_decimal(octet, text, at),
-    }
-}
-
-// Puts the characters of octets in zone text into a text at a place.
-fn put_zone_octets(octets: &[u8], text: &mut [u8], at: usize) -> usize
-    requires room { at + 4 * length octets.now ≤ length text.old }
-    ensures text { take result text.new ≡ take at text.old ++ zone_label octets.now }
-    ensures fits { result ≤ at + 4 * length octets.now }
-    ensures ascii { IsAscii (zone_label octets.now) }
-{
-    let mut end = at;
-    for octet in octets {
-        end = put_zone_octet(*octet, text, end);
-    }
-    end
-}
-
 /// How the labels of a name are printed.
 #[derive(Clone, Copy)]
 pub enum Form {
-    /// The space, the dot and the backslash are escaped by a backslash.
+    /// As in `domain`: the space, the dot and the backslash are escaped by a backslash.
     Label,
-    /// All but letters, digits, `-`, `_` and `*` is escaped by its decimal value.
+    /// As in zone files ([`zone_label`](crate::zone_label)).
     Zone,
 }
 
@@ -208,13 +177,13 @@ impl<N: ToLabelIter> fmt::Display for DisplayWithDot<'_, N> {
     }
 }
 
-/// A name in zone text (RFC 1035 section 5.1): its labels joined by dots, with a dot at the end
-/// where it is absolute. The root alone is one dot.
+/// A name in a zone file (RFC 1035 section 5.1): its labels joined by dots, with a dot at the end
+/// if it is absolute. The root alone is one dot.
 ///
-/// Letters, digits, `-`, `_` and `*` stand plain, and every other octet by its decimal value, as
-/// `\DDD`. So a name of one label or more is one word, in which every reader of zone text sees that
-/// name. A relative name of no labels prints nothing, the only text that reads as it: `@` would
-/// read as a label of that one character.
+/// A backslash precedes `"`, `$`, `(`, `)`, `.`, `;`, `@` and the backslash. Other octets from 0x21
+/// to 0x7E are plain, and the rest are `\DDD`, as BIND prints them. So a name of one label or more is
+/// one word, which reads as that name. A relative name of no labels prints nothing, the only text
+/// that reads as it: `@` would read as a label of that one character, or as the origin.
 #[derive(Drop)]
 pub struct ZoneName<'a, N: ToLabelIter> {
     name: &'a N,

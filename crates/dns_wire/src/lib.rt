@@ -27,6 +27,7 @@ pub mod name_iter;
 pub mod relative;
 pub mod split;
 pub mod to_label_iter;
+pub mod zone_label;
 
 pub use display::{DisplayWithDot, DisplayWithoutDot, Form, ZoneName, labels_in};
 pub use dns_octets::{
@@ -41,3 +42,4 @@ pub use name_builder::NameBuilder;
 pub use name_iter::NameIter;
 pub use relative::{MAX_RELATIVE, RelativeName};
 pub use to_label_iter::{ToLabelIter, ToName, ToRelativeName};
+pub use zone_label::write_zone_label;

@@ -16,8 +16,9 @@ use std::hash::{Hash, Hasher};
 
 /// A name, absolute or relative: at most 255 octets in wire form (RFC 1035 section 3.1).
 ///
-/// It prints as zone text: as one word, which every reader of zone text reads as that name.
-/// [`dotted`](Name::dotted) and [`without_dot`](Name::without_dot) print it for other uses.
+/// It prints as zone files have it: as one word, which reads as that name.
+/// [`zone_text`](Name::zone_text) has the rule. [`dotted`](Name::dotted) and
+/// [`without_dot`](Name::without_dot) print it as `domain` does.
 ///
 /// Equality, order and hash leave the case of ASCII letters aside (RFC 1035 section 2.3.3). A
 /// relative name never equals an absolute one. Where case tells, compare the octets. The order of
@@ -30,11 +31,11 @@ use std::hash::{Hash, Hasher};
 /// let name = Name::from_text(br"Action\.domains.ISI.EDU.")?;
 /// assert_eq!(name.as_octets(), b"\x0EAction.domains\x03ISI\x03EDU\0");
 /// assert!(name.is_absolute());
-/// assert_eq!(name.to_string(), r"Action\046domains.ISI.EDU.");
+/// assert_eq!(name.to_string(), r"Action\.domains.ISI.EDU.");
 /// assert_eq!(name.dotted(), r"Action\.domains.ISI.EDU.");
 /// assert_eq!(name.without_dot(), r"Action\.domains.ISI.EDU");
 /// assert_eq!(name, r"action\.domains.isi.edu.".parse()?);
-/// assert_eq!(format!("{name:?}"), r"Name(Action\046domains.ISI.EDU.)");
+/// assert_eq!(format!("{name:?}"), r"Name(Action\.domains.ISI.EDU.)");
 /// assert!("example.".parse::<Name>()? < "a.example.".parse()?);
 /// # Ok::<(), dns_text::NameError>(())
 /// ```
@@ -126,9 +127,10 @@ impl Name {
         self.octets
     }
 
-    /// The labels joined by dots, with a dot at the end of an absolute name. Labels escape the space,
-    /// the dot and the backslash, and what is not printable ASCII by its decimal value: so this is no
-    /// word of zone text where a label has a parenthesis, a semicolon or a quote.
+    /// The labels joined by dots, with a dot at the end of an absolute name, as `domain` prints it.
+    /// Labels escape the space, the dot and the backslash, and what is not printable ASCII by its
+    /// decimal value. So this is no word of a zone file if a label has a parenthesis, a semicolon or a
+    /// quote.
     pub fn dotted(&self) -> String {
         self.printed(dnstext_name_print_dotted)
     }
@@ -138,10 +140,19 @@ impl Name {
         self.printed(dnstext_name_print)
     }
 
-    /// The name as zone text has it: letters, digits, `-`, `_` and `*` stand plain, and every
-    /// other octet by its decimal value. So a name of one label or more is one word, in which every
-    /// reader of zone text sees that name. The relative name of no labels prints nothing, which is
-    /// no word.
+    /// The name as zone files have it, with a dot at the end of an absolute name. A backslash
+    /// precedes `"`, `$`, `(`, `)`, `.`, `;`, `@` and the backslash. Other octets from 0x21 to 0x7E are
+    /// plain, and the rest are printed by their decimal value. So a name of one label or more is one
+    /// word, which reads as that name. The relative name of no labels prints nothing, which is no
+    /// word.
+    ///
+    /// ```
+    /// use dns_text::Name;
+    ///
+    /// let name = Name::from_octets(b"\x03a(b\x040/25\x02\xC3\xA9\0".to_vec())?;
+    /// assert_eq!(name.zone_text(), r"a\(b.0/25.\195\169.");
+    /// # Ok::<(), dns_text::NameOctetsError>(())
+    /// ```
     pub fn zone_text(&self) -> String {
         self.printed(dnstext_name_print_zone)
     }

@@ -121,7 +121,7 @@ fn origins_are_appended() {
     );
 }
 
-/// A name prints as one word, of which the reader makes the name.
+/// A name prints as one word, which reads as the name.
 #[test]
 fn names_print_as_zone_text() {
     for text in [
@@ -139,6 +139,10 @@ fn names_print_as_zone_text() {
         assert_eq!(other.owner, name("b."));
     }
     assert_eq!(name("a(b.").dotted(), "a(b.");
+    let octets = b"\x08\"$().;@\\\x020/\x04 \x7F\xC3\xA9\x02*_\0".to_vec();
+    let printed = Name::from_octets(octets).unwrap();
+    let text = r#"\"\$\(\)\.\;\@\\.0/.\032\127\195\169.*_."#;
+    assert_eq!((printed.to_string(), name(text)), (text.into(), printed));
     assert_eq!(
         format!("{:<5}|{:>5}|{:^5}", name("a."), name("b"), name("c.")),
         "a.   |    b| c.  "
@@ -161,7 +165,7 @@ fn strings_are_read() {
     assert_eq!(Name::try_from("a.").unwrap().as_ref(), b"\x01a\0");
     assert_eq!(
         format!("{:?} {:?}", name("a\\.b"), name("")),
-        r"Name(a\046b) Name()"
+        r"Name(a\.b) Name()"
     );
     assert_eq!(
         "é".parse::<CharStr>().unwrap_err().kind,

@@ -1,6 +1,6 @@
 use Rattle.std.proofs.Common.{◌≡◌, ◌+◌, ◌*◌, ◌≤◌, ◌++◌, take}
 use Rattle.dns_wire.specs.ZoneText.{zone_label}
-use Rattle.dns_wire.proofs.display.put_zone_octets.Given as goal
+use Rattle.dns_wire.proofs.zone_label.put_zone_octets.Given as goal
 
 abbrev pub invariant-loop-octet : goal.invariant-loop-octet
 invariant-loop-octet l = record {
