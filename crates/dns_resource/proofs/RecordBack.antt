@@ -9,7 +9,7 @@ use Rattle.dns_kinds.specs.Types.{SpellsType, type_text, portable_text}
 use Rattle.dns_kinds.proofs.CodeLaws.{types_are_kind, portable_types_are_kind, classes_are_kind}
 use Rattle.dns_kinds.proofs.TtlLaws.{ttls_are_kind}
 use Rattle.dns_spelling.specs.NameSpelling.{IsOrigin, IsWireName, SpellsName, dotted_parts}
-use Rattle.dns_spelling.specs.PrintedNames.{is_name_escape, name_symbol, name_label, wire_name_text}
+use Rattle.dns_spelling.specs.PrintedNames.{wire_name_text}
 use Rattle.dns_spelling.proofs.NameFronts.{name_front_plain}
 use Rattle.dns_spelling.proofs.NameLaws.{front_parts, name_text_is, names_spelled, printed_parts as printed_name}
 use Rattle.dns_spelling.proofs.NameWords.{name_is_word}
@@ -18,6 +18,7 @@ use Rattle.dns_symbol.specs.Symbol.{spell}
 use Rattle.dns_symbol.specs.declared.symbol.Symbol.TheVariants.{Char, SimpleEscape, DecimalEscape}
 use Rattle.dns_wire.specs.Printed.{dotted_by}
 use Rattle.dns_wire.specs.Wire.{wire, IsPlain}
+use Rattle.dns_wire.specs.ZoneText.{is_zone_escape, zone_symbol, zone_label}
 use Rattle.dns_data.specs.ByType.{shape_of_code}
 use Rattle.dns_data.specs.Rests.{ArePrinted}
 use Rattle.dns_resource.specs.Records.{data_of, record_tokens, record_type_text}
@@ -33,29 +34,29 @@ record BeginsPlain (text : List ℕ) : Type 0 where
   pub no_dollar : slice_index text 0 ≢ 36
   pub no_at : slice_index text 0 ≢ 64
 
-octet_begins : (o : ℕ) (rest : List ℕ) → BeginsPlain (spell (name_symbol o) ++ rest)
-octet_begins o rest = by (is_name_escape o) (nat_lt 32 o && nat_le o 126) refl
+octet_begins : (o : ℕ) (rest : List ℕ) → BeginsPlain (spell (zone_symbol o) ++ rest)
+octet_begins o rest = by (is_zone_escape o) (nat_lt 32 o && nat_le o 126) refl
   where
-    by : (e p : Bool) → is_name_escape o ≡ e → BeginsPlain (spell (if e then SimpleEscape o else (if p then Char o else DecimalEscape o)) ++ rest)
+    by : (e p : Bool) → is_zone_escape o ≡ e → BeginsPlain (spell (if e then SimpleEscape o else (if p then Char o else DecimalEscape o)) ++ rest)
     by true p is = record { some = omega arith; no_dollar = λ h. omega (arith, h); no_at = λ h. omega (arith, h) }
     by false true is = record {
       some = omega arith;
-      no_dollar = λ h. true≢false (subst (λ x. is_name_escape x ≡ false) h is);
-      no_at = λ h. true≢false (subst (λ x. is_name_escape x ≡ false) h is);
+      no_dollar = λ h. true≢false (subst (λ x. is_zone_escape x ≡ false) h is);
+      no_at = λ h. true≢false (subst (λ x. is_zone_escape x ≡ false) h is);
     }
     by false false is = record { some = omega arith; no_dollar = λ h. omega (arith, h); no_at = λ h. omega (arith, h) }
 
-label_begins : (label rest : List ℕ) → IsPlain label → BeginsPlain (flat_map spell (map name_symbol label) ++ rest)
+label_begins : (label rest : List ℕ) → IsPlain label → BeginsPlain (flat_map spell (map zone_symbol label) ++ rest)
 label_begins [] rest plain = absurd (omega (arith, plain.0))
 label_begins (o ∷ os) rest plain =
-    subst BeginsPlain (sym (append_assoc (spell (name_symbol o)) (flat_map spell (map name_symbol os)) rest)) (octet_begins o (flat_map spell (map name_symbol os) ++ rest))
+    subst BeginsPlain (sym (append_assoc (spell (zone_symbol o)) (flat_map spell (map zone_symbol os)) rest)) (octet_begins o (flat_map spell (map zone_symbol os) ++ rest))
 
-front_begins : (labels front : List (List ℕ)) → All IsPlain front → labels ≡ front ++ [] ∷ [] → BeginsPlain (dotted_by name_label labels)
-front_begins labels [] plain is = subst (λ l. BeginsPlain (dotted_by name_label l)) (sym is) (record { some = omega arith; no_dollar = λ h. omega (arith, h); no_at = λ h. omega (arith, h) })
+front_begins : (labels front : List (List ℕ)) → All IsPlain front → labels ≡ front ++ [] ∷ [] → BeginsPlain (dotted_by zone_label labels)
+front_begins labels [] plain is = subst (λ l. BeginsPlain (dotted_by zone_label l)) (sym is) (record { some = omega arith; no_dollar = λ h. omega (arith, h); no_at = λ h. omega (arith, h) })
 front_begins labels (x ∷ xs) plain is =
-    let first = flat_map spell (map name_symbol x) in
-    let text : dotted_by name_label labels ≡ first ++ (46 ∷ dotted_parts (front_parts xs)) =
-    ap (dotted_by name_label) is ∙ printed_name x xs ∙ append_assoc first (46 ∷ []) (dotted_parts (front_parts xs)) in
+    let first = flat_map spell (map zone_symbol x) in
+    let text : dotted_by zone_label labels ≡ first ++ (46 ∷ dotted_parts (front_parts xs)) =
+    ap (dotted_by zone_label) is ∙ printed_name x xs ∙ append_assoc first (46 ∷ []) (dotted_parts (front_parts xs)) in
     subst BeginsPlain (sym text) (label_begins x (46 ∷ dotted_parts (front_parts xs)) (All-head IsPlain x xs plain))
 
 pub owner_word : (form : List ℕ) → IsWireName form → IsOwnerWord (wire_name_text form)

@@ -28,11 +28,12 @@ use Rattle.dns_places.specs.Prefixes.{address_text, exclusion, family_of, prefix
 use Rattle.dns_places.specs.declared.apl.Prefix.{Prefix}
 use Rattle.dns_places.specs.declared.location.Location.{Location}
 use Rattle.dns_spelling.specs.NameSpelling.{IsWireName, dotted_parts}
-use Rattle.dns_spelling.specs.PrintedNames.{name_label, name_symbol, wire_name_text}
+use Rattle.dns_spelling.specs.PrintedNames.{wire_name_text}
 use Rattle.dns_spelling.proofs.NameLaws.{front_parts, name_text_is, printed_parts as printed_name}
 use Rattle.dns_split.specs.EntryTokens.{TokenSeen}
 use Rattle.dns_symbol.specs.Symbol.{spell}
 use Rattle.dns_wire.specs.Printed.{dotted_by}
+use Rattle.dns_wire.specs.ZoneText.{zone_label, zone_symbol}
 use Rattle.dns_data.specs.Digits.{printed_digits}
 use Rattle.dns_data.specs.Generic.{BeginsGeneric}
 use Rattle.dns_data.specs.PrefixLists.{prefixes_form}
@@ -91,10 +92,10 @@ dot_within (x ∷ xs) ys = by (x == 46) (dot_within xs ys)
 no_dotted : (text xs ys : List ℕ) → text ≡ xs ++ 46 ∷ ys → text ≡ mark → ⊥
 no_dotted text xs ys is here = true≢false (sym (dot_within xs ys) ∙ ap has_dot (sym is ∙ here))
 
-front_text : (front : List (List ℕ)) → (xs ys : List ℕ) × (dotted_by name_label (front ++ [] ∷ []) ≡ xs ++ 46 ∷ ys)
+front_text : (front : List (List ℕ)) → (xs ys : List ℕ) × (dotted_by zone_label (front ++ [] ∷ []) ≡ xs ++ 46 ∷ ys)
 front_text [] = ([], [], refl)
 front_text (x ∷ xs) =
-    let first = flat_map spell (map name_symbol x) in
+    let first = flat_map spell (map zone_symbol x) in
     let rest = dotted_parts (front_parts xs) in
     (first, rest, printed_name x xs ∙ append_assoc first (46 ∷ []) rest)
 
@@ -102,7 +103,7 @@ no_name : (form : List ℕ) → IsWireName form → wire_name_text form ≡ mark
 no_name form h is =
     let front = h.absolute.0 in
     let t = front_text front in
-    let text : wire_name_text form ≡ t.0 ++ 46 ∷ t.1 = name_text_is form h.labels h.whole ∙ ap (dotted_by name_label) h.absolute.1 ∙ t.2 in
+    let text : wire_name_text form ≡ t.0 ++ 46 ∷ t.1 = name_text_is form h.labels h.whole ∙ ap (dotted_by zone_label) h.absolute.1 ∙ t.2 in
     no_dotted (wire_name_text form) t.0 t.1 text is
 
 -- ---- codes

@@ -10,13 +10,14 @@ use Rattle.dns_symbol.specs.declared.symbol.Symbol.TheVariants.{Char, SimpleEsca
 use Rattle.dns_wire.specs.Building.{closed}
 use Rattle.dns_wire.specs.Printed.{joined_by, dotted_by}
 use Rattle.dns_wire.specs.Wire.{wire, wire_label, IsPlain, IsName}
+use Rattle.dns_wire.specs.ZoneText.{is_zone_escape, zone_symbol, zone_label}
 use Rattle.dns_wire.proofs.Texts.{dotted_joined}
 use Rattle.dns_wire.proofs.Wires.{wire_append, labels_bytes}
 use Rattle.dns_symbol.specs.Escape.{octet_for}
 use Rattle.dns_spelling.specs.Spelling.{AreOctetValues}
 use Rattle.dns_spelling.specs.Forms.{AreSpelled}
 use Rattle.dns_spelling.specs.NameSpelling.{is_label_spelling, AreLabelSpellings, IsLabelPart, dotted_parts, part_labels, SpellsParts, SpellsLabels, root_alone, origin_alone, absolute, relative, SpellsName, IsWireName, IsOrigin}
-use Rattle.dns_spelling.specs.PrintedNames.{is_name_escape, name_symbol, name_label, labels_in_octets, wire_name_text}
+use Rattle.dns_spelling.specs.PrintedNames.{labels_in_octets, wire_name_text}
 use Rattle.dns_spelling.proofs.FormLaws.{values_front, values_back, symbols_values}
 use Rattle.dns_spelling.proofs.LabelParts.{labels_are_spellings, labels_nil, dotted_cons}
 use Rattle.dns_spelling.proofs.NameFronts.{name_front_plain}
@@ -92,87 +93,87 @@ wire_labels (l ∷ ls) =
     octets_labels (length l) (l ++ wire ls) ∙ ap (λ t. t ∷ labels_in_octets (drop (length l) (l ++ wire ls))) (take_own l (wire ls))
     ∙ ap (λ r. l ∷ labels_in_octets r) (drop_own l (wire ls)) ∙ ap (λ r. l ∷ r) (wire_labels ls)
 
-name_stands : (o : ℕ) → octet_for (name_symbol o) ≡ o
-name_stands o = by_tests (is_name_escape o) (nat_lt 32 o && nat_le o 126)
+name_stands : (o : ℕ) → octet_for (zone_symbol o) ≡ o
+name_stands o = by_tests (is_zone_escape o) (nat_lt 32 o && nat_le o 126)
   where
     by_tests : (e p : Bool) → octet_for (if e then SimpleEscape o else (if p then Char o else DecimalEscape o)) ≡ o
     by_tests true p = refl
     by_tests false true = refl
     by_tests false false = refl
 
-name_own : (o : ℕ) → o < 256 → is_label_spelling (name_symbol o) ≡ true
-name_own o low = by_tests (is_name_escape o) (nat_lt 32 o && nat_le o 126) refl refl
+name_own : (o : ℕ) → o < 256 → is_label_spelling (zone_symbol o) ≡ true
+name_own o low = by_tests (is_zone_escape o) (nat_lt 32 o && nat_le o 126) refl refl
   where
-    by_tests : (e p : Bool) → is_name_escape o ≡ e → (nat_lt 32 o && nat_le o 126) ≡ p → is_label_spelling (if e then SimpleEscape o else (if p then Char o else DecimalEscape o)) ≡ true
+    by_tests : (e p : Bool) → is_zone_escape o ≡ e → (nat_lt 32 o && nat_le o 126) ≡ p → is_label_spelling (if e then SimpleEscape o else (if p then Char o else DecimalEscape o)) ≡ true
     by_tests true p is shown = grind (arith, nat_tests)
     by_tests false true is shown = grind (arith, nat_tests)
     by_tests false false is shown = grind (arith, nat_tests)
 
-label_own : (label : List ℕ) → AreOctetValues label → AreLabelSpellings (map name_symbol label)
+pub label_own : (label : List ℕ) → AreOctetValues label → AreLabelSpellings (map zone_symbol label)
 label_own [] h = refl
 label_own (o ∷ os) h = rw (name_own o (All-head IsOctet o os h), label_own os (All-tail IsOctet o os h)) refl
 
-symbols_length : (label : List ℕ) → length (map name_symbol label) ≡ length label
+pub symbols_length : (label : List ℕ) → length (map zone_symbol label) ≡ length label
 symbols_length [] = refl
 symbols_length (o ∷ os) = ap suc (symbols_length os)
 
-label_whole : (label : List ℕ) → name_label label ≡ flat_map spell (map name_symbol label)
+pub label_whole : (label : List ℕ) → zone_label label ≡ flat_map spell (map zone_symbol label)
 label_whole label = whole label
   where
-    whole : (label : List ℕ) → flat_map (λ o. spell (name_symbol o)) label ≡ flat_map spell (map name_symbol label)
+    whole : (label : List ℕ) → flat_map (λ o. spell (zone_symbol o)) label ≡ flat_map spell (map zone_symbol label)
     whole [] = refl
-    whole (o ∷ os) = ap (λ t. spell (name_symbol o) ++ t) (whole os)
+    whole (o ∷ os) = ap (λ t. spell (zone_symbol o) ++ t) (whole os)
 
 abbrev pub front_parts : List (List ℕ) → List (List Symbol)
-front_parts labels = map (map name_symbol) labels
+front_parts labels = map (map zone_symbol) labels
 
-parts_own : (front : List (List ℕ)) → All IsPlain front → All AreOctetValues front → All IsLabelPart (front_parts front)
+pub parts_own : (front : List (List ℕ)) → All IsPlain front → All AreOctetValues front → All IsLabelPart (front_parts front)
 parts_own [] p v = λ k d lt. absurd (omega arith)
 parts_own (l ∷ ls) p v =
     let plain = All-head IsPlain l ls p in
-    All-cons IsLabelPart (map name_symbol l) (front_parts ls)
+    All-cons IsLabelPart (map zone_symbol l) (front_parts ls)
     (record { each = label_own l (All-head AreOctetValues l ls v); some = omega (arith, plain.0, symbols_length l); short = omega (arith, plain.1, symbols_length l) })
     (parts_own ls (All-tail IsPlain l ls p) (All-tail AreOctetValues l ls v))
 
-label_octets_are : (label : List ℕ) → label ≡ map octet_for (map name_symbol label)
+pub label_octets_are : (label : List ℕ) → label ≡ map octet_for (map zone_symbol label)
 label_octets_are [] = refl
 label_octets_are (o ∷ os) = let e = name_stands o in let f = label_octets_are os in cc
 
-parts_octets_are : (front : List (List ℕ)) → front ≡ map (map octet_for) (front_parts front)
+pub parts_octets_are : (front : List (List ℕ)) → front ≡ map (map octet_for) (front_parts front)
 parts_octets_are [] = refl
 parts_octets_are (l ∷ ls) = let e = label_octets_are l in let f = parts_octets_are ls in cc
 
 -- the text of labels and the root
-joined_root : (x : List ℕ) (xs : List (List ℕ)) → joined_by name_label ((x ∷ xs) ++ [] ∷ []) ≡ dotted_parts (front_parts (x ∷ xs))
-joined_root x [] = ap (λ t. t ++ 46 ∷ []) (label_whole x) ∙ sym (append-nil (flat_map spell (map name_symbol x) ++ 46 ∷ []))
+joined_root : (x : List ℕ) (xs : List (List ℕ)) → joined_by zone_label ((x ∷ xs) ++ [] ∷ []) ≡ dotted_parts (front_parts (x ∷ xs))
+joined_root x [] = ap (λ t. t ++ 46 ∷ []) (label_whole x) ∙ sym (append-nil (flat_map spell (map zone_symbol x) ++ 46 ∷ []))
 joined_root x (y ∷ ys) =
-    ap (λ t. name_label x ++ 46 ∷ t) (joined_root y ys) ∙ sym (append_assoc (name_label x) (46 ∷ []) (dotted_parts (front_parts (y ∷ ys))))
+    ap (λ t. zone_label x ++ 46 ∷ t) (joined_root y ys) ∙ sym (append_assoc (zone_label x) (46 ∷ []) (dotted_parts (front_parts (y ∷ ys))))
     ∙ ap (λ t. (t ++ 46 ∷ []) ++ dotted_parts (front_parts (y ∷ ys))) (label_whole x)
 
-pub printed_parts : (x : List ℕ) (xs : List (List ℕ)) → dotted_by name_label ((x ∷ xs) ++ [] ∷ []) ≡ dotted_parts (front_parts (x ∷ xs))
+pub printed_parts : (x : List ℕ) (xs : List (List ℕ)) → dotted_by zone_label ((x ∷ xs) ++ [] ∷ []) ≡ dotted_parts (front_parts (x ∷ xs))
 printed_parts x xs =
-    dotted_joined name_label ((x ∷ xs) ++ [] ∷ []) (λ e. let l = ap length e in omega (arith, l, length-append xs ([] ∷ []))) ∙ joined_root x xs
+    dotted_joined zone_label ((x ∷ xs) ++ [] ∷ []) (λ e. let l = ap length e in omega (arith, l, length-append xs ([] ∷ []))) ∙ joined_root x xs
 
 pub front_values : (front : List (List ℕ)) → AreOctetValues (wire (front ++ [] ∷ [])) → All AreOctetValues front
 front_values front h =
     labels_bytes front (values_front (wire front) (wire ([] ∷ [])) (subst AreOctetValues (wire_append front ([] ∷ [])) h))
 
-name_spells : (origin : Option (List (List ℕ))) (labels front : List (List ℕ)) → IsName labels → AreOctetValues (wire labels) → labels ≡ front ++ [] ∷ [] → SpellsLabels origin (dotted_by name_label labels) labels
-name_spells origin labels [] n v e = root_alone (ap (dotted_by name_label) e) e
+pub name_spells : (origin : Option (List (List ℕ))) (labels front : List (List ℕ)) → IsName labels → AreOctetValues (wire labels) → labels ≡ front ++ [] ∷ [] → SpellsLabels origin (dotted_by zone_label labels) labels
+name_spells origin labels [] n v e = root_alone (ap (dotted_by zone_label) e) e
 name_spells origin labels (x ∷ xs) n v e =
     absolute (front_parts (x ∷ xs)) (omega arith)
     (record {
       front = record {
         each = parts_own (x ∷ xs) (name_front_plain labels (x ∷ xs) n e) (front_values (x ∷ xs) (subst (λ l. AreOctetValues (wire l)) e v));
-        whole = ap (dotted_by name_label) e ∙ printed_parts x xs ∙ sym (append-nil (dotted_parts (front_parts (x ∷ xs))));
+        whole = ap (dotted_by zone_label) e ∙ printed_parts x xs ∙ sym (append-nil (dotted_parts (front_parts (x ∷ xs))));
       };
       last_each = refl;
       last_short = omega arith;
     })
     (e ∙ ap (λ l. l ++ [] ∷ []) (parts_octets_are (x ∷ xs) ∙ sym (labels_nil (front_parts (x ∷ xs)))))
 
-pub name_text_is : (form : List ℕ) (labels : List (List ℕ)) → form ≡ wire labels → wire_name_text form ≡ dotted_by name_label labels
-name_text_is form labels e = ap (λ f. dotted_by name_label (labels_in_octets f)) e ∙ ap (dotted_by name_label) (wire_labels labels)
+pub name_text_is : (form : List ℕ) (labels : List (List ℕ)) → form ≡ wire labels → wire_name_text form ≡ dotted_by zone_label labels
+name_text_is form labels e = ap (λ f. dotted_by zone_label (labels_in_octets f)) e ∙ ap (dotted_by zone_label) (wire_labels labels)
 
 pub names_spelled : (origin : Option (List (List ℕ))) → IsOrigin origin → AreSpelled IsWireName (SpellsName origin) wire_name_text
 names_spelled origin o = record {

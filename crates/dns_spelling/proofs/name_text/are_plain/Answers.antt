@@ -1,9 +1,0 @@
-use Rattle.std.proofs.lemmas.List.{get_or_default}
-use Rattle.dns_spelling.proofs.PrintedLabels.{label_ascii}
-use Rattle.dns_spelling.proofs.name_text.are_plain.Goals as goal
-
-pub returns-clause-ascii : goal.returns-clause-ascii
-returns-clause-ascii c = label_ascii c.args.label.now (λ k d h. rw (get_or_default c.args.label.now k d 0 h) (c.type_inv.label k).fits)
-
-pub returns-then-not-is_plain-clause-ascii : goal.returns-then-not-is_plain-clause-ascii
-returns-then-not-is_plain-clause-ascii c = label_ascii c.args.label.now (λ k d h. rw (get_or_default c.args.label.now k d 0 h) (c.type_inv.label k).fits)
