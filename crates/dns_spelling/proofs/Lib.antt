@@ -8,3 +8,4 @@ pub mod NameReadings
 pub mod NameWords
 pub mod PrintedLabels
 pub mod Spellings
+pub mod ZoneTexts
