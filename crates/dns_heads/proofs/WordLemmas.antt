@@ -10,12 +10,13 @@ use Rattle.std.proofs.lemmas.Bool.Decides.{nat_tests}
 use Rattle.std.proofs.lemmas.List.{take-map}
 use Rattle.std.proofs.lemmas.Slice.Eq.{bytes_eq-Decides}
 use Rattle.dns_kinds.specs.Classes.{class_rows, class_prefix, SpellsClass}
-use Rattle.dns_kinds.specs.Registry.{Row, in_small_letters, row_code, IsNumbered, SpellsCode}
+use Rattle.dns_kinds.specs.Registry.{Row, row_code, IsNumbered, SpellsCode}
 use Rattle.dns_kinds.specs.Ttl.{SpellsInterval, SpellsTtl}
 use Rattle.dns_kinds.specs.Types.{type_rows, type_prefix, SpellsType}
 use Rattle.dns_kinds.proofs.CodeLaws.{classes_are_kind, types_are_kind}
 use Rattle.dns_kinds.proofs.Periods.{after_periods}
 use Rattle.dns_kinds.proofs.TtlLaws.{seconds_once}
+use Rattle.dns_octets.specs.Lowered.{lowered}
 use Rattle.dns_split.specs.EntryTokens.{TokenSeen}
 use Rattle.dns_heads.specs.HeadWords.{SaysTtl, SaysClass, SaysType, HeadWordsApart, begins_with_digit, ttl_of_seconds}
 
@@ -51,26 +52,26 @@ ttl_digit (c ∷ cs) n h = ⊎_elim (λ k. is_digit_value c k.0.1.0) (λ k. is_d
 
 module _ (like : List ℕ → Bool) where
   abbrev all_like : List Row → Bool
-  all_like = list_all (λ (r : Row). like (in_small_letters r.name))
+  all_like = list_all (λ (r : Row). like (lowered r.name))
 
-  row_like : (rs : List Row) → all_like rs ≡ true → (text : List ℕ) (code : ℕ) → row_code rs text ≡ Some code → like (in_small_letters text) ≡ true
+  row_like : (rs : List Row) → all_like rs ≡ true → (text : List ℕ) (code : ℕ) → row_code rs text ≡ Some code → like (lowered text) ≡ true
   row_like [] h text code e = cc
-  row_like (row ∷ rs) h text code e = by (bytes_eq (in_small_letters row.name) (in_small_letters text)) refl e (row_like rs (and_parts (like (in_small_letters row.name)) (all_like rs) h).1 text code)
+  row_like (row ∷ rs) h text code e = by (bytes_eq (lowered row.name) (lowered text)) refl e (row_like rs (and_parts (like (lowered row.name)) (all_like rs) h).1 text code)
     where
-      by : (b : Bool) → bytes_eq (in_small_letters row.name) (in_small_letters text) ≡ b
-          → option_map (λ (row : Row). row.code) (cond b (Some row) (find (λ (row : Row). bytes_eq (in_small_letters row.name) (in_small_letters text)) rs)) ≡ Some code
-          → (row_code rs text ≡ Some code → like (in_small_letters text) ≡ true) → like (in_small_letters text) ≡ true
+      by : (b : Bool) → bytes_eq (lowered row.name) (lowered text) ≡ b
+          → option_map (λ (row : Row). row.code) (cond b (Some row) (find (λ (row : Row). bytes_eq (lowered row.name) (lowered text)) rs)) ≡ Some code
+          → (row_code rs text ≡ Some code → like (lowered text) ≡ true) → like (lowered text) ≡ true
       by true is e more =
-          let same = (bytes_eq-Decides (in_small_letters row.name) (in_small_letters text)).0 is in
-          subst (λ small. like small ≡ true) same (and_parts (like (in_small_letters row.name)) (all_like rs) h).0
+          let same = (bytes_eq-Decides (lowered row.name) (lowered text)).0 is in
+          subst (λ small. like small ≡ true) same (and_parts (like (lowered row.name)) (all_like rs) h).0
       by false is e more = more e
 
   spelled_like : (table : List Row) (prefix : List ℕ) (most : ℕ) → all_like table ≡ true
-      → ((text : List ℕ) → in_small_letters (take (length prefix) text) ≡ in_small_letters prefix → like (in_small_letters text) ≡ true)
-      → (text : List ℕ) (code : ℕ) → SpellsCode table prefix most text code → like (in_small_letters text) ≡ true
+      → ((text : List ℕ) → lowered (take (length prefix) text) ≡ lowered prefix → like (lowered text) ≡ true)
+      → (text : List ℕ) (code : ℕ) → SpellsCode table prefix most text code → like (lowered text) ≡ true
   spelled_like table prefix most rows numbers text code h = by (row_code table text) refl h
     where
-      by : (o : Option ℕ) → row_code table text ≡ o → MatchOption o (IsNumbered prefix most text code) (λ c. code ≡ c) → like (in_small_letters text) ≡ true
+      by : (o : Option ℕ) → row_code table text ≡ o → MatchOption o (IsNumbered prefix most text code) (λ c. code ≡ c) → like (lowered text) ≡ true
       by None e h = numbers text h.0
       by (Some c) e h = row_like table rows text c e
 
@@ -80,28 +81,28 @@ abbrev begins_with_letter : List ℕ → Bool
 begins_with_letter [] = false
 begins_with_letter (c ∷ cs) = is_ascii_lowercase c
 
-class_names_begin : (text : List ℕ) → in_small_letters (take 5 text) ≡ codes "class" → begins_with_letter (in_small_letters text) ≡ true
+class_names_begin : (text : List ℕ) → lowered (take 5 text) ≡ codes "class" → begins_with_letter (lowered text) ≡ true
 class_names_begin [] h = cc
 class_names_begin (c ∷ cs) h = let first : to_ascii_lowercase c ≡ 99 = cc in ap is_ascii_lowercase first
 
-type_names_begin : (text : List ℕ) → in_small_letters (take 4 text) ≡ codes "type" → begins_with_letter (in_small_letters text) ≡ true
+type_names_begin : (text : List ℕ) → lowered (take 4 text) ≡ codes "type" → begins_with_letter (lowered text) ≡ true
 type_names_begin [] h = cc
 type_names_begin (c ∷ cs) h = let first : to_ascii_lowercase c ≡ 116 = cc in ap is_ascii_lowercase first
 
-class_letter : (text : List ℕ) (code : ℕ) → SpellsClass text (record { 0 = code }) → begins_with_letter (in_small_letters text) ≡ true
+class_letter : (text : List ℕ) (code : ℕ) → SpellsClass text (record { 0 = code }) → begins_with_letter (lowered text) ≡ true
 class_letter = spelled_like begins_with_letter class_rows class_prefix 65535 refl class_names_begin
 
 type_rows_begin : all_like begins_with_letter type_rows ≡ true
 unfolding type_rows
 type_rows_begin = refl
 
-type_letter : (text : List ℕ) (code : ℕ) → SpellsType text (record { 0 = code }) → begins_with_letter (in_small_letters text) ≡ true
+type_letter : (text : List ℕ) (code : ℕ) → SpellsType text (record { 0 = code }) → begins_with_letter (lowered text) ≡ true
 type_letter = spelled_like begins_with_letter type_rows type_prefix 65535 type_rows_begin type_names_begin
 
 no_letter : (c : ℕ) → is_ascii_digit c ≡ true → is_ascii_lowercase (to_ascii_lowercase c) ≡ true → ⊥
 no_letter c h k = Prim.grind (arith, nat_tests)
 
-digit_or_letter : (text : List ℕ) → begins_with_digit text ≡ true → begins_with_letter (in_small_letters text) ≡ true → ⊥
+digit_or_letter : (text : List ℕ) → begins_with_digit text ≡ true → begins_with_letter (lowered text) ≡ true → ⊥
 digit_or_letter [] h k = cc
 digit_or_letter (c ∷ cs) h k = no_letter c h k
 
@@ -116,24 +117,24 @@ last_of_four false true c d h = refl
 last_of_four false false true d h = refl
 last_of_four false false false d h = h
 
-class_prefix_like : (text : List ℕ) → in_small_letters (take 5 text) ≡ codes "class" → is_like_class (in_small_letters text) ≡ true
+class_prefix_like : (text : List ℕ) → lowered (take 5 text) ≡ codes "class" → is_like_class (lowered text) ≡ true
 class_prefix_like text h =
-    let small = in_small_letters text in
+    let small = lowered text in
     let begins : bytes_eq (take 5 small) (codes "class") ≡ true = (bytes_eq-Decides (take 5 small) (codes "class")).1 (take-map to_ascii_lowercase 5 text ∙ h) in
     last_of_four (bytes_eq small (codes "in")) (bytes_eq small (codes "ch")) (bytes_eq small (codes "hs")) (bytes_eq (take 5 small) (codes "class")) begins
 
-type_prefix_unlike : (text : List ℕ) → in_small_letters (take 4 text) ≡ codes "type" → not (is_like_class (in_small_letters text)) ≡ true
+type_prefix_unlike : (text : List ℕ) → lowered (take 4 text) ≡ codes "type" → not (is_like_class (lowered text)) ≡ true
 type_prefix_unlike [] h = cc
-type_prefix_unlike (c ∷ cs) h = let first : to_ascii_lowercase c ≡ 116 = cc in ap (λ d. not (is_like_class (d ∷ in_small_letters cs))) first
+type_prefix_unlike (c ∷ cs) h = let first : to_ascii_lowercase c ≡ 116 = cc in ap (λ d. not (is_like_class (d ∷ lowered cs))) first
 
-class_like : (text : List ℕ) (code : ℕ) → SpellsClass text (record { 0 = code }) → is_like_class (in_small_letters text) ≡ true
+class_like : (text : List ℕ) (code : ℕ) → SpellsClass text (record { 0 = code }) → is_like_class (lowered text) ≡ true
 class_like = spelled_like is_like_class class_rows class_prefix 65535 refl class_prefix_like
 
 type_rows_unlike : all_like (λ small. not (is_like_class small)) type_rows ≡ true
 unfolding type_rows
 type_rows_unlike = refl
 
-type_unlike : (text : List ℕ) (code : ℕ) → SpellsType text (record { 0 = code }) → not (is_like_class (in_small_letters text)) ≡ true
+type_unlike : (text : List ℕ) (code : ℕ) → SpellsType text (record { 0 = code }) → not (is_like_class (lowered text)) ≡ true
 type_unlike = spelled_like (λ small. not (is_like_class small)) type_rows type_prefix 65535 type_rows_unlike type_prefix_unlike
 
 not_both : (b : Bool) → b ≡ true → not b ≡ true → ⊥
@@ -144,5 +145,5 @@ pub apart : HeadWordsApart
 apart = record {
   ttl_and_class = λ t ttl code h k. digit_or_letter t.text (ttl_digit t.text h.1.0 h.1.1) (class_letter t.text code k.1);
   ttl_and_type = λ t ttl code h k. digit_or_letter t.text (ttl_digit t.text h.1.0 h.1.1) (type_letter t.text code k.1);
-  class_and_type = λ t class code h k. not_both (is_like_class (in_small_letters t.text)) (class_like t.text class h.1) (type_unlike t.text code k.1);
+  class_and_type = λ t class code h k. not_both (is_like_class (lowered t.text)) (class_like t.text class h.1) (type_unlike t.text code k.1);
 }

@@ -2,7 +2,7 @@
 use Rattle.std.specs.Prelude.{ℕ, ◌≡◌, ◌==◌, Bool, true, false, if◌then◌else◌, List, [], ◌∷◌, drop, codes, Option, Some, None, Result, Ok, Err}
 use Rattle.std.specs.Str.{bytes_eq}
 use Rattle.dns_fields.specs.Source.{next_place}
-use Rattle.dns_kinds.specs.Registry.{in_small_letters}
+use Rattle.dns_octets.specs.Lowered.{lowered}
 use Rattle.dns_spelling.specs.PrintedNames.{dollar}
 use Rattle.dns_split.specs.EntryTokens.{TokenSeen}
 use Rattle.dns_heads.specs.declared.directive.Directive.{Directive}
@@ -20,7 +20,7 @@ directive_named small =
     else (if bytes_eq small (codes "$generate") then Err NotSupported else Err UnknownDirective)))
 
 abbrev pub directive_in : List ℕ → Result Directive HeadError
-directive_in word = directive_named (in_small_letters word)
+directive_in word = directive_named (lowered word)
 
 -- a word that begins with a dollar sign is a directive's, or is refused as one
 abbrev pub directive_of_word : List ℕ → Option (Result Directive HeadError)

@@ -13,8 +13,9 @@ use Rattle.std.proofs.lemmas.List.{drop_more, take-map, take_at, drop_at, get_or
 use Rattle.std.proofs.Math.ListN.{get_or-map}
 use Rattle.std.proofs.lemmas.Str.Parse.{digit_at}
 use Rattle.std.proofs.lemmas.Slice.Eq.{bytes_eq-Decides}
+use Rattle.dns_octets.specs.Lowered.{lowered}
 use Rattle.dns_kinds.specs.declared.registry.Named.{Named}
-use Rattle.dns_kinds.specs.Registry.{Row, code_rows, in_small_letters, row_code, row_name, FindsCode, FindsNumbered, SpellsCode, IsNumbered, code_text}
+use Rattle.dns_kinds.specs.Registry.{Row, code_rows, row_code, row_name, FindsCode, FindsNumbered, SpellsCode, IsNumbered, code_text}
 
 other : (a b : List ℕ) → (a ≡ b → ⊥) → bytes_eq a b ≡ false
 other a b differ = by (bytes_eq a b) refl
@@ -24,23 +25,23 @@ other a b differ = by (bytes_eq a b) refl
     by false e = refl
 
 module _ (table : List Named) (text name : List ℕ) (i : ℕ) (d : Named) (here : i < length table) (is : name ≡ (get_or table i d).1.now) (from : row_code (code_rows table) text ≡ row_code (code_rows (drop i table)) text) where
-  next : (b : Bool) → bytes_eq (in_small_letters name) (in_small_letters text) ≡ b
-      → row_code (code_rows table) text ≡ option_map (λ (row : Row). row.code) (cond b (Some (record { code = (get_or table i d).0; name = (get_or table i d).1.now })) (find (λ (row : Row). bytes_eq (in_small_letters row.name) (in_small_letters text)) (code_rows (drop (i + 1) table))))
+  next : (b : Bool) → bytes_eq (lowered name) (lowered text) ≡ b
+      → row_code (code_rows table) text ≡ option_map (λ (row : Row). row.code) (cond b (Some (record { code = (get_or table i d).0; name = (get_or table i d).1.now })) (find (λ (row : Row). bytes_eq (lowered row.name) (lowered text)) (code_rows (drop (i + 1) table))))
   next b e =
       from ∙ ap (λ t. row_code (code_rows t) text) (drop_more table i d here)
-      ∙ ap (λ c. option_map (λ (row : Row). row.code) (cond c (Some (record { code = (get_or table i d).0; name = (get_or table i d).1.now })) (find (λ (row : Row). bytes_eq (in_small_letters row.name) (in_small_letters text)) (code_rows (drop (i + 1) table))))) (ap (λ n. bytes_eq (in_small_letters n) (in_small_letters text)) (sym is) ∙ e)
+      ∙ ap (λ c. option_map (λ (row : Row). row.code) (cond c (Some (record { code = (get_or table i d).0; name = (get_or table i d).1.now })) (find (λ (row : Row). bytes_eq (lowered row.name) (lowered text)) (code_rows (drop (i + 1) table))))) (ap (λ n. bytes_eq (lowered n) (lowered text)) (sym is) ∙ e)
 
-  pub found : (prefix : List ℕ) (most : ℕ) → in_small_letters name ≡ in_small_letters text → FindsCode (code_rows table) prefix most text (Some (get_or table i d).0)
+  pub found : (prefix : List ℕ) (most : ℕ) → lowered name ≡ lowered text → FindsCode (code_rows table) prefix most text (Some (get_or table i d).0)
   found prefix most same =
-      let is : row_code (code_rows table) text ≡ Some (get_or table i d).0 = next true ((bytes_eq-Decides (in_small_letters name) (in_small_letters text)).1 same) in
+      let is : row_code (code_rows table) text ≡ Some (get_or table i d).0 = next true ((bytes_eq-Decides (lowered name) (lowered text)).1 same) in
       subst (λ (o : Option ℕ). MatchOption o (FindsNumbered prefix most text (Some (get_or table i d).0)) (λ code. Some (get_or table i d).0 ≡ Some code)) (sym is) refl
 
-  pub passed : (in_small_letters name ≡ in_small_letters text → ⊥) → row_code (code_rows table) text ≡ row_code (code_rows (drop (i + 1) table)) text
-  passed differ = next false (other (in_small_letters name) (in_small_letters text) differ)
+  pub passed : (lowered name ≡ lowered text → ⊥) → row_code (code_rows table) text ≡ row_code (code_rows (drop (i + 1) table)) text
+  passed differ = next false (other (lowered name) (lowered text) differ)
 
 -- a name looks like the prefix and a number
 abbrev is_like_numbered : List ℕ → List ℕ → Bool
-is_like_numbered prefix name = bytes_eq (in_small_letters (take (length prefix) name)) (in_small_letters prefix) && is_ascii_digit (get_or name (length prefix) 0)
+is_like_numbered prefix name = bytes_eq (lowered (take (length prefix) name)) (lowered prefix) && is_ascii_digit (get_or name (length prefix) 0)
 
 abbrev is_own : List Row → Row → Bool
 is_own table row = option_map_or (λ code. code == row.code) (row_code table row.name) false
@@ -89,9 +90,9 @@ module _ (table : List Row) (prefix : List ℕ) (most : ℕ) where
   -- the code of a row is at most so much
   small : (rs : List Row) → list_all (test table prefix most) rs ≡ true → (text : List ℕ) (code : ℕ) → row_code rs text ≡ Some code → code ≤ most
   small [] h text code e = cc
-  small (row ∷ rs) h text code e = by (bytes_eq (in_small_letters row.name) (in_small_letters text)) e (small rs (parts row rs h).3 text code)
+  small (row ∷ rs) h text code e = by (bytes_eq (lowered row.name) (lowered text)) e (small rs (parts row rs h).3 text code)
     where
-      by : (b : Bool) → option_map (λ (row : Row). row.code) (cond b (Some row) (find (λ (row : Row). bytes_eq (in_small_letters row.name) (in_small_letters text)) rs)) ≡ Some code
+      by : (b : Bool) → option_map (λ (row : Row). row.code) (cond b (Some row) (find (λ (row : Row). bytes_eq (lowered row.name) (lowered text)) rs)) ≡ Some code
           → (row_code rs text ≡ Some code → code ≤ most) → code ≤ most
       by true e more =
           let same : row.code ≡ code = cc in
@@ -101,19 +102,19 @@ module _ (table : List Row) (prefix : List ℕ) (most : ℕ) where
       by false e more = more e
 
   -- a text of the prefix and a number is no row's name
-  pub unnamed : (rs : List Row) → list_all (test table prefix most) rs ≡ true → (text : List ℕ) → in_small_letters (take (length prefix) text) ≡ in_small_letters prefix → is_ascii_digit (get_or text (length prefix) 0) ≡ true → row_code rs text ≡ None
+  pub unnamed : (rs : List Row) → list_all (test table prefix most) rs ≡ true → (text : List ℕ) → lowered (take (length prefix) text) ≡ lowered prefix → is_ascii_digit (get_or text (length prefix) 0) ≡ true → row_code rs text ≡ None
   unnamed [] h text e d = refl
-  unnamed (row ∷ rs) h text e d = by (bytes_eq (in_small_letters row.name) (in_small_letters text)) refl (unnamed rs (parts row rs h).3 text e d)
+  unnamed (row ∷ rs) h text e d = by (bytes_eq (lowered row.name) (lowered text)) refl (unnamed rs (parts row rs h).3 text e d)
     where
-      by : (b : Bool) → bytes_eq (in_small_letters row.name) (in_small_letters text) ≡ b → row_code rs text ≡ None
-          → option_map (λ (row : Row). row.code) (cond b (Some row) (find (λ (row : Row). bytes_eq (in_small_letters row.name) (in_small_letters text)) rs)) ≡ None
+      by : (b : Bool) → bytes_eq (lowered row.name) (lowered text) ≡ b → row_code rs text ≡ None
+          → option_map (λ (row : Row). row.code) (cond b (Some row) (find (λ (row : Row). bytes_eq (lowered row.name) (lowered text)) rs)) ≡ None
       by true is more =
-          let same = (bytes_eq-Decides (in_small_letters row.name) (in_small_letters text)).0 is in
-          let begins : in_small_letters (take (length prefix) row.name) ≡ in_small_letters prefix =
+          let same = (bytes_eq-Decides (lowered row.name) (lowered text)).0 is in
+          let begins : lowered (take (length prefix) row.name) ≡ lowered prefix =
           sym (take-map to_ascii_lowercase (length prefix) row.name) ∙ ap (take (length prefix)) same ∙ take-map to_ascii_lowercase (length prefix) text ∙ e in
           let at : to_ascii_lowercase (get_or row.name (length prefix) 0) ≡ to_ascii_lowercase (get_or text (length prefix) 0) =
           sym (get_or-map to_ascii_lowercase row.name (length prefix) 0) ∙ ap (λ t. get_or t (length prefix) 0) same ∙ get_or-map to_ascii_lowercase text (length prefix) 0 in
-          let first : bytes_eq (in_small_letters (take (length prefix) row.name)) (in_small_letters prefix) ≡ true = (bytes_eq-Decides (in_small_letters (take (length prefix) row.name)) (in_small_letters prefix)).1 begins in
+          let first : bytes_eq (lowered (take (length prefix) row.name)) (lowered prefix) ≡ true = (bytes_eq-Decides (lowered (take (length prefix) row.name)) (lowered prefix)).1 begins in
           let digit : is_ascii_digit (get_or row.name (length prefix) 0) ≡ true = lowered_digit (get_or row.name (length prefix) 0) (get_or text (length prefix) 0) at d in
           let yes : is_like_numbered prefix row.name ≡ true = ap (λ b. b && is_ascii_digit (get_or row.name (length prefix) 0)) first ∙ digit in
           let wrong : not true ≡ true = ap not (sym yes) ∙ (parts row rs h).2 in
@@ -126,7 +127,7 @@ module _ (table : List Row) (prefix : List ℕ) (most : ℕ) where
       let back = drop_at prefix (decimal code) (length prefix) refl in
       let is = decimal_is_IsNumeral code (omega (arith, few, wide)) in
       let value : digits_value 10 (drop (length prefix) (prefix ++ decimal code)) ≡ code = ap (digits_value 10) back ∙ is.1 in
-      (ap in_small_letters front, (subst (IsNumeral 10) (sym back) is.0, sym value), few)
+      (ap lowered front, (subst (IsNumeral 10) (sym back) is.0, sym value), few)
 
   -- a number in decimal begins with a digit
   pub begins_with_digit : (code : ℕ) → code < 2 ^ 64 → is_ascii_digit (get_or (prefix ++ decimal code) (length prefix) 0) ≡ true
@@ -141,7 +142,7 @@ module _ (table : List Row) (prefix : List ℕ) (most : ℕ) where
     -- the prefix and the number of a code spell it
     pub numbered : (code : ℕ) → code ≤ most → SpellsCode table prefix most (prefix ++ decimal code) code
     numbered code few =
-        let none = unnamed table h (prefix ++ decimal code) (ap in_small_letters (take_at prefix (decimal code) (length prefix) refl)) (begins_with_digit code (omega (arith, few, wide))) in
+        let none = unnamed table h (prefix ++ decimal code) (ap lowered (take_at prefix (decimal code) (length prefix) refl)) (begins_with_digit code (omega (arith, few, wide))) in
         subst (λ (o : Option ℕ). MatchOption o (IsNumbered prefix most (prefix ++ decimal code) code) (λ c. code ≡ c)) (sym none) (plain code few wide)
 
     -- what a code is written as spells it

@@ -1,9 +1,9 @@
 -- Registries of codes and their names.
 use Rattle.std.specs.Prelude.{ℕ, ◌≡◌, ◌≤◌, ◌==◌, List, ◌++◌, length, take, drop, find, map, Option, MatchOption, Some, unwrap_or}
-use Rattle.std.specs.Char.{to_ascii_lowercase}
 use Rattle.std.specs.Fmt.{decimal}
 use Rattle.std.specs.Option.{option_map}
 use Rattle.std.specs.Str.{bytes_eq}
+use Rattle.dns_octets.specs.Lowered.{lowered}
 use Rattle.dns_kinds.specs.Numbers.{SpellsNumber}
 use Rattle.dns_kinds.specs.declared.registry.Named.{Named}
 
@@ -18,12 +18,9 @@ code_row c n = record { code = c; name = n }
 abbrev pub code_rows : List Named → List Row
 code_rows = map (λ (n : Named). code_row n.0 n.1.now)
 
-abbrev pub in_small_letters : List ℕ → List ℕ
-in_small_letters = map to_ascii_lowercase
-
 -- the code of the row with this name, in any case of its letters
 abbrev pub row_code : List Row → List ℕ → Option ℕ
-row_code table text = option_map (λ (r : Row). r.code) (find (λ (r : Row). bytes_eq (in_small_letters r.name) (in_small_letters text)) table)
+row_code table text = option_map (λ (r : Row). r.code) (find (λ (r : Row). bytes_eq (lowered r.name) (lowered text)) table)
 
 -- the name of the row with this code
 abbrev pub row_name : List Row → ℕ → Option (List ℕ)
@@ -32,7 +29,7 @@ row_name table code = option_map (λ (r : Row). r.name) (find (λ (r : Row). r.c
 -- a prefix in any case of its letters, and a number that is at most so much
 abbrev pub IsNumbered : List ℕ → ℕ → List ℕ → ℕ → Type 0
 IsNumbered prefix most text code =
-    (in_small_letters (take (length prefix) text) ≡ in_small_letters prefix) × SpellsNumber (drop (length prefix) text) code × (code ≤ most)
+    (lowered (take (length prefix) text) ≡ lowered prefix) × SpellsNumber (drop (length prefix) text) code × (code ≤ most)
 
 -- a text names a code: that of the row with this name, or without such a row by the prefix and
 -- the code
