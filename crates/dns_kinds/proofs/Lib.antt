@@ -5,6 +5,7 @@ pub mod DateLaws
 pub mod DatesAt
 pub mod EuiLaws
 pub mod GroupLemmas
+pub mod GroupTexts
 pub mod HexLaws
 pub mod LocatorLaws
 pub mod NumberLemmas

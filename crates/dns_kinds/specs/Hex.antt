@@ -1,5 +1,5 @@
 -- Octets as pairs of hexadecimal digits.
-use Rattle.std.specs.Prelude.{ℕ, ◌≡◌, ◌<◌, ◌+◌, ◌-◌, ◌*◌, ◌/◌, ◌%◌, List, [], ◌∷◌, ◌++◌, length, MatchBool, Bool, slice_index, nat_lt, if◌then◌else◌}
+use Rattle.std.specs.Prelude.{ℕ, ◌≡◌, ◌<◌, ◌+◌, ◌-◌, ◌*◌, ◌/◌, ◌%◌, ◌==◌, ◌&&◌, List, [], ◌∷◌, ◌++◌, length, MatchBool, Bool, slice_index, nat_lt, if◌then◌else◌}
 use Rattle.std.specs.Char.{digit_value}
 
 -- two hexadecimal digits at a place of a text, and the octet that they write
@@ -23,6 +23,19 @@ pair_text ten octet = pair_digit ten (octet / 16) ∷ pair_digit ten (octet % 16
 abbrev pub pairs_text : List ℕ → List ℕ
 pairs_text [] = []
 pairs_text (o ∷ os) = pair_text 65 o ++ pairs_text os
+
+-- a pair in small letters, and a mark before it or none
+abbrev pub marked_pair : Bool → ℕ → ℕ → List ℕ
+marked_pair is_marked mark octet = (if is_marked then mark ∷ [] else []) ++ pair_text 97 octet
+
+-- in groups of so many octets a group other than the first begins here
+abbrev pub begins_group : ℕ → ℕ → Bool
+begins_group size place = nat_lt 0 place && place % size == 0
+
+-- a pair for each octet, in groups of so many octets, and a mark between groups; from this place on
+abbrev pub grouped_text : (size mark place : ℕ) → List ℕ → List ℕ
+grouped_text size mark place [] = []
+grouped_text size mark place (o ∷ os) = marked_pair (begins_group size place) mark o ++ grouped_text size mark (place + 1) os
 
 -- the octets that a text writes were written over others, or it writes no octets of that number
 abbrev pub WritesOctets : (List ℕ → List ℕ → Type 0) → ℕ → List ℕ → List ℕ → Bool → Type 0

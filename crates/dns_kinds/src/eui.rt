@@ -6,7 +6,7 @@ ghost use Rattle.dns_kinds.specs.Eui.{AreDashes, IsDashed, dashed_text, SpellsEu
 ghost use Rattle.dns_kinds.specs.declared.error.KindError.TheVariants.{ExpectedEui48, ExpectedEui64};
 
 use crate::error::KindError;
-use crate::hex::{digits_of, octet_of};
+use crate::hex::{octet_of, write_groups};
 use std::fmt;
 
 /// Whether a dash stands before each pair of digits but the first.
@@ -76,53 +76,21 @@ impl Eui64 {
     }
 }
 
-/// xx-xx-xx-xx-xx-xx.
-fn eui48_text(octets: [u8; 6]) -> [u8; 17]
-    ensures { result ≡ dashed_text octets }
-{
-    let [a, b] = digits_of(octets[0], b'a');
-    let [c, d] = digits_of(octets[1], b'a');
-    let [e, f] = digits_of(octets[2], b'a');
-    let [g, h] = digits_of(octets[3], b'a');
-    let [i, j] = digits_of(octets[4], b'a');
-    let [k, l] = digits_of(octets[5], b'a');
-    [
-        a, b, b'-', c, d, b'-', e, f, b'-', g, h, b'-', i, j, b'-', k, l,
-    ]
-}
-
-/// xx-xx-xx-xx-xx-xx-xx-xx.
-fn eui64_text(octets: [u8; 8]) -> [u8; 23]
-    ensures { result ≡ dashed_text octets }
-{
-    let [a, b] = digits_of(octets[0], b'a');
-    let [c, d] = digits_of(octets[1], b'a');
-    let [e, f] = digits_of(octets[2], b'a');
-    let [g, h] = digits_of(octets[3], b'a');
-    let [i, j] = digits_of(octets[4], b'a');
-    let [k, l] = digits_of(octets[5], b'a');
-    let [m, n] = digits_of(octets[6], b'a');
-    let [o, p] = digits_of(octets[7], b'a');
-    [
-        a, b, b'-', c, d, b'-', e, f, b'-', g, h, b'-', i, j, b'-', k, l, b'-', m, n, b'-', o, p,
-    ]
-}
-
 impl fmt::Display for Eui48 {
     ghost output = { λ e. Some (dashed_text e.0) };
 
+    #[tactic(auto, using(crate::proofs::GroupTexts::dashed_groups))]
     fn fmt<W: fmt::Write>(&self, f: &mut fmt::Formatter<W>) -> fmt::Result {
-        let text = eui48_text(self.0);
-        f.write_str(str::from_utf8(&text).map_err(|_| fmt::Error)?)
+        write_groups(&self.0, 1, b'-', f)
     }
 }
 
 impl fmt::Display for Eui64 {
     ghost output = { λ e. Some (dashed_text e.0) };
 
+    #[tactic(auto, using(crate::proofs::GroupTexts::dashed_groups))]
     fn fmt<W: fmt::Write>(&self, f: &mut fmt::Formatter<W>) -> fmt::Result {
-        let text = eui64_text(self.0);
-        f.write_str(str::from_utf8(&text).map_err(|_| fmt::Error)?)
+        write_groups(&self.0, 1, b'-', f)
     }
 }
 

@@ -1,8 +1,9 @@
 //! Octets as pairs of hexadecimal digits.
-ghost use Rattle.std.specs.Prelude.{◌≡◌, ◌<◌, ◌+◌, ◌*◌, length, SomeIff};
+ghost use Rattle.std.specs.Prelude.{◌≡◌, ◌<◌, ◌+◌, ◌*◌, length, Bool, SomeIff};
 ghost use Rattle.std.specs.Char.{digit_value};
 ghost use Rattle.std.specs.Fmt.{WritesOnOk};
 ghost use Rattle.dns_kinds.specs.Hex.{pair_digit, IsHex, WritesOctets, pair_text, pairs_text};
+ghost use Rattle.dns_kinds.specs.Hex.{marked_pair, grouped_text, begins_group};
 
 use std::fmt;
 
@@ -55,7 +56,7 @@ fn digit_of(number: u8, ten: u8) -> u8
 }
 
 /// The two digits of an octet, by the letter for ten.
-pub(crate) fn digits_of(octet: u8, ten: u8) -> [u8; 2]
+fn digits_of(octet: u8, ten: u8) -> [u8; 2]
     requires { ten < 100 }
     ensures { result ≡ pair_text ten octet }
 {
@@ -76,6 +77,46 @@ pub(crate) fn write_hex<W: fmt::Write>(octets: &[u8], f: &mut fmt::Formatter<W>)
 {
     for octet in octets {
         write_pair(*octet, f)?;
+    }
+    Ok(())
+}
+
+/// Writes an octet as a pair of digits, in small letters, with a mark before it if it is marked.
+fn write_marked_pair<W: fmt::Write>(
+    is_marked: bool,
+    mark: u8,
+    octet: u8,
+    f: &mut fmt::Formatter<W>,
+) -> fmt::Result
+    ensures { WritesOnOk W.write_str_gives f.old result (marked_pair is_marked mark octet) f.new }
+{
+    let [high, low] = digits_of(octet, b'a');
+    let text = [mark, high, low];
+    let shown = if is_marked { &text[..] } else { &text[1..] };
+    f.write_str(str::from_utf8(shown).map_err(|_| fmt::Error)?)
+}
+
+/// Whether a group other than the first begins at a place, in groups of so many octets.
+fn begins_group(size: usize, place: usize) -> bool
+    requires { 0 < size }
+    ensures { result ≡ begins_group size place }
+{
+    place > 0 && place % size == 0
+}
+
+/// Writes octets as pairs of digits, in small letters, in groups of so many octets, with a mark
+/// between groups.
+pub(crate) fn write_groups<W: fmt::Write>(
+    octets: &[u8],
+    size: usize,
+    mark: u8,
+    f: &mut fmt::Formatter<W>,
+) -> fmt::Result
+    requires { 0 < size }
+    ensures { WritesOnOk W.write_str_gives f.old result (grouped_text size mark 0 octets.now) f.new }
+{
+    for (index, octet) in octets.iter().enumerate() {
+        write_marked_pair(begins_group(size, index), mark, *octet, f)?;
     }
     Ok(())
 }

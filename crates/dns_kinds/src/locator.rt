@@ -7,7 +7,7 @@ ghost use Rattle.dns_kinds.specs.Locator.{BeginsWithGroup, GoesOnWith, TakesGrou
 ghost use Rattle.dns_kinds.specs.declared.error.KindError.TheVariants.{ExpectedLocator};
 
 use crate::error::KindError;
-use crate::hex::{digits_of, value_of};
+use crate::hex::{value_of, write_groups};
 use std::fmt;
 
 /// A locator or an identifier of 64 bits. It prints as groups of four digits, in small letters.
@@ -106,29 +106,12 @@ impl Locator {
     }
 }
 
-/// xxxx:xxxx:xxxx:xxxx.
-fn text_of(octets: [u8; 8]) -> [u8; 19]
-    ensures { result ≡ locator_text octets }
-{
-    let [a, b] = digits_of(octets[0], b'a');
-    let [c, d] = digits_of(octets[1], b'a');
-    let [e, f] = digits_of(octets[2], b'a');
-    let [g, h] = digits_of(octets[3], b'a');
-    let [i, j] = digits_of(octets[4], b'a');
-    let [k, l] = digits_of(octets[5], b'a');
-    let [m, n] = digits_of(octets[6], b'a');
-    let [o, p] = digits_of(octets[7], b'a');
-    [
-        a, b, c, d, b':', e, f, g, h, b':', i, j, k, l, b':', m, n, o, p,
-    ]
-}
-
 impl fmt::Display for Locator {
     ghost output = { λ l. Some (locator_text l.0) };
 
+    #[tactic(auto, using(crate::proofs::GroupTexts::locator_groups))]
     fn fmt<W: fmt::Write>(&self, f: &mut fmt::Formatter<W>) -> fmt::Result {
-        let text = text_of(self.0);
-        f.write_str(str::from_utf8(&text).map_err(|_| fmt::Error)?)
+        write_groups(&self.0, 2, b':', f)
     }
 }
 
