@@ -1,40 +1,28 @@
 -- Identifiers are read as they are written, and in one way.
-use Rattle.std.proofs.Common.{ℕ, zero, suc, ◌≡◌, ◌<◌, ◌+◌, ◌-◌, ◌*◌, ◌/◌, ◌%◌, List, [], ◌∷◌, ◌++◌, length, get_or, refl, sym, subst, arith, ap, ◌∙◌}
+use Rattle.std.proofs.Common.{ℕ, zero, suc, ◌≡◌, ◌<◌, ◌+◌, ◌-◌, ◌*◌, List, [], ◌∷◌, length, get_or, refl, sym, subst, arith, ap, ◌∙◌}
 use Rattle.std.specs.Prelude.{All}
 use Rattle.std.specs.Char.{digit_value}
 use Rattle.std.proofs.lemmas.Bool.Decides.{nat_tests}
 use Rattle.std.proofs.lemmas.List.Elements.{All-head, All-tail}
-use Rattle.dns_kinds.specs.Hex.{IsPair, pair_digit, pair_text}
+use Rattle.dns_kinds.specs.Hex.{IsPair, pair_digit}
 use Rattle.dns_kinds.specs.Eui.{IsDashed, AreDashes, AreEuiOctets, dashed_text, SpellsEui48, SpellsEui64, EuisAreKind}
 use Rattle.dns_kinds.specs.declared.eui.Eui48.{Eui48}
 use Rattle.dns_kinds.specs.declared.eui.Eui64.{Eui64}
-use Rattle.dns_kinds.proofs.HexLaws.{one_way}
+use Rattle.dns_kinds.proofs.HexLaws.{one_way, pair_behind, written_pair}
 use Rattle.dns_kinds.proofs.ReadBack.{is_kind}
 
 pub lower : (n : ℕ) → n < 16 → digit_value (pair_digit 97 n) ≡ n
 lower n small = Prim.grind (arith, nat_tests)
 
-behind_three : (a b c : ℕ) (text : List ℕ) (at o : ℕ) → IsPair text at o → IsPair (a ∷ b ∷ c ∷ text) (suc (suc (suc at))) o
-behind_three a b c text at o h =
-    let e : suc (suc (suc at)) + 1 ≡ suc (suc (suc (at + 1))) = omega arith in
-    let same : get_or (a ∷ b ∷ c ∷ text) (suc (suc (suc at)) + 1) 0 ≡ get_or text (at + 1) 0 = ap (λ n. get_or (a ∷ b ∷ c ∷ text) n 0) e in
-    record { high = h.high; low = rw same h.low; value = rw same h.value }
-
-lower_pair : (o : ℕ) (text : List ℕ) → o < 256 → IsPair (pair_text 97 o ++ text) 0 o
-lower_pair o text small =
-    let high = lower (o / 16) (omega arith) in
-    let low = lower (o % 16) (omega arith) in
-    record { high = omega (arith, high); low = omega (arith, low); value = omega (arith, high, low) }
-
 dashed_pairs : (os : List ℕ) → All (λ o. o < 256) os → (k : ℕ) → k < length os → IsPair (dashed_text os) (3 * k) (get_or os k 0)
 dashed_pairs [] h k here = absurd (omega (arith, here))
-dashed_pairs (o ∷ []) h zero here = lower_pair o [] (All-head (λ o. o < 256) o [] h)
+dashed_pairs (o ∷ []) h zero here = written_pair 97 lower o [] (All-head (λ o. o < 256) o [] h)
 dashed_pairs (o ∷ []) h (suc k) here = absurd (omega (arith, here))
-dashed_pairs (o ∷ p ∷ os) h zero here = lower_pair o (45 ∷ dashed_text (p ∷ os)) (All-head (λ o. o < 256) o (p ∷ os) h)
+dashed_pairs (o ∷ p ∷ os) h zero here = written_pair 97 lower o (45 ∷ dashed_text (p ∷ os)) (All-head (λ o. o < 256) o (p ∷ os) h)
 dashed_pairs (o ∷ p ∷ os) h (suc k) here =
     let e : 3 * suc k ≡ suc (suc (suc (3 * k))) = omega arith in
     subst (λ at. IsPair (dashed_text (o ∷ p ∷ os)) at (get_or (p ∷ os) k 0)) (sym e)
-    (behind_three _ _ _ (dashed_text (p ∷ os)) (3 * k) (get_or (p ∷ os) k 0) (dashed_pairs (p ∷ os) (All-tail (λ o. o < 256) o (p ∷ os) h) k (omega (arith, here))))
+    (pair_behind _ _ _ _ (pair_behind _ _ _ _ (pair_behind _ (dashed_text (p ∷ os)) (3 * k) (get_or (p ∷ os) k 0) (dashed_pairs (p ∷ os) (All-tail (λ o. o < 256) o (p ∷ os) h) k (omega (arith, here))))))
 
 dashes : (os : List ℕ) → AreDashes (dashed_text os) (length os)
 dashes [] k some here = absurd (omega (arith, here))

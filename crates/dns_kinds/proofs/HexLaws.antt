@@ -9,26 +9,27 @@ use Rattle.dns_kinds.specs.Hex.{IsPair, IsHex, pair_digit, pair_text, pairs_text
 upper : (n : ℕ) → n < 16 → digit_value (pair_digit 65 n) ≡ n
 upper n small = Prim.grind (arith, nat_tests)
 
--- a pair stands as it stood behind two more characters
-behind_two : (a b : ℕ) (text : List ℕ) (at o : ℕ) → IsPair text at o → IsPair (a ∷ b ∷ text) (suc (suc at)) o
-behind_two a b text at o h =
-    let e : suc (suc at) + 1 ≡ suc (suc (at + 1)) = omega arith in
-    let same : get_or (a ∷ b ∷ text) (suc (suc at) + 1) 0 ≡ get_or text (at + 1) 0 = ap (λ n. get_or (a ∷ b ∷ text) n 0) e in
+-- a pair stands as it stood behind one more character
+pub pair_behind : (c : ℕ) (text : List ℕ) (at o : ℕ) → IsPair text at o → IsPair (c ∷ text) (suc at) o
+pair_behind c text at o h =
+    let e : suc at + 1 ≡ suc (at + 1) = omega arith in
+    let same : get_or (c ∷ text) (suc at + 1) 0 ≡ get_or text (at + 1) 0 = ap (λ n. get_or (c ∷ text) n 0) e in
     record { high = h.high; low = rw same h.low; value = rw same h.value }
 
-upper_pair : (o : ℕ) (text : List ℕ) → o < 256 → IsPair (pair_text 65 o ++ text) 0 o
-upper_pair o text small =
-    let high = upper (o / 16) (omega arith) in
-    let low = upper (o % 16) (omega arith) in
-    record { high = omega (arith, high); low = omega (arith, low); value = omega (arith, high, low) }
+-- the digits of an octet, by a letter for ten that is one
+pub written_pair : (ten : ℕ) → ((n : ℕ) → n < 16 → digit_value (pair_digit ten n) ≡ n) → (o : ℕ) (text : List ℕ) → o < 256 → IsPair (pair_text ten o ++ text) 0 o
+written_pair ten digit o text small =
+    let high = digit (o / 16) (omega (arith, small)) in
+    let low = digit (o % 16) (omega arith) in
+    record { high = omega (arith, high, small); low = omega (arith, low); value = omega (arith, high, low) }
 
 hex_pairs : (os : List ℕ) → All (λ o. o < 256) os → (k : ℕ) → k < length os → IsPair (pairs_text os) (2 * k) (get_or os k 0)
 hex_pairs [] h k here = absurd (omega (arith, here))
-hex_pairs (o ∷ os) h zero here = upper_pair o (pairs_text os) (All-head (λ o. o < 256) o os h)
+hex_pairs (o ∷ os) h zero here = written_pair 65 upper o (pairs_text os) (All-head (λ o. o < 256) o os h)
 hex_pairs (o ∷ os) h (suc k) here =
     let e : 2 * suc k ≡ suc (suc (2 * k)) = omega arith in
     subst (λ at. IsPair (pairs_text (o ∷ os)) at (get_or os k 0)) (sym e)
-    (behind_two _ _ (pairs_text os) (2 * k) (get_or os k 0) (hex_pairs os (All-tail (λ o. o < 256) o os h) k (omega (arith, here))))
+    (pair_behind _ _ _ _ (pair_behind _ (pairs_text os) (2 * k) (get_or os k 0) (hex_pairs os (All-tail (λ o. o < 256) o os h) k (omega (arith, here)))))
 
 hex_length : (os : List ℕ) → length (pairs_text os) ≡ 2 * length os
 hex_length [] = refl
