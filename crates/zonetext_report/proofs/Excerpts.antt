@@ -3,7 +3,8 @@ use Rattle.std.proofs.Common.{◌≡◌, ℕ, ◌-◌, Bool, List, [], ◌∷◌
 use Rattle.std.specs.Prelude.{Result, Ok, Err, OnOk, IsTrue, ◌↔◌}
 use Rattle.std.proofs.lemmas.List.{take_all}
 use Rattle.zonetext_report.specs.Excerpt.{HasExcerpt, HasPlace, caret_line, characters_before, first_shown, mark_width}
-use Rattle.zonetext_report.specs.Shown.{IsShowable, columns, shown_text}
+use Rattle.zone_format.specs.Columns.{width_of}
+use Rattle.zonetext_report.specs.Shown.{IsShowable, shown_text}
 
 -- the rest of a line as a slice
 pub rest_is : (line : List ℕ) (start : ℕ) → take (length line - start) (drop start line) ≡ drop start line
@@ -11,12 +12,12 @@ rest_is line start = take_all (length line - start) (drop start line) (omega (ar
 
 made : (is_coloured keeps : Bool) (line rest : List ℕ) (column end_column start size first before width : ℕ) (old mid fed new : List ℕ) → rest ≡ drop start line → first ≡ first_shown line column
     → before ≡ characters_before line column - first → HasPlace line first start → HasPlace rest 200 size → IsTrue keeps ↔ IsShowable (take size rest) → mid ≡ old ++ shown_text keeps (take size rest) → fed ≡ mid ++ 10 ∷ []
-    → width ≡ mark_width (end_column - column) before (columns (take size rest)) → new ≡ fed ++ caret_line is_coloured before width → HasExcerpt is_coloured line column end_column old new
+    → width ≡ mark_width (end_column - column) before (width_of (take size rest)) → new ≡ fed ++ caret_line is_coloured before width → HasExcerpt is_coloured line column end_column old new
 made is_coloured keeps line rest column end_column start size first before width old mid fed new r f b starts ends kept m n w e =
     let ahead : ℕ = characters_before line column - first_shown line column in
     let before_is : before ≡ ahead = b ∙ ap (λ x. characters_before line column - x) f in
-    let width_is : width ≡ mark_width (end_column - column) ahead (columns (take size (drop start line))) =
-    w ∙ ap (λ x. mark_width (end_column - column) x (columns (take size rest))) before_is ∙ ap (λ l. mark_width (end_column - column) ahead (columns (take size l))) r in
+    let width_is : width ≡ mark_width (end_column - column) ahead (width_of (take size (drop start line))) =
+    w ∙ ap (λ x. mark_width (end_column - column) x (width_of (take size rest))) before_is ∙ ap (λ l. mark_width (end_column - column) ahead (width_of (take size l))) r in
     record {
       start = start;
       size = size;
@@ -32,7 +33,7 @@ made is_coloured keeps line rest column end_column start size first before width
 
 pub excerpt_made : {T E : Type 0} (r : Result T E) (is_coloured keeps : Bool) (line rest : List ℕ) (column end_column start size first before width : ℕ) (old mid fed new : List ℕ) → rest ≡ drop start line → first ≡ first_shown line column
     → before ≡ characters_before line column - first → HasPlace line first start → HasPlace rest 200 size → IsTrue keeps ↔ IsShowable (take size rest) → mid ≡ old ++ shown_text keeps (take size rest) → fed ≡ mid ++ 10 ∷ []
-    → width ≡ mark_width (end_column - column) before (columns (take size rest)) → OnOk r (new ≡ fed ++ caret_line is_coloured before width) → OnOk r (HasExcerpt is_coloured line column end_column old new)
+    → width ≡ mark_width (end_column - column) before (width_of (take size rest)) → OnOk r (new ≡ fed ++ caret_line is_coloured before width) → OnOk r (HasExcerpt is_coloured line column end_column old new)
 excerpt_made (Ok u) is_coloured keeps line rest column end_column start size first before width old mid fed new a f b starts ends kept m n w e =
     made is_coloured keeps line rest column end_column start size first before width old mid fed new a f b starts ends kept m n w e
 excerpt_made (Err u) is_coloured keeps line rest column end_column start size first before width old mid fed new a f b starts ends kept m n w e = tt

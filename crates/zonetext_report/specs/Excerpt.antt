@@ -3,11 +3,12 @@ use Rattle.std.specs.Prelude.{◌≡◌, ℕ, ◌-◌, ◌<◌, ◌≤◌, ◌�
 use Rattle.dns_symbol.specs.Characters.{space, tilde}
 use Rattle.zonetext_report.specs.Finding.{green, style_if, unstyled}
 use Rattle.zone_format.specs.Place.{begins_character}
-use Rattle.zonetext_report.specs.Shown.{IsShowable, columns, shown_text}
+use Rattle.zone_format.specs.Columns.{width_of}
+use Rattle.zonetext_report.specs.Shown.{IsShowable, shown_text}
 
 -- the character stands at a place that has so many before it; there is none, and the place is the end
 abbrev pub HasPlace : (line : List ℕ) → (count at : ℕ) → Type 0
-HasPlace line count at = ((at < length line) × (columns (take at line) ≡ count) × (begins_character (slice_index line at) ≡ true)) ⊎ ((at ≡ length line) × (columns line ≤ count))
+HasPlace line count at = ((at < length line) × (width_of (take at line) ≡ count) × (begins_character (slice_index line at) ≡ true)) ⊎ ((at ≡ length line) × (width_of line ≤ count))
 
 -- of a line of more than 200 characters those before the 100 before a place are left out, but no more than would leave 200
 abbrev pub window_first : (before total : ℕ) → ℕ
@@ -23,11 +24,11 @@ caret_line is_coloured before width = replicate before space ++ style_if is_colo
 
 -- the characters of a line before a column
 abbrev pub characters_before : (line : List ℕ) → (column : ℕ) → ℕ
-characters_before line column = min (column - 1) (columns line)
+characters_before line column = min (column - 1) (width_of line)
 
 -- what is shown of a line begins with this character
 abbrev pub first_shown : (line : List ℕ) → (column : ℕ) → ℕ
-first_shown line column = window_first (characters_before line column) (columns line)
+first_shown line column = window_first (characters_before line column) (width_of line)
 
 -- 200 characters of the line are shown from one on, or those that are left, and a caret under that of the column
 pub record HasExcerpt (is_coloured : Bool) (line : List ℕ) (column end_column : ℕ) (old new : List ℕ) : Type 0 where
@@ -38,4 +39,4 @@ pub record HasExcerpt (is_coloured : Bool) (line : List ℕ) (column end_column 
   pub ends : HasPlace (drop start line) 200 size
   pub kept : IsTrue keeps_high ↔ IsShowable (take size (drop start line))
   pub is : let before = characters_before line column - first_shown line column in let window = take size (drop start line) in
-      new ≡ old ++ shown_text keeps_high window ++ codes "\n" ++ caret_line is_coloured before (mark_width (end_column - column) before (columns window))
+      new ≡ old ++ shown_text keeps_high window ++ codes "\n" ++ caret_line is_coloured before (mark_width (end_column - column) before (width_of window))

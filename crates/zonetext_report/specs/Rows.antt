@@ -6,7 +6,8 @@ use Rattle.zonetext_report.specs.Excerpt.{caret_line, first_shown, mark_width}
 use Rattle.zonetext_report.specs.Finding.{opened_text, place_text, severity_text}
 use Rattle.zonetext_report.specs.Json.{json_opened, json_position, json_text}
 use Rattle.zonetext_report.specs.Lint.{entry_remarks, first_reached, remark, unended}
-use Rattle.zonetext_report.specs.Shown.{columns, has_c1, shown_text}
+use Rattle.zone_format.specs.Columns.{width_of}
+use Rattle.zonetext_report.specs.Shown.{has_c1, shown_text}
 use Rattle.zonetext_report.specs.Tally.{shows, summary}
 use Rattle.zonetext_report.specs.declared.code.Code.TheVariants.{AdjacentTokens, ControlOctet, ControlZ, HighOctet, LeadingParenthesis, NestedParentheses, NoFinalNewline, Nul}
 use Rattle.zonetext_report.specs.declared.code.Severity.TheVariants.{Error, Warning}
@@ -39,8 +40,8 @@ controls = refl
 no_utf8 : shown_text false (98 ∷ 195 ∷ 188 ∷ 252 ∷ []) ≡ codes "b??"
 no_utf8 = refl
 
-three_columns : columns (98 ∷ 195 ∷ 188 ∷ 252 ∷ []) ≡ 3
-three_columns = refl
+three_characters : width_of (98 ∷ 195 ∷ 188 ∷ 252 ∷ []) ≡ 3
+three_characters = refl
 
 sequence_introducer : has_c1 (97 ∷ 194 ∷ 155 ∷ []) ≡ true
 sequence_introducer = refl

@@ -1,12 +1,9 @@
--- How octets of files are shown on a terminal, and how their characters are counted.
+-- How octets of files are shown on a terminal.
 use Rattle.std.specs.Prelude.{◌≡◌, ℕ, ◌==◌, ◌||◌, ◌&&◌, nat_lt, if◌then◌else◌, Bool, false, List, [], ◌∷◌, IsUtf8}
-use Rattle.std.specs.List.{count_by, flat_map}
+use Rattle.std.specs.List.{flat_map}
 use Rattle.dns_symbol.specs.Characters.{tab, space}
+use Rattle.zone_format.specs.Columns.{width_of}
 use Rattle.zone_format.specs.Place.{begins_character}
-
--- how many characters octets have
-abbrev pub columns : List ℕ → ℕ
-columns octets = count_by begins_character octets
 
 abbrev pub question_mark : ℕ
 question_mark = 63
@@ -38,4 +35,4 @@ IsShowable octets = IsUtf8 octets × (has_c1 octets ≡ false)
 
 -- each character is shown as one
 abbrev pub ShowsEachCharacter : Type 0
-ShowsEachCharacter = (keeps_high : Bool) (octets : List ℕ) → columns (shown_text keeps_high octets) ≡ columns octets
+ShowsEachCharacter = (keeps_high : Bool) (octets : List ℕ) → width_of (shown_text keeps_high octets) ≡ width_of octets

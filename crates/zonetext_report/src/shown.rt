@@ -1,14 +1,15 @@
 //! How octets of files are shown on a terminal.
 ghost use Rattle.std.specs.Prelude.{◌≡◌, ◌++◌, ◌↔◌, IsTrue, OnOk, option_to_list};
 ghost use Rattle.std.specs.List.{flat_map};
-ghost use Rattle.zonetext_report.specs.Shown.{columns, has_c1, IsShowable, shown_octet};
+ghost use Rattle.zone_format.specs.Columns.{width_of};
+ghost use Rattle.zonetext_report.specs.Shown.{has_c1, IsShowable, shown_octet};
 
 use std::alloc::{AllocError, Allocator};
 use zone_format::place::begins_character;
 
 /// How many characters octets have.
 pub fn count_columns(octets: &[u8]) -> usize
-    ensures { result ≡ columns octets.now }
+    ensures { result ≡ width_of octets.now }
 {
     octets
         .iter()
