@@ -5,11 +5,11 @@ use Rattle.dns_split.specs.declared.pieces.Piece.{Piece}
 use Rattle.dns_split.specs.declared.pieces.Piece.TheVariants.{Word as WordAt, Quote as QuoteAt, Comment as CommentAt, End as EndAt}
 use Rattle.dns_split.specs.declared.pieces.Fault.{Fault}
 use Rattle.dns_split.specs.declared.position.Position.{Position}
-use Rattle.dns_split.specs.Pieces.{ReadsOctets, EachWithin, IsWithin, tokens_by_entry, moved_piece, place_of}
+use Rattle.dns_split.specs.Pieces.{ReadsOctets, EachWithin, IsWithin, tokens_by_entry, moved_piece, piece_start, place_of}
 use Rattle.dns_split.proofs.PieceSplit.{pieces_split}
 use Rattle.zonetext_lib.specs.Entries.{ComparedPart, HasTokenEntries, ended_after_pieces, ended_by, parts, with_tokens}
 use Rattle.zonetext_lib.specs.Found.{IsOctetFault}
-use Rattle.zonetext_lib.specs.Compare.{part, says, start_of, is_passed, SkipsToPart, ComesNext, GoesOnWithPart, DifferAt, NoCommon}
+use Rattle.zonetext_lib.specs.Compare.{part, says, is_passed, SkipsToPart, ComesNext, GoesOnWithPart, DifferAt, NoCommon}
 use Rattle.zone_format.specs.Place.{IsAt}
 use Rattle.std.proofs.lemmas.List.{append_cancel_left, map-append, take_all}
 use Rattle.zone_format.proofs.Givens.{first_fault, pieces_after, pieces_in, whole_of}
@@ -106,7 +106,7 @@ piece_within octets all old new ended common p w x s =
 
 -- a text that went on with a piece, or ended
 pub taken_part : (octets : List ℕ) (all old new : List (Result Piece Fault)) (ended : Option ℕ) (common : List ComparedPart) (p : Piece) (q : Position) → ReadsOctets octets all
-    → EachWithin (length octets) all → Taken octets all old ended common → SkipsToPart ended old (Some (Ok p)) new → IsAt 0 (take (start_of p) octets) q → GoesOnWithPart octets common (Some (part octets ended p)) q
+    → EachWithin (length octets) all → Taken octets all old ended common → SkipsToPart ended old (Some (Ok p)) new → IsAt 0 (take (piece_start p) octets) q → GoesOnWithPart octets common (Some (part octets ended p)) q
 taken_part octets all old new ended common p q r w x s i =
     let k = skipped octets all old new ended common (Some (Ok p)) x s in
     let e : all ≡ map Ok k.taken ++ Ok p ∷ new = k.is ∙ ap (λ l. map Ok k.taken ++ l) s.takes.0 in
@@ -116,8 +116,8 @@ taken_part octets all old new ended common p q r w x s i =
       reads = subst (ReadsOctets octets) e r;
       within = subst (EachWithin (length octets)) e w;
       is = k.says_is;
-      at = start_of p;
-      next = subst (λ o. ComesNext octets o (Ok p ∷ new) (Some (part octets ended p)) (start_of p)) (sym k.ends) (refl, refl, s.takes.1 octets);
+      at = piece_start p;
+      next = subst (λ o. ComesNext octets o (Ok p ∷ new) (Some (part octets ended p)) (piece_start p)) (sym k.ends) (refl, refl, s.takes.1 octets);
       position = i;
     }
 

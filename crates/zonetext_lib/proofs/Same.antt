@@ -6,9 +6,9 @@ use Rattle.dns_split.specs.declared.pieces.Piece.{Piece}
 use Rattle.dns_split.specs.declared.pieces.EndOfEntry.{EndOfEntry}
 use Rattle.dns_split.specs.declared.pieces.Piece.TheVariants.{Word as WordAt, Quote as QuoteAt, Comment as CommentAt, End as EndAt}
 use Rattle.dns_split.specs.declared.pieces.Fault.{Fault}
-use Rattle.dns_split.specs.Pieces.{AreOctets, IsGiven, end_at}
+use Rattle.dns_split.specs.Pieces.{AreOctets, IsGiven, end_at, piece_start}
 use Rattle.zonetext_lib.specs.Blocks.{EndsEntryAt, Settled}
-use Rattle.zonetext_lib.specs.Compare.{CanCut, SkipsToPart, is_passed, part, says, start_of}
+use Rattle.zonetext_lib.specs.Compare.{CanCut, SkipsToPart, is_passed, part, says}
 use Rattle.zonetext_lib.specs.Comparing.{SameUntil, if_both}
 use Rattle.zonetext_lib.specs.Entries.{ComparedPart, Ends, HasEntries, HasTokenEntries, ended_after_pieces, ended_by, parts, with_tokens}
 use Rattle.zonetext_lib.specs.Writing.{EndsAt}
@@ -138,7 +138,7 @@ other_token first second ended that_ended (CommentAt p) q not_end same end e = l
 other_token first second ended that_ended (EndAt p) q not_end same end e = not_end p refl
 
 other_end : (first second : List ℕ) (ended that_ended : Option ℕ) (p : EndOfEntry) (q : Piece) → part first ended (EndAt p) ≡ part second that_ended q
-    → (end : EndOfEntry) × (q ≡ EndAt end) × (start_of q ≡ end.at)
+    → (end : EndOfEntry) × (q ≡ EndAt end) × (piece_start q ≡ end.at)
 other_end first second ended that_ended p (WordAt q) same = cc
 other_end first second ended that_ended p (QuoteAt q) same = cc
 other_end first second ended that_ended p (CommentAt q) same = cc
@@ -157,7 +157,7 @@ last_token first second all_ours all_theirs ours theirs new new2 ended that_ende
 
 pub last_end : (first second : List ℕ) (all_ours all_theirs ours theirs new new2 : List (Result Piece Fault)) (ended that_ended next that_next : Option ℕ) (there : ℕ) (common : List ComparedPart)
     (p q : Piece) (end : EndOfEntry) → p ≡ EndAt end → SkipsToPart ended ours (Some (Ok p)) new → SkipsToPart that_ended theirs (Some (Ok q)) new2 → part first ended p ≡ part second that_ended q
-    → there ≡ start_of q → Taken first all_ours ours ended common → Taken second all_theirs theirs that_ended common → Last first second all_ours all_theirs new new2 next that_next end.at there
+    → there ≡ piece_start q → Taken first all_ours ours ended common → Taken second all_theirs theirs that_ended common → Last first second all_ours all_theirs new new2 next that_next end.at there
 last_end first second all_ours all_theirs ours theirs new new2 ended that_ended next that_next there common p q end is s t same at x y =
     let e : ComparedPart = part second that_ended q in
     let o = other_end first second ended that_ended end q (ap (part first ended) (sym is) ∙ same) in (

@@ -8,11 +8,11 @@ use Rattle.dns_split.specs.declared.pieces.Piece.{Piece}
 use Rattle.dns_split.specs.declared.pieces.Piece.TheVariants.{Word as WordAt, Quote as QuoteAt, Comment as CommentAt, End as EndAt}
 use Rattle.dns_split.specs.declared.pieces.Fault.{Fault}
 use Rattle.dns_split.specs.declared.position.Position.{Position}
-use Rattle.dns_split.specs.Pieces.{AreOctets, IsGiven, end_at, later, moved, moved_fault, moved_piece}
+use Rattle.dns_split.specs.Pieces.{AreOctets, IsGiven, end_at, later, moved, moved_fault, moved_piece, piece_start}
 use Rattle.dns_split.proofs.OctetsOnce.{run_given}
 use Rattle.zonetext_lib.specs.declared.diff.Comparison.TheVariants.{Differ}
 use Rattle.zonetext_lib.specs.Blocks.{EndsEntry, Holds, Releases, Settled}
-use Rattle.zonetext_lib.specs.Compare.{ComesNext, Compares, DifferAt, GoesOnWithPart, part, says, start_of}
+use Rattle.zonetext_lib.specs.Compare.{ComesNext, Compares, DifferAt, GoesOnWithPart, part, says}
 use Rattle.zonetext_lib.specs.Comparing.{Compared}
 use Rattle.zonetext_lib.specs.Entries.{ComparedPart, Ends, HasTokenEntries, ended_after_pieces, parts, with_tokens}
 use Rattle.zonetext_lib.specs.Found.{IsOctetFault, IsZone}
@@ -90,7 +90,7 @@ part_back before x ended (QuoteAt p) = token_back before x ended p.start p.end
 part_back before x ended (CommentAt p) = token_back before x ended p.start p.end
 part_back before x ended (EndAt p) = refl
 
-start_back : (n : ℕ) (p : Piece) → start_of (moved_piece (λ i. n + i) p) ≡ n + start_of p
+start_back : (n : ℕ) (p : Piece) → piece_start (moved_piece (λ i. n + i) p) ≡ n + piece_start p
 start_back n (WordAt p) = refl
 start_back n (QuoteAt p) = refl
 start_back n (CommentAt p) = refl

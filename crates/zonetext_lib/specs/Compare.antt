@@ -1,7 +1,7 @@
 -- How the entries of two zone texts compare.
 use Rattle.std.specs.Prelude.{⊤, ◌≡◌, ◌<◌, ◌⊎◌, ℕ, Bool, true, false, List, [], ◌∷◌, ◌++◌, length, take, map, Option, Some, None, Result, Ok, Err}
 use Rattle.std.specs.Option.{is_some}
-use Rattle.dns_split.specs.Pieces.{EachWithin, ReadsOctets, between, end_at}
+use Rattle.dns_split.specs.Pieces.{EachWithin, ReadsOctets, between, end_at, piece_start}
 use Rattle.dns_split.specs.declared.pieces.Piece.{Piece}
 use Rattle.dns_split.specs.declared.pieces.Piece.TheVariants.{Word as WordAt, Quote as QuoteAt, Comment as CommentAt, End as EndAt}
 use Rattle.dns_split.specs.declared.pieces.Fault.{Fault}
@@ -28,12 +28,6 @@ IsPieceText octets (WordAt p) t = t ≡ between octets p.start p.end
 IsPieceText octets (QuoteAt p) t = t ≡ between octets p.start p.end
 IsPieceText octets (CommentAt p) t = t ≡ between octets p.start p.end
 IsPieceText octets (EndAt p) t = ⊤
-
-abbrev pub start_of : Piece → ℕ
-start_of (WordAt p) = p.start
-start_of (QuoteAt p) = p.start
-start_of (CommentAt p) = p.start
-start_of (EndAt p) = p.at
 
 -- what is passed over: a comment, and the end of an entry without tokens
 abbrev pub is_passed : Option ℕ → Result Piece Fault → Bool
@@ -67,7 +61,7 @@ pub record CanCut (ended : Option ℕ) (last : ℕ) (old : List (Result Piece Fa
 -- the part that comes next, or nothing, and where it begins; a comment is none, nor the end of an entry without tokens
 abbrev pub ComesNext : List ℕ → Option ℕ → List (Result Piece Fault) → Option ComparedPart → ℕ → Type 0
 ComesNext octets ended [] e at = (e ≡ None) × (at ≡ length octets)
-ComesNext octets ended (Ok p ∷ given) e at = (e ≡ Some (part octets ended p)) × (at ≡ start_of p) × (says octets ended (p ∷ []) ≡ part octets ended p ∷ [])
+ComesNext octets ended (Ok p ∷ given) e at = (e ≡ Some (part octets ended p)) × (at ≡ piece_start p) × (says octets ended (p ∷ []) ≡ part octets ended p ∷ [])
 ComesNext octets ended (Err f ∷ given) e at = ⊥
 
 -- after the same parts the octets go on with this part at this position

@@ -1,7 +1,7 @@
 //! Whether two zone texts have the same entries.
 ghost use Rattle.std.specs.Prelude.{◌≡◌, ◌+◌, ◌<◌, ◌≤◌, ◌^◌, ◌↔◌, IfSome, IsTrue, Ok, length, take};
-ghost use Rattle.dns_split.specs.Pieces.{IsWithin};
-ghost use Rattle.zonetext_lib.specs.Compare.{CanCut, Compares, IsPieceText, is_passed, part, SkipsToPart, start_of};
+ghost use Rattle.dns_split.specs.Pieces.{IsWithin, piece_start};
+ghost use Rattle.zonetext_lib.specs.Compare.{CanCut, Compares, IsPieceText, is_passed, part, SkipsToPart};
 ghost use Rattle.zonetext_lib.specs.Entries.{ended_by};
 ghost use Rattle.zonetext_lib.specs.Comparing.{SameUntil, if_both};
 ghost use Rattle.zone_format.specs.Place.{IsAt};
@@ -11,6 +11,7 @@ use crate::glue::is_glued;
 use dns_split::pieces::{Fault, Piece, Pieces};
 use dns_split::position::Position;
 use zone_format::place::position_after;
+use zonetext_report::lint::piece_start;
 
 /// How two zone texts compare.
 #[derive(Clone, Copy, PartialEq, Eq)]
@@ -114,21 +115,9 @@ fn is_same(
         (Piece::End(_), _) => false,
         (_, Piece::End(_)) => false,
         _ => {
-            is_glued(ended, start(one)) == is_glued(that_ended, start(other))
+            is_glued(ended, piece_start(one)) == is_glued(that_ended, piece_start(other))
                 && text(first, one) == text(second, other)
         }
-    }
-}
-
-/// Where a piece begins.
-fn start(piece: Piece) -> usize
-    ensures { result ≡ start_of piece }
-{
-    match piece {
-        Piece::Word(span) => span.start,
-        Piece::Quote(span) => span.start,
-        Piece::Comment(span) => span.start,
-        Piece::End(end) => end.at,
     }
 }
 
@@ -136,9 +125,9 @@ fn start(piece: Piece) -> usize
 fn position_of(octets: &[u8], piece: Piece) -> Position
     requires room { length octets.now + 2 < 2 ^ 64 }
     requires within { IsWithin (length octets.now) (Ok piece) }
-    ensures { IsAt 0 (take (start_of piece) octets.now) result }
+    ensures { IsAt 0 (take (piece_start piece) octets.now) result }
 {
-    position_after(0, &octets[..start(piece)])
+    position_after(0, &octets[..piece_start(piece)])
 }
 
 /// The first of two places where both are known, or the one before.
@@ -179,7 +168,7 @@ pub(crate) fn same_until(first: &[u8], second: &[u8]) -> (usize, usize)
         that_ended = ended_at(that_ended, other);
         if let Piece::End(end) = one {
             last = end.at;
-            that_last = start(other);
+            that_last = piece_start(other);
         }
     }
 }

@@ -213,8 +213,8 @@ fn lint_piece<A: Allocator>(
     }
 }
 
-/// Where a piece begins.
-fn piece_start(piece: Piece) -> usize
+/// Returns where a piece begins.
+pub fn piece_start(piece: Piece) -> usize
     ensures { result ≡ piece_start piece }
 {
     match piece {

@@ -119,8 +119,8 @@ parts-preserved-in-End c =
     let inv = l.invariant in
     record {
       step = both_on a b all.result others.result l.ours l.theirs new that_new l.ended l.that_ended next.result that_next.result p q inv.step s t same next.ensures that_next.ensures;
-      last = last_end a b all.result others.result l.ours l.theirs new that_new l.ended l.that_ended next.result that_next.result c.start-that_last.result inv.step.common p q c.in-End.end
-          c.in-End.is s t same c.start-that_last.ensures inv.step.in_first inv.step.in_second;
+      last = last_end a b all.result others.result l.ours l.theirs new that_new l.ended l.that_ended next.result that_next.result c.piece_start-that_last.result inv.step.common p q c.in-End.end
+          c.in-End.is s t same c.piece_start-that_last.ensures inv.step.in_first inv.step.in_second;
       cut = cut;
     }
 
