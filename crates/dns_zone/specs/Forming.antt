@@ -1,10 +1,10 @@
 -- Well-formed documents out of well-formed ones: lemmas for values that are made of others.
-use Rattle.std.proofs.Common.{◌≡◌, false, List, [], ◌∷◌, ◌++◌, refl}
+use Rattle.std.proofs.Common.{List, [], ◌∷◌, ◌++◌, refl}
 use Rattle.std.specs.List.{All, AllByRecursion}
 use Rattle.std.proofs.lemmas.List.Elements.{All-head, All-tail}
 use Rattle.dns_zone.specs.Documents.{IsProper, IsWellFormed}
-use Rattle.dns_zone.specs.Layout.{Step, begin, end, newline}
-use Rattle.dns_zone.specs.Nesting.{has_line, lines_of, nested_append, nested_in_block}
+use Rattle.dns_zone.specs.Layout.{Step, newline}
+use Rattle.dns_zone.specs.Nesting.{lines_of, nested_append}
 
 pub proper_append : (xs ys : List Step) → AllByRecursion IsProper xs → AllByRecursion IsProper ys → AllByRecursion IsProper (xs ++ ys)
 proper_append [] ys p q = q
@@ -13,10 +13,6 @@ proper_append (x ∷ xs) ys p q = (p.0, proper_append xs ys p.1 q)
 -- one document after another
 pub formed_append : (xs ys : List Step) → IsWellFormed xs → IsWellFormed ys → IsWellFormed (xs ++ ys)
 formed_append xs ys p q = (nested_append 0 xs ys p.0 q.0, proper_append xs ys p.1 q.1)
-
--- a document with no line end, in a block
-pub formed_in_block : (xs : List Step) → IsWellFormed xs → has_line xs ≡ false → IsWellFormed (begin ∷ (xs ++ end ∷ []))
-formed_in_block xs p q = (nested_in_block xs p.0 q, (tt, proper_append xs (end ∷ []) p.1 (tt, tt)))
 
 -- documents one after another, each with a line end
 pub formed_lines : {T : Type 0} (document : T → List Step) (holds : T → Type 0) → ((x : T) → holds x → IsWellFormed (document x))

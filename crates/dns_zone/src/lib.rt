@@ -22,7 +22,7 @@
 //!   print such values in a row.
 //! - [`tokens::ZoneTokens`]: a value whose document is always well-formed; [`tokens::Lines`] prints
 //!   values with a line end after each. `specs/Forming.antt` has lemmas to show it
-//!   (`formed_append`, `formed_in_block`, `formed_lines`).
+//!   (`formed_append`, `formed_lines`).
 //!
 //! What a document is, and its text in each layout, is defined in `specs/Layout.antt`, step by step
 //! and by the steps before alone; `specs/Rows.antt` has worked texts. The laws on well-formed
