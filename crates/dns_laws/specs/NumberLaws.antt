@@ -4,7 +4,7 @@ use Rattle.std.specs.Prelude.{IfErr, IfOk, IsOkAnd}
 use Rattle.std.specs.Fmt.{decimal}
 use Rattle.dns_symbol.specs.Cause.{Cause}
 use Rattle.dns_symbol.specs.Text.{SymbolsOf}
-use Rattle.dns_scan.specs.Numbers.{by_cause, greatest}
+use Rattle.dns_scan.specs.Numbers.{greatest}
 use Rattle.dns_scan.specs.Reads.{NumberReads, ReadsFirstToken}
 use Rattle.dns_scan.specs.Tokens.{Token}
 use Rattle.dns_scan.proofs.Decimal.{decimal_read}
@@ -42,11 +42,6 @@ module _ (limit : ℕ) (token : Token) where
       by_refused : (r : Result ℕ Cause) → NumberReads limit token r → IfErr r (λ why. NumberReads limit token (Err why))
       by_refused (Ok v) h = tt
       by_refused (Err why) h = h
-
-  -- and so what a scanner gives
-  pub number_scanned : {N E : Type 0} (number : N → ℕ) (cause : E → Cause) (r : Result N E) → NumberBack limit number (λ why. why) token (by_cause cause r) → NumberBack limit number cause token r
-  number_scanned number cause (Ok n) h = record { printed = h.printed; whole = h.whole; only = h.only; refused = h.refused }
-  number_scanned number cause (Err e) h = record { printed = h.printed; whole = h.whole; only = h.only; refused = h.refused }
 
 -- of a type of so many bits
 pub read_of : (bits : ℕ) (low : greatest bits < 10 ^ 64) (token : Token) (others rest : List Token) (r : Result ℕ Cause) → ReadsFirstToken (NumberReads (greatest bits)) (token ∷ others) r rest
