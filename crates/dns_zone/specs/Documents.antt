@@ -59,6 +59,18 @@ abbrev pub IsFirstFault : List Step → List Step → DocumentError → Type 0
 IsFirstFault past [] e = (e ≡ OpenBlock) × (0 < depth past)
 IsFirstFault past (x ∷ xs) e = IsDocumentFault past x e ⊎ (IsFine past x × IsFirstFault (x ∷ past) xs e)
 
+-- the first fault of a list of steps
+abbrev pub IsFaultIn : List Step → DocumentError → Type 0
+IsFaultIn xs e = IsFirstFault [] xs e
+
+-- a list of steps has none
+abbrev pub HasNoFault : List Step → Type 0
+HasNoFault xs = (e : DocumentError) → ¬ IsFaultIn xs e
+
+-- a step's fault after any steps that are so many and leave so many blocks open
+abbrev pub IsFaultAt : ℕ → ℕ → Step → DocumentError → Type 0
+IsFaultAt place blocks x e = (past : List Step) → length past ≡ place → depth past ≡ blocks → IsDocumentFault past x e
+
 -- what an error prints
 abbrev pub fault_text : DocumentError → List ℕ
 fault_text (BadToken i) = codes "bad token at " ++ decimal i

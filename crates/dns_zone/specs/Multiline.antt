@@ -1,7 +1,7 @@
 -- The multiline writer.
-use Rattle.std.specs.Prelude.{◌≡◌, ◌≤◌, ◌<◌, ◌⊎◌, ℕ, ◌+◌, List, ◌∷◌, length, Some, None, if◌then◌else◌}
+use Rattle.std.specs.Prelude.{◌≡◌, ◌≤◌, ◌<◌, ◌⊎◌, ℕ, ◌+◌, false, List, ◌∷◌, length, Some, None, Result, IsOk, if◌then◌else◌}
 use Rattle.dns_zone.specs.Layout.{Step, token, begin, end, comment, newline, depth, is_row_start, is_shown, line_width, indent, multiline_piece}
-use Rattle.dns_zone.specs.Writers.{PrintsStep, FailsStep}
+use Rattle.dns_zone.specs.Writers.{PrintsStep, FailsStep, WritesStep}
 use Rattle.dns_zone.specs.declared.zonefile_fmt.multiline.MultiLineWriter.{MultiLineWriter}
 
 -- the sink of a writer
@@ -22,6 +22,10 @@ pub record MultilineStands {W : Type 0} (w : MultiLineWriter W) (past : List Ste
 -- a step that went well: after whatever steps the writer stands, the text of this one is appended
 abbrev pub MultilineStep : {W : Type 0} → (W → List ℕ → W → Type 0) → MultiLineWriter W → Step → MultiLineWriter W → Type 0
 MultilineStep took = PrintsStep MultilineStands multiline_sink took multiline_piece
+
+-- the same, and the blocks that are open after it
+abbrev pub MultilineWrites : {W : Type 0} → (W → List ℕ → W → Type 0) → MultiLineWriter W → Step → MultiLineWriter W → Type 0
+MultilineWrites took = WritesStep multiline_blocks (MultilineStep took)
 
 -- Behind whatever steps the writer stands, the indent of a block that begins here is at most `most`.
 abbrev pub IndentFits : {W : Type 0} → ℕ → MultiLineWriter W → Type 0
@@ -50,3 +54,7 @@ pub record WritesLine {W : Type 0} (took : W → List ℕ → W → Type 0) (w :
   pub block_indent : v.block_indent ≡ w.block_indent
   pub column : (n : ℕ) → w.line.column ≡ Some n → v.line.column ≡ Some (n + length bs)
   pub wrote : took w.line.writer bs v.line.writer
+
+-- where the writer shows no comment, one is taken
+abbrev pub TakesHidden : {W E : Type 0} → MultiLineWriter W → Result (Unit {0}) E → Type 0
+TakesHidden w r = (past : List Step) → MultilineStands w past → is_shown past ≡ false → IsOk r

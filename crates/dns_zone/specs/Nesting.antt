@@ -34,6 +34,10 @@ Fits xs blocks = has_line xs ≡ true → blocks ≡ 0
 abbrev pub lines_of : {T : Type 0} → (T → List Step) → List T → List Step
 lines_of document xs = flat_map (λ x. document x ++ newline ∷ []) xs
 
+-- a document in a block of its own
+abbrev pub in_block : List Step → List Step
+in_block xs = begin ∷ (xs ++ end ∷ [])
+
 -- ---- lemmas
 
 pub both_true : (a b : Bool) → a ≡ true → b ≡ true → (a && b) ≡ true

@@ -1,7 +1,7 @@
 -- The simple writer.
 use Rattle.std.specs.Prelude.{◌≡◌, ℕ, List}
 use Rattle.dns_zone.specs.Layout.{Step, depth, is_line_start, simple_piece}
-use Rattle.dns_zone.specs.Writers.{PrintsStep, FailsStep, BlocksPass}
+use Rattle.dns_zone.specs.Writers.{PrintsStep, FailsStep, BlocksPass, WritesStep}
 use Rattle.dns_zone.specs.declared.zonefile_fmt.simple.SimpleWriter.{SimpleWriter}
 
 -- the sink of a writer
@@ -20,6 +20,10 @@ pub record SimpleStands {W : Type 0} (w : SimpleWriter W) (past : List Step) : T
 -- a step that went well: after whatever steps the writer stands, the text of this one is appended
 abbrev pub SimpleStep : {W : Type 0} → (W → List ℕ → W → Type 0) → SimpleWriter W → Step → SimpleWriter W → Type 0
 SimpleStep took = PrintsStep SimpleStands simple_sink took simple_piece
+
+-- the same, and the blocks that are open after it
+abbrev pub SimpleWrites : {W : Type 0} → (W → List ℕ → W → Type 0) → SimpleWriter W → Step → SimpleWriter W → Type 0
+SimpleWrites took = WritesStep simple_blocks (SimpleStep took)
 
 -- a step that failed: the sink refused, or the open blocks would pass the greatest
 abbrev pub SimpleFails : {W : Type 0} → Type 0 → ℕ → SimpleWriter W → Step → Type 0

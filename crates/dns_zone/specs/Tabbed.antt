@@ -1,7 +1,7 @@
 -- The tabbed writer.
 use Rattle.std.specs.Prelude.{◌≡◌, ℕ, ◌<◌, List}
 use Rattle.dns_zone.specs.Layout.{Step, depth, is_line_start, is_block_start, tabbed_piece}
-use Rattle.dns_zone.specs.Writers.{PrintsStep, FailsStep, BlocksPass}
+use Rattle.dns_zone.specs.Writers.{PrintsStep, FailsStep, BlocksPass, WritesStep}
 use Rattle.dns_zone.specs.declared.zonefile_fmt.tabbed.TabbedWriter.{TabbedWriter}
 
 -- the sink of a writer
@@ -21,6 +21,10 @@ pub record TabbedStands {W : Type 0} (w : TabbedWriter W) (past : List Step) : T
 -- a step that went well: after whatever steps the writer stands, the text of this one is appended
 abbrev pub TabbedStep : {W : Type 0} → (W → List ℕ → W → Type 0) → TabbedWriter W → Step → TabbedWriter W → Type 0
 TabbedStep took = PrintsStep TabbedStands tabbed_sink took tabbed_piece
+
+-- the same, and the blocks that are open after it
+abbrev pub TabbedWrites : {W : Type 0} → (W → List ℕ → W → Type 0) → TabbedWriter W → Step → TabbedWriter W → Type 0
+TabbedWrites took = WritesStep tabbed_blocks (TabbedStep took)
 
 -- a step that failed: the sink refused, or the open blocks would pass the greatest
 abbrev pub TabbedFails : {W : Type 0} → Type 0 → ℕ → TabbedWriter W → Step → Type 0

@@ -1,5 +1,5 @@
 -- What the contracts of writers and of printed values say.
-use Rattle.std.specs.Prelude.{◌≡◌, ◌<◌, ◌⊎◌, ℕ, ◌+◌, ◌-◌, List, ◌∷◌}
+use Rattle.std.specs.Prelude.{◌≡◌, ◌<◌, ◌⊎◌, ℕ, ◌+◌, ◌-◌, List, ◌∷◌, Option, Result, IfSome, OnOk, OnErr}
 use Rattle.std.specs.List.{FoldsTo}
 use Rattle.std.specs.Fmt.{WritesInCalls}
 use Rattle.dns_zone.specs.Layout.{Step, token, begin, end, comment, newline, depth}
@@ -21,6 +21,18 @@ pub record WritesStep {F : Type 0} (blocks : F → ℕ) (step_gives : F → Step
 pub record WritesSteps {F : Type 0} (blocks : F → ℕ) (step_gives : F → Step → F → Type 0) (w : F) (xs : List Step) (v : F) : Type 0 where
   pub level : blocks v ≡ blocks w
   pub steps : FoldsTo step_gives w xs v
+
+-- these steps in turn, where the answer is `Ok`
+abbrev pub StepsOnOk : {F E : Type 0} → (F → ℕ) → (F → Step → F → Type 0) → F → Result (Unit {0}) E → List Step → F → Type 0
+StepsOnOk blocks step_gives w r xs v = OnOk r (WritesSteps blocks step_gives w xs v)
+
+-- a token or a comment by its text, where the answer is `Ok` and a `Display` states the text
+abbrev pub TextOnOk : {F E : Type 0} → (F → Step → F → Type 0) → (List ℕ → Step) → F → Result (Unit {0}) E → Option (List ℕ) → F → Type 0
+TextOnOk step_gives step w r text v = OnOk r (IfSome text (λ bs. step_gives w (step bs) v))
+
+-- such a step that failed
+abbrev pub TextOnErr : {F E : Type 0} → (F → Step → Type 0) → (List ℕ → Step) → F → Result (Unit {0}) E → Option (List ℕ) → Type 0
+TextOnErr step_fails step w r text = OnErr r (IfSome text (λ bs. step_fails w (step bs)))
 
 -- what a step of a writer over a sink does: after whatever steps `past` it stands, it appends the text of that step,
 -- and stands after that step too

@@ -1,7 +1,7 @@
 //! Lists of tokens, block marks, comments and line ends, and which of them are documents.
-ghost use Rattle.std.specs.Prelude.{◌≡◌, ℕ, ◌<◌, List, [], ◌∷◌, Some, IsTrue, IfNone, IfSome, IfOk, IfErr, IsOk, OnOk, length, ◌↔◌};
-ghost use Rattle.dns_zone.specs.Layout.{Step, token, begin, end, comment, newline, depth};
-ghost use Rattle.dns_zone.specs.Documents.{item_step, item_steps, IsCommentText, IsProper, IsDocumentFault, IsFirstFault, IsWellFormed};
+ghost use Rattle.std.specs.Prelude.{◌≡◌, ◌<◌, Some, IsTrue, IfNone, IfSome, IfOk, IfErr, IsOk, OnOk, ◌↔◌};
+ghost use Rattle.dns_zone.specs.Layout.{token, begin, end, comment, newline};
+ghost use Rattle.dns_zone.specs.Documents.{item_step, item_steps, IsCommentText, IsProper, IsFaultAt, IsFaultIn, IsWellFormed};
 ghost use Rattle.dns_zone.specs.Writers.{WritesStep, opened};
 
 pub use crate::error::DocumentError;
@@ -38,7 +38,7 @@ fn fault<A: Allocator>(item: &Item<A>, place: usize, blocks: usize) -> Option<Do
     ensures proper { IfNone result (IsProper (item_step item.now)) }
     ensures end { IfNone result (item_step item.now ≡ end → 0 < blocks) }
     ensures newline { IfNone result (item_step item.now ≡ newline → blocks ≡ 0) }
-    ensures fault { IfSome result (λ e. (past : List Step) → length past ≡ place → depth past ≡ blocks → IsDocumentFault past (item_step item.now) e) }
+    ensures fault { IfSome result (λ e. IsFaultAt place blocks (item_step item.now) e) }
 {
     match item {
         Item::Token(text) if !is_token(text.as_str()) => Some(DocumentError::BadToken(place)),
@@ -80,7 +80,7 @@ fn blocks_after<A: Allocator>(item: &Item<A>, blocks: usize) -> usize
 /// What is wrong first with a list of items.
 pub(crate) fn first_fault<A: Allocator>(items: &[Item<A>]) -> Option<DocumentError>
     ensures fine { IfNone result (IsWellFormed (item_steps items.now)) }
-    ensures fault { IfSome result (λ e. IsFirstFault [] (item_steps items.now) e) }
+    ensures fault { IfSome result (λ e. IsFaultIn (item_steps items.now) e) }
 {
     let mut blocks: usize = 0;
     for (place, item) in items.iter().enumerate() {
@@ -114,7 +114,7 @@ impl<A: Allocator> Document<A> {
     ) -> std::result::Result<Document<A>, (DocumentError, Vec<Item<A>, A>)>
         ensures ok { IfOk result (λ d. document_steps d ≡ item_steps items.items) }
         ensures accepts { IsOk result ↔ IsWellFormed (item_steps items.items) }
-        ensures err { IfErr result (λ e. IsFirstFault [] (item_steps items.items) e.0 × (e.1 ≡ items)) }
+        ensures err { IfErr result (λ e. IsFaultIn (item_steps items.items) e.0 × (e.1 ≡ items)) }
     {
         match first_fault(&items) {
             Some(error) => Err((error, items)),

@@ -1,8 +1,8 @@
 //! Laws on documents and their layouts.
 //! Each function's contract is the law; calling one does nothing of use.
-ghost use Rattle.std.specs.Prelude.{◌≡◌, ◌≤◌, ◌↔◌, List, []};
+ghost use Rattle.std.specs.Prelude.{◌≡◌, ◌≤◌, ◌↔◌, List};
 ghost use Rattle.dns_zone.specs.Layout.{Step, line_width};
-ghost use Rattle.dns_zone.specs.Documents.{item_steps, IsFirstFault, IsWellFormed};
+ghost use Rattle.dns_zone.specs.Documents.{item_steps, HasNoFault, IsFaultIn, IsWellFormed};
 ghost use Rattle.dns_zone.specs.DocumentSteps.{document_steps};
 ghost use Rattle.dns_zone.specs.Multiline.{MultilineStands};
 
@@ -19,14 +19,14 @@ pub fn documents_are_well_formed(document: &Document)
 
 /// A list of items is well-formed exactly if it has no first fault.
 pub fn well_formed_without_fault(items: &[Item])
-    ensures { IsWellFormed (item_steps items.now) ↔ ((e : DocumentError) → ¬ IsFirstFault [] (item_steps items.now) e) }
+    ensures { IsWellFormed (item_steps items.now) ↔ HasNoFault (item_steps items.now) }
 {
     let _fault = first_fault(items);
 }
 
 /// A list has one first fault at most.
 pub fn first_faults_are_unique()
-    ensures { (xs : List Step) (e f : DocumentError) → IsFirstFault [] xs e → IsFirstFault [] xs f → e ≡ f }
+    ensures { (xs : List Step) (e f : DocumentError) → IsFaultIn xs e → IsFaultIn xs f → e ≡ f }
 {}
 
 /// No writer has more open blocks than it can count.

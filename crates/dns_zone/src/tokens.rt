@@ -8,7 +8,7 @@ ghost use Rattle.dns_zone.specs.Forming.{formed_lines};
 ghost use Rattle.dns_zone.specs.Lines.{lines_values};
 ghost use Rattle.dns_zone.specs.Nesting.{Fits, lines_of, nested_lines};
 ghost use Rattle.dns_zone.specs.Tokens.{one_each};
-ghost use Rattle.dns_zone.specs.Writers.{WritesSteps};
+ghost use Rattle.dns_zone.specs.Writers.{StepsOnOk};
 
 use crate::zonefile_fmt::{FormatWriter, Formatter, Result, ZonefileFmt};
 
@@ -58,7 +58,7 @@ impl<T: ZoneTokens> ZoneTokens for &T {
 
 /// Prints values one after another: the document is a token for each, in order.
 pub fn write_each<T: ZoneToken, F: FormatWriter>(p: &mut F, items: &[T]) -> Result
-    ensures { OnOk result (WritesSteps F.blocks F.step_gives p.old (one_each T.text items.now) p.new) }
+    ensures { StepsOnOk F.blocks F.step_gives p.old result (one_each T.text items.now) p.new }
 {
     for item in items {
         item.write(p)?;
@@ -122,7 +122,7 @@ fn known_lines<T: ZoneTokens>(values: &[T])
 // Prints values one after another, with a line end after each.
 fn write_lines<T: ZonefileFmt, F: FormatWriter>(p: &mut F, values: &[T]) -> Result
     requires { Fits (lines_of T.document values.now) (F.blocks p.old) }
-    ensures { OnOk result (WritesSteps F.blocks F.step_gives p.old (lines_of T.document values.now) p.new) }
+    ensures { StepsOnOk F.blocks F.step_gives p.old result (lines_of T.document values.now) p.new }
 {
     for value in values {
         p.write_show(value)?;

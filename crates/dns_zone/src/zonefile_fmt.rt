@@ -1,9 +1,9 @@
 //! Printing of values as zone text: traits, writers and displays.
-ghost use Rattle.std.specs.Prelude.{◌≡◌, ◌<◌, ℕ, List, [], ◌∷◌, ◌++◌, IfSome, OnOk, OnErr};
+ghost use Rattle.std.specs.Prelude.{◌≡◌, ◌<◌, ℕ, List, OnOk, OnErr};
 ghost use Rattle.dns_zone.specs.Layout.{Step, token, begin, end, comment, newline};
 ghost use Rattle.dns_zone.specs.Displayed.{displayed_value, displayed_kind};
-ghost use Rattle.dns_zone.specs.Nesting.{Fits, IsNested};
-ghost use Rattle.dns_zone.specs.Writers.{WritesStep, WritesSteps};
+ghost use Rattle.dns_zone.specs.Nesting.{Fits, IsNested, in_block};
+ghost use Rattle.dns_zone.specs.Writers.{TextOnErr, TextOnOk, StepsOnOk, WritesStep};
 
 mod blocks;
 mod display;
@@ -66,7 +66,7 @@ pub trait ZonefileFmt {
     /// line end.
     fn fmt<F: FormatWriter>(&self, p: &mut F) -> Result
         requires { Fits (document self.now) (F.blocks p.old) }
-        ensures { OnOk result (WritesSteps F.blocks F.step_gives p.old (document self.now) p.new) };
+        ensures { StepsOnOk F.blocks F.step_gives p.old result (document self.now) p.new };
 
     /// The value as a `Display`, whose text is its document in the given layout.
     fn display_zonefile(&self, kind: DisplayKind) -> ZoneFileDisplay<'_, Self>
@@ -109,8 +109,8 @@ pub trait FormatWriter: Sized {
     /// Prints a token: a word, or a text between double quotes.
     fn fmt_token<T: Display + Drop>(&mut self, text: T) -> Result
         ensures blocks { OnOk result (blocks self.new ≡ blocks self.old) }
-        ensures gives { OnOk result (IfSome (T.output text) (λ bs. step_gives self.old (token bs) self.new)) }
-        ensures fails { OnErr result (IfSome (T.output text) (λ bs. step_fails self.old (token bs))) };
+        ensures gives { TextOnOk step_gives token self.old result (T.output text) self.new }
+        ensures fails { TextOnErr step_fails token self.old result (T.output text) };
 
     /// Opens a block.
     fn begin_block(&mut self) -> Result
@@ -126,8 +126,8 @@ pub trait FormatWriter: Sized {
     /// Prints a comment, where the layout shows it.
     fn fmt_comment<T: Display + Drop>(&mut self, text: T) -> Result
         ensures blocks { OnOk result (blocks self.new ≡ blocks self.old) }
-        ensures gives { OnOk result (IfSome (T.output text) (λ bs. step_gives self.old (comment bs) self.new)) }
-        ensures fails { OnErr result (IfSome (T.output text) (λ bs. step_fails self.old (comment bs))) };
+        ensures gives { TextOnOk step_gives comment self.old result (T.output text) self.new }
+        ensures fails { TextOnErr step_fails comment self.old result (T.output text) };
 
     /// Ends the line. No block is open.
     fn newline(&mut self) -> Result
@@ -145,7 +145,8 @@ pub trait Formatter: FormatWriter {
     /// Prints a value's document in a block of its own. The document has no line end.
     fn block<T: ZonefileFmt + Drop>(&mut self, item: T) -> Result
         requires { Fits (T.document item) 1 }
-        ensures { OnOk result (WritesSteps Self.blocks Self.step_gives self.old (begin ∷ (T.document item ++ end ∷ [])) self.new) }
+        ensures { StepsOnOk Self.blocks Self.step_gives self.old result (in_block (T.document item))
+            self.new }
     {
         self.begin_block()?;
         self.write_show(item)?;
@@ -155,8 +156,8 @@ pub trait Formatter: FormatWriter {
     /// Prints a token.
     fn write_token<T: Display + Drop>(&mut self, text: T) -> Result
         ensures blocks { OnOk result (Self.blocks self.new ≡ Self.blocks self.old) }
-        ensures gives { OnOk result (IfSome (T.output text) (λ bs. Self.step_gives self.old (token bs) self.new)) }
-        ensures fails { OnErr result (IfSome (T.output text) (λ bs. Self.step_fails self.old (token bs))) }
+        ensures gives { TextOnOk Self.step_gives token self.old result (T.output text) self.new }
+        ensures fails { TextOnErr Self.step_fails token self.old result (T.output text) }
     {
         self.fmt_token(text)
     }
@@ -164,7 +165,7 @@ pub trait Formatter: FormatWriter {
     /// Prints a value's document. On a writer with an open block it has no line end.
     fn write_show<T: ZonefileFmt + Drop>(&mut self, item: T) -> Result
         requires { Fits (T.document item) (Self.blocks self.old) }
-        ensures { OnOk result (WritesSteps Self.blocks Self.step_gives self.old (T.document item) self.new) }
+        ensures { StepsOnOk Self.blocks Self.step_gives self.old result (T.document item) self.new }
     {
         item.fmt(self)
     }
@@ -172,8 +173,8 @@ pub trait Formatter: FormatWriter {
     /// Prints a comment.
     fn write_comment<T: Display + Drop>(&mut self, text: T) -> Result
         ensures blocks { OnOk result (Self.blocks self.new ≡ Self.blocks self.old) }
-        ensures gives { OnOk result (IfSome (T.output text) (λ bs. Self.step_gives self.old (comment bs) self.new)) }
-        ensures fails { OnErr result (IfSome (T.output text) (λ bs. Self.step_fails self.old (comment bs))) }
+        ensures gives { TextOnOk Self.step_gives comment self.old result (T.output text) self.new }
+        ensures fails { TextOnErr Self.step_fails comment self.old result (T.output text) }
     {
         self.fmt_comment(text)
     }

@@ -1,11 +1,11 @@
 //! Values as texts in a layout.
-ghost use Rattle.std.specs.Prelude.{◌≡◌, ℕ, List, [], ◌∷◌, OnOk, Some};
-ghost use Rattle.std.specs.Fmt.{WritesInCalls};
-ghost use Rattle.dns_zone.specs.Layout.{layout, simple_piece, tabbed_piece, multiline_piece};
+ghost use Rattle.std.specs.Prelude.{Some};
+ghost use Rattle.dns_zone.specs.Layout.{layout};
 ghost use Rattle.dns_zone.specs.Displayed.{displayed_value, displayed_kind};
-ghost use Rattle.dns_zone.specs.Printed.{printed};
+ghost use Rattle.dns_zone.specs.Printed.{printed, PrintsOnOk};
 ghost use Rattle.dns_zone.specs.Nesting.{Fits};
-ghost use Rattle.dns_zone.specs.Writers.{WritesSteps};
+ghost use Rattle.dns_zone.specs.Writers.{StepsOnOk};
+ghost use Rattle.dns_zone.specs.declared.zonefile_fmt.DisplayKind.TheVariants.{Simple, Tabbed, Multiline};
 
 use crate::zonefile_fmt::{
     DisplayKind, FormatWriter, MultiLineWriter, SimpleWriter, TabbedWriter, ZoneFileDisplay,
@@ -17,7 +17,7 @@ use std::fmt::Display;
 // Prints a value's document on the writer of a layout.
 fn print_in<T: ZonefileFmt, F: FormatWriter>(value: &T, writer: &mut F) -> fmt::Result
     requires { Fits (T.document value.now) (F.blocks writer.old) }
-    ensures { OnOk result (WritesSteps F.blocks F.step_gives writer.old (T.document value.now) writer.new) }
+    ensures { StepsOnOk F.blocks F.step_gives writer.old result (T.document value.now) writer.new }
 {
     match value.fmt(writer) {
         Ok(()) => Ok(()),
@@ -27,7 +27,7 @@ fn print_in<T: ZonefileFmt, F: FormatWriter>(value: &T, writer: &mut F) -> fmt::
 
 /// Prints a value's document in the simple layout.
 fn print_simple<T: ZonefileFmt, W: fmt::Write>(value: &T, sink: &mut W) -> fmt::Result
-    ensures { OnOk result (WritesInCalls W.write_str_gives sink.old (layout simple_piece (T.document value.now)) sink.new) }
+    ensures { PrintsOnOk Simple W.write_str_gives sink.old result (T.document value.now) sink.new }
 {
     let mut writer = SimpleWriter::new(sink);
     let result = print_in(value, &mut writer);
@@ -39,7 +39,7 @@ fn print_simple<T: ZonefileFmt, W: fmt::Write>(value: &T, sink: &mut W) -> fmt::
 
 /// Prints a value's document in the tabbed layout.
 fn print_tabbed<T: ZonefileFmt, W: fmt::Write>(value: &T, sink: &mut W) -> fmt::Result
-    ensures { OnOk result (WritesInCalls W.write_str_gives sink.old (layout tabbed_piece (T.document value.now)) sink.new) }
+    ensures { PrintsOnOk Tabbed W.write_str_gives sink.old result (T.document value.now) sink.new }
 {
     let mut writer = TabbedWriter::new(sink);
     let result = print_in(value, &mut writer);
@@ -49,7 +49,8 @@ fn print_tabbed<T: ZonefileFmt, W: fmt::Write>(value: &T, sink: &mut W) -> fmt::
 
 /// Prints a value's document in the multiline layout.
 fn print_multiline<T: ZonefileFmt, W: fmt::Write>(value: &T, sink: &mut W) -> fmt::Result
-    ensures { OnOk result (WritesInCalls W.write_str_gives sink.old (layout multiline_piece (T.document value.now)) sink.new) }
+    ensures { PrintsOnOk Multiline W.write_str_gives sink.old result
+        (T.document value.now) sink.new }
 {
     let mut writer = MultiLineWriter::new(sink);
     let result = print_in(value, &mut writer);

@@ -1,11 +1,11 @@
 //! The multiline layout.
-ghost use Rattle.std.specs.Prelude.{◌≡◌, ◌<◌, ◌⊎◌, ℕ, length, List, [], ◌∷◌, false, IsOk, OnOk, OnErr, IfSome, replicate};
+ghost use Rattle.std.specs.Prelude.{◌≡◌, ◌<◌, ◌⊎◌, length, List, [], false, IsOk, OnOk, OnErr, replicate};
 ghost use Rattle.std.specs.Fmt.{WritesInCalls};
 ghost use Rattle.dns_symbol.specs.Characters.{space};
-ghost use Rattle.dns_zone.specs.Layout.{Step, begin, comment, is_shown, line_width};
-ghost use Rattle.dns_zone.specs.Multiline.{MultilineStands, MultilineStep, IndentFits, LinePasses, MultilineFails, WritesLine, multiline_sink, multiline_blocks};
+ghost use Rattle.dns_zone.specs.Layout.{Step, begin, comment, line_width};
+ghost use Rattle.dns_zone.specs.Multiline.{MultilineStands, MultilineStep, IndentFits, LinePasses, MultilineFails, WritesLine, multiline_sink, multiline_blocks, MultilineWrites, TakesHidden};
 ghost use Rattle.dns_zone.specs.Sinks.{greatest_usize};
-ghost use Rattle.dns_zone.specs.Writers.{WritesStep};
+ghost use Rattle.dns_zone.specs.Writers.{TextOnErr, TextOnOk};
 
 use crate::zonefile_fmt::blocks::Blocks;
 use crate::zonefile_fmt::sink::count_on;
@@ -117,7 +117,7 @@ impl<W: Sink> FormatWriter for MultiLineWriter<W> {
     }
 
     fn begin_block(&mut self) -> Result
-        ensures gives { OnOk result (WritesStep multiline_blocks (MultilineStep W.write_str_gives) self.old begin self.new) }
+        ensures gives { OnOk result (MultilineWrites W.write_str_gives self.old begin self.new) }
         ensures fails { OnErr result (MultilineFails W.refused greatest_usize self.old begin) }
         ensures counted { OnOk result (multiline_blocks self.old < usize.MAX) }
         ensures indented { OnOk result (IndentFits usize.MAX self.old) }
@@ -141,11 +141,13 @@ impl<W: Sink> FormatWriter for MultiLineWriter<W> {
 
     fn fmt_comment<T: Display + Drop>(&mut self, text: T) -> Result
         ensures blocks { OnOk result (multiline_blocks self.new ≡ multiline_blocks self.old) }
-        ensures gives { OnOk result (IfSome (T.output text) (λ bs. MultilineStep W.write_str_gives self.old (comment bs) self.new)) }
-        ensures fails { OnErr result (IfSome (T.output text) (λ bs. MultilineFails W.refused greatest_usize self.old (comment bs))) }
+        ensures gives { TextOnOk (MultilineStep W.write_str_gives) comment self.old result
+            (T.output text) self.new }
+        ensures fails { TextOnErr (MultilineFails W.refused greatest_usize) comment self.old result
+            (T.output text) }
 
         // A comment that isn't shown touches no sink.
-        ensures hidden { (past : List Step) → MultilineStands self.old past → is_shown past ≡ false → IsOk result }
+        ensures hidden { TakesHidden self.old result }
     {
         if let Some(indent) = self.block_indent {
             self.line.writer.put_str(COMMENT_MARK)?;

@@ -1,9 +1,9 @@
 //! The simple layout.
-ghost use Rattle.std.specs.Prelude.{◌≡◌, ◌<◌, ◌↔◌, ℕ, List, [], ◌∷◌, IsOk, OnOk, OnErr, IfSome};
+ghost use Rattle.std.specs.Prelude.{◌≡◌, ◌<◌, ◌↔◌, [], IsOk, OnOk, OnErr};
 ghost use Rattle.dns_zone.specs.Layout.{begin, end, comment};
 ghost use Rattle.dns_zone.specs.Sinks.{greatest_usize};
-ghost use Rattle.dns_zone.specs.Writers.{WritesStep};
-ghost use Rattle.dns_zone.specs.Simple.{SimpleStands, SimpleStep, SimpleFails, simple_sink, simple_blocks};
+ghost use Rattle.dns_zone.specs.Writers.{TextOnErr, TextOnOk};
+ghost use Rattle.dns_zone.specs.Simple.{SimpleStands, SimpleStep, SimpleFails, simple_sink, simple_blocks, SimpleWrites};
 
 use crate::zonefile_fmt::blocks::Blocks;
 use crate::zonefile_fmt::{FormatWriter, LINE_FEED, Result, SPACE, Sink};
@@ -58,7 +58,7 @@ impl<W: Sink> FormatWriter for SimpleWriter<W> {
     }
 
     fn begin_block(&mut self) -> Result
-        ensures gives { OnOk result (WritesStep simple_blocks (SimpleStep W.write_str_gives) self.old begin self.new) }
+        ensures gives { OnOk result (SimpleWrites W.write_str_gives self.old begin self.new) }
         ensures fails { OnErr result (SimpleFails W.refused greatest_usize self.old begin) }
         ensures counted { IsOk result ↔ (simple_blocks self.old < usize.MAX) }
     {
@@ -69,7 +69,7 @@ impl<W: Sink> FormatWriter for SimpleWriter<W> {
     fn end_block(&mut self) -> Result
         requires { 0 < simple_blocks self.old }
         ensures ok { IsOk result }
-        ensures gives { OnOk result (WritesStep simple_blocks (SimpleStep W.write_str_gives) self.old end self.new) }
+        ensures gives { OnOk result (SimpleWrites W.write_str_gives self.old end self.new) }
         ensures fails { OnErr result (SimpleFails W.refused greatest_usize self.old end) }
     {
         self.blocks = self.blocks.end();
@@ -79,8 +79,10 @@ impl<W: Sink> FormatWriter for SimpleWriter<W> {
     fn fmt_comment<T: Display + Drop>(&mut self, _text: T) -> Result
         ensures ok { IsOk result }
         ensures blocks { OnOk result (simple_blocks self.new ≡ simple_blocks self.old) }
-        ensures gives { OnOk result (IfSome (T.output _text) (λ bs. SimpleStep W.write_str_gives self.old (comment bs) self.new)) }
-        ensures fails { OnErr result (IfSome (T.output _text) (λ bs. SimpleFails W.refused greatest_usize self.old (comment bs))) }
+        ensures gives { TextOnOk (SimpleStep W.write_str_gives) comment self.old result
+            (T.output _text) self.new }
+        ensures fails { TextOnErr (SimpleFails W.refused greatest_usize) comment self.old result
+            (T.output _text) }
     {
         // This layout shows no comments.
         Ok(())

@@ -1,10 +1,10 @@
 //! The tabbed layout.
-ghost use Rattle.std.specs.Prelude.{◌≡◌, ◌<◌, ◌↔◌, ℕ, List, [], ◌∷◌, if◌then◌else◌, IsOk, OnOk, OnErr, IfSome};
+ghost use Rattle.std.specs.Prelude.{◌≡◌, ◌<◌, ◌↔◌, [], ◌∷◌, if◌then◌else◌, IsOk, OnOk, OnErr};
 ghost use Rattle.dns_symbol.specs.Characters.{tab, space};
 ghost use Rattle.dns_zone.specs.Layout.{begin, end, comment};
 ghost use Rattle.dns_zone.specs.Sinks.{greatest_usize};
-ghost use Rattle.dns_zone.specs.Writers.{WritesStep};
-ghost use Rattle.dns_zone.specs.Tabbed.{TabbedStands, TabbedStep, TabbedFails, tabbed_sink, tabbed_blocks};
+ghost use Rattle.dns_zone.specs.Writers.{TextOnErr, TextOnOk};
+ghost use Rattle.dns_zone.specs.Tabbed.{TabbedStands, TabbedStep, TabbedFails, tabbed_sink, tabbed_blocks, TabbedWrites};
 
 use crate::zonefile_fmt::blocks::Blocks;
 use crate::zonefile_fmt::{FormatWriter, LINE_FEED, Result, SPACE, Sink, TAB};
@@ -72,7 +72,7 @@ impl<W: Sink> FormatWriter for TabbedWriter<W> {
     }
 
     fn begin_block(&mut self) -> Result
-        ensures gives { OnOk result (WritesStep tabbed_blocks (TabbedStep W.write_str_gives) self.old begin self.new) }
+        ensures gives { OnOk result (TabbedWrites W.write_str_gives self.old begin self.new) }
         ensures fails { OnErr result (TabbedFails W.refused greatest_usize self.old begin) }
         ensures counted { IsOk result ↔ (tabbed_blocks self.old < usize.MAX) }
     {
@@ -87,7 +87,7 @@ impl<W: Sink> FormatWriter for TabbedWriter<W> {
     fn end_block(&mut self) -> Result
         requires { 0 < tabbed_blocks self.old }
         ensures ok { IsOk result }
-        ensures gives { OnOk result (WritesStep tabbed_blocks (TabbedStep W.write_str_gives) self.old end self.new) }
+        ensures gives { OnOk result (TabbedWrites W.write_str_gives self.old end self.new) }
         ensures fails { OnErr result (TabbedFails W.refused greatest_usize self.old end) }
     {
         self.blocks = self.blocks.end();
@@ -97,8 +97,10 @@ impl<W: Sink> FormatWriter for TabbedWriter<W> {
     fn fmt_comment<T: Display + Drop>(&mut self, _text: T) -> Result
         ensures ok { IsOk result }
         ensures blocks { OnOk result (tabbed_blocks self.new ≡ tabbed_blocks self.old) }
-        ensures gives { OnOk result (IfSome (T.output _text) (λ bs. TabbedStep W.write_str_gives self.old (comment bs) self.new)) }
-        ensures fails { OnErr result (IfSome (T.output _text) (λ bs. TabbedFails W.refused greatest_usize self.old (comment bs))) }
+        ensures gives { TextOnOk (TabbedStep W.write_str_gives) comment self.old result
+            (T.output _text) self.new }
+        ensures fails { TextOnErr (TabbedFails W.refused greatest_usize) comment self.old result
+            (T.output _text) }
     {
         // This layout shows no comments.
         Ok(())
