@@ -6,6 +6,9 @@ use Rattle.dns_symbol.specs.Symbol.{chars_error_text}
 use Rattle.dns_symbol.specs.Text.{SymbolsOf}
 use Rattle.dns_symbol.specs.Cause.{Cause, custom_text, end_of_entry, IsCause}
 use Rattle.dns_scan.specs.Tokens.{Token}
+use Rattle.dns_octets.specs.Room.{Room, within}
+use Rattle.dns_charstr.specs.Limits.{max_string}
+use Rattle.dns_scan.specs.Steps.{GivesStep, octet_given, text_given}
 
 module _ {F X E : Type 0} (step : F → X → Result (Unit {0}) E → F → Type 0) where
   -- f was asked for each of xs in turn, until it refused, and r is that refusal; without one r ends as Last says
@@ -40,3 +43,15 @@ pub record Builds {O E : Type 0} (cause : E → Cause) (step : List ℕ → Symb
   pub built : List ℕ
   pub asks : CallsEachSymbol cause step token [] answer built
   pub gives : MatchResult answer (λ _. IsOkAnd r (λ x. octets x ≡ built)) (λ e. r ≡ Err e)
+
+-- the octets of a token's symbols, in a builder with that room
+abbrev pub BuildsOctets : {O E : Type 0} → (E → Cause) → Room → (O → List ℕ) → Token → Result O E → Type 0
+BuildsOctets cause room = Builds cause (GivesStep cause room octet_given)
+
+-- the same of a character string, which has at most 255
+abbrev pub BuildsString : {E : Type 0} → (E → Cause) → Room → Token → Result (List ℕ) E → Type 0
+BuildsString cause room = BuildsOctets cause (within max_string room) (λ s. s)
+
+-- the characters of a token's symbols, in UTF-8
+abbrev pub BuildsText : {E : Type 0} → (E → Cause) → Room → Token → Result (List ℕ) E → Type 0
+BuildsText cause room = Builds cause (GivesStep cause room text_given) (λ s. s)

@@ -58,6 +58,10 @@ module _ {E : Type 0} (cause : E → Cause) (room : Room) where
         (λ _. (last : Result (Unit {0}) E) × (q : C × List ℕ) × ConvertTail tail state last q × MatchResult last (λ _. IsOkAnd r (λ x. octets x ≡ q.1)) (λ e. r ≡ Err e))
         (λ e. r ≡ Err e)
 
+  -- the run of a converter over one token, and its tail
+  abbrev pub ConvertsOneToken : {C O : Type 0} → (C → Symbol → Result (List ℕ) E → C → Type 0) → (C → Result (List ℕ) E → C → Type 0) → (O → List ℕ) → C → Token → Result O E → Type 0
+  ConvertsOneToken takes tail octets convert token r = Converts tail octets (λ p a q. ConvertToken takes p token a q) convert r
+
   -- a token's octets, at most 255, after their count; or the first refusal
   pub record StringStep (b : List ℕ) (t : Token) (r : Result (Unit {0}) E) (c : List ℕ) : Type 0 where
     pub answer : Result (Unit {0}) E

@@ -1,5 +1,6 @@
 -- The tokens of an entry: each in turn, and all as one text.
-use Rattle.std.specs.Prelude.{ℕ, List, [], ◌∷◌, ◌++◌, ◌≡◌, ◌⊎◌, Option, Some, None, Result, Ok, IsErr, IsOk, map}
+use Rattle.std.specs.Prelude.{ℕ, List, [], ◌∷◌, ◌++◌, ◌≡◌, ◌⊎◌, ◌↔◌, Bool, Option, Some, None, Result, Ok, IsErr, IsOk, IsOkAnd, IsTrue, map}
+use Rattle.std.specs.List.{AllByRecursion, AllZip}
 use Rattle.dns_octets.specs.Room.{Room}
 use Rattle.dns_symbol.specs.Text.{SymbolsOf}
 use Rattle.dns_symbol.specs.declared.symbol.Symbol.{Symbol}
@@ -8,8 +9,8 @@ use Rattle.dns_symbol.specs.declared.symbol.EntrySymbol.{EntrySymbol}
 use Rattle.dns_symbol.specs.declared.symbol.EntrySymbol.TheVariants.{EndOfToken, Symbol as Of}
 use Rattle.dns_symbol.specs.Cause.{Cause}
 use Rattle.dns_scan.specs.Entries.{Converts, ConvertInEntry}
-use Rattle.dns_scan.specs.Stands.{HasTokens}
-use Rattle.dns_scan.specs.Tokens.{Token}
+use Rattle.dns_scan.specs.Stands.{HasTokens, OfTokens, first_of}
+use Rattle.dns_scan.specs.Tokens.{Token, marker}
 
 -- each token in turn by a call, until one is refused: then the tokens after that one are left, and else none
 module _ {F E : Type 0} (call : F → Token → Result (Unit {0}) E → F → Type 0) where
@@ -25,6 +26,14 @@ handed_over symbols = map Of symbols ++ EndOfToken ∷ []
 abbrev pub IsSymbols : Token → Type 0
 IsSymbols token = (symbols : List Symbol) × SymbolsOf token symbols None
 
+-- tokens that all are
+abbrev pub AreSymbols : List Token → Type 0
+AreSymbols = AllByRecursion IsSymbols
+
+-- the symbols of each token, which is nothing else
+abbrev pub HaveSymbols : List Token → List (List Symbol) → Type 0
+HaveSymbols = AllZip (λ token symbols. SymbolsOf token symbols None)
+
 -- a token with a bad escape, after symbols
 abbrev pub HasBadEscape : Token → Type 0
 HasBadEscape token = (symbols : List Symbol) × (e : SymbolCharsError) × SymbolsOf token symbols (Some e)
@@ -33,6 +42,14 @@ HasBadEscape token = (symbols : List Symbol) × (e : SymbolCharsError) × Symbol
 abbrev pub IsJoin : List Token → List ℕ → Type 0
 IsJoin [] text = text ≡ []
 IsJoin (t ∷ ts) text = (IsSymbols t × ((more : List ℕ) × IsJoin ts more × (text ≡ t ++ more))) ⊎ (HasBadEscape t × (text ≡ t))
+
+-- tokens have a join
+abbrev pub HaveJoin : List Token → Type 0
+HaveJoin tokens = (text : List ℕ) × IsJoin tokens text
+
+-- the answer is whether the marker comes first
+abbrev pub FindsMarker : {E : Type 0} → List Token → Result Bool E → Type 0
+FindsMarker tokens r = IsOkAnd r (λ found. IsTrue found ↔ (first_of tokens ≡ Some marker))
 
 -- what a call over an entry leaves of its tokens: the last ones, and none where all went well
 abbrev pub LeavesOf : {S V E : Type 0} → (S → Option Token → S → Type 0) → List Token → Result V E → S → Type 0
@@ -43,3 +60,7 @@ abbrev pub ConvertsTokens : {C O E : Type 0} → (E → Cause) → Room → (C �
     → List Token → C → Result O E → List Token → Type 0
 ConvertsTokens cause room takes tail octets tokens convert r rest =
     Converts cause room tail octets (λ p a q. CallsTokens (ConvertInEntry cause room takes) tokens p a rest q) convert r
+
+-- the same, of the tokens before which the scanner stood
+abbrev pub LeavesLast : {S V E : Type 0} → (S → Option Token → S → Type 0) → S → Result V E → S → Type 0
+LeavesLast next old r new = OfTokens next old (λ tokens. LeavesOf next tokens r new)

@@ -1,12 +1,12 @@
 -- Decimal numbers in tokens.
-use Rattle.std.specs.Prelude.{ℕ, List, [], ◌∷◌, ◌++◌, ◌≡◌, ◌≤◌, ◌<◌, Option, Some, None, Result, Ok, Err, MatchResult, ◌⊎◌, if◌then◌else◌, nat_lt, is_some, ◌*◌, ◌+◌, ◌-◌, ◌^◌, length, map, codes}
+use Rattle.std.specs.Prelude.{ℕ, List, [], ◌∷◌, ◌++◌, ◌≡◌, ◌≤◌, ◌<◌, Option, Some, None, Result, Ok, Err, IfOk, MatchResult, ◌⊎◌, if◌then◌else◌, nat_lt, is_some, ◌*◌, ◌+◌, ◌-◌, ◌^◌, length, map, codes}
 use Rattle.dns_symbol.specs.declared.symbol.Symbol.{Symbol}
 use Rattle.dns_symbol.specs.declared.symbol.Symbol.TheVariants.{Char, SimpleEscape, DecimalEscape}
 use Rattle.dns_symbol.specs.declared.error.SymbolCharsError.{SymbolCharsError}
 use Rattle.dns_symbol.specs.Symbol.{is_digit, chars_error_text}
 use Rattle.dns_symbol.specs.Text.{SymbolsOf}
 use Rattle.dns_symbol.specs.Cause.{Cause, custom_text}
-use Rattle.dns_scan.specs.Tokens.{Token}
+use Rattle.dns_scan.specs.Tokens.{ScansToken, Token}
 
 -- the greatest number of each type
 abbrev pub greatest : ℕ → ℕ
@@ -74,3 +74,11 @@ abbrev pub AddsDigit : {E : Type 0} → (E → Cause) → ℕ → ℕ → Symbol
 AddsDigit cause limit v x r w =
     MatchResult r (λ _. (d : ℕ) × (plain_digit_of x ≡ Some d) × (w ≡ v * 10 + d) × (w ≤ limit))
     (λ e. (w ≡ v) × (cause e ≡ refusal_at limit v x) × ((d : ℕ) → plain_digit_of x ≡ Some d → limit < v * 10 + d))
+
+-- what a token is read as is the number that its symbols are plain digits of, and nothing else stands in the token
+abbrev pub OnlyNumber : ℕ → Token → Result ℕ Cause → Type 0
+OnlyNumber limit token r = (symbols : List Symbol) (error : Option SymbolCharsError) → SymbolsOf token symbols error → IfOk r (λ v. IsNumber limit symbols v × (error ≡ None))
+
+-- a call that takes a token as a number
+abbrev pub ScansNumber : {S E : Type 0} → (S → Option Token → S → Type 0) → (E → Cause) → ℕ → S → Result ℕ E → S → Type 0
+ScansNumber next cause limit = ScansToken next cause (ScannedNumber cause limit)

@@ -57,6 +57,23 @@ ReadsRest reads tokens (Ok values) rest = ReadsSome reads tokens values [] × (r
 ReadsRest {V} reads tokens (Err why) rest =
     (values : List V) × (middle : List Token) × ReadsSome reads tokens values middle × (((middle ≢ []) × reads middle (Err why) rest) ⊎ ((values ≢ []) × (why ≡ short_buf) × (rest ≡ middle)))
 
+-- two answers of one question are the same
+abbrev pub HasOneAnswer : {A : Type 0} → (A → Type 0) → Type 0
+HasOneAnswer {A} answers = (q r : A) → answers q → answers r → q ≡ r
+
+-- symbols have one answer, whatever each gives, in a builder with that room
+abbrev pub GivenInOneWay : (Symbol → Result (List ℕ) (List ℕ)) → Room → Type 0
+GivenInOneWay given room =
+    (symbols : List Symbol) (error : Option SymbolCharsError) → HasOneAnswer {A = Result (List ℕ) Cause} (AnswersGiven given room (λ why. why) (λ s. s) symbols error)
+
+-- a token is read as one name or refused in one way
+abbrev pub NamesInOneWay : {N E : Type 0} → (E → Cause) → (Token → Result N E → Type 0) → Type 0
+NamesInOneWay {N} {E} cause reads = (token : Token) (q r : Result N E) → reads token q → reads token r → by_cause cause q ≡ by_cause cause r
+
+-- the tokens are read as that value alone, and the others are left
+abbrev pub AreReadAs : {V : Type 0} → (List Token → Result V Cause → List Token → Type 0) → List Token → V → List Token → Type 0
+AreReadAs {V} reads tokens v others = (r : Result V Cause) (rest : List Token) → reads tokens r rest → (r ≡ Ok v) × (rest ≡ others)
+
 -- a reading has one answer of given tokens, and leaves the same
 abbrev pub ReadsInOneWay : {V : Type 0} → (List Token → Result V Cause → List Token → Type 0) → Type 0
 ReadsInOneWay {V} reads = (tokens : List Token) (q r : Result V Cause) (rest others : List Token) → reads tokens q rest → reads tokens r others → (q ≡ r) × (rest ≡ others)

@@ -33,6 +33,22 @@ module _ {S : Type 0} (next : S → Option Token → S → Type 0) where
   pub stands_same : (s u : S) (ts : List Token) → HasTokens s ts → TakesNothing next s u → HasTokens u ts
   stands_same s u ts h k = record { calls = λ n. same_for n s u ts k (h.calls n) }
 
+  -- P holds of the tokens before which s stands
+  abbrev pub OfTokens : S → (List Token → Type 0) → Type 0
+  OfTokens s P = (tokens : List Token) → HasTokens s tokens → P tokens
+
+  -- P holds of the first of the tokens before which s stands
+  abbrev pub OfFirst : S → (Token → Type 0) → Type 0
+  OfFirst s P = (token : Token) (others : List Token) → HasTokens s (token ∷ others) → P token
+
+  -- where old stands before that token and others, new stands before the others
+  abbrev pub TakesToken : Token → S → S → Type 0
+  TakesToken token old new = (others : List Token) → HasTokens old (token ∷ others) → HasTokens new others
+
   -- where old stands before one token and others, that token is taken as P says, and new stands before the others
   abbrev pub TakesOne : S → S → (Token → Type 0) → Type 0
   TakesOne old new P = (token : Token) (others : List Token) → HasTokens old (token ∷ others) → P token × HasTokens new others
+
+  -- the same, where the token and the answer are as P says
+  abbrev pub TakesAs : {R : Type 0} → (Token → R → Type 0) → S → R → S → Type 0
+  TakesAs P old r new = TakesOne old new (λ token. P token r)

@@ -16,6 +16,14 @@ pub record AreStrings (tokens : List Token) (octets : List ℕ) : Type 0 where
   pub short : All (λ s. length s ≤ max_string) strings
   pub joined : octets ≡ flat_map wire_of strings
 
+-- character strings of at most 255 octets
+abbrev pub AreShort : List (List ℕ) → Type 0
+AreShort = All (λ s. length s ≤ max_string)
+
+-- the tokens are these character strings, and each has at most 255 octets
+abbrev pub HaveStrings : List Token → List (List ℕ) → Type 0
+HaveStrings tokens strings = AllZip HasOctets tokens strings × AreShort strings
+
 -- a builder with that room
 module _ (room : Room) where
   -- why a token is refused once `count` octets stand: it is no character string, or its wire form finds no room

@@ -1,6 +1,6 @@
 -- What a call of a scanner does to the tokens before it.
 use Rattle.std.specs.Prelude.{ℕ, List, ◌≡◌, ◌≢◌, Option, Some, Result, Ok, Err, Bool, true, false, MatchOption, codes}
-use Rattle.dns_symbol.specs.Cause.{Cause, end_of_entry, IsCause}
+use Rattle.dns_symbol.specs.Cause.{Cause, custom_text, end_of_entry, trailing_tokens, IsCause}
 
 -- a token: its text's bytes
 abbrev pub Token : Type 0
@@ -15,6 +15,14 @@ pub record Peeks {S : Type 0} (next : S → Option Token → S → Type 0) (old 
   pub same : TakesNothing next old new
   pub shown : (u : S) × next new o u
   pub only : (p : Option Token) (u : S) → next new p u → p ≡ o
+
+-- a call that looked ahead and took nothing, where P holds of what comes next
+abbrev pub LooksAhead : {S : Type 0} → (S → Option Token → S → Type 0) → S → S → (Option Token → Type 0) → Type 0
+LooksAhead next old new P = (o : Option Token) × Peeks next old new o × P o
+
+-- all is well at the end of the entry, and a token that comes next is refused as "trailing data"
+abbrev pub AtEnd : {E : Type 0} → (E → Cause) → Result (Unit {0}) E → Option Token → Type 0
+AtEnd cause r o = MatchOption o (r ≡ Ok tt) (λ _. IsCause cause r trailing_tokens)
 
 -- a call that asked for one token: the token that was taken and what holds of it and the answer, or the refusal where none was left
 pub record ScansToken {S V E : Type 0} (next : S → Option Token → S → Type 0) (cause : E → Cause) (answers : Token → Result V E → Type 0)
@@ -32,3 +40,7 @@ abbrev pub MarkerCall : {S E : Type 0} → (S → Option Token → S → Type 0)
 MarkerCall next old (Ok true) new = next old (Some marker) new
 MarkerCall next old (Ok false) new = (o : Option Token) × Peeks next old new o × (o ≢ Some marker)
 MarkerCall next old (Err e) new = ⊥
+
+-- a scanner that reads no service parameters
+abbrev pub no_svcb_octets : Cause
+no_svcb_octets = custom_text (codes "Scanning SVCB octets is only implemented by some Scanners")

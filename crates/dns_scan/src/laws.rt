@@ -1,26 +1,21 @@
 //! Laws on what any scanner gives.
-ghost use Rattle.std.specs.Prelude.{◌≡◌, ◌≢◌, ◌↔◌, ℕ, ◌<◌, ◌≤◌, ◌^◌, List, ◌∷◌, Some, None, Ok, Option, Result, IfOk, IsOkAnd, IsTrue, MatchResult, map, length, min, All, IsUtf8};
+ghost use Rattle.std.specs.Prelude.{◌≡◌, ◌≢◌, ℕ, ◌<◌, ◌≤◌, ◌^◌, List, ◌∷◌, Some, None, Ok, Option, Result, IfOk, MatchResult, All, IsUtf8};
 ghost use Rattle.std.specs.Fmt.{decimal};
-ghost use Rattle.std.specs.List.{AllByRecursion, AllZip, FoldsTo, concat, flat_map};
+ghost use Rattle.std.specs.List.{AllZip, FoldsTo, concat, flat_map};
 ghost use Rattle.dns_octets.specs.Room.{exactly, within};
 ghost use Rattle.dns_symbol.specs.declared.symbol.Symbol.{Symbol as PlainSymbol};
-ghost use Rattle.dns_symbol.specs.declared.error.SymbolCharsError.{SymbolCharsError};
-ghost use Rattle.dns_symbol.specs.Symbol.{octet_of};
-ghost use Rattle.dns_symbol.specs.Text.{SymbolsOf};
 ghost use Rattle.dns_charstr.specs.Reading.{HasOctets};
 ghost use Rattle.dns_charstr.specs.Wire.{wire_of};
-ghost use Rattle.dns_scan.specs.Answers.{AnswersGiven};
 ghost use Rattle.dns_scan.specs.Asks.{CallsEach};
 ghost use Rattle.dns_symbol.specs.Cause.{Cause};
 ghost use Rattle.dns_scan.specs.Entries.{AsksToken, Converts, ConvertInEntry};
-ghost use Rattle.dns_scan.specs.Join.{CallsTokens, ConvertsTokens, IsJoin, IsSymbols, LeavesOf, handed_over};
+ghost use Rattle.dns_scan.specs.Join.{CallsTokens, ConvertsTokens, IsJoin, handed_over, AreSymbols, FindsMarker, HaveJoin, HaveSymbols, LeavesLast};
 ghost use Rattle.dns_scan.specs.Kinds.{KindReads};
-ghost use Rattle.dns_scan.specs.Numbers.{IsNumber, by_cause};
+ghost use Rattle.dns_scan.specs.Numbers.{OnlyNumber};
 ghost use Rattle.dns_scan.specs.Octets.{GivesWhere, IsPrinted, StringBack};
-ghost use Rattle.dns_scan.specs.Reads.{NameReads, NumberReads, OctetsRead, ReadInOneWay, ReadsBoth, ReadsEach, ReadsFirstToken, ReadsInOneWay, ReadsInTurn};
-ghost use Rattle.dns_scan.specs.Steps.{octet_given};
-ghost use Rattle.dns_scan.specs.Stands.{HasTokens, TakesOne, first_of};
-ghost use Rattle.dns_scan.specs.Strings.{AnswersStrings};
+ghost use Rattle.dns_scan.specs.Reads.{NameReads, NumberReads, OctetsRead, ReadInOneWay, ReadsBoth, ReadsEach, ReadsFirstToken, ReadsInOneWay, ReadsInTurn, AreReadAs, GivenInOneWay, HasOneAnswer, NamesInOneWay};
+ghost use Rattle.dns_scan.specs.Stands.{HasTokens, first_of, OfTokens, TakesAs, TakesToken};
+ghost use Rattle.dns_scan.specs.Strings.{AnswersStrings, AreShort};
 ghost use Rattle.dns_scan.specs.Tokens.{Token, marker};
 ghost use Rattle.dns_charstr.specs.Limits.{max_string};
 
@@ -42,7 +37,9 @@ pub fn character_strings_are_scanned_back<S: Scanner>(
 ) -> Result<CharStr<S::Octets>, S::Error>
     requires { S.can_scan scanner.old }
     ensures ready { S.can_scan scanner.new }
-    ensures takes { TakesOne S.next_token scanner.old scanner.new (λ token. StringBack S.Error.cause (within max_string S.OctetsBuilder.room) token result) }
+    ensures takes { TakesAs S.next_token
+        (StringBack S.Error.cause (within max_string S.OctetsBuilder.room))
+        scanner.old result scanner.new }
 {
     scanner.scan_charstr()
 }
@@ -51,21 +48,21 @@ pub fn character_strings_are_scanned_back<S: Scanner>(
 /// each gives. So is a token that is read as octets, and so are the tokens of an entry that are put
 /// together as character strings, with the tokens that are left.
 pub fn octets_are_answered_in_one_way()
-    ensures symbols { (given : PlainSymbol → Result (List ℕ) (List ℕ)) (size : ℕ) (symbols : List PlainSymbol) (error : Option SymbolCharsError) (q r : Result (List ℕ) Cause)
-        → AnswersGiven given (exactly size) (λ why. why) (λ s. s) symbols error q → AnswersGiven given (exactly size) (λ why. why) (λ s. s) symbols error r → q ≡ r }
-    ensures token { (size : ℕ) (token : Token) (q r : Result (List ℕ) Cause) → OctetsRead (exactly size) token q → OctetsRead (exactly size) token r → q ≡ r }
-    ensures entry { (size : ℕ) (tokens : List Token) (q r : Result (List ℕ) Cause) (rest others : List Token) → AnswersStrings (exactly size) (λ why. why) (λ s. s) tokens q rest
-        → AnswersStrings (exactly size) (λ why. why) (λ s. s) tokens r others → (q ≡ r) × (rest ≡ others) }
+    ensures symbols { (given : PlainSymbol → Result (List ℕ) (List ℕ)) (size : ℕ)
+        → GivenInOneWay given (exactly size) }
+    ensures token { (size : ℕ) (token : Token) → HasOneAnswer (OctetsRead (exactly size) token) }
+    ensures entry { (size : ℕ)
+        → ReadsInOneWay (AnswersStrings (exactly size) {O = List ℕ} (λ why. why) (λ s. s)) }
 {}
 
 /// A token is read as a number in one way, and the decimal text of a number as that number. A
 /// token that is read as a number is plain digits of that value.
 pub fn printed_numbers_read_back()
-    ensures back { (limit v : ℕ) (others rest : List Token) (r : Result ℕ Cause) → v ≤ limit → v < 2 ^ 128
-        → ReadsFirstToken (NumberReads limit) (decimal v ∷ others) r rest → (r ≡ Ok v) × (rest ≡ others) }
-    ensures one { (limit : ℕ) (token : Token) (q r : Result ℕ Cause) → NumberReads limit token q → NumberReads limit token r → q ≡ r }
-    ensures only { (limit : ℕ) (token : Token) (r : Result ℕ Cause) (symbols : List PlainSymbol) (error : Option SymbolCharsError) → NumberReads limit token r
-        → SymbolsOf token symbols error → IfOk r (λ v. IsNumber limit symbols v × (error ≡ None)) }
+    ensures back { (limit v : ℕ) (others : List Token) → v ≤ limit → v < 2 ^ 128
+        → AreReadAs (ReadsFirstToken (NumberReads limit)) (decimal v ∷ others) v others }
+    ensures one { (limit : ℕ) (token : Token) → HasOneAnswer (NumberReads limit token) }
+    ensures only { (limit : ℕ) (token : Token) (r : Result ℕ Cause)
+        → NumberReads limit token r → OnlyNumber limit token r }
 {}
 
 /// `count` scans of one type hand over the values that the tokens are read as, up to the first
@@ -120,11 +117,14 @@ pub fn kinds_in_turn<S: Scanner, T: Scan<S>, F: FnMut(Scanned<T>)>(
 pub fn scans_have_one_answer<S: Scanner, A: Scan<S> + Drop, B: Scan<S>>()
     ensures number { (limit : ℕ) → ReadsInOneWay (ReadsFirstToken (NumberReads limit)) }
     ensures string { (size : ℕ) → ReadsInOneWay (ReadsFirstToken (OctetsRead (exactly size))) }
-    ensures name { ((token : Token) (q r : Result S.Name S.Error) → S.reads_name token q → S.reads_name token r → by_cause S.Error.cause q ≡ by_cause S.Error.cause r)
+    ensures name { NamesInOneWay S.Error.cause S.reads_name
         → ReadsInOneWay (ReadsFirstToken (NameReads S.Error.cause S.reads_name)) }
-    ensures each { ReadsInOneWay A.scan_reads → (count : ℕ) → ReadInOneWay (ReadsEach A.scan_reads count) }
-    ensures kinds { ReadsInOneWay A.scan_reads → (kinds : List Kind) → ReadInOneWay (ReadsInTurn (KindReads A.scan_reads) kinds) }
-    ensures both { ReadsInOneWay A.scan_reads → ReadsInOneWay B.scan_reads → ReadsInOneWay (ReadsBoth A.scan_reads B.scan_reads) }
+    ensures each { ReadsInOneWay A.scan_reads
+        → (count : ℕ) → ReadInOneWay (ReadsEach A.scan_reads count) }
+    ensures kinds { ReadsInOneWay A.scan_reads
+        → (kinds : List Kind) → ReadInOneWay (ReadsInTurn (KindReads A.scan_reads) kinds) }
+    ensures both { ReadsInOneWay A.scan_reads → ReadsInOneWay B.scan_reads
+        → ReadsInOneWay (ReadsBoth A.scan_reads B.scan_reads) }
 {}
 
 /// The marker of unknown data, `\#`, is found exactly where it is the first token, and only then
@@ -132,10 +132,10 @@ pub fn scans_have_one_answer<S: Scanner, A: Scan<S> + Drop, B: Scan<S>>()
 pub fn markers_are_found<S: Scanner>(scanner: &mut S) -> Result<bool, S::Error>
     requires { S.can_scan scanner.old }
     ensures ready { S.can_scan scanner.new }
-    ensures found { (tokens : List Token) → HasTokens S.next_token scanner.old tokens → IsOkAnd result (λ found. IsTrue found ↔ (first_of tokens ≡ Some marker)) }
-    ensures taken { (others : List Token) → HasTokens S.next_token scanner.old (marker ∷ others) → HasTokens S.next_token scanner.new others }
-    ensures left { (tokens : List Token) → HasTokens S.next_token scanner.old tokens → first_of tokens ≢ Some marker
-        → HasTokens S.next_token scanner.new tokens × (S.is_spaced scanner.new ≡ S.is_spaced scanner.old) }
+    ensures found { OfTokens S.next_token scanner.old (λ tokens. FindsMarker tokens result) }
+    ensures taken { TakesToken S.next_token marker scanner.old scanner.new }
+    ensures left { OfTokens S.next_token scanner.old (λ tokens. first_of tokens ≢ Some marker
+        → HasTokens S.next_token scanner.new tokens × (S.is_spaced scanner.new ≡ S.is_spaced scanner.old)) }
 {
     scanner.scan_opt_unknown_marker()
 }
@@ -152,9 +152,10 @@ where
     ensures callable { F.IsAlwaysCallable op.new }
     ensures asks { (tokens : List Token) → HasTokens S.next_token scanner.old tokens
         → (rest : List Token) × CallsTokens (AsksToken S.Error.cause (λ f x r g. F.step f x r g)) tokens op.old result rest op.new × HasTokens S.next_token scanner.new rest }
-    ensures whole { (tokens : List Token) (lists : List (List PlainSymbol)) → HasTokens S.next_token scanner.old tokens → AllZip (λ token symbols. SymbolsOf token symbols None) tokens lists
+    ensures whole { (tokens : List Token) (lists : List (List PlainSymbol))
+        → HasTokens S.next_token scanner.old tokens → HaveSymbols tokens lists
         → CallsEach (λ f x r g. F.step f x r g) (flat_map handed_over lists) (λ r. r ≡ Ok tt) op.old result op.new }
-    ensures rest { (tokens : List Token) → HasTokens S.next_token scanner.old tokens → LeavesOf S.next_token tokens result scanner.new }
+    ensures rest { LeavesLast S.next_token scanner.old result scanner.new }
 {
     scanner.scan_entry_symbols(op)
 }
@@ -174,20 +175,22 @@ pub fn entries_convert_as_their_join<S: Scanner, C: ConvertSymbols<EntrySymbol, 
     ensures converts { (tokens : List Token) → HasTokens S.next_token scanner.old tokens
         → (rest : List Token) × ConvertsTokens S.Error.cause S.OctetsBuilder.room C.takes C.tail S.Octets.octets tokens convert result rest
         × HasTokens S.next_token scanner.new rest }
-    ensures join { (tokens : List Token) (text : List ℕ) → HasTokens S.next_token scanner.old tokens → IsJoin tokens text
+    ensures join { (tokens : List Token) (text : List ℕ)
+        → HasTokens S.next_token scanner.old tokens → IsJoin tokens text
         → Converts S.Error.cause S.OctetsBuilder.room C.tail S.Octets.octets
         (λ p a q. ConvertInEntry S.Error.cause S.OctetsBuilder.room C.takes p text a q) convert result }
-    ensures symbols { (tokens : List Token) → HasTokens S.next_token scanner.old tokens → IfOk result (λ _. AllByRecursion IsSymbols tokens) }
-    ensures rest { (tokens : List Token) → HasTokens S.next_token scanner.old tokens → LeavesOf S.next_token tokens result scanner.new }
+    ensures symbols { OfTokens S.next_token scanner.old
+        (λ tokens. IfOk result (λ _. AreSymbols tokens)) }
+    ensures rest { LeavesLast S.next_token scanner.old result scanner.new }
 {
     scanner.convert_entry(convert)
 }
 
 /// Texts have a join, and one only. Where each is symbols throughout, it is all of them joined.
 pub fn texts_have_one_join()
-    ensures some { (tokens : List Token) → All IsUtf8 tokens → (text : List ℕ) × IsJoin tokens text }
-    ensures one { (tokens : List Token) (q r : List ℕ) → IsJoin tokens q → IsJoin tokens r → q ≡ r }
-    ensures whole { (tokens : List Token) → AllByRecursion IsSymbols tokens → IsJoin tokens (concat tokens) }
+    ensures some { (tokens : List Token) → All IsUtf8 tokens → HaveJoin tokens }
+    ensures one { (tokens : List Token) → HasOneAnswer (IsJoin tokens) }
+    ensures whole { (tokens : List Token) → AreSymbols tokens → IsJoin tokens (concat tokens) }
 {}
 
 /// Tokens that are character strings of at most 255 octets are scanned as their wire forms, one
@@ -199,13 +202,16 @@ pub fn texts_have_one_join()
 pub fn string_entries_are_scanned_back<S: Scanner>(scanner: &mut S) -> Result<S::Octets, S::Error>
     requires { S.can_scan scanner.old }
     ensures ready { S.can_scan scanner.new }
-    ensures whole { (tokens : List Token) (strings : List (List ℕ)) → HasTokens S.next_token scanner.old tokens → AllZip HasOctets tokens strings
-        → All (λ s. length s ≤ max_string) strings → GivesWhere S.Error.cause S.Octets.octets S.OctetsBuilder.room (flat_map wire_of strings) result }
-    ensures printed { (tokens : List Token) (strings : List (List ℕ)) → HasTokens S.next_token scanner.old tokens → AllZip IsPrinted tokens strings
-        → All (All (λ o. o < 256)) strings → All (λ s. length s ≤ max_string) strings → GivesWhere S.Error.cause S.Octets.octets S.OctetsBuilder.room (flat_map wire_of strings) result }
+    ensures whole { (tokens : List Token) (strings : List (List ℕ))
+        → HasTokens S.next_token scanner.old tokens → AllZip HasOctets tokens strings → AreShort strings
+        → GivesWhere S.Error.cause S.Octets.octets S.OctetsBuilder.room (flat_map wire_of strings) result }
+    ensures printed { (tokens : List Token) (strings : List (List ℕ))
+        → HasTokens S.next_token scanner.old tokens → AllZip IsPrinted tokens strings
+        → All (All (λ o. o < 256)) strings → AreShort strings
+        → GivesWhere S.Error.cause S.Octets.octets S.OctetsBuilder.room (flat_map wire_of strings) result }
     ensures answer { (tokens : List Token) → HasTokens S.next_token scanner.old tokens
         → (rest : List Token) × AnswersStrings S.OctetsBuilder.room S.Error.cause S.Octets.octets tokens result rest × HasTokens S.next_token scanner.new rest }
-    ensures rest { (tokens : List Token) → HasTokens S.next_token scanner.old tokens → LeavesOf S.next_token tokens result scanner.new }
+    ensures rest { LeavesLast S.next_token scanner.old result scanner.new }
 {
     scanner.scan_charstr_entry()
 }

@@ -1,7 +1,6 @@
 //! Decimal numbers.
 ghost use Rattle.std.specs.Prelude.{◌≡◌, ◌≤◌, ◌<◌, IfSome, IfOk};
-ghost use Rattle.dns_scan.specs.Numbers.{plain_digit_of, AddsDigit, ScannedNumber};
-ghost use Rattle.dns_scan.specs.Tokens.{ScansToken};
+ghost use Rattle.dns_scan.specs.Numbers.{plain_digit_of, AddsDigit, ScansNumber};
 
 use crate::scanner::Scanner;
 use dns_symbol::ScannerError;
@@ -43,7 +42,7 @@ pub fn scan_number<S: Scanner>(scanner: &mut S, limit: u128) -> Result<u128, S::
     requires { S.can_scan scanner.old }
     ensures ready { S.can_scan scanner.new }
     ensures small { IfOk result (λ v. v ≤ limit) }
-    ensures scans { ScansToken S.next_token S.Error.cause (ScannedNumber S.Error.cause limit) scanner.old result scanner.new }
+    ensures scans { ScansNumber S.next_token S.Error.cause limit scanner.old result scanner.new }
 {
     let mut value = 0u128;
     let mut op = |symbol: Symbol| -> Result<(), S::Error> { add_digit(limit, &mut value, symbol) };

@@ -1,13 +1,13 @@
 //! What is left of an entry.
-ghost use Rattle.std.specs.Prelude.{◌≡◌, ◌≤◌, ◌⊎◌, ℕ, List, [], All, IfOk, IsOkAnd, MatchOption, MatchResult, Option, Ok, Err, length};
+ghost use Rattle.std.specs.Prelude.{◌≡◌, ◌⊎◌, ℕ, List, [], All, IfOk, IsOkAnd, MatchResult, Ok, Err};
 ghost use Rattle.std.specs.List.{AllZip};
 ghost use Rattle.dns_charstr.specs.Reading.{HasOctets};
 ghost use Rattle.dns_symbol.specs.Cause.{IsCause, short_buf, trailing_tokens};
-ghost use Rattle.dns_scan.specs.Join.{ConvertsTokens, LeavesOf};
+ghost use Rattle.dns_scan.specs.Join.{ConvertsTokens, LeavesLast};
 ghost use Rattle.dns_scan.specs.Reads.{ReadsRest};
-ghost use Rattle.dns_scan.specs.Stands.{HasTokens, first_of};
-ghost use Rattle.dns_scan.specs.Tokens.{Peeks, Token};
-ghost use Rattle.dns_charstr.specs.Limits.{max_string};
+ghost use Rattle.dns_scan.specs.Stands.{HasTokens, first_of, OfTokens};
+ghost use Rattle.dns_scan.specs.Tokens.{Token, LooksAhead, AtEnd};
+ghost use Rattle.dns_scan.specs.Strings.{AreShort, HaveStrings};
 
 use crate::laws::entries_convert_as_their_join;
 use crate::scan::Scan;
@@ -22,9 +22,9 @@ use std::marker::PhantomData;
 pub fn expect_end<S: Scanner>(scanner: &mut S) -> Result<(), S::Error>
     requires { S.can_scan scanner.old }
     ensures ready { S.can_scan scanner.new }
-    ensures peeks { (o : Option Token) × Peeks S.next_token scanner.old scanner.new o × MatchOption o (result ≡ Ok tt) (λ _. IsCause S.Error.cause result trailing_tokens) }
+    ensures peeks { LooksAhead S.next_token scanner.old scanner.new (AtEnd S.Error.cause result) }
     ensures stands { (tokens : List Token) → HasTokens S.next_token scanner.old tokens
-        → HasTokens S.next_token scanner.new tokens × MatchOption (first_of tokens) (result ≡ Ok tt) (λ _. IsCause S.Error.cause result trailing_tokens) }
+        → HasTokens S.next_token scanner.new tokens × AtEnd S.Error.cause result (first_of tokens) }
     ensures space { S.is_spaced scanner.new ≡ S.is_spaced scanner.old }
 {
     if scanner.continues() {
@@ -99,11 +99,13 @@ where
     S::Octets: Drop,
     requires { S.can_scan scanner.old }
     ensures ready { S.can_scan scanner.new }
-    ensures only { (tokens : List Token) → HasTokens S.next_token scanner.old tokens → IfOk result (λ v. AllZip HasOctets tokens v.items × All (λ s. length s ≤ max_string) v.items) }
-    ensures whole { (tokens : List Token) (strings : List (List ℕ)) → HasTokens S.next_token scanner.old tokens → AllZip HasOctets tokens strings
-        → All (λ s. length s ≤ max_string) strings → IsOkAnd result (λ v. v.items ≡ strings) ⊎ IsCause S.Error.cause result short_buf }
+    ensures only { OfTokens S.next_token scanner.old
+        (λ tokens. IfOk result (λ v. HaveStrings tokens v.items)) }
+    ensures whole { (tokens : List Token) (strings : List (List ℕ))
+        → HasTokens S.next_token scanner.old tokens → AllZip HasOctets tokens strings → AreShort strings
+        → IsOkAnd result (λ v. v.items ≡ strings) ⊎ IsCause S.Error.cause result short_buf }
     ensures none { HasTokens S.next_token scanner.old [] → IsOkAnd result (λ v. v.items ≡ []) }
-    ensures rest { (tokens : List Token) → HasTokens S.next_token scanner.old tokens → LeavesOf S.next_token tokens result scanner.new }
+    ensures rest { LeavesLast S.next_token scanner.old result scanner.new }
 {
     scan_rest(alloc, scanner)
 }

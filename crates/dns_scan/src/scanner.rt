@@ -1,13 +1,10 @@
 //! Scanners: where the tokens of an entry come from.
-ghost use Rattle.std.specs.Prelude.{◌≡◌, ℕ, List, [], Option, Some, None, Result, Ok, Bool, false, IsOkAnd, is_some, min, codes};
-ghost use Rattle.dns_octets.specs.Room.{within};
-ghost use Rattle.dns_scan.specs.Asks.{Builds, ScansSymbols};
+ghost use Rattle.std.specs.Prelude.{◌≡◌, [], Option, Some, None, Result, Ok, Bool, false, IsOkAnd, is_some};
+ghost use Rattle.dns_scan.specs.Asks.{ScansSymbols, BuildsOctets, BuildsString, BuildsText};
 ghost use Rattle.std.specs.Fn.{FnOnceReturnsAt};
-ghost use Rattle.dns_symbol.specs.Cause.{custom_text, IsCause};
-ghost use Rattle.dns_scan.specs.Entries.{AsciiText, AsksToken, BuildsEntry, Converts, ConvertsEntry, ConvertToken, ScansEntry, StringStep};
-ghost use Rattle.dns_scan.specs.Steps.{GivesStep, octet_given, text_given};
-ghost use Rattle.dns_scan.specs.Tokens.{Token, TakesNothing, Peeks, ScansToken, MarkerCall};
-ghost use Rattle.dns_charstr.specs.Limits.{max_string};
+ghost use Rattle.dns_symbol.specs.Cause.{IsCause};
+ghost use Rattle.dns_scan.specs.Entries.{AsciiText, AsksToken, BuildsEntry, ConvertsEntry, ScansEntry, StringStep, ConvertsOneToken};
+ghost use Rattle.dns_scan.specs.Tokens.{Token, TakesNothing, ScansToken, MarkerCall, LooksAhead, no_svcb_octets};
 
 use dns_charstr::charstr::CharStr;
 use dns_octets::str::Str;
@@ -61,7 +58,7 @@ pub trait Scanner {
     fn continues(&mut self) -> bool
         requires { can_scan self.old }
         ensures ready { can_scan self.new }
-        ensures peeks { (o : Option Token) × Peeks next_token self.old self.new o × (result ≡ is_some o) }
+        ensures peeks { LooksAhead next_token self.old self.new (λ o. result ≡ is_some o) }
         ensures space { is_spaced self.new ≡ is_spaced self.old };
 
     /// Takes a token and hands over its symbols, until `op` refuses one.
@@ -72,7 +69,8 @@ pub trait Scanner {
         requires callable { F.IsAlwaysCallable op.old }
         ensures ready { can_scan self.new }
         ensures callable { F.IsAlwaysCallable op.new }
-        ensures scans { ScansSymbols next_token Self.Error.cause (λ f x r g. F.step f x r g) self.old op.old result self.new op.new };
+        ensures scans { ScansSymbols next_token Self.Error.cause (λ f x r g. F.step f x r g)
+            self.old op.old result self.new op.new };
 
     /// Takes all tokens and hands over their symbols, and the end of each token after them, until
     /// `op` refuses one. No token left is no refusal.
@@ -83,7 +81,9 @@ pub trait Scanner {
         requires callable { F.IsAlwaysCallable op.old }
         ensures ready { can_scan self.new }
         ensures callable { F.IsAlwaysCallable op.new }
-        ensures scans { ScansEntry next_token (AsksToken Self.Error.cause (λ f x r g. F.step f x r g)) self.old op.old result self.new op.new };
+        ensures scans { ScansEntry next_token
+            (AsksToken Self.Error.cause (λ f x r g. F.step f x r g))
+            self.old op.old result self.new op.new };
 
     /// Takes a token through a converter, and then asks for the converter's tail.
     fn convert_token<C: ConvertSymbols<Symbol, Self::Error>>(
@@ -93,8 +93,8 @@ pub trait Scanner {
         requires { can_scan self.old }
         ensures ready { can_scan self.new }
         ensures scans { ScansToken next_token Self.Error.cause
-            (λ t r. Converts Self.Error.cause Self.OctetsBuilder.room C.tail Self.Octets.octets
-            (λ p a q. ConvertToken Self.Error.cause Self.OctetsBuilder.room C.takes p t a q) convert r) self.old result self.new };
+            (ConvertsOneToken Self.Error.cause Self.OctetsBuilder.room C.takes C.tail Self.Octets.octets
+            convert) self.old result self.new };
 
     /// Takes all tokens through a converter, one after the other, and then asks for the converter's
     /// tail. The ends of tokens are not handed over.
@@ -104,14 +104,15 @@ pub trait Scanner {
     ) -> Result<Self::Octets, Self::Error>
         requires { can_scan self.old }
         ensures ready { can_scan self.new }
-        ensures scans { ConvertsEntry next_token Self.Error.cause Self.OctetsBuilder.room C.takes C.tail Self.Octets.octets self.old convert result self.new };
+        ensures scans { ConvertsEntry next_token Self.Error.cause Self.OctetsBuilder.room
+            C.takes C.tail Self.Octets.octets self.old convert result self.new };
 
     /// Takes a token of octets. A symbol without octet is a "bad symbol".
     fn scan_octets(&mut self) -> Result<Self::Octets, Self::Error>
         requires { can_scan self.old }
         ensures ready { can_scan self.new }
         ensures scans { ScansToken next_token Self.Error.cause
-            (Builds Self.Error.cause (GivesStep Self.Error.cause Self.OctetsBuilder.room octet_given) Self.Octets.octets) self.old result self.new };
+            (BuildsOctets Self.Error.cause Self.OctetsBuilder.room Self.Octets.octets) self.old result self.new };
 
     /// No scanner need know the form of service parameters: the call takes no token.
     fn scan_svcb_octets(&mut self) -> Result<Self::Octets, Self::Error>
@@ -119,7 +120,7 @@ pub trait Scanner {
         ensures ready { can_scan self.new }
         ensures same { TakesNothing next_token self.old self.new }
         ensures space { is_spaced self.new ≡ is_spaced self.old }
-        ensures answer { IsCause Self.Error.cause result (custom_text (codes "Scanning SVCB octets is only implemented by some Scanners")) }
+        ensures answer { IsCause Self.Error.cause result no_svcb_octets }
     {
         Err(Self::Error::custom("Scanning SVCB octets is only implemented by some Scanners"))
     }
@@ -147,7 +148,7 @@ pub trait Scanner {
         requires { can_scan self.old }
         ensures ready { can_scan self.new }
         ensures scans { ScansToken next_token Self.Error.cause
-            (Builds Self.Error.cause (GivesStep Self.Error.cause (within max_string Self.OctetsBuilder.room) octet_given) (λ s. s)) self.old result self.new };
+            (BuildsString Self.Error.cause Self.OctetsBuilder.room) self.old result self.new };
 
     /// Takes a token as a text. A symbol that is no character, as a decimal escape, is a "bad
     /// symbol".
@@ -155,14 +156,15 @@ pub trait Scanner {
         requires { can_scan self.old }
         ensures ready { can_scan self.new }
         ensures scans { ScansToken next_token Self.Error.cause
-            (Builds Self.Error.cause (GivesStep Self.Error.cause Self.OctetsBuilder.room text_given) (λ s. s)) self.old result self.new };
+            (BuildsText Self.Error.cause Self.OctetsBuilder.room) self.old result self.new };
 
     /// Takes all tokens as character strings, and gives their wire forms one after the other (RFC
     /// 1035 section 3.3).
     fn scan_charstr_entry(&mut self) -> Result<Self::Octets, Self::Error>
         requires { can_scan self.old }
         ensures ready { can_scan self.new }
-        ensures scans { BuildsEntry next_token (StringStep Self.Error.cause Self.OctetsBuilder.room) Self.Octets.octets self.old result self.new };
+        ensures scans { BuildsEntry next_token (StringStep Self.Error.cause Self.OctetsBuilder.room)
+            Self.Octets.octets self.old result self.new };
 
     /// Takes a token that is exactly `\#` and returns true, or takes none and returns false.
     fn scan_opt_unknown_marker(&mut self) -> Result<bool, Self::Error>

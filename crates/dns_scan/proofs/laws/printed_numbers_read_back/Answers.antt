@@ -9,7 +9,7 @@ use Rattle.dns_scan.proofs.Once.{numbers_once, reads_of}
 use Rattle.dns_scan.proofs.laws.printed_numbers_read_back.Goals as goal
 
 pub returns-clause-back : goal.returns-clause-back
-returns-clause-back c = λ limit v others rest r small fits reads.
+returns-clause-back c = λ limit v others small fits r rest reads.
     let is = decimal_read limit v (omega (arith, fits)) small in
     (numbers_once limit _ r (Ok v) reads.0 (record { symbols = is.0; error = None; read = is.1; reads = (is.2, λ i. None) }), reads.1)
 
@@ -21,4 +21,4 @@ is_number limit symbols error (Ok v) h = h
 is_number limit symbols error (Err why) h = tt
 
 pub returns-clause-only : goal.returns-clause-only
-returns-clause-only c = λ limit token r symbols error h read. is_number limit symbols error r (reads_of limit token r h symbols error read)
+returns-clause-only c = λ limit token r h symbols error read. is_number limit symbols error r (reads_of limit token r h symbols error read)
