@@ -111,3 +111,7 @@ module _ {O : Type 0} where
   ReadsChars {S} steps s room result = (taken : List ℕ) ×
       ((Drains steps s taken × ReadsName room (encode_utf8_all taken) result)
       ⊎ ((t : S) × Yields steps s taken t × ((more : List ℕ) → ReadsName room (encode_utf8_all (taken ++ more)) result)))
+
+  -- a text that reads as a name is read as that name, where it surely fits
+  abbrev pub ReadsWhatFits : Room → List ℕ → Result (UncertainName O) FromStrError → Type 0
+  ReadsWhatFits room text r = (name : UncertainName O) → ReadsAs text name → wire_length (labels_of name) ≤ room.fits → r ≡ Ok name

@@ -29,10 +29,9 @@ pub struct Chain<L: ToRelativeName, R: ToLabelIter> {
 }
 
 impl<L: ToRelativeName, R: ToLabelIter> Chain<L, R> {
-    ghost use Rattle.std.specs.Prelude.{◌≡◌, ◌≤◌, ◌+◌, ◌↔◌, ◌++◌, IsOk, IfOk};
-    ghost use Rattle.dns_wire.specs.Wire.{wire_length};
+    ghost use Rattle.std.specs.Prelude.{◌≡◌, ◌↔◌, ◌++◌, IsOk, IfOk};
     ghost use Rattle.dns_wire.specs.Shown.{dotted_name};
-    ghost use Rattle.dns_name.specs.Chain.{left_of, right_of};
+    ghost use Rattle.dns_name.specs.Chain.{FitTogether, IsChainOf, NeverFails, left_of, right_of};
 
     /// The left name with the right one after it, or [`LongChainError`] where both together have
     /// more than 255 octets.
@@ -41,8 +40,8 @@ impl<L: ToRelativeName, R: ToLabelIter> Chain<L, R> {
     where
         L: Drop,
         R: Drop,
-        ensures ok { IsOk result ↔ (wire_length (L.labels left) + wire_length (R.labels right) ≤ max_name) }
-        ensures value { IfOk result (λ c. (left_of c ≡ left) × (right_of c ≡ right)) }
+        ensures ok { IsOk result ↔ FitTogether (L.labels left) (R.labels right) }
+        ensures value { IfOk result (IsChainOf left right) }
     {
         if left.compose_len() > MAX_NAME as u16 - right.compose_len() {
             return Err(LongChainError);
@@ -56,8 +55,9 @@ impl<L: ToRelativeName, R: ToLabelIter> Chain<L, R> {
     where
         L: Drop,
         R: ToRelativeName + Drop,
-        ensures ok { IsOk result ↔ (wire_length (L.labels (left_of self) ++ R.labels (right_of self)) + wire_length (T.labels other) ≤ max_name) }
-        ensures value { IfOk result (λ c. (left_of c ≡ self) × (right_of c ≡ other)) }
+        ensures ok { IsOk result
+            ↔ FitTogether (L.labels (left_of self) ++ R.labels (right_of self)) (T.labels other) }
+        ensures value { IfOk result (IsChainOf self other) }
     {
         Chain::new(self, other)
     }
@@ -90,8 +90,8 @@ impl<L: ToRelativeName, R: ToLabelIter> Chain<L, R> {
         R: Clone,
         requires left { (v w : L) → L.is_clone v w → w ≡ v }
         requires right { (v w : R) → R.is_clone v w → w ≡ v }
-        ensures value { IfOk result (λ c. (left_of c ≡ left_of self.now) × (right_of c ≡ right_of self.now)) }
-        ensures succeeds { ((v : L) → L.is_infallible v) → ((v : R) → R.is_infallible v) → IsOk result }
+        ensures value { IfOk result (IsChainOf (left_of self.now) (right_of self.now)) }
+        ensures succeeds { NeverFails L.is_infallible → NeverFails R.is_infallible → IsOk result }
     {
         Ok(Chain {
             left: self.left.clone()?,
@@ -107,7 +107,8 @@ impl<L: ToRelativeName, R: ToName> Chain<L, R> {
     pub fn scan<S: Scanner<Name = Self>>(scanner: &mut S) -> Result<Self, S::Error>
         requires { S.can_scan scanner.old }
         ensures ready { S.can_scan scanner.new }
-        ensures scans { ScansToken S.next_token S.Error.cause S.reads_name scanner.old result scanner.new }
+        ensures scans { ScansToken S.next_token S.Error.cause S.reads_name
+            scanner.old result scanner.new }
     {
         scanner.scan_name()
     }

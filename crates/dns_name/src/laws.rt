@@ -36,7 +36,8 @@ pub fn zone_text_reads_back<Octets: AsOctets>(name: &UncertainName<Octets>)
 
 /// A text reads as one name alone.
 pub fn texts_have_one_name<Octets: AsOctets>(text: &str, name: &UncertainName<Octets>)
-    ensures { (other : UncertainName Octets) → ReadsAs text.now name.now → ReadsAs text.now other → other ≡ name.now }
+    ensures { (other : UncertainName Octets)
+        → ReadsAs text.now name.now → ReadsAs text.now other → other ≡ name.now }
 {
     let _text = text;
     let _name = name;

@@ -68,7 +68,7 @@ impl<Octets: AsOctets> UncertainName<Octets> {
     ghost use Rattle.std.specs.Prelude.{◌≡◌, ◌≢◌, ◌≤◌, ◌+◌, ◌↔◌, true, false, [], ◌∷◌, IsTrue, IfOk, IsOk, IfSome, IsSome, MatchResult};
     ghost use Rattle.dns_wire.specs.Wire.{wire, wire_length};
     ghost use Rattle.dns_name.specs.Uncertain.{labels_of, labels_after, is_absolute, IsUncertain, MakesUncertain};
-    ghost use Rattle.dns_name.specs.UncertainChain.{first_in_chain, second_in_chain};
+    ghost use Rattle.dns_name.specs.UncertainChain.{HasNames};
     ghost use Rattle.dns_name.specs.Conversions.{AnswersAbsolute};
     ghost use Rattle.dns_name.specs.declared.name.UncertainName.TheVariants.{Absolute, Relative};
 
@@ -273,7 +273,7 @@ impl<Octets: AsOctets> UncertainName<Octets> {
     where
         Octets: Drop,
         ensures ok { IsOk result ↔ (wire_length (labels_after self (S.labels suffix)) ≤ max_name) }
-        ensures value { IfOk result (λ c. (first_in_chain c ≡ self) × (second_in_chain c ≡ suffix)) }
+        ensures value { IfOk result (HasNames self suffix) }
     {
         UncertainChain::new(self, suffix)
     }

@@ -22,7 +22,8 @@ pub struct UncertainChain<Octets: AsOctets, R: ToLabelIter> {
 
 impl<Octets: AsOctets, R: ToLabelIter> UncertainChain<Octets, R> {
     ghost use Rattle.std.specs.Prelude.{◌≡◌, ◌≤◌, ◌↔◌, IsOk, IfOk};
-    ghost use Rattle.dns_name.specs.UncertainChain.{first_in_chain, second_in_chain};
+    ghost use Rattle.dns_name.specs.UncertainChain.{HasNames, first_in_chain, second_in_chain};
+    ghost use Rattle.dns_name.specs.Chain.{NeverFails};
 
     /// The left name with the right one after it. On a relative name it is [`LongChainError`] where
     /// both together have more than 255 octets. On an absolute one no length is checked.
@@ -32,7 +33,7 @@ impl<Octets: AsOctets, R: ToLabelIter> UncertainChain<Octets, R> {
         Octets: Drop,
         R: Drop,
         ensures ok { IsOk result ↔ (wire_length (labels_after left (R.labels right)) ≤ max_name) }
-        ensures value { IfOk result (λ c. (first_in_chain c ≡ left) × (second_in_chain c ≡ right)) }
+        ensures value { IfOk result (HasNames left right) }
     {
         let room = MAX_NAME as u16 - left.compose_len();
         if left.is_relative() && right.compose_len() > room {
@@ -55,8 +56,10 @@ impl<Octets: AsOctets, R: ToLabelIter> UncertainChain<Octets, R> {
         R: Clone,
         requires left { (v w : Octets) → Octets.is_clone v w → Octets.octets w ≡ Octets.octets v }
         requires right { (v w : R) → R.is_clone v w → w ≡ v }
-        ensures value { IfOk result (λ c. (first_in_chain c ≡ first_in_chain self.now) × (second_in_chain c ≡ second_in_chain self.now)) }
-        ensures succeeds { ((v : Octets) → Octets.is_infallible v) → ((v : R) → R.is_infallible v) → IsOk result }
+        ensures value { IfOk result
+            (HasNames (first_in_chain self.now) (second_in_chain self.now)) }
+        ensures succeeds { NeverFails Octets.is_infallible → NeverFails R.is_infallible
+            → IsOk result }
     {
         Ok(UncertainChain {
             left: self.left.clone()?,
@@ -75,7 +78,8 @@ impl<Octets: AsOctets, R: ToName> UncertainChain<Octets, R> {
     pub fn scan<S: Scanner<Name = Self>>(scanner: &mut S) -> Result<Self, S::Error>
         requires { S.can_scan scanner.old }
         ensures ready { S.can_scan scanner.new }
-        ensures scans { ScansToken S.next_token S.Error.cause S.reads_name scanner.old result scanner.new }
+        ensures scans { ScansToken S.next_token S.Error.cause S.reads_name
+            scanner.old result scanner.new }
     {
         scanner.scan_name()
     }

@@ -58,12 +58,10 @@ fn finish<B: OctetsBuilder + FreezeBuilder + Drop>(
 }
 
 impl<Octets: AsOctets> UncertainName<Octets> {
-    ghost use Rattle.std.specs.Prelude.{◌≡◌, ◌≤◌, Ok};
+    ghost use Rattle.std.specs.Prelude.{◌≡◌, Ok};
     ghost use Rattle.std.specs.Iterator.{IsFinite};
-    ghost use Rattle.dns_wire.specs.Wire.{wire_length};
-    ghost use Rattle.dns_name.specs.Uncertain.{labels_of};
     ghost use Rattle.dns_name.specs.declared.name.UncertainName.{UncertainName};
-    ghost use Rattle.dns_name.specs.Reading.{ReadsAs, ReadsName, ReadsChars};
+    ghost use Rattle.dns_name.specs.Reading.{ReadsName, ReadsChars, ReadsWhatFits};
 
     /// Reads a name from the characters of its text, which must end.
     ///
@@ -120,7 +118,7 @@ impl<Octets: AsOctets> UncertainName<Octets> {
         Octets: FromBuilder,
         Octets::Builder: EmptyBuilder + AsOctetsMut + FreezeBuilder<Octets = Octets> + Drop,
         ensures reads { ReadsName Octets.Builder.room text.now result }
-        ensures succeeds { (name : UncertainName Octets) → ReadsAs text.now name → wire_length (labels_of name) ≤ Octets.Builder.room.fits → result ≡ Ok name }
+        ensures succeeds { ReadsWhatFits Octets.Builder.room text.now result }
     {
         Self::read_text(alloc, text)
     }

@@ -12,7 +12,8 @@ impl<Octets: AsOctets> UncertainName<Octets> {
     pub fn scan<S: Scanner<Name = Name<Octets>>>(scanner: &mut S) -> Result<Self, S::Error>
         requires { S.can_scan scanner.old }
         ensures ready { S.can_scan scanner.new }
-        ensures scans { ScansToken S.next_token S.Error.cause (λ t r. ReadsUncertain (S.reads_name t) r) scanner.old result scanner.new }
+        ensures scans { ScansToken S.next_token S.Error.cause
+            (λ t r. ReadsUncertain (S.reads_name t) r) scanner.old result scanner.new }
     {
         Ok(UncertainName::Absolute(scanner.scan_name()?))
     }
