@@ -1,9 +1,9 @@
 -- What the tokens of an entry hold.
 use Rattle.std.specs.Prelude.{ℕ, List, [], ◌∷◌, ◌≡◌, ◌⊎◌, Option, Some, MatchOption, slice_get}
 use Rattle.std.specs.Borrow.{Bor}
-use Rattle.std.specs.List.{AllByRecursion, AllZip, flat_map}
+use Rattle.std.specs.List.{AllZip, flat_map}
 use Rattle.dns_symbol.specs.Symbol.{bytes}
-use Rattle.dns_scan.specs.Join.{IsSymbols}
+use Rattle.dns_scan.specs.Join.{AreSymbols}
 use Rattle.dns_scan.specs.Tokens.{Token}
 use Rattle.dns_split.specs.Splitting.{Entries}
 use Rattle.dns_split.specs.Token.{IsWord, IsQuote}
@@ -16,6 +16,14 @@ HasContent token content = (IsWord token × (content ≡ token)) ⊎ ((q : IsQuo
 abbrev pub HaveContents : List Token → List (List ℕ) → Type 0
 HaveContents = AllZip HasContent
 
+-- they hold texts
+abbrev pub HoldTexts : List Token → Type 0
+HoldTexts tokens = (contents : List (List ℕ)) × HaveContents tokens contents
+
+-- what they hold is symbols throughout
+abbrev pub HoldSymbols : List Token → Type 0
+HoldSymbols tokens = (contents : List (List ℕ)) → HaveContents tokens contents → AreSymbols contents
+
 -- the entry of that number, counted from 0, has tokens that hold these texts
 abbrev pub HoldsAt : Entries → ℕ → List Token → Type 0
 HoldsAt entries place contents = (tokens : List Token) × (slice_get entries place ≡ Some tokens) × HaveContents tokens contents
@@ -24,7 +32,7 @@ HoldsAt entries place contents = (tokens : List Token) × (slice_get entries pla
 pub record HoldsOnly (entries : Entries) (place : ℕ) (contents : List Token) : Type 0 where
   pub holds : HoldsAt entries place contents
   pub only : (other : List Token) → HoldsAt entries place other → other ≡ contents
-  pub symbols : AllByRecursion IsSymbols contents
+  pub symbols : AreSymbols contents
 
 -- a call at the texts of tokens gave what the first of them holds and left the others, or there was none
 abbrev pub content_next : {S : Type 0} → (S → List Token) → S → Option (Bor (List ℕ)) → S → Type 0

@@ -16,15 +16,17 @@
 //!     }
 //! }
 //! ```
-ghost use Rattle.std.specs.Prelude.{◌≡◌, ◌≤◌, ◌↔◌, List, ℕ, IfSome, IsNone, IsSomeAnd, false, length, map};
+ghost use Rattle.std.specs.Prelude.{◌≡◌, ◌≤◌, ◌↔◌, List, ℕ, IfSome, IsNone, false, length, map, string_bytes};
 ghost use Rattle.std.specs.List.{AllByRecursion};
 ghost use Rattle.dns_split.specs.Answer.{entries_of};
 ghost use Rattle.dns_split.specs.Splitting.{Entries, Splits};
 ghost use Rattle.dns_split.specs.Token.{IsToken};
-ghost use Rattle.dns_scan.specs.Join.{IsSymbols};
 ghost use Rattle.dns_scan.specs.Stands.{HasTokens};
 ghost use Rattle.dns_scan.specs.Tokens.{Token};
-ghost use Rattle.dns_iter.specs.Contents.{HaveContents, HoldsAt, HoldsOnly};
+ghost use Rattle.dns_iter.specs.Contents.{HaveContents, HoldSymbols, HoldTexts};
+ghost use Rattle.dns_iter.specs.Entry.{AreOfOneText, StandsAt, StandsAtOnly, entry_next};
+ghost use Rattle.dns_iter.specs.TokenNext.{is_after_space};
+ghost use Rattle.dns_scan.specs.Reads.{HasOneAnswer};
 
 use crate::scanner::{IterScanner, ScanOctets};
 use dns_octets::EmptyBuilder;
@@ -116,7 +118,7 @@ pub fn entry_scanner<'a, T: TokenText, Octets: ScanOctets, E: ScannerError>(
 ) -> EntryScanner<'a, T, Octets, E>
     ensures ready { ⟦<EntryScanner<'a, T, Octets, E> as Scanner>⟧.can_scan result }
     ensures stands { (contents : List (List ℕ)) → HaveContents (map T.text tokens.now) contents
-        → HasTokens (⟦<EntryScanner<'a, T, Octets, E> as Scanner>⟧.next_token) result contents }
+        → HasTokens (entry_next T.text) result contents }
     ensures spaced { ⟦<EntryScanner<'a, T, Octets, E> as Scanner>⟧.is_spaced result ≡ spaced }
 {
     IterScanner::spaced(alloc, Contents::new(tokens), spaced)
@@ -134,14 +136,14 @@ pub fn entry_at<'a, A: Allocator, Octets: ScanOctets, E: ScannerError>(
     place: usize,
 ) -> Option<EntryScanner<'a, String<A>, Octets, E>>
     ensures none { IsNone result ↔ (length entries.now ≤ place) }
-    ensures ready { IfSome result (λ s. ⟦<EntryScanner<'a, String<A>, Octets, E> as Scanner>⟧.can_scan s) }
-    ensures stands { (contents : List Token) → HoldsAt (entries_of entries.now) place contents
-        → IsSomeAnd result (λ s. HasTokens (⟦<EntryScanner<'a, String<A>, Octets, E> as Scanner>⟧.next_token) s contents) }
-    ensures splits { (text : List ℕ) (found : Entries) (contents : List Token) → Splits text (entries_of entries.now) → Splits text found → HoldsAt found place contents
-        → IsSomeAnd result (λ s. HasTokens (⟦<EntryScanner<'a, String<A>, Octets, E> as Scanner>⟧.next_token) s contents) }
-    ensures holds { (text : List ℕ) → Splits text (entries_of entries.now) → IfSome result (λ s. (contents : List Token) × HoldsOnly (entries_of entries.now) place contents
-        × HasTokens (⟦<EntryScanner<'a, String<A>, Octets, E> as Scanner>⟧.next_token) s contents) }
-    ensures spaced { IfSome result (λ s. ⟦<EntryScanner<'a, String<A>, Octets, E> as Scanner>⟧.is_spaced s ≡ false) }
+    ensures ready { IfSome result
+        (λ s. ⟦<EntryScanner<'a, String<A>, Octets, E> as Scanner>⟧.can_scan s) }
+    ensures stands { StandsAt (entry_next string_bytes) (entries_of entries.now) place result }
+    ensures splits { (found : Entries) → AreOfOneText (entries_of entries.now) found
+        → StandsAt (entry_next string_bytes) found place result }
+    ensures holds { (text : List ℕ) → Splits text (entries_of entries.now)
+        → IfSome result (StandsAtOnly (entry_next string_bytes) (entries_of entries.now) place) }
+    ensures spaced { IfSome result (λ s. is_after_space s ≡ false) }
 {
     let tokens = entries.get(place)?;
     Some(entry_scanner(alloc, tokens, false))
@@ -150,7 +152,7 @@ pub fn entry_at<'a, A: Allocator, Octets: ScanOctets, E: ScannerError>(
 /// Each token holds one text, and that is symbols throughout, so that no scan refuses a bad escape
 /// of it.
 pub fn tokens_hold_one_text()
-    ensures some { (tokens : List Token) → AllByRecursion IsToken tokens → (contents : List (List ℕ)) × HaveContents tokens contents }
-    ensures one { (tokens : List Token) (a b : List (List ℕ)) → HaveContents tokens a → HaveContents tokens b → a ≡ b }
-    ensures symbols { (tokens : List Token) (contents : List (List ℕ)) → HaveContents tokens contents → AllByRecursion IsSymbols contents }
+    ensures some { (tokens : List Token) → AllByRecursion IsToken tokens → HoldTexts tokens }
+    ensures one { (tokens : List Token) → HasOneAnswer (HaveContents tokens) }
+    ensures symbols { (tokens : List Token) → HoldSymbols tokens }
 {}

@@ -16,7 +16,8 @@ fn with_root<Octets: FromBuilder>(
 ) -> Option<Name<Octets>>
 where
     Octets::Builder: EmptyBuilder + Drop,
-    ensures some { IfSome result (λ n. (n ≡ name.now ++ [] ∷ []) × (wire_length n ≤ Octets.Builder.room.capacity)) }
+    ensures some { IfSome result (λ n. n ≡ name.now ++ [] ∷ []) }
+    ensures fits { IfSome result (λ n. wire_length n ≤ Octets.Builder.room.capacity) }
     ensures none { IfNone result (Octets.Builder.room.fits < wire_length name.now + 1) }
 {
     let _short = name.len();

@@ -1,13 +1,14 @@
 //! Laws on octets of a fixed capacity, whose room is known.
-ghost use Rattle.std.specs.Prelude.{◌≡◌, ◌≤◌, List, ℕ, ◌∷◌, All, IsOkAnd, Result, length};
+ghost use Rattle.std.specs.Prelude.{◌≡◌, ◌≤◌, List, ℕ, ◌∷◌, IsOkAnd, Result, length};
 ghost use Rattle.std.specs.List.{AllZip, flat_map};
 ghost use Rattle.dns_charstr.specs.Reading.{HasOctets};
 ghost use Rattle.dns_charstr.specs.Wire.{wire_of};
-ghost use Rattle.dns_scan.specs.Numbers.{by_cause};
-ghost use Rattle.dns_scan.specs.Reads.{NameReads, ReadsFirstToken, ReadsInOneWay};
+ghost use Rattle.dns_scan.specs.Reads.{NameReads, ReadsFirstToken, ReadsInOneWay, NamesInOneWay};
 ghost use Rattle.dns_scan.specs.Stands.{HasTokens};
 ghost use Rattle.dns_scan.specs.Tokens.{Token};
 ghost use Rattle.dns_charstr.specs.Limits.{max_string};
+ghost use Rattle.dns_iter.specs.Entry.{entry_next};
+ghost use Rattle.dns_scan.specs.Strings.{AreShort};
 
 use crate::entry::{EntryScanner, TokenText};
 use arrayvec::ArrayVec;
@@ -21,7 +22,8 @@ pub fn fitting_strings_are_answered<'a, T: TokenText, E: ScannerError, const N: 
 ) -> Result<CharStr<ArrayVec<u8, N>>, E>
     requires { ⟦<EntryScanner<'a, T, ArrayVec<u8, N>, E> as Scanner>⟧.can_scan scanner.old }
     ensures ready { ⟦<EntryScanner<'a, T, ArrayVec<u8, N>, E> as Scanner>⟧.can_scan scanner.new }
-    ensures fits { (token : Token) (others : List Token) (octets : List ℕ) → HasTokens (⟦<EntryScanner<'a, T, ArrayVec<u8, N>, E> as Scanner>⟧.next_token) scanner.old (token ∷ others)
+    ensures fits { (token : Token) (others : List Token) (octets : List ℕ)
+        → HasTokens (entry_next T.text) scanner.old (token ∷ others)
         → HasOctets token octets → length octets ≤ N → length octets ≤ max_string → IsOkAnd result (λ s. s ≡ octets) }
 {
     character_strings_are_scanned_back(scanner)
@@ -33,8 +35,9 @@ pub fn fitting_entries_are_answered<'a, T: TokenText, E: ScannerError, const N: 
 ) -> Result<ArrayVec<u8, N>, E>
     requires { ⟦<EntryScanner<'a, T, ArrayVec<u8, N>, E> as Scanner>⟧.can_scan scanner.old }
     ensures ready { ⟦<EntryScanner<'a, T, ArrayVec<u8, N>, E> as Scanner>⟧.can_scan scanner.new }
-    ensures fits { (tokens : List Token) (strings : List (List ℕ)) → HasTokens (⟦<EntryScanner<'a, T, ArrayVec<u8, N>, E> as Scanner>⟧.next_token) scanner.old tokens
-        → AllZip HasOctets tokens strings → All (λ s. length s ≤ max_string) strings → length (flat_map wire_of strings) ≤ N
+    ensures fits { (tokens : List Token) (strings : List (List ℕ))
+        → HasTokens (entry_next T.text) scanner.old tokens
+        → AllZip HasOctets tokens strings → AreShort strings → length (flat_map wire_of strings) ≤ N
         → IsOkAnd result (λ o. o.items ≡ flat_map wire_of strings) }
 {
     string_entries_are_scanned_back(scanner)
@@ -43,8 +46,8 @@ pub fn fitting_entries_are_answered<'a, T: TokenText, E: ScannerError, const N: 
 /// A token is read as one name or refused in one way, and so are the tokens of an entry: what is
 /// given is a function of the tokens, and so are the tokens that are left.
 pub fn names_have_one_answer<'a, T: TokenText + 'a, E: ScannerError, const N: usize>()
-    ensures token { (token : Token) (q r : Result (List (List ℕ)) E)
-        → ⟦<EntryScanner<'a, T, ArrayVec<u8, N>, E> as Scanner>⟧.reads_name token q → ⟦<EntryScanner<'a, T, ArrayVec<u8, N>, E> as Scanner>⟧.reads_name token r
-        → by_cause E.cause q ≡ by_cause E.cause r }
-    ensures first { ReadsInOneWay (ReadsFirstToken (NameReads E.cause (⟦<EntryScanner<'a, T, ArrayVec<u8, N>, E> as Scanner>⟧.reads_name))) }
+    ensures token { NamesInOneWay E.cause
+        (⟦<EntryScanner<'a, T, ArrayVec<u8, N>, E> as Scanner>⟧.reads_name) }
+    ensures first { ReadsInOneWay (ReadsFirstToken (NameReads E.cause
+        (⟦<EntryScanner<'a, T, ArrayVec<u8, N>, E> as Scanner>⟧.reads_name))) }
 {}

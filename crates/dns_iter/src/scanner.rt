@@ -1,13 +1,12 @@
 //! A scanner over an iterator of tokens.
-ghost use Rattle.std.specs.Prelude.{◌≡◌, ℕ, List, [], Option, Some, None, Bool, true, false, ⊤, OnSome, OnErr, IfOk, IfErr, ◌<◌, ◌≤◌, ◌↔◌, IsTrue, option_map, is_none};
-ghost use Rattle.std.specs.Iterator.{IsFinite, AlwaysYields};
+ghost use Rattle.std.specs.Prelude.{◌≡◌, Option, Some, None, true, false, OnSome, OnErr, IfOk, IfErr, ◌<◌, ◌≤◌, is_none};
+ghost use Rattle.std.specs.Iterator.{IsFinite};
 ghost use Rattle.dns_symbol.specs.Cause.{end_of_entry};
 ghost use Rattle.dns_scan.specs.Entries.{ScansEntry};
-ghost use Rattle.dns_scan.specs.Stands.{HasTokens};
-ghost use Rattle.dns_scan.specs.Tokens.{Token, Peeks};
-ghost use Rattle.dns_iter.specs.TokenNext.{token_next, spaced_after};
+ghost use Rattle.dns_scan.specs.Tokens.{Token, Peeks, LooksAhead};
+ghost use Rattle.dns_iter.specs.TokenNext.{token_next, spaced_after, FillsAhead, HasFewerLeft, StandsBeforeItems, TakesNext, count_left, is_after_space};
 ghost use Rattle.dns_iter.specs.Name.{ReadsToken};
-ghost use Rattle.dns_iter.specs.Ahead.{IsReady, Fills, TakesAhead, tokens_left};
+ghost use Rattle.dns_iter.specs.Ahead.{IsReady, token_of};
 
 use crate::name::token_name;
 use crate::take::{AsString, TakeToken, Through};
@@ -66,7 +65,7 @@ impl<'a, Iter: Iterator<Item = &'a str>, Octets: ScanOctets, E: ScannerError> It
         requires can { Iter.can_next iter }
         requires ends { IsFinite (Iter.remaining iter) }
         ensures ready { ⟦<Self as Scanner>⟧.can_scan result }
-        ensures stands { (ts : List Token) → AlwaysYields Iter.next_gives (λ t. t.now) iter ts → HasTokens (⟦<Self as Scanner>⟧.next_token) result ts }
+        ensures stands { StandsBeforeItems Iter.next_gives iter result }
         ensures spaced { ⟦<Self as Scanner>⟧.is_spaced result ≡ false }
     {
         IterScanner::spaced(alloc, iter, false)
@@ -78,7 +77,7 @@ impl<'a, Iter: Iterator<Item = &'a str>, Octets: ScanOctets, E: ScannerError> It
         requires can { Iter.can_next iter }
         requires ends { IsFinite (Iter.remaining iter) }
         ensures ready { ⟦<Self as Scanner>⟧.can_scan result }
-        ensures stands { (ts : List Token) → AlwaysYields Iter.next_gives (λ t. t.now) iter ts → HasTokens (⟦<Self as Scanner>⟧.next_token) result ts }
+        ensures stands { StandsBeforeItems Iter.next_gives iter result }
         ensures spaced { ⟦<Self as Scanner>⟧.is_spaced result ≡ spaced }
     {
         IterScanner {
@@ -94,8 +93,9 @@ impl<'a, Iter: Iterator<Item = &'a str>, Octets: ScanOctets, E: ScannerError> It
     pub fn is_exhausted(&mut self) -> bool
         requires { ⟦<Self as Scanner>⟧.can_scan self.old }
         ensures ready { ⟦<Self as Scanner>⟧.can_scan self.new }
-        ensures peeks { (o : Option Token) × Peeks (⟦<Self as Scanner>⟧.next_token) self.old self.new o × (result ≡ is_none o) }
-        ensures space { ⟦<Self as Scanner>⟧.is_spaced self.new ≡ ⟦<Self as Scanner>⟧.is_spaced self.old }
+        ensures peeks { LooksAhead (token_next Iter.next_gives) self.old self.new
+            (λ o. result ≡ is_none o) }
+        ensures space { is_after_space self.new ≡ is_after_space self.old }
     {
         self.peek().is_none()
     }
@@ -104,7 +104,7 @@ impl<'a, Iter: Iterator<Item = &'a str>, Octets: ScanOctets, E: ScannerError> It
     fn peek(&mut self) -> Option<&'a str>
         requires { IsReady Iter.can_next Iter.remaining self.old.iter self.old.ahead }
         ensures ready { IsReady Iter.can_next Iter.remaining self.new.iter self.new.ahead }
-        ensures peeks { Peeks (⟦<Self as Scanner>⟧.next_token) self.old self.new (option_map (λ t. t.now) result) }
+        ensures peeks { Peeks (token_next Iter.next_gives) self.old self.new (token_of result) }
         ensures space { self.new.spaced ≡ self.old.spaced }
     {
         self.fill();
@@ -124,8 +124,8 @@ where
     fn fill(&mut self)
         requires { IsReady Iter.can_next Iter.remaining self.old.iter self.old.ahead }
         ensures ready { IsReady Iter.can_next Iter.remaining self.new.iter self.new.ahead }
-        ensures left { tokens_left Iter.remaining self.new.iter self.new.ahead ≤ tokens_left Iter.remaining self.old.iter self.old.ahead }
-        ensures fills { Fills Iter.next_gives self.old.iter self.old.ahead self.new.iter self.new.ahead }
+        ensures left { count_left Iter.remaining self.new ≤ count_left Iter.remaining self.old }
+        ensures fills { FillsAhead Iter.next_gives self.old self.new }
         ensures spaced { self.new.spaced ≡ self.old.spaced }
     {
         if let Ahead::Unknown = self.ahead {
@@ -140,8 +140,8 @@ where
     fn take(&mut self) -> Option<&'a str>
         requires { IsReady Iter.can_next Iter.remaining self.old.iter self.old.ahead }
         ensures ready { IsReady Iter.can_next Iter.remaining self.new.iter self.new.ahead }
-        ensures fewer { OnSome result (tokens_left Iter.remaining self.new.iter self.new.ahead < tokens_left Iter.remaining self.old.iter self.old.ahead) }
-        ensures takes { TakesAhead Iter.next_gives self.old.iter self.old.ahead result self.new.iter self.new.ahead }
+        ensures fewer { OnSome result (HasFewerLeft Iter.remaining self.old self.new) }
+        ensures takes { TakesNext Iter.next_gives self.old result self.new }
         ensures spaced { self.new.spaced ≡ spaced_after self.old.spaced result }
     {
         self.fill();
@@ -184,7 +184,8 @@ where
         requires can { T.can_take take.old }
         ensures ready { IsReady Iter.can_next Iter.remaining self.new.iter self.new.ahead }
         ensures can { T.can_take take.new }
-        ensures takes { ScansEntry (token_next Iter.next_gives) T.step self.old (take.old, built.old) result self.new (take.new, built.new) }
+        ensures takes { ScansEntry (token_next Iter.next_gives) T.step
+            self.old (take.old, built.old) result self.new (take.new, built.new) }
     {
         while let Some(token) = self.take() {
             take.take_token(built, token)?;

@@ -1,7 +1,7 @@
 //! What the symbols of a token are handed to.
-ghost use Rattle.std.specs.Prelude.{◌≡◌, ◌≤◌, ◌-◌, ◌++◌, ℕ, IsOk, OnErr, OnOk, Result, length, ⊤};
+ghost use Rattle.std.specs.Prelude.{◌≡◌, ◌≤◌, ◌-◌, ◌++◌, IsOk, OnErr, OnOk, Result, length, ⊤};
 ghost use Rattle.dns_scan.specs.Entries.{AsksToken, ConvertInEntry, ConvertStep, ConvertTail, StringStep};
-ghost use Rattle.dns_scan.specs.Steps.{Adds, GivesStep, octet_given, text_given};
+ghost use Rattle.dns_scan.specs.Steps.{GivesStep, octet_given, text_given, Grows};
 ghost use Rattle.dns_scan.specs.Tokens.{Token};
 
 use crate::token::each_symbol;
@@ -134,7 +134,7 @@ fn append_few<B: OctetsBuilder>(builder: &mut B, octets: &[u8]) -> Result<(), Sh
 // Appends the octets that a converter made, if it made any.
 #[inline(always)]
 fn append<B: OctetsBuilder, E: ScannerError>(builder: &mut B, octets: &[u8]) -> Result<(), E>
-    ensures { Adds E.cause B.room (Ok octets.now) (B.octets builder.old) result (B.octets builder.new) }
+    ensures { Grows E.cause B.room octets.now (B.octets builder.old) result (B.octets builder.new) }
 {
     if octets.is_empty() {
         return Ok(());
@@ -159,7 +159,8 @@ impl<C> Through<C> {
     ) -> Result<(), E>
     where
         C: ConvertSymbols<Sym, E>,
-        ensures { ConvertTail E.cause B.room C.tail (self.old.convert, B.octets built.old) result (self.new.convert, B.octets built.new) }
+        ensures { ConvertTail E.cause B.room C.tail
+            (self.old.convert, B.octets built.old) result (self.new.convert, B.octets built.new) }
     {
         self.convert.take_tail()?;
         append(built, self.convert.lent())

@@ -1,14 +1,12 @@
 //! The symbols of a token.
-ghost use Rattle.std.specs.Prelude.{◌≡◌, ℕ, List, [], min};
+ghost use Rattle.std.specs.Prelude.{◌≡◌};
 ghost use Rattle.dns_octets.specs.Room.{within};
 ghost use Rattle.dns_symbol.specs.declared.error.SymbolCharsError.{SymbolCharsError};
 ghost use Rattle.dns_symbol.specs.Symbol.{chars_error_text};
 ghost use Rattle.dns_symbol.specs.Text.{as_octets_error};
 ghost use Rattle.std.specs.Fn.{FnOnceReturnsAt};
-ghost use Rattle.dns_scan.specs.Asks.{CallsEachSymbol, Builds};
-ghost use Rattle.dns_scan.specs.Entries.{AsciiText, Converts, ConvertToken};
-ghost use Rattle.dns_scan.specs.Steps.{GivesStep, octet_given, text_given};
-ghost use Rattle.dns_charstr.specs.Limits.{max_string};
+ghost use Rattle.dns_scan.specs.Asks.{CallsEachSymbol, BuildsOctets, BuildsString, BuildsText};
+ghost use Rattle.dns_scan.specs.Entries.{AsciiText, ConvertsOneToken};
 ghost use Rattle.dns_iter.specs.Handed.{HandedAs};
 
 use crate::take::{AsOctet, AsText, TakeSymbol, Through};
@@ -37,7 +35,8 @@ pub(crate) fn each_symbol<Sym: From<Symbol>, T: TakeSymbol<Sym, E, B>, B, E: Sca
 ) -> Result<(), E>
     requires { T.can_take take.old }
     ensures ready { T.can_take take.new }
-    ensures asks { CallsEachSymbol E.cause (HandedAs Sym.from_gives T.step) token.now (take.old, built.old) result (take.new, built.new) }
+    ensures asks { CallsEachSymbol E.cause (HandedAs Sym.from_gives T.step) token.now
+        (take.old, built.old) result (take.new, built.new) }
 {
     let text = token.as_bytes();
     let mut pos = 0;
@@ -58,7 +57,7 @@ pub(crate) fn token_octets<B: EmptyBuilder + FreezeBuilder + Drop, E: ScannerErr
     token: &str,
     alloc: B::Alloc,
 ) -> Result<B::Octets, E>
-    ensures builds { Builds E.cause (GivesStep E.cause B.room octet_given) B.Octets.octets token.now result }
+    ensures builds { BuildsOctets E.cause B.room B.Octets.octets token.now result }
 {
     let mut built = B::empty(alloc);
     each_symbol::<Symbol, _, _, E>(token, &mut AsOctet, &mut built)?;
@@ -70,7 +69,7 @@ pub(crate) fn token_charstr<B: EmptyBuilder + FreezeBuilder + Drop, E: ScannerEr
     token: &str,
     alloc: B::Alloc,
 ) -> Result<CharStr<B::Octets>, E>
-    ensures builds { Builds E.cause (GivesStep E.cause (within max_string B.room) octet_given) (λ s. s) token.now result }
+    ensures builds { BuildsString E.cause B.room token.now result }
 {
     let mut built = CharStrBuilder::<B>::new(alloc);
     each_symbol::<Symbol, _, _, E>(token, &mut AsOctet, &mut built)?;
@@ -84,7 +83,7 @@ pub(crate) fn token_text<B: EmptyBuilder + FreezeBuilder + Drop, E: ScannerError
 ) -> Result<Str<B::Octets>, E>
 where
     B::Octets: Drop,
-    ensures builds { Builds E.cause (GivesStep E.cause B.room text_given) (λ s. s) token.now result }
+    ensures builds { BuildsText E.cause B.room token.now result }
 {
     let mut built = B::empty(alloc);
     each_symbol::<Symbol, _, _, E>(token, &mut AsText, &mut built)?;
@@ -103,7 +102,8 @@ pub(crate) fn token_ascii<
     F: FnOnce(&str) -> Result<T, E>,
 >(token: &str, alloc: B::Alloc, op: F) -> Result<T, E>
     requires { F.IsAlwaysCallable op }
-    ensures answers { AsciiText E.cause B.room (λ s r. FnOnceReturnsAt F.FnOnce op s r) token.now result }
+    ensures answers { AsciiText E.cause B.room (λ s r. FnOnceReturnsAt F.FnOnce op s r)
+        token.now result }
 {
     let mut built = B::empty(alloc);
     each_symbol::<Symbol, _, _, E>(token, &mut AsText, &mut built)?;
@@ -125,7 +125,8 @@ pub(crate) fn token_converted<
     B: EmptyBuilder + FreezeBuilder + Drop,
     E: ScannerError,
 >(token: &str, convert: C, alloc: B::Alloc) -> Result<B::Octets, E>
-    ensures converts { Converts E.cause B.room C.tail B.Octets.octets (λ p a q. ConvertToken E.cause B.room C.takes p token.now a q) convert result }
+    ensures converts { ConvertsOneToken E.cause B.room C.takes C.tail B.Octets.octets
+        convert token.now result }
 {
     let mut through = Through { convert };
     let mut built = B::empty(alloc);

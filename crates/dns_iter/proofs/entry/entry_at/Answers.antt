@@ -10,7 +10,7 @@ pub returns-in_err-tokens-clause-stands : goal.returns-in_err-tokens-clause-stan
 returns-in_err-tokens-clause-stands g c = λ contents h. absurd (none_held c.args.entries.now c.args.place contents c.in_err-tokens.ensures.lookup.3 h)
 
 pub returns-in_err-tokens-clause-splits : goal.returns-in_err-tokens-clause-splits
-returns-in_err-tokens-clause-splits g c = λ text found contents splits other h.
+returns-in_err-tokens-clause-splits g c = λ found (text, splits, other) contents h.
     returns-in_err-tokens-clause-stands g c contents (known_held text (entries_of c.args.entries.now) found c.args.place contents splits other h)
 
 pub returns-clause-stands : goal.returns-clause-stands
@@ -22,7 +22,7 @@ returns-clause-stands g c = λ contents h.
     c.entry_scanner.ensures.stands contents (subst (λ (l : List Token). HaveContents l contents) (sym (ap texts c.deref.ensures.value)) are)
 
 pub returns-clause-splits : goal.returns-clause-splits
-returns-clause-splits g c = λ text found contents splits other h.
+returns-clause-splits g c = λ found (text, splits, other) contents h.
     returns-clause-stands g c contents (known_held text (entries_of c.args.entries.now) found c.args.place contents splits other h)
 
 pub returns-clause-holds : goal.returns-clause-holds
