@@ -1,5 +1,5 @@
 -- Lines and columns of octets.
-use Rattle.std.specs.Prelude.{◌≡◌, ℕ, ◌+◌, ◌≤◌, ◌==◌, ◌||◌, Bool, not, nat_lt, nat_le, List, reverse, take, length}
+use Rattle.std.specs.Prelude.{◌≡◌, ℕ, ◌+◌, ◌≤◌, ◌==◌, ◌||◌, Bool, not, nat_lt, nat_le, List, reverse, take, length, ◌++◌}
 use Rattle.std.specs.List.{count_by, take_while}
 use Rattle.dns_symbol.specs.Characters.{line_feed}
 use Rattle.dns_split.specs.declared.position.Position.{Position}
@@ -30,3 +30,7 @@ pub record Stands (octets : List ℕ) (lines_before : ℕ) (p : Place) : Type 0 
   pub within : p.at ≤ length octets
   pub is : IsAt lines_before (take p.at octets) p.position
   pub narrow : p.position.column ≤ p.at + 1
+
+-- octets move a column: it is that of the text before them, and then that of the text with them
+abbrev pub MovesColumn : ℕ → List ℕ → ℕ → Type 0
+MovesColumn column octets after = (before : List ℕ) → column ≡ column_of before → after ≡ column_of (before ++ octets)

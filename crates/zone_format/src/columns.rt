@@ -225,7 +225,8 @@ fn head_column(end: usize, token: &[u8], width: usize) -> usize
 /// What may come behind that token. If it is glued to the owner, it moves no columns.
 fn after_first(end: usize, is_glued: bool, token: &[u8], width: usize) -> Turn
     requires { end + width + 64 < 2 ^ 64 }
-    ensures { result ≡ head_after (role_of false false token.now) (first_moved is_glued (role_of false false token.now) end width) false false }
+    ensures { let role = role_of false false token.now in
+        result ≡ head_after role (first_moved is_glued role end width) false false }
 {
     let role = role_of(false, false, token);
     let moved = if is_glued {

@@ -10,7 +10,8 @@ ghost use Rattle.zone_format.specs.Squeezed.{squeezed};
 /// spelled, glued or parted as they were, the same comments but for blanks at their end, the same
 /// parentheses, ends of lines and blanks at the beginning of entries, all in the same order.
 pub fn forms_keep_the_marks()
-    ensures { (octets : List ℕ) (ms : List Mark) → HasMarks octets ms → HasMarks (form ms) (squeezed ms) }
+    ensures { (octets : List ℕ) (ms : List Mark) → HasMarks octets ms
+        → HasMarks (form ms) (squeezed ms) }
 {}
 
 /// The form of a form is itself.
@@ -28,6 +29,7 @@ pub fn same_marks_have_one_form()
 /// on that line alone, on how many parentheses are open before it, and on the column of the
 /// comment of the line directly above.
 pub fn lines_stand_by_themselves()
-    ensures { (above : Above) (b : Before) (l : List Mark) (ls : List (List Mark)) → is_blank_line l ≡ false
+    ensures { (above : Above) (b : Before) (l : List Mark) (ls : List (List Mark))
+        → is_blank_line l ≡ false
         → forms above b (l ∷ ls) ≡ gap 10 above ++ (line_form b l ++ 10 ∷ forms Above.Line (below b l) ls) }
 {}

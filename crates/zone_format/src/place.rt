@@ -1,8 +1,8 @@
 //! Places among octets: their lines and columns, and faults further on.
-ghost use Rattle.std.specs.Prelude.{◌≡◌, ◌+◌, ◌-◌, ◌++◌, ◌<◌, ◌≤◌, ◌^◌, ℕ, [], List, length, take, drop, slice_index};
+ghost use Rattle.std.specs.Prelude.{◌≡◌, ◌+◌, ◌-◌, ◌<◌, ◌≤◌, ◌^◌, ℕ, [], length, take, drop, slice_index};
 ghost use Rattle.dns_split.specs.Pieces.{moved_fault};
 ghost use Rattle.dns_split.specs.declared.pieces.Wrong.TheVariants.{OpenQuote};
-ghost use Rattle.zone_format.specs.Place.{begins_character, column_of, feeds, IsAt, Stands};
+ghost use Rattle.zone_format.specs.Place.{begins_character, feeds, IsAt, Stands, MovesColumn};
 
 use dns_split::pieces::{Fault, Wrong};
 use dns_split::position::Position;
@@ -72,7 +72,7 @@ fn advance_by_one(from: Position, octets: &[u8]) -> Position
     requires lines { from.line + length octets.now < 2 ^ 64 }
     requires columns { from.column + length octets.now + 1 < 2 ^ 64 }
     ensures line { result.line ≡ from.line + feeds octets.now }
-    ensures column { (before : List ℕ) → from.column ≡ column_of before → result.column ≡ column_of (before ++ octets.now) }
+    ensures column { MovesColumn from.column octets.now result.column }
     ensures narrow { result.column < from.column + length octets.now + 1 }
 {
     let mut line = from.line;
@@ -93,7 +93,7 @@ pub fn advance(from: Position, octets: &[u8]) -> Position
     requires lines { from.line + length octets.now < 2 ^ 64 }
     requires columns { from.column + length octets.now + 1 < 2 ^ 64 }
     ensures line { result.line ≡ from.line + feeds octets.now }
-    ensures column { (before : List ℕ) → from.column ≡ column_of before → result.column ≡ column_of (before ++ octets.now) }
+    ensures column { MovesColumn from.column octets.now result.column }
     ensures narrow { result.column < from.column + length octets.now + 1 }
 {
     if octets.len() < LANES {

@@ -129,7 +129,8 @@ pub(crate) fn push_gap<A: Allocator>(
 ) -> Result<Stand, AllocError>
     requires fits { LineFits out.old.items stand }
     requires depth { stand.depth + length gap.now < 2 ^ 64 }
-    ensures { IfOk result (Moves (flat_map gap_mark gap.now) out.old.items stand (length gap.now) out.new.items) }
+    ensures { IfOk result (Moves (flat_map gap_mark gap.now)
+        out.old.items stand (length gap.now) out.new.items) }
 {
     let mut stand = stand;
     for octet in gap {
