@@ -1,9 +1,9 @@
 //! Lines of typed fields.
-ghost use Rattle.std.specs.Prelude.{◌≡◌, ◌↔◌, ◌+◌, IfNone, IfSome, IfOk, IfErr, IsOk, IsTrue, OnOk, List, Some};
-ghost use Rattle.dns_zone.specs.Layout.{Step, token};
-ghost use Rattle.dns_entry.specs.Field.{Content, content_of, contents_of, field_text, IsPrintable};
-ghost use Rattle.dns_entry.specs.Line.{IsFirstEmpty, IsLine, line_document, line_nests};
-ghost use Rattle.dns_entry.specs.EntryError.{error_place};
+ghost use Rattle.std.specs.Prelude.{◌≡◌, ◌↔◌, IfNone, IfSome, IfOk, IfErr, IsOk, IsTrue, OnOk, List, Some};
+ghost use Rattle.dns_zone.specs.Layout.{token};
+ghost use Rattle.dns_entry.specs.Field.{Content, content_of, contents_of, IsPrintable};
+ghost use Rattle.dns_entry.specs.Line.{IsFirstEmpty, IsLine, line_document, line_nests, field_step};
+ghost use Rattle.dns_entry.specs.EntryError.{IsEntryFault};
 
 pub use crate::error::EntryError;
 use dns_charstr::charstr::CharStr;
@@ -70,7 +70,7 @@ fn first_empty<A: Allocator>(fields: &[Field<A>]) -> Option<usize>
 // Prints a field's token.
 fn write_field<F: FormatWriter, A: Allocator>(p: &mut F, field: &Field<A>) -> zonefile_fmt::Result
     ensures blocks { OnOk result (F.blocks p.new ≡ F.blocks p.old) }
-    ensures gives { OnOk result (F.step_gives p.old (token (field_text (content_of field.now))) p.new) }
+    ensures gives { OnOk result (F.step_gives p.old (field_step (content_of field.now)) p.new) }
 {
     match field {
         Field::Number(number) => p.write_token(*number),
@@ -101,7 +101,8 @@ impl<A: Allocator> EntryLine<A> {
     pub fn new(fields: Vec<Field<A>, A>) -> Result<EntryLine<A>, (EntryError, Vec<Field<A>, A>)>
         ensures ok { IfOk result (λ line. line ≡ contents_of fields.items) }
         ensures accepts { IsOk result ↔ IsLine (contents_of fields.items) }
-        ensures err { IfErr result (λ e. IsFirstEmpty (contents_of fields.items) (error_place e.0) × (e.1 ≡ fields)) }
+        ensures err { IfErr result (λ e. IsEntryFault (contents_of fields.items) e.0) }
+        ensures back { IfErr result (λ e. e.1 ≡ fields) }
     {
         match first_empty(&fields) {
             Some(place) => Err((EntryError::EmptyEncoding(place), fields)),

@@ -1,10 +1,11 @@
 //! Laws on entry lines.
 //! Each function's contract is the law; calling one does nothing of use.
-ghost use Rattle.std.specs.Prelude.{◌≡◌, ℕ, List};
+ghost use Rattle.std.specs.Prelude.{ℕ, List};
 ghost use Rattle.dns_split.specs.Token.{IsToken};
 ghost use Rattle.dns_zone.specs.Documents.{IsWellFormed};
 ghost use Rattle.dns_entry.specs.Field.{Content, content_of, field_text, IsContent, IsPrintable};
 ghost use Rattle.dns_entry.specs.Line.{AreContents, IsFirstEmpty, IsLine, line_document};
+ghost use Rattle.dns_scan.specs.Reads.{HasOneAnswer};
 
 use crate::entry::{EntryLine, Field};
 use dns_octets::AsOctets;
@@ -39,7 +40,7 @@ pub fn lines_are_lines<A: Allocator>(line: &EntryLine<A>)
 
 /// A list has one first field that can't be a token at most, and a line has none.
 pub fn first_empties_are_unique()
-    ensures one { (fields : List Content) (i j : ℕ) → IsFirstEmpty fields i → IsFirstEmpty fields j → i ≡ j }
+    ensures one { (fields : List Content) → HasOneAnswer (IsFirstEmpty fields) }
     ensures none { (fields : List Content) (i : ℕ) → IsFirstEmpty fields i → IsLine fields → ⊥ }
 {}
 
@@ -50,5 +51,6 @@ pub fn field_texts_are_tokens()
 
 /// The document of every line is well-formed.
 pub fn lines_are_well_formed()
-    ensures { (fields : List Content) → AreContents fields → IsLine fields → IsWellFormed (line_document fields) }
+    ensures { (fields : List Content) → AreContents fields → IsLine fields
+        → IsWellFormed (line_document fields) }
 {}
