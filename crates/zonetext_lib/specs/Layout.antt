@@ -34,3 +34,7 @@ laid_out gap inside (Ends b ∷ es) = gap_if gap (not inside && b) ++ (feed_befo
 abbrev pub LaysOut : {U E : Type 0} → List ℕ → Gap → List ℕ → List ℕ → Result U E → Type 0
 LaysOut octets gap old new (Ok u) = (es : List ComparedPart) × HasEntries octets es × (new ≡ old ++ laid_out gap false es)
 LaysOut octets gap old new (Err e) = ⊤
+
+-- the end of a line, where it is owed
+abbrev pub feed_if : Bool → List ℕ
+feed_if b = if b then 10 ∷ [] else []

@@ -63,3 +63,7 @@ stretches octets (t ∷ tokens) = t ∷ taken_out octets t.end tokens
 abbrev pub IsTokenError : ℕ → ℕ → List Span → PatchError → Type 0
 IsTokenError count at tokens OutOfMemory = Unit {0}
 IsTokenError count at tokens OutOfOrder = AreBehind count at tokens → ⊥
+
+-- a stretch between two places
+abbrev pub span_of : ℕ → ℕ → Span
+span_of start end = record { start = start; end = end }

@@ -96,7 +96,8 @@ impl<A: Allocator + Copy> Comparer<A> {
     /// Adds octets on one side, and returns whether so many are held there that it is worth while to
     /// compare. Where memory is lacking nothing is added. The other side stays as it is.
     pub fn add(&mut self, side: Side, block: &[u8]) -> Result<bool, Halt>
-        ensures added { TakesBlock (on_side side self.old) (on_side side self.new) block.now result }
+        ensures added { TakesBlock (on_side side self.old) (on_side side self.new)
+            block.now result }
         ensures other { on_side (opposite side) self.new ≡ on_side (opposite side) self.old }
     {
         match side {

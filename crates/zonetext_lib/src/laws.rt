@@ -7,15 +7,19 @@ ghost use Rattle.zonetext_lib.specs.Layout.{laid_out};
 
 /// Octets have one list of entries at most.
 pub fn entries_come_one_way()
-    ensures { (octets : List ℕ) (es fs : List ComparedPart) → HasEntries octets es → HasEntries octets fs → es ≡ fs }
+    ensures { (octets : List ℕ) (es fs : List ComparedPart)
+        → HasEntries octets es → HasEntries octets fs → es ≡ fs }
 {}
 
 /// What is laid out is zone text with the same entries and the same leading blanks.
 pub fn layout_keeps_entries()
-    ensures { (octets : List ℕ) (gap : Gap) (es : List ComparedPart) → HasEntries octets es → HasEntries (laid_out gap false es) es }
+    ensures { (octets : List ℕ) (gap : Gap) (es : List ComparedPart)
+        → HasEntries octets es → HasEntries (laid_out gap false es) es }
 {}
 
 /// What is laid out is laid out as it is.
 pub fn layout_is_stable()
-    ensures { (octets : List ℕ) (gap : Gap) (es fs : List ComparedPart) → HasEntries octets es → HasEntries (laid_out gap false es) fs → laid_out gap false fs ≡ laid_out gap false es }
+    ensures { (octets : List ℕ) (gap : Gap) (es fs : List ComparedPart)
+        → HasEntries octets es → HasEntries (laid_out gap false es) fs
+        → laid_out gap false fs ≡ laid_out gap false es }
 {}

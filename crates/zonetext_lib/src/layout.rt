@@ -1,7 +1,7 @@
 //! Zone text with each entry on a line of its own.
-ghost use Rattle.std.specs.Prelude.{◌≡◌, ◌+◌, ◌++◌, ◌∷◌, [], ◌<◌, ◌^◌, IfErr, OnOk, if◌then◌else◌, ◌||◌, ◌&&◌, not, length};
+ghost use Rattle.std.specs.Prelude.{◌≡◌, ◌+◌, ◌++◌, ◌∷◌, [], ◌<◌, ◌^◌, IfErr, OnOk, ◌&&◌, not, length};
 ghost use Rattle.zonetext_lib.specs.Found.{IsStop};
-ghost use Rattle.zonetext_lib.specs.Layout.{gap_if, gap_octet, LaysOut};
+ghost use Rattle.zonetext_lib.specs.Layout.{gap_if, gap_octet, LaysOut, feed_if};
 ghost use Rattle.zonetext_lib.specs.Writing.{LaysSettled};
 
 use crate::check::locate;
@@ -36,7 +36,8 @@ fn push_lead<A: Allocator>(
     gap: Gap,
     owes_gap: bool,
 ) -> Result<(), AllocError>
-    ensures { OnOk result (out.new.items ≡ out.old.items ++ (if owes_feed then 10 ∷ [] else []) ++ gap_if gap owes_gap) }
+    ensures { OnOk result (out.new.items
+        ≡ out.old.items ++ feed_if owes_feed ++ gap_if gap owes_gap) }
 {
     if owes_feed {
         out.extend_from_slice(&[b'\n'])?;
@@ -56,7 +57,8 @@ fn push_token<A: Allocator>(
     owes_gap: bool,
     token: &[u8],
 ) -> Result<(), AllocError>
-    ensures { OnOk result (out.new.items ≡ out.old.items ++ (if owes_feed then 10 ∷ [] else []) ++ gap_if gap owes_gap ++ token.now) }
+    ensures { OnOk result (out.new.items
+        ≡ out.old.items ++ feed_if owes_feed ++ gap_if gap owes_gap ++ token.now) }
 {
     push_lead(out, owes_feed, gap, owes_gap)?;
     out.extend_from_slice(token)
@@ -69,7 +71,8 @@ fn push_end<A: Allocator>(
     inside: bool,
     begins_blank: bool,
 ) -> Result<(), AllocError>
-    ensures { OnOk result (out.new.items ≡ out.old.items ++ gap_if gap (not inside && begins_blank) ++ 10 ∷ []) }
+    ensures { OnOk result (out.new.items
+        ≡ out.old.items ++ gap_if gap (not inside && begins_blank) ++ 10 ∷ []) }
 {
     if !inside && begins_blank {
         out.extend_from_slice(&[gap.octet()])?;

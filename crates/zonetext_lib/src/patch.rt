@@ -1,6 +1,6 @@
 //! Texts in which some stretches change, and all else stays octet for octet.
 ghost use Rattle.std.specs.Prelude.{◌≡◌, ◌∷◌, [], ◌++◌, ◌≤◌, ◌↔◌, ◌||◌, IfErr, IsTrue, OnOk, false, length, not};
-ghost use Rattle.zonetext_lib.specs.Patches.{AreChangesInOrder, IsBehind, IsPatchError, IsTokenError, changed_text, comment_goes_on, is_space, kept_len, stretches, taken_out};
+ghost use Rattle.zonetext_lib.specs.Patches.{AreChangesInOrder, IsBehind, IsPatchError, IsTokenError, comment_goes_on, is_space, kept_len, stretches, taken_out, span_of, changed_text};
 
 use dns_split::pieces::Span;
 use std::alloc::{AllocError, Allocator};
@@ -44,7 +44,8 @@ pub fn append_changed<A: Allocator>(
     changes: &[Change<'_>],
     out: &mut Vec<u8, A>,
 ) -> Result<(), PatchError>
-    ensures made { OnOk result (out.new.items ≡ out.old.items ++ changed_text 0 octets.now changes.now) }
+    ensures made { OnOk result (out.new.items
+        ≡ out.old.items ++ changed_text 0 octets.now changes.now) }
     ensures ordered { OnOk result (AreChangesInOrder 0 (length octets.now) changes.now) }
     ensures err { IfErr result (IsPatchError (length octets.now) changes.now) }
 {
@@ -119,7 +120,7 @@ fn push_span<A: Allocator>(
     start: usize,
     end: usize,
 ) -> Result<(), AllocError>
-    ensures { OnOk result (out.new.items ≡ out.old.items ++ record { start = start; end = end } ∷ []) }
+    ensures { OnOk result (out.new.items ≡ out.old.items ++ span_of start end ∷ []) }
 {
     out.push(Span { start, end })?;
     Ok(())
@@ -134,7 +135,8 @@ fn append_taken_out<A: Allocator>(
     out: &mut Vec<Span, A>,
 ) -> Result<(), PatchError>
     requires { behind ≤ length octets.now }
-    ensures made { OnOk result (out.new.items ≡ out.old.items ++ taken_out octets.now behind tokens.now) }
+    ensures made { OnOk result (out.new.items
+        ≡ out.old.items ++ taken_out octets.now behind tokens.now) }
     ensures err { IfErr result (IsTokenError (length octets.now) behind tokens.now) }
 {
     let mut at = behind;

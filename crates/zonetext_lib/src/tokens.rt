@@ -71,7 +71,8 @@ fn push_head<A: Allocator>(
     kind: &str,
     glued: bool,
 ) -> Result<(), AllocError>
-    ensures { OnOk result (out.new.items ≡ out.old.items ++ form_head form at.line at.column kind.now glued) }
+    ensures { OnOk result (out.new.items
+        ≡ out.old.items ++ form_head form at.line at.column kind.now glued) }
 {
     let Position { line, column } = at;
     match form {
@@ -99,7 +100,8 @@ fn push_row<A: Allocator>(
     glued: bool,
     token: &[u8],
 ) -> Result<(), AllocError>
-    ensures { OnOk result (out.new.items ≡ out.old.items ++ token_row form at.line at.column kind.now glued token.now) }
+    ensures { OnOk result (out.new.items
+        ≡ out.old.items ++ token_row form at.line at.column kind.now glued token.now) }
 {
     push_head(out, form, at, kind, glued)?;
     match form {

@@ -149,7 +149,8 @@ fn write_settled<A: Allocator>(
     octets: &[u8],
     out: &mut Vec<u8, A>,
 ) -> Result<Option<usize>, AllocError>
-    ensures { (lines : ℕ) → WritesSettled output octets.now lines out.old.items out.new.items result }
+    ensures { (lines : ℕ)
+        → WritesSettled output octets.now lines out.old.items out.new.items result }
 {
     match output {
         Output::Rows(_) => Ok(None),
