@@ -12,6 +12,11 @@ use Rattle.dns_codec.specs.Grammar.{Decodes, IsEncodingOf}
 use Rattle.dns_scan.specs.Join.{IsJoin, IsSymbols}
 use Rattle.dns_scan.specs.Octets.{GivesWhere}
 use Rattle.dns_scan.specs.Tokens.{Token}
+use Rattle.dns_entry.specs.Codecs.{Codec, ConvertsTo}
+
+-- a token converts to these octets, and to nothing else
+abbrev pub ConvertsOnlyTo : Codec → Token → List ℕ → Type 0
+ConvertsOnlyTo codec token octets = (r : Result (List ℕ) Cause) → ConvertsTo codec token r → r ≡ Ok octets
 
 -- a text of the encoding begins with these characters
 abbrev pub BeginsEncoding : Base → List ℕ → Type 0

@@ -6,9 +6,9 @@ use Rattle.dns_split.specs.Splitting.{Entries}
 use Rattle.dns_split.specs.Token.{IsWord}
 use Rattle.dns_symbol.specs.Cause.{Cause, short_buf, IsCause}
 use Rattle.dns_scan.specs.Tokens.{Token}
-use Rattle.dns_entry.specs.Field.{Content, number, hex_octets, base64_octets, text_octets, field_text}
-use Rattle.dns_entry.specs.Line.{IsFirstEmpty}
-use Rattle.dns_entry.specs.EntryError.{error_place}
+use Rattle.dns_entry.specs.Field.{Content, number, hex_octets, base64_octets, text_octets, field_text, IsContent, IsPrintable, contents_of}
+use Rattle.dns_entry.specs.Line.{line_document}
+use Rattle.dns_entry.specs.EntryError.{IsEntryFault}
 use Rattle.dns_split.specs.declared.error.SplitError.TheVariants.{BadText, ShortBuf}
 use Rattle.dns_laws.specs.declared.lines.Refusal.{Refusal}
 use Rattle.dns_laws.specs.declared.lines.Refusal.TheVariants.{Line, Split}
@@ -16,6 +16,8 @@ use Rattle.dns_entry.specs.declared.entry.FieldKind.{FieldKind}
 use Rattle.dns_entry.specs.declared.entry.FieldKind.TheVariants.{Number, Hex, Base64, Text}
 use Rattle.dns_laws.specs.declared.lines.Scanned.{Scanned}
 use Rattle.dns_laws.specs.declared.lines.Scanned.TheVariants.{Number as NumberScanned, Octets, Text as TextScanned}
+use Rattle.dns_entry.specs.declared.entry.Field.{Field}
+use Rattle.dns_zone.specs.Layout.{Step}
 
 -- the entries of a line: one, with a token a field
 abbrev pub line_entries : List Content → Entries
@@ -23,7 +25,7 @@ line_entries fields = map field_text fields ∷ []
 
 -- why fields were not printed as a line and split: the first that is no token, or lack of memory
 abbrev pub IsLineRefusal : List Content → Refusal → Type 0
-IsLineRefusal fields (Line error) = IsFirstEmpty fields (error_place error)
+IsLineRefusal fields (Line error) = IsEntryFault fields error
 IsLineRefusal fields (Split (BadText place)) = ⊥
 IsLineRefusal fields (Split ShortBuf) = ⊤
 
@@ -48,3 +50,16 @@ GivesField cause octets room (number n) r = r ≡ Ok (NumberScanned n)
 GivesField cause octets room (hex_octets os) r = GivesOctets cause octets room os r
 GivesField cause octets room (base64_octets os) r = GivesOctets cause octets room os r
 GivesField cause octets room (text_octets os) r = (r ≡ Ok (TextScanned os)) ⊎ (IsCause cause r short_buf × (room.fits < length os))
+
+-- r is what one token is scanned as that stands for a field of that kind: what the field holds, where its octets find room
+abbrev pub KindBack : {O E : Type 0} → FieldKind → (E → Cause) → (O → List ℕ) → Room → Token → Result (Scanned O) E → Type 0
+KindBack kind cause octets room token r =
+    (field : Content) → IsContent field → IsPrintable field → kind_of field ≡ kind → IsScannedOf (field_text field) token → GivesField cause octets room field r
+
+-- the document of a line of fields
+abbrev pub fields_steps : {A : Type 0} → List (Field A) → List Step
+fields_steps fields = line_document (contents_of fields)
+
+-- its entries
+abbrev pub fields_line : {A : Type 0} → List (Field A) → Entries
+fields_line fields = line_entries (contents_of fields)

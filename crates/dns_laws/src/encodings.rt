@@ -1,14 +1,15 @@
 //! Laws on encodings: what tokens convert to, and that a text is scanned back.
-ghost use Rattle.std.specs.Prelude.{◌≡◌, ◌↔◌, ℕ, ◌<◌, List, Ok, Result};
-ghost use Rattle.std.specs.List.{AllByRecursion};
+ghost use Rattle.std.specs.Prelude.{◌↔◌, ℕ, ◌<◌, List, Ok, Result};
 ghost use Rattle.dns_octets.specs.Room.{Room, exactly};
 ghost use Rattle.dns_codec.specs.Base.{Base, IsEncoding, base16, base32hex, base64, encoded};
 ghost use Rattle.dns_codec.specs.Grammar.{IsEncodingOf};
 ghost use Rattle.dns_symbol.specs.Cause.{Cause};
-ghost use Rattle.dns_scan.specs.Stands.{TakesOne};
+ghost use Rattle.dns_scan.specs.Stands.{TakesAs};
 ghost use Rattle.dns_scan.specs.Tokens.{Token};
 ghost use Rattle.dns_entry.specs.Codecs.{AnswersConverted, ConvertsTo, codec_of};
-ghost use Rattle.dns_laws.specs.Encodings.{AnswersEncoding, EncodingBack};
+ghost use Rattle.dns_laws.specs.Encodings.{AnswersEncoding, EncodingBack, ConvertsOnlyTo};
+ghost use Rattle.dns_scan.specs.Reads.{HasOneAnswer};
+ghost use Rattle.std.specs.List.{AllByRecursion};
 
 use dns_codec::base::{Base16, Base32Hex, Base64, Encoding};
 use dns_codec::converter::Converter;
@@ -25,7 +26,9 @@ pub fn encoding_is_scanned_back<K: Encoding, S: Scanner>(
 ) -> Result<S::Octets, S::Error>
     requires { S.can_scan scanner.old }
     ensures ready { S.can_scan scanner.new }
-    ensures takes { TakesOne S.next_token scanner.old scanner.new (λ token. EncodingBack K.base S.Error.cause S.Octets.octets S.OctetsBuilder.room token result) }
+    ensures takes { TakesAs S.next_token
+        (EncodingBack K.base S.Error.cause S.Octets.octets S.OctetsBuilder.room)
+        scanner.old result scanner.new }
 {
     scanner.convert_token(Converter::<K>::new())
 }
@@ -39,7 +42,9 @@ pub fn encoding_is_scanned_back<K: Encoding, S: Scanner>(
 pub fn hex_is_scanned_back<S: Scanner>(scanner: &mut S) -> Result<S::Octets, S::Error>
     requires { S.can_scan scanner.old }
     ensures ready { S.can_scan scanner.new }
-    ensures takes { TakesOne S.next_token scanner.old scanner.new (λ token. EncodingBack base16 S.Error.cause S.Octets.octets S.OctetsBuilder.room token result) }
+    ensures takes { TakesAs S.next_token
+        (EncodingBack base16 S.Error.cause S.Octets.octets S.OctetsBuilder.room)
+        scanner.old result scanner.new }
 {
     encoding_is_scanned_back::<Base16, S>(scanner)
 }
@@ -49,7 +54,9 @@ pub fn hex_is_scanned_back<S: Scanner>(scanner: &mut S) -> Result<S::Octets, S::
 pub fn base32hex_is_scanned_back<S: Scanner>(scanner: &mut S) -> Result<S::Octets, S::Error>
     requires { S.can_scan scanner.old }
     ensures ready { S.can_scan scanner.new }
-    ensures takes { TakesOne S.next_token scanner.old scanner.new (λ token. EncodingBack base32hex S.Error.cause S.Octets.octets S.OctetsBuilder.room token result) }
+    ensures takes { TakesAs S.next_token
+        (EncodingBack base32hex S.Error.cause S.Octets.octets S.OctetsBuilder.room)
+        scanner.old result scanner.new }
 {
     encoding_is_scanned_back::<Base32Hex, S>(scanner)
 }
@@ -60,7 +67,9 @@ pub fn base32hex_is_scanned_back<S: Scanner>(scanner: &mut S) -> Result<S::Octet
 pub fn base64_is_scanned_back<S: Scanner>(scanner: &mut S) -> Result<S::Octets, S::Error>
     requires { S.can_scan scanner.old }
     ensures ready { S.can_scan scanner.new }
-    ensures takes { TakesOne S.next_token scanner.old scanner.new (λ token. EncodingBack base64 S.Error.cause S.Octets.octets S.OctetsBuilder.room token result) }
+    ensures takes { TakesAs S.next_token
+        (EncodingBack base64 S.Error.cause S.Octets.octets S.OctetsBuilder.room)
+        scanner.old result scanner.new }
 {
     encoding_is_scanned_back::<Base64, S>(scanner)
 }
@@ -68,28 +77,31 @@ pub fn base64_is_scanned_back<S: Scanner>(scanner: &mut S) -> Result<S::Octets, 
 /// The text of octets in base 16, base32hex or base 64 is a token that converts to these octets,
 /// and to nothing else.
 pub fn encodings_convert_back()
-    ensures { (b : Base) → IsEncoding b → (octets : List ℕ) (r : Result (List ℕ) Cause) → AllByRecursion (λ o. o < 256) octets → ConvertsTo (codec_of b) (encoded b octets) r → r ≡ Ok octets }
+    ensures { (b : Base) → IsEncoding b → (octets : List ℕ) → AllByRecursion (λ o. o < 256) octets
+        → ConvertsOnlyTo (codec_of b) (encoded b octets) octets }
 {}
 
 /// The tokens that convert to octets are exactly the texts of the encoding with that value.
 pub fn only_encodings_convert()
-    ensures { (b : Base) → IsEncoding b → (token : Token) (octets : List ℕ) → ConvertsTo (codec_of b) token (Ok octets) ↔ IsEncodingOf b token octets }
+    ensures { (b : Base) → IsEncoding b → (token : Token) (octets : List ℕ)
+        → ConvertsTo (codec_of b) token (Ok octets) ↔ IsEncodingOf b token octets }
 {}
 
 /// A token converts to one thing.
 pub fn tokens_convert_to_one_thing()
-    ensures { (b : Base) (token : Token) (q r : Result (List ℕ) Cause) → ConvertsTo (codec_of b) token q → ConvertsTo (codec_of b) token r → q ≡ r }
+    ensures { (b : Base) (token : Token) → HasOneAnswer (ConvertsTo (codec_of b) token) }
 {}
 
 /// What is returned of a token by the grammar alone is just what is returned by what the converters
 /// make of its symbols, one after the other.
 pub fn converters_answer_by_the_grammar()
-    ensures { (b : Base) → IsEncoding b → (room : Room) (token : Token) (r : Result (List ℕ) Cause) → AnswersEncoding b (λ why. why) (λ s. s) room token r
+    ensures { (b : Base) → IsEncoding b → (room : Room) (token : Token) (r : Result (List ℕ) Cause)
+        → AnswersEncoding b (λ why. why) (λ s. s) room token r
         ↔ AnswersConverted (codec_of b) (λ why. why) (λ s. s) room token r }
 {}
 
 /// Over a builder whose room is known, as an array's, a token has one result.
 pub fn encodings_are_answered_in_one_way()
-    ensures { (b : Base) (size : ℕ) (token : Token) (q r : Result (List ℕ) Cause) → AnswersConverted (codec_of b) (λ why. why) (λ s. s) (exactly size) token q
-        → AnswersConverted (codec_of b) (λ why. why) (λ s. s) (exactly size) token r → q ≡ r }
+    ensures { (b : Base) (size : ℕ) (token : Token) → HasOneAnswer {A = Result (List ℕ) Cause}
+        (AnswersConverted (codec_of b) (λ why. why) (λ s. s) (exactly size) token) }
 {}

@@ -1,7 +1,7 @@
 //! Laws on layouts and splitting.
 ghost use Rattle.std.specs.Prelude.{◌≡◌, ◌≢◌, ◌↔◌, ◌<◌, List, [], ℕ, All, IfOk, IfErr, IsOk, Some, string_bytes};
 ghost use Rattle.dns_split.specs.Answer.{entries_of};
-ghost use Rattle.dns_split.specs.Splitting.{BeginsNoBlank, Entries, Splits, SplitsOnlyInto};
+ghost use Rattle.dns_split.specs.Splitting.{BeginsNoBlank, Entries, Splits};
 ghost use Rattle.dns_split.specs.Token.{IsWord};
 ghost use Rattle.dns_wire.specs.Wire.{wire};
 ghost use Rattle.dns_wire.specs.ZoneText.{zone_text};
@@ -9,7 +9,7 @@ ghost use Rattle.dns_zone.specs.Documents.{IsWellFormed, item_steps};
 ghost use Rattle.dns_zone.specs.Layout.{Step};
 ghost use Rattle.dns_zone.specs.Printed.{printed};
 ghost use Rattle.dns_zone.specs.declared.zonefile_fmt.DisplayKind.{DisplayKind};
-ghost use Rattle.dns_laws.specs.Entries.{document_entries, document_of, normal_text};
+ghost use Rattle.dns_laws.specs.Entries.{document_of, normal_text, MeansOnly, item_entries};
 ghost use Rattle.dns_laws.specs.Refusal.{IsDocumentRefusal};
 
 use dns_split::splitting::{SplitError, split};
@@ -23,7 +23,7 @@ use std::fmt;
 /// Each layout of a well-formed document splits into its entries, and into nothing else.
 pub fn layouts_split()
     ensures { (kind : DisplayKind) (steps : List Step) → IsWellFormed steps
-        → SplitsOnlyInto (printed kind steps) (document_entries steps) }
+        → MeansOnly (printed kind steps) steps }
 {}
 
 /// No layout of a well-formed document begins a line with a blank, but inside parentheses.
@@ -50,8 +50,9 @@ pub fn values_split<A: Allocator, T: ZonefileFmt>(
 ) -> Result<String<A>, AllocError>
     ensures text { IfOk result (λ s. string_bytes s ≡ printed kind (T.document value.now)) }
     ensures meaning { IfOk result (λ s. IsWellFormed (T.document value.now)
-        → SplitsOnlyInto (string_bytes s) (document_entries (T.document value.now))) }
-    ensures tight { IfOk result (λ s. IsWellFormed (T.document value.now) → BeginsNoBlank (string_bytes s)) }
+        → MeansOnly (string_bytes s) (T.document value.now)) }
+    ensures tight { IfOk result (λ s. IsWellFormed (T.document value.now)
+        → BeginsNoBlank (string_bytes s)) }
 {
     value.display_zonefile(kind).to_string(alloc)
 }
@@ -64,7 +65,7 @@ pub fn zone_tokens_split<A: Allocator, T: ZoneTokens>(
     kind: DisplayKind,
 ) -> Result<String<A>, AllocError>
     ensures text { IfOk result (λ s. string_bytes s ≡ printed kind (T.document value.now)) }
-    ensures meaning { IfOk result (λ s. SplitsOnlyInto (string_bytes s) (document_entries (T.document value.now))) }
+    ensures meaning { IfOk result (λ s. MeansOnly (string_bytes s) (T.document value.now)) }
     ensures tight { IfOk result (λ s. BeginsNoBlank (string_bytes s)) }
 {
     value.known();
@@ -73,7 +74,8 @@ pub fn zone_tokens_split<A: Allocator, T: ZoneTokens>(
 
 /// The zone text of a name of one label or more is one word, whatever octets its labels have.
 pub fn zone_names_are_words()
-    ensures { (name : List (List ℕ)) → name ≢ [] → All (λ o. o < 256) (wire name) → IsWord (zone_text name) }
+    ensures { (name : List (List ℕ)) → name ≢ [] → All (λ o. o < 256) (wire name)
+        → IsWord (zone_text name) }
 {}
 
 /// Why a list of items was not printed and split.
@@ -122,9 +124,9 @@ pub fn items_split<A: Allocator + Copy>(
 ) -> Result<(String<A>, Vec<Vec<String<A>, A>, A>), Refusal>
     ensures formed { IsOk result → IsWellFormed (item_steps items.items) }
     ensures text { IfOk result (λ r. string_bytes r.0 ≡ printed kind (item_steps items.items)) }
-    ensures meaning { IfOk result (λ r. SplitsOnlyInto (string_bytes r.0) (document_entries (item_steps items.items))) }
+    ensures meaning { IfOk result (λ r. MeansOnly (string_bytes r.0) (item_steps items.items)) }
     ensures tight { IfOk result (λ r. BeginsNoBlank (string_bytes r.0)) }
-    ensures entries { IfOk result (λ r. entries_of r.1.items ≡ document_entries (item_steps items.items)) }
+    ensures entries { IfOk result (λ r. entries_of r.1.items ≡ item_entries items.items) }
     ensures refused { IfErr result (IsDocumentRefusal (item_steps items.items)) }
 {
     let document = match Document::from_items(items) {

@@ -1,14 +1,14 @@
 //! Laws on entry lines: each layout is one entry with a token a field, and each token is scanned
 //! back.
 ghost use Rattle.std.specs.Prelude.{◌≡◌, List, IfErr, IfOk, IsOk, string_bytes};
-ghost use Rattle.dns_scan.specs.Stands.{TakesOne};
+ghost use Rattle.dns_scan.specs.Stands.{TakesAs};
 ghost use Rattle.dns_split.specs.Answer.{entries_of};
 ghost use Rattle.dns_split.specs.Splitting.{SplitsOnlyInto};
 ghost use Rattle.dns_zone.specs.Printed.{printed};
 ghost use Rattle.dns_zone.specs.declared.zonefile_fmt.DisplayKind.{DisplayKind};
-ghost use Rattle.dns_entry.specs.Field.{Content, contents_of, IsContent, IsPrintable, field_text};
+ghost use Rattle.dns_entry.specs.Field.{Content, contents_of};
 ghost use Rattle.dns_entry.specs.Line.{AreContents, IsLine, line_document};
-ghost use Rattle.dns_laws.specs.Lines.{GivesField, IsLineRefusal, IsScannedOf, kind_of, line_entries};
+ghost use Rattle.dns_laws.specs.Lines.{IsLineRefusal, line_entries, KindBack, fields_steps, fields_line};
 
 use crate::encodings::{base64_is_scanned_back, hex_is_scanned_back};
 use crate::layouts::values_split;
@@ -62,9 +62,10 @@ pub fn fields_split<A: Allocator + Copy>(
     kind: DisplayKind,
 ) -> Result<(String<A>, Vec<Vec<String<A>, A>, A>), Refusal>
     ensures formed { IsOk result → IsLine (contents_of fields.items) }
-    ensures text { IfOk result (λ r. string_bytes r.0 ≡ printed kind (line_document (contents_of fields.items))) }
-    ensures meaning { IfOk result (λ r. SplitsOnlyInto (string_bytes r.0) (line_entries (contents_of fields.items))) }
-    ensures entries { IfOk result (λ r. entries_of r.1.items ≡ line_entries (contents_of fields.items)) }
+    ensures text { IfOk result (λ r. string_bytes r.0 ≡ printed kind (fields_steps fields.items)) }
+    ensures meaning { IfOk result (λ r. SplitsOnlyInto (string_bytes r.0)
+        (fields_line fields.items)) }
+    ensures entries { IfOk result (λ r. entries_of r.1.items ≡ fields_line fields.items) }
     ensures refused { IfErr result (IsLineRefusal (contents_of fields.items)) }
 {
     let line = match EntryLine::new(fields) {
@@ -100,8 +101,9 @@ pub fn fields_are_scanned_back<S: Scanner>(
 ) -> Result<Scanned<S::Octets>, S::Error>
     requires { S.can_scan scanner.old }
     ensures ready { S.can_scan scanner.new }
-    ensures takes { TakesOne S.next_token scanner.old scanner.new (λ token. (field : Content) → IsContent field → IsPrintable field → kind_of field ≡ kind
-        → IsScannedOf (field_text field) token → GivesField S.Error.cause S.Octets.octets S.OctetsBuilder.room field result) }
+    ensures takes { TakesAs S.next_token
+        (KindBack kind S.Error.cause S.Octets.octets S.OctetsBuilder.room)
+        scanner.old result scanner.new }
 {
     match kind {
         FieldKind::Number => Ok(Scanned::Number(u32::scan(scanner)?)),

@@ -3,10 +3,9 @@
 //!
 //! A token that both take has one value, but for `@`, which is a label for scanners and the origin
 //! in record data. Each law says which tokens these are.
-ghost use Rattle.std.specs.Prelude.{◌≡◌, ◌≢◌, ◌↔◌, ◌≤◌, ℕ, Bool, true, false, List, [], ◌∷◌, ◌++◌, length, Option, Some, None, Ok};
+ghost use Rattle.std.specs.Prelude.{◌≡◌, ◌≢◌, ◌↔◌, ◌≤◌, ℕ, Bool, false, List, [], ◌∷◌, length, Option, Some, None, Ok};
 ghost use Rattle.std.specs.Int.{to_be_bytes, w16, w32};
-ghost use Rattle.std.specs.List.{AllByRecursion, concat, list_all};
-ghost use Rattle.dns_symbol.specs.Symbol.{is_printable};
+ghost use Rattle.std.specs.List.{concat};
 ghost use Rattle.dns_charstr.specs.Limits.{max_string};
 ghost use Rattle.dns_charstr.specs.Reading.{HasOctets};
 ghost use Rattle.dns_charstr.specs.Wire.{wire_of};
@@ -17,15 +16,14 @@ ghost use Rattle.dns_fields.specs.Fields.{field_form};
 ghost use Rattle.dns_fields.specs.declared.field.Field.TheVariants.{Number8, Number16, Number32, String as StringField, Name as NameField};
 ghost use Rattle.dns_kinds.specs.Numbers.{SpellsNumber};
 ghost use Rattle.dns_name.specs.Reading.{ReadsAs};
-ghost use Rattle.dns_name.specs.declared.name.UncertainName.TheVariants.{Absolute, Relative};
-ghost use Rattle.dns_scan.specs.Join.{IsSymbols};
+ghost use Rattle.dns_name.specs.declared.name.UncertainName.TheVariants.{Absolute};
+ghost use Rattle.dns_scan.specs.Join.{AreSymbols};
 ghost use Rattle.dns_scan.specs.Reads.{NumberReads};
 ghost use Rattle.dns_scan.specs.Tokens.{Token};
 ghost use Rattle.dns_spelling.specs.NameSpelling.{SpellsLabels, IsRelative, at_sign};
 ghost use Rattle.dns_spelling.specs.Spelling.{SpellsOctetList};
-ghost use Rattle.dns_wire.specs.Limits.{max_name};
-ghost use Rattle.dns_wire.specs.Wire.{wire, wire_length, IsName, EndsInRoot};
-ghost use Rattle.dns_laws.specs.Readers.{HasNoBackslash, HasNoBinary, ReadsWire};
+ghost use Rattle.dns_wire.specs.Wire.{wire, IsName, EndsInRoot};
+ghost use Rattle.dns_laws.specs.Readers.{HasNoBackslash, HasNoBinary, IsPrintableText, IsReadAlike, ReadsRelative};
 
 use dns_octets::AsOctets;
 
@@ -34,8 +32,10 @@ use dns_octets::AsOctets;
 /// them. Of at most 255 octets the token spells a character string (RFC 1035 section 3.3), in quotes
 /// or not.
 pub fn strings_are_read_alike()
-    ensures octets { (text octets : List ℕ) → HasOctets text octets ↔ ((list_all is_printable text ≡ true) × SpellsOctetList text octets) }
-    ensures field { (origin : Option (List (List ℕ))) (quoted : Bool) (text octets : List ℕ) → HasOctets text octets → length octets ≤ max_string
+    ensures octets { (text octets : List ℕ)
+        → HasOctets text octets ↔ (IsPrintableText text × SpellsOctetList text octets) }
+    ensures field { (origin : Option (List (List ℕ))) (quoted : Bool) (text octets : List ℕ)
+        → HasOctets text octets → length octets ≤ max_string
         → (field_form origin StringField).spells quoted text (wire_of octets) }
 {}
 
@@ -45,25 +45,27 @@ pub fn strings_are_read_alike()
 /// spells its labels and then the origin's, where these are at most 255 octets together; `@` alone,
 /// which is a label for scanners, spells the origin.
 pub fn names_are_read_alike<Octets: AsOctets>()
-    ensures absolute { (text : List ℕ) (name : List (List ℕ)) → ReadsAs {O = Octets} text (Absolute name)
-        ↔ ((list_all is_printable text ≡ true) × HasNoBinary text × SpellsLabels None text name × IsName name) }
-    ensures field { (origin : Option (List (List ℕ))) (text : List ℕ) (name : List (List ℕ)) → ReadsAs {O = Octets} text (Absolute name)
+    ensures absolute { (text : List ℕ) (name : List (List ℕ))
+        → ReadsAs {O = Octets} text (Absolute name)
+        ↔ (IsPrintableText text × HasNoBinary text × SpellsLabels None text name × IsName name) }
+    ensures field { (origin : Option (List (List ℕ))) (text : List ℕ) (name : List (List ℕ))
+        → ReadsAs {O = Octets} text (Absolute name)
         → (field_form origin NameField).spells false text (wire name) }
-    ensures relative { (text : List ℕ) (others : List (List ℕ)) (form : List ℕ) → text ≢ at_sign ∷ [] → IsName others → EndsInRoot others
-        → ((name : List (List ℕ)) × ReadsAs {O = Octets} text (Relative name) × (name ≢ []) × (wire_length (name ++ others) ≤ max_name) × (form ≡ wire (name ++ others)))
-        ↔ ((list_all is_printable text ≡ true) × HasNoBinary text × IsRelative text × (field_form (Some others) NameField).spells false text form) }
+    ensures relative { (text : List ℕ) (others : List (List ℕ)) (form : List ℕ)
+        → text ≢ at_sign ∷ [] → IsName others → EndsInRoot others
+        → ReadsRelative Octets others text form
+        ↔ (IsPrintableText text × HasNoBinary text × IsRelative text
+        × (field_form (Some others) NameField).spells false text form) }
 {}
 
 /// A scanner reads a token that isn't empty as a number exactly if it spells that number in record
 /// data, and the number is within the limit. So do fields of 8, 16 and 32 bits.
 pub fn numbers_are_read_alike()
-    ensures number { (limit n : ℕ) (token : Token) → token ≢ [] → NumberReads limit token (Ok n) ↔ (SpellsNumber token n × (n ≤ limit)) }
-    ensures eight { (origin : Option (List (List ℕ))) (token : Token) (octets : List ℕ) → token ≢ []
-        → ReadsWire 8 (λ n. n ∷ []) token octets ↔ (field_form origin Number8).spells false token octets }
-    ensures sixteen { (origin : Option (List (List ℕ))) (token : Token) (octets : List ℕ) → token ≢ []
-        → ReadsWire 16 (to_be_bytes w16) token octets ↔ (field_form origin Number16).spells false token octets }
-    ensures thirty_two { (origin : Option (List (List ℕ))) (token : Token) (octets : List ℕ) → token ≢ []
-        → ReadsWire 32 (to_be_bytes w32) token octets ↔ (field_form origin Number32).spells false token octets }
+    ensures number { (limit n : ℕ) (token : Token) → token ≢ []
+        → NumberReads limit token (Ok n) ↔ (SpellsNumber token n × (n ≤ limit)) }
+    ensures eight { IsReadAlike 8 (λ n. n ∷ []) Number8 }
+    ensures sixteen { IsReadAlike 16 (to_be_bytes w16) Number16 }
+    ensures thirty_two { IsReadAlike 32 (to_be_bytes w32) Number32 }
 {}
 
 /// Tokens that spell octets in digits of record data, cut anywhere, are scanned as these octets. A
@@ -71,10 +73,14 @@ pub fn numbers_are_read_alike()
 /// record data too in base 16, and else where the digits are whole groups, so that none has bits to
 /// spare.
 pub fn digits_are_read_alike()
-    ensures read { (b : Base) → IsEncoding b → (tokens : List Token) (octets : List ℕ) → SpellsDigits b (concat tokens) octets
-        → AllByRecursion IsSymbols tokens × IsEncodingOf b (concat tokens) octets }
-    ensures same { (b : Base) → IsEncoding b → (text u v : List ℕ) → IsEncodingOf b text u → SpellsDigits b text v → u ≡ v }
-    ensures spelled { (b : Base) → IsEncoding b → (text octets : List ℕ) → IsEncodingOf b text octets → HasNoBackslash text → opens_group b octets ≡ false
+    ensures read { (b : Base) → IsEncoding b → (tokens : List Token) (octets : List ℕ)
+        → SpellsDigits b (concat tokens) octets
+        → AreSymbols tokens × IsEncodingOf b (concat tokens) octets }
+    ensures same { (b : Base) → IsEncoding b → (text u v : List ℕ)
+        → IsEncodingOf b text u → SpellsDigits b text v → u ≡ v }
+    ensures spelled { (b : Base) → IsEncoding b → (text octets : List ℕ)
+        → IsEncodingOf b text octets → HasNoBackslash text → opens_group b octets ≡ false
         → SpellsDigits b text octets }
-    ensures hex { (text octets : List ℕ) → IsEncodingOf base16 text octets → HasNoBackslash text → SpellsDigits base16 text octets }
+    ensures hex { (text octets : List ℕ) → IsEncodingOf base16 text octets → HasNoBackslash text
+        → SpellsDigits base16 text octets }
 {}
