@@ -31,6 +31,10 @@ value_token (string octets) = encode_utf8_all (quoted_text octets)
 value_token (listed octets) = encode_utf8_all (quoted_text octets)
 value_token (long_text octets) = encode_utf8_all (quoted_text octets)
 
+-- the token of a text between double quotes
+abbrev pub string_step : List ℕ → Step
+string_step octets = token (encode_utf8_all (quoted_text octets))
+
 abbrev pub step_of : Part → Step
 step_of (field v) = token (value_token v)
 step_of (unquoted octets) = token (field_text (text_octets octets))
@@ -62,3 +66,7 @@ is_plain closes = true
 -- blocks nest and close, and notes are printable ASCII
 abbrev pub IsLaidOut : List Part → Type 0
 IsLaidOut ps = (is_nested 0 (steps_of ps) && list_all is_plain ps) ≡ true
+
+-- two values show the same fields
+abbrev pub HasSameFields : {R : Type 0} → (R → List Part) → R → R → Type 0
+HasSameFields parts x y = values_of (parts y) ≡ values_of (parts x)

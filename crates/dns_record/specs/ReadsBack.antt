@@ -1,12 +1,13 @@
 -- What is scanned of a record's text.
-use Rattle.std.specs.Prelude.{List, ◌≡◌, ◌++◌, ◌⊎◌, Option, Result, IsOkAnd, codes}
+use Rattle.std.specs.List.{concat}
+use Rattle.std.specs.Prelude.{List, [], ◌≡◌, ◌++◌, ◌⊎◌, Option, Result, IsOkAnd, codes}
 use Rattle.dns_octets.specs.Room.{Room}
-use Rattle.dns_symbol.specs.Cause.{Cause, IsCause, custom_text, short_buf}
-use Rattle.dns_scan.specs.Stands.{HasTokens}
+use Rattle.dns_symbol.specs.Cause.{Cause, IsCause, custom_text, end_of_entry, short_buf}
+use Rattle.dns_scan.specs.Stands.{HasTokens, OfTokens}
 use Rattle.dns_scan.specs.Tokens.{Token}
 use Rattle.dns_iter.specs.Name.{invalid_name}
-use Rattle.dns_record.specs.Spellings.{TakesSpellings}
-use Rattle.dns_record.specs.Values.{Value, AreTexts, AreValues, SomeMayLack}
+use Rattle.dns_record.specs.Spellings.{TakesOnlySpellings}
+use Rattle.dns_record.specs.Values.{Value, AreFields, AreTexts, AreValues, SomeMayLack}
 
 -- the refusal of generic data (RFC 3597)
 abbrev pub generic_data : Cause
@@ -33,7 +34,21 @@ pub record TakesFields {S T E : Type 0} (next : S → Option Token → S → Typ
       → (middle : List Token) × AreValues more × AreTexts more middle others
       × ReadsBack next cause room values (values x) (past ++ (values x ++ more)) middle r new
   -- whatever is taken spells the fields of the value
-  pub only : (tokens : List Token) → HasTokens next old tokens → TakesSpellings next values tokens r new
+  pub only : TakesOnlySpellings next values old r new
+
+-- a call that takes all tokens that are left as the texts of a value's fields, where other fields of the record were before
+abbrev pub ReadsLast : {S T E : Type 0} → (List Value → Type 0) → (S → Option Token → S → Type 0) → (E → Cause) → Room → (T → List Value) → S → Result T E → S → Type 0
+ReadsLast {T = T} are next cause room values old r new = (x : T) (past : List Value) (tokens : List Token) → are (values x) → AreTexts (values x) tokens [] → HasTokens next old tokens
+    → ReadsBack next cause room values (values x) (past ++ values x) [] r new
+
+-- a call that takes the texts of all fields of a record
+abbrev pub TakesRecord : {S T E : Type 0} → (S → Option Token → S → Type 0) → (E → Cause) → Room → (T → List Value) → S → Result T E → S → Type 0
+TakesRecord {T = T} next cause room values old r new =
+    (x : T) (tokens : List Token) → AreFields (values x) → AreTexts (values x) tokens [] → HasTokens next old tokens → ReadsBack next cause room values (values x) (values x) [] r new
+
+-- tokens that are no octets are refused as an entry that ended early
+abbrev pub WantsSome : {S T E : Type 0} → (S → Option Token → S → Type 0) → (E → Cause) → S → Result T E → Type 0
+WantsSome next cause old r = OfTokens next old (λ tokens. concat tokens ≡ [] → IsCause cause r end_of_entry)
 
 -- the fields of three values in a row, and of five
 abbrev pub three_values : {A B C : Type 0} → (A → List Value) → (B → List Value) → (C → List Value) → A × B × C → List Value

@@ -4,7 +4,7 @@ use Rattle.std.proofs.Common.{ap}
 use Rattle.dns_charstr.specs.Printed.{quoted_text}
 use Rattle.dns_zone.specs.Layout.{Step, token}
 use Rattle.dns_zone.specs.Nesting.{IsNested}
-use Rattle.dns_record.specs.Parts.{Part, field, IsLaidOut, steps_of, values_of}
+use Rattle.dns_record.specs.Parts.{Part, field, IsLaidOut, string_step, steps_of, values_of}
 use Rattle.dns_record.specs.Values.{Value, listed}
 
 -- each between double quotes
@@ -15,7 +15,7 @@ abbrev pub strings_of : List (List ℕ) → List Value
 strings_of xs = values_of (string_parts xs)
 
 abbrev pub string_steps : List (List ℕ) → List Step
-string_steps = map (λ s. token (encode_utf8_all (quoted_text s)))
+string_steps = map string_step
 
 -- what a character string can hold
 abbrev pub IsString : List ℕ → Type 0

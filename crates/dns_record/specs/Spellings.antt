@@ -7,7 +7,7 @@ use Rattle.dns_codec.specs.Base.{base16, base64}
 use Rattle.dns_charstr.specs.Limits.{max_string}
 use Rattle.dns_charstr.specs.Reading.{HasOctets}
 use Rattle.dns_scan.specs.Numbers.{IsNumber, greatest}
-use Rattle.dns_scan.specs.Stands.{HasTokens}
+use Rattle.dns_scan.specs.Stands.{HasTokens, OfTokens}
 use Rattle.dns_scan.specs.Tokens.{Token}
 use Rattle.dns_name.specs.Reading.{ReadsAs}
 use Rattle.dns_name.specs.declared.name.UncertainName.TheVariants.{Absolute, Relative}
@@ -52,3 +52,7 @@ AreSpellingsOf (v ∷ vs) tokens others = (own : List Token) × (more : List Tok
 -- a call that went well took spellings of its value's fields, and the tokens after them are left
 abbrev pub TakesSpellings : {S T E : Type 0} → (S → Option Token → S → Type 0) → (T → List Value) → List Token → Result T E → S → Type 0
 TakesSpellings next values tokens r new = IfOk r (λ y. (others : List Token) × AreSpellingsOf (values y) tokens others × HasTokens next new others)
+
+-- the same, of the tokens before which the call was made
+abbrev pub TakesOnlySpellings : {S T E : Type 0} → (S → Option Token → S → Type 0) → (T → List Value) → S → Result T E → S → Type 0
+TakesOnlySpellings next values old r new = OfTokens next old (λ tokens. TakesSpellings next values tokens r new)

@@ -74,3 +74,10 @@ MayLack room (long_text octets) = room.fits < length octets
 abbrev pub SomeMayLack : (room : Room) → List Value → Type 0
 SomeMayLack room [] = ⊥
 SomeMayLack room (v ∷ vs) = MayLack room v ⊎ SomeMayLack room vs
+
+-- the values of octets in base 16 and base 64
+abbrev pub hex_values : List ℕ → List Value
+hex_values octets = hex octets ∷ []
+
+abbrev pub base64_values : List ℕ → List Value
+base64_values octets = base64_octets octets ∷ []

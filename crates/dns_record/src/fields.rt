@@ -1,16 +1,17 @@
 //! The fields of records: each is scanned back from the text that it prints.
-ghost use Rattle.std.specs.Prelude.{◌≡◌, ◌<◌, List, [], ◌∷◌, ◌++◌, All, OnOk, Ok, Result, min, encode_utf8_all};
-ghost use Rattle.dns_charstr.specs.Printed.{quoted_text};
+ghost use Rattle.std.specs.Prelude.{◌≡◌, ◌<◌, List, [], ◌∷◌, ◌++◌, All, OnOk, Ok, Result};
 ghost use Rattle.dns_symbol.specs.Cause.{Cause};
 ghost use Rattle.dns_scan.specs.Reads.{ReadsFirstToken, OctetsRead};
 ghost use Rattle.dns_scan.specs.Tokens.{Token};
 ghost use Rattle.dns_zone.specs.Layout.{token};
-ghost use Rattle.dns_entry.specs.Field.{field_text, text_octets};
+ghost use Rattle.dns_entry.specs.Field.{text_octets};
 ghost use Rattle.dns_record.specs.FieldLaws.{number8_back, number16_back, number32_back, string_back, long_text_back, both_back, name_read};
 ghost use Rattle.dns_record.specs.ReadsBack.{FieldBack, TakesFields, five_values, three_values};
 ghost use Rattle.dns_record.specs.SpellingLaws.{number8_only, number16_only, number32_only, string_only, long_text_only, both_only, name_only};
 ghost use Rattle.dns_record.specs.Spellings.{AreSpellingsOf};
 ghost use Rattle.dns_record.specs.Values.{Value, number8, number16, number32, name, string, long_text, AreValues, AreTexts};
+ghost use Rattle.dns_record.specs.Parts.{string_step};
+ghost use Rattle.dns_entry.specs.Line.{field_step};
 
 use dns_charstr::charstr::{CharStr, DisplayQuoted};
 use dns_iter::{IterScanner, ScanOctets};
@@ -206,7 +207,8 @@ impl<'a, Iter: Iterator<Item = &'a str>, Octets: ScanOctets, E: ScannerError> Fi
 pub fn scan_fields<S: Scanner, T: Field<S>>(scanner: &mut S) -> Result<T, S::Error>
     requires { S.can_scan scanner.old }
     ensures ready { S.can_scan scanner.new }
-    ensures fields { TakesFields S.next_token S.Error.cause S.OctetsBuilder.room T.values scanner.old result scanner.new }
+    ensures fields { TakesFields S.next_token S.Error.cause S.OctetsBuilder.room T.values
+        scanner.old result scanner.new }
 {
     T::scan(scanner)
 }
@@ -219,7 +221,9 @@ where
     C: Field<S>,
     requires { S.can_scan scanner.old }
     ensures ready { S.can_scan scanner.new }
-    ensures fields { TakesFields S.next_token S.Error.cause S.OctetsBuilder.room (three_values A.values B.values C.values) scanner.old result scanner.new }
+    ensures fields { TakesFields S.next_token S.Error.cause S.OctetsBuilder.room
+        (three_values A.values B.values C.values)
+        scanner.old result scanner.new }
 {
     let (a, others) = scan_fields::<S, (A, (B, C))>(scanner)?;
     let (b, c) = others;
@@ -236,7 +240,9 @@ where
     E: Field<S>,
     requires { S.can_scan scanner.old }
     ensures ready { S.can_scan scanner.new }
-    ensures fields { TakesFields S.next_token S.Error.cause S.OctetsBuilder.room (five_values A.values B.values C.values D.values E.values) scanner.old result scanner.new }
+    ensures fields { TakesFields S.next_token S.Error.cause S.OctetsBuilder.room
+        (five_values A.values B.values C.values D.values E.values)
+        scanner.old result scanner.new }
 {
     let (a, others) = scan_fields::<S, (A, (B, (C, (D, E))))>(scanner)?;
     let (b, others) = others;
@@ -251,7 +257,7 @@ pub fn write_quoted<F: FormatWriter, Octets: AsOctets>(
     string: &CharStr<Octets>,
 ) -> zonefile_fmt::Result
     ensures blocks { OnOk result (F.blocks p.new ≡ F.blocks p.old) }
-    ensures gives { OnOk result (F.step_gives p.old (token (encode_utf8_all (quoted_text string.now))) p.new) }
+    ensures gives { OnOk result (F.step_gives p.old (string_step string.now) p.new) }
 {
     p.write_token(string.display_quoted())
 }
@@ -262,7 +268,7 @@ pub fn write_unquoted<F: FormatWriter, Octets: AsOctets>(
     string: &CharStr<Octets>,
 ) -> zonefile_fmt::Result
     ensures blocks { OnOk result (F.blocks p.new ≡ F.blocks p.old) }
-    ensures gives { OnOk result (F.step_gives p.old (token (field_text (text_octets string.now))) p.new) }
+    ensures gives { OnOk result (F.step_gives p.old (field_step (text_octets string.now)) p.new) }
 {
     if string.is_empty() {
         return p.write_token(string.display_quoted());
@@ -276,7 +282,7 @@ pub fn write_long_text<F: FormatWriter, Octets: AsOctets>(
     text: &LongText<Octets>,
 ) -> zonefile_fmt::Result
     ensures blocks { OnOk result (F.blocks p.new ≡ F.blocks p.old) }
-    ensures gives { OnOk result (F.step_gives p.old (token (encode_utf8_all (quoted_text text.now))) p.new) }
+    ensures gives { OnOk result (F.step_gives p.old (string_step text.now) p.new) }
 {
     p.write_token(DisplayQuoted::from_slice(text.as_slice()))
 }

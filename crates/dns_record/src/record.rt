@@ -1,13 +1,13 @@
 //! Record data: values that print as the tokens of one entry, and are scanned back from them.
 ghost use Rattle.std.specs.Prelude.{◌≡◌, ◌≢◌, ◌⊎◌, List, [], ◌∷◌, IfOk, IfSome, IsOk, IsOkAnd, MatchResult};
-ghost use Rattle.dns_split.specs.Answer.{texts};
 ghost use Rattle.dns_symbol.specs.Cause.{IsCause};
-ghost use Rattle.dns_scan.specs.Stands.{HasTokens, first_of, others_of};
+ghost use Rattle.dns_scan.specs.Stands.{HasTokens, first_of, others_of, OfTokens};
 ghost use Rattle.dns_scan.specs.Tokens.{Token, marker};
-ghost use Rattle.dns_record.specs.Parts.{Part, IsLaidOut, steps_of, values_of};
-ghost use Rattle.dns_record.specs.ReadsBack.{Lacks, ReadsBack, generic_data};
-ghost use Rattle.dns_record.specs.Spellings.{AreSpellingsOf, TakesSpellings};
+ghost use Rattle.dns_record.specs.Parts.{Part, IsLaidOut, steps_of, values_of, HasSameFields};
+ghost use Rattle.dns_record.specs.ReadsBack.{Lacks, generic_data, TakesRecord};
+ghost use Rattle.dns_record.specs.Spellings.{AreSpellingsOf, TakesOnlySpellings};
 ghost use Rattle.dns_record.specs.Values.{AreFields, AreTexts, SomeMayLack};
+ghost use Rattle.dns_iter.specs.Entry.{entry_next};
 
 use dns_iter::ScanOctets;
 use dns_iter::entry::{EntryScanner, TokenText, entry_scanner};
@@ -39,12 +39,10 @@ pub trait RecordData<Octets: ScanOctets, A: Allocator + Copy>: ZonefileFmt {
     ) -> Result<Self, E>
         requires { ⟦<EntryScanner<'a, T, Octets, E> as Scanner>⟧.can_scan scanner.old }
         ensures ready { ⟦<EntryScanner<'a, T, Octets, E> as Scanner>⟧.can_scan scanner.new }
-        ensures back { (x : Self) (tokens : List Token) → AreFields (values_of (parts x)) → AreTexts (values_of (parts x)) tokens []
-            → HasTokens (⟦<EntryScanner<'a, T, Octets, E> as Scanner>⟧.next_token) scanner.old tokens
-            → ReadsBack (⟦<EntryScanner<'a, T, Octets, E> as Scanner>⟧.next_token) E.cause Octets.Builder.room
-            (λ y. values_of (parts y)) (values_of (parts x)) (values_of (parts x)) [] result scanner.new }
-        ensures only { (tokens : List Token) → HasTokens (⟦<EntryScanner<'a, T, Octets, E> as Scanner>⟧.next_token) scanner.old tokens
-            → TakesSpellings (⟦<EntryScanner<'a, T, Octets, E> as Scanner>⟧.next_token) (λ y. values_of (parts y)) tokens result scanner.new };
+        ensures back { TakesRecord (entry_next T.text) E.cause Octets.Builder.room
+            (λ y. values_of (parts y)) scanner.old result scanner.new }
+        ensures only { TakesOnlySpellings (entry_next T.text)
+            (λ y. values_of (parts y)) scanner.old result scanner.new };
 
     // The document is that of the parts.
     ghost shown: { (x : Self) → Self.document x ≡ steps_of (parts x) };
@@ -58,9 +56,10 @@ pub trait RecordData<Octets: ScanOctets, A: Allocator + Copy>: ZonefileFmt {
 pub fn expect_no_marker<S: Scanner>(scanner: &mut S) -> Result<(), S::Error>
     requires { S.can_scan scanner.old }
     ensures ready { S.can_scan scanner.new }
-    ensures stands { (tokens : List Token) → HasTokens S.next_token scanner.old tokens → MatchResult result
+    ensures stands { OfTokens S.next_token scanner.old (λ tokens. MatchResult result
         (λ _. (first_of tokens ≢ Some marker) × HasTokens S.next_token scanner.new tokens)
-        (λ e. (first_of tokens ≡ Some marker) × (S.Error.cause e ≡ generic_data) × HasTokens S.next_token scanner.new (others_of tokens)) }
+        (λ e. (first_of tokens ≡ Some marker) × (S.Error.cause e ≡ generic_data)
+        × HasTokens S.next_token scanner.new (others_of tokens))) }
 {
     let marked = scanner.scan_opt_unknown_marker()?;
     if marked {
@@ -84,14 +83,17 @@ where
     R: RecordData<Octets, A> + Drop,
     requires { ⟦<EntryScanner<'a, T, Octets, E> as Scanner>⟧.can_scan scanner.old }
     ensures ready { ⟦<EntryScanner<'a, T, Octets, E> as Scanner>⟧.can_scan scanner.new }
-    ensures back { (x : R) (tokens : List Token) → AreFields (values_of (R.parts x)) → AreTexts (values_of (R.parts x)) tokens []
-        → HasTokens (⟦<EntryScanner<'a, T, Octets, E> as Scanner>⟧.next_token) scanner.old tokens
-        → IsOkAnd result (λ y. values_of (R.parts y) ≡ values_of (R.parts x)) ⊎ (Lacks E.cause result × SomeMayLack Octets.Builder.room (values_of (R.parts x))) }
-    ensures only { (tokens : List Token) → HasTokens (⟦<EntryScanner<'a, T, Octets, E> as Scanner>⟧.next_token) scanner.old tokens
-        → IfOk result (λ y. AreSpellingsOf (values_of (R.parts y)) tokens []) }
-    ensures generic { (others : List Token) → HasTokens (⟦<EntryScanner<'a, T, Octets, E> as Scanner>⟧.next_token) scanner.old (marker ∷ others)
-        → IsCause E.cause result generic_data × HasTokens (⟦<EntryScanner<'a, T, Octets, E> as Scanner>⟧.next_token) scanner.new others }
-    ensures all { (tokens : List Token) → HasTokens (⟦<EntryScanner<'a, T, Octets, E> as Scanner>⟧.next_token) scanner.new tokens → IsOk result → tokens ≡ [] }
+    ensures back { (x : R) (tokens : List Token)
+        → AreFields (values_of (R.parts x)) → AreTexts (values_of (R.parts x)) tokens []
+        → HasTokens (entry_next T.text) scanner.old tokens
+        → IsOkAnd result (HasSameFields R.parts x)
+        ⊎ (Lacks E.cause result × SomeMayLack Octets.Builder.room (values_of (R.parts x))) }
+    ensures only { OfTokens (entry_next T.text) scanner.old
+        (λ tokens. IfOk result (λ y. AreSpellingsOf (values_of (R.parts y)) tokens [])) }
+    ensures generic { (others : List Token)
+        → HasTokens (entry_next T.text) scanner.old (marker ∷ others)
+        → IsCause E.cause result generic_data × HasTokens (entry_next T.text) scanner.new others }
+    ensures all { OfTokens (entry_next T.text) scanner.new (λ tokens. IsOk result → tokens ≡ []) }
 {
     expect_no_marker(scanner)?;
     let data = R::scan_data(alloc, scanner)?;
@@ -111,7 +113,7 @@ pub fn record_reads_back<R, Octets: ScanOctets, A: Allocator + Copy, E: ScannerE
 ) -> Result<R, E>
 where
     R: RecordData<Octets, A> + Drop,
-    ensures { IsOkAnd result (λ y. values_of (R.parts y) ≡ values_of (R.parts value.now)) ⊎ Lacks E.cause result }
+    ensures { IsOkAnd result (HasSameFields R.parts value.now) ⊎ Lacks E.cause result }
 {
     match record_reads_back_in_room(alloc, octets_alloc, value, kind) {
         Some(read) => read,
@@ -130,7 +132,7 @@ pub fn record_reads_back_in_room<R, Octets: ScanOctets, A: Allocator + Copy, E: 
 ) -> Option<Result<R, E>>
 where
     R: RecordData<Octets, A> + Drop,
-    ensures { IfSome result (λ r. IsOkAnd r (λ y. values_of (R.parts y) ≡ values_of (R.parts value.now))
+    ensures { IfSome result (λ r. IsOkAnd r (HasSameFields R.parts value.now)
         ⊎ (Lacks E.cause r × SomeMayLack Octets.Builder.room (values_of (R.parts value.now)))) }
 {
     value.known();

@@ -1,14 +1,12 @@
 //! Fields that are all that is left of an entry.
-ghost use Rattle.std.specs.Prelude.{◌≡◌, ◌↔◌, ◌<◌, List, ℕ, [], ◌∷◌, ◌++◌, length, map, All, IfOk, IfErr, IsOk, IsOkAnd, OnOk};
-ghost use Rattle.std.specs.List.{concat};
+ghost use Rattle.std.specs.Prelude.{◌≡◌, ◌↔◌, ◌<◌, List, ℕ, [], length, All, IfOk, IfErr, IsOk, IsOkAnd};
 ghost use Rattle.dns_symbol.specs.Cause.{IsCause, end_of_entry};
 ghost use Rattle.dns_scan.specs.Stands.{HasTokens};
-ghost use Rattle.dns_scan.specs.Tokens.{Token};
-ghost use Rattle.dns_zone.specs.Writers.{WritesSteps};
-ghost use Rattle.dns_record.specs.ReadsBack.{ReadsBack};
+ghost use Rattle.dns_zone.specs.Writers.{StepsOnOk};
+ghost use Rattle.dns_record.specs.ReadsBack.{ReadsLast, WantsSome};
 ghost use Rattle.dns_record.specs.Several.{IsString, string_steps, strings_of};
-ghost use Rattle.dns_record.specs.Spellings.{TakesSpellings};
-ghost use Rattle.dns_record.specs.Values.{Value, hex, base64_octets, AreFields, AreTexts, AreValues};
+ghost use Rattle.dns_record.specs.Spellings.{TakesOnlySpellings};
+ghost use Rattle.dns_record.specs.Values.{Value, AreFields, AreValues, base64_values, hex_values};
 
 use crate::fields::write_quoted;
 use dns_charstr::charstr::CharStr;
@@ -66,10 +64,10 @@ where
     S::Octets: Drop,
     requires { S.can_scan scanner.old }
     ensures ready { S.can_scan scanner.new }
-    ensures back { (octets : List ℕ) (past : List Value) (tokens : List Token) → AreValues (hex octets ∷ []) → AreTexts (hex octets ∷ []) tokens [] → HasTokens S.next_token scanner.old tokens
-        → ReadsBack S.next_token S.Error.cause S.OctetsBuilder.room (λ o. hex o ∷ []) (hex octets ∷ []) (past ++ hex octets ∷ []) [] result scanner.new }
-    ensures only { (tokens : List Token) → HasTokens S.next_token scanner.old tokens → TakesSpellings S.next_token (λ o. hex o ∷ []) tokens result scanner.new }
-    ensures none { (tokens : List Token) → HasTokens S.next_token scanner.old tokens → concat tokens ≡ [] → IsCause S.Error.cause result end_of_entry }
+    ensures back { ReadsLast AreValues S.next_token S.Error.cause S.OctetsBuilder.room hex_values
+        scanner.old result scanner.new }
+    ensures only { TakesOnlySpellings S.next_token hex_values scanner.old result scanner.new }
+    ensures none { WantsSome S.next_token S.Error.cause scanner.old result }
 {
     let octets = hex_entry_is_scanned_back(scanner)?;
     some_octets(octets)
@@ -83,11 +81,10 @@ where
     S::Octets: Drop,
     requires { S.can_scan scanner.old }
     ensures ready { S.can_scan scanner.new }
-    ensures back { (octets : List ℕ) (past : List Value) (tokens : List Token) → AreValues (base64_octets octets ∷ []) → AreTexts (base64_octets octets ∷ []) tokens []
-        → HasTokens S.next_token scanner.old tokens
-        → ReadsBack S.next_token S.Error.cause S.OctetsBuilder.room (λ o. base64_octets o ∷ []) (base64_octets octets ∷ []) (past ++ base64_octets octets ∷ []) [] result scanner.new }
-    ensures only { (tokens : List Token) → HasTokens S.next_token scanner.old tokens → TakesSpellings S.next_token (λ o. base64_octets o ∷ []) tokens result scanner.new }
-    ensures none { (tokens : List Token) → HasTokens S.next_token scanner.old tokens → concat tokens ≡ [] → IsCause S.Error.cause result end_of_entry }
+    ensures back { ReadsLast AreValues S.next_token S.Error.cause S.OctetsBuilder.room base64_values
+        scanner.old result scanner.new }
+    ensures only { TakesOnlySpellings S.next_token base64_values scanner.old result scanner.new }
+    ensures none { WantsSome S.next_token S.Error.cause scanner.old result }
 {
     let octets = base64_entry_is_scanned_back(scanner)?;
     some_octets(octets)
@@ -166,7 +163,7 @@ fn write_strings<F: FormatWriter, Octets: AsOctets>(
     p: &mut F,
     strings: &[CharStr<Octets>],
 ) -> zonefile_fmt::Result
-    ensures { OnOk result (WritesSteps F.blocks F.step_gives p.old (string_steps strings.now) p.new) }
+    ensures { StepsOnOk F.blocks F.step_gives p.old result (string_steps strings.now) p.new }
 {
     for string in strings {
         write_quoted(p, string)?;
@@ -198,10 +195,9 @@ where
     S::Octets: Drop,
     requires { S.can_scan scanner.old }
     ensures ready { S.can_scan scanner.new }
-    ensures back { (strings : List (List ℕ)) (past : List Value) (tokens : List Token) → AreFields (strings_of strings) → AreTexts (strings_of strings) tokens []
-        → HasTokens S.next_token scanner.old tokens
-        → ReadsBack S.next_token S.Error.cause S.OctetsBuilder.room strings_of (strings_of strings) (past ++ strings_of strings) [] result scanner.new }
-    ensures only { (tokens : List Token) → HasTokens S.next_token scanner.old tokens → TakesSpellings S.next_token strings_of tokens result scanner.new }
+    ensures back { ReadsLast AreFields S.next_token S.Error.cause S.OctetsBuilder.room strings_of
+        scanner.old result scanner.new }
+    ensures only { TakesOnlySpellings S.next_token strings_of scanner.old result scanner.new }
     ensures none { HasTokens S.next_token scanner.old [] → IsCause S.Error.cause result end_of_entry }
 {
     some_strings(dns_scan::strings_rest(alloc, scanner)?)
