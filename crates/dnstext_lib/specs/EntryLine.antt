@@ -1,5 +1,5 @@
 -- What the program's `line` asks for, writes and answers.
-use Rattle.std.specs.Prelude.{ℕ, List, [], ◌∷◌, ◌++◌, ◌≡◌, ◌≢◌, ◌⊎◌, Option, Some, None, Ok, codes, map}
+use Rattle.std.specs.Prelude.{ℕ, List, [], ◌∷◌, ◌++◌, ◌≡◌, ◌≢◌, ◌⊎◌, Option, Some, None, Ok, codes, map, Result, MatchResult}
 use Rattle.std.specs.Fmt.{WritesInCalls}
 use Rattle.dns_octets.specs.Room.{exactly}
 use Rattle.dns_symbol.specs.Characters.{line_feed}
@@ -12,9 +12,9 @@ use Rattle.dns_scan.specs.Steps.{octet_given}
 use Rattle.dns_scan.specs.Tokens.{Token}
 use Rattle.dns_zone.specs.Printed.{printed}
 use Rattle.dns_zone.specs.declared.zonefile_fmt.DisplayKind.{DisplayKind}
-use Rattle.dns_entry.specs.Field.{Content, number, hex_octets, base64_octets, text_octets}
-use Rattle.dns_entry.specs.Line.{IsFirstEmpty, IsLine, line_document}
-use Rattle.dns_entry.specs.EntryError.{error_place, entry_error_text}
+use Rattle.dns_entry.specs.Field.{Content, number, hex_octets, base64_octets, text_octets, content_of}
+use Rattle.dns_entry.specs.Line.{IsLine, line_document}
+use Rattle.dns_entry.specs.EntryError.{IsEntryFault, entry_error_text}
 use Rattle.dns_entry.specs.declared.error.EntryError.{EntryError}
 use Rattle.dns_entry.specs.Codecs.{ConvertsTo, hex_codec, base64_codec}
 use Rattle.dnstext_lib.specs.Print.{layout_name, NoMemory}
@@ -26,6 +26,8 @@ use Rattle.dns_entry.specs.declared.entry.FieldKind.TheVariants.{Number, Hex, Ba
 use Rattle.dnstext_lib.specs.declared.line.FieldWord.{FieldWord}
 use Rattle.dnstext_lib.specs.declared.line.Unmade.{Unmade}
 use Rattle.dnstext_lib.specs.declared.line.Unmade.TheVariants.{Refused, NoMemory as OutOfMemory}
+use Rattle.dns_entry.specs.declared.entry.Field.{Field}
+use Rattle.dns_scan.specs.declared.error.StrError.{StrError}
 
 -- the kind of a field, and the text of its token
 abbrev pub Asked : Type 0
@@ -49,6 +51,10 @@ field_word asked = mark asked.0 ++ asked.1
 abbrev pub AsksFields : List (List ℕ) → List Asked → Type 0
 AsksFields words asked = words ≡ map field_word asked
 
+-- some word asks for no field
+abbrev pub AsksNoFields : List (List ℕ) → Type 0
+AsksNoFields words = (asked : List Asked) → AsksFields words asked → ⊥
+
 -- the words `line KIND FIELD..`
 abbrev pub IsLineCommand : List (List ℕ) → DisplayKind → List (List ℕ) → Type 0
 IsLineCommand words kind fields = words ≡ codes "line" ∷ layout_name kind ∷ fields
@@ -66,6 +72,10 @@ NoField Number = IsRefused U32
 NoField Hex = IsRefused HexScan
 NoField Base64 = IsRefused Base64Scan
 NoField Text = IsRefused Charstr
+
+-- the field that a token was made, or why it was made none
+abbrev pub MakesField : {A : Type 0} → FieldKind → Token → Result (Field A) StrError → Type 0
+MakesField kind token r = MatchResult r (λ field. FieldHolds kind token (content_of field)) (λ e. NoField kind token (str_cause e))
 
 -- the fields of tokens up to the first refusal, and that refusal
 abbrev pub FieldsRun : List Asked → List Content → Option Cause → Type 0
@@ -88,7 +98,7 @@ LinePrinted took kind asked o p =
 abbrev pub LineRefused : {O : Type 0} → List (List ℕ) → O → O → List ℕ → Type 0
 LineRefused words o p reason =
     ((asked : List Asked) × (fields : List Content) × (why : Cause) × AsksFields words asked × FieldsRun asked fields (Some why) × (p ≡ o) × (reason ≡ cause_text why))
-    ⊎ (((asked : List Asked) × (fields : List Content) × (error : EntryError) × AsksFields words asked × FieldsRun asked fields None × IsFirstEmpty fields (error_place error) ×
+    ⊎ (((asked : List Asked) × (fields : List Content) × (error : EntryError) × AsksFields words asked × FieldsRun asked fields None × IsEntryFault fields error ×
     (p ≡ o) × (reason ≡ entry_error_text error))
     ⊎ (((asked : List Asked) × (fields : List Content) × AsksFields words asked × FieldsRun asked fields None × IsLine fields × (reason ≡ codes "write failed"))
     ⊎ NoMemory field_word words o p reason))

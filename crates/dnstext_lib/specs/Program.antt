@@ -1,5 +1,5 @@
 -- What the program writes and answers.
-use Rattle.std.specs.Prelude.{ℕ, List, [], ◌∷◌, ◌++◌, ◌≡◌, ◌⊎◌, Option, Some, None, Result, Ok, Err, codes, map, encode_utf8_all}
+use Rattle.std.specs.Prelude.{ℕ, List, [], ◌∷◌, ◌++◌, ◌≡◌, ◌⊎◌, Option, Some, None, Result, Ok, Err, IfSome, MatchOption, MatchResult, codes, map, encode_utf8_all}
 use Rattle.std.specs.Borrow.{Bor}
 use Rattle.std.specs.Fmt.{WritesInCalls, decimal}
 use Rattle.dns_octets.specs.Room.{exactly}
@@ -39,6 +39,10 @@ kind_name Hex = codes "hex"
 kind_name Base32hex = codes "base32hex"
 kind_name Base64 = codes "base64"
 kind_name Name = codes "name"
+
+-- what a word names, if it is the name of anything
+abbrev pub IsNamedBy : {X Y : Type 0} → (X → List ℕ) → (Y → X) → List ℕ → Option Y → Type 0
+IsNamedBy {X} name of word found = MatchOption found ((x : X) → word ≡ name x → ⊥) (λ y. word ≡ name (of y))
 
 -- the words `scan KIND TOKEN..`
 abbrev pub IsScanCommand : List (List ℕ) → ScanKind → List Token → Type 0
@@ -121,6 +125,22 @@ refusal_line text = codes "refused: " ++ (text ++ codes "\n")
 -- and the one for words that ask for nothing known
 abbrev pub usage_line : List ℕ
 usage_line = codes "usage: dnstext scan|print|line KIND WORD..\n"
+
+-- that line was written
+abbrev pub WritesRefusal : {E : Type 0} → (E → List ℕ → E → Type 0) → E → List ℕ → E → Type 0
+WritesRefusal took e reason f = WritesInCalls took e (refusal_line reason) f
+
+-- what was refused for some reason, and that reason stands on standard error
+abbrev pub ShowsReason : {E : Type 0} → (List ℕ → Type 0) → (E → List ℕ → E → Type 0) → E → E → Type 0
+ShowsReason refused took e f = (reason : List ℕ) × refused reason × WritesRefusal took e reason f
+
+-- the same, where standard error refused its line
+abbrev pub HasReason : (List ℕ → Type 0) → Type 0
+HasReason refused = (reason : List ℕ) × refused reason
+
+-- what printing a value did: its text was written, where that is stated, and a line end; or the sink refused
+abbrev pub ValueLine : {E O : Type 0} → (O → List ℕ → O → Type 0) → Option (List ℕ) → O → Result (Unit {0}) (Stop E) → O → Type 0
+ValueLine took text o r p = MatchResult r (λ _. IfSome text (λ bs. WritesInCalls took o (bs ++ line_feed ∷ []) p)) (λ stop. stop ≡ WriteFailed)
 
 -- what printing one token did: its line was written, or it was refused and nothing was, or it is a value and the sink refused
 abbrev pub LineBy : {E O : Type 0} → (E → Cause) → (O → List ℕ → O → Type 0) → (Token → List ℕ → Type 0) → (Token → Cause → Type 0) → Token → O → Result (Unit {0}) (Stop E) → O → Type 0

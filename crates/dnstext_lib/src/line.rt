@@ -1,11 +1,10 @@
 //! The program's `line`: an entry line out of words.
-ghost use Rattle.std.specs.Prelude.{◌≡◌, ◌⊎◌, ◌≤◌, ℕ, List, Err, IfOk, MatchOption, MatchResult, map, None};
+ghost use Rattle.std.specs.Prelude.{◌≡◌, ◌⊎◌, ◌≤◌, List, Err, IfOk, MatchResult, map, None};
 ghost use Rattle.std.specs.Fmt.{WritesInCalls};
-ghost use Rattle.dns_entry.specs.Field.{content_of, contents_of};
-ghost use Rattle.dnstext_lib.specs.EntryLine.{Asked, asked_of, field_word, AsksFields, FieldsRun, FieldsUnmade, FieldHolds, LinePrinted, LineRefused, NoField};
+ghost use Rattle.dns_entry.specs.Field.{contents_of};
+ghost use Rattle.dnstext_lib.specs.EntryLine.{Asked, asked_of, field_word, AsksFields, FieldsRun, FieldsUnmade, LinePrinted, LineRefused, AsksNoFields, MakesField};
 ghost use Rattle.dnstext_lib.specs.Print.{BeginsBy};
-ghost use Rattle.dnstext_lib.specs.Program.{refusal_line, usage_line, bytes_of_words};
-ghost use Rattle.dns_scan.specs.StrError.{str_cause};
+ghost use Rattle.dnstext_lib.specs.Program.{usage_line, bytes_of_words, HasReason, IsNamedBy, ShowsReason};
 
 use crate::print::Unread;
 use crate::program::{refuse, refuse_usage};
@@ -34,7 +33,7 @@ pub(crate) enum Unmade {
 
 /// The field that a word asks for, if there is one.
 fn read_field(word: &str) -> Option<FieldWord<'_>>
-    ensures { MatchOption result ((asked : Asked) → word.now ≡ field_word asked → ⊥) (λ found. word.now ≡ field_word (asked_of found)) }
+    ensures { IsNamedBy field_word asked_of word.now result }
 {
     if let Some(text) = word.strip_prefix("n:") {
         return Some(FieldWord {
@@ -68,8 +67,9 @@ fn read_fields<'a, A: Allocator>(
     alloc: A,
     words: &[&'a str],
 ) -> Result<Vec<FieldWord<'a>, A>, Unread>
-    ensures found { IfOk result (λ found. AsksFields (bytes_of_words words.now) (map asked_of found.items)) }
-    ensures unknown { result ≡ Err Unread.UnknownItem → (asked : List Asked) → AsksFields (bytes_of_words words.now) asked → ⊥ }
+    ensures found { IfOk result
+        (λ found. AsksFields (bytes_of_words words.now) (map asked_of found.items)) }
+    ensures unknown { result ≡ Err Unread.UnknownItem → AsksNoFields (bytes_of_words words.now) }
     ensures memory { result ≡ Err Unread.NoMemory → BeginsBy field_word (bytes_of_words words.now) }
 {
     let mut found = Vec::new(alloc);
@@ -90,7 +90,7 @@ fn make_field<A: Allocator + Copy>(
     kind: FieldKind,
     text: &str,
 ) -> Result<Field<A>, StrError>
-    ensures { MatchResult result (λ field. FieldHolds kind text.now (content_of field)) (λ e. NoField kind text.now (str_cause e)) }
+    ensures { MakesField kind text.now result }
 {
     let mut scanner: IterScanner<_, Vec<u8, A>> = IterScanner::new(alloc, iter::once(text));
     match kind {
@@ -143,14 +143,16 @@ pub(crate) fn run_line<A: Allocator + Copy, O: fmt::Write, E: fmt::Write>(
     out: &mut O,
     err: &mut E,
 ) -> u8
-    ensures printed { result ≡ 0 → (asked : List Asked) × AsksFields (bytes_of_words words.now) asked
+    ensures printed { result ≡ 0 → (asked : List Asked)
+        × AsksFields (bytes_of_words words.now) asked
         × LinePrinted O.write_str_gives kind asked out.old out.new × (err.new ≡ err.old) }
-    ensures refused { result ≡ 1 → (reason : List ℕ) × LineRefused (bytes_of_words words.now) out.old out.new reason
-        × WritesInCalls E.write_str_gives err.old (refusal_line reason) err.new }
-    ensures usage { result ≡ 2 → ((asked : List Asked) → AsksFields (bytes_of_words words.now) asked → ⊥)
+    ensures refused { result ≡ 1
+        → ShowsReason (LineRefused (bytes_of_words words.now) out.old out.new)
+        E.write_str_gives err.old err.new }
+    ensures usage { result ≡ 2 → AsksNoFields (bytes_of_words words.now)
         × (out.new ≡ out.old) × WritesInCalls E.write_str_gives err.old usage_line err.new }
-    ensures silent { result ≡ 3 → (((asked : List Asked) → AsksFields (bytes_of_words words.now) asked → ⊥) × (out.new ≡ out.old))
-        ⊎ ((reason : List ℕ) × LineRefused (bytes_of_words words.now) out.old out.new reason) }
+    ensures silent { result ≡ 3 → (AsksNoFields (bytes_of_words words.now) × (out.new ≡ out.old))
+        ⊎ HasReason (LineRefused (bytes_of_words words.now) out.old out.new) }
     ensures status { result ≤ 3 }
 {
     let found = match read_fields(alloc, words) {

@@ -1,10 +1,10 @@
 //! The program's `print`: a document out of words.
-ghost use Rattle.std.specs.Prelude.{◌≡◌, ◌⊎◌, ◌≤◌, ℕ, List, Err, IfOk, MatchOption, MatchResult};
+ghost use Rattle.std.specs.Prelude.{◌≡◌, ◌⊎◌, ◌≤◌, List, Err, IfOk, MatchResult};
 ghost use Rattle.std.specs.Fmt.{WritesInCalls};
 ghost use Rattle.dns_zone.specs.Layout.{Step};
 ghost use Rattle.dns_zone.specs.Documents.{item_step, item_steps};
-ghost use Rattle.dnstext_lib.specs.Program.{refusal_line, usage_line, bytes_of_words};
-ghost use Rattle.dnstext_lib.specs.Print.{layout_name, item_word, AsksItems, BeginsBy, DocumentPrinted, DocumentRefused};
+ghost use Rattle.dnstext_lib.specs.Program.{usage_line, bytes_of_words, HasReason, IsNamedBy, ShowsReason};
+ghost use Rattle.dnstext_lib.specs.Print.{layout_name, item_word, AsksItems, BeginsBy, DocumentPrinted, DocumentRefused, AsksNoItems};
 
 use crate::program::{refuse, refuse_usage};
 use dns_zone::document::{Document, Item};
@@ -32,7 +32,7 @@ impl From<AllocError> for Unread {
 
 /// The layout of that name.
 pub(crate) fn layout_kind(word: &str) -> Option<DisplayKind>
-    ensures { MatchOption result ((kind : DisplayKind) → word.now ≡ layout_name kind → ⊥) (λ kind. word.now ≡ layout_name kind) }
+    ensures { IsNamedBy layout_name (λ kind. kind) word.now result }
 {
     match word {
         "simple" => Some(DisplayKind::Simple),
@@ -45,7 +45,7 @@ pub(crate) fn layout_kind(word: &str) -> Option<DisplayKind>
 /// The item that a word asks for, if there is one.
 fn read_item<A: Allocator + Copy>(alloc: A, word: &str) -> Result<Option<Item<A>>, AllocError>
     ensures { MatchResult result
-        (λ found. MatchOption found ((x : Step) → word.now ≡ item_word x → ⊥) (λ item. word.now ≡ item_word (item_step item)))
+        (λ found. IsNamedBy item_word item_step word.now found)
         (λ _. (x : Step) × (word.now ≡ item_word x)) }
 {
     let item = match word {
@@ -67,8 +67,9 @@ fn read_item<A: Allocator + Copy>(alloc: A, word: &str) -> Result<Option<Item<A>
 
 /// The items that words ask for.
 fn read_items<A: Allocator + Copy>(alloc: A, words: &[&str]) -> Result<Vec<Item<A>, A>, Unread>
-    ensures items { IfOk result (λ items. AsksItems (bytes_of_words words.now) (item_steps items.items)) }
-    ensures unknown { result ≡ Err Unread.UnknownItem → (steps : List Step) → AsksItems (bytes_of_words words.now) steps → ⊥ }
+    ensures items { IfOk result
+        (λ items. AsksItems (bytes_of_words words.now) (item_steps items.items)) }
+    ensures unknown { result ≡ Err Unread.UnknownItem → AsksNoItems (bytes_of_words words.now) }
     ensures memory { result ≡ Err Unread.NoMemory → BeginsBy item_word (bytes_of_words words.now) }
 {
     let mut items = Vec::new(alloc);
@@ -98,12 +99,13 @@ pub(crate) fn run_print<A: Allocator + Copy, O: fmt::Write, E: fmt::Write>(
 ) -> u8
     ensures printed { result ≡ 0 → (steps : List Step) × AsksItems (bytes_of_words words.now) steps
         × DocumentPrinted O.write_str_gives kind steps out.old out.new × (err.new ≡ err.old) }
-    ensures refused { result ≡ 1 → (reason : List ℕ) × DocumentRefused (bytes_of_words words.now) out.old out.new reason
-        × WritesInCalls E.write_str_gives err.old (refusal_line reason) err.new }
-    ensures usage { result ≡ 2 → ((steps : List Step) → AsksItems (bytes_of_words words.now) steps → ⊥)
+    ensures refused { result ≡ 1
+        → ShowsReason (DocumentRefused (bytes_of_words words.now) out.old out.new)
+        E.write_str_gives err.old err.new }
+    ensures usage { result ≡ 2 → AsksNoItems (bytes_of_words words.now)
         × (out.new ≡ out.old) × WritesInCalls E.write_str_gives err.old usage_line err.new }
-    ensures silent { result ≡ 3 → (((steps : List Step) → AsksItems (bytes_of_words words.now) steps → ⊥) × (out.new ≡ out.old))
-        ⊎ ((reason : List ℕ) × DocumentRefused (bytes_of_words words.now) out.old out.new reason) }
+    ensures silent { result ≡ 3 → (AsksNoItems (bytes_of_words words.now) × (out.new ≡ out.old))
+        ⊎ HasReason (DocumentRefused (bytes_of_words words.now) out.old out.new) }
     ensures status { result ≤ 3 }
 {
     let items = match read_items(alloc, words) {

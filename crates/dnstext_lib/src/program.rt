@@ -1,12 +1,11 @@
 //! The program `dnstext`, over its words.
-ghost use Rattle.std.specs.Prelude.{◌≡◌, ◌⊎◌, ℕ, List, [], ◌∷◌, ◌++◌, Ok, Err, Option, MatchOption, MatchResult, IsTrue, ◌↔◌, codes, map, IfOk, IfSome, drop, ◌≤◌};
+ghost use Rattle.std.specs.Prelude.{◌≡◌, ◌⊎◌, Ok, Err, Option, IfSome, ◌≤◌};
 ghost use Rattle.std.specs.Fmt.{WritesInCalls};
-ghost use Rattle.dns_symbol.specs.Characters.{line_feed};
-ghost use Rattle.dns_scan.specs.Entries.{Converts, ConvertToken};
-ghost use Rattle.dns_scan.specs.Stands.{HasTokens};
+ghost use Rattle.dns_scan.specs.Entries.{ConvertsOneToken};
+ghost use Rattle.dns_scan.specs.Stands.{HasTokens, OfFirst, TakesToken};
 ghost use Rattle.dns_scan.specs.Tokens.{Token};
 ghost use Rattle.dns_iter.specs.Name.{ReadsNames};
-ghost use Rattle.dnstext_lib.specs.Program.{kind_name, LineBy, LineWritten, LinesWritten, OctetsLine, NumberPrints, NumberRefused, ScanPrinted, ScanRefused, refusal_line, usage_line, bytes_of_words};
+ghost use Rattle.dnstext_lib.specs.Program.{kind_name, LineBy, LineWritten, LinesWritten, OctetsLine, NumberPrints, NumberRefused, ScanPrinted, ScanRefused, usage_line, bytes_of_words, HasReason, IsNamedBy, ShowsReason, ValueLine, WritesRefusal};
 ghost use Rattle.dnstext_lib.specs.declared.program.Stop.TheVariants.{WriteFailed};
 ghost use Rattle.dnstext_lib.specs.Run.{IsUnknownCommand, RunPrinted, RunRefused};
 
@@ -73,7 +72,7 @@ pub(crate) enum Stop<E> {
 
 // The kind of that name.
 fn scan_kind(word: &str) -> Option<ScanKind>
-    ensures { MatchOption result ((kind : ScanKind) → word.now ≡ kind_name kind → ⊥) (λ kind. word.now ≡ kind_name kind) }
+    ensures { IsNamedBy kind_name (λ kind. kind) word.now result }
 {
     match word {
         "u8" => Some(ScanKind::U8),
@@ -93,7 +92,7 @@ fn scan_kind(word: &str) -> Option<ScanKind>
 
 // Prints a value on a line of its own.
 fn print_line<T: Display, E, O: fmt::Write>(value: &T, out: &mut O) -> Result<(), Stop<E>>
-    ensures { MatchResult result (λ _. IfSome (T.output value.now) (λ text. WritesInCalls O.write_str_gives out.old (text ++ line_feed ∷ []) out.new)) (λ stop. stop ≡ WriteFailed) }
+    ensures { ValueLine O.write_str_gives (T.output value.now) out.old result out.new }
 {
     match write!(out, "{value}\n") {
         Ok(()) => Ok(()),
@@ -109,9 +108,9 @@ fn print_number<S: Scanner, O: fmt::Write>(
 ) -> Result<(), Stop<S::Error>>
     requires { S.can_scan scanner.old }
     ensures ready { S.can_scan scanner.new }
-    ensures line { (token : Token) (others : List Token) → HasTokens S.next_token scanner.old (token ∷ others)
-        → LineBy S.Error.cause O.write_str_gives (NumberPrints limit) (NumberRefused limit) token out.old result out.new }
-    ensures rest { (token : Token) (others : List Token) → HasTokens S.next_token scanner.old (token ∷ others) → HasTokens S.next_token scanner.new others }
+    ensures line { OfFirst S.next_token scanner.old (λ token. LineBy S.Error.cause O.write_str_gives
+        (NumberPrints limit) (NumberRefused limit) token out.old result out.new) }
+    ensures rest { (token : Token) → TakesToken S.next_token token scanner.old scanner.new }
 {
     let value = match scan_number(scanner, limit) {
         Ok(value) => value,
@@ -129,9 +128,9 @@ where
     S::Octets: Drop,
     requires { S.can_scan scanner.old }
     ensures ready { S.can_scan scanner.new }
-    ensures line { (token : Token) (others : List Token) → HasTokens S.next_token scanner.old (token ∷ others)
-        → LineWritten S.Error.cause O.write_str_gives ScanKind.Charstr token out.old result out.new }
-    ensures rest { (token : Token) (others : List Token) → HasTokens S.next_token scanner.old (token ∷ others) → HasTokens S.next_token scanner.new others }
+    ensures line { OfFirst S.next_token scanner.old (λ token. LineWritten S.Error.cause
+        O.write_str_gives ScanKind.Charstr token out.old result out.new) }
+    ensures rest { (token : Token) → TakesToken S.next_token token scanner.old scanner.new }
 {
     let string = match scanner.scan_charstr() {
         Ok(string) => string,
@@ -150,11 +149,10 @@ where
     S::Octets: Drop,
     requires { S.can_scan scanner.old }
     ensures ready { S.can_scan scanner.new }
-    ensures line { (token : Token) (others : List Token) → HasTokens S.next_token scanner.old (token ∷ others)
-        → OctetsLine O.write_str_gives
-        (Converts S.Error.cause S.OctetsBuilder.room C.tail (λ s. s) (λ p a q. ConvertToken S.Error.cause S.OctetsBuilder.room C.takes p token a q) convert)
-        out.old result out.new }
-    ensures rest { (token : Token) (others : List Token) → HasTokens S.next_token scanner.old (token ∷ others) → HasTokens S.next_token scanner.new others }
+    ensures line { OfFirst S.next_token scanner.old (λ token. OctetsLine O.write_str_gives
+        (ConvertsOneToken S.Error.cause S.OctetsBuilder.room C.takes C.tail (λ s. s) convert token)
+        out.old result out.new) }
+    ensures rest { (token : Token) → TakesToken S.next_token token scanner.old scanner.new }
 {
     let octets = match scanner.convert_token(convert) {
         Ok(octets) => octets,
@@ -171,9 +169,9 @@ fn print_name<A: Allocator, S: Scanner<Name = Name<Vec<u8, A>>>, O: fmt::Write>(
     requires ready { S.can_scan scanner.old }
     requires names { ReadsNames S.Error.cause S.reads_name }
     ensures ready { S.can_scan scanner.new }
-    ensures line { (token : Token) (others : List Token) → HasTokens S.next_token scanner.old (token ∷ others)
-        → LineWritten S.Error.cause O.write_str_gives ScanKind.Name token out.old result out.new }
-    ensures rest { (token : Token) (others : List Token) → HasTokens S.next_token scanner.old (token ∷ others) → HasTokens S.next_token scanner.new others }
+    ensures line { OfFirst S.next_token scanner.old (λ token. LineWritten S.Error.cause
+        O.write_str_gives ScanKind.Name token out.old result out.new) }
+    ensures rest { (token : Token) → TakesToken S.next_token token scanner.old scanner.new }
 {
     let name = match UncertainName::scan(scanner) {
         Ok(name) => name,
@@ -193,9 +191,9 @@ where
     requires ready { S.can_scan scanner.old }
     requires names { ReadsNames S.Error.cause S.reads_name }
     ensures ready { S.can_scan scanner.new }
-    ensures line { (token : Token) (others : List Token) → HasTokens S.next_token scanner.old (token ∷ others)
-        → LineWritten S.Error.cause O.write_str_gives kind token out.old result out.new }
-    ensures rest { (token : Token) (others : List Token) → HasTokens S.next_token scanner.old (token ∷ others) → HasTokens S.next_token scanner.new others }
+    ensures line { OfFirst S.next_token scanner.old (λ token. LineWritten S.Error.cause
+        O.write_str_gives kind token out.old result out.new) }
+    ensures rest { (token : Token) → TakesToken S.next_token token scanner.old scanner.new }
 {
     match kind {
         ScanKind::U8 => print_number(scanner, u8::MAX as u128, out),
@@ -223,7 +221,8 @@ where
     requires ready { S.can_scan scanner.old }
     requires names { ReadsNames S.Error.cause S.reads_name }
     requires stands { HasTokens S.next_token scanner.old (bytes_of_words tokens.now) }
-    ensures { LinesWritten S.Error.cause O.write_str_gives kind (bytes_of_words tokens.now) out.old result out.new }
+    ensures { LinesWritten S.Error.cause O.write_str_gives kind (bytes_of_words tokens.now)
+        out.old result out.new }
 {
     for _token in tokens {
         print_value(scanner, kind, out)?;
@@ -234,7 +233,8 @@ where
 // The line of a refusal for that reason, and the status.
 pub(crate) fn refuse<E: fmt::Write, T: Display + Drop>(err: &mut E, reason: T) -> u8
     ensures status { (result ≡ 1) ⊎ (result ≡ 3) }
-    ensures wrote { result ≡ 1 → IfSome (T.output reason) (λ text. WritesInCalls E.write_str_gives err.old (refusal_line text) err.new) }
+    ensures wrote { result ≡ 1 → IfSome (T.output reason)
+        (λ text. WritesRefusal E.write_str_gives err.old text err.new) }
 {
     match write!(err, "refused: {reason}\n") {
         Ok(()) => 1,
@@ -261,10 +261,14 @@ fn run_scan<A: Allocator + Copy, O: fmt::Write, E: fmt::Write>(
     out: &mut O,
     err: &mut E,
 ) -> u8
-    ensures printed { result ≡ 0 → ScanPrinted O.write_str_gives kind (bytes_of_words tokens.now) out.old out.new × (err.new ≡ err.old) }
-    ensures refused { result ≡ 1 → (reason : List ℕ) × ScanRefused O.write_str_gives kind (bytes_of_words tokens.now) out.old out.new reason
-        × WritesInCalls E.write_str_gives err.old (refusal_line reason) err.new }
-    ensures silent { result ≡ 3 → (reason : List ℕ) × ScanRefused O.write_str_gives kind (bytes_of_words tokens.now) out.old out.new reason }
+    ensures printed { result ≡ 0
+        → ScanPrinted O.write_str_gives kind (bytes_of_words tokens.now) out.old out.new
+        × (err.new ≡ err.old) }
+    ensures refused { result ≡ 1 → ShowsReason
+        (ScanRefused O.write_str_gives kind (bytes_of_words tokens.now) out.old out.new)
+        E.write_str_gives err.old err.new }
+    ensures silent { result ≡ 3 → HasReason
+        (ScanRefused O.write_str_gives kind (bytes_of_words tokens.now) out.old out.new) }
     ensures status { (result ≡ 0) ⊎ ((result ≡ 1) ⊎ (result ≡ 3)) }
 {
     let mut scanner: IterScanner<_, Vec<u8, A>> = IterScanner::new(alloc, tokens.iter().copied());
@@ -289,12 +293,17 @@ pub fn run<A: Allocator + Copy, O: fmt::Write, E: fmt::Write>(
     out: &mut O,
     err: &mut E,
 ) -> u8
-    ensures printed { result ≡ 0 → RunPrinted O.write_str_gives (bytes_of_words words.now) out.old out.new × (err.new ≡ err.old) }
-    ensures refused { result ≡ 1 → (reason : List ℕ) × RunRefused O.write_str_gives (bytes_of_words words.now) out.old out.new reason
-        × WritesInCalls E.write_str_gives err.old (refusal_line reason) err.new }
-    ensures usage { result ≡ 2 → IsUnknownCommand (bytes_of_words words.now) × (out.new ≡ out.old) × WritesInCalls E.write_str_gives err.old usage_line err.new }
-    ensures silent { result ≡ 3 → (IsUnknownCommand (bytes_of_words words.now) × (out.new ≡ out.old))
-        ⊎ ((reason : List ℕ) × RunRefused O.write_str_gives (bytes_of_words words.now) out.old out.new reason) }
+    ensures printed { result ≡ 0
+        → RunPrinted O.write_str_gives (bytes_of_words words.now) out.old out.new
+        × (err.new ≡ err.old) }
+    ensures refused { result ≡ 1 → ShowsReason
+        (RunRefused O.write_str_gives (bytes_of_words words.now) out.old out.new)
+        E.write_str_gives err.old err.new }
+    ensures usage { result ≡ 2 → IsUnknownCommand (bytes_of_words words.now)
+        × (out.new ≡ out.old) × WritesInCalls E.write_str_gives err.old usage_line err.new }
+    ensures silent { result ≡ 3
+        → (IsUnknownCommand (bytes_of_words words.now) × (out.new ≡ out.old))
+        ⊎ HasReason (RunRefused O.write_str_gives (bytes_of_words words.now) out.old out.new) }
     ensures status { result ≤ 3 }
 {
     let Some((command, rest)) = words.split_first() else {

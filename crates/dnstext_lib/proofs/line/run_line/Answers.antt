@@ -57,11 +57,11 @@ returns-clause-refused g c = λ is.
     let asked = map asked_of c.in-Ok.found.items in
     let fields = contents_of c.in-Ok-make_fields.fields.items in
     let run = rw c.deref.ensures.value at c.in-Ok-make_fields.ensures in
-    (entry_error_text c.in-Err.refusal.0, inr (inl (asked, fields, c.in-Err.refusal.0, c.in-Ok.ensures.found, run, c.in-Err.ensures.err.0, refl, refl)), c.refuse-in-Err.ensures.wrote is)
+    (entry_error_text c.in-Err.refusal.0, inr (inl (asked, fields, c.in-Err.refusal.0, c.in-Ok.ensures.found, run, c.in-Err.ensures.err, refl, refl)), c.refuse-in-Err.ensures.wrote is)
 
 pub returns-clause-silent : goal.returns-clause-silent
 returns-clause-silent g c = λ is.
     let asked = map asked_of c.in-Ok.found.items in
     let fields = contents_of c.in-Ok-make_fields.fields.items in
     let run = rw c.deref.ensures.value at c.in-Ok-make_fields.ensures in
-    inr (entry_error_text c.in-Err.refusal.0, inr (inl (asked, fields, c.in-Err.refusal.0, c.in-Ok.ensures.found, run, c.in-Err.ensures.err.0, refl, refl)))
+    inr (entry_error_text c.in-Err.refusal.0, inr (inl (asked, fields, c.in-Err.refusal.0, c.in-Ok.ensures.found, run, c.in-Err.ensures.err, refl, refl)))
