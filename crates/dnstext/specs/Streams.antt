@@ -2,7 +2,7 @@
 use Rattle.std.specs.Prelude.{◌≡◌, ◌⊎◌, ℕ, List, [], Option, codes}
 use Rattle.std.specs.Io.KnownBytes.{Appends, Keeps}
 use Rattle.dnstext_lib.specs.Program.{refusal_line}
-use Rattle.dnstext_lib.specs.Run.{RunPrinted, RunRefused}
+use Rattle.dnstext_lib.specs.Run.{IsUnknownCommand, RunPrinted, RunRefused}
 
 -- the known bytes of a stream grow by these
 abbrev pub StreamGrows : Option (List ℕ) → List ℕ → Option (List ℕ) → Type 0
@@ -27,3 +27,15 @@ abbrev pub Told : List (List ℕ) → Option (List ℕ) → Option (List ℕ) �
 Told words o p reason =
     Refused words o p reason
     ⊎ (((line : List ℕ) × Ran words o p line) × (reason ≡ codes "write failed"))
+
+-- it was refused for a reason, and its line stands on standard error
+abbrev pub TellsOn : List (List ℕ) → Option (List ℕ) → Option (List ℕ) → Option (List ℕ) → Option (List ℕ) → Type 0
+TellsOn words o p e f = (reason : List ℕ) × Told words o p reason × StreamGrows e (refusal_line reason) f
+
+-- the words ask for nothing known, and nothing was printed
+abbrev pub PrintsNothing : List (List ℕ) → Option (List ℕ) → Option (List ℕ) → Type 0
+PrintsNothing words o p = IsUnknownCommand words × Keeps o p
+
+-- it ran, whatever line standard error was to have
+abbrev pub HasRun : List (List ℕ) → Option (List ℕ) → Option (List ℕ) → Type 0
+HasRun words o p = (line : List ℕ) × Ran words o p line

@@ -1,9 +1,9 @@
 //! The program over streams of bytes.
-ghost use Rattle.std.specs.Prelude.{◌≡◌, ◌⊎◌, ◌≤◌, ℕ, List, []};
+ghost use Rattle.std.specs.Prelude.{◌≡◌, ◌⊎◌, ◌≤◌};
 ghost use Rattle.std.specs.Io.KnownBytes.{Appends, Keeps};
 ghost use Rattle.dnstext_lib.specs.Program.{refusal_line, usage_line, bytes_of_words};
 ghost use Rattle.dnstext_lib.specs.Run.{IsUnknownCommand};
-ghost use Rattle.dnstext.specs.Streams.{Printed, Ran, Told};
+ghost use Rattle.dnstext.specs.Streams.{Printed, HasRun, PrintsNothing, StreamGrows, TellsOn};
 
 use arrayvec::ArrayString;
 use dnstext_lib::program;
@@ -52,7 +52,8 @@ impl<W: Write> TextSink<'_, W> {
 /// Writes the line of a refusal, and returns the exit status.
 pub fn refuse<E: Write>(err: &mut E, reason: &str) -> u8
     ensures status { (result ≡ 1) ⊎ (result ≡ 3) }
-    ensures wrote { result ≡ 1 → Appends (E.contents err.old) (E.contents err.new) (refusal_line reason.now) }
+    ensures wrote { result ≡ 1
+        → StreamGrows (E.contents err.old) (refusal_line reason.now) (E.contents err.new) }
 {
     match write!(err, "refused: {reason}\n") {
         Ok(()) => 1,
@@ -82,13 +83,18 @@ pub fn run<A: Allocator + Copy, O: Write, E: Write>(
     out: &mut O,
     err: &mut E,
 ) -> u8
-    ensures printed { result ≡ 0 → Printed (bytes_of_words words.now) (O.contents out.old) (O.contents out.new) × Keeps (E.contents err.old) (E.contents err.new) }
-    ensures refused { result ≡ 1 → (reason : List ℕ) × Told (bytes_of_words words.now) (O.contents out.old) (O.contents out.new) reason
-        × Appends (E.contents err.old) (E.contents err.new) (refusal_line reason) }
-    ensures usage { result ≡ 2 → IsUnknownCommand (bytes_of_words words.now) × Keeps (O.contents out.old) (O.contents out.new)
+    ensures printed { result ≡ 0
+        → Printed (bytes_of_words words.now) (O.contents out.old) (O.contents out.new)
+        × Keeps (E.contents err.old) (E.contents err.new) }
+    ensures refused { result ≡ 1
+        → TellsOn (bytes_of_words words.now) (O.contents out.old) (O.contents out.new)
+        (E.contents err.old) (E.contents err.new) }
+    ensures usage { result ≡ 2 → IsUnknownCommand (bytes_of_words words.now)
+        × Keeps (O.contents out.old) (O.contents out.new)
         × Appends (E.contents err.old) (E.contents err.new) usage_line }
-    ensures silent { result ≡ 3 → (IsUnknownCommand (bytes_of_words words.now) × Keeps (O.contents out.old) (O.contents out.new))
-        ⊎ ((line : List ℕ) × Ran (bytes_of_words words.now) (O.contents out.old) (O.contents out.new) line) }
+    ensures silent { result ≡ 3
+        → PrintsNothing (bytes_of_words words.now) (O.contents out.old) (O.contents out.new)
+        ⊎ HasRun (bytes_of_words words.now) (O.contents out.old) (O.contents out.new) }
     ensures status { result ≤ 3 }
 {
     let mut line = ArrayString::<LINE_LENGTH>::new();
