@@ -1,18 +1,17 @@
 //! Base 16, also called hex (RFC 4648, section 8).
 //!
 //! Two characters spell an octet. Texts are printed with capitals and read without case.
-ghost use Rattle.std.specs.Prelude.{◌≡◌, ℕ, List, length, ◌≤◌, take, ◌<◌, IfSome, IfNone, OnOk, IfOk, IfErr, IsOk, Some};
+ghost use Rattle.std.specs.Prelude.{◌≡◌, length, ◌<◌, IfSome, IfNone, IfOk, IfErr};
 ghost use Rattle.std.specs.Str.{chars};
-ghost use Rattle.std.specs.Fmt.{WritesInCalls};
 ghost use Rattle.std.specs.String.{string_bytes};
 ghost use Rattle.dns_codec.specs.Base.{base16, encoded};
-ghost use Rattle.dns_octets.specs.Octets.{greatest_length};
 ghost use Rattle.dns_octets.specs.Room.{of_memory};
 ghost use Rattle.dns_codec.specs.Decoding.{IsNew};
 ghost use Rattle.dns_codec.specs.Grammar.{Decodes};
 ghost use Rattle.dns_codec.specs.Outcome.{refusal, IsRefusedBy};
 ghost use Rattle.dns_codec.specs.Shown.{shown};
 ghost use Rattle.dns_codec.specs.Written.{IsWritten};
+ghost use Rattle.dns_codec.specs.Slices.{CallsOnOk, DecodesInto, DecodesToMore, ReadsFitting};
 
 use crate::base::Base16;
 pub use crate::base64::DecodeError;
@@ -56,7 +55,7 @@ pub fn decode<B: OctetsBuilder + EmptyBuilder + FreezeBuilder + Drop>(
     s: &str,
 ) -> Result<B::Octets, DecodeError>
     ensures value { IfOk result (λ o. Decodes base16 (chars s.now) (B.Octets.octets o)) }
-    ensures succeeds { (octets : List ℕ) → Decodes base16 (chars s.now) octets → length octets ≤ B.room.fits → IsOk result }
+    ensures succeeds { ReadsFitting base16 B.room (chars s.now) result }
     ensures refused { IfErr result (λ e. IsRefusedBy (refusal base16) B.room (chars s.now) e) }
 {
     decoder::decode::<B, Base16>(alloc, s)
@@ -67,8 +66,8 @@ pub fn decode<B: OctetsBuilder + EmptyBuilder + FreezeBuilder + Drop>(
 ///
 /// After `None` nothing is said of the slice.
 pub fn decode_slice(text: &[u8], octets: &mut [u8]) -> Option<usize>
-    ensures read { IfSome result (λ n. Decodes base16 text.now (take n octets.new) × (n ≤ length octets.new)) }
-    ensures refused { IfNone result ((v : List ℕ) → Decodes base16 text.now v → length octets.old < length v) }
+    ensures read { IfSome result (DecodesInto base16 text.now octets.new) }
+    ensures refused { IfNone result (DecodesToMore base16 text.now (length octets.old)) }
 {
     read::decode_slice::<Base16>(text, octets)
 }
@@ -83,7 +82,7 @@ pub fn decode_vec<A: Allocator + Copy>(alloc: A, s: &str) -> Result<Vec<u8, A>, 
 
 /// Writes octets in base 16, with capitals.
 pub fn display<W: fmt::Write>(bytes: &[u8], f: &mut W) -> fmt::Result
-    ensures { OnOk result (WritesInCalls W.write_str_gives f.old (encoded base16 bytes.now) f.new) }
+    ensures { CallsOnOk W.write_str_gives f.old result (encoded base16 bytes.now) f.new }
 {
     encode::display::<Base16, W>(bytes, f)
 }

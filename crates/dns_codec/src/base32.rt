@@ -2,9 +2,8 @@
 //!
 //! Eight characters spell five octets. Texts have no padding, are printed with capitals and read
 //! without case.
-ghost use Rattle.std.specs.Prelude.{◌≡◌, ℕ, List, length, ◌≤◌, take, ◌<◌, IfSome, IfNone, OnOk, IfOk, IfErr, IsOk, Some};
+ghost use Rattle.std.specs.Prelude.{◌≡◌, length, ◌<◌, IfSome, IfNone, IfOk, IfErr};
 ghost use Rattle.std.specs.Str.{chars};
-ghost use Rattle.std.specs.Fmt.{WritesInCalls};
 ghost use Rattle.std.specs.String.{string_bytes};
 ghost use Rattle.dns_codec.specs.Base.{base32hex, encoded};
 ghost use Rattle.dns_codec.specs.Decoding.{IsNew};
@@ -12,6 +11,7 @@ ghost use Rattle.dns_codec.specs.Grammar.{Decodes};
 ghost use Rattle.dns_codec.specs.Outcome.{refusal, IsRefusedBy};
 ghost use Rattle.dns_codec.specs.Shown.{shown};
 ghost use Rattle.dns_codec.specs.Written.{IsWritten};
+ghost use Rattle.dns_codec.specs.Slices.{CallsOnOk, DecodesInto, DecodesToMore, ReadsFitting};
 
 use crate::base::Base32Hex;
 pub use crate::base64::DecodeError;
@@ -47,7 +47,7 @@ pub fn decode_hex<B: OctetsBuilder + EmptyBuilder + FreezeBuilder + Drop>(
     s: &str,
 ) -> Result<B::Octets, DecodeError>
     ensures value { IfOk result (λ o. Decodes base32hex (chars s.now) (B.Octets.octets o)) }
-    ensures succeeds { (octets : List ℕ) → Decodes base32hex (chars s.now) octets → length octets ≤ B.room.fits → IsOk result }
+    ensures succeeds { ReadsFitting base32hex B.room (chars s.now) result }
     ensures refused { IfErr result (λ e. IsRefusedBy (refusal base32hex) B.room (chars s.now) e) }
 {
     decoder::decode::<B, Base32Hex>(alloc, s)
@@ -58,15 +58,15 @@ pub fn decode_hex<B: OctetsBuilder + EmptyBuilder + FreezeBuilder + Drop>(
 ///
 /// After `None` nothing is said of the slice.
 pub fn decode_slice_hex(text: &[u8], octets: &mut [u8]) -> Option<usize>
-    ensures read { IfSome result (λ n. Decodes base32hex text.now (take n octets.new) × (n ≤ length octets.new)) }
-    ensures refused { IfNone result ((v : List ℕ) → Decodes base32hex text.now v → length octets.old < length v) }
+    ensures read { IfSome result (DecodesInto base32hex text.now octets.new) }
+    ensures refused { IfNone result (DecodesToMore base32hex text.now (length octets.old)) }
 {
     read::decode_slice::<Base32Hex>(text, octets)
 }
 
 /// Writes octets in base32hex, with capitals and no padding.
 pub fn display_hex<W: fmt::Write>(bytes: &[u8], f: &mut W) -> fmt::Result
-    ensures { OnOk result (WritesInCalls W.write_str_gives f.old (encoded base32hex bytes.now) f.new) }
+    ensures { CallsOnOk W.write_str_gives f.old result (encoded base32hex bytes.now) f.new }
 {
     encode::display::<Base32Hex, W>(bytes, f)
 }

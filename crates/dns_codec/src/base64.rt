@@ -1,9 +1,8 @@
 //! Base 64 (RFC 4648, section 4).
 //!
 //! Four characters spell three octets, and a last group is padded with `=` to four characters.
-ghost use Rattle.std.specs.Prelude.{◌≡◌, ℕ, List, length, ◌≤◌, take, ◌<◌, IfSome, IfNone, OnOk, IfOk, IfErr, IsOk, Some};
+ghost use Rattle.std.specs.Prelude.{◌≡◌, length, ◌<◌, IfSome, IfNone, IfOk, IfErr};
 ghost use Rattle.std.specs.Str.{chars};
-ghost use Rattle.std.specs.Fmt.{WritesInCalls};
 ghost use Rattle.std.specs.String.{string_bytes};
 ghost use Rattle.dns_codec.specs.Base.{base64, encoded};
 ghost use Rattle.dns_codec.specs.Decoding.{IsNew};
@@ -11,6 +10,7 @@ ghost use Rattle.dns_codec.specs.Grammar.{Decodes};
 ghost use Rattle.dns_codec.specs.Outcome.{refusal, IsRefusedBy};
 ghost use Rattle.dns_codec.specs.Shown.{shown};
 ghost use Rattle.dns_codec.specs.Written.{IsWritten};
+ghost use Rattle.dns_codec.specs.Slices.{CallsOnOk, DecodesInto, DecodesToMore, ReadsFitting};
 
 use crate::base::Base64;
 pub use crate::error::DecodeError;
@@ -65,7 +65,7 @@ pub fn decode<B: OctetsBuilder + EmptyBuilder + FreezeBuilder + Drop>(
     s: &str,
 ) -> Result<B::Octets, DecodeError>
     ensures value { IfOk result (λ o. Decodes base64 (chars s.now) (B.Octets.octets o)) }
-    ensures succeeds { (octets : List ℕ) → Decodes base64 (chars s.now) octets → length octets ≤ B.room.fits → IsOk result }
+    ensures succeeds { ReadsFitting base64 B.room (chars s.now) result }
     ensures refused { IfErr result (λ e. IsRefusedBy (refusal base64) B.room (chars s.now) e) }
 {
     decoder::decode::<B, Base64>(alloc, s)
@@ -76,15 +76,15 @@ pub fn decode<B: OctetsBuilder + EmptyBuilder + FreezeBuilder + Drop>(
 ///
 /// After `None` nothing is said of the slice.
 pub fn decode_slice(text: &[u8], octets: &mut [u8]) -> Option<usize>
-    ensures read { IfSome result (λ n. Decodes base64 text.now (take n octets.new) × (n ≤ length octets.new)) }
-    ensures refused { IfNone result ((v : List ℕ) → Decodes base64 text.now v → length octets.old < length v) }
+    ensures read { IfSome result (DecodesInto base64 text.now octets.new) }
+    ensures refused { IfNone result (DecodesToMore base64 text.now (length octets.old)) }
 {
     read::decode_slice::<Base64>(text, octets)
 }
 
 /// Writes octets in base 64, with padding.
 pub fn display<W: fmt::Write>(bytes: &[u8], f: &mut W) -> fmt::Result
-    ensures { OnOk result (WritesInCalls W.write_str_gives f.old (encoded base64 bytes.now) f.new) }
+    ensures { CallsOnOk W.write_str_gives f.old result (encoded base64 bytes.now) f.new }
 {
     encode::display::<Base64, W>(bytes, f)
 }

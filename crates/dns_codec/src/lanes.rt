@@ -1,7 +1,7 @@
 //! Whole groups by vectors, where an encoding has them: those at the start of octets or of a text.
-ghost use Rattle.std.specs.Prelude.{◌≡◌, ◌*◌, ◌^◌, ◌<◌, ◌≤◌, length, map, take, drop, slice_index};
-ghost use Rattle.std.specs.List.{AllByRecursion};
-ghost use Rattle.dns_codec.specs.Bits.{digits, whole};
+ghost use Rattle.std.specs.Prelude.{◌≡◌, ◌*◌, ◌^◌, ◌<◌, ◌≤◌, length, take, drop};
+ghost use Rattle.dns_codec.specs.Bits.{whole};
+ghost use Rattle.dns_codec.specs.Slices.{digit_text, AreValued, value_octets};
 
 use crate::base::Encoding;
 use crate::{lanes16, lanes64};
@@ -13,7 +13,8 @@ pub(crate) fn put_vectors<K: Encoding>(octets: &[u8], text: &mut [u8]) -> usize
     requires room { 8 * length octets.now ≤ K.BITS * length text.old }
     ensures octets { result * K.OCTETS ≤ length octets.now }
     ensures room { result * K.CHARS ≤ length text.new }
-    ensures text { take (result * K.CHARS) text.new ≡ map (slice_index K.base.alphabet) (digits K.BITS (take (result * K.OCTETS) octets.now)) }
+    ensures text { take (result * K.CHARS) text.new
+        ≡ digit_text K.base K.BITS (take (result * K.OCTETS) octets.now) }
     ensures rest { drop (result * K.CHARS) text.new ≡ drop (result * K.CHARS) text.old }
 {
     match K::BITS {
@@ -30,8 +31,9 @@ pub(crate) fn put_vectors<K: Encoding>(octets: &[u8], text: &mut [u8]) -> usize
 pub(crate) fn read_vectors<K: Encoding>(text: &[u8], octets: &mut [u8]) -> usize
     ensures text { result * K.CHARS ≤ length text.now }
     ensures room { result * K.OCTETS ≤ length octets.new }
-    ensures values { AllByRecursion (λ v. v < 2 ^ K.BITS) (map (slice_index K.table) (take (result * K.CHARS) text.now)) }
-    ensures octets { take (result * K.OCTETS) octets.new ≡ whole K.BITS (map (slice_index K.table) (take (result * K.CHARS) text.now)) }
+    ensures values { AreValued (2 ^ K.BITS) K.table (take (result * K.CHARS) text.now) }
+    ensures octets { take (result * K.OCTETS) octets.new
+        ≡ value_octets K.BITS K.table (take (result * K.CHARS) text.now) }
 {
     match K::BITS {
         4 => lanes16::read(text, octets),

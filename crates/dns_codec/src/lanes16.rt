@@ -4,6 +4,7 @@ ghost use Rattle.std.specs.List.{AllByRecursion};
 ghost use Rattle.dns_codec.specs.Base.{base16};
 ghost use Rattle.dns_codec.specs.Bits.{digits, whole};
 ghost use Rattle.dns_codec.specs.declared.read.TheConstants.{VALUES16};
+ghost use Rattle.dns_codec.specs.Slices.{digit_text, AreValued, value_octets};
 
 use std::simd::prelude::*;
 
@@ -26,7 +27,7 @@ fn characters(digits: u8x16) -> u8x16
 // The text of 16 octets, in two halves.
 #[inline(always)]
 fn text_of(octets: u8x16) -> (u8x16, u8x16)
-    ensures text { result.0 ++ result.1 ≡ map (slice_index base16.alphabet) (digits 4 octets) }
+    ensures text { result.0 ++ result.1 ≡ digit_text base16 4 octets }
     ensures front { length result.0 ≡ 16 }
     ensures back { length result.1 ≡ 16 }
 {
@@ -41,7 +42,7 @@ fn text_of(octets: u8x16) -> (u8x16, u8x16)
 pub(crate) fn put(octets: &[u8], text: &mut [u8]) -> usize
     requires { 2 * length octets.now ≤ length text.old }
     ensures octets { result ≤ length octets.now }
-    ensures text { take (2 * result) text.new ≡ map (slice_index base16.alphabet) (digits 4 (take result octets.now)) }
+    ensures text { take (2 * result) text.new ≡ digit_text base16 4 (take result octets.now) }
     ensures rest { drop (2 * result) text.new ≡ drop (2 * result) text.old }
 {
     let blocks = octets.len() / LANES;
@@ -84,8 +85,8 @@ fn octets_of(front: u8x16, back: u8x16) -> u8x16
 pub(crate) fn read(text: &[u8], octets: &mut [u8]) -> usize
     ensures text { result * 2 ≤ length text.now }
     ensures room { result ≤ length octets.new }
-    ensures values { AllByRecursion (λ v. v < 16) (map (slice_index VALUES16) (take (result * 2) text.now)) }
-    ensures octets { take result octets.new ≡ whole 4 (map (slice_index VALUES16) (take (result * 2) text.now)) }
+    ensures values { AreValued 16 VALUES16 (take (result * 2) text.now) }
+    ensures octets { take result octets.new ≡ value_octets 4 VALUES16 (take (result * 2) text.now) }
 {
     let blocks = (text.len() / 2).min(octets.len()) / LANES;
     for block in 0..blocks {

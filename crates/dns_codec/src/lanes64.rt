@@ -4,6 +4,7 @@ ghost use Rattle.std.specs.List.{AllByRecursion};
 ghost use Rattle.dns_codec.specs.Base.{base64};
 ghost use Rattle.dns_codec.specs.Bits.{digits, whole};
 ghost use Rattle.dns_codec.specs.declared.read.TheConstants.{VALUES64};
+ghost use Rattle.dns_codec.specs.Slices.{digit_text, AreValued, value_octets};
 
 use std::simd::prelude::*;
 
@@ -56,7 +57,7 @@ fn characters(digits: u8x16) -> u8x16
 pub(crate) fn put(octets: &[u8], text: &mut [u8]) -> usize
     requires { 8 * length octets.now ≤ 6 * length text.old }
     ensures octets { result * 3 ≤ length octets.now }
-    ensures text { take (result * 4) text.new ≡ map (slice_index base64.alphabet) (digits 6 (take (result * 3) octets.now)) }
+    ensures text { take (result * 4) text.new ≡ digit_text base64 6 (take (result * 3) octets.now) }
     ensures rest { drop (result * 4) text.new ≡ drop (result * 4) text.old }
 {
     let blocks = octets.len().saturating_sub(4) / OCTETS;
@@ -115,8 +116,9 @@ fn octets_of(values: u8x16) -> u8x16
 pub(crate) fn read(text: &[u8], octets: &mut [u8]) -> usize
     ensures text { result * 4 ≤ length text.now }
     ensures room { result * 3 ≤ length octets.new }
-    ensures values { AllByRecursion (λ v. v < 64) (map (slice_index VALUES64) (take (result * 4) text.now)) }
-    ensures octets { take (result * 3) octets.new ≡ whole 6 (map (slice_index VALUES64) (take (result * 4) text.now)) }
+    ensures values { AreValued 64 VALUES64 (take (result * 4) text.now) }
+    ensures octets { take (result * 3) octets.new
+        ≡ value_octets 6 VALUES64 (take (result * 4) text.now) }
 {
     let blocks = (text.len() / LANES).min(octets.len().saturating_sub(4) / OCTETS);
     for block in 0..blocks {

@@ -1,8 +1,8 @@
 //! Base 16 an octet at a time: its two characters stand side by side in a table.
-ghost use Rattle.std.specs.Prelude.{◌≡◌, ◌+◌, ◌*◌, ◌≤◌, ◌++◌, length, map, take, drop, slice_index};
+ghost use Rattle.std.specs.Prelude.{◌≡◌, ◌+◌, ◌*◌, ◌≤◌, ◌++◌, length, take, drop};
 ghost use Rattle.dns_codec.specs.Base.{base16};
-ghost use Rattle.dns_codec.specs.Bits.{digits};
 ghost use Rattle.dns_codec.specs.Pairs.{IsPairs};
+ghost use Rattle.dns_codec.specs.Slices.{digit_text};
 
 // The two characters of each octet, of octet 0 first.
 fn pairs() -> &'static [u8]
@@ -25,7 +25,7 @@ fn pairs() -> &'static [u8]
 #[inline(always)]
 pub(crate) fn put_pairs(octets: &[u8], text: &mut [u8], at: usize) -> usize
     requires { at + 2 * length octets.now ≤ length text.old }
-    ensures text { take result text.new ≡ take at text.old ++ map (slice_index base16.alphabet) (digits 4 octets.now) }
+    ensures text { take result text.new ≡ take at text.old ++ digit_text base16 4 octets.now }
     ensures rest { drop result text.new ≡ drop result text.old }
     ensures len { result ≡ at + 2 * length octets.now }
 {
