@@ -1,10 +1,12 @@
 -- Octets behind an octet that has their number, as hashes and salts are (RFC 5155 section 3.2).
-use Rattle.std.specs.Prelude.{ℕ, ◌≡◌, ◌<◌, ◌==◌, ◌||◌, not, nat_lt, if◌then◌else◌, List, ◌∷◌, length, slice_index}
+use Rattle.std.specs.Prelude.{ℕ, ◌≡◌, ◌<◌, ◌==◌, ◌||◌, not, nat_lt, if◌then◌else◌, List, ◌∷◌, length, slice_index, ◌⊎◌}
 use Rattle.dns_codec.specs.Base.{base32hex}
 use Rattle.dns_codec.specs.Grammar.{may_end_after}
 use Rattle.dns_digits.specs.Spelled.{SpellsDigits}
 use Rattle.dns_digits.specs.declared.error.DigitsError.{DigitsError}
-use Rattle.dns_digits.specs.declared.error.DigitsError.TheVariants.{LongHash, ShortBase32, IllegalBase32}
+use Rattle.dns_digits.specs.declared.error.DigitsError.TheVariants.{LongHash, ShortBase32, IllegalBase32, ShortBuf}
+use Rattle.dns_octets.specs.Room.{Room}
+use Rattle.dns_octets.specs.Appending.{LacksRoom}
 
 -- the octet in front, or 0 of none
 abbrev pub first_octet : List ℕ → ℕ
@@ -24,3 +26,16 @@ pub record SpellsHash (text octets : List ℕ) : Type 0 where
   pub some : 0 < length hash
   pub short : length hash < 256
   pub wire_is : octets ≡ length hash ∷ hash
+
+-- a text is refused: its octets don't surely fit behind those that the target had, or it is no hash
+abbrev pub RefusesHash : Room → List ℕ → List ℕ → DigitsError → Type 0
+RefusesHash room text old e =
+    ((e ≡ ShortBuf) × LacksRoom room (SpellsHash text) old)
+    ⊎ ((e ≡ hash_refusal text) × ((octets : List ℕ) → SpellsHash text octets → ⊥))
+
+-- a salt stands in front whole, and so does a hash, which has an octet at least
+abbrev pub HasSalt : List ℕ → Type 0
+HasSalt octets = first_octet octets < length octets
+
+abbrev pub HasHash : List ℕ → Type 0
+HasHash octets = (0 < first_octet octets) × HasSalt octets

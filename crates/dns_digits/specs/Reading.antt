@@ -1,9 +1,9 @@
 -- Digits that come in pieces: what is held between two pieces, and what a piece makes of it.
-use Rattle.std.specs.Prelude.{ℕ, ◌≡◌, ◌≢◌, ◌<◌, ◌%◌, ◌⊎◌, Bool, true, false, List, [], ◌++◌, length}
+use Rattle.std.specs.Prelude.{ℕ, ◌≡◌, ◌≢◌, ◌<◌, ◌%◌, ◌⊎◌, Bool, true, false, List, [], ◌++◌, length, ◌+◌, Result, MatchResult, take}
 use Rattle.dns_octets.specs.Room.{Room}
 use Rattle.dns_octets.specs.Appending.{LacksRoom}
 use Rattle.dns_codec.specs.Base.{Base}
-use Rattle.dns_digits.specs.Spelled.{SpellsDigits, opens_group, base_of, illegal}
+use Rattle.dns_digits.specs.Spelled.{SpellsDigits, opens_group, base_of, illegal, unfinished}
 use Rattle.dns_digits.specs.declared.kind.DigitsKind.{DigitsKind}
 use Rattle.dns_digits.specs.declared.error.DigitsError.{DigitsError}
 use Rattle.dns_digits.specs.declared.error.DigitsError.TheVariants.{TrailingBase64, ShortBuf}
@@ -53,3 +53,21 @@ pub record RefusesPiece (room : Room) (s : DigitsState) (piece old : List ℕ) (
   pub why : (error ≡ ShortBuf) ⊎ (((error ≡ illegal s.kind) × (FollowsPadding s piece → ⊥)) ⊎ ((error ≡ TrailingBase64) × FollowsPadding s piece))
   pub lacks : error ≡ ShortBuf → LacksRoom room (MayGain s piece) old
   pub none : error ≢ ShortBuf → (gained : List ℕ) → MayGain s piece gained → ⊥
+
+-- a piece was read, and the octets that were gained are appended
+abbrev pub AppendsPiece : DigitsState → List ℕ → DigitsState → List ℕ → List ℕ → Type 0
+AppendsPiece s piece t old new = (gained : List ℕ) × TakesPiece s piece gained t × (new ≡ old ++ gained)
+
+-- whole groups at the start of digits, so many digits and not the last, are appended as the octets that they spell
+abbrev pub AppendsBlocks : DigitsKind → List ℕ → List ℕ → List ℕ → ℕ → Type 0
+AppendsBlocks kind digits old new n = (n < length digits) × (length (take n digits) % (base_of kind).group ≡ 0)
+    × ((gained : List ℕ) × SpellsDigits (base_of kind) (take n digits) gained × (opens_group (base_of kind) gained ≡ false) × (new ≡ old ++ gained))
+
+-- the octets of such groups don't surely fit
+abbrev pub LacksBlocks : DigitsKind → List ℕ → Room → List ℕ → Type 0
+LacksBlocks kind digits room old = (n : ℕ) × (n < length digits) × (length (take n digits) % (base_of kind).group ≡ 0)
+    × ((gained : List ℕ) × SpellsDigits (base_of kind) (take n digits) gained × (opens_group (base_of kind) gained ≡ false) × (room.fits < length old + length gained))
+
+-- a text ends where no group is begun, and else it is refused
+abbrev pub EndsPieces : DigitsState → Result (Unit {0}) DigitsError → Type 0
+EndsPieces s r = MatchResult r (λ _. s.begun ≡ []) (λ e. (s.begun ≢ []) × (e ≡ unfinished s.kind))

@@ -1,5 +1,5 @@
 -- Octets in digits: the texts that spell them.
-use Rattle.std.specs.Prelude.{ℕ, ◌≡◌, ◌<◌, ◌*◌, ◌%◌, ◌==◌, not, Bool, All, List, length, map, if◌then◌else◌}
+use Rattle.std.specs.Prelude.{ℕ, ◌≡◌, ◌<◌, ◌*◌, ◌%◌, ◌==◌, not, Bool, All, List, length, map, if◌then◌else◌, ◌≢◌, ◌≤◌, ◌-◌, ◌++◌, false, MatchBool, replicate, slice_index, take}
 use Rattle.dns_codec.specs.Base.{Base, base16, base64, capital, encoded}
 use Rattle.dns_digits.specs.declared.kind.DigitsKind.{DigitsKind}
 use Rattle.dns_digits.specs.declared.kind.DigitsKind.TheVariants.{Hex, Base64}
@@ -33,3 +33,24 @@ illegal Base64 = IllegalBase64
 abbrev pub unfinished : DigitsKind → DigitsError
 unfinished Hex = UnevenHex
 unfinished Base64 = IncompleteBase64
+
+-- whole groups of a text without padding spell the first octets of a slice, so many of them
+abbrev pub SpellsGroups : Base → List ℕ → List ℕ → ℕ → Type 0
+SpellsGroups b text slice n = SpellsDigits b text (take n slice) × (n ≤ length slice) × (opens_group b (take n slice) ≡ false)
+
+-- whether some text of octets begins so
+abbrev pub TellsBeginning : Base → Bool → List ℕ → Type 0
+TellsBeginning b r begun = MatchBool r ((rest : List ℕ) × (v : List ℕ) × SpellsDigits b (begun ++ rest) v)
+    ((rest v : List ℕ) → SpellsDigits b (begun ++ rest) v → ⊥)
+
+-- whether two lists are the same
+abbrev pub TellsSame : Bool → List ℕ → List ℕ → Type 0
+TellsSame r xs ys = MatchBool r (xs ≡ ys) (xs ≢ ys)
+
+-- a group of base 64 that begins so, filled with `=` behind one and with zeros else
+abbrev pub filled_group : List ℕ → List ℕ
+filled_group begun = begun ++ replicate (4 - length begun) (if slice_index begun (length begun - 1) == 61 then 61 else 65)
+
+-- a text goes on to one of octets that begin with these
+abbrev pub GoesOnTo : Base → List ℕ → List ℕ → Type 0
+GoesOnTo b text octets = (rest : List ℕ) × (more : List ℕ) × SpellsDigits b (text ++ rest) (octets ++ more)

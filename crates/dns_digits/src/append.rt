@@ -1,9 +1,9 @@
 //! Octets in digits of one token, appended to a target.
-ghost use Rattle.std.specs.Prelude.{◌≡◌, ℕ, List, ◌∷◌, ◌⊎◌, OnOk, OnErr, IfErr};
-ghost use Rattle.dns_octets.specs.Appending.{Extends, Gains, LacksRoom};
+ghost use Rattle.std.specs.Prelude.{◌≡◌, ◌∷◌, OnOk, OnErr, IfErr};
+ghost use Rattle.dns_octets.specs.Appending.{Extends, Gains};
 ghost use Rattle.dns_codec.specs.Base.{base16, base64};
 ghost use Rattle.dns_digits.specs.Spelled.{SpellsDigits, base_of};
-ghost use Rattle.dns_digits.specs.Hashes.{SpellsHash, hash_refusal};
+ghost use Rattle.dns_digits.specs.Hashes.{SpellsHash, hash_refusal, RefusesHash};
 ghost use Rattle.dns_digits.specs.Tokens.{RefusesToken};
 ghost use Rattle.dns_digits.specs.declared.error.DigitsError.TheVariants.{ShortBuf};
 ghost use Rattle.dns_digits.specs.declared.kind.DigitsKind.TheVariants.{Hex, Base64};
@@ -20,7 +20,8 @@ fn append_token<B: OctetsBuilder>(
     text: &[u8],
     target: &mut B,
 ) -> Result<(), DigitsError>
-    ensures ok { OnOk result (Gains (SpellsDigits (base_of kind) text.now) (B.octets target.old) (B.octets target.new)) }
+    ensures ok { OnOk result (Gains (SpellsDigits (base_of kind) text.now)
+        (B.octets target.old) (B.octets target.new)) }
     ensures err { IfErr result (λ e. RefusesToken kind B.room text.now (B.octets target.old) e) }
     ensures extends { OnErr result (Extends (B.octets target.old) (B.octets target.new)) }
 {
@@ -35,7 +36,8 @@ fn append_token<B: OctetsBuilder>(
 /// The errors are those of [`DigitsReader`]; the target then has its old octets, and perhaps more
 /// behind them.
 pub fn append_hex<B: OctetsBuilder>(text: &[u8], target: &mut B) -> Result<(), DigitsError>
-    ensures ok { OnOk result (Gains (SpellsDigits base16 text.now) (B.octets target.old) (B.octets target.new)) }
+    ensures ok { OnOk result (Gains (SpellsDigits base16 text.now)
+        (B.octets target.old) (B.octets target.new)) }
     ensures err { IfErr result (λ e. RefusesToken Hex B.room text.now (B.octets target.old) e) }
     ensures extends { OnErr result (Extends (B.octets target.old) (B.octets target.new)) }
 {
@@ -47,7 +49,8 @@ pub fn append_hex<B: OctetsBuilder>(text: &[u8], target: &mut B) -> Result<(), D
 /// The errors are those of [`DigitsReader`]; the target then has its old octets, and perhaps more
 /// behind them.
 pub fn append_base64<B: OctetsBuilder>(text: &[u8], target: &mut B) -> Result<(), DigitsError>
-    ensures ok { OnOk result (Gains (SpellsDigits base64 text.now) (B.octets target.old) (B.octets target.new)) }
+    ensures ok { OnOk result (Gains (SpellsDigits base64 text.now)
+        (B.octets target.old) (B.octets target.new)) }
     ensures err { IfErr result (λ e. RefusesToken Base64 B.room text.now (B.octets target.old) e) }
     ensures extends { OnErr result (Extends (B.octets target.old) (B.octets target.new)) }
 {
@@ -84,9 +87,9 @@ fn behind_length(length: u8, hash: &[u8; 255]) -> [u8; 256]
 /// [`DigitsError::IllegalBase32`], and octets that the target refuses are
 /// [`DigitsError::ShortBuf`]. Refused, the target stays as it was.
 pub fn append_base32hex<B: OctetsBuilder>(text: &[u8], target: &mut B) -> Result<(), DigitsError>
-    ensures ok { OnOk result (Gains (SpellsHash text.now) (B.octets target.old) (B.octets target.new)) }
-    ensures err { IfErr result (λ e. ((e ≡ ShortBuf) × LacksRoom B.room (SpellsHash text.now) (B.octets target.old))
-        ⊎ ((e ≡ hash_refusal text.now) × ((octets : List ℕ) → SpellsHash text.now octets → ⊥))) }
+    ensures ok { OnOk result (Gains (SpellsHash text.now)
+        (B.octets target.old) (B.octets target.new)) }
+    ensures err { IfErr result (RefusesHash B.room text.now (B.octets target.old)) }
     ensures kept { OnErr result (B.octets target.new ≡ B.octets target.old) }
 {
     let mut hash = [0; 255];

@@ -1,7 +1,7 @@
 //! Whole groups of digits, read into slices.
-ghost use Rattle.std.specs.Prelude.{◌≡◌, ◌≢◌, ℕ, List, ◌+◌, ◌*◌, ◌%◌, ◌<◌, ◌≤◌, false, [], ◌∷◌, ◌++◌, map, length, take, replicate, slice_index, ◌-◌, ◌==◌, if◌then◌else◌, IfSome, MatchBool, MatchOption};
+ghost use Rattle.std.specs.Prelude.{◌≡◌, ℕ, List, ◌*◌, ◌<◌, ◌≤◌, false, [], ◌∷◌, map, length, take, ◌-◌, ◌==◌, IfSome, MatchOption};
 ghost use Rattle.dns_codec.specs.Base.{base16, base32hex, base64, capital};
-ghost use Rattle.dns_digits.specs.Spelled.{base_of, opens_group, SpellsDigits};
+ghost use Rattle.dns_digits.specs.Spelled.{base_of, SpellsDigits, SpellsGroups, TellsBeginning, TellsSame, filled_group};
 
 use crate::kind::DigitsKind;
 use dns_codec::{base16, base32, base64};
@@ -18,7 +18,7 @@ fn capital(digit: u8) -> u8
 
 /// Whether a text is digits in capitals, but for the case of its letters.
 fn is_folded(text: &[u8], digits: &[u8]) -> bool
-    ensures { MatchBool result (map capital text.now ≡ digits.now) (map capital text.now ≢ digits.now) }
+    ensures { TellsSame result (map capital text.now) digits.now }
 {
     if text.len() != digits.len() {
         return false;
@@ -92,8 +92,7 @@ pub(crate) fn read_group(kind: DigitsKind, group: &[u8], octets: &mut [u8]) -> O
 
 /// Reads whole groups of base 64 without padding, if that is what the text is.
 fn read_base64_block(text: &[u8], octets: &mut [u8]) -> Option<usize>
-    ensures { IfSome result (λ n. SpellsDigits base64 text.now (take n octets.new) × (n ≤ length octets.new)
-        × (opens_group base64 (take n octets.new) ≡ false)) }
+    ensures { IfSome result (SpellsGroups base64 text.now octets.new) }
 {
     let count = base64::decode_slice(text, octets)?;
     if count / 3 * 4 == text.len() {
@@ -107,8 +106,7 @@ fn read_base64_block(text: &[u8], octets: &mut [u8]) -> Option<usize>
 /// returns how many octets.
 pub(crate) fn read_block(kind: DigitsKind, text: &[u8], octets: &mut [u8]) -> Option<usize>
     requires { length text.now ≤ length octets.old }
-    ensures { IfSome result (λ n. SpellsDigits (base_of kind) text.now (take n octets.new) × (n ≤ length octets.new)
-        × (opens_group (base_of kind) (take n octets.new) ≡ false)) }
+    ensures { IfSome result (SpellsGroups (base_of kind) text.now octets.new) }
 {
     match kind {
         DigitsKind::Hex => read_hex(text, octets),
@@ -118,8 +116,7 @@ pub(crate) fn read_block(kind: DigitsKind, text: &[u8], octets: &mut [u8]) -> Op
 
 /// Whether a digit is the first of a pair.
 fn starts_pair(digit: u8) -> bool
-    ensures { MatchBool result ((rest : List ℕ) × (v : List ℕ) × SpellsDigits base16 (digit ∷ rest) v)
-        ((rest v : List ℕ) → SpellsDigits base16 (digit ∷ rest) v → ⊥) }
+    ensures { TellsBeginning base16 result (digit ∷ []) }
 {
     let mut octet = [0; 1];
     read_hex(&[digit, b'0'], &mut octet).is_some()
@@ -128,7 +125,7 @@ fn starts_pair(digit: u8) -> bool
 /// A group of base 64 that begins so, filled with `=` behind one and with zeros else.
 fn filled(begun: &[u8]) -> [u8; 4]
     requires { (0 < length begun.now) × (length begun.now < 4) }
-    ensures { result ≡ begun.now ++ replicate (4 - length begun.now) (if slice_index begun.now (length begun.now - 1) == 61 then 61 else 65) }
+    ensures { result ≡ filled_group begun.now }
 {
     let filling = if begun[begun.len() - 1] == b'=' {
         b'='
@@ -143,8 +140,7 @@ fn filled(begun: &[u8]) -> [u8; 4]
 /// Whether digits are the first of a group of base 64.
 fn starts_quartet(begun: &[u8]) -> bool
     requires { (0 < length begun.now) × (length begun.now < 4) }
-    ensures { MatchBool result ((rest : List ℕ) × (v : List ℕ) × SpellsDigits base64 (begun.now ++ rest) v)
-        ((rest v : List ℕ) → SpellsDigits base64 (begun.now ++ rest) v → ⊥) }
+    ensures { TellsBeginning base64 result begun.now }
 {
     let mut octets = [0; 3];
     read_base64_group(&filled(begun), &mut octets).is_some()
@@ -153,8 +149,7 @@ fn starts_quartet(begun: &[u8]) -> bool
 /// Whether digits are the first of a group.
 pub(crate) fn starts_group(kind: DigitsKind, begun: &[u8]) -> bool
     requires { (0 < length begun.now) × (length begun.now < (base_of kind).group) }
-    ensures { MatchBool result ((rest : List ℕ) × (v : List ℕ) × SpellsDigits (base_of kind) (begun.now ++ rest) v)
-        ((rest v : List ℕ) → SpellsDigits (base_of kind) (begun.now ++ rest) v → ⊥) }
+    ensures { TellsBeginning (base_of kind) result begun.now }
 {
     match kind {
         DigitsKind::Hex => starts_pair(begun[0]),

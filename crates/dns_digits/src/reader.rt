@@ -1,8 +1,8 @@
 //! Digits that come in pieces, as the tokens of an entry do.
-ghost use Rattle.std.specs.Prelude.{◌≡◌, ◌≢◌, ℕ, List, ◌%◌, ◌+◌, ◌<◌, ◌≤◌, false, true, [], ◌∷◌, ◌++◌, length, take, IfOk, IfErr, OnOk, OnErr, MatchResult};
+ghost use Rattle.std.specs.Prelude.{◌≡◌, ℕ, List, ◌+◌, ◌<◌, ◌≤◌, false, true, [], ◌∷◌, length, take, IfOk, IfErr, OnOk, OnErr, MatchResult};
 ghost use Rattle.dns_octets.specs.Appending.{Extends};
 ghost use Rattle.dns_digits.specs.Spelled.{base_of, unfinished, opens_group, SpellsDigits};
-ghost use Rattle.dns_digits.specs.Reading.{HasRead, TakesPiece, RefusesPiece};
+ghost use Rattle.dns_digits.specs.Reading.{HasRead, RefusesPiece, AppendsBlocks, AppendsPiece, EndsPieces, LacksBlocks};
 
 use crate::error::DigitsError;
 use crate::groups::{read_block, read_group, starts_group};
@@ -44,12 +44,9 @@ fn append_blocks<B: OctetsBuilder>(
     target: &mut B,
 ) -> Result<usize, ShortBuf>
     requires { 0 < length digits.now }
-    ensures ok { IfOk result (λ n. (n < length digits.now) × (length (take n digits.now) % (base_of kind).group ≡ 0)
-        × ((gained : List ℕ) × SpellsDigits (base_of kind) (take n digits.now) gained × (opens_group (base_of kind) gained ≡ false)
-        × (B.octets target.new ≡ B.octets target.old ++ gained))) }
-    ensures err { OnErr result ((n : ℕ) × (n < length digits.now) × (length (take n digits.now) % (base_of kind).group ≡ 0)
-        × ((gained : List ℕ) × SpellsDigits (base_of kind) (take n digits.now) gained × (opens_group (base_of kind) gained ≡ false)
-        × (B.room.fits < length (B.octets target.old) + length gained))) }
+    ensures ok { IfOk result (AppendsBlocks kind digits.now
+        (B.octets target.old) (B.octets target.new)) }
+    ensures err { OnErr result (LacksBlocks kind digits.now B.room (B.octets target.old)) }
     ensures extends { OnErr result (Extends (B.octets target.old) (B.octets target.new)) }
 {
     let size = kind.group();
@@ -82,9 +79,10 @@ impl DigitsReader {
 
     /// Takes one digit. Refused, it changes nothing.
     fn take_digit<B: OctetsBuilder>(&mut self, digit: u8, target: &mut B) -> Result<(), DigitsError>
-        ensures ok { OnOk result ((gained : List ℕ) × TakesPiece self.old (digit ∷ []) gained self.new
-            × (B.octets target.new ≡ B.octets target.old ++ gained)) }
-        ensures err { IfErr result (λ e. RefusesPiece B.room self.old (digit ∷ []) (B.octets target.old) e) }
+        ensures ok { OnOk result (AppendsPiece self.old (digit ∷ []) self.new
+            (B.octets target.old) (B.octets target.new)) }
+        ensures err { IfErr result
+            (RefusesPiece B.room self.old (digit ∷ []) (B.octets target.old)) }
         ensures kept { OnErr result (B.octets target.new ≡ B.octets target.old) }
     {
         if self.ended {
@@ -120,9 +118,9 @@ impl DigitsReader {
         digits: &[u8],
         target: &mut B,
     ) -> Result<(), DigitsError>
-        ensures ok { OnOk result ((gained : List ℕ) × TakesPiece self.old digits.now gained self.new
-            × (B.octets target.new ≡ B.octets target.old ++ gained)) }
-        ensures err { IfErr result (λ e. RefusesPiece B.room self.old digits.now (B.octets target.old) e) }
+        ensures ok { OnOk result (AppendsPiece self.old digits.now self.new
+            (B.octets target.old) (B.octets target.new)) }
+        ensures err { IfErr result (RefusesPiece B.room self.old digits.now (B.octets target.old)) }
         ensures extends { OnErr result (Extends (B.octets target.old) (B.octets target.new)) }
     {
         for digit in digits {
@@ -147,9 +145,10 @@ impl DigitsReader {
         digits: &[u8],
         target: &mut B,
     ) -> Result<usize, DigitsError>
-        ensures ok { IfOk result (λ n. (n ≤ length digits.now) × ((gained : List ℕ) × TakesPiece self.now (take n digits.now) gained self.now
-            × (B.octets target.new ≡ B.octets target.old ++ gained))) }
-        ensures err { IfErr result (λ e. RefusesPiece B.room self.now digits.now (B.octets target.old) e) }
+        ensures ok { IfOk result (λ n. (n ≤ length digits.now)
+            × AppendsPiece self.now (take n digits.now) self.now
+            (B.octets target.old) (B.octets target.new)) }
+        ensures err { IfErr result (RefusesPiece B.room self.now digits.now (B.octets target.old)) }
         ensures extends { OnErr result (Extends (B.octets target.old) (B.octets target.new)) }
     {
         if self.ended || self.count > 0 || digits.is_empty() {
@@ -173,9 +172,9 @@ impl DigitsReader {
         piece: &[u8],
         target: &mut B,
     ) -> Result<(), DigitsError>
-        ensures ok { OnOk result ((gained : List ℕ) × TakesPiece self.old piece.now gained self.new
-            × (B.octets target.new ≡ B.octets target.old ++ gained)) }
-        ensures err { IfErr result (λ e. RefusesPiece B.room self.old piece.now (B.octets target.old) e) }
+        ensures ok { OnOk result (AppendsPiece self.old piece.now self.new
+            (B.octets target.old) (B.octets target.new)) }
+        ensures err { IfErr result (RefusesPiece B.room self.old piece.now (B.octets target.old)) }
         ensures extends { OnErr result (Extends (B.octets target.old) (B.octets target.new)) }
     {
         let (front, rest) = piece.split_at(self.wanted().min(piece.len()));
@@ -188,7 +187,7 @@ impl DigitsReader {
     /// Ends the text, which is refused within a group: [`DigitsError::UnevenHex`] or
     /// [`DigitsError::IncompleteBase64`].
     pub fn finish(&self) -> Result<(), DigitsError>
-        ensures begun { MatchResult result (λ _. self.now.begun ≡ []) (λ e. (self.now.begun ≢ []) × (e ≡ unfinished self.now.kind)) }
+        ensures begun { EndsPieces self.now result }
         ensures whole { (text octets : List ℕ) → HasRead self.now text octets
             → MatchResult result (λ _. SpellsDigits (base_of self.now.kind) text octets) (λ _. (v : List ℕ) → SpellsDigits (base_of self.now.kind) text v → ⊥) }
     {
