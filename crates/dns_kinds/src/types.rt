@@ -1,5 +1,5 @@
 //! The types of records (RFC 1035 section 3.2.2, IANA's registry, RFC 3597 section 5).
-ghost use Rattle.std.specs.Prelude.{◌≡◌, Some, IfSome, option_copied};
+ghost use Rattle.std.specs.Prelude.{◌≡◌, ◌↔◌, Some, IfSome, IsTrue, option_copied};
 ghost use Rattle.dns_kinds.specs.Kind.{ReadsKind};
 ghost use Rattle.dns_kinds.specs.Registry.{row_code, row_name};
 ghost use Rattle.dns_kinds.specs.Types.{type_rows, SpellsType, type_text, is_portable, portable_text, SpellsSigType, sig_type_text, TypesAreKind, PortableTypesAreKind, SigTypesAreKind};
@@ -125,6 +125,14 @@ const PORTABLE: [u16; 48] = [
 #[derive(Clone, Copy)]
 pub struct RecordType(pub u16);
 
+/// Returns whether a text is a name, in the same case of its letters.
+#[inline(always)]
+fn is_name(text: &[u8], name: &[u8]) -> bool
+    ensures { IsTrue result ↔ (text.now ≡ name.now) }
+{
+    text == name
+}
+
 /// Returns the code of the common type whose name is `text`, in capital letters.
 ///
 /// Most records of a zone file have one of these types, so [`RecordType::from_text`] compares their
@@ -132,46 +140,46 @@ pub struct RecordType(pub u16);
 fn usual_code(text: &[u8]) -> Option<u16>
     ensures { IfSome result (λ c. row_code type_rows text.now ≡ Some c) }
 {
-    if text == b"A".as_slice() {
+    if is_name(text, b"A") {
         return Some(1);
     }
-    if text == b"NS".as_slice() {
+    if is_name(text, b"NS") {
         return Some(2);
     }
-    if text == b"MX".as_slice() {
+    if is_name(text, b"MX") {
         return Some(15);
     }
-    if text == b"DS".as_slice() {
+    if is_name(text, b"DS") {
         return Some(43);
     }
-    if text == b"TXT".as_slice() {
+    if is_name(text, b"TXT") {
         return Some(16);
     }
-    if text == b"AAAA".as_slice() {
+    if is_name(text, b"AAAA") {
         return Some(28);
     }
-    if text == b"CNAME".as_slice() {
+    if is_name(text, b"CNAME") {
         return Some(5);
     }
-    if text == b"RRSIG".as_slice() {
+    if is_name(text, b"RRSIG") {
         return Some(46);
     }
-    if text == b"NSEC".as_slice() {
+    if is_name(text, b"NSEC") {
         return Some(47);
     }
-    if text == b"NSEC3".as_slice() {
+    if is_name(text, b"NSEC3") {
         return Some(50);
     }
-    if text == b"SOA".as_slice() {
+    if is_name(text, b"SOA") {
         return Some(6);
     }
-    if text == b"PTR".as_slice() {
+    if is_name(text, b"PTR") {
         return Some(12);
     }
-    if text == b"SRV".as_slice() {
+    if is_name(text, b"SRV") {
         return Some(33);
     }
-    if text == b"DNSKEY".as_slice() {
+    if is_name(text, b"DNSKEY") {
         return Some(48);
     }
     None

@@ -1,61 +1,60 @@
-use Rattle.std.proofs.Common.{◌∙◌, ap}
-use Rattle.std.specs.Cmp.Lexicographic.{same_text}
+use Rattle.std.proofs.Common.{ap, refl}
 use Rattle.dns_kinds.specs.Registry.{row_code}
 use Rattle.dns_kinds.specs.Types.{type_rows}
 use Rattle.dns_kinds.proofs.types.usual_code.Goals as goal
 
-pub returns-then-eq : goal.returns-then-eq
+pub returns-then-is_name : goal.returns-then-is_name
 unfolding type_rows
-returns-then-eq c = ap (row_code type_rows) (same_text _ _ c.if-eq.ensures ∙ c.as_slice.ensures)
+returns-then-is_name c = ap (row_code type_rows) (c.if-is_name.ensures.0 refl)
 
-pub returns-then-eq-2 : goal.returns-then-eq-2
+pub returns-then-is_name-2 : goal.returns-then-is_name-2
 unfolding type_rows
-returns-then-eq-2 c = ap (row_code type_rows) (same_text _ _ c.if-eq-2.ensures ∙ c.as_slice-2.ensures)
+returns-then-is_name-2 c = ap (row_code type_rows) (c.if-is_name-2.ensures.0 refl)
 
-pub returns-then-eq-3 : goal.returns-then-eq-3
+pub returns-then-is_name-3 : goal.returns-then-is_name-3
 unfolding type_rows
-returns-then-eq-3 c = ap (row_code type_rows) (same_text _ _ c.if-eq-3.ensures ∙ c.as_slice-3.ensures)
+returns-then-is_name-3 c = ap (row_code type_rows) (c.if-is_name-3.ensures.0 refl)
 
-pub returns-then-eq-4 : goal.returns-then-eq-4
+pub returns-then-is_name-4 : goal.returns-then-is_name-4
 unfolding type_rows
-returns-then-eq-4 c = ap (row_code type_rows) (same_text _ _ c.if-eq-4.ensures ∙ c.as_slice-4.ensures)
+returns-then-is_name-4 c = ap (row_code type_rows) (c.if-is_name-4.ensures.0 refl)
 
-pub returns-then-eq-5 : goal.returns-then-eq-5
+pub returns-then-is_name-5 : goal.returns-then-is_name-5
 unfolding type_rows
-returns-then-eq-5 c = ap (row_code type_rows) (same_text _ _ c.if-eq-5.ensures ∙ c.as_slice-5.ensures)
+returns-then-is_name-5 c = ap (row_code type_rows) (c.if-is_name-5.ensures.0 refl)
 
-pub returns-then-eq-6 : goal.returns-then-eq-6
+pub returns-then-is_name-6 : goal.returns-then-is_name-6
 unfolding type_rows
-returns-then-eq-6 c = ap (row_code type_rows) (same_text _ _ c.if-eq-6.ensures ∙ c.as_slice-6.ensures)
+returns-then-is_name-6 c = ap (row_code type_rows) (c.if-is_name-6.ensures.0 refl)
 
-pub returns-then-eq-7 : goal.returns-then-eq-7
+pub returns-then-is_name-7 : goal.returns-then-is_name-7
 unfolding type_rows
-returns-then-eq-7 c = ap (row_code type_rows) (same_text _ _ c.if-eq-7.ensures ∙ c.as_slice-7.ensures)
+returns-then-is_name-7 c = ap (row_code type_rows) (c.if-is_name-7.ensures.0 refl)
 
-pub returns-then-eq-8 : goal.returns-then-eq-8
+pub returns-then-is_name-8 : goal.returns-then-is_name-8
 unfolding type_rows
-returns-then-eq-8 c = ap (row_code type_rows) (same_text _ _ c.if-eq-8.ensures ∙ c.as_slice-8.ensures)
+returns-then-is_name-8 c = ap (row_code type_rows) (c.if-is_name-8.ensures.0 refl)
 
-pub returns-then-eq-9 : goal.returns-then-eq-9
+pub returns-then-is_name-9 : goal.returns-then-is_name-9
 unfolding type_rows
-returns-then-eq-9 c = ap (row_code type_rows) (same_text _ _ c.if-eq-9.ensures ∙ c.as_slice-9.ensures)
+returns-then-is_name-9 c = ap (row_code type_rows) (c.if-is_name-9.ensures.0 refl)
 
-pub returns-then-eq-10 : goal.returns-then-eq-10
+pub returns-then-is_name-10 : goal.returns-then-is_name-10
 unfolding type_rows
-returns-then-eq-10 c = ap (row_code type_rows) (same_text _ _ c.if-eq-10.ensures ∙ c.as_slice-10.ensures)
+returns-then-is_name-10 c = ap (row_code type_rows) (c.if-is_name-10.ensures.0 refl)
 
-pub returns-then-eq-11 : goal.returns-then-eq-11
+pub returns-then-is_name-11 : goal.returns-then-is_name-11
 unfolding type_rows
-returns-then-eq-11 c = ap (row_code type_rows) (same_text _ _ c.if-eq-11.ensures ∙ c.as_slice-11.ensures)
+returns-then-is_name-11 c = ap (row_code type_rows) (c.if-is_name-11.ensures.0 refl)
 
-pub returns-then-eq-12 : goal.returns-then-eq-12
+pub returns-then-is_name-12 : goal.returns-then-is_name-12
 unfolding type_rows
-returns-then-eq-12 c = ap (row_code type_rows) (same_text _ _ c.if-eq-12.ensures ∙ c.as_slice-12.ensures)
+returns-then-is_name-12 c = ap (row_code type_rows) (c.if-is_name-12.ensures.0 refl)
 
-pub returns-then-eq-13 : goal.returns-then-eq-13
+pub returns-then-is_name-13 : goal.returns-then-is_name-13
 unfolding type_rows
-returns-then-eq-13 c = ap (row_code type_rows) (same_text _ _ c.if-eq-13.ensures ∙ c.as_slice-13.ensures)
+returns-then-is_name-13 c = ap (row_code type_rows) (c.if-is_name-13.ensures.0 refl)
 
-pub returns-then-eq-14 : goal.returns-then-eq-14
+pub returns-then-is_name-14 : goal.returns-then-is_name-14
 unfolding type_rows
-returns-then-eq-14 c = ap (row_code type_rows) (same_text _ _ c.if-eq-14.ensures ∙ c.as_slice-14.ensures)
+returns-then-is_name-14 c = ap (row_code type_rows) (c.if-is_name-14.ensures.0 refl)
