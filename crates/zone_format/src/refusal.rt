@@ -5,7 +5,7 @@ use dns_split::pieces::Fault;
 use std::alloc::AllocError;
 
 /// Why a text was not formatted. Places are counted in octets from 0.
-#[derive(Clone, Copy, Debug, PartialEq, Eq)]
+#[derive(Clone, Copy)]
 pub enum Refusal {
     /// It is not zone text.
     Wrong(Fault),
