@@ -5,7 +5,7 @@ ghost use Rattle.std.specs.Str.{bytes_eq};
 ghost use Rattle.zonetext_report.specs.Code.{code_name, default_severity, is_text_fault, severity_name};
 
 /// How much a finding weighs.
-#[derive(Clone, Copy, Debug, PartialEq, Eq)]
+#[derive(Clone, Copy, PartialEq, Eq)]
 pub enum Severity {
     /// The file is refused.
     Error,
@@ -27,7 +27,7 @@ impl Severity {
 
 /// What can be found, by the name under which it is allowed or denied, and which JSON has. The
 /// names stay as they are: callers write them into their own files.
-#[derive(Clone, Copy, Debug, PartialEq, Eq)]
+#[derive(Clone, Copy, PartialEq, Eq)]
 pub enum Code {
     /// A quoted text is not closed.
     OpenQuote,

@@ -10,7 +10,7 @@ use std::alloc::{AllocError, Allocator};
 
 /// What was found in a file, and where. Lines and columns are counted from 1; columns count the
 /// octets that begin a character of UTF-8.
-#[derive(Clone, Copy, Debug, PartialEq, Eq)]
+#[derive(Clone, Copy)]
 pub struct Finding<'a> {
     pub severity: Severity,
     pub code: Code,

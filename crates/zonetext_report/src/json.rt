@@ -10,7 +10,7 @@ use dns_split::position::Position;
 use std::alloc::{AllocError, Allocator};
 
 /// What the octets of a string are that is written as JSON.
-#[derive(Clone, Copy, Debug, PartialEq, Eq)]
+#[derive(Clone, Copy)]
 pub enum Charset {
     /// Each octet is a character: those that are not printable ASCII are written by their numbers.
     Octets,

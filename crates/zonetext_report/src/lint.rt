@@ -14,14 +14,14 @@ use dns_split::pieces::{Piece, Pieces};
 use std::alloc::{AllocError, Allocator};
 
 /// A place among octets, and what was found there.
-#[derive(Clone, Copy, Debug, PartialEq, Eq)]
+#[derive(Clone, Copy)]
 pub struct Remark {
     pub at: usize,
     pub code: Code,
 }
 
 /// Which octets of a file are looked at.
-#[derive(Clone, Copy, Debug, PartialEq, Eq)]
+#[derive(Clone, Copy)]
 pub struct Block {
     /// Whether they are the last ones.
     pub is_last: bool,

@@ -14,7 +14,7 @@ fn lists(codes: &[Code], code: Code) -> bool
 }
 
 /// What is left out, and what is an error that was none.
-#[derive(Clone, Copy, Debug, PartialEq, Eq)]
+#[derive(Clone, Copy)]
 pub struct Policy<'a> {
     /// Findings that are left out, even where they are denied too.
     pub allowed: &'a [Code],

@@ -8,7 +8,7 @@ use crate::push::push_number;
 use std::alloc::{AllocError, Allocator};
 
 /// How many errors and warnings were counted, and how many of all are shown.
-#[derive(Clone, Copy, Debug, PartialEq, Eq)]
+#[derive(Clone, Copy)]
 pub struct Tally {
     /// How many findings are shown at most: the first ones, or all of them where it is 0.
     pub most: usize,
