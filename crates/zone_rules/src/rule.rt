@@ -6,7 +6,7 @@ ghost use Rattle.zone_rules.specs.RuleNames.{rule_name, is_fault_rule};
 ///
 /// The first thirteen are faults, with which servers refuse the zone or parts of it; the others are
 /// warnings.
-#[derive(Clone, Copy, Debug, PartialEq, Eq)]
+#[derive(Clone, Copy, PartialEq, Eq)]
 pub enum Rule {
     /// No SOA stands at the apex (RFC 1034 section 4.2.1).
     NoSoa,
@@ -124,7 +124,7 @@ impl Rule {
 
 /// A rule that is broken, and the index of the record at which that is told; what the zone lacks
 /// is told of no record.
-#[derive(Clone, Copy, Debug, PartialEq, Eq)]
+#[derive(Clone, Copy)]
 pub struct Finding {
     pub rule: Rule,
     pub record: Option<usize>,
