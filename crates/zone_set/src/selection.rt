@@ -8,7 +8,7 @@ use crate::dnssec::is_dnssec;
 const SOA: u16 = 6;
 
 /// Which records of a zone are taken, by their types.
-#[derive(Clone, Copy, Debug, PartialEq, Eq)]
+#[derive(Clone, Copy)]
 pub struct Selection<'t> {
     /// Records of these types alone; of all types where there are none.
     pub types: &'t [u16],
