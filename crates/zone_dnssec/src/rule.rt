@@ -6,7 +6,7 @@ ghost use Rattle.zone_dnssec.specs.SecurityNames.{security_name, is_security_fau
 ///
 /// All are faults, with which resolvers refuse names of the zone, except for those that say that
 /// they are warnings.
-#[derive(Clone, Copy, Debug, PartialEq, Eq)]
+#[derive(Clone, Copy)]
 pub enum SecurityRule {
     /// The record is an RRSIG, and its time of expiration has passed (RFC 4034 section 3.1.5).
     Expired,
@@ -144,7 +144,7 @@ impl SecurityRule {
 }
 
 /// A rule that is broken, and the index of the record that breaks it.
-#[derive(Clone, Copy, Debug, PartialEq, Eq)]
+#[derive(Clone, Copy)]
 pub struct SecurityFinding {
     pub rule: SecurityRule,
     pub record: usize,

@@ -17,7 +17,7 @@ const INCEPTION: usize = 5;
 
 /// The times that signatures are held against, in seconds: an instant, and how long before its
 /// end a signature is told of.
-#[derive(Clone, Copy, Debug, PartialEq, Eq)]
+#[derive(Clone, Copy)]
 pub struct Times {
     pub instant: u32,
     pub margin: u32,
