@@ -7,7 +7,7 @@ use std::error::Error;
 use std::fmt;
 
 /// Why a part can't begin with a record.
-#[derive(Clone, Copy, Debug, PartialEq, Eq)]
+#[derive(Clone, Copy, Debug)]
 pub enum CutError {
     /// There was not enough memory.
     OutOfMemory,
