@@ -3,7 +3,7 @@ ghost use Rattle.std.specs.Prelude.{◌≡◌, ◌≢◌, IfNone, IfSome};
 ghost use Rattle.zone_digest.specs.Rights.{hash_code};
 
 /// A hash algorithm of ZONEMD (RFC 8976 section 5.3).
-#[derive(Clone, Copy, Debug, PartialEq, Eq)]
+#[derive(Clone, Copy)]
 pub enum HashAlgorithm {
     Sha384,
     Sha512,

@@ -3,7 +3,7 @@
 use thiserror::Error;
 
 /// Why the digests of a zone are not checked.
-#[derive(Clone, Copy, Debug, PartialEq, Eq, Error)]
+#[derive(Clone, Copy, Debug, Error)]
 pub enum CheckError {
     /// There was no memory.
     #[error("buffer size exceeded")]

@@ -11,7 +11,7 @@ use std::alloc::Allocator;
 use zone_set::CanonicalSet;
 
 /// What comes of the check of a ZONEMD record (RFC 8976 section 4).
-#[derive(Clone, Copy, Debug, PartialEq, Eq)]
+#[derive(Clone, Copy, PartialEq, Eq)]
 pub enum Verdict {
     /// The digest is that of the zone.
     Matches,
