@@ -10,7 +10,7 @@ use std::error::Error;
 use std::fmt;
 
 /// Why an entry was not read.
-#[derive(Clone, Copy, Debug, PartialEq, Eq)]
+#[derive(Clone, Copy, Debug)]
 pub enum EntryError {
     /// A directive is refused, or the words in front of a record's data.
     Head(HeadError),
@@ -27,7 +27,7 @@ pub enum EntryError {
 /// An entry that is refused: the place of the token, and why. Where no token is left, the place is
 /// where the last one ends: parentheses, comments and blanks that follow don't count. Where no owner
 /// or no time to live is known, it is the record's first token.
-#[derive(Clone, Copy, Debug, PartialEq, Eq)]
+#[derive(Clone, Copy)]
 pub struct EntryRefusal {
     /// The code of the record's type, where its data are refused.
     pub code: Option<u16>,

@@ -6,7 +6,7 @@ use std::error::Error;
 use std::fmt;
 
 /// Why an entry that begins with a blank has no owner.
-#[derive(Clone, Copy, Debug, PartialEq, Eq)]
+#[derive(Clone, Copy, Debug)]
 pub enum OwnerError {
     /// No entry before it said one.
     NoOwner,

@@ -15,7 +15,7 @@ use dns_octets::{AsOctetsMut, OctetsBuilder};
 use dns_split::pieces::Fault;
 
 /// Why an entry of a text is not given.
-#[derive(Clone, Copy, Debug, PartialEq, Eq)]
+#[derive(Clone, Copy)]
 pub enum RecordRefusal {
     /// A fault of the text comes before its end.
     Text(Fault),

@@ -16,7 +16,7 @@ use dns_split::pieces::{EndOfEntry, Fault};
 use std::marker::Model;
 
 /// The beginning of an entry.
-#[derive(Clone, Copy, Debug, PartialEq, Eq)]
+#[derive(Clone, Copy)]
 pub struct StartOfEntry {
     /// Where it begins: where the entry before it ended, or the text began.
     pub at: usize,

@@ -4,7 +4,7 @@ ghost use Rattle.dns_reader.specs.Past.{seconds_of};
 
 /// The time to live of a record, in seconds, by where it comes from. Seconds from 2^31 on, of which an
 /// entry says that they are a time to live, are 0 here (RFC 2181 section 8).
-#[derive(Clone, Copy, Debug, PartialEq, Eq)]
+#[derive(Clone, Copy)]
 pub enum RecordTtl {
     /// The record says it.
     Own(u32),
