@@ -16,7 +16,7 @@ use std::error::Error;
 use std::fmt;
 
 /// Why record data was not read.
-#[derive(Clone, Copy, Debug, PartialEq, Eq)]
+#[derive(Clone, Copy, Debug)]
 pub enum DataError {
     /// A token spells no field of its kind, or none is left.
     Field(FieldError),
