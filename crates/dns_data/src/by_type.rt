@@ -53,14 +53,16 @@ fn read_generic<S: TokenSource, B: OctetsBuilder>(
             why: refusal.why,
         });
     }
-    if let Some(row) = row {
-        if !check_data(&row.shape(), &target.as_slice()[begun..]) {
-            let why = DataError::NotOfType;
-            let part = None;
-            return Err(TypeRefusal { part, at, why });
-        }
+    let Some(row) = row else {
+        return Ok(());
+    };
+    if check_data(&row.shape(), &target.as_slice()[begun..]) {
+        Ok(())
+    } else {
+        let why = DataError::NotOfType;
+        let part = None;
+        Err(TypeRefusal { part, at, why })
     }
-    Ok(())
 }
 
 /// Takes the tokens that are left as data of a type, in its text form or in the generic one, and

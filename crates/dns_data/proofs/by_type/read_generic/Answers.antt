@@ -1,0 +1,19 @@
+use Rattle.std.proofs.Common.{refl, inl}
+use Rattle.dns_data.specs.Types.{row_shape}
+use Rattle.dns_data.proofs.TypeLaws.{generic_typed, generic_mistyped}
+use Rattle.dns_data.proofs.by_type.read_generic.Goals as goal
+
+pub returns-in-Err-clause-reads : goal.returns-in-Err-clause-reads
+returns-in-Err-clause-reads g c = inl c.in-Err.ensures.takes
+
+pub returns-then-check_data-clause-reads : goal.returns-then-check_data-clause-reads
+returns-then-check_data-clause-reads g c =
+    let e = c.shape.ensures in
+    rw c.in-Some.is (generic_typed (row_shape c.in-Some.row.now) c.shape.result _ _ _ _ c.as_slice.result.now c.as_slice-begun.result.now (e.fields, e.rest, e.length)
+    c.as_slice-begun.ensures.value c.as_slice.ensures.value c.in_default.ensures.takes (c.if-check_data.ensures.0 refl))
+
+pub returns-else-check_data-clause-reads : goal.returns-else-check_data-clause-reads
+returns-else-check_data-clause-reads g c =
+    let e = c.shape.ensures in
+    rw c.in-Some.is (generic_mistyped (row_shape c.in-Some.row.now) c.shape.result g.B.OctetsBuilder.room _ c.place-at.result _ _ _ _ c.as_slice.result.now c.as_slice-begun.result.now
+    (e.fields, e.rest, e.length) c.as_slice-begun.ensures.value c.as_slice.ensures.value c.place-at.ensures c.in_default.ensures.takes c.if-check_data.ensures.1)
