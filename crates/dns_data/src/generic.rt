@@ -56,9 +56,14 @@ pub fn take_generic<S: TokenSource, B: OctetsBuilder>(
     ensures end { S.end source.new ≡ S.end source.old }
 {
     source.advance();
-    let count = take_count(source)?;
+    let count = match take_count(source) {
+        Ok(count) => count,
+        Err(refusal) => return Err(refusal),
+    };
     let begun = target.as_slice().len();
-    take_digits(DigitsKind::Hex, source, target)?;
+    if let Err(refusal) = take_digits(DigitsKind::Hex, source, target) {
+        return Err(refusal);
+    }
     let gained = target.as_slice().len() - begun;
     if gained != usize::from(count) {
         let at = source.place();
