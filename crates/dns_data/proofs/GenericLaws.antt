@@ -72,3 +72,16 @@ digits_refused room begun end count (m ∷ ts) first left final old new r mark i
       ];
       extends = h.extends;
     }
+
+-- behind the number come as many octets in digits
+pub generic_spelled : (count : ℕ) (tokens first left final : List TokenSeen) (old new : List ℕ) → BeginsGeneric tokens → first ≡ drop 1 tokens → (t : TokenSeen) × (first ≡ t ∷ left) × IsCount t count
+    → (final ≡ []) × Gains (SpellsJoined base16 left) old new → length new - length old ≡ count → (final ≡ []) × Gains (SpellsGeneric tokens) old new
+generic_spelled count [] first left final old new mark is counted gained size = absurd mark
+generic_spelled count (m ∷ ts) first left final old new mark is counted gained size =
+    let t = counted.0 in
+    let all : ts ≡ t ∷ left = sym is ∙ counted.1 in
+    let octets : List ℕ = gained.1.0 in
+    let long : length new ≡ length old + length octets = ap length gained.1.2 ∙ length-append old octets in
+    let many : count ≡ length octets = omega (arith, size, long) in
+    let spelled : SpellsGeneric (m ∷ t ∷ left) octets = (mark, subst (IsCount t) many counted.2, gained.1.1) in
+    (gained.0, (octets, subst (λ z. SpellsGeneric (m ∷ z) octets) (sym all) spelled, gained.1.2))

@@ -1,5 +1,5 @@
 use Rattle.std.proofs.Common.{ℕ, ◌-◌, ◌≡◌, length, sym, ap, subst, ◌∙◌}
-use Rattle.dns_data.proofs.GenericLaws.{wrong_count, count_refused, digits_refused}
+use Rattle.dns_data.proofs.GenericLaws.{wrong_count, count_refused, digits_refused, generic_spelled}
 use Rattle.dns_data.proofs.generic.take_generic.Goals as goal
 
 pub returns-then-gained-from-clause-takes : goal.returns-then-gained-from-clause-takes
@@ -17,3 +17,11 @@ returns-in-Err-clause-takes g c =
 pub returns-in-Err-take_digits-clause-takes : goal.returns-in-Err-take_digits-clause-takes
 returns-in-Err-take_digits-clause-takes g c =
     digits_refused g.B.OctetsBuilder.room _ _ c.in-Ok.count _ _ _ _ _ _ c.in-Err-take_digits.refusal c.requires c.advance.ensures.left (ap (λ e. e.at) (c.take_count.ensures.end ∙ c.advance.ensures.end)) c.in-Ok.ensures.takes c.in-Err-take_digits.ensures.takes
+
+pub returns-clause-takes : goal.returns-clause-takes
+returns-clause-takes g c =
+    let octets = g.B.AsOctets.octets in
+    let before : length c.as_slice-begun.result.now ≡ length (octets c.args.target.now) = ap length c.as_slice-begun.ensures.value in
+    let after : length c.as_slice.result.now ≡ length (octets c.take_digits.new.target) = ap length c.as_slice.ensures.value in
+    let size = sym (ap (λ n. n - length c.as_slice-begun.result.now) after ∙ ap (λ n. length (octets c.take_digits.new.target) - n) before) ∙ c.if-gained-from.false ∙ c.from.ensures in
+    generic_spelled c.in-Ok.count _ _ _ _ (octets c.args.target.now) (octets c.take_digits.new.target) c.requires c.advance.ensures.left c.in-Ok.ensures.takes c.in_default.ensures.takes size
