@@ -206,6 +206,26 @@ pub blank_is : (c : ℕ) → (c ≡ 9) ⊎ (c ≡ 32) → is_in Blank c ≡ true
 blank_is c (inl e) = ap (is_in Blank) e
 blank_is c (inr e) = ap (is_in Blank) e
 
+-- one octet after which nothing is open
+pub one_passed : (text : List ℕ) (p : Place) (n : ℕ) → p.at < length text → n ≤ p.at + 1 → step Outside p.depth (get_or text p.at 0) ≡ move_to Outside n EndToken → Passes text p (record { depth = n; at = p.at + 1 })
+one_passed text p n w deep h = record {
+  on = omega arith;
+  within = omega (arith, w);
+  deep = deep;
+  same = λ b. ap (run Outside p.depth p.at p.at b) (at_drop text p.at w) ∙ moved_on (get_or text p.at 0) p.depth n p.at b (drop (p.at + 1) text) h;
+}
+
+pub open_step : (c d : ℕ) → c ≡ 40 → step Outside d c ≡ move_to Outside (d + 1) EndToken
+open_step c d is = let more : suc d ≡ d + 1 = omega arith in ap (step Outside d) is ∙ ap (λ n. move_to Outside n EndToken) more
+
+pub close_step : (c d : ℕ) → c ≡ 41 → 0 < d → step Outside d c ≡ move_to Outside (d - 1) EndToken
+close_step c zero is some = absurd (omega (arith, some))
+close_step c (suc d) is some = let less : d ≡ suc d - 1 = omega arith in ap (step Outside (suc d)) is ∙ ap (λ n. move_to Outside n EndToken) less
+
+pub feed_step : (c d : ℕ) → c ≡ 10 → 0 < d → step Outside d c ≡ move_to Outside d EndToken
+feed_step c zero is some = absurd (omega (arith, some))
+feed_step c (suc d) is some = ap (step Outside (suc d)) is
+
 -- ---- pieces
 opens_comment : (d at : ℕ) (b : Bool) (bs : List ℕ) → run Outside d at at b (59 ∷ bs) ≡ run Comment d at (at + 1) b bs
 opens_comment d at b bs = run_step Outside d at at b 59 bs _ refl ∙ ap (λ o. before o (run Comment d at (at + 1) b bs)) (cond-true _ _ _ (eq-eqb at at refl))
