@@ -9,7 +9,7 @@ use Rattle.zone_dnssec.specs.NsecChain.{comes_after, next_name}
 use Rattle.zone_dnssec.specs.Parameters.{has_named_chain}
 use Rattle.zone_dnssec.specs.SignatureFields.{label_count}
 use Rattle.zone_dnssec.specs.SignatureTimes.{has_passed, seconds_between}
-use Rattle.zone_dnssec.specs.SignedSets.{has_signature, lacks_delegation, must_be_signed, signs_nothing}
+use Rattle.zone_dnssec.specs.SignedSets.{has_signature, must_be_signed, signs_nothing}
 use Rattle.zone_dnssec.specs.ZoneKeys.{modulus, modulus_tag, sum_tag}
 
 -- ---- times: after 4294967295 comes 0 (RFC 1982 section 3.1)
@@ -69,9 +69,6 @@ signed_row = refl
 
 nothing_row : signs_nothing (signature ∷ []) signature ≡ true
 nothing_row = refl
-
-no_delegation_row : lacks_delegation (at sub 43 [] ∷ []) (at sub 43 []) ≡ true
-no_delegation_row = refl
 
 -- ---- the chain
 

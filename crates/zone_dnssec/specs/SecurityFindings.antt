@@ -11,12 +11,12 @@ use Rattle.zone_dnssec.specs.NsecChain.{lacks_nsec, names_other_next}
 use Rattle.zone_dnssec.specs.NsecTypes.{lists_other_types}
 use Rattle.zone_dnssec.specs.SignatureFields.{has_other_labels, has_other_original_ttl, has_other_own_ttl, has_other_signer}
 use Rattle.zone_dnssec.specs.SignatureTimes.{is_expired, expires_within, has_reversed_times, is_early}
-use Rattle.zone_dnssec.specs.SignedSets.{is_left_unsigned, signs_nothing, lacks_delegation}
+use Rattle.zone_dnssec.specs.SignedSets.{is_left_unsigned, signs_nothing}
 use Rattle.zone_dnssec.specs.ZoneKeys.{is_by_revoked_key, lacks_known_key, misses_key, zone_keys}
 use Rattle.zone_dnssec.specs.declared.hashed.LinkFault.TheVariants.{Missing, DifferentTypes}
 use Rattle.zone_dnssec.specs.declared.rule.SecurityFinding.{SecurityFinding}
 use Rattle.zone_dnssec.specs.declared.rule.SecurityRule.{SecurityRule}
-use Rattle.zone_dnssec.specs.declared.rule.SecurityRule.TheVariants.{Expired, ExpiresSoon, NotYetValid, TimesReversed, OtherSigner, OtherLabels, OtherOriginalTtl, OtherSignatureTtl, Unsigned, NoKey, KeyMissing, RevokedKey, SignsNothing, Occluded, NoNsec, OtherNext, OtherTypes, DsWithoutNs, NoNsec3, OtherNextHash, OtherHashedTypes, OtherLinkOwner, TooManyIterations, ManyIterations, SomeIterations, OtherDenialTtl, DeleteBesideKeys}
+use Rattle.zone_dnssec.specs.declared.rule.SecurityRule.TheVariants.{Expired, ExpiresSoon, NotYetValid, TimesReversed, OtherSigner, OtherLabels, OtherOriginalTtl, OtherSignatureTtl, Unsigned, NoKey, KeyMissing, RevokedKey, SignsNothing, Occluded, NoNsec, OtherNext, OtherTypes, NoNsec3, OtherNextHash, OtherHashedTypes, OtherLinkOwner, TooManyIterations, ManyIterations, SomeIterations, OtherDenialTtl, DeleteBesideKeys}
 use Rattle.zone_dnssec.specs.declared.times.Times.{Times}
 
 -- whether the record at a place breaks a rule
@@ -38,7 +38,6 @@ breaks_security Occluded origin times records place r = is_occluded origin recor
 breaks_security NoNsec origin times records place r = lacks_nsec origin records place r
 breaks_security OtherNext origin times records place r = names_other_next origin records r
 breaks_security OtherTypes origin times records place r = lists_other_types origin records r
-breaks_security DsWithoutNs origin times records place r = lacks_delegation records r
 breaks_security NoNsec3 origin times records place r = fails_chain Missing origin records place r
 breaks_security OtherNextHash origin times records place r = names_other_hash origin records r
 breaks_security OtherHashedTypes origin times records place r = fails_chain DifferentTypes origin records place r
@@ -56,7 +55,7 @@ insecure_if is_broken rule place = if is_broken then record { rule = rule; «rec
 -- the rules, in the order in which they are told of a record
 abbrev pub security_rules : List SecurityRule
 security_rules =
-    Expired ∷ ExpiresSoon ∷ NotYetValid ∷ TimesReversed ∷ OtherSigner ∷ OtherLabels ∷ OtherOriginalTtl ∷ OtherSignatureTtl ∷ Unsigned ∷ NoKey ∷ KeyMissing ∷ RevokedKey ∷ SignsNothing ∷ Occluded ∷ NoNsec ∷ OtherNext ∷ OtherTypes ∷ DsWithoutNs ∷ NoNsec3 ∷ OtherNextHash ∷ OtherHashedTypes ∷ OtherLinkOwner ∷ TooManyIterations ∷ ManyIterations ∷ SomeIterations ∷ OtherDenialTtl ∷ DeleteBesideKeys ∷ []
+    Expired ∷ ExpiresSoon ∷ NotYetValid ∷ TimesReversed ∷ OtherSigner ∷ OtherLabels ∷ OtherOriginalTtl ∷ OtherSignatureTtl ∷ Unsigned ∷ NoKey ∷ KeyMissing ∷ RevokedKey ∷ SignsNothing ∷ Occluded ∷ NoNsec ∷ OtherNext ∷ OtherTypes ∷ NoNsec3 ∷ OtherNextHash ∷ OtherHashedTypes ∷ OtherLinkOwner ∷ TooManyIterations ∷ ManyIterations ∷ SomeIterations ∷ OtherDenialTtl ∷ DeleteBesideKeys ∷ []
 
 -- the record at a place breaks the rule
 abbrev pub breaks_security_at : {N O : Type 0} → List (List ℕ) → Times → List (Record N O) → ℕ → SecurityRule → Bool

@@ -1,7 +1,7 @@
 -- The names of the rules, and which are faults.
 use Rattle.std.specs.Prelude.{ℕ, Bool, true, false, List, codes}
 use Rattle.zone_dnssec.specs.declared.rule.SecurityRule.{SecurityRule}
-use Rattle.zone_dnssec.specs.declared.rule.SecurityRule.TheVariants.{Expired, ExpiresSoon, NotYetValid, TimesReversed, OtherSigner, OtherLabels, OtherOriginalTtl, OtherSignatureTtl, Unsigned, NoKey, KeyMissing, RevokedKey, SignsNothing, Occluded, NoNsec, OtherNext, OtherTypes, DsWithoutNs, NoNsec3, OtherNextHash, OtherHashedTypes, OtherLinkOwner, TooManyIterations, ManyIterations, SomeIterations, OtherDenialTtl, DeleteBesideKeys}
+use Rattle.zone_dnssec.specs.declared.rule.SecurityRule.TheVariants.{Expired, ExpiresSoon, NotYetValid, TimesReversed, OtherSigner, OtherLabels, OtherOriginalTtl, OtherSignatureTtl, Unsigned, NoKey, KeyMissing, RevokedKey, SignsNothing, Occluded, NoNsec, OtherNext, OtherTypes, NoNsec3, OtherNextHash, OtherHashedTypes, OtherLinkOwner, TooManyIterations, ManyIterations, SomeIterations, OtherDenialTtl, DeleteBesideKeys}
 
 abbrev pub security_name : SecurityRule → List ℕ
 security_name Expired = codes "expired"
@@ -21,7 +21,6 @@ security_name Occluded = codes "occluded-dnssec"
 security_name NoNsec = codes "no-nsec"
 security_name OtherNext = codes "nsec-next"
 security_name OtherTypes = codes "nsec-types"
-security_name DsWithoutNs = codes "ds-without-ns"
 security_name NoNsec3 = codes "no-nsec3"
 security_name OtherNextHash = codes "nsec3-next"
 security_name OtherHashedTypes = codes "nsec3-types"
@@ -51,7 +50,6 @@ is_security_fault Occluded = true
 is_security_fault NoNsec = true
 is_security_fault OtherNext = true
 is_security_fault OtherTypes = true
-is_security_fault DsWithoutNs = true
 is_security_fault NoNsec3 = true
 is_security_fault OtherNextHash = true
 is_security_fault OtherHashedTypes = true

@@ -40,7 +40,3 @@ is_left_unsigned origin records place r =
 -- an RRSIG covers a type of which no record stands at its owner
 abbrev pub signs_nothing : {N O : Type 0} → List (Record N O) → Record N O → Bool
 signs_nothing records r = type_of r == 46 && not (has_type_at (set_type r) r.owner records)
-
--- a DS without NS beside it
-abbrev pub lacks_delegation : {N O : Type 0} → List (Record N O) → Record N O → Bool
-lacks_delegation records r = type_of r == 43 && not (has_type_at 2 r.owner records)

@@ -17,7 +17,7 @@ use crate::hashes::Hashes;
 use crate::keys::{Key, is_of_revoked_key, is_of_unknown_key, is_without_key, keys_at_apex};
 use crate::links::has_wrong_next;
 use crate::rule::{SecurityFinding, SecurityRule};
-use crate::sets::{is_unsigned, is_without_delegation, is_without_set};
+use crate::sets::{is_unsigned, is_without_set};
 use crate::signatures::{
     has_wrong_labels, has_wrong_original_ttl, has_wrong_own_ttl, has_wrong_signer,
 };
@@ -32,7 +32,7 @@ use zone_rules::names::view;
 use zone_rules::sorted::has_type;
 
 /// The rules, in the order in which they are reported of a record.
-const SECURITY_RULES: [SecurityRule; 27] = [
+const SECURITY_RULES: [SecurityRule; 26] = [
     SecurityRule::Expired,
     SecurityRule::ExpiresSoon,
     SecurityRule::NotYetValid,
@@ -50,7 +50,6 @@ const SECURITY_RULES: [SecurityRule; 27] = [
     SecurityRule::NoNsec,
     SecurityRule::OtherNext,
     SecurityRule::OtherTypes,
-    SecurityRule::DsWithoutNs,
     SecurityRule::NoNsec3,
     SecurityRule::OtherNextHash,
     SecurityRule::OtherHashedTypes,
@@ -105,7 +104,6 @@ fn breaks_rule<'a, Owner: AsOctets, Octets: AsOctets>(
         SecurityRule::NoNsec => is_without_nsec(origin, records, place, record),
         SecurityRule::OtherNext => has_wrong_next(origin, records, record),
         SecurityRule::OtherTypes => has_wrong_types(origin, records, record),
-        SecurityRule::DsWithoutNs => is_without_delegation(records, record),
         SecurityRule::NoNsec3 => is_link_wrong(
             LinkFault::Missing,
             hashes,

@@ -57,8 +57,6 @@ pub enum SecurityRule {
     /// The record is an NSEC, and lists other types than those at its owner; at a delegation NS,
     /// DS, RRSIG and NSEC count alone (RFC 4035 section 2.3).
     OtherTypes,
-    /// The record is a DS, and no NS stands at its owner (RFC 4035 section 2.4).
-    DsWithoutNs,
     /// The record is the first at a name whose data the zone has authority over, or at a
     /// delegation, an NSEC3PARAM at the apex names a chain, and in it no NSEC3 matches the name, or
     /// an empty non-terminal above it. A delegation without DS may be left out where the NSEC3 that
@@ -114,7 +112,6 @@ impl SecurityRule {
             SecurityRule::NoNsec => "no-nsec",
             SecurityRule::OtherNext => "nsec-next",
             SecurityRule::OtherTypes => "nsec-types",
-            SecurityRule::DsWithoutNs => "ds-without-ns",
             SecurityRule::NoNsec3 => "no-nsec3",
             SecurityRule::OtherNextHash => "nsec3-next",
             SecurityRule::OtherHashedTypes => "nsec3-types",

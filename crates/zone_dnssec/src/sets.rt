@@ -1,9 +1,9 @@
 //! Which sets have signatures.
 ghost use Rattle.std.specs.Prelude.{◌≡◌};
-ghost use Rattle.zone_dnssec.specs.SignedSets.{belongs_to_parent, covers, has_signature, is_authoritative, is_left_unsigned, lacks_delegation, must_be_signed, signs_nothing, starts};
+ghost use Rattle.zone_dnssec.specs.SignedSets.{belongs_to_parent, covers, has_signature, is_authoritative, is_left_unsigned, must_be_signed, signs_nothing, starts};
 ghost use Rattle.zone_rules.specs.Zones.{is_one_set};
 
-use crate::types::{DS, NS, NSEC, RRSIG};
+use crate::types::{DS, NSEC, RRSIG};
 use dns_octets::AsOctets;
 use dns_resource::Record;
 use dns_wire::Name;
@@ -104,14 +104,4 @@ pub fn is_without_set<Owner: AsOctets, Octets: AsOctets>(
     ensures { result ≡ signs_nothing records.now «record».now }
 {
     record.data.code() == RRSIG && !has_type(records, &view(&record.owner), set_type_of(record))
-}
-
-/// Whether a record is a DS at a name without NS.
-pub fn is_without_delegation<Owner: AsOctets, Octets: AsOctets>(
-    records: &SortedRecords<'_, Owner, Octets>,
-    record: &Record<Owner, Octets>,
-) -> bool
-    ensures { result ≡ lacks_delegation records.now «record».now }
-{
-    record.data.code() == DS && !has_type(records, &view(&record.owner), NS)
 }

@@ -564,8 +564,6 @@ impl<'a> Checker<'a> {
     fn tells_rule(&self, rule: Rule, is_zone: bool) -> bool {
         match rule {
             Rule::Duplicate | Rule::TtlDiffers => true,
-            // The rules of signed zones have this one too.
-            Rule::DsWithoutNs => is_zone && !self.has_gap && self.limits.times.is_none(),
             _ => is_zone && !(self.has_gap && is_of_absence(rule)),
         }
     }

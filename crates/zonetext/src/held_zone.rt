@@ -98,7 +98,6 @@ pub fn is_of_signed_absence(rule: SecurityRule) -> bool {
         | SecurityRule::NoNsec
         | SecurityRule::OtherNext
         | SecurityRule::OtherTypes
-        | SecurityRule::DsWithoutNs
         | SecurityRule::NoNsec3
         | SecurityRule::OtherNextHash
         | SecurityRule::OtherHashedTypes => true,

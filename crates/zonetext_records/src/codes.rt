@@ -141,7 +141,6 @@ pub fn code_of_security(rule: SecurityRule) -> Code
         SecurityRule::NoNsec => Code::NoNsec,
         SecurityRule::OtherNext => Code::NsecNext,
         SecurityRule::OtherTypes => Code::NsecTypes,
-        SecurityRule::DsWithoutNs => Code::DsWithoutNs,
         SecurityRule::NoNsec3 => Code::NoNsec3,
         SecurityRule::OtherNextHash => Code::Nsec3Next,
         SecurityRule::OtherHashedTypes => Code::Nsec3Types,
