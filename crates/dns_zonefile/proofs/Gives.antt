@@ -1,13 +1,13 @@
 -- What is given of all octets that were added.
 use Rattle.std.proofs.Common.{◌≡◌, ◌≢◌, ℕ, ◌+◌, ◌<◌, ◌≤◌, ◌^◌, Bool, true, false, List, [], ◌∷◌, ◌++◌, length, take, drop, refl, sym, ap, ◌∙◌, subst, arith, inl, inr, append-nil, length-drop}
-use Rattle.std.specs.Prelude.{◌⊎◌, map, Some, None, Result, Ok, Err}
-use Rattle.std.specs.List.{AllByRecursion}
-use Rattle.std.proofs.lemmas.Bool.{cond-false, cond-true, false≢true}
+use Rattle.std.specs.Prelude.{◌⊎◌, ◌↔◌, IsTrue, map, Option, Some, None, Result, Ok, Err}
+use Rattle.std.proofs.lemmas.Bool.{cases_lt, false≢true}
 use Rattle.std.proofs.lemmas.List.{drop-drop}
 use Rattle.dns_octets.specs.Room.{Room}
 use Rattle.dns_split.specs.declared.pieces.EndOfEntry.{EndOfEntry}
 use Rattle.dns_split.specs.declared.pieces.Fault.{Fault}
 use Rattle.dns_split.specs.declared.pieces.Piece.{Piece}
+use Rattle.dns_split.specs.EntryTokens.{TokenSeen}
 use Rattle.dns_split.specs.Pieces.{AreOctets}
 use Rattle.dns_split.specs.Standing.{blank_at}
 use Rattle.zone_format.specs.declared.place.Place.{Place}
@@ -16,20 +16,27 @@ use Rattle.zone_format.proofs.Opened.{quote_within}
 use Rattle.dns_reader.specs.declared.entry.EntryRead.{EntryRead}
 use Rattle.dns_reader.specs.declared.entry_error.EntryRefusal.{EntryRefusal}
 use Rattle.dns_reader.specs.declared.state.State.{State}
-use Rattle.dns_tape.specs.FirstEntry.{StopsFirst, piece_tokens}
-use Rattle.dns_zonefile.specs.Adding.{FindsEntry, IsHeldStop, IsPutOff, LetsRead, SkipsLine, behind_stop, forgotten, stop_octets}
-use Rattle.dns_zonefile.specs.Blocks.{Blocks, HoldsLast, IsKeptOpener, IsPlaceOf, StandsIf, held_left, behind_line_if, is_open, place_of_next, text_left}
+use Rattle.dns_tape.specs.FirstEntry.{StopsFirst, piece_tokens, stop_offset}
+use Rattle.dns_zonefile.specs.Adding.{FindsEntry, IsHeldStop, IsPutOff, LetsRead, SkipsLine, after_long_entry, after_stop, found_len, with_left}
+use Rattle.dns_zonefile.specs.Blocks.{Blocks, HoldsLast, MayFollow, after_line_if, held_left, place_of_next, text_left}
 use Rattle.dns_zonefile.specs.First.{BeginsEntryWith, StandsFirst}
-use Rattle.dns_zonefile.specs.Giving.{CanMove, ReadsNext, ReadsStop, given_by}
-use Rattle.dns_zonefile.specs.Kept.{KeptSeen, tokens_kept}
-use Rattle.dns_zonefile.proofs.Held.{ahead_rest, dropped, holds_rest, holds_same, left_ahead, none_gone, some_gone}
+use Rattle.dns_zonefile.specs.Giving.{CanMove, ReadsNext, ReadsPending, given_by}
+use Rattle.dns_zonefile.specs.declared.refusal.BlockRefusal.TheVariants.{LongEntry}
+use Rattle.dns_zonefile.proofs.Held.{ahead_rest, dropped, holds_rest, holds_same, left_ahead, none_left}
 use Rattle.dns_zonefile.proofs.LastEnds.{within_after}
-use Rattle.dns_zonefile.proofs.Opened.{given_ends}
+use Rattle.dns_zonefile.proofs.LongEntries.{not_within, one_stop, stops_first}
 use Rattle.dns_zonefile.proofs.Stops.{alone, end_within, fault_stays, stays}
 
 first_of_bad : (found : List Piece) (f : Fault) → first_fault (map Ok found ++ Err f ∷ []) ≡ Some f
 first_of_bad [] f = refl
 first_of_bad (p ∷ found) f = first_of_bad found f
+
+-- so many octets are within the limit
+pub not_long : (limit len : ℕ) (b : Bool) → (IsTrue b ↔ (limit < len)) → b ≡ false → len ≤ limit
+not_long limit len b h e = elim (cases_lt limit len) [
+  | inl less ↦ let t : IsTrue false = subst IsTrue e (h.1 less) in cc
+  | inr most ↦ most
+]
 
 -- ---- a stop is among what is held
 
@@ -50,199 +57,245 @@ blank_front : (rest more : List ℕ) → rest ≢ [] → blank_at (rest ++ more)
 blank_front [] more h = absurd (h refl)
 blank_front (x ∷ rest) more h = refl
 
-no_line : (skips : Bool) → behind_line_if skips [] ≡ []
+empty : (l : List ℕ) → length l ≡ 0 → l ≡ []
+empty [] e = refl
+empty (x ∷ l) e = absurd (omega (arith, e))
+
+no_line : (skips : Bool) → after_line_if skips [] ≡ []
 no_line true = refl
 no_line false = refl
 
--- what was kept of the entry that was given last is let go
-pub holds_forgotten : (all : List ℕ) (b : Blocks) → HoldsLast all b → HoldsLast all (forgotten b)
-holds_forgotten all b h = go (is_open b) refl h.stands
-  where
-    go : (t : Bool) → is_open b ≡ t → StandsIf t all b → HoldsLast all (forgotten b)
-    go true e x = record {
-      before = h.before;
-      is = h.is;
-      at = h.at;
-      position = h.position;
-      stands = subst (λ t. StandsIf t all (forgotten b)) (sym e) (record { by = x.by; tokens = x.tokens; next = x.next; skips = x.skips; base = x.base; kept = ap tokens_kept (cond-true _ _ _ e) ∙ x.kept; stands = x.stands });
-      kept = subst (AllByRecursion (λ (k : KeptSeen). IsPlaceOf all k.token.at k.position)) (sym (cond-true _ _ _ e)) h.kept;
-      entry = h.entry;
-      opened = subst (IsKeptOpener all) (sym (cond-true _ _ _ e)) h.opened;
-    }
-    go false e x = record {
-      before = h.before;
-      is = h.is;
-      at = h.at;
-      position = h.position;
-      stands = subst (λ t. StandsIf t all (forgotten b)) (sym e) tt;
-      kept = subst (AllByRecursion (λ (k : KeptSeen). IsPlaceOf all k.token.at k.position)) (sym (cond-false _ _ _ e)) tt;
-      entry = h.entry;
-      opened = subst (IsKeptOpener all) (sym (cond-false _ _ _ e)) tt;
-    }
+-- the next entry was sought
+module _ (all : List ℕ) (b m f : Blocks) (h : HoldsLast all b) (k : SkipsLine b m) (found : Option (Result ℕ Fault)) (n : FindsEntry m found f) where
+  same_f : f ≡ record b { next = m.next; skips = m.skips; left = f.left }
+  same_f = n.same ∙ ap (λ (x : Blocks). with_left x f.left) k.same
 
--- reading was put off, or nothing was left of a text that goes on
-module _ (room : Room) (all : List ℕ) (b m f c : Blocks) (state : State) (target : List ℕ) (h : HoldsLast all b) (k : SkipsLine b m) (n : FindsEntry m None f) where
-  over_m : b.is_finished ≡ true → m.is_finished ≡ true
-  over_m e = k.is_finished ∙ e
+  holds_f : HoldsLast all f
+  holds_f = holds_same all b h f (ap (λ (x : Blocks). x.octets) same_f) (ap (λ (x : Blocks). x.start) same_f)
 
-  -- nothing was let go of the entry that comes next
-  module _ (closed : is_open b ≡ false) (closed_f : is_open f ≡ false) (g : LetsRead f c) where
-    none_f : HoldsLast all f
-    none_f = holds_same all b h k.low f (ap (λ (x : Blocks). x.octets) n.same ∙ k.octets) (ap (λ (x : Blocks). x.front) n.same ∙ k.front) (ap (λ (x : Blocks). x.start) n.same ∙ k.start)
-        (ap (λ (x : Blocks). x.kept) n.same ∙ k.kept) (ap (λ (x : Blocks). x.entry) n.same ∙ k.entry) (ap (λ (x : Blocks). x.opened) n.same ∙ k.opened) (subst (λ t. StandsIf t all f) (sym closed_f) tt)
+  within_f : f.next ≤ length f.octets
+  within_f = omega (arith, k.within, ap (λ (x : Blocks). x.next) same_f, ap (λ (x : Blocks). length x.octets) same_f)
 
-    low_f : f.front ≤ length f.octets
-    low_f = omega (arith, k.low, ap (λ (x : Blocks). x.front) n.same, k.front, ap (λ (x : Blocks). length x.octets) n.same, ap length k.octets)
+  within_b : b.next ≤ length b.octets
+  within_b = omega (arith, k.on, k.within)
 
-    none_left : (more : List ℕ) → text_left c (all ++ more) ≡ text_left b (all ++ more)
-    none_left more =
-        let inner : c.next ≤ length c.octets = omega (arith, g.next) in
-        let bottom : c.front ≤ length c.octets = omega (arith, g.front) in
-        left_ahead all c (holds_rest all f none_f low_f c closed_f g) bottom more (some_gone c (omega (arith, g.front))) inner ∙ ahead_rest f c more g ∙ ap (λ (x : Blocks). held_left x more) n.same ∙ k.ahead_is more
-        ∙ sym (left_ahead all b h k.low more closed k.within_before)
+  finished_f : f.is_finished ≡ b.is_finished
+  finished_f = ap (λ (x : Blocks). x.is_finished) same_f
 
-    none_ended : b.is_finished ≡ true → text_left c all ≡ []
-    none_ended e = go n.finds
+  limit_f : f.limit ≡ b.limit
+  limit_f = ap (λ (x : Blocks). x.limit) same_f
+
+  left_f : (more : List ℕ) → text_left b (all ++ more) ≡ held_left f more
+  left_f more = left_ahead all b h more within_b ∙ sym (k.ahead_is more) ∙ ap (λ (x : Blocks). held_left x more) (sym n.same)
+
+  -- a line is not left to be skipped, where something is
+  no_skip : drop f.next f.octets ≢ [] → f.skips ≡ false
+  no_skip some = ap (λ (x : Blocks). x.skips) n.same ∙ go k.skips
+    where
+      go : (m.skips ≡ false) ⊎ (m.next ≡ length b.octets) → m.skips ≡ false
+      go (inl e) = e
+      go (inr e) =
+          let none : length (drop f.next f.octets) ≡ 0 = omega (arith, length-drop f.next f.octets, ap (λ (x : Blocks). x.next) same_f, ap (λ (x : Blocks). length x.octets) same_f, e) in
+          absurd (some (empty (drop f.next f.octets) none))
+
+  here : (more : List ℕ) → drop (place_of_next f) (all ++ more) ≡ drop f.next f.octets ++ more
+  here more = dropped all f holds_f f.next more within_f
+
+  some_left : drop f.next f.octets ≢ [] → (more : List ℕ) → text_left b (all ++ more) ≡ drop (place_of_next f) (all ++ more)
+  some_left some more = left_f more ∙ ap (λ s. after_line_if s (drop f.next f.octets ++ more)) (no_skip some) ∙ sym (here more)
+
+  -- and behind so many more
+  further : (c : Blocks) (count : ℕ) (more : List ℕ) → c.start ≡ f.start → c.next ≡ f.next + count → text_left c (all ++ more) ≡ after_line_if c.skips (drop count (drop (place_of_next f) (all ++ more)))
+  further c count more start next =
+      ap (λ i. after_line_if c.skips (drop i (all ++ more))) (omega (arith, ap (λ (p : Place). p.at) start, next))
+      ∙ ap (after_line_if c.skips) (sym (drop-drop count (place_of_next f) (all ++ more)))
+
+-- ---- reading was put off, or nothing was left of a text that goes on
+
+module _ (room : Room) (all : List ℕ) (b m f c : Blocks) (state : State) (target : List ℕ) (h : HoldsLast all b) (k : SkipsLine b m) (n : FindsEntry m None f) (short : length (drop f.next f.octets) ≤ f.limit) (g : LetsRead f c) where
+  left_c : (more : List ℕ) → text_left c (all ++ more) ≡ text_left b (all ++ more)
+  left_c more =
+      left_ahead all c (holds_rest all f (holds_f all b m f h k None n) c g) more (omega (arith, ap (λ (x : Blocks). x.next) g.same)) ∙ ahead_rest f c more g ∙ sym (left_f all b m f h k None n more)
+
+  ended : b.is_finished ≡ true → text_left c all ≡ []
+  ended e = go n.finds
+    where
+      over : m.is_finished ≡ true
+      over = ap (λ (x : Blocks). x.is_finished) k.same ∙ e
+
+      go : IsPutOff m ⊎ (AreOctets (drop f.next f.octets) × StandsFirst (drop f.next f.octets) f.is_finished None) → text_left c all ≡ []
+      go (inr s) = absurd (false≢true (sym s.1.0 ∙ ap (λ (x : Blocks). x.is_finished) n.same ∙ over))
+      go (inl (inr p)) = absurd (false≢true (sym p.0 ∙ over))
+      go (inl (inl none)) =
+          ap (text_left c) (sym (append-nil all)) ∙ left_c [] ∙ left_f all b m f h k None n [] ∙ ap (λ (x : Blocks). held_left x []) n.same
+          ∙ ap (λ l. after_line_if m.skips (l ++ [])) none ∙ no_line m.skips
+
+  pub gives_none : ReadsNext room all b state target None c state target
+  gives_none = record {
+    holds = holds_rest all f (holds_f all b m f h k None n) c g;
+    limit = ap (λ (x : Blocks). x.limit) g.same ∙ limit_f all b m f h k None n;
+    gives = record {
+      state = refl;
+      target = refl;
+      left = λ more may. left_c more;
+      ended = ended;
+      held = omega (arith, short, ap (λ (x : Blocks). length x.octets) g.same, limit_f all b m f h k None n);
+      is_finished = ap (λ (x : Blocks). x.is_finished) g.same ∙ finished_f all b m f h k None n;
+    };
+  }
+
+-- ---- an entry, or a fault, was found
+
+module _ (all : List ℕ) (b m f : Blocks) (h : HoldsLast all b) (k : SkipsLine b m) where
+  module _ (end : EndOfEntry) (left : List (Result Piece Fault)) (n : FindsEntry m (Some (Ok end.at)) f) (x : StopsFirst (drop f.next f.octets) (Ok end) left) (why : (0 < length left) ⊎ (f.is_finished ≡ true)) where
+    none_more : (more : List ℕ) → (b.is_finished ≡ true → more ≡ []) → left ≡ [] → more ≡ []
+    none_more more may e = go why
       where
-        go : IsPutOff m ⊎ StandsFirst (drop f.next f.octets) f.is_finished None → text_left c all ≡ []
-        go (inr s) = absurd (false≢true (sym s.0 ∙ ap (λ (x : Blocks). x.is_finished) n.same ∙ over_m e))
-        go (inl (inr p)) = absurd (false≢true (sym p.0 ∙ over_m e))
-        go (inl (inl none)) =
-            ap (text_left c) (sym (append-nil all)) ∙ none_left [] ∙ left_ahead all b h k.low [] closed k.within_before ∙ sym (k.ahead_is [])
-            ∙ ap (λ l. behind_line_if m.skips (l ++ [])) none ∙ no_line m.skips
+        go : (0 < length left) ⊎ (f.is_finished ≡ true) → more ≡ []
+        go (inl some) = absurd (omega (arith, some, ap length e))
+        go (inr over) = may (sym (finished_f all b m f h k (Some (Ok end.at)) n) ∙ over)
 
-    pub gives_none : ReadsNext room all b state target None c state target
-    gives_none = record {
-      holds = holds_rest all f none_f low_f c closed_f g;
-      is_finished = g.is_finished ∙ ap (λ (x : Blocks). x.is_finished) n.same ∙ k.is_finished;
-      gives = record { state = refl; target = refl; left = λ more may. none_left more; ended = none_ended };
-    }
+    begins_end : (more : List ℕ) → MayFollow b more → BeginsEntryWith (drop (place_of_next f) (all ++ more)) (blank_at (drop f.next f.octets) 0) (piece_tokens (take end.at (drop f.next f.octets)) None x.found) (Ok end)
+    begins_end more may =
+        let rest : List ℕ = drop f.next f.octets in
+        subst (λ l. BeginsEntryWith l (blank_at rest 0) (piece_tokens (take end.at rest) None x.found) (Ok end)) (sym (here all b m f h k (Some (Ok end.at)) n more))
+        (subst (λ (t : Bool). BeginsEntryWith (rest ++ more) t (piece_tokens (take end.at rest) None x.found) (Ok end)) (blank_front rest more n.finds.2)
+        (stays rest n.finds.0 end left x more may.0 (none_more more may.1)))
 
--- an entry, or a fault, was found
-module _ (room : Room) (all : List ℕ) (b m f c : Blocks) (before after : State) (old new : List ℕ) (read : Result EntryRead EntryRefusal) (h : HoldsLast all b) (k : SkipsLine b m) (closed : is_open b ≡ false) (closed_f : is_open f ≡ false) where
-  module _ (stop : Result ℕ Fault) (n : FindsEntry m (Some stop) f) where
-    some_f : HoldsLast all f
-    some_f = holds_same all b h k.low f (ap (λ (x : Blocks). x.octets) n.same ∙ k.octets) (ap (λ (x : Blocks). x.front) n.same ∙ k.front) (ap (λ (x : Blocks). x.start) n.same ∙ k.start)
-        (ap (λ (x : Blocks). x.kept) n.same ∙ k.kept) (ap (λ (x : Blocks). x.entry) n.same ∙ k.entry) (ap (λ (x : Blocks). x.opened) n.same ∙ k.opened) (subst (λ t. StandsIf t all f) (sym closed_f) tt)
-
-    some_low : f.front ≤ length f.octets
-    some_low = omega (arith, k.low, ap (λ (x : Blocks). x.front) n.same, k.front, ap (λ (x : Blocks). length x.octets) n.same, ap length k.octets)
-
-    base_f : place_of_next f ≡ f.start.at + f.next
-    base_f = cond-false _ _ _ closed_f
-
-    finished_f : f.is_finished ≡ b.is_finished
-    finished_f = ap (λ (x : Blocks). x.is_finished) n.same ∙ k.is_finished
-
-    -- a line is not left to be passed over
-    no_skip : f.skips ≡ false
-    no_skip = ap (λ (x : Blocks). x.skips) n.same ∙ go k.skips
+  module _ (e : Fault) (n : FindsEntry m (Some (Err e)) f) (x : StopsFirst (drop f.next f.octets) (Err e) []) (why : (e.at < length (drop f.next f.octets)) ⊎ (f.is_finished ≡ true)) where
+    before_or : (more : List ℕ) → (b.is_finished ≡ true → more ≡ []) → (e.at < length (drop f.next f.octets)) ⊎ (more ≡ [])
+    before_or more may = go why
       where
-        go : (m.skips ≡ false) ⊎ (m.next ≡ length m.octets) → m.skips ≡ false
-        go (inl e) = e
-        go (inr e) =
-            let next : f.next ≡ length f.octets = ap (λ (x : Blocks). x.next) n.same ∙ e ∙ ap length (sym (ap (λ (x : Blocks). x.octets) n.same)) in
-            let none : length (drop f.next f.octets) ≡ 0 = omega (arith, length-drop f.next f.octets, next) in
-            absurd (n.finds.2 (empty (drop f.next f.octets) none))
-          where
-            empty : (l : List ℕ) → length l ≡ 0 → l ≡ []
-            empty [] e = refl
-            empty (x ∷ l) e = absurd (omega (arith, e))
+        go : (e.at < length (drop f.next f.octets)) ⊎ (f.is_finished ≡ true) → (e.at < length (drop f.next f.octets)) ⊎ (more ≡ [])
+        go (inl less) = inl less
+        go (inr over) = inr (may (sym (finished_f all b m f h k (Some (Err e)) n) ∙ over))
 
-    some_left : (more : List ℕ) → text_left b (all ++ more) ≡ drop f.next f.octets ++ more
-    some_left more =
-        left_ahead all b h k.low more closed k.within_before ∙ sym (k.ahead_is more) ∙ ap (λ (x : Blocks). held_left x more) (sym n.same) ∙ ap (λ s. behind_line_if s (drop f.next f.octets ++ more)) no_skip
+    begins_fault : (more : List ℕ) → MayFollow b more → BeginsEntryWith (drop (place_of_next f) (all ++ more)) (blank_at (drop f.next f.octets) 0) (piece_tokens (drop f.next f.octets) None x.found) (Err e)
+    begins_fault more may =
+        let rest : List ℕ = drop f.next f.octets in
+        subst (λ l. BeginsEntryWith l (blank_at rest 0) (piece_tokens rest None x.found) (Err e)) (sym (here all b m f h k (Some (Err e)) n more))
+        (subst (λ (t : Bool). BeginsEntryWith (rest ++ more) t (piece_tokens rest None x.found) (Err e)) (blank_front rest more n.finds.2) (fault_stays rest e x more n.finds.0 may.0 (before_or more may.1)))
 
-    here : (more : List ℕ) → drop (place_of_next f) (all ++ more) ≡ drop f.next f.octets ++ more
-    here more = ap (λ i. drop i (all ++ more)) base_f ∙ dropped all f some_f some_low f.next more (none_gone f closed_f) n.finds.1
-
-    -- and behind so many more
-    further : (count : ℕ) (more : List ℕ) → drop (f.start.at + (f.next + count)) (all ++ more) ≡ drop count (drop (place_of_next f) (all ++ more))
-    further count more = ap (λ i. drop i (all ++ more)) (omega (arith, base_f)) ∙ sym (drop-drop count (place_of_next f) (all ++ more))
-
-    -- behind an entry nothing is open
-    still_closed : (at : ℕ) → c.front ≡ f.front → c.next ≡ f.next + at → is_open c ≡ false
-    still_closed at front next = some_gone c (omega (arith, front, next, none_gone f closed_f))
-
-    holds_c : (at : ℕ) → c.octets ≡ f.octets → c.front ≡ f.front → c.start ≡ f.start → c.kept ≡ f.kept → c.entry ≡ f.entry → c.opened ≡ f.opened → c.next ≡ f.next + at → HoldsLast all c
-    holds_c at octets front start kept entry opened next = holds_same all f some_f some_low c octets front start kept entry opened (subst (λ t. StandsIf t all c) (sym (still_closed at front next)) tt)
-
-    left_c : (at : ℕ) (more : List ℕ) → c.front ≡ f.front → c.start ≡ f.start → c.next ≡ f.next + at → text_left c (all ++ more) ≡ behind_line_if c.skips (drop at (drop (place_of_next f) (all ++ more)))
-    left_c at more front start next =
-        ap (λ i. behind_line_if c.skips (drop i (all ++ more))) (cond-false _ _ _ (still_closed at front next) ∙ ap (λ (p : Place). p.at + c.next) start ∙ ap (λ i. f.start.at + i) next)
-        ∙ ap (behind_line_if c.skips) (further at more)
-
-  pub gives_end : (end : EndOfEntry) (left : List (Result Piece Fault)) (n : FindsEntry m (Some (Ok end.at)) f) (x : StopsFirst (drop f.next f.octets) (Ok end) left) → (0 < length left) ⊎ (f.is_finished ≡ true)
-      → ReadsStop room [] (take end.at (drop f.next f.octets)) (blank_at (drop f.next f.octets) 0) (place_of_next f) before old read after new → c ≡ behind_stop f (Ok end.at)
-      → ReadsNext room all b before old (Some (given_by (place_of_next f) (Ok end) read)) c after new
-  gives_end end left n x why reads is =
+module _ (room : Room) (all : List ℕ) (b m f c : Blocks) (before after : State) (old new : List ℕ) (read : Result EntryRead EntryRefusal) (h : HoldsLast all b) (k : SkipsLine b m) where
+  gives_end : (end : EndOfEntry) (left : List (Result Piece Fault)) (n : FindsEntry m (Some (Ok end.at)) f) (x : StopsFirst (drop f.next f.octets) (Ok end) left) → (0 < length left) ⊎ (f.is_finished ≡ true)
+      → end.at ≤ f.limit → ReadsPending room f (Ok end.at) before old read after new → c ≡ after_stop f (Ok end.at) → ReadsNext room all b before old (Some (given_by (place_of_next f) (Ok end) read)) c after new
+  gives_end end left n x why short reads is =
       let rest : List ℕ = drop f.next f.octets in
+      let found : Option (Result ℕ Fault) = Some (Ok end.at) in
       let own = alone rest n.finds.0 end left x in record {
-        holds = holds_c (Ok end.at) n end.at (ap (λ (x : Blocks). x.octets) is) (ap (λ (x : Blocks). x.front) is) (ap (λ (x : Blocks). x.start) is) (ap (λ (x : Blocks). x.kept) is) (ap (λ (x : Blocks). x.entry) is) (ap (λ (x : Blocks). x.opened) is) (ap (λ (x : Blocks). x.next) is);
-        is_finished = ap (λ (x : Blocks). x.is_finished) is ∙ finished_f (Ok end.at) n;
-        gives = record {
+        holds = holds_same all f (holds_f all b m f h k found n) c (ap (λ (x : Blocks). x.octets) is) (ap (λ (x : Blocks). x.start) is);
+        limit = ap (λ (x : Blocks). x.limit) is ∙ limit_f all b m f h k found n;
+        gives = inl (record {
           at = place_of_next f;
           began_at = ap (λ (x : Blocks). x.began) is;
           blank = blank_at rest 0;
           tokens = piece_tokens (take end.at rest) None x.found;
           stop = Ok end;
           stands = λ more may. record {
-            left = some_left (Ok end.at) n more ∙ sym (here (Ok end.at) n more);
-            begins = subst (λ l. BeginsEntryWith l (blank_at rest 0) (piece_tokens (take end.at rest) None x.found) (Ok end)) (sym (here (Ok end.at) n more))
-                (subst (λ (t : Bool). BeginsEntryWith (rest ++ more) t (piece_tokens (take end.at rest) None x.found) (Ok end)) (blank_front rest more n.finds.2)
-                (stays rest n.finds.0 end left x more may.0 (none why may.1)));
-            behind = left_c (Ok end.at) n end.at more (ap (λ (x : Blocks). x.front) is) (ap (λ (x : Blocks). x.start) is) (ap (λ (x : Blocks). x.next) is) ∙ ap (λ s. behind_line_if s (drop end.at (drop (place_of_next f) (all ++ more)))) (ap (λ (x : Blocks). x.skips) is ∙ no_skip (Ok end.at) n);
+            left = some_left all b m f h k found n n.finds.2 more;
+            begins = begins_end all b m f h k end left n x why more may;
+            behind = further all b m f h k found n c end.at more (ap (λ (x : Blocks). x.start) is) (ap (λ (x : Blocks). x.next) is)
+                ∙ ap (λ s. after_line_if s (drop end.at (drop (place_of_next f) (all ++ more)))) (ap (λ (x : Blocks). x.skips) is ∙ no_skip all b m f h k found n n.finds.2);
           };
+          short = omega (arith, short, limit_f all b m f h k found n);
+          is_finished = ap (λ (x : Blocks). x.is_finished) is ∙ finished_f all b m f h k found n;
           read = read;
           reads = reads (Ok end) own.0 (record { found = x.found; is_open = x.is_open; given = own.1 }) own.2;
           is = refl;
-        };
+        });
       }
-    where
-      none : {more : List ℕ} → (0 < length left) ⊎ (f.is_finished ≡ true) → (b.is_finished ≡ true → more ≡ []) → left ≡ [] → more ≡ []
-      none (inl some) may e = absurd (omega (arith, some, ap length e))
-      none (inr over) may e = may (sym (finished_f (Ok end.at) n) ∙ over)
 
-  pub gives_fault : (e : Fault) (n : FindsEntry m (Some (Err e)) f) (x : StopsFirst (drop f.next f.octets) (Err e) []) → (e.at < length (drop f.next f.octets)) ⊎ (f.is_finished ≡ true)
-      → ReadsStop room [] (drop f.next f.octets) (blank_at (drop f.next f.octets) 0) (place_of_next f) before old read after new → c ≡ behind_stop f (Err e)
-      → ReadsNext room all b before old (Some (given_by {E = ℕ} (place_of_next f) (Err e) read)) c after new
-  gives_fault e n x why reads is =
-      let rest : List ℕ = drop f.next f.octets in record {
-        holds = holds_c (Err e) n e.at (ap (λ (x : Blocks). x.octets) is) (ap (λ (x : Blocks). x.front) is) (ap (λ (x : Blocks). x.start) is) (ap (λ (x : Blocks). x.kept) is) (ap (λ (x : Blocks). x.entry) is) (ap (λ (x : Blocks). x.opened) is) (ap (λ (x : Blocks). x.next) is);
-        is_finished = ap (λ (x : Blocks). x.is_finished) is ∙ finished_f (Err e) n;
-        gives = record {
+  gives_fault : (e : Fault) (n : FindsEntry m (Some (Err e)) f) (x : StopsFirst (drop f.next f.octets) (Err e) []) → (e.at < length (drop f.next f.octets)) ⊎ (f.is_finished ≡ true)
+      → e.at ≤ f.limit → ReadsPending room f (Err e) before old read after new → c ≡ after_stop f (Err e) → ReadsNext room all b before old (Some (given_by {E = ℕ} (place_of_next f) (Err e) read)) c after new
+  gives_fault e n x why short reads is =
+      let rest : List ℕ = drop f.next f.octets in
+      let found : Option (Result ℕ Fault) = Some (Err e) in record {
+        holds = holds_same all f (holds_f all b m f h k found n) c (ap (λ (x : Blocks). x.octets) is) (ap (λ (x : Blocks). x.start) is);
+        limit = ap (λ (x : Blocks). x.limit) is ∙ limit_f all b m f h k found n;
+        gives = inl (record {
           at = place_of_next f;
           began_at = ap (λ (x : Blocks). x.began) is;
           blank = blank_at rest 0;
           tokens = piece_tokens rest None x.found;
           stop = Err e;
           stands = λ more may. record {
-            left = some_left (Err e) n more ∙ sym (here (Err e) n more);
-            begins = subst (λ l. BeginsEntryWith l (blank_at rest 0) (piece_tokens rest None x.found) (Err e)) (sym (here (Err e) n more))
-                (subst (λ (t : Bool). BeginsEntryWith (rest ++ more) t (piece_tokens rest None x.found) (Err e)) (blank_front rest more n.finds.2) (fault_stays rest e x more n.finds.0 may.0 (none why may.1)));
-            behind = left_c (Err e) n e.at more (ap (λ (x : Blocks). x.front) is) (ap (λ (x : Blocks). x.start) is) (ap (λ (x : Blocks). x.next) is) ∙ ap (λ s. behind_line_if s (drop e.at (drop (place_of_next f) (all ++ more)))) (ap (λ (x : Blocks). x.skips) is);
+            left = some_left all b m f h k found n n.finds.2 more;
+            begins = begins_fault all b m f h k e n x why more may;
+            behind = further all b m f h k found n c e.at more (ap (λ (x : Blocks). x.start) is) (ap (λ (x : Blocks). x.next) is)
+                ∙ ap (λ s. after_line_if s (drop e.at (drop (place_of_next f) (all ++ more)))) (ap (λ (x : Blocks). x.skips) is);
           };
+          short = omega (arith, short, limit_f all b m f h k found n);
+          is_finished = ap (λ (x : Blocks). x.is_finished) is ∙ finished_f all b m f h k found n;
           read = read;
           reads = reads (Err e) [] x refl;
           is = refl;
-        };
+        });
       }
-    where
-      none : {more : List ℕ} → (e.at < length (drop f.next f.octets)) ⊎ (f.is_finished ≡ true) → (b.is_finished ≡ true → more ≡ []) → (e.at < length (drop f.next f.octets)) ⊎ (more ≡ [])
-      none (inl less) may = inl less
-      none (inr over) may = inr (may (sym (finished_f (Err e) n) ∙ over))
 
-  pub gives_some : (stop : Result ℕ Fault) → FindsEntry m (Some stop) f → ReadsStop room [] (stop_octets f stop) (blank_at (drop f.next f.octets) 0) (place_of_next f) before old read after new → c ≡ behind_stop f stop
+  given_ends : (at : ℕ) (end : EndOfEntry) (n : ℕ) (r : Result EntryRead EntryRefusal) → given_by at (Ok end) r ≡ given_by {E = ℕ} at (Ok n) r
+  given_ends at end n (Ok x) = refl
+  given_ends at end n (Err x) = refl
+
+  pub gives_some : (stop : Result ℕ Fault) → FindsEntry m (Some stop) f → found_len f (Some stop) ≤ f.limit → ReadsPending room f stop before old read after new → c ≡ after_stop f stop
       → ReadsNext room all b before old (Some (given_by (place_of_next f) stop read)) c after new
-  gives_some (Ok at) n reads is = go n.finds.3.0 n.finds.3.1 n.finds.3.2 at n.finds.3.3 n n.finds.3.4 reads is
+  gives_some (Ok at) n short reads is = go n.finds.3.0 n.finds.3.1 n.finds.3.2 at n.finds.3.3 n n.finds.3.4 short reads is
     where
       go : (end : EndOfEntry) (left : List (Result Piece Fault)) → StopsFirst (drop f.next f.octets) (Ok end) left → (at : ℕ) → end.at ≡ at → FindsEntry m (Some (Ok at)) f → (0 < length left) ⊎ (f.is_finished ≡ true)
-          → ReadsStop room [] (stop_octets f (Ok at)) (blank_at (drop f.next f.octets) 0) (place_of_next f) before old read after new → c ≡ behind_stop f (Ok at)
-          → ReadsNext room all b before old (Some (given_by (place_of_next f) (Ok at) read)) c after new
-      go end left x at e n why reads is =
+          → at ≤ f.limit → ReadsPending room f (Ok at) before old read after new → c ≡ after_stop f (Ok at) → ReadsNext room all b before old (Some (given_by (place_of_next f) (Ok at) read)) c after new
+      go end left x at e n why short reads is =
           let back = sym e in
-          subst (λ g. ReadsNext room all b before old (Some g) c after new) (given_ends (place_of_next f) (place_of_next f) end at read)
-          (gives_end end left (subst (λ i. FindsEntry m (Some (Ok i)) f) back n) x why
-          (subst (λ i. ReadsStop room [] (take i (drop f.next f.octets)) (blank_at (drop f.next f.octets) 0) (place_of_next f) before old read after new) back reads)
-          (subst (λ i. c ≡ behind_stop f (Ok i)) back is))
-  gives_some (Err e) n reads is = gives_fault e n n.finds.3.0 n.finds.3.1 reads is
+          subst (λ g. ReadsNext room all b before old (Some g) c after new) (given_ends (place_of_next f) end at read)
+          (gives_end end left (subst (λ i. FindsEntry m (Some (Ok i)) f) back n) x why (omega (arith, short, e)) (subst (λ i. ReadsPending room f (Ok i) before old read after new) back reads) (subst (λ i. c ≡ after_stop f (Ok i)) back is))
+  gives_some (Err e) n short reads is = gives_fault e n n.finds.3.0 n.finds.3.1 short reads is
+
+-- ---- an entry is too long
+
+module _ (room : Room) (all : List ℕ) (b m f c : Blocks) (state : State) (target : List ℕ) (h : HoldsLast all b) (k : SkipsLine b m) (is : c ≡ after_long_entry f) where
+  module _ (found : Option (Result ℕ Fault)) (n : FindsEntry m found f) (some : drop f.next f.octets ≢ [])
+      (long : (more : List ℕ) → MayFollow b more → (blank : Bool) (tokens : List TokenSeen) (stop : Result EndOfEntry Fault) → BeginsEntryWith (drop (place_of_next f) (all ++ more)) blank tokens stop → f.limit < stop_offset stop) where
+    holds_c : HoldsLast all c
+    holds_c = holds_same all f (holds_f all b m f h k found n) c (ap (λ (x : Blocks). x.octets) is) (ap (λ (x : Blocks). x.start) is)
+
+    ends : ReadsNext room all b state target (Some (Err LongEntry)) c state target
+    ends = record {
+      holds = holds_c;
+      limit = ap (λ (x : Blocks). x.limit) is ∙ limit_f all b m f h k found n;
+      gives = inr (
+        refl,
+        record {
+          state = refl;
+          target = refl;
+          at = place_of_next f;
+          began_at = ap (λ (x : Blocks). x.began) is;
+          stands = λ more may. record { left = some_left all b m f h k found n some more; long = λ blank tokens stop begins. omega (arith, long more may blank tokens stop begins, limit_f all b m f h k found n) };
+          left = none_left all c holds_c (ap (λ (x : Blocks). x.next) is ∙ ap (λ (x : Blocks). length x.octets) (sym is));
+          is_finished = ap (λ (x : Blocks). x.is_finished) is;
+        },
+      );
+    }
+
+  some_octets : (l : List ℕ) (i : ℕ) → i < length l → l ≢ []
+  some_octets l i less e = omega (arith, less, ap length e)
+
+  -- the same is held where the next entry was sought
+  sought : FindsEntry m None f → length (drop m.next m.octets) ≡ length (drop f.next f.octets)
+  sought n = ap (λ (x : Blocks). length (drop x.next x.octets)) (sym n.same)
+
+  pub ends_long : (found : Option (Result ℕ Fault)) → FindsEntry m found f → f.limit < found_len f found → ReadsNext room all b state target (Some (Err LongEntry)) c state target
+  ends_long (Some (Ok at)) n less = ends (Some (Ok at)) n n.finds.2 (λ more may blank tokens stop begins.
+      let end = n.finds.3.0 in
+      let back : FindsEntry m (Some (Ok end.at)) f = subst (λ i. FindsEntry m (Some (Ok i)) f) (sym n.finds.3.3) n in
+      let own = begins_end all b m f h k end n.finds.3.1 back n.finds.3.2 n.finds.3.4 more may in
+      omega (arith, less, n.finds.3.3, ap stop_offset (one_stop (drop (place_of_next f) (all ++ more)) blank _ tokens _ stop (Ok end) begins own)))
+  ends_long (Some (Err e)) n less = ends (Some (Err e)) n n.finds.2 (λ more may blank tokens stop begins.
+      let own = begins_fault all b m f h k e n n.finds.3.0 n.finds.3.1 more may in
+      omega (arith, less, ap stop_offset (one_stop (drop (place_of_next f) (all ++ more)) blank _ tokens _ stop (Err e) begins own)))
+  ends_long None n less = go n.finds
+    where
+      go : IsPutOff m ⊎ (AreOctets (drop f.next f.octets) × StandsFirst (drop f.next f.octets) f.is_finished None) → ReadsNext room all b state target (Some (Err LongEntry)) c state target
+      go (inl (inl none)) = absurd (omega (arith, less, sought n, ap length none))
+      go (inl (inr p)) = absurd (omega (arith, less, sought n, p.2, ap (λ (x : Blocks). x.limit) n.same))
+      go (inr s) = ends None n (some_octets (drop f.next f.octets) f.limit less) (λ more may blank tokens stop begins.
+          let whole : BeginsEntryWith (drop f.next f.octets ++ more) blank tokens stop = subst (λ l. BeginsEntryWith l blank tokens stop) (here all b m f h k None n more) begins in
+          let own = stops_first (drop f.next f.octets ++ more) blank tokens stop whole in
+          omega (arith, less, not_within (drop f.next f.octets) more s.0 may.0 (refl, s.1.1) stop own.0 own.1))

@@ -30,12 +30,6 @@ abbrev behind : (o : Option Move) → IsMove o → Mode
 behind (Some v) h = v.mode
 behind None h = elim h [ ]
 
--- behind a space, a semicolon and a CR
+-- behind a space no token is open
 abbrev pub Outside : Mode
 Outside = behind (outside_step 0 (kind 32)) tt
-
-abbrev pub Comment : Mode
-Comment = behind (outside_step 0 (kind 59)) tt
-
-abbrev pub Return : Mode
-Return = behind (outside_step 0 (kind 13)) tt

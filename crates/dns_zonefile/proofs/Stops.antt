@@ -7,7 +7,7 @@ use Rattle.dns_split.specs.declared.pieces.EndOfEntry.{EndOfEntry}
 use Rattle.dns_split.specs.declared.pieces.Fault.{Fault}
 use Rattle.dns_split.specs.declared.pieces.Piece.{Piece}
 use Rattle.dns_split.specs.declared.pieces.Piece.TheVariants.{Word as WordAt, Quote as QuoteAt, Comment as CommentAt, End as EndAt}
-use Rattle.dns_split.specs.EntryTokens.{EndIs, TokenIs, TokenSeen, quote_seen, seen_from, token_at, word_seen}
+use Rattle.dns_split.specs.EntryTokens.{EndIs, TokenIs, quote_seen, seen_from, token_at, word_seen}
 use Rattle.dns_split.specs.Pieces.{AreOctets, EachWithin, IsGiven, Reads, between, end_at, later, moved, moved_fault, moved_piece, place_of}
 use Rattle.dns_split.specs.Standing.{blank_at}
 use Rattle.dns_split.proofs.Blocks.{back_octets, both_octets, entries_stay, faults_stay}
@@ -223,7 +223,7 @@ fault_stays rest f x more ok m why =
 
 -- ---- what is read of them
 
-pub read_same : (room : Room) (kept : List TokenSeen) (slice octets : List ℕ) (b blank : Bool) (place at : ℕ) (before : State) (old : List ℕ) (read : Result EntryRead EntryRefusal) (after : State) (new : List ℕ)
-    → slice ≡ octets → b ≡ blank → place ≡ at → ReadsStop room kept slice b place before old read after new → ReadsStop room kept octets blank at before old read after new
-read_same room kept slice octets b blank place at before old read after new e f h r =
-    subst (λ l. ReadsStop room kept l blank at before old read after new) e (subst (λ (t : Bool). ReadsStop room kept slice t at before old read after new) f (subst (λ n. ReadsStop room kept slice b n before old read after new) h r))
+pub read_same : (room : Room) (slice octets : List ℕ) (b blank : Bool) (place at : ℕ) (before : State) (old : List ℕ) (read : Result EntryRead EntryRefusal) (after : State) (new : List ℕ)
+    → slice ≡ octets → b ≡ blank → place ≡ at → ReadsStop room slice b place before old read after new → ReadsStop room octets blank at before old read after new
+read_same room slice octets b blank place at before old read after new e f h r =
+    subst (λ l. ReadsStop room l blank at before old read after new) e (subst (λ (t : Bool). ReadsStop room slice t at before old read after new) f (subst (λ n. ReadsStop room slice b n before old read after new) h r))

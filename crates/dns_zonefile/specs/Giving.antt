@@ -1,10 +1,11 @@
 -- What is given of the entries of a file that comes in blocks.
-use Rattle.std.specs.Prelude.{⊤, ◌≡◌, ℕ, ◌+◌, ◌<◌, ◌^◌, Bool, true, List, [], ◌++◌, drop, length, Option, Some, None, Result, Ok, Err}
+use Rattle.std.specs.Prelude.{⊤, ◌≡◌, ◌⊎◌, ◌≤◌, ℕ, ◌+◌, ◌<◌, ◌^◌, Bool, true, List, [], ◌++◌, drop, length, Option, Some, None, Result, Ok, Err}
 use Rattle.std.specs.Io.BufRead.{drop_through}
 use Rattle.dns_symbol.specs.Characters.{line_feed}
 use Rattle.dns_octets.specs.Room.{Room}
 use Rattle.dns_split.specs.EntryTokens.{TokenSeen}
 use Rattle.dns_split.specs.Pieces.{moved_fault}
+use Rattle.dns_split.specs.Standing.{blank_at}
 use Rattle.dns_split.specs.declared.pieces.EndOfEntry.{EndOfEntry}
 use Rattle.dns_split.specs.declared.pieces.Fault.{Fault}
 use Rattle.dns_split.specs.declared.pieces.Piece.{Piece}
@@ -12,58 +13,78 @@ use Rattle.dns_split.specs.declared.pieces.Wrong.TheVariants.{OpenQuote}
 use Rattle.dns_reader.specs.EntryReading.{ReadsZoneEntry}
 use Rattle.dns_reader.specs.declared.entry.EntryRead.{EntryRead}
 use Rattle.dns_reader.specs.declared.entry_error.EntryRefusal.{EntryRefusal}
-use Rattle.dns_reader.specs.declared.records.RecordRefusal.{RecordRefusal}
-use Rattle.dns_reader.specs.declared.records.RecordRefusal.TheVariants.{Text, Entry}
 use Rattle.dns_reader.specs.declared.state.State.{State}
 use Rattle.dns_tape.specs.FirstEntry.{StopsFirst, piece_tokens, stop_offset}
 use Rattle.dns_tape.specs.Source.{tokens_after}
-use Rattle.dns_zonefile.specs.Blocks.{Blocks, HoldsLast, MayFollow, text_left}
+use Rattle.dns_zonefile.specs.Adding.{stop_octets}
+use Rattle.dns_zonefile.specs.Blocks.{Blocks, HoldsLast, MayFollow, place_of_next, text_left}
 use Rattle.dns_zonefile.specs.First.{BeginsEntryWith}
 use Rattle.dns_zonefile.specs.Placed.{IsAllBehind}
+use Rattle.dns_zonefile.specs.declared.refusal.BlockRefusal.{BlockRefusal}
+use Rattle.dns_zonefile.specs.declared.refusal.BlockRefusal.TheVariants.{Text, Entry, LongEntry}
 
 -- what is given of an entry that has an end; and of one that a fault cuts off
-abbrev pub given_by : {E : Type 0} → ℕ → Result E Fault → Result EntryRead EntryRefusal → Result EntryRead RecordRefusal
+abbrev pub given_by : {E : Type 0} → ℕ → Result E Fault → Result EntryRead EntryRefusal → Result EntryRead BlockRefusal
 given_by at (Ok end) (Ok read) = Ok read
 given_by at (Ok end) (Err refusal) = Err (Entry refusal)
 given_by at (Err f) read = Err (Text (moved_fault (λ i. at + i) f))
 
--- what a text has behind its first entry, or behind the line on which its fault stands
-abbrev pub text_behind : Result EndOfEntry Fault → List ℕ → List ℕ
-text_behind (Ok end) text = drop end.at text
-text_behind (Err f) text = drop_through line_feed (drop f.at text)
+-- what a text has after its first entry, or after the line on which its fault stands
+abbrev pub text_after : Result EndOfEntry Fault → List ℕ → List ℕ
+text_after (Ok end) text = drop end.at text
+text_after (Err f) text = drop_through line_feed (drop f.at text)
 
--- whatever follows the octets, the text that is left begins at a place, with these tokens and this end of its first entry, or this fault; and what is behind is left then
+-- whatever follows the octets, the text that is left begins at a place, with these tokens and this end of its first entry, or this fault; and what is after it is left then
 pub record StandsNext (text : List ℕ) (b : Blocks) (at : ℕ) (blank : Bool) (tokens : List TokenSeen) (stop : Result EndOfEntry Fault) (c : Blocks) : Type 0 where
   pub left : text_left b text ≡ drop at text
   pub begins : BeginsEntryWith (drop at text) blank tokens stop
-  pub behind : text_left c text ≡ text_behind stop (drop at text)
+  pub behind : text_left c text ≡ text_after stop (drop at text)
 
--- the next entry of all octets that were added is read by its tokens and the state, and given with its places among all
-pub record GivesOne (room : Room) (all : List ℕ) (b : Blocks) (before : State) (old : List ℕ) (given : Result EntryRead RecordRefusal) (c : Blocks) (after : State) (new : List ℕ) : Type 0 where
+-- the next entry of all octets that were added is read by its tokens and the state, and given with its places among all; it has no more octets than the limit
+pub record GivesOne (room : Room) (all : List ℕ) (b : Blocks) (before : State) (old : List ℕ) (given : Result EntryRead BlockRefusal) (c : Blocks) (after : State) (new : List ℕ) : Type 0 where
   pub at : ℕ
   pub began_at : c.began ≡ at
   pub blank : Bool
   pub tokens : List TokenSeen
   pub stop : Result EndOfEntry Fault
   pub stands : (more : List ℕ) → MayFollow b more → StandsNext (all ++ more) b at blank tokens stop c
+  pub short : stop_offset stop ≤ b.limit
+  pub is_finished : c.is_finished ≡ b.is_finished
   pub read : Result EntryRead EntryRefusal
   pub reads : ReadsZoneEntry room blank (at + stop_offset stop) (tokens_after at tokens) before old read after new
   pub is : given ≡ given_by at stop read
 
--- nothing but what is held has changed; the same is left, and nothing where no octets follow
+-- whatever follows the octets, the text that is left begins at a place, and the end of its first entry, or the fault before it, is after more octets than the limit
+pub record StandsLong (text : List ℕ) (b : Blocks) (at : ℕ) : Type 0 where
+  pub left : text_left b text ≡ drop at text
+  pub long : (blank : Bool) (tokens : List TokenSeen) (stop : Result EndOfEntry Fault) → BeginsEntryWith (drop at text) blank tokens stop → b.limit < stop_offset stop
+
+-- the next entry is too long: nothing is left of all octets that were added, and no more are
+pub record EndsLong (all : List ℕ) (b : Blocks) (before : State) (old : List ℕ) (c : Blocks) (after : State) (new : List ℕ) : Type 0 where
+  pub state : after ≡ before
+  pub target : new ≡ old
+  pub at : ℕ
+  pub began_at : c.began ≡ at
+  pub stands : (more : List ℕ) → MayFollow b more → StandsLong (all ++ more) b at
+  pub left : text_left c all ≡ []
+  pub is_finished : c.is_finished ≡ true
+
+-- nothing but what is held has changed; the same is left, and nothing where no octets follow; no more is held than an entry may have
 pub record GivesNone (all : List ℕ) (b : Blocks) (before : State) (old : List ℕ) (c : Blocks) (after : State) (new : List ℕ) : Type 0 where
   pub state : after ≡ before
   pub target : new ≡ old
   pub left : (more : List ℕ) → MayFollow b more → text_left c (all ++ more) ≡ text_left b (all ++ more)
   pub ended : b.is_finished ≡ true → text_left c all ≡ []
+  pub held : length c.octets ≤ b.limit
+  pub is_finished : c.is_finished ≡ b.is_finished
 
-abbrev pub GivesAny : Room → List ℕ → Blocks → State → List ℕ → Option (Result EntryRead RecordRefusal) → Blocks → State → List ℕ → Type 0
-GivesAny room all b before old (Some given) c after new = GivesOne room all b before old given c after new
+abbrev pub GivesAny : Room → List ℕ → Blocks → State → List ℕ → Option (Result EntryRead BlockRefusal) → Blocks → State → List ℕ → Type 0
+GivesAny room all b before old (Some given) c after new = GivesOne room all b before old given c after new ⊎ ((given ≡ Err LongEntry) × EndsLong all b before old c after new)
 GivesAny room all b before old None c after new = GivesNone all b before old c after new
 
-pub record ReadsNext (room : Room) (all : List ℕ) (b : Blocks) (before : State) (old : List ℕ) (result : Option (Result EntryRead RecordRefusal)) (c : Blocks) (after : State) (new : List ℕ) : Type 0 where
+pub record ReadsNext (room : Room) (all : List ℕ) (b : Blocks) (before : State) (old : List ℕ) (result : Option (Result EntryRead BlockRefusal)) (c : Blocks) (after : State) (new : List ℕ) : Type 0 where
   pub holds : HoldsLast all c
-  pub is_finished : c.is_finished ≡ b.is_finished
+  pub limit : c.limit ≡ b.limit
   pub gives : GivesAny room all b before old result c after new
 
 -- ---- of private functions
@@ -73,7 +94,11 @@ abbrev pub CanMove : {E : Type 0} → ℕ → Result E Fault → Type 0
 CanMove at (Ok end) = ⊤
 CanMove at (Err f) = (at + f.at < 2 ^ 64) × ((i : ℕ) → f.wrong ≡ OpenQuote i → at + i < 2 ^ 64)
 
--- of octets that are one entry, or what a fault cuts off, the tokens are read by the state behind those that are kept
-abbrev pub ReadsStop : Room → List TokenSeen → List ℕ → Bool → ℕ → State → List ℕ → Result EntryRead EntryRefusal → State → List ℕ → Type 0
-ReadsStop room kept octets blank at before old read after new = (stop : Result EndOfEntry Fault) (left : List (Result Piece Fault)) (x : StopsFirst octets stop left) → IsAllBehind (length octets) stop left
-    → ReadsZoneEntry room blank (at + stop_offset stop) (kept ++ tokens_after at (piece_tokens octets None x.found)) before old read after new
+-- of octets that are one entry, or what a fault cuts off, the tokens are read by the state
+abbrev pub ReadsStop : Room → List ℕ → Bool → ℕ → State → List ℕ → Result EntryRead EntryRefusal → State → List ℕ → Type 0
+ReadsStop room octets blank at before old read after new = (stop : Result EndOfEntry Fault) (left : List (Result Piece Fault)) (x : StopsFirst octets stop left) → IsAllBehind (length octets) stop left
+    → ReadsZoneEntry room blank (at + stop_offset stop) (tokens_after at (piece_tokens octets None x.found)) before old read after new
+
+-- so are those of the next entry that is held
+abbrev pub ReadsPending : Room → Blocks → Result ℕ Fault → State → List ℕ → Result EntryRead EntryRefusal → State → List ℕ → Type 0
+ReadsPending room b stop before old read after new = ReadsStop room (stop_octets b stop) (blank_at (drop b.next b.octets) 0) (place_of_next b) before old read after new

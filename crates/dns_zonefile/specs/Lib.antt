@@ -3,12 +3,8 @@ pub mod Adding
 pub mod Blocks
 pub mod First
 pub mod Giving
-pub mod Kept
 pub mod Line
-pub mod Passing
 pub mod Placed
 pub mod PrintedRows
 pub mod PrintedTexts
 pub mod ReadBack
-pub mod Settled
-pub mod Walks

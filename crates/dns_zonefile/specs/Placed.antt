@@ -1,5 +1,5 @@
 -- The tokens of an entry, with their places among all octets.
-use Rattle.std.specs.Prelude.{⊤, ◌≡◌, ℕ, ◌+◌, ◌<◌, ◌^◌, false, List, [], ◌∷◌, ◌++◌, length, None, Result, Ok, Err}
+use Rattle.std.specs.Prelude.{⊤, ◌≡◌, ℕ, ◌+◌, ◌<◌, ◌^◌, false, List, [], ◌∷◌, length, None, Result, Ok, Err}
 use Rattle.dns_split.specs.EntryTokens.{TokenSeen}
 use Rattle.dns_split.specs.Pieces.{end_at}
 use Rattle.dns_split.specs.declared.pieces.EndOfEntry.{EndOfEntry}
@@ -32,10 +32,3 @@ IsAllBehind n (Err f) left = left ≡ []
 abbrev pub BeginsPlaced : List ℕ → ℕ → UnreadSeen → Type 0
 BeginsPlaced octets base p = (stop : Result EndOfEntry Fault) (left : List (Result Piece Fault)) (x : StopsFirst octets stop left) → IsAllBehind (length octets) stop left
     → (p.tokens ≡ tokens_after base (piece_tokens octets None x.found)) × (p.end.at ≡ base + stop_offset stop)
-
--- those that are kept come first
-abbrev pub with_kept : List TokenSeen → UnreadSeen → UnreadSeen
-with_kept kept p = record { tokens = kept ++ p.tokens; end = p.end }
-
-abbrev pub BeginsKept : List TokenSeen → List ℕ → ℕ → UnreadSeen → Type 0
-BeginsKept kept octets base p = (q : UnreadSeen) × BeginsPlaced octets base q × (p ≡ with_kept kept q)

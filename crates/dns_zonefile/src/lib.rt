@@ -2,20 +2,18 @@
 //! before it say.
 //!
 //! - [`blocks::BlockReader`] takes octets block by block, and gives each entry as soon as no octets
-//!   that follow can change it.
+//!   that follow can change it. An entry that is longer than a limit ends reading.
 //! - [`laws`] has that records are read as they are printed.
 #![tactic(auto)]
 
-mod begun;
 pub mod blocks;
 mod entry;
 pub mod error;
-mod keeping;
-mod kept;
 pub mod laws;
 mod line;
-mod passing;
 mod placed;
+pub mod refusal;
 
-pub use blocks::BlockReader;
+pub use blocks::{BlockReader, ENTRY_LIMIT};
 pub use error::AddError;
+pub use refusal::BlockRefusal;

@@ -8,22 +8,25 @@ _zonetext() {
     case ${COMP_WORDS[1]} in
         check)
             options='--text --zone --zone-from-name --include --base --stdin-name --dnssec --within --now --deny --allow --strict'
-            options+=' --max-ttl --class --json --max --color --verbose --quiet -v'
+            options+=' --max-ttl --max-entry --class --json --max --color --verbose --quiet -v'
             ;;
         canon)
-            options='--keep-order --memory --wire --type --only-dnssec --zone --class --include --base'
+            options='--keep-order --memory --wire --type --only-dnssec --zone --class --include --base --max-entry'
             options+=' --no-dnssec --no-soa --quiet'
             ;;
         diff)
-            options='--entries --summary --max-changes --zone --class --include --base --no-dnssec --no-soa'
-            options+=' --quiet'
+            options='--entries --summary --max-changes --zone --class --include --base --max-entry'
+            options+=' --no-dnssec --no-soa --quiet'
             ;;
         tokens) options='--json --quiet' ;;
         fmt) options='--write --check --diff --force --quiet -w' ;;
         lines) options='--tabbed --quiet' ;;
-        records) options='--zone --class --include --base --quiet' ;;
-        digest) options='--write --hash --force --any --verbose --zone --class --include --base --quiet -w -v' ;;
-        cut) options='--output --soa --zone --class --quiet -o' ;;
+        records) options='--zone --class --include --base --max-entry --quiet' ;;
+        digest)
+            options='--write --hash --force --any --verbose --zone --class --include --base --max-entry'
+            options+=' --quiet -w -v'
+            ;;
+        cut) options='--output --soa --zone --class --max-entry --quiet -o' ;;
         help)
             COMPREPLY=($(compgen -W 'check tokens fmt lines records canon diff digest cut help' -- "$word"))
             return

@@ -28,6 +28,7 @@ complete -c zonetext -n '__fish_seen_subcommand_from check' -l deny -x -d 'Take 
 complete -c zonetext -n '__fish_seen_subcommand_from check' -l allow -x -d 'Leave a finding out'
 complete -c zonetext -n '__fish_seen_subcommand_from check' -l strict -d 'Take every finding for an error'
 complete -c zonetext -n '__fish_seen_subcommand_from check' -l max-ttl -x -d 'The greatest time to live'
+complete -c zonetext -n '__fish_seen_subcommand_from check records canon diff digest cut' -l max-entry -x -d 'How many octets an entry may have'
 complete -c zonetext -n '__fish_seen_subcommand_from check' -l class -x -d 'The class of the zone'
 complete -c zonetext -n '__fish_seen_subcommand_from check' -l json -d 'Write a JSON object for each finding'
 complete -c zonetext -n '__fish_seen_subcommand_from check' -l max -x -d 'How many findings are written'

@@ -2,7 +2,7 @@
 use crate::checking::{Checker, Limits};
 use crate::files::check_text;
 use crate::options;
-use crate::options::{USAGE, Usage, class_of, name_of, number_of, seconds_of};
+use crate::options::{USAGE, Usage, class_of, max_entry_of, name_of, number_of, seconds_of};
 use crate::reporter::{Form, Reporter};
 use crate::shown::Shown;
 use crate::stop::{Stop, conclude};
@@ -40,6 +40,8 @@ struct Options<'o> {
     is_strict: bool,
     class: u16,
     max_ttl: Option<u32>,
+    /// No entry may have more octets. Of the text alone none is too long.
+    max_entry: usize,
     folders: &'o [&'o str],
     base: Option<&'o str>,
     stdin_name: Option<&'o str>,
@@ -166,6 +168,11 @@ fn options_of<'o>(rt: &HostRuntime, inner: &'o ArgMatches) -> Result<Options<'o>
         is_strict: inner.get_flag("strict"),
         class: class_of(inner.get_str("class"))?,
         max_ttl: seconds_of(inner.get_str("max-ttl"), "--max-ttl")?,
+        max_entry: if is_text {
+            usize::MAX
+        } else {
+            max_entry_of(inner)?
+        },
         folders: inner.get_strs("include").unwrap_or(&[]),
         base: inner.get_str("base"),
         stdin_name: inner.get_str("stdin-name"),
@@ -205,7 +212,7 @@ fn go_through(
 ) -> Result<(), Stop> {
     let begin = Begin {
         includes: !options.is_text,
-        is_whole: false,
+        max_entry: options.max_entry,
         state,
         folders: options.folders,
         base: options.base,

@@ -9,19 +9,22 @@ use crate::refusals::{refusal_text, refused_type};
 use crate::reporter::{Reporter, Spot};
 use crate::scan::{OctetScan, needs_lint, repeats_origin, scan_octets};
 use crate::slips::{is_of_parameters, slip_of};
-use crate::spots::{beginning, fault_at, octet_at, position_at, spot_at, token_at, tokens_of};
+use crate::spots::{
+    beginning, begins_blank, fault_at, line_spot, long_at, octet_at, position_at, spot_at,
+    token_at, tokens_of,
+};
 use crate::stop::Stop;
 use crate::zone_files::{Entry, Visit};
 use dns_data::type_row;
 use dns_fields::Field;
 use dns_heads::{class_word, directive_word, type_word};
 use dns_octets::AsOctets;
-use dns_reader::{EntryRead, EntryRefusal, NameBuffer, RecordRefusal, RecordTtl};
+use dns_reader::{EntryRead, EntryRefusal, NameBuffer, RecordTtl};
 use dns_resource::Data;
 use dns_split::entry_tokens::EntryToken;
 use dns_split::pieces::Fault;
-use dns_split::position::Position;
 use dns_wire::{DisplayWithDot, DisplayWithoutDot, Name};
+use dns_zonefile::BlockRefusal;
 use std::alloc::Global;
 use zone_dnssec::{Times, check_signed};
 use zone_format::place::Place;
@@ -96,8 +99,7 @@ pub struct Checker<'a> {
     has_told_owner: bool,
     /// Whether a file is left unread, which is no text of octets.
     is_cut: bool,
-    /// Whether records are unread that a directive brings: a file is not included, or an origin is
-    /// refused.
+    /// Whether records are unread: a file is not included, an origin is refused, or an entry is too long.
     has_gap: bool,
 }
 
@@ -128,22 +130,6 @@ fn data_start(tokens: &[EntryToken<'_>], is_blank: bool) -> usize {
     match words.iter().position(|token| type_word(token).is_some()) {
         Some(place) => place.saturating_add(first).saturating_add(1),
         None => tokens.len(),
-    }
-}
-
-/// Whether an entry begins with a blank.
-fn begins_blank(entry: &Entry<'_>) -> bool {
-    matches!(entry.octets.first(), Some(b' ' | b'\t'))
-}
-
-/// A column of a line, with the line.
-fn line_spot<'s>(file: &'s str, position: Position, line: Option<&'s [u8]>) -> Spot<'s> {
-    Spot {
-        file,
-        position,
-        end_column: position.column.saturating_add(1),
-        opened: None,
-        line,
     }
 }
 
@@ -187,6 +173,15 @@ impl<'a> Checker<'a> {
     fn tell_fault(&mut self, entry: &Entry<'_>, fault: Fault) -> Result<(), Stop> {
         let code = code_of_fault(fault.wrong);
         self.reporter.tell(fault_at(entry, fault), code, true, fault_text(fault.wrong))
+    }
+
+    /// Reports an entry that is too long.
+    fn tell_long(&mut self, entry: &Entry<'_>) -> Result<(), Stop> {
+        self.has_gap = true;
+        let limit = entry.reader.limit();
+        let text = format!(in self.alloc; "entry longer than {limit} octets")?;
+        self.reporter
+            .tell(long_at(entry), Code::MaxEntry, true, text.as_str())
     }
 
     /// Whether a refusal is to be told: a relative name without origin is told once, and so are the
@@ -312,17 +307,19 @@ impl<'a> Checker<'a> {
         self.tell(spot, Code::OtherClass)
     }
 
-    /// Keeps what the first SOA says.
-    fn see_soa(&mut self, entry: &Entry<'_>) {
+    /// Stores what the first SOA says. Fails with `Damaged` if its octets are no SOA.
+    fn see_soa(&mut self, entry: &Entry<'_>) -> Result<(), Stop> {
         if self.seen.is_some() {
-            return;
+            return Ok(());
         }
         let (Ok(owner), Ok(data)) = (entry.state.owner(), Data::from_octets(SOA, entry.data)) else {
-            return;
+            return Err(Stop::Damaged);
         };
-        if let (Ok(zone), Some(serial)) = (NameBuffer::from_labels((), owner), serial_of(&data)) {
-            self.seen = Some(Seen { zone, serial });
-        }
+        let (Ok(zone), Some(serial)) = (NameBuffer::from_labels((), owner), serial_of(&data)) else {
+            return Err(Stop::Damaged);
+        };
+        self.seen = Some(Seen { zone, serial });
+        Ok(())
     }
 
     /// Says what a record shows as a whole, at its first token.
@@ -387,7 +384,10 @@ impl<'a> Checker<'a> {
             return false;
         }
         if self.limits.is_text {
-            return !matches!(entry.read, Err(RecordRefusal::Text(_)));
+            return !matches!(
+                entry.read,
+                Err(BlockRefusal::Text(_) | BlockRefusal::LongEntry)
+            );
         }
         match entry.read {
             Ok(EntryRead::Nothing) => true,
@@ -455,7 +455,7 @@ impl<'a> Checker<'a> {
         self.count_record();
         let has_class = class == self.limits.class;
         if has_class && code == SOA {
-            self.see_soa(entry);
+            self.see_soa(entry)?;
         }
         if has_class && !self.limits.tells_slips {
             return Ok(());
@@ -655,7 +655,7 @@ impl<'a> Checker<'a> {
     /// Whether it is to be told that the lines of an entry's file end in CR LF: once a file, and not
     /// where a fault cuts the entry off.
     fn tells_crlf(&self, entry: &Entry<'_>) -> bool {
-        if let Err(RecordRefusal::Text(_)) = entry.read {
+        if let Err(BlockRefusal::Text(_)) = entry.read {
             return false;
         }
         !self.crlf_files.contains(&entry.number)
@@ -679,7 +679,8 @@ impl<'a> Checker<'a> {
 
     /// Says what the octets of an entry show. Returns whether Ctrl-Z begins it.
     fn lint(&mut self, entry: &Entry<'_>, scan: OctetScan) -> Result<bool, Stop> {
-        if entry.is_shortened || !needs_lint(entry.octets, scan) {
+        let is_long = matches!(entry.read, Err(BlockRefusal::LongEntry));
+        if is_long || !needs_lint(entry.octets, scan) {
             return Ok(false);
         }
         if entry.octets.len() >= usize::MAX - 1 {
@@ -714,7 +715,8 @@ impl<'a> Checker<'a> {
         let is_end = self.lint(entry, scan)?;
         match entry.read {
             _ if is_end => Ok(()),
-            Err(RecordRefusal::Text(fault)) => self.tell_fault(entry, *fault),
+            Err(BlockRefusal::Text(fault)) => self.tell_fault(entry, *fault),
+            Err(BlockRefusal::LongEntry) => self.tell_long(entry),
             _ if self.limits.is_text => Ok(()),
             Ok(EntryRead::Nothing) => Ok(()),
             Ok(EntryRead::Directive) => self.check_directive(entry),
@@ -727,7 +729,7 @@ impl<'a> Checker<'a> {
                     code,
                 },
             ) => self.check_record(entry, scan, *at, *ttl, *class, *code),
-            Err(RecordRefusal::Entry(refusal)) => self.tell_refusal(entry, refusal),
+            Err(BlockRefusal::Entry(refusal)) => self.tell_refusal(entry, refusal),
         }
     }
 }

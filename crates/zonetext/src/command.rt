@@ -63,7 +63,7 @@ const NOW: &str = "the time instead of now, as 20260131235959 or in seconds sinc
 const WHEN: [&str; 3] = ["auto", "always", "never"];
 
 /// The options of records, which do not go with a look at the text alone.
-const OF_RECORDS: [&str; 8] = [
+const OF_RECORDS: [&str; 9] = [
     "zone",
     "zone-from-name",
     "dnssec",
@@ -71,6 +71,7 @@ const OF_RECORDS: [&str; 8] = [
     "base",
     "class",
     "max-ttl",
+    "max-entry",
     "verbose",
 ];
 
@@ -81,6 +82,7 @@ fn with_findings<'a>(alloc: Global, command: Command<'a>) -> Result<Command<'a>,
         .arg(values(alloc, "allow", "CODE", "leave a finding out"))?
         .arg(flag(alloc, "strict", "take every finding for an error"))?
         .arg(valued(alloc, "max-ttl", "TIME", "the greatest time to live, as 1d"))?
+        .arg(max_entry(alloc))?
         .arg(valued(
             alloc,
             "class",
@@ -188,6 +190,12 @@ pub fn valued<'a>(alloc: Global, name: &'a str, value: &'a str, help: &'a str) -
         .value_name(value)
         .action(ArgAction::Set)
         .help(help)
+}
+
+/// The option for entries that are longer than usual.
+pub fn max_entry<'a>(alloc: Global) -> Arg<'a> {
+    let help = "how many octets an entry may have, 1M unless given";
+    valued(alloc, "max-entry", "SIZE", help)
 }
 
 /// A file that must be given.

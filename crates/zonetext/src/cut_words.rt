@@ -1,7 +1,7 @@
 //! The words of the command `cut`.
-use crate::command::{QUIET, flag, required_file, valued};
+use crate::command::{QUIET, flag, max_entry, required_file, valued};
 use crate::cut;
-use crate::options::{Usage, class_of, status_of, zone_of};
+use crate::options::{Usage, class_of, max_entry_of, status_of, zone_of};
 use crate::reading::Reading;
 use clap::{Arg, ArgAction, ArgMatches, Command};
 use std::alloc::{AllocError, Global};
@@ -26,6 +26,7 @@ pub fn cut_command<'a>(alloc: Global, name: &'a str) -> Result<Command<'a>, Allo
         .arg(flag(alloc, "soa", "repeat the SOA in each part behind it"))?
         .arg(valued(alloc, "zone", "ORIGIN", zone).visible_alias("origin")?)?
         .arg(valued(alloc, "class", "CLASS", class))?
+        .arg(max_entry(alloc))?
         .arg(flag(alloc, "quiet", QUIET))
 }
 
@@ -49,7 +50,7 @@ fn cut_by<'o>(rt: &HostRuntime, inner: &'o ArgMatches) -> Result<u8, Usage<'o>> 
         class: class_of(inner.get_str("class"))?,
         is_one_class: false,
         includes: false,
-        is_whole: true,
+        max_entry: max_entry_of(inner)?,
         folders: &[],
         base,
         is_one_zone: inner.get_flag("soa"),

@@ -8,7 +8,7 @@ use dns_fields::TokenSource;
 use dns_heads::take_words;
 use dns_reader::EntrySource;
 use dns_split::pieces::Span;
-use std::alloc::{AllocError, Global};
+use std::alloc::Global;
 use zone_set::Selection;
 
 /// The code of SOA.
@@ -36,24 +36,24 @@ pub struct Placed {
     pub end: usize,
 }
 
-/// Where the data of a record begins in its entry.
-fn data_place(octets: &[u8]) -> usize {
+/// Returns where the data of a record begins in its entry. Fails with `Damaged` if it is no record.
+fn data_place(octets: &[u8]) -> Result<usize, Stop> {
     let mut source = EntrySource::of_octets(octets);
     let Ok(Some(start)) = source.begin() else {
-        return octets.len();
+        return Err(Stop::Damaged);
     };
     if !start.begins_blank {
         source.advance();
     }
     match take_words(&mut source) {
-        Ok(_) => source.place(),
-        Err(_) => octets.len(),
+        Ok(_) => Ok(source.place()),
+        Err(_) => Err(Stop::Damaged),
     }
 }
 
 /// Where the tokens of a record's data stand in its file.
-fn data_tokens(alloc: Global, entry: &Entry<'_>) -> Result<Vec<Span>, AllocError> {
-    let first = data_place(entry.octets);
+fn data_tokens(alloc: Global, entry: &Entry<'_>) -> Result<Vec<Span>, Stop> {
+    let first = data_place(entry.octets)?;
     let mut spans = Vec::new(alloc);
     let tokens = tokens_of(alloc, entry)?;
     for token in &tokens {
@@ -67,7 +67,7 @@ fn data_tokens(alloc: Global, entry: &Entry<'_>) -> Result<Vec<Span>, AllocError
 }
 
 /// The record of an entry, and where it stands.
-fn placed_of(alloc: Global, entry: &Entry<'_>, given: Given<'_>) -> Result<Placed, AllocError> {
+fn placed_of(alloc: Global, entry: &Entry<'_>, given: Given<'_>) -> Result<Placed, Stop> {
     let is_origin = match entry.state.origin.name() {
         Some(origin) => origin.as_slice().eq_ignore_ascii_case(given.owner),
         None => false,
@@ -122,15 +122,7 @@ pub fn find(
         status,
         seen,
         taker,
-    } = give_entries(
-        rt,
-        &[file],
-        Reading {
-            is_whole: true,
-            ..reading
-        },
-        finder,
-    );
+    } = give_entries(rt, &[file], reading, finder);
     if status > 0 {
         return Err(status);
     }

@@ -100,14 +100,21 @@ pub fn place_from(reader: &BlockReader<Global>, from: Place, offset: usize) -> P
 }
 
 impl OpenFile {
-    /// A file at its beginning.
-    pub fn new(alloc: Global, name: String, full: String, number: usize, input: Input) -> OpenFile {
+    /// A file at its beginning, of which no entry may have more octets than `max_entry`.
+    pub fn new(
+        alloc: Global,
+        name: String,
+        full: String,
+        number: usize,
+        input: Input,
+        max_entry: usize,
+    ) -> OpenFile {
         OpenFile {
             name,
             full,
             number,
             input,
-            reader: BlockReader::new(alloc),
+            reader: BlockReader::new(alloc, max_entry),
             place: first_place(),
             head: Vec::new(alloc),
             is_begun: false,

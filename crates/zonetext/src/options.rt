@@ -7,6 +7,7 @@ use dns_kinds::{Class, interval_from_text};
 use dns_reader::NameBuffer;
 use dns_spelling::append_name;
 use dns_wire::{MAX_NAME, Name};
+use dns_zonefile::ENTRY_LIMIT;
 use std::alloc::AllocError;
 use std::io;
 use std::io::ErrorKind;
@@ -31,8 +32,6 @@ pub enum Usage<'o> {
         option: &'static str,
         value: &'o str,
     },
-    /// So much memory can't be said.
-    Size,
     /// Signatures are to be looked at, and no zone is said.
     NoZone,
     /// The clock can't be read.
@@ -105,7 +104,7 @@ pub fn seconds_of<'o>(
     }
 }
 
-/// The least memory that an option may say, in octets.
+/// The least size that an option may say, in octets.
 const LEAST_SIZE: usize = 64 * 1024;
 
 /// How many octets a text says, as `500000`, `64M` or `1G`; letters count by 1024.
@@ -122,15 +121,28 @@ fn octets_of(text: &str) -> Option<usize> {
     digits.parse::<usize>().ok()?.checked_mul(unit)
 }
 
-/// The octets of memory that an option says, if it is given.
-pub fn size_of<'o>(text: Option<&'o str>) -> Result<Option<usize>, Usage<'o>> {
-    let Some(text) = text else {
+/// The size that an option says, in octets, if it is given.
+pub fn size_of<'o>(
+    text: Option<&'o str>,
+    option: &'static str,
+) -> Result<Option<usize>, Usage<'o>> {
+    let Some(value) = text else {
         return Ok(None);
     };
-    match octets_of(text) {
+    match octets_of(value) {
         Some(size) if size >= LEAST_SIZE => Ok(Some(size)),
-        _ => Err(Usage::Size),
+        _ => Err(Usage::Value {
+            option,
+            value,
+            wants: "octets, 64K or more, as 500000, 64M or 1G",
+        }),
     }
+}
+
+/// How many octets an entry may have.
+pub fn max_entry_of<'o>(inner: &'o ArgMatches) -> Result<usize, Usage<'o>> {
+    let size = size_of(inner.get_str("max-entry"), "--max-entry")?;
+    Ok(size.unwrap_or(ENTRY_LIMIT))
 }
 
 /// The zone that is named, if its option is given.
@@ -164,10 +176,6 @@ pub fn status_of(rt: &HostRuntime, answer: Result<u8, Usage<'_>>) -> io::Result<
             eprintln!(rt;
                 "zonetext: {option} {value}: a finding of records, which --text does not look at"
             )?;
-            Ok(USAGE)
-        }
-        Err(Usage::Size) => {
-            eprintln!(rt; "zonetext: --memory takes octets, 64K or more, as 500000, 64M or 1G")?;
             Ok(USAGE)
         }
         Err(Usage::NoZone) => {

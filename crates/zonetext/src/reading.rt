@@ -31,8 +31,8 @@ pub struct Reading<'o> {
     pub is_one_class: bool,
     /// Whether files are included.
     pub includes: bool,
-    /// Whether the octets of each entry are held, however long it is.
-    pub is_whole: bool,
+    /// No entry may have more octets.
+    pub max_entry: usize,
     /// The folders, besides that of a file, of which files may be included.
     pub folders: &'o [&'o str],
     /// The folder in which relative paths of included files are looked up, if it is not that of the file
@@ -168,7 +168,7 @@ fn give_files<T: TakeEntry + Drop>(
         let begin = Begin {
             state: first_state(reading),
             includes: reading.includes,
-            is_whole: reading.is_whole,
+            max_entry: reading.max_entry,
             folders: reading.folders,
             base: reading.base,
             stdin_name: None,

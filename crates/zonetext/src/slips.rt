@@ -1,6 +1,7 @@
 //! What the data of records show.
 use crate::zone_files::Entry;
-use dns_reader::{EntryRead, RecordRefusal};
+use dns_reader::EntryRead;
+use dns_zonefile::BlockRefusal;
 use zonetext_records::data::{has_empty_target, has_key_algorithm_zero, has_other_match_length};
 use zonetext_report::code::Code;
 
@@ -62,7 +63,7 @@ fn has_ohttp_value(code: u16, data: &[u8]) -> bool {
 pub fn is_of_parameters(entry: &Entry<'_>) -> bool {
     match entry.read {
         Ok(EntryRead::Record { code, .. }) => has_parameters(*code),
-        Err(RecordRefusal::Entry(refusal)) => refusal.code.is_some_and(has_parameters),
+        Err(BlockRefusal::Entry(refusal)) => refusal.code.is_some_and(has_parameters),
         _ => false,
     }
 }

@@ -10,6 +10,22 @@ use dns_split::pieces::{Fault, Wrong};
 use dns_split::position::Position;
 use std::alloc::{AllocError, Global};
 
+/// Whether an entry begins with a blank.
+pub fn begins_blank(entry: &Entry<'_>) -> bool {
+    matches!(entry.octets.first(), Some(b' ' | b'\t'))
+}
+
+/// A column of a line, with the line.
+pub fn line_spot<'s>(file: &'s str, position: Position, line: Option<&'s [u8]>) -> Spot<'s> {
+    Spot {
+        file,
+        position,
+        end_column: position.column.saturating_add(1),
+        opened: None,
+        line,
+    }
+}
+
 /// The tokens of an entry, or those before its fault.
 pub fn tokens_of<'e>(alloc: Global, entry: &Entry<'e>) -> Result<Vec<EntryToken<'e>>, AllocError> {
     let mut tokens = Vec::new(alloc);
@@ -39,10 +55,6 @@ fn token_from(tokens: &[EntryToken<'_>], at: usize) -> (usize, usize) {
 
 /// The position of a place of an entry, which is counted from the entry's beginning.
 pub fn position_at(entry: &Entry<'_>, at: usize) -> Position {
-    if entry.is_shortened {
-        let known = entry.reader.position(entry.offset.saturating_add(at));
-        return known.unwrap_or(entry.place().position);
-    }
     let count = at.min(entry.held.len());
     behind(entry.place(), &entry.held[..count]).position
 }
@@ -82,11 +94,7 @@ fn spot<'e>(entry: &Entry<'e>, at: usize, width: usize) -> Spot<'e> {
             next
         },
         opened: None,
-        line: if entry.is_shortened {
-            None
-        } else {
-            Some(line_at(entry.held, at))
-        },
+        line: Some(line_at(entry.held, at)),
     }
 }
 
@@ -99,11 +107,7 @@ pub fn beginning<'e>(entry: &Entry<'e>) -> Spot<'e> {
 /// end, the place behind its last token.
 pub fn spot_at<'e>(entry: &Entry<'e>, tokens: &[EntryToken<'_>], at: usize) -> Spot<'e> {
     let at = at.saturating_sub(entry.offset);
-    let (at, width) = if entry.is_shortened {
-        (at, 1)
-    } else {
-        token_from(tokens, at)
-    };
+    let (at, width) = token_from(tokens, at);
     spot(entry, at, width)
 }
 
@@ -121,9 +125,6 @@ pub fn token_at<'e>(entry: &Entry<'e>, token: &EntryToken<'_>) -> Spot<'e> {
 fn opened_at(entry: &Entry<'_>, wrong: Wrong) -> Option<Position> {
     let at = match wrong {
         Wrong::OpenQuote(at) => at.saturating_sub(entry.offset),
-        Wrong::OpenParenthesis if entry.is_shortened => {
-            entry.reader.opened()?.saturating_sub(entry.offset)
-        }
         Wrong::OpenParenthesis => outermost_open_of_octets(entry.octets)?,
         _ => return None,
     };
@@ -135,4 +136,18 @@ pub fn fault_at<'e>(entry: &Entry<'e>, fault: Fault) -> Spot<'e> {
     let opened = opened_at(entry, fault.wrong);
     let spot = octet_at(entry, fault.at);
     Spot { opened, ..spot }
+}
+
+/// The beginning of an entry that is too long, and the outermost parenthesis that is open after as many
+/// octets as an entry may have.
+pub fn long_at<'e>(entry: &Entry<'e>) -> Spot<'e> {
+    let count = entry.reader.limit().min(entry.octets.len());
+    let opened = match outermost_open_of_octets(&entry.octets[..count]) {
+        Some(at) => Some(position_at(entry, at)),
+        None => None,
+    };
+    Spot {
+        opened,
+        ..beginning(entry)
+    }
 }

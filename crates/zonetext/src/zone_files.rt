@@ -4,8 +4,8 @@ use crate::data_buffer::DataBuffer;
 use crate::open_file::{Includer, Input, OpenFile, behind, place_from};
 use crate::progress::Progress;
 use crate::stop::Stop;
-use dns_reader::{EntryRead, Known, NameBuffer, RecordRefusal, State};
-use dns_zonefile::BlockReader;
+use dns_reader::{EntryRead, Known, NameBuffer, State};
+use dns_zonefile::{BlockReader, BlockRefusal};
 use std::alloc::{AllocError, Global};
 use std::fs::{File, canonicalize, metadata};
 use std::io::ErrorKind;
@@ -20,9 +20,6 @@ const MOST_INCLUDED: usize = 10;
 /// How many files may be included in all. A file that is included again counts again.
 const MOST_FILES: usize = 10_000;
 
-/// So many octets of an entry without its end are held before what can be let go of it is.
-const LONG_ENTRY: usize = 1 << 20;
-
 /// An entry of a file, and what was read of it.
 #[derive(Drop)]
 pub struct Entry<'e> {
@@ -36,14 +33,12 @@ pub struct Entry<'e> {
     counted: Place,
     /// Octets of the file that are held, from its first octet on.
     pub held: &'e [u8],
-    /// Its octets. A fault of the text ends them.
+    /// Its octets. A fault of the text ends them; of an entry that is too long they are what was read.
     pub octets: &'e [u8],
-    /// Whether it was so long that they are not held.
-    pub is_shortened: bool,
     pub reader: &'e BlockReader<Global>,
     /// Whether it is the last of its file.
     pub is_last: bool,
-    pub read: &'e Result<EntryRead, RecordRefusal>,
+    pub read: &'e Result<EntryRead, BlockRefusal>,
     /// The octets of a record's data, or of an included file's name.
     pub data: &'e [u8],
     /// What the entries so far say, this one too.
@@ -120,8 +115,8 @@ struct ZoneFiles<'a> {
     rt: &'a HostRuntime,
     /// Whether files are included.
     includes: bool,
-    /// Whether the octets of each entry are held, however long it is.
-    is_whole: bool,
+    /// No entry may have more octets.
+    max_entry: usize,
     /// The folders of which files may be included, by their paths from the root on, without links.
     folders: Vec<String>,
     /// The folder in which relative paths of included files are looked up, if it is not that of the file
@@ -183,16 +178,17 @@ fn add_folders(rt: &HostRuntime, file: &OpenFile, folders: &mut Vec<String>) -> 
 }
 
 /// Opens the first file, and gives it a name for messages.
-fn open_first(rt: &HostRuntime, file: &str, name: &str) -> io::Result<OpenFile> {
+fn open_first(rt: &HostRuntime, file: &str, name: &str, max_entry: usize) -> io::Result<OpenFile> {
     let alloc = rt.alloc();
     let name = String::from_str(alloc, name)?;
     if file == "-" {
-        return Ok(OpenFile::new(alloc, name, String::new(alloc), 0, Input::Standard));
+        let input = Input::Standard;
+        return Ok(OpenFile::new(alloc, name, String::new(alloc), 0, input, max_entry));
     }
     let input = Input::File(File::open(rt, file)?);
     // A pipe has no path.
     let full = full_path(rt, file).unwrap_or(String::new(alloc));
-    Ok(OpenFile::new(alloc, name, full, 0, input))
+    Ok(OpenFile::new(alloc, name, full, 0, input, max_entry))
 }
 
 /// Why a file is not included.
@@ -235,7 +231,7 @@ impl<'a> ZoneFiles<'a> {
         begin: Begin<'f>,
     ) -> Result<ZoneFiles<'a>, Stop> {
         let alloc = rt.alloc();
-        let first = match open_first(rt, file, begin.name_of(file)) {
+        let first = match open_first(rt, file, begin.name_of(file), begin.max_entry) {
             Ok(first) => first,
             Err(error) => return Err(unread(alloc, file, error)),
         };
@@ -257,7 +253,7 @@ impl<'a> ZoneFiles<'a> {
         Ok(ZoneFiles {
             rt,
             includes: begin.includes,
-            is_whole: begin.is_whole,
+            max_entry: begin.max_entry,
             folders,
             base,
             files,
@@ -301,6 +297,7 @@ impl<'a> ZoneFiles<'a> {
                 Some(Ok(EntryRead::Include { origin })) => {
                     return self.give_including(file, origin, visitor);
                 }
+                Some(Err(BlockRefusal::LongEntry)) => return self.give_long(file, visitor),
                 Some(read) => self.give(&mut file, &read, visitor)?,
                 None if file.is_read => return self.close(file, visitor),
                 None => return self.read(file, progress),
@@ -309,11 +306,8 @@ impl<'a> ZoneFiles<'a> {
         Err(Stop::TooLong)
     }
 
-    /// Reads a block of a file, behind an entry without its end.
+    /// Reads a block of a file.
     fn read(&mut self, mut file: OpenFile, progress: &mut Progress) -> Result<(), Stop> {
-        if !self.is_whole && file.reader.held_len() > LONG_ENTRY {
-            file.reader.shorten()?;
-        }
         let count = self.fill(&mut file, progress)?;
         file.reader.add(self.read_octets(count))?;
         if file.is_read {
@@ -389,32 +383,31 @@ impl<'a> ZoneFiles<'a> {
         Ok(())
     }
 
-    /// The entry that was read last of a file.
+    /// Returns the entry that was read last of a file. Fails with `Damaged` if its octets are not held.
     fn entry<'e>(
         &'e self,
         file: &'e OpenFile,
-        read: &'e Result<EntryRead, RecordRefusal>,
-    ) -> Entry<'e> {
+        read: &'e Result<EntryRead, BlockRefusal>,
+    ) -> Result<Entry<'e>, Stop> {
         let offset = file.reader.began();
-        let held = file.reader.octets_from(offset);
-        let is_shortened = held.is_none();
-        let held = held.unwrap_or(&[]);
+        let Some(held) = file.reader.octets_from(offset) else {
+            return Err(Stop::Damaged);
+        };
         let len = file.reader.place().saturating_sub(offset);
         let count = len.min(held.len());
-        Entry {
+        Ok(Entry {
             file: file.name.as_str(),
             number: file.number,
             offset,
             counted: file.place,
             held,
             octets: &held[..count],
-            is_shortened,
             reader: &file.reader,
             is_last: file.is_read && count == held.len(),
             read,
             data: self.data.as_slice(),
             state: &self.state,
-        }
+        })
     }
 
     /// Gives an entry that needs neither a report nor its position. Returns `false`, and changes
@@ -422,17 +415,17 @@ impl<'a> ZoneFiles<'a> {
     fn give_quiet<V: Visit>(
         &self,
         file: &OpenFile,
-        read: &Result<EntryRead, RecordRefusal>,
+        read: &Result<EntryRead, BlockRefusal>,
         visitor: &mut V,
     ) -> Result<bool, Stop> {
-        visitor.visit_quiet(&self.entry(file, read))
+        visitor.visit_quiet(&self.entry(file, read)?)
     }
 
     /// Gives an entry that includes no file.
     fn give<V: Visit>(
         &mut self,
         file: &mut OpenFile,
-        read: &Result<EntryRead, RecordRefusal>,
+        read: &Result<EntryRead, BlockRefusal>,
         visitor: &mut V,
     ) -> Result<(), Stop> {
         if self.give_quiet(file, read, visitor)? {
@@ -440,7 +433,13 @@ impl<'a> ZoneFiles<'a> {
         }
         let offset = file.reader.began();
         file.count_to(offset);
-        visitor.take(&self.entry(file, read))
+        visitor.take(&self.entry(file, read)?)
+    }
+
+    /// Gives an entry that is too long, and goes on after its file: the rest of that is not read.
+    fn give_long<V: Visit>(&mut self, mut file: OpenFile, visitor: &mut V) -> Result<(), Stop> {
+        self.give(&mut file, &Err(BlockRefusal::LongEntry), visitor)?;
+        self.close(file, visitor)
     }
 
     /// Gives an entry that includes a file, and opens it.
@@ -454,7 +453,7 @@ impl<'a> ZoneFiles<'a> {
         file.count_to(offset);
         let found = self.find_included(&file);
         let read = Ok(EntryRead::Include { origin });
-        let entry = self.entry(&file, &read);
+        let entry = self.entry(&file, &read)?;
         visitor.take(&entry)?;
         let is_full = matches!(found, Err(Unfit::Full));
         if let Err(unfit) = &found {
@@ -514,7 +513,8 @@ impl<'a> ZoneFiles<'a> {
             return Err(Unfit::Told("not a regular file"));
         }
         let input = Input::File(File::open(self.rt, name.as_str())?);
-        Ok(OpenFile::new(self.rt.alloc(), name, full, self.count, input))
+        let alloc = self.rt.alloc();
+        Ok(OpenFile::new(alloc, name, full, self.count, input, self.max_entry))
     }
 
     /// Whether a file stands in a folder of which files may be included.
@@ -585,8 +585,8 @@ pub struct Begin<'f> {
     pub state: State,
     /// Whether files are included.
     pub includes: bool,
-    /// Whether the octets of each entry are held, however long it is.
-    pub is_whole: bool,
+    /// No entry may have more octets.
+    pub max_entry: usize,
     /// The folders, besides its own, of which files may be included.
     pub folders: &'f [&'f str],
     /// The folder in which relative paths of included files are looked up, if it is not that of the file

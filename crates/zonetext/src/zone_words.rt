@@ -1,6 +1,6 @@
 //! The words of the commands that read records: `records`, `canon`, `diff` and `digest`.
-use crate::command::{BASE, QUIET, flag, over_files, required_file, valued, values};
-use crate::options::{Usage, class_of, number_of, size_of, status_of, zone_of};
+use crate::command::{BASE, QUIET, flag, max_entry, over_files, required_file, valued, values};
+use crate::options::{Usage, class_of, max_entry_of, number_of, size_of, status_of, zone_of};
 use crate::reading::Reading;
 use crate::{canon, changes, digest, digest_writing, records};
 use clap::{ArgMatches, Command};
@@ -27,7 +27,8 @@ fn with_reading<'a>(alloc: Global, command: Command<'a>) -> Result<Command<'a>, 
         .arg(zone)?
         .arg(valued(alloc, "class", "CLASS", CLASS))?
         .arg(values(alloc, "include", "DIR", INCLUDE))?
-        .arg(valued(alloc, "base", "DIR", BASE))
+        .arg(valued(alloc, "base", "DIR", BASE))?
+        .arg(max_entry(alloc))
 }
 
 /// The options that leave records out.
@@ -131,7 +132,7 @@ fn reading_of<'o>(inner: &'o ArgMatches, is_one_zone: bool) -> Result<Reading<'o
         class: class_of(inner.get_str("class"))?,
         is_one_class: is_one_zone,
         includes: true,
-        is_whole: false,
+        max_entry: max_entry_of(inner)?,
         folders: inner.get_strs("include").unwrap_or(&[]),
         base: inner.get_str("base"),
         is_one_zone,
@@ -162,7 +163,7 @@ fn write_canonical<'o>(
         keeps_order: inner.get_flag("keep-order"),
     };
     let reading = reading_of(inner, true)?;
-    match size_of(inner.get_str("memory"))? {
+    match size_of(inner.get_str("memory"), "--memory")? {
         Some(size) => Ok(canon::run_bounded(rt, files, reading, selection, form, size)),
         None => Ok(canon::run(rt, files, reading, selection, form)),
     }

@@ -3,7 +3,7 @@ use Rattle.std.specs.Prelude.{ℕ, Bool, true, false, List, codes}
 use Rattle.zonetext_report.specs.declared.code.Severity.{Severity}
 use Rattle.zonetext_report.specs.declared.code.Severity.TheVariants.{Error, Warning}
 use Rattle.zonetext_report.specs.declared.code.Code.{Code}
-use Rattle.zonetext_report.specs.declared.code.Code.TheVariants.{OpenQuote, OpenParenthesis, ClosingParenthesis, LoneReturn, BadEscape, Nul, ByteOrderMark, ControlZ, Directive, Owner, Ttl, Class, RecordType, Data, Include, NoOwner, NoTtl, OtherClass, NoSoa, TwoSoas, NoNs, NsAddress, Cname, Dname, DsApex, WildcardNs, SoaNotApex, NsBesideDname, Nsec3Wildcard, BelowDname, Outside, MaxTtl, NoOrigin, HighOctet, ControlOctet, Crlf, NestedParentheses, LeadingParenthesis, AdjacentTokens, NoFinalNewline, RelativeOrigin, SoaMinimumTtl, IncludeTtl, MissingDot, EmptyUri, TlsaLength, IpseckeyAlgorithm, OhttpValue, Glue, TargetCname, TargetMissing, HostName, Cds, TtlDiffers, Duplicate, NotAtApex, KeyProtocol, KeyAlgorithm, NoDnskey, Expired, ExpiresSoon, NotYetValid, RrsigTimes, RrsigSigner, RrsigLabels, OriginalTtl, RrsigTtl, Unsigned, NoKey, KeyMissing, RrsigKey, SignsNothing, OccludedDnssec, NoNsec, NsecNext, NsecTypes, DsWithoutNs, NoNsec3, Nsec3Next, Nsec3Types, Nsec3Owner, Nsec3Iterations, Nsec3Iterations50, Nsec3Iterations0, NsecTtl, CdsDelete}
+use Rattle.zonetext_report.specs.declared.code.Code.TheVariants.{OpenQuote, OpenParenthesis, ClosingParenthesis, LoneReturn, BadEscape, Nul, ByteOrderMark, ControlZ, MaxEntry, Directive, Owner, Ttl, Class, RecordType, Data, Include, NoOwner, NoTtl, OtherClass, NoSoa, TwoSoas, NoNs, NsAddress, Cname, Dname, DsApex, WildcardNs, SoaNotApex, NsBesideDname, Nsec3Wildcard, BelowDname, Outside, MaxTtl, NoOrigin, HighOctet, ControlOctet, Crlf, NestedParentheses, LeadingParenthesis, AdjacentTokens, NoFinalNewline, RelativeOrigin, SoaMinimumTtl, IncludeTtl, MissingDot, EmptyUri, TlsaLength, IpseckeyAlgorithm, OhttpValue, Glue, TargetCname, TargetMissing, HostName, Cds, TtlDiffers, Duplicate, NotAtApex, KeyProtocol, KeyAlgorithm, NoDnskey, Expired, ExpiresSoon, NotYetValid, RrsigTimes, RrsigSigner, RrsigLabels, OriginalTtl, RrsigTtl, Unsigned, NoKey, KeyMissing, RrsigKey, SignsNothing, OccludedDnssec, NoNsec, NsecNext, NsecTypes, DsWithoutNs, NoNsec3, Nsec3Next, Nsec3Types, Nsec3Owner, Nsec3Iterations, Nsec3Iterations50, Nsec3Iterations0, NsecTtl, CdsDelete}
 
 abbrev pub severity_name : Severity → List ℕ
 severity_name Error = codes "error"
@@ -19,6 +19,7 @@ code_name BadEscape = codes "bad-escape"
 code_name Nul = codes "nul"
 code_name ByteOrderMark = codes "byte-order-mark"
 code_name ControlZ = codes "control-z"
+code_name MaxEntry = codes "max-entry"
 code_name Directive = codes "directive"
 code_name Owner = codes "owner"
 code_name Ttl = codes "ttl"
@@ -108,6 +109,7 @@ is_text_fault BadEscape = true
 is_text_fault Nul = true
 is_text_fault ByteOrderMark = true
 is_text_fault ControlZ = true
+is_text_fault MaxEntry = true
 is_text_fault _ = false
 
 -- a warning where servers take the file, else an error; what keeps a record from being read is an error in any case

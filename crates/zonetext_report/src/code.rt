@@ -45,6 +45,8 @@ pub enum Code {
     ByteOrderMark,
     /// An entry begins with Ctrl-Z, which ended files of CP/M and DOS.
     ControlZ,
+    /// An entry has more octets than are allowed.
+    MaxEntry,
     /// A directive is unknown, or its arguments are not its own.
     Directive,
     /// The owner is no name.
@@ -213,7 +215,7 @@ fn find_named(codes: &[Code], name: &str) -> Option<Code>
 impl Code {
     /// Every code.
 
-    pub const ALL: [Code; 86] = [
+    pub const ALL: [Code; 87] = [
         Code::OpenQuote,
         Code::OpenParenthesis,
         Code::ClosingParenthesis,
@@ -222,6 +224,7 @@ impl Code {
         Code::Nul,
         Code::ByteOrderMark,
         Code::ControlZ,
+        Code::MaxEntry,
         Code::Directive,
         Code::Owner,
         Code::Ttl,
@@ -315,6 +318,7 @@ impl Code {
             Code::Nul => "nul",
             Code::ByteOrderMark => "byte-order-mark",
             Code::ControlZ => "control-z",
+            Code::MaxEntry => "max-entry",
             Code::Directive => "directive",
             Code::Owner => "owner",
             Code::Ttl => "ttl",
@@ -416,7 +420,8 @@ impl Code {
             | Code::BadEscape
             | Code::Nul
             | Code::ByteOrderMark
-            | Code::ControlZ => true,
+            | Code::ControlZ
+            | Code::MaxEntry => true,
             _ => false,
         }
     }

@@ -1,8 +1,9 @@
 //! Entries of zone text that comes in blocks.
 use super::tell::Octets;
 use super::zone::{state_of, tell_not_given, tell_read};
-use dns_reader::{EntryRead, State};
-use dns_zonefile::{AddError, BlockReader};
+use dns_reader::{EntryRead, RecordRefusal, State};
+use dns_zonefile::{AddError, BlockReader, BlockRefusal};
+use row_table::input::number_of;
 use row_table::{Answer, Failure, Heap, Inputs};
 
 /// The blocks of a text: the first is cut off, and the others have each as many octets.
@@ -10,102 +11,89 @@ use row_table::{Answer, Failure, Heap, Inputs};
 struct Cut {
     first: usize,
     each: usize,
-    /// Whether what can be let go of an entry is, behind each.
-    shortens: bool,
+}
+
+/// A text, its origin, and how many octets an entry may have.
+#[derive(Clone, Copy)]
+struct Zone<'z> {
+    text: &'z [u8],
+    origin: &'z [Vec<u8>],
+    limit: usize,
 }
 
 /// The sizes of blocks that are tried beside those of one octet.
 const SIZES: [usize; 3] = [2, 3, 7];
 
-/// The entries of a text that comes in blocks of one octet. However it is cut, they are the same.
+/// The entries of a text that comes in blocks of one octet, which may be of any length.
 pub fn blocks(inputs: &Inputs, answer: &mut Answer) {
     let [text, origin @ ..] = inputs.all() else {
         return answer.fail(Failure::BadInputs);
     };
-    let text = text.as_slice();
-    let shortens = false;
-    entries(
-        text,
+    let zone = Zone {
+        text: text.as_slice(),
         origin,
-        Cut {
-            first: 0,
-            each: 1,
-            shortens,
-        },
-        answer,
-    );
-    check_cut(
-        text,
-        origin,
-        Cut {
-            first: 0,
-            each: 1,
-            shortens: true,
-        },
-        answer,
-    );
-    for each in &SIZES {
-        let each = *each;
-        check_both(
-            text,
-            origin,
-            Cut {
-                first: 0,
-                each,
-                shortens,
-            },
-            answer,
-        );
-    }
-    for first in 0..=text.len() {
-        let each = text.len();
-        check_both(
-            text,
-            origin,
-            Cut {
-                first,
-                each,
-                shortens,
-            },
-            answer,
-        );
-    }
+        limit: usize::MAX,
+    };
+    check_cuts(zone, answer);
 }
 
-/// Cut so, the entries are those of the answer, also where what can be let go of them is.
-fn check_both(text: &[u8], origin: &[Vec<u8>], cut: Cut, answer: &mut Answer) {
-    check_cut(text, origin, cut, answer);
-    check_cut(
-        text,
+/// The same, where no entry may have more octets than the first input.
+pub fn limit(inputs: &Inputs, answer: &mut Answer) {
+    let [limit, text, origin @ ..] = inputs.all() else {
+        return answer.fail(Failure::BadInputs);
+    };
+    let Some(limit) = number_of(limit.as_slice()) else {
+        return answer.fail(Failure::BadInputs);
+    };
+    let zone = Zone {
+        text: text.as_slice(),
         origin,
-        Cut {
-            shortens: true,
-            ..cut
-        },
-        answer,
-    );
+        limit,
+    };
+    check_cuts(zone, answer);
+}
+
+/// The entries of a text in blocks of one octet. However it is cut, they are the same.
+fn check_cuts(zone: Zone<'_>, answer: &mut Answer) {
+    entries(zone, Cut { first: 0, each: 1 }, answer);
+    for each in &SIZES {
+        check_cut(
+            zone,
+            Cut {
+                first: 0,
+                each: *each,
+            },
+            answer,
+        );
+    }
+    for first in 0..=zone.text.len() {
+        check_cut(
+            zone,
+            Cut {
+                first,
+                each: zone.text.len(),
+            },
+            answer,
+        );
+    }
 }
 
 /// Cut so, the entries are those of the answer.
-fn check_cut(text: &[u8], origin: &[Vec<u8>], cut: Cut, answer: &mut Answer) {
+fn check_cut(zone: Zone<'_>, cut: Cut, answer: &mut Answer) {
     let mut other = answer.another();
-    entries(text, origin, cut, &mut other);
+    entries(zone, cut, &mut other);
     answer.check_same(&other);
 }
 
-/// The entries of a text that is cut so.
-fn entries(text: &[u8], origin: &[Vec<u8>], cut: Cut, answer: &mut Answer) {
-    let mut state = state_of(origin, answer);
-    let mut reader = BlockReader::new(answer.heap());
-    let (first, rest) = text.split_at(cut.first.min(text.len()));
+/// The entries of a text that is cut so, up to one that is too long.
+fn entries(zone: Zone<'_>, cut: Cut, answer: &mut Answer) {
+    let mut state = state_of(zone.origin, answer);
+    let mut reader = BlockReader::new(answer.heap(), zone.limit);
+    let (first, rest) = zone.text.split_at(cut.first.min(zone.text.len()));
     if !tell_block(&mut reader, first, &mut state, answer) {
         return;
     }
     for block in rest.chunks(cut.each.max(1)) {
-        if cut.shortens && reader.shorten().is_err() {
-            answer.refuse_text("buffer size exceeded");
-            return;
-        }
         if !tell_block(&mut reader, block, &mut state, answer) {
             return;
         }
@@ -114,7 +102,7 @@ fn entries(text: &[u8], origin: &[Vec<u8>], cut: Cut, answer: &mut Answer) {
     let _whole = tell_given(&mut reader, &mut state, answer);
 }
 
-/// Adds a block, and tells the entries that are given. Returns whether memory sufficed.
+/// Adds a block, and tells the entries that are given. Returns whether more may be added.
 fn tell_block(
     reader: &mut BlockReader<&Heap>,
     block: &[u8],
@@ -134,7 +122,42 @@ fn tell_block(
     }
 }
 
-/// Tells the entries that are given. Returns whether memory sufficed.
+/// An entry that is too long, and that nothing is given after it, nor added.
+fn tell_long(reader: &mut BlockReader<&Heap>, state: &mut State, answer: &mut Answer) {
+    answer.refuse_text("long");
+    answer.add_text("|");
+    answer.add_number(reader.began());
+    let mut target: Octets = Vec::new(answer.heap());
+    let is_over = reader.next_entry(state, &mut target).is_none();
+    answer.check(is_over && reader.add(b"a").is_err());
+}
+
+/// Why an entry is not given that is not too long.
+pub fn record_refusal(refusal: BlockRefusal) -> Option<RecordRefusal> {
+    match refusal {
+        BlockRefusal::Text(fault) => Some(RecordRefusal::Text(fault)),
+        BlockRefusal::Entry(refusal) => Some(RecordRefusal::Entry(refusal)),
+        BlockRefusal::LongEntry => None,
+    }
+}
+
+/// Tells an entry that is not given. Returns whether others may follow.
+fn tell_refused(
+    reader: &mut BlockReader<&Heap>,
+    state: &mut State,
+    refusal: BlockRefusal,
+    answer: &mut Answer,
+) -> bool {
+    match record_refusal(refusal) {
+        Some(refusal) => tell_not_given(refusal, answer),
+        None => {
+            tell_long(reader, state, answer);
+            false
+        }
+    }
+}
+
+/// Tells the entries that are given. Returns whether more may be added.
 fn tell_given(reader: &mut BlockReader<&Heap>, state: &mut State, answer: &mut Answer) -> bool {
     for _ in 0..u64::MAX {
         let mut target: Octets = Vec::new(answer.heap());
@@ -145,7 +168,7 @@ fn tell_given(reader: &mut BlockReader<&Heap>, state: &mut State, answer: &mut A
             Ok(EntryRead::Nothing) => continue,
             Ok(read) => tell_read(state, read, target.as_slice(), answer),
             Err(refusal) => {
-                if !tell_not_given(refusal, answer) {
+                if !tell_refused(reader, state, refusal, answer) {
                     return false;
                 }
             }

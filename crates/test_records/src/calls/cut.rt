@@ -1,4 +1,5 @@
 //! Zone text that is cut into parts.
+use super::blocks::record_refusal;
 use super::tell::Octets;
 use super::zone::{state_of, tell_not_given};
 use dns_reader::{EntryRead, RecordReader, State};
@@ -106,7 +107,7 @@ fn fill<'a>(
     mut state: State,
     answer: &mut Answer<'a>,
 ) -> bool {
-    let mut reader = BlockReader::new(answer.heap());
+    let mut reader = BlockReader::new(answer.heap(), usize::MAX);
     if reader.add(text).is_err() {
         return tell_short(answer);
     }
@@ -131,7 +132,9 @@ fn fill<'a>(
             }
             Ok(_) => continue,
             Err(refusal) => {
-                let _memory = tell_not_given(refusal, answer);
+                if let Some(refusal) = record_refusal(refusal) {
+                    let _memory = tell_not_given(refusal, answer);
+                }
                 return false;
             }
         };

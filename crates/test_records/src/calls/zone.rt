@@ -1,5 +1,5 @@
 //! Entries of zone text, each by the state before it.
-use super::blocks::blocks;
+use super::blocks::{blocks, limit};
 use super::cut::cut;
 use super::rules::{dnssec, hash, refused, rules};
 use super::tell::{Octets, origin_of};
@@ -33,6 +33,7 @@ pub fn call(name: &str, inputs: &Inputs, answer: &mut Answer) {
         "records" => zone(inputs.all(), Step::Record, answer),
         "rules" => rules(inputs.all(), answer),
         "blocks" => blocks(inputs, answer),
+        "limit" => limit(inputs, answer),
         "cut" => cut(inputs, answer),
         "dnssec" => dnssec(inputs.all(), answer),
         "refused" => refused(inputs.all(), answer),

@@ -1,9 +1,7 @@
-use Rattle.std.proofs.Common.{List, length, map, sym, subst, ◌∙◌}
-use Rattle.std.proofs.lemmas.Bool.{eqb-true}
+use Rattle.std.proofs.Common.{List, sym, subst}
 use Rattle.dns_tape.specs.Tape.{FillsWith}
 use Rattle.dns_tape.specs.declared.tape.TokenSpan.{TokenSpan}
-use Rattle.dns_zonefile.specs.Kept.{kept_seen, tokens_kept}
-use Rattle.dns_zonefile.proofs.Taped.{none_kept, read_by}
+use Rattle.dns_zonefile.proofs.Taped.{read_by}
 use Rattle.dns_zonefile.proofs.blocks.read_first.Goals as goal
 
 pub returns-in-Some : goal.returns-in-Some
@@ -11,5 +9,5 @@ returns-in-Some g c =
     let octets = g.B.AsOctets.octets in
     let me = c.read_entry in
     let fills : FillsWith c.args.octets.now c.as_slice.result.now c.in-Some.end = subst (λ (s : List TokenSpan). FillsWith c.args.octets.now s c.in-Some.end) (sym c.as_slice.ensures.value) c.in-Some.ensures.some in
-    read_by g.B.OctetsBuilder.room c.args.octets.now c.args.at c.in-Some.end c.args.begins_blank (tokens_kept (map kept_seen c.args.kept.now)) c.new-tokens.result c.as_slice.result.now c.args.state.now
-    (octets c.args.target.now) me.result me.new.state (octets me.new.target) (none_kept c.args.kept.now (eqb-true (length c.args.kept.now) 0 (sym c.is_empty.ensures ∙ c.if-is_empty.true))) fills c.new-tokens.ensures me.ensures.reads
+    read_by g.B.OctetsBuilder.room c.args.octets.now c.args.at c.in-Some.end c.args.begins_blank c.new-tokens.result c.as_slice.result.now c.args.state.now (octets c.args.target.now) me.result me.new.state (octets me.new.target) fills
+    c.new-tokens.ensures me.ensures.reads

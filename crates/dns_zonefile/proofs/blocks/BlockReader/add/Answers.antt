@@ -1,5 +1,4 @@
-use Rattle.std.proofs.Common.{◌≡◌, ◌++◌, ◌∙◌, length, ap, subst, sym, arith}
-use Rattle.dns_zonefile.specs.Adding.{with_octets}
+use Rattle.std.proofs.Common.{◌≡◌, ◌++◌, ◌∙◌, ap, subst, sym}
 use Rattle.dns_zonefile.specs.Blocks.{Blocks, HoldsLast}
 use Rattle.dns_zonefile.proofs.Held.{holds_more}
 use Rattle.dns_zonefile.proofs.blocks.BlockReader.add.Goals as goal
@@ -8,11 +7,8 @@ pub returns : goal.returns
 returns g c =
     let old = c.args.self.now in
     let block = c.args.block.now in
-    let front = ap (λ (b : Blocks). b.front) c.self.view_is in
-    let octets = ap (λ (b : Blocks). length b.octets) c.self.view_is in
     let items : c.extend_from_slice.new.self.items ≡ old.octets ++ block =
     ◌∙◌ {b = c.self.inside.held.items ++ c.as_octets.result.now} c.in_ok-extend_from_slice.ensures.items
     (◌∙◌ {b = c.self.inside.held.items ++ block} (ap (λ l. c.self.inside.held.items ++ l) c.as_octets.ensures.same) (ap (λ (b : Blocks). b.octets ++ block) c.self.view_is)) in
-    let is : with_octets old c.extend_from_slice.new.self.items ≡ with_octets old (old.octets ++ block) = ap (with_octets old) items in
-    let new = ap (λ (b : Blocks). with_octets b c.extend_from_slice.new.self.items) c.self.view_is ∙ is in
-    (new, λ all h. subst (HoldsLast (all ++ block)) (sym new) (holds_more all old h (omega (arith, front, octets, c.self.invariant)) block c.as_octets.ensures.octets))
+    let new = ap (λ (b : Blocks). record b { octets = c.extend_from_slice.new.self.items }) c.self.view_is ∙ ap (λ l. record old { octets = l }) items in
+    (new, λ all h. subst (HoldsLast (all ++ block)) (sym new) (holds_more all old h block))

@@ -6,8 +6,6 @@ use Rattle.dns_zonefile.proofs.blocks.BlockReader.octets_from.Goals as goal
 pub returns : goal.returns
 returns g c = λ all h.
     let start = ap (λ (b : Blocks). b.start.at) c.self.view_is in
-    let front = ap (λ (b : Blocks). b.front) c.self.view_is in
     let octets = ap (λ (b : Blocks). length b.octets) c.self.view_is in
-    let behind = octets_behind all c.args.self.now h (omega (arith, front, octets, c.self.invariant)) (c.args.at - c.self.inside.start.at) c.args.at (omega (arith, start, c.if-at-self.false))
-    (omega (arith, front, c.if-at-self-2.false)) (omega (arith, octets, c.len.ensures, c.self.inside.held.ok, c.if-count-len.false)) in
-    (behind.0, c.held_behind.ensures ∙ behind.1)
+    let behind = octets_behind all c.args.self.now h (c.args.at - c.self.inside.start.at) c.args.at (omega (arith, start, c.if-at-self.false)) (omega (arith, octets, c.len.ensures, c.self.inside.held.ok, c.if-count-len.false)) in
+    (behind.0, c.held_after.ensures ∙ behind.1)

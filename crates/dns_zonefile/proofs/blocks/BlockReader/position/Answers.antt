@@ -6,7 +6,5 @@ use Rattle.dns_zonefile.proofs.blocks.BlockReader.position.Goals as goal
 pub returns : goal.returns
 returns g c = λ all h.
     let start = ap (λ (b : Blocks). b.start.at) c.self.view_is in
-    let front = ap (λ (b : Blocks). b.front) c.self.view_is in
     let octets = ap (λ (b : Blocks). length b.octets) c.self.view_is in
-    position_of all c.args.self.now h (omega (arith, front, octets, c.self.invariant)) (c.args.at - c.self.inside.start.at) c.args.at c.position_behind.result (omega (arith, start, c.if-at-self.false))
-    (omega (arith, front, c.if-at-self-2.false)) (omega (arith, octets, c.len.ensures, c.self.inside.held.ok, c.if-count-len.false)) c.position_behind.ensures.at
+    position_of all c.args.self.now h (c.args.at - c.self.inside.start.at) c.args.at c.position_after.result (omega (arith, start, c.if-at-self.false)) (omega (arith, octets, c.len.ensures, c.self.inside.held.ok, c.if-count-len.false)) c.position_after.ensures.at

@@ -1,0 +1,14 @@
+//! Why an entry of a file that comes in blocks is not given.
+use dns_reader::EntryRefusal;
+use dns_split::pieces::Fault;
+
+/// Why an entry of a file that comes in blocks is not given.
+#[derive(Clone, Copy, Debug, PartialEq, Eq)]
+pub enum BlockRefusal {
+    /// A fault of the text comes before its end.
+    Text(Fault),
+    /// It is refused.
+    Entry(EntryRefusal),
+    /// It has more octets than the limit. No more is read.
+    LongEntry,
+}
