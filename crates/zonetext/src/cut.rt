@@ -69,6 +69,7 @@ impl<'p> Parter<'p> {
             Ok(true) => self.begin_part(),
             Ok(false) => self.files.write(entry.octets),
             Err(CutError::OutOfMemory) => Err(Stop::OutOfMemory),
+            Err(CutError::NoRecord) => Err(Stop::Damaged),
             Err(error) => self.refuse(entry, error),
         }
     }

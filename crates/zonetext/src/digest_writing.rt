@@ -165,7 +165,7 @@ fn formed(alloc: Global, line: &str) -> Result<Vec<u8>, NoForm> {
 
 /// The line of a digest that is beside an SOA, in the form that `fmt` gives it. The owner is `@` if it
 /// is the origin there.
-fn line_of(alloc: Global, soa: &Placed, data: &[u8]) -> Result<String, AllocError> {
+fn line_of(alloc: Global, soa: &Placed, data: &[u8]) -> Result<String, Stop> {
     let full = full_line_of(alloc, soa, data)?;
     let mut line = String::new(alloc);
     match full.as_str().split_once('\t') {
@@ -176,28 +176,37 @@ fn line_of(alloc: Global, soa: &Placed, data: &[u8]) -> Result<String, AllocErro
         _ => line.push_str(full.as_str())?,
     }
     let Ok(form) = formed(alloc, line.as_str()) else {
-        return Err(AllocError);
+        return Err(Stop::OutOfMemory);
     };
     match str::from_utf8(form.as_slice()) {
-        Ok(form) => String::from_str(alloc, form),
-        Err(_) => Ok(line),
+        Ok(form) => Ok(String::from_str(alloc, form)?),
+        Err(_) => Err(Stop::Damaged),
     }
 }
 
 /// The line of a digest that is beside an SOA, with its owner in full.
-fn full_line_of(alloc: Global, soa: &Placed, data: &[u8]) -> Result<String, AllocError> {
+fn full_line_of(alloc: Global, soa: &Placed, data: &[u8]) -> Result<String, Stop> {
     let mut line = String::new(alloc);
     let owner = Name::from_octets(soa.owner.as_slice());
-    if let (Ok(owner), Some(data)) = (owner, data_of(data)) {
-        let record = Record {
-            owner,
-            ttl: soa.ttl,
-            class: soa.class,
-            data,
-        };
-        push_record(&mut line, &record)?;
-    }
+    let (Ok(owner), Some(data)) = (owner, data_of(data)) else {
+        return Err(Stop::Damaged);
+    };
+    let record = Record {
+        owner,
+        ttl: soa.ttl,
+        class: soa.class,
+        data,
+    };
+    push_record(&mut line, &record)?;
     Ok(line)
+}
+
+/// Returns tokens of a record, of which there is one at least. Fails with `Damaged` if there is none.
+fn some_tokens(tokens: Option<&[Span]>) -> Result<&[Span], Stop> {
+    match tokens {
+        Some(tokens) if !tokens.is_empty() => Ok(tokens),
+        _ => Err(Stop::Damaged),
+    }
 }
 
 impl<'p> Plan<'p> {
@@ -248,11 +257,11 @@ impl<'p> Plan<'p> {
     ) -> Result<(), Unwritten> {
         if old.serial != new.serial {
             let text = new.serial.to_string(self.alloc)?;
-            self.replace(tokens.get(..1).unwrap_or(&[]), text)?;
+            self.replace(some_tokens(tokens.get(..1))?, text)?;
         }
         if old.digest != new.digest {
             let text = hex_of(self.alloc, new.digest)?;
-            self.replace(tokens.get(3..).unwrap_or(&[]), text)?;
+            self.replace(some_tokens(tokens.get(3..))?, text)?;
         }
         Ok(())
     }
@@ -310,7 +319,7 @@ impl<'p> Plan<'p> {
         };
         if self.is_generic(tokens) {
             let text = hex_of(self.alloc, right)?;
-            self.replace(tokens.get(2..).unwrap_or(&[]), text)?;
+            self.replace(some_tokens(tokens.get(2..))?, text)?;
         } else {
             self.change(tokens, old, &new)?;
         }
@@ -344,7 +353,9 @@ impl<'p> Plan<'p> {
         let Some(new) = Zonemd::of_data(&data) else {
             return Err(Unwritten::Stop(Stop::Damaged));
         };
-        let front = self.octets.get(..soa.end).unwrap_or(self.octets);
+        let Some(front) = self.octets.get(..soa.end) else {
+            return Err(Unwritten::Refusal(Refusal::Changed));
+        };
         let end = line_end(front);
         let mut text = String::new(self.alloc);
         if !front.ends_with(b"\n") {

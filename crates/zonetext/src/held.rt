@@ -50,12 +50,12 @@ impl<Tag: Copy> Held<Tag> {
         self.rows.len()
     }
 
-    /// The octets that stand at a place.
-    fn part(&self, part: Part) -> &[u8] {
-        self.octets
-            .as_slice()
-            .get(part.start..part.end)
-            .unwrap_or(&[])
+    /// Returns the octets that stand at a place. Fails with `Damaged` if none do.
+    fn part(&self, part: Part) -> Result<&[u8], Stop> {
+        match self.octets.as_slice().get(part.start..part.end) {
+            Some(octets) => Ok(octets),
+            None => Err(Stop::Damaged),
+        }
     }
 
     /// Appends octets.
@@ -69,7 +69,7 @@ impl<Tag: Copy> Held<Tag> {
     /// Appends an owner, unless the record before has the same.
     fn append_owner(&mut self, owner: &[u8]) -> Result<Part, Stop> {
         if let Some(last) = self.rows.last() {
-            if self.part(last.owner) == owner {
+            if self.part(last.owner)? == owner {
                 return Ok(last.owner);
             }
         }
@@ -97,11 +97,11 @@ impl<Tag: Copy> Held<Tag> {
         let mut set = ZoneSet::new(self.alloc);
         for row in &self.rows {
             let octets = TaggedOctets {
-                octets: self.part(row.owner),
+                octets: self.part(row.owner)?,
                 tag: row.tag,
             };
             let owner = Name::from_octets(octets);
-            let data = Data::from_octets(row.code, self.part(row.data));
+            let data = Data::from_octets(row.code, self.part(row.data)?);
             let (Ok(owner), Ok(data)) = (owner, data) else {
                 return Err(Stop::Damaged);
             };

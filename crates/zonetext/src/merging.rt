@@ -29,21 +29,21 @@ struct RunReader {
     given: usize,
 }
 
-/// A copy of a record.
-fn own(alloc: Global, one: &Record<&[u8], &[u8]>) -> Result<Option<OwnRecord>, Stop> {
+/// Returns a copy of a record. Fails with `Damaged` if its octets are no record.
+fn own(alloc: Global, one: &Record<&[u8], &[u8]>) -> Result<OwnRecord, Stop> {
     let owner = Vec::from_slice(alloc, one.owner.as_slice())?;
     let octets = Vec::from_slice(alloc, one.data.as_slice())?;
     match (
         Name::from_octets(owner),
         Data::from_octets(one.data.code(), octets),
     ) {
-        (Ok(owner), Ok(data)) => Ok(Some(Record {
+        (Ok(owner), Ok(data)) => Ok(Record {
             owner,
             ttl: one.ttl,
             class: one.class,
             data,
-        })),
-        _ => Ok(None),
+        }),
+        _ => Err(Stop::Damaged),
     }
 }
 
@@ -77,9 +77,10 @@ impl RunReader {
         let count = behind.min(self.block as u64);
         let old = self.octets.len();
         self.octets.resize(old.saturating_add(count as usize), 0)?;
-        if old <= self.octets.len() {
-            file.read(&mut self.octets[old..], self.start)?;
-        }
+        let Some(room) = self.octets.as_mut_slice().get_mut(old..) else {
+            return Err(file.damaged());
+        };
+        file.read(room, self.start)?;
         self.start = self.start.saturating_add(count);
         Ok(())
     }
@@ -91,7 +92,7 @@ impl RunReader {
             return Ok(None);
         };
         self.given = self.octets.len() - rest.len().min(self.octets.len());
-        own(self.alloc, &one)
+        Ok(Some(own(self.alloc, &one)?))
     }
 
     /// The next record. A run that ends before or behind its last record is damaged.
@@ -143,7 +144,7 @@ impl Merger {
     /// Takes in the next record of a run.
     fn advance(&mut self, file: &RunFile<'_>, run: usize) -> Result<(), Stop> {
         let Some(reader) = self.readers.get_mut(run) else {
-            return Ok(());
+            return Err(file.damaged());
         };
         if let Some(record) = reader.next_record(file)? {
             self.fronts.push(Front { record, run })?;

@@ -36,25 +36,25 @@ impl RefusedSets {
         self.rows.is_empty()
     }
 
-    /// Returns the owner of an RRset.
-    fn owner(&self, row: Row) -> &[u8] {
-        self.octets
-            .as_slice()
-            .get(row.start..row.end)
-            .unwrap_or(&[])
+    /// Returns the owner of an RRset. Fails with `Damaged` if its octets are missing.
+    fn owner(&self, row: Row) -> Result<&[u8], Stop> {
+        match self.octets.as_slice().get(row.start..row.end) {
+            Some(octets) => Ok(octets),
+            None => Err(Stop::Damaged),
+        }
     }
 
     /// Returns whether an RRset was added last.
-    fn is_last(&self, owner: &[u8], code: u16) -> bool {
+    fn is_last(&self, owner: &[u8], code: u16) -> Result<bool, Stop> {
         match self.rows.last() {
-            Some(last) => last.code == code && self.owner(*last) == owner,
-            None => false,
+            Some(last) => Ok(last.code == code && self.owner(*last)? == owner),
+            None => Ok(false),
         }
     }
 
     /// Adds an RRset, unless it was added last.
     pub fn add(&mut self, owner: &[u8], code: u16) -> Result<(), Stop> {
-        if self.is_last(owner, code) {
+        if self.is_last(owner, code)? {
             return Ok(());
         }
         let start = self.octets.len();
@@ -68,7 +68,7 @@ impl RefusedSets {
     pub fn sorted(&self) -> Result<Vec<RrsetName<'_>>, Stop> {
         let mut sets = Vec::with_capacity(self.alloc, self.rows.len())?;
         for row in &self.rows {
-            let Ok(owner) = Name::from_octets(self.owner(*row)) else {
+            let Ok(owner) = Name::from_octets(self.owner(*row)?) else {
                 return Err(Stop::Damaged);
             };
             sets.push(RrsetName {

@@ -55,6 +55,9 @@ fn sorted<'l>(
         set.push(one)?;
         rest = behind;
     }
+    if !rest.is_empty() {
+        return Ok(None);
+    }
     match CanonicalSet::from_set(set) {
         Ok(made) => Ok(Some(made)),
         Err(_) => Err(Stop::OutOfMemory),
@@ -158,7 +161,7 @@ impl<'s> Sorter<'s> {
         self.write_run()?;
         self.octets = Vec::new(self.rt.alloc());
         let Some(mut file) = self.file.take() else {
-            return Ok(self.duplicates);
+            return Err(Stop::Damaged);
         };
         for _ in 0..PASSES {
             if file.runs().len() > WIDTH {
