@@ -3,7 +3,7 @@ use dns_reader::EntryRefusal;
 use dns_split::pieces::Fault;
 
 /// Why an entry of a file that comes in blocks is not given.
-#[derive(Clone, Copy, Debug, PartialEq, Eq)]
+#[derive(Clone, Copy)]
 pub enum BlockRefusal {
     /// A fault of the text comes before its end.
     Text(Fault),
