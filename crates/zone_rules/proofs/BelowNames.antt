@@ -1,15 +1,16 @@
 -- Which names are within a name, by their labels from the root on: in canonical order the names within one follow it.
 use Rattle.std.proofs.Common.{ℕ, ◌≡◌, ◌<◌, Bool, true, false, List, [], ◌∷◌, ◌++◌, length, map, refl, sym, ap, subst, ◌∙◌, arith}
-use Rattle.std.specs.Prelude.{nat_eq, ◌&&◌, ◌||◌}
-use Rattle.std.specs.Cmp.Lexicographic.{pointwise, slice_cmp, lists_ties, texts_ties}
+use Rattle.std.specs.Prelude.{nat_eq, reverse, ◌&&◌, ◌||◌}
+use Rattle.std.specs.Cmp.Lexicographic.{bytes_decides, pointwise, pointwise_decides, slice_cmp, lists_ties, texts_ties}
 use Rattle.std.specs.Ordering.{is_eq, is_lt, is_le, ordering_then}
 use Rattle.std.specs.declared.cmp.Ordering.{Ordering}
 use Rattle.std.specs.declared.cmp.Ordering.TheVariants.{Less, Equal, Greater}
-use Rattle.std.proofs.lemmas.List.{reverse-append, length-map, length-reverse}
+use Rattle.std.proofs.lemmas.List.{map-append, reverse-append, length-map, length-reverse}
 use Rattle.dns_octets.specs.Lowered.{lowered}
 use Rattle.dns_wire.specs.Order.{same_name}
 use Rattle.dns_canonical.specs.Names.{octet_order, labels_from_root, name_order}
-use Rattle.dns_canonical.proofs.Orders.{octets_equal}
+use Rattle.std.proofs.lemmas.Cmp.{tied_itself}
+use Rattle.dns_canonical.proofs.Orders.{octets_equal, octets_total}
 use Rattle.zone_rules.specs.Above.{is_within}
 use Rattle.zone_rules.proofs.Lookups.{same_is}
 
@@ -135,3 +136,42 @@ within_not_before name top some h = within_is name top some ∙ by (begins (labe
 pub within_between : (name other top : List (List ℕ)) → 0 < length top → is_lt (name_order name top) ≡ false → is_le (name_order name other) ≡ true → is_within other top ≡ true → is_within name top ≡ true
 within_between name other top some h k t =
     within_is name top some ∙ begins_between (labels_from_root top) (labels_from_root name) (labels_from_root other) h k (sym (within_is other top some) ∙ t)
+
+-- what isn't before labels that begin with others isn't before those
+begins_with_front : (p a b : List (List ℕ)) → is_lt (slice_cmp octet_order a b) ≡ false → begins p b ≡ true → is_lt (slice_cmp octet_order a p) ≡ false
+begins_with_front [] [] b h t = refl
+begins_with_front [] (y ∷ ys) b h t = refl
+begins_with_front (x ∷ xs) a [] h t = cc
+begins_with_front (x ∷ xs) [] (z ∷ zs) h t = cc
+begins_with_front (x ∷ xs) (y ∷ ys) (z ∷ zs) h t =
+    let same : z ≡ x = alike_same z x (and_first (alike z x) (begins xs zs) t) in
+    by (octet_order y x) (subst (λ l. is_lt (ordering_then (octet_order y l) (slice_cmp octet_order ys zs)) ≡ false) same h) (λ u. begins_with_front xs ys zs u (and_second (alike z x) (begins xs zs) t))
+  where
+    by : (o : Ordering) → is_lt (ordering_then o (slice_cmp octet_order ys zs)) ≡ false → (is_lt (slice_cmp octet_order ys zs) ≡ false → is_lt (slice_cmp octet_order ys xs) ≡ false)
+        → is_lt (ordering_then o (slice_cmp octet_order ys xs)) ≡ false
+    by Less u more = cc
+    by Equal u more = more u
+    by Greater u more = refl
+
+pub begins_with_not_before : (name other top : List (List ℕ)) → 0 < length top → is_within name top ≡ true → is_lt (name_order other name) ≡ false → is_lt (name_order other top) ≡ false
+begins_with_not_before name other top some t h =
+    begins_with_front (labels_from_root top) (labels_from_root other) (labels_from_root name) h (sym (within_is name top some) ∙ t)
+
+-- ---- a name is before those with more labels in front of it
+
+itself_tied : (x : List ℕ) → octet_order x x ≡ Equal
+itself_tied x = tied_itself octets_total x
+
+front_before : (p q : List (List ℕ)) → 0 < length q → is_lt (slice_cmp octet_order p (p ++ q)) ≡ true
+front_before [] [] h = absurd (omega (arith, h))
+front_before [] (y ∷ ys) h = refl
+front_before (x ∷ xs) q h = ap (λ o. is_lt (ordering_then o (slice_cmp octet_order xs (xs ++ q)))) (itself_tied x) ∙ front_before xs q h
+
+pub before_longer : (front end : List (List ℕ)) → 0 < length front → is_lt (name_order end (front ++ end)) ≡ true
+before_longer front end h =
+    ap (λ l. is_lt (slice_cmp octet_order (labels_from_root end) l)) (ap reverse (map-append lowered front end) ∙ reverse-append (map lowered front) (map lowered end))
+    ∙ front_before (labels_from_root end) (reverse (map lowered front)) (omega (arith, h, length-reverse (map lowered front), length-map front lowered))
+
+-- a name that is the same as another is as it to a third
+pub same_is_tied : (a b name : List (List ℕ)) → same_name a b ≡ true → name_order a name ≡ name_order b name
+same_is_tied a b name h = ap (λ l. slice_cmp octet_order l (labels_from_root name)) (ap reverse ((pointwise_decides bytes_decides (map lowered a) (map lowered b)).0 h))

@@ -4,7 +4,9 @@ pub mod HostNameParts
 mod HostParts
 pub mod Lookups
 pub mod NameParts
+pub mod Neighbours
 pub mod Searches
+pub mod SharedNames
 pub mod Steps
 mod ToldRules
 pub mod Within

@@ -55,7 +55,7 @@ other_kept [] above e = cc
 other_kept (label ∷ []) above e = cc
 other_kept (label ∷ next ∷ others) above e = refl
 
-tail_name : (label : List ℕ) (labels : List (List ℕ)) → IsName (label ∷ labels) → IsName labels
+pub tail_name : (label : List ℕ) (labels : List (List ℕ)) → IsName (label ∷ labels) → IsName labels
 tail_name label labels n = record {
   short = All-tail (λ l. length l ≤ 63) label labels n.short;
   root_last = λ front back e. n.root_last (label ∷ front) back (ap (λ ls. label ∷ ls) e);
@@ -87,7 +87,7 @@ wire_more label labels = refl
 only_root : (label front : List ℕ) (fronts : List (List ℕ)) → label ∷ [] ≡ front ∷ (fronts ++ [] ∷ []) → ⊥
 only_root label front fronts e = let l = ap length e in omega (arith, length-append fronts ([] ∷ []))
 
-one_label : (label : List ℕ) (fronts : List (List ℕ)) → label ∷ [] ≡ fronts ++ [] ∷ [] → label ≡ []
+pub one_label : (label : List ℕ) (fronts : List (List ℕ)) → label ∷ [] ≡ fronts ++ [] ∷ [] → label ≡ []
 one_label label [] e = cc
 one_label label (front ∷ fronts) e = absurd (only_root label front fronts e)
 

@@ -95,7 +95,7 @@ module _ {X : Type 0} (set_of : X → RrsetName) (name : List (List ℕ)) (code 
   abbrev pub is_wanted : X → Bool
   is_wanted x = same_name (set_of x).owner name && (set_of x).code == code
 
-  wanted_is : (x : X) → is_wanted x ≡ is_eq (set_order (set_of x) wanted)
+  pub wanted_is : (x : X) → is_wanted x ≡ is_eq (set_order (set_of x) wanted)
   wanted_is x =
       (λ i. same_is (set_of x).owner name i && number_tied (set_of x).code code i) ∙ sym (then_tied (name_order (set_of x).owner name) (nat_cmp (set_of x).code code))
 
@@ -124,3 +124,30 @@ module _ {X : Type 0} (set_of : X → RrsetName) (name : List (List ℕ)) (code 
       wanted_is (get_or xs place d)
       ∙ is_tied (set_order (set_of (get_or xs place d)) wanted) (point.1 place d (omega arith) (omega (arith, low, lt)))
       (upto_wanted xs h place i d low lt (tied_le (set_order (set_of (get_or xs i d)) wanted) (sym (wanted_is (get_or xs i d)) ∙ t))))
+
+-- ---- by owner alone
+
+first_rest : (o : Ordering) (n : ℕ) → is_lt (ordering_then o (nat_cmp n 0)) ≡ is_lt o
+first_rest Less n = refl
+first_rest Equal n = none_less n
+  where
+    none_less : (n : ℕ) → is_lt (nat_cmp n 0) ≡ false
+    none_less n = grind (arith, nat_tests)
+first_rest Greater n = refl
+
+-- before the first RRset of a name are the RRsets of names before it
+pub before_first : (set : RrsetName) (name : List (List ℕ)) → is_lt (set_order set (record { owner = name; code = 0 })) ≡ is_lt (name_order set.owner name)
+before_first set name = first_rest (name_order set.owner name) set.code
+
+pub first_parted : {X : Type 0} (set_of : X → RrsetName) (name : List (List ℕ)) (xs : List X) → IsPartitionedBy (λ x. is_lt (name_order (set_of x).owner name)) xs
+    → IsPartitionedBy (λ x. is_lt (set_order (set_of x) (record { owner = name; code = 0 }))) xs
+first_parted set_of name xs h i j d le lt t =
+    before_first (set_of (get_or xs i d)) name ∙ h i j d le lt (sym (before_first (set_of (get_or xs j d)) name) ∙ t)
+
+pub first_point : {X : Type 0} (set_of : X → RrsetName) (name : List (List ℕ)) (xs : List X) (place : ℕ)
+    → IsPartitionPoint (λ x. is_lt (set_order (set_of x) (record { owner = name; code = 0 })) ≡ true) (λ x. is_lt (set_order (set_of x) (record { owner = name; code = 0 })) ≡ false) xs place
+    → IsPartitionPoint (λ x. is_lt (name_order (set_of x).owner name) ≡ true) (λ x. is_lt (name_order (set_of x).owner name) ≡ false) xs place
+first_point set_of name xs place h = (
+  λ i d low lt. sym (before_first (set_of (get_or xs i d)) name) ∙ h.0 i d low lt,
+  λ i d low lt. sym (before_first (set_of (get_or xs i d)) name) ∙ h.1 i d low lt,
+)

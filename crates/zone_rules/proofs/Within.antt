@@ -16,7 +16,7 @@ use Rattle.dns_canonical.specs.Names.{name_order}
 use Rattle.dns_canonical.proofs.Orders.{names_total}
 use Rattle.dns_resource.specs.declared.record.Record.{Record}
 use Rattle.zone_rules.specs.Above.{is_within}
-use Rattle.zone_rules.specs.Present.{AreSetsInOrder, set_order}
+use Rattle.zone_rules.specs.Present.{AreSetsInOrder, rrset_of_record, set_order}
 use Rattle.zone_rules.specs.Zones.{AreInOrder, has_type_at, is_one_class, type_of}
 use Rattle.zone_rules.specs.declared.refused.RrsetName.{RrsetName}
 use Rattle.zone_rules.proofs.BelowNames.{within_not_before, within_between}
@@ -50,7 +50,7 @@ module _ {X : Type 0} (owner : X → List (List ℕ)) where
       sym (lt_index (name_order (owner (get_or xs i d)) name))
       ∙ IsPartitionedBy-leb (λ x. ordering_index (name_order (owner x) name)) xs 0 (rise name xs h) i j d le lt (lt_index (name_order (owner (get_or xs j d)) name) ∙ t)
 
-  upto : (name : List (List ℕ)) (xs : List X) → AllAdjacentBelow (λ a b. is_le (name_order (owner a) (owner b)) ≡ true) xs (length xs) → IsPartitionedBy (λ x. is_le (name_order (owner x) name)) xs
+  pub upto : (name : List (List ℕ)) (xs : List X) → AllAdjacentBelow (λ a b. is_le (name_order (owner a) (owner b)) ≡ true) xs (length xs) → IsPartitionedBy (λ x. is_le (name_order (owner x) name)) xs
   upto name xs h i j d le lt t =
       sym (le_index (name_order (owner (get_or xs i d)) name))
       ∙ IsPartitionedBy-leb (λ x. ordering_index (name_order (owner x) name)) xs 1 (rise name xs h) i j d le lt (le_index (name_order (owner (get_or xs j d)) name) ∙ t)
@@ -88,10 +88,7 @@ by_type Less c t rest e h = refl
 by_type Equal c t rest e h = front_le t rest (sym (ap (λ x. is_le (ordering_then x (ordering_then t rest))) e) ∙ h)
 by_type Greater c t rest e h = cc
 
-abbrev pub set_of_record : {N O : Type 0} → Record N O → RrsetName
-set_of_record r = record { owner = r.owner; code = type_of r }
-
-pub record_sets : {N O : Type 0} (rs : List (Record N O)) → AreInOrder rs → is_one_class rs ≡ true → AllAdjacentBelow (λ a b. is_le (set_order (set_of_record a) (set_of_record b)) ≡ true) rs (length rs)
+pub record_sets : {N O : Type 0} (rs : List (Record N O)) → AreInOrder rs → is_one_class rs ≡ true → AllAdjacentBelow (λ a b. is_le (set_order (rrset_of_record a) (rrset_of_record b)) ≡ true) rs (length rs)
 record_sets rs h one k d lt =
     let a = get_or rs k d in
     let b = get_or rs (k + 1) d in
@@ -101,12 +98,12 @@ abbrev pub is_record_of : {N O : Type 0} → List (List ℕ) → ℕ → Record 
 is_record_of name code r = same_name r.owner name && type_of r == code
 
 pub types_parted : {N O : Type 0} (name : List (List ℕ)) (code : ℕ) (rs : List (Record N O)) → AreInOrder rs → is_one_class rs ≡ true → IsPartitionedBy (λ r. is_lt (ordering_then (name_order r.owner name) (nat_cmp (type_of r) code))) rs
-types_parted name code rs h one = sets_parted (λ r. set_of_record r) name code rs (record_sets rs h one)
+types_parted name code rs h one = sets_parted (λ r. rrset_of_record r) name code rs (record_sets rs h one)
 
 pub type_found : {N O : Type 0} (name : List (List ℕ)) (code : ℕ) (rs : List (Record N O)) (place : ℕ) → AreInOrder rs → is_one_class rs ≡ true
     → IsPartitionPoint (λ r. is_lt (ordering_then (name_order r.owner name) (nat_cmp (type_of r) code)) ≡ true) (λ r. is_lt (ordering_then (name_order r.owner name) (nat_cmp (type_of r) code)) ≡ false) rs place
     → has_type_at code name rs ≡ option_map_or (λ r. same_name r.owner name && type_of r == code) (slice_get rs place) false
-type_found name code rs place h one point = set_found (λ r. set_of_record r) name code rs place (record_sets rs h one) point
+type_found name code rs place h one point = set_found (λ r. rrset_of_record r) name code rs place (record_sets rs h one) point
 
 -- ---- RRsets that are not in order
 

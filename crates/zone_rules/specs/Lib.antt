@@ -6,4 +6,5 @@ pub mod Present
 pub mod Rows
 pub mod RuleNames
 pub mod Rules
+pub mod Searches
 pub mod Zones

@@ -8,8 +8,12 @@ use Rattle.dns_wire.specs.Order.{same_name}
 use Rattle.dns_canonical.specs.Names.{name_order}
 use Rattle.dns_resource.specs.declared.record.Record.{Record}
 use Rattle.zone_rules.specs.Above.{names_above, is_below, is_within}
-use Rattle.zone_rules.specs.Zones.{has_owner_within, has_type_at}
+use Rattle.zone_rules.specs.Zones.{has_owner_within, has_type_at, type_of}
 use Rattle.zone_rules.specs.declared.refused.RrsetName.{RrsetName}
+
+-- the RRset of a record
+abbrev pub rrset_of_record : {N O : Type 0} → Record N O → RrsetName
+rrset_of_record r = record { owner = r.owner; code = type_of r }
 
 -- by the owner, then by the type
 abbrev pub set_order : RrsetName → RrsetName → Ordering
@@ -73,3 +77,7 @@ is_own origin records refused name = is_within name origin && not (is_delegated_
 -- a DNAME is above a name (RFC 6672 section 2.3)
 abbrev pub is_renamed : {N O : Type 0} → List (List ℕ) → List (Record N O) → List RrsetName → Bool
 is_renamed name records refused = list_any (λ above. has_type_at 39 above records) (names_above name) || list_any (λ above. is_listed 39 above refused) (names_above name)
+
+-- the closest DNAME above a name
+abbrev pub closest_dname : {N O : Type 0} → List (List ℕ) → List (Record N O) → List RrsetName → Option (List (List ℕ))
+closest_dname name records refused = find (λ above. is_present 39 above records refused) (names_above name)

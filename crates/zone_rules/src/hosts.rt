@@ -1,17 +1,17 @@
 //! The hosts that records name, and the rules for them.
-ghost use Rattle.std.specs.Prelude.{◌≡◌, IfSome};
+ghost use Rattle.std.specs.Prelude.{◌≡◌, IfSome, option_and_then};
 ghost use Rattle.std.specs.List.{list_any};
 ghost use Rattle.std.specs.Option.{option_copied};
 ghost use Rattle.dns_spelling.specs.NameSpelling.{IsWireName};
 ghost use Rattle.zone_rules.specs.Above.{names_above};
-ghost use Rattle.zone_rules.specs.Present.{is_own, is_renamed};
+ghost use Rattle.zone_rules.specs.Present.{closest_dname, is_own, is_renamed};
 ghost use Rattle.zone_rules.specs.Rules.{is_alias, is_below_own_dname, is_dname_at_cut, is_missing, is_without_glue, is_zone_cut, lacks_address, lacks_glue, lacks_ns_address, names_alias, names_missing, names_renamed};
 ghost use Rattle.zone_rules.specs.Zones.{but_root, host_octets, host_of};
 
 use crate::names::{is_name_below, is_name_within, name_of, parent, view};
 use crate::owners::{has_dname_above, is_apex_record};
 use crate::present::{
-    gets_address, gets_by_wildcard, has_address_set, has_set, is_delegated_name,
+    dname_above, gets_address, gets_by_wildcard, has_address_set, has_set, is_delegated_name,
     is_under_refused_dname,
 };
 use crate::refused::SortedSets;
@@ -83,7 +83,7 @@ pub(crate) fn is_dname_at_delegation<Owner: AsOctets, Octets: AsOctets>(
 }
 
 /// Whether a delegation is above a name.
-#[tactic(auto, using(crate::proofs::NameParts::above_none, crate::proofs::NameParts::above_some, crate::proofs::NameParts::above_fewer))]
+#[tactic(auto, using(crate::proofs::Neighbours::zone_cuts_none, crate::proofs::Neighbours::found_fewer))]
 pub fn is_under_cut<Owner: AsOctets, Octets: AsOctets>(
     origin: &Name<&[u8]>,
     records: &SortedRecords<'_, Owner, Octets>,
@@ -91,7 +91,7 @@ pub fn is_under_cut<Owner: AsOctets, Octets: AsOctets>(
 ) -> bool
     ensures { result ≡ list_any (is_zone_cut origin.now records.now) (names_above name.now) }
 {
-    match parent(name) {
+    match records.closest_before(name) {
         Some(above) => is_cut(origin, records, &above) || is_under_cut(origin, records, &above),
         None => false,
     }
@@ -235,6 +235,20 @@ pub(crate) fn is_to_renamed<Owner: AsOctets, Octets: AsOctets>(
     match host(record) {
         Some(name) => is_name_below_dname(origin, records, refused, &name),
         None => false,
+    }
+}
+
+/// Returns the name of the closest DNAME above the host that a record names.
+pub fn dname_over_host<'r, Owner: AsOctets, Octets: AsOctets>(
+    records: &SortedRecords<'_, Owner, Octets>,
+    refused: &SortedSets<'_>,
+    record: &'r Record<Owner, Octets>,
+) -> Option<Name<&'r [u8]>>
+    ensures { result ≡ option_and_then (λ name. closest_dname name records.now refused.now) (host_of «record».now) }
+{
+    match host(record) {
+        Some(name) => dname_above(records, refused, &name),
+        None => None,
     }
 }
 

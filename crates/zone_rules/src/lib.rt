@@ -13,6 +13,7 @@ pub mod pairs;
 mod present;
 pub mod refused;
 pub mod rule;
+mod search;
 pub mod sorted;
 mod types;
 

@@ -1,15 +1,17 @@
 //! Where names stand to one another (RFC 1034 section 3.1), the case of letters apart (RFC 4343).
-ghost use Rattle.std.specs.Prelude.{◌≡◌, ◌≤◌, ℕ, List, length, ◌∷◌, [], Some, None};
+ghost use Rattle.std.specs.Prelude.{◌≡◌, ◌≤◌, ℕ, List, All, length, ◌∷◌, [], Some, None};
 ghost use Rattle.dns_wire.specs.Order.{same_name};
-ghost use Rattle.dns_wire.specs.Wire.{wire, IsName, EndsInRoot};
+ghost use Rattle.dns_wire.specs.Wire.{wire, wire_length, IsName, EndsInRoot};
 ghost use Rattle.dns_spelling.specs.NameSpelling.{IsWireName};
 ghost use Rattle.dns_canonical.specs.Names.{name_order};
-ghost use Rattle.zone_rules.specs.Above.{first_label_of, parent_of, is_below, is_within, is_wildcard};
+ghost use Rattle.std.specs.List.{find};
+ghost use Rattle.std.specs.Option.{option_map};
+ghost use Rattle.zone_rules.specs.Above.{first_label_of, parent_of, is_below, is_within, is_wildcard, names_above};
 
 use dns_canonical::compare_names;
 use dns_octets::AsOctets;
 use dns_octets::lowered::same_octets;
-use dns_wire::Name;
+use dns_wire::{Name, NameIter};
 use std::cmp::Ordering;
 
 /// The octets of a name on the wire.
@@ -79,13 +81,28 @@ pub(crate) fn first_label<'a>(name: &'a Name<&[u8]>) -> &'a [u8]
     &octets[1..end]
 }
 
+/// Returns whether a name is at or above the one that labels are.
+fn are_within(labels: NameIter<'_>, top: &Name<&[u8]>) -> bool
+    requires { All (λ label. length label ≤ 63) labels }
+    ensures { result ≡ is_within labels.entry top.now }
+{
+    // No effect at run time: the proof reads that the name ends in the root.
+    let _octets = octets_of(top);
+    let mut above = labels;
+    while !same_octets(above.as_slice(), top.as_slice()) {
+        if above.next().is_none() {
+            return false;
+        }
+    }
+    true
+}
+
 /// Whether a name is below another.
-#[tactic(auto, using(crate::proofs::NameParts::above_none, crate::proofs::NameParts::above_some, crate::proofs::NameParts::above_fewer))]
 pub fn is_name_below(name: &Name<&[u8]>, top: &Name<&[u8]>) -> bool
     ensures { result ≡ is_below name.now top.now }
 {
     match parent(name) {
-        Some(above) => is_same(&above, top) || is_name_below(&above, top),
+        Some(above) => are_within(above.iter_labels(), top),
         None => false,
     }
 }
@@ -94,7 +111,33 @@ pub fn is_name_below(name: &Name<&[u8]>, top: &Name<&[u8]>) -> bool
 pub fn is_name_within(name: &Name<&[u8]>, top: &Name<&[u8]>) -> bool
     ensures { result ≡ is_within name.now top.now }
 {
-    is_same(name, top) || is_name_below(name, top)
+    are_within(name.iter_labels(), top)
+}
+
+/// Returns the number of octets of the longest name that two names are at or below.
+fn shared_length(name: &Name<&[u8]>, other: &Name<&[u8]>) -> usize
+    ensures { option_map wire_length (find (is_within other.now) (name.now ∷ names_above name.now)) ≡ Some result }
+{
+    let mut above = name.iter_labels();
+    let mut rest = other.iter_labels();
+    while !same_octets(rest.as_slice(), above.as_slice()) {
+        if above.as_slice().len() >= rest.as_slice().len() {
+            let _ = above.next();
+        } else {
+            let _ = rest.next();
+        }
+    }
+    above.as_slice().len()
+}
+
+/// Returns the longest name that two names are at or below, as the end of the first.
+pub(crate) fn shared_name<'a>(name: &Name<&'a [u8]>, other: &Name<&[u8]>) -> Name<&'a [u8]>
+    ensures { find (is_within other.now) (name.now ∷ names_above name.now) ≡ Some result }
+{
+    let _known = octets_of(name);
+    let octets: &'a [u8] = *name.as_octets();
+    let count = shared_length(name, other);
+    name_of(&octets[octets.len() - count..])
 }
 
 /// Whether the first label of a name is `*` (RFC 4592 section 2.1.1).

@@ -5,7 +5,7 @@ ghost use Rattle.zone_rules.specs.Above.{names_above};
 ghost use Rattle.zone_rules.specs.Rules.{is_alias_in_company, is_record_at_apex, is_below_dname, is_beside_alias, is_of_hashed_chain, is_out_of_zone, is_soa_below_apex, is_wildcard_ns};
 ghost use Rattle.zone_rules.specs.Zones.{has_type_at};
 
-use crate::names::{is_name_below, is_name_within, is_same, is_wildcard_name, parent, view};
+use crate::names::{is_name_below, is_name_within, is_same, is_wildcard_name, view};
 use crate::pairs::{are_equal, have_one_owner, set_type_of};
 use crate::sorted::{SortedRecords, has_type, owned_by};
 use crate::types::{CNAME, DNAME, NS, NSEC, NSEC3, RRSIG, SOA};
@@ -61,14 +61,14 @@ pub(crate) fn has_company<Owner: AsOctets, Octets: AsOctets>(
 }
 
 /// Whether a DNAME is above a name, of which one is in the zone.
-#[tactic(auto, using(crate::proofs::NameParts::above_none, crate::proofs::NameParts::above_some, crate::proofs::NameParts::above_fewer))]
+#[tactic(auto, using(crate::proofs::Neighbours::dnames_none, crate::proofs::Neighbours::found_fewer))]
 fn is_below_some_dname<Owner: AsOctets, Octets: AsOctets>(
     records: &SortedRecords<'_, Owner, Octets>,
     name: &Name<&[u8]>,
 ) -> bool
     ensures { result ≡ list_any (λ above. has_type_at 39 above records.now) (names_above name.now) }
 {
-    match parent(name) {
+    match records.closest_before(name) {
         Some(above) => has_type(records, &above, DNAME) || is_below_some_dname(records, &above),
         None => false,
     }

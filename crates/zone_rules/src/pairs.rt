@@ -6,6 +6,7 @@ ghost use Rattle.zone_rules.specs.Rules.{are_two_of, have_other_ttls, follows};
 ghost use Rattle.zone_rules.specs.Zones.{covered_type, is_equal_record, is_one_set, record_before, set_type};
 
 use crate::names::{is_same, view};
+use crate::search::item_before;
 use crate::sorted::SortedRecords;
 use crate::types::RRSIG;
 use dns_octets::AsOctets;
@@ -18,10 +19,7 @@ pub fn before<'a, Owner: AsOctets, Octets: AsOctets>(
 ) -> Option<&'a Record<Owner, Octets>>
     ensures { option_copied result ≡ record_before records.now place }
 {
-    if place == 0 {
-        return None;
-    }
-    records.as_slice().get(place - 1)
+    item_before(records.as_slice(), place)
 }
 
 /// The type that an RRSIG with this data covers.

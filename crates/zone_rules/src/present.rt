@@ -1,13 +1,15 @@
 //! What is in a zone: records, and RRsets of which an entry was refused.
-ghost use Rattle.std.specs.Prelude.{◌≡◌, ◌≤◌, ◌∷◌, [], length};
-ghost use Rattle.std.specs.List.{list_any};
+ghost use Rattle.std.specs.Prelude.{◌≡◌, ◌≤◌, ◌||◌, ◌∷◌, [], length};
+ghost use Rattle.std.specs.List.{find, list_any};
 ghost use Rattle.dns_wire.specs.Wire.{wire_length};
 ghost use Rattle.zone_rules.specs.Above.{names_above};
-ghost use Rattle.zone_rules.specs.Present.{gives_address, has_address_in, is_cut_in, is_delegated_in, is_existing, is_listed, is_present, is_synthesized, source_has};
+ghost use Rattle.zone_rules.specs.Present.{closest_dname, gives_address, has_address_in, is_cut_in, is_delegated_in, is_existing, is_listed, is_present, is_synthesized, rrset_of_record};
+ghost use Rattle.zone_rules.specs.Searches.{is_above_earlier};
 
-use crate::names::{is_name_below, name_of, octets_of, parent};
-use crate::refused::{SortedSets, lists_set, lists_within};
-use crate::sorted::{SortedRecords, has_type, has_within};
+use crate::names::{is_name_below, name_of, octets_of};
+use crate::refused::{SortedSets, lists_set};
+use crate::search::longer;
+use crate::sorted::{SortedRecords, has_type};
 use crate::types::{A, AAAA, DNAME, NS};
 use arrayvec::ArrayVec;
 use dns_octets::AsOctets;
@@ -36,15 +38,16 @@ pub(crate) fn has_address_set<Owner: AsOctets, Octets: AsOctets>(
     has_set(records, refused, name, A) || has_set(records, refused, name, AAAA)
 }
 
-/// Returns whether a name exists: it is an owner, or has owners below it (RFC 4592 section 2.2.3).
-fn exists<Owner: AsOctets, Octets: AsOctets>(
+/// Returns the closest name at or above this one that exists: it is an owner, or has owners below it
+/// (RFC 4592 section 2.2.3).
+fn closest_existing<'a, Owner: AsOctets, Octets: AsOctets>(
     records: &SortedRecords<'_, Owner, Octets>,
     refused: &SortedSets<'_>,
-    name: &Name<&[u8]>,
-) -> bool
-    ensures { result ≡ is_existing name.now records.now refused.now }
+    name: &Name<&'a [u8]>,
+) -> Option<Name<&'a [u8]>>
+    ensures { result ≡ find (λ above. is_existing above records.now refused.now) (name.now ∷ names_above name.now) }
 {
-    has_within(records, name) || lists_within(refused, name)
+    longer(records.closest(name), refused.closest(name))
 }
 
 /// The octets of the wildcard below a name.
@@ -73,28 +76,9 @@ fn has_wildcard<Owner: AsOctets, Octets: AsOctets>(
     has_set(records, refused, &name_of(octets.as_slice()), code)
 }
 
-/// Returns whether the wildcard below the closest name above this one that exists has a type (RFC 4592
-/// section 3.3.1).
-fn has_source<Owner: AsOctets, Octets: AsOctets>(
-    records: &SortedRecords<'_, Owner, Octets>,
-    refused: &SortedSets<'_>,
-    name: &Name<&[u8]>,
-    code: u16,
-) -> bool
-    ensures { result ≡ source_has code name.now records.now refused.now }
-{
-    // No effect at run time: the proof reads that the name has at most 255 octets.
-    let _octets = octets_of(name);
-    let Some(above) = parent(name) else {
-        return false;
-    };
-    if exists(records, refused, &above) {
-        return has_wildcard(records, refused, &above, code);
-    }
-    has_source(records, refused, &above, code)
-}
-
-/// Returns whether a name doesn't exist, and gets a type from a wildcard.
+/// Returns whether a name doesn't exist, and gets a type from the wildcard below the closest name
+/// above it that exists (RFC 4592 section 3.3.1).
+#[tactic(auto, using(crate::proofs::Neighbours::closest_short, crate::proofs::Neighbours::closest_above, crate::proofs::Neighbours::closest_nowhere))]
 pub(crate) fn gets_by_wildcard<Owner: AsOctets, Octets: AsOctets>(
     records: &SortedRecords<'_, Owner, Octets>,
     refused: &SortedSets<'_>,
@@ -103,7 +87,14 @@ pub(crate) fn gets_by_wildcard<Owner: AsOctets, Octets: AsOctets>(
 ) -> bool
     ensures { result ≡ is_synthesized code name.now records.now refused.now }
 {
-    !exists(records, refused, name) && has_source(records, refused, name, code)
+    // No effect at run time: the proof reads that the name has at most 255 octets.
+    let _octets = octets_of(name);
+    match closest_existing(records, refused, name) {
+        Some(closest) => {
+            closest.len() < name.len() && has_wildcard(records, refused, &closest, code)
+        }
+        None => false,
+    }
 }
 
 /// Returns whether a name has an address, of its own or from a wildcard.
@@ -131,8 +122,20 @@ fn is_cut_name<Owner: AsOctets, Octets: AsOctets>(
     is_name_below(name, origin) && has_set(records, refused, name, NS)
 }
 
+/// Returns the closest name above this one that is at or above an owner before it. Between them no
+/// name is an owner.
+fn owner_above<'a, Owner: AsOctets, Octets: AsOctets>(
+    records: &SortedRecords<'_, Owner, Octets>,
+    refused: &SortedSets<'_>,
+    name: &Name<&'a [u8]>,
+) -> Option<Name<&'a [u8]>>
+    ensures { result ≡ find (λ above. is_above_earlier rrset_of_record records.now name.now above || is_above_earlier (λ s. s) refused.now name.now above) (names_above name.now) }
+{
+    longer(records.closest_before(name), refused.closest_before(name))
+}
+
 /// Returns whether a delegation is above a name.
-#[tactic(auto, using(crate::proofs::NameParts::above_none, crate::proofs::NameParts::above_some, crate::proofs::NameParts::above_fewer))]
+#[tactic(auto, using(crate::proofs::Neighbours::cuts_none, crate::proofs::Neighbours::found_fewer))]
 fn is_below_cut<Owner: AsOctets, Octets: AsOctets>(
     origin: &Name<&[u8]>,
     records: &SortedRecords<'_, Owner, Octets>,
@@ -141,7 +144,7 @@ fn is_below_cut<Owner: AsOctets, Octets: AsOctets>(
 ) -> bool
     ensures { result ≡ list_any (is_cut_in origin.now records.now refused.now) (names_above name.now) }
 {
-    match parent(name) {
+    match owner_above(records, refused, name) {
         Some(above) => {
             is_cut_name(origin, records, refused, &above)
                 || is_below_cut(origin, records, refused, &above)
@@ -163,14 +166,32 @@ pub(crate) fn is_delegated_name<Owner: AsOctets, Octets: AsOctets>(
 }
 
 /// Returns whether a DNAME of which an entry was refused is above a name.
-#[tactic(auto, using(crate::proofs::NameParts::above_none, crate::proofs::NameParts::above_some, crate::proofs::NameParts::above_fewer))]
+#[tactic(auto, using(crate::proofs::Neighbours::listed_none, crate::proofs::Neighbours::found_fewer))]
 pub(crate) fn is_under_refused_dname(refused: &SortedSets<'_>, name: &Name<&[u8]>) -> bool
     ensures { result ≡ list_any (λ above. is_listed 39 above refused.now) (names_above name.now) }
 {
-    match parent(name) {
+    match refused.closest_before(name) {
         Some(above) => {
             lists_set(refused, &above, DNAME) || is_under_refused_dname(refused, &above)
         }
         None => false,
     }
+}
+
+/// Returns the closest name above this one that has a DNAME.
+#[tactic(auto, using(crate::proofs::Neighbours::dname_none, crate::proofs::Neighbours::found_fewer))]
+pub(crate) fn dname_above<'a, Owner: AsOctets, Octets: AsOctets>(
+    records: &SortedRecords<'_, Owner, Octets>,
+    refused: &SortedSets<'_>,
+    name: &Name<&'a [u8]>,
+) -> Option<Name<&'a [u8]>>
+    ensures { result ≡ closest_dname name.now records.now refused.now }
+{
+    let Some(above) = owner_above(records, refused, name) else {
+        return None;
+    };
+    if has_set(records, refused, &above, DNAME) {
+        return Some(above);
+    }
+    dname_above(records, refused, &above)
 }

@@ -1,11 +1,12 @@
 //! The RRsets of which an entry was refused: they are in the zone, and their data are not known.
-ghost use Rattle.std.specs.Prelude.{◌≡◌, ◌↔◌, ◌==◌, ◌&&◌, IfSome, IsSome, []};
-ghost use Rattle.dns_wire.specs.Order.{same_name};
-ghost use Rattle.std.specs.Ordering.{is_lt, nat_cmp, ordering_then};
-ghost use Rattle.dns_canonical.specs.Names.{name_order};
+ghost use Rattle.std.specs.Prelude.{◌≡◌, ◌↔◌, ◌∷◌, IfSome, IsSome, []};
+ghost use Rattle.std.specs.List.{find};
+ghost use Rattle.zone_rules.specs.Above.{names_above};
 ghost use Rattle.zone_rules.specs.Present.{AreSetsInOrder, is_listed, is_listed_within, set_order};
+ghost use Rattle.zone_rules.specs.Searches.{is_above_earlier};
 
-use crate::names::{is_name_within, is_same, octets_of, order_of};
+use crate::names::{order_of, view};
+use crate::search::{OfRrset, closest, closest_before, finds};
 use dns_wire::Name;
 use std::cmp::Ordering;
 use std::marker::Model;
@@ -23,6 +24,18 @@ impl<'a> RrsetName<'a> {
         ensures { result ≡ set_order self.now other.now }
     {
         order_of(&self.owner, &other.owner).then(self.code.cmp(&other.code))
+    }
+}
+
+impl<'a> OfRrset for RrsetName<'a> {
+    ghost rrset = { λ s. s };
+
+    fn owner(&self) -> Name<&[u8]> {
+        view(&self.owner)
+    }
+
+    fn compare_to(&self, other: &RrsetName<'_>) -> Ordering {
+        self.compare(other)
     }
 }
 
@@ -63,6 +76,22 @@ impl<'a> SortedSets<'a> {
         SortedSets { sets: &[] }
     }
 
+    /// Returns the closest name at or above this one that has an RRset at it or below it.
+    #[tactic(auto, using(crate::proofs::Within::set_owners))]
+    pub(crate) fn closest<'n>(&self, name: &Name<&'n [u8]>) -> Option<Name<&'n [u8]>>
+        ensures { result ≡ find (λ above. is_listed_within above self.now) (name.now ∷ names_above name.now) }
+    {
+        closest(self.sets, name)
+    }
+
+    /// Returns the closest name above this one that is at or above the owner of an RRset before it.
+    #[tactic(auto, using(crate::proofs::Within::set_owners))]
+    pub(crate) fn closest_before<'n>(&self, name: &Name<&'n [u8]>) -> Option<Name<&'n [u8]>>
+        ensures { result ≡ find (is_above_earlier (λ s. s) self.now name.now) (names_above name.now) }
+    {
+        closest_before(self.sets, name)
+    }
+
     /// Returns the RRsets.
     fn as_slice(&self) -> &'a [RrsetName<'a>]
         ensures value { result.now ≡ self.now }
@@ -72,42 +101,9 @@ impl<'a> SortedSets<'a> {
     }
 }
 
-/// Returns whether an RRset is before the one of a name and a type.
-fn is_before(set: &RrsetName<'_>, name: &Name<&[u8]>, code: u16) -> bool
-    ensures { result ≡ is_lt (ordering_then (name_order set.now.owner name.now) (nat_cmp set.now.code code)) }
-{
-    order_of(&set.owner, name).then(set.code.cmp(&code)).is_lt()
-}
-
-/// Returns whether an RRset is the one of a name and a type.
-fn is_of(set: &RrsetName<'_>, name: &Name<&[u8]>, code: u16) -> bool
-    ensures { result ≡ (same_name set.now.owner name.now && set.now.code == code) }
-{
-    is_same(&set.owner, name) && set.code == code
-}
-
 /// Returns whether an RRset of a type at a name is listed.
 pub(crate) fn lists_set(sets: &SortedSets<'_>, name: &Name<&[u8]>, code: u16) -> bool
     ensures { result ≡ is_listed code name.now sets.now }
 {
-    let all = sets.as_slice();
-    let place = all.partition_point(|set| is_before(set, name, code));
-    match all.get(place) {
-        Some(set) => is_of(set, name, code),
-        None => false,
-    }
-}
-
-/// Returns whether an RRset at a name or below it is listed.
-pub(crate) fn lists_within(sets: &SortedSets<'_>, name: &Name<&[u8]>) -> bool
-    ensures { result ≡ is_listed_within name.now sets.now }
-{
-    // No effect at run time: the proof reads that the name ends in the root.
-    let _octets = octets_of(name);
-    let all = sets.as_slice();
-    let place = all.partition_point(|set| order_of(&set.owner, name).is_lt());
-    match all.get(place) {
-        Some(set) => is_name_within(&set.owner, name),
-        None => false,
-    }
+    finds(sets.as_slice(), name, code)
 }

@@ -1,18 +1,23 @@
 //! The records of a zone in canonical order, and lookups by owner and type among them.
-ghost use Rattle.std.specs.Prelude.{◌≡◌, ◌≤◌, ◌↔◌, ◌==◌, ◌&&◌, IfSome, IsSome, filter, length, true, false};
-ghost use Rattle.std.specs.List.{list_all};
+ghost use Rattle.std.specs.Prelude.{◌≡◌, ◌≤◌, ◌↔◌, ◌∷◌, ◌==◌, IfSome, IsSome, filter, length, true, false};
+ghost use Rattle.std.specs.List.{find, list_all};
 ghost use Rattle.std.specs.List.Sorted.{IsPartitionPoint, IsPartitionedBy};
-ghost use Rattle.std.specs.Ordering.{is_le, is_lt, nat_cmp, ordering_then};
+ghost use Rattle.std.specs.Ordering.{is_le};
 ghost use Rattle.dns_wire.specs.Order.{same_name};
 ghost use Rattle.dns_canonical.specs.Names.{name_order};
-ghost use Rattle.zone_rules.specs.Above.{is_within};
-ghost use Rattle.zone_rules.specs.Zones.{AreInOrder, has_owner_within, has_type_among, has_type_at, is_one_class, type_of};
+ghost use Rattle.zone_rules.specs.Above.{names_above};
+ghost use Rattle.zone_rules.specs.Present.{rrset_of_record};
+ghost use Rattle.zone_rules.specs.Searches.{is_above_earlier};
+ghost use Rattle.zone_rules.specs.Zones.{AreInOrder, has_owner_within, has_type_among, has_type_at, is_one_class};
 
-use crate::names::{is_name_within, is_same, octets_of, order_of, view};
+use crate::names::{order_of, view};
+use crate::refused::RrsetName;
+use crate::search::{OfRrset, closest, closest_before, finds};
 use crate::types::DNAME;
 use dns_octets::AsOctets;
 use dns_resource::Record;
 use dns_wire::Name;
+use std::cmp::Ordering;
 use std::marker::Model;
 
 /// Returns whether records have a class.
@@ -44,6 +49,20 @@ pub struct SortedRecords<'a, Owner: AsOctets, Octets: AsOctets> {
     has_dname: bool,
     /// Whether the records are of one class, so that those of an owner are in the order of their types.
     is_one_class: bool,
+}
+
+impl<Owner: AsOctets, Octets: AsOctets> OfRrset for Record<Owner, Octets> {
+    ghost use Rattle.zone_rules.specs.Present.{rrset_of_record};
+
+    ghost rrset = { rrset_of_record };
+
+    fn owner(&self) -> Name<&[u8]> {
+        view(&self.owner)
+    }
+
+    fn compare_to(&self, other: &RrsetName<'_>) -> Ordering {
+        order_of(&self.owner, &other.owner).then(self.data.code().cmp(&other.code))
+    }
 }
 
 impl<'a, Owner: AsOctets, Octets: AsOctets> Model for SortedRecords<'a, Owner, Octets> {
@@ -87,6 +106,22 @@ impl<'a, Owner: AsOctets, Octets: AsOctets> SortedRecords<'a, Owner, Octets> {
         ensures { result ≡ is_one_class self.now }
     {
         self.is_one_class
+    }
+
+    /// Returns the closest name at or above this one that has an owner at it or below it.
+    #[tactic(auto, using(crate::proofs::Within::record_owners))]
+    pub(crate) fn closest<'n>(&self, name: &Name<&'n [u8]>) -> Option<Name<&'n [u8]>>
+        ensures { result ≡ find (λ above. has_owner_within above self.now) (name.now ∷ names_above name.now) }
+    {
+        closest(self.records, name)
+    }
+
+    /// Returns the closest name above this one that is at or above an owner before it.
+    #[tactic(auto, using(crate::proofs::Within::record_owners))]
+    pub(crate) fn closest_before<'n>(&self, name: &Name<&'n [u8]>) -> Option<Name<&'n [u8]>>
+        ensures { result ≡ find (is_above_earlier rrset_of_record self.now name.now) (names_above name.now) }
+    {
+        closest_before(self.records, name)
     }
 
     /// The records.
@@ -133,47 +168,6 @@ pub fn owned_by<'a, Owner: AsOctets, Octets: AsOctets>(
     &rest[..count]
 }
 
-/// Returns whether a record is before those of a name and a type.
-fn is_before<Owner: AsOctets, Octets: AsOctets>(
-    record: &Record<Owner, Octets>,
-    name: &Name<&[u8]>,
-    code: u16,
-) -> bool
-    ensures { result ≡ is_lt (ordering_then (name_order «record».now.owner name.now) (nat_cmp (type_of «record».now) code)) }
-{
-    order_of(&record.owner, name)
-        .then(record.data.code().cmp(&code))
-        .is_lt()
-}
-
-/// Returns whether a record is at a name and of a type.
-fn is_of<Owner: AsOctets, Octets: AsOctets>(
-    record: &Record<Owner, Octets>,
-    name: &Name<&[u8]>,
-    code: u16,
-) -> bool
-    ensures { result ≡ (same_name «record».now.owner name.now && type_of «record».now == code) }
-{
-    is_same(&view(&record.owner), name) && record.data.code() == code
-}
-
-/// Returns whether a name has a record of a type, among records of one class.
-fn finds_type<Owner: AsOctets, Octets: AsOctets>(
-    records: &SortedRecords<'_, Owner, Octets>,
-    name: &Name<&[u8]>,
-    code: u16,
-) -> bool
-    requires { is_one_class records.now ≡ true }
-    ensures { result ≡ has_type_at code name.now records.now }
-{
-    let all = records.as_slice();
-    let place = all.partition_point(|record| is_before(record, name, code));
-    match all.get(place) {
-        Some(record) => is_of(record, name, code),
-        None => false,
-    }
-}
-
 /// Returns whether a name has a record of a type.
 ///
 /// Makes one binary search. Where records are of several classes, it looks at those of the owner.
@@ -185,36 +179,9 @@ pub fn has_type<Owner: AsOctets, Octets: AsOctets>(
     ensures { result ≡ has_type_at code name.now records.now }
 {
     if records.is_one_class() {
-        return finds_type(records, name, code);
+        return finds(records.as_slice(), name, code);
     }
     owned_by(records, name)
         .iter()
         .any(|record| record.data.code() == code)
-}
-
-/// Returns whether a record is at a name or below it.
-fn is_within<Owner: AsOctets, Octets: AsOctets>(
-    record: &Record<Owner, Octets>,
-    name: &Name<&[u8]>,
-) -> bool
-    ensures { result ≡ is_within «record».now.owner name.now }
-{
-    is_name_within(&view(&record.owner), name)
-}
-
-/// Returns whether a name or one below it has a record.
-pub(crate) fn has_within<Owner: AsOctets, Octets: AsOctets>(
-    records: &SortedRecords<'_, Owner, Octets>,
-    name: &Name<&[u8]>,
-) -> bool
-    ensures { result ≡ has_owner_within name.now records.now }
-{
-    // No effect at run time: the proof reads that the name ends in the root.
-    let _octets = octets_of(name);
-    let all = records.as_slice();
-    let place = all.partition_point(|record| order_of(&record.owner, name).is_lt());
-    match all.get(place) {
-        Some(record) => is_within(record, name),
-        None => false,
-    }
 }

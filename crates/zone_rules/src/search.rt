@@ -1,0 +1,137 @@
+//! Searches among what is in the order of its owners: records, and RRsets of refused entries.
+ghost use Rattle.std.specs.Prelude.{◌≡◌, ◌≤◌, ◌-◌, ◌∷◌, ◌==◌, ◌&&◌, if◌then◌else◌, None, true, false, length, option_and_then, slice_get};
+ghost use Rattle.std.specs.List.{find, list_any};
+ghost use Rattle.std.specs.List.Sorted.{IsPartitionPoint};
+ghost use Rattle.std.specs.Option.{option_copied};
+ghost use Rattle.std.specs.Ordering.{is_lt};
+ghost use Rattle.dns_canonical.specs.Names.{name_order};
+ghost use Rattle.dns_wire.specs.Order.{same_name};
+ghost use Rattle.zone_rules.specs.Above.{is_within, names_above};
+ghost use Rattle.zone_rules.specs.Searches.{AreOwnersInOrder, AreRrsetsInOrder, is_above_earlier, longer_name};
+
+use crate::names::{octets_of, shared_name, view};
+use crate::refused::RrsetName;
+use dns_wire::Name;
+use std::cmp::Ordering;
+
+/// What belongs to an RRset.
+pub(crate) trait OfRrset {
+    ghost use Rattle.std.specs.Prelude.{◌≡◌};
+    ghost use Rattle.zone_rules.specs.Present.{set_order};
+    ghost use Rattle.zone_rules.specs.declared.refused.RrsetName.{RrsetName};
+
+    // The RRset.
+    ghost rrset: { Self → RrsetName };
+
+    /// Returns the name at which the RRset is.
+    fn owner(&self) -> Name<&[u8]>
+        ensures { result ≡ (rrset self.now).owner };
+
+    /// Returns the order of the RRset and another one.
+    fn compare_to(&self, other: &RrsetName<'_>) -> Ordering
+        ensures { result ≡ set_order (rrset self.now) other.now };
+}
+
+/// Returns whether an item of a type is at a name.
+pub(crate) fn finds<T: OfRrset>(items: &[T], name: &Name<&[u8]>, code: u16) -> bool
+    requires { AreRrsetsInOrder T.rrset items.now }
+    ensures { result ≡ list_any (λ x. same_name (T.rrset x).owner name.now && (T.rrset x).code == code) items.now }
+{
+    let wanted = RrsetName {
+        owner: view(name),
+        code,
+    };
+    let place = items.partition_point(|item| item.compare_to(&wanted).is_lt());
+    match items.get(place) {
+        Some(item) => item.compare_to(&wanted).is_eq(),
+        None => false,
+    }
+}
+
+/// Returns the number of items whose owners are before a name.
+fn count_before<T: OfRrset>(items: &[T], name: &Name<&[u8]>) -> usize
+    requires { AreOwnersInOrder T.rrset items.now }
+    ensures bound { result ≤ length items.now }
+    ensures point { IsPartitionPoint (λ x. is_lt (name_order (T.rrset x).owner name.now) ≡ true) (λ x. is_lt (name_order (T.rrset x).owner name.now) ≡ false) items.now result }
+{
+    let first = RrsetName {
+        owner: view(name),
+        code: 0,
+    };
+    items.partition_point(|item| item.compare_to(&first).is_lt())
+}
+
+/// Returns the item before a place.
+pub(crate) fn item_before<T>(items: &[T], place: usize) -> Option<&T>
+    ensures { option_copied result ≡ (if place == 0 then None else slice_get items.now (place - 1)) }
+{
+    if place == 0 {
+        return None;
+    }
+    items.get(place - 1)
+}
+
+/// Returns the item at a place.
+fn item_at<T>(items: &[T], place: usize) -> Option<&T>
+    ensures { option_copied result ≡ slice_get items.now place }
+{
+    items.get(place)
+}
+
+/// Returns the longest name that a name and the owner of an item are at or below.
+fn shared_with<'a, T: OfRrset>(item: Option<&T>, name: &Name<&'a [u8]>) -> Option<Name<&'a [u8]>>
+    ensures { result ≡ option_and_then (λ x. find (is_within (T.rrset x).owner) (name.now ∷ names_above name.now)) (option_copied item.entry) }
+{
+    match item {
+        Some(item) => Some(shared_name(name, &item.owner())),
+        None => None,
+    }
+}
+
+/// Returns the longer of two names, and the first of two that are as long.
+pub(crate) fn longer<'a>(
+    left: Option<Name<&'a [u8]>>,
+    right: Option<Name<&'a [u8]>>,
+) -> Option<Name<&'a [u8]>>
+    ensures { result ≡ longer_name left.entry right.entry }
+{
+    let Some(one) = left else {
+        return right;
+    };
+    let Some(other) = right else {
+        return Some(one);
+    };
+    if one.len() < other.len() {
+        Some(other)
+    } else {
+        Some(one)
+    }
+}
+
+/// Returns the closest name above this one that is at or above an owner before it.
+pub(crate) fn closest_before<'a, T: OfRrset>(
+    items: &[T],
+    name: &Name<&'a [u8]>,
+) -> Option<Name<&'a [u8]>>
+    requires { AreOwnersInOrder T.rrset items.now }
+    ensures { result ≡ find (is_above_earlier T.rrset items.now name.now) (names_above name.now) }
+{
+    // No effect at run time: the proof reads that the name ends in the root.
+    let _octets = octets_of(name);
+    shared_with(item_before(items, count_before(items, name)), name)
+}
+
+/// Returns the closest name that is at or above this one and at or above an owner: those before and
+/// after the name have the most labels in common with it.
+pub(crate) fn closest<'a, T: OfRrset>(items: &[T], name: &Name<&'a [u8]>) -> Option<Name<&'a [u8]>>
+    requires { AreOwnersInOrder T.rrset items.now }
+    ensures { result ≡ find (λ above. list_any (λ x. is_within (T.rrset x).owner above) items.now) (name.now ∷ names_above name.now) }
+{
+    // No effect at run time: the proof reads that the name ends in the root.
+    let _octets = octets_of(name);
+    let place = count_before(items, name);
+    longer(
+        shared_with(item_before(items, place), name),
+        shared_with(item_at(items, place), name),
+    )
+}
