@@ -1,7 +1,7 @@
 //! What the command `check` finds in the entries of zone files.
 use crate::file_lines::FileLines;
 use crate::held_zone::{
-    HeldZone, Stand, StandingRecord, is_of_absence, is_of_signed_absence, other_soa,
+    HeldZone, Stand, StandingRecord, dname_text, is_of_absence, is_of_signed_absence, other_soa,
 };
 use crate::long_ttls::{long_ttl, long_ttl_of};
 use crate::open_file::first_place;
@@ -550,7 +550,11 @@ impl<'a> Checker<'a> {
         for finding in &found {
             if self.tells_rule(finding.rule, is_zone) {
                 let record = finding.record.and_then(|place| records.get(place));
-                self.tell_broken(held, code_of_rule(finding.rule), record)?;
+                let code = code_of_rule(finding.rule);
+                match dname_text(self.alloc, finding, &sorted, &refused)? {
+                    Some(text) => self.tell_at(held, code, record, text.as_str())?,
+                    None => self.tell_broken(held, code, record)?,
+                }
             }
         }
         match self.limits.times {
