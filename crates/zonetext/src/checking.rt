@@ -10,14 +10,14 @@ use crate::reporter::{Reporter, Spot};
 use crate::scan::{OctetScan, needs_lint, repeats_origin, scan_octets};
 use crate::slips::{is_of_parameters, slip_of};
 use crate::spots::{
-    beginning, begins_blank, fault_at, line_spot, long_at, octet_at, position_at, spot_at,
-    token_at, tokens_of,
+    beginning, begins_blank, data_start, fault_at, line_spot, long_at, octet_at, position_at,
+    spot_at, token_at, tokens_of,
 };
 use crate::stop::Stop;
 use crate::zone_files::{Entry, Visit};
 use dns_data::type_row;
 use dns_fields::Field;
-use dns_heads::{class_word, directive_word, type_word};
+use dns_heads::{class_word, directive_word};
 use dns_octets::AsOctets;
 use dns_reader::{EntryRead, EntryRefusal, NameBuffer, RecordTtl};
 use dns_resource::Data;
@@ -120,16 +120,6 @@ fn is_name(code: u16, number: usize) -> bool {
     match type_row(code) {
         Some(row) => matches!(row.1.get(number), Some(Field::Name)),
         None => false,
-    }
-}
-
-/// The place behind the type of a record, where its data begin among its tokens.
-fn data_start(tokens: &[EntryToken<'_>], is_blank: bool) -> usize {
-    let first = usize::from(!is_blank);
-    let words = tokens.get(first..).unwrap_or(&[]);
-    match words.iter().position(|token| type_word(token).is_some()) {
-        Some(place) => place.saturating_add(first).saturating_add(1),
-        None => tokens.len(),
     }
 }
 

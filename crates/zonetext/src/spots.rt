@@ -4,11 +4,22 @@ ghost use Rattle.std.specs.Prelude.{◌≤◌, length};
 use crate::open_file::behind;
 use crate::reporter::Spot;
 use crate::zone_files::Entry;
+use dns_heads::type_word;
 use dns_split::entry_tokens::{EntryToken, EntryTokens, NextEntryError};
 use dns_split::opening::outermost_open_of_octets;
 use dns_split::pieces::{Fault, Wrong};
 use dns_split::position::Position;
 use std::alloc::{AllocError, Global};
+
+/// Returns how many tokens of a record are before its data: those up to its type.
+pub fn data_start(tokens: &[EntryToken<'_>], is_blank: bool) -> usize {
+    let first = usize::from(!is_blank);
+    let words = tokens.get(first..).unwrap_or(&[]);
+    match words.iter().position(|token| type_word(token).is_some()) {
+        Some(place) => place.saturating_add(first).saturating_add(1),
+        None => tokens.len(),
+    }
+}
 
 /// Whether an entry begins with a blank.
 pub fn begins_blank(entry: &Entry<'_>) -> bool {
