@@ -16,7 +16,7 @@ RULES = {
 SECURITY = {
     "expired", "expires-soon", "not-yet-valid", "rrsig-times", "rrsig-signer", "rrsig-labels", "original-ttl",
     "rrsig-ttl", "unsigned", "no-key", "key-missing", "rrsig-key", "signs-nothing", "occluded-dnssec",
-    "no-nsec", "nsec-next", "nsec-types", "ds-without-ns", "no-nsec3", "nsec3-next", "nsec3-types",
+    "no-nsec", "nsec-next", "nsec-types", "no-nsec3", "nsec3-next", "nsec3-types",
     "nsec3-owner", "nsec3-iterations", "nsec3-iterations-50", "nsec3-iterations-0", "nsec-ttl", "cds-delete",
 }
 # Syntax errors by the code that `check` reports, with their name in rows.
