@@ -7,7 +7,7 @@ use Rattle.dns_codec.specs.Base.{Base}
 use Rattle.dns_codec.specs.Bits.{digits, low_digits, whole}
 use Rattle.dns_codec.specs.Grammar.{Decodes}
 
--- the characters of the digits of octets, a digit having so many bits
+-- the characters of the digits of octets, each of `bits` bits
 abbrev pub digit_text : Base → ℕ → List ℕ → List ℕ
 digit_text b bits octets = map (slice_index b.alphabet) (digits bits octets)
 
@@ -27,7 +27,7 @@ AreValued bound table text = AllByRecursion (λ v. v < bound) (map (slice_index 
 abbrev pub value_octets : ℕ → List ℕ → List ℕ → List ℕ
 value_octets bits table text = whole bits (map (slice_index table) text)
 
--- the last characters, so many of them, are `=`
+-- the last `n` characters are `=`
 abbrev pub EndsInMarks : List ℕ → ℕ → Type 0
 EndsInMarks text n = (k : ℕ) → length text ≤ k + n → k < length text → slice_index text k ≡ 61
 
@@ -35,7 +35,7 @@ EndsInMarks text n = (k : ℕ) → length text ≤ k + n → k < length text →
 abbrev pub HasNoMarkBefore : List ℕ → ℕ → Type 0
 HasNoMarkBefore text n = n < length text → slice_index text (length text - 1 - n) ≢ 61
 
--- the text is in the grammar, and its octets are the first of the slice, so many of them
+-- the text is in the grammar, and its octets are the first `n` of the slice
 abbrev pub DecodesInto : Base → List ℕ → List ℕ → ℕ → Type 0
 DecodesInto b text slice n = Decodes b text (take n slice) × (n ≤ length slice)
 
@@ -43,7 +43,7 @@ DecodesInto b text slice n = Decodes b text (take n slice) × (n ≤ length slic
 abbrev pub DecodesToMore : Base → List ℕ → ℕ → Type 0
 DecodesToMore b text count = (v : List ℕ) → Decodes b text v → count < length v
 
--- the text is in the grammar, and has at most so many octets
+-- the text is in the grammar, and its octets are at most `limit`
 abbrev pub DecodesWithin : Base → ℕ → List ℕ → Type 0
 DecodesWithin b limit text = (octets : List ℕ) × Decodes b text octets × (length octets ≤ limit)
 

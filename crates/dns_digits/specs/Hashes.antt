@@ -27,13 +27,13 @@ pub record SpellsHash (text octets : List ℕ) : Type 0 where
   pub short : length hash < 256
   pub wire_is : octets ≡ length hash ∷ hash
 
--- a text is refused: its octets don't surely fit behind those that the target had, or it is no hash
+-- a text is refused: its octets don't surely fit after those that the target had, or it is no hash
 abbrev pub RefusesHash : Room → List ℕ → List ℕ → DigitsError → Type 0
 RefusesHash room text old e =
     ((e ≡ ShortBuf) × LacksRoom room (SpellsHash text) old)
     ⊎ ((e ≡ hash_refusal text) × ((octets : List ℕ) → SpellsHash text octets → ⊥))
 
--- a salt stands in front whole, and so does a hash, which has an octet at least
+-- the octets begin with a whole salt, or with a whole hash of at least one octet
 abbrev pub HasSalt : List ℕ → Type 0
 HasSalt octets = first_octet octets < length octets
 

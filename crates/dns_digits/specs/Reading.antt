@@ -58,7 +58,7 @@ pub record RefusesPiece (room : Room) (s : DigitsState) (piece old : List ℕ) (
 abbrev pub AppendsPiece : DigitsState → List ℕ → DigitsState → List ℕ → List ℕ → Type 0
 AppendsPiece s piece t old new = (gained : List ℕ) × TakesPiece s piece gained t × (new ≡ old ++ gained)
 
--- whole groups at the start of digits, so many digits and not the last, are appended as the octets that they spell
+-- the first `n` digits are whole groups and not all digits, and the octets that they spell are appended
 abbrev pub AppendsBlocks : DigitsKind → List ℕ → List ℕ → List ℕ → ℕ → Type 0
 AppendsBlocks kind digits old new n = (n < length digits) × (length (take n digits) % (base_of kind).group ≡ 0)
     × ((gained : List ℕ) × SpellsDigits (base_of kind) (take n digits) gained × (opens_group (base_of kind) gained ≡ false) × (new ≡ old ++ gained))

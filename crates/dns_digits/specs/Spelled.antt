@@ -34,7 +34,7 @@ abbrev pub unfinished : DigitsKind → DigitsError
 unfinished Hex = UnevenHex
 unfinished Base64 = IncompleteBase64
 
--- whole groups of a text without padding spell the first octets of a slice, so many of them
+-- whole groups of a text without padding spell the first `n` octets of a slice
 abbrev pub SpellsGroups : Base → List ℕ → List ℕ → ℕ → Type 0
 SpellsGroups b text slice n = SpellsDigits b text (take n slice) × (n ≤ length slice) × (opens_group b (take n slice) ≡ false)
 
@@ -47,7 +47,7 @@ TellsBeginning b r begun = MatchBool r ((rest : List ℕ) × (v : List ℕ) × S
 abbrev pub TellsSame : Bool → List ℕ → List ℕ → Type 0
 TellsSame r xs ys = MatchBool r (xs ≡ ys) (xs ≢ ys)
 
--- a group of base 64 that begins so, filled with `=` behind one and with zeros else
+-- a group of base 64 that begins so, filled with `=` after a `=` and with zeros otherwise
 abbrev pub filled_group : List ℕ → List ℕ
 filled_group begun = begun ++ replicate (4 - length begun) (if slice_index begun (length begun - 1) == 61 then 61 else 65)
 

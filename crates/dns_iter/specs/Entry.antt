@@ -18,10 +18,10 @@ abbrev pub AreOfOneText : Entries → Entries → Type 0
 AreOfOneText given found = (text : List ℕ) × Splits text given × Splits text found
 
 module _ {S : Type 0} (next : S → Option Token → S → Type 0) where
-  -- there is a scanner, and it stands before what the tokens of that entry hold
+  -- there is a scanner, and what the tokens of that entry hold is what it has left
   abbrev pub StandsAt : Entries → ℕ → Option S → Type 0
   StandsAt entries place scanner = (contents : List Token) → HoldsAt entries place contents → IsSomeAnd scanner (λ s. HasTokens next s contents)
 
-  -- a scanner stands before the one list of texts that they hold
+  -- a scanner has left the one list of texts that they hold
   abbrev pub StandsAtOnly : Entries → ℕ → S → Type 0
   StandsAtOnly entries place s = (contents : List Token) × HoldsOnly entries place contents × HasTokens next s contents

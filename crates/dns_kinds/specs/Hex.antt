@@ -28,11 +28,11 @@ pairs_text (o ∷ os) = pair_text 65 o ++ pairs_text os
 abbrev pub marked_pair : Bool → ℕ → ℕ → List ℕ
 marked_pair is_marked mark octet = (if is_marked then mark ∷ [] else []) ++ pair_text 97 octet
 
--- in groups of so many octets a group other than the first begins here
+-- a group of `size` octets other than the first begins here
 abbrev pub begins_group : ℕ → ℕ → Bool
 begins_group size place = nat_lt 0 place && place % size == 0
 
--- a pair for each octet, in groups of so many octets, and a mark between groups; from this place on
+-- a pair for each octet, in groups of `size` octets with a mark between them, from this place on
 abbrev pub grouped_text : (size mark place : ℕ) → List ℕ → List ℕ
 grouped_text size mark place [] = []
 grouped_text size mark place (o ∷ os) = marked_pair (begins_group size place) mark o ++ grouped_text size mark (place + 1) os

@@ -96,7 +96,7 @@ fn write_marked_pair<W: fmt::Write>(
     f.write_str(str::from_utf8(shown).map_err(|_| fmt::Error)?)
 }
 
-/// Whether a group other than the first begins at a place, in groups of so many octets.
+/// Whether a group of `size` octets other than the first begins at a place.
 fn begins_group(size: usize, place: usize) -> bool
     requires { 0 < size }
     ensures { result ≡ begins_group size place }
@@ -104,7 +104,7 @@ fn begins_group(size: usize, place: usize) -> bool
     place > 0 && place % size == 0
 }
 
-/// Writes octets as pairs of digits, in small letters, in groups of so many octets, with a mark
+/// Writes octets as pairs of digits, in small letters, in groups of `size` octets, with a mark
 /// between groups.
 pub(crate) fn write_groups<W: fmt::Write>(
     octets: &[u8],

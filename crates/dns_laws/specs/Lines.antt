@@ -51,7 +51,7 @@ GivesField cause octets room (hex_octets os) r = GivesOctets cause octets room o
 GivesField cause octets room (base64_octets os) r = GivesOctets cause octets room os r
 GivesField cause octets room (text_octets os) r = (r ≡ Ok (TextScanned os)) ⊎ (IsCause cause r short_buf × (room.fits < length os))
 
--- r is what one token is scanned as that stands for a field of that kind: what the field holds, where its octets find room
+-- r is what the token of a field of that kind is scanned as: what the field holds, where its octets find room
 abbrev pub KindBack : {O E : Type 0} → FieldKind → (E → Cause) → (O → List ℕ) → Room → Token → Result (Scanned O) E → Type 0
 KindBack kind cause octets room token r =
     (field : Content) → IsContent field → IsPrintable field → kind_of field ≡ kind → IsScannedOf (field_text field) token → GivesField cause octets room field r

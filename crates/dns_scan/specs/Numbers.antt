@@ -75,7 +75,7 @@ AddsDigit cause limit v x r w =
     MatchResult r (λ _. (d : ℕ) × (plain_digit_of x ≡ Some d) × (w ≡ v * 10 + d) × (w ≤ limit))
     (λ e. (w ≡ v) × (cause e ≡ refusal_at limit v x) × ((d : ℕ) → plain_digit_of x ≡ Some d → limit < v * 10 + d))
 
--- what a token is read as is the number that its symbols are plain digits of, and nothing else stands in the token
+-- what a token is read as is the number that its symbols are plain digits of, and the token has nothing else
 abbrev pub OnlyNumber : ℕ → Token → Result ℕ Cause → Type 0
 OnlyNumber limit token r = (symbols : List Symbol) (error : Option SymbolCharsError) → SymbolsOf token symbols error → IfOk r (λ v. IsNumber limit symbols v × (error ≡ None))
 

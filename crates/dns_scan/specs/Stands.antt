@@ -33,15 +33,15 @@ module _ {S : Type 0} (next : S → Option Token → S → Type 0) where
   pub stands_same : (s u : S) (ts : List Token) → HasTokens s ts → TakesNothing next s u → HasTokens u ts
   stands_same s u ts h k = record { calls = λ n. same_for n s u ts k (h.calls n) }
 
-  -- P holds of the tokens before which s stands
+  -- P holds of the tokens that s has left
   abbrev pub OfTokens : S → (List Token → Type 0) → Type 0
   OfTokens s P = (tokens : List Token) → HasTokens s tokens → P tokens
 
-  -- P holds of the first of the tokens before which s stands
+  -- P holds of the first token that s has left
   abbrev pub OfFirst : S → (Token → Type 0) → Type 0
   OfFirst s P = (token : Token) (others : List Token) → HasTokens s (token ∷ others) → P token
 
-  -- where old stands before that token and others, new stands before the others
+  -- where old has that token and others left, new has the others
   abbrev pub TakesToken : Token → S → S → Type 0
   TakesToken token old new = (others : List Token) → HasTokens old (token ∷ others) → HasTokens new others
 

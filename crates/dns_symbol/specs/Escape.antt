@@ -23,7 +23,7 @@ abbrev pub ReadsEscape : EscapeRule → List ℕ → Result EscapedOctet SymbolC
 ReadsEscape rule text (Ok e) = (is_escape_by rule (escape_symbol e) ≡ true) × (text ≡ spell (escape_symbol e) ++ drop (length (spell (escape_symbol e))) text)
 ReadsEscape rule text (Err e) = BeginsNoEscape rule text × (e ≡ chars_error text)
 
--- the octet that a symbol among octets stands for
+-- the octet of a symbol among octets
 abbrev pub octet_for : Symbol → ℕ
 octet_for (Char o) = o
 octet_for (SimpleEscape o) = o

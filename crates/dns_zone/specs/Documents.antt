@@ -67,7 +67,7 @@ IsFaultIn xs e = IsFirstFault [] xs e
 abbrev pub HasNoFault : List Step → Type 0
 HasNoFault xs = (e : DocumentError) → ¬ IsFaultIn xs e
 
--- a step's fault after any steps that are so many and leave so many blocks open
+-- a step's fault after any `place` steps that leave `blocks` blocks open
 abbrev pub IsFaultAt : ℕ → ℕ → Step → DocumentError → Type 0
 IsFaultAt place blocks x e = (past : List Step) → length past ≡ place → depth past ≡ blocks → IsDocumentFault past x e
 

@@ -57,7 +57,7 @@ pub record FindsEntry (b : Blocks) (found : Option (Result ℕ Fault)) (c : Bloc
   pub same : c ≡ with_left b c.left
   pub finds : FindsStop b found c
 
--- so many octets of the next entry come before its end or its fault, or are held
+-- the number of octets of the next entry that come before its end or its fault, or are held
 abbrev pub found_len : Blocks → Option (Result ℕ Fault) → ℕ
 found_len b (Some (Ok at)) = at
 found_len b (Some (Err f)) = f.at

@@ -12,7 +12,7 @@ pub record Blocks : Type 0 where
   pub octets : List ℕ
   -- the place of the first of them among all
   pub start : Place
-  -- so many of them are read
+  -- the number of them that are read
   pub next : ℕ
   -- reading goes on after the first line feed
   pub skips : Bool
@@ -43,7 +43,7 @@ pub record HoldsLast (all : List ℕ) (b : Blocks) : Type 0 where
 abbrev pub place_of_next : Blocks → ℕ
 place_of_next b = b.start.at + b.next
 
--- octets, or what stands after their first line feed
+-- octets, or those after their first line feed
 abbrev pub after_line_if : Bool → List ℕ → List ℕ
 after_line_if skips octets = if skips then drop_through line_feed octets else octets
 

@@ -29,7 +29,7 @@ given_by at (Ok end) (Ok read) = Ok read
 given_by at (Ok end) (Err refusal) = Err (Entry refusal)
 given_by at (Err f) read = Err (Text (moved_fault (λ i. at + i) f))
 
--- what a text has after its first entry, or after the line on which its fault stands
+-- what a text has after its first entry, or after the line of its fault
 abbrev pub text_after : Result EndOfEntry Fault → List ℕ → List ℕ
 text_after (Ok end) text = drop end.at text
 text_after (Err f) text = drop_through line_feed (drop f.at text)

@@ -184,7 +184,7 @@ impl<A: Allocator> BlockReader<A> {
         Some(self.position_after(count))
     }
 
-    /// The position after so many of the octets that are held.
+    /// Returns the position after `count` of the octets that are held.
     fn position_after(&self, count: usize) -> Position
         requires { count ≤ length self.now.octets }
         ensures line { result.line ≤ self.now.start.at + count + 1 }
@@ -211,7 +211,7 @@ impl<A: Allocator> BlockReader<A> {
         Some(self.held_after(count))
     }
 
-    /// The octets that are held after so many.
+    /// Returns the octets that are held after the first `count`.
     fn held_after(&self, count: usize) -> &[u8]
         requires { count ≤ length self.now.octets }
         ensures { result.now ≡ drop count self.now.octets }
@@ -251,7 +251,7 @@ impl<A: Allocator> BlockReader<A> {
         as_octets(&self.held.as_slice()[self.next..])
     }
 
-    /// Where reading stands: the place, among all octets, after the entry that was given last, or of
+    /// Returns the place, among all octets, where reading goes on: after the entry given last, or at
     /// the fault that cut it off, and what was skipped since.
     pub fn place(&self) -> usize
         ensures place { result ≡ place_of_next self.now }

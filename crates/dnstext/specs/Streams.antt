@@ -28,7 +28,7 @@ Told words o p reason =
     Refused words o p reason
     ⊎ (((line : List ℕ) × Ran words o p line) × (reason ≡ codes "write failed"))
 
--- it was refused for a reason, and its line stands on standard error
+-- it was refused for a reason, and its line is on standard error
 abbrev pub TellsOn : List (List ℕ) → Option (List ℕ) → Option (List ℕ) → Option (List ℕ) → Option (List ℕ) → Type 0
 TellsOn words o p e f = (reason : List ℕ) × Told words o p reason × StreamGrows e (refusal_line reason) f
 

@@ -130,7 +130,7 @@ usage_line = codes "usage: dnstext scan|print|line KIND WORD..\n"
 abbrev pub WritesRefusal : {E : Type 0} → (E → List ℕ → E → Type 0) → E → List ℕ → E → Type 0
 WritesRefusal took e reason f = WritesInCalls took e (refusal_line reason) f
 
--- what was refused for some reason, and that reason stands on standard error
+-- what was refused for some reason, and that reason is on standard error
 abbrev pub ShowsReason : {E : Type 0} → (List ℕ → Type 0) → (E → List ℕ → E → Type 0) → E → E → Type 0
 ShowsReason refused took e f = (reason : List ℕ) × refused reason × WritesRefusal took e reason f
 
