@@ -1,7 +1,8 @@
 pub mod Errors
 pub mod Fields
 pub mod Forms
+pub mod RecordErrors
 pub mod Source
 pub mod Taking
-pub mod Words
 pub mod WordLaws
+pub mod Words

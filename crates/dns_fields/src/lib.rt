@@ -4,6 +4,7 @@
 
 pub mod error;
 pub mod field;
+pub mod record_error;
 pub mod laws;
 pub mod source;
 pub mod taking;
@@ -12,6 +13,7 @@ pub mod word;
 pub mod words;
 
 pub use error::FieldError;
+pub use record_error::{FieldName, RecordError};
 pub use field::{Field, append_field, field_width, write_field};
 pub use source::{TokenList, TokenSource};
 pub use taking::{FieldRefusal, Refusal, take_each, take_field, take_fields};

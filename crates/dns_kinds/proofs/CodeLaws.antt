@@ -32,21 +32,21 @@ certificate_registry : is_registry certificate_rows [] 65535 ≡ true
 certificate_registry = refl
 
 pub types_are_kind : TypesAreKind
-types_are_kind = is_kind (λ t. t.0 < 2 ^ 16) SpellsType type_text (λ t small. spelled type_rows type_prefix 65535 type_registry (omega arith) t.0 (omega (arith, small))) one
+types_are_kind = is_kind (λ t. t < 2 ^ 16) SpellsType type_text (λ t small. spelled type_rows type_prefix 65535 type_registry (omega arith) t (omega (arith, small))) one
   where
     one : (text : List ℕ) (t u : RecordType) → SpellsType text t → SpellsType text u → t ≡ u
-    one text t u h k = let same = once type_rows type_prefix 65535 text t.0 u.0 h k in λ i. record { 0 = same i }
+    one text t u h k = let same = once type_rows type_prefix 65535 text t u h k in same
 
 -- a type is spelled by its name, or by the prefix and its code, whether all readers know the name or not
-portable_spelled : (t : RecordType) → t.0 < 2 ^ 16 → SpellsType (portable_text t) t
-portable_spelled t small = by (is_portable t.0)
+portable_spelled : (t : RecordType) → t < 2 ^ 16 → SpellsType (portable_text t) t
+portable_spelled t small = by (is_portable t)
   where
-    by : (known : Bool) → SpellsType (if known then type_text t else type_prefix ++ decimal t.0) t
+    by : (known : Bool) → SpellsType (if known then type_text t else type_prefix ++ decimal t) t
     by true = types_are_kind.spelled t small
-    by false = numbered type_rows type_prefix 65535 type_registry (omega arith) t.0 (omega (arith, small))
+    by false = numbered type_rows type_prefix 65535 type_registry (omega arith) t (omega (arith, small))
 
 pub portable_types_are_kind : PortableTypesAreKind
-portable_types_are_kind = is_kind (λ t. t.0.0 < 2 ^ 16) SpellsPortable (λ t. portable_text t.0) (λ t small. portable_spelled t.0 small) one
+portable_types_are_kind = is_kind (λ t. t.0 < 2 ^ 16) SpellsPortable (λ t. portable_text t.0) (λ t small. portable_spelled t.0 small) one
   where
     one : (text : List ℕ) (t u : PortableType) → SpellsPortable text t → SpellsPortable text u → t ≡ u
     one text t u h k = let same = types_are_kind.once text t.0 u.0 h k in λ i. record { 0 = same i }
@@ -68,33 +68,33 @@ number_names_none [] n h t k = omega (arith, h.0.0)
 number_names_none (c ∷ cs) n h t k =
     let range = digit_from_value c h.0.1.0 in
     let none = unnamed type_rows [] 65535 type_rows digit_registry (c ∷ cs) refl (digit_first c range.0 range.1) in
-    let numbered = subst (λ (o : Option ℕ). MatchOption o (IsNumbered type_prefix 65535 (c ∷ cs) t.0) (λ c. t.0 ≡ c)) none k in
+    let numbered = subst (λ (o : Option ℕ). MatchOption o (IsNumbered type_prefix 65535 (c ∷ cs) t) (λ c. t ≡ c)) none k in
     no_letter c h.0.1.0 (ap (λ t. get_or t 0 0) numbered.0)
 
-sig_once : (text : List ℕ) (t u : SigType) → SpellsSigType text t → SpellsSigType text u → t.0.0 ≡ u.0.0
-sig_once text t u (inl h) (inl k) = ap (λ (r : RecordType). r.0) (types_are_kind.once text t.0 u.0 h k)
-sig_once text t u (inl h) (inr k) = absurd (number_names_none text u.0.0 k.0 t.0 h)
-sig_once text t u (inr h) (inl k) = absurd (number_names_none text t.0.0 h.0 u.0 k)
+sig_once : (text : List ℕ) (t u : SigType) → SpellsSigType text t → SpellsSigType text u → t.0 ≡ u.0
+sig_once text t u (inl h) (inl k) = types_are_kind.once text t.0 u.0 h k
+sig_once text t u (inl h) (inr k) = absurd (number_names_none text u.0 k.0 t.0 h)
+sig_once text t u (inr h) (inl k) = absurd (number_names_none text t.0 h.0 u.0 k)
 sig_once text t u (inr h) (inr k) = h.0.1 ∙ sym k.0.1
 
-sig_spelled : (t : RecordType) → t.0 < 2 ^ 16 → SpellsSigType (sig_type_text t) (record { 0 = t })
-sig_spelled t small = by (t.0 == 0) refl
+sig_spelled : (t : RecordType) → t < 2 ^ 16 → SpellsSigType (sig_type_text t) (record { 0 = t })
+sig_spelled t small = by (t == 0) refl
   where
-    by : (none : Bool) → (t.0 == 0) ≡ none → SpellsSigType (if none then codes "0" else portable_text t) (record { 0 = t })
-    by true is = let none : t.0 ≡ 0 = Prim.grind (arith, nat_tests) in inr (((omega arith, (omega arith, tt)), none), omega (arith, small))
+    by : (none : Bool) → (t == 0) ≡ none → SpellsSigType (if none then codes "0" else portable_text t) (record { 0 = t })
+    by true is = let none : t ≡ 0 = Prim.grind (arith, nat_tests) in inr (((omega arith, (omega arith, tt)), none), omega (arith, small))
     by false is = inl (portable_spelled t small)
 
 pub sig_types_are_kind : SigTypesAreKind
-sig_types_are_kind = is_kind (λ t. t.0.0 < 2 ^ 16) SpellsSigType (λ t. sig_type_text t.0) (λ t small. sig_spelled t.0 small) one
+sig_types_are_kind = is_kind (λ t. t.0 < 2 ^ 16) SpellsSigType (λ t. sig_type_text t.0) (λ t small. sig_spelled t.0 small) one
   where
     one : (text : List ℕ) (t u : SigType) → SpellsSigType text t → SpellsSigType text u → t ≡ u
-    one text t u h k = let same = sig_once text t u h k in λ i. record { 0 = record { 0 = same i } }
+    one text t u h k = let same = sig_once text t u h k in λ i. record { 0 = same i }
 
 pub classes_are_kind : ClassesAreKind
-classes_are_kind = is_kind (λ c. c.0 < 2 ^ 16) SpellsClass class_text (λ c small. spelled class_rows class_prefix 65535 class_registry (omega arith) c.0 (omega (arith, small))) one
+classes_are_kind = is_kind (λ c. c < 2 ^ 16) SpellsClass class_text (λ c small. spelled class_rows class_prefix 65535 class_registry (omega arith) c (omega (arith, small))) one
   where
     one : (text : List ℕ) (c d : Class) → SpellsClass text c → SpellsClass text d → c ≡ d
-    one text c d h k = let same = once class_rows class_prefix 65535 text c.0 d.0 h k in λ i. record { 0 = same i }
+    one text c d h k = let same = once class_rows class_prefix 65535 text c d h k in same
 
 one_algorithm : (text : List ℕ) (a b : Algorithm) → SpellsAlgorithm text a → SpellsAlgorithm text b → a ≡ b
 one_algorithm text a b h k = let same = once algorithm_rows [] 255 text a.0 b.0 h k in λ i. record { 0 = same i }

@@ -16,10 +16,10 @@ class_rows =
 
 -- a class's name in any case of its letters, or `CLASS` and its code
 abbrev pub SpellsClass : List ℕ → Class → Type 0
-SpellsClass text c = SpellsCode class_rows class_prefix 65535 text c.0
+SpellsClass text c = SpellsCode class_rows class_prefix 65535 text c
 
 abbrev pub class_text : Class → List ℕ
-class_text c = code_text class_rows class_prefix c.0
+class_text c = code_text class_rows class_prefix c
 
 abbrev pub ClassesAreKind : Type 0
-ClassesAreKind = IsKind (λ c. c.0 < 2 ^ 16) SpellsClass class_text
+ClassesAreKind = IsKind (λ c. c < 2 ^ 16) SpellsClass class_text

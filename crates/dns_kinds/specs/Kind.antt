@@ -1,9 +1,9 @@
 -- Kinds of fields: the texts that spell a value, and the text that it is printed as.
 use Rattle.std.specs.Prelude.{ℕ, ◌≡◌, List, Result, Ok, MatchResult}
-use Rattle.dns_kinds.specs.declared.error.KindError.{KindError}
+use Rattle.dns_kinds.specs.declared.error.ErrorKind.{ErrorKind}
 
 -- the result is a value that the text spells, or this refusal where it spells none
-abbrev pub ReadsKind : {V : Type 0} → (List ℕ → V → Type 0) → KindError → List ℕ → Result V KindError → Type 0
+abbrev pub ReadsKind : {V : Type 0} → (List ℕ → V → Type 0) → ErrorKind → List ℕ → Result V ErrorKind → Type 0
 ReadsKind Spells why text r = MatchResult r (Spells text) (λ e. (e ≡ why) × ((v : _) → Spells text v → ⊥))
 
 -- A value is printed as a text that spells it, and a text spells one value. So what is printed is
@@ -11,4 +11,4 @@ ReadsKind Spells why text r = MatchResult r (Spells text) (λ e. (e ≡ why) × 
 pub record IsKind {V : Type 0} (Valid : V → Type 0) (Spells : List ℕ → V → Type 0) (printed : V → List ℕ) : Type 0 where
   pub spelled : (v : V) → Valid v → Spells (printed v) v
   pub once : (text : List ℕ) (v w : V) → Spells text v → Spells text w → v ≡ w
-  pub back : (v : V) (why : KindError) (r : Result V KindError) → Valid v → ReadsKind Spells why (printed v) r → r ≡ Ok v
+  pub back : (v : V) (why : ErrorKind) (r : Result V ErrorKind) → Valid v → ReadsKind Spells why (printed v) r → r ≡ Ok v

@@ -1,14 +1,15 @@
 pub mod Addresses
 pub mod Algorithms
 pub mod Classes
+pub mod ErrorKinds
 pub mod Eui
 pub mod Hex
 pub mod Kind
-pub mod KindError
 pub mod Locator
 pub mod Numbers
 pub mod Registry
 pub mod Rows
+pub mod Rtype
 pub mod Salt
 pub mod Time
 pub mod Ttl

@@ -7,10 +7,11 @@ use Rattle.dns_kinds.specs.Algorithms.{algorithm_rows, certificate_rows}
 use Rattle.dns_kinds.specs.Classes.{class_rows, class_prefix}
 use Rattle.dns_kinds.specs.Eui.{dashed_text}
 use Rattle.dns_kinds.specs.Locator.{locator_text}
-use Rattle.dns_kinds.specs.Registry.{row_code, row_name, code_text}
+use Rattle.dns_kinds.specs.Registry.{code_row, row_code, row_name, code_text}
 use Rattle.dns_kinds.specs.Salt.{salt_text}
 use Rattle.dns_kinds.specs.Time.{is_leap, month_days, seconds_at, date_of, date_text, date_at, year_at, month_at, holding}
 use Rattle.dns_kinds.specs.Ttl.{unit_seconds, Period, period_text, period_seconds}
+use Rattle.dns_kinds.specs.Rtype as Rtype
 use Rattle.dns_kinds.specs.Types.{type_rows, type_prefix, portable_text, sig_type_text}
 
 -- ---- times to live
@@ -61,11 +62,11 @@ unfolding type_rows
 types_printed = refl
 
 -- A and CAA are known to every reader; WALLET, CLA and DLV are not
-portable : map (λ code. portable_text (record { 0 = code })) (1 ∷ 257 ∷ 262 ∷ 263 ∷ 32769 ∷ []) ≡ codes "A" ∷ codes "CAA" ∷ codes "TYPE262" ∷ codes "TYPE263" ∷ codes "TYPE32769" ∷ []
+portable : map (λ code. portable_text code) (1 ∷ 257 ∷ 262 ∷ 263 ∷ 32769 ∷ []) ≡ codes "A" ∷ codes "CAA" ∷ codes "TYPE262" ∷ codes "TYPE263" ∷ codes "TYPE32769" ∷ []
 unfolding type_rows digits
 portable = refl
 
-sig_types : map (λ code. sig_type_text (record { 0 = code })) (0 ∷ 15 ∷ 26 ∷ []) ≡ codes "0" ∷ codes "MX" ∷ codes "TYPE26" ∷ []
+sig_types : map (λ code. sig_type_text code) (0 ∷ 15 ∷ 26 ∷ []) ≡ codes "0" ∷ codes "MX" ∷ codes "TYPE26" ∷ []
 unfolding type_rows digits
 sig_types = refl
 
@@ -102,3 +103,106 @@ ipv4_ends = refl
 
 ipv6 : shown_ipv6 (0 ∷ 0 ∷ 0 ∷ 0 ∷ 0 ∷ 0 ∷ 0xc000 ∷ 0x0201 ∷ []) ≡ codes "::" ++ ipv4_text (192 ∷ 0 ∷ 2 ∷ 1 ∷ [])
 ipv6 = refl
+
+-- each type has the word of its name
+named_types : type_rows ≡ (
+    code_row Rtype.a (codes "A") ∷
+    code_row Rtype.ns (codes "NS") ∷
+    code_row Rtype.md (codes "MD") ∷
+    code_row Rtype.mf (codes "MF") ∷
+    code_row Rtype.cname (codes "CNAME") ∷
+    code_row Rtype.soa (codes "SOA") ∷
+    code_row Rtype.mb (codes "MB") ∷
+    code_row Rtype.mg (codes "MG") ∷
+    code_row Rtype.mr (codes "MR") ∷
+    code_row Rtype.null (codes "NULL") ∷
+    code_row Rtype.wks (codes "WKS") ∷
+    code_row Rtype.ptr (codes "PTR") ∷
+    code_row Rtype.hinfo (codes "HINFO") ∷
+    code_row Rtype.minfo (codes "MINFO") ∷
+    code_row Rtype.mx (codes "MX") ∷
+    code_row Rtype.txt (codes "TXT") ∷
+    code_row Rtype.rp (codes "RP") ∷
+    code_row Rtype.afsdb (codes "AFSDB") ∷
+    code_row Rtype.x25 (codes "X25") ∷
+    code_row Rtype.isdn (codes "ISDN") ∷
+    code_row Rtype.rt (codes "RT") ∷
+    code_row Rtype.nsap (codes "NSAP") ∷
+    code_row Rtype.nsap_ptr (codes "NSAP-PTR") ∷
+    code_row Rtype.sig (codes "SIG") ∷
+    code_row Rtype.key (codes "KEY") ∷
+    code_row Rtype.px (codes "PX") ∷
+    code_row Rtype.gpos (codes "GPOS") ∷
+    code_row Rtype.aaaa (codes "AAAA") ∷
+    code_row Rtype.loc (codes "LOC") ∷
+    code_row Rtype.nxt (codes "NXT") ∷
+    code_row Rtype.eid (codes "EID") ∷
+    code_row Rtype.nimloc (codes "NIMLOC") ∷
+    code_row Rtype.srv (codes "SRV") ∷
+    code_row Rtype.atma (codes "ATMA") ∷
+    code_row Rtype.naptr (codes "NAPTR") ∷
+    code_row Rtype.kx (codes "KX") ∷
+    code_row Rtype.cert (codes "CERT") ∷
+    code_row Rtype.a6 (codes "A6") ∷
+    code_row Rtype.dname (codes "DNAME") ∷
+    code_row Rtype.sink (codes "SINK") ∷
+    code_row Rtype.opt (codes "OPT") ∷
+    code_row Rtype.apl (codes "APL") ∷
+    code_row Rtype.ds (codes "DS") ∷
+    code_row Rtype.sshfp (codes "SSHFP") ∷
+    code_row Rtype.ipseckey (codes "IPSECKEY") ∷
+    code_row Rtype.rrsig (codes "RRSIG") ∷
+    code_row Rtype.nsec (codes "NSEC") ∷
+    code_row Rtype.dnskey (codes "DNSKEY") ∷
+    code_row Rtype.dhcid (codes "DHCID") ∷
+    code_row Rtype.nsec3 (codes "NSEC3") ∷
+    code_row Rtype.nsec3param (codes "NSEC3PARAM") ∷
+    code_row Rtype.tlsa (codes "TLSA") ∷
+    code_row Rtype.smimea (codes "SMIMEA") ∷
+    code_row Rtype.hip (codes "HIP") ∷
+    code_row Rtype.ninfo (codes "NINFO") ∷
+    code_row Rtype.rkey (codes "RKEY") ∷
+    code_row Rtype.talink (codes "TALINK") ∷
+    code_row Rtype.cds (codes "CDS") ∷
+    code_row Rtype.cdnskey (codes "CDNSKEY") ∷
+    code_row Rtype.openpgpkey (codes "OPENPGPKEY") ∷
+    code_row Rtype.csync (codes "CSYNC") ∷
+    code_row Rtype.zonemd (codes "ZONEMD") ∷
+    code_row Rtype.svcb (codes "SVCB") ∷
+    code_row Rtype.https (codes "HTTPS") ∷
+    code_row Rtype.dsync (codes "DSYNC") ∷
+    code_row Rtype.hhit (codes "HHIT") ∷
+    code_row Rtype.brid (codes "BRID") ∷
+    code_row Rtype.spf (codes "SPF") ∷
+    code_row Rtype.uinfo (codes "UINFO") ∷
+    code_row Rtype.uid (codes "UID") ∷
+    code_row Rtype.gid (codes "GID") ∷
+    code_row Rtype.unspec (codes "UNSPEC") ∷
+    code_row Rtype.nid (codes "NID") ∷
+    code_row Rtype.l32 (codes "L32") ∷
+    code_row Rtype.l64 (codes "L64") ∷
+    code_row Rtype.lp (codes "LP") ∷
+    code_row Rtype.eui48 (codes "EUI48") ∷
+    code_row Rtype.eui64 (codes "EUI64") ∷
+    code_row Rtype.nxname (codes "NXNAME") ∷
+    code_row Rtype.tkey (codes "TKEY") ∷
+    code_row Rtype.tsig (codes "TSIG") ∷
+    code_row Rtype.ixfr (codes "IXFR") ∷
+    code_row Rtype.axfr (codes "AXFR") ∷
+    code_row Rtype.mailb (codes "MAILB") ∷
+    code_row Rtype.maila (codes "MAILA") ∷
+    code_row Rtype.any (codes "ANY") ∷
+    code_row Rtype.uri (codes "URI") ∷
+    code_row Rtype.caa (codes "CAA") ∷
+    code_row Rtype.avc (codes "AVC") ∷
+    code_row Rtype.doa (codes "DOA") ∷
+    code_row Rtype.amtrelay (codes "AMTRELAY") ∷
+    code_row Rtype.resinfo (codes "RESINFO") ∷
+    code_row Rtype.wallet (codes "WALLET") ∷
+    code_row Rtype.cla (codes "CLA") ∷
+    code_row Rtype.ipn (codes "IPN") ∷
+    code_row Rtype.ta (codes "TA") ∷
+    code_row Rtype.dlv (codes "DLV") ∷
+    [])
+unfolding type_rows
+named_types = refl

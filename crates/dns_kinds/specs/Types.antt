@@ -114,13 +114,13 @@ type_rows =
 
 -- a type's name in any case of its letters, or `TYPE` and its code
 abbrev pub SpellsType : List ℕ → RecordType → Type 0
-SpellsType text t = SpellsCode type_rows type_prefix 65535 text t.0
+SpellsType text t = SpellsCode type_rows type_prefix 65535 text t
 
 abbrev pub type_text : RecordType → List ℕ
-type_text t = code_text type_rows type_prefix t.0
+type_text t = code_text type_rows type_prefix t
 
 abbrev pub TypesAreKind : Type 0
-TypesAreKind = IsKind (λ t. t.0 < 2 ^ 16) SpellsType type_text
+TypesAreKind = IsKind (λ t. t < 2 ^ 16) SpellsType type_text
 
 -- ---- types in type bitmaps, in RRSIG and SIG, and before the generic form
 
@@ -135,23 +135,23 @@ is_portable code = list_any (λ t. t == code) portable_types
 
 -- the name of such a type, and of any other `TYPE` and its code (RFC 3597 section 5)
 abbrev pub portable_text : RecordType → List ℕ
-portable_text t = if is_portable t.0 then type_text t else type_prefix ++ decimal t.0
+portable_text t = if is_portable t then type_text t else type_prefix ++ decimal t
 
 abbrev pub SpellsPortable : List ℕ → PortableType → Type 0
 SpellsPortable text t = SpellsType text t.0
 
 abbrev pub PortableTypesAreKind : Type 0
-PortableTypesAreKind = IsKind (λ t. t.0.0 < 2 ^ 16) SpellsPortable (λ t. portable_text t.0)
+PortableTypesAreKind = IsKind (λ t. t.0 < 2 ^ 16) SpellsPortable (λ t. portable_text t.0)
 
 -- ---- the type that a SIG covers
 
 -- a text of a type, or its code alone
 abbrev pub SpellsSigType : List ℕ → SigType → Type 0
-SpellsSigType text t = SpellsType text t.0 ⊎ (SpellsNumber text t.0.0 × (t.0.0 ≤ 65535))
+SpellsSigType text t = SpellsType text t.0 ⊎ (SpellsNumber text t.0 × (t.0 ≤ 65535))
 
 -- type 0 is a digit; it is covered where a SIG is one of a message (RFC 2931 section 3)
 abbrev pub sig_type_text : RecordType → List ℕ
-sig_type_text t = if t.0 == 0 then codes "0" else portable_text t
+sig_type_text t = if t == 0 then codes "0" else portable_text t
 
 abbrev pub SigTypesAreKind : Type 0
-SigTypesAreKind = IsKind (λ t. t.0.0 < 2 ^ 16) SpellsSigType (λ t. sig_type_text t.0)
+SigTypesAreKind = IsKind (λ t. t.0 < 2 ^ 16) SpellsSigType (λ t. sig_type_text t.0)

@@ -4,29 +4,29 @@ ghost use Rattle.std.specs.Net.Addr.{ipv4_octets, ipv6_segments, octets_of};
 ghost use Rattle.std.specs.Net.Grammar.{IsIpv4Text, IsIpv6Text};
 ghost use Rattle.dns_kinds.specs.Kind.{ReadsKind};
 ghost use Rattle.dns_kinds.specs.Addresses.{has_ipv4_end, shown_ipv6, Ipv4IsKind, Ipv6IsKind};
-ghost use Rattle.dns_kinds.specs.declared.error.KindError.TheVariants.{ExpectedIpv4, ExpectedIpv6};
+ghost use Rattle.dns_kinds.specs.declared.error.ErrorKind.TheVariants.{ExpectedIpv4, ExpectedIpv6};
 
-use crate::error::KindError;
+use crate::error::ErrorKind;
 use std::fmt;
 use std::net::{Ipv4Addr, Ipv6Addr};
 
 /// The address that a text writes: four decimal numbers without leading zeros, and dots.
-pub fn ipv4_from_text(text: &[u8]) -> Result<Ipv4Addr, KindError>
+pub fn ipv4_from_text(text: &[u8]) -> Result<Ipv4Addr, ErrorKind>
     ensures { ReadsKind IsIpv4Text ExpectedIpv4 text.now result }
 {
     match Ipv4Addr::parse_ascii(text) {
         Ok(address) => Ok(address),
-        Err(_) => Err(KindError::ExpectedIpv4),
+        Err(_) => Err(ErrorKind::ExpectedIpv4),
     }
 }
 
 /// The address that a text writes (RFC 4291 section 2.2).
-pub fn ipv6_from_text(text: &[u8]) -> Result<Ipv6Addr, KindError>
+pub fn ipv6_from_text(text: &[u8]) -> Result<Ipv6Addr, ErrorKind>
     ensures { ReadsKind IsIpv6Text ExpectedIpv6 text.now result }
 {
     match Ipv6Addr::parse_ascii(text) {
         Ok(address) => Ok(address),
-        Err(_) => Err(KindError::ExpectedIpv6),
+        Err(_) => Err(ErrorKind::ExpectedIpv6),
     }
 }
 

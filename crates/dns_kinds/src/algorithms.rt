@@ -3,9 +3,9 @@ ghost use Rattle.std.specs.Prelude.{◌≡◌, Some, decimal, option_copied};
 ghost use Rattle.dns_kinds.specs.Kind.{ReadsKind};
 ghost use Rattle.dns_kinds.specs.Registry.{row_name};
 ghost use Rattle.dns_kinds.specs.Algorithms.{algorithm_rows, certificate_rows, SpellsAlgorithm, AlgorithmsAreKind, SpellsCertificate, certificate_text, CertificatesAreKind};
-ghost use Rattle.dns_kinds.specs.declared.error.KindError.TheVariants.{UnknownAlgorithm, UnknownCertificate};
+ghost use Rattle.dns_kinds.specs.declared.error.ErrorKind.TheVariants.{UnknownAlgorithm, UnknownCertificate};
 
-use crate::error::KindError;
+use crate::error::ErrorKind;
 use crate::registry::{Named, code_from_text, name_of};
 use std::fmt;
 
@@ -55,10 +55,10 @@ pub struct Algorithm(pub u8);
 
 impl Algorithm {
     /// The algorithm that a text names, in any case of its letters, or by its number.
-    pub fn from_text(text: &[u8]) -> Result<Algorithm, KindError>
+    pub fn from_text(text: &[u8]) -> Result<Algorithm, ErrorKind>
         ensures { ReadsKind SpellsAlgorithm UnknownAlgorithm text.now result }
     {
-        match code_from_text(&ALGORITHMS, "", 255, text, KindError::UnknownAlgorithm) {
+        match code_from_text(&ALGORITHMS, "", 255, text, ErrorKind::UnknownAlgorithm) {
             Ok(code) => Ok(Algorithm(code as u8)),
             Err(why) => Err(why),
         }
@@ -86,7 +86,7 @@ pub struct CertificateType(pub u16);
 
 impl CertificateType {
     /// The type that a text names, in any case of its letters, or by its number.
-    pub fn from_text(text: &[u8]) -> Result<CertificateType, KindError>
+    pub fn from_text(text: &[u8]) -> Result<CertificateType, ErrorKind>
         ensures { ReadsKind SpellsCertificate UnknownCertificate text.now result }
     {
         match code_from_text(
@@ -94,7 +94,7 @@ impl CertificateType {
             "",
             u16::MAX,
             text,
-            KindError::UnknownCertificate,
+            ErrorKind::UnknownCertificate,
         ) {
             Ok(code) => Ok(CertificateType(code)),
             Err(why) => Err(why),

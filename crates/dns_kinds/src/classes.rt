@@ -3,25 +3,42 @@ ghost use Rattle.std.specs.Prelude.{◌≡◌, Some, option_copied};
 ghost use Rattle.dns_kinds.specs.Kind.{ReadsKind};
 ghost use Rattle.dns_kinds.specs.Registry.{row_name};
 ghost use Rattle.dns_kinds.specs.Classes.{class_rows, SpellsClass, class_text, ClassesAreKind};
-ghost use Rattle.dns_kinds.specs.declared.error.KindError.TheVariants.{UnknownClass};
+ghost use Rattle.dns_kinds.specs.declared.error.ErrorKind.TheVariants.{UnknownClass};
 
-use crate::error::KindError;
+use crate::error::ErrorKind;
 use crate::registry::{Named, code_from_text, name_of};
 use std::fmt;
+use std::marker::Model;
 
 /// The classes that have a name.
 pub static CLASSES: [Named; 3] = [Named(1, "IN"), Named(3, "CH"), Named(4, "HS")];
 
 /// A class of records, by its code. It prints as its name or, without one, as `CLASS` and the code.
-#[derive(Clone, Copy)]
+#[derive(Clone, Copy, Debug, PartialEq, Eq)]
 pub struct Class(pub u16);
 
+impl Model for Class {
+    ghost use Rattle.std.specs.Prelude.{ℕ};
+
+    ghost Value = { ℕ };
+
+    ghost view = { λ c. c.0 };
+
+    ghost inverse = { λ code. record { 0 = code } };
+}
+
 impl Class {
+    pub const IN: Class = Class(1);
+
+    pub const CH: Class = Class(3);
+
+    pub const HS: Class = Class(4);
+
     /// The class that a text names, in any case of its letters: `IN` or `CLASS1`.
-    pub fn from_text(text: &[u8]) -> Result<Class, KindError>
+    pub fn from_text(text: &[u8]) -> Result<Class, ErrorKind>
         ensures { ReadsKind SpellsClass UnknownClass text.now result }
     {
-        match code_from_text(&CLASSES, "CLASS", u16::MAX, text, KindError::UnknownClass) {
+        match code_from_text(&CLASSES, "CLASS", u16::MAX, text, ErrorKind::UnknownClass) {
             Ok(code) => Ok(Class(code)),
             Err(why) => Err(why),
         }
@@ -29,7 +46,7 @@ impl Class {
 
     /// The name of the class, if it has one.
     pub fn name(&self) -> Option<&'static str>
-        ensures { option_copied result ≡ row_name class_rows self.now.0 }
+        ensures { option_copied result ≡ row_name class_rows self.now }
     {
         name_of(&CLASSES, self.0)
     }

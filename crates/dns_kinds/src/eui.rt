@@ -3,9 +3,9 @@ ghost use Rattle.std.specs.Prelude.{◌≡◌, ◌≤◌, ◌+◌, ◌*◌, ◌�
 ghost use Rattle.dns_kinds.specs.Hex.{WritesOctets};
 ghost use Rattle.dns_kinds.specs.Kind.{ReadsKind};
 ghost use Rattle.dns_kinds.specs.Eui.{AreDashes, IsDashed, dashed_text, SpellsEui48, SpellsEui64, EuisAreKind};
-ghost use Rattle.dns_kinds.specs.declared.error.KindError.TheVariants.{ExpectedEui48, ExpectedEui64};
+ghost use Rattle.dns_kinds.specs.declared.error.ErrorKind.TheVariants.{ExpectedEui48, ExpectedEui64};
 
-use crate::error::KindError;
+use crate::error::ErrorKind;
 use crate::hex::{octet_of, write_groups};
 use std::fmt;
 
@@ -50,28 +50,28 @@ pub struct Eui64(pub [u8; 8]);
 
 impl Eui48 {
     /// The identifier that a text writes, with letters in either case: `00-00-5e-00-53-2a`.
-    pub fn from_text(text: &[u8]) -> Result<Eui48, KindError>
+    pub fn from_text(text: &[u8]) -> Result<Eui48, ErrorKind>
         ensures { ReadsKind SpellsEui48 ExpectedEui48 text.now result }
     {
         let mut octets = [0; 6];
         if dashed_into(text, &mut octets) {
             Ok(Eui48(octets))
         } else {
-            Err(KindError::ExpectedEui48)
+            Err(ErrorKind::ExpectedEui48)
         }
     }
 }
 
 impl Eui64 {
     /// The identifier that a text writes, with letters in either case: `00-00-5e-ef-10-00-00-2a`.
-    pub fn from_text(text: &[u8]) -> Result<Eui64, KindError>
+    pub fn from_text(text: &[u8]) -> Result<Eui64, ErrorKind>
         ensures { ReadsKind SpellsEui64 ExpectedEui64 text.now result }
     {
         let mut octets = [0; 8];
         if dashed_into(text, &mut octets) {
             Ok(Eui64(octets))
         } else {
-            Err(KindError::ExpectedEui64)
+            Err(ErrorKind::ExpectedEui64)
         }
     }
 }

@@ -16,12 +16,13 @@ pub mod registry;
 pub mod salt;
 pub mod time;
 pub mod ttl;
+mod type_codes;
 pub mod types;
 
 pub use addresses::{Ipv6Shown, ipv4_from_text, ipv6_from_text};
 pub use algorithms::{Algorithm, CertificateType};
 pub use classes::Class;
-pub use error::KindError;
+pub use error::ErrorKind;
 pub use eui::{Eui48, Eui64};
 pub use locator::Locator;
 pub use numbers::{u8_from_text, u16_from_text, u32_from_text};

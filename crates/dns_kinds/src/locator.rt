@@ -4,9 +4,9 @@ ghost use Rattle.std.specs.Char.{digit_value};
 ghost use Rattle.std.specs.Str.Parse.{AllDigits, digits_value};
 ghost use Rattle.dns_kinds.specs.Kind.{ReadsKind};
 ghost use Rattle.dns_kinds.specs.Locator.{BeginsWithGroup, GoesOnWith, TakesGroup, FindsGroups, SpellsLocator, locator_text, LocatorsAreKind};
-ghost use Rattle.dns_kinds.specs.declared.error.KindError.TheVariants.{ExpectedLocator};
+ghost use Rattle.dns_kinds.specs.declared.error.ErrorKind.TheVariants.{ExpectedLocator};
 
-use crate::error::KindError;
+use crate::error::ErrorKind;
 use crate::hex::{value_of, write_groups};
 use std::fmt;
 
@@ -91,11 +91,11 @@ fn groups_of(text: &[u8]) -> Option<[u16; 4]>
 
 impl Locator {
     /// The locator that a text writes, with letters in either case: `2001:0DB8:1140:1000`.
-    pub fn from_text(text: &[u8]) -> Result<Locator, KindError>
+    pub fn from_text(text: &[u8]) -> Result<Locator, ErrorKind>
         ensures { ReadsKind SpellsLocator ExpectedLocator text.now result }
     {
         let Some(groups) = groups_of(text) else {
-            return Err(KindError::ExpectedLocator);
+            return Err(ErrorKind::ExpectedLocator);
         };
         let [first, second, third, fourth] = groups;
         let [a, b] = first.to_be_bytes();

@@ -4,7 +4,7 @@ ghost use Rattle.std.specs.Char.{digit_value};
 ghost use Rattle.std.specs.Str.Parse.{AllDigits, IsNumeral};
 ghost use Rattle.dns_kinds.specs.Numbers.{ReadsDecimal, ReadsNumeral, NumbersReadBack};
 
-use crate::error::KindError;
+use crate::error::ErrorKind;
 
 /// The number with one more decimal digit.
 pub(crate) fn with_digit(number: u32, byte: u8) -> Option<u32>
@@ -42,30 +42,44 @@ pub(crate) fn are_digits(text: &[u8]) -> bool
     true
 }
 
-/// The number of 32 bits that a text writes.
-pub fn u32_from_text(text: &[u8]) -> Result<u32, KindError>
-    ensures { ReadsDecimal (2 ^ 32) text.now result }
+/// Reads the number that a text writes, if it is at most `most`.
+fn number_up_to(text: &[u8], most: u32) -> Result<u32, ErrorKind>
+    ensures { ReadsDecimal (most + 1) text.now result }
 {
     if text.is_empty() || !are_digits(text) {
-        return Err(KindError::ExpectedNumber);
+        return Err(ErrorKind::ExpectedNumber);
     }
-    number_from_text(text).ok_or(KindError::NumberOverflow)
+    match number_from_text(text) {
+        Some(number) if number <= most => Ok(number),
+        _ => Err(ErrorKind::NumberOverflow { most }),
+    }
+}
+
+/// The number of 32 bits that a text writes.
+pub fn u32_from_text(text: &[u8]) -> Result<u32, ErrorKind>
+    ensures { ReadsDecimal (2 ^ 32) text.now result }
+{
+    number_up_to(text, u32::MAX)
 }
 
 /// The number of 16 bits that a text writes.
-pub fn u16_from_text(text: &[u8]) -> Result<u16, KindError>
+pub fn u16_from_text(text: &[u8]) -> Result<u16, ErrorKind>
     ensures { ReadsDecimal (2 ^ 16) text.now result }
 {
-    let number = u32_from_text(text)?;
-    u16::try_from(number).ok().ok_or(KindError::NumberOverflow)
+    match number_up_to(text, 65535) {
+        Ok(number) => Ok(number as u16),
+        Err(why) => Err(why),
+    }
 }
 
 /// The number of 8 bits that a text writes.
-pub fn u8_from_text(text: &[u8]) -> Result<u8, KindError>
+pub fn u8_from_text(text: &[u8]) -> Result<u8, ErrorKind>
     ensures { ReadsDecimal (2 ^ 8) text.now result }
 {
-    let number = u32_from_text(text)?;
-    u8::try_from(number).ok().ok_or(KindError::NumberOverflow)
+    match number_up_to(text, 255) {
+        Ok(number) => Ok(number as u8),
+        Err(why) => Err(why),
+    }
 }
 
 /// States that a number in decimal is read as it was, and does nothing else.

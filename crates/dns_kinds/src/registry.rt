@@ -3,7 +3,7 @@ ghost use Rattle.std.specs.Prelude.{◌≡◌, option_copied};
 ghost use Rattle.dns_kinds.specs.Kind.{ReadsKind};
 ghost use Rattle.dns_kinds.specs.Registry.{code_rows, row_name, FindsNumbered, FindsCode, SpellsCode};
 
-use crate::error::KindError;
+use crate::error::ErrorKind;
 use crate::numbers::number_from_text;
 
 /// A code, and its name in capital letters.
@@ -43,8 +43,8 @@ pub(crate) fn code_from_text(
     prefix: &str,
     most: u16,
     text: &[u8],
-    why: KindError,
-) -> Result<u16, KindError>
+    why: ErrorKind,
+) -> Result<u16, ErrorKind>
     ensures { ReadsKind (SpellsCode (code_rows table.now) prefix.now most) why text.now result }
 {
     find_code(table, prefix, most, text).ok_or(why)

@@ -2,9 +2,9 @@
 ghost use Rattle.std.specs.Prelude.{◌≡◌, ◌≤◌, length, SomeIff, Some};
 ghost use Rattle.dns_kinds.specs.Kind.{ReadsKind};
 ghost use Rattle.dns_kinds.specs.Salt.{SpellsSalt, salt_text, SaltsAreKind};
-ghost use Rattle.dns_kinds.specs.declared.error.KindError.TheVariants.{ExpectedSalt};
+ghost use Rattle.dns_kinds.specs.declared.error.ErrorKind.TheVariants.{ExpectedSalt};
 
-use crate::error::KindError;
+use crate::error::ErrorKind;
 use crate::hex::{hex_into, write_hex};
 use std::fmt;
 use std::marker::Model;
@@ -45,7 +45,7 @@ impl Salt {
     }
 
     /// The salt that a text writes: `-` for none, or its octets in hexadecimal digits.
-    pub fn from_text(text: &[u8]) -> Result<Salt, KindError>
+    pub fn from_text(text: &[u8]) -> Result<Salt, ErrorKind>
         ensures { ReadsKind SpellsSalt ExpectedSalt text.now result }
     {
         let mut octets = [0; 255];
@@ -54,7 +54,7 @@ impl Salt {
         }
         let count = text.len() / 2;
         if count == 0 || count > MOST {
-            return Err(KindError::ExpectedSalt);
+            return Err(ErrorKind::ExpectedSalt);
         }
         if hex_into(text, &mut octets[..count]) {
             Ok(Salt {
@@ -62,7 +62,7 @@ impl Salt {
                 count: count as u8,
             })
         } else {
-            Err(KindError::ExpectedSalt)
+            Err(ErrorKind::ExpectedSalt)
         }
     }
 

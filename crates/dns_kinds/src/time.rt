@@ -3,9 +3,9 @@ ghost use Rattle.std.specs.Prelude.{◌≡◌, ◌<◌, ◌≤◌, ◌+◌, ◌-
 ghost use Rattle.std.specs.Str.Parse.{AllDigits, digits_value};
 ghost use Rattle.dns_kinds.specs.Kind.{ReadsKind};
 ghost use Rattle.dns_kinds.specs.Time.{is_leap, month_days, year_days, days_before_year, days_before_month, IsDate, seconds_at, field_at, date_of, IsDateText, date_text, FindsSeconds, SpellsDate, date_at, SecondsHaveDates, DatesAreKind};
-ghost use Rattle.dns_kinds.specs.declared.error.KindError.TheVariants.{ExpectedTime};
+ghost use Rattle.dns_kinds.specs.declared.error.ErrorKind.TheVariants.{ExpectedTime};
 
-use crate::error::KindError;
+use crate::error::ErrorKind;
 use crate::numbers::{are_digits, number_from_text};
 use std::fmt;
 
@@ -130,12 +130,12 @@ impl Date {
     /// The time that a text writes: fourteen digits of a date from 1970 on, or at most ten digits of
     /// the seconds themselves. Of a date whose seconds are no number of 32 bits, they are taken
     /// modulo 2^32 (RFC 4034 section 3.1.5).
-    pub fn from_text(text: &[u8]) -> Result<Date, KindError>
+    pub fn from_text(text: &[u8]) -> Result<Date, ErrorKind>
         ensures { ReadsKind SpellsDate ExpectedTime text.now result }
     {
         match seconds_from_text(text) {
             Some(seconds) => Ok(Date::from_seconds(seconds)),
-            None => Err(KindError::ExpectedTime),
+            None => Err(ErrorKind::ExpectedTime),
         }
     }
 

@@ -6,9 +6,9 @@ ghost use Rattle.std.specs.Prelude.{ℕ, ◌≡◌, ◌<◌, IfSome, IsTrue, fal
 ghost use Rattle.std.specs.Char.{is_ascii_digit};
 ghost use Rattle.dns_kinds.specs.Kind.{ReadsKind};
 ghost use Rattle.dns_kinds.specs.Ttl.{unit_seconds, IsSeconds, ReadsSeconds, ReadsPeriods, SpellsTtl, SpellsInterval, TtlsAreKind, IntervalsAreKind};
-ghost use Rattle.dns_kinds.specs.declared.error.KindError.TheVariants.{ExpectedTtl, ExpectedInterval};
+ghost use Rattle.dns_kinds.specs.declared.error.ErrorKind.TheVariants.{ExpectedTtl, ExpectedInterval};
 
-use crate::error::KindError;
+use crate::error::ErrorKind;
 use crate::numbers::{number_from_text, with_digit};
 
 /// The most seconds of a time to live (RFC 2181 section 8).
@@ -78,22 +78,22 @@ fn seconds_from_text(text: &[u8]) -> Option<u32>
 
 /// The seconds of a time to live, below 2^31 (RFC 2181 section 8): a number of them, or periods
 /// such as `1h30m` or `1w2d`.
-pub fn ttl_from_text(text: &[u8]) -> Result<u32, KindError>
+pub fn ttl_from_text(text: &[u8]) -> Result<u32, ErrorKind>
     ensures { ReadsKind SpellsTtl ExpectedTtl text.now result }
 {
     match seconds_from_text(text) {
         Some(seconds) if seconds <= MOST_TTL => Ok(seconds),
-        _ => Err(KindError::ExpectedTtl),
+        _ => Err(ErrorKind::ExpectedTtl),
     }
 }
 
 /// The seconds of an interval, below 2^32, as the four timers of SOA have it: as a time to live.
-pub fn interval_from_text(text: &[u8]) -> Result<u32, KindError>
+pub fn interval_from_text(text: &[u8]) -> Result<u32, ErrorKind>
     ensures { ReadsKind SpellsInterval ExpectedInterval text.now result }
 {
     match seconds_from_text(text) {
         Some(seconds) => Ok(seconds),
-        None => Err(KindError::ExpectedInterval),
+        None => Err(ErrorKind::ExpectedInterval),
     }
 }
 

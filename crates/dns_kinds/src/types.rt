@@ -3,12 +3,13 @@ ghost use Rattle.std.specs.Prelude.{◌≡◌, ◌↔◌, Some, IfSome, IsTrue, 
 ghost use Rattle.dns_kinds.specs.Kind.{ReadsKind};
 ghost use Rattle.dns_kinds.specs.Registry.{row_code, row_name};
 ghost use Rattle.dns_kinds.specs.Types.{type_rows, SpellsType, type_text, is_portable, portable_text, SpellsSigType, sig_type_text, TypesAreKind, PortableTypesAreKind, SigTypesAreKind};
-ghost use Rattle.dns_kinds.specs.declared.error.KindError.TheVariants.{UnknownType};
+ghost use Rattle.dns_kinds.specs.declared.error.ErrorKind.TheVariants.{UnknownType};
 
-use crate::error::KindError;
+use crate::error::ErrorKind;
 use crate::numbers::u16_from_text;
 use crate::registry::{Named, code_from_text, name_of};
 use std::fmt;
+use std::marker::Model;
 
 /// The types that have a name. `ANY` is how the registry's `*` is written.
 pub static TYPES: [Named; 97] = [
@@ -122,8 +123,18 @@ const PORTABLE: [u16; 48] = [
 ];
 
 /// A type of records, by its code. It prints as its name or, without one, as `TYPE` and the code.
-#[derive(Clone, Copy)]
+#[derive(Clone, Copy, Debug, PartialEq, Eq)]
 pub struct RecordType(pub u16);
+
+impl Model for RecordType {
+    ghost use Rattle.std.specs.Prelude.{ℕ};
+
+    ghost Value = { ℕ };
+
+    ghost view = { λ t. t.0 };
+
+    ghost inverse = { λ code. record { 0 = code } };
+}
 
 /// Returns whether a text is a name, in the same case of its letters.
 #[inline(always)]
@@ -185,15 +196,22 @@ fn usual_code(text: &[u8]) -> Option<u16>
     None
 }
 
+/// Returns the name of the type with a code, if it has one.
+fn type_name(code: u16) -> Option<&'static str>
+    ensures { option_copied result ≡ row_name type_rows code }
+{
+    name_of(&TYPES, code)
+}
+
 impl RecordType {
     /// The type that a text names, in any case of its letters: `MX` or `TYPE15`.
-    pub fn from_text(text: &[u8]) -> Result<RecordType, KindError>
+    pub fn from_text(text: &[u8]) -> Result<RecordType, ErrorKind>
         ensures { ReadsKind SpellsType UnknownType text.now result }
     {
         if let Some(code) = usual_code(text) {
             return Ok(RecordType(code));
         }
-        match code_from_text(&TYPES, "TYPE", u16::MAX, text, KindError::UnknownType) {
+        match code_from_text(&TYPES, "TYPE", u16::MAX, text, ErrorKind::UnknownType) {
             Ok(code) => Ok(RecordType(code)),
             Err(why) => Err(why),
         }
@@ -201,16 +219,16 @@ impl RecordType {
 
     /// The name of the type, if it has one.
     pub fn name(&self) -> Option<&'static str>
-        ensures { option_copied result ≡ row_name type_rows self.now.0 }
+        ensures { option_copied result ≡ row_name type_rows self.now }
     {
-        name_of(&TYPES, self.0)
+        type_name(self.0)
     }
 
     /// Whether every reader knows the name of the type. The names of all other types, among them
     /// those whose record data have a text form here, are read, and printed as the type of a record
     /// in text form only.
     pub fn is_portable(&self) -> bool
-        ensures { result ≡ is_portable self.now.0 }
+        ensures { result ≡ is_portable self.now }
     {
         let code = self.0;
         PORTABLE.iter().any(|portable| *portable == code)
@@ -252,7 +270,7 @@ pub struct SigType(pub RecordType);
 
 impl SigType {
     /// The type that a text names, or whose code it is: `MX`, `TYPE15` or `15`.
-    pub fn from_text(text: &[u8]) -> Result<SigType, KindError>
+    pub fn from_text(text: &[u8]) -> Result<SigType, ErrorKind>
         ensures { ReadsKind SpellsSigType UnknownType text.now result }
     {
         if let Ok(code) = u16_from_text(text) {

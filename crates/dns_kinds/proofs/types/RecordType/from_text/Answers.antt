@@ -7,4 +7,4 @@ returns-in-Ok c = c.in-Ok.ensures
 
 pub returns-in-Err : goal.returns-in-Err
 unfolding type_rows
-returns-in-Err c = (c.in-Err.ensures.0, λ t h. c.in-Err.ensures.1 t.0 h)
+returns-in-Err c = (c.in-Err.ensures.0, λ t h. c.in-Err.ensures.1 t h)

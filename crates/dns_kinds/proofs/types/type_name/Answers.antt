@@ -1,5 +1,5 @@
 use Rattle.dns_kinds.specs.Types.{type_rows}
-use Rattle.dns_kinds.proofs.types.RecordType.name.Goals as goal
+use Rattle.dns_kinds.proofs.types.type_name.Goals as goal
 
 pub returns : goal.returns
 unfolding type_rows
