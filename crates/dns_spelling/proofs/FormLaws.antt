@@ -13,7 +13,7 @@ use Rattle.dns_symbol.specs.declared.symbol.Symbol.{Symbol}
 use Rattle.dns_symbol.specs.declared.symbol.Symbol.TheVariants.{Char, SimpleEscape, DecimalEscape}
 use Rattle.dns_symbol.proofs.PrintedForms.{printed_ascii}
 use Rattle.dns_wire.specs.Labelled.{label_same}
-use Rattle.dns_spelling.specs.declared.error.SpellingError.{SpellingError}
+use Rattle.dns_kinds.specs.declared.error.ErrorKind.{ErrorKind}
 use Rattle.dns_symbol.specs.Escape.{is_spelling, octet_for}
 use Rattle.dns_spelling.specs.Spelling.{SpellsFront, SpellsOctetList, AreOctetValues, SpellsBehind, RefusesBehind}
 use Rattle.dns_spelling.specs.Forms.{IsWireString, SpellsString, IsTag, IsWireTag, SpellsTag, FindsWidth, AreSpelled, StandInFront, RefusesString}
@@ -154,7 +154,7 @@ tags_in_front = record { width = tag_at }
 
 -- ---- strings that are appended and found
 
-pub string_refused : (room : Room) (text old octets : List ℕ) (count : ℕ) (e : SpellingError) → SpellsOctetList text octets → count ≡ length octets
+pub string_refused : (room : Room) (text old octets : List ℕ) (count : ℕ) (e : ErrorKind) → SpellsOctetList text octets → count ≡ length octets
     → RefusesBehind count room text old e → RefusesString room text old e
 string_refused room text old octets count e s n (inl h) = subst (RefusesString room text old) (sym h.0) h.1
 string_refused room text old octets count e s n (inr h) = subst (RefusesString room text old) (sym h.0) (λ form k.

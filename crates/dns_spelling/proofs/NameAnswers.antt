@@ -10,8 +10,8 @@ use Rattle.dns_wire.specs.Building.{closed}
 use Rattle.dns_wire.specs.Opened.{snoc_same}
 use Rattle.dns_wire.specs.Wire.{wire, wire_length, IsPlain, IsName, EndsInRoot}
 use Rattle.dns_wire.proofs.Wires.{wire_append, wire_length_append, length_wire, IsName-append, IsName-plain, IsName-absolute, is_root}
-use Rattle.dns_spelling.specs.declared.error.SpellingError.{SpellingError}
-use Rattle.dns_spelling.specs.declared.error.SpellingError.TheVariants.{BadEscape, LongString, BadTag, EmptyLabel, LongLabel, LongName, NoOrigin, ShortBuf}
+use Rattle.dns_kinds.specs.declared.error.ErrorKind.{ErrorKind}
+use Rattle.dns_kinds.specs.declared.error.ErrorKind.TheVariants.{BadEscape, EmptyLabel, LongLabel, LongName, NoOrigin, ShortBuf}
 use Rattle.dns_symbol.specs.Escape.{octet_for}
 use Rattle.dns_spelling.specs.NameSpelling.{IsLabelPart, part_labels, SpellsParts, SpellsLabels, root_alone, origin_alone, absolute, relative, SpellsName, HasBadLabel, IsRelative, IsLongWithOrigin, WhyNoName, RefusesName, GainsLabels, LacksRoomForLabels}
 use Rattle.dns_spelling.proofs.LabelParts.{labels_last, wire_length_cons}
@@ -162,17 +162,14 @@ fitting_name origin text form s no_dot no_at = of s.spelled
         }
     of (relative parts last others some h no_at o is) = with_others parts last others some h is
 
-why_bad : (origin : Option (List (List ℕ))) (text : List ℕ) (why : SpellingError) → text ≢ 46 ∷ [] → HasBadLabel text why → WhyNoName origin text why
+why_bad : (origin : Option (List (List ℕ))) (text : List ℕ) (why : ErrorKind) → text ≢ 46 ∷ [] → HasBadLabel text why → WhyNoName origin text why
 why_bad origin text BadEscape no_dot h = h
 why_bad origin text EmptyLabel no_dot h = (h, no_dot)
 why_bad origin text LongLabel no_dot h = h
 why_bad origin text LongName no_dot h = inl h
-why_bad origin text LongString no_dot h = absurd h.refused
-why_bad origin text BadTag no_dot h = absurd h.refused
-why_bad origin text NoOrigin no_dot h = absurd h.refused
-why_bad origin text ShortBuf no_dot h = absurd h.refused
+why_bad origin text other no_dot h = absurd h.refused
 
-pub labels_refused : (room : Room) (origin : Option (List (List ℕ))) (text old : List ℕ) (why : SpellingError) → text ≢ 46 ∷ [] → text ≢ 64 ∷ []
+pub labels_refused : (room : Room) (origin : Option (List (List ℕ))) (text old : List ℕ) (why : ErrorKind) → text ≢ 46 ∷ [] → text ≢ 64 ∷ []
     → ((why ≡ ShortBuf) × LacksRoomForLabels room text old) ⊎ HasBadLabel text why → RefusesName room origin text old why
 labels_refused room origin text old why no_dot no_at (inl h) = inl (
   h.0,

@@ -7,8 +7,8 @@ use Rattle.dns_symbol.specs.Symbol.{spell}
 use Rattle.dns_symbol.specs.declared.symbol.Symbol.{Symbol}
 use Rattle.dns_symbol.specs.declared.symbol.Symbol.TheVariants.{Char}
 use Rattle.dns_wire.specs.Wire.{wire, wire_length}
-use Rattle.dns_spelling.specs.declared.error.SpellingError.{SpellingError}
-use Rattle.dns_spelling.specs.declared.error.SpellingError.TheVariants.{BadEscape, LongString, BadTag, EmptyLabel, LongLabel, LongName, NoOrigin, ShortBuf}
+use Rattle.dns_kinds.specs.declared.error.ErrorKind.{ErrorKind}
+use Rattle.dns_kinds.specs.declared.error.ErrorKind.TheVariants.{BadEscape, EmptyLabel, LongLabel, LongName}
 use Rattle.dns_spelling.specs.Spelling.{BeginsBadEscape}
 use Rattle.dns_spelling.specs.NameSpelling.{IsLabelPart, dotted_parts, part_labels, HasParts, SpellsParts, SpellsLabels, root_alone, origin_alone, absolute, relative, SpellsName, OpensLabel, GoesOnWithOctet, EndsLabel, HasBadLabel}
 use Rattle.dns_symbol.proofs.Spelled.{spell_some}
@@ -165,7 +165,7 @@ begins text parts part rest after room h opens f =
     within parts part after f.all f.last h.each opens.each f.spelled.front.each f.spelled.last_each
     (ap (λ r. dotted_parts parts ++ r) (sym opens.whole) ∙ sym h.whole ∙ f.spelled.front.whole)
 
-pub none_fitting : (text : List ℕ) (why : SpellingError) → HasBadLabel text why → Fitting text → ⊥
+pub none_fitting : (text : List ℕ) (why : ErrorKind) → HasBadLabel text why → Fitting text → ⊥
 none_fitting text BadEscape h f = let r = h.refused in
     bad_within h.parts r.0 r.1 f.all f.last r.3 (begins text h.parts r.0 h.rest r.1 _ h.front r.2 f)
 none_fitting text EmptyLabel h f =
@@ -180,7 +180,4 @@ none_fitting text LongName h f = let r = h.refused in
     let plus = length-append r.0 (more.octet ∷ []) in
     let long = within_long h.parts (r.0 ++ more.octet ∷ []) more.rest f.all f.last more.is (omega (arith, plus)) in
     omega (arith, long, r.3, plus, f.fits)
-none_fitting text LongString h f = h.refused
-none_fitting text BadTag h f = h.refused
-none_fitting text NoOrigin h f = h.refused
-none_fitting text ShortBuf h f = h.refused
+none_fitting text other h f = h.refused

@@ -5,8 +5,8 @@ use Rattle.std.specs.Char.{is_ascii_alphanumeric}
 use Rattle.dns_octets.specs.Room.{Room}
 use Rattle.dns_octets.specs.Appending.{LacksRoom}
 use Rattle.dns_spelling.specs.Spelling.{SpellsOctetList, AreOctetValues, SpellsToBadEscape}
-use Rattle.dns_spelling.specs.declared.error.SpellingError.{SpellingError}
-use Rattle.dns_spelling.specs.declared.error.SpellingError.TheVariants.{BadEscape, LongString, BadTag, EmptyLabel, LongLabel, LongName, NoOrigin, ShortBuf}
+use Rattle.dns_kinds.specs.declared.error.ErrorKind.{ErrorKind}
+use Rattle.dns_kinds.specs.declared.error.ErrorKind.TheVariants.{BadEscape, LongString, BadTag, ShortBuf}
 
 -- a character string on the wire: its length octet, and at most 255 octets
 pub record IsWireString (form : List ℕ) : Type 0 where
@@ -54,23 +54,14 @@ pub record StandInFront (Is : List ℕ → Type 0) : Type 0 where
   pub width : (form rest : List ℕ) (found : Option ℕ) → Is form → FindsWidth Is (form ++ rest) found → found ≡ Some (length form)
 
 -- why a character string was not appended
-abbrev pub RefusesString : Room → List ℕ → List ℕ → SpellingError → Type 0
+abbrev pub RefusesString : Room → List ℕ → List ℕ → ErrorKind → Type 0
 RefusesString room text old BadEscape = SpellsToBadEscape text × ((octets : List ℕ) → ¬ SpellsOctetList text octets)
 RefusesString room text old LongString = (octets : List ℕ) × SpellsOctetList text octets × (255 < length octets)
 RefusesString room text old ShortBuf = LacksRoom room (SpellsString text) old
-RefusesString room text old BadTag = ⊥
-RefusesString room text old EmptyLabel = ⊥
-RefusesString room text old LongLabel = ⊥
-RefusesString room text old LongName = ⊥
-RefusesString room text old NoOrigin = ⊥
+RefusesString room text old other = ⊥
 
 -- why a tag was not appended
-abbrev pub RefusesTag : Room → List ℕ → List ℕ → SpellingError → Type 0
+abbrev pub RefusesTag : Room → List ℕ → List ℕ → ErrorKind → Type 0
 RefusesTag room text old BadTag = ¬ IsTag text
 RefusesTag room text old ShortBuf = LacksRoom room (SpellsTag text) old
-RefusesTag room text old BadEscape = ⊥
-RefusesTag room text old LongString = ⊥
-RefusesTag room text old EmptyLabel = ⊥
-RefusesTag room text old LongLabel = ⊥
-RefusesTag room text old LongName = ⊥
-RefusesTag room text old NoOrigin = ⊥
+RefusesTag room text old other = ⊥

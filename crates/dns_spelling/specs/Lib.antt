@@ -3,4 +3,3 @@ pub mod NameSpelling
 pub mod PrintedNames
 pub mod Shown
 pub mod Spelling
-pub mod SpellingError

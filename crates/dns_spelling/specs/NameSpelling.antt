@@ -12,8 +12,8 @@ use Rattle.dns_wire.specs.Limits.{max_label, max_name, max_relative}
 use Rattle.dns_wire.specs.Wire.{wire, wire_length, IsName, EndsInRoot}
 use Rattle.dns_symbol.specs.Escape.{is_spelling, octet_for}
 use Rattle.dns_spelling.specs.Spelling.{AreOctetValues, BeginsBadEscape}
-use Rattle.dns_spelling.specs.declared.error.SpellingError.{SpellingError}
-use Rattle.dns_spelling.specs.declared.error.SpellingError.TheVariants.{BadEscape, LongString, BadTag, EmptyLabel, LongLabel, LongName, NoOrigin, ShortBuf}
+use Rattle.dns_kinds.specs.declared.error.ErrorKind.{ErrorKind}
+use Rattle.dns_kinds.specs.declared.error.ErrorKind.TheVariants.{BadEscape, EmptyLabel, LongLabel, LongName, NoOrigin, ShortBuf}
 
 abbrev pub at_sign : ℕ
 at_sign = 64
@@ -101,18 +101,15 @@ abbrev pub EndsLabel : List ℕ → Type 0
 EndsLabel rest = (rest ≡ []) ⊎ ((more : List ℕ) × (rest ≡ dot ∷ more))
 
 -- why no label is in front of a text, in a name that has room for so many octets: of all reasons the first
-abbrev pub RefusesFrontLabel : ℕ → List ℕ → SpellingError → Type 0
+abbrev pub RefusesFrontLabel : ℕ → List ℕ → ErrorKind → Type 0
 RefusesFrontLabel room text BadEscape = (open_part : List Symbol) × (rest : List ℕ) × OpensLabel text room open_part rest × BeginsBadEscape rest
 RefusesFrontLabel room text EmptyLabel = EndsLabel text
 RefusesFrontLabel room text LongLabel = (open_part : List Symbol) × (rest : List ℕ) × OpensLabel text room open_part rest × (length open_part ≡ max_label) × GoesOnWithOctet rest
 RefusesFrontLabel room text LongName = (open_part : List Symbol) × (rest : List ℕ) × OpensLabel text room open_part rest × (room < length open_part + 2) × GoesOnWithOctet rest
-RefusesFrontLabel room text LongString = ⊥
-RefusesFrontLabel room text BadTag = ⊥
-RefusesFrontLabel room text NoOrigin = ⊥
-RefusesFrontLabel room text ShortBuf = ⊥
+RefusesFrontLabel room text other = ⊥
 
 -- behind labels for which there is room in a name one is refused; nothing behind a dot is no label that is refused
-pub record HasBadLabel (text : List ℕ) (why : SpellingError) : Type 0 where
+pub record HasBadLabel (text : List ℕ) (why : ErrorKind) : Type 0 where
   pub parts : List (List Symbol)
   pub rest : List ℕ
   pub front : HasParts text parts rest
@@ -130,18 +127,16 @@ IsLongWithOrigin origin text = (text ≢ at_sign ∷ []) × (parts : List (List 
     × (origin ≡ Some others) × (max_name < wire_length (part_labels parts last) + wire_length others)
 
 -- why a text spells no name: of all reasons the first in the text
-abbrev pub WhyNoName : Option (List (List ℕ)) → List ℕ → SpellingError → Type 0
+abbrev pub WhyNoName : Option (List (List ℕ)) → List ℕ → ErrorKind → Type 0
 WhyNoName origin text BadEscape = HasBadLabel text BadEscape
 WhyNoName origin text EmptyLabel = HasBadLabel text EmptyLabel × (text ≢ dot ∷ [])
 WhyNoName origin text LongLabel = HasBadLabel text LongLabel
 WhyNoName origin text LongName = HasBadLabel text LongName ⊎ IsLongWithOrigin origin text
 WhyNoName origin text NoOrigin = (origin ≡ None) × IsRelative text
-WhyNoName origin text LongString = ⊥
-WhyNoName origin text BadTag = ⊥
-WhyNoName origin text ShortBuf = ⊥
+WhyNoName origin text other = ⊥
 
 -- why a name was not appended: no text of it, or the octets of no name that is spelled surely fit
-abbrev pub RefusesName : Room → Option (List (List ℕ)) → List ℕ → List ℕ → SpellingError → Type 0
+abbrev pub RefusesName : Room → Option (List (List ℕ)) → List ℕ → List ℕ → ErrorKind → Type 0
 RefusesName room origin text old why =
     ((why ≡ ShortBuf) × LacksRoom room (SpellsName origin text) old) ⊎ (WhyNoName origin text why × ((form : List ℕ) → ¬ SpellsName origin text form))
 

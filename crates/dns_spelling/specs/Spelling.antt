@@ -6,8 +6,8 @@ use Rattle.dns_octets.specs.Appending.{LacksRoom}
 use Rattle.dns_symbol.specs.Escape.{is_spelling, octet_for}
 use Rattle.dns_symbol.specs.Symbol.{spell}
 use Rattle.dns_symbol.specs.declared.symbol.Symbol.{Symbol}
-use Rattle.dns_spelling.specs.declared.error.SpellingError.{SpellingError}
-use Rattle.dns_spelling.specs.declared.error.SpellingError.TheVariants.{BadEscape, LongString, BadTag, EmptyLabel, LongLabel, LongName, NoOrigin, ShortBuf}
+use Rattle.dns_kinds.specs.declared.error.ErrorKind.{ErrorKind}
+use Rattle.dns_kinds.specs.declared.error.ErrorKind.TheVariants.{BadEscape, ShortBuf}
 
 -- a text spells octets one after another, and goes on with the rest
 pub record SpellsFront (text octets rest : List ℕ) : Type 0 where
@@ -34,15 +34,10 @@ abbrev pub AreOctetValues : List ℕ → Type 0
 AreOctetValues octets = All (λ o. o < 256) octets
 
 -- why octets that a text spells were not appended
-abbrev pub RefusesOctets : Room → List ℕ → List ℕ → SpellingError → Type 0
+abbrev pub RefusesOctets : Room → List ℕ → List ℕ → ErrorKind → Type 0
 RefusesOctets room text old BadEscape = SpellsToBadEscape text × ((octets : List ℕ) → ¬ SpellsOctetList text octets)
 RefusesOctets room text old ShortBuf = LacksRoom room (SpellsOctetList text) old
-RefusesOctets room text old LongString = ⊥
-RefusesOctets room text old BadTag = ⊥
-RefusesOctets room text old EmptyLabel = ⊥
-RefusesOctets room text old LongLabel = ⊥
-RefusesOctets room text old LongName = ⊥
-RefusesOctets room text old NoOrigin = ⊥
+RefusesOctets room text old other = ⊥
 
 -- octets that a text spells, behind an octet that tells a count
 pub record SpellsBehind (count : ℕ) (text form : List ℕ) : Type 0 where
@@ -51,7 +46,7 @@ pub record SpellsBehind (count : ℕ) (text form : List ℕ) : Type 0 where
   pub whole : form ≡ count ∷ octets
 
 -- why they were not appended
-abbrev pub RefusesBehind : ℕ → Room → List ℕ → List ℕ → SpellingError → Type 0
+abbrev pub RefusesBehind : ℕ → Room → List ℕ → List ℕ → ErrorKind → Type 0
 RefusesBehind count room text old why =
     ((why ≡ BadEscape) × (SpellsToBadEscape text × ((octets : List ℕ) → ¬ SpellsOctetList text octets)))
     ⊎ ((why ≡ ShortBuf) × LacksRoom room (SpellsBehind count text) old)

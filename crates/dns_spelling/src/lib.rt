@@ -5,7 +5,6 @@
 //! that octet, and a backslash and three decimal digits spell the octet of that number.
 #![tactic(auto)]
 
-pub mod error;
 pub mod laws;
 pub mod name_text;
 pub mod names;
@@ -15,7 +14,6 @@ pub mod strings;
 pub mod tags;
 pub mod widths;
 
-pub use error::SpellingError;
 pub use name_text::NameText;
 pub use names::append_name;
 pub use quoted::QuotedOctets;

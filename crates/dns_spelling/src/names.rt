@@ -7,10 +7,10 @@ ghost use Rattle.dns_symbol.specs.Characters.{backslash, dot};
 ghost use Rattle.dns_symbol.specs.Symbol.{spell};
 ghost use Rattle.dns_symbol.specs.declared.symbol.Symbol.{Symbol};
 ghost use Rattle.dns_spelling.specs.NameSpelling.{SpellsName, OpensLabel, EndsLabel, RefusesFrontLabel, HasBadLabel, RefusesName, GainsLabels, LacksRoomForLabels};
-ghost use Rattle.dns_spelling.specs.declared.error.SpellingError.TheVariants.{ShortBuf};
+ghost use Rattle.dns_kinds.specs.declared.error.ErrorKind.TheVariants.{ShortBuf};
 
-use crate::error::SpellingError;
 use crate::spelled::{append_behind, first_spelled};
+use dns_kinds::ErrorKind;
 use dns_octets::{AsOctets, OctetsBuilder};
 use dns_wire::{MAX_LABEL, MAX_NAME, MAX_RELATIVE, Name};
 
@@ -66,7 +66,7 @@ fn plain_label(text: &[u8], room: usize) -> Option<FrontLabel<'_>>
 }
 
 /// The label in front of a text, in a name that has room for so many octets.
-fn front_label(text: &[u8], room: usize) -> Result<FrontLabel<'_>, SpellingError>
+fn front_label(text: &[u8], room: usize) -> Result<FrontLabel<'_>, ErrorKind>
     ensures { MatchResult result
         (λ l. (part : List Symbol) × OpensLabel text.now room part l.rest.now × EndsLabel l.rest.now
         × (l.text.now ≡ flat_map spell part) × (l.count ≡ length part) × (0 < l.count))
@@ -79,7 +79,7 @@ fn front_label(text: &[u8], room: usize) -> Result<FrontLabel<'_>, SpellingError
 }
 
 /// The same, octet by octet.
-fn spelled_label(text: &[u8], room: usize) -> Result<FrontLabel<'_>, SpellingError>
+fn spelled_label(text: &[u8], room: usize) -> Result<FrontLabel<'_>, ErrorKind>
     ensures { MatchResult result
         (λ l. (part : List Symbol) × OpensLabel text.now room part l.rest.now × EndsLabel l.rest.now
         × (l.text.now ≡ flat_map spell part) × (l.count ≡ length part) × (0 < l.count))
@@ -90,16 +90,16 @@ fn spelled_label(text: &[u8], room: usize) -> Result<FrontLabel<'_>, SpellingErr
     while !rest.is_empty() && rest[0] != b'.' {
         let first = first_spelled(rest)?;
         if count == MAX_LABEL {
-            return Err(SpellingError::LongLabel);
+            return Err(ErrorKind::LongLabel);
         }
         if count + 2 > room {
-            return Err(SpellingError::LongName);
+            return Err(ErrorKind::LongName);
         }
         rest = first.rest;
         count += 1;
     }
     if count == 0 {
-        return Err(SpellingError::EmptyLabel);
+        return Err(ErrorKind::EmptyLabel);
     }
     Ok(FrontLabel {
         text: &text[..text.len() - rest.len()],
@@ -116,7 +116,7 @@ struct Labels {
 }
 
 /// Appends the labels of a text.
-fn append_labels<B: OctetsBuilder>(text: &[u8], target: &mut B) -> Result<Labels, SpellingError>
+fn append_labels<B: OctetsBuilder>(text: &[u8], target: &mut B) -> Result<Labels, ErrorKind>
     ensures ok { IfOk result (λ l. GainsLabels text.now (B.octets target.old) (B.octets target.new) l.count l.is_absolute) }
     ensures err { IfErr result (λ e. ((e ≡ ShortBuf) × LacksRoomForLabels B.room text.now (B.octets target.old)) ⊎ HasBadLabel text.now e) }
     ensures extends { OnErr result (Extends (B.octets target.old) (B.octets target.new)) }
@@ -154,15 +154,15 @@ fn is_lone(text: &[u8], octet: u8) -> bool
 ///
 /// The labels of a text without a dot at its end stand before those of the origin; `@` is the
 /// origin, and `.` the root. Of all that is wrong with a text, the first is the error:
-/// [`SpellingError::BadEscape`], [`SpellingError::EmptyLabel`], [`SpellingError::LongLabel`] at the
-/// 64th octet of a label, [`SpellingError::LongName`] at the octet that has no room before the root,
-/// or at the end where the origin's labels have none, and there [`SpellingError::NoOrigin`]. Some
+/// [`ErrorKind::BadEscape`], [`ErrorKind::EmptyLabel`], [`ErrorKind::LongLabel`] at the
+/// 64th octet of a label, [`ErrorKind::LongName`] at the octet that has no room before the root,
+/// or at the end where the origin's labels have none, and there [`ErrorKind::NoOrigin`]. Some
 /// labels may have been appended by then.
 pub fn append_name<Octets: AsOctets, B: OctetsBuilder>(
     text: &[u8],
     origin: Option<&Name<Octets>>,
     target: &mut B,
-) -> Result<(), SpellingError>
+) -> Result<(), ErrorKind>
     ensures ok { OnOk result (Gains (SpellsName (option_copied origin.entry) text.now) (B.octets target.old) (B.octets target.new)) }
     ensures err { IfErr result (RefusesName B.room (option_copied origin.entry) text.now (B.octets target.old)) }
     ensures extends { OnErr result (Extends (B.octets target.old) (B.octets target.new)) }
@@ -173,7 +173,7 @@ pub fn append_name<Octets: AsOctets, B: OctetsBuilder>(
     }
     if is_lone(text, b'@') {
         let Some(origin) = origin else {
-            return Err(SpellingError::NoOrigin);
+            return Err(ErrorKind::NoOrigin);
         };
         target.append_slice(origin.as_slice())?;
         return Ok(());
@@ -184,10 +184,10 @@ pub fn append_name<Octets: AsOctets, B: OctetsBuilder>(
         return Ok(());
     }
     let Some(origin) = origin else {
-        return Err(SpellingError::NoOrigin);
+        return Err(ErrorKind::NoOrigin);
     };
     if labels.count + origin.len() > MAX_NAME {
-        return Err(SpellingError::LongName);
+        return Err(ErrorKind::LongName);
     }
     target.append_slice(origin.as_slice())?;
     Ok(())

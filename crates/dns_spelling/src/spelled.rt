@@ -3,9 +3,9 @@ ghost use Rattle.std.specs.Prelude.{ℕ, ◌≡◌, ◌≢◌, ◌<◌, ◌≤�
 ghost use Rattle.dns_octets.specs.Appending.{Extends, Gains};
 ghost use Rattle.dns_symbol.specs.Characters.{backslash};
 ghost use Rattle.dns_spelling.specs.Spelling.{SpellsFront, SpellsOctetList, BeginsBadEscape, SpellsToBadEscape, RefusesOctets, SpellsBehind, RefusesBehind};
-ghost use Rattle.dns_spelling.specs.declared.error.SpellingError.TheVariants.{BadEscape};
+ghost use Rattle.dns_kinds.specs.declared.error.ErrorKind.TheVariants.{BadEscape};
 
-use crate::error::SpellingError;
+use dns_kinds::ErrorKind;
 use dns_octets::OctetsBuilder;
 use dns_symbol::escape::{EscapeRule, first_escape};
 
@@ -17,7 +17,7 @@ pub struct Spelled<'a> {
 }
 
 /// The octet that is spelled in front of a text, which is not empty.
-pub fn first_spelled(text: &[u8]) -> Result<Spelled<'_>, SpellingError>
+pub fn first_spelled(text: &[u8]) -> Result<Spelled<'_>, ErrorKind>
     requires { 0 < length text.now }
     ensures { MatchResult result (λ s. SpellsFront text.now (s.octet ∷ []) s.rest.now) (λ e. (e ≡ BadEscape) × BeginsBadEscape text.now) }
 {
@@ -33,12 +33,12 @@ pub fn first_spelled(text: &[u8]) -> Result<Spelled<'_>, SpellingError>
             octet: escape.octet,
             rest: &text[escape.len()..],
         }),
-        Err(_) => Err(SpellingError::BadEscape),
+        Err(_) => Err(ErrorKind::BadEscape),
     }
 }
 
 /// How many octets a text spells.
-pub(crate) fn count_spelled(text: &[u8]) -> Result<usize, SpellingError>
+pub(crate) fn count_spelled(text: &[u8]) -> Result<usize, ErrorKind>
     ensures { MatchResult result (λ count. (octets : List ℕ) × SpellsOctetList text.now octets × (count ≡ length octets))
         (λ e. (e ≡ BadEscape) × (SpellsToBadEscape text.now × ((octets : List ℕ) → ¬ SpellsOctetList text.now octets))) }
 {
@@ -68,7 +68,7 @@ fn plain_count(text: &[u8]) -> usize
 /// Appends the octets that a text spells, any number of them.
 ///
 /// Where the text has a bad escape, or the octets don't fit, those before may have been appended.
-pub fn append_spelled<B: OctetsBuilder>(text: &[u8], target: &mut B) -> Result<(), SpellingError>
+pub fn append_spelled<B: OctetsBuilder>(text: &[u8], target: &mut B) -> Result<(), ErrorKind>
     ensures ok { OnOk result (Gains (SpellsOctetList text.now) (B.octets target.old) (B.octets target.new)) }
     ensures err { IfErr result (RefusesOctets B.room text.now (B.octets target.old)) }
     ensures extends { OnErr result (Extends (B.octets target.old) (B.octets target.new)) }
@@ -93,7 +93,7 @@ pub(crate) fn append_behind<B: OctetsBuilder>(
     count: usize,
     text: &[u8],
     target: &mut B,
-) -> Result<(), SpellingError>
+) -> Result<(), ErrorKind>
     requires { count < 256 }
     ensures ok { OnOk result (Gains (SpellsBehind count text.now) (B.octets target.old) (B.octets target.new)) }
     ensures err { IfErr result (RefusesBehind count B.room text.now (B.octets target.old)) }

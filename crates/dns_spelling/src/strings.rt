@@ -3,8 +3,8 @@ ghost use Rattle.std.specs.Prelude.{IfErr, OnOk, OnErr};
 ghost use Rattle.dns_octets.specs.Appending.{Extends, Gains};
 ghost use Rattle.dns_spelling.specs.Forms.{IsWireString, SpellsString, RefusesString, FindsWidth};
 
-use crate::error::SpellingError;
 use crate::spelled::{append_behind, count_spelled};
+use dns_kinds::ErrorKind;
 use dns_octets::OctetsBuilder;
 
 /// The most octets of a character string, without its length octet.
@@ -12,16 +12,16 @@ const MOST: usize = 255;
 
 /// Appends the character string whose octets a text spells: its length octet, and its octets.
 ///
-/// More than 255 octets are [`SpellingError::LongString`]. Where the octets don't fit, some may have
+/// More than 255 octets are [`ErrorKind::LongString`]. Where the octets don't fit, some may have
 /// been appended.
-pub fn append_string<B: OctetsBuilder>(text: &[u8], target: &mut B) -> Result<(), SpellingError>
+pub fn append_string<B: OctetsBuilder>(text: &[u8], target: &mut B) -> Result<(), ErrorKind>
     ensures ok { OnOk result (Gains (SpellsString text.now) (B.octets target.old) (B.octets target.new)) }
     ensures err { IfErr result (RefusesString B.room text.now (B.octets target.old)) }
     ensures extends { OnErr result (Extends (B.octets target.old) (B.octets target.new)) }
 {
     let count = count_spelled(text)?;
     if count > MOST {
-        return Err(SpellingError::LongString);
+        return Err(ErrorKind::LongString);
     }
     append_behind(count, text, target)?;
     Ok(())

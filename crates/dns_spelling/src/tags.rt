@@ -6,7 +6,7 @@ ghost use Rattle.dns_octets.specs.Appending.{Extends, Gains};
 ghost use Rattle.dns_spelling.specs.Forms.{IsTag, IsWireTag, SpellsTag, RefusesTag, FindsWidth};
 ghost use Rattle.dns_spelling.specs.Shown.{tag_shown};
 
-use crate::error::SpellingError;
+use dns_kinds::ErrorKind;
 use dns_octets::OctetsBuilder;
 use std::{fmt, str};
 
@@ -29,14 +29,14 @@ fn is_tag(octets: &[u8]) -> bool
 
 /// Appends the tag that a text is: its length octet, and its octets as they are.
 ///
-/// A text that is not 1 to 255 letters or digits is [`SpellingError::BadTag`].
-pub fn append_tag<B: OctetsBuilder>(text: &[u8], target: &mut B) -> Result<(), SpellingError>
+/// A text that is not 1 to 255 letters or digits is [`ErrorKind::BadTag`].
+pub fn append_tag<B: OctetsBuilder>(text: &[u8], target: &mut B) -> Result<(), ErrorKind>
     ensures ok { OnOk result (Gains (SpellsTag text.now) (B.octets target.old) (B.octets target.new)) }
     ensures err { IfErr result (RefusesTag B.room text.now (B.octets target.old)) }
     ensures extends { OnErr result (Extends (B.octets target.old) (B.octets target.new)) }
 {
     if !is_tag(text) {
-        return Err(SpellingError::BadTag);
+        return Err(ErrorKind::BadTag);
     }
     target.append_slice(&[text.len() as u8])?;
     target.append_slice(text)?;
