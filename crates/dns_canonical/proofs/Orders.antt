@@ -58,7 +58,7 @@ names_absent a label = order_append [] (label ∷ []) a a refl ∙ ap (λ c. ord
 pub records_total : IsTotalOrder record_order
 records_total =
     then_total (on_total (λ k. k.owner) names_total)
-    (then_total (on_total (λ k. k.class) nat_cmp_total) (then_total (on_total (λ k. k.record_type) nat_cmp_total) (on_total (λ k. k.octets) octets_total)))
+    (then_total (on_total (λ k. k.class) nat_cmp_total) (then_total (on_total (λ k. k.rtype) nat_cmp_total) (on_total (λ k. k.octets) octets_total)))
 
 both_equal : (p q : Ordering) → ordering_then p q ≡ Equal → (p ≡ Equal) × (q ≡ Equal)
 both_equal Less q h = cc
@@ -72,11 +72,11 @@ numbers_tied : (m n : ℕ) → (nat_cmp m n ≡ Equal) ↔ (m ≡ n)
 numbers_tied m n = (λ h. ranked m n Equal (sym h), λ e. subst (λ x. nat_cmp m x ≡ Equal) e (tied_itself nat_cmp_total m))
 
 pub records_tied : (a b : RecordKey)
-    → (record_order a b ≡ Equal) ↔ ((name_order a.owner b.owner ≡ Equal) × (a.class ≡ b.class) × (a.record_type ≡ b.record_type) × (a.octets ≡ b.octets))
+    → (record_order a b ≡ Equal) ↔ ((name_order a.owner b.owner ≡ Equal) × (a.class ≡ b.class) × (a.rtype ≡ b.rtype) × (a.octets ≡ b.octets))
 records_tied a b = (
   λ h. let owner = both_equal _ _ h in
       let class = both_equal _ _ owner.1 in
-      let type = both_equal _ _ class.1 in (owner.0, (numbers_tied a.class b.class).0 class.0, (numbers_tied a.record_type b.record_type).0 type.0, (octets_tied a.octets b.octets).0 type.1),
+      let type = both_equal _ _ class.1 in (owner.0, (numbers_tied a.class b.class).0 class.0, (numbers_tied a.rtype b.rtype).0 type.0, (octets_tied a.octets b.octets).0 type.1),
   λ h. equal_then _ _ h.0
-      (equal_then _ _ ((numbers_tied a.class b.class).1 h.1) (equal_then _ _ ((numbers_tied a.record_type b.record_type).1 h.2) ((octets_tied a.octets b.octets).1 h.3))),
+      (equal_then _ _ ((numbers_tied a.class b.class).1 h.1) (equal_then _ _ ((numbers_tied a.rtype b.rtype).1 h.2) ((octets_tied a.octets b.octets).1 h.3))),
 )

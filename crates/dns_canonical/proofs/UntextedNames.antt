@@ -17,6 +17,8 @@ use Rattle.dns_spelling.specs.Spelling.{AreOctetValues}
 use Rattle.dns_spelling.proofs.NameFronts.{name_front_plain, names_in_front}
 use Rattle.dns_fields.specs.declared.field.Field.{Field}
 use Rattle.dns_fields.specs.declared.field.Field.TheVariants.{Number8, Name as OfName}
+use Rattle.dns_kinds.specs.Rtype as Rtype
+use Rattle.dns_kinds.specs.declared.types.RecordType.{RecordType}
 use Rattle.dns_canonical.specs.FieldForms.{StartsWithFields, CanonicalFields}
 use Rattle.dns_canonical.specs.Untexted.{names_behind, address_form, labels_before_root, if_at_most, name_size, names_size, front_of_form, untexted_form, untexted_front, lowered_between}
 use Rattle.dns_canonical.specs.declared.untexted.NamePlaces.{NamePlaces}
@@ -356,19 +358,19 @@ address_is_named : (prefix : ℕ) → IsNamed (address_form prefix)
 address_is_named prefix =
     named_if (nat_lt 0 prefix && nat_le prefix 128) (names_behind (1 + (128 - prefix + 7) / 8) 1) (names_behind 0 0) (some_names (1 + (128 - prefix + 7) / 8) 1 (omega arith)) no_names
 
-form_is_named : (code : ℕ) (octets : List ℕ) → IsNamed (untexted_form code octets)
-form_is_named code octets =
+form_is_named : (rtype : RecordType) (octets : List ℕ) → IsNamed (untexted_form rtype octets)
+form_is_named rtype octets =
     let address = address_form (slice_index octets 0) in
-    let of_address : NamePlaces = if code == 38 then address else names_behind 0 0 in
-    let of_map : NamePlaces = if code == 26 then names_behind 2 2 else of_address in
-    let of_signature : NamePlaces = if code == 24 then names_behind 18 1 else of_map in
-    named_if (code == 3 || code == 4 || code == 30) (names_behind 0 1) of_signature (some_names 0 1 (omega arith))
-    (named_if (code == 24) (names_behind 18 1) of_map (some_names 18 1 (omega arith))
-    (named_if (code == 26) (names_behind 2 2) of_address (some_names 2 2 (omega arith)) (named_if (code == 38) address (names_behind 0 0) (address_is_named (slice_index octets 0)) no_names)))
+    let of_address : NamePlaces = if rtype == Rtype.md8 then address else names_behind 0 0 in
+    let of_map : NamePlaces = if rtype == Rtype.px then names_behind 2 2 else of_address in
+    let of_signature : NamePlaces = if rtype == Rtype.sig then names_behind 18 1 else of_map in
+    named_if (rtype == Rtype.md || rtype == Rtype.mf || rtype == Rtype.md0) (names_behind 0 1) of_signature (some_names 0 1 (omega arith))
+    (named_if (rtype == Rtype.sig) (names_behind 18 1) of_map (some_names 18 1 (omega arith))
+    (named_if (rtype == Rtype.px) (names_behind 2 2) of_address (some_names 2 2 (omega arith)) (named_if (rtype == Rtype.md8) address (names_behind 0 0) (address_is_named (slice_index octets 0)) no_names)))
 
 -- data begins with the fields that are in front
-pub untexted_starts : (code : ℕ) (octets : List ℕ) → StartsWithFields (untexted_front code octets) octets
-untexted_starts code octets = form_starts (untexted_form code octets) octets (form_is_named code octets)
+pub untexted_starts : (rtype : RecordType) (octets : List ℕ) → StartsWithFields (untexted_front rtype octets) octets
+untexted_starts rtype octets = form_starts (untexted_form rtype octets) octets (form_is_named rtype octets)
 
 -- ---- the fields in a table
 

@@ -6,13 +6,16 @@ use Rattle.dns_octets.specs.Room.{Room}
 use Rattle.dns_fields.specs.Fields.{field_form}
 use Rattle.dns_fields.specs.declared.field.Field.{Field}
 use Rattle.dns_fields.specs.declared.field.Field.TheVariants.{Name as OfName}
+use Rattle.dns_kinds.specs.Rtype as Rtype
+use Rattle.dns_kinds.specs.declared.types.RecordType.{RecordType}
 use Rattle.dns_canonical.specs.declared.fields.CanonicalError.{CanonicalError}
 use Rattle.dns_canonical.specs.declared.fields.CanonicalError.TheVariants.{BadData, ShortBuf}
 
--- the types whose data has its names in lower case: NS, MD, MF, CNAME, SOA, MB, MG, MR; PTR, MINFO, MX, RP, AFSDB, RT; SIG, PX, NXT, SRV, NAPTR, KX, A6, DNAME, RRSIG
-abbrev pub lowered_types : List ℕ
+-- the types whose data has its names in lower case
+abbrev pub lowered_types : List RecordType
 lowered_types =
-    2 ∷ 3 ∷ 4 ∷ 5 ∷ 6 ∷ 7 ∷ 8 ∷ 9 ∷ 12 ∷ 14 ∷ 15 ∷ 17 ∷ 18 ∷ 21 ∷ 24 ∷ 26 ∷ 30 ∷ 33 ∷ 35 ∷ 36 ∷ 38 ∷ 39 ∷ 46 ∷ []
+    Rtype.ns ∷ Rtype.md ∷ Rtype.mf ∷ Rtype.cname ∷ Rtype.soa ∷ Rtype.mb ∷ Rtype.mg ∷ Rtype.mr ∷ Rtype.ptr ∷ Rtype.minfo ∷ Rtype.mx ∷ Rtype.rp
+    ∷ Rtype.afsdb ∷ Rtype.rt ∷ Rtype.sig ∷ Rtype.px ∷ Rtype.nxt ∷ Rtype.srv ∷ Rtype.naptr ∷ Rtype.kx ∷ Rtype.a6 ∷ Rtype.dname ∷ Rtype.rrsig ∷ []
 
 -- the octets of a field in canonical form: those of a name in lower case, and any other as they are
 abbrev pub canonical_field : Field → List ℕ → List ℕ

@@ -3,24 +3,26 @@ use Rattle.std.specs.Prelude.{◌≡◌, ℕ, List}
 use Rattle.std.specs.Ordering.{nat_cmp, on, then_cmp}
 use Rattle.std.specs.declared.cmp.Ordering.{Ordering}
 use Rattle.dns_wire.specs.Wire.{wire}
+use Rattle.dns_kinds.specs.declared.classes.Class.{Class}
+use Rattle.dns_kinds.specs.declared.types.RecordType.{RecordType}
 use Rattle.dns_canonical.specs.Names.{name_order, octet_order}
 use Rattle.dns_canonical.specs.declared.records.RecordParts.{RecordParts}
 
 -- what a record is sorted by: the labels of its owner, its class and type, and the octets of its data
 pub record RecordKey : Type 0 where
   pub owner : List (List ℕ)
-  pub class : ℕ
-  pub record_type : ℕ
+  pub class : Class
+  pub rtype : RecordType
   pub octets : List ℕ
 
 -- by the owner, then by the class, then by the type, then by the data
 abbrev pub record_order : RecordKey → RecordKey → Ordering
 record_order =
-    then_cmp (on (λ k. k.owner) name_order) (then_cmp (on (λ k. k.class) nat_cmp) (then_cmp (on (λ k. k.record_type) nat_cmp) (on (λ k. k.octets) octet_order)))
+    then_cmp (on (λ k. k.owner) name_order) (then_cmp (on (λ k. k.class) nat_cmp) (then_cmp (on (λ k. k.rtype) nat_cmp) (on (λ k. k.octets) octet_order)))
 
 -- what a record is sorted by, where its owner has these labels
 abbrev pub key_of : List (List ℕ) → RecordParts → RecordKey
-key_of labels parts = record { owner = labels; class = parts.class; record_type = parts.record_type; octets = parts.data.now }
+key_of labels parts = record { owner = labels; class = parts.class; rtype = parts.rtype; octets = parts.data.now }
 
 -- the order of the records that have these parts
 abbrev pub IsRecordOrder : RecordParts → RecordParts → Ordering → Type 0

@@ -6,6 +6,9 @@ use Rattle.dns_octets.specs.Lowered.{lowered}
 use Rattle.dns_wire.specs.Wire.{wire}
 use Rattle.dns_wire.specs.Order.{lowered_wire}
 use Rattle.dns_fields.specs.declared.field.Field.TheVariants.{Number8, Name as OfName, String as OfString}
+use Rattle.dns_kinds.specs.Rtype as Rtype
+use Rattle.dns_kinds.specs.declared.classes.Class.{Class}
+use Rattle.dns_kinds.specs.declared.types.RecordType.{RecordType}
 use Rattle.dns_canonical.specs.FieldForms.{canonical_field}
 use Rattle.dns_canonical.specs.Keys.{label_key, order_key, IsAtOrBelow}
 use Rattle.dns_canonical.specs.Names.{octet_order, name_order}
@@ -108,19 +111,19 @@ letters_row : octet_order (codes "a") (codes "B") ≡ Greater
 letters_row = refl
 
 -- the owner decides first, then the class, then the type, then the data
-abbrev key : List (List ℕ) → ℕ → ℕ → List ℕ → RecordKey
-key owner class type octets = record { owner = owner; class = class; record_type = type; octets = octets }
+abbrev key : List (List ℕ) → Class → RecordType → List ℕ → RecordKey
+key owner class rtype octets = record { owner = owner; class = class; rtype = rtype; octets = octets }
 
-owner_row : record_order (key ([] ∷ []) 3 2 (9 ∷ [])) (key (below []) 1 1 []) ≡ Less
+owner_row : record_order (key ([] ∷ []) 3 Rtype.ns (9 ∷ [])) (key (below []) 1 Rtype.a []) ≡ Less
 owner_row = refl
 
-class_row : record_order (key (below []) 1 2 (9 ∷ [])) (key (below []) 3 1 []) ≡ Less
+class_row : record_order (key (below []) 1 Rtype.ns (9 ∷ [])) (key (below []) 3 Rtype.a []) ≡ Less
 class_row = refl
 
-type_row : record_order (key (below []) 1 258 []) (key (below []) 1 16 (9 ∷ [])) ≡ Greater
+type_row : record_order (key (below []) 1 Rtype.avc []) (key (below []) 1 Rtype.txt (9 ∷ [])) ≡ Greater
 type_row = refl
 
-data_row : record_order (key (below []) 1 1 (10 ∷ 0 ∷ 0 ∷ 5 ∷ [])) (key (below []) 1 1 (192 ∷ 0 ∷ 2 ∷ 1 ∷ [])) ≡ Less
+data_row : record_order (key (below []) 1 Rtype.a (10 ∷ 0 ∷ 0 ∷ 5 ∷ [])) (key (below []) 1 Rtype.a (192 ∷ 0 ∷ 2 ∷ 1 ∷ [])) ≡ Less
 data_row = refl
 
 name_field_row : canonical_field OfName (2 ∷ 78 ∷ 83 ∷ 0 ∷ []) ≡ 2 ∷ 110 ∷ 115 ∷ 0 ∷ []
@@ -135,43 +138,43 @@ string_field_row = refl
 abbrev two_letters : List ℕ
 two_letters = 1 ∷ 65 ∷ 1 ∷ 66 ∷ 0 ∷ []
 
-host_row : untexted_front 3 two_letters ≡ OfName ∷ []
+host_row : untexted_front Rtype.md two_letters ≡ OfName ∷ []
 host_row = refl
 
-next_row : untexted_front 30 (two_letters ++ 64 ∷ []) ≡ OfName ∷ []
+next_row : untexted_front Rtype.nxt (two_letters ++ 64 ∷ []) ≡ OfName ∷ []
 next_row = refl
 
 -- two names of PX behind 2 octets (RFC 2163 section 4), the second of which is cut off, or no name
-map_row : untexted_front 26 (65 ∷ 66 ∷ (two_letters ++ two_letters)) ≡ Number8 ∷ Number8 ∷ OfName ∷ OfName ∷ []
+map_row : untexted_front Rtype.px (65 ∷ 66 ∷ (two_letters ++ two_letters)) ≡ Number8 ∷ Number8 ∷ OfName ∷ OfName ∷ []
 map_row = refl
 
-cut_row : untexted_front 26 (65 ∷ 66 ∷ (two_letters ++ 1 ∷ 65 ∷ [])) ≡ []
+cut_row : untexted_front Rtype.px (65 ∷ 66 ∷ (two_letters ++ 1 ∷ 65 ∷ [])) ≡ []
 cut_row = refl
 
-pointer_row : untexted_front 26 (65 ∷ 66 ∷ (two_letters ++ 192 ∷ 12 ∷ [])) ≡ []
+pointer_row : untexted_front Rtype.px (65 ∷ 66 ∷ (two_letters ++ 192 ∷ 12 ∷ [])) ≡ []
 pointer_row = refl
 
 -- the signer's name of SIG behind 18 octets (RFC 2535 section 4.1)
-signer_row : untexted_front 24 (replicate 18 65 ++ two_letters) ≡ replicate 18 Number8 ++ OfName ∷ []
+signer_row : untexted_front Rtype.sig (replicate 18 65 ++ two_letters) ≡ replicate 18 Number8 ++ OfName ∷ []
 signer_row = refl
 
 -- a prefix of 64 bits leaves 8 octets of the address of A6, one of 61 bits 9, and one of 128 none (RFC 2874 section 3.1)
-prefix_row : untexted_front 38 (64 ∷ (replicate 8 65 ++ two_letters)) ≡ replicate 9 Number8 ++ OfName ∷ []
+prefix_row : untexted_front Rtype.a6 (64 ∷ (replicate 8 65 ++ two_letters)) ≡ replicate 9 Number8 ++ OfName ∷ []
 prefix_row = refl
 
-partial_row : untexted_front 38 (61 ∷ (replicate 9 65 ++ two_letters)) ≡ replicate 10 Number8 ++ OfName ∷ []
+partial_row : untexted_front Rtype.a6 (61 ∷ (replicate 9 65 ++ two_letters)) ≡ replicate 10 Number8 ++ OfName ∷ []
 partial_row = refl
 
-whole_row : untexted_front 38 (128 ∷ two_letters) ≡ Number8 ∷ OfName ∷ []
+whole_row : untexted_front Rtype.a6 (128 ∷ two_letters) ≡ Number8 ∷ OfName ∷ []
 whole_row = refl
 
 -- without a prefix there is no name, and no prefix has more bits than an address
-no_prefix_row : untexted_front 38 (0 ∷ replicate 16 65) ≡ []
+no_prefix_row : untexted_front Rtype.a6 (0 ∷ replicate 16 65) ≡ []
 no_prefix_row = refl
 
-long_prefix_row : untexted_front 38 (129 ∷ two_letters) ≡ []
+long_prefix_row : untexted_front Rtype.a6 (129 ∷ two_letters) ≡ []
 long_prefix_row = refl
 
 -- X25 has no names
-no_names_row : untexted_front 19 two_letters ≡ []
+no_names_row : untexted_front Rtype.x25 two_letters ≡ []
 no_names_row = refl

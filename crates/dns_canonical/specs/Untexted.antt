@@ -6,6 +6,8 @@ use Rattle.dns_octets.specs.Lowered.{lowered}
 use Rattle.dns_wire.specs.Limits.{max_label, max_name}
 use Rattle.dns_fields.specs.declared.field.Field.{Field}
 use Rattle.dns_fields.specs.declared.field.Field.TheVariants.{Number8, Name as OfName}
+use Rattle.dns_kinds.specs.Rtype as Rtype
+use Rattle.dns_kinds.specs.declared.types.RecordType.{RecordType}
 use Rattle.dns_canonical.specs.declared.untexted.NamePlaces.{NamePlaces}
 
 -- so many octets, and behind them so many names
@@ -17,12 +19,12 @@ abbrev pub address_form : ℕ → NamePlaces
 address_form prefix = if nat_lt 0 prefix && nat_le prefix 128 then names_behind (1 + (128 - prefix + 7) / 8) 1 else names_behind 0 0
 
 -- MD, MF and NXT begin with a name, SIG has 18 octets in front of the signer's, and PX a preference in front of two (RFC 1035 sections 3.3.4 and 3.3.5, RFC 2535 sections 5.2 and 4.1, RFC 2163 section 4)
-abbrev pub untexted_form : ℕ → List ℕ → NamePlaces
-untexted_form code octets =
-    if code == 3 || code == 4 || code == 30 then names_behind 0 1
-    else if code == 24 then names_behind 18 1
-    else if code == 26 then names_behind 2 2
-    else if code == 38 then address_form (slice_index octets 0)
+abbrev pub untexted_form : RecordType → List ℕ → NamePlaces
+untexted_form rtype octets =
+    if rtype == Rtype.md || rtype == Rtype.mf || rtype == Rtype.nxt then names_behind 0 1
+    else if rtype == Rtype.sig then names_behind 18 1
+    else if rtype == Rtype.px then names_behind 2 2
+    else if rtype == Rtype.a6 then address_form (slice_index octets 0)
     else names_behind 0 0
 
 -- how many octets labels of at most 63 octets and the root behind them have, so many labels at most, if they are in front
@@ -52,8 +54,8 @@ front_of_form p octets =
     if list_all (λ o. nat_lt o 256) octets && is_some (names_size p.names (drop p.front octets)) then replicate p.front Number8 ++ replicate p.names OfName else []
 
 -- the fields in front of data up to the last name, and none where data doesn't begin with them
-abbrev pub untexted_front : ℕ → List ℕ → List Field
-untexted_front code octets = front_of_form (untexted_form code octets) octets
+abbrev pub untexted_front : RecordType → List ℕ → List Field
+untexted_front rtype octets = front_of_form (untexted_form rtype octets) octets
 
 -- octets with those from one place to another in lower case, which follows the code
 abbrev pub lowered_between : ℕ → ℕ → List ℕ → List ℕ

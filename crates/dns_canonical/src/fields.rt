@@ -6,6 +6,7 @@ ghost use Rattle.dns_canonical.specs.declared.fields.CanonicalError.TheVariants.
 
 use crate::names::append_lowered;
 use dns_fields::{Field, field_width};
+use dns_kinds::RecordType;
 use dns_octets::{OctetsBuilder, ShortBuf};
 use thiserror::Error;
 
@@ -28,19 +29,40 @@ impl From<ShortBuf> for CanonicalError {
     }
 }
 
-/// The types whose data has its names in lower case: NS, MD, MF, CNAME, SOA, MB, MG, MR, PTR,
-/// MINFO, MX, RP, AFSDB, RT, SIG, PX, NXT, SRV, NAPTR, KX, A6, DNAME and RRSIG.
-const LOWERED: [u16; 23] = [
-    2, 3, 4, 5, 6, 7, 8, 9, 12, 14, 15, 17, 18, 21, 24, 26, 30, 33, 35, 36, 38, 39, 46,
+/// The types whose data has its names in lower case.
+const LOWERED: [RecordType; 23] = [
+    RecordType::NS,
+    RecordType::MD,
+    RecordType::MF,
+    RecordType::CNAME,
+    RecordType::SOA,
+    RecordType::MB,
+    RecordType::MG,
+    RecordType::MR,
+    RecordType::PTR,
+    RecordType::MINFO,
+    RecordType::MX,
+    RecordType::RP,
+    RecordType::AFSDB,
+    RecordType::RT,
+    RecordType::SIG,
+    RecordType::PX,
+    RecordType::NXT,
+    RecordType::SRV,
+    RecordType::NAPTR,
+    RecordType::KX,
+    RecordType::A6,
+    RecordType::DNAME,
+    RecordType::RRSIG,
 ];
 
 /// Whether the names in data of a type are in lower case in its canonical form: in the types of RFC
 /// 4034 section 6.2 but NSEC (RFC 6840 section 5.1), and in no others. HINFO, which the RFC lists
 /// too, has no names.
-pub fn lowers_names(record_type: u16) -> bool
-    ensures { IsTrue result ↔ Contains lowered_types record_type }
+pub fn lowers_names(rtype: RecordType) -> bool
+    ensures { IsTrue result ↔ Contains lowered_types rtype }
 {
-    LOWERED.contains(&record_type)
+    LOWERED.contains(&rtype)
 }
 
 /// Appends the octets of a field in canonical form.

@@ -7,6 +7,7 @@ ghost use Rattle.dns_wire.specs.Order.{lowered_wire};
 ghost use Rattle.dns_wire.specs.Wire.{wire, IsName};
 ghost use Rattle.dns_spelling.specs.NameSpelling.{IsWireName};
 ghost use Rattle.dns_fields.specs.declared.field.Field.{Field};
+ghost use Rattle.dns_kinds.specs.declared.types.RecordType.{RecordType};
 ghost use Rattle.dns_canonical.specs.FieldForms.{StartsWithFields, CanonicalFields};
 ghost use Rattle.dns_canonical.specs.Keys.{IsAtOrBelow, label_key, order_key};
 ghost use Rattle.dns_canonical.specs.Names.{octet_order, name_order};
@@ -54,7 +55,7 @@ pub fn octets_are_ordered()
 pub fn records_are_ordered()
     ensures total { IsTotalOrder record_order }
     ensures equal { (a b : RecordKey) → (record_order a b ≡ Equal)
-        ↔ ((name_order a.owner b.owner ≡ Equal) × (a.class ≡ b.class) × (a.record_type ≡ b.record_type) × (a.octets ≡ b.octets)) }
+        ↔ ((name_order a.owner b.owner ≡ Equal) × (a.class ≡ b.class) × (a.rtype ≡ b.rtype) × (a.octets ≡ b.octets)) }
 {}
 
 /// Data that begins with fields has one canonical form, and no other data has one. The form has as
@@ -70,5 +71,5 @@ pub fn data_has_one_canonical_form()
     ensures behind { (fields : List Field) (octets form more : List ℕ) → CanonicalFields fields octets form
         → CanonicalFields fields (octets ++ more) (form ++ more) }
     ensures again { (fields : List Field) (octets form : List ℕ) → CanonicalFields fields octets form → CanonicalFields fields form form }
-    ensures untexted { (code : ℕ) (octets : List ℕ) → StartsWithFields (untexted_front code octets) octets }
+    ensures untexted { (rtype : RecordType) (octets : List ℕ) → StartsWithFields (untexted_front rtype octets) octets }
 {}

@@ -5,6 +5,7 @@ ghost use Rattle.dns_canonical.specs.Names.{octet_order};
 ghost use Rattle.dns_canonical.specs.Records.{IsRecordOrder};
 
 use crate::names::compare_names;
+use dns_kinds::{Class, RecordType};
 use std::cmp::Ordering;
 
 /// The canonical order of record data (RFC 4034 section 6.3): octet by octet, as unsigned numbers.
@@ -20,8 +21,8 @@ pub fn compare_octets(left: &[u8], right: &[u8]) -> Ordering
 #[derive(Clone, Copy)]
 pub struct RecordParts<'a> {
     pub owner: &'a [u8],
-    pub class: u16,
-    pub record_type: u16,
+    pub class: Class,
+    pub rtype: RecordType,
     pub data: &'a [u8],
 }
 
@@ -33,7 +34,7 @@ pub fn compare_records(left: &RecordParts<'_>, right: &RecordParts<'_>) -> Order
     ensures { IsRecordOrder left.now right.now result }
 {
     compare_names(left.owner, right.owner)
-        .then(left.class.cmp(&right.class))
-        .then(left.record_type.cmp(&right.record_type))
+        .then(left.class.0.cmp(&right.class.0))
+        .then(left.rtype.0.cmp(&right.rtype.0))
         .then_with(|| compare_octets(left.data, right.data))
 }

@@ -5,6 +5,7 @@ ghost use Rattle.dns_canonical.specs.Names.{octet_order};
 ghost use Rattle.dns_canonical.specs.Untexted.{address_form, untexted_form, names_size, untexted_front, lowered_between};
 
 use dns_fields::Field;
+use dns_kinds::RecordType;
 use dns_spelling::name_width;
 use std::cmp::Ordering;
 
@@ -58,19 +59,19 @@ fn address_places(prefix: u8) -> NamePlaces
 }
 
 /// Where names stand in data of a type without a text form.
-fn name_places(code: u16, octets: &[u8]) -> NamePlaces
-    ensures form { result ≡ untexted_form code octets.now }
+fn name_places(rtype: RecordType, octets: &[u8]) -> NamePlaces
+    ensures form { result ≡ untexted_form rtype octets.now }
     ensures few { (result.front ≤ MAX_FRONT) × (result.names ≤ 2) }
     ensures named { 0 < result.front → 0 < result.names }
 {
-    let (front, names) = match code {
-        // MD and MF (RFC 1035 sections 3.3.4 and 3.3.5), and NXT (RFC 2535 section 5.2).
-        3 | 4 | 30 => (0, 1),
-        // SIG (RFC 2535 section 4.1).
-        24 => (18, 1),
-        // PX (RFC 2163 section 4).
-        26 => (2, 2),
-        38 if !octets.is_empty() => return address_places(octets[0]),
+    let (front, names) = match rtype {
+        // RFC 1035 sections 3.3.4 and 3.3.5, and RFC 2535 section 5.2.
+        RecordType::MD | RecordType::MF | RecordType::NXT => (0, 1),
+        // RFC 2535 section 4.1.
+        RecordType::SIG => (18, 1),
+        // RFC 2163 section 4.
+        RecordType::PX => (2, 2),
+        RecordType::A6 if !octets.is_empty() => return address_places(octets[0]),
         _ => (0, 0),
     };
     NamePlaces { front, names }
@@ -90,10 +91,10 @@ fn names_width(names: usize, octets: &[u8]) -> Option<usize>
 
 /// The fields with which data of a type without a text form begins, up to the last name: octets, and
 /// names behind them. There are none where the type has no names, and where data doesn't begin so.
-pub fn untexted_fields(code: u16, octets: &[u8]) -> &'static [Field]
-    ensures { result.now ≡ untexted_front code octets.now }
+pub fn untexted_fields(rtype: RecordType, octets: &[u8]) -> &'static [Field]
+    ensures { result.now ≡ untexted_front rtype octets.now }
 {
-    let NamePlaces { front, names } = name_places(code, octets);
+    let NamePlaces { front, names } = name_places(rtype, octets);
     if front > octets.len() || names_width(names, &octets[front..]).is_none() {
         return &[];
     }
@@ -108,11 +109,11 @@ struct NameSpan {
 }
 
 /// The octets of the names in data of a type without a text form.
-fn name_span(code: u16, octets: &[u8]) -> NameSpan
+fn name_span(rtype: RecordType, octets: &[u8]) -> NameSpan
     ensures within { (result.start ≤ result.end) × (result.end ≤ length octets.now) }
-    ensures form { (form : List ℕ) → CanonicalFields (untexted_front code octets.now) octets.now form → form ≡ lowered_between result.start result.end octets.now }
+    ensures form { (form : List ℕ) → CanonicalFields (untexted_front rtype octets.now) octets.now form → form ≡ lowered_between result.start result.end octets.now }
 {
-    let NamePlaces { front, names } = name_places(code, octets);
+    let NamePlaces { front, names } = name_places(rtype, octets);
     if front > octets.len() {
         return NameSpan { start: 0, end: 0 };
     }
@@ -146,8 +147,8 @@ fn compare_between(left: &[u8], names: NameSpan, right: &[u8], others: NameSpan)
 }
 
 /// The order of the canonical forms of data of a type without a text form.
-pub fn compare_untexted(code: u16, left: &[u8], right: &[u8]) -> Ordering
-    ensures { (a b : List ℕ) → CanonicalFields (untexted_front code left.now) left.now a → CanonicalFields (untexted_front code right.now) right.now b → result ≡ octet_order a b }
+pub fn compare_untexted(rtype: RecordType, left: &[u8], right: &[u8]) -> Ordering
+    ensures { (a b : List ℕ) → CanonicalFields (untexted_front rtype left.now) left.now a → CanonicalFields (untexted_front rtype right.now) right.now b → result ≡ octet_order a b }
 {
-    compare_between(left, name_span(code, left), right, name_span(code, right))
+    compare_between(left, name_span(rtype, left), right, name_span(rtype, right))
 }

@@ -6,5 +6,5 @@ use Rattle.dns_canonical.proofs.fields.lowers_names.Goals as goal
 
 pub returns : goal.returns
 returns c =
-    Decides-contains lowered_types c.args.record_type c.contains.result
-    (contains_decides nat_eq unsigned_Decides lowered_types c.args.record_type c.contains.result c.contains.ensures.cases)
+    Decides-contains lowered_types c.args.rtype c.contains.result
+    (contains_decides nat_eq unsigned_Decides lowered_types c.args.rtype c.contains.result c.contains.ensures.cases)
