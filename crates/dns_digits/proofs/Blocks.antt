@@ -7,7 +7,7 @@ use Rattle.dns_digits.specs.Spelled.{SpellsDigits, opens_group, base_of}
 use Rattle.dns_digits.specs.Reading.{DigitsState, TakesPiece, RefusesPiece}
 use Rattle.dns_digits.specs.declared.kind.DigitsKind.{DigitsKind}
 use Rattle.dns_digits.specs.declared.kind.DigitsKind.TheVariants.{Hex, Base64}
-use Rattle.dns_digits.specs.declared.error.DigitsError.TheVariants.{ShortBuf}
+use Rattle.dns_kinds.specs.declared.error.ErrorKind.TheVariants.{ShortBuf}
 use Rattle.dns_digits.proofs.Spelling.{known, spells_once, spells_joined, opens_joined}
 use Rattle.dns_digits.proofs.Pieces.{nothing_spelled, nothing_open, cons_not_nil, closes, takes_none, takes_some}
 use Rattle.dns_digits.proofs.TakenDigit.{least_on}

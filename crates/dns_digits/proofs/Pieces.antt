@@ -13,8 +13,8 @@ use Rattle.dns_digits.specs.Spelled.{SpellsDigits, opens_group, base_of, illegal
 use Rattle.dns_digits.specs.Reading.{DigitsState, HasRead, TakesPiece, MayGain, FollowsPadding, RefusesPiece}
 use Rattle.dns_digits.specs.declared.kind.DigitsKind.{DigitsKind}
 use Rattle.dns_digits.specs.declared.kind.DigitsKind.TheVariants.{Hex, Base64}
-use Rattle.dns_digits.specs.declared.error.DigitsError.TheVariants.{ExpectedHex, UnevenHex, IllegalBase64, TrailingBase64, IncompleteBase64, IllegalBase32, ShortBase32, LongHash, ShortBuf}
-use Rattle.dns_digits.specs.declared.error.DigitsError.{DigitsError}
+use Rattle.dns_kinds.specs.declared.error.ErrorKind.TheVariants.{ShortBuf}
+use Rattle.dns_kinds.specs.declared.error.ErrorKind.{ErrorKind}
 use Rattle.dns_digits.proofs.Spelling.{known, spells_once, spells_joined, opens_joined, spells_split, not_whole, spelled_whole}
 
 pub cons_not_nil : (x : ℕ) (xs : List ℕ) → x ∷ xs ≢ []
@@ -236,7 +236,7 @@ apart_digit s digit goes few (inr f) = by f.1.0 f.1.1 f.1.2 f.1.3 f.1.4 f.1.5 f.
         let short : length (x ∷ front) < (base_of s.kind).group = omega (arith, there, sum, few) in
         not_whole s.kind (x ∷ front) octets (omega arith) short spelled
 
-apart_front : (room : Room) (s : DigitsState) (q r old : List ℕ) (e : DigitsError) → RefusesPiece room s q old e → e ≢ ShortBuf → (FollowsPadding s q → ⊥) → FollowsPadding s (q ++ r) → ⊥
+apart_front : (room : Room) (s : DigitsState) (q r old : List ℕ) (e : ErrorKind) → RefusesPiece room s q old e → e ≢ ShortBuf → (FollowsPadding s q → ⊥) → FollowsPadding s (q ++ r) → ⊥
 apart_front room s q r old e h other apart (inl f) = apart (inl (f.0, h.some))
 apart_front room s q r old e h other apart (inr f) =
     let g = f.1 in
@@ -281,7 +281,7 @@ apart_behind a b (x ∷ p) q m t some apart (inr f) =
     ]
 
 -- what refuses a piece refuses it with more behind it
-pub refuses_front : (room : Room) (s : DigitsState) (q r old : List ℕ) (e : DigitsError) → RefusesPiece room s q old e → RefusesPiece room s (q ++ r) old e
+pub refuses_front : (room : Room) (s : DigitsState) (q r old : List ℕ) (e : ErrorKind) → RefusesPiece room s q old e → RefusesPiece room s (q ++ r) old e
 refuses_front room s q r old e h = record {
   some = some_more q r h.some;
   why = elim h.why [
@@ -294,7 +294,7 @@ refuses_front room s q r old e h = record {
 }
 
 -- and behind a first part
-pub refuses_behind : (room : Room) (a b : DigitsState) (p q m old new : List ℕ) (e : DigitsError) → TakesPiece a p m b → new ≡ old ++ m → RefusesPiece room b q new e → RefusesPiece room a (p ++ q) old e
+pub refuses_behind : (room : Room) (a b : DigitsState) (p q m old new : List ℕ) (e : ErrorKind) → TakesPiece a p m b → new ≡ old ++ m → RefusesPiece room b q new e → RefusesPiece room a (p ++ q) old e
 refuses_behind room a b p q m old new e t is h = record {
   some = behind_not_nil p q h.some;
   why = elim h.why [
@@ -329,11 +329,11 @@ pub gains_three : (old first second third u v w : List ℕ) → first ≡ old ++
 gains_three old first second third u v w a b c =
     c ∙ (ap (λ t. t ++ w) (b ∙ (ap (λ t. t ++ v) a ∙ append_assoc old u v)) ∙ (append_assoc old (u ++ v) w ∙ ap (λ t. old ++ t) (append_assoc u v w)))
 
-pub refuses_middle : (room : Room) (a b : DigitsState) (front rest piece u old first : List ℕ) (e : DigitsError) → TakesPiece a front u b → first ≡ old ++ u → front ++ rest ≡ piece → RefusesPiece room b rest first e
+pub refuses_middle : (room : Room) (a b : DigitsState) (front rest piece u old first : List ℕ) (e : ErrorKind) → TakesPiece a front u b → first ≡ old ++ u → front ++ rest ≡ piece → RefusesPiece room b rest first e
     → RefusesPiece room a piece old e
 refuses_middle room a b front rest piece u old first e t is parts h = subst (λ z. RefusesPiece room a z old e) parts (refuses_behind room a b front rest u old first e t is h)
 
-pub refuses_last : (room : Room) (a b : DigitsState) (front middle last piece u v old first second : List ℕ) (e : DigitsError) → TakesPiece a front u b → TakesPiece b middle v b → first ≡ old ++ u → second ≡ first ++ v
+pub refuses_last : (room : Room) (a b : DigitsState) (front middle last piece u v old first second : List ℕ) (e : ErrorKind) → TakesPiece a front u b → TakesPiece b middle v b → first ≡ old ++ u → second ≡ first ++ v
     → front ++ (middle ++ last) ≡ piece → RefusesPiece room b last second e → RefusesPiece room a piece old e
 refuses_last room a b front middle last piece u v old first second e t m is on parts h =
     refuses_middle room a b front (middle ++ last) piece u old first e t is parts (refuses_behind room b b middle last v first second e m on h)
@@ -408,13 +408,6 @@ reads_goes_on s text read h = by s.ended refl
         let parts : text ++ rest ≡ h.groups ++ (s.begun ++ rest) = ap (λ t. t ++ rest) h.split ∙ append_assoc h.groups s.begun rest in
         (rest, more, subst (λ t. SpellsDigits (base_of s.kind) t (read ++ more)) (sym parts) (spells_joined s.kind h.groups (s.begun ++ rest) read more h.spelled closed h.goes_on.2))
 
-pub is_short : (e : DigitsError) → (e ≡ ShortBuf) ⊎ (e ≢ ShortBuf)
-is_short ExpectedHex = inr (λ is. cc is)
-is_short UnevenHex = inr (λ is. cc is)
-is_short IllegalBase64 = inr (λ is. cc is)
-is_short TrailingBase64 = inr (λ is. cc is)
-is_short IncompleteBase64 = inr (λ is. cc is)
-is_short IllegalBase32 = inr (λ is. cc is)
-is_short ShortBase32 = inr (λ is. cc is)
-is_short LongHash = inr (λ is. cc is)
+pub is_short : (e : ErrorKind) → (e ≡ ShortBuf) ⊎ (e ≢ ShortBuf)
 is_short ShortBuf = inl refl
+is_short other = inr (λ is. cc is)

@@ -6,8 +6,8 @@ use Rattle.dns_digits.specs.Spelled.{SpellsDigits, opens_group, base_of, illegal
 use Rattle.dns_digits.specs.Reading.{DigitsState, TakesPiece, RefusesPiece}
 use Rattle.dns_digits.specs.declared.kind.DigitsKind.{DigitsKind}
 use Rattle.dns_digits.specs.declared.kind.DigitsKind.TheVariants.{Hex, Base64}
-use Rattle.dns_digits.specs.declared.error.DigitsError.{DigitsError}
-use Rattle.dns_digits.specs.declared.error.DigitsError.TheVariants.{ShortBuf}
+use Rattle.dns_kinds.specs.declared.error.ErrorKind.{ErrorKind}
+use Rattle.dns_kinds.specs.declared.error.ErrorKind.TheVariants.{ShortBuf}
 use Rattle.dns_digits.proofs.Spelling.{known, spells_once, spells_split}
 use Rattle.dns_digits.proofs.Pieces.{never_illegal, apart_digit, cons_not_nil, begins, closes, takes_some, held_length}
 
@@ -57,7 +57,7 @@ least_on k xs (y ∷ ys) u v whole s t =
     omega (arith, same, sum)
 
 module _ (room : Room) (s : DigitsState) (digit : ℕ) (old : List ℕ) where
-  pub digit_illegal : (e : DigitsError) → e ≡ illegal s.kind → s.ended ≡ false → length (s.begun ++ digit ∷ []) ≤ (base_of s.kind).group → ((rest v : List ℕ) → SpellsDigits (base_of s.kind) ((s.begun ++ digit ∷ []) ++ rest) v → ⊥) → RefusesPiece room s (digit ∷ []) old e
+  pub digit_illegal : (e : ErrorKind) → e ≡ illegal s.kind → s.ended ≡ false → length (s.begun ++ digit ∷ []) ≤ (base_of s.kind).group → ((rest v : List ℕ) → SpellsDigits (base_of s.kind) ((s.begun ++ digit ∷ []) ++ rest) v → ⊥) → RefusesPiece room s (digit ∷ []) old e
   digit_illegal e is goes few never = record {
     some = cons_not_nil digit [];
     why = inr (inl (is, apart_digit s digit goes few));

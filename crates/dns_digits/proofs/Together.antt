@@ -4,8 +4,8 @@ use Rattle.dns_octets.specs.Room.{Room}
 use Rattle.dns_codec.specs.Base.{base16, base32hex, base64}
 use Rattle.dns_digits.specs.Spelled.{base_of, SpellsDigits}
 use Rattle.dns_digits.specs.Reading.{DigitsState, HasRead, RefusesPiece}
-use Rattle.dns_digits.specs.declared.error.DigitsError.{DigitsError}
-use Rattle.dns_digits.specs.declared.error.DigitsError.TheVariants.{ShortBuf}
+use Rattle.dns_kinds.specs.declared.error.ErrorKind.{ErrorKind}
+use Rattle.dns_kinds.specs.declared.error.ErrorKind.TheVariants.{ShortBuf}
 use Rattle.dns_digits.proofs.Spelling.{fold_length, size16, size32, size64}
 use Rattle.dns_digits.proofs.Pieces.{gains_next, is_short}
 
@@ -18,7 +18,7 @@ base64_digits text v s = sym (fold_length base64 text) ∙ (ap length s.text_is 
 pub base32hex_digits : (text v : List ℕ) → SpellsDigits base32hex text v → length text ≡ (8 * length v + 4) / 5
 base32hex_digits text v s = sym (fold_length base32hex text) ∙ (ap length s.text_is ∙ size32 v)
 
-pub only_room : (room : Room) (s : DigitsState) (text piece rest octets read old : List ℕ) (e : DigitsError)
+pub only_room : (room : Room) (s : DigitsState) (text piece rest octets read old : List ℕ) (e : ErrorKind)
     → SpellsDigits (base_of s.kind) (text ++ (piece ++ rest)) octets → HasRead s text read → RefusesPiece room s piece old e
     → (e ≡ ShortBuf) × ((later : List ℕ) × (octets ≡ read ++ later) × (room.fits < length old + length later))
 only_room room s text piece rest octets read old e spelled h r =
@@ -28,7 +28,7 @@ only_room room s text piece rest octets read old e spelled h r =
       | inr other ↦ absurd (r.none other next.0 next.1)
     ]
 
-pub final : (room : Room) (s : DigitsState) (text piece rest octets read old : List ℕ) (e : DigitsError)
+pub final : (room : Room) (s : DigitsState) (text piece rest octets read old : List ℕ) (e : ErrorKind)
     → HasRead s text read → RefusesPiece room s piece old e → e ≢ ShortBuf → SpellsDigits (base_of s.kind) (text ++ (piece ++ rest)) octets → ⊥
 final room s text piece rest octets read old e h r other spelled =
     let next = gains_next s text piece rest octets read spelled h r.some in

@@ -10,8 +10,8 @@ use Rattle.dns_digits.specs.Hashes.{SpellsHash}
 use Rattle.dns_digits.specs.Tokens.{DigitsGoOn, RefusesToken}
 use Rattle.dns_digits.specs.declared.kind.DigitsKind.{DigitsKind}
 use Rattle.dns_digits.specs.declared.kind.DigitsKind.TheVariants.{Hex, Base64}
-use Rattle.dns_digits.specs.declared.error.DigitsError.{DigitsError}
-use Rattle.dns_digits.specs.declared.error.DigitsError.TheVariants.{TrailingBase64, ShortBuf}
+use Rattle.dns_kinds.specs.declared.error.ErrorKind.{ErrorKind}
+use Rattle.dns_kinds.specs.declared.error.ErrorKind.TheVariants.{TrailingBase64, ShortBuf}
 use Rattle.dns_digits.proofs.Spelling.{spells_once}
 use Rattle.dns_digits.proofs.Pieces.{gains_next, never_illegal, reads_whole, nothing_spelled, nothing_open}
 
@@ -19,7 +19,7 @@ never_unfinished : (k : DigitsKind) → unfinished k ≢ ShortBuf
 never_unfinished Hex = λ is. cc is
 never_unfinished Base64 = λ is. cc is
 
-module _ (room : Room) (s : DigitsState) (text old : List ℕ) (e : DigitsError) (h : HasRead s [] []) (r : RefusesPiece room s text old e) where
+module _ (room : Room) (s : DigitsState) (text old : List ℕ) (e : ErrorKind) (h : HasRead s [] []) (r : RefusesPiece room s text old e) where
   ends : e ≢ ShortBuf → DigitsGoOn s.kind text → ⊥
   ends other on =
       let next = gains_next s [] text on.0 on.1 [] on.2 h r.some in
@@ -58,7 +58,7 @@ module _ (room : Room) (s : DigitsState) (text old : List ℕ) (e : DigitsError)
   pub token_refused : (k : DigitsKind) → s.kind ≡ k → RefusesToken k room text old e
   token_refused k same = subst (λ k. RefusesToken k room text old e) same refused_here
 
-pub token_unfinished : (k : DigitsKind) (room : Room) (text old : List ℕ) (e : DigitsError) → e ≡ unfinished k → DigitsGoOn k text → ((v : List ℕ) → SpellsDigits (base_of k) text v → ⊥) → RefusesToken k room text old e
+pub token_unfinished : (k : DigitsKind) (room : Room) (text old : List ℕ) (e : ErrorKind) → e ≡ unfinished k → DigitsGoOn k text → ((v : List ℕ) → SpellsDigits (base_of k) text v → ⊥) → RefusesToken k room text old e
 token_unfinished k room text old e is on never = record {
   why = inr (inl (is, on));
   lacks = λ short. absurd (never_unfinished k (sym is ∙ short));

@@ -3,8 +3,8 @@ use Rattle.std.specs.Prelude.{ℕ, ◌≡◌, ◌<◌, ◌==◌, ◌||◌, not, 
 use Rattle.dns_codec.specs.Base.{base32hex}
 use Rattle.dns_codec.specs.Grammar.{may_end_after}
 use Rattle.dns_digits.specs.Spelled.{SpellsDigits}
-use Rattle.dns_digits.specs.declared.error.DigitsError.{DigitsError}
-use Rattle.dns_digits.specs.declared.error.DigitsError.TheVariants.{LongHash, ShortBase32, IllegalBase32, ShortBuf}
+use Rattle.dns_kinds.specs.declared.error.ErrorKind.{ErrorKind}
+use Rattle.dns_kinds.specs.declared.error.ErrorKind.TheVariants.{LongHash, ShortBase32, IllegalBase32, ShortBuf}
 use Rattle.dns_octets.specs.Room.{Room}
 use Rattle.dns_octets.specs.Appending.{LacksRoom}
 
@@ -13,7 +13,7 @@ abbrev pub first_octet : List ℕ → ℕ
 first_octet octets = slice_index octets 0
 
 -- why a text is no hash: 255 octets have 408 digits
-abbrev pub hash_refusal : List ℕ → DigitsError
+abbrev pub hash_refusal : List ℕ → ErrorKind
 hash_refusal text =
     if nat_lt 408 (length text) then LongHash
     else if (length text == 0) || not (may_end_after base32hex (length text)) then ShortBase32
@@ -28,7 +28,7 @@ pub record SpellsHash (text octets : List ℕ) : Type 0 where
   pub wire_is : octets ≡ length hash ∷ hash
 
 -- a text is refused: its octets don't surely fit after those that the target had, or it is no hash
-abbrev pub RefusesHash : Room → List ℕ → List ℕ → DigitsError → Type 0
+abbrev pub RefusesHash : Room → List ℕ → List ℕ → ErrorKind → Type 0
 RefusesHash room text old e =
     ((e ≡ ShortBuf) × LacksRoom room (SpellsHash text) old)
     ⊎ ((e ≡ hash_refusal text) × ((octets : List ℕ) → SpellsHash text octets → ⊥))

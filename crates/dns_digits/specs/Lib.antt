@@ -1,5 +1,4 @@
 pub mod DigestLengths
-pub mod DigitsError
 pub mod Hashes
 pub mod Reading
 pub mod Spelled

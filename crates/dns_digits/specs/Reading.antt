@@ -5,8 +5,8 @@ use Rattle.dns_octets.specs.Appending.{LacksRoom}
 use Rattle.dns_codec.specs.Base.{Base}
 use Rattle.dns_digits.specs.Spelled.{SpellsDigits, opens_group, base_of, illegal, unfinished}
 use Rattle.dns_digits.specs.declared.kind.DigitsKind.{DigitsKind}
-use Rattle.dns_digits.specs.declared.error.DigitsError.{DigitsError}
-use Rattle.dns_digits.specs.declared.error.DigitsError.TheVariants.{TrailingBase64, ShortBuf}
+use Rattle.dns_kinds.specs.declared.error.ErrorKind.{ErrorKind}
+use Rattle.dns_kinds.specs.declared.error.ErrorKind.TheVariants.{TrailingBase64, ShortBuf}
 
 pub record DigitsState : Type 0 where
   pub kind : DigitsKind
@@ -48,7 +48,7 @@ FollowsPadding s piece = ((s.ended ≡ true) × (piece ≢ []))
 
 -- a piece is refused, and it isn't empty: its octets don't surely fit behind those that the target had, or whatever follows,
 -- there are none
-pub record RefusesPiece (room : Room) (s : DigitsState) (piece old : List ℕ) (error : DigitsError) : Type 0 where
+pub record RefusesPiece (room : Room) (s : DigitsState) (piece old : List ℕ) (error : ErrorKind) : Type 0 where
   pub some : piece ≢ []
   pub why : (error ≡ ShortBuf) ⊎ (((error ≡ illegal s.kind) × (FollowsPadding s piece → ⊥)) ⊎ ((error ≡ TrailingBase64) × FollowsPadding s piece))
   pub lacks : error ≡ ShortBuf → LacksRoom room (MayGain s piece) old
@@ -69,5 +69,5 @@ LacksBlocks kind digits room old = (n : ℕ) × (n < length digits) × (length (
     × ((gained : List ℕ) × SpellsDigits (base_of kind) (take n digits) gained × (opens_group (base_of kind) gained ≡ false) × (room.fits < length old + length gained))
 
 -- a text ends where no group is begun, and else it is refused
-abbrev pub EndsPieces : DigitsState → Result (Unit {0}) DigitsError → Type 0
+abbrev pub EndsPieces : DigitsState → Result (Unit {0}) ErrorKind → Type 0
 EndsPieces s r = MatchResult r (λ _. s.begun ≡ []) (λ e. (s.begun ≢ []) × (e ≡ unfinished s.kind))

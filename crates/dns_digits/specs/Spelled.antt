@@ -3,8 +3,8 @@ use Rattle.std.specs.Prelude.{ℕ, ◌≡◌, ◌<◌, ◌*◌, ◌%◌, ◌==�
 use Rattle.dns_codec.specs.Base.{Base, base16, base64, capital, encoded}
 use Rattle.dns_digits.specs.declared.kind.DigitsKind.{DigitsKind}
 use Rattle.dns_digits.specs.declared.kind.DigitsKind.TheVariants.{Hex, Base64}
-use Rattle.dns_digits.specs.declared.error.DigitsError.{DigitsError}
-use Rattle.dns_digits.specs.declared.error.DigitsError.TheVariants.{ExpectedHex, UnevenHex, IllegalBase64, IncompleteBase64}
+use Rattle.dns_kinds.specs.declared.error.ErrorKind.{ErrorKind}
+use Rattle.dns_kinds.specs.declared.error.ErrorKind.TheVariants.{ExpectedHex, UnevenHex, IllegalBase64, IncompleteBase64}
 
 -- capitals for small letters, in an encoding that has them alike
 abbrev pub case_folded : Base → List ℕ → List ℕ
@@ -25,12 +25,12 @@ base_of Hex = base16
 base_of Base64 = base64
 
 -- why a beginning is refused that no text of octets has
-abbrev pub illegal : DigitsKind → DigitsError
+abbrev pub illegal : DigitsKind → ErrorKind
 illegal Hex = ExpectedHex
 illegal Base64 = IllegalBase64
 
 -- why a text is refused that ends within a group
-abbrev pub unfinished : DigitsKind → DigitsError
+abbrev pub unfinished : DigitsKind → ErrorKind
 unfinished Hex = UnevenHex
 unfinished Base64 = IncompleteBase64
 

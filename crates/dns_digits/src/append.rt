@@ -5,13 +5,13 @@ ghost use Rattle.dns_codec.specs.Base.{base16, base64};
 ghost use Rattle.dns_digits.specs.Spelled.{SpellsDigits, base_of};
 ghost use Rattle.dns_digits.specs.Hashes.{SpellsHash, hash_refusal, RefusesHash};
 ghost use Rattle.dns_digits.specs.Tokens.{RefusesToken};
-ghost use Rattle.dns_digits.specs.declared.error.DigitsError.TheVariants.{ShortBuf};
+ghost use Rattle.dns_kinds.specs.declared.error.ErrorKind.TheVariants.{ShortBuf};
 ghost use Rattle.dns_digits.specs.declared.kind.DigitsKind.TheVariants.{Hex, Base64};
 
-use crate::error::DigitsError;
 use crate::groups::read_base32hex;
 use crate::kind::DigitsKind;
 use crate::reader::DigitsReader;
+use dns_kinds::ErrorKind;
 use dns_octets::OctetsBuilder;
 
 /// Appends the octets of a token.
@@ -19,7 +19,7 @@ fn append_token<B: OctetsBuilder>(
     kind: DigitsKind,
     text: &[u8],
     target: &mut B,
-) -> Result<(), DigitsError>
+) -> Result<(), ErrorKind>
     ensures ok { OnOk result (Gains (SpellsDigits (base_of kind) text.now)
         (B.octets target.old) (B.octets target.new)) }
     ensures err { IfErr result (λ e. RefusesToken kind B.room text.now (B.octets target.old) e) }
@@ -35,7 +35,7 @@ fn append_token<B: OctetsBuilder>(
 ///
 /// The errors are those of [`DigitsReader`]; the target then has its old octets, and perhaps more
 /// behind them.
-pub fn append_hex<B: OctetsBuilder>(text: &[u8], target: &mut B) -> Result<(), DigitsError>
+pub fn append_hex<B: OctetsBuilder>(text: &[u8], target: &mut B) -> Result<(), ErrorKind>
     ensures ok { OnOk result (Gains (SpellsDigits base16 text.now)
         (B.octets target.old) (B.octets target.new)) }
     ensures err { IfErr result (λ e. RefusesToken Hex B.room text.now (B.octets target.old) e) }
@@ -48,7 +48,7 @@ pub fn append_hex<B: OctetsBuilder>(text: &[u8], target: &mut B) -> Result<(), D
 ///
 /// The errors are those of [`DigitsReader`]; the target then has its old octets, and perhaps more
 /// behind them.
-pub fn append_base64<B: OctetsBuilder>(text: &[u8], target: &mut B) -> Result<(), DigitsError>
+pub fn append_base64<B: OctetsBuilder>(text: &[u8], target: &mut B) -> Result<(), ErrorKind>
     ensures ok { OnOk result (Gains (SpellsDigits base64 text.now)
         (B.octets target.old) (B.octets target.new)) }
     ensures err { IfErr result (λ e. RefusesToken Base64 B.room text.now (B.octets target.old) e) }
@@ -58,16 +58,16 @@ pub fn append_base64<B: OctetsBuilder>(text: &[u8], target: &mut B) -> Result<()
 }
 
 /// Why a text is no hash.
-fn hash_error(text: &[u8]) -> DigitsError
+fn hash_error(text: &[u8]) -> ErrorKind
     ensures { result ≡ hash_refusal text.now }
 {
     if text.len() > 408 {
-        return DigitsError::LongHash;
+        return ErrorKind::LongHash;
     }
     if text.is_empty() || matches!(text.len() % 8, 1 | 3 | 6) {
-        return DigitsError::ShortBase32;
+        return ErrorKind::ShortBase32;
     }
-    DigitsError::IllegalBase32
+    ErrorKind::IllegalBase32
 }
 
 /// A hash behind its length.
@@ -82,11 +82,11 @@ fn behind_length(length: u8, hash: &[u8; 255]) -> [u8; 256]
 /// Appends a hash of 1 to 255 octets in base 32 hex, in either case and without padding: an octet
 /// with their number, and the octets (RFC 5155 section 3.3).
 ///
-/// More than 408 digits are [`DigitsError::LongHash`]; none, or a number of digits that no octets
-/// have, are [`DigitsError::ShortBase32`]; any other text that is no hash is
-/// [`DigitsError::IllegalBase32`], and octets that the target refuses are
-/// [`DigitsError::ShortBuf`]. Refused, the target stays as it was.
-pub fn append_base32hex<B: OctetsBuilder>(text: &[u8], target: &mut B) -> Result<(), DigitsError>
+/// More than 408 digits are [`ErrorKind::LongHash`]; none, or a number of digits that no octets
+/// have, are [`ErrorKind::ShortBase32`]; any other text that is no hash is
+/// [`ErrorKind::IllegalBase32`], and octets that the target refuses are
+/// [`ErrorKind::ShortBuf`]. Refused, the target stays as it was.
+pub fn append_base32hex<B: OctetsBuilder>(text: &[u8], target: &mut B) -> Result<(), ErrorKind>
     ensures ok { OnOk result (Gains (SpellsHash text.now)
         (B.octets target.old) (B.octets target.new)) }
     ensures err { IfErr result (RefusesHash B.room text.now (B.octets target.old)) }
@@ -99,7 +99,7 @@ pub fn append_base32hex<B: OctetsBuilder>(text: &[u8], target: &mut B) -> Result
     };
     let wire = behind_length(count as u8, &hash);
     if target.append_slice(&wire[..count + 1]).is_err() {
-        return Err(DigitsError::ShortBuf);
+        return Err(ErrorKind::ShortBuf);
     }
     Ok(())
 }

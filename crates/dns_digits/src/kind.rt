@@ -2,7 +2,7 @@
 ghost use Rattle.std.specs.Prelude.{◌≡◌, ℕ, List, length};
 ghost use Rattle.dns_digits.specs.Spelled.{base_of, unfinished, illegal, opens_group};
 
-use crate::error::DigitsError;
+use dns_kinds::ErrorKind;
 
 /// An encoding whose digits may come in pieces.
 #[derive(Clone, Copy, Debug, PartialEq, Eq)]
@@ -35,22 +35,22 @@ impl DigitsKind {
     }
 
     /// Why digits are refused that no text of octets has.
-    pub(crate) fn illegal(self) -> DigitsError
+    pub(crate) fn illegal(self) -> ErrorKind
         ensures { result ≡ illegal self }
     {
         match self {
-            DigitsKind::Hex => DigitsError::ExpectedHex,
-            DigitsKind::Base64 => DigitsError::IllegalBase64,
+            DigitsKind::Hex => ErrorKind::ExpectedHex,
+            DigitsKind::Base64 => ErrorKind::IllegalBase64,
         }
     }
 
     /// Why a text is refused that ends within a group.
-    pub(crate) fn unfinished(self) -> DigitsError
+    pub(crate) fn unfinished(self) -> ErrorKind
         ensures { result ≡ unfinished self }
     {
         match self {
-            DigitsKind::Hex => DigitsError::UnevenHex,
-            DigitsKind::Base64 => DigitsError::IncompleteBase64,
+            DigitsKind::Hex => ErrorKind::UnevenHex,
+            DigitsKind::Base64 => ErrorKind::IncompleteBase64,
         }
     }
 }

@@ -8,8 +8,8 @@ ghost use Rattle.dns_octets.specs.Room.{Room};
 ghost use Rattle.dns_codec.specs.Base.{Base, base16, base32hex, base64, encoded, IsEncoding};
 ghost use Rattle.dns_digits.specs.Spelled.{base_of, SpellsDigits, GoesOnTo};
 ghost use Rattle.dns_digits.specs.Reading.{DigitsState, HasRead, TakesPiece, RefusesPiece};
-ghost use Rattle.dns_digits.specs.declared.error.DigitsError.{DigitsError};
-ghost use Rattle.dns_digits.specs.declared.error.DigitsError.TheVariants.{ShortBuf};
+ghost use Rattle.dns_kinds.specs.declared.error.ErrorKind.{ErrorKind};
+ghost use Rattle.dns_kinds.specs.declared.error.ErrorKind.TheVariants.{ShortBuf};
 
 /// What octets print spells them.
 pub fn printed_text_spells()
@@ -49,7 +49,7 @@ pub fn a_cut_text_is_read()
         → SpellsDigits (base_of s.kind) text octets → HasRead s text read
         → (s.begun ≡ []) × (read ≡ octets) }
     ensures refused { (room : Room) (s : DigitsState) (text piece rest octets read old : List ℕ)
-        (e : DigitsError)
+        (e : ErrorKind)
         → SpellsDigits (base_of s.kind) (text ++ (piece ++ rest)) octets → HasRead s text read → RefusesPiece room s piece old e
         → (e ≡ ShortBuf) × ((later : List ℕ) × (octets ≡ read ++ later) × (room.fits < length old + length later)) }
 {}
@@ -57,6 +57,6 @@ pub fn a_cut_text_is_read()
 /// A refusal but for lack of room means that no text of octets goes on from the pieces.
 pub fn a_refusal_is_final()
     ensures { (room : Room) (s : DigitsState) (text piece rest octets read old : List ℕ)
-        (e : DigitsError)
+        (e : ErrorKind)
         → HasRead s text read → RefusesPiece room s piece old e → e ≢ ShortBuf → ¬ SpellsDigits (base_of s.kind) (text ++ (piece ++ rest)) octets }
 {}

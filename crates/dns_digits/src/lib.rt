@@ -7,7 +7,6 @@
 
 pub mod append;
 pub mod digests;
-pub mod error;
 mod groups;
 pub mod hash;
 pub mod kind;
@@ -16,7 +15,6 @@ pub mod reader;
 
 pub use append::{append_base32hex, append_base64, append_hex};
 pub use digests::{Digests, is_digest_length};
-pub use error::DigitsError;
 pub use hash::{hash_width, salt_width};
 pub use kind::DigitsKind;
 pub use reader::DigitsReader;

@@ -4,9 +4,9 @@ ghost use Rattle.dns_octets.specs.Appending.{Extends};
 ghost use Rattle.dns_digits.specs.Spelled.{base_of, unfinished, opens_group, SpellsDigits};
 ghost use Rattle.dns_digits.specs.Reading.{HasRead, RefusesPiece, AppendsBlocks, AppendsPiece, EndsPieces, LacksBlocks};
 
-use crate::error::DigitsError;
 use crate::groups::{read_block, read_group, starts_group};
 use crate::kind::DigitsKind;
+use dns_kinds::ErrorKind;
 use dns_octets::{OctetsBuilder, ShortBuf};
 use std::marker::Model;
 
@@ -78,7 +78,7 @@ impl DigitsReader {
     }
 
     /// Takes one digit. Refused, it changes nothing.
-    fn take_digit<B: OctetsBuilder>(&mut self, digit: u8, target: &mut B) -> Result<(), DigitsError>
+    fn take_digit<B: OctetsBuilder>(&mut self, digit: u8, target: &mut B) -> Result<(), ErrorKind>
         ensures ok { OnOk result (AppendsPiece self.old (digit ∷ []) self.new
             (B.octets target.old) (B.octets target.new)) }
         ensures err { IfErr result
@@ -86,7 +86,7 @@ impl DigitsReader {
         ensures kept { OnErr result (B.octets target.new ≡ B.octets target.old) }
     {
         if self.ended {
-            return Err(DigitsError::TrailingBase64);
+            return Err(ErrorKind::TrailingBase64);
         }
         let kind = self.kind;
         let mut group = self.held;
@@ -105,7 +105,7 @@ impl DigitsReader {
             return Err(kind.illegal());
         };
         if target.append_slice(&octets[..length]).is_err() {
-            return Err(DigitsError::ShortBuf);
+            return Err(ErrorKind::ShortBuf);
         }
         self.count = 0;
         self.ended = kind.opens_group(length);
@@ -117,7 +117,7 @@ impl DigitsReader {
         &mut self,
         digits: &[u8],
         target: &mut B,
-    ) -> Result<(), DigitsError>
+    ) -> Result<(), ErrorKind>
         ensures ok { OnOk result (AppendsPiece self.old digits.now self.new
             (B.octets target.old) (B.octets target.new)) }
         ensures err { IfErr result (RefusesPiece B.room self.old digits.now (B.octets target.old)) }
@@ -144,7 +144,7 @@ impl DigitsReader {
         &self,
         digits: &[u8],
         target: &mut B,
-    ) -> Result<usize, DigitsError>
+    ) -> Result<usize, ErrorKind>
         ensures ok { IfOk result (λ n. (n ≤ length digits.now)
             × AppendsPiece self.now (take n digits.now) self.now
             (B.octets target.old) (B.octets target.new)) }
@@ -156,22 +156,18 @@ impl DigitsReader {
         }
         match append_blocks(self.kind, digits, target) {
             Ok(count) => Ok(count),
-            Err(ShortBuf) => Err(DigitsError::ShortBuf),
+            Err(ShortBuf) => Err(ErrorKind::ShortBuf),
         }
     }
 
     /// Takes a piece, and appends the octets of each group that is whole then. An error leaves the
     /// target with its old octets, and perhaps more behind them, and the reader is done with.
     ///
-    /// A digit that may not stand in its place is [`DigitsError::ExpectedHex`] or
-    /// [`DigitsError::IllegalBase64`], as soon as it comes; what follows a padded group is
-    /// [`DigitsError::TrailingBase64`]. Octets that the target refuses are
-    /// [`DigitsError::ShortBuf`].
-    pub fn push<B: OctetsBuilder>(
-        &mut self,
-        piece: &[u8],
-        target: &mut B,
-    ) -> Result<(), DigitsError>
+    /// A digit that may not stand in its place is [`ErrorKind::ExpectedHex`] or
+    /// [`ErrorKind::IllegalBase64`], as soon as it comes; what follows a padded group is
+    /// [`ErrorKind::TrailingBase64`]. Octets that the target refuses are
+    /// [`ErrorKind::ShortBuf`].
+    pub fn push<B: OctetsBuilder>(&mut self, piece: &[u8], target: &mut B) -> Result<(), ErrorKind>
         ensures ok { OnOk result (AppendsPiece self.old piece.now self.new
             (B.octets target.old) (B.octets target.new)) }
         ensures err { IfErr result (RefusesPiece B.room self.old piece.now (B.octets target.old)) }
@@ -184,9 +180,9 @@ impl DigitsReader {
         self.take_digits(last, target)
     }
 
-    /// Ends the text, which is refused within a group: [`DigitsError::UnevenHex`] or
-    /// [`DigitsError::IncompleteBase64`].
-    pub fn finish(&self) -> Result<(), DigitsError>
+    /// Ends the text, which is refused within a group: [`ErrorKind::UnevenHex`] or
+    /// [`ErrorKind::IncompleteBase64`].
+    pub fn finish(&self) -> Result<(), ErrorKind>
         ensures begun { EndsPieces self.now result }
         ensures whole { (text octets : List ℕ) → HasRead self.now text octets
             → MatchResult result (λ _. SpellsDigits (base_of self.now.kind) text octets) (λ _. (v : List ℕ) → SpellsDigits (base_of self.now.kind) text v → ⊥) }

@@ -1,6 +1,6 @@
 use Rattle.std.proofs.Common.{◌≡◌, ◌≤◌, ℕ, List, [], ap, subst, take, length, arith}
 use Rattle.dns_digits.specs.Reading.{DigitsState, TakesPiece, RefusesPiece}
-use Rattle.dns_digits.specs.declared.error.DigitsError.TheVariants.{ShortBuf}
+use Rattle.dns_kinds.specs.declared.error.ErrorKind.TheVariants.{ShortBuf}
 use Rattle.dns_digits.proofs.Blocks.{takes_blocks, lacks_blocks}
 use Rattle.dns_digits.proofs.reader.DigitsReader.take_blocks.Goals as goal
 

@@ -3,7 +3,7 @@ use Rattle.std.proofs.lemmas.List.{take_more_set, length-take-le}
 use Rattle.dns_codec.proofs.Fronts.{at_no_err}
 use Rattle.dns_digits.specs.Spelled.{SpellsDigits, base_of}
 use Rattle.dns_digits.specs.Reading.{DigitsState, RefusesPiece, TakesPiece}
-use Rattle.dns_digits.specs.declared.error.DigitsError.TheVariants.{ShortBuf}
+use Rattle.dns_kinds.specs.declared.error.ErrorKind.TheVariants.{ShortBuf}
 use Rattle.dns_digits.proofs.TakenDigit.{held_within, whole_group, few_begun, few_digits, not_ok, none_on, digit_illegal, digit_short, digit_begun, digit_closed}
 use Rattle.dns_digits.proofs.reader.DigitsReader.take_digit.Goals as goal
 
