@@ -9,8 +9,8 @@ use Rattle.dns_octets.specs.Appending.{LacksRoom}
 use Rattle.dns_lists.specs.Values.{AreWireStrings}
 use Rattle.dns_lists.specs.Texts.{item_octet, item_text, later_text, list_text, front_text, wire_strings, IsItem, IsList, EndsItem, SplitsItem, BeginsNoString}
 use Rattle.dns_lists.specs.TextFaults.{IsItemFault, IsListFault, IsStringsFault}
-use Rattle.dns_lists.specs.declared.texts.ListError.{ListError}
-use Rattle.dns_lists.specs.declared.texts.ListError.TheVariants.{Length, Escape, ShortBuf}
+use Rattle.dns_kinds.specs.declared.error.ErrorKind.{ErrorKind}
+use Rattle.dns_kinds.specs.declared.error.ErrorKind.TheVariants.{ListString, ListEscape, ShortBuf}
 use Rattle.dns_lists.proofs.Items.{one_item, same_first, later_ends, ends_comma, TakesList, TakesItem}
 use Rattle.dns_lists.proofs.Printing.{PrintsList, text_more, pushed_text, longer_list, longer_split}
 
@@ -106,11 +106,12 @@ lacks_by room old text octets front rest item after e s l (items, h, is, eo) =
     let n = ap length eo in let k = list_lacks room old text front items rest item after e s l h is in omega arith
 
 -- a fault in a text says that it is no list, or that the list does not surely fit
-pub list_fault : (room : Room) (old text : List ℕ) (e : ListError) → IsListFault room old text e
+pub list_fault : (room : Room) (old text : List ℕ) (e : ErrorKind) → IsListFault room old text e
     → ((e ≡ ShortBuf) × LacksList room old text) ⊎ ((items : List (List ℕ)) → IsList items → list_text items ≢ text)
-list_fault room old text Length (front, rest, each, split, (item, after, s, none)) = inr (λ others h. no_list_length front others text rest item after split s none h)
+list_fault room old text ListString (front, rest, each, split, (item, after, s, none)) = inr (λ others h. no_list_length front others text rest item after split s none h)
 list_fault room old text ShortBuf (front, rest, each, split, (item, after, s, is, l)) = inl (refl, λ octets h. lacks_by room old text octets front rest item after split s l h)
-list_fault room old text Escape (items, rest, h, split, ends, some, n) = inr (λ others k. no_list_escape items others text rest h split ends some n k)
+list_fault room old text ListEscape (items, rest, h, split, ends, some, n) = inr (λ others k. no_list_escape items others text rest h split ends some n k)
+list_fault room old text other h = absurd h
 
 front_more : (x : List ℕ) (items : List (List ℕ)) (tail : List ℕ) → front_text (x ∷ items) ++ tail ≡ item_text x ++ (44 ∷ (front_text items ++ tail))
 front_more x items tail = append_assoc (item_text x ++ 44 ∷ []) (front_text items) tail ∙ append_assoc (item_text x) (44 ∷ []) (front_text items ++ tail)
@@ -124,24 +125,24 @@ front_is (x ∷ y ∷ items) tail some =
     ∙ sym (append_assoc (item_text x) (44 ∷ list_text (y ∷ items)) (44 ∷ tail))
 
 -- a fault of the first item
-pub fault_first : (room : Room) (old text : List ℕ) (e : ListError) → IsItemFault room old text e → IsListFault room old text e
-fault_first room old text Length h =
-    let P : List ℕ → Type 0 = λ o. IsItemFault room o text Length in ([], text, All-nil IsItem, refl, subst P (sym (append-nil old)) h)
+pub fault_first : (room : Room) (old text : List ℕ) (e : ErrorKind) → IsItemFault room old text e → IsListFault room old text e
+fault_first room old text ListString h =
+    let P : List ℕ → Type 0 = λ o. IsItemFault room o text ListString in ([], text, All-nil IsItem, refl, subst P (sym (append-nil old)) h)
 fault_first room old text ShortBuf h =
     let P : List ℕ → Type 0 = λ o. IsItemFault room o text ShortBuf in ([], text, All-nil IsItem, refl, subst P (sym (append-nil old)) h)
-fault_first room old text Escape h = absurd h
+fault_first room old text other h = absurd h
 
 -- a fault of a later item
-pub fault_later : (room : Room) (old mid text rest tail : List ℕ) (e : ListError) → TakesList text rest old mid → rest ≡ 44 ∷ tail → IsItemFault room mid tail e → IsListFault room old text e
-fault_later room old mid text rest tail Length t e h =
-    let P : List ℕ → Type 0 = λ o. IsItemFault room o tail Length in
+pub fault_later : (room : Room) (old mid text rest tail : List ℕ) (e : ErrorKind) → TakesList text rest old mid → rest ≡ 44 ∷ tail → IsItemFault room mid tail e → IsListFault room old text e
+fault_later room old mid text rest tail ListString t e h =
+    let P : List ℕ → Type 0 = λ o. IsItemFault room o tail ListString in
     (t.items, tail, t.is_list.each, t.split ∙ ap (λ r. list_text t.items ++ r) e ∙ sym (front_is t.items tail t.is_list.some), subst P t.strings h)
 fault_later room old mid text rest tail ShortBuf t e h =
     let P : List ℕ → Type 0 = λ o. IsItemFault room o tail ShortBuf in
     (t.items, tail, t.is_list.each, t.split ∙ ap (λ r. list_text t.items ++ r) e ∙ sym (front_is t.items tail t.is_list.some), subst P t.strings h)
-fault_later room old mid text rest tail Escape t e h = absurd h
+fault_later room old mid text rest tail other t e h = absurd h
 
-pub fault_escape : (room : Room) (old mid text rest : List ℕ) → TakesList text rest old mid → rest ≢ [] → get_or rest 0 0 ≢ 44 → IsListFault room old text Escape
+pub fault_escape : (room : Room) (old mid text rest : List ℕ) → TakesList text rest old mid → rest ≢ [] → get_or rest 0 0 ≢ 44 → IsListFault room old text ListEscape
 fault_escape room old mid text rest t some n = (t.items, rest, t.is_list, t.split, t.ends, some, n)
 
 -- an octet of an item that does not fit, after those in front
@@ -217,11 +218,11 @@ abbrev pub LacksText : Room → List ℕ → List ℕ → Type 0
 LacksText room old octets = LacksRoom room (λ text. (items : List (List ℕ)) × IsList items × (octets ≡ wire_strings items) × (text ≡ list_text items)) old
 
 -- a fault in octets says that they are no list, or that its text does not surely fit
-pub strings_fault : (room : Room) (old octets : List ℕ) (e : ListError) → IsStringsFault room old octets e
+pub strings_fault : (room : Room) (old octets : List ℕ) (e : ErrorKind) → IsStringsFault room old octets e
     → ((e ≡ ShortBuf) × LacksText room old octets) ⊎ ((octets ≡ []) ⊎ (AreWireStrings octets → ⊥))
-strings_fault room old octets Length (front, rest, each, split, none, first) = inr (empty_or_not octets (no_strings front octets rest split none first))
+strings_fault room old octets ListString (front, rest, each, split, none, first) = inr (empty_or_not octets (no_strings front octets rest split none first))
 strings_fault room old octets ShortBuf (items, rest, h, split, l) = inl (refl, λ text h. text_lacks room old octets text rest items split l h)
-strings_fault room old octets Escape h = absurd h
+strings_fault room old octets other h = absurd h
 
 pub first_text_lacks : (room : Room) (old octets item rest : List ℕ) → IsItem item → octets ≡ length item ∷ item ++ rest → room.fits < length old + length (item_text item) → IsStringsFault room old octets ShortBuf
 first_text_lacks room old octets item rest is e l = (

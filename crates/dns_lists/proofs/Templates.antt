@@ -1,14 +1,15 @@
 -- Templates, part by part.
-use Rattle.std.proofs.Common.{◌≡◌, ℕ, ◌+◌, ◌-◌, ◌<◌, ◌≤◌, ◌==◌, ◌&&◌, ◌||◌, Bool, true, false, List, [], ◌∷◌, length, take, drop, get_or, refl, sym, ap, ◌∙◌, arith, Option, Some, None}
+use Rattle.std.proofs.Common.{◌≡◌, ℕ, ◌+◌, ◌-◌, ◌<◌, ◌≤◌, ◌==◌, ◌&&◌, ◌||◌, Bool, true, false, List, [], ◌∷◌, length, take, drop, get_or, refl, sym, ap, subst, ◌∙◌, arith, Option, Some, None}
 use Rattle.std.specs.Prelude.{if◌then◌else◌}
 use Rattle.std.specs.List.{list_all, list_any, position_or_len}
 use Rattle.std.specs.Option.{option_map_or}
 use Rattle.std.proofs.lemmas.List.{take_rest, drop_more, drop_all}
 use Rattle.std.proofs.lemmas.List.Sums.{position_or_len_is}
 use Rattle.dns_lists.specs.Params.{params_of, IsParams}
-use Rattle.dns_lists.specs.ParamsFaults.{IsFirstWrongParam, IsParamsFault, value_fault}
-use Rattle.dns_lists.specs.declared.params.ParamsFault.{ParamsFault}
-use Rattle.dns_lists.specs.declared.params.ParamsFault.TheVariants.{Short, Order, Value, Missing}
+use Rattle.dns_lists.specs.ParamsFaults.{IsFirstWrongParam, HasValueFault, IsParamsFault, value_fault}
+use Rattle.dns_kinds.specs.declared.error.ErrorKind.{ErrorKind}
+use Rattle.dns_kinds.specs.declared.error.ErrorKind.TheVariants.{ParamValue, MissingParam}
+use Rattle.dns_lists.specs.Values.{first_missing}
 use Rattle.dns_lists.specs.Template.{is_variable_octet, begins_escape, are_variable_octets, is_modifier_mark}
 
 -- ---- parts that pass a test
@@ -110,19 +111,13 @@ no_octets_left (x ∷ xs) none = absurd (omega (arith, none))
 
 -- ---- faults
 
-pub has_fault : (octets : List ℕ) (key : ℕ) (value : List ℕ) (fault : ParamsFault) → IsParams octets → IsFirstWrongParam key value (params_of octets)
+-- what is wrong with a value is that a key is missing, or anything else
+value_wrong : (octets : List ℕ) (fault : ErrorKind) (key : ℕ) (b : Bool) (m : Option ℕ) → HasValueFault fault octets
+    → fault ≡ (if b then option_map_or (λ missing. MissingParam missing) m (ParamValue 0) else ParamValue key) → IsParamsFault fault octets
+value_wrong octets fault key true (Some n) h e = subst (λ f. IsParamsFault f octets) (sym e) (subst (λ f. HasValueFault f octets) e h)
+value_wrong octets fault key true None h e = subst (λ f. IsParamsFault f octets) (sym e) (subst (λ f. HasValueFault f octets) e h)
+value_wrong octets fault key false m h e = subst (λ f. IsParamsFault f octets) (sym e) (subst (λ f. HasValueFault f octets) e h)
+
+pub has_fault : (octets : List ℕ) (key : ℕ) (value : List ℕ) (fault : ErrorKind) → IsParams octets → IsFirstWrongParam key value (params_of octets)
     → fault ≡ value_fault (params_of octets) key value → IsParamsFault fault octets
-has_fault octets key value (Value k) is wrong e = (is, (key, value, wrong, e))
-has_fault octets key value (Missing k) is wrong e = (is, (key, value, wrong, e))
-has_fault octets key value Short is wrong e = absurd (no_short (key == 0) _ e)
-  where
-    no_short : (b : Bool) (m : Option ℕ) → Short ≡ (if b then option_map_or (λ missing. Missing missing) m (Value 0) else Value key) → ⊥
-    no_short true (Some n) e = cc
-    no_short true None e = cc
-    no_short false m e = cc
-has_fault octets key value (Order k) is wrong e = absurd (no_order (key == 0) _ e)
-  where
-    no_order : (b : Bool) (m : Option ℕ) → Order k ≡ (if b then option_map_or (λ missing. Missing missing) m (Value 0) else Value key) → ⊥
-    no_order true (Some n) e = cc
-    no_order true None e = cc
-    no_order false m e = cc
+has_fault octets key value fault is wrong e = value_wrong octets fault key (key == 0) (first_missing (params_of octets) value) (is, (key, value, wrong, e)) e

@@ -3,17 +3,14 @@ use Rattle.std.specs.Prelude.{◌≡◌, ◌==◌, if◌then◌else◌, ℕ, ◌
 use Rattle.std.specs.Option.{option_map_or}
 use Rattle.dns_lists.specs.Params.{value_at, params_from, params_wire, params_of, IsParams, IsNoParams, IsCutOff, StandsOutOfOrder}
 use Rattle.dns_lists.specs.Values.{IsParamValue, first_missing}
-use Rattle.dns_lists.specs.declared.params.ParamsFault.{ParamsFault}
-use Rattle.dns_lists.specs.declared.params.ParamsFault.TheVariants.{Short, Order, Value, Missing}
-use Rattle.dns_lists.specs.declared.params.SettleError.{SettleError}
-use Rattle.dns_lists.specs.declared.params.SettleError.TheVariants.{Long, Repeated}
+use Rattle.dns_kinds.specs.declared.error.ErrorKind.{ErrorKind}
+use Rattle.dns_kinds.specs.declared.error.ErrorKind.TheVariants.{ShortParams, ParamOrder, ParamValue, MissingParam, LongValue, RepeatedParam}
 
 -- why octets are no wire form of parameters
-abbrev pub IsFormFault : ParamsFault → List ℕ → Type 0
-IsFormFault Short octets = IsNoParams octets × IsCutOff octets
-IsFormFault (Order key) octets = IsNoParams octets × StandsOutOfOrder key octets
-IsFormFault (Value key) octets = ⊥
-IsFormFault (Missing key) octets = ⊥
+abbrev pub IsFormFault : ErrorKind → List ℕ → Type 0
+IsFormFault ShortParams octets = IsNoParams octets × IsCutOff octets
+IsFormFault (ParamOrder key) octets = IsNoParams octets × StandsOutOfOrder key octets
+IsFormFault other octets = ⊥
 
 -- a value that is right beside these parameters
 abbrev pub IsRight : List (ℕ × List ℕ) → ℕ × List ℕ → Type 0
@@ -27,11 +24,11 @@ abbrev pub IsFirstWrong : ℕ → List (ℕ × List ℕ) → Type 0
 IsFirstWrong key params = (value : List ℕ) × IsFirstWrongParam key value params
 
 -- what is wrong with a value: that of `mandatory` lists a key that is missing, of several the first; or anything else
-abbrev pub value_fault : List (ℕ × List ℕ) → ℕ → List ℕ → ParamsFault
-value_fault params key value = if key == 0 then option_map_or (λ missing. Missing missing) (first_missing params value) (Value 0) else Value key
+abbrev pub value_fault : List (ℕ × List ℕ) → ℕ → List ℕ → ErrorKind
+value_fault params key value = if key == 0 then option_map_or (λ missing. MissingParam missing) (first_missing params value) (ParamValue 0) else ParamValue key
 
 -- octets are parameters, of which the first wrong one has this fault
-abbrev pub HasValueFault : ParamsFault → List ℕ → Type 0
+abbrev pub HasValueFault : ErrorKind → List ℕ → Type 0
 HasValueFault fault octets =
     IsParams octets × ((key : ℕ) × (value : List ℕ) × IsFirstWrongParam key value (params_of octets) × (fault ≡ value_fault (params_of octets) key value))
 
@@ -40,21 +37,23 @@ abbrev pub AreRightParams : List ℕ → Type 0
 AreRightParams octets = IsParams octets × All (IsRight (params_of octets)) (params_of octets)
 
 -- why octets are no parameters with right values
-abbrev pub IsParamsFault : ParamsFault → List ℕ → Type 0
-IsParamsFault Short octets = IsNoParams octets × IsCutOff octets
-IsParamsFault (Order key) octets = IsNoParams octets × StandsOutOfOrder key octets
-IsParamsFault (Value key) octets = HasValueFault (Value key) octets
-IsParamsFault (Missing key) octets = HasValueFault (Missing key) octets
+abbrev pub IsParamsFault : ErrorKind → List ℕ → Type 0
+IsParamsFault ShortParams octets = IsNoParams octets × IsCutOff octets
+IsParamsFault (ParamOrder key) octets = IsNoParams octets × StandsOutOfOrder key octets
+IsParamsFault (ParamValue key) octets = HasValueFault (ParamValue key) octets
+IsParamsFault (MissingParam key) octets = HasValueFault (MissingParam key) octets
+IsParamsFault other octets = ⊥
 
 -- where a key would stand among parameters, if it is not there
-abbrev pub FindsPlace : List (ℕ × List ℕ) → ℕ → List ℕ → Result ℕ SettleError → Type 0
+abbrev pub FindsPlace : List (ℕ × List ℕ) → ℕ → List ℕ → Result ℕ ErrorKind → Type 0
 FindsPlace params key octets (Ok place) =
     (value_at params key ≡ None) × (take place octets ≡ params_from (value_at params) 0 key)
     × (drop place octets ≡ params_from (value_at params) (key + 1) (65536 - (key + 1)))
-FindsPlace params key octets (Err e) = (e ≡ Repeated) × IsSome (value_at params key)
+FindsPlace params key octets (Err e) = (e ≡ RepeatedParam) × IsSome (value_at params key)
 
 -- one parameter more, whose value fits and whose key is new
-abbrev pub SettlesLast : List (ℕ × List ℕ) → ℕ → List ℕ → List ℕ → Result (Unit {0}) SettleError → Type 0
+abbrev pub SettlesLast : List (ℕ × List ℕ) → ℕ → List ℕ → List ℕ → Result (Unit {0}) ErrorKind → Type 0
 SettlesLast params key value octets (Ok done) = (length value < 65536) × (value_at params key ≡ None) × (octets ≡ params_wire (params ++ (key, value) ∷ []))
-SettlesLast params key value octets (Err Long) = 65536 ≤ length value
-SettlesLast params key value octets (Err Repeated) = (length value < 65536) × IsSome (value_at params key)
+SettlesLast params key value octets (Err LongValue) = 65536 ≤ length value
+SettlesLast params key value octets (Err RepeatedParam) = (length value < 65536) × IsSome (value_at params key)
+SettlesLast params key value octets (Err other) = ⊥

@@ -11,7 +11,7 @@ pub mod type_set;
 pub mod values;
 
 pub use bitmap::{BitmapError, BitmapTypes, check_bitmap};
-pub use params::{Param, Params, ParamsFault, SettleError, settle_last};
-pub use texts::{ListError, append_list, append_list_text};
+pub use params::{Param, Params, settle_last};
+pub use texts::{append_list, append_list_text};
 pub use type_set::TypeSet;
 pub use values::{check_params, wrong_value};

@@ -6,42 +6,14 @@ ghost use Rattle.std.specs.Prelude.{◌≡◌, ◌≢◌, ℕ, ◌+◌, ◌-◌,
 ghost use Rattle.dns_lists.specs.Params.{pair, value_at, param, params_from, params_wire, params_of, BeginsNoParam, HasFittingValues, IsParams, IsUnsettled};
 ghost use Rattle.dns_lists.specs.ParamsFaults.{IsFormFault, SettlesLast, FindsPlace};
 
+use dns_kinds::ErrorKind;
 use std::marker::Model;
-use thiserror::Error;
 
 /// A key with the octets of its value.
 #[derive(Clone, Copy)]
 pub struct Param<'a> {
     pub key: u16,
     pub value: &'a [u8],
-}
-
-/// Why octets are no parameters.
-#[derive(Clone, Copy, Debug, PartialEq, Eq, Error)]
-pub enum ParamsFault {
-    /// A parameter is cut off.
-    #[error("service parameters are cut off")]
-    Short,
-    /// This key is not above those before it.
-    #[error("key {0} of a service parameter is out of order")]
-    Order(u16),
-    /// The value of this key is not what it has to be.
-    #[error("key {0} of a service parameter has a wrong value")]
-    Value(u16),
-    /// The value of `mandatory` lists this key, which no parameter has.
-    #[error("mandatory names key {0}, which is missing")]
-    Missing(u16),
-}
-
-/// Why a parameter can't be added to others.
-#[derive(Clone, Copy, Debug, PartialEq, Eq, Error)]
-pub enum SettleError {
-    /// The value is longer than 65535 octets.
-    #[error("a service parameter's value is too long")]
-    Long,
-    /// The key stands already.
-    #[error("a key of a service parameter stands twice")]
-    Repeated,
 }
 
 /// A parameter, and what stands after it.
@@ -115,7 +87,7 @@ impl<'a> Iterator for Params<'a> {
 }
 
 /// Says whether octets are the wire form of parameters, whose values may be any.
-pub(crate) fn check_form(octets: &[u8]) -> Result<(), ParamsFault>
+pub(crate) fn check_form(octets: &[u8]) -> Result<(), ErrorKind>
     ensures ok { OnOk result (IsParams octets.now) }
     ensures err { IfErr result (λ fault. IsFormFault fault octets.now) }
 {
@@ -123,11 +95,11 @@ pub(crate) fn check_form(octets: &[u8]) -> Result<(), ParamsFault>
     let mut next = 0;
     while !rest.is_empty() {
         let Some(front) = first_param(rest) else {
-            return Err(ParamsFault::Short);
+            return Err(ErrorKind::ShortParams);
         };
         let key = u32::from(front.param.key);
         if key < next {
-            return Err(ParamsFault::Order(front.param.key));
+            return Err(ErrorKind::ParamOrder(front.param.key));
         }
         next = key + 1;
         rest = front.rest;
@@ -136,7 +108,7 @@ pub(crate) fn check_form(octets: &[u8]) -> Result<(), ParamsFault>
 }
 
 /// Where among parameters one with a key would stand.
-fn find_place(octets: &[u8], key: u16) -> Result<usize, SettleError>
+fn find_place(octets: &[u8], key: u16) -> Result<usize, ErrorKind>
     ensures within { IfOk result (λ place. place ≤ length octets.now) }
     ensures place { (params : List (ℕ × List ℕ)) → HasFittingValues params → octets.now ≡ params_wire params → FindsPlace params key octets.now result }
 {
@@ -146,7 +118,7 @@ fn find_place(octets: &[u8], key: u16) -> Result<usize, SettleError>
             break;
         }
         if key == front.param.key {
-            return Err(SettleError::Repeated);
+            return Err(ErrorKind::RepeatedParam);
         }
         place = octets.len() - front.rest.len();
     }
@@ -157,7 +129,7 @@ fn find_place(octets: &[u8], key: u16) -> Result<usize, SettleError>
 ///
 /// The others are the first `at` octets. Behind them stand the key in two octets, two octets for
 /// the length, which may be any, and the value up to the end. Refused, nothing is changed.
-pub fn settle_last(octets: &mut [u8], at: usize) -> Result<(), SettleError>
+pub fn settle_last(octets: &mut [u8], at: usize) -> Result<(), ErrorKind>
     requires { at + 4 ≤ length octets.old }
     ensures settled { (params : List (ℕ × List ℕ)) (key : ℕ) (value : List ℕ) → HasFittingValues params → key < 65536 → at ≡ length (params_wire params)
         → IsUnsettled params key value octets.old → SettlesLast params key value octets.new result }
@@ -165,7 +137,7 @@ pub fn settle_last(octets: &mut [u8], at: usize) -> Result<(), SettleError>
 {
     let behind = octets.len() - at;
     if behind - 4 > 65535 {
-        return Err(SettleError::Long);
+        return Err(ErrorKind::LongValue);
     }
     let key = u16::from_be_bytes([octets[at], octets[at + 1]]);
     let place = find_place(&octets[..at], key)?;

@@ -7,32 +7,10 @@ ghost use Rattle.dns_octets.specs.Appending.{Extends, LacksRoom};
 ghost use Rattle.dns_lists.specs.Values.{AreWireStrings};
 ghost use Rattle.dns_lists.specs.Texts.{is_special, item_octet, item_text, list_text, wire_strings, IsList, EndsItem, SplitsItem, IsItem, BeginsNoString};
 ghost use Rattle.dns_lists.specs.TextFaults.{IsItemFault, IsListFault, IsStringsFault};
-ghost use Rattle.dns_lists.specs.declared.texts.ListError.TheVariants.{ShortBuf as NoRoom};
+ghost use Rattle.dns_kinds.specs.declared.error.ErrorKind.TheVariants.{ShortBuf as NoRoom};
 
-use dns_octets::OctetsBuilder;
-use thiserror::Error;
-
-/// Why a text or octets are no list, or that they didn't fit.
-#[derive(Clone, Copy, Debug, PartialEq, Eq, Error)]
-pub enum ListError {
-    /// A string is to have 1 to 255 octets.
-    #[error("a string of a list needs 1 to 255 octets")]
-    Length,
-    /// A backslash stands in front of something else than a comma or a backslash.
-    #[error("illegal escape in a list")]
-    Escape,
-    /// There was no room, or no memory.
-    #[error("buffer size exceeded")]
-    ShortBuf,
-}
-
-impl From<dns_octets::ShortBuf> for ListError {
-    ghost from_gives = { λ _ e. e ≡ NoRoom };
-
-    fn from(_error: dns_octets::ShortBuf) -> Self {
-        ListError::ShortBuf
-    }
-}
+use dns_kinds::ErrorKind;
+use dns_octets::{OctetsBuilder, ShortBuf};
 
 /// An octet of an item, and the text after it.
 #[derive(Clone, Copy)]
@@ -92,10 +70,7 @@ fn count_item(text: &[u8]) -> usize
 }
 
 /// Appends the octets of the item in front of a text, and gives what stands after it.
-fn copy_item<'a, B: OctetsBuilder>(
-    text: &'a [u8],
-    target: &mut B,
-) -> Result<&'a [u8], dns_octets::ShortBuf>
+fn copy_item<'a, B: OctetsBuilder>(text: &'a [u8], target: &mut B) -> Result<&'a [u8], ShortBuf>
     ensures ok { IfOk result (λ rest. (item : List ℕ) × SplitsItem text.now item rest.now × (B.octets target.new ≡ B.octets target.old ++ item)) }
     ensures extends { OnErr result (Extends (B.octets target.old) (B.octets target.new)) }
     ensures lacks { OnErr result (LacksRoom B.room (λ item. (rest : List ℕ) × SplitsItem text.now item rest) (B.octets target.old)) }
@@ -109,7 +84,7 @@ fn copy_item<'a, B: OctetsBuilder>(
 }
 
 /// Appends the item in front of a text behind its length, and gives what stands after it.
-fn append_item<'a, B: OctetsBuilder>(text: &'a [u8], target: &mut B) -> Result<&'a [u8], ListError>
+fn append_item<'a, B: OctetsBuilder>(text: &'a [u8], target: &mut B) -> Result<&'a [u8], ErrorKind>
     ensures ok { IfOk result (λ rest. (item : List ℕ) × IsItem item × SplitsItem text.now item rest.now
         × (B.octets target.new ≡ B.octets target.old ++ (length item ∷ item))) }
     ensures fault { IfErr result (λ e. IsItemFault B.room (B.octets target.old) text.now e) }
@@ -117,7 +92,7 @@ fn append_item<'a, B: OctetsBuilder>(text: &'a [u8], target: &mut B) -> Result<&
 {
     let count = count_item(text);
     if count == 0 || count > 255 {
-        return Err(ListError::Length);
+        return Err(ErrorKind::ListString);
     }
     target.append_slice(&[count as u8])?;
     let rest = copy_item(text, target)?;
@@ -125,7 +100,7 @@ fn append_item<'a, B: OctetsBuilder>(text: &'a [u8], target: &mut B) -> Result<&
 }
 
 /// Appends the strings of a list, each behind its length.
-fn append_items<B: OctetsBuilder>(text: &[u8], target: &mut B) -> Result<(), ListError>
+fn append_items<B: OctetsBuilder>(text: &[u8], target: &mut B) -> Result<(), ErrorKind>
     ensures ok { OnOk result ((items : List (List ℕ)) × IsList items × (list_text items ≡ text.now)
         × (B.octets target.new ≡ B.octets target.old ++ wire_strings items)) }
     ensures fault { IfErr result (λ e. IsListFault B.room (B.octets target.old) text.now e) }
@@ -134,7 +109,7 @@ fn append_items<B: OctetsBuilder>(text: &[u8], target: &mut B) -> Result<(), Lis
     let mut rest = append_item(text, target)?;
     while !rest.is_empty() {
         if rest[0] != b',' {
-            return Err(ListError::Escape);
+            return Err(ErrorKind::ListEscape);
         }
         rest = append_item(&rest[1..], target)?;
     }
@@ -143,7 +118,7 @@ fn append_items<B: OctetsBuilder>(text: &[u8], target: &mut B) -> Result<(), Lis
 
 /// Appends the strings of a list, each behind its length. Refused, the target has its old octets,
 /// and perhaps a beginning of the strings after them.
-pub fn append_list<B: OctetsBuilder>(text: &[u8], target: &mut B) -> Result<(), ListError>
+pub fn append_list<B: OctetsBuilder>(text: &[u8], target: &mut B) -> Result<(), ErrorKind>
     ensures ok { OnOk result ((items : List (List ℕ)) × IsList items × (list_text items ≡ text.now)
         × (B.octets target.new ≡ B.octets target.old ++ wire_strings items)) }
     ensures fault { IfErr result (λ e. IsListFault B.room (B.octets target.old) text.now e) }
@@ -155,7 +130,7 @@ pub fn append_list<B: OctetsBuilder>(text: &[u8], target: &mut B) -> Result<(), 
 }
 
 /// Appends an octet of an item.
-fn append_octet<B: OctetsBuilder>(octet: u8, target: &mut B) -> Result<(), dns_octets::ShortBuf>
+fn append_octet<B: OctetsBuilder>(octet: u8, target: &mut B) -> Result<(), ShortBuf>
     ensures ok { OnOk result (B.octets target.new ≡ B.octets target.old ++ item_octet octet) }
     ensures extends { OnErr result (Extends (B.octets target.old) (B.octets target.new)) }
     ensures lacks { OnErr result (LacksRoom B.room (λ octets. octets ≡ item_octet octet) (B.octets target.old)) }
@@ -168,10 +143,7 @@ fn append_octet<B: OctetsBuilder>(octet: u8, target: &mut B) -> Result<(), dns_o
 }
 
 /// Appends the text of an item.
-fn append_item_text<B: OctetsBuilder>(
-    item: &[u8],
-    target: &mut B,
-) -> Result<(), dns_octets::ShortBuf>
+fn append_item_text<B: OctetsBuilder>(item: &[u8], target: &mut B) -> Result<(), ShortBuf>
     ensures ok { OnOk result (B.octets target.new ≡ B.octets target.old ++ item_text item.now) }
     ensures extends { OnErr result (Extends (B.octets target.old) (B.octets target.new)) }
     ensures lacks { OnErr result (LacksRoom B.room (λ text. text ≡ item_text item.now) (B.octets target.old)) }
@@ -183,10 +155,7 @@ fn append_item_text<B: OctetsBuilder>(
 }
 
 /// Appends a comma, and the text of an item.
-fn append_later_text<B: OctetsBuilder>(
-    item: &[u8],
-    target: &mut B,
-) -> Result<(), dns_octets::ShortBuf>
+fn append_later_text<B: OctetsBuilder>(item: &[u8], target: &mut B) -> Result<(), ShortBuf>
     ensures ok { OnOk result (B.octets target.new ≡ B.octets target.old ++ (44 ∷ item_text item.now)) }
     ensures extends { OnErr result (Extends (B.octets target.old) (B.octets target.new)) }
     ensures lacks { OnErr result (LacksRoom B.room (λ text. text ≡ 44 ∷ item_text item.now) (B.octets target.old)) }
@@ -222,20 +191,20 @@ fn first_string(octets: &[u8]) -> Option<FirstString<'_>>
 }
 
 /// Appends the text of strings, each of which stands behind its length.
-fn append_strings_text<B: OctetsBuilder>(octets: &[u8], target: &mut B) -> Result<(), ListError>
+fn append_strings_text<B: OctetsBuilder>(octets: &[u8], target: &mut B) -> Result<(), ErrorKind>
     ensures ok { OnOk result ((items : List (List ℕ)) × IsList items × (octets.now ≡ wire_strings items)
         × (B.octets target.new ≡ B.octets target.old ++ list_text items)) }
     ensures fault { IfErr result (λ e. IsStringsFault B.room (B.octets target.old) octets.now e) }
     ensures extends { OnErr result (Extends (B.octets target.old) (B.octets target.new)) }
 {
     let Some(first) = first_string(octets) else {
-        return Err(ListError::Length);
+        return Err(ErrorKind::ListString);
     };
     append_item_text(first.string, target)?;
     let mut rest = first.rest;
     while !rest.is_empty() {
         let Some(next) = first_string(rest) else {
-            return Err(ListError::Length);
+            return Err(ErrorKind::ListString);
         };
         append_later_text(next.string, target)?;
         rest = next.rest;
@@ -245,7 +214,7 @@ fn append_strings_text<B: OctetsBuilder>(octets: &[u8], target: &mut B) -> Resul
 
 /// Appends the text of a list of strings, each of which stands behind its length. Refused, the
 /// target has its old octets, and perhaps a beginning of the text after them.
-pub fn append_list_text<B: OctetsBuilder>(octets: &[u8], target: &mut B) -> Result<(), ListError>
+pub fn append_list_text<B: OctetsBuilder>(octets: &[u8], target: &mut B) -> Result<(), ErrorKind>
     ensures ok { OnOk result ((items : List (List ℕ)) × IsList items × (octets.now ≡ wire_strings items)
         × (B.octets target.new ≡ B.octets target.old ++ list_text items)) }
     ensures fault { IfErr result (λ e. IsStringsFault B.room (B.octets target.old) octets.now e) }

@@ -4,8 +4,9 @@ ghost use Rattle.dns_lists.specs.Params.{params_of, value_at};
 ghost use Rattle.dns_lists.specs.ParamsFaults.{IsRight, IsFirstWrong, IsFirstWrongParam, AreRightParams, IsParamsFault, value_fault};
 ghost use Rattle.dns_lists.specs.Values.{AreWireStrings, AreKeys, AreGroups, IsParamValue, first_missing};
 
-use crate::params::{Param, ParamsFault, check_form, first_param};
+use crate::params::{Param, check_form, first_param};
 use crate::template::is_query_path;
+use dns_kinds::ErrorKind;
 
 pub const MANDATORY: u16 = 0;
 
@@ -138,21 +139,21 @@ fn first_missing(params: &[u8], octets: &[u8]) -> Option<u16>
 }
 
 /// What is wrong with the value of a key.
-fn value_fault(params: &[u8], key: u16, value: &[u8]) -> ParamsFault
+fn value_fault(params: &[u8], key: u16, value: &[u8]) -> ErrorKind
     ensures { result ≡ value_fault (params_of params.now) key value.now }
 {
     if key != MANDATORY {
-        return ParamsFault::Value(key);
+        return ErrorKind::ParamValue(key);
     }
     match first_missing(params, value) {
-        Some(missing) => ParamsFault::Missing(missing),
-        None => ParamsFault::Value(MANDATORY),
+        Some(missing) => ErrorKind::MissingParam(missing),
+        None => ErrorKind::ParamValue(MANDATORY),
     }
 }
 
 /// Says whether octets are the wire form of parameters, each of whose values is what its key asks
 /// for. The form is looked at first.
-pub fn check_params(octets: &[u8]) -> Result<(), ParamsFault>
+pub fn check_params(octets: &[u8]) -> Result<(), ErrorKind>
     ensures ok { OnOk result (AreRightParams octets.now) }
     ensures fault { IfErr result (λ fault. IsParamsFault fault octets.now) }
     ensures err { IfErr result (λ _. ¬ AreRightParams octets.now) }
