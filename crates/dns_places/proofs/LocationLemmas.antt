@@ -8,8 +8,8 @@ use Rattle.dns_places.specs.declared.angles.Axis.{Axis}
 use Rattle.dns_places.specs.declared.location.Part.{Part}
 use Rattle.dns_places.specs.declared.location.Part.TheVariants.{Side}
 use Rattle.dns_places.specs.declared.location.Sizes.{Sizes}
-use Rattle.dns_places.specs.declared.location_error.LocationError.{LocationError}
-use Rattle.dns_places.specs.declared.location_error.LocationError.TheVariants.{ExpectedLatitude, ExpectedLongitude, ExpectedAltitude, ExpectedSize, ExpectedEnd, ShortBuf}
+use Rattle.dns_kinds.specs.declared.error.ErrorKind.{ErrorKind}
+use Rattle.dns_kinds.specs.declared.error.ErrorKind.TheVariants.{ExpectedLatitude, ExpectedLongitude, ExpectedAltitude, ExpectedSize, ExpectedEnd}
 use Rattle.dns_places.specs.Locations.{SpellsDegrees, SpellsMinutes, SpellsSeconds, SpellsSide, SpellsSize, BeginsWithWord, GoesOnWithMinutes, GoesOnWithSeconds, BeginsWithSize, AreSizes, Finds, usual_size, usual_horizontal, usual_vertical}
 use Rattle.dns_places.specs.LocationTaking.{SpellsPart, LacksWord, FindsNext, TakesWord, TakesSeconds, TakesMinutes, TakesAngle, StopsAtSize, StopsInSizes, GoesOnBehindSizes, RefusesSizes, BeginsWithPoint, RefusesTokens}
 
@@ -80,10 +80,10 @@ all_sizes s tokens more most left h j k none = (none, record { behind_size = mor
 
 -- ---- the whole
 
-pub refuses_sizes : (e : LocationError) (tokens more left : List TokenSeen) → BeginsWithPoint tokens more → RefusesSizes e more left → RefusesTokens e tokens left
+pub refuses_sizes : (e : ErrorKind) (tokens more left : List TokenSeen) → BeginsWithPoint tokens more → RefusesSizes e more left → RefusesTokens e tokens left
 refuses_sizes ExpectedLatitude tokens more left h k = absurd k
 refuses_sizes ExpectedLongitude tokens more left h k = absurd k
 refuses_sizes ExpectedAltitude tokens more left h k = absurd k
 refuses_sizes ExpectedSize tokens more left h k = (more, h, k)
 refuses_sizes ExpectedEnd tokens more left h k = (more, h, k)
-refuses_sizes ShortBuf tokens more left h k = k
+refuses_sizes _ tokens more left h k = k

@@ -5,8 +5,8 @@ use Rattle.dns_places.specs.declared.angles.Axis.{Axis}
 use Rattle.dns_places.specs.declared.angles.Axis.TheVariants.{Latitude, Longitude}
 use Rattle.dns_places.specs.declared.location.Sizes.{Sizes}
 use Rattle.dns_places.specs.declared.location.Location.{Location}
-use Rattle.dns_places.specs.declared.location_error.LocationError.{LocationError}
-use Rattle.dns_places.specs.declared.location_error.LocationError.TheVariants.{ExpectedLatitude, ExpectedLongitude, ExpectedAltitude, ExpectedSize, ExpectedEnd, ShortBuf}
+use Rattle.dns_kinds.specs.declared.error.ErrorKind.{ErrorKind}
+use Rattle.dns_kinds.specs.declared.error.ErrorKind.TheVariants.{ExpectedLatitude, ExpectedLongitude, ExpectedAltitude, ExpectedSize, ExpectedEnd}
 use Rattle.dns_places.specs.Locations.{SpellsDegrees, SpellsMinutes, SpellsSeconds, SpellsSide, SpellsAltitude, SpellsSize, BeginsWithWord, BeginsWithAngle, GoesOnWithMinutes, GoesOnWithSeconds, BeginsWithSize, AreSizes, AreLocation, SpellsLocation, location_octets}
 use Rattle.dns_places.specs.LocationTaking.{LacksWord, StopsInSeconds, StopsInMinutes, StopsInAngle, StopsAtSize, StopsInSizes, GoesOnBehindSizes, BeginsWithAngles, BeginsWithPoint, RefusesTokens}
 use Rattle.dns_places.proofs.AngleLemmas.{one_degrees, one_minutes, one_seconds, one_side, side_no_number, side_no_decimal}
@@ -176,7 +176,7 @@ behind_point tokens more l h k =
     third.1
 
 -- tokens that are refused are no location
-pub refused_none : (e : LocationError) (tokens left : List TokenSeen) → RefusesTokens e tokens left → (l : Location) → AreLocation tokens l → ⊥
+pub refused_none : (e : ErrorKind) (tokens left : List TokenSeen) → RefusesTokens e tokens left → (l : Location) → AreLocation tokens l → ⊥
 refused_none ExpectedLatitude tokens left h l k = stops_angle Latitude tokens left h l.latitude k.behind_latitude k.latitude
 refused_none ExpectedLongitude tokens left h l k =
     let first = one_angle Latitude tokens l.latitude h.0 k.behind_latitude h.1 k.latitude h.2 in
@@ -184,7 +184,7 @@ refused_none ExpectedLongitude tokens left h l k =
 refused_none ExpectedAltitude tokens left h l k = h.1 l.altitude k.behind_altitude (subst (λ ts. BeginsWithWord SpellsAltitude ts l.altitude k.behind_altitude) (sym (behind_angles tokens left l h.0 k)) k.altitude)
 refused_none ExpectedSize tokens left h l k = stops_sizes h.0 left l.sizes h.2 (subst (λ ts. AreSizes ts l.sizes) (sym (behind_point tokens h.0 l h.1 k)) k.sizes)
 refused_none ExpectedEnd tokens left h l k = goes_on h.0 left l.sizes h.2 (subst (λ ts. AreSizes ts l.sizes) (sym (behind_point tokens h.0 l h.1 k)) k.sizes)
-refused_none ShortBuf tokens left h l k = h
+refused_none _ tokens left h l k = h
 
 -- tokens are one location
 pub one_location : (tokens : List TokenSeen) (l m : Location) → AreLocation tokens l → AreLocation tokens m → l ≡ m

@@ -7,8 +7,8 @@ use Rattle.dns_places.specs.declared.angles.Axis.{Axis}
 use Rattle.dns_places.specs.declared.angles.Axis.TheVariants.{Latitude, Longitude}
 use Rattle.dns_places.specs.declared.location.Location.{Location}
 use Rattle.dns_places.specs.declared.location.Sizes.{Sizes}
-use Rattle.dns_places.specs.declared.location_error.LocationError.{LocationError}
-use Rattle.dns_places.specs.declared.location_error.LocationError.TheVariants.{ExpectedLatitude, ExpectedLongitude, ExpectedAltitude, ExpectedSize, ExpectedEnd, ShortBuf}
+use Rattle.dns_kinds.specs.declared.error.ErrorKind.{ErrorKind}
+use Rattle.dns_kinds.specs.declared.error.ErrorKind.TheVariants.{ExpectedLatitude, ExpectedLongitude, ExpectedAltitude, ExpectedSize, ExpectedEnd}
 use Rattle.dns_places.specs.Locations.{upper_side, SpellsDegrees, SpellsMinutes, SpellsSeconds, SpellsSide, SpellsAltitude, SpellsSize, BeginsWithWord, BeginsWithAngle, GoesOnWithMinutes, GoesOnWithSeconds, AreSizes, AreLocation, location_octets, usual_size, usual_horizontal, usual_vertical}
 use Rattle.dns_places.specs.LocationPlaces.{BeginsLocation, NoLocationGoesOn, IsFirstRefused}
 use Rattle.dns_places.specs.LocationTaking.{LacksWord, StopsInSeconds, StopsInMinutes, StopsInAngle, StopsAtSize, StopsInSizes, BeginsWithAngles, BeginsWithPoint, RefusesTokens}
@@ -204,7 +204,7 @@ angle_stopped axis tokens left (inr h) =
 
 -- ---- the whole
 
-record Placed (e : LocationError) (tokens left : List TokenSeen) : Type 0 where
+record Placed (e : ErrorKind) (tokens left : List TokenSeen) : Type 0 where
   taken : List TokenSeen
   whole : tokens ≡ taken ++ left
   again : (u : TokenSeen) (ts more : List TokenSeen) → left ≡ u ∷ ts → RefusesTokens e (taken ++ u ∷ more) (u ∷ more)
@@ -311,15 +311,15 @@ end_placed tokens left (middle, point, (some, size, more, horizontal, most, vert
           (record { behind_size = r.taken ++ s.taken ++ []; behind_horizontal = s.taken ++ []; size = inl (first []); horizontal = inl (second []); vertical = inl (s.framed []) });
     }
 
-placed : (e : LocationError) (tokens left : List TokenSeen) → RefusesTokens e tokens left → Placed e tokens left
+placed : (e : ErrorKind) (tokens left : List TokenSeen) → RefusesTokens e tokens left → Placed e tokens left
 placed ExpectedLatitude tokens left h = latitude_placed tokens left h
 placed ExpectedLongitude tokens left h = longitude_placed tokens left h
 placed ExpectedAltitude tokens left h = altitude_placed tokens left h
 placed ExpectedSize tokens left h = size_placed tokens left h
 placed ExpectedEnd tokens left h = end_placed tokens left h
-placed ShortBuf tokens left h = absurd h
+placed _ tokens left h = absurd h
 
-wrong_at : (e : LocationError) (tokens left : List TokenSeen) → Placed e tokens left → RefusesTokens e tokens left → IsFirstRefused tokens left
+wrong_at : (e : ErrorKind) (tokens left : List TokenSeen) → Placed e tokens left → RefusesTokens e tokens left → IsFirstRefused tokens left
 wrong_at e tokens left p h = (p.taken, p.whole, p.begins, by left p.whole p.again h)
   where
     by : (left : List TokenSeen) → tokens ≡ p.taken ++ left → ((u : TokenSeen) (ts more : List TokenSeen) → left ≡ u ∷ ts → RefusesTokens e (p.taken ++ u ∷ more) (u ∷ more)) → RefusesTokens e tokens left → NoLocationGoesOn p.taken left
@@ -327,5 +327,5 @@ wrong_at e tokens left p h = (p.taken, p.whole, p.begins, by left p.whole p.agai
     by (t ∷ ts) whole again h = λ k. refused_none e (p.taken ++ t ∷ k.0) (t ∷ k.0) (again t ts k.0 refl) k.2.0 (subst (λ l. AreLocation l k.2.0) (append_assoc p.taken (t ∷ []) k.0) k.2.1)
 
 -- a token that is refused is the first that is wrong
-pub first_refused : (e : LocationError) (tokens left : List TokenSeen) → RefusesTokens e tokens left → IsFirstRefused tokens left
+pub first_refused : (e : ErrorKind) (tokens left : List TokenSeen) → RefusesTokens e tokens left → IsFirstRefused tokens left
 first_refused e tokens left h = wrong_at e tokens left (placed e tokens left h) h

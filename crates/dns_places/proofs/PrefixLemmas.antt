@@ -9,15 +9,16 @@ use Rattle.std.specs.declared.net.ip_addr.IpAddr.{IpAddr}
 use Rattle.std.specs.declared.net.ip_addr.IpAddr.TheVariants.{V4, V6}
 use Rattle.dns_kinds.specs.Numbers.{SpellsNumber}
 use Rattle.dns_places.specs.declared.apl.Prefix.{Prefix}
-use Rattle.dns_places.specs.declared.error.PlaceError.{PlaceError}
-use Rattle.dns_places.specs.declared.error.PlaceError.TheVariants.{ExpectedPrefix, ShortBuf}
+use Rattle.dns_kinds.specs.declared.error.ErrorKind.{ErrorKind}
+use Rattle.dns_kinds.specs.declared.error.ErrorKind.TheVariants.{ExpectedPrefix, ShortBuf}
 use Rattle.std.specs.Result.{IsErrAnd, IfErr}
 use Rattle.std.proofs.lemmas.List.{take_all}
 use Rattle.dns_octets.specs.Room.{Room}
 use Rattle.dns_octets.specs.Appending.{LacksRoom}
 use Rattle.dns_places.specs.Marks.{LacksMark}
 use Rattle.dns_places.specs.Prefixes.{family_of, address_bits, IsAddressText, IsPlainPrefix, FindsPlain, SpellsPrefix, SpellsItem, IsPrefixWire, exclusion}
-use Rattle.dns_places.specs.Refusals.{ReadsPlace, WhyNot}
+use Rattle.dns_kinds.specs.Kind.{ReadsKind}
+use Rattle.dns_places.specs.Refusals.{WhyNot}
 use Rattle.dns_places.proofs.MarkLemmas.{digits_lack, one_first, one_last, at_mark}
 
 pub address_bits_le : (a : IpAddr) → address_bits a ≤ 128
@@ -86,7 +87,7 @@ first_digit text p h is = by h.family h.address_is.1.0.0 h.address_is.1.0.1 h.wr
         let digit = all.0 in
         omega (arith, first, digit)
 
-pub reads_plain : (text : List ℕ) (r : Option Prefix) → get_or text 0 0 ≢ 33 → FindsPlain false text r → ReadsPlace SpellsPrefix ExpectedPrefix text (ok_or r ExpectedPrefix)
+pub reads_plain : (text : List ℕ) (r : Option Prefix) → get_or text 0 0 ≢ 33 → FindsPlain false text r → ReadsKind SpellsPrefix ExpectedPrefix text (ok_or r ExpectedPrefix)
 reads_plain text (Some p) other h = (text, ap (λ b. exclusion b ++ text) (sym h.0), h.1)
 reads_plain text None other h = (refl, none)
   where
@@ -97,7 +98,7 @@ reads_plain text None other h = (refl, none)
     none : (p : Prefix) → SpellsPrefix text p → ⊥
     none p k = by p.negated p k.0 k.1 k.2
 
-pub reads_exclusion : (text rest : List ℕ) (r : Option Prefix) → text ≡ 33 ∷ rest → FindsPlain true rest r → ReadsPlace SpellsPrefix ExpectedPrefix text (ok_or r ExpectedPrefix)
+pub reads_exclusion : (text rest : List ℕ) (r : Option Prefix) → text ≡ 33 ∷ rest → FindsPlain true rest r → ReadsKind SpellsPrefix ExpectedPrefix text (ok_or r ExpectedPrefix)
 reads_exclusion text rest (Some p) is h = (rest, is ∙ ap (λ b. exclusion b ++ rest) (sym h.0), h.1)
 reads_exclusion text rest None is h = (refl, none)
   where
@@ -136,7 +137,7 @@ one_prefix text p q h k = by p.negated q.negated refl refl
 
 -- ---- appending
 
-pub err_and : (r : Result (Unit {0}) PlaceError) (P Q : PlaceError → Type 0) → IsErrAnd r P → ((e : PlaceError) → P e → Q e) → IfErr r Q
+pub err_and : (r : Result (Unit {0}) ErrorKind) (P Q : ErrorKind → Type 0) → IsErrAnd r P → ((e : ErrorKind) → P e → Q e) → IfErr r Q
 err_and (Ok x) P Q h f = tt
 err_and (Err e) P Q h f = f e h
 
@@ -144,8 +145,8 @@ pub behind_one : (text : List ℕ) → get_or text 0 0 ≡ 33 → text ≡ 33 �
 behind_one [] is = absurd (omega (arith, is))
 behind_one (c ∷ cs) is = let all : take (length (c ∷ cs) - 1) cs ≡ cs = take_all (length (c ∷ cs) - 1) cs (omega arith) in λ i. is i ∷ sym all i
 
-pub not_spelled : (room : Room) (text old : List ℕ) (e : PlaceError) → e ≡ ExpectedPrefix → ((p : Prefix) → SpellsPrefix text p → ⊥) → WhyNot room (SpellsItem text) ExpectedPrefix old e
+pub not_spelled : (room : Room) (text old : List ℕ) (e : ErrorKind) → e ≡ ExpectedPrefix → ((p : Prefix) → SpellsPrefix text p → ⊥) → WhyNot room (SpellsItem text) ExpectedPrefix old e
 not_spelled room text old e is none = inl (is, λ octets h. none h.0 h.1)
 
-pub no_room : (room : Room) (text old : List ℕ) (p : Prefix) (e : PlaceError) → e ≡ ShortBuf → SpellsPrefix text p → LacksRoom room (IsPrefixWire p) old → WhyNot room (SpellsItem text) ExpectedPrefix old e
+pub no_room : (room : Room) (text old : List ℕ) (p : Prefix) (e : ErrorKind) → e ≡ ShortBuf → SpellsPrefix text p → LacksRoom room (IsPrefixWire p) old → WhyNot room (SpellsItem text) ExpectedPrefix old e
 no_room room text old p e is own lacks = inr (is, λ octets h. lacks octets (subst (λ q. IsPrefixWire q octets) (one_prefix text h.0 p h.1 own) h.2))

@@ -1,12 +1,10 @@
 pub mod Decimals
 pub mod Gateways
-pub mod LocationErrors
 pub mod LocationPlaces
 pub mod LocationTaking
 pub mod LocationWords
 pub mod Locations
 pub mod Marks
-pub mod PlaceError
 pub mod Prefixes
 pub mod Refusals
 pub mod Rows

@@ -3,16 +3,17 @@ use Rattle.std.specs.Prelude.{ℕ, ◌≡◌, ◌≤◌, ◌⊎◌, List, [], Op
 use Rattle.dns_octets.specs.Room.{Room}
 use Rattle.dns_octets.specs.Appending.{LacksRoom}
 use Rattle.dns_split.specs.EntryTokens.{TokenSeen}
+use Rattle.dns_fields.specs.RecordErrors.{error_at}
 use Rattle.dns_fields.specs.Source.{next_place}
+use Rattle.dns_fields.specs.declared.record_error.RecordError.{RecordError}
 use Rattle.dns_places.specs.declared.angles.Axis.{Axis}
 use Rattle.dns_places.specs.declared.angles.Axis.TheVariants.{Latitude, Longitude}
 use Rattle.dns_places.specs.declared.location.Location.{Location}
 use Rattle.dns_places.specs.declared.location.Part.{Part}
 use Rattle.dns_places.specs.declared.location.Part.TheVariants.{Degrees, Minutes, Seconds, Side, Altitude, Size}
-use Rattle.dns_places.specs.declared.location.LocationRefusal.{LocationRefusal}
 use Rattle.dns_places.specs.declared.location.Sizes.{Sizes}
-use Rattle.dns_places.specs.declared.location_error.LocationError.{LocationError}
-use Rattle.dns_places.specs.declared.location_error.LocationError.TheVariants.{ExpectedLatitude, ExpectedLongitude, ExpectedAltitude, ExpectedSize, ExpectedEnd, ShortBuf}
+use Rattle.dns_kinds.specs.declared.error.ErrorKind.{ErrorKind}
+use Rattle.dns_kinds.specs.declared.error.ErrorKind.TheVariants.{ExpectedLatitude, ExpectedLongitude, ExpectedAltitude, ExpectedSize, ExpectedEnd, ShortBuf}
 use Rattle.dns_places.specs.LocationPlaces.{IsFirstRefused}
 use Rattle.dns_places.specs.Locations.{most_angle, SpellsDegrees, SpellsMinutes, SpellsSeconds, SpellsSide, SpellsAltitude, SpellsSize, BeginsWithWord, GoesOnWithSeconds, GoesOnWithMinutes, BeginsWithAngle, BeginsWithSize, AreSizes, AreLocation, SpellsLocation}
 
@@ -93,15 +94,12 @@ GoesOnBehindSizes tokens left =
     (left ≡ [] → ⊥) × (size : ℕ) × (more : List TokenSeen) × (horizontal : ℕ) × (most : List TokenSeen) × (vertical : ℕ) × BeginsWithWord SpellsSize tokens size more × BeginsWithWord SpellsSize more horizontal most × BeginsWithWord SpellsSize most vertical left
 
 -- why sizes are refused, and which tokens are left then
-abbrev pub RefusesSizes : LocationError → List TokenSeen → List TokenSeen → Type 0
-RefusesSizes ExpectedLatitude tokens left = ⊥
-RefusesSizes ExpectedLongitude tokens left = ⊥
-RefusesSizes ExpectedAltitude tokens left = ⊥
+abbrev pub RefusesSizes : ErrorKind → List TokenSeen → List TokenSeen → Type 0
 RefusesSizes ExpectedSize tokens left = StopsInSizes tokens left
 RefusesSizes ExpectedEnd tokens left = GoesOnBehindSizes tokens left
-RefusesSizes ShortBuf tokens left = ⊥
+RefusesSizes _ tokens left = ⊥
 
-abbrev pub TakesSizes : List TokenSeen → Result Sizes LocationError → List TokenSeen → Type 0
+abbrev pub TakesSizes : List TokenSeen → Result Sizes ErrorKind → List TokenSeen → Type 0
 TakesSizes tokens (Ok s) left = (left ≡ []) × AreSizes tokens s
 TakesSizes tokens (Err e) left = RefusesSizes e tokens left
 
@@ -116,22 +114,27 @@ abbrev pub BeginsWithPoint : List TokenSeen → List TokenSeen → Type 0
 BeginsWithPoint tokens rest = (altitude : ℕ) × (more : List TokenSeen) × BeginsWithAngles tokens more × BeginsWithWord SpellsAltitude more altitude rest
 
 -- Why tokens are refused as a location, and which are left then: the first part that goes wrong.
-abbrev pub RefusesTokens : LocationError → List TokenSeen → List TokenSeen → Type 0
+abbrev pub RefusesTokens : ErrorKind → List TokenSeen → List TokenSeen → Type 0
 RefusesTokens ExpectedLatitude tokens left = StopsInAngle Latitude tokens left
 RefusesTokens ExpectedLongitude tokens left = (latitude : ℕ) × (more : List TokenSeen) × BeginsWithAngle Latitude tokens latitude more × StopsInAngle Longitude more left
 RefusesTokens ExpectedAltitude tokens left = BeginsWithAngles tokens left × LacksWord SpellsAltitude left
 RefusesTokens ExpectedSize tokens left = (more : List TokenSeen) × BeginsWithPoint tokens more × StopsInSizes more left
 RefusesTokens ExpectedEnd tokens left = (more : List TokenSeen) × BeginsWithPoint tokens more × GoesOnBehindSizes more left
-RefusesTokens ShortBuf tokens left = ⊥
+RefusesTokens _ tokens left = ⊥
 
 -- all tokens are taken as a location; or they are refused
-abbrev pub TakesLocation : List TokenSeen → Result Location LocationError → List TokenSeen → Type 0
+abbrev pub TakesLocation : List TokenSeen → Result Location ErrorKind → List TokenSeen → Type 0
 TakesLocation tokens (Ok l) left = (left ≡ []) × AreLocation tokens l
 TakesLocation tokens (Err e) left = RefusesTokens e tokens left
 
--- A refusal is at the first token that is left, or at the entry's end. Either the tokens spell no
--- location: that token is the first that is wrong, for this reason. Or the octets of theirs don't surely
--- fit.
-abbrev pub RefusesLocation : Room → ℕ → List TokenSeen → List TokenSeen → List ℕ → LocationRefusal → Type 0
-RefusesLocation room end tokens left old r =
-    (r.at ≡ next_place left end) × ((RefusesTokens r.why tokens left × IsFirstRefused tokens left × ((octets : List ℕ) → SpellsLocation tokens octets → ⊥)) ⊎ ((r.why ≡ ShortBuf) × (left ≡ []) × ((octets : List ℕ) × SpellsLocation tokens octets) × LacksRoom room (SpellsLocation tokens) old))
+-- Why the octets of a location were not appended. Either the tokens spell none: the first that is
+-- left, or the entry's end, is the first that is wrong, for this reason. Or the octets of theirs don't
+-- surely fit.
+abbrev pub RefusesAll : Room → List TokenSeen → List TokenSeen → List ℕ → ErrorKind → Type 0
+RefusesAll room tokens left old e =
+    (RefusesTokens e tokens left × IsFirstRefused tokens left × ((octets : List ℕ) → SpellsLocation tokens octets → ⊥))
+    ⊎ ((e ≡ ShortBuf) × (left ≡ []) × ((octets : List ℕ) × SpellsLocation tokens octets) × LacksRoom room (SpellsLocation tokens) old)
+
+-- a refusal is at the first token that is left, or at the entry's end
+abbrev pub RefusesLocation : Room → ℕ → List TokenSeen → List TokenSeen → List ℕ → RecordError → Type 0
+RefusesLocation room end tokens left old r = (r ≡ error_at (next_place left end) r.kind) × RefusesAll room tokens left old r.kind

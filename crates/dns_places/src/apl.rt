@@ -4,13 +4,14 @@ ghost use Rattle.std.specs.declared.net.ip_addr.IpAddr.{IpAddr};
 ghost use Rattle.std.specs.declared.net.ip_addr.IpAddr.TheVariants.{V6};
 ghost use Rattle.std.specs.Net.Addr.{IsIpv6Addr};
 ghost use Rattle.dns_octets.specs.Appending.{Extends, Gains, LacksRoom};
-ghost use Rattle.dns_places.specs.Refusals.{ReadsPlace, WhyNot};
+ghost use Rattle.dns_kinds.specs.Kind.{ReadsKind};
+ghost use Rattle.dns_kinds.specs.declared.error.ErrorKind.TheVariants.{ExpectedPrefix};
+ghost use Rattle.dns_places.specs.Refusals.{WhyNot};
 ghost use Rattle.dns_places.specs.Prefixes.{family_of, address_octets, address_bits, IsAddress, FindsNumber, IsAddressText, FindsAddress, FindsPlain, SpellsPrefix, IsAddressPart, IsPrefix, IsPrefixWire, SpellsItem, prefix_text, exclusion, exclusion_bit, HasNoZeroAtEnd, HasPart, BeginsWithItem, FindsAddressOf, IsItemOf, FindsItem, PrefixesAreRead};
 ghost use Rattle.dns_places.specs.declared.apl.Prefix.{Prefix};
-ghost use Rattle.dns_places.specs.declared.error.PlaceError.TheVariants.{ExpectedPrefix, ShortBuf};
 
-use crate::error::PlaceError;
 use crate::marks::{around_first, around_last};
+use dns_kinds::ErrorKind;
 use dns_kinds::addresses::{Ipv6Shown, ipv4_from_text, ipv6_from_text};
 use dns_kinds::numbers::{u8_from_text, u16_from_text};
 use dns_octets::{OctetsBuilder, ShortBuf};
@@ -128,13 +129,13 @@ fn used(octets: &[u8]) -> usize
 
 impl Prefix {
     /// The item that a text writes, as `!1:192.168.38.0/28`. Bits behind the prefix are kept.
-    pub fn from_text(text: &[u8]) -> Result<Prefix, PlaceError>
-        ensures { ReadsPlace SpellsPrefix ExpectedPrefix text.now result }
+    pub fn from_text(text: &[u8]) -> Result<Prefix, ErrorKind>
+        ensures { ReadsKind SpellsPrefix ExpectedPrefix text.now result }
     {
         if !has_exclusion(text) {
-            return plain_from_text(false, text).ok_or(PlaceError::ExpectedPrefix);
+            return plain_from_text(false, text).ok_or(ErrorKind::ExpectedPrefix);
         }
-        plain_from_text(true, &text[1..]).ok_or(PlaceError::ExpectedPrefix)
+        plain_from_text(true, &text[1..]).ok_or(ErrorKind::ExpectedPrefix)
     }
 
     /// Appends the octets of the item, whose address has these.
@@ -287,7 +288,7 @@ pub fn item_width(octets: &[u8]) -> Option<usize>
 
 /// Appends the octets of the item that a text writes. Refused, the target has its old octets, and
 /// perhaps some of these behind them.
-pub fn append_prefix<B: OctetsBuilder>(text: &[u8], target: &mut B) -> Result<(), PlaceError>
+pub fn append_prefix<B: OctetsBuilder>(text: &[u8], target: &mut B) -> Result<(), ErrorKind>
     ensures ok { OnOk result (Gains (SpellsItem text.now) (B.octets target.old) (B.octets target.new)) }
     ensures err { OnErr result (Extends (B.octets target.old) (B.octets target.new)) }
     ensures why { IfErr result (WhyNot B.room (SpellsItem text.now) ExpectedPrefix (B.octets target.old)) }

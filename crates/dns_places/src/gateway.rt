@@ -1,13 +1,13 @@
 //! Gateways of IPSECKEY that are no names (RFC 4025 section 2.5).
 ghost use Rattle.std.specs.Prelude.{◌≡◌, ◌≤◌, ◌-◌, ◌++◌, length, OnOk, OnErr, IsOk, Some};
 ghost use Rattle.std.specs.Net.Addr.{IsIpv6Addr};
-ghost use Rattle.dns_places.specs.Refusals.{ReadsPlace};
+ghost use Rattle.dns_kinds.specs.Kind.{ReadsKind};
+ghost use Rattle.dns_kinds.specs.declared.error.ErrorKind.TheVariants.{ExpectedGateway};
 ghost use Rattle.dns_places.specs.Gateways.{SpellsGateway, gateway_octets, gateway_text, gateway_type, IsGateway, FindsGateway, GatewaysAreRead};
 ghost use Rattle.dns_places.specs.declared.gateway.Gateway.TheVariants.{Ipv6};
-ghost use Rattle.dns_places.specs.declared.error.PlaceError.TheVariants.{ExpectedGateway};
 
 use crate::apl::{padded4, padded16};
-use crate::error::PlaceError;
+use dns_kinds::ErrorKind;
 use dns_kinds::addresses::{Ipv6Shown, ipv4_from_text, ipv6_from_text};
 use dns_octets::{OctetsBuilder, ShortBuf};
 use std::fmt;
@@ -72,20 +72,20 @@ fn front16(octets: &[u8]) -> Option<Gateway>
 impl Gateway {
     /// The gateway of a type that a text writes: `.` of type 0, an IPv4 address of type 1, and an
     /// IPv6 address of type 2.
-    pub fn from_text(number: u8, text: &[u8]) -> Result<Gateway, PlaceError>
-        ensures { ReadsPlace (SpellsGateway number) ExpectedGateway text.now result }
+    pub fn from_text(number: u8, text: &[u8]) -> Result<Gateway, ErrorKind>
+        ensures { ReadsKind (SpellsGateway number) ExpectedGateway text.now result }
     {
         match number {
             0 if text == b".".as_slice() => Ok(Gateway::Nothing),
             1 => match ipv4_from_text(text) {
                 Ok(address) => Ok(Gateway::Ipv4(address)),
-                Err(_) => Err(PlaceError::ExpectedGateway),
+                Err(_) => Err(ErrorKind::ExpectedGateway),
             },
             2 => match ipv6_from_text(text) {
                 Ok(address) => Ok(at_ipv6(address)),
-                Err(_) => Err(PlaceError::ExpectedGateway),
+                Err(_) => Err(ErrorKind::ExpectedGateway),
             },
-            _ => Err(PlaceError::ExpectedGateway),
+            _ => Err(ErrorKind::ExpectedGateway),
         }
     }
 

@@ -7,19 +7,15 @@
 mod angles;
 pub mod apl;
 mod decimal;
-pub mod error;
 pub mod gateway;
 mod heights;
 pub mod location;
-pub mod location_error;
 pub mod location_text;
 pub mod location_wire;
 mod marks;
 
 pub use apl::{Prefix, append_prefix, item_width};
-pub use error::PlaceError;
 pub use gateway::Gateway;
-pub use location::{LocationRefusal, take_location};
-pub use location_error::LocationError;
+pub use location::take_location;
 pub use location_text::{LocationWord, location_words};
 pub use location_wire::is_location;

@@ -8,16 +8,9 @@ use crate::angles::{
     Axis, degrees_from_text, minutes_from_text, seconds_from_text, side_from_text,
 };
 use crate::heights::{altitude_from_text, size_from_text};
-use crate::location_error::LocationError;
-use dns_fields::TokenSource;
+use dns_fields::{RecordError, TokenSource};
+use dns_kinds::ErrorKind;
 use dns_octets::OctetsBuilder;
-
-/// A token that is refused, by its place, and why. Where none is left, the place is the entry's end.
-#[derive(Clone, Copy, Debug, PartialEq, Eq)]
-pub struct LocationRefusal {
-    pub at: usize,
-    pub why: LocationError,
-}
 
 /// The sizes of a location: its diameter, and its horizontal and vertical precision, each as an octet.
 #[derive(Clone, Copy)]
@@ -170,21 +163,21 @@ fn take_size<S: TokenSource>(usual: u8, source: &mut S) -> Option<u8>
 }
 
 /// Takes the tokens that are left as sizes.
-fn take_sizes<S: TokenSource>(source: &mut S) -> Result<Sizes, LocationError>
+fn take_sizes<S: TokenSource>(source: &mut S) -> Result<Sizes, ErrorKind>
     ensures takes { TakesSizes (S.left source.old) result (S.left source.new) }
     ensures end { S.end source.new ≡ S.end source.old }
 {
     let Some(size) = take_size(SIZE, source) else {
-        return Err(LocationError::ExpectedSize);
+        return Err(ErrorKind::ExpectedSize);
     };
     let Some(horizontal) = take_size(HORIZONTAL, source) else {
-        return Err(LocationError::ExpectedSize);
+        return Err(ErrorKind::ExpectedSize);
     };
     let Some(vertical) = take_size(VERTICAL, source) else {
-        return Err(LocationError::ExpectedSize);
+        return Err(ErrorKind::ExpectedSize);
     };
     if source.current().is_some() {
-        return Err(LocationError::ExpectedEnd);
+        return Err(ErrorKind::ExpectedEnd);
     }
     Ok(Sizes {
         size,
@@ -194,18 +187,18 @@ fn take_sizes<S: TokenSource>(source: &mut S) -> Result<Sizes, LocationError>
 }
 
 /// Takes the tokens that are left as a location.
-fn read_location<S: TokenSource>(source: &mut S) -> Result<Location, LocationError>
+fn read_location<S: TokenSource>(source: &mut S) -> Result<Location, ErrorKind>
     ensures takes { TakesLocation (S.left source.old) result (S.left source.new) }
     ensures end { S.end source.new ≡ S.end source.old }
 {
     let Some(latitude) = take_angle(Axis::Latitude, source) else {
-        return Err(LocationError::ExpectedLatitude);
+        return Err(ErrorKind::ExpectedLatitude);
     };
     let Some(longitude) = take_angle(Axis::Longitude, source) else {
-        return Err(LocationError::ExpectedLongitude);
+        return Err(ErrorKind::ExpectedLongitude);
     };
     let Some(altitude) = take_part(Part::Altitude, source) else {
-        return Err(LocationError::ExpectedAltitude);
+        return Err(ErrorKind::ExpectedAltitude);
     };
     let sizes = match take_sizes(source) {
         Ok(sizes) => sizes,
@@ -220,11 +213,12 @@ fn read_location<S: TokenSource>(source: &mut S) -> Result<Location, LocationErr
 }
 
 /// Takes the tokens of a location that are left, and appends its octets. Refused, the target is as
-/// it was, and the source stands at the token that is refused, or at the entry's end.
+/// it was, and the source stands at the token that is refused, or at the entry's end. The error's
+/// offset is that place.
 pub fn take_location<S: TokenSource, B: OctetsBuilder>(
     source: &mut S,
     target: &mut B,
-) -> Result<(), LocationRefusal>
+) -> Result<(), RecordError>
     ensures ok { OnOk result (Gains (SpellsLocation (S.left source.old)) (B.octets target.old) (B.octets target.new)) }
     ensures taken { OnOk result (S.left source.new ≡ []) }
     ensures err { OnErr result (B.octets target.new ≡ B.octets target.old) }
@@ -234,14 +228,8 @@ pub fn take_location<S: TokenSource, B: OctetsBuilder>(
     match read_location(source) {
         Ok(location) => match target.append_slice(&octets_of(&location)) {
             Ok(()) => Ok(()),
-            Err(_) => Err(LocationRefusal {
-                at: source.place(),
-                why: LocationError::ShortBuf,
-            }),
+            Err(_) => Err(RecordError::at(source.place(), ErrorKind::ShortBuf)),
         },
-        Err(why) => Err(LocationRefusal {
-            at: source.place(),
-            why,
-        }),
+        Err(why) => Err(RecordError::at(source.place(), why)),
     }
 }

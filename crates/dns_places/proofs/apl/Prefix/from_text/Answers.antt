@@ -1,12 +1,12 @@
 use Rattle.std.proofs.Common.{sym, subst}
 use Rattle.dns_places.specs.Prefixes.{SpellsPrefix}
-use Rattle.dns_places.specs.Refusals.{ReadsPlace}
-use Rattle.dns_places.specs.declared.error.PlaceError.TheVariants.{ExpectedPrefix}
+use Rattle.dns_kinds.specs.Kind.{ReadsKind}
+use Rattle.dns_kinds.specs.declared.error.ErrorKind.TheVariants.{ExpectedPrefix}
 use Rattle.dns_places.proofs.PrefixLemmas.{reads_plain, behind_one, reads_exclusion}
 use Rattle.dns_places.proofs.apl.Prefix.from_text.Goals as goal
 
 pub returns-then-not-has_exclusion : goal.returns-then-not-has_exclusion
-returns-then-not-has_exclusion c = subst (ReadsPlace SpellsPrefix ExpectedPrefix c.args.text.now) (sym c.ok_or.ensures.value) (reads_plain c.args.text.now _ c.if-not-has_exclusion.ensures c.plain_from_text.ensures)
+returns-then-not-has_exclusion c = subst (ReadsKind SpellsPrefix ExpectedPrefix c.args.text.now) (sym c.ok_or.ensures.value) (reads_plain c.args.text.now _ c.if-not-has_exclusion.ensures c.plain_from_text.ensures)
 
 pub returns : goal.returns
-returns c = subst (ReadsPlace SpellsPrefix ExpectedPrefix c.args.text.now) (sym c.ok_or-2.ensures.value) (reads_exclusion c.args.text.now _ _ (behind_one c.args.text.now c.if-not-has_exclusion.ensures) c.plain_from_text-2.ensures)
+returns c = subst (ReadsKind SpellsPrefix ExpectedPrefix c.args.text.now) (sym c.ok_or-2.ensures.value) (reads_exclusion c.args.text.now _ _ (behind_one c.args.text.now c.if-not-has_exclusion.ensures) c.plain_from_text-2.ensures)
