@@ -9,8 +9,8 @@ use Rattle.std.proofs.lemmas.List.{drop_more, drop_all}
 use Rattle.dns_kinds.specs.Numbers.{SpellsNumber}
 use Rattle.dns_params.specs.declared.keys.NamedKey.{NamedKey}
 use Rattle.dns_params.specs.declared.keys.SpelledKey.{SpelledKey}
-use Rattle.dns_kinds.specs.declared.error.KindError.{KindError}
-use Rattle.dns_kinds.specs.declared.error.KindError.TheVariants.{ExpectedNumber, NumberOverflow}
+use Rattle.dns_kinds.specs.declared.error.ErrorKind.{ErrorKind}
+use Rattle.dns_kinds.specs.declared.error.ErrorKind.TheVariants.{ExpectedNumber, NumberOverflow}
 use Rattle.dns_params.specs.declared.keys.ValueKind.TheVariants.{Octets}
 use Rattle.dns_params.specs.Keys.{KeyRow, rows_of, named_row, HasZeros, IsNumberedKey, NamesKeyOf, FindsKey}
 
@@ -41,8 +41,8 @@ is_decimal text n plain h small =
     one (x ∷ y ∷ text) some plain e = absurd (plain (omega arith, e))
 
 -- a text that is read as no number is not that of one in decimal
-pub none_decimal : (text : List ℕ) (n : ℕ) (e : KindError)
-    → ((e ≡ ExpectedNumber) × (IsNumeral 10 text → ⊥)) ⊎ ((e ≡ NumberOverflow) × IsNumeral 10 text × (2 ^ 16 ≤ digits_value 10 text)) → n < 2 ^ 16 → text ≢ decimal n
+pub none_decimal : (text : List ℕ) (n : ℕ) (e : ErrorKind)
+    → ((e ≡ ExpectedNumber) × (IsNumeral 10 text → ⊥)) ⊎ ((e ≡ NumberOverflow (2 ^ 16 - 1)) × IsNumeral 10 text × (2 ^ 16 ≤ digits_value 10 text)) → n < 2 ^ 16 → text ≢ decimal n
 none_decimal text n e why small is =
     let d = decimal_is_IsNumeral n (omega (arith, small)) in
     let numeral : IsNumeral 10 text = subst (IsNumeral 10) (sym is) d.0 in

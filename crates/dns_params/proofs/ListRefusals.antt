@@ -14,7 +14,7 @@ use Rattle.dns_symbol.specs.Escape.{octet_for}
 use Rattle.dns_spelling.proofs.Spellings.{AreSpellings, spellings_head, goes_on, none_spelled, front_none, spelled_once}
 use Rattle.dns_lists.specs.Texts.{is_special, item_octet, item_text, list_text, later_text, wire_strings, IsItem, IsList, EndsItem}
 use Rattle.dns_lists.proofs.Items.{one_item, ends_empty, ends_comma, later_ends, same_first}
-use Rattle.dns_params.specs.declared.error.ParamError.{ParamError}
+use Rattle.dns_kinds.specs.declared.error.ErrorKind.{ErrorKind}
 use Rattle.dns_params.specs.ListItems.{EndsAtComma, BeginsUnspecial, BeginsBadItem, GoesOnToItem, BeginsItem, BeginsNoItem, EachList, RefusesItem}
 use Rattle.dns_params.specs.ParamValues.{SpellsStrings}
 use Rattle.dns_params.specs.ParamRefusals.{RefusesSpelled, StringsReason}
@@ -120,7 +120,7 @@ later_goes [] = inl refl
 later_goes (i ∷ is) = inr (item_text i ++ later_text is, refl)
 
 -- the first item is refused
-pub first_refused : (room : Room) (text old : List ℕ) (e : ParamError) → RefusesItem room text old e → RefusesSpelled room (SpellsStrings text) StringsReason old e
+pub first_refused : (room : Room) (text old : List ℕ) (e : ErrorKind) → RefusesItem room text old e → RefusesSpelled room (SpellsStrings text) StringsReason old e
 first_refused room text old e (inl lacks) = inl (lacks.0, λ octets h. by octets h.list h.items h.spelled h.is_list h.listed h.whole)
   where
     by : (octets list : List ℕ) (items : List (List ℕ)) → SpellsOctetList text list → IsList items → list_text items ≡ list → octets ≡ wire_strings items → room.fits < length old + length octets
@@ -172,7 +172,7 @@ strings_on text rest tail_text old mid octets h comma s =
     (found.0, found.1, found.2, (next.0, next.1, (found.3, later_goes found.1, found.4)))
 
 -- a later item is refused
-pub later_refused : (room : Room) (text rest after old mid : List ℕ) (o : ℕ) (e : ParamError) → TakesStrings text rest old mid → SpellsFront rest (o ∷ []) after → o ≡ 44 → RefusesItem room after mid e
+pub later_refused : (room : Room) (text rest after old mid : List ℕ) (o : ℕ) (e : ErrorKind) → TakesStrings text rest old mid → SpellsFront rest (o ∷ []) after → o ≡ 44 → RefusesItem room after mid e
     → RefusesSpelled room (SpellsStrings text) StringsReason old e
 later_refused room text rest after old mid o e h comma is (inl lacks) = inl (lacks.0, λ octets s. short octets s)
   where

@@ -1,32 +1,29 @@
 -- Parameters that are refused.
 use Rattle.std.proofs.Common.{ℕ, ◌≡◌, ◌<◌, ◌+◌, true≢false, List, [], ◌∷◌, ◌++◌, length, refl, sym, subst, ap, ◌∙◌, arith, inl, inr, Option, Some, None, Result, Ok, Err, append_assoc}
-use Rattle.std.specs.Prelude.{IsSome}
+use Rattle.std.specs.Prelude.{IfErr, IsSome, OnOk}
 use Rattle.std.proofs.lemmas.List.{length-append}
 use Rattle.dns_octets.specs.Room.{Room}
 use Rattle.dns_lists.specs.Params.{params_wire, value_at, HasFittingValues, IsUnsettled}
-use Rattle.dns_lists.specs.declared.params.SettleError.{SettleError}
-use Rattle.dns_lists.specs.declared.params.SettleError.TheVariants.{Long, Repeated}
 use Rattle.dns_split.specs.EntryTokens.{TokenSeen}
 use Rattle.dns_params.specs.Keys.{NamesKey}
-use Rattle.dns_params.specs.ParamError.{of_settled}
 use Rattle.dns_params.specs.ParamRefusals.{NewReason, ParamReason, RefusesSpelled, ValueFault, ValueReason, FirstTokenReason}
 use Rattle.dns_params.specs.ParamSteps.{param_head, GainsParam, GoesOnApart, IsClosedWord, CanBeAdded, IsOnlyFront, IsValueBehind, NamesNoParam, RefusesBegun, RefusesNew, SettlesBehind, SettlesValue, SpellsOpenValue, SpellsNew, StandsBehind, StandsOpen, TakesParamWord, TakesQuoted}
 use Rattle.dns_params.specs.ParamTokens.{SplitsParam, SplitsValue, SplitsWord, SpellsParam, SpellsFrontParam}
 use Rattle.dns_params.specs.ParamValues.{SpellsValue}
-use Rattle.dns_params.specs.declared.error.ParamError.{ParamError}
-use Rattle.dns_params.specs.declared.error.ParamError.TheVariants.{ShortBuf}
+use Rattle.dns_kinds.specs.declared.error.ErrorKind.{ErrorKind}
+use Rattle.dns_kinds.specs.declared.error.ErrorKind.TheVariants.{ShortBuf, LongValue, RepeatedParam}
 use Rattle.dns_params.specs.declared.keys.ValueKind.{ValueKind}
 use Rattle.dns_params.proofs.KeyRefusals.{key_once}
 use Rattle.dns_params.proofs.Fronts.{value_once, param_once, closed_once, open_once, behind_once}
 
 -- settling, as the caller sees it
-abbrev pub Settling : ℕ → ℕ → List ℕ → List ℕ → Result (Unit {0}) SettleError → Type 0
+abbrev pub Settling : ℕ → ℕ → List ℕ → List ℕ → Result (Unit {0}) ErrorKind → Type 0
 Settling start at mid new r =
     (base octets : List ℕ) (params : List (ℕ × List ℕ)) (key : ℕ) (value : List ℕ) → HasFittingValues params → key < 65536 → start ≡ length base
     → at ≡ length base + length (params_wire params) → mid ≡ base ++ octets → IsUnsettled params key value octets → SettlesBehind base params key value new r
 
 module _ (start at : ℕ) (value old mid new : List ℕ) (gained : mid ≡ old ++ value) where
-  open_settles : (r : Result (Unit {0}) SettleError) → Settling start at mid new r → (base : List ℕ) (params : List (ℕ × List ℕ)) (key : ℕ) → StandsOpen base params key start at old → SettlesBehind base params key value new r
+  open_settles : (r : Result (Unit {0}) ErrorKind) → Settling start at mid new r → (base : List ℕ) (params : List (ℕ × List ℕ)) (key : ℕ) → StandsOpen base params key start at old → SettlesBehind base params key value new r
   open_settles r settles base params key o =
       settles base (params_wire params ++ (param_head key ++ value)) params key value o.fitting o.small o.begins o.place
       (gained ∙ ap (λ x. x ++ value) o.whole ∙ append_assoc base (params_wire params ++ param_head key) value ∙ ap (λ x. base ++ x) (append_assoc (params_wire params) (param_head key) value))
@@ -36,21 +33,33 @@ module _ (start at : ℕ) (value old mid new : List ℕ) (gained : mid ≡ old +
   value_settled settles base params key o = let s = open_settles (Ok tt) settles base params key o in ((s.2.0, s.2.1), s.1 ∙ ap (λ x. base ++ x) s.2.2)
 
   -- a value that is too long, or whose key is there
-  pub value_unsettled : (room : Room) (kind : ValueKind) (text : List ℕ) (e : SettleError) → SpellsValue kind text value → Settling start at mid new (Err e)
-      → RefusesBegun room start at (SpellsValue kind text) (NewReason kind text) old (of_settled e)
-  value_unsettled room kind text Long spelled settles base params key o =
-      let long = (open_settles (Err Long) settles base params key o).2 in
+  pub value_unsettled : (room : Room) (kind : ValueKind) (text : List ℕ) (e : ErrorKind) → SpellsValue kind text value → Settling start at mid new (Err e)
+      → RefusesBegun room start at (SpellsValue kind text) (NewReason kind text) old e
+  value_unsettled room kind text LongValue spelled settles base params key o =
+      let long = (open_settles (Err LongValue) settles base params key o).2 in
       inr (inr (inl refl), λ octets h. omega (arith, long, h.1.0, ap length (value_once kind text octets value h.0 spelled)))
-  value_unsettled room kind text Repeated spelled settles base params key o =
-      let there = (open_settles (Err Repeated) settles base params key o).2.1 in
+  value_unsettled room kind text RepeatedParam spelled settles base params key o =
+      let there = (open_settles (Err RepeatedParam) settles base params key o).2.1 in
       inr (inr (inr refl), λ octets h. none_there (value_at params key) there h.1.1)
     where
       none_there : (o : Option (List ℕ)) → IsSome o → o ≡ None → ⊥
       none_there None h e = true≢false (sym h)
       none_there (Some x) h e = absurd cc
+  value_unsettled room kind text e spelled settles base params key o = absurd (open_settles (Err e) settles base params key o).2
+
+  -- a value that is settled, or why it is not
+  pub settled_ok : (kind : ValueKind) (text : List ℕ) (r : Result (Unit {0}) ErrorKind) → SpellsValue kind text value → Settling start at mid new r
+      → OnOk r ((value : List ℕ) × SpellsValue kind text value × SettlesValue start at value old new)
+  settled_ok kind text (Ok tt) spelled settles = (value, spelled, value_settled settles)
+  settled_ok kind text (Err e) spelled settles = tt
+
+  pub settled_err : (room : Room) (kind : ValueKind) (text : List ℕ) (r : Result (Unit {0}) ErrorKind) → SpellsValue kind text value → Settling start at mid new r
+      → IfErr r (RefusesBegun room start at (SpellsValue kind text) (NewReason kind text) old)
+  settled_err room kind text (Ok tt) spelled settles = tt
+  settled_err room kind text (Err e) spelled settles = value_unsettled room kind text e spelled settles
 
 -- a value that its text refuses
-pub text_refused : (room : Room) (start at : ℕ) (kind : ValueKind) (text old : List ℕ) (e : ParamError) → RefusesSpelled room (SpellsValue kind text) (ValueReason kind text) old e
+pub text_refused : (room : Room) (start at : ℕ) (kind : ValueKind) (text old : List ℕ) (e : ErrorKind) → RefusesSpelled room (SpellsValue kind text) (ValueReason kind text) old e
     → RefusesBegun room start at (SpellsValue kind text) (NewReason kind text) old e
 text_refused room start at kind text old e (inl h) base params key o = inl (h.0, λ octets s. h.1 octets s.0)
 text_refused room start at kind text old e (inr h) base params key o = inr (inl h.0, λ octets s. h.1 octets s.0)
@@ -78,7 +87,7 @@ lacks_for room old mid octets value key q e is lacks =
 
 module _ (room : Room) (start : ℕ) (t : TokenSeen) (old : List ℕ) where
   -- a token that begins no parameter
-  pub word_refused : (e : ParamError) → NamesNoParam t e → (rest : List TokenSeen) → RefusesNew room start (t ∷ rest) (FirstTokenReason t) old e
+  pub word_refused : (e : ErrorKind) → NamesNoParam t e → (rest : List TokenSeen) → RefusesNew room start (t ∷ rest) (FirstTokenReason t) old e
   word_refused e h rest base params b = inr (inl h.0, λ octets s. none octets s.0 s.1 s.2)
     where
       none : (octets : List ℕ) (p : ℕ × List ℕ) (left : List TokenSeen) → SpellsFrontParam (t ∷ rest) p left → ⊥
@@ -94,7 +103,7 @@ module _ (room : Room) (start : ℕ) (t : TokenSeen) (old : List ℕ) where
       inl (refl, λ octets s. (let few = lacks (param_head key) refl in omega (arith, few, head_size key, ap length s.5, length-append (param_head s.0.0) s.0.1, head_size s.0.0)))
 
   -- its value is refused
-  pub value_refused : (at key : ℕ) (kind : ValueKind) (name text mid : List ℕ) (e : ParamError) → SplitsWord t.text name text → IsClosedWord t.text → NamesKey name key kind → key < 65536 → at ≡ length old
+  pub value_refused : (at key : ℕ) (kind : ValueKind) (name text mid : List ℕ) (e : ErrorKind) → SplitsWord t.text name text → IsClosedWord t.text → NamesKey name key kind → key < 65536 → at ≡ length old
       → mid ≡ old ++ param_head key → RefusesBegun room start at (SpellsValue kind text) (NewReason kind text) mid e → (rest : List TokenSeen) → RefusesNew room start (t ∷ rest) (FirstTokenReason t) old e
   value_refused at key kind name text mid e split closed names small is gained h rest base params b = by (h base params key (begun base params key start at old mid b is small gained))
     where
@@ -111,12 +120,12 @@ module _ (room : Room) (start : ℕ) (t : TokenSeen) (old : List ℕ) where
       by (inr n) = inr (inr (kind, text, n.0), λ octets s. n.1 s.0.1 (value_of s.0 s.1 s.2 s.4))
 
 -- the reason of a value is one of what is left
-pub fault_left : (left : List TokenSeen) (e : ParamError) → ValueFault e → ParamReason left e
+pub fault_left : (left : List TokenSeen) (e : ErrorKind) → ValueFault e → ParamReason left e
 fault_left [] e h = h
 fault_left (t ∷ left) e h = inr h
 
 -- the value behind an open word is refused
-pub behind_refused : (room : Room) (start at : ℕ) (kind : ValueKind) (tokens left : List TokenSeen) (value old : List ℕ) (e : ParamError) → IsValueBehind tokens value left
+pub behind_refused : (room : Room) (start at : ℕ) (kind : ValueKind) (tokens left : List TokenSeen) (value old : List ℕ) (e : ErrorKind) → IsValueBehind tokens value left
     → RefusesBegun room start at (SpellsValue kind value) (NewReason kind value) old e → RefusesBegun room start at (SpellsOpenValue kind tokens) ValueFault old e
 behind_refused room start at kind tokens left value old e is h base params key o = by (h base params key o)
   where
@@ -168,7 +177,7 @@ module _ (start : ℕ) (t : TokenSeen) (tokens rest : List TokenSeen) (old : Lis
           let spelled : SpellsParam w.0 k.0 q = subst (λ v. SpellsParam w.0 v q) same.0 (subst (λ n. SpellsParam n f.value q) one.0 f.spelled) in
           (param_once w.0 k.0 q (w.1, k.1) spelled (kind, w.3, k.3), same.1)
 
-  pub quoted_refused : (room : Room) (at : ℕ) (kind : ValueKind) (left : List TokenSeen) (mid : List ℕ) (e : ParamError) → at ≡ length old → TakesParamWord start t old mid (Some kind)
+  pub quoted_refused : (room : Room) (at : ℕ) (kind : ValueKind) (left : List TokenSeen) (mid : List ℕ) (e : ErrorKind) → at ≡ length old → TakesParamWord start t old mid (Some kind)
       → RefusesBegun room start at (SpellsOpenValue kind rest) ValueFault mid e → RefusesNew room start tokens (ParamReason left) old e
   quoted_refused room at kind left mid e place h k base params b = by (k base params h.1.1 (begun base params h.1.1 start at old mid b place h.1.4 h.1.5))
     where
@@ -185,7 +194,7 @@ module _ (start : ℕ) (t : TokenSeen) (tokens rest : List TokenSeen) (old : Lis
       by (inl l) = inl (l.0, λ octets s. lacks_for room old mid octets s.0.1 h.1.1 s.0.0 h.1.5 s.5 (l.1 s.0.1 (value_of octets s)))
       by (inr n) = inr (fault_left left e n.0, λ octets s. n.1 s.0.1 (value_of octets s))
 
-  pub first_refused : (room : Room) (left : List TokenSeen) (e : ParamError) → left ≡ tokens → ((rest : List TokenSeen) → RefusesNew room start (t ∷ rest) (FirstTokenReason t) old e) → RefusesNew room start tokens (ParamReason left) old e
+  pub first_refused : (room : Room) (left : List TokenSeen) (e : ErrorKind) → left ≡ tokens → ((rest : List TokenSeen) → RefusesNew room start (t ∷ rest) (FirstTokenReason t) old e) → RefusesNew room start tokens (ParamReason left) old e
   first_refused room left e same h base params b =
       subst (λ ts. RefusesSpelled room (SpellsNew params tokens) (ParamReason ts) old e) (sym (same ∙ is))
       (subst (λ ts. RefusesSpelled room (SpellsNew params ts) (FirstTokenReason t) old e) (sym is) (h rest base params b))

@@ -18,7 +18,7 @@ use Rattle.dns_octets.specs.Room.{Room}
 use Rattle.dns_params.specs.ParamRefusals.{ParamReason, ParamsReason, RefusesSpelled}
 use Rattle.dns_params.specs.ParamSteps.{param_head, GainsParam, IsOnlyFront, RefusesNew, SpellsNew}
 use Rattle.dns_params.specs.ParamTokens.{SplitsParam, SpellsFrontParam, SpellsFrontParams, SpellsParams}
-use Rattle.dns_params.specs.declared.error.ParamError.{ParamError}
+use Rattle.dns_kinds.specs.declared.error.ErrorKind.{ErrorKind}
 use Rattle.dns_params.proofs.Fronts.{front_goes_on, goes_on_apart}
 use Rattle.dns_params.proofs.Sizes.{new_of_all, small_key, wire_longer}
 
@@ -101,7 +101,7 @@ fewer_tokens (t ∷ tokens) left name value h = elim h.1 [
 ]
 
 -- the next parameter is refused
-pub next_refused : (room : Room) (tokens mid left : List TokenSeen) (start : ℕ) (old now : List ℕ) (e : ParamError) → TakesParams tokens mid old now → start ≡ length old → mid ≢ []
+pub next_refused : (room : Room) (tokens mid left : List TokenSeen) (start : ℕ) (old now : List ℕ) (e : ErrorKind) → TakesParams tokens mid old now → start ≡ length old → mid ≢ []
     → RefusesNew room start mid (ParamReason left) now e → RefusesSpelled room (SpellsParams tokens) (ParamsReason left) old e
 next_refused room tokens mid left start old now e h begins some refuses = by (refuses old h.params (record { fitting = h.fitting; begins = begins; whole = h.gained }))
   where

@@ -8,7 +8,7 @@ use Rattle.std.proofs.lemmas.List.Elements.{All-head, All-tail}
 use Rattle.dns_octets.specs.Room.{Room}
 use Rattle.dns_octets.specs.Appending.{Extends}
 use Rattle.dns_fields.specs.Words.{SpellsAs}
-use Rattle.dns_params.specs.declared.error.ParamError.{ParamError}
+use Rattle.dns_kinds.specs.declared.error.ErrorKind.{ErrorKind}
 use Rattle.dns_params.specs.Items.{IsWithout, SpellsApart, with_commas, left_text}
 use Rattle.dns_params.specs.ParamValues.{SpellsValues}
 use Rattle.dns_params.specs.ParamRefusals.{RefusesSpelled}
@@ -85,7 +85,7 @@ pub values_once : (spells : List ℕ → List ℕ → Type 0) → SpellsOnce spe
 values_once spells once text a b h k = h.whole ∙ ap (flat_map (λ v. v)) (apart_once spells text h.values k.values once h.spelled k.spelled) ∙ sym k.whole
 
 -- a value is refused behind others
-pub each_refused : (room : Room) (reason : List ℕ → ParamError → Type 0) (spells : List ℕ → List ℕ → Type 0) (text rest before old mid : List ℕ) (behind : Option (List ℕ)) (e : ParamError) → SpellsOnce spells
+pub each_refused : (room : Room) (reason : List ℕ → ErrorKind → Type 0) (spells : List ℕ → List ℕ → Type 0) (text rest before old mid : List ℕ) (behind : Option (List ℕ)) (e : ErrorKind) → SpellsOnce spells
     → TakesEach spells text (Some rest) old mid → IsWithout 44 before → IsSplit rest before behind → RefusesSpelled room (spells before) (reason before) mid e → RefusesSpelled room (SpellsValues spells text) (λ e. (item : List ℕ) × reason item e) old e
 each_refused room reason spells text rest before old mid behind e once h without split (inl lacks) = inl (lacks.0, λ octets s. short octets s)
   where

@@ -1,4 +1,3 @@
-pub mod ParamError
 pub mod Items
 pub mod Keys
 pub mod ParamValues

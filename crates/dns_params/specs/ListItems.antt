@@ -3,8 +3,8 @@ use Rattle.std.specs.Prelude.{ℕ, ◌≡◌, ◌≢◌, ◌+◌, ◌<◌, ◌�
 use Rattle.dns_octets.specs.Room.{Room}
 use Rattle.dns_spelling.specs.Spelling.{SpellsFront, SpellsOctetList}
 use Rattle.dns_lists.specs.Texts.{is_special, item_text, IsItem}
-use Rattle.dns_params.specs.declared.error.ParamError.{ParamError}
-use Rattle.dns_params.specs.declared.error.ParamError.TheVariants.{ShortBuf}
+use Rattle.dns_kinds.specs.declared.error.ErrorKind.{ErrorKind}
+use Rattle.dns_kinds.specs.declared.error.ErrorKind.TheVariants.{ShortBuf}
 use Rattle.dns_params.specs.ParamRefusals.{StringsReason}
 
 -- a text is at its end, or spells a comma in front
@@ -35,7 +35,7 @@ abbrev pub BeginsNoItem : List ℕ → Type 0
 BeginsNoItem list = (item rest : List ℕ) → BeginsItem list item rest → ⊥
 
 -- the item in front doesn't surely fit behind its length; or there is none
-abbrev pub RefusesItem : Room → List ℕ → List ℕ → ParamError → Type 0
+abbrev pub RefusesItem : Room → List ℕ → List ℕ → ErrorKind → Type 0
 RefusesItem room text old e =
     ((e ≡ ShortBuf) × EachList text (λ list. (item rest : List ℕ) → BeginsItem list item rest → room.fits < length old + length (length item ∷ item)))
     ⊎ (StringsReason e × EachList text BeginsNoItem)

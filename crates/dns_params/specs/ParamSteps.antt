@@ -5,12 +5,11 @@ use Rattle.dns_octets.specs.Room.{Room}
 use Rattle.dns_split.specs.EntryTokens.{TokenSeen}
 use Rattle.dns_lists.specs.Params.{params_wire, value_at, HasFittingValues}
 use Rattle.dns_lists.specs.ParamsFaults.{SettlesLast}
-use Rattle.dns_lists.specs.declared.params.SettleError.{SettleError}
 use Rattle.dns_params.specs.Keys.{NamesKey}
 use Rattle.dns_params.specs.ParamValues.{SpellsValue}
 use Rattle.dns_params.specs.ParamRefusals.{RefusesSpelled, WordFault}
 use Rattle.dns_params.specs.ParamTokens.{SplitsWord, IsOpenWord, StandsApart, IsGluedText, SpellsParam, SpellsFrontParam}
-use Rattle.dns_params.specs.declared.error.ParamError.{ParamError}
+use Rattle.dns_kinds.specs.declared.error.ErrorKind.{ErrorKind}
 use Rattle.dns_params.specs.declared.keys.ValueKind.{ValueKind}
 use Rattle.dns_params.specs.declared.taking.ParamWord.{ParamWord}
 
@@ -24,7 +23,7 @@ ReadsWord t w = StandsApart t × ((name : List ℕ) × NamesKey name w.key.code 
     × MatchOption w.value (IsOpenWord t.text name) (λ value. SplitsWord t.text name value.now × IsClosedWord t.text))
 
 -- a token begins no parameter, and this is why
-abbrev pub NamesNoParam : TokenSeen → ParamError → Type 0
+abbrev pub NamesNoParam : TokenSeen → ErrorKind → Type 0
 NamesNoParam t e = WordFault t e × ((name value : List ℕ) → StandsApart t → SplitsWord t.text name value → (key : ℕ) (kind : ValueKind) → NamesKey name key kind → ⊥)
 
 -- a key, and two octets that say nothing yet
@@ -55,7 +54,7 @@ GainsParam p start old new =
     (base : List ℕ) (params : List (ℕ × List ℕ)) → StandsBehind base params start old → CanBeAdded params p.0 p.1 × (new ≡ base ++ params_wire (params ++ p ∷ []))
 
 -- behind other octets, one parameter more
-abbrev pub SettlesBehind : List ℕ → List (ℕ × List ℕ) → ℕ → List ℕ → List ℕ → Result (Unit {0}) SettleError → Type 0
+abbrev pub SettlesBehind : List ℕ → List (ℕ × List ℕ) → ℕ → List ℕ → List ℕ → Result (Unit {0}) ErrorKind → Type 0
 SettlesBehind base params key value new r = (octets : List ℕ) × (new ≡ base ++ octets) × SettlesLast params key value octets r
 
 -- the parameter that was begun has this value
@@ -65,7 +64,7 @@ SettlesValue start at value old new =
     → CanBeAdded params key value × (new ≡ base ++ params_wire (params ++ (key, value) ∷ []))
 
 -- no such value is given to the parameter that was begun
-abbrev pub RefusesBegun : Room → ℕ → ℕ → (List ℕ → Type 0) → (ParamError → Type 0) → List ℕ → ParamError → Type 0
+abbrev pub RefusesBegun : Room → ℕ → ℕ → (List ℕ → Type 0) → (ErrorKind → Type 0) → List ℕ → ErrorKind → Type 0
 RefusesBegun room start at spelled reason old e =
     (base : List ℕ) (params : List (ℕ × List ℕ)) (key : ℕ) → StandsOpen base params key start at old
     → RefusesSpelled room (λ value. spelled value × CanBeAdded params key value) reason old e
@@ -107,6 +106,6 @@ SpellsNew params tokens octets =
     (p : ℕ × List ℕ) × (left : List TokenSeen) × SpellsFrontParam tokens p left × GoesOnApart left × CanBeAdded params p.0 p.1 × (octets ≡ param_head p.0 ++ p.1)
 
 -- no parameter is added
-abbrev pub RefusesNew : Room → ℕ → List TokenSeen → (ParamError → Type 0) → List ℕ → ParamError → Type 0
+abbrev pub RefusesNew : Room → ℕ → List TokenSeen → (ErrorKind → Type 0) → List ℕ → ErrorKind → Type 0
 RefusesNew room start tokens reason old e =
     (base : List ℕ) (params : List (ℕ × List ℕ)) → StandsBehind base params start old → RefusesSpelled room (SpellsNew params tokens) reason old e

@@ -2,7 +2,6 @@
 //! section 5): from the tokens of an entry to octets on the wire, and back to text.
 #![tactic(auto)]
 
-pub mod error;
 mod items;
 pub mod keys;
 pub mod laws;
@@ -11,6 +10,5 @@ mod strings;
 pub mod taking;
 mod values;
 
-pub use error::ParamError;
 pub use shown::{KeyText, ParamText};
-pub use taking::{ParamRefusal, take_params};
+pub use taking::take_params;

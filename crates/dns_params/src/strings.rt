@@ -11,9 +11,8 @@ ghost use Rattle.dns_params.specs.ListItems.{EndsAtComma, EachList, BeginsUnspec
 ghost use Rattle.dns_params.specs.ParamRefusals.{RefusesSpelled, StringsReason};
 ghost use Rattle.dns_params.specs.ParamValues.{SpellsStrings};
 
-use crate::error::ParamError;
 use arrayvec::ArrayVec;
-use dns_lists::ListError;
+use dns_kinds::ErrorKind;
 use dns_octets::OctetsBuilder;
 use dns_spelling::first_spelled;
 
@@ -35,16 +34,16 @@ pub(crate) fn is_escaped(octet: u8) -> bool
 }
 
 /// The octet of an item behind a backslash in front of it.
-fn behind_backslash(text: &[u8]) -> Result<ItemOctet<'_>, ParamError>
+fn behind_backslash(text: &[u8]) -> Result<ItemOctet<'_>, ErrorKind>
     ensures ok { IfOk result (λ o. SpellsFront (text.now) (o.octet ∷ []) o.rest.now × (is_special o.octet ≡ true)) }
     ensures err { IfErr result (λ e. StringsReason e × EachList text.now BeginsUnspecial) }
 {
     if text.is_empty() {
-        return Err(ParamError::List(ListError::Escape));
+        return Err(ErrorKind::ListEscape);
     }
     let second = first_spelled(text)?;
     if !is_escaped(second.octet) {
-        return Err(ParamError::List(ListError::Escape));
+        return Err(ErrorKind::ListEscape);
     }
     Ok(ItemOctet {
         octet: second.octet,
@@ -53,7 +52,7 @@ fn behind_backslash(text: &[u8]) -> Result<ItemOctet<'_>, ParamError>
 }
 
 /// The octet of an item in front of a text: none at a comma and at the end.
-fn first_of_item(text: &[u8]) -> Result<Option<ItemOctet<'_>>, ParamError>
+fn first_of_item(text: &[u8]) -> Result<Option<ItemOctet<'_>>, ErrorKind>
     ensures ok { IfOk result (λ first. MatchOption first (EndsAtComma text.now) (λ o. SpellsFront text.now (item_octet o.octet) o.rest.now)) }
     ensures err { IfErr result (λ e. StringsReason e × EachList text.now BeginsBadItem) }
 {
@@ -75,7 +74,7 @@ fn first_of_item(text: &[u8]) -> Result<Option<ItemOctet<'_>>, ParamError>
 }
 
 /// Reads the item in front of a text, and gives what stands after it.
-fn read_item<'a>(text: &'a [u8], item: &mut ArrayVec<u8, MOST>) -> Result<&'a [u8], ParamError>
+fn read_item<'a>(text: &'a [u8], item: &mut ArrayVec<u8, MOST>) -> Result<&'a [u8], ErrorKind>
     requires { item.old.items ≡ [] }
     ensures ok { IfOk result (λ rest. IsItem item.new.items × SpellsFront text.now (item_text item.new.items) rest.now × EndsAtComma rest.now) }
     ensures err { IfErr result (λ e. StringsReason e × EachList text.now BeginsNoItem) }
@@ -83,19 +82,19 @@ fn read_item<'a>(text: &'a [u8], item: &mut ArrayVec<u8, MOST>) -> Result<&'a [u
     let mut rest = text;
     while let Some(first) = first_of_item(rest)? {
         let Ok(()) = item.try_push(first.octet) else {
-            return Err(ParamError::List(ListError::Length));
+            return Err(ErrorKind::ListString);
         };
         rest = first.rest;
     }
     let count = item.len();
     if count == 0 {
-        return Err(ParamError::List(ListError::Length));
+        return Err(ErrorKind::ListString);
     }
     Ok(rest)
 }
 
 /// Appends the item in front of a text behind its length, and gives what stands after it.
-fn append_item<'a, B: OctetsBuilder>(text: &'a [u8], target: &mut B) -> Result<&'a [u8], ParamError>
+fn append_item<'a, B: OctetsBuilder>(text: &'a [u8], target: &mut B) -> Result<&'a [u8], ErrorKind>
     ensures ok { IfOk result (λ rest. (item : List ℕ) × IsItem item × SpellsFront text.now (item_text item) rest.now × EndsAtComma rest.now
         × (B.octets target.new ≡ B.octets target.old ++ (length item ∷ item))) }
     ensures err { IfErr result (RefusesItem B.room text.now (B.octets target.old)) }
@@ -112,7 +111,7 @@ fn append_item<'a, B: OctetsBuilder>(text: &'a [u8], target: &mut B) -> Result<&
 pub(crate) fn append_strings<B: OctetsBuilder>(
     text: &[u8],
     target: &mut B,
-) -> Result<(), ParamError>
+) -> Result<(), ErrorKind>
     ensures ok { OnOk result (Gains (SpellsStrings text.now) (B.octets target.old) (B.octets target.new)) }
     ensures err { IfErr result (RefusesSpelled B.room (SpellsStrings text.now) StringsReason (B.octets target.old)) }
     ensures extends { OnErr result (Extends (B.octets target.old) (B.octets target.new)) }

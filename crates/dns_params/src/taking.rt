@@ -8,23 +8,14 @@ ghost use Rattle.dns_params.specs.ParamRefusals.{NewReason, ParamReason, Refuses
 ghost use Rattle.dns_params.specs.ParamValues.{SpellsValue};
 ghost use Rattle.dns_params.specs.ParamSteps.{param_head, GainsParam, IsOnlyFront, ReadsWord, NamesNoParam, RefusesBegun, RefusesNew, SettlesBehind, SettlesValue, SpellsOpenValue, TakesParamWord, TakesQuoted};
 
-use crate::error::ParamError;
 use crate::items::split_first;
 use crate::keys::{SpelledKey, ValueKind, key_from_text};
 use crate::values::append_value;
-use dns_fields::TokenSource;
-use dns_lists::{SettleError, check_params, settle_last};
+use dns_fields::{RecordError, TokenSource};
+use dns_kinds::ErrorKind;
+use dns_lists::{check_params, settle_last};
 use dns_octets::{AsOctetsMut, OctetsBuilder, ShortBuf};
 use dns_split::entry_tokens::EntryToken;
-
-/// A token that is refused, by its place, and why. Where the value behind an equals sign is missing,
-/// the place is where it should stand. Where the parameters together are refused, it is the entry's
-/// end.
-#[derive(Clone, Copy, Debug, PartialEq, Eq)]
-pub struct ParamRefusal {
-    pub at: usize,
-    pub why: ParamError,
-}
 
 /// What a word says of a parameter: its key, and the text of its value, or none where the word ends
 /// in the equals sign.
@@ -35,19 +26,19 @@ pub(crate) struct ParamWord<'a> {
 }
 
 /// What a word says of a parameter.
-fn read_word<'a>(token: &EntryToken<'a>) -> Result<ParamWord<'a>, ParamError>
+fn read_word<'a>(token: &EntryToken<'a>) -> Result<ParamWord<'a>, ErrorKind>
     ensures ok { IfOk result (ReadsWord (token_seen token.now)) }
     ensures err { IfErr result (NamesNoParam (token_seen token.now)) }
 {
     if token.is_glued {
-        return Err(ParamError::Glued);
+        return Err(ErrorKind::GluedParam);
     }
     if token.is_quoted {
-        return Err(ParamError::Quoted);
+        return Err(ErrorKind::QuotedParam);
     }
     let split = split_first(token.text, b'=');
     let Some(key) = key_from_text(split.before) else {
-        return Err(ParamError::UnknownKey);
+        return Err(ErrorKind::UnknownKey);
     };
     let Some(value) = split.behind else {
         return Ok(ParamWord {
@@ -80,7 +71,7 @@ fn settle<B: OctetsBuilder + AsOctetsMut>(
     start: usize,
     at: usize,
     target: &mut B,
-) -> Result<(), SettleError>
+) -> Result<(), ErrorKind>
     requires behind { start ≤ at }
     requires within { at + 4 ≤ length (B.octets target.old) }
     ensures settled { (base octets : List ℕ) (params : List (ℕ × List ℕ)) (key : ℕ) (value : List ℕ) → HasFittingValues params → key < 65536 → start ≡ length base
@@ -99,7 +90,7 @@ fn take_value<B: OctetsBuilder + AsOctetsMut>(
     kind: ValueKind,
     text: &[u8],
     target: &mut B,
-) -> Result<(), ParamError>
+) -> Result<(), ErrorKind>
     requires behind { start ≤ at }
     requires within { at + 4 ≤ length (B.octets target.old) }
     ensures ok { OnOk result ((value : List ℕ) × SpellsValue kind text.now value × SettlesValue start at value (B.octets target.old) (B.octets target.new)) }
@@ -107,10 +98,7 @@ fn take_value<B: OctetsBuilder + AsOctetsMut>(
     ensures extends { OnErr result (Extends (B.octets target.old) (B.octets target.new)) }
 {
     append_value(kind, text, target)?;
-    match settle(start, at, target) {
-        Ok(()) => Ok(()),
-        Err(why) => Err(ParamError::from(why)),
-    }
+    settle(start, at, target)
 }
 
 /// Takes the parameter of a word among those that begin at `start`. Where the word ends in the equals
@@ -119,7 +107,7 @@ fn take_word<B: OctetsBuilder + AsOctetsMut>(
     start: usize,
     token: &EntryToken<'_>,
     target: &mut B,
-) -> Result<Option<ValueKind>, ParamError>
+) -> Result<Option<ValueKind>, ErrorKind>
     requires { start ≤ length (B.octets target.old) }
     ensures ok { IfOk result (TakesParamWord start (token_seen token.now) (B.octets target.old) (B.octets target.new)) }
     ensures err { IfErr result (λ e. (rest : List TokenSeen) → RefusesNew B.room start (token_seen token.now ∷ rest) (FirstTokenReason (token_seen token.now)) (B.octets target.old) e) }
@@ -128,7 +116,7 @@ fn take_word<B: OctetsBuilder + AsOctetsMut>(
     let at = target.as_slice().len();
     let word = read_word(token)?;
     if let Err(why) = append_head(word.key.code, target) {
-        return Err(ParamError::from(why));
+        return Err(ErrorKind::from(why));
     }
     let Some(value) = word.value else {
         return Ok(Some(word.key.kind));
@@ -145,7 +133,7 @@ fn take_quoted<S: TokenSource, B: OctetsBuilder + AsOctetsMut>(
     kind: ValueKind,
     source: &mut S,
     target: &mut B,
-) -> Result<(), ParamError>
+) -> Result<(), ErrorKind>
     requires behind { start ≤ at }
     requires within { at + 4 ≤ length (B.octets target.old) }
     ensures ok { OnOk result (TakesQuoted start at kind (S.left source.old) (S.left source.new) (B.octets target.old) (B.octets target.new)) }
@@ -169,7 +157,7 @@ fn take_param<S: TokenSource, B: OctetsBuilder + AsOctetsMut>(
     start: usize,
     source: &mut S,
     target: &mut B,
-) -> Result<(), ParamError>
+) -> Result<(), ErrorKind>
     requires some { S.left source.old ≢ [] }
     requires start { start ≤ length (B.octets target.old) }
     ensures ok { OnOk result ((p : ℕ × List ℕ) × SpellsFrontParam (S.left source.old) p (S.left source.new)
@@ -191,11 +179,15 @@ fn take_param<S: TokenSource, B: OctetsBuilder + AsOctetsMut>(
 }
 
 /// Takes the parameters that the tokens that are left spell, and appends their octets, in ascending
-/// order of keys. Refused, the target has its old octets, and perhaps more behind them.
+/// order of keys. Refused, the target has its old octets, and perhaps more after them.
+///
+/// The error's offset is that of the token that is refused. Where the value after an equals sign is
+/// missing, it is where the value should stand. Where the parameters together are refused, it is the
+/// entry's end.
 pub fn take_params<S: TokenSource, B: OctetsBuilder + AsOctetsMut>(
     source: &mut S,
     target: &mut B,
-) -> Result<(), ParamRefusal>
+) -> Result<(), RecordError>
     ensures ok { OnOk result (Gains (SpellsParams (S.left source.old)) (B.octets target.old) (B.octets target.new)) }
     ensures taken { OnOk result (S.left source.new ≡ []) }
     ensures err { IfErr result (λ r. RefusesParams B.room (S.end source.old).at (S.left source.old) (B.octets target.old) r (S.left source.new)) }
@@ -205,16 +197,11 @@ pub fn take_params<S: TokenSource, B: OctetsBuilder + AsOctetsMut>(
     let start = target.as_slice().len();
     while source.current().is_some() {
         if let Err(why) = take_param(start, source, target) {
-            let at = source.place();
-            return Err(ParamRefusal { at, why });
+            return Err(RecordError::at(source.place(), why));
         }
     }
     match check_params(&target.as_slice()[start..]) {
         Ok(()) => Ok(()),
-        Err(fault) => {
-            let at = source.place();
-            let why = ParamError::Params(fault);
-            Err(ParamRefusal { at, why })
-        }
+        Err(why) => Err(RecordError::at(source.place(), why)),
     }
 }

@@ -4,19 +4,18 @@ ghost use Rattle.std.specs.Int.{w16, to_be_bytes};
 ghost use Rattle.std.specs.List.{AllPairs};
 ghost use Rattle.dns_octets.specs.Appending.{Extends, Gains, LacksRoom};
 ghost use Rattle.dns_fields.specs.Words.{SpellsAs};
+ghost use Rattle.dns_kinds.specs.declared.error.ErrorKind.TheVariants.{UnexpectedValue};
 ghost use Rattle.dns_lists.specs.Bitmap.{SameTypes, has};
 ghost use Rattle.dns_params.specs.Items.{SpellsApart};
-ghost use Rattle.dns_params.specs.ParamRefusals.{KeysReason, OfKind, RefusesSpelled, ValueReason};
-ghost use Rattle.dns_params.specs.declared.error.ParamError.TheVariants.{UnexpectedValue as NoValue};
+ghost use Rattle.dns_params.specs.ParamRefusals.{KeysReason, RefusesSpelled, ValueReason};
 ghost use Rattle.dns_params.specs.ParamValues.{NamesAKey, SpellsKeys, SpellsValues, SpellsValue, keys_wire};
 
-use crate::error::ParamError;
 use crate::items::split_first;
 use crate::keys::{ValueKind, key_from_text};
 use crate::strings::append_strings;
 use dns_digits::append_base64;
 use dns_fields::Word;
-use dns_kinds::Ipv6Shown;
+use dns_kinds::{ErrorKind, Ipv6Shown};
 use dns_lists::TypeSet;
 use dns_octets::{OctetsBuilder, ShortBuf};
 use dns_spelling::append_spelled;
@@ -26,9 +25,9 @@ use std::net::Ipv4Addr;
 fn append_one<W: Word + Drop, B: OctetsBuilder>(
     text: &[u8],
     target: &mut B,
-) -> Result<(), ParamError>
+) -> Result<(), ErrorKind>
     ensures ok { OnOk result (Gains (SpellsAs W.valid W.spells W.wire text.now) (B.octets target.old) (B.octets target.new)) }
-    ensures err { IfErr result (RefusesSpelled B.room (SpellsAs W.valid W.spells W.wire text.now) (OfKind (W.reason text.now)) (B.octets target.old)) }
+    ensures err { IfErr result (RefusesSpelled B.room (SpellsAs W.valid W.spells W.wire text.now) (W.reason text.now) (B.octets target.old)) }
     ensures extends { OnErr result (Extends (B.octets target.old) (B.octets target.new)) }
 {
     let value = W::from_text(text)?;
@@ -40,9 +39,9 @@ fn append_one<W: Word + Drop, B: OctetsBuilder>(
 fn append_each<W: Word + Drop, B: OctetsBuilder>(
     text: &[u8],
     target: &mut B,
-) -> Result<(), ParamError>
+) -> Result<(), ErrorKind>
     ensures ok { OnOk result (Gains (SpellsValues (SpellsAs W.valid W.spells W.wire) text.now) (B.octets target.old) (B.octets target.new)) }
-    ensures err { IfErr result (RefusesSpelled B.room (SpellsValues (SpellsAs W.valid W.spells W.wire) text.now) (λ e. (item : List ℕ) × OfKind (W.reason item) e) (B.octets target.old)) }
+    ensures err { IfErr result (RefusesSpelled B.room (SpellsValues (SpellsAs W.valid W.spells W.wire) text.now) (λ e. (item : List ℕ) × W.reason item e) (B.octets target.old)) }
     ensures extends { OnErr result (Extends (B.octets target.old) (B.octets target.new)) }
 {
     let mut left = Some(text);
@@ -55,7 +54,7 @@ fn append_each<W: Word + Drop, B: OctetsBuilder>(
 }
 
 /// Adds the keys that names apart by commas spell to a set of none.
-fn read_keys(text: &[u8], keys: &mut TypeSet) -> Result<(), ParamError>
+fn read_keys(text: &[u8], keys: &mut TypeSet) -> Result<(), ErrorKind>
     requires { keys.old ≡ [] }
     ensures ok { OnOk result ((spelled : List ℕ) × SpellsApart NamesAKey text.now spelled × AllPairs (λ a b. a ≢ b) spelled × SameTypes keys.new spelled) }
     ensures err { IfErr result (λ e. KeysReason e × ((spelled : List ℕ) → SpellsApart NamesAKey text.now spelled → ¬ AllPairs (λ a b. a ≢ b) spelled)) }
@@ -64,10 +63,10 @@ fn read_keys(text: &[u8], keys: &mut TypeSet) -> Result<(), ParamError>
     while let Some(rest) = left {
         let split = split_first(rest, b',');
         let Some(key) = key_from_text(split.before) else {
-            return Err(ParamError::UnknownKey);
+            return Err(ErrorKind::UnknownKey);
         };
         if keys.contains(key.code) {
-            return Err(ParamError::RepeatedKey);
+            return Err(ErrorKind::RepeatedKey);
         }
         keys.insert(key.code);
         left = split.behind;
@@ -100,7 +99,7 @@ fn append_set<B: OctetsBuilder>(keys: &TypeSet, target: &mut B) -> Result<(), Sh
 }
 
 /// Appends the keys that names apart by commas spell, in ascending order.
-fn append_keys<B: OctetsBuilder>(text: &[u8], target: &mut B) -> Result<(), ParamError>
+fn append_keys<B: OctetsBuilder>(text: &[u8], target: &mut B) -> Result<(), ErrorKind>
     ensures ok { OnOk result (Gains (SpellsKeys text.now) (B.octets target.old) (B.octets target.new)) }
     ensures err { IfErr result (RefusesSpelled B.room (SpellsKeys text.now) KeysReason (B.octets target.old)) }
     ensures extends { OnErr result (Extends (B.octets target.old) (B.octets target.new)) }
@@ -112,14 +111,14 @@ fn append_keys<B: OctetsBuilder>(text: &[u8], target: &mut B) -> Result<(), Para
 }
 
 /// Refuses a value.
-fn take_nothing(text: &[u8]) -> Result<(), ParamError>
+fn take_nothing(text: &[u8]) -> Result<(), ErrorKind>
     ensures ok { OnOk result (text.now ≡ []) }
-    ensures err { IfErr result (λ e. (e ≡ NoValue) × (text.now ≢ [])) }
+    ensures err { IfErr result (λ e. (e ≡ UnexpectedValue) × (text.now ≢ [])) }
 {
     if text.is_empty() {
         Ok(())
     } else {
-        Err(ParamError::UnexpectedValue)
+        Err(ErrorKind::UnexpectedValue)
     }
 }
 
@@ -128,7 +127,7 @@ pub(crate) fn append_value<B: OctetsBuilder>(
     kind: ValueKind,
     text: &[u8],
     target: &mut B,
-) -> Result<(), ParamError>
+) -> Result<(), ErrorKind>
     ensures ok { OnOk result (Gains (SpellsValue kind text.now) (B.octets target.old) (B.octets target.new)) }
     ensures err { IfErr result (RefusesSpelled B.room (SpellsValue kind text.now) (ValueReason kind text.now) (B.octets target.old)) }
     ensures extends { OnErr result (Extends (B.octets target.old) (B.octets target.new)) }
@@ -139,14 +138,8 @@ pub(crate) fn append_value<B: OctetsBuilder>(
         ValueKind::Nothing => take_nothing(text),
         ValueKind::Port => append_one::<u16, B>(text, target),
         ValueKind::Ipv4 => append_each::<Ipv4Addr, B>(text, target),
-        ValueKind::Digits => match append_base64(text, target) {
-            Ok(()) => Ok(()),
-            Err(why) => Err(ParamError::from(why)),
-        },
+        ValueKind::Digits => append_base64(text, target),
         ValueKind::Ipv6 => append_each::<Ipv6Shown, B>(text, target),
-        ValueKind::Octets => match append_spelled(text, target) {
-            Ok(()) => Ok(()),
-            Err(why) => Err(ParamError::from(why)),
-        },
+        ValueKind::Octets => append_spelled(text, target),
     }
 }

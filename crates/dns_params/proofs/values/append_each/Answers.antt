@@ -1,7 +1,6 @@
 use Rattle.std.specs.Option.{option_copied}
 use Rattle.dns_fields.specs.Words.{SpellsAs}
 use Rattle.std.proofs.lemmas.Result.{err_from_is_err_and}
-use Rattle.dns_params.specs.ParamRefusals.{OfKind}
 use Rattle.dns_params.proofs.Apart.{each_more}
 use Rattle.dns_params.proofs.Refusals.{each_refused, once_as, more_extends}
 use Rattle.dns_params.proofs.values.append_each.Goals as goal
@@ -16,7 +15,7 @@ pub returns-in_err-append_one-clause-err : goal.returns-in_err-append_one-clause
 returns-in_err-append_one-clause-err g c =
     let p = err_from_is_err_and c.from_residual.result c.from_residual.ensures.1 in
     let split = c.split_first-split in
-    rw (p.1, p.2) (each_refused g.B.OctetsBuilder.room (λ item e. OfKind (g.W.Word.reason item) e) (SpellsAs g.W.Word.valid g.W.Word.spells g.W.Word.wire) c.args.text.now c.in-Some.rest.now split.result.before.now
+    rw (p.1, p.2) (each_refused g.B.OctetsBuilder.room g.W.Word.reason (SpellsAs g.W.Word.valid g.W.Word.spells g.W.Word.wire) c.args.text.now c.in-Some.rest.now split.result.before.now
     (g.B.AsOctets.octets c.args.target.now) (g.B.AsOctets.octets c.loop-left.target) (option_copied split.result.behind) _ (once_as g.W.Word.valid g.W.Word.spells g.W.Word.wire g.met.W.Word.is_kind.once)
     (rw c.in-Some.is at c.loop-left.invariant) split.ensures.without split.ensures.split c.in_err-append_one.ensures.err)
 
