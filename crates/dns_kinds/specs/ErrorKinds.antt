@@ -3,7 +3,7 @@ use Rattle.std.specs.Prelude.{ℕ, List, codes, ◌==◌, if◌then◌else◌}
 use Rattle.dns_split.specs.declared.pieces.Wrong.{Wrong}
 use Rattle.dns_split.specs.declared.pieces.Wrong.TheVariants.{Closing, OpenParenthesis, OpenQuote, LoneReturn, BadEscape as WrongEscape}
 use Rattle.dns_kinds.specs.declared.error.ErrorKind.{ErrorKind}
-use Rattle.dns_kinds.specs.declared.error.ErrorKind.TheVariants.{ShortBuf, Syntax, EndOfEntry, TrailingToken, Quoted, NotQuoted, ExpectedNumber, NumberOverflow, ExpectedIpv4, ExpectedIpv6, ExpectedTtl, ExpectedInterval, ExpectedTime, UnknownType, UnknownClass, UnknownAlgorithm, UnknownCertificate, ExpectedEui48, ExpectedEui64, ExpectedLocator, ExpectedSalt, ExpectedPsdnAddress, BadEscape, LongString, BadTag, EmptyLabel, LongLabel, LongName, NoOrigin, ExpectedHex, UnevenHex, IllegalBase64, TrailingBase64, IncompleteBase64, IllegalBase32, ShortBase32, LongHash, ExpectedLatitude, ExpectedLongitude, ExpectedAltitude, ExpectedSize, ExpectedEnd, ExpectedPrefix, ExpectedGateway, UnknownGateway, QuotedParam, GluedParam, UnknownKey, UnexpectedValue, RepeatedKey, LongValue, RepeatedParam, ListString, ListEscape, ShortParams, ParamOrder, ParamValue, MissingParam, TypeZero, NotOfType, NoDataType, NoTextForm, WrongLength, TrailingArgument, NotSupported, UnknownDirective, NoOwner, RefusedOwner, NoTtl}
+use Rattle.dns_kinds.specs.declared.error.ErrorKind.TheVariants.{ShortBuf, Syntax, EndOfEntry, TrailingToken, Quoted, QuotedName, NotQuoted, ExpectedNumber, NumberOverflow, ExpectedIpv4, ExpectedIpv6, ExpectedTtl, ExpectedInterval, ExpectedTime, UnknownType, UnknownClass, UnknownAlgorithm, UnknownCertificate, ExpectedEui48, ExpectedEui64, ExpectedLocator, ExpectedSalt, ExpectedPsdnAddress, BadEscape, LongString, BadTag, EmptyLabel, LongLabel, LongName, NoOrigin, ExpectedHex, UnevenHex, IllegalBase64, TrailingBase64, IncompleteBase64, IllegalBase32, ShortBase32, LongHash, ExpectedLatitude, ExpectedLongitude, ExpectedAltitude, ExpectedSize, ExpectedEnd, ExpectedPrefix, ExpectedGateway, UnknownGateway, QuotedParam, GluedParam, UnknownKey, UnexpectedValue, RepeatedKey, LongValue, RepeatedParam, ListString, ListEscape, ShortParams, ParamOrder, ParamValue, MissingParam, TypeZero, NotOfType, NoDataType, NoTextForm, WrongLength, TrailingArgument, NotSupported, UnknownDirective, NoOwner, RefusedOwner, NoTtl}
 
 -- what is wrong with a text that is not of the grammar
 abbrev pub syntax_text : Wrong → List ℕ
@@ -27,6 +27,7 @@ error_kind_text (Syntax wrong) = syntax_text wrong
 error_kind_text EndOfEntry = codes "unexpected end of entry"
 error_kind_text TrailingToken = codes "unexpected token behind the data"
 error_kind_text Quoted = codes "expected word without quotes"
+error_kind_text QuotedName = codes "expected word without quotes"
 error_kind_text NotQuoted = codes "expected text in quotes"
 error_kind_text ExpectedNumber = codes "expected decimal number"
 error_kind_text (NumberOverflow most) = codes "decimal number overflow"

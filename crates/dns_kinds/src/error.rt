@@ -23,6 +23,8 @@ pub enum ErrorKind {
     TrailingToken,
     /// A text stands in quotes where a word is asked for.
     Quoted,
+    /// A text stands in quotes where a name is asked for.
+    QuotedName,
     /// Text that has to stand in quotes does not.
     NotQuoted,
     /// The text is not decimal digits, one at least.
@@ -196,6 +198,7 @@ impl ErrorKind {
             ErrorKind::EndOfEntry => "unexpected end of entry",
             ErrorKind::TrailingToken => "unexpected token behind the data",
             ErrorKind::Quoted => "expected word without quotes",
+            ErrorKind::QuotedName => "expected word without quotes",
             ErrorKind::NotQuoted => "expected text in quotes",
             ErrorKind::ExpectedNumber => "expected decimal number",
             ErrorKind::NumberOverflow { .. } => "decimal number overflow",
