@@ -1,5 +1,5 @@
 -- How long digests are, by the number in front of them.
-use Rattle.std.specs.Prelude.{ℕ, ◌≡◌, ◌≤◌, ◌==◌, List, [], ◌∷◌, MatchOption}
+use Rattle.std.specs.Prelude.{ℕ, ◌≡◌, ◌≤◌, ◌==◌, List, [], ◌∷◌, MatchOption, unwrap_or}
 use Rattle.std.specs.Map.{lookup}
 use Rattle.dns_digits.specs.declared.digests.Digests.{Digests}
 use Rattle.dns_digits.specs.declared.digests.Digests.TheVariants.{Ds, Sshfp, Zonemd}
@@ -19,3 +19,7 @@ least_digest Zonemd = 12
 -- so many octets are a digest behind this number
 abbrev pub IsDigestLength : Digests → ℕ → ℕ → Type 0
 IsDigestLength digests number octets = MatchOption (lookup (λ n. n == number) (digest_rows digests)) (least_digest digests ≤ octets) (λ length. octets ≡ length)
+
+-- how many octets a digest behind a number has to have: as many as the list says, or if it names no such number, these at least
+abbrev pub wanted_digest : Digests → ℕ → ℕ
+wanted_digest digests number = unwrap_or (lookup (λ n. n == number) (digest_rows digests)) (least_digest digests)

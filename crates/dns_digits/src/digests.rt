@@ -1,7 +1,7 @@
 //! Digests by their lengths: the data of DS, CDS, DLV, SSHFP and ZONEMD say in an octet which
 //! digest follows.
-ghost use Rattle.std.specs.Prelude.{IsTrue, ◌↔◌};
-ghost use Rattle.dns_digits.specs.DigestLengths.{IsDigestLength};
+ghost use Rattle.std.specs.Prelude.{IsTrue, ◌≡◌, ◌↔◌};
+ghost use Rattle.dns_digits.specs.DigestLengths.{IsDigestLength, wanted_digest};
 
 /// The lists of digests.
 #[derive(Clone, Copy, Debug, PartialEq, Eq)]
@@ -30,5 +30,22 @@ pub fn is_digest_length(digests: Digests, number: u8, length: usize) -> bool
         (Digests::Zonemd, 2) => length == 64,
         (Digests::Zonemd, _) => length >= 12,
         _ => length > 0,
+    }
+}
+
+/// How many octets a digest behind a number has to have: as many as the list says of that number,
+/// and these at least if it names no such number.
+pub fn wanted_digest(digests: Digests, number: u8) -> usize
+    ensures { result ≡ wanted_digest digests number }
+{
+    match (digests, number) {
+        (Digests::Ds | Digests::Sshfp, 1) => 20,
+        (Digests::Ds, 2 | 3 | 5 | 6) => 32,
+        (Digests::Ds, 4) => 48,
+        (Digests::Sshfp, 2) => 32,
+        (Digests::Zonemd, 1) => 48,
+        (Digests::Zonemd, 2) => 64,
+        (Digests::Zonemd, _) => 12,
+        _ => 1,
     }
 }

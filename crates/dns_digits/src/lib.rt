@@ -14,7 +14,7 @@ pub mod laws;
 pub mod reader;
 
 pub use append::{append_base32hex, append_base64, append_hex};
-pub use digests::{Digests, is_digest_length};
+pub use digests::{Digests, is_digest_length, wanted_digest};
 pub use hash::{hash_width, salt_width};
 pub use kind::DigitsKind;
 pub use reader::DigitsReader;
