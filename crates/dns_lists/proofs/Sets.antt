@@ -5,7 +5,7 @@ use Rattle.std.proofs.lemmas.List.{get_or-take, get_or-drop, length-take-le, len
 use Rattle.std.proofs.lemmas.Bool.{cases_lt, eq-eqb, ne_eqb, eqb-true, eqb-false}
 use Rattle.std.proofs.lemmas.Nat.Bits.{bit_at-zero}
 use Rattle.dns_lists.specs.Bitmap.{has, one_if, bit_in, trimmed, window_octets_of, window_block, window_blocks, bitmap, SameTypes}
-use Rattle.dns_lists.specs.Members.{members, CoversTypes, EndsTypes}
+use Rattle.dns_lists.specs.Members.{members, CoversCodes, EndsCodes}
 use Rattle.dns_lists.proofs.Bits.{set_place, octets_by_bits}
 use Rattle.dns_lists.proofs.Blocks.{blocks_split, blocks_empty, blocks_last}
 use Rattle.dns_lists.proofs.Windows.{window_of, window_empty}
@@ -45,11 +45,11 @@ has_no : (octets : List ℕ) (code : ℕ) → code < 65536 → bit_in octets cod
 has_no octets code l e = sym (bit_of false octets code l (sym e))
 
 -- behind the windows in use there are no types
-pub none_above : (octets : List ℕ) (n : ℕ) → CoversTypes octets n → (code : ℕ) → code < 65536 → 256 * n ≤ code → has (members octets) code ≡ false
+pub none_above : (octets : List ℕ) (n : ℕ) → CoversCodes octets n → (code : ℕ) → code < 65536 → 256 * n ≤ code → has (members octets) code ≡ false
 none_above octets n c code l m = has_no octets code l (c.above code l m)
 
 -- and the last of them has one
-pub ends_types : (octets types : List ℕ) (n end : ℕ) → CoversTypes octets n → end ≡ 256 * n → members octets ≡ types → EndsTypes types end
+pub ends_types : (octets types : List ℕ) (n end : ℕ) → CoversCodes octets n → end ≡ 256 * n → members octets ≡ types → EndsCodes types end
 ends_types octets types n end c e is = record { whole = omega (arith, e); last = λ some. last (c.some (λ none. some (omega (arith, e, none)))) }
   where
     last : (code : ℕ) × (code < 65536) × (256 * n ≤ code + 256) × (bit_in octets code ≡ 1) → (code : ℕ) × (code < end) × (end ≤ code + 256) × (has types code ≡ true)
@@ -59,7 +59,7 @@ ends_types octets types n end c e is = record { whole = omega (arith, e); last =
     ]
 
 -- after the blocks of the windows in use there are no others
-pub all_blocks : (octets : List ℕ) (n : ℕ) → CoversTypes octets n → window_blocks (window_of (members octets)) 0 n ≡ bitmap (members octets)
+pub all_blocks : (octets : List ℕ) (n : ℕ) → CoversCodes octets n → window_blocks (window_of (members octets)) 0 n ≡ bitmap (members octets)
 all_blocks octets n c =
     let high = c.high in
     let f = window_of (members octets) in
@@ -75,14 +75,14 @@ zeros_clear octets code h = ap (λ x. bit_at x (7 - code % 8)) (h (code / 8)) �
 pub zeros_members : (octets : List ℕ) → ((k : ℕ) → get_or octets k 0 ≡ 0) → members octets ≡ []
 zeros_members octets h = no_places octets 0 65536 (λ p l m. zeros_clear octets p h)
 
-pub zeros_cover : (octets : List ℕ) → ((k : ℕ) → get_or octets k 0 ≡ 0) → CoversTypes octets 0
+pub zeros_cover : (octets : List ℕ) → ((k : ℕ) → get_or octets k 0 ≡ 0) → CoversCodes octets 0
 zeros_cover octets h = record { high = omega arith; above = λ code l m. zeros_clear octets code h; some = λ e. absurd (e refl) }
 
 -- no windows, no types
-pub none_in_use : (octets : List ℕ) (n : ℕ) → CoversTypes octets n → n ≡ 0 → members octets ≡ []
+pub none_in_use : (octets : List ℕ) (n : ℕ) → CoversCodes octets n → n ≡ 0 → members octets ≡ []
 none_in_use octets n c e = no_places octets 0 65536 (λ p l h. c.above p (omega arith) (omega arith))
 
-pub some_in_use : (octets : List ℕ) (n : ℕ) → CoversTypes octets n → n ≢ 0 → members octets ≢ []
+pub some_in_use : (octets : List ℕ) (n : ℕ) → CoversCodes octets n → n ≢ 0 → members octets ≢ []
 some_in_use octets n c e none =
     let at = c.some e in
     let is = members_have octets at.0 at.1 ∙ at.3 in
@@ -108,7 +108,7 @@ keeps_bit octets q code l e = set_place octets q code l ∙ same (q == code) (bi
     same true bit e = refl
     same false bit e = e
 
-pub still_covers : (octets : List ℕ) (n m q : ℕ) → q / 8 < length octets → q < 65536 → n ≤ m → q < 256 * m → m ≤ 256 → (n < m → 256 * m ≤ q + 256) → CoversTypes octets n → CoversTypes (with_bit octets q) m
+pub still_covers : (octets : List ℕ) (n m q : ℕ) → q / 8 < length octets → q < 65536 → n ≤ m → q < 256 * m → m ≤ 256 → (n < m → 256 * m ≤ q + 256) → CoversCodes octets n → CoversCodes (with_bit octets q) m
 still_covers octets n m q l small low inside high near c = record {
   high = high;
   above = λ code h above. set_place octets q code l ∙ ap (λ b. cond b 1 (bit_in octets code)) (ne_eqb q code (λ e. omega arith)) ∙ c.above code h (omega arith);
@@ -139,9 +139,9 @@ block_lacks types old now part w n fits ends l e p h whole is =
     let so_far = ap length e ∙ length-append old (window_blocks f 0 w) in
     omega arith
 
-emptiness_by : (b : Bool) (octets types : List ℕ) (n : ℕ) → b ≡ (n == 0) → CoversTypes octets n → members octets ≡ types → MatchBool b (types ≡ []) (types ≢ [])
+emptiness_by : (b : Bool) (octets types : List ℕ) (n : ℕ) → b ≡ (n == 0) → CoversCodes octets n → members octets ≡ types → MatchBool b (types ≡ []) (types ≢ [])
 emptiness_by true octets types n e c is = sym is ∙ none_in_use octets n c (eqb-true n 0 (sym e))
 emptiness_by false octets types n e c is = λ none. some_in_use octets n c (eqb-false n 0 (sym e)) (is ∙ none)
 
-pub emptiness : (octets : List ℕ) (n : ℕ) (types : List ℕ) → CoversTypes octets n → members octets ≡ types → MatchBool (n == 0) (types ≡ []) (types ≢ [])
+pub emptiness : (octets : List ℕ) (n : ℕ) (types : List ℕ) → CoversCodes octets n → members octets ≡ types → MatchBool (n == 0) (types ≡ []) (types ≢ [])
 emptiness octets n types c is = emptiness_by (n == 0) octets types n refl c is

@@ -7,6 +7,7 @@ ghost use Rattle.std.specs.Prelude.{◌≡◌, ◌≢◌, ℕ, ◌+◌, ◌-◌,
 ghost use Rattle.dns_lists.specs.Bitmap.{one_if, bit_in, set_places, types_of, IsBitmap, IsData, GoesWrong, IsWrongBlock};
 ghost use Rattle.dns_lists.specs.Left.{types_left, moved_on};
 
+use dns_kinds::RecordType;
 use std::marker::Model;
 use thiserror::Error;
 
@@ -187,7 +188,7 @@ impl<'a> BitmapTypes<'a> {
 }
 
 impl<'a> Iterator for BitmapTypes<'a> {
-    type Item = u16;
+    type Item = RecordType;
 
     ghost use Rattle.std.specs.Iterator.{YieldsFirst, item_count};
 
@@ -195,12 +196,13 @@ impl<'a> Iterator for BitmapTypes<'a> {
 
     ghost remaining = { item_count (λ left. left) };
 
-    fn next(&mut self) -> Option<u16> {
+    fn next(&mut self) -> Option<RecordType> {
         let found = find_type(self.at)?;
         self.at = Cursor {
             place: found.place + 1,
             ..found
         };
-        Some(256 * u16::from(found.window) + found.place as u16)
+        let code = 256 * u16::from(found.window) + found.place as u16;
+        Some(RecordType(code))
     }
 }

@@ -3,6 +3,7 @@
 #![tactic(auto)]
 
 pub mod bitmap;
+pub mod code_set;
 pub mod laws;
 pub mod params;
 mod template;
@@ -11,6 +12,7 @@ pub mod type_set;
 pub mod values;
 
 pub use bitmap::{BitmapError, BitmapTypes, check_bitmap};
+pub use code_set::CodeSet;
 pub use params::{Param, Params, settle_last};
 pub use texts::{append_list, append_list_text};
 pub use type_set::TypeSet;

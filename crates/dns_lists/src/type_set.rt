@@ -1,85 +1,26 @@
 //! Sets of types, from which a bitmap is made (RFC 4034 section 4.1.2).
-ghost use Rattle.std.specs.Prelude.{◌≡◌, ◌≢◌, ℕ, ◌+◌, ◌<◌, ◌≤◌, false, List, [], ◌∷◌, ◌++◌, All, OnErr, OnOk, MatchBool, length, take, slice_index};
+ghost use Rattle.std.specs.Prelude.{◌≡◌, ◌≢◌, [], ◌∷◌, ◌++◌, OnErr, OnOk, MatchBool};
 ghost use Rattle.dns_octets.specs.Appending.{Extends, LacksRoom};
-ghost use Rattle.dns_lists.specs.Bitmap.{has, trimmed, window_octets_of, window_block, bitmap, IsAscending, SameTypes};
-ghost use Rattle.dns_lists.specs.Members.{EndsTypes, members};
+ghost use Rattle.dns_lists.specs.Bitmap.{has, bitmap, SameTypes};
 
-use crate::bitmap::is_set;
+use crate::code_set::CodeSet;
+use dns_kinds::RecordType;
 use dns_octets::{OctetsBuilder, ShortBuf};
 use std::marker::Model;
-
-/// Octets of one window: bits by their place from the left.
-const WINDOW_OCTETS: usize = 32;
-
-/// Octets of all windows.
-const SET_OCTETS: usize = 8192;
 
 /// A set of types. It takes 8 KiB, and no memory from a heap.
 #[derive(Drop)]
 pub struct TypeSet {
-    octets: [u8; SET_OCTETS],
-    // How many windows there are up to the last with a type.
-    windows: usize,
+    codes: CodeSet,
 }
 
 impl Model for TypeSet {
     ghost use Rattle.std.specs.Prelude.{List, ℕ};
-    ghost use Rattle.dns_lists.specs.Members.{members, CoversTypes};
 
     // The types in ascending order.
     ghost Value = { List ℕ };
 
-    ghost view = { λ s. members s.octets };
-
-    ghost invariant = { λ s. CoversTypes s.octets s.windows };
-}
-
-/// So many zeros.
-fn zeros<const N: usize>() -> [u8; N]
-    ensures { (k : ℕ) → slice_index result k ≡ 0 }
-{
-    [0; N]
-}
-
-/// How many octets there are up to the last that is not zero.
-fn used(octets: &[u8]) -> usize
-    ensures within { result ≤ length octets.now }
-    ensures trimmed { take result octets.now ≡ trimmed octets.now }
-{
-    let mut count = octets.len();
-    while count > 0 && octets[count - 1] == 0 {
-        count -= 1;
-    }
-    count
-}
-
-/// The octets of a window.
-fn window_part(octets: &[u8], window: usize) -> &[u8]
-    requires all { length octets.now ≡ 8192 }
-    requires window { window < 256 }
-    ensures { result.now ≡ window_octets_of (members octets.now) window }
-{
-    let first = WINDOW_OCTETS * window;
-    &octets[first..first + WINDOW_OCTETS]
-}
-
-/// Appends the block of a window, if it has a type.
-fn append_window<B: OctetsBuilder>(
-    window: u8,
-    octets: &[u8],
-    target: &mut B,
-) -> Result<(), ShortBuf>
-    requires { length octets.now ≡ 32 }
-    ensures ok { OnOk result (B.octets target.new ≡ B.octets target.old ++ window_block window (trimmed octets.now)) }
-    ensures err { OnErr result (Extends (B.octets target.old) (B.octets target.new)) }
-    ensures lacks { OnErr result (LacksRoom B.room (λ block. block ≡ window_block window (trimmed octets.now)) (B.octets target.old)) }
-{
-    let count = used(octets);
-    if count > 0 {
-        target.append_slice(&[window, count as u8])?;
-        target.append_slice(&octets[..count])?;
-    }
-    Ok(())
+    ghost view = { λ s. s.codes };
 }
 
 impl TypeSet {
@@ -88,41 +29,29 @@ impl TypeSet {
         ensures { result ≡ [] }
     {
         TypeSet {
-            octets: zeros(),
-            windows: 0,
+            codes: CodeSet::new(),
         }
     }
 
     /// Adds a type, which may be there already.
-    pub fn insert(&mut self, code: u16)
-        ensures { SameTypes self.new (code ∷ self.old) }
+    pub fn insert(&mut self, rtype: RecordType)
+        ensures { SameTypes self.new (rtype ∷ self.old) }
     {
-        let place = usize::from(code);
-        self.octets[place / 8] |= 1 << (7 - place % 8);
-        self.windows = self.windows.max(place / 256 + 1);
+        self.codes.insert(rtype.0)
     }
 
     /// Whether a type is in the set.
-    pub fn contains(&self, code: u16) -> bool
-        ensures { result ≡ has self.now code }
+    pub fn contains(&self, rtype: RecordType) -> bool
+        ensures { result ≡ has self.now rtype }
     {
-        is_set(&self.octets, usize::from(code))
+        self.codes.contains(rtype.0)
     }
 
     /// Whether no type is in the set.
     pub fn is_empty(&self) -> bool
         ensures { MatchBool result (self.now ≡ []) (self.now ≢ []) }
     {
-        self.windows == 0
-    }
-
-    /// Where the last window of 256 types ends that has a type of the set, or 0: each type is below.
-    pub fn end(&self) -> u32
-        ensures within { result ≤ 65536 }
-        ensures above { (code : ℕ) → code < 65536 → result ≤ code → has self.now code ≡ false }
-        ensures last { EndsTypes self.now result }
-    {
-        256 * self.windows as u32
+        self.codes.is_empty()
     }
 
     /// Appends the bitmap of the types. Refused, the target has its old octets, and perhaps a
@@ -132,10 +61,6 @@ impl TypeSet {
         ensures err { OnErr result (Extends (B.octets target.old) (B.octets target.new)) }
         ensures lacks { OnErr result (LacksRoom B.room (λ octets. octets ≡ bitmap self.now) (B.octets target.old)) }
     {
-        for window in 0..self.windows {
-            let octets = window_part(&self.octets, window);
-            append_window(window as u8, octets, target)?;
-        }
-        Ok(())
+        self.codes.append_to(target)
     }
 }

@@ -1,7 +1,7 @@
 use Rattle.std.proofs.Common.{◌*◌, ◌∙◌, refl, sym, ap, arith}
 use Rattle.dns_lists.specs.Bitmap.{has}
 use Rattle.dns_lists.proofs.Sets.{ends_types, none_above}
-use Rattle.dns_lists.proofs.type_set.TypeSet.end.Goals as goal
+use Rattle.dns_lists.proofs.code_set.CodeSet.end.Goals as goal
 
 pub overflow_cast-result : goal.overflow_cast-result
 overflow_cast-result c = omega (arith, c.self.invariant.high)

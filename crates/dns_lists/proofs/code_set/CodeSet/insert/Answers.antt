@@ -2,7 +2,7 @@ use Rattle.std.proofs.Common.{◌∙◌, ◌==◌, ◌||◌, ap, arith}
 use Rattle.dns_lists.specs.Bitmap.{has}
 use Rattle.dns_lists.specs.Members.{members}
 use Rattle.dns_lists.proofs.Sets.{with_type, still_covers}
-use Rattle.dns_lists.proofs.type_set.TypeSet.insert.Goals as goal
+use Rattle.dns_lists.proofs.code_set.CodeSet.insert.Goals as goal
 
 pub invariant_of-self : goal.invariant_of-self
 invariant_of-self c = still_covers c.self.inside.octets c.self.inside.windows c.max-self-inside.result c.from-place.result (omega arith) (omega (arith, c.from-place.ensures)) (omega arith) (omega arith) (omega arith) (λ more. omega (arith, more)) c.self.invariant

@@ -1,7 +1,7 @@
 use Rattle.std.proofs.Common.{◌≡◌, ◌++◌}
 use Rattle.dns_lists.specs.Bitmap.{window_blocks}
 use Rattle.dns_lists.proofs.Windows.{window_of}
-use Rattle.dns_lists.proofs.type_set.TypeSet.append_to.Given as goal
+use Rattle.dns_lists.proofs.code_set.CodeSet.append_to.Given as goal
 
 -- the blocks of the windows so far
 abbrev pub invariant-loop-window : goal.invariant-loop-window

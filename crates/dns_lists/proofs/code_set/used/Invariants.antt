@@ -1,5 +1,5 @@
 use Rattle.std.proofs.Common.{◌≡◌, ℕ, ◌≤◌, length, get_or}
-use Rattle.dns_lists.proofs.type_set.used.Given as goal
+use Rattle.dns_lists.proofs.code_set.used.Given as goal
 
 -- from here on there are zeros
 abbrev pub invariant-loop-count : goal.invariant-loop-count

@@ -1,7 +1,7 @@
 use Rattle.std.proofs.Common.{◌∙◌, ap, arith}
 use Rattle.dns_lists.specs.Bitmap.{has, bit_in}
 use Rattle.dns_lists.proofs.Sets.{bit_of}
-use Rattle.dns_lists.proofs.type_set.TypeSet.contains.Goals as goal
+use Rattle.dns_lists.proofs.code_set.CodeSet.contains.Goals as goal
 
 pub returns : goal.returns
 returns c =

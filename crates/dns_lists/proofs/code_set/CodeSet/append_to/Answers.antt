@@ -6,7 +6,7 @@ use Rattle.dns_lists.proofs.Bits.{octets_length}
 use Rattle.dns_lists.proofs.Blocks.{blocks_none}
 use Rattle.dns_lists.proofs.Windows.{window_of}
 use Rattle.dns_lists.proofs.Sets.{all_blocks, block_more, block_lacks}
-use Rattle.dns_lists.proofs.type_set.TypeSet.append_to.Goals as goal
+use Rattle.dns_lists.proofs.code_set.CodeSet.append_to.Goals as goal
 
 pub loop-window-init : goal.loop-window-init
 loop-window-init g c = sym (ap (λ xs. g.B.AsOctets.octets c.args.target.now ++ xs) (blocks_none (window_of c.args.self.now) 0) ∙ append-nil (g.B.AsOctets.octets c.args.target.now))

@@ -1,5 +1,5 @@
 use Rattle.dns_lists.proofs.Sets.{zeros_members, zeros_cover}
-use Rattle.dns_lists.proofs.type_set.TypeSet.new.Goals as goal
+use Rattle.dns_lists.proofs.code_set.CodeSet.new.Goals as goal
 
 pub invariant_of-result : goal.invariant_of-result
 invariant_of-result c = zeros_cover _ c.zeros.ensures

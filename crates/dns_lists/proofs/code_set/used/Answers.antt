@@ -1,6 +1,6 @@
 use Rattle.std.proofs.Common.{◌≡◌, ◌-◌, ◌∙◌, ap, get_or, arith}
 use Rattle.dns_lists.proofs.Trimmed.{front_is_trimmed}
-use Rattle.dns_lists.proofs.type_set.used.Goals as goal
+use Rattle.dns_lists.proofs.code_set.used.Goals as goal
 
 pub returns-else-octets-count-eq0-clause-trimmed :
     goal.returns-else-octets-count-eq0-clause-trimmed
