@@ -4,29 +4,27 @@ use Rattle.dns_octets.specs.Appending.{Extends}
 use Rattle.dns_octets.specs.Room.{Room}
 use Rattle.dns_split.specs.EntryTokens.{TokenSeen}
 use Rattle.dns_fields.specs.Source.{next_place}
-use Rattle.dns_fields.specs.declared.error.FieldError.TheVariants.{EndOfEntry}
+use Rattle.dns_fields.specs.RecordErrors.{error_at}
+use Rattle.dns_fields.specs.declared.record_error.RecordError.{RecordError}
+use Rattle.dns_kinds.specs.declared.error.ErrorKind.TheVariants.{EndOfEntry, TrailingArgument}
+use Rattle.dns_kinds.specs.declared.types.RecordType.{RecordType}
 use Rattle.dns_data.specs.ByType.{RefusesGeneric, ReadsType, shape_of_code}
 use Rattle.dns_data.specs.Types.{TypeShape}
-use Rattle.dns_data.specs.declared.by_type.TypeRefusal.{TypeRefusal}
 use Rattle.dns_data.proofs.Reading.{gained_is}
 use Rattle.dns_heads.specs.Directives.{TakesDirective}
 use Rattle.dns_heads.specs.EntrySays.{EntrySays, says_nothing, says_origin, says_default_ttl, says_include, says_record, says_refused}
 use Rattle.dns_heads.specs.Heads.{TakesWords}
 use Rattle.dns_heads.specs.declared.directive.Directive.{Directive}
 use Rattle.dns_heads.specs.declared.directive.Directive.TheVariants.{Origin, Ttl, Include as OfInclude}
-use Rattle.dns_heads.specs.declared.error.HeadError.TheVariants.{Field as OfField, TrailingToken}
-use Rattle.dns_heads.specs.declared.error.HeadRefusal.{HeadRefusal}
 use Rattle.dns_heads.specs.declared.head.Words.{Words}
 use Rattle.dns_heads.specs.declared.head.WordsRefusal.{WordsRefusal}
 use Rattle.dns_heads.proofs.EntryLaws.{entries_say_taken}
-use Rattle.dns_reader.specs.EntryErrors.{refused_head}
 use Rattle.dns_reader.specs.EntryReading.{ReadsBehind, ReadsZoneEntry, ReadsInclude, ReadsOrigin, ReadsOwner, ReadsWords, IsMinimum, minimum_of_record, own_ttl_of, owner_of_record, record_with, said_of_refused, ttl_of_words}
 use Rattle.dns_reader.specs.EntrySteps.{ReadsDirective, ReadsLastOrigin, ReadsRecordTokens, tokens_behind_owner, ends_early, own_or_last, owner_token, too_many}
 use Rattle.dns_reader.specs.Learning.{Learns, chosen_ttl}
 use Rattle.dns_reader.specs.Past.{Knows, Said, known_name}
 use Rattle.dns_reader.specs.declared.entry.EntryRead.{EntryRead}
 use Rattle.dns_reader.specs.declared.entry.EntryRead.TheVariants.{Nothing}
-use Rattle.dns_reader.specs.declared.entry_error.EntryRefusal.{EntryRefusal}
 use Rattle.dns_reader.specs.declared.known.Known.{Known}
 use Rattle.dns_reader.specs.declared.state.State.{State}
 use Rattle.dns_reader.proofs.Learned.{nothing_learned}
@@ -46,29 +44,29 @@ chosen_same : (own default last minimum : Option ℕ) → chosen_ttl own default
 chosen_same None default last minimum = refl
 chosen_same (Some ttl) default last minimum = refl
 
-module _ (before : State) (known : Known) (room : Room) (at end : ℕ) (old new : List ℕ) (result : Result EntryRead EntryRefusal) where
+module _ (before : State) (known : Known) (room : Room) (at end : ℕ) (old new : List ℕ) (result : Result EntryRead RecordError) where
   abbrev later : Option ℕ → State
   later own = record before { owner = known; last_ttl = own_or_last own before.last_ttl }
 
-  behind_before : (w : Words) (r : Result (Unit {0}) TypeRefusal) → ReadsBehind (later w.ttl) at w old r new result → ReadsBehind before at w old r new result
+  behind_before : (w : Words) (r : Result (Unit {0}) RecordError) → ReadsBehind (later w.ttl) at w old r new result → ReadsBehind before at w old r new result
   behind_before w (Err r) h = h
   behind_before w (Ok u) h =
       (h.0, h.1, (h.2.0, h.2.1, h.2.2 ∙ ap (record_with before at w) (chosen_same w.ttl before.default_ttl before.last_ttl h.2.0)))
 
-  pub words_before : (first : Result (Unit {0}) EntryRefusal) (words : Result Words WordsRefusal) (tokens : List TokenSeen) → ReadsWords (later (ttl_of_words words)) room at end first words tokens old result new
+  pub words_before : (first : Result (Unit {0}) RecordError) (words : Result Words WordsRefusal) (tokens : List TokenSeen) → ReadsWords (later (ttl_of_words words)) room at end first words tokens old result new
       → ReadsWords before room at end first words tokens old result new
   words_before (Err r) words tokens h = h
   words_before (Ok u) (Err r) tokens h = h
   words_before (Ok u) (Ok w) tokens h = (h.0, h.1, h.2, behind_before w h.0 h.3)
 
   -- the minimum is that of the octets that were gained
-  pub minimum_gained : (w : Words) (begun : ℕ) (octets shown : List ℕ) (minimum : Option ℕ) → new ≡ old ++ octets → begun ≡ length old → shown ≡ new → IsMinimum w.code (take (length shown - begun) (drop begun shown)) minimum
+  pub minimum_gained : (w : Words) (begun : ℕ) (octets shown : List ℕ) (minimum : Option ℕ) → new ≡ old ++ octets → begun ≡ length old → shown ≡ new → IsMinimum w.rtype (take (length shown - begun) (drop begun shown)) minimum
       → result ≡ record_with before at w (chosen_ttl w.ttl before.default_ttl before.last_ttl minimum) → ReadsBehind before at w old (Ok tt) new result
   minimum_gained w begun octets shown minimum gained is shows h found =
       let all = gained_is begun old new shown is shows ∙ ap (drop (length old)) gained ∙ drop-append_seam old octets in
-      (octets, gained, (minimum, subst (λ l. IsMinimum w.code l minimum) all h, found))
+      (octets, gained, (minimum, subst (λ l. IsMinimum w.rtype l minimum) all h, found))
 
-pub record_joined : (before middle later after : State) (room : Room) (blank : Bool) (at end : ℕ) (tokens left : List TokenSeen) (first : Result (Unit {0}) EntryRefusal) (words : Result Words WordsRefusal) (own : Option ℕ) (old new : List ℕ) (r : Result EntryRead EntryRefusal)
+pub record_joined : (before middle later after : State) (room : Room) (blank : Bool) (at end : ℕ) (tokens left : List TokenSeen) (first : Result (Unit {0}) RecordError) (words : Result Words WordsRefusal) (own : Option ℕ) (old new : List ℕ) (r : Result EntryRead RecordError)
     → at ≡ next_place tokens end → ReadsOwner before (next_place tokens end) (owner_token blank tokens) first middle.owner → middle ≡ record before { owner = middle.owner } → Learns (owner_of_record (owner_token blank tokens)) before middle
     → TakesWords end (tokens_behind_owner blank tokens) words left → own ≡ ttl_of_words words → later ≡ record middle { last_ttl = own_or_last own middle.last_ttl } → Learns (own_ttl_of own) middle later
     → ReadsWords later room at end first words left old r new → Extends old new → after.owner ≡ later.owner → Learns (minimum_of_record r) later after → ReadsRecordTokens room blank end tokens before old r after new
@@ -94,30 +92,30 @@ record_joined before middle later after room blank at end tokens left first word
 
 -- ---- refused data
 
-module _ (origin : Option (List (List ℕ))) (room : Room) (code end : ℕ) (tokens left : List TokenSeen) (old new : List ℕ) where
-  generic_extends : (found : Option TypeShape) (r : TypeRefusal) → RefusesGeneric found room end tokens old r left new → Extends old new
+module _ (origin : Option (List (List ℕ))) (room : Room) (rtype : RecordType) (end : ℕ) (tokens left : List TokenSeen) (old new : List ℕ) where
+  generic_extends : (found : Option TypeShape) (r : RecordError) → RefusesGeneric found room end tokens old r left new → Extends old new
   generic_extends found r (inl k) = k.extends
   generic_extends found r (inr k) = (k.3.0, k.3.2)
 
-  pub data_extends : (r : Result (Unit {0}) TypeRefusal) → ReadsType origin room code end tokens old r left new → Extends old new
+  pub data_extends : (r : Result (Unit {0}) RecordError) → ReadsType origin room rtype end tokens old r left new → Extends old new
   data_extends (Ok u) h = (h.1.0, h.1.2)
   data_extends (Err r) (inl h) = same_octets old new h.3
-  data_extends (Err r) (inr (inl h)) = generic_extends (shape_of_code code) r h.2
+  data_extends (Err r) (inr (inl h)) = generic_extends (shape_of_code rtype) r h.2
   data_extends (Err r) (inr (inr (inl h))) = same_octets old new h.3
   data_extends (Err r) (inr (inr (inr h))) = h.1.3.2
 
 -- ---- entries
 
 module _ (origin : Option (List (List ℕ))) (end : ℕ) where
-  origin_ended : (r : Result EntryRead EntryRefusal) → ReadsLastOrigin origin end [] r → r ≡ Err (ends_early end)
+  origin_ended : (r : Result EntryRead RecordError) → ReadsLastOrigin origin end [] r → r ≡ Err (ends_early end)
   origin_ended (Ok e) h = let no = h.1.1 in cc
   origin_ended (Err x) h = let same : x ≡ ends_early end = cc in ap Err same
 
-  origin_one : (t : TokenSeen) (r : Result EntryRead EntryRefusal) → ReadsLastOrigin origin end (t ∷ []) r → ReadsOrigin origin t r
+  origin_one : (t : TokenSeen) (r : Result EntryRead RecordError) → ReadsLastOrigin origin end (t ∷ []) r → ReadsOrigin origin t r
   origin_one t (Ok e) h = h
   origin_one t (Err x) h = h
 
-  origin_trailed : (t u : TokenSeen) (ts : List TokenSeen) (r : Result EntryRead EntryRefusal) → ReadsLastOrigin origin end (t ∷ u ∷ ts) r → r ≡ Err (too_many u)
+  origin_trailed : (t u : TokenSeen) (ts : List TokenSeen) (r : Result EntryRead RecordError) → ReadsLastOrigin origin end (t ∷ u ∷ ts) r → r ≡ Err (too_many u)
   origin_trailed t u ts (Ok e) h = let no = h.1.1 in cc
   origin_trailed t u ts (Err x) h = let same : x ≡ too_many u = cc in ap Err same
 
@@ -126,7 +124,7 @@ module _ (room : Room) (blank : Bool) (end : ℕ) (tokens : List TokenSeen) (bef
   nothing_read none = subst (λ l. ReadsZoneEntry room blank end l before old (Ok Nothing) before old) (sym none)
       (record { meaning = says_nothing; says = refl; reads = (refl, refl); extends = same_octets old old refl; learns = nothing_learned before })
 
-  pub head_refused : (left : List TokenSeen) (why : HeadRefusal) → TakesDirective blank end tokens (Err why) left → ReadsZoneEntry room blank end tokens before old (Err (refused_head why)) before old
+  pub head_refused : (left : List TokenSeen) (why : RecordError) → TakesDirective blank end tokens (Err why) left → ReadsZoneEntry room blank end tokens before old (Err why) before old
   head_refused left why h = record {
     meaning = says_refused why;
     says = entries_say_taken.refused blank end tokens left why h;
@@ -135,11 +133,11 @@ module _ (room : Room) (blank : Bool) (end : ℕ) (tokens : List TokenSeen) (bef
     learns = subst (λ f. Learns (said_of_refused f) before before) (sym h.1) (nothing_learned before);
   }
 
-module _ (room : Room) (blank : Bool) (end : ℕ) (tokens : List TokenSeen) (before : State) (old : List ℕ) (r : Result EntryRead EntryRefusal) (after : State) (new : List ℕ) where
+module _ (room : Room) (blank : Bool) (end : ℕ) (tokens : List TokenSeen) (before : State) (old : List ℕ) (r : Result EntryRead RecordError) (after : State) (new : List ℕ) where
   -- the origin
   origin_read : (left : List TokenSeen) → TakesDirective blank end tokens (Ok (Some Origin)) left → ReadsDirective Origin room end left before old r after new → ReadsZoneEntry room blank end tokens before old r after new
   origin_read [] d h = record {
-    meaning = says_refused (record { at = end; why = OfField EndOfEntry });
+    meaning = says_refused (error_at end EndOfEntry);
     says = entries_say_taken.directive blank end tokens [] Origin _ d refl;
     reads = origin_ended (known_name before.origin) end r h.0;
     extends = same_octets old new h.2;
@@ -153,7 +151,7 @@ module _ (room : Room) (blank : Bool) (end : ℕ) (tokens : List TokenSeen) (bef
     learns = h.1;
   }
   origin_read (t ∷ u ∷ ts) d h = record {
-    meaning = says_refused (record { at = u.at; why = TrailingToken });
+    meaning = says_refused (error_at u.at TrailingArgument);
     says = entries_say_taken.directive blank end tokens (t ∷ u ∷ ts) Origin _ d refl;
     reads = origin_trailed (known_name before.origin) end t u ts r h.0;
     extends = same_octets old new h.2;
@@ -178,7 +176,7 @@ module _ (room : Room) (blank : Bool) (end : ℕ) (tokens : List TokenSeen) (bef
 
   include_read : (left : List TokenSeen) → TakesDirective blank end tokens (Ok (Some OfInclude)) left → ReadsDirective OfInclude room end left before old r after new → ReadsZoneEntry room blank end tokens before old r after new
   include_read [] d h = record {
-    meaning = says_refused (record { at = end; why = OfField EndOfEntry });
+    meaning = says_refused (error_at end EndOfEntry);
     says = entries_say_taken.directive blank end tokens [] OfInclude _ d refl;
     reads = h.0.1;
     extends = h.0.0;
@@ -199,7 +197,7 @@ module _ (room : Room) (blank : Bool) (end : ℕ) (tokens : List TokenSeen) (bef
     learns = stays h.1;
   }
   include_read (file ∷ t ∷ u ∷ ts) d h = record {
-    meaning = says_refused (record { at = u.at; why = TrailingToken });
+    meaning = says_refused (error_at u.at TrailingArgument);
     says = entries_say_taken.directive blank end tokens (file ∷ t ∷ u ∷ ts) OfInclude _ d refl;
     reads = h.0.1;
     extends = h.0.0;

@@ -7,19 +7,15 @@ use Rattle.dns_octets.specs.Room.{Room}
 use Rattle.dns_split.specs.EntryTokens.{TokenSeen, token_seen}
 use Rattle.dns_split.specs.declared.entry_tokens.EntryToken.{EntryToken}
 use Rattle.dns_fields.specs.Source.{next_place}
-use Rattle.dns_fields.specs.declared.error.FieldError.TheVariants.{EndOfEntry}
-use Rattle.dns_fields.specs.declared.taking.Refusal.{Refusal}
+use Rattle.dns_fields.specs.RecordErrors.{error_at}
+use Rattle.dns_fields.specs.declared.record_error.RecordError.{RecordError}
+use Rattle.dns_kinds.specs.declared.error.ErrorKind.TheVariants.{EndOfEntry}
 use Rattle.dns_heads.specs.Arguments.{TakesEnd, TakesFile}
-use Rattle.dns_heads.specs.declared.error.HeadError.TheVariants.{Field as OfField}
-use Rattle.dns_heads.specs.declared.error.HeadRefusal.{HeadRefusal}
-use Rattle.dns_reader.specs.EntryErrors.{refused_at, refused_head, refused_name}
 use Rattle.dns_reader.specs.EntryReading.{ReadsOwner, owner_of_record}
 use Rattle.dns_reader.specs.EntrySteps.{PassesFile, PassesName, ReadsLastInclude, TakesIncludedOrigin, TakesLastName, ends_early, only_token, too_many}
 use Rattle.dns_reader.specs.Learning.{Learns, TakesName}
 use Rattle.dns_reader.specs.Past.{NamedBy, known_name}
 use Rattle.dns_reader.specs.declared.entry.EntryRead.TheVariants.{Include}
-use Rattle.dns_reader.specs.declared.entry_error.EntryError.TheVariants.{Head, Field}
-use Rattle.dns_reader.specs.declared.entry_error.EntryRefusal.{EntryRefusal}
 use Rattle.dns_reader.specs.declared.known.Known.TheVariants.{Name, Refused}
 use Rattle.dns_reader.specs.declared.state.State.{State}
 use Rattle.dns_reader.proofs.Learned.{owner_learned}
@@ -38,35 +34,35 @@ module _ (origin : Option (List (List ℕ))) (end : ℕ) where
   pub name_passed : (tokens left : List TokenSeen) (labels : List (List ℕ)) → TakesName origin end tokens (Ok labels) left → PassesName origin end tokens (Ok labels) left
   name_passed tokens left labels h = subst (λ l. PassesName origin end l (Ok labels) left) (sym h.1) (refl, h.2)
 
-  pub refused_passed : (tokens left after : List TokenSeen) (r : Refusal) → TakesName origin end tokens (Err r) left → after ≡ drop 1 left → PassesName origin end tokens (Err (refused_name r)) after
-  refused_passed [] left after r h is = (is ∙ ap (drop 1) h.0, λ i. Err (refused_at (h.1 i) (Field (h.2 i))))
-  refused_passed (t ∷ ts) left after r h is = (is ∙ ap (drop 1) h.0, (r.why, ap (λ n. refused_at n (Field r.why)) h.1, h.2))
+  pub refused_passed : (tokens left after : List TokenSeen) (r : RecordError) → TakesName origin end tokens (Err r) left → after ≡ drop 1 left → PassesName origin end tokens (Err r) after
+  refused_passed [] left after r h is = (is ∙ ap (drop 1) h.0, ap Err (h.1 ∙ ap (error_at end) h.2))
+  refused_passed (t ∷ ts) left after r h is = (is ∙ ap (drop 1) h.0, (h.1, h.2))
 
-  pub last_ended : (at : ℕ) (tokens : List TokenSeen) → tokens ≡ [] → at ≡ next_place tokens end → TakesLastName origin end tokens (Err (refused_at at (Head (OfField EndOfEntry))))
-  last_ended at [] none is = ap (λ n. Err (refused_at n (Head (OfField EndOfEntry)))) is
+  pub last_ended : (at : ℕ) (tokens : List TokenSeen) → tokens ≡ [] → at ≡ next_place tokens end → TakesLastName origin end tokens (Err (error_at at EndOfEntry))
+  last_ended at [] none is = ap (λ n. Err (error_at n EndOfEntry)) is
   last_ended at (t ∷ ts) none is = cc
 
-  pub last_alone : (tokens left rest : List TokenSeen) (r : Result (List (List ℕ)) EntryRefusal) (u : Unit {0}) → tokens ≢ [] → PassesName origin end tokens r left → TakesEnd left (Ok u) rest → TakesLastName origin end tokens r
+  pub last_alone : (tokens left rest : List TokenSeen) (r : Result (List (List ℕ)) RecordError) (u : Unit {0}) → tokens ≢ [] → PassesName origin end tokens r left → TakesEnd left (Ok u) rest → TakesLastName origin end tokens r
   last_alone [] left rest r u some h e = absurd (some refl)
   last_alone (t ∷ []) left rest r u some h e = h.1
   last_alone (t ∷ v ∷ ts) left rest r u some h e = let none : v ∷ ts ≡ [] = sym h.0 ∙ e.0 in cc
 
-  pub last_trailed : (tokens left rest : List TokenSeen) (r : Result (List (List ℕ)) EntryRefusal) (why : HeadRefusal) → PassesName origin end tokens r left → TakesEnd left (Err why) rest → TakesLastName origin end tokens (Err (refused_head why))
+  pub last_trailed : (tokens left rest : List TokenSeen) (r : Result (List (List ℕ)) RecordError) (why : RecordError) → PassesName origin end tokens r left → TakesEnd left (Err why) rest → TakesLastName origin end tokens (Err why)
   last_trailed tokens [] rest r why h e = absurd e
   last_trailed [] (u ∷ us) rest r why h e = let none : u ∷ us ≡ [] = h.0 in cc
   last_trailed (t ∷ []) (u ∷ us) rest r why h e = let none : u ∷ us ≡ [] = h.0 in cc
   last_trailed (t ∷ v ∷ ts) (u ∷ us) rest r why h e =
       let both : u ∷ us ≡ v ∷ ts = h.0 in
-      let same : u ≡ v = cc in ap (λ x. Err (refused_head x)) e.1 ∙ ap (λ x. Err (too_many x)) same
+      let same : u ≡ v = cc in ap Err e.1 ∙ ap (λ x. Err (too_many x)) same
 
   pub last_named : (tokens : List TokenSeen) (labels : List (List ℕ)) → TakesLastName origin end tokens (Ok labels) → NamedBy origin (only_token tokens) (Name labels)
   last_named [] labels h = cc
   last_named (t ∷ []) labels h = h
   last_named (t ∷ u ∷ ts) labels h = cc
 
-  pub last_refused : (tokens : List TokenSeen) (r : EntryRefusal) → TakesLastName origin end tokens (Err r) → NamedBy origin (only_token tokens) Refused
+  pub last_refused : (tokens : List TokenSeen) (r : RecordError) → TakesLastName origin end tokens (Err r) → NamedBy origin (only_token tokens) Refused
   last_refused [] r h = tt
-  last_refused (t ∷ []) r h = no_name origin (t ∷ []) h.0 h.2
+  last_refused (t ∷ []) r h = no_name origin (t ∷ []) r.kind h.1
   last_refused (t ∷ u ∷ ts) r h = tt
 
   -- ---- `$INCLUDE`
@@ -79,7 +75,7 @@ module _ (origin : Option (List (List ℕ))) (end : ℕ) where
   one_included (t ∷ []) labels some h = h
   one_included (t ∷ u ∷ ts) labels some h = cc
 
-  pub none_is_included : (tokens : List TokenSeen) (r : EntryRefusal) → tokens ≢ [] → TakesLastName origin end tokens (Err r) → TakesIncludedOrigin origin end tokens (Err r)
+  pub none_is_included : (tokens : List TokenSeen) (r : RecordError) → tokens ≢ [] → TakesLastName origin end tokens (Err r) → TakesIncludedOrigin origin end tokens (Err r)
   none_is_included [] r some h = absurd (some refl)
   none_is_included (t ∷ []) r some h = h
   none_is_included (t ∷ u ∷ ts) r some h = let same : r ≡ too_many u = cc in ap Err same
@@ -88,14 +84,14 @@ module _ (origin : Option (List (List ℕ))) (end : ℕ) where
     pub file_passed : (tokens left : List TokenSeen) (u : Unit {0}) (new : List ℕ) → TakesFile room end tokens old (Ok u) left new → PassesFile room end tokens old (Ok u) left new
     file_passed tokens left u new h = subst (λ l. PassesFile room end l old (Ok u) left new) (sym h.1) (refl, h.2)
 
-    pub refused_file : (tokens left after : List TokenSeen) (r : HeadRefusal) (new : List ℕ) → TakesFile room end tokens old (Err r) left new → after ≡ drop 1 left → PassesFile room end tokens old (Err (refused_head r)) after new
-    refused_file [] left after r new h is = (is ∙ ap (drop 1) h.0, (λ i. Err (refused_at (h.2 i) (Head (h.3 i)))), h.1)
-    refused_file (t ∷ ts) left after r new h is = (is ∙ ap (drop 1) h.0, (h.1, (λ i. refused_at (h.2 i) (Head (h.3.0 i))), h.3.1))
+    pub refused_file : (tokens left after : List TokenSeen) (r : RecordError) (new : List ℕ) → TakesFile room end tokens old (Err r) left new → after ≡ drop 1 left → PassesFile room end tokens old (Err r) after new
+    refused_file [] left after r new h is = (is ∙ ap (drop 1) h.0, ap Err (h.2 ∙ ap (error_at end) h.3), h.1)
+    refused_file (t ∷ ts) left after r new h is = (is ∙ ap (drop 1) h.0, (h.1, h.2 ∙ ap (error_at t.at) h.3.0, h.3.1))
 
     same_extends : (new : List ℕ) → new ≡ old → Extends old new
     same_extends new is = ([], is ∙ sym (append-nil old))
 
-    file_extends : (tokens left : List TokenSeen) (r : Result (Unit {0}) EntryRefusal) (new : List ℕ) → PassesFile room end tokens old r left new → Extends old new
+    file_extends : (tokens left : List TokenSeen) (r : Result (Unit {0}) RecordError) (new : List ℕ) → PassesFile room end tokens old r left new → Extends old new
     file_extends [] left r new h = same_extends new h.2
     file_extends (t ∷ ts) left (Ok u) new h = (t.text, h.1)
     file_extends (t ∷ ts) left (Err e) new h = same_extends new h.1.0
@@ -109,7 +105,7 @@ module _ (origin : Option (List (List ℕ))) (end : ℕ) where
         (file_extends (f ∷ t ∷ []) left (Ok u) new h, (named, refl, subst (λ l. TakesIncludedOrigin origin end l (Ok named)) h.0 k, h.1))
     include_given (f ∷ t ∷ v ∷ ts) left u named new h k = let no = subst (λ l. TakesIncludedOrigin origin end l (Ok named)) h.0 k in cc
 
-    pub include_lacks : (tokens left : List TokenSeen) (r : EntryRefusal) (named : Option (List (List ℕ))) (new : List ℕ) → PassesFile room end tokens old (Err r) left new → TakesIncludedOrigin origin end left (Ok named)
+    pub include_lacks : (tokens left : List TokenSeen) (r : RecordError) (named : Option (List (List ℕ))) (new : List ℕ) → PassesFile room end tokens old (Err r) left new → TakesIncludedOrigin origin end left (Ok named)
         → ReadsLastInclude origin room end tokens old (Err r) new
     include_lacks [] left r named new h k = let same : r ≡ ends_early end = cc in (file_extends [] left (Err r) new h, ap Err same)
     include_lacks (f ∷ []) left r named new h k =
@@ -118,7 +114,7 @@ module _ (origin : Option (List (List ℕ))) (end : ℕ) where
         (file_extends (f ∷ t ∷ []) left (Err r) new h, inr (h.1.1, h.1.2, (named, subst (λ l. TakesIncludedOrigin origin end l (Ok named)) h.0 k)))
     include_lacks (f ∷ t ∷ v ∷ ts) left r named new h k = let no = subst (λ l. TakesIncludedOrigin origin end l (Ok named)) h.0 k in cc
 
-    pub include_refused : (tokens left : List TokenSeen) (file : Result (Unit {0}) EntryRefusal) (r : EntryRefusal) (new : List ℕ) → PassesFile room end tokens old file left new → TakesIncludedOrigin origin end left (Err r)
+    pub include_refused : (tokens left : List TokenSeen) (file : Result (Unit {0}) RecordError) (r : RecordError) (new : List ℕ) → PassesFile room end tokens old file left new → TakesIncludedOrigin origin end left (Err r)
         → ReadsLastInclude origin room end tokens old (Err r) new
     include_refused [] left file r new h k = absurd (subst (λ l. TakesIncludedOrigin origin end l (Err r)) h.0 k)
     include_refused (f ∷ []) left file r new h k = absurd (subst (λ l. TakesIncludedOrigin origin end l (Err r)) h.0 k)
@@ -131,7 +127,7 @@ module _ (origin : Option (List (List ℕ))) (end : ℕ) where
 -- ---- owners
 
 module _ (before : State) (end : ℕ) where
-  pub left_behind : (origin : Option (List (List ℕ))) (tokens left : List TokenSeen) (r : Result (List (List ℕ)) EntryRefusal) → PassesName origin end tokens r left → left ≡ drop 1 tokens
+  pub left_behind : (origin : Option (List (List ℕ))) (tokens left : List TokenSeen) (r : Result (List (List ℕ)) RecordError) → PassesName origin end tokens r left → left ≡ drop 1 tokens
   left_behind origin [] left r h = h.0
   left_behind origin (t ∷ ts) left r h = h.0
 
@@ -140,7 +136,7 @@ module _ (before : State) (end : ℕ) where
   owner_passed [] left labels h some = absurd (some refl)
   owner_passed (t ∷ ts) left labels h some = (labels, refl, h.1)
 
-  pub owner_refused : (tokens left : List TokenSeen) (r : EntryRefusal) → PassesName (known_name before.origin) end tokens (Err r) left → tokens ≢ []
+  pub owner_refused : (tokens left : List TokenSeen) (r : RecordError) → PassesName (known_name before.origin) end tokens (Err r) left → tokens ≢ []
       → ReadsOwner before (next_place tokens end) (slice_get tokens 0) (Err r) Refused
   owner_refused [] left r h some = absurd (some refl)
   owner_refused (t ∷ ts) left r h some = (refl, h.1)
@@ -150,7 +146,7 @@ module _ (before : State) (end : ℕ) where
   passed_learned [] left labels h some = absurd (some refl)
   passed_learned (t ∷ ts) left labels h some = owner_learned before (Some t) (Name labels) h.1
 
-  pub refused_learned : (tokens left : List TokenSeen) (r : EntryRefusal) → PassesName (known_name before.origin) end tokens (Err r) left → tokens ≢ []
+  pub refused_learned : (tokens left : List TokenSeen) (r : RecordError) → PassesName (known_name before.origin) end tokens (Err r) left → tokens ≢ []
       → Learns (owner_of_record (slice_get tokens 0)) before (record before { owner = Refused })
   refused_learned [] left r h some = absurd (some refl)
-  refused_learned (t ∷ ts) left r h some = owner_learned before (Some t) Refused (no_name (known_name before.origin) (t ∷ []) h.1.0 h.1.2)
+  refused_learned (t ∷ ts) left r h some = owner_learned before (Some t) Refused (no_name (known_name before.origin) (t ∷ []) r.kind h.1.1)

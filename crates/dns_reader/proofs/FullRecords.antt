@@ -7,7 +7,8 @@ use Rattle.dns_split.specs.EntryTokens.{TokenSeen}
 use Rattle.dns_fields.specs.Source.{next_place}
 use Rattle.dns_fields.specs.Taking.{SpellsField}
 use Rattle.dns_fields.specs.declared.field.Field.TheVariants.{Name as OfName}
-use Rattle.dns_data.specs.declared.by_type.TypeRefusal.{TypeRefusal}
+use Rattle.dns_fields.specs.declared.record_error.RecordError.{RecordError}
+use Rattle.dns_kinds.specs.declared.classes.Class.{Class}
 use Rattle.dns_heads.specs.EntrySays.{says_record}
 use Rattle.dns_heads.specs.declared.head.Words.{Words}
 use Rattle.dns_heads.proofs.EntryLaws.{entries_say_once}
@@ -17,7 +18,6 @@ use Rattle.dns_reader.specs.Past.{SaysOwner, no_origin_said, owner_said, owner_s
 use Rattle.dns_reader.specs.ReadingLaws.{FullRecordsStandAlone}
 use Rattle.dns_reader.specs.declared.entry.EntryRead.{EntryRead}
 use Rattle.dns_reader.specs.declared.entry.EntryRead.TheVariants.{Record}
-use Rattle.dns_reader.specs.declared.entry_error.EntryRefusal.{EntryRefusal}
 use Rattle.dns_reader.specs.declared.known.Known.{Known}
 use Rattle.dns_reader.specs.declared.known.Known.TheVariants.{Name}
 use Rattle.dns_reader.specs.declared.state.State.{State}
@@ -25,15 +25,15 @@ use Rattle.dns_reader.specs.declared.ttl.RecordTtl.TheVariants.{Own}
 use Rattle.dns_reader.proofs.PastStates.{owners_alone}
 use Rattle.dns_reader.proofs.Pasts.{said_alone}
 
-module _ (room : Room) (at end : ℕ) (left : List TokenSeen) (t : TokenSeen) (w : Words) (ttl class : ℕ) (labels : List (List ℕ)) (before : State) (old new : List ℕ) (own : w.ttl ≡ Some ttl) (said : w.class ≡ Some class)
+module _ (room : Room) (at end : ℕ) (left : List TokenSeen) (t : TokenSeen) (w : Words) (ttl : ℕ) (class : Class) (labels : List (List ℕ)) (before : State) (old new : List ℕ) (own : w.ttl ≡ Some ttl) (said : w.class ≡ Some class)
     (absolute : SpellsField None OfName t (wire labels)) where
-  pub full : record_with before at w (chosen_ttl w.ttl before.default_ttl before.last_ttl None) ≡ Ok (Record at (Own ttl) class w.code)
-  full = ap (λ o. record_with before at w (chosen_ttl o before.default_ttl before.last_ttl None)) own ∙ ap (λ c. Ok (Record at (Own ttl) (unwrap_or c before.class) w.code)) said
+  pub full : record_with before at w (chosen_ttl w.ttl before.default_ttl before.last_ttl None) ≡ Ok (Record at (Own ttl) class w.rtype)
+  full = ap (λ o. record_with before at w (chosen_ttl o before.default_ttl before.last_ttl None)) own ∙ ap (λ c. Ok (Record at (Own ttl) (unwrap_or c before.class) w.rtype)) said
 
   pub any_minimum : (own_ttl minimum : Option ℕ) → own_ttl ≡ Some ttl → chosen_ttl own_ttl before.default_ttl before.last_ttl minimum ≡ chosen_ttl own_ttl before.default_ttl before.last_ttl None
   any_minimum own_ttl minimum is = ap (λ o. chosen_ttl o before.default_ttl before.last_ttl minimum) is ∙ ap (λ o. chosen_ttl o before.default_ttl before.last_ttl None) (sym is)
 
-  the_record : (e : EntryRead) (r : Result (Unit {0}) TypeRefusal) → ReadsBehind before at w old r new (Ok e) → e ≡ Record at (Own ttl) class w.code
+  the_record : (e : EntryRead) (r : Result (Unit {0}) RecordError) → ReadsBehind before at w old r new (Ok e) → e ≡ Record at (Own ttl) class w.rtype
   the_record e (Err x) h = cc
   the_record e (Ok u) h = let is = h.2.2 ∙ ap (record_with before at w) (any_minimum w.ttl h.2.0 own) ∙ full in cc
 
@@ -41,8 +41,8 @@ module _ (room : Room) (at end : ℕ) (left : List TokenSeen) (t : TokenSeen) (w
   the_owner known h = h.1 ∙ owners_alone.absolute t labels before [] (Name h.0) absolute
       (owner_said_last (Some t) (said_alone owner_said (SaysOwner (Some t)) (Some t) refl) before.origin (no_origin_said [] before.origin tt refl) h.2)
 
-  stands_alone : (e : EntryRead) (known : Known) (first : Result (Unit {0}) EntryRefusal) → ReadsOwner before at (Some t) first known → ReadsWords before room at end first (Ok w) left old (Ok e) new
-      → (e ≡ Record at (Own ttl) class w.code) × (known ≡ Name labels)
+  stands_alone : (e : EntryRead) (known : Known) (first : Result (Unit {0}) RecordError) → ReadsOwner before at (Some t) first known → ReadsWords before room at end first (Ok w) left old (Ok e) new
+      → (e ≡ Record at (Own ttl) class w.rtype) × (known ≡ Name labels)
   stands_alone e known (Err x) o h = let no = h.0 in cc
   stands_alone e known (Ok u) o h = (the_record e h.0 h.3, the_owner known o)
 

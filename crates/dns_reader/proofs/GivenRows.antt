@@ -3,11 +3,11 @@ use Rattle.std.proofs.Common.{ℕ, ◌≡◌, ◌≢◌, Bool, true, false, List
 use Rattle.dns_octets.specs.Room.{Room}
 use Rattle.dns_split.specs.declared.pieces.Fault.{Fault}
 use Rattle.dns_split.specs.EntryTokens.{EndIs, TokenIs, TokenSeen}
+use Rattle.dns_fields.specs.declared.record_error.RecordError.{RecordError}
+use Rattle.dns_kinds.specs.declared.error.ErrorKind.{ErrorKind}
 use Rattle.dns_heads.specs.EntrySays.{DirectiveSays, EntryMeaning, EntrySays, FirstSays, says_nothing, says_origin, says_default_ttl, says_include, says_record, says_refused}
 use Rattle.dns_heads.specs.declared.directive.Directive.{Directive}
 use Rattle.dns_heads.specs.declared.directive.Directive.TheVariants.{Origin, Ttl, Include as OfInclude}
-use Rattle.dns_heads.specs.declared.error.HeadError.{HeadError}
-use Rattle.dns_heads.specs.declared.error.HeadRefusal.{HeadRefusal}
 use Rattle.dns_heads.specs.declared.head.Words.{Words}
 use Rattle.dns_reader.specs.EntryReading.{ReadsMeaning, directive_with, record_with}
 use Rattle.dns_reader.specs.Records.{AreGivenInARow, ReadsBegun, given_next, none_given}
@@ -43,7 +43,7 @@ directive_silent OfInclude end (t ∷ []) h = cc
 directive_silent OfInclude end (t ∷ u ∷ []) h = cc
 directive_silent OfInclude end (t ∷ u ∷ v ∷ ts) h = cc
 
-first_silent : (d : Option (Result Directive HeadError)) (end : ℕ) (t : TokenSeen) (tokens : List TokenSeen) → FirstSays d end t tokens says_nothing → ⊥
+first_silent : (d : Option (Result Directive ErrorKind)) (end : ℕ) (t : TokenSeen) (tokens : List TokenSeen) → FirstSays d end t tokens says_nothing → ⊥
 first_silent None end t tokens h = let no = h.3 in cc
 first_silent (Some (Ok d)) end t tokens h = directive_silent d end tokens h
 first_silent (Some (Err why)) end t tokens h = cc
@@ -54,7 +54,7 @@ silent true end (t ∷ tokens) some h = let no = h.3 in cc
 silent false end (t ∷ tokens) some h = first_silent _ end t tokens h
 
 -- and are read as something
-no_directive : (r : Result ℕ HeadRefusal) → Ok Nothing ≡ directive_with r → ⊥
+no_directive : (r : Result ℕ RecordError) → Ok Nothing ≡ directive_with r → ⊥
 no_directive (Ok ttl) h = cc
 no_directive (Err r) h = cc
 

@@ -13,8 +13,8 @@ use Rattle.dns_spelling.specs.NameSpelling.{SpellsName}
 use Rattle.dns_spelling.proofs.NameFronts.{name_front_plain}
 use Rattle.dns_fields.specs.Taking.{SpellsField, RefusesNext, TakesField}
 use Rattle.dns_fields.specs.declared.field.Field.TheVariants.{Name as OfName}
-use Rattle.dns_fields.specs.declared.taking.Refusal.{Refusal}
-use Rattle.dns_fields.specs.declared.error.FieldError.{FieldError}
+use Rattle.dns_fields.specs.declared.record_error.RecordError.{RecordError}
+use Rattle.dns_kinds.specs.declared.error.ErrorKind.{ErrorKind}
 use Rattle.dns_reader.specs.Past.{NamedBy}
 use Rattle.dns_reader.specs.Learning.{TakesName}
 use Rattle.dns_reader.specs.declared.known.Known.TheVariants.{Refused}
@@ -52,15 +52,15 @@ name_is_made origin tokens left octets r e h makes is =
     let name = h.2.1 in
     let one : Ok name.labels ≡ Err e = name_same octets (Ok name.labels) r (made octets name.labels name.whole name.is_name name.absolute) makes ∙ is in cc
 
-pub no_name : (origin : Option (List (List ℕ))) (tokens : List TokenSeen) (why : FieldError) → RefusesNext origin (exactly 255) OfName tokens [] why → NamedBy origin (slice_get tokens 0) Refused
+pub no_name : (origin : Option (List (List ℕ))) (tokens : List TokenSeen) (why : ErrorKind) → RefusesNext origin (exactly 255) OfName tokens [] why → NamedBy origin (slice_get tokens 0) Refused
 no_name origin [] why h = tt
 no_name origin (t ∷ tokens) why (inl h) = λ octets spelled. omega (arith, h.1 octets spelled, name_short origin t.text octets spelled.1)
 no_name origin (t ∷ tokens) why (inr h) = h.1
 
-pub name_refused : (origin : Option (List (List ℕ))) (end : ℕ) (tokens left : List TokenSeen) (old new : List ℕ) (r : Refusal) → old ≡ [] → TakesField origin (exactly 255) OfName end tokens old (Err r) left new
+pub name_refused : (origin : Option (List (List ℕ))) (end : ℕ) (tokens left : List TokenSeen) (old new : List ℕ) (r : RecordError) → old ≡ [] → TakesField origin (exactly 255) OfName end tokens old (Err r) left new
     → TakesName origin end tokens (Err r) left
 name_refused origin end tokens left old new r none h =
-    let why = subst (λ o. RefusesNext origin (exactly 255) OfName tokens o r.why) none h.2 in (h.0, h.1, why, no_name origin tokens r.why why)
+    let why = subst (λ o. RefusesNext origin (exactly 255) OfName tokens o r.kind) none h.2 in (h.0, h.1, why, no_name origin tokens r.kind why)
 
 pub taken_as : (origin : Option (List (List ℕ))) (end : ℕ) (tokens left : List TokenSeen) (old new : List ℕ) (u : Unit {0}) → old ≡ [] → TakesField origin (exactly 255) OfName end tokens old (Ok u) left new → TakenAs origin tokens left new
 taken_as origin end tokens left old new u none h =

@@ -1,18 +1,17 @@
 -- The next entry of a text is begun, read and finished.
-use Rattle.std.proofs.Common.{◌≡◌, ℕ, true, List, Some, None, Ok, Err, sym, ap, ◌∙◌, subst}
+use Rattle.std.proofs.Common.{◌≡◌, ℕ, true, List, Some, None, Ok, Err, refl, sym, ap, ◌∙◌, subst}
 use Rattle.std.specs.Prelude.{Option, Result}
 use Rattle.std.proofs.lemmas.Bool.{false≢true}
 use Rattle.dns_octets.specs.Room.{Room}
 use Rattle.dns_split.specs.declared.pieces.EndOfEntry.{EndOfEntry}
 use Rattle.dns_split.specs.declared.pieces.Fault.{Fault}
+use Rattle.dns_fields.specs.RecordErrors.{error_of_fault}
+use Rattle.dns_fields.specs.declared.record_error.RecordError.{RecordError}
 use Rattle.dns_reader.specs.EntryReading.{ReadsZoneEntry}
-use Rattle.dns_reader.specs.Records.{ReadsNextEntry, StandsAfter, given_of, given_read}
+use Rattle.dns_reader.specs.Records.{ReadsNextEntry, StandsAfter, given_of}
 use Rattle.dns_reader.specs.Source.{BeginsEntry, FinishesEntry, IsAtStart, SourceSeen, StartsBehindLine, entry_end, entry_left}
 use Rattle.dns_reader.specs.declared.entry.EntryRead.{EntryRead}
-use Rattle.dns_reader.specs.declared.entry_error.EntryRefusal.{EntryRefusal}
 use Rattle.dns_reader.specs.declared.records.RecordReader.{RecordReader}
-use Rattle.dns_reader.specs.declared.records.RecordRefusal.{RecordRefusal}
-use Rattle.dns_reader.specs.declared.records.RecordRefusal.TheVariants.{Text}
 use Rattle.dns_reader.specs.declared.source.StartOfEntry.{StartOfEntry}
 use Rattle.dns_reader.proofs.Kept.{rest_kept}
 
@@ -32,13 +31,13 @@ module _ (octets : List ℕ) (begun middle : SourceSeen) (same : entry_end middl
       (sym kept.1 ∙ h.1, behind)
 
 module _ (room : Room) (before after : RecordReader) (begun middle finished : SourceSeen) (old new : List ℕ) (first : Result (Option StartOfEntry) Fault) (start : StartOfEntry) (last : Result (Option EndOfEntry) Fault)
-    (read : Result EntryRead EntryRefusal) (begins : BeginsEntry before.source first begun) (is_start : first ≡ Ok (Some start))
+    (read : Result EntryRead RecordError) (begins : BeginsEntry before.source first begun) (is_start : first ≡ Ok (Some start))
     (reads : ReadsZoneEntry room start.begins_blank (entry_end begun).at (entry_left begun) before.state old read after.state new) (same : entry_end middle ≡ entry_end begun)
     (finishes : FinishesEntry middle last finished) (octets_stay : after.octets.now ≡ before.octets.now) where
   opened : begun.is_open ≡ true
   opened = (subst (λ r. IsAtStart r begun) is_start begins.start).0
 
-  next_with : (result : Option (Result EntryRead RecordRefusal)) (end : Result EndOfEntry Fault) → StandsAfter before.octets.now begun end after.source → result ≡ Some (given_of end read) → ReadsNextEntry room before old result after new
+  next_with : (result : Option (Result EntryRead RecordError)) (end : Result EndOfEntry Fault) → StandsAfter before.octets.now begun end after.source → result ≡ Some (given_of end read) → ReadsNextEntry room before old result after new
   next_with result end stands is = record {
     start = Ok (Some start);
     begun = begun;
@@ -47,11 +46,11 @@ module _ (room : Room) (before after : RecordReader) (begun middle finished : So
     octets_stay = octets_stay;
   }
 
-  pub next_read : (end : Option EndOfEntry) → last ≡ Ok end → finished ≡ after.source → (result : Result EntryRead RecordRefusal) → result ≡ given_read read → ReadsNextEntry room before old (Some result) after new
-  next_read end is stays result given =
+  pub next_read : (end : Option EndOfEntry) → last ≡ Ok end → finished ≡ after.source → ReadsNextEntry room before old (Some read) after new
+  next_read end is stays =
       let e = ended before.octets.now begun middle same opened end after.source (subst (FinishesEntry middle (Ok end)) stays (subst (λ l. FinishesEntry middle l finished) is finishes)) in
-      next_with (Some result) (Ok e.0) e.1 (ap Some given)
+      next_with (Some read) (Ok e.0) e.1 refl
 
-  pub next_cut : (fault : Fault) → last ≡ Err fault → StartsBehindLine before.octets.now fault.at after.source → (refusal : RecordRefusal) → refusal ≡ Text fault → ReadsNextEntry room before old (Some (Err refusal)) after new
-  next_cut fault is behind refusal refused =
-      next_with (Some (Err refusal)) (Err fault) (cut_off before.octets.now begun middle same opened fault finished after.source (subst (λ l. FinishesEntry middle l finished) is finishes) behind) (ap (λ r. Some (Err r)) refused)
+  pub next_cut : (fault : Fault) → last ≡ Err fault → StartsBehindLine before.octets.now fault.at after.source → (e : RecordError) → e ≡ error_of_fault fault → ReadsNextEntry room before old (Some (Err e)) after new
+  next_cut fault is behind e refused =
+      next_with (Some (Err e)) (Err fault) (cut_off before.octets.now begun middle same opened fault finished after.source (subst (λ l. FinishesEntry middle l finished) is finishes) behind) (ap (λ r. Some (Err r)) refused)

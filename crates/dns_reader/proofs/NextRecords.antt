@@ -6,7 +6,7 @@ use Rattle.dns_octets.specs.Room.{Room}
 use Rattle.dns_split.specs.declared.pieces.EndOfEntry.{EndOfEntry}
 use Rattle.dns_split.specs.declared.pieces.Fault.{Fault}
 use Rattle.dns_split.specs.EntryTokens.{EndIs, TokenIs, TokenSeen}
-use Rattle.dns_data.specs.declared.by_type.TypeRefusal.{TypeRefusal}
+use Rattle.dns_fields.specs.declared.record_error.RecordError.{RecordError}
 use Rattle.dns_heads.specs.EntrySays.{EntryMeaning, says_nothing, says_origin, says_default_ttl, says_include, says_record, says_refused}
 use Rattle.dns_heads.specs.declared.head.Words.{Words}
 use Rattle.dns_heads.specs.declared.head.WordsRefusal.{WordsRefusal}
@@ -15,10 +15,8 @@ use Rattle.dns_reader.specs.Records.{AreGivenInARow, EntryGiven, IsDirectiveGive
 use Rattle.dns_reader.specs.Source.{BeginsEntry, SourceSeen, behind_left, behind_tokens, entry_end, entry_left}
 use Rattle.dns_reader.specs.declared.entry.EntryRead.{EntryRead}
 use Rattle.dns_reader.specs.declared.entry.EntryRead.TheVariants.{Directive}
-use Rattle.dns_reader.specs.declared.entry_error.EntryRefusal.{EntryRefusal}
 use Rattle.dns_reader.specs.declared.known.Known.{Known}
 use Rattle.dns_reader.specs.declared.records.RecordReader.{RecordReader}
-use Rattle.dns_reader.specs.declared.records.RecordRefusal.{RecordRefusal}
 use Rattle.dns_reader.specs.declared.source.StartOfEntry.{StartOfEntry}
 use Rattle.dns_reader.specs.declared.state.State.{State}
 use Rattle.dns_reader.specs.declared.ttl.RecordTtl.{RecordTtl}
@@ -31,11 +29,11 @@ use Rattle.dns_reader.proofs.TextParts.{closed_left}
 
 -- what no record is given as is not read of one
 module _ (before : State) (room : Room) (at end : ℕ) (old new : List ℕ) (e : EntryRead) (never : (w : Words) (ttl : Option RecordTtl) → record_with before at w ttl ≡ Ok e → ⊥) where
-  not_behind : (w : Words) (r : Result (Unit {0}) TypeRefusal) → ReadsBehind before at w old r new (Ok e) → ⊥
+  not_behind : (w : Words) (r : Result (Unit {0}) RecordError) → ReadsBehind before at w old r new (Ok e) → ⊥
   not_behind w (Err r) h = cc
   not_behind w (Ok u) h = never w _ (sym h.2.2)
 
-  pub not_words : (first : Result (Unit {0}) EntryRefusal) (words : Result Words WordsRefusal) (left : List TokenSeen) → ReadsWords before room at end first words left old (Ok e) new → ⊥
+  pub not_words : (first : Result (Unit {0}) RecordError) (words : Result Words WordsRefusal) (left : List TokenSeen) → ReadsWords before room at end first words left old (Ok e) new → ⊥
   not_words (Err x) words left h = let no = h.0 in cc
   not_words (Ok u) (Err x) left h = let no = h.0 in cc
   not_words (Ok u) (Ok w) left h = not_behind w h.0 h.3
@@ -60,7 +58,7 @@ fewer_behind (Ok (TokenIs t b) ∷ parts) = let h = fewer_behind parts in omega 
 fewer_behind (Ok (EndIs e) ∷ parts) = omega arith
 fewer_behind (Err f ∷ parts) = omega arith
 
-pub read_of : (end : Result EndOfEntry Fault) (read : Result EntryRead EntryRefusal) (x : EntryRead) → Some (given_of end read) ≡ Some (Ok x) → (e : EndOfEntry) × (end ≡ Ok e) × (read ≡ Ok x)
+pub read_of : (end : Result EndOfEntry Fault) (read : Result EntryRead RecordError) (x : EntryRead) → Some (given_of end read) ≡ Some (Ok x) → (e : EndOfEntry) × (end ≡ Ok e) × (read ≡ Ok x)
 read_of (Ok e) (Ok y) x is = (e, refl, cc)
 read_of (Ok e) (Err r) x is = cc
 read_of (Err f) read x is = cc
@@ -119,7 +117,7 @@ pub passes_none : (room : Room) (first : RecordReader) (old : List ℕ) → Pass
 passes_none room first old = record { directives = []; row = none_given; are = tt; stay = refl }
 
 module _ (room : Room) (first now after : RecordReader) (old middle new : List ℕ) (passed : PassesDirectives room first old now middle) where
-  pub passes_one : (given : Option (Result EntryRead RecordRefusal)) → given ≡ Some (Ok Directive) → ReadsNextEntry room now middle given after new
+  pub passes_one : (given : Option (Result EntryRead RecordError)) → given ≡ Some (Ok Directive) → ReadsNextEntry room now middle given after new
       → PassesDirectives room first old after new × (length (behind_left after.source) < length (behind_left now.source))
   passes_one given is h =
       let reads : ReadsNextEntry room now middle (Some (Ok Directive)) after new = subst (λ r. ReadsNextEntry room now middle r after new) is h in
@@ -134,7 +132,7 @@ module _ (room : Room) (first now after : RecordReader) (old middle new : List �
         fewer_left room now after middle new Directive reads,
       )
 
-  pub stops : (given : Option (Result EntryRead RecordRefusal)) → given ≢ Some (Ok Directive) → ReadsNextEntry room now middle given after new → ReadsNextRecord room first old given after new
+  pub stops : (given : Option (Result EntryRead RecordError)) → given ≢ Some (Ok Directive) → ReadsNextEntry room now middle given after new → ReadsNextRecord room first old given after new
   stops given is h = record {
     directives = passed.directives;
     middle = now;

@@ -5,16 +5,15 @@ use Rattle.dns_octets.specs.Room.{Room}
 use Rattle.dns_split.specs.declared.pieces.EndOfEntry.{EndOfEntry}
 use Rattle.dns_split.specs.declared.pieces.Fault.{Fault}
 use Rattle.dns_split.specs.EntryTokens.{EndIs, TokenIs, TokenSeen}
+use Rattle.dns_fields.specs.RecordErrors.{error_of_fault}
+use Rattle.dns_fields.specs.declared.record_error.RecordError.{RecordError}
 use Rattle.dns_reader.specs.EntryReading.{ReadsZoneEntry}
 use Rattle.dns_reader.specs.Records.{ReadsBegun, ReadsNextEntry, StandsAfter, given_of}
 use Rattle.dns_reader.specs.Source.{BeginsEntry, BeginsToken, SourceSeen, StartsBehindLine, behind_left, behind_tokens, entry_end, entry_left, last_token_end, tokens_first}
 use Rattle.dns_reader.specs.TextEntries.{TextEntry, end_seen, entry_counts, parts_of_entry, tokens_end}
 use Rattle.dns_reader.specs.declared.entry.EntryRead.{EntryRead}
 use Rattle.dns_reader.specs.declared.entry.EntryRead.TheVariants.{Nothing}
-use Rattle.dns_reader.specs.declared.entry_error.EntryRefusal.{EntryRefusal}
 use Rattle.dns_reader.specs.declared.records.RecordReader.{RecordReader}
-use Rattle.dns_reader.specs.declared.records.RecordRefusal.{RecordRefusal}
-use Rattle.dns_reader.specs.declared.records.RecordRefusal.TheVariants.{Text}
 use Rattle.dns_reader.specs.declared.source.StartOfEntry.{StartOfEntry}
 use Rattle.dns_reader.specs.declared.state.State.{State}
 use Rattle.dns_reader.proofs.EntryJoins.{nothing_read}
@@ -27,13 +26,13 @@ abbrev pub GoesOn : List ℕ → Result EndOfEntry Fault → Parts → SourceSee
 GoesOn octets (Ok e) rest s = (s.parts ≡ rest) × (s.is_open ≡ false) × (s.began ≡ e.at) × (s.taken ≡ None)
 GoesOn octets (Err f) rest s = (rest ≡ []) × StartsBehindLine octets f.at s
 
-pub record StepSeen (room : Room) (octets : List ℕ) (parts : Parts) (before : State) (old : List ℕ) (result : Result EntryRead RecordRefusal) (after : State) (source : SourceSeen) (new : List ℕ) : Type 0 where
+pub record StepSeen (room : Room) (octets : List ℕ) (parts : Parts) (before : State) (old : List ℕ) (result : Result EntryRead RecordError) (after : State) (source : SourceSeen) (new : List ℕ) : Type 0 where
   pub ends : List EndOfEntry
   pub entry : TextEntry
   pub rest : Parts
   pub parts_are : parts ≡ ends_of ends ++ (parts_of_entry entry ++ rest)
   pub counts : entry_counts entry ≡ true
-  pub read : Result EntryRead EntryRefusal
+  pub read : Result EntryRead RecordError
   pub reads : ReadsZoneEntry room entry.begins_blank (tokens_end entry.tokens) entry.tokens before old read after new
   pub given : result ≡ given_of entry.end read
   pub goes_on : GoesOn octets entry.end rest source
@@ -65,14 +64,14 @@ stands_rest : (octets : List ℕ) (begun after : SourceSeen) (end : Result EndOf
 stands_rest octets begun after (Ok e) h = (after.parts, h.0, (refl, h.1, h.2, h.3))
 stands_rest octets begun after (Err f) h = ([], h.0, (refl, h.1))
 
-module _ (room : Room) (before after : RecordReader) (old new : List ℕ) (result : Result EntryRead RecordRefusal) (closed : before.source.is_open ≡ false) where
+module _ (room : Room) (before after : RecordReader) (old new : List ℕ) (result : Result EntryRead RecordError) (closed : before.source.is_open ≡ false) where
   abbrev Seen : Type 0
   Seen = StepSeen room before.octets.now before.source.parts before.state old result after.state after.source new
 
   passed_parts : (begun : SourceSeen) (start : Result (Option StartOfEntry) Fault) (h : BeginsEntry before.source start begun) → before.source.parts ≡ ends_of h.ends ++ begun.parts
   passed_parts begun start h = sym (closed_left before.source closed) ∙ h.passed
 
-  with_tokens : (begun : SourceSeen) (start : StartOfEntry) → BeginsEntry before.source (Ok (Some start)) begun → (read : Result EntryRead EntryRefusal) (end : Result EndOfEntry Fault)
+  with_tokens : (begun : SourceSeen) (start : StartOfEntry) → BeginsEntry before.source (Ok (Some start)) begun → (read : Result EntryRead RecordError) (end : Result EndOfEntry Fault)
       → ReadsZoneEntry room start.begins_blank (entry_end begun).at (entry_left begun) before.state old read after.state new → StandsAfter before.octets.now begun end after.source → Some result ≡ Some (given_of end read) → Seen
   with_tokens begun start h read end reads stands is =
       let left = open_left begun h.start.0 in
@@ -94,7 +93,7 @@ module _ (room : Room) (before after : RecordReader) (old new : List ℕ) (resul
         goes_on = rest.2;
       }
 
-  with_fault : (begun : SourceSeen) (fault : Fault) → BeginsEntry before.source (Err fault) begun → Some result ≡ Some (Err (Text fault)) → StartsBehindLine before.octets.now fault.at after.source → after.state ≡ before.state → new ≡ old → Seen
+  with_fault : (begun : SourceSeen) (fault : Fault) → BeginsEntry before.source (Err fault) begun → Some result ≡ Some (Err (error_of_fault fault)) → StartsBehindLine before.octets.now fault.at after.source → after.state ≡ before.state → new ≡ old → Seen
   with_fault begun fault h is behind state octets = record {
     ends = h.ends;
     entry = record { begins_blank = false; tokens = []; end = Err fault };

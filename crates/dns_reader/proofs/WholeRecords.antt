@@ -14,7 +14,9 @@ use Rattle.dns_data.specs.Data.{HasLength, IsDataOf, SpellsData}
 use Rattle.dns_data.specs.Generic.{BeginsGeneric, SpellsGeneric}
 use Rattle.dns_data.specs.RestKinds.{rest_form}
 use Rattle.dns_data.specs.Types.{TypeShape}
-use Rattle.dns_data.specs.declared.by_type.TypeRefusal.{TypeRefusal}
+use Rattle.dns_fields.specs.declared.record_error.RecordError.{RecordError}
+use Rattle.dns_kinds.specs.declared.classes.Class.{Class}
+use Rattle.dns_kinds.specs.declared.types.RecordType.{RecordType}
 use Rattle.dns_data.specs.declared.shape.Shape.{Shape}
 use Rattle.dns_data.proofs.DataForms.{data_are_spelled}
 use Rattle.dns_data.proofs.Joinings.{joined_once}
@@ -26,7 +28,6 @@ use Rattle.dns_reader.specs.Past.{known_name}
 use Rattle.dns_reader.specs.ReadingLaws.{WholeRecordsStandAlone}
 use Rattle.dns_reader.specs.declared.entry.EntryRead.{EntryRead}
 use Rattle.dns_reader.specs.declared.entry.EntryRead.TheVariants.{Record}
-use Rattle.dns_reader.specs.declared.entry_error.EntryRefusal.{EntryRefusal}
 use Rattle.dns_reader.specs.declared.known.Known.{Known}
 use Rattle.dns_reader.specs.declared.known.Known.TheVariants.{Name}
 use Rattle.dns_reader.specs.declared.state.State.{State}
@@ -63,23 +64,23 @@ module _ (origin : Option (List (List ℕ))) (tokens : List TokenSeen) where
     lengths = subst (λ l. HasLength l octets) (h.2 ∙ sym k.2) own.lengths;
   }
 
-  module _ (is : IsOrigin origin) (code : ℕ) where
+  module _ (is : IsOrigin origin) (rtype : RecordType) where
     abbrev OwnForm : List ℕ → Type 0
-    OwnForm octets = (BeginsGeneric tokens → ⊥) × ((shape : Shape) × HasShape (shape_of_code code) shape × SpellsData origin shape tokens octets)
+    OwnForm octets = (BeginsGeneric tokens → ⊥) × ((shape : Shape) × HasShape (shape_of_code rtype) shape × SpellsData origin shape tokens octets)
 
-    forms_once : (a b : List ℕ) → SpellsGenericData (shape_of_code code) tokens a ⊎ OwnForm a → SpellsGenericData (shape_of_code code) tokens b ⊎ OwnForm b → a ≡ b
+    forms_once : (a b : List ℕ) → SpellsGenericData (shape_of_code rtype) tokens a ⊎ OwnForm a → SpellsGenericData (shape_of_code rtype) tokens b ⊎ OwnForm b → a ≡ b
     forms_once a b (inl h) (inl k) = generic_once tokens a b h.0 k.0
     forms_once a b (inl h) (inr k) = absurd (k.0 (begins_so tokens a h.0))
     forms_once a b (inr h) (inl k) = absurd (h.0 (begins_so tokens b k.0))
     forms_once a b (inr h) (inr k) =
-        (data_are_spelled origin is k.1.0).once tokens a b (same_spelled (shape_of_code code) h.1.0 k.1.0 a h.1.1 k.1.1 h.1.2) k.1.2
+        (data_are_spelled origin is k.1.0).once tokens a b (same_spelled (shape_of_code rtype) h.1.0 k.1.0 a h.1.1 k.1.1 h.1.2) k.1.2
 
-    type_once : (a b : List ℕ) → SpellsTypeData origin code tokens a → SpellsTypeData origin code tokens b → a ≡ b
+    type_once : (a b : List ℕ) → SpellsTypeData origin rtype tokens a → SpellsTypeData origin rtype tokens b → a ≡ b
     type_once a b h k = forms_once a b h.1 k.1
 
 -- ---- and they are not refused where there is room
 
-module _ (origin : Option (List (List ℕ))) (room : Room) (code end : ℕ) (tokens : List TokenSeen) (octets old : List ℕ) (fits : length old + length octets ≤ room.fits) (r : TypeRefusal) (left : List TokenSeen) (new : List ℕ) where
+module _ (origin : Option (List (List ℕ))) (room : Room) (rtype : RecordType) (end : ℕ) (tokens : List TokenSeen) (octets old : List ℕ) (fits : length old + length octets ≤ room.fits) (r : RecordError) (left : List TokenSeen) (new : List ℕ) where
   generic_taken : (found : Option TypeShape) → SpellsGenericData found tokens octets → RefusesGeneric found room end tokens old r left new → ⊥
   generic_taken found h (inl k) = elim k.why [ inl lacks ↦ omega (arith, fits, lacks.1 octets h.0) | inr none ↦ none.1 octets h.0 ]
   generic_taken found h (inr k) =
@@ -88,45 +89,45 @@ module _ (origin : Option (List (List ℕ))) (room : Room) (code end : ℕ) (tok
       let same : octets ≡ gained.0 = generic_once tokens octets gained.0 h.0 other.0 in
       other.1.2 (subst (IsDataOf other.1.0) same (h.1 other.1.0 other.1.1))
 
-  type_taken : SpellsTypeData origin code tokens octets → RefusesType origin room code end tokens old r left new → ⊥
+  type_taken : SpellsTypeData origin rtype tokens octets → RefusesType origin room rtype end tokens old r left new → ⊥
   type_taken h (inl k) = k.4 h.0
-  type_taken h (inr (inl k)) = elim h.1 [ inl generic ↦ generic_taken (shape_of_code code) generic k.2 | inr own ↦ own.0 k.1 ]
+  type_taken h (inr (inl k)) = elim h.1 [ inl generic ↦ generic_taken (shape_of_code rtype) generic k.2 | inr own ↦ own.0 k.1 ]
   type_taken h (inr (inr (inl k))) =
       elim h.1 [ inl generic ↦ k.4 (begins_so tokens octets generic.0) | inr own ↦ subst (λ f. HasShape f own.1.0) k.5 own.1.1 ]
   type_taken h (inr (inr (inr k))) =
       let shape : Shape = k.1.0 in
       elim h.1 [
         | inl generic ↦ k.0 (begins_so tokens octets generic.0)
-        | inr own ↦ (let spelled = same_spelled origin tokens (shape_of_code code) own.1.0 shape octets own.1.1 k.1.2 own.1.2 in omega (arith, fits, (k.1.3.1 octets spelled).1))
+        | inr own ↦ (let spelled = same_spelled origin tokens (shape_of_code rtype) own.1.0 shape octets own.1.1 k.1.2 own.1.2 in omega (arith, fits, (k.1.3.1 octets spelled).1))
       ]
 
 -- ---- records
 
-module _ (room : Room) (at end : ℕ) (behind : List TokenSeen) (t : TokenSeen) (w : Words) (ttl class : ℕ) (labels : List (List ℕ)) (octets : List ℕ) (before : State) (old new : List ℕ) (own : w.ttl ≡ Some ttl) (said : w.class ≡ Some class)
-    (absolute : SpellsField None OfName t (wire labels)) (known : IsOrigin (known_name before.origin)) (spelled : SpellsTypeData (known_name before.origin) w.code behind octets) (fits : length old + length octets ≤ room.fits)
-    (result : Result EntryRead EntryRefusal) where
+module _ (room : Room) (at end : ℕ) (behind : List TokenSeen) (t : TokenSeen) (w : Words) (ttl : ℕ) (class : Class) (labels : List (List ℕ)) (octets : List ℕ) (before : State) (old new : List ℕ) (own : w.ttl ≡ Some ttl) (said : w.class ≡ Some class)
+    (absolute : SpellsField None OfName t (wire labels)) (known : IsOrigin (known_name before.origin)) (spelled : SpellsTypeData (known_name before.origin) w.rtype behind octets) (fits : length old + length octets ≤ room.fits)
+    (result : Result EntryRead RecordError) where
   abbrev IsTheRecord : Type 0
-  IsTheRecord = (result ≡ Ok (Record at (Own ttl) class w.code)) × (new ≡ old ++ octets)
+  IsTheRecord = (result ≡ Ok (Record at (Own ttl) class w.rtype)) × (new ≡ old ++ octets)
 
-  owner_taken : (r : EntryRefusal) → NamesOrRefuses (known_name before.origin) t (Err r) → ⊥
-  owner_taken r h = no_name (known_name before.origin) (t ∷ []) h.0 h.2 (wire labels) (absolute.0, name_alone (known_name before.origin) t.text (wire labels) absolute.1)
+  owner_taken : (r : RecordError) → NamesOrRefuses (known_name before.origin) t (Err r) → ⊥
+  owner_taken r h = no_name (known_name before.origin) (t ∷ []) r.kind h.1 (wire labels) (absolute.0, name_alone (known_name before.origin) t.text (wire labels) absolute.1)
 
-  data_read : (r : Result (Unit {0}) TypeRefusal) (left : List TokenSeen) → ReadsType (known_name before.origin) room w.code end behind old r left new → ReadsBehind before at w old r new result → IsTheRecord
-  data_read (Err r) left h k = absurd (type_taken (known_name before.origin) room w.code end behind octets old fits r left new spelled h)
+  data_read : (r : Result (Unit {0}) RecordError) (left : List TokenSeen) → ReadsType (known_name before.origin) room w.rtype end behind old r left new → ReadsBehind before at w old r new result → IsTheRecord
+  data_read (Err r) left h k = absurd (type_taken (known_name before.origin) room w.rtype end behind octets old fits r left new spelled h)
   data_read (Ok u) left h k =
       let gained = h.1 in
-      let same : gained.0 ≡ octets = type_once (known_name before.origin) behind known w.code gained.0 octets gained.1 spelled in (
+      let same : gained.0 ≡ octets = type_once (known_name before.origin) behind known w.rtype gained.0 octets gained.1 spelled in (
         k.2.2 ∙ ap (record_with before at w) (any_minimum room at end behind t w ttl class labels before old new own said absolute w.ttl k.2.0 own) ∙ full room at end behind t w ttl class labels before old new own said absolute,
         gained.2 ∙ ap (λ o. old ++ o) same,
       )
 
-  read_whole : (owner : Known) (first : Result (Unit {0}) EntryRefusal) → ReadsOwner before at (Some t) first owner → ReadsWords before room at end first (Ok w) behind old result new → IsTheRecord × (owner ≡ Name labels)
+  read_whole : (owner : Known) (first : Result (Unit {0}) RecordError) → ReadsOwner before at (Some t) first owner → ReadsWords before room at end first (Ok w) behind old result new → IsTheRecord × (owner ≡ Name labels)
   read_whole owner (Err x) h k = absurd (owner_taken x h.1)
   read_whole owner (Ok u) h k = (data_read k.0 k.1 k.2 k.3, the_owner room at end behind t w ttl class labels before old new own said absolute owner h)
 
 pub whole_records_alone : WholeRecordsStandAlone
-whole_records_alone room end tokens labels ttl class code octets says before after old new result known fits h =
-    let w : Words = record { ttl = Some ttl; class = Some class; code = code } in
+whole_records_alone room end tokens labels ttl class rtype octets says before after old new result known fits h =
+    let w : Words = record { ttl = Some ttl; class = Some class; rtype = rtype } in
     let same = entries_say_once false end tokens h.meaning (says_record (Some says.owner) (Ok w) says.behind) h.says says.says in
     let reads = subst (λ m. ReadsMeaning before room end tokens m old result after.owner new) same h.reads in
     let all = read_whole room (next_place tokens end) end says.behind says.owner w ttl class labels octets before old new refl refl says.owner_is known (says.«data» (known_name before.origin) known) fits result after.owner reads.0 reads.1 reads.2 in

@@ -6,33 +6,29 @@ use Rattle.dns_octets.specs.Room.{Room, exactly}
 use Rattle.dns_wire.specs.Limits.{max_name}
 use Rattle.dns_wire.specs.Wire.{wire}
 use Rattle.dns_split.specs.EntryTokens.{TokenSeen}
+use Rattle.dns_fields.specs.RecordErrors.{IsErrorAt, error_at}
 use Rattle.dns_fields.specs.Source.{next_place}
 use Rattle.dns_fields.specs.Taking.{SpellsField, RefusesNext}
-use Rattle.dns_fields.specs.declared.error.FieldError.{FieldError}
-use Rattle.dns_fields.specs.declared.error.FieldError.TheVariants.{ShortBuf}
 use Rattle.dns_fields.specs.declared.field.Field.TheVariants.{Name as OfName}
+use Rattle.dns_fields.specs.declared.record_error.RecordError.{RecordError}
+use Rattle.dns_kinds.specs.Rtype as Rtype
+use Rattle.dns_kinds.specs.declared.error.ErrorKind.{ErrorKind}
+use Rattle.dns_kinds.specs.declared.error.ErrorKind.TheVariants.{ShortBuf, NoTtl}
+use Rattle.dns_kinds.specs.declared.types.RecordType.{RecordType}
 use Rattle.dns_data.specs.ByType.{ReadsType}
-use Rattle.dns_data.specs.declared.by_type.TypeRefusal.{TypeRefusal}
 use Rattle.dns_heads.specs.Directives.{first_directive}
 use Rattle.dns_heads.specs.EntrySays.{EntryMeaning, EntrySays, says_nothing, says_origin, says_default_ttl, says_include, says_record, says_refused}
 use Rattle.dns_heads.specs.HeadWords.{ttl_of_seconds}
 use Rattle.dns_heads.specs.declared.directive.Directive.{Directive}
 use Rattle.dns_heads.specs.declared.directive.Directive.TheVariants.{Origin}
-use Rattle.dns_heads.specs.declared.error.HeadError.{HeadError}
-use Rattle.dns_heads.specs.declared.error.HeadError.TheVariants.{Field as OfField}
-use Rattle.dns_heads.specs.declared.error.HeadRefusal.{HeadRefusal}
 use Rattle.dns_heads.specs.declared.head.Words.{Words}
 use Rattle.dns_heads.specs.declared.head.WordsRefusal.{WordsRefusal}
-use Rattle.dns_reader.specs.EntryErrors.{refused_at, refused_data, refused_head, refused_words}
-use Rattle.dns_reader.specs.Learning.{Learns, chosen_ttl, without_owner}
+use Rattle.dns_reader.specs.Learning.{Learns, WhyNoOwner, chosen_ttl}
 use Rattle.dns_reader.specs.Past.{Said, SaysOrigin, SaysOwner, SaysDefaultTtl, SaysTtl, known_name}
 use Rattle.dns_reader.specs.declared.entry.EntryRead.{EntryRead}
 use Rattle.dns_reader.specs.declared.entry.EntryRead.TheVariants.{Nothing, Directive as IsDirective, Include, Record}
-use Rattle.dns_reader.specs.declared.entry_error.EntryError.TheVariants.{Head, Field, Owner, NoTtl}
-use Rattle.dns_reader.specs.declared.entry_error.EntryRefusal.{EntryRefusal}
 use Rattle.dns_reader.specs.declared.known.Known.{Known}
 use Rattle.dns_reader.specs.declared.known.Known.TheVariants.{Name, Refused}
-use Rattle.dns_reader.specs.declared.owner_error.OwnerError.{OwnerError}
 use Rattle.dns_reader.specs.declared.state.State.{State}
 use Rattle.dns_reader.specs.declared.ttl.RecordTtl.{RecordTtl}
 use Rattle.dns_reader.specs.declared.ttl.RecordTtl.TheVariants.{Own, Default, Last, Minimum}
@@ -40,21 +36,21 @@ use Rattle.dns_reader.specs.declared.ttl.RecordTtl.TheVariants.{Own, Default, La
 -- ---- names
 
 -- the token spells a name, or is refused at its place, for a reason that a name of at most 255 octets is refused for
-abbrev pub NamesOrRefuses : Option (List (List ℕ)) → TokenSeen → Result (List (List ℕ)) EntryRefusal → Type 0
+abbrev pub NamesOrRefuses : Option (List (List ℕ)) → TokenSeen → Result (List (List ℕ)) RecordError → Type 0
 NamesOrRefuses origin t (Ok labels) = SpellsField origin OfName t (wire labels)
-NamesOrRefuses origin t (Err r) = (why : FieldError) × (r ≡ refused_at t.at (Field why)) × RefusesNext origin (exactly max_name) OfName (t ∷ []) [] why
+NamesOrRefuses origin t (Err e) = IsErrorAt t.at e × RefusesNext origin (exactly max_name) OfName (t ∷ []) [] e.kind
 
 -- ---- directives
 
 -- the origin from here
-abbrev pub ReadsOrigin : Option (List (List ℕ)) → TokenSeen → Result EntryRead EntryRefusal → Type 0
+abbrev pub ReadsOrigin : Option (List (List ℕ)) → TokenSeen → Result EntryRead RecordError → Type 0
 ReadsOrigin origin t (Ok e) = (e ≡ IsDirective) × ((labels : List (List ℕ)) × NamesOrRefuses origin t (Ok labels))
 ReadsOrigin origin t (Err r) = NamesOrRefuses origin t (Err r)
 
 -- a directive, if its argument is taken
-abbrev pub directive_with : Result ℕ HeadRefusal → Result EntryRead EntryRefusal
+abbrev pub directive_with : Result ℕ RecordError → Result EntryRead RecordError
 directive_with (Ok ttl) = Ok IsDirective
-directive_with (Err r) = Err (refused_head r)
+directive_with (Err e) = Err e
 
 -- the origin of an included text, if its token is there
 abbrev pub IncludesOrigin : Option (List (List ℕ)) → Option TokenSeen → Option (List (List ℕ)) → Type 0
@@ -62,23 +58,23 @@ IncludesOrigin origin None named = named ≡ None
 IncludesOrigin origin (Some t) None = ⊥
 IncludesOrigin origin (Some t) (Some labels) = NamesOrRefuses origin t (Ok labels)
 
-abbrev pub RefusesOrigin : Option (List (List ℕ)) → Option TokenSeen → EntryRefusal → Type 0
+abbrev pub RefusesOrigin : Option (List (List ℕ)) → Option TokenSeen → RecordError → Type 0
 RefusesOrigin origin None r = ⊥
 RefusesOrigin origin (Some t) r = NamesOrRefuses origin t (Err r)
 
 -- a file's octets are appended, and its origin is given, if one is said; or that is refused; or else the octets don't surely fit
-abbrev pub ReadsInclude : Option (List (List ℕ)) → Room → ℕ → List ℕ → Option TokenSeen → List ℕ → Result EntryRead EntryRefusal → List ℕ → Type 0
+abbrev pub ReadsInclude : Option (List (List ℕ)) → Room → ℕ → List ℕ → Option TokenSeen → List ℕ → Result EntryRead RecordError → List ℕ → Type 0
 ReadsInclude origin room at file token old (Ok e) new = (named : Option (List (List ℕ))) × (e ≡ Include named) × IncludesOrigin origin token named × (new ≡ old ++ file)
 ReadsInclude origin room at file token old (Err r) new =
     RefusesOrigin origin token r
-    ⊎ ((r ≡ refused_at at (Head (OfField ShortBuf))) × (room.fits < length old + length file) × ((named : Option (List (List ℕ))) × IncludesOrigin origin token named))
+    ⊎ ((r ≡ error_at at ShortBuf) × (room.fits < length old + length file) × ((named : Option (List (List ℕ))) × IncludesOrigin origin token named))
 
 -- ---- records
 
 -- the owner that a record says by its token, or else the one before; or why it has none, at its token or at the record's place
-abbrev pub ReadsOwner : State → ℕ → Option TokenSeen → Result (Unit {0}) EntryRefusal → Known → Type 0
+abbrev pub ReadsOwner : State → ℕ → Option TokenSeen → Result (Unit {0}) RecordError → Known → Type 0
 ReadsOwner before at None (Ok _) known = (known ≡ before.owner) × ((labels : List (List ℕ)) × (known ≡ Name labels))
-ReadsOwner before at None (Err r) known = (known ≡ before.owner) × ((e : OwnerError) × (known ≡ without_owner e) × (r ≡ refused_at at (Owner e)))
+ReadsOwner before at None (Err e) known = (known ≡ before.owner) × IsErrorAt at e × WhyNoOwner known e.kind
 ReadsOwner before at (Some t) (Ok _) known = (labels : List (List ℕ)) × (known ≡ Name labels) × NamesOrRefuses (known_name before.origin) t (Ok labels)
 ReadsOwner before at (Some t) (Err r) known = (known ≡ Refused) × NamesOrRefuses (known_name before.origin) t (Err r)
 
@@ -88,33 +84,34 @@ EndsInNumber octets None = length octets < 4
 EndsInNumber octets (Some n) = (front : List ℕ) × (last : List ℕ) × (octets ≡ front ++ last) × (length last ≡ 4) × (n ≡ from_be_bytes w32 last)
 
 -- the minimum of an SOA, as a time to live, is that of the number at the end of its data; other records have none (RFC 1035 section 3.3.13)
-abbrev pub IsMinimum : ℕ → List ℕ → Option ℕ → Type 0
-IsMinimum code octets minimum = ((code ≡ 6) × ((seconds : Option ℕ) × EndsInNumber octets seconds × (minimum ≡ option_map ttl_of_seconds seconds))) ⊎ ((code ≢ 6) × (minimum ≡ None))
+abbrev pub IsMinimum : RecordType → List ℕ → Option ℕ → Type 0
+IsMinimum rtype octets minimum =
+    ((rtype ≡ Rtype.soa) × ((seconds : Option ℕ) × EndsInNumber octets seconds × (minimum ≡ option_map ttl_of_seconds seconds))) ⊎ ((rtype ≢ Rtype.soa) × (minimum ≡ None))
 
 -- a record, whose class is its own or the state's; or the refusal of one without a time to live
-abbrev pub record_with : State → ℕ → Words → Option RecordTtl → Result EntryRead EntryRefusal
-record_with before at w None = Err (refused_at at NoTtl)
-record_with before at w (Some ttl) = Ok (Record at ttl (unwrap_or w.class before.class) w.code)
+abbrev pub record_with : State → ℕ → Words → Option RecordTtl → Result EntryRead RecordError
+record_with before at w None = Err (error_at at NoTtl)
+record_with before at w (Some ttl) = Ok (Record at ttl (unwrap_or w.class before.class) w.rtype)
 
 -- what comes behind the words: the data, and then the time to live
-abbrev pub ReadsBehind : State → ℕ → Words → List ℕ → Result (Unit {0}) TypeRefusal → List ℕ → Result EntryRead EntryRefusal → Type 0
-ReadsBehind before at w old (Err r) new result = result ≡ Err (refused_data w.code r)
+abbrev pub ReadsBehind : State → ℕ → Words → List ℕ → Result (Unit {0}) RecordError → List ℕ → Result EntryRead RecordError → Type 0
+ReadsBehind before at w old (Err e) new result = result ≡ Err e
 ReadsBehind before at w old (Ok _) new result =
-    (octets : List ℕ) × (new ≡ old ++ octets) × ((minimum : Option ℕ) × IsMinimum w.code octets minimum × (result ≡ record_with before at w (chosen_ttl w.ttl before.default_ttl before.last_ttl minimum)))
+    (octets : List ℕ) × (new ≡ old ++ octets) × ((minimum : Option ℕ) × IsMinimum w.rtype octets minimum × (result ≡ record_with before at w (chosen_ttl w.ttl before.default_ttl before.last_ttl minimum)))
 
-abbrev pub ReadsRecordData : State → Room → ℕ → ℕ → Words → List TokenSeen → List ℕ → Result EntryRead EntryRefusal → List ℕ → Type 0
+abbrev pub ReadsRecordData : State → Room → ℕ → ℕ → Words → List TokenSeen → List ℕ → Result EntryRead RecordError → List ℕ → Type 0
 ReadsRecordData before room at end w tokens old result new =
-    (r : Result (Unit {0}) TypeRefusal) × (left : List TokenSeen) × ReadsType (known_name before.origin) room w.code end tokens old r left new × ReadsBehind before at w old r new result
+    (r : Result (Unit {0}) RecordError) × (left : List TokenSeen) × ReadsType (known_name before.origin) room w.rtype end tokens old r left new × ReadsBehind before at w old r new result
 
 -- what comes behind the owner: the first of owner, words and data that is refused is the refusal
-abbrev pub ReadsWords : State → Room → ℕ → ℕ → Result (Unit {0}) EntryRefusal → Result Words WordsRefusal → List TokenSeen → List ℕ → Result EntryRead EntryRefusal → List ℕ → Type 0
+abbrev pub ReadsWords : State → Room → ℕ → ℕ → Result (Unit {0}) RecordError → Result Words WordsRefusal → List TokenSeen → List ℕ → Result EntryRead RecordError → List ℕ → Type 0
 ReadsWords before room at end (Err r) words tokens old result new = (result ≡ Err r) × (new ≡ old)
-ReadsWords before room at end (Ok _) (Err r) tokens old result new = (result ≡ Err (refused_words r)) × (new ≡ old)
+ReadsWords before room at end (Ok _) (Err r) tokens old result new = (result ≡ Err r.error) × (new ≡ old)
 ReadsWords before room at end (Ok _) (Ok w) tokens old result new = ReadsRecordData before room at end w tokens old result new
 
-abbrev pub ReadsRecord : State → Room → ℕ → ℕ → Option TokenSeen → Result Words WordsRefusal → List TokenSeen → List ℕ → Result EntryRead EntryRefusal → Known → List ℕ → Type 0
+abbrev pub ReadsRecord : State → Room → ℕ → ℕ → Option TokenSeen → Result Words WordsRefusal → List TokenSeen → List ℕ → Result EntryRead RecordError → Known → List ℕ → Type 0
 ReadsRecord before room at end owner words tokens old result known new =
-    (first : Result (Unit {0}) EntryRefusal) × ReadsOwner before at owner first known × ReadsWords before room at end first words tokens old result new
+    (first : Result (Unit {0}) RecordError) × ReadsOwner before at owner first known × ReadsWords before room at end first words tokens old result new
 
 -- ---- what an entry says of those after it
 
@@ -138,24 +135,24 @@ minimum_of_ttl (Default ttl) = []
 minimum_of_ttl (Last ttl) = []
 minimum_of_ttl (Minimum ttl) = SaysDefaultTtl ttl ∷ []
 
-abbrev pub minimum_of_record : Result EntryRead EntryRefusal → List Said
-minimum_of_record (Ok (Record at ttl class code)) = minimum_of_ttl ttl
+abbrev pub minimum_of_record : Result EntryRead RecordError → List Said
+minimum_of_record (Ok (Record at ttl class rtype)) = minimum_of_ttl ttl
 minimum_of_record _ = []
 
-abbrev pub said_of_record : Option TokenSeen → Result Words WordsRefusal → Result EntryRead EntryRefusal → List Said
+abbrev pub said_of_record : Option TokenSeen → Result Words WordsRefusal → Result EntryRead RecordError → List Said
 said_of_record owner words result = owner_of_record owner ++ (own_ttl_of (ttl_of_words words) ++ minimum_of_record result)
 
 -- a refused `$ORIGIN` says that there is none
-abbrev pub said_of_refused : Option (Result Directive HeadError) → List Said
+abbrev pub said_of_refused : Option (Result Directive ErrorKind) → List Said
 said_of_refused (Some (Ok Origin)) = SaysOrigin None ∷ []
 said_of_refused _ = []
 
 -- a default time to live, if it is one
-abbrev pub default_ttl_of : Result ℕ HeadRefusal → List Said
+abbrev pub default_ttl_of : Result ℕ RecordError → List Said
 default_ttl_of (Ok ttl) = SaysDefaultTtl ttl ∷ []
 default_ttl_of (Err r) = []
 
-abbrev pub said_of_entry : Option (Result Directive HeadError) → EntryMeaning → Result EntryRead EntryRefusal → List Said
+abbrev pub said_of_entry : Option (Result Directive ErrorKind) → EntryMeaning → Result EntryRead RecordError → List Said
 said_of_entry first says_nothing result = []
 said_of_entry first (says_origin t) result = SaysOrigin (Some t) ∷ []
 said_of_entry first (says_default_ttl r) result = default_ttl_of r
@@ -166,15 +163,15 @@ said_of_entry first (says_refused r) result = said_of_refused first
 -- ---- entries
 
 -- what is read of an entry that says this; but for files and records the octets stay, and these stay in front
-abbrev pub ReadsMeaning : State → Room → ℕ → List TokenSeen → EntryMeaning → List ℕ → Result EntryRead EntryRefusal → Known → List ℕ → Type 0
+abbrev pub ReadsMeaning : State → Room → ℕ → List TokenSeen → EntryMeaning → List ℕ → Result EntryRead RecordError → Known → List ℕ → Type 0
 ReadsMeaning before room end tokens says_nothing old result owner new = (result ≡ Ok Nothing) × (new ≡ old)
 ReadsMeaning before room end tokens (says_origin t) old result owner new = ReadsOrigin (known_name before.origin) t result × (new ≡ old)
 ReadsMeaning before room end tokens (says_default_ttl r) old result owner new = (result ≡ directive_with r) × (new ≡ old)
 ReadsMeaning before room end tokens (says_include file token) old result owner new = ReadsInclude (known_name before.origin) room (next_place (drop 1 tokens) end) file token old result new
 ReadsMeaning before room end tokens (says_record token words left) old result owner new = ReadsRecord before room (next_place tokens end) end token words left old result owner new
-ReadsMeaning before room end tokens (says_refused r) old result owner new = result ≡ Err (refused_head r)
+ReadsMeaning before room end tokens (says_refused e) old result owner new = result ≡ Err e
 
-pub record ReadsZoneEntry (room : Room) (blank : Bool) (end : ℕ) (tokens : List TokenSeen) (before : State) (old : List ℕ) (result : Result EntryRead EntryRefusal) (after : State) (new : List ℕ) : Type 0 where
+pub record ReadsZoneEntry (room : Room) (blank : Bool) (end : ℕ) (tokens : List TokenSeen) (before : State) (old : List ℕ) (result : Result EntryRead RecordError) (after : State) (new : List ℕ) : Type 0 where
   pub meaning : EntryMeaning
   pub says : EntrySays blank end tokens meaning
   pub reads : ReadsMeaning before room end tokens meaning old result after.owner new

@@ -3,40 +3,37 @@ use Rattle.std.specs.Prelude.{ℕ, ◌≡◌, ◌<◌, ◌+◌, Bool, true, fals
 use Rattle.dns_octets.specs.Appending.{Extends}
 use Rattle.dns_octets.specs.Room.{Room}
 use Rattle.dns_split.specs.EntryTokens.{TokenSeen}
+use Rattle.dns_kinds.specs.declared.error.ErrorKind.TheVariants.{EndOfEntry, ShortBuf, TrailingArgument}
+use Rattle.dns_fields.specs.RecordErrors.{error_at}
 use Rattle.dns_fields.specs.Source.{next_place}
-use Rattle.dns_fields.specs.declared.error.FieldError.TheVariants.{EndOfEntry, ShortBuf}
+use Rattle.dns_fields.specs.declared.record_error.RecordError.{RecordError}
 use Rattle.dns_heads.specs.Arguments.{TakesDefaultTtl}
 use Rattle.dns_heads.specs.Heads.{TakesWords}
 use Rattle.dns_heads.specs.declared.directive.Directive.{Directive}
 use Rattle.dns_heads.specs.declared.directive.Directive.TheVariants.{Origin, Ttl, Include as OfInclude}
-use Rattle.dns_heads.specs.declared.error.HeadError.TheVariants.{Field as OfField, TrailingToken}
-use Rattle.dns_heads.specs.declared.error.HeadRefusal.{HeadRefusal}
 use Rattle.dns_heads.specs.declared.head.Words.{Words}
 use Rattle.dns_heads.specs.declared.head.WordsRefusal.{WordsRefusal}
-use Rattle.dns_reader.specs.EntryErrors.{refused_at}
 use Rattle.dns_reader.specs.EntryReading.{IncludesOrigin, ReadsInclude, NamesOrRefuses, ReadsRecord, RefusesOrigin, default_ttl_of, directive_with, said_of_record}
 use Rattle.dns_reader.specs.Learning.{Learns}
 use Rattle.dns_reader.specs.Past.{SaysOrigin, known_name}
 use Rattle.dns_reader.specs.declared.entry.EntryRead.{EntryRead}
 use Rattle.dns_reader.specs.declared.entry.EntryRead.TheVariants.{Directive as IsDirective}
-use Rattle.dns_reader.specs.declared.entry_error.EntryError.TheVariants.{Head, Field}
-use Rattle.dns_reader.specs.declared.entry_error.EntryRefusal.{EntryRefusal}
 use Rattle.dns_reader.specs.declared.state.State.{State}
 
 -- no token is left where one is asked for; or one is left that is not
-abbrev pub ends_early : ℕ → EntryRefusal
-ends_early end = refused_at end (Head (OfField EndOfEntry))
+abbrev pub ends_early : ℕ → RecordError
+ends_early end = error_at end EndOfEntry
 
-abbrev pub too_many : TokenSeen → EntryRefusal
-too_many t = refused_at t.at (Head TrailingToken)
+abbrev pub too_many : TokenSeen → RecordError
+too_many t = error_at t.at TrailingArgument
 
 -- the next token is passed over: it spells a name, or is refused
-abbrev pub PassesName : Option (List (List ℕ)) → ℕ → List TokenSeen → Result (List (List ℕ)) EntryRefusal → List TokenSeen → Type 0
-PassesName origin end [] r left = (left ≡ []) × (r ≡ Err (refused_at end (Field EndOfEntry)))
+abbrev pub PassesName : Option (List (List ℕ)) → ℕ → List TokenSeen → Result (List (List ℕ)) RecordError → List TokenSeen → Type 0
+PassesName origin end [] r left = (left ≡ []) × (r ≡ Err (ends_early end))
 PassesName origin end (t ∷ ts) r left = (left ≡ ts) × NamesOrRefuses origin t r
 
 -- the one token that is left spells a name, or is refused
-abbrev pub TakesLastName : Option (List (List ℕ)) → ℕ → List TokenSeen → Result (List (List ℕ)) EntryRefusal → Type 0
+abbrev pub TakesLastName : Option (List (List ℕ)) → ℕ → List TokenSeen → Result (List (List ℕ)) RecordError → Type 0
 TakesLastName origin end [] r = r ≡ Err (ends_early end)
 TakesLastName origin end (t ∷ []) r = NamesOrRefuses origin t r
 TakesLastName origin end (t ∷ u ∷ ts) r = r ≡ Err (too_many u)
@@ -47,40 +44,40 @@ only_token [] = None
 only_token (t ∷ []) = Some t
 only_token (t ∷ u ∷ ts) = None
 
-abbrev pub ReadsLastOrigin : Option (List (List ℕ)) → ℕ → List TokenSeen → Result EntryRead EntryRefusal → Type 0
+abbrev pub ReadsLastOrigin : Option (List (List ℕ)) → ℕ → List TokenSeen → Result EntryRead RecordError → Type 0
 ReadsLastOrigin origin end tokens (Ok e) = (e ≡ IsDirective) × ((labels : List (List ℕ)) × TakesLastName origin end tokens (Ok labels))
 ReadsLastOrigin origin end tokens (Err r) = TakesLastName origin end tokens (Err r)
 
-abbrev pub ReadsDefaultTtl : ℕ → List TokenSeen → State → Result EntryRead EntryRefusal → State → Type 0
+abbrev pub ReadsDefaultTtl : ℕ → List TokenSeen → State → Result EntryRead RecordError → State → Type 0
 ReadsDefaultTtl end tokens before result after =
-    (r : Result ℕ HeadRefusal) × (left : List TokenSeen) × TakesDefaultTtl end tokens r left × (result ≡ directive_with r) × Learns (default_ttl_of r) before after
+    (r : Result ℕ RecordError) × (left : List TokenSeen) × TakesDefaultTtl end tokens r left × (result ≡ directive_with r) × Learns (default_ttl_of r) before after
 
 -- the next token is passed over: what it holds is appended, or does not surely fit
-abbrev pub AppendsFile : Room → TokenSeen → List ℕ → Result (Unit {0}) EntryRefusal → List ℕ → Type 0
+abbrev pub AppendsFile : Room → TokenSeen → List ℕ → Result (Unit {0}) RecordError → List ℕ → Type 0
 AppendsFile room t old (Ok _) new = new ≡ old ++ t.text
-AppendsFile room t old (Err r) new = (new ≡ old) × (r ≡ refused_at t.at (Head (OfField ShortBuf))) × (room.fits < length old + length t.text)
+AppendsFile room t old (Err r) new = (new ≡ old) × (r ≡ error_at t.at ShortBuf) × (room.fits < length old + length t.text)
 
-abbrev pub PassesFile : Room → ℕ → List TokenSeen → List ℕ → Result (Unit {0}) EntryRefusal → List TokenSeen → List ℕ → Type 0
+abbrev pub PassesFile : Room → ℕ → List TokenSeen → List ℕ → Result (Unit {0}) RecordError → List TokenSeen → List ℕ → Type 0
 PassesFile room end [] old r left new = (left ≡ []) × (r ≡ Err (ends_early end)) × (new ≡ old)
 PassesFile room end (t ∷ ts) old r left new = (left ≡ ts) × AppendsFile room t old r new
 
 -- an origin is included, or is refused
-abbrev pub ReadsIncluded : Option (List (List ℕ)) → Option TokenSeen → Result (Option (List (List ℕ))) EntryRefusal → Type 0
+abbrev pub ReadsIncluded : Option (List (List ℕ)) → Option TokenSeen → Result (Option (List (List ℕ))) RecordError → Type 0
 ReadsIncluded origin token (Ok named) = IncludesOrigin origin token named
 ReadsIncluded origin token (Err r) = RefusesOrigin origin token r
 
-abbrev pub TakesIncludedOrigin : Option (List (List ℕ)) → ℕ → List TokenSeen → Result (Option (List (List ℕ))) EntryRefusal → Type 0
+abbrev pub TakesIncludedOrigin : Option (List (List ℕ)) → ℕ → List TokenSeen → Result (Option (List (List ℕ))) RecordError → Type 0
 TakesIncludedOrigin origin end [] r = ReadsIncluded origin None r
 TakesIncludedOrigin origin end (t ∷ []) r = ReadsIncluded origin (Some t) r
 TakesIncludedOrigin origin end (t ∷ u ∷ ts) r = r ≡ Err (too_many u)
 
-abbrev pub ReadsLastInclude : Option (List (List ℕ)) → Room → ℕ → List TokenSeen → List ℕ → Result EntryRead EntryRefusal → List ℕ → Type 0
+abbrev pub ReadsLastInclude : Option (List (List ℕ)) → Room → ℕ → List TokenSeen → List ℕ → Result EntryRead RecordError → List ℕ → Type 0
 ReadsLastInclude origin room end [] old r new = Extends old new × (r ≡ Err (ends_early end))
 ReadsLastInclude origin room end (file ∷ []) old r new = Extends old new × ReadsInclude origin room file.at file.text None old r new
 ReadsLastInclude origin room end (file ∷ t ∷ []) old r new = Extends old new × ReadsInclude origin room file.at file.text (Some t) old r new
 ReadsLastInclude origin room end (file ∷ t ∷ u ∷ ts) old r new = Extends old new × (r ≡ Err (too_many u))
 
-abbrev pub ReadsDirective : Directive → Room → ℕ → List TokenSeen → State → List ℕ → Result EntryRead EntryRefusal → State → List ℕ → Type 0
+abbrev pub ReadsDirective : Directive → Room → ℕ → List TokenSeen → State → List ℕ → Result EntryRead RecordError → State → List ℕ → Type 0
 ReadsDirective Origin room end tokens before old r after new =
     ReadsLastOrigin (known_name before.origin) end tokens r × Learns (SaysOrigin (only_token tokens) ∷ []) before after × (new ≡ old)
 ReadsDirective Ttl room end tokens before old r after new = ReadsDefaultTtl end tokens before r after × (new ≡ old)
@@ -100,7 +97,7 @@ own_or_last None last = last
 own_or_last (Some ttl) last = Some ttl
 
 -- the owner, the words behind it, and what comes behind these
-pub record ReadsRecordTokens (room : Room) (blank : Bool) (end : ℕ) (tokens : List TokenSeen) (before : State) (old : List ℕ) (result : Result EntryRead EntryRefusal) (after : State) (new : List ℕ) : Type 0 where
+pub record ReadsRecordTokens (room : Room) (blank : Bool) (end : ℕ) (tokens : List TokenSeen) (before : State) (old : List ℕ) (result : Result EntryRead RecordError) (after : State) (new : List ℕ) : Type 0 where
   pub words : Result Words WordsRefusal
   pub left : List TokenSeen
   pub takes : TakesWords end (tokens_behind_owner blank tokens) words left

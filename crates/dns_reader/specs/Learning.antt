@@ -4,15 +4,16 @@ use Rattle.dns_octets.specs.Room.{exactly}
 use Rattle.dns_wire.specs.Limits.{max_name}
 use Rattle.dns_wire.specs.Wire.{wire}
 use Rattle.dns_split.specs.EntryTokens.{TokenSeen}
+use Rattle.dns_kinds.specs.declared.error.ErrorKind.{ErrorKind}
+use Rattle.dns_kinds.specs.declared.error.ErrorKind.TheVariants.{NoOwner, RefusedOwner}
+use Rattle.dns_fields.specs.RecordErrors.{IsErrorAt}
 use Rattle.dns_fields.specs.Source.{next_place}
 use Rattle.dns_fields.specs.Taking.{SpellsField, RefusesNext}
 use Rattle.dns_fields.specs.declared.field.Field.TheVariants.{Name as OfName}
-use Rattle.dns_fields.specs.declared.taking.Refusal.{Refusal}
+use Rattle.dns_fields.specs.declared.record_error.RecordError.{RecordError}
 use Rattle.dns_reader.specs.Past.{Said, IsOriginAfter, IsOwnerAfter, IsRecordTtl, Knows, NamedBy, ttls_said}
 use Rattle.dns_reader.specs.declared.known.Known.{Known}
-use Rattle.dns_reader.specs.declared.known.Known.TheVariants.{Unsaid, Refused}
-use Rattle.dns_reader.specs.declared.owner_error.OwnerError.{OwnerError}
-use Rattle.dns_reader.specs.declared.owner_error.OwnerError.TheVariants.{NoOwner, Refused as OwnerRefused}
+use Rattle.dns_reader.specs.declared.known.Known.TheVariants.{Unsaid, Name, Refused}
 use Rattle.dns_reader.specs.declared.state.Mark.{Mark}
 use Rattle.dns_reader.specs.declared.state.State.{State}
 use Rattle.dns_reader.specs.declared.ttl.RecordTtl.{RecordTtl}
@@ -24,15 +25,16 @@ Learns said old new = (start : State) (past : List Said) → Knows start past ol
 
 -- The next token is taken as a name; or it is refused at its place, for a reason that a name of at
 -- most 255 octets is refused for, and stays, and no name is there.
-abbrev pub TakesName : Option (List (List ℕ)) → ℕ → List TokenSeen → Result (List (List ℕ)) Refusal → List TokenSeen → Type 0
+abbrev pub TakesName : Option (List (List ℕ)) → ℕ → List TokenSeen → Result (List (List ℕ)) RecordError → List TokenSeen → Type 0
 TakesName origin end tokens (Ok labels) left = (t : TokenSeen) × (tokens ≡ t ∷ left) × SpellsField origin OfName t (wire labels)
-TakesName origin end tokens (Err r) left =
-    (left ≡ tokens) × (r.at ≡ next_place tokens end) × RefusesNext origin (exactly max_name) OfName tokens [] r.why × NamedBy origin (slice_get tokens 0) Refused
+TakesName origin end tokens (Err e) left =
+    (left ≡ tokens) × IsErrorAt (next_place tokens end) e × RefusesNext origin (exactly max_name) OfName tokens [] e.kind × NamedBy origin (slice_get tokens 0) Refused
 
--- why there is no owner
-abbrev pub without_owner : OwnerError → Known
-without_owner NoOwner = Unsaid
-without_owner OwnerRefused = Refused
+-- why there is no owner: none was said, or the one that was said last is refused
+abbrev pub WhyNoOwner : Known → ErrorKind → Type 0
+WhyNoOwner Unsaid kind = kind ≡ NoOwner
+WhyNoOwner (Name labels) kind = ⊥
+WhyNoOwner Refused kind = kind ≡ RefusedOwner
 
 -- this is the time to live of a record after all that was said
 abbrev pub TellsTtl : Option ℕ → Option ℕ → State → Option RecordTtl → Type 0

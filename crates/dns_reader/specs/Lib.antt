@@ -1,8 +1,6 @@
-pub mod EntryErrors
 pub mod EntryReading
 pub mod EntrySteps
 pub mod Learning
-pub mod OwnerError
 pub mod Past
 pub mod PastLaws
 pub mod ReadingLaws

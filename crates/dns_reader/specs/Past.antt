@@ -4,6 +4,7 @@ use Rattle.dns_wire.specs.Wire.{wire}
 use Rattle.dns_split.specs.EntryTokens.{TokenSeen}
 use Rattle.dns_fields.specs.Taking.{SpellsField}
 use Rattle.dns_fields.specs.declared.field.Field.TheVariants.{Name as OfName}
+use Rattle.dns_kinds.specs.declared.classes.Class.{Class}
 use Rattle.dns_reader.specs.declared.known.Known.{Known}
 use Rattle.dns_reader.specs.declared.known.Known.TheVariants.{Unsaid, Name, Refused}
 use Rattle.dns_reader.specs.declared.state.State.{State}
@@ -110,7 +111,7 @@ ttls_said (SaysDefaultTtl ttl ∷ past) = SaysDefaultTtl ttl ∷ ttls_said past
 ttls_said (SaysTtl ttl ∷ past) = SaysTtl ttl ∷ ttls_said past
 
 -- a class alone
-abbrev pub nothing_said : ℕ → State
+abbrev pub nothing_said : Class → State
 nothing_said class = record { origin = Unsaid; owner = Unsaid; default_ttl = None; last_ttl = None; class = class }
 
 abbrev pub seconds_of : RecordTtl → ℕ

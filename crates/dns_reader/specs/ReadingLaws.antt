@@ -7,6 +7,9 @@ use Rattle.dns_split.specs.EntryTokens.{TokenSeen}
 use Rattle.dns_fields.specs.Source.{next_place}
 use Rattle.dns_fields.specs.Taking.{SpellsField}
 use Rattle.dns_fields.specs.declared.field.Field.TheVariants.{Name as OfName}
+use Rattle.dns_fields.specs.declared.record_error.RecordError.{RecordError}
+use Rattle.dns_kinds.specs.declared.classes.Class.{Class}
+use Rattle.dns_kinds.specs.declared.types.RecordType.{RecordType}
 use Rattle.dns_data.specs.ByType.{SpellsTypeData}
 use Rattle.dns_heads.specs.EntrySays.{EntrySays, says_record}
 use Rattle.dns_heads.specs.declared.head.Words.{Words}
@@ -14,7 +17,6 @@ use Rattle.dns_reader.specs.EntryReading.{ReadsZoneEntry}
 use Rattle.dns_reader.specs.Past.{known_name}
 use Rattle.dns_reader.specs.declared.entry.EntryRead.{EntryRead}
 use Rattle.dns_reader.specs.declared.entry.EntryRead.TheVariants.{Record}
-use Rattle.dns_reader.specs.declared.entry_error.EntryRefusal.{EntryRefusal}
 use Rattle.dns_reader.specs.declared.known.Known.TheVariants.{Name}
 use Rattle.dns_reader.specs.declared.state.State.{State}
 use Rattle.dns_reader.specs.declared.ttl.RecordTtl.TheVariants.{Own}
@@ -22,20 +24,20 @@ use Rattle.dns_reader.specs.declared.ttl.RecordTtl.TheVariants.{Own}
 -- A record that is read, and that says an absolute owner, its time to live and its class, has these
 -- whatever the state before it is.
 abbrev pub FullRecordsStandAlone : Type 0
-FullRecordsStandAlone = (room : Room) (end : ℕ) (tokens left : List TokenSeen) (t : TokenSeen) (w : Words) (ttl class : ℕ) (labels : List (List ℕ)) (before after : State) (old new : List ℕ) (e : EntryRead)
+FullRecordsStandAlone = (room : Room) (end : ℕ) (tokens left : List TokenSeen) (t : TokenSeen) (w : Words) (ttl : ℕ) (class : Class) (labels : List (List ℕ)) (before after : State) (old new : List ℕ) (e : EntryRead)
     → EntrySays false end tokens (says_record (Some t) (Ok w) left) → w.ttl ≡ Some ttl → w.class ≡ Some class → SpellsField None OfName t (wire labels) → ReadsZoneEntry room false end tokens before old (Ok e) after new
-    → (e ≡ Record (next_place tokens end) (Own ttl) class w.code) × (after.owner ≡ Name labels)
+    → (e ≡ Record (next_place tokens end) (Own ttl) class w.rtype) × (after.owner ≡ Name labels)
 
 -- Tokens say a record whole: an absolute owner, a time to live, a class, a type, and data of it whatever the origin is.
-pub record SaysWholeRecord (end : ℕ) (tokens : List TokenSeen) (labels : List (List ℕ)) (ttl class code : ℕ) (octets : List ℕ) : Type 0 where
+pub record SaysWholeRecord (end : ℕ) (tokens : List TokenSeen) (labels : List (List ℕ)) (ttl : ℕ) (class : Class) (rtype : RecordType) (octets : List ℕ) : Type 0 where
   pub owner : TokenSeen
   pub behind : List TokenSeen
-  pub says : EntrySays false end tokens (says_record (Some owner) (Ok (record { ttl = Some ttl; class = Some class; code = code })) behind)
+  pub says : EntrySays false end tokens (says_record (Some owner) (Ok (record { ttl = Some ttl; class = Some class; rtype = rtype })) behind)
   pub owner_is : SpellsField None OfName owner (wire labels)
-  pub «data» : (origin : Option (List (List ℕ))) → IsOrigin origin → SpellsTypeData origin code behind octets
+  pub «data» : (origin : Option (List (List ℕ))) → IsOrigin origin → SpellsTypeData origin rtype behind octets
 
 -- From every state it is read as it is said, and nothing of it is refused, where the octets of its data surely fit.
 abbrev pub WholeRecordsStandAlone : Type 0
-WholeRecordsStandAlone = (room : Room) (end : ℕ) (tokens : List TokenSeen) (labels : List (List ℕ)) (ttl class code : ℕ) (octets : List ℕ) → SaysWholeRecord end tokens labels ttl class code octets
-    → (before after : State) (old new : List ℕ) (result : Result EntryRead EntryRefusal) → IsOrigin (known_name before.origin) → length old + length octets ≤ room.fits → ReadsZoneEntry room false end tokens before old result after new
-    → (result ≡ Ok (Record (next_place tokens end) (Own ttl) class code)) × (after.owner ≡ Name labels) × (new ≡ old ++ octets)
+WholeRecordsStandAlone = (room : Room) (end : ℕ) (tokens : List TokenSeen) (labels : List (List ℕ)) (ttl : ℕ) (class : Class) (rtype : RecordType) (octets : List ℕ) → SaysWholeRecord end tokens labels ttl class rtype octets
+    → (before after : State) (old new : List ℕ) (result : Result EntryRead RecordError) → IsOrigin (known_name before.origin) → length old + length octets ≤ room.fits → ReadsZoneEntry room false end tokens before old result after new
+    → (result ≡ Ok (Record (next_place tokens end) (Own ttl) class rtype)) × (after.owner ≡ Name labels) × (new ≡ old ++ octets)

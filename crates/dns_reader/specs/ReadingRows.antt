@@ -2,58 +2,56 @@
 use Rattle.std.specs.Prelude.{◌≡◌, false, [], ◌∷◌, Some, None, Ok, Err, codes, refl}
 use Rattle.std.proofs.Common.{inl, inr, arith}
 use Rattle.dns_split.specs.EntryTokens.{TokenSeen}
-use Rattle.dns_fields.specs.declared.error.FieldError.TheVariants.{Quoted}
+use Rattle.dns_fields.specs.RecordErrors.{error_at}
+use Rattle.dns_kinds.specs.Rtype as Rtype
+use Rattle.dns_kinds.specs.declared.error.ErrorKind.TheVariants.{Quoted, UnknownDirective, NoOwner, NoTtl}
 use Rattle.dns_heads.specs.declared.directive.Directive.TheVariants.{Origin, Ttl}
-use Rattle.dns_heads.specs.declared.error.HeadError.TheVariants.{Field as OfField, UnknownDirective}
 use Rattle.dns_heads.specs.declared.head.Words.{Words}
-use Rattle.dns_reader.specs.EntryErrors.{refused_at}
 use Rattle.dns_reader.specs.EntryReading.{IsMinimum, ReadsOwner, record_with, said_of_record, said_of_refused}
 use Rattle.dns_reader.specs.Past.{SaysOrigin, SaysOwner, SaysDefaultTtl, SaysTtl, nothing_said}
 use Rattle.dns_reader.specs.declared.entry.EntryRead.TheVariants.{Record}
-use Rattle.dns_reader.specs.declared.entry_error.EntryError.TheVariants.{Head, Owner, NoTtl}
 use Rattle.dns_reader.specs.declared.known.Known.TheVariants.{Unsaid}
-use Rattle.dns_reader.specs.declared.owner_error.OwnerError.TheVariants.{NoOwner}
 use Rattle.dns_reader.specs.declared.ttl.RecordTtl.TheVariants.{Own, Minimum}
 
 abbrev owner : TokenSeen
 owner = record { text = codes "w"; is_quoted = false; is_glued = false; at = 0 }
 
 abbrev a_record : Words
-a_record = record { ttl = None; class = None; code = 1 }
+a_record = record { ttl = None; class = None; rtype = Rtype.a }
 
 -- an SOA whose data end in 0, 0, 3 and 132; another record has no minimum
-minimum_row : IsMinimum 6 (1 ∷ 0 ∷ 0 ∷ 3 ∷ 132 ∷ []) (Some 900)
+minimum_row : IsMinimum Rtype.soa (1 ∷ 0 ∷ 0 ∷ 3 ∷ 132 ∷ []) (Some 900)
 minimum_row = inl (refl, (Some 900, (1 ∷ [], 0 ∷ 0 ∷ 3 ∷ 132 ∷ [], refl, refl, refl), refl))
 
 -- 2^31 is no time to live, so it is 0
-long_minimum_row : IsMinimum 6 (1 ∷ 128 ∷ 0 ∷ 0 ∷ 0 ∷ []) (Some 0)
+long_minimum_row : IsMinimum Rtype.soa (1 ∷ 128 ∷ 0 ∷ 0 ∷ 0 ∷ []) (Some 0)
 long_minimum_row = inl (refl, (Some 2147483648, (1 ∷ [], 128 ∷ 0 ∷ 0 ∷ 0 ∷ [], refl, refl, refl), refl))
 
-no_minimum_row : IsMinimum 1 (192 ∷ 0 ∷ 2 ∷ 1 ∷ []) None
+no_minimum_row : IsMinimum Rtype.a (192 ∷ 0 ∷ 2 ∷ 1 ∷ []) None
 no_minimum_row = inr (λ e. omega (arith, e), refl)
 
 -- a class that is not said is where reading began
-class_row : record_with (nothing_said 1) 8 a_record (Some (Own 60)) ≡ Ok (Record 8 (Own 60) 1 1)
+class_row : record_with (nothing_said 1) 8 a_record (Some (Own 60)) ≡ Ok (Record 8 (Own 60) 1 Rtype.a)
 class_row = refl
 
-own_class_row : record_with (nothing_said 1) 8 (record { ttl = None; class = Some 3; code = 16 }) (Some (Own 60)) ≡ Ok (Record 8 (Own 60) 3 16)
+own_class_row : record_with (nothing_said 1) 8 (record { ttl = None; class = Some 3; rtype = Rtype.txt }) (Some (Own 60)) ≡ Ok (Record 8 (Own 60) 3 Rtype.txt)
 own_class_row = refl
 
 -- `w A 192.0.2.1` where no time to live is known
-no_ttl_row : record_with (nothing_said 1) 0 a_record None ≡ Err (refused_at 0 NoTtl)
+no_ttl_row : record_with (nothing_said 1) 0 a_record None ≡ Err (error_at 0 NoTtl)
 no_ttl_row = refl
 
 -- ` A 192.0.2.1` where no owner is known
-no_owner_row : ReadsOwner (nothing_said 1) 1 None (Err (refused_at 1 (Owner NoOwner))) Unsaid
-no_owner_row = (refl, (NoOwner, refl, refl))
+no_owner_row : ReadsOwner (nothing_said 1) 1 None (Err (error_at 1 NoOwner)) Unsaid
+no_owner_row = (refl, refl, refl)
 
 -- `w 60 "A"` says its owner and its time to live
-refused_says_row : said_of_record (Some owner) (Err (record { at = 5; why = OfField Quoted; ttl = Some 60; class = None })) (Err (refused_at 5 (Head (OfField Quoted))))
+refused_says_row : said_of_record (Some owner) (Err (record { error = error_at 5 Quoted; ttl = Some 60; class = None })) (Err (error_at 5 Quoted))
     ≡ SaysOwner (Some owner) ∷ SaysTtl 60 ∷ []
 refused_says_row = refl
 
 -- an SOA that begins with a blank, and whose time to live is its minimum
-minimum_says_row : said_of_record None (Ok (record { ttl = None; class = None; code = 6 })) (Ok (Record 1 (Minimum 900) 1 6)) ≡ SaysDefaultTtl 900 ∷ []
+minimum_says_row : said_of_record None (Ok (record { ttl = None; class = None; rtype = Rtype.soa })) (Ok (Record 1 (Minimum 900) 1 Rtype.soa)) ≡ SaysDefaultTtl 900 ∷ []
 minimum_says_row = refl
 
 -- `$ORIGIN a b`, `$TTL 1 2` and `$FOO`

@@ -6,14 +6,13 @@ use Rattle.dns_split.specs.EntryTokens.{EndIs, IsSeen}
 use Rattle.dns_split.specs.Pieces.{AreOctets}
 use Rattle.dns_split.specs.declared.pieces.EndOfEntry.{EndOfEntry}
 use Rattle.dns_split.specs.declared.pieces.Fault.{Fault}
+use Rattle.dns_fields.specs.RecordErrors.{error_of_fault}
+use Rattle.dns_fields.specs.declared.record_error.RecordError.{RecordError}
 use Rattle.dns_reader.specs.EntryReading.{ReadsZoneEntry}
 use Rattle.dns_reader.specs.Source.{BeginsEntry, SourceSeen, StartsBehindLine, behind_left, entry_end, entry_left}
 use Rattle.dns_reader.specs.declared.entry.EntryRead.{EntryRead}
 use Rattle.dns_reader.specs.declared.entry.EntryRead.TheVariants.{Directive}
-use Rattle.dns_reader.specs.declared.entry_error.EntryRefusal.{EntryRefusal}
 use Rattle.dns_reader.specs.declared.records.RecordReader.{RecordReader}
-use Rattle.dns_reader.specs.declared.records.RecordRefusal.{RecordRefusal}
-use Rattle.dns_reader.specs.declared.records.RecordRefusal.TheVariants.{Text, Entry}
 use Rattle.dns_reader.specs.declared.source.StartOfEntry.{StartOfEntry}
 use Rattle.dns_reader.specs.declared.state.State.{State}
 
@@ -27,11 +26,6 @@ pub record StartsText (octets : List ℕ) (state : State) (r : RecordReader) : T
   pub taken : r.source.taken ≡ None
   pub state_is : r.state ≡ state
 
--- what is given of an entry that is read
-abbrev pub given_read : Result EntryRead EntryRefusal → Result EntryRead RecordRefusal
-given_read (Ok e) = Ok e
-given_read (Err r) = Err (Entry r)
-
 -- nothing but the source has moved
 abbrev pub Unread : State → List ℕ → State → List ℕ → Type 0
 Unread before old after new = (after ≡ before) × (new ≡ old)
@@ -42,20 +36,20 @@ StandsAfter octets begun (Ok end) after = (behind_left begun ≡ Ok (EndIs end) 
 StandsAfter octets begun (Err fault) after = (behind_left begun ≡ Err fault ∷ []) × StartsBehindLine octets fault.at after
 
 -- what is given of an entry that has an end; and of one that a fault cuts off
-abbrev pub given_of : Result EndOfEntry Fault → Result EntryRead EntryRefusal → Result EntryRead RecordRefusal
-given_of (Ok end) read = given_read read
-given_of (Err fault) read = Err (Text fault)
+abbrev pub given_of : Result EndOfEntry Fault → Result EntryRead RecordError → Result EntryRead RecordError
+given_of (Ok end) read = read
+given_of (Err fault) read = Err (error_of_fault fault)
 
 -- an entry that is begun is read by its tokens and the state, and taken to its end; or there is none; or a fault stands in front of it, and its line is passed over
-abbrev pub ReadsBegun : Room → List ℕ → SourceSeen → Result (Option StartOfEntry) Fault → State → List ℕ → Option (Result EntryRead RecordRefusal) → RecordReader → List ℕ → Type 0
+abbrev pub ReadsBegun : Room → List ℕ → SourceSeen → Result (Option StartOfEntry) Fault → State → List ℕ → Option (Result EntryRead RecordError) → RecordReader → List ℕ → Type 0
 ReadsBegun room octets begun (Ok (Some start)) before old result after new =
-    (read : Result EntryRead EntryRefusal) × (end : Result EndOfEntry Fault) × ReadsZoneEntry room start.begins_blank (entry_end begun).at (entry_left begun) before old read after.state new
+    (read : Result EntryRead RecordError) × (end : Result EndOfEntry Fault) × ReadsZoneEntry room start.begins_blank (entry_end begun).at (entry_left begun) before old read after.state new
     × StandsAfter octets begun end after.source × (result ≡ Some (given_of end read))
 ReadsBegun room octets begun (Ok None) before old result after new = (result ≡ None) × (after.source ≡ begun) × Unread before old after.state new
-ReadsBegun room octets begun (Err fault) before old result after new = (result ≡ Some (Err (Text fault))) × StartsBehindLine octets fault.at after.source × Unread before old after.state new
+ReadsBegun room octets begun (Err fault) before old result after new = (result ≡ Some (Err (error_of_fault fault))) × StartsBehindLine octets fault.at after.source × Unread before old after.state new
 
 -- the next entry that has tokens is begun, and read
-pub record ReadsNextEntry (room : Room) (before : RecordReader) (old : List ℕ) (result : Option (Result EntryRead RecordRefusal)) (after : RecordReader) (new : List ℕ) : Type 0 where
+pub record ReadsNextEntry (room : Room) (before : RecordReader) (old : List ℕ) (result : Option (Result EntryRead RecordError)) (after : RecordReader) (new : List ℕ) : Type 0 where
   pub start : Result (Option StartOfEntry) Fault
   pub begun : SourceSeen
   pub begins : BeginsEntry before.source start begun
@@ -65,7 +59,7 @@ pub record ReadsNextEntry (room : Room) (before : RecordReader) (old : List ℕ)
 -- what a call gives: the octets in front of it, the result, the octets then, and the state that it leaves
 pub record EntryGiven : Type 0 where
   pub old : List ℕ
-  pub result : Result EntryRead RecordRefusal
+  pub result : Result EntryRead RecordError
   pub new : List ℕ
   pub state : State
 
@@ -80,7 +74,7 @@ abbrev pub IsDirectiveGiven : List ℕ → EntryGiven → Type 0
 IsDirectiveGiven old g = (g.old ≡ old) × (g.result ≡ Ok Directive) × (g.new ≡ old)
 
 -- directives are read, and then what is given, which is none
-pub record ReadsNextRecord (room : Room) (before : RecordReader) (old : List ℕ) (result : Option (Result EntryRead RecordRefusal)) (after : RecordReader) (new : List ℕ) : Type 0 where
+pub record ReadsNextRecord (room : Room) (before : RecordReader) (old : List ℕ) (result : Option (Result EntryRead RecordError)) (after : RecordReader) (new : List ℕ) : Type 0 where
   pub directives : List EntryGiven
   pub middle : RecordReader
   pub row : AreGivenInARow room before directives middle

@@ -6,6 +6,7 @@ use Rattle.dns_split.specs.declared.pieces.Fault.{Fault}
 use Rattle.dns_split.specs.EntryTokens.{PartSeen}
 use Rattle.dns_split.specs.Pieces.{AreOctets}
 use Rattle.dns_split.specs.Splitting.{Entries, Splits}
+use Rattle.dns_fields.specs.declared.record_error.RecordError.{RecordError}
 use Rattle.dns_heads.specs.Directives.{first_directive}
 use Rattle.dns_reader.specs.EntryReading.{ReadsZoneEntry, said_of_entry}
 use Rattle.dns_reader.specs.Past.{Knows, Said}
@@ -13,15 +14,13 @@ use Rattle.dns_reader.specs.Records.{AreGivenInARow, EntryGiven, ReadsNextEntry,
 use Rattle.dns_reader.specs.TextEntries.{IsSeenPastFaults, TextEntry, entry_counts, parts_of_entries, spelled_tokens, tokens_end}
 use Rattle.dns_reader.specs.declared.entry.EntryRead.{EntryRead}
 use Rattle.dns_reader.specs.declared.entry.EntryRead.TheVariants.{Nothing}
-use Rattle.dns_reader.specs.declared.entry_error.EntryRefusal.{EntryRefusal}
 use Rattle.dns_reader.specs.declared.records.RecordReader.{RecordReader}
-use Rattle.dns_reader.specs.declared.records.RecordRefusal.{RecordRefusal}
 use Rattle.dns_reader.specs.declared.state.State.{State}
 
 -- an entry as it was read: what was read of it, and what it says of those after it; the octets in front and behind, and the state that it leaves
 pub record EntryAsRead : Type 0 where
   pub entry : TextEntry
-  pub read : Result EntryRead EntryRefusal
+  pub read : Result EntryRead RecordError
   pub said : List Said
   pub old : List ℕ
   pub new : List ℕ
@@ -72,7 +71,7 @@ RowsJoin = (room : Room) (first middle last : RecordReader) (given more : List E
 
 -- a record in turn is the last of such calls
 abbrev pub RecordsEndRows : Type 0
-RecordsEndRows = (room : Room) (before after : RecordReader) (old new : List ℕ) (result : Result EntryRead RecordRefusal) → ReadsNextRecord room before old (Some result) after new
+RecordsEndRows = (room : Room) (before after : RecordReader) (old new : List ℕ) (result : Result EntryRead RecordError) → ReadsNextRecord room before old (Some result) after new
     → (given : List EntryGiven) × AreGivenInARow room before (given ++ (record { old = old; result = result; new = new; state = after.state }) ∷ []) after
 
 -- what is given of an entry is never that it has no tokens
@@ -89,5 +88,5 @@ calls_left r = left_with r.source.parts (length r.octets.now - r.source.began)
 
 -- each call that gives something leaves fewer
 abbrev pub CallsEnd : Type 0
-CallsEnd = (room : Room) (octets : List ℕ) (start : State) (first r after : RecordReader) (given : List EntryGiven) (old new : List ℕ) (result : Result EntryRead RecordRefusal) → StartsText octets start first
+CallsEnd = (room : Room) (octets : List ℕ) (start : State) (first r after : RecordReader) (given : List EntryGiven) (old new : List ℕ) (result : Result EntryRead RecordError) → StartsText octets start first
     → AreGivenInARow room first given r → ReadsNextEntry room r old (Some result) after new → calls_left after < calls_left r

@@ -8,22 +8,17 @@ ghost use Rattle.dns_reader.specs.EntrySteps.{PassesFile, PassesName, ReadsDefau
 ghost use Rattle.dns_reader.specs.Learning.{Learns, chosen_ttl};
 ghost use Rattle.dns_reader.specs.Past.{SaysOrigin, known_name};
 
-use crate::entry_error::{
-    EntryError, EntryRefusal, refused_at, refused_data, refused_head, refused_name, refused_words,
-};
 use crate::known::{Known, NameBuffer};
 use crate::state::{State, take_name};
 use crate::ttl::RecordTtl;
 use dns_data::read_type;
-use dns_fields::{FieldError, TokenSource};
+use dns_fields::{RecordError, TokenSource};
 use dns_heads::{
-    Directive, HeadError, Words, WordsRefusal, take_default_ttl, take_directive, take_end,
+    Directive, Words, WordsRefusal, take_default_ttl, take_directive, take_end,
     take_file, take_words, ttl_of_seconds,
 };
+use dns_kinds::{Class, ErrorKind, RecordType};
 use dns_octets::{AsOctetsMut, OctetsBuilder};
-
-/// The code of SOA.
-const SOA: u16 = 6;
 
 /// What is read of an entry.
 #[derive(Drop)]
@@ -42,8 +37,8 @@ pub enum EntryRead {
     Record {
         at: usize,
         ttl: RecordTtl,
-        class: u16,
-        code: u16,
+        class: Class,
+        rtype: RecordType,
     },
 }
 
@@ -51,15 +46,15 @@ pub enum EntryRead {
 fn pass_name<S: TokenSource>(
     origin: Option<&NameBuffer>,
     source: &mut S,
-) -> Result<NameBuffer, EntryRefusal>
+) -> Result<NameBuffer, RecordError>
     ensures passes { PassesName (option_copied origin.entry) (S.end source.old).at (S.left source.old) result (S.left source.new) }
     ensures end { S.end source.new ≡ S.end source.old }
 {
     match take_name(origin, source) {
         Ok(name) => Ok(name),
-        Err(refusal) => {
+        Err(error) => {
             source.advance();
-            Err(refused_name(refusal))
+            Err(error)
         }
     }
 }
@@ -68,24 +63,23 @@ fn pass_name<S: TokenSource>(
 fn take_last_name<S: TokenSource>(
     origin: Option<&NameBuffer>,
     source: &mut S,
-) -> Result<NameBuffer, EntryRefusal>
+) -> Result<NameBuffer, RecordError>
     ensures takes { TakesLastName (option_copied origin.entry) (S.end source.old).at (S.left source.old) result }
     ensures end { S.end source.new ≡ S.end source.old }
 {
     let at = source.place();
     if source.current().is_none() {
-        let why = HeadError::Field(FieldError::EndOfEntry);
-        return Err(refused_at(at, EntryError::Head(why)));
+        return Err(RecordError::at(at, ErrorKind::EndOfEntry));
     }
     let name = pass_name(origin, source);
     match take_end(source) {
         Ok(()) => name,
-        Err(refusal) => Err(refused_head(refusal)),
+        Err(error) => Err(error),
     }
 }
 
 /// Reads what stands behind `$ORIGIN`. Where it is refused there is no origin.
-fn read_origin<S: TokenSource>(state: &mut State, source: &mut S) -> Result<EntryRead, EntryRefusal>
+fn read_origin<S: TokenSource>(state: &mut State, source: &mut S) -> Result<EntryRead, RecordError>
     ensures reads { ReadsLastOrigin (known_name state.old.origin) (S.end source.old).at (S.left source.old) result }
     ensures learns { Learns (SaysOrigin (only_token (S.left source.old)) ∷ []) state.old state.new }
     ensures end { S.end source.new ≡ S.end source.old }
@@ -95,9 +89,9 @@ fn read_origin<S: TokenSource>(state: &mut State, source: &mut S) -> Result<Entr
             state.origin = Known::Name(name);
             Ok(EntryRead::Directive)
         }
-        Err(refusal) => {
+        Err(error) => {
             state.origin = Known::Refused;
-            Err(refusal)
+            Err(error)
         }
     }
 }
@@ -106,7 +100,7 @@ fn read_origin<S: TokenSource>(state: &mut State, source: &mut S) -> Result<Entr
 fn read_default_ttl<S: TokenSource>(
     state: &mut State,
     source: &mut S,
-) -> Result<EntryRead, EntryRefusal>
+) -> Result<EntryRead, RecordError>
     ensures reads { ReadsDefaultTtl (S.end source.old).at (S.left source.old) state.old result state.new }
     ensures end { S.end source.new ≡ S.end source.old }
 {
@@ -115,7 +109,7 @@ fn read_default_ttl<S: TokenSource>(
             state.say_default_ttl(ttl);
             Ok(EntryRead::Directive)
         }
-        Err(refusal) => Err(refused_head(refusal)),
+        Err(error) => Err(error),
     }
 }
 
@@ -123,15 +117,15 @@ fn read_default_ttl<S: TokenSource>(
 fn pass_file<S: TokenSource, B: OctetsBuilder>(
     source: &mut S,
     target: &mut B,
-) -> Result<(), EntryRefusal>
+) -> Result<(), RecordError>
     ensures passes { PassesFile B.room (S.end source.old).at (S.left source.old) (B.octets target.old) result (S.left source.new) (B.octets target.new) }
     ensures end { S.end source.new ≡ S.end source.old }
 {
     match take_file(source, target) {
         Ok(()) => Ok(()),
-        Err(refusal) => {
+        Err(error) => {
             source.advance();
-            Err(refused_head(refusal))
+            Err(error)
         }
     }
 }
@@ -140,7 +134,7 @@ fn pass_file<S: TokenSource, B: OctetsBuilder>(
 fn take_included_origin<S: TokenSource>(
     origin: Option<&NameBuffer>,
     source: &mut S,
-) -> Result<Option<NameBuffer>, EntryRefusal>
+) -> Result<Option<NameBuffer>, RecordError>
     ensures takes { TakesIncludedOrigin (option_copied origin.entry) (S.end source.old).at (S.left source.old) result }
     ensures end { S.end source.new ≡ S.end source.old }
 {
@@ -149,7 +143,7 @@ fn take_included_origin<S: TokenSource>(
     }
     match take_last_name(origin, source) {
         Ok(name) => Ok(Some(name)),
-        Err(refusal) => Err(refusal),
+        Err(error) => Err(error),
     }
 }
 
@@ -159,7 +153,7 @@ fn read_include<S: TokenSource, B: OctetsBuilder>(
     state: &State,
     source: &mut S,
     target: &mut B,
-) -> Result<EntryRead, EntryRefusal>
+) -> Result<EntryRead, RecordError>
     ensures reads { ReadsLastInclude (known_name state.now.origin) B.room (S.end source.old).at (S.left source.old) (B.octets target.old) result (B.octets target.new) }
     ensures end { S.end source.new ≡ S.end source.old }
 {
@@ -167,9 +161,9 @@ fn read_include<S: TokenSource, B: OctetsBuilder>(
     match take_included_origin(state.origin.name(), source) {
         Ok(origin) => match file {
             Ok(()) => Ok(EntryRead::Include { origin }),
-            Err(refusal) => Err(refusal),
+            Err(error) => Err(error),
         },
-        Err(refusal) => Err(refusal),
+        Err(error) => Err(error),
     }
 }
 
@@ -179,7 +173,7 @@ fn read_directive<S: TokenSource, B: OctetsBuilder>(
     state: &mut State,
     source: &mut S,
     target: &mut B,
-) -> Result<EntryRead, EntryRefusal>
+) -> Result<EntryRead, RecordError>
     ensures reads { ReadsDirective directive B.room (S.end source.old).at (S.left source.old) state.old (B.octets target.old) result state.new (B.octets target.new) }
     ensures end { S.end source.new ≡ S.end source.old }
 {
@@ -191,17 +185,17 @@ fn read_directive<S: TokenSource, B: OctetsBuilder>(
 }
 
 /// Whether an owner is known for a record that says none.
-fn known_owner(state: &State, at: usize) -> Result<(), EntryRefusal>
+fn known_owner(state: &State, at: usize) -> Result<(), RecordError>
     ensures { ReadsOwner state.now at None result state.now.owner }
 {
     match state.owner() {
         Ok(_) => Ok(()),
-        Err(why) => Err(refused_at(at, EntryError::Owner(why))),
+        Err(why) => Err(RecordError::at(at, why)),
     }
 }
 
 /// Takes the owner that a record says. Where it is refused, it is known as such.
-fn pass_owner<S: TokenSource>(state: &mut State, source: &mut S) -> Result<(), EntryRefusal>
+fn pass_owner<S: TokenSource>(state: &mut State, source: &mut S) -> Result<(), RecordError>
     ensures reads { S.left source.old ≢ [] → ReadsOwner state.old (next_place (S.left source.old) (S.end source.old).at) (owner_token false (S.left source.old)) result state.new.owner }
     ensures left { S.left source.new ≡ tokens_behind_owner false (S.left source.old) }
     ensures state { state.new ≡ record state.old { owner = state.new.owner } }
@@ -213,9 +207,9 @@ fn pass_owner<S: TokenSource>(state: &mut State, source: &mut S) -> Result<(), E
             state.owner = Known::Name(name);
             Ok(())
         }
-        Err(refusal) => {
+        Err(error) => {
             state.owner = Known::Refused;
-            Err(refusal)
+            Err(error)
         }
     }
 }
@@ -225,7 +219,7 @@ fn find_owner<S: TokenSource>(
     state: &mut State,
     begins_blank: bool,
     source: &mut S,
-) -> Result<(), EntryRefusal>
+) -> Result<(), RecordError>
     ensures reads { S.left source.old ≢ [] → ReadsOwner state.old (next_place (S.left source.old) (S.end source.old).at) (owner_token begins_blank (S.left source.old)) result state.new.owner }
     ensures left { S.left source.new ≡ tokens_behind_owner begins_blank (S.left source.old) }
     ensures state { state.new ≡ record state.old { owner = state.new.owner } }
@@ -285,10 +279,10 @@ fn last_number(octets: &[u8]) -> Option<u32>
 }
 
 /// The minimum of a record as a time to live, if it is an SOA (RFC 1035 section 3.3.13).
-fn minimum_of(code: u16, octets: &[u8]) -> Option<u32>
-    ensures { IsMinimum code octets.now result }
+fn minimum_of(rtype: RecordType, octets: &[u8]) -> Option<u32>
+    ensures { IsMinimum rtype octets.now result }
 {
-    if code != SOA {
+    if rtype != RecordType::SOA {
         return None;
     }
     match last_number(octets) {
@@ -303,22 +297,22 @@ fn finish_record(
     at: usize,
     words: Words,
     minimum: Option<u32>,
-) -> Result<EntryRead, EntryRefusal>
+) -> Result<EntryRead, RecordError>
     ensures record { result ≡ record_with state.old at words (chosen_ttl words.ttl state.old.default_ttl state.old.last_ttl minimum) }
     ensures owner { state.new.owner ≡ state.old.owner }
     ensures learns { Learns (minimum_of_record result) state.old state.new }
 {
     let Some(ttl) = state.choose_ttl(words.ttl, minimum) else {
-        return Err(refused_at(at, EntryError::NoTtl));
+        return Err(RecordError::at(at, ErrorKind::NoTtl));
     };
     let class = words.class.unwrap_or(state.class);
-    let code = words.code;
+    let rtype = words.rtype;
     say_minimum(state, ttl);
     Ok(EntryRead::Record {
         at,
         ttl,
         class,
-        code,
+        rtype,
     })
 }
 
@@ -329,7 +323,7 @@ fn read_record_data<S: TokenSource, B: OctetsBuilder + AsOctetsMut>(
     words: Words,
     source: &mut S,
     target: &mut B,
-) -> Result<EntryRead, EntryRefusal>
+) -> Result<EntryRead, RecordError>
     ensures reads { ReadsRecordData state.old B.room at (S.end source.old).at words (S.left source.old) (B.octets target.old) result (B.octets target.new) }
     ensures extends { Extends (B.octets target.old) (B.octets target.new) }
     ensures owner { state.new.owner ≡ state.old.owner }
@@ -337,12 +331,12 @@ fn read_record_data<S: TokenSource, B: OctetsBuilder + AsOctetsMut>(
     ensures end { S.end source.new ≡ S.end source.old }
 {
     let begun = target.as_slice().len();
-    match read_type(words.code, state.origin.name(), source, target) {
+    match read_type(words.rtype, state.origin.name(), source, target) {
         Ok(()) => {
-            let minimum = minimum_of(words.code, &target.as_slice()[begun..]);
+            let minimum = minimum_of(words.rtype, &target.as_slice()[begun..]);
             finish_record(state, at, words, minimum)
         }
-        Err(refusal) => Err(refused_data(words.code, refusal)),
+        Err(error) => Err(error),
     }
 }
 
@@ -350,11 +344,11 @@ fn read_record_data<S: TokenSource, B: OctetsBuilder + AsOctetsMut>(
 fn read_behind<S: TokenSource, B: OctetsBuilder + AsOctetsMut>(
     state: &mut State,
     at: usize,
-    owner: Result<(), EntryRefusal>,
+    owner: Result<(), RecordError>,
     words: Result<Words, WordsRefusal>,
     source: &mut S,
     target: &mut B,
-) -> Result<EntryRead, EntryRefusal>
+) -> Result<EntryRead, RecordError>
     ensures reads { ReadsWords state.old B.room at (S.end source.old).at owner words (S.left source.old) (B.octets target.old) result (B.octets target.new) }
     ensures extends { Extends (B.octets target.old) (B.octets target.new) }
     ensures owner { state.new.owner ≡ state.old.owner }
@@ -364,9 +358,9 @@ fn read_behind<S: TokenSource, B: OctetsBuilder + AsOctetsMut>(
     match owner {
         Ok(()) => match words {
             Ok(words) => read_record_data(state, at, words, source, target),
-            Err(refusal) => Err(refused_words(refusal)),
+            Err(refusal) => Err(refusal.error),
         },
-        Err(refusal) => Err(refusal),
+        Err(error) => Err(error),
     }
 }
 
@@ -376,7 +370,7 @@ fn read_record<S: TokenSource, B: OctetsBuilder + AsOctetsMut>(
     begins_blank: bool,
     source: &mut S,
     target: &mut B,
-) -> Result<EntryRead, EntryRefusal>
+) -> Result<EntryRead, RecordError>
     ensures reads { S.left source.old ≢ [] → ReadsRecordTokens B.room begins_blank (S.end source.old).at (S.left source.old) state.old (B.octets target.old) result state.new (B.octets target.new) }
     ensures end { S.end source.new ≡ S.end source.old }
 {
@@ -394,6 +388,10 @@ fn read_record<S: TokenSource, B: OctetsBuilder + AsOctetsMut>(
 /// time to live, if it says none: the first of these that is refused is the refusal. The class is
 /// the record's own or the state's.
 ///
+/// An error has the place of the token. Where no token is left, this is where the last one ends:
+/// parentheses, comments and blanks that follow don't count. Where no owner or no time to live is
+/// known, it is the record's first token. Its kind is never [`ErrorKind::Syntax`].
+///
 /// After a refusal the state has learned what can be read of it all the same. The owner is that of
 /// the entries that follow, or is refused for them; the time to live is that of the last record.
 /// After a refused `$ORIGIN` there is no origin. Tokens may be left, and `target` may have more octets
@@ -403,7 +401,7 @@ pub fn read_entry<S: TokenSource, B: OctetsBuilder + AsOctetsMut>(
     begins_blank: bool,
     source: &mut S,
     target: &mut B,
-) -> Result<EntryRead, EntryRefusal>
+) -> Result<EntryRead, RecordError>
     ensures reads { ReadsZoneEntry B.room begins_blank (S.end source.old).at (S.left source.old) state.old (B.octets target.old) result state.new (B.octets target.new) }
     ensures end { S.end source.new ≡ S.end source.old }
 {
@@ -413,6 +411,6 @@ pub fn read_entry<S: TokenSource, B: OctetsBuilder + AsOctetsMut>(
     match take_directive(begins_blank, source) {
         Ok(Some(directive)) => read_directive(directive, state, source, target),
         Ok(None) => read_record(state, begins_blank, source, target),
-        Err(refusal) => Err(refused_head(refusal)),
+        Err(error) => Err(error),
     }
 }

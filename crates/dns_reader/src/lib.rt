@@ -3,9 +3,7 @@
 #![tactic(auto)]
 
 pub mod entry;
-pub mod entry_error;
 pub mod known;
-pub mod owner_error;
 pub mod records;
 pub mod source;
 pub mod state;
@@ -14,10 +12,8 @@ pub mod text_laws;
 pub mod ttl;
 
 pub use entry::{EntryRead, read_entry};
-pub use entry_error::{EntryError, EntryRefusal};
 pub use known::{Known, NameBuffer};
-pub use owner_error::OwnerError;
-pub use records::{RecordReader, RecordRefusal};
+pub use records::RecordReader;
 pub use source::{EntrySource, StartOfEntry};
 pub use state::{Mark, State};
 pub use ttl::RecordTtl;

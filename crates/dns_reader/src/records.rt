@@ -1,27 +1,17 @@
 //! The entries of a text, each by what those before it say.
 ghost use Rattle.std.specs.Prelude.{◌≡◌, ◌≤◌, ◌↔◌, IsTrue, false, length};
-ghost use Rattle.dns_reader.specs.Records.{ReadsNextEntry, ReadsNextRecord, StartsText, given_read};
+ghost use Rattle.dns_fields.specs.RecordErrors.{error_of_fault};
+ghost use Rattle.dns_reader.specs.Records.{ReadsNextEntry, ReadsNextRecord, StartsText};
 ghost use Rattle.dns_reader.specs.Source.{StartsBehindLine};
 ghost use Rattle.dns_reader.specs.TextPieces.{StartsAt};
 ghost use Rattle.dns_reader.specs.declared.entry.EntryRead.TheVariants.{Directive};
-ghost use Rattle.dns_reader.specs.declared.records.RecordRefusal.TheVariants.{Text};
 
 use crate::entry::{EntryRead, read_entry};
-use crate::entry_error::EntryRefusal;
 use crate::source::EntrySource;
 use crate::state::State;
-use dns_fields::TokenSource;
+use dns_fields::{RecordError, TokenSource};
 use dns_octets::{AsOctetsMut, OctetsBuilder};
 use dns_split::pieces::Fault;
-
-/// Why an entry of a text is not given.
-#[derive(Clone, Copy)]
-pub enum RecordRefusal {
-    /// A fault of the text comes before its end.
-    Text(Fault),
-    /// It is refused.
-    Entry(EntryRefusal),
-}
 
 /// The entries of a text that are left, and what those before them say.
 #[derive(Drop)]
@@ -33,20 +23,10 @@ pub struct RecordReader<'t> {
 }
 
 /// Whether what is given is a directive.
-fn is_directive(given: &Option<Result<EntryRead, RecordRefusal>>) -> bool
+fn is_directive(given: &Option<Result<EntryRead, RecordError>>) -> bool
     ensures { IsTrue result ↔ (given.now ≡ Some (Ok Directive)) }
 {
     matches!(given, Some(Ok(EntryRead::Directive)))
-}
-
-/// What is given of an entry that is read.
-fn given_read(read: Result<EntryRead, EntryRefusal>) -> Result<EntryRead, RecordRefusal>
-    ensures { result ≡ given_read read }
-{
-    match read {
-        Ok(read) => Ok(read),
-        Err(refusal) => Err(RecordRefusal::Entry(refusal)),
-    }
 }
 
 impl<'t> RecordReader<'t> {
@@ -86,25 +66,26 @@ impl<'t> RecordReader<'t> {
     }
 
     /// Passes over what is left of the line on which a fault stands, and refuses what was read.
-    fn pass_fault(&mut self, fault: Fault) -> RecordRefusal
-        ensures refusal { result ≡ Text fault }
+    fn pass_fault(&mut self, fault: Fault) -> RecordError
+        ensures error { result ≡ error_of_fault fault }
         ensures behind { StartsBehindLine self.old.octets.now fault.at self.new.source }
         ensures octets { self.new.octets ≡ self.old.octets }
         ensures state { self.new.state ≡ self.old.state }
     {
         self.source = EntrySource::after_fault(self.octets, fault);
-        RecordRefusal::Text(fault)
+        RecordError::from(fault)
     }
 
     /// Reads the next entry that has tokens; or returns `None` where nothing is left.
     ///
     /// After a refusal the next call goes on: at the next entry, or where a fault of the text cuts
-    /// one off, at the next line. A fault is returned once. The state has learned what the tokens
-    /// before the fault say, as of each entry that is refused.
+    /// one off, at the next line. A fault is returned once, as an error of the kind
+    /// [`ErrorKind::Syntax`](dns_kinds::ErrorKind::Syntax), which no other error has. The state has
+    /// learned what the tokens before the fault say, as of each entry that is refused.
     pub fn next_entry<B: OctetsBuilder + AsOctetsMut>(
         &mut self,
         target: &mut B,
-    ) -> Option<Result<EntryRead, RecordRefusal>>
+    ) -> Option<Result<EntryRead, RecordError>>
         ensures { ReadsNextEntry B.room self.old (B.octets target.old) result self.new (B.octets target.new) }
     {
         let start = match self.source.begin() {
@@ -119,7 +100,7 @@ impl<'t> RecordReader<'t> {
             target,
         );
         match self.source.finish() {
-            Ok(_) => Some(given_read(read)),
+            Ok(_) => Some(read),
             Err(fault) => Some(Err(self.pass_fault(fault))),
         }
     }
@@ -129,7 +110,7 @@ impl<'t> RecordReader<'t> {
     pub fn next_record<B: OctetsBuilder + AsOctetsMut>(
         &mut self,
         target: &mut B,
-    ) -> Option<Result<EntryRead, RecordRefusal>>
+    ) -> Option<Result<EntryRead, RecordError>>
         ensures { ReadsNextRecord B.room self.old (B.octets target.old) result self.new (B.octets target.new) }
     {
         'directives: loop {

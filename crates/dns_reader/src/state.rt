@@ -2,14 +2,14 @@
 ghost use Rattle.std.specs.Prelude.{◌≡◌, None, Some, [], ◌∷◌, MatchResult};
 ghost use Rattle.std.specs.Option.{option_copied};
 ghost use Rattle.dns_reader.specs.Past.{SaysDefaultTtl, nothing_said};
-ghost use Rattle.dns_reader.specs.Learning.{Learns, MarksPast, RestoresPast, TakesName, chosen_ttl, without_owner};
+ghost use Rattle.dns_reader.specs.Learning.{Learns, MarksPast, RestoresPast, TakesName, WhyNoOwner, chosen_ttl};
 ghost use Rattle.dns_reader.specs.declared.known.Known.TheVariants.{Name as known_as};
 
 use crate::known::{Known, NameBuffer};
-use crate::owner_error::OwnerError;
 use crate::ttl::RecordTtl;
 use arrayvec::ArrayVec;
-use dns_fields::{Field, Refusal, TokenSource, take_field};
+use dns_fields::{Field, RecordError, TokenSource, take_field};
+use dns_kinds::{Class, ErrorKind};
 use dns_wire::MAX_NAME;
 
 /// What stands for the entries that follow: what was said before them, or where reading begins.
@@ -24,7 +24,7 @@ pub struct State {
     /// The time to live of the last record that said one, in seconds.
     pub last_ttl: Option<u32>,
     /// The class of a record that leaves it out.
-    pub class: u16,
+    pub class: Class,
 }
 
 /// The origin and the owner that stood where an included text begins.
@@ -38,7 +38,7 @@ pub struct Mark {
 pub(crate) fn take_name<S: TokenSource>(
     origin: Option<&NameBuffer>,
     source: &mut S,
-) -> Result<NameBuffer, Refusal>
+) -> Result<NameBuffer, RecordError>
     ensures takes { TakesName (option_copied origin.entry) (S.end source.old).at (S.left source.old) result (S.left source.new) }
     ensures end { S.end source.new ≡ S.end source.old }
 {
@@ -52,7 +52,7 @@ pub(crate) fn take_name<S: TokenSource>(
 
 impl State {
     /// What stands where nothing was said: a class alone.
-    pub fn new(class: u16) -> State
+    pub fn new(class: Class) -> State
         ensures { result ≡ nothing_said class }
     {
         State {
@@ -90,13 +90,13 @@ impl State {
     }
 
     /// The owner of a record: the name that was said last, whatever the origin is by now.
-    pub fn owner(&self) -> Result<&NameBuffer, OwnerError>
-        ensures { MatchResult result (λ name. self.now.owner ≡ known_as name.now) (λ e. self.now.owner ≡ without_owner e) }
+    pub fn owner(&self) -> Result<&NameBuffer, ErrorKind>
+        ensures { MatchResult result (λ name. self.now.owner ≡ known_as name.now) (λ e. WhyNoOwner self.now.owner e) }
     {
         match &self.owner {
             Known::Name(name) => Ok(name),
-            Known::Unsaid => Err(OwnerError::NoOwner),
-            Known::Refused => Err(OwnerError::Refused),
+            Known::Unsaid => Err(ErrorKind::NoOwner),
+            Known::Refused => Err(ErrorKind::RefusedOwner),
         }
     }
 

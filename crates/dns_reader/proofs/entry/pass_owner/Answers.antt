@@ -15,11 +15,11 @@ returns-in-Err-clause-reads g c =
     let tokens = g.S.TokenSource.left c.args.source.now in
     let left = g.S.TokenSource.left c.pass_name.new.source in
     let end = (g.S.TokenSource.end c.args.source.now).at in
-    λ some. owner_refused c.args.state.now end tokens left c.in-Err.refusal (subst (λ o. PassesName o end tokens (Err c.in-Err.refusal) left) c.name.ensures c.in-Err.ensures.passes) some
+    λ some. owner_refused c.args.state.now end tokens left c.in-Err.error (subst (λ o. PassesName o end tokens (Err c.in-Err.error) left) c.name.ensures c.in-Err.ensures.passes) some
 
 pub returns-in-Err-clause-learns : goal.returns-in-Err-clause-learns
 returns-in-Err-clause-learns g c =
     let tokens = g.S.TokenSource.left c.args.source.now in
     let left = g.S.TokenSource.left c.pass_name.new.source in
     let end = (g.S.TokenSource.end c.args.source.now).at in
-    λ some. refused_learned c.args.state.now end tokens left c.in-Err.refusal (subst (λ o. PassesName o end tokens (Err c.in-Err.refusal) left) c.name.ensures c.in-Err.ensures.passes) some
+    λ some. refused_learned c.args.state.now end tokens left c.in-Err.error (subst (λ o. PassesName o end tokens (Err c.in-Err.error) left) c.name.ensures c.in-Err.ensures.passes) some

@@ -1,8 +1,7 @@
-use Rattle.std.proofs.Common.{Ok, Err, [], ◌≢◌, ◌∙◌, ap, sym, subst}
+use Rattle.std.proofs.Common.{Ok, Err, [], ◌≢◌, ◌∙◌, ap, subst}
 use Rattle.std.specs.Prelude.{not}
 use Rattle.dns_fields.proofs.Tokens.{none_left}
 use Rattle.dns_heads.specs.Directives.{TakesDirective}
-use Rattle.dns_reader.specs.EntryReading.{ReadsZoneEntry}
 use Rattle.dns_reader.specs.EntrySteps.{ReadsDirective, ReadsRecordTokens}
 use Rattle.dns_reader.proofs.EntryJoins.{directive_read, head_refused, nothing_read, record_read}
 use Rattle.dns_reader.proofs.EntrySteps.{some_left}
@@ -58,5 +57,4 @@ returns-in-Err-clause-reads g c =
     let tokens = left c.args.source.now in
     let state = c.args.state.now in
     let old = g.B.AsOctets.octets c.args.target.now in
-    subst (λ r. ReadsZoneEntry room c.args.begins_blank end tokens state old (Err r) state old) (sym c.refused_head.ensures)
-    (head_refused room c.args.begins_blank end tokens state old (left c.take_directive.new.source) c.in-Err.refusal c.in-Err.ensures.takes)
+    head_refused room c.args.begins_blank end tokens state old (left c.take_directive.new.source) c.in-Err.error c.in-Err.ensures.takes

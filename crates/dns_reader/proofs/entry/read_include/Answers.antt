@@ -16,7 +16,7 @@ returns-in-Err-clause-reads g c =
     let old = octets c.args.target.now in
     let new = octets c.pass_file-file.new.target in
     let room = g.B.OctetsBuilder.room in
-    let r = c.in-Err.refusal in
+    let r = c.in-Err.error in
     subst (λ o. ReadsLastInclude o room end tokens old (Err r) new) c.name.ensures
     (include_refused origin end room old tokens behind c.pass_file-file.result r new c.pass_file-file.ensures.passes
     (subst (λ n. TakesIncludedOrigin origin n behind (Err r)) (ap (λ e. e.at) c.pass_file-file.ensures.end) c.in-Err.ensures.takes))

@@ -18,4 +18,4 @@ pub returns-in-Err-clause-learns : goal.returns-in-Err-clause-learns
 returns-in-Err-clause-learns g c =
     let tokens = g.S.TokenSource.left c.args.source.now in
     origin_learned c.args.state.now (only_token tokens) Refused
-    (subst (λ o. NamedBy o (only_token tokens) Refused) c.name.ensures (last_refused (option_copied c.name.result) (g.S.TokenSource.end c.args.source.now).at tokens c.in-Err.refusal c.in-Err.ensures.takes))
+    (subst (λ o. NamedBy o (only_token tokens) Refused) c.name.ensures (last_refused (option_copied c.name.result) (g.S.TokenSource.end c.args.source.now).at tokens c.in-Err.error c.in-Err.ensures.takes))

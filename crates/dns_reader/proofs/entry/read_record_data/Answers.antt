@@ -1,4 +1,4 @@
-use Rattle.std.proofs.Common.{Ok, Err, ℕ, length, ap, subst}
+use Rattle.std.proofs.Common.{Ok, Err, ℕ, length, ap, refl, subst}
 use Rattle.std.specs.Option.{option_copied}
 use Rattle.dns_data.specs.ByType.{ReadsType}
 use Rattle.dns_reader.proofs.EntryJoins.{data_extends, minimum_gained}
@@ -18,7 +18,7 @@ returns-in-Ok-clause-reads g c =
     let begun : ℕ = length c.as_slice-begun.result.now in (
       Ok tt,
       left c.read_type.new.source,
-      subst (λ o. ReadsType o room w.code (ends c.args.source.now).at (left c.args.source.now) old (Ok tt) (left c.read_type.new.source) new) c.name.ensures c.in-Ok.ensures.reads,
+      subst (λ o. ReadsType o room w.rtype (ends c.args.source.now).at (left c.args.source.now) old (Ok tt) (left c.read_type.new.source) new) c.name.ensures c.in-Ok.ensures.reads,
       minimum_gained c.args.state.now c.args.state.now.owner room c.args.at (ends c.args.source.now).at old new c.finish_record.result w begun gains.0 c.as_slice.result.now c.minimum_of-minimum.result gains.2
           (ap length c.as_slice-begun.ensures.value) c.as_slice.ensures.value c.minimum_of-minimum.ensures c.finish_record.ensures.record,
     )
@@ -33,16 +33,16 @@ returns-in-Err-clause-reads g c =
     let octets = g.B.AsOctets.octets in
     let old = octets c.args.target.now in
     let new = octets c.read_type.new.target in (
-      Err c.in-Err.refusal,
+      Err c.in-Err.error,
       left c.read_type.new.source,
-      subst (λ o. ReadsType o g.B.OctetsBuilder.room c.args.words.code (ends c.args.source.now).at (left c.args.source.now) old (Err c.in-Err.refusal) (left c.read_type.new.source) new) c.name.ensures c.in-Err.ensures.reads,
-      ap Err c.refused_data.ensures,
+      subst (λ o. ReadsType o g.B.OctetsBuilder.room c.args.words.rtype (ends c.args.source.now).at (left c.args.source.now) old (Err c.in-Err.error) (left c.read_type.new.source) new) c.name.ensures c.in-Err.ensures.reads,
+      refl,
     )
 
 pub returns-in-Err-clause-extends : goal.returns-in-Err-clause-extends
 returns-in-Err-clause-extends g c =
-    data_extends (option_copied c.name.result) g.B.OctetsBuilder.room c.args.words.code (g.S.TokenSource.end c.args.source.now).at (g.S.TokenSource.left c.args.source.now) (g.S.TokenSource.left c.read_type.new.source)
-    (g.B.AsOctets.octets c.args.target.now) (g.B.AsOctets.octets c.read_type.new.target) (Err c.in-Err.refusal) c.in-Err.ensures.reads
+    data_extends (option_copied c.name.result) g.B.OctetsBuilder.room c.args.words.rtype (g.S.TokenSource.end c.args.source.now).at (g.S.TokenSource.left c.args.source.now) (g.S.TokenSource.left c.read_type.new.source)
+    (g.B.AsOctets.octets c.args.target.now) (g.B.AsOctets.octets c.read_type.new.target) (Err c.in-Err.error) c.in-Err.ensures.reads
 
 pub returns-in-Err-clause-learns : goal.returns-in-Err-clause-learns
 returns-in-Err-clause-learns g c = nothing_learned c.args.state.now

@@ -9,7 +9,7 @@ returns-in-Ok g c =
     let me = c.args.self.now in
     next_read g.B.OctetsBuilder.room me (record { octets = me.octets; source = c.finish.new.self; state = c.read_entry-read.new.state }) c.begin.new.self c.read_entry-read.new.source c.finish.new.self
     (g.B.AsOctets.octets c.args.target.now) (g.B.AsOctets.octets c.read_entry-read.new.target) c.begin.result c.in-Ok-Some.start c.finish.result c.read_entry-read.result c.begin.ensures
-    (c.in-Ok-Some.is ∙ ap Ok c.in-Ok-Some.field-0-is) c.read_entry-read.ensures.reads c.read_entry-read.ensures.end c.finish.ensures refl c.in-Ok.field-0 c.in-Ok.is refl c.given_read.result c.given_read.ensures
+    (c.in-Ok-Some.is ∙ ap Ok c.in-Ok-Some.field-0-is) c.read_entry-read.ensures.reads c.read_entry-read.ensures.end c.finish.ensures refl c.in-Ok.field-0 c.in-Ok.is refl
 
 pub returns-in-Err-finish : goal.returns-in-Err-finish
 returns-in-Err-finish g c =
@@ -22,4 +22,4 @@ returns-in-Err-finish g c =
     next_cut room me passed.new.self begun c.read_entry-read.new.source c.finish.new.self old new c.begin.result c.in-Ok-Some.start c.finish.result c.read_entry-read.result c.begin.ensures
     (c.in-Ok-Some.is ∙ ap Ok c.in-Ok-Some.field-0-is)
     (subst (λ s. ReadsZoneEntry room c.in-Ok-Some.start.begins_blank (entry_end begun).at (entry_left begun) me.state old c.read_entry-read.result s new) (sym passed.ensures.state) c.read_entry-read.ensures.reads)
-    c.read_entry-read.ensures.end c.finish.ensures (ap (λ o. o.now) passed.ensures.octets) c.in-Err-finish.fault c.in-Err-finish.is passed.ensures.behind passed.result passed.ensures.refusal
+    c.read_entry-read.ensures.end c.finish.ensures (ap (λ o. o.now) passed.ensures.octets) c.in-Err-finish.fault c.in-Err-finish.is passed.ensures.behind passed.result passed.ensures.error
