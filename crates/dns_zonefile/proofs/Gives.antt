@@ -13,8 +13,8 @@ use Rattle.dns_split.specs.Standing.{blank_at}
 use Rattle.zone_format.specs.declared.place.Place.{Place}
 use Rattle.zone_format.proofs.Givens.{fault_of, first_fault}
 use Rattle.zone_format.proofs.Opened.{quote_within}
+use Rattle.dns_fields.specs.declared.record_error.RecordError.{RecordError}
 use Rattle.dns_reader.specs.declared.entry.EntryRead.{EntryRead}
-use Rattle.dns_reader.specs.declared.entry_error.EntryRefusal.{EntryRefusal}
 use Rattle.dns_reader.specs.declared.state.State.{State}
 use Rattle.dns_tape.specs.FirstEntry.{StopsFirst, piece_tokens, stop_offset}
 use Rattle.dns_zonefile.specs.Adding.{FindsEntry, IsHeldStop, IsPutOff, LetsRead, SkipsLine, after_long_entry, after_stop, found_len, with_left}
@@ -176,7 +176,7 @@ module _ (all : List ℕ) (b m f : Blocks) (h : HoldsLast all b) (k : SkipsLine 
         subst (λ l. BeginsEntryWith l (blank_at rest 0) (piece_tokens rest None x.found) (Err e)) (sym (here all b m f h k (Some (Err e)) n more))
         (subst (λ (t : Bool). BeginsEntryWith (rest ++ more) t (piece_tokens rest None x.found) (Err e)) (blank_front rest more n.finds.2) (fault_stays rest e x more n.finds.0 may.0 (before_or more may.1)))
 
-module _ (room : Room) (all : List ℕ) (b m f c : Blocks) (before after : State) (old new : List ℕ) (read : Result EntryRead EntryRefusal) (h : HoldsLast all b) (k : SkipsLine b m) where
+module _ (room : Room) (all : List ℕ) (b m f c : Blocks) (before after : State) (old new : List ℕ) (read : Result EntryRead RecordError) (h : HoldsLast all b) (k : SkipsLine b m) where
   gives_end : (end : EndOfEntry) (left : List (Result Piece Fault)) (n : FindsEntry m (Some (Ok end.at)) f) (x : StopsFirst (drop f.next f.octets) (Ok end) left) → (0 < length left) ⊎ (f.is_finished ≡ true)
       → end.at ≤ f.limit → ReadsPending room f (Ok end.at) before old read after new → c ≡ after_stop f (Ok end.at) → ReadsNext room all b before old (Some (given_by (place_of_next f) (Ok end) read)) c after new
   gives_end end left n x why short reads is =
@@ -232,7 +232,7 @@ module _ (room : Room) (all : List ℕ) (b m f c : Blocks) (before after : State
         });
       }
 
-  given_ends : (at : ℕ) (end : EndOfEntry) (n : ℕ) (r : Result EntryRead EntryRefusal) → given_by at (Ok end) r ≡ given_by {E = ℕ} at (Ok n) r
+  given_ends : (at : ℕ) (end : EndOfEntry) (n : ℕ) (r : Result EntryRead RecordError) → given_by at (Ok end) r ≡ given_by {E = ℕ} at (Ok n) r
   given_ends at end n (Ok x) = refl
   given_ends at end n (Err x) = refl
 

@@ -95,7 +95,7 @@ module _ {N O : Type 0} (r : Record N O) where
 
   line_entry : (rest : List Step) → document_entries ((record_document r ++ newline ∷ []) ++ rest) ≡ bytes_of r ∷ document_entries rest
   line_entry rest =
-      let others : List PrintedToken = data_tokens (data_of r).code (data_of r).octets in
+      let others : List PrintedToken = data_tokens (data_of r).rtype (data_of r).octets in
       ap document_entries (line_is rest)
       ∙ steps_before (head_tokens r) (begin ∷ (datas ++ end ∷ newline ∷ rest)) (map token_bytes others ++ []) (document_entries rest) (steps_before others (end ∷ newline ∷ rest) [] (document_entries rest) refl)
       ∙ ap (λ l. l ∷ document_entries rest) (ap (λ l. map token_bytes (head_tokens r) ++ l) (append-nil (map token_bytes others)) ∙ sym (map-append token_bytes (head_tokens r) others))
@@ -105,11 +105,11 @@ module _ {N O : Type 0} (r : Record N O) where
   IsShown = AreRecordValues r × (r.ttl < 2 ^ 31)
 
   record_is_well : IsShown → AllByRecursion IsWell (record_tokens r)
-  record_is_well h = all_of IsWell (head_tokens r) (data_tokens (data_of r).code (data_of r).octets) (head_is_well r h.0 h.1) (data_is_well (data_of r).code (data_of r).octets h.0.typed)
+  record_is_well h = all_of IsWell (head_tokens r) (data_tokens (data_of r).rtype (data_of r).octets) (head_is_well r h.0 h.1) (data_is_well (data_of r).rtype (data_of r).octets h.0.typed)
 
   line_is_proper : IsShown → AllByRecursion IsProper (record_document r ++ newline ∷ [])
   line_is_proper h =
-      let of_data = all_of IsProper datas (end ∷ []) (proper_steps (data_tokens (data_of r).code (data_of r).octets) (data_is_well (data_of r).code (data_of r).octets h.0.typed)) (tt, tt) in
+      let of_data = all_of IsProper datas (end ∷ []) (proper_steps (data_tokens (data_of r).rtype (data_of r).octets) (data_is_well (data_of r).rtype (data_of r).octets h.0.typed)) (tt, tt) in
       all_of IsProper (record_document r) (newline ∷ []) (all_of IsProper heads (begin ∷ (datas ++ end ∷ [])) (proper_steps (head_tokens r) (head_is_well r h.0 h.1)) (tt, of_data)) (tt, tt)
 
 module _ {N O : Type 0} where

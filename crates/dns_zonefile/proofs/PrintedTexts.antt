@@ -14,6 +14,7 @@ use Rattle.dns_resource.specs.RecordLaws.{AreRecordValues, IsRecordReadBack}
 use Rattle.dns_resource.specs.Records.{data_of}
 use Rattle.dns_resource.specs.declared.record.Record.{Record}
 use Rattle.dns_resource.proofs.RecordBack.{owner_word, record_back}
+use Rattle.dns_fields.specs.declared.record_error.RecordError.{RecordError}
 use Rattle.dns_reader.specs.EntryReading.{ReadsZoneEntry, minimum_of_record, minimum_of_ttl, said_of_entry}
 use Rattle.dns_reader.specs.Past.{Said, Silent, known_name, no_origin_said, origin_said}
 use Rattle.dns_reader.specs.ReadingLaws.{SaysWholeRecord, WholeRecordsStandAlone}
@@ -22,7 +23,6 @@ use Rattle.dns_reader.specs.TextEntries.{parts_of_entries, tokens_end}
 use Rattle.dns_reader.specs.WholeTexts.{EntryAsRead, IsReadBehind, IsReadSoFar, TextsAreReadToTheEnd, all_said, given_as}
 use Rattle.dns_reader.specs.declared.entry.EntryRead.{EntryRead}
 use Rattle.dns_reader.specs.declared.entry.EntryRead.TheVariants.{Nothing, Directive, Include, Record as IsRecord}
-use Rattle.dns_reader.specs.declared.entry_error.EntryRefusal.{EntryRefusal}
 use Rattle.dns_reader.specs.declared.state.State.{State}
 use Rattle.dns_reader.specs.declared.ttl.RecordTtl.{RecordTtl}
 use Rattle.dns_reader.specs.declared.ttl.RecordTtl.TheVariants.{Own, Default, Last, Minimum}
@@ -41,11 +41,11 @@ quiet_ttl (Default ttl) = tt
 quiet_ttl (Last ttl) = tt
 quiet_ttl (Minimum ttl) = (refl, tt)
 
-quiet_minimum : (read : Result EntryRead EntryRefusal) → Silent origin_said (minimum_of_record read)
+quiet_minimum : (read : Result EntryRead RecordError) → Silent origin_said (minimum_of_record read)
 quiet_minimum (Ok Nothing) = tt
 quiet_minimum (Ok Directive) = tt
 quiet_minimum (Ok (Include named)) = tt
-quiet_minimum (Ok (IsRecord at ttl class code)) = quiet_ttl ttl
+quiet_minimum (Ok (IsRecord at ttl class rtype)) = quiet_ttl ttl
 quiet_minimum (Err r) = tt
 
 module _ (whole : WholeRecordsStandAlone) (room : Room) (start : State) (known : IsOrigin (known_name start.origin)) {N O : Type 0} where
@@ -62,14 +62,14 @@ module _ (whole : WholeRecordsStandAlone) (room : Room) (start : State) (known :
     back : IsRecordReadBack r
     back origin tokens is small printed = record_back r origin tokens shown.0 is small printed
 
-    says : SaysWholeRecord end tokens r.owner r.ttl r.class (data_of r).code (data_of r).octets
+    says : SaysWholeRecord end tokens r.owner r.ttl r.class (data_of r).rtype (data_of r).octets
     says = says_whole r shown.0 back owner_word end tokens shown.1 own.tokens
 
     reads : ReadsZoneEntry room false end tokens b.state x.old x.read x.after x.new
     reads = subst (λ k. ReadsZoneEntry room k end tokens b.state x.old x.read x.after x.new) own.blank b.reads
 
     abbrev meaning : EntryMeaning
-    meaning = says_record (Some says.owner) (Ok (record { ttl = Some r.ttl; class = Some r.class; code = (data_of r).code })) says.behind
+    meaning = says_record (Some says.owner) (Ok (record { ttl = Some r.ttl; class = Some r.class; rtype = (data_of r).rtype })) says.behind
 
     quiet_then : Silent origin_said x.said
     quiet_then =

@@ -25,14 +25,14 @@ no_directive : (t : TokenSeen) → t.is_quoted ≡ false → slice_index t.text 
 no_directive t q h = ap (λ b. if b then None else directive_of_word t.text) q ∙ no_dollar t.text h
 
 module _ {N O : Type 0} (r : Record N O) (values : AreRecordValues r) (back : IsRecordReadBack r) (words : (form : List ℕ) → IsWireName form → IsOwnerWord (wire_name_text form)) where
-  pub says_whole : (end : ℕ) (tokens : List TokenSeen) → r.ttl < 2 ^ 31 → ArePrinted (record_tokens r) tokens → SaysWholeRecord end tokens r.owner r.ttl r.class (data_of r).code (data_of r).octets
+  pub says_whole : (end : ℕ) (tokens : List TokenSeen) → r.ttl < 2 ^ 31 → ArePrinted (record_tokens r) tokens → SaysWholeRecord end tokens r.owner r.ttl r.class (data_of r).rtype (data_of r).octets
   says_whole end [] small p = absurd p
   says_whole end (o ∷ []) small p = absurd p.3
   says_whole end (o ∷ t ∷ []) small p = absurd p.3.3
   says_whole end (o ∷ t ∷ c ∷ []) small p = absurd p.3.3.3
   says_whole end (o ∷ t ∷ c ∷ k ∷ others) small p =
       let s = (back None (o ∷ t ∷ c ∷ k ∷ others) tt small p).0 in
-      let w : Words = record { ttl = Some r.ttl; class = Some r.class; code = (data_of r).code } in
+      let w : Words = record { ttl = Some r.ttl; class = Some r.class; rtype = (data_of r).rtype } in
       let none : directive_of o ≡ None = no_directive o s.unquoted.0 (subst (λ l. slice_index l 0 ≢ dollar) (sym p.1) (words (wire r.owner) values.owner).no_directive) in
       record {
         owner = o;
@@ -58,4 +58,4 @@ module _ {N O : Type 0} (r : Record N O) (values : AreRecordValues r) (back : Is
 
   pub printed_read : WholeRecordsStandAlone → IsPrintedRecordRead r
   printed_read whole room end tokens before after old new result small p origin fits reads =
-      whole room end tokens r.owner r.ttl r.class (data_of r).code (data_of r).octets (says_whole end tokens small p) before after old new result origin fits reads
+      whole room end tokens r.owner r.ttl r.class (data_of r).rtype (data_of r).octets (says_whole end tokens small p) before after old new result origin fits reads

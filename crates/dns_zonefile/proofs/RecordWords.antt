@@ -8,6 +8,8 @@ use Rattle.dns_codec.specs.Base.{base16}
 use Rattle.dns_kinds.specs.Classes.{class_prefix, class_text}
 use Rattle.dns_kinds.specs.Registry.{Row, code_row}
 use Rattle.dns_kinds.specs.Types.{type_text, portable_text}
+use Rattle.dns_kinds.specs.declared.classes.Class.{Class}
+use Rattle.dns_kinds.specs.declared.types.RecordType.{RecordType}
 use Rattle.dns_symbol.specs.declared.symbol.Symbol.TheVariants.{SimpleEscape}
 use Rattle.dns_split.specs.Token.{IsToken, IsWord}
 use Rattle.dns_wire.specs.Wire.{wire}
@@ -48,7 +50,7 @@ well_plain text w = well_word text (plain_is_word text w)
 
 -- ---- the class and the type
 
-class_word : (code : ℕ) → code < 2 ^ 16 → IsPlainWord (class_text (record { 0 = code }))
+class_word : (code : Class) → code < 2 ^ 16 → IsPlainWord (class_text code)
 class_word code small = by (1 == code) (3 == code) (4 == code)
   where
     by : (a b c : Bool) → IsPlainWord (unwrap_or (option_map (λ (r : Row). r.name) (cond a (Some (code_row 1 (codes "IN"))) (cond b (Some (code_row 3 (codes "CH"))) (cond c (Some (code_row 4 (codes "HS"))) None)))) (class_prefix ++ decimal code))
@@ -58,12 +60,12 @@ class_word code small = by (1 == code) (3 == code) (4 == code)
     by false false false =
         let number = decimal_word code (omega (arith, small)) in record { some = omega (arith, number.some, length-append class_prefix (decimal code)); plain = plain_append class_prefix (decimal code) refl number.plain }
 
-type_word : (code : ℕ) → code < 2 ^ 16 → IsPlainWord (record_type_text code)
-type_word code small = by (is_some (shape_of_code code))
+type_word : (rtype : RecordType) → rtype < 2 ^ 16 → IsPlainWord (record_type_text rtype)
+type_word rtype small = by (is_some (shape_of_code rtype))
   where
-    by : (shaped : Bool) → IsPlainWord (if shaped then type_text (record { 0 = code }) else portable_text (record { 0 = code }))
-    by true = named_type_word code (omega (arith, small))
-    by false = portable_type_word code (omega (arith, small))
+    by : (shaped : Bool) → IsPlainWord (if shaped then type_text rtype else portable_text rtype)
+    by true = named_type_word rtype (omega (arith, small))
+    by false = portable_type_word rtype (omega (arith, small))
 
 -- ---- the data
 
@@ -79,22 +81,22 @@ mark_word : IsWord (codes "\\#")
 unfolding encode
 mark_word = record { symbols = SimpleEscape 35 ∷ []; some = omega arith; valid = refl; spelled = refl }
 
-module _ (code : ℕ) (octets : List ℕ) (is : IsTypeData code octets) where
-  shape_well : (found : Option TypeShape) → shape_of_code code ≡ found → AllByRecursion IsWell (tokens_of_shape found octets)
+module _ (rtype : RecordType) (octets : List ℕ) (is : IsTypeData rtype octets) where
+  shape_well : (found : Option TypeShape) → shape_of_code rtype ≡ found → AllByRecursion IsWell (tokens_of_shape found octets)
   shape_well None none = (well_word _ mark_word, (well_plain _ (decimal_word (length octets) (omega (arith, is.short))), digits_well octets))
   shape_well (Some s) some =
       let shape : Shape = shape_with s in
       let own = is.shaped shape (subst (λ f. HasShape f shape) (sym some) (refl, refl, refl)) in
       both (printed_data shape octets) (data_well shape octets own) (data_words shape octets own)
 
-pub data_is_well : (code : ℕ) (octets : List ℕ) → IsTypeData code octets → AllByRecursion IsWell (data_tokens code octets)
-data_is_well code octets is = shape_well code octets is (shape_of_code code) refl
+pub data_is_well : (rtype : RecordType) (octets : List ℕ) → IsTypeData rtype octets → AllByRecursion IsWell (data_tokens rtype octets)
+data_is_well rtype octets is = shape_well rtype octets is (shape_of_code rtype) refl
 
 pub head_is_well : {N O : Type 0} (r : Record N O) → AreRecordValues r → r.ttl < 2 ^ 31 → AllByRecursion IsWell (head_tokens r)
 head_is_well r values small = (
   well_word _ (owner_word (wire r.owner) values.owner).word,
   (
     well_plain _ (decimal_word r.ttl (omega (arith, small))),
-    (well_plain _ (class_word r.class values.class), (well_plain _ (type_word (data_of r).code values.type), tt)),
+    (well_plain _ (class_word r.class values.class), (well_plain _ (type_word (data_of r).rtype values.type), tt)),
   ),
 )

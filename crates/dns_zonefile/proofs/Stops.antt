@@ -17,8 +17,8 @@ use Rattle.dns_split.specs.PassedLine.{HasNoEnd, PassesEntry}
 use Rattle.dns_tape.specs.FirstEntry.{StopsFirst, piece_tokens}
 use Rattle.dns_zonefile.specs.First.{BeginsEntryWith, parts_of}
 use Rattle.dns_octets.specs.Room.{Room}
+use Rattle.dns_fields.specs.declared.record_error.RecordError.{RecordError}
 use Rattle.dns_reader.specs.declared.entry.EntryRead.{EntryRead}
-use Rattle.dns_reader.specs.declared.entry_error.EntryRefusal.{EntryRefusal}
 use Rattle.dns_reader.specs.declared.state.State.{State}
 use Rattle.dns_zonefile.specs.Giving.{ReadsStop}
 use Rattle.dns_zonefile.specs.Placed.{IsAllBehind}
@@ -223,7 +223,7 @@ fault_stays rest f x more ok m why =
 
 -- ---- what is read of them
 
-pub read_same : (room : Room) (slice octets : List ℕ) (b blank : Bool) (place at : ℕ) (before : State) (old : List ℕ) (read : Result EntryRead EntryRefusal) (after : State) (new : List ℕ)
+pub read_same : (room : Room) (slice octets : List ℕ) (b blank : Bool) (place at : ℕ) (before : State) (old : List ℕ) (read : Result EntryRead RecordError) (after : State) (new : List ℕ)
     → slice ≡ octets → b ≡ blank → place ≡ at → ReadsStop room slice b place before old read after new → ReadsStop room octets blank at before old read after new
 read_same room slice octets b blank place at before old read after new e f h r =
     subst (λ l. ReadsStop room l blank at before old read after new) e (subst (λ (t : Bool). ReadsStop room slice t at before old read after new) f (subst (λ n. ReadsStop room slice b n before old read after new) h r))

@@ -7,9 +7,9 @@ use Rattle.dns_tape.specs.Source.{UnreadSeen, tape_seen, token_after, tokens_aft
 use Rattle.dns_tape.specs.Tape.{FillsWith, span_token}
 use Rattle.dns_tape.specs.declared.tape.TokenSpan.{TokenSpan}
 use Rattle.dns_tape.proofs.Once.{filled_once}
+use Rattle.dns_fields.specs.declared.record_error.RecordError.{RecordError}
 use Rattle.dns_reader.specs.EntryReading.{ReadsZoneEntry}
 use Rattle.dns_reader.specs.declared.entry.EntryRead.{EntryRead}
-use Rattle.dns_reader.specs.declared.entry_error.EntryRefusal.{EntryRefusal}
 use Rattle.dns_reader.specs.declared.state.State.{State}
 use Rattle.dns_zonefile.specs.Giving.{ReadsStop}
 use Rattle.dns_zonefile.specs.Placed.{BeginsPlaced}
@@ -19,7 +19,7 @@ spans_after octets base [] = refl
 spans_after octets base (s ∷ spans) = ap (λ l. token_after base (span_token octets s) ∷ l) (spans_after octets base spans)
 
 -- what is read of them is what is read of the entry
-pub read_by : (room : Room) (octets : List ℕ) (base at : ℕ) (blank : Bool) (p : UnreadSeen) (spans : List TokenSpan) (before : State) (old : List ℕ) (read : Result EntryRead EntryRefusal) (after : State) (new : List ℕ)
+pub read_by : (room : Room) (octets : List ℕ) (base at : ℕ) (blank : Bool) (p : UnreadSeen) (spans : List TokenSpan) (before : State) (old : List ℕ) (read : Result EntryRead RecordError) (after : State) (new : List ℕ)
     → FillsWith octets spans at → p ≡ tape_seen octets base spans at → ReadsZoneEntry room blank p.end.at p.tokens before old read after new → ReadsStop room octets blank base before old read after new
 read_by room octets base at blank p spans before old read after new f e r stop left x a =
     let own = tokens_after base (piece_tokens octets None x.found) in
@@ -29,7 +29,7 @@ read_by room octets base at blank p spans before old read after new f e r stop l
     subst (λ i. ReadsZoneEntry room blank i own before old read after new) end (subst (λ l. ReadsZoneEntry room blank p.end.at l before old read after new) tokens r)
 
 -- so it is without a tape
-pub read_placed : (room : Room) (octets : List ℕ) (base : ℕ) (blank : Bool) (p : UnreadSeen) (before : State) (old : List ℕ) (read : Result EntryRead EntryRefusal) (after : State) (new : List ℕ)
+pub read_placed : (room : Room) (octets : List ℕ) (base : ℕ) (blank : Bool) (p : UnreadSeen) (before : State) (old : List ℕ) (read : Result EntryRead RecordError) (after : State) (new : List ℕ)
     → BeginsPlaced octets base p → ReadsZoneEntry room blank p.end.at p.tokens before old read after new → ReadsStop room octets blank base before old read after new
 read_placed room octets base blank p before old read after new b r stop left x a =
     let same = b stop left x a in

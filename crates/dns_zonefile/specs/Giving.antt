@@ -10,9 +10,9 @@ use Rattle.dns_split.specs.declared.pieces.EndOfEntry.{EndOfEntry}
 use Rattle.dns_split.specs.declared.pieces.Fault.{Fault}
 use Rattle.dns_split.specs.declared.pieces.Piece.{Piece}
 use Rattle.dns_split.specs.declared.pieces.Wrong.TheVariants.{OpenQuote}
+use Rattle.dns_fields.specs.declared.record_error.RecordError.{RecordError}
 use Rattle.dns_reader.specs.EntryReading.{ReadsZoneEntry}
 use Rattle.dns_reader.specs.declared.entry.EntryRead.{EntryRead}
-use Rattle.dns_reader.specs.declared.entry_error.EntryRefusal.{EntryRefusal}
 use Rattle.dns_reader.specs.declared.state.State.{State}
 use Rattle.dns_tape.specs.FirstEntry.{StopsFirst, piece_tokens, stop_offset}
 use Rattle.dns_tape.specs.Source.{tokens_after}
@@ -24,9 +24,9 @@ use Rattle.dns_zonefile.specs.declared.refusal.BlockRefusal.{BlockRefusal}
 use Rattle.dns_zonefile.specs.declared.refusal.BlockRefusal.TheVariants.{Text, Entry, LongEntry}
 
 -- what is given of an entry that has an end; and of one that a fault cuts off
-abbrev pub given_by : {E : Type 0} → ℕ → Result E Fault → Result EntryRead EntryRefusal → Result EntryRead BlockRefusal
+abbrev pub given_by : {E : Type 0} → ℕ → Result E Fault → Result EntryRead RecordError → Result EntryRead BlockRefusal
 given_by at (Ok end) (Ok read) = Ok read
-given_by at (Ok end) (Err refusal) = Err (Entry refusal)
+given_by at (Ok end) (Err e) = Err (Entry e)
 given_by at (Err f) read = Err (Text (moved_fault (λ i. at + i) f))
 
 -- what a text has after its first entry, or after the line of its fault
@@ -50,7 +50,7 @@ pub record GivesOne (room : Room) (all : List ℕ) (b : Blocks) (before : State)
   pub stands : (more : List ℕ) → MayFollow b more → StandsNext (all ++ more) b at blank tokens stop c
   pub short : stop_offset stop ≤ b.limit
   pub is_finished : c.is_finished ≡ b.is_finished
-  pub read : Result EntryRead EntryRefusal
+  pub read : Result EntryRead RecordError
   pub reads : ReadsZoneEntry room blank (at + stop_offset stop) (tokens_after at tokens) before old read after new
   pub is : given ≡ given_by at stop read
 
@@ -95,10 +95,10 @@ CanMove at (Ok end) = ⊤
 CanMove at (Err f) = (at + f.at < 2 ^ 64) × ((i : ℕ) → f.wrong ≡ OpenQuote i → at + i < 2 ^ 64)
 
 -- of octets that are one entry, or what a fault cuts off, the tokens are read by the state
-abbrev pub ReadsStop : Room → List ℕ → Bool → ℕ → State → List ℕ → Result EntryRead EntryRefusal → State → List ℕ → Type 0
+abbrev pub ReadsStop : Room → List ℕ → Bool → ℕ → State → List ℕ → Result EntryRead RecordError → State → List ℕ → Type 0
 ReadsStop room octets blank at before old read after new = (stop : Result EndOfEntry Fault) (left : List (Result Piece Fault)) (x : StopsFirst octets stop left) → IsAllBehind (length octets) stop left
     → ReadsZoneEntry room blank (at + stop_offset stop) (tokens_after at (piece_tokens octets None x.found)) before old read after new
 
 -- so are those of the next entry that is held
-abbrev pub ReadsPending : Room → Blocks → Result ℕ Fault → State → List ℕ → Result EntryRead EntryRefusal → State → List ℕ → Type 0
+abbrev pub ReadsPending : Room → Blocks → Result ℕ Fault → State → List ℕ → Result EntryRead RecordError → State → List ℕ → Type 0
 ReadsPending room b stop before old read after new = ReadsStop room (stop_octets b stop) (blank_at (drop b.next b.octets) 0) (place_of_next b) before old read after new

@@ -1,6 +1,7 @@
 -- Worked rows of texts that are printed of records.
 use Rattle.std.specs.Prelude.{◌≡◌, ℕ, List, [], ◌∷◌, codes, None, refl, Ok}
 use Rattle.std.specs.Fmt.{digits}
+use Rattle.dns_kinds.specs.Rtype as Rtype
 use Rattle.dns_kinds.specs.Types.{type_rows}
 use Rattle.dns_spelling.specs.PrintedNames.{labels_in_octets}
 use Rattle.dns_wire.specs.Wire.{wire}
@@ -19,7 +20,7 @@ abbrev mail : List ℕ
 mail = 0 ∷ 10 ∷ wire (below_example (codes "mail"))
 
 abbrev mail_record : Record ℕ ℕ
-mail_record = record { owner = below_example (codes "a"); ttl = 3600; class = 1; «data» = record { code = 15; octets = mail } }
+mail_record = record { owner = below_example (codes "a"); ttl = 3600; class = 1; «data» = record { rtype = Rtype.mx; octets = mail } }
 
 -- a line's end stands behind each, also behind the last
 lines_row : records_text Simple (mail_record ∷ mail_record ∷ []) ≡ codes "a.example. 3600 IN MX 10 mail.example.\na.example. 3600 IN MX 10 mail.example.\n"
@@ -36,7 +37,7 @@ no_record_row = refl
 -- what is given of it behind one octet, where it begins at 43
 given_row : IsRecordGiven mail_record (record {
   old = 7 ∷ [];
-  result = Ok (IsRecord 43 (Own 3600) 1 15);
+  result = Ok (IsRecord 43 (Own 3600) 1 Rtype.mx);
   new = 7 ∷ mail;
   state = record { origin = Unsaid; owner = Name (below_example (codes "a")); default_ttl = None; last_ttl = None; class = 3 };
 })

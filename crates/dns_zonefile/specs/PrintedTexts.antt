@@ -23,7 +23,7 @@ records_text kind records = printed kind (lines_of record_document records)
 -- what is given is this record: its own time to live, its class and its type, its owner, and its data behind the octets that were there
 pub record IsRecordGiven {N O : Type 0} (r : Record N O) (g : EntryGiven) : Type 0 where
   pub at : ℕ
-  pub is : g.result ≡ Ok (IsRecord at (Own r.ttl) r.class (data_of r).code)
+  pub is : g.result ≡ Ok (IsRecord at (Own r.ttl) r.class (data_of r).rtype)
   pub owner : g.state.owner ≡ Name r.owner
   pub «data» : g.new ≡ g.old ++ (data_of r).octets
 

@@ -4,6 +4,7 @@ use Rattle.dns_octets.specs.Room.{Room}
 use Rattle.dns_spelling.specs.NameSpelling.{IsOrigin}
 use Rattle.dns_split.specs.EntryTokens.{TokenSeen}
 use Rattle.dns_fields.specs.Source.{next_place}
+use Rattle.dns_fields.specs.declared.record_error.RecordError.{RecordError}
 use Rattle.dns_data.specs.Rests.{ArePrinted}
 use Rattle.dns_resource.specs.Records.{data_of, record_tokens}
 use Rattle.dns_resource.specs.declared.record.Record.{Record}
@@ -11,13 +12,12 @@ use Rattle.dns_reader.specs.EntryReading.{ReadsZoneEntry}
 use Rattle.dns_reader.specs.Past.{known_name}
 use Rattle.dns_reader.specs.declared.entry.EntryRead.{EntryRead}
 use Rattle.dns_reader.specs.declared.entry.EntryRead.TheVariants.{Record as IsRecord}
-use Rattle.dns_reader.specs.declared.entry_error.EntryRefusal.{EntryRefusal}
 use Rattle.dns_reader.specs.declared.known.Known.TheVariants.{Name}
 use Rattle.dns_reader.specs.declared.state.State.{State}
 use Rattle.dns_reader.specs.declared.ttl.RecordTtl.TheVariants.{Own}
 
 -- from every state the tokens that a record is printed as are read as it: with its owner, its own time to live, its class, its type and its data
 abbrev pub IsPrintedRecordRead : {N O : Type 0} → Record N O → Type 0
-IsPrintedRecordRead r = (room : Room) (end : ℕ) (tokens : List TokenSeen) (before after : State) (old new : List ℕ) (result : Result EntryRead EntryRefusal) → r.ttl < 2 ^ 31 → ArePrinted (record_tokens r) tokens
+IsPrintedRecordRead r = (room : Room) (end : ℕ) (tokens : List TokenSeen) (before after : State) (old new : List ℕ) (result : Result EntryRead RecordError) → r.ttl < 2 ^ 31 → ArePrinted (record_tokens r) tokens
     → IsOrigin (known_name before.origin) → length old + length (data_of r).octets ≤ room.fits → ReadsZoneEntry room false end tokens before old result after new
-    → (result ≡ Ok (IsRecord (next_place tokens end) (Own r.ttl) r.class (data_of r).code)) × (after.owner ≡ Name r.owner) × (new ≡ old ++ (data_of r).octets)
+    → (result ≡ Ok (IsRecord (next_place tokens end) (Own r.ttl) r.class (data_of r).rtype)) × (after.owner ≡ Name r.owner) × (new ≡ old ++ (data_of r).octets)

@@ -12,8 +12,9 @@ use crate::error::AddError;
 use crate::line::line_end;
 use crate::placed::PlacedTokens;
 use crate::refusal::BlockRefusal;
+use dns_fields::RecordError;
 use dns_octets::{AsOctetsMut, OctetsBuilder};
-use dns_reader::{EntryRead, EntryRefusal, State, read_entry};
+use dns_reader::{EntryRead, State, read_entry};
 use dns_split::pieces::Fault;
 use dns_split::position::Position;
 use dns_split::standing::Standing;
@@ -34,7 +35,7 @@ fn read_first<B: OctetsBuilder + AsOctetsMut>(
     at: usize,
     state: &mut State,
     target: &mut B,
-) -> Result<EntryRead, EntryRefusal>
+) -> Result<EntryRead, RecordError>
     requires { at + length octets.now < 2 ^ 64 }
     ensures { ReadsStop B.room octets.now begins_blank at state.old (B.octets target.old) result state.new (B.octets target.new) }
 {
@@ -59,7 +60,7 @@ fn as_octets(octets: &[u8]) -> &[u8]
 fn given_by(
     at: usize,
     stop: Result<usize, Fault>,
-    read: Result<EntryRead, EntryRefusal>,
+    read: Result<EntryRead, RecordError>,
 ) -> Result<EntryRead, BlockRefusal>
     requires { CanMove at stop }
     ensures { result ≡ given_by at stop read }
@@ -67,7 +68,7 @@ fn given_by(
     match stop {
         Ok(_) => match read {
             Ok(read) => Ok(read),
-            Err(refusal) => Err(BlockRefusal::Entry(refusal)),
+            Err(error) => Err(BlockRefusal::Entry(error)),
         },
         Err(fault) => Err(BlockRefusal::Text(moved(fault, at))),
     }
@@ -332,7 +333,7 @@ impl<A: Allocator> BlockReader<A> {
         stop: Result<usize, Fault>,
         state: &mut State,
         target: &mut B,
-    ) -> Result<EntryRead, EntryRefusal>
+    ) -> Result<EntryRead, RecordError>
         requires { IsHeldStop self.now stop }
         ensures { ReadsPending B.room self.now stop state.old (B.octets target.old) result state.new (B.octets target.new) }
     {

@@ -1,5 +1,5 @@
 //! Why an entry of a file that comes in blocks is not given.
-use dns_reader::EntryRefusal;
+use dns_fields::RecordError;
 use dns_split::pieces::Fault;
 
 /// Why an entry of a file that comes in blocks is not given.
@@ -8,7 +8,7 @@ pub enum BlockRefusal {
     /// A fault of the text comes before its end.
     Text(Fault),
     /// It is refused.
-    Entry(EntryRefusal),
+    Entry(RecordError),
     /// It has more octets than the limit. No more is read.
     LongEntry,
 }

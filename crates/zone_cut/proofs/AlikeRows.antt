@@ -3,11 +3,11 @@ use Rattle.std.proofs.Common.{◌≡◌, ℕ, List, [], ◌∷◌, ◌++◌, Opt
 use Rattle.dns_octets.specs.Room.{Room}
 use Rattle.dns_split.specs.declared.pieces.EndOfEntry.{EndOfEntry}
 use Rattle.dns_split.specs.declared.pieces.Fault.{Fault}
+use Rattle.dns_fields.specs.declared.record_error.RecordError.{RecordError}
 use Rattle.dns_reader.specs.Records.{AreGivenInARow, EntryGiven, ReadsBegun, ReadsNextEntry, StandsAfter, given_next, none_given}
 use Rattle.dns_reader.specs.Source.{BeginsEntry, SourceSeen, StartsBehindLine, entry_end, entry_left}
 use Rattle.dns_reader.specs.declared.entry.EntryRead.{EntryRead}
 use Rattle.dns_reader.specs.declared.records.RecordReader.{RecordReader}
-use Rattle.dns_reader.specs.declared.records.RecordRefusal.{RecordRefusal}
 use Rattle.dns_reader.specs.declared.source.StartOfEntry.{StartOfEntry}
 use Rattle.dns_reader.specs.declared.state.State.{State}
 use Rattle.zone_cut.specs.Alike.{AreAlike, AreGivenAlike, IsGivenAlike, StandAlike}
@@ -18,7 +18,7 @@ use Rattle.zone_cut.proofs.AlikeStates.{read_alike}
 abbrev at_source : RecordReader → State → RecordReader
 at_source r state = record { octets = r.octets; source = r.source; state = state }
 
-module _ (room : Room) (octets old new : List ℕ) (before other : State) (alike : AreAlike before other) (after : RecordReader) (same : after.octets.now ≡ octets) (result : Result EntryRead RecordRefusal) where
+module _ (room : Room) (octets old new : List ℕ) (before other : State) (alike : AreAlike before other) (after : RecordReader) (same : after.octets.now ≡ octets) (result : Result EntryRead RecordError) where
   abbrev Gives : SourceSeen → Result (Option StartOfEntry) Fault → Type 0
   Gives begun start = (end : RecordReader) × ReadsBegun room octets begun start other old (Some result) end new × StandAlike after end
 
@@ -30,7 +30,7 @@ module _ (room : Room) (octets old new : List ℕ) (before other : State) (alike
   begun_alike begun (Err fault) h =
       (at_source after other, (h.0, h.1, (refl, h.2.1)), record { octets = refl; source = refl; state = subst (λ s. AreAlike s other) (sym h.2.0) alike })
 
-next_alike : (room : Room) (before other after : RecordReader) (old new : List ℕ) (result : Result EntryRead RecordRefusal) → StandAlike before other → ReadsNextEntry room before old (Some result) after new
+next_alike : (room : Room) (before other after : RecordReader) (old new : List ℕ) (result : Result EntryRead RecordError) → StandAlike before other → ReadsNextEntry room before old (Some result) after new
     → (end : RecordReader) × ReadsNextEntry room other old (Some result) end new × StandAlike after end
 next_alike room before other after old new result stand h =
     let found = begun_alike room before.octets.now old new before.state other.state stand.state after h.octets_stay result h.begun h.start h.reads in (

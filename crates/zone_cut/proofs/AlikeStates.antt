@@ -6,17 +6,16 @@ use Rattle.dns_octets.specs.Room.{Room}
 use Rattle.dns_split.specs.EntryTokens.{TokenSeen}
 use Rattle.dns_fields.specs.Source.{next_place}
 use Rattle.dns_data.specs.ByType.{ReadsType}
-use Rattle.dns_data.specs.declared.by_type.TypeRefusal.{TypeRefusal}
 use Rattle.dns_heads.specs.Directives.{first_directive}
 use Rattle.dns_heads.specs.EntrySays.{EntryMeaning, says_nothing, says_origin, says_default_ttl, says_include, says_record, says_refused}
 use Rattle.dns_heads.specs.declared.head.Words.{Words}
 use Rattle.dns_heads.specs.declared.head.WordsRefusal.{WordsRefusal}
+use Rattle.dns_fields.specs.declared.record_error.RecordError.{RecordError}
 use Rattle.dns_reader.specs.EntryReading.{NamesOrRefuses, ReadsBehind, ReadsInclude, ReadsMeaning, ReadsOrigin, ReadsOwner, ReadsRecordData, ReadsWords, record_with, said_of_entry}
 use Rattle.dns_reader.specs.Learning.{chosen_ttl}
 use Rattle.dns_reader.specs.Past.{Said, default_ttl_said, ttl_said, IsOriginAfter, no_origin_said, origin_said_last, IsOwnerAfter, no_owner_said, owner_said_last, IsTtlAfter, Knows, known_name}
 use Rattle.dns_reader.specs.declared.entry.EntryRead.{EntryRead}
 use Rattle.dns_reader.specs.declared.entry.EntryRead.TheVariants.{Record}
-use Rattle.dns_reader.specs.declared.entry_error.EntryRefusal.{EntryRefusal}
 use Rattle.dns_reader.specs.declared.known.Known.{Known}
 use Rattle.dns_reader.specs.declared.state.State.{State}
 use Rattle.dns_reader.specs.declared.ttl.RecordTtl.{RecordTtl}
@@ -51,7 +50,7 @@ same_choice None None last other minimum h = ap (λ l. chosen_ttl None None l mi
 
 same_record : (a b : State) (at : ℕ) (w : Words) (c : Option RecordTtl) → a.class ≡ b.class → record_with a at w c ≡ record_with b at w c
 same_record a b at w None e = refl
-same_record a b at w (Some ttl) e = ap (λ k. Ok (Record at ttl (unwrap_or w.class k) w.code)) e
+same_record a b at w (Some ttl) e = ap (λ k. Ok (Record at ttl (unwrap_or w.class k) w.rtype)) e
 
 module _ (a b : State) (alike : AreAlike a b) where
   -- what an entry that leaves a state behind one leaves behind the other
@@ -80,31 +79,31 @@ module _ (a b : State) (alike : AreAlike a b) where
 
   -- ---- entries
 
-  module _ (room : Room) (at end : ℕ) (old new : List ℕ) (result : Result EntryRead EntryRefusal) where
+  module _ (room : Room) (at end : ℕ) (old new : List ℕ) (result : Result EntryRead RecordError) where
     same_ttl : (w : Words) (minimum : Option ℕ) → record_with a at w (chosen_ttl w.ttl a.default_ttl a.last_ttl minimum) ≡ record_with b at w (chosen_ttl w.ttl b.default_ttl b.last_ttl minimum)
     same_ttl w minimum =
         same_record a b at w (chosen_ttl w.ttl a.default_ttl a.last_ttl minimum) alike.class
         ∙ ap (record_with b at w) (same_choice w.ttl a.default_ttl a.last_ttl b.last_ttl minimum alike.last_ttl ∙ ap (λ d. chosen_ttl w.ttl d b.last_ttl minimum) alike.default_ttl)
 
-    same_behind : (w : Words) (r : Result (Unit {0}) TypeRefusal) → ReadsBehind a at w old r new result → ReadsBehind b at w old r new result
+    same_behind : (w : Words) (r : Result (Unit {0}) RecordError) → ReadsBehind a at w old r new result → ReadsBehind b at w old r new result
     same_behind w (Err r) h = h
     same_behind w (Ok u) h = (h.0, h.1, (h.2.0, h.2.1, h.2.2 ∙ same_ttl w h.2.0))
 
     same_data : (w : Words) (tokens : List TokenSeen) → ReadsRecordData a room at end w tokens old result new → ReadsRecordData b room at end w tokens old result new
-    same_data w tokens h = (h.0, h.1, subst (λ o. ReadsType (known_name o) room w.code end tokens old h.0 h.1 new) alike.origin h.2, same_behind w h.0 h.3)
+    same_data w tokens h = (h.0, h.1, subst (λ o. ReadsType (known_name o) room w.rtype end tokens old h.0 h.1 new) alike.origin h.2, same_behind w h.0 h.3)
 
-    same_words : (first : Result (Unit {0}) EntryRefusal) (words : Result Words WordsRefusal) (tokens : List TokenSeen) → ReadsWords a room at end first words tokens old result new → ReadsWords b room at end first words tokens old result new
+    same_words : (first : Result (Unit {0}) RecordError) (words : Result Words WordsRefusal) (tokens : List TokenSeen) → ReadsWords a room at end first words tokens old result new → ReadsWords b room at end first words tokens old result new
     same_words (Err r) words tokens h = h
     same_words (Ok u) (Err r) tokens h = h
     same_words (Ok u) (Ok w) tokens h = same_data w tokens h
 
-    same_owner : (token : Option TokenSeen) (first : Result (Unit {0}) EntryRefusal) (known : Known) → ReadsOwner a at token first known → ReadsOwner b at token first known
+    same_owner : (token : Option TokenSeen) (first : Result (Unit {0}) RecordError) (known : Known) → ReadsOwner a at token first known → ReadsOwner b at token first known
     same_owner None (Ok u) known h = (h.0 ∙ alike.owner, h.1)
-    same_owner None (Err r) known h = (h.0 ∙ alike.owner, h.1)
+    same_owner None (Err r) known h = (h.0 ∙ alike.owner, h.1, h.2)
     same_owner (Some t) (Ok u) known h = (h.0, h.1, subst (λ o. NamesOrRefuses (known_name o) t (Ok h.0)) alike.origin h.2)
     same_owner (Some t) (Err r) known h = (h.0, subst (λ o. NamesOrRefuses (known_name o) t (Err r)) alike.origin h.1)
 
-  same_meaning : (room : Room) (end : ℕ) (tokens : List TokenSeen) (m : EntryMeaning) (old new : List ℕ) (result : Result EntryRead EntryRefusal) (owner : Known) → ReadsMeaning a room end tokens m old result owner new
+  same_meaning : (room : Room) (end : ℕ) (tokens : List TokenSeen) (m : EntryMeaning) (old new : List ℕ) (result : Result EntryRead RecordError) (owner : Known) → ReadsMeaning a room end tokens m old result owner new
       → ReadsMeaning b room end tokens m old result owner new
   same_meaning room end tokens says_nothing old new result owner h = h
   same_meaning room end tokens (says_origin t) old new result owner h = (subst (λ o. ReadsOrigin (known_name o) t result) alike.origin h.0, h.1)

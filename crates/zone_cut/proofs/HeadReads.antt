@@ -21,11 +21,11 @@ use Rattle.dns_heads.specs.EntrySays.{EntrySays, FirstSays, says_default_ttl, sa
 use Rattle.dns_heads.specs.declared.directive.Directive.TheVariants.{Origin, Ttl}
 use Rattle.dns_heads.proofs.EntryLaws.{entries_say_once}
 use Rattle.dns_heads.proofs.WordLemmas.{says_short_ttl}
+use Rattle.dns_fields.specs.declared.record_error.RecordError.{RecordError}
 use Rattle.dns_reader.specs.EntryReading.{ReadsZoneEntry, said_of_entry}
 use Rattle.dns_reader.specs.Learning.{Learns}
 use Rattle.dns_reader.specs.Past.{SaysOrigin, SaysDefaultTtl, known_name, nothing_said, seconds_of}
 use Rattle.dns_reader.specs.declared.entry.EntryRead.{EntryRead}
-use Rattle.dns_reader.specs.declared.entry_error.EntryRefusal.{EntryRefusal}
 use Rattle.dns_reader.specs.declared.known.Known.{Known}
 use Rattle.dns_reader.specs.declared.known.Known.TheVariants.{Unsaid, Name, Refused}
 use Rattle.dns_reader.specs.declared.state.State.{State}
@@ -47,7 +47,7 @@ use Rattle.zone_cut.proofs.ReadRecords.{LeavesTtls, record_leaves}
 
 -- ---- one line
 
-module _ (room : Room) (end : ℕ) (before after : State) (old new : List ℕ) (result : Result EntryRead EntryRefusal) where
+module _ (room : Room) (end : ℕ) (before after : State) (old new : List ℕ) (result : Result EntryRead RecordError) where
   origin_read : (labels : List (List ℕ)) (tokens : List TokenSeen) → IsWireName (wire labels) → ArePrinted (plain_word (codes "$ORIGIN") ∷ plain_word (wire_name_text (wire labels)) ∷ []) tokens
       → ReadsZoneEntry room false end tokens before old result after new → after ≡ record before { origin = Name labels }
   origin_read labels [] name p h = absurd p
@@ -114,7 +114,7 @@ module _ (room : Room) where
         let own = data_of r in
         let fits : length l.old + length own.octets ≤ room.fits = omega (arith, l.fits, known.values.typed.short) in
         let is = known.read room l.end l.tokens before after l.old l.new l.result small l.printed origin fits l.reads in
-        let leaves = record_leaves room false l.end l.tokens before after l.old l.new _ (Own r.ttl) r.class own.code (subst (λ e. ReadsZoneEntry room false l.end l.tokens before l.old e after l.new) is.0 l.reads) in
+        let leaves = record_leaves room false l.end l.tokens before after l.old l.new _ (Own r.ttl) r.class own.rtype (subst (λ e. ReadsZoneEntry room false l.end l.tokens before l.old e after l.new) is.0 l.reads) in
         record { origin = leaves.origin; owner = is.1; default_ttl = leaves.ttls.0; last_ttl = leaves.ttls.1; class = leaves.class }
 
     -- behind records the names and the times to live are those of the last
@@ -142,7 +142,7 @@ module _ {N O : Type 0} (h : PartHead N O) (name : (labels : List (List ℕ)) �
   leads_there room last short behind reads =
       let s : State = state_of h in
       let start : State = nothing_said s.class in
-      let leaves = record_leaves behind.room behind.blank behind.end behind.tokens behind.before s behind.old behind.new behind.at behind.ttl behind.class behind.code behind.reads in
+      let leaves = record_leaves behind.room behind.blank behind.end behind.tokens behind.before s behind.old behind.new behind.at behind.ttl behind.class behind.rtype behind.reads in
       let parts = read_parts room (directive_lines s) (map record_tokens (head_records h)) start last reads in
       let halves = read_parts room (origin_lines s.origin) (default_ttl_lines s.default_ttl) start parts.0 parts.1 in
       let origin : halves.0 ≡ record start { origin = s.origin } = origins_read room s.origin start halves.0 (λ e. behind.origin (sym leaves.origin ∙ e)) name refl halves.1 in

@@ -3,19 +3,20 @@ use Rattle.std.proofs.Common.{◌≡◌, ℕ, Bool, List, [], ◌∷◌, ◌++�
 use Rattle.std.specs.Prelude.{⊤}
 use Rattle.dns_octets.specs.Room.{Room}
 use Rattle.dns_split.specs.EntryTokens.{TokenSeen}
-use Rattle.dns_data.specs.declared.by_type.TypeRefusal.{TypeRefusal}
 use Rattle.dns_heads.specs.Directives.{first_directive}
+use Rattle.dns_kinds.specs.declared.classes.Class.{Class}
+use Rattle.dns_kinds.specs.declared.error.ErrorKind.{ErrorKind}
+use Rattle.dns_kinds.specs.declared.types.RecordType.{RecordType}
 use Rattle.dns_heads.specs.EntrySays.{EntryMeaning, says_nothing, says_origin, says_default_ttl, says_include, says_record, says_refused}
 use Rattle.dns_heads.specs.declared.directive.Directive.{Directive}
-use Rattle.dns_heads.specs.declared.error.HeadError.{HeadError}
 use Rattle.dns_heads.specs.declared.head.Words.{Words}
 use Rattle.dns_heads.specs.declared.head.WordsRefusal.{WordsRefusal}
+use Rattle.dns_fields.specs.declared.record_error.RecordError.{RecordError}
 use Rattle.dns_reader.specs.EntryReading.{ReadsBehind, ReadsMeaning, ReadsWords, ReadsZoneEntry, minimum_of_ttl, own_ttl_of, owner_of_record, record_with, said_of_entry}
 use Rattle.dns_reader.specs.Learning.{Learns, chosen_ttl}
 use Rattle.dns_reader.specs.Past.{Said, SaysOwner, origin_said, default_ttl_said, ttl_said, Silent, IsOriginAfter, no_origin_said, origin_said_last, Knows}
 use Rattle.dns_reader.specs.declared.entry.EntryRead.{EntryRead}
 use Rattle.dns_reader.specs.declared.entry.EntryRead.TheVariants.{Record}
-use Rattle.dns_reader.specs.declared.entry_error.EntryRefusal.{EntryRefusal}
 use Rattle.dns_reader.specs.declared.known.Known.{Known}
 use Rattle.dns_reader.specs.declared.state.State.{State}
 use Rattle.dns_reader.specs.declared.ttl.RecordTtl.{RecordTtl}
@@ -121,27 +122,27 @@ module _ (before after : State) (token : Option TokenSeen) (own : Option ℕ) wh
 
 -- ---- a record that is read
 
-module _ (room : Room) (blank : Bool) (end : ℕ) (tokens : List TokenSeen) (before after : State) (old new : List ℕ) (at : ℕ) (ttl : RecordTtl) (class code : ℕ) where
-  abbrev read : Result EntryRead EntryRefusal
-  read = Ok (Record at ttl class code)
+module _ (room : Room) (blank : Bool) (end : ℕ) (tokens : List TokenSeen) (before after : State) (old new : List ℕ) (at : ℕ) (ttl : RecordTtl) (class : Class) (rtype : RecordType) where
+  abbrev read : Result EntryRead RecordError
+  read = Ok (Record at ttl class rtype)
 
   found_ttl : (place : ℕ) (w : Words) (c : Option RecordTtl) → read ≡ record_with before place w c → c ≡ Some ttl
   found_ttl place w None e = cc
   found_ttl place w (Some t) e = let same : t ≡ ttl = cc in ap Some same
 
-  by_data : (place : ℕ) (token : Option TokenSeen) (w : Words) (r : Result (Unit {0}) TypeRefusal) → ReadsBehind before place w old r new read → Knows before (said_by token w.ttl ttl) after → RecordLeaves before ttl after
+  by_data : (place : ℕ) (token : Option TokenSeen) (w : Words) (r : Result (Unit {0}) RecordError) → ReadsBehind before place w old r new read → Knows before (said_by token w.ttl ttl) after → RecordLeaves before ttl after
   by_data place token w (Err r) h known = cc
   by_data place token w (Ok u) h known =
       let found = found_ttl place w (chosen_ttl w.ttl before.default_ttl before.last_ttl h.2.0) h.2.2 in
       leaves before after token w.ttl ttl known (subst (λ c. AreFrom c w.ttl before.default_ttl before.last_ttl) found (from_chosen w.ttl before.default_ttl before.last_ttl h.2.0))
 
-  by_words : (place : ℕ) (token : Option TokenSeen) (first : Result (Unit {0}) EntryRefusal) (words : Result Words WordsRefusal) (left : List TokenSeen) (d : Option (Result Directive HeadError)) → ReadsWords before room place end first words left old read new
+  by_words : (place : ℕ) (token : Option TokenSeen) (first : Result (Unit {0}) RecordError) (words : Result Words WordsRefusal) (left : List TokenSeen) (d : Option (Result Directive ErrorKind)) → ReadsWords before room place end first words left old read new
       → Knows before (said_of_entry d (says_record token words left) read) after → RecordLeaves before ttl after
   by_words place token (Err r) words left d h known = let no = h.0 in cc
   by_words place token (Ok u) (Err r) left d h known = let no = h.0 in cc
   by_words place token (Ok u) (Ok w) left d h known = by_data place token w h.0 h.3 known
 
-  by_meaning : (m : EntryMeaning) (d : Option (Result Directive HeadError)) (owner : Known) → ReadsMeaning before room end tokens m old read owner new → Knows before (said_of_entry d m read) after → RecordLeaves before ttl after
+  by_meaning : (m : EntryMeaning) (d : Option (Result Directive ErrorKind)) (owner : Known) → ReadsMeaning before room end tokens m old read owner new → Knows before (said_of_entry d m read) after → RecordLeaves before ttl after
   by_meaning says_nothing d owner h known = let no = h.0 in cc
   by_meaning (says_origin t) d owner h known = let no = h.0.0 in cc
   by_meaning (says_default_ttl (Ok n)) d owner h known = let no = h.0 in cc

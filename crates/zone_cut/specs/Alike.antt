@@ -4,10 +4,10 @@ use Rattle.dns_data.specs.Limits.{max_data}
 use Rattle.dns_data.specs.Rests.{ArePrinted}
 use Rattle.dns_octets.specs.Room.{Room}
 use Rattle.dns_split.specs.EntryTokens.{TokenSeen}
+use Rattle.dns_fields.specs.declared.record_error.RecordError.{RecordError}
 use Rattle.dns_reader.specs.EntryReading.{ReadsZoneEntry}
 use Rattle.dns_reader.specs.Records.{EntryGiven}
 use Rattle.dns_reader.specs.declared.entry.EntryRead.{EntryRead}
-use Rattle.dns_reader.specs.declared.entry_error.EntryRefusal.{EntryRefusal}
 use Rattle.dns_reader.specs.declared.records.RecordReader.{RecordReader}
 use Rattle.dns_reader.specs.declared.state.State.{State}
 use Rattle.zone_cut.specs.Heads.{Line}
@@ -47,7 +47,7 @@ pub record ReadsLine (room : Room) (before : State) (line : Line) (after : State
   pub old : List ℕ
   pub new : List ℕ
   pub fits : length old + max_data ≤ room.fits
-  pub result : Result EntryRead EntryRefusal
+  pub result : Result EntryRead RecordError
   pub reads : ReadsZoneEntry room false end tokens before old result after new
 
 -- lines one after another, each from the state that the one before left

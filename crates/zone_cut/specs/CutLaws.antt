@@ -1,13 +1,15 @@
 -- Laws of parts.
 use Rattle.std.specs.Prelude.{◌≡◌, ◌≢◌, ℕ, Bool, List, Result, Ok}
+use Rattle.dns_kinds.specs.declared.classes.Class.{Class}
+use Rattle.dns_kinds.specs.declared.types.RecordType.{RecordType}
 use Rattle.dns_octets.specs.Room.{Room}
 use Rattle.dns_split.specs.EntryTokens.{TokenSeen}
+use Rattle.dns_fields.specs.declared.record_error.RecordError.{RecordError}
 use Rattle.dns_reader.specs.EntryReading.{ReadsZoneEntry}
 use Rattle.dns_reader.specs.Past.{nothing_said, seconds_of}
 use Rattle.dns_reader.specs.Records.{AreGivenInARow, EntryGiven}
 use Rattle.dns_reader.specs.declared.entry.EntryRead.{EntryRead}
 use Rattle.dns_reader.specs.declared.entry.EntryRead.TheVariants.{Record as IsRecord}
-use Rattle.dns_reader.specs.declared.entry_error.EntryRefusal.{EntryRefusal}
 use Rattle.dns_reader.specs.declared.known.Known.TheVariants.{Name, Refused}
 use Rattle.dns_reader.specs.declared.records.RecordReader.{RecordReader}
 use Rattle.dns_reader.specs.declared.state.State.{State}
@@ -19,7 +21,7 @@ use Rattle.zone_cut.specs.declared.head.PartHead.{PartHead}
 -- What may be read of an entry from a state may be read of it from one that is alike, with the same
 -- octets; and the states that this leaves are alike.
 abbrev pub AlikeStatesReadAlike : Type 0
-AlikeStatesReadAlike = (room : Room) (blank : Bool) (end : ℕ) (tokens : List TokenSeen) (a b after : State) (old new : List ℕ) (result : Result EntryRead EntryRefusal) → AreAlike a b → ReadsZoneEntry room blank end tokens a old result after new
+AlikeStatesReadAlike = (room : Room) (blank : Bool) (end : ℕ) (tokens : List TokenSeen) (a b after : State) (old new : List ℕ) (result : Result EntryRead RecordError) → AreAlike a b → ReadsZoneEntry room blank end tokens a old result after new
     → (other : State) × ReadsZoneEntry room blank end tokens b old result other new × AreAlike after other
 
 -- So in rows of calls: what the reader of a whole may give from one state on, it may give from the other.
@@ -39,9 +41,9 @@ pub record StandsBehindFirst {N O : Type 0} (h : PartHead N O) : Type 0 where
   pub new : List ℕ
   pub at : ℕ
   pub ttl : RecordTtl
-  pub class : ℕ
-  pub code : ℕ
-  pub reads : ReadsZoneEntry room blank end tokens before old (Ok (IsRecord at ttl class code)) (state_of h) new
+  pub class : Class
+  pub rtype : RecordType
+  pub reads : ReadsZoneEntry room blank end tokens before old (Ok (IsRecord at ttl class rtype)) (state_of h) new
   pub owner : (state_of h).owner ≡ Name h.first.owner
   pub ttl_is : h.first.ttl ≡ seconds_of ttl
   pub origin : before.origin ≢ Refused

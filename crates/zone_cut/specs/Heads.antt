@@ -72,7 +72,7 @@ PushesHead h old new = HasShortTtls h × (new ≡ old ++ printed Simple (head_do
 pub record IsRecordOf {N O : Type 0} (read : RecordRead) (r : Record N O) : Type 0 where
   pub ttl : r.ttl ≡ read.ttl
   pub class : r.class ≡ read.class
-  pub code : (data_of r).code ≡ read.code
+  pub rtype : (data_of r).rtype ≡ read.rtype
   pub octets : (data_of r).octets ≡ read.«data».now
 
 -- the lines of a head are appended whose first record is the one that was read last

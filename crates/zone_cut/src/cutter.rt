@@ -9,6 +9,7 @@ ghost use Rattle.zone_cut.specs.Shares.{no_shares};
 use crate::error::CutError;
 use crate::head::PartHead;
 use crate::shares::Shares;
+use dns_kinds::{Class, RecordType};
 use dns_octets::AsOctets;
 use dns_reader::{Known, State};
 use dns_resource::{Data, Record};
@@ -16,17 +17,13 @@ use dns_wire::Name;
 use dns_zone::zonefile_fmt::{DisplayKind, ZonefileFmt};
 use std::alloc::Allocator;
 
-/// The code of SOA.
-const SOA: u16 = 6;
-
 /// What was read of a record, but for its owner.
 #[derive(Clone, Copy)]
 pub struct RecordRead<'a> {
     /// Its time to live, in seconds.
     pub ttl: u32,
-    /// The codes of its class and of its type.
-    pub class: u16,
-    pub code: u16,
+    pub class: Class,
+    pub rtype: RecordType,
     /// Its data on the wire.
     pub data: &'a [u8],
 }
@@ -35,7 +32,7 @@ pub struct RecordRead<'a> {
 #[derive(Drop)]
 struct HeldRecord<A: Allocator> {
     ttl: u32,
-    class: u16,
+    class: Class,
     owner: Vec<u8, A>,
     data: Vec<u8, A>,
 }
@@ -64,7 +61,7 @@ fn record_of<'a>(
     let Ok(owner) = Name::from_octets(owner) else {
         return Err(CutError::NoRecord);
     };
-    let Ok(data) = Data::from_octets(read.code, read.data) else {
+    let Ok(data) = Data::from_octets(read.rtype, read.data) else {
         return Err(CutError::NoRecord);
     };
     Ok(Record {
@@ -125,7 +122,7 @@ impl<A: Allocator + Copy> HeldRecord<A> {
         let read = RecordRead {
             ttl: self.ttl,
             class: self.class,
-            code: SOA,
+            rtype: RecordType::SOA,
             data: self.data.as_slice(),
         };
         record_of(self.owner.as_slice(), read)
@@ -197,7 +194,7 @@ impl<A: Allocator + Copy> Cutter<A> {
         ensures shares { self.new.shares ≡ self.old.shares }
         ensures owner { self.new.owner ≡ self.old.owner }
     {
-        if self.repeats_soa && read.code == SOA && self.soa.is_none() {
+        if self.repeats_soa && read.rtype == RecordType::SOA && self.soa.is_none() {
             self.soa = Some(HeldRecord::soa(self.alloc, state, read)?);
         }
         Ok(())
