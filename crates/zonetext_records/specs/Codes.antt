@@ -1,17 +1,13 @@
 -- The codes of what is found in entries.
-use Rattle.std.specs.Prelude.{Bool, true, false}
-use Rattle.dns_data.specs.declared.error.DataError.{DataError}
-use Rattle.dns_data.specs.declared.error.DataError.TheVariants.{Field as DataField}
-use Rattle.dns_fields.specs.declared.error.FieldError.{FieldError}
-use Rattle.dns_fields.specs.declared.error.FieldError.TheVariants.{ShortBuf, Kind, Spelling}
-use Rattle.dns_heads.specs.declared.error.HeadError.{HeadError}
-use Rattle.dns_heads.specs.declared.error.HeadError.TheVariants.{Field as HeadField}
-use Rattle.dns_kinds.specs.declared.error.KindError.TheVariants.{ExpectedTtl}
-use Rattle.dns_reader.specs.declared.entry_error.EntryError.{EntryError}
-use Rattle.dns_reader.specs.declared.entry_error.EntryError.TheVariants.{Head, Field as EntryField, Owner as EntryOwner, Data as EntryData, NoTtl as EntryNoTtl}
-use Rattle.dns_spelling.specs.declared.error.SpellingError.TheVariants.{NoOrigin as WithoutOrigin}
+use Rattle.std.specs.Prelude.{ℕ, ◌==◌, if◌then◌else◌, Bool, true, false, Option, Some, None}
+use Rattle.dns_fields.specs.declared.record_error.RecordError.{RecordError}
+use Rattle.dns_kinds.specs.declared.error.ErrorKind.{ErrorKind}
+use Rattle.dns_kinds.specs.declared.error.ErrorKind.TheVariants.{Syntax, ExpectedTtl, NoOrigin as WithoutOrigin, NoOwner as WithoutOwner, RefusedOwner, NoTtl as WithoutTtl}
+use Rattle.dns_kinds.specs.declared.types.RecordType.{RecordType as TypeOfRecord}
 use Rattle.dns_split.specs.declared.pieces.Wrong.{Wrong}
 use Rattle.dns_split.specs.declared.pieces.Wrong.TheVariants.{Closing, OpenParenthesis as OpenWrong, OpenQuote as QuoteWrong, LoneReturn as ReturnWrong, BadEscape as EscapeWrong}
+use Rattle.zonetext_records.specs.declared.codes.Part.{Part}
+use Rattle.zonetext_records.specs.declared.codes.Part.TheVariants.{Directive as DirectivePart, Owner as OwnerPart, Head as HeadPart, Data as DataPart}
 use Rattle.zonetext_report.specs.declared.code.Code.{Code}
 use Rattle.zonetext_report.specs.declared.code.Code.TheVariants.{OpenQuote, OpenParenthesis, ClosingParenthesis, LoneReturn, BadEscape, Directive, Owner, Ttl, RecordType, Data, NoOwner, NoTtl, NoOrigin}
 
@@ -23,33 +19,40 @@ code_of_fault (QuoteWrong at) = OpenQuote
 code_of_fault ReturnWrong = LoneReturn
 code_of_fault EscapeWrong = BadEscape
 
--- a relative name without an origin has a code of its own, wherever it stands
-abbrev pub code_of_name : FieldError → (other : Code) → Code
-code_of_name (Spelling WithoutOrigin) other = NoOrigin
-code_of_name _ other = other
+-- the owner is refused where the offset is the owner's
+abbrev pub part_at_owner : (owner : Option ℕ) → (offset : ℕ) → Part
+part_at_owner None offset = HeadPart
+part_at_owner (Some owner) offset = if owner == offset then OwnerPart else HeadPart
 
--- in front of the data of a record: a word that begins with a digit is no time to live; any other is no type
-abbrev pub code_of_head : HeadError → Code
-code_of_head (HeadField (Kind ExpectedTtl)) = Ttl
-code_of_head _ = RecordType
-
-abbrev pub code_of_data : DataError → Code
-code_of_data (DataField why) = code_of_name why Data
-code_of_data _ = Data
+-- an error of data has their type
+abbrev pub part_of_record : (owner : Option ℕ) → (rtype : Option TypeOfRecord) → (offset : ℕ) → Part
+part_of_record owner (Some rtype) offset = DataPart
+part_of_record owner None offset = part_at_owner owner offset
 
 -- a refused directive is one, whatever of it is refused; of a record the part that is refused counts
-abbrev pub code_of_entry : (is_directive : Bool) → EntryError → Code
-code_of_entry true (Head why) = Directive
-code_of_entry false (Head why) = code_of_head why
-code_of_entry true (EntryField why) = code_of_name why Directive
-code_of_entry false (EntryField why) = code_of_name why Owner
-code_of_entry _ (EntryOwner why) = NoOwner
-code_of_entry _ (EntryData why) = code_of_data why
-code_of_entry _ EntryNoTtl = NoTtl
+abbrev pub refused_part : (is_directive : Bool) → (owner : Option ℕ) → RecordError → Part
+refused_part true owner e = DirectivePart
+refused_part false owner e = part_of_record owner e.rtype e.offset
 
--- no room for octets, or no memory
-abbrev pub is_for_lack_of_room : EntryError → Bool
-is_for_lack_of_room (Head (HeadField ShortBuf)) = true
-is_for_lack_of_room (EntryField ShortBuf) = true
-is_for_lack_of_room (EntryData (DataField ShortBuf)) = true
-is_for_lack_of_room _ = false
+-- before the data of a record: a word that begins with a digit is no time to live; any other is no type
+abbrev pub code_of_head : ErrorKind → Code
+code_of_head ExpectedTtl = Ttl
+code_of_head _ = RecordType
+
+abbrev pub code_of_part : Part → ErrorKind → Code
+code_of_part DirectivePart kind = Directive
+code_of_part OwnerPart kind = Owner
+code_of_part HeadPart kind = code_of_head kind
+code_of_part DataPart kind = Data
+
+-- a relative name without an origin has a code of its own, whatever part it is; and so has what is missing
+abbrev pub code_of_kind : Part → ErrorKind → Code
+code_of_kind part (Syntax wrong) = code_of_fault wrong
+code_of_kind part WithoutOrigin = NoOrigin
+code_of_kind part WithoutOwner = NoOwner
+code_of_kind part RefusedOwner = NoOwner
+code_of_kind part WithoutTtl = NoTtl
+code_of_kind part kind = code_of_part part kind
+
+abbrev pub code_of_entry : (is_directive : Bool) → (owner : Option ℕ) → RecordError → Code
+code_of_entry is_directive owner e = code_of_kind (refused_part is_directive owner e) e.kind

@@ -1,5 +1,7 @@
 -- Data of records that look like a slip.
 use Rattle.std.specs.Prelude.{ℕ, ◌==◌, ◌||◌, ◌&&◌, not, if◌then◌else◌, Bool, false, List, [], ◌∷◌, length, Option, Some, None}
+use Rattle.dns_kinds.specs.Rtype as Rtype
+use Rattle.dns_kinds.specs.declared.types.RecordType.{RecordType}
 
 -- how many octets the hash of a matching type has: SHA-256, SHA-512
 abbrev pub match_length : ℕ → Option ℕ
@@ -14,19 +16,18 @@ abbrev pub is_other_match : List ℕ → Bool
 is_other_match (usage ∷ selector ∷ matching ∷ hash) = is_other_length (match_length matching) (length hash)
 is_other_match _ = false
 
--- TLSA is type 52, SMIMEA 53
-abbrev pub has_other_match_length : (code : ℕ) → List ℕ → Bool
-has_other_match_length code octets = (code == 52 || code == 53) && is_other_match octets
+-- of TLSA and SMIMEA
+abbrev pub has_other_match_length : RecordType → List ℕ → Bool
+has_other_match_length rtype octets = (rtype == Rtype.tlsa || rtype == Rtype.smimea) && is_other_match octets
 
--- URI is type 256: a priority and a weight of two octets each, and a target
-abbrev pub has_empty_target : (code : ℕ) → List ℕ → Bool
-has_empty_target code octets = code == 256 && length octets == 4
+-- of URI: a priority and a weight of two octets each, and a target
+abbrev pub has_empty_target : RecordType → List ℕ → Bool
+has_empty_target rtype octets = rtype == Rtype.uri && length octets == 4
 
 -- the third octet, after a precedence and the type of the gateway, is an algorithm
 abbrev pub is_algorithm_zero : List ℕ → Bool
 is_algorithm_zero (precedence ∷ gateway ∷ algorithm ∷ rest) = algorithm == 0
 is_algorithm_zero _ = false
 
--- IPSECKEY is type 45
-abbrev pub has_key_algorithm_zero : (code : ℕ) → List ℕ → Bool
-has_key_algorithm_zero code octets = code == 45 && is_algorithm_zero octets
+abbrev pub has_key_algorithm_zero : RecordType → List ℕ → Bool
+has_key_algorithm_zero rtype octets = rtype == Rtype.ipseckey && is_algorithm_zero octets

@@ -1,18 +1,8 @@
 -- What is said of findings.
 use Rattle.std.specs.Prelude.{ℕ, List, codes}
-use Rattle.dns_split.specs.declared.pieces.Wrong.{Wrong}
-use Rattle.dns_split.specs.declared.pieces.Wrong.TheVariants.{Closing, OpenParenthesis as OpenWrong, OpenQuote as QuoteWrong, LoneReturn as ReturnWrong, BadEscape as EscapeWrong}
 use Rattle.zonetext_report.specs.Code.{code_name}
 use Rattle.zonetext_report.specs.declared.code.Code.{Code}
 use Rattle.zonetext_report.specs.declared.code.Code.TheVariants.{Nul, ByteOrderMark, ControlZ, Ttl, OtherClass, NoSoa, TwoSoas, NoNs, NsAddress, Cname, Dname, DsApex, WildcardNs, SoaNotApex, NsBesideDname, Nsec3Wildcard, BelowDname, Outside, MaxTtl, NoOrigin, HighOctet, ControlOctet, Crlf, NestedParentheses, LeadingParenthesis, AdjacentTokens, NoFinalNewline, RelativeOrigin, SoaMinimumTtl, IncludeTtl, MissingDot, EmptyUri, TlsaLength, IpseckeyAlgorithm, OhttpValue, Glue, TargetCname, TargetMissing, HostName, Cds, TtlDiffers, Duplicate, NotAtApex, KeyProtocol, KeyAlgorithm, NoDnskey, Expired, ExpiresSoon, NotYetValid, RrsigTimes, RrsigSigner, RrsigLabels, OriginalTtl, RrsigTtl, Unsigned, NoKey, KeyMissing, RrsigKey, SignsNothing, OccludedDnssec, NoNsec, NsecNext, NsecTypes, DsWithoutNs, NoNsec3, Nsec3Next, Nsec3Types, Nsec3Owner, Nsec3Iterations, Nsec3Iterations50, Nsec3Iterations0, NsecTtl, CdsDelete}
-
--- the faults of the text
-abbrev pub text_fault_text : Wrong → List ℕ
-text_fault_text Closing = codes "closing parenthesis, and none is open"
-text_fault_text OpenWrong = codes "parenthesis is not closed"
-text_fault_text (QuoteWrong at) = codes "quoted text is not closed"
-text_fault_text ReturnWrong = codes "CR without LF"
-text_fault_text EscapeWrong = codes "bad escape"
 
 -- findings that have no more to say than their codes
 abbrev pub finding_text : Code → List ℕ

@@ -2,15 +2,11 @@
 ghost use Rattle.std.specs.Prelude.{◌≡◌};
 ghost use Rattle.zone_dnssec.specs.SecurityNames.{security_name};
 ghost use Rattle.zone_rules.specs.RuleNames.{rule_name};
-ghost use Rattle.zonetext_records.specs.Codes.{code_of_data, code_of_entry, code_of_fault, code_of_head, code_of_name, is_for_lack_of_room};
+ghost use Rattle.zonetext_records.specs.Codes.{code_of_entry, code_of_fault, code_of_kind, code_of_part, refused_part};
 ghost use Rattle.zonetext_report.specs.Code.{code_name};
 
-use dns_data::DataError;
-use dns_fields::FieldError;
-use dns_heads::HeadError;
-use dns_kinds::KindError;
-use dns_reader::EntryError;
-use dns_spelling::SpellingError;
+use dns_fields::RecordError;
+use dns_kinds::ErrorKind;
 use dns_split::pieces::Wrong;
 use zone_dnssec::SecurityRule;
 use zone_rules::Rule;
@@ -29,62 +25,66 @@ pub fn code_of_fault(wrong: Wrong) -> Code
     }
 }
 
-/// The code of a refused name: a relative name where there is no origin, or another.
-fn code_of_name(why: FieldError, other: Code) -> Code
-    ensures { result ≡ code_of_name why other }
+/// What of an entry is refused.
+#[derive(Clone, Copy, Debug, PartialEq, Eq)]
+enum Part {
+    /// A directive, or an argument of it.
+    Directive,
+    /// The owner of a record.
+    Owner,
+    /// The words before the data of a record.
+    Head,
+    /// The data of a record.
+    Data,
+}
+
+/// Returns what of an entry is refused. `owner` is the offset of the owner, if the record says one.
+fn refused_part(is_directive: bool, owner: Option<usize>, error: &RecordError) -> Part
+    ensures { result ≡ refused_part is_directive owner error.now }
 {
-    match why {
-        FieldError::Spelling(SpellingError::NoOrigin) => Code::NoOrigin,
-        _ => other,
+    if is_directive {
+        Part::Directive
+    } else if error.rtype.is_some() {
+        Part::Data
+    } else if owner == Some(error.offset) {
+        Part::Owner
+    } else {
+        Part::Head
     }
 }
 
-/// The code of a record whose words in front of its data are refused.
-fn code_of_head(why: HeadError) -> Code
-    ensures { result ≡ code_of_head why }
+/// The code of what is wrong with a part of an entry, where it has none of its own.
+fn code_of_part(part: Part, kind: ErrorKind) -> Code
+    ensures { result ≡ code_of_part part kind }
 {
-    match why {
-        HeadError::Field(FieldError::Kind(KindError::ExpectedTtl)) => Code::Ttl,
-        _ => Code::RecordType,
+    match part {
+        Part::Directive => Code::Directive,
+        Part::Owner => Code::Owner,
+        Part::Head if matches!(kind, ErrorKind::ExpectedTtl) => Code::Ttl,
+        Part::Head => Code::RecordType,
+        Part::Data => Code::Data,
     }
 }
 
-/// The code of refused data.
-fn code_of_data(why: DataError) -> Code
-    ensures { result ≡ code_of_data why }
+/// The code of what is wrong with a part of an entry.
+fn code_of_kind(part: Part, kind: ErrorKind) -> Code
+    ensures { result ≡ code_of_kind part kind }
 {
-    match why {
-        DataError::Field(why) => code_of_name(why, Code::Data),
-        _ => Code::Data,
+    match kind {
+        ErrorKind::Syntax(wrong) => code_of_fault(wrong),
+        ErrorKind::NoOrigin => Code::NoOrigin,
+        ErrorKind::NoOwner | ErrorKind::RefusedOwner => Code::NoOwner,
+        ErrorKind::NoTtl => Code::NoTtl,
+        _ => code_of_part(part, kind),
     }
 }
 
 /// The code of an entry that is refused. `is_directive` says whether it begins with the word of a
-/// directive.
-pub fn code_of_entry(is_directive: bool, why: EntryError) -> Code
-    ensures { result ≡ code_of_entry is_directive why }
+/// directive. `owner` is the offset of the owner, if it is a record that says one.
+pub fn code_of_entry(is_directive: bool, owner: Option<usize>, error: &RecordError) -> Code
+    ensures { result ≡ code_of_entry is_directive owner error.now }
 {
-    match why {
-        EntryError::Head(why) if !is_directive => code_of_head(why),
-        EntryError::Head(_) => Code::Directive,
-        EntryError::Field(why) if !is_directive => code_of_name(why, Code::Owner),
-        EntryError::Field(why) => code_of_name(why, Code::Directive),
-        EntryError::Owner(_) => Code::NoOwner,
-        EntryError::Data(why) => code_of_data(why),
-        EntryError::NoTtl => Code::NoTtl,
-    }
-}
-
-/// Whether an entry is refused because there was no room for its octets, or no memory.
-pub fn is_for_lack_of_room(why: EntryError) -> bool
-    ensures { result ≡ is_for_lack_of_room why }
-{
-    match why {
-        EntryError::Head(HeadError::Field(FieldError::ShortBuf))
-        | EntryError::Field(FieldError::ShortBuf)
-        | EntryError::Data(DataError::Field(FieldError::ShortBuf)) => true,
-        _ => false,
-    }
+    code_of_kind(refused_part(is_directive, owner, error), error.kind)
 }
 
 /// The code of a rule that a zone breaks, which has its name.

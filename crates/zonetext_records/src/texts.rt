@@ -1,22 +1,8 @@
 //! What is said of findings.
 ghost use Rattle.std.specs.Prelude.{◌≡◌};
-ghost use Rattle.zonetext_records.specs.Texts.{finding_text, text_fault_text};
+ghost use Rattle.zonetext_records.specs.Texts.{finding_text};
 
-use dns_split::pieces::Wrong;
 use zonetext_report::code::Code;
-
-/// What is said of a fault of the text.
-pub fn fault_text(wrong: Wrong) -> &'static str
-    ensures { result.now ≡ text_fault_text wrong }
-{
-    match wrong {
-        Wrong::Closing => "closing parenthesis, and none is open",
-        Wrong::OpenParenthesis => "parenthesis is not closed",
-        Wrong::OpenQuote(_) => "quoted text is not closed",
-        Wrong::LoneReturn => "CR without LF",
-        Wrong::BadEscape => "bad escape",
-    }
-}
 
 /// What is said of a finding that has no more to say than its code.
 pub fn code_text(code: Code) -> &'static str
