@@ -5,14 +5,12 @@ use crate::reading::Reading;
 use crate::run_files::TakeRecord;
 use crate::sorting::{Sorting, gather_sorting};
 use crate::stop::{Stop, conclude};
+use dns_kinds::RecordType;
 use dns_octets::AsOctets;
 use dns_resource::Record;
 use std::alloc::{AllocError, Global};
 use std::io;
 use zone_set::{Selection, push_generic, push_record};
-
-/// The code of SOA.
-const SOA: u16 = 6;
 
 /// How records are written.
 #[derive(Clone, Copy)]
@@ -48,12 +46,12 @@ fn by_number(
 fn soa_first(alloc: Global, records: &[NumberedRecord<'_>]) -> Result<Vec<usize>, AllocError> {
     let mut order = Vec::new(alloc);
     for (place, record) in records.iter().enumerate() {
-        if record.data.code() == SOA {
+        if record.data.rtype() == RecordType::SOA {
             order.push(place)?;
         }
     }
     for (place, record) in records.iter().enumerate() {
-        if record.data.code() != SOA {
+        if record.data.rtype() != RecordType::SOA {
             order.push(place)?;
         }
     }

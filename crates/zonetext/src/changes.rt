@@ -28,10 +28,10 @@ struct Count {
 }
 
 /// The type of the record that a change is of.
-fn code_of<Owner: AsOctets, Octets: AsOctets>(change: &Change<'_, Owner, Octets>) -> u16 {
+fn rtype_of<Owner: AsOctets, Octets: AsOctets>(change: &Change<'_, Owner, Octets>) -> RecordType {
     match change {
         Change::Removed(record) | Change::Added(record) | Change::NewTtl(record, _) => {
-            record.data.code()
+            record.data.rtype()
         }
     }
 }
@@ -57,27 +57,27 @@ impl Count {
     }
 }
 
-/// How many changes there are of each type, by its code.
+/// How many changes there are of each type, by its number.
 fn counts_of<Owner: AsOctets, Octets: AsOctets>(
     alloc: Global,
     changes: &[Change<'_, Owner, Octets>],
 ) -> Result<BTreeMap<u16, Count>, AllocError> {
     let mut counts = BTreeMap::new(alloc);
     for change in changes {
-        let code = code_of(change);
-        let mut count = counts.get(&code).copied().unwrap_or(Count::new());
+        let number = rtype_of(change).0;
+        let mut count = counts.get(&number).copied().unwrap_or(Count::new());
         count.count(change);
-        counts.insert(code, count)?;
+        counts.insert(number, count)?;
     }
     Ok(counts)
 }
 
-/// Writes how many changes there are of each type, the lowest code first.
+/// Writes how many changes there are of each type, the lowest number first.
 fn write_summary(rt: &HostRuntime, counts: &BTreeMap<u16, Count>) -> io::Result<()> {
-    for (code, count) in counts {
-        let record_type = RecordType(*code);
+    for (number, count) in counts {
+        let rtype = RecordType(*number);
         let (removed, added, new_ttls) = (count.removed, count.added, count.new_ttls);
-        println!(rt; "{record_type}\t-{removed}\t+{added}\t~{new_ttls}")?;
+        println!(rt; "{rtype}\t-{removed}\t+{added}\t~{new_ttls}")?;
     }
     Ok(())
 }

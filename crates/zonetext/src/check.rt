@@ -9,6 +9,7 @@ use crate::stop::{Stop, conclude};
 use crate::times::times_of;
 use crate::zone_files::{Begin, shown_name, visit_file};
 use clap::ArgMatches;
+use dns_kinds::Class;
 use dns_reader::{NameBuffer, State};
 use dns_wire::DisplayWithDot;
 use std::alloc::{AllocError, Global};
@@ -38,7 +39,7 @@ struct Options<'o> {
     denied: Vec<Code>,
     allowed: Vec<Code>,
     is_strict: bool,
-    class: u16,
+    class: Class,
     max_ttl: Option<u32>,
     /// No entry may have more octets. Of the text alone none is too long.
     max_entry: usize,

@@ -16,10 +16,11 @@ use crate::spots::{
 use crate::stop::Stop;
 use crate::zone_files::{Entry, Visit};
 use dns_data::type_row;
-use dns_fields::Field;
+use dns_fields::{Field, RecordError};
 use dns_heads::{class_word, directive_word};
+use dns_kinds::{Class, ErrorKind, RecordType};
 use dns_octets::AsOctets;
-use dns_reader::{EntryRead, EntryRefusal, NameBuffer, RecordTtl};
+use dns_reader::{EntryRead, NameBuffer, RecordTtl};
 use dns_resource::Data;
 use dns_split::entry_tokens::EntryToken;
 use dns_split::pieces::Fault;
@@ -34,15 +35,9 @@ use zone_rules::{Rule, SortedRecords, SortedSets, check_zone};
 use zone_set::{TaggedOctets, serial_of};
 use zonetext_records::codes::{code_of_entry, code_of_fault, code_of_rule, code_of_security};
 use zonetext_records::names::{ends_in_dot, ends_like};
-use zonetext_records::texts::{code_text, fault_text};
+use zonetext_records::texts::code_text;
 use zonetext_report::code::Code;
 use zonetext_report::lint::{Block, lint};
-
-/// The code of SOA.
-const SOA: u16 = 6;
-
-/// The code of DNSKEY.
-const DNSKEY: u16 = 48;
 
 /// Ctrl-Z, which ended files of CP/M and DOS.
 const CONTROL_Z: u8 = 0x1A;
@@ -51,7 +46,7 @@ const CONTROL_Z: u8 = 0x1A;
 #[derive(Clone, Copy)]
 pub struct Limits {
     /// The class of the zone.
-    pub class: u16,
+    pub class: Class,
     /// The greatest time to live, in seconds.
     pub max_ttl: Option<u32>,
     /// Whether relative names stand below the root for want of an origin.
@@ -116,8 +111,8 @@ fn directive_of<'e>(tokens: &[EntryToken<'e>], begins_blank: bool) -> Option<Ent
 }
 
 /// Whether the token of data of a type with this number, from 0 on, is a name.
-fn is_name(code: u16, number: usize) -> bool {
-    match type_row(code) {
+fn is_name(rtype: RecordType, number: usize) -> bool {
+    match type_row(rtype) {
         Some(row) => matches!(row.1.get(number), Some(Field::Name)),
         None => false,
     }
@@ -162,7 +157,8 @@ impl<'a> Checker<'a> {
     /// Says a fault of the text.
     fn tell_fault(&mut self, entry: &Entry<'_>, fault: Fault) -> Result<(), Stop> {
         let code = code_of_fault(fault.wrong);
-        self.reporter.tell(fault_at(entry, fault), code, true, fault_text(fault.wrong))
+        let text = ErrorKind::Syntax(fault.wrong).as_str();
+        self.reporter.tell(fault_at(entry, fault), code, true, text)
     }
 
     /// Reports an entry that is too long.
@@ -193,24 +189,24 @@ impl<'a> Checker<'a> {
     }
 
     /// Says why an entry is refused.
-    fn tell_refusal(&mut self, entry: &Entry<'_>, refusal: &EntryRefusal) -> Result<(), Stop> {
+    fn tell_refusal(&mut self, entry: &Entry<'_>, error: &RecordError) -> Result<(), Stop> {
         let tokens = tokens_of(self.alloc, entry)?;
         let is_directive = directive_of(tokens.as_slice(), begins_blank(entry)).is_some();
-        let code = code_of_entry(is_directive, refusal.why);
+        let code = code_of_entry(is_directive, error);
         self.has_gap = self.has_gap || code == Code::Directive;
         if code != Code::NoOwner {
             self.has_told_owner = false;
         }
         if !is_directive {
-            let rtype = refused_type(refusal, tokens.as_slice(), begins_blank(entry));
+            let rtype = refused_type(error, tokens.as_slice(), begins_blank(entry));
             self.hold_refused(entry, rtype)?;
         }
         if !self.is_news(code) {
             return Ok(());
         }
-        let text = refusal_text(self.alloc, refusal, code)?;
+        let text = refusal_text(self.alloc, error, code)?;
         self.reporter.tell(
-            spot_at(entry, tokens.as_slice(), refusal.at),
+            spot_at(entry, tokens.as_slice(), error.offset),
             code,
             true,
             text.as_str(),
@@ -265,7 +261,7 @@ impl<'a> Checker<'a> {
         &mut self,
         entry: &Entry<'_>,
         tokens: &[EntryToken<'_>],
-        code: u16,
+        rtype: RecordType,
     ) -> Result<(), Stop> {
         let is_blank = begins_blank(entry);
         if !is_blank {
@@ -278,7 +274,7 @@ impl<'a> Checker<'a> {
             if token.text == b"\\#".as_slice() {
                 return Ok(());
             }
-            if is_name(code, number) {
+            if is_name(rtype, number) {
                 self.check_name(entry, token)?;
             }
         }
@@ -302,7 +298,7 @@ impl<'a> Checker<'a> {
         if self.seen.is_some() {
             return Ok(());
         }
-        let (Ok(owner), Ok(data)) = (entry.state.owner(), Data::from_octets(SOA, entry.data)) else {
+        let (Ok(owner), Ok(data)) = (entry.state.owner(), Data::from_octets(RecordType::SOA, entry.data)) else {
             return Err(Stop::Damaged);
         };
         let (Ok(zone), Some(serial)) = (NameBuffer::from_labels((), owner), serial_of(&data)) else {
@@ -336,7 +332,7 @@ impl<'a> Checker<'a> {
         entry: &Entry<'_>,
         at: usize,
         ttl: RecordTtl,
-        code: u16,
+        rtype: RecordType,
     ) -> Result<(), Stop> {
         if let RecordTtl::Minimum(_) = ttl {
             self.tell_record(entry, at, Code::SoaMinimumTtl)?;
@@ -351,7 +347,7 @@ impl<'a> Checker<'a> {
                 self.tell_record(entry, at, Code::MaxTtl)?;
             }
         }
-        if let Some(code) = slip_of(code, entry.data) {
+        if let Some(code) = slip_of(rtype, entry.data) {
             self.tell_record(entry, at, code)?;
         }
         Ok(())
@@ -385,15 +381,15 @@ impl<'a> Checker<'a> {
                 EntryRead::Record {
                     ttl,
                     class,
-                    code,
+                    rtype,
                     ..
                 },
             ) => {
                 *class == self.limits.class
-                    && *code != SOA
+                    && *rtype != RecordType::SOA
                     && (!self.limits.tells_slips
                         || (self.is_usual_ttl(*ttl)
-                            && slip_of(*code, entry.data).is_none()
+                            && slip_of(*rtype, entry.data).is_none()
                             && !self.may_show_names(entry, scan)))
             }
             _ => false,
@@ -425,9 +421,13 @@ impl<'a> Checker<'a> {
     }
 
     /// Stores the RRset of a refused record, if records are held and its owner and its type are known.
-    fn hold_refused(&mut self, entry: &Entry<'_>, code: Option<u16>) -> Result<(), Stop> {
-        match (&mut self.held, code, entry.state.owner()) {
-            (Some(held), Some(code), Ok(owner)) => held.refused.add(owner.as_slice(), code),
+    fn hold_refused(
+        &mut self,
+        entry: &Entry<'_>,
+        rtype: Option<RecordType>,
+    ) -> Result<(), Stop> {
+        match (&mut self.held, rtype, entry.state.owner()) {
+            (Some(held), Some(rtype), Ok(owner)) => held.refused.add(owner.as_slice(), rtype),
             _ => Ok(()),
         }
     }
@@ -439,12 +439,12 @@ impl<'a> Checker<'a> {
         scan: OctetScan,
         at: usize,
         ttl: RecordTtl,
-        class: u16,
-        code: u16,
+        class: Class,
+        rtype: RecordType,
     ) -> Result<(), Stop> {
         self.count_record();
         let has_class = class == self.limits.class;
-        if has_class && code == SOA {
+        if has_class && rtype == RecordType::SOA {
             self.see_soa(entry)?;
         }
         if has_class && !self.limits.tells_slips {
@@ -452,14 +452,14 @@ impl<'a> Checker<'a> {
         }
         if self.may_show_names(entry, scan) {
             let tokens = tokens_of(self.alloc, entry)?;
-            self.check_names(entry, tokens.as_slice(), code)?;
+            self.check_names(entry, tokens.as_slice(), rtype)?;
         }
         if !has_class {
-            self.hold_refused(entry, Some(code))?;
+            self.hold_refused(entry, Some(rtype))?;
             let tokens = tokens_of(self.alloc, entry)?;
             return self.tell_class(entry, tokens.as_slice());
         }
-        self.check_values(entry, at, ttl, code)?;
+        self.check_values(entry, at, ttl, rtype)?;
         self.hold_record(entry, at)
     }
 
@@ -585,7 +585,7 @@ impl<'a> Checker<'a> {
     ) -> Result<(), Stop> {
         // What an unread record leaves open is not reported.
         let is_whole = !self.has_gap && held.refused.is_empty();
-        if !has_type(records, &view(zone), DNSKEY) {
+        if !has_type(records, &view(zone), RecordType::DNSKEY) {
             return if is_whole {
                 self.tell_broken(held, Code::NoDnskey, None)
             } else {
@@ -720,10 +720,10 @@ impl<'a> Checker<'a> {
                     at,
                     ttl,
                     class,
-                    code,
+                    rtype,
                 },
-            ) => self.check_record(entry, scan, *at, *ttl, *class, *code),
-            Err(BlockRefusal::Entry(refusal)) => self.tell_refusal(entry, refusal),
+            ) => self.check_record(entry, scan, *at, *ttl, *class, *rtype),
+            Err(BlockRefusal::Entry(error)) => self.tell_refusal(entry, error),
         }
     }
 }

@@ -59,7 +59,7 @@ impl<'p> Parter<'p> {
         let read = RecordRead {
             ttl: given.ttl,
             class: given.class,
-            code: given.code,
+            rtype: given.rtype,
             data: given.data,
         };
         match self

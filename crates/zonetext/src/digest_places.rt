@@ -6,16 +6,11 @@ use crate::stop::Stop;
 use crate::zone_files::{Entry, Given};
 use dns_fields::TokenSource;
 use dns_heads::take_words;
+use dns_kinds::{Class, RecordType};
 use dns_reader::EntrySource;
 use dns_split::pieces::Span;
 use std::alloc::Global;
 use zone_set::Selection;
-
-/// The code of SOA.
-pub const SOA: u16 = 6;
-
-/// The code of ZONEMD.
-pub const ZONEMD: u16 = 63;
 
 /// A record, and where it stands in its file.
 #[derive(Drop)]
@@ -23,8 +18,8 @@ pub struct Placed {
     pub owner: Vec<u8>,
     /// In seconds.
     pub ttl: u32,
-    pub class: u16,
-    pub code: u16,
+    pub class: Class,
+    pub rtype: RecordType,
     pub data: Vec<u8>,
     /// Whether its file is included by another.
     pub is_included: bool,
@@ -76,7 +71,7 @@ fn placed_of(alloc: Global, entry: &Entry<'_>, given: Given<'_>) -> Result<Place
         owner: given.owner.to_vec(alloc)?,
         ttl: given.ttl,
         class: given.class,
-        code: given.code,
+        rtype: given.rtype,
         data: given.data.to_vec(alloc)?,
         is_included: entry.number > 0,
         is_origin,
@@ -97,7 +92,7 @@ impl TakeEntry for Finder {
     fn take_entry(&mut self, entry: &Entry<'_>) -> Result<(), Stop> {
         self.gatherer.take_entry(entry)?;
         if let Some(given) = entry.record()? {
-            if given.code == SOA || given.code == ZONEMD {
+            if matches!(given.rtype, RecordType::SOA | RecordType::ZONEMD) {
                 self.found.push(placed_of(self.alloc, entry, given)?)?;
             }
         }

@@ -1,6 +1,6 @@
 //! The command `digest --write`: the digests in a zone are put right, in the file itself.
 use crate::digest::{algorithm_of, unknown_text};
-use crate::digest_places::{Placed, SOA, ZONEMD, find};
+use crate::digest_places::{Placed, find};
 use crate::format::leave;
 use crate::gathered::NumberedSet;
 use crate::options::USAGE;
@@ -8,6 +8,7 @@ use crate::reading::Reading;
 use crate::shown::Shown;
 use crate::stop::{Stop, TROUBLE, conclude};
 use dns_codec::base16::encode_string;
+use dns_kinds::RecordType;
 use dns_reader::NameBuffer;
 use dns_resource::{Data, Record};
 use dns_split::pieces::Span;
@@ -31,13 +32,6 @@ pub struct Work {
     /// Whether also zones with a journal beside them are changed.
     pub ignores_journal: bool,
 }
-
-/// The codes of what signing adds.
-const RRSIG: u16 = 46;
-
-const NSEC: u16 = 47;
-
-const NSEC3: u16 = 50;
 
 /// Why nothing is written.
 #[derive(Drop)]
@@ -127,7 +121,7 @@ fn line_end(octets: &[u8]) -> &'static str {
 
 /// Data of ZONEMD.
 fn data_of(octets: &[u8]) -> Option<Data<&[u8]>> {
-    Data::from_octets(ZONEMD, octets).ok()
+    Data::from_octets(RecordType::ZONEMD, octets).ok()
 }
 
 /// The data of the digest that is right for a zone.
@@ -147,7 +141,7 @@ fn right_of(
 /// The serial number of the SOA of a zone.
 fn serial_at(apex: &NameBuffer, set: &NumberedSet<'_>) -> Option<u32> {
     for record in set.as_slice() {
-        if record.data.code() == SOA && is_apex(&record.owner, apex) {
+        if record.data.rtype() == RecordType::SOA && is_apex(&record.owner, apex) {
             return serial_of(&record.data);
         }
     }
@@ -404,7 +398,7 @@ fn parts_of<'f>(
         if !is_at(one, apex) {
             continue;
         }
-        let is_soa = one.code == SOA;
+        let is_soa = one.rtype == RecordType::SOA;
         if one.is_included {
             let what = if is_soa { "SOA" } else { "ZONEMD" };
             return Err(Unwritten::Included { what });
@@ -479,7 +473,7 @@ fn put(rt: &HostRuntime, original: Original, text: &[u8]) -> Result<(), Unwritte
 /// Whether records are signed.
 fn is_signed(set: &NumberedSet<'_>) -> bool {
     for record in set.as_slice() {
-        if matches!(record.data.code(), RRSIG | NSEC | NSEC3) {
+        if matches!(record.data.rtype(), RecordType::RRSIG | RecordType::NSEC | RecordType::NSEC3) {
             return true;
         }
     }

@@ -4,29 +4,18 @@ use crate::pair::compare_files;
 use crate::progress::Progress;
 use crate::shown::Shown;
 use crate::stop::TROUBLE;
-use dns_split::pieces::Wrong;
+use dns_kinds::ErrorKind;
 use std::io;
-use std::io::{ErrorKind, Write};
+use std::io::Write;
 use zonetext_lib::blocks::{Checker, Halt};
 use zonetext_lib::check::Found;
 use zonetext_lib::comparer::Side;
 use zonetext_lib::diff::Comparison;
 use zonetext_lib::writer::Output;
 
-/// What is wrong with a text, in words.
-pub fn reason(wrong: Wrong) -> &'static str {
-    match wrong {
-        Wrong::Closing => "closing parenthesis, and none is open",
-        Wrong::OpenParenthesis => "parenthesis is not closed",
-        Wrong::OpenQuote(_) => "quoted text is not closed",
-        Wrong::LoneReturn => "CR without LF",
-        Wrong::BadEscape => "bad escape",
-    }
-}
-
 /// Says where a file is no zone text, and returns the exit status.
 pub fn report(rt: &HostRuntime, file: &str, found: Found) -> io::Result<u8> {
-    let why = reason(found.fault.wrong);
+    let why = ErrorKind::Syntax(found.fault.wrong).as_str();
     let file = Shown(file);
     let (line, column) = (found.position.line, found.position.column);
     match found.opened {
@@ -44,15 +33,15 @@ fn conclude(rt: &HostRuntime, file: &str, answer: Result<(), Ended>) -> io::Resu
     match answer {
         Ok(()) => Ok(0),
         Err(Ended::Halt(Halt::Wrong(found))) => report(rt, file, found),
-        Err(Ended::Halt(Halt::OutOfMemory)) => Err(io::Error::from(ErrorKind::OutOfMemory)),
-        Err(Ended::Halt(Halt::TooLong)) => Err(io::Error::from(ErrorKind::FileTooLarge)),
+        Err(Ended::Halt(Halt::OutOfMemory)) => Err(io::Error::from(io::ErrorKind::OutOfMemory)),
+        Err(Ended::Halt(Halt::TooLong)) => Err(io::Error::from(io::ErrorKind::FileTooLarge)),
         Err(Ended::NoForm(_)) => Ok(1),
         Err(Ended::Read(error)) => {
             let file = Shown(file);
             eprintln!(rt; "zonetext: {file}: {error}")?;
             Ok(TROUBLE)
         }
-        Err(Ended::Write(error)) if error.kind() == ErrorKind::BrokenPipe => Ok(TROUBLE),
+        Err(Ended::Write(error)) if error.kind() == io::ErrorKind::BrokenPipe => Ok(TROUBLE),
         Err(Ended::Write(error)) => Err(error),
     }
 }

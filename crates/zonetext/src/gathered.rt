@@ -59,7 +59,7 @@ impl Lowerer {
         self.owner.truncate(0);
         self.data.truncate(0);
         if append_lowered(given.owner, &mut self.owner).is_err()
-            || append_canonical_data(given.code, given.data, &mut self.data).is_err()
+            || append_canonical_data(given.rtype, given.data, &mut self.data).is_err()
         {
             return Err(Stop::OutOfMemory);
         }
@@ -67,7 +67,7 @@ impl Lowerer {
             owner: self.owner.as_slice(),
             ttl: given.ttl,
             class: given.class,
-            code: given.code,
+            rtype: given.rtype,
             data: self.data.as_slice(),
         })
     }
@@ -105,7 +105,7 @@ impl TakeEntry for Gatherer<'_> {
         let Some(given) = entry.record()? else {
             return Ok(());
         };
-        if !self.selection.takes(given.code) {
+        if !self.selection.takes(given.rtype) {
             return Ok(());
         }
         let number = self.held.len();

@@ -1,6 +1,7 @@
 //! Records that are held in memory.
 use crate::stop::Stop;
 use crate::zone_files::Given;
+use dns_kinds::{Class, RecordType};
 use dns_resource::{Data, Record};
 use dns_wire::Name;
 use std::alloc::Global;
@@ -19,8 +20,8 @@ struct Row<Tag> {
     owner: Part,
     data: Part,
     ttl: u32,
-    class: u16,
-    code: u16,
+    class: Class,
+    rtype: RecordType,
     tag: Tag,
 }
 
@@ -85,7 +86,7 @@ impl<Tag: Copy> Held<Tag> {
             data,
             ttl: given.ttl,
             class: given.class,
-            code: given.code,
+            rtype: given.rtype,
             tag,
         })?;
         Ok(())
@@ -101,7 +102,7 @@ impl<Tag: Copy> Held<Tag> {
                 tag: row.tag,
             };
             let owner = Name::from_octets(octets);
-            let data = Data::from_octets(row.code, self.part(row.data)?);
+            let data = Data::from_octets(row.rtype, self.part(row.data)?);
             let (Ok(owner), Ok(data)) = (owner, data) else {
                 return Err(Stop::Damaged);
             };

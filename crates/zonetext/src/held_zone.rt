@@ -1,6 +1,7 @@
 //! The records of zone files, with their positions.
 use crate::held::Held;
 use crate::refused_sets::RefusedSets;
+use dns_kinds::RecordType;
 use dns_resource::Record;
 use dns_split::position::Position;
 use dns_wire::DisplayWithDot;
@@ -9,9 +10,6 @@ use zone_dnssec::SecurityRule;
 use zone_rules::hosts::dname_over_host;
 use zone_rules::{Finding, Rule, SortedRecords, SortedSets};
 use zone_set::TaggedOctets;
-
-/// The code of SOA.
-const SOA: u16 = 6;
 
 /// The position of a record.
 #[derive(Clone, Copy)]
@@ -59,7 +57,7 @@ fn is_other_soa(finding: &Finding, records: &[StandingRecord<'_>]) -> bool {
         return false;
     }
     match finding.record.and_then(|place| records.get(place)) {
-        Some(record) => record.data.code() == SOA,
+        Some(record) => record.data.rtype() == RecordType::SOA,
         None => false,
     }
 }

@@ -35,7 +35,7 @@ fn own(alloc: Global, one: &Record<&[u8], &[u8]>) -> Result<OwnRecord, Stop> {
     let octets = Vec::from_slice(alloc, one.data.as_slice())?;
     match (
         Name::from_octets(owner),
-        Data::from_octets(one.data.code(), octets),
+        Data::from_octets(one.data.rtype(), octets),
     ) {
         (Ok(owner), Ok(data)) => Ok(Record {
             owner,

@@ -15,9 +15,6 @@ use std::io::ErrorKind;
 /// The status of words that are no options.
 pub const USAGE: u8 = 2;
 
-/// The code of the class IN.
-const IN: u16 = 1;
-
 /// Why words are no options.
 #[derive(Drop)]
 pub enum Usage<'o> {
@@ -54,12 +51,12 @@ pub fn name_of(text: &str) -> Option<NameBuffer> {
 }
 
 /// The class that an option names, IN if none.
-pub fn class_of<'o>(text: Option<&'o str>) -> Result<u16, Usage<'o>> {
+pub fn class_of<'o>(text: Option<&'o str>) -> Result<Class, Usage<'o>> {
     let Some(value) = text else {
-        return Ok(IN);
+        return Ok(Class::IN);
     };
     match Class::from_text(value.as_bytes()) {
-        Ok(class) => Ok(class.0),
+        Ok(class) => Ok(class),
         Err(_) => Err(Usage::Value {
             option: "--class",
             value,

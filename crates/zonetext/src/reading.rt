@@ -6,6 +6,7 @@ use crate::shown::Shown;
 use crate::spots::position_at;
 use crate::stop::{Stop, conclude};
 use crate::zone_files::{Begin, Entry, Visit, visit_file};
+use dns_kinds::{Class, RecordType};
 use dns_reader::{EntryRead, NameBuffer, State};
 use dns_wire::DisplayWithDot;
 use std::alloc::{AllocError, Global};
@@ -17,16 +18,13 @@ use zonetext_report::policy::Policy;
 /// How many faults are said.
 const MOST: usize = 20;
 
-/// The code of SOA.
-const SOA: u16 = 6;
-
 /// How files are read.
 #[derive(Clone, Copy)]
 pub struct Reading<'o> {
     /// The origin at the beginning of each file, as it is spelled.
     pub origin: Option<&'o str>,
-    /// The code of the class of records that say none.
-    pub class: u16,
+    /// The class of records that say none.
+    pub class: Class,
     /// Whether other classes are refused.
     pub is_one_class: bool,
     /// Whether files are included.
@@ -91,7 +89,7 @@ impl<T: Drop> Giver<'_, T> {
         let Some(zone) = self.zone() else {
             return Ok(());
         };
-        if given.code != SOA || is_apex(owner, zone) {
+        if given.rtype != RecordType::SOA || is_apex(owner, zone) {
             return Ok(());
         }
         let (file, position) = (

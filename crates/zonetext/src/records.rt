@@ -13,7 +13,7 @@ impl TakeEntry for Lines<'_> {
             return Ok(());
         };
         let owner = Name::from_octets(given.owner);
-        let data = Data::from_octets(given.code, given.data);
+        let data = Data::from_octets(given.rtype, given.data);
         let (Ok(owner), Ok(data)) = (owner, data) else {
             return Err(Stop::Damaged);
         };

@@ -1,39 +1,39 @@
 //! What is said of refused entries.
+use dns_data::field_text;
+use dns_fields::RecordError;
 use dns_heads::{class_word, type_word};
-use dns_kinds::RecordType;
-use dns_reader::EntryRefusal;
+use dns_kinds::{ErrorKind, RecordType};
 use dns_split::entry_tokens::EntryToken;
 use std::alloc::{AllocError, Global};
-use zonetext_records::codes::is_for_lack_of_room;
 use zonetext_report::code::Code;
 
 /// Why an entry is refused. Its octets lack room alone where they are more than record data has.
-fn refusal_reason(refusal: &EntryRefusal) -> &'static str {
-    if is_for_lack_of_room(refusal.why) {
-        "data above 65535 octets"
-    } else {
-        refusal.why.as_str()
+fn reason_of(kind: ErrorKind) -> &'static str {
+    match kind {
+        ErrorKind::ShortBuf => "data above 65535 octets",
+        _ => kind.as_str(),
     }
+}
+
+/// The field of the data of a type that is refused, by its name.
+fn refused_field(error: &RecordError, rtype: RecordType) -> Option<&'static str> {
+    field_text(rtype, error.field?)
 }
 
 /// What is said of a refused entry.
 pub fn refusal_text(
     alloc: Global,
-    refusal: &EntryRefusal,
+    error: &RecordError,
     code: Code,
 ) -> Result<String, AllocError> {
-    let why = refusal_reason(refusal);
-    match (refusal.code, refusal.part) {
-        (Some(code), Some(part)) => {
-            let record_type = RecordType(code);
-            format!(in alloc; "{record_type} {part}: {why}")
-        }
-        (Some(code), None) => {
-            let record_type = RecordType(code);
-            format!(in alloc; "{record_type}: {why}")
-        }
-        _ if code == Code::Owner => format!(in alloc; "owner: {why}"),
-        _ => String::from_str(alloc, why),
+    let why = reason_of(error.kind);
+    match error.rtype {
+        Some(rtype) => match refused_field(error, rtype) {
+            Some(field) => format!(in alloc; "{rtype} {field}: {why}"),
+            None => format!(in alloc; "{rtype}: {why}"),
+        },
+        None if code == Code::Owner => format!(in alloc; "owner: {why}"),
+        None => String::from_str(alloc, why),
     }
 }
 
@@ -44,16 +44,16 @@ fn may_precede_type(token: &EntryToken<'_>) -> bool {
 
 /// Returns the type of a refused record, if it can be read.
 pub fn refused_type(
-    refusal: &EntryRefusal,
+    error: &RecordError,
     tokens: &[EntryToken<'_>],
     is_blank: bool,
-) -> Option<u16> {
-    if refusal.code.is_some() {
-        return refusal.code;
+) -> Option<RecordType> {
+    if error.rtype.is_some() {
+        return error.rtype;
     }
     for token in tokens.get(usize::from(!is_blank)..).unwrap_or(&[]) {
-        if let Some(code) = type_word(token) {
-            return Some(code);
+        if let Some(rtype) = type_word(token) {
+            return Some(rtype);
         }
         if !may_precede_type(token) {
             return None;

@@ -1,15 +1,16 @@
 //! The RRsets of which an entry was refused.
 use crate::stop::Stop;
+use dns_kinds::RecordType;
 use dns_wire::Name;
 use std::alloc::Global;
 use zone_rules::RrsetName;
 
-/// An RRset: its owner among the octets, and the code of its type.
+/// An RRset: its owner among the octets, and its type.
 #[derive(Clone, Copy)]
 struct Row {
     start: usize,
     end: usize,
-    code: u16,
+    rtype: RecordType,
 }
 
 /// The RRsets of which an entry was refused. They are in the zone, and their data are not known.
@@ -45,22 +46,22 @@ impl RefusedSets {
     }
 
     /// Returns whether an RRset was added last.
-    fn is_last(&self, owner: &[u8], code: u16) -> Result<bool, Stop> {
+    fn is_last(&self, owner: &[u8], rtype: RecordType) -> Result<bool, Stop> {
         match self.rows.last() {
-            Some(last) => Ok(last.code == code && self.owner(*last)? == owner),
+            Some(last) => Ok(last.rtype == rtype && self.owner(*last)? == owner),
             None => Ok(false),
         }
     }
 
     /// Adds an RRset, unless it was added last.
-    pub fn add(&mut self, owner: &[u8], code: u16) -> Result<(), Stop> {
-        if self.is_last(owner, code)? {
+    pub fn add(&mut self, owner: &[u8], rtype: RecordType) -> Result<(), Stop> {
+        if self.is_last(owner, rtype)? {
             return Ok(());
         }
         let start = self.octets.len();
         self.octets.extend_from_slice(owner)?;
         let end = self.octets.len();
-        self.rows.push(Row { start, end, code })?;
+        self.rows.push(Row { start, end, rtype })?;
         Ok(())
     }
 
@@ -73,7 +74,7 @@ impl RefusedSets {
             };
             sets.push(RrsetName {
                 owner,
-                code: row.code,
+                rtype: row.rtype,
             })?;
         }
         sets.sort_by(|left, right| left.compare(right))?;

@@ -1,22 +1,17 @@
 //! What the data of records show.
 use crate::zone_files::Entry;
+use dns_kinds::RecordType;
 use dns_reader::EntryRead;
 use dns_zonefile::BlockRefusal;
 use zonetext_records::data::{has_empty_target, has_key_algorithm_zero, has_other_match_length};
 use zonetext_report::code::Code;
 
-/// The code of SVCB.
-const SVCB: u16 = 64;
-
-/// The code of HTTPS.
-const HTTPS: u16 = 65;
-
 /// The key of `ohttp`.
 const OHTTP: [u8; 2] = [0, 8];
 
 /// Returns whether a type has service parameters.
-fn has_parameters(code: u16) -> bool {
-    code == SVCB || code == HTTPS
+fn has_parameters(rtype: RecordType) -> bool {
+    matches!(rtype, RecordType::SVCB | RecordType::HTTPS)
 }
 
 /// Returns the octets after a name in wire format.
@@ -52,9 +47,9 @@ fn has_value(parameters: &[u8]) -> bool {
 
 /// Returns whether data of SVCB or HTTPS give the key `ohttp` a value, which it must not have (RFC 9540
 /// section 4).
-fn has_ohttp_value(code: u16, data: &[u8]) -> bool {
+fn has_ohttp_value(rtype: RecordType, data: &[u8]) -> bool {
     match data {
-        [_, _, rest @ ..] if has_parameters(code) => has_value(after_name(rest)),
+        [_, _, rest @ ..] if has_parameters(rtype) => has_value(after_name(rest)),
         _ => false,
     }
 }
@@ -62,21 +57,21 @@ fn has_ohttp_value(code: u16, data: &[u8]) -> bool {
 /// Returns whether the type of an entry is known, and has service parameters.
 pub fn is_of_parameters(entry: &Entry<'_>) -> bool {
     match entry.read {
-        Ok(EntryRead::Record { code, .. }) => has_parameters(*code),
-        Err(BlockRefusal::Entry(refusal)) => refusal.code.is_some_and(has_parameters),
+        Ok(EntryRead::Record { rtype, .. }) => has_parameters(*rtype),
+        Err(BlockRefusal::Entry(error)) => error.rtype.is_some_and(has_parameters),
         _ => false,
     }
 }
 
 /// Returns what the data of a type show.
-pub fn slip_of(code: u16, data: &[u8]) -> Option<Code> {
-    if has_empty_target(code, data) {
+pub fn slip_of(rtype: RecordType, data: &[u8]) -> Option<Code> {
+    if has_empty_target(rtype, data) {
         Some(Code::EmptyUri)
-    } else if has_other_match_length(code, data) {
+    } else if has_other_match_length(rtype, data) {
         Some(Code::TlsaLength)
-    } else if has_key_algorithm_zero(code, data) {
+    } else if has_key_algorithm_zero(rtype, data) {
         Some(Code::IpseckeyAlgorithm)
-    } else if has_ohttp_value(code, data) {
+    } else if has_ohttp_value(rtype, data) {
         Some(Code::OhttpValue)
     } else {
         None

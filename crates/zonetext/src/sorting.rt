@@ -5,12 +5,10 @@ use crate::run_files::TakeRecord;
 use crate::sorter::Sorter;
 use crate::stop::Stop;
 use crate::zone_files::Entry;
+use dns_kinds::RecordType;
 use dns_resource::{Data, Record};
 use dns_wire::Name;
 use zone_set::Selection;
-
-/// The code of SOA.
-const SOA: u16 = 6;
 
 /// SOAs take this part of memory.
 const SOA_PART: usize = 8;
@@ -50,12 +48,12 @@ impl TakeEntry for Sorting<'_> {
         let Some(given) = entry.record()? else {
             return Ok(());
         };
-        if !self.selection.takes(given.code) {
+        if !self.selection.takes(given.rtype) {
             return Ok(());
         }
         let lowered = self.lowerer.lower(given)?;
         let owner = Name::from_octets(lowered.owner);
-        let data = Data::from_octets(lowered.code, lowered.data);
+        let data = Data::from_octets(lowered.rtype, lowered.data);
         let (Ok(owner), Ok(data)) = (owner, data) else {
             return Err(Stop::Damaged);
         };
@@ -65,7 +63,7 @@ impl TakeEntry for Sorting<'_> {
             class: lowered.class,
             data,
         };
-        if lowered.code == SOA {
+        if lowered.rtype == RecordType::SOA {
             self.soas.add(&one)
         } else {
             self.others.add(&one)

@@ -4,6 +4,7 @@ use crate::data_buffer::DataBuffer;
 use crate::open_file::{Includer, Input, OpenFile, behind, place_from};
 use crate::progress::Progress;
 use crate::stop::Stop;
+use dns_kinds::{Class, RecordType};
 use dns_reader::{EntryRead, Known, NameBuffer, State};
 use dns_zonefile::{BlockReader, BlockRefusal};
 use std::alloc::{AllocError, Global};
@@ -51,8 +52,8 @@ pub struct Given<'e> {
     pub owner: &'e [u8],
     /// In seconds.
     pub ttl: u32,
-    pub class: u16,
-    pub code: u16,
+    pub class: Class,
+    pub rtype: RecordType,
     pub data: &'e [u8],
 }
 
@@ -69,7 +70,7 @@ impl<'e> Entry<'e> {
             EntryRead::Record {
                 ttl,
                 class,
-                code,
+                rtype,
                 ..
             },
         ) = self.read
@@ -83,7 +84,7 @@ impl<'e> Entry<'e> {
             owner: owner.as_slice(),
             ttl: ttl.seconds(),
             class: *class,
-            code: *code,
+            rtype: *rtype,
             data: self.data,
         }))
     }

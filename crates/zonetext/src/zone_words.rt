@@ -106,13 +106,13 @@ pub fn digest_command<'a>(alloc: Global, name: &'a str) -> Result<Command<'a>, A
     with_reading(alloc, command)
 }
 
-/// The codes of the types that an option names.
-fn types_of<'o>(alloc: Global, names: &[&'o str]) -> Result<Vec<u16>, Usage<'o>> {
-    let mut codes = Vec::new(alloc);
+/// The types that an option names.
+fn types_of<'o>(alloc: Global, names: &[&'o str]) -> Result<Vec<RecordType>, Usage<'o>> {
+    let mut types = Vec::new(alloc);
     for name in names {
         let value = *name;
         match RecordType::from_text(value.as_bytes()) {
-            Ok(record_type) => codes.push(record_type.0).map_err(AllocError::from)?,
+            Ok(rtype) => types.push(rtype).map_err(AllocError::from)?,
             Err(_) => {
                 return Err(Usage::Value {
                     option: "--type",
@@ -122,7 +122,7 @@ fn types_of<'o>(alloc: Global, names: &[&'o str]) -> Result<Vec<u16>, Usage<'o>>
             }
         }
     }
-    Ok(codes)
+    Ok(types)
 }
 
 /// How the words of a command ask files to be read.

@@ -2,7 +2,7 @@
 ghost use Rattle.std.specs.Prelude.{◌≡◌};
 ghost use Rattle.zone_dnssec.specs.SecurityNames.{security_name};
 ghost use Rattle.zone_rules.specs.RuleNames.{rule_name};
-ghost use Rattle.zonetext_records.specs.Codes.{code_of_entry, code_of_fault, code_of_kind, code_of_part, refused_part};
+ghost use Rattle.zonetext_records.specs.Codes.{code_of_entry, code_of_fault, code_of_front, code_of_part};
 ghost use Rattle.zonetext_report.specs.Code.{code_name};
 
 use dns_fields::RecordError;
@@ -25,66 +25,41 @@ pub fn code_of_fault(wrong: Wrong) -> Code
     }
 }
 
-/// What of an entry is refused.
-#[derive(Clone, Copy, Debug, PartialEq, Eq)]
-enum Part {
-    /// A directive, or an argument of it.
-    Directive,
-    /// The owner of a record.
-    Owner,
-    /// The words before the data of a record.
-    Head,
-    /// The data of a record.
-    Data,
-}
-
-/// Returns what of an entry is refused. `owner` is the offset of the owner, if the record says one.
-fn refused_part(is_directive: bool, owner: Option<usize>, error: &RecordError) -> Part
-    ensures { result ≡ refused_part is_directive owner error.now }
-{
-    if is_directive {
-        Part::Directive
-    } else if error.rtype.is_some() {
-        Part::Data
-    } else if owner == Some(error.offset) {
-        Part::Owner
-    } else {
-        Part::Head
-    }
-}
-
-/// The code of what is wrong with a part of an entry, where it has none of its own.
-fn code_of_part(part: Part, kind: ErrorKind) -> Code
-    ensures { result ≡ code_of_part part kind }
-{
-    match part {
-        Part::Directive => Code::Directive,
-        Part::Owner => Code::Owner,
-        Part::Head if matches!(kind, ErrorKind::ExpectedTtl) => Code::Ttl,
-        Part::Head => Code::RecordType,
-        Part::Data => Code::Data,
-    }
-}
-
-/// The code of what is wrong with a part of an entry.
-fn code_of_kind(part: Part, kind: ErrorKind) -> Code
-    ensures { result ≡ code_of_kind part kind }
+/// The code of what is wrong before the data of a record: a word that begins with a digit is no time
+/// to live, any other is no type, and what is wrong with a name is so with the owner.
+fn code_of_front(kind: ErrorKind) -> Code
+    ensures { result ≡ code_of_front kind }
 {
     match kind {
-        ErrorKind::Syntax(wrong) => code_of_fault(wrong),
-        ErrorKind::NoOrigin => Code::NoOrigin,
-        ErrorKind::NoOwner | ErrorKind::RefusedOwner => Code::NoOwner,
-        ErrorKind::NoTtl => Code::NoTtl,
-        _ => code_of_part(part, kind),
+        ErrorKind::ExpectedTtl => Code::Ttl,
+        ErrorKind::EndOfEntry | ErrorKind::Quoted | ErrorKind::UnknownType => Code::RecordType,
+        _ => Code::Owner,
+    }
+}
+
+/// The code of what is wrong with a part of an entry that has no code of its own.
+fn code_of_part(is_directive: bool, error: &RecordError) -> Code
+    ensures { result ≡ code_of_part is_directive error.now }
+{
+    match error.rtype {
+        _ if is_directive => Code::Directive,
+        Some(_) => Code::Data,
+        None => code_of_front(error.kind),
     }
 }
 
 /// The code of an entry that is refused. `is_directive` says whether it begins with the word of a
-/// directive. `owner` is the offset of the owner, if it is a record that says one.
-pub fn code_of_entry(is_directive: bool, owner: Option<usize>, error: &RecordError) -> Code
-    ensures { result ≡ code_of_entry is_directive owner error.now }
+/// directive.
+pub fn code_of_entry(is_directive: bool, error: &RecordError) -> Code
+    ensures { result ≡ code_of_entry is_directive error.now }
 {
-    code_of_kind(refused_part(is_directive, owner, error), error.kind)
+    match error.kind {
+        ErrorKind::Syntax(wrong) => code_of_fault(wrong),
+        ErrorKind::NoOrigin => Code::NoOrigin,
+        ErrorKind::NoOwner | ErrorKind::RefusedOwner => Code::NoOwner,
+        ErrorKind::NoTtl => Code::NoTtl,
+        _ => code_of_part(is_directive, error),
+    }
 }
 
 /// The code of a rule that a zone breaks, which has its name.
