@@ -33,7 +33,7 @@ impl fmt::Display for Shown<'_> {
 /// were read again are the same.
 #[derive(Clone, Copy)]
 pub struct Trial {
-    code: u16,
+    rtype: RecordType,
     shape: Shape,
     count: usize,
     step: usize,
@@ -44,10 +44,10 @@ impl Trial {
     /// That of the type with a name, with nothing tried. Of the data that is found, each whose
     /// number is a multiple of the step is read again.
     pub fn new(name: &[u8], step: usize) -> Option<Trial> {
-        let code = RecordType::from_text(name).ok()?.0;
-        let shape = type_row(code)?.shape();
+        let rtype = RecordType::from_text(name).ok()?;
+        let shape = type_row(rtype)?.shape();
         Some(Trial {
-            code,
+            rtype,
             shape,
             count: 0,
             step,
@@ -78,7 +78,7 @@ impl Trial {
         let mut source = TokenList::new(tokens.as_slice(), text.len());
         let mut target: Vec<u8> = Vec::new(alloc);
         let origin: Option<&Name<&[u8]>> = None;
-        let made = read_type(self.code, origin, &mut source, &mut target);
+        let made = read_type(self.rtype, origin, &mut source, &mut target);
         made.is_ok() && target.as_slice() == octets
     }
 

@@ -1,6 +1,7 @@
 //! Items of address prefix lists.
 use super::tell::{Octets, tell, tell_width};
-use dns_places::{PlaceError, Prefix, append_prefix, item_width};
+use dns_kinds::ErrorKind;
+use dns_places::{Prefix, append_prefix, item_width};
 use row_table::{Answer, Failure, Inputs};
 
 pub fn call(name: &str, inputs: &Inputs, answer: &mut Answer) {
@@ -23,6 +24,6 @@ fn item(text: &[u8], answer: &mut Answer) {
 fn print(octets: &[u8], answer: &mut Answer) {
     match Prefix::from_octets(octets) {
         Some(item) if item_width(octets) == Some(octets.len()) => answer.add_shown(&item),
-        _ => answer.refuse(&PlaceError::ExpectedPrefix),
+        _ => answer.refuse(&ErrorKind::ExpectedPrefix),
     }
 }

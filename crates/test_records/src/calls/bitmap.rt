@@ -1,5 +1,6 @@
 //! Types as bitmaps.
 use super::tell::{Octets, add_comma, number16, tell};
+use dns_kinds::RecordType;
 use dns_lists::{BitmapTypes, TypeSet, check_bitmap};
 use row_table::{Answer, Failure, Inputs};
 
@@ -12,21 +13,21 @@ pub fn call(name: &str, inputs: &Inputs, answer: &mut Answer) {
 }
 
 /// Puts types into a set, between which there are commas.
-fn insert(types: &mut TypeSet, codes: &[u8], answer: &mut Answer) {
-    for digits in codes.split(|octet| *octet == b',') {
-        let code = number16(digits, answer);
-        types.insert(code);
-        answer.hold(types.contains(code));
+fn insert(types: &mut TypeSet, numbers: &[u8], answer: &mut Answer) {
+    for digits in numbers.split(|octet| *octet == b',') {
+        let rtype = RecordType(number16(digits, answer));
+        types.insert(rtype);
+        answer.hold(types.contains(rtype));
     }
 }
 
 /// The bitmap of types, which are inserted in their order.
-fn compose(codes: &[u8], answer: &mut Answer) {
+fn compose(numbers: &[u8], answer: &mut Answer) {
     let mut types = TypeSet::new();
-    if !codes.is_empty() {
-        insert(&mut types, codes, answer);
+    if !numbers.is_empty() {
+        insert(&mut types, numbers, answer);
     }
-    answer.hold(types.is_empty() == codes.is_empty());
+    answer.hold(types.is_empty() == numbers.is_empty());
     let mut target: Octets = Vec::new(answer.heap());
     let made = types.append_to(&mut target);
     tell(made, target.as_slice(), answer);
@@ -38,9 +39,9 @@ fn parse(octets: &[u8], answer: &mut Answer) {
         return answer.refuse(&error);
     }
     let mut is_first = true;
-    for code in BitmapTypes::new(octets) {
+    for rtype in BitmapTypes::new(octets) {
         add_comma(is_first, answer);
-        answer.add_number(usize::from(code));
+        answer.add_number(usize::from(rtype.0));
         is_first = false;
     }
 }

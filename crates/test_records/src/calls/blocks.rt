@@ -1,7 +1,8 @@
 //! Entries of zone text that comes in blocks.
 use super::tell::Octets;
 use super::zone::{state_of, tell_not_given, tell_read};
-use dns_reader::{EntryRead, RecordRefusal, State};
+use dns_fields::RecordError;
+use dns_reader::{EntryRead, State};
 use dns_zonefile::{AddError, BlockReader, BlockRefusal};
 use row_table::input::number_of;
 use row_table::{Answer, Failure, Heap, Inputs};
@@ -133,10 +134,10 @@ fn tell_long(reader: &mut BlockReader<&Heap>, state: &mut State, answer: &mut An
 }
 
 /// Why an entry is not given that is not too long.
-pub fn record_refusal(refusal: BlockRefusal) -> Option<RecordRefusal> {
+pub fn record_error(refusal: BlockRefusal) -> Option<RecordError> {
     match refusal {
-        BlockRefusal::Text(fault) => Some(RecordRefusal::Text(fault)),
-        BlockRefusal::Entry(refusal) => Some(RecordRefusal::Entry(refusal)),
+        BlockRefusal::Text(fault) => Some(RecordError::from(fault)),
+        BlockRefusal::Entry(error) => Some(error),
         BlockRefusal::LongEntry => None,
     }
 }
@@ -148,8 +149,8 @@ fn tell_refused(
     refusal: BlockRefusal,
     answer: &mut Answer,
 ) -> bool {
-    match record_refusal(refusal) {
-        Some(refusal) => tell_not_given(refusal, answer),
+    match record_error(refusal) {
+        Some(error) => tell_not_given(error, answer),
         None => {
             tell_long(reader, state, answer);
             false

@@ -8,6 +8,7 @@ use dns_canonical::{
     RecordParts, append_canonical_fields, append_lowered, compare_keys, compare_names,
     compare_octets, compare_records, lowers_names, push_order_key,
 };
+use dns_kinds::{Class, RecordType};
 use dns_octets::ShortBuf;
 use dns_spelling::name_width;
 use row_table::{Answer, Failure, Inputs};
@@ -130,8 +131,8 @@ fn data((kinds, octets): (&[u8], &[u8]), answer: &mut Answer) {
 
 /// Whether the names in data of a type are lowered.
 fn lowers(digits: &[u8], answer: &mut Answer) {
-    let code = number16(digits, answer);
-    answer.add_text(if lowers_names(code) { "yes" } else { "no" });
+    let rtype = RecordType(number16(digits, answer));
+    answer.add_text(if lowers_names(rtype) { "yes" } else { "no" });
 }
 
 /// The order of two records, each an owner, a class, a type and data.
@@ -147,14 +148,14 @@ fn records(inputs: &[Vec<u8>], answer: &mut Answer) {
     };
     let left = RecordParts {
         owner: left_owner,
-        class: number16(b.as_slice(), answer),
-        record_type: number16(c.as_slice(), answer),
+        class: Class(number16(b.as_slice(), answer)),
+        rtype: RecordType(number16(c.as_slice(), answer)),
         data: d.as_slice(),
     };
     let right = RecordParts {
         owner: right_owner,
-        class: number16(f.as_slice(), answer),
-        record_type: number16(g.as_slice(), answer),
+        class: Class(number16(f.as_slice(), answer)),
+        rtype: RecordType(number16(g.as_slice(), answer)),
         data: h.as_slice(),
     };
     tell_order(compare_records(&left, &right), answer);

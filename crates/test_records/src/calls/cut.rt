@@ -1,15 +1,13 @@
 //! Zone text that is cut into parts.
-use super::blocks::record_refusal;
+use super::blocks::record_error;
 use super::tell::Octets;
 use super::zone::{state_of, tell_not_given};
+use dns_kinds::Class;
 use dns_reader::{EntryRead, RecordReader, State};
 use dns_zonefile::BlockReader;
 use row_table::input::number_of;
 use row_table::{Answer, Failure, Heap, Inputs};
 use zone_cut::{CutError, Cutter, RecordRead};
-
-/// The class where reading begins: IN.
-const CLASS: u16 = 1;
 
 /// What is said where memory is refused.
 const SHORT: &str = "buffer size exceeded";
@@ -117,23 +115,23 @@ fn fill<'a>(
         let Some(given) = reader.next_entry(&mut state, &mut data) else {
             break;
         };
-        let (ttl, class, code) = match given {
+        let (ttl, class, rtype) = match given {
             Ok(
                 EntryRead::Record {
                     ttl,
                     class,
-                    code,
+                    rtype,
                     ..
                 },
-            ) => (ttl.seconds(), class, code),
+            ) => (ttl.seconds(), class, rtype),
             Ok(EntryRead::Include { .. }) => {
                 answer.refuse_text("include");
                 return false;
             }
             Ok(_) => continue,
             Err(refusal) => {
-                if let Some(refusal) = record_refusal(refusal) {
-                    let _memory = tell_not_given(refusal, answer);
+                if let Some(error) = record_error(refusal) {
+                    let _memory = tell_not_given(error, answer);
                 }
                 return false;
             }
@@ -141,7 +139,7 @@ fn fill<'a>(
         let read = RecordRead {
             ttl,
             class,
-            code,
+            rtype,
             data: data.as_slice(),
         };
         let mut lines = String::new(answer.heap());
@@ -184,7 +182,7 @@ fn tell_records(text: &[u8], state: State, answer: &mut Answer) -> bool {
                 EntryRead::Record {
                     ttl,
                     class,
-                    code,
+                    rtype,
                     ..
                 },
             ) => {
@@ -193,15 +191,15 @@ fn tell_records(text: &[u8], state: State, answer: &mut Answer) -> bool {
                 }
                 answer.add_number(usize::try_from(ttl.seconds()).unwrap_or(0));
                 answer.add_text("|");
-                answer.add_number(usize::from(class));
+                answer.add_number(usize::from(class.0));
                 answer.add_text("|");
-                answer.add_number(usize::from(code));
+                answer.add_number(usize::from(rtype.0));
                 answer.add_text("|");
                 answer.add(data.as_slice());
             }
             Ok(_) => answer.add_text("no record"),
-            Err(refusal) => {
-                if !tell_not_given(refusal, answer) {
+            Err(error) => {
+                if !tell_not_given(error, answer) {
                     return false;
                 }
             }
@@ -219,7 +217,7 @@ fn check_records(parts: &Parts<'_>, text: &[u8], origin: &[Vec<u8>], answer: &mu
         return;
     }
     for number in 0..parts.starts.len() {
-        if !tell_records(parts.part(number), State::new(CLASS), &mut row) {
+        if !tell_records(parts.part(number), State::new(Class::IN), &mut row) {
             let _short = tell_short(answer);
             return;
         }

@@ -1,8 +1,8 @@
 //! Record data by the type of the record.
 use super::tell::{Octets, origin_of};
-use dns_data::{DataError, Shape, TypeRefusal, check_data, read_type, type_row, write_data};
-use dns_fields::{FieldError, TokenList};
-use dns_kinds::RecordType;
+use dns_data::{Shape, check_data, field_text, read_type, type_row, write_data};
+use dns_fields::{RecordError, TokenList};
+use dns_kinds::{ErrorKind, RecordType};
 use dns_split::entry_tokens::{EntryToken, EntryTokens};
 use dns_wire::Name;
 use dns_zone::zonefile_fmt::SimpleWriter;
@@ -51,8 +51,8 @@ impl fmt::Display for Shown<'_> {
 }
 
 /// The text that data of a type print as.
-fn tell_printed(code: RecordType, octets: &[u8], answer: &mut Answer) {
-    match type_row(code.0) {
+fn tell_printed(rtype: RecordType, octets: &[u8], answer: &mut Answer) {
+    match type_row(rtype) {
         Some(row) => answer.add_shown(&Shown {
             shape: row.shape(),
             octets,
@@ -62,52 +62,54 @@ fn tell_printed(code: RecordType, octets: &[u8], answer: &mut Answer) {
 }
 
 /// What is wanted of data that were read.
-fn tell_read(wanted: Wanted, code: RecordType, octets: &[u8], answer: &mut Answer) {
+fn tell_read(wanted: Wanted, rtype: RecordType, octets: &[u8], answer: &mut Answer) {
     match wanted {
-        Wanted::Text => tell_printed(code, octets, answer),
+        Wanted::Text => tell_printed(rtype, octets, answer),
         _ => answer.add(octets),
     }
 }
 
 /// What is wanted of a refusal.
-fn tell_refusal(wanted: Wanted, code: RecordType, refusal: TypeRefusal, answer: &mut Answer) {
+fn tell_refusal(wanted: Wanted, error: RecordError, answer: &mut Answer) {
     match wanted {
-        Wanted::Why => tell_why(code, refusal, answer),
-        _ => tell_refused(refusal, answer),
+        Wanted::Why => tell_why(error, answer),
+        _ => tell_refused(error, answer),
     }
 }
 
 /// Says of a refusal that it is one, or that memory was lacking.
-fn tell_refused(refusal: TypeRefusal, answer: &mut Answer) {
-    match refusal.why {
-        DataError::Field(FieldError::ShortBuf) => answer.refuse(&refusal.why),
+pub fn tell_refused(error: RecordError, answer: &mut Answer) {
+    match error.kind {
+        ErrorKind::ShortBuf => answer.refuse(&error),
         _ => answer.refuse_text("refused"),
     }
 }
 
-/// The type, the part, and why it is refused.
+/// The type, the field, and why it is refused.
 #[derive(Drop)]
-struct Why {
-    code: RecordType,
-    refusal: TypeRefusal,
-}
+pub struct Why(pub RecordError);
 
 impl fmt::Display for Why {
     fn fmt<W: fmt::Write>(&self, f: &mut fmt::Formatter<W>) -> fmt::Result {
-        match self.refusal.part {
-            Some(part) => write!(f, "{} {}: {}", self.code, part, self.refusal.why),
-            None => write!(f, "{}: {}", self.code, self.refusal.why),
+        if let Some(rtype) = self.0.rtype {
+            write!(f, "{rtype}")?;
+            if let Some(field) = self.0.field {
+                write!(f, " {}", field_text(rtype, field).unwrap_or(""))?;
+            }
+            f.write_str(": ")?;
         }
+        write!(f, "{}", self.0.kind)
     }
 }
 
-fn tell_why(code: RecordType, refusal: TypeRefusal, answer: &mut Answer) {
-    match refusal.why {
-        DataError::Field(FieldError::ShortBuf) => answer.refuse(&refusal.why),
+/// Why data are refused, and the place, or that memory was lacking.
+fn tell_why(error: RecordError, answer: &mut Answer) {
+    match error.kind {
+        ErrorKind::ShortBuf => answer.refuse(&error),
         _ => {
-            answer.refuse(&Why { code, refusal });
+            answer.refuse(&Why(error));
             answer.add_text("|");
-            answer.add_number(refusal.at);
+            answer.add_number(error.offset);
         }
     }
 }
@@ -117,7 +119,7 @@ fn read(inputs: &[Vec<u8>], wanted: Wanted, answer: &mut Answer) {
     let [name, text, origin @ ..] = inputs else {
         return answer.fail(Failure::BadInputs);
     };
-    let Ok(code) = RecordType::from_text(name.as_slice()) else {
+    let Ok(rtype) = RecordType::from_text(name.as_slice()) else {
         return answer.refuse_text("refused");
     };
     let mut tokens: Vec<EntryToken<'_>> = Vec::new(answer.alloc());
@@ -128,8 +130,8 @@ fn read(inputs: &[Vec<u8>], wanted: Wanted, answer: &mut Answer) {
     let origin = origin_of(origin, answer).or(Name::from_octets(ORIGIN).ok());
     let mut source = TokenList::new(tokens.as_slice(), text.len());
     let mut target: Octets = Vec::new(answer.heap());
-    match read_type(code.0, origin.as_ref(), &mut source, &mut target) {
-        Ok(()) => tell_read(wanted, code, target.as_slice(), answer),
-        Err(refusal) => tell_refusal(wanted, code, refusal, answer),
+    match read_type(rtype, origin.as_ref(), &mut source, &mut target) {
+        Ok(()) => tell_read(wanted, rtype, target.as_slice(), answer),
+        Err(error) => tell_refusal(wanted, error, answer),
     }
 }

@@ -1,9 +1,10 @@
 //! Octets in digits, and how long hashes, salts and digests are.
 use super::tell::{Octets, number8, tell, tell_width};
 use dns_digits::{
-    Digests, DigitsError, DigitsKind, DigitsReader, append_base32hex, append_base64, append_hex,
+    Digests, DigitsKind, DigitsReader, append_base32hex, append_base64, append_hex,
     hash_width, is_digest_length, salt_width,
 };
+use dns_kinds::ErrorKind;
 use row_table::input::number_of;
 use row_table::{Answer, Failure, Inputs};
 
@@ -20,7 +21,7 @@ pub fn call(name: &str, inputs: &Inputs, answer: &mut Answer) {
 }
 
 /// Takes pieces one by one.
-fn take(kind: DigitsKind, pieces: &[Vec<u8>], target: &mut Octets<'_>) -> Result<(), DigitsError> {
+fn take(kind: DigitsKind, pieces: &[Vec<u8>], target: &mut Octets<'_>) -> Result<(), ErrorKind> {
     let mut reader = DigitsReader::new(kind);
     for piece in pieces {
         reader.push(piece.as_slice(), target)?;

@@ -1,7 +1,7 @@
 //! Fields over the tokens of an entry.
 use super::kind::field_of;
 use super::tell::{Octets, origin_of};
-use dns_fields::{Field, Refusal, TokenList, TokenSource, take_each, take_fields};
+use dns_fields::{Field, RecordError, TokenList, TokenSource, take_each, take_fields};
 use dns_split::entry_tokens::{EntryToken, EntryTokens};
 use row_table::{Answer, Failure, Inputs};
 
@@ -46,10 +46,10 @@ fn tell_taken(target: &[u8], place: usize, answer: &mut Answer) {
 }
 
 /// Why a token is refused, a bar, and its place.
-fn tell_refusal(refusal: Refusal, answer: &mut Answer) {
-    answer.refuse(&refusal.why);
+fn tell_refusal(error: RecordError, answer: &mut Answer) {
+    answer.refuse(&error);
     answer.add_text("|");
-    answer.add_number(refusal.at);
+    answer.add_number(error.offset);
 }
 
 /// Takes fields of the kinds that are named first; of a field that is refused the answer has its
@@ -65,10 +65,12 @@ fn take(inputs: &[Vec<u8>], answer: &mut Answer) {
     let mut target: Octets = Vec::new(answer.heap());
     match take_fields(fields.as_slice(), origin.as_ref(), &mut source, &mut target) {
         Ok(_) => tell_taken(target.as_slice(), source.place(), answer),
-        Err(refused) => {
-            tell_refusal(refused.refusal, answer);
-            answer.add_text("|");
-            answer.add_number(refused.field);
+        Err(error) => {
+            tell_refusal(error, answer);
+            if let Some(field) = error.field {
+                answer.add_text("|");
+                answer.add_number(field.0);
+            }
         }
     }
 }
@@ -85,6 +87,6 @@ fn each(inputs: &[Vec<u8>], answer: &mut Answer) {
     let mut target: Octets = Vec::new(answer.heap());
     match take_each(field, origin.as_ref(), &mut source, &mut target) {
         Ok(()) => tell_taken(target.as_slice(), source.place(), answer),
-        Err(refusal) => tell_refusal(refusal, answer),
+        Err(error) => tell_refusal(error, answer),
     }
 }

@@ -1,6 +1,7 @@
 //! Gateways that are no names.
 use super::tell::{Octets, number8, tell};
-use dns_places::{Gateway, PlaceError};
+use dns_kinds::ErrorKind;
+use dns_places::Gateway;
 use row_table::{Answer, Failure, Inputs};
 
 pub fn call(name: &str, inputs: &Inputs, answer: &mut Answer) {
@@ -14,7 +15,7 @@ pub fn call(name: &str, inputs: &Inputs, answer: &mut Answer) {
 }
 
 /// Appends the octets of the gateway that a text writes.
-fn append(number: u8, text: &[u8], target: &mut Octets<'_>) -> Result<(), PlaceError> {
+fn append(number: u8, text: &[u8], target: &mut Octets<'_>) -> Result<(), ErrorKind> {
     let gateway = Gateway::from_text(number, text)?;
     gateway.compose(target)?;
     Ok(())
@@ -33,6 +34,6 @@ fn print(number: u8, octets: &[u8], answer: &mut Answer) {
             answer.hold(gateway.number() == number);
             answer.add_shown(&gateway);
         }
-        None => answer.refuse(&PlaceError::ExpectedGateway),
+        None => answer.refuse(&ErrorKind::ExpectedGateway),
     }
 }

@@ -1,9 +1,8 @@
 //! Heads of entries: what the tokens of an entry are.
 use super::tell::Octets;
-use dns_fields::{TokenList, TokenSource};
-use dns_heads::{
-    Directive, HeadRefusal, take_default_ttl, take_directive, take_end, take_file, take_words,
-};
+use dns_fields::{RecordError, TokenList, TokenSource};
+use dns_heads::{Directive, take_default_ttl, take_directive, take_end, take_file, take_words};
+use dns_kinds::Class;
 use dns_split::entry_tokens::{EntryToken, EntryTokens};
 use row_table::{Answer, Failure, Inputs};
 
@@ -31,7 +30,7 @@ fn tell_token(token: Option<EntryToken<'_>>, answer: &mut Answer) {
 }
 
 /// A time to live and a class.
-fn tell_head(ttl: Option<u32>, class: Option<u16>, answer: &mut Answer) {
+fn tell_head(ttl: Option<u32>, class: Option<Class>, answer: &mut Answer) {
     answer.add_text("|");
     match ttl {
         Some(ttl) => tell_said(usize::try_from(ttl).ok(), answer),
@@ -39,16 +38,16 @@ fn tell_head(ttl: Option<u32>, class: Option<u16>, answer: &mut Answer) {
     }
     answer.add_text("|");
     match class {
-        Some(class) => tell_said(Some(usize::from(class)), answer),
+        Some(class) => tell_said(Some(usize::from(class.0)), answer),
         None => tell_said(None, answer),
     }
 }
 
 /// Why a token is refused, and its place.
-fn tell_refusal(refusal: &HeadRefusal, answer: &mut Answer) {
-    answer.refuse(&refusal.why);
+fn tell_refusal(error: &RecordError, answer: &mut Answer) {
+    answer.refuse(error);
     answer.add_text("|");
-    answer.add_number(refusal.at);
+    answer.add_number(error.offset);
 }
 
 /// A record: its owner, time to live, class and type, and where its data begins.
@@ -58,14 +57,12 @@ fn record(owner: Option<EntryToken<'_>>, source: &mut TokenList<'_>, answer: &mu
             tell_token(owner, answer);
             tell_head(words.ttl, words.class, answer);
             answer.add_text("|");
-            answer.add_number(usize::from(words.code));
+            answer.add_number(usize::from(words.rtype.0));
             answer.add_text("|");
             answer.add_number(source.place());
         }
         Err(refusal) => {
-            answer.refuse(&refusal.why);
-            answer.add_text("|");
-            answer.add_number(refusal.at);
+            tell_refusal(&refusal.error, answer);
             tell_head(refusal.ttl, refusal.class, answer);
         }
     }
@@ -78,7 +75,7 @@ fn default_ttl(source: &mut TokenList<'_>, answer: &mut Answer) {
             answer.add_text("ttl ");
             tell_said(usize::try_from(ttl).ok(), answer);
         }
-        Err(refusal) => tell_refusal(&refusal, answer),
+        Err(error) => tell_refusal(&error, answer),
     }
 }
 
@@ -92,15 +89,15 @@ fn origin(name: Option<EntryToken<'_>>, source: &mut TokenList<'_>, answer: &mut
             answer.add_text("origin ");
             tell_token(name, answer);
         }
-        Err(refusal) => tell_refusal(&refusal, answer),
+        Err(error) => tell_refusal(&error, answer),
     }
 }
 
 /// `$INCLUDE`, its file, and the token of an origin.
 fn include(origin: Option<EntryToken<'_>>, source: &mut TokenList<'_>, answer: &mut Answer) {
     let mut file: Octets = Vec::new(answer.heap());
-    if let Err(refusal) = take_file(source, &mut file) {
-        return tell_refusal(&refusal, answer);
+    if let Err(error) = take_file(source, &mut file) {
+        return tell_refusal(&error, answer);
     }
     if origin.is_some() {
         source.advance();
@@ -112,7 +109,7 @@ fn include(origin: Option<EntryToken<'_>>, source: &mut TokenList<'_>, answer: &
             answer.add_text("|");
             tell_token(origin, answer);
         }
-        Err(refusal) => tell_refusal(&refusal, answer),
+        Err(error) => tell_refusal(&error, answer),
     }
 }
 
@@ -134,6 +131,6 @@ fn read(text: &[u8], answer: &mut Answer) {
             source.advance();
             record(tokens.first().copied(), &mut source, answer);
         }
-        Err(refusal) => tell_refusal(&refusal, answer),
+        Err(error) => tell_refusal(&error, answer),
     }
 }

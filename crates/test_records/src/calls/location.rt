@@ -1,9 +1,9 @@
 //! Locations.
 use super::fields::tokens_of;
 use super::tell::Octets;
-use dns_fields::TokenList;
+use dns_fields::{RecordError, TokenList};
 use dns_octets::OctetsBuilder;
-use dns_places::{LocationRefusal, LocationWord, is_location, location_words, take_location};
+use dns_places::{LocationWord, is_location, location_words, take_location};
 use dns_split::entry_tokens::EntryToken;
 use row_table::{Answer, Failure, Inputs};
 use std::fmt;
@@ -21,7 +21,7 @@ fn take<B: OctetsBuilder>(
     tokens: &[EntryToken<'_>],
     end: usize,
     target: &mut B,
-) -> Result<(), LocationRefusal> {
+) -> Result<(), RecordError> {
     let mut source = TokenList::new(tokens, end);
     take_location(&mut source, target)
 }
@@ -32,10 +32,10 @@ fn octets(text: &[u8], answer: &mut Answer) {
     let mut target: Octets = Vec::new(answer.heap());
     match take(tokens.as_slice(), text.len(), &mut target) {
         Ok(()) => answer.add(target.as_slice()),
-        Err(refusal) => {
-            answer.refuse(&refusal.why);
+        Err(error) => {
+            answer.refuse(&error);
             answer.add_text("|");
-            answer.add_number(refusal.at);
+            answer.add_number(error.offset);
         }
     }
 }

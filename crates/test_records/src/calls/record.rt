@@ -1,8 +1,8 @@
 //! Records, and their data as values.
+use super::data::tell_refused;
 use super::tell::{Octets, number16};
-use dns_data::{DataError, TypeRefusal};
-use dns_fields::{FieldError, TokenList};
-use dns_kinds::RecordType;
+use dns_fields::TokenList;
+use dns_kinds::{Class, RecordType};
 use dns_resource::{Data, Record, data_of_tokens};
 use dns_split::entry_tokens::{EntryToken, EntryTokens};
 use dns_wire::Name;
@@ -25,28 +25,20 @@ pub fn call(name: &str, inputs: &Inputs, answer: &mut Answer) {
     }
 }
 
-/// Says of a refusal that it is one, or that memory was lacking.
-fn tell_refused(refusal: TypeRefusal, answer: &mut Answer) {
-    match refusal.why {
-        DataError::Field(FieldError::ShortBuf) => answer.refuse(&refusal.why),
-        _ => answer.refuse_text("refused"),
-    }
-}
-
-/// The code of the type that a text names.
-fn code_of(text: &[u8], answer: &mut Answer) -> u16 {
+/// The type that a text names.
+fn rtype_of(text: &[u8], answer: &mut Answer) -> RecordType {
     match RecordType::from_text(text) {
-        Ok(named) => named.0,
+        Ok(rtype) => rtype,
         Err(_) => {
             answer.fail(Failure::BadInputs);
-            0
+            RecordType(0)
         }
     }
 }
 
 /// The data that a text spells.
 fn data_of<'a>(kind: &[u8], text: &[u8], answer: &mut Answer<'a>) -> Option<Data<Octets<'a>>> {
-    let code = code_of(kind, answer);
+    let rtype = rtype_of(kind, answer);
     let mut tokens: Vec<EntryToken<'_>> = Vec::new(answer.alloc());
     let mut entries = EntryTokens::of_octets(text);
     if entries.next_entry(&mut tokens).is_err() {
@@ -55,10 +47,10 @@ fn data_of<'a>(kind: &[u8], text: &[u8], answer: &mut Answer<'a>) -> Option<Data
     }
     let origin = Name::from_octets(ORIGIN).ok();
     let mut source = TokenList::new(tokens.as_slice(), text.len());
-    match data_of_tokens::<_, _, Octets<'a>>(answer.heap(), code, origin.as_ref(), &mut source) {
+    match data_of_tokens::<_, _, Octets<'a>>(answer.heap(), rtype, origin.as_ref(), &mut source) {
         Ok(data) => Some(data),
-        Err(refusal) => {
-            tell_refused(refusal, answer);
+        Err(error) => {
+            tell_refused(error, answer);
             None
         }
     }
@@ -78,7 +70,7 @@ fn record_of<'r, 'a>(
         return None;
     };
     let ttl = u32::try_from(number_of(ttl.as_slice()).unwrap_or(0)).unwrap_or(0);
-    let class = number16(class.as_slice(), answer);
+    let class = Class(number16(class.as_slice(), answer));
     let data = data_of(kind.as_slice(), text.as_slice(), answer)?;
     Some(Record {
         owner,
@@ -136,8 +128,8 @@ fn compare(inputs: &[Vec<u8>], answer: &mut Answer) {
 
 /// Octets as data of a type, and back.
 fn wire((kind, octets): (&[u8], &[u8]), answer: &mut Answer) {
-    let code = code_of(kind, answer);
-    match Data::from_octets(code, octets) {
+    let rtype = rtype_of(kind, answer);
+    match Data::from_octets(rtype, octets) {
         Ok(data) => {
             let mut target: Octets = Vec::new(answer.heap());
             match data.compose(&mut target) {

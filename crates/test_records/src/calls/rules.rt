@@ -1,9 +1,10 @@
 //! What is found in zones.
 use super::tell::{Octets, number16, origin_of};
 use super::zone::state_of;
-use dns_kinds::RecordType;
+use dns_fields::RecordError;
+use dns_kinds::{Class, ErrorKind};
 use dns_octets::ShortBuf;
-use dns_reader::{EntryRead, RecordReader, RecordRefusal, State};
+use dns_reader::{EntryRead, RecordReader, State};
 use dns_resource::{Data, Record};
 use dns_spelling::NameText;
 use dns_wire::Name;
@@ -22,7 +23,7 @@ type HeapRecord<'a> = Record<Octets<'a>, Octets<'a>>;
 fn record_of<'a>(
     state: &State,
     ttl: u32,
-    class: u16,
+    class: Class,
     data: Data<Octets<'a>>,
     answer: &mut Answer<'a>,
 ) -> Option<HeapRecord<'a>> {
@@ -55,13 +56,13 @@ fn add_record<'a>(
     let EntryRead::Record {
         ttl,
         class,
-        code,
+        rtype,
         ..
     } = read
     else {
         return true;
     };
-    let Ok(data) = Data::from_octets(code, octets) else {
+    let Ok(data) = Data::from_octets(rtype, octets) else {
         answer.fail(Failure::BadInputs);
         return false;
     };
@@ -73,6 +74,14 @@ fn add_record<'a>(
         return false;
     }
     true
+}
+
+/// Why an entry is refused. A row is not run where its text is not of the grammar.
+fn tell_error(error: RecordError, answer: &mut Answer) {
+    match error.kind {
+        ErrorKind::Syntax(_) => answer.fail(Failure::BadInputs),
+        _ => answer.refuse(&error),
+    }
 }
 
 /// The records of a text.
@@ -92,12 +101,8 @@ fn read_records<'a>(
                     return records;
                 }
             }
-            Some(Err(RecordRefusal::Entry(refusal))) => {
-                answer.refuse(&refusal.why);
-                return records;
-            }
-            Some(Err(RecordRefusal::Text(_))) => {
-                answer.fail(Failure::BadInputs);
+            Some(Err(error)) => {
+                tell_error(error, answer);
                 return records;
             }
         }
@@ -113,7 +118,7 @@ fn tell_broken(rule: &str, place: Option<usize>, records: &[HeapRecord<'_>], ans
             answer.add_text(" ");
             answer.add_shown(&NameText(record.owner.as_slice()));
             answer.add_text(" ");
-            answer.add_shown(&RecordType(record.data.code()));
+            answer.add_shown(&record.data.rtype());
         }
     }
     answer.add_text(";");
@@ -176,7 +181,7 @@ fn sets_of<'r, A: Allocator + Copy>(
         let owner = view(&record.owner);
         sets.push(RrsetName {
             owner,
-            code: record.data.code(),
+            rtype: record.data.rtype(),
         })?;
     }
     sets.sort_by(|left, right| left.compare(right))?;

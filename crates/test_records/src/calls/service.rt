@@ -1,9 +1,9 @@
 //! Service parameters as tokens.
 use super::tell::Octets;
-use dns_fields::TokenList;
+use dns_fields::{RecordError, TokenList};
 use dns_lists::Params;
 use dns_octets::{AsOctetsMut, OctetsBuilder};
-use dns_params::{ParamRefusal, ParamText, take_params};
+use dns_params::{ParamText, take_params};
 use dns_split::entry_tokens::{EntryToken, EntryTokens};
 use row_table::Answer;
 use std::fmt;
@@ -13,7 +13,7 @@ fn take<B: OctetsBuilder + AsOctetsMut>(
     tokens: &[EntryToken<'_>],
     end: usize,
     target: &mut B,
-) -> Result<(), ParamRefusal> {
+) -> Result<(), RecordError> {
     let mut source = TokenList::new(tokens, end);
     take_params(&mut source, target)
 }
@@ -28,7 +28,7 @@ pub fn read(text: &[u8], answer: &mut Answer) {
     let mut target: Octets = Vec::new(answer.heap());
     match take(tokens.as_slice(), text.len(), &mut target) {
         Ok(()) => answer.add(target.as_slice()),
-        Err(refusal) => answer.refuse(&refusal.why),
+        Err(error) => answer.refuse(&error),
     }
 }
 

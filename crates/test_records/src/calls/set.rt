@@ -1,9 +1,10 @@
 //! Sets of records: in canonical order, compared and digested.
-use super::tell::{Octets, origin_of};
-use super::zone::lacks_memory;
+use super::tell::{Octets, number16, origin_of};
 use arrayvec::ArrayVec;
 use dns_codec::base16;
-use dns_reader::{EntryRead, NameBuffer, RecordReader, RecordRefusal, State};
+use dns_fields::RecordError;
+use dns_kinds::{Class, ErrorKind, RecordType};
+use dns_reader::{EntryRead, NameBuffer, RecordReader, State};
 use dns_resource::{Data, Record};
 use dns_wire::{MAX_NAME, Name};
 use dns_zone::zonefile_fmt::{DisplayKind, ZonefileFmt};
@@ -11,9 +12,6 @@ use row_table::input::number_of;
 use row_table::{Answer, Failure, Heap, Inputs};
 use zone_digest::{Verdict, check_zone, sha384_digest, sha512_digest};
 use zone_set::{CanonicalSet, Change, ZoneSet, changes_between, is_dnssec, serial_rises};
-
-/// The class where reading begins: IN.
-const CLASS: u16 = 1;
 
 type Owner = ArrayVec<u8, MAX_NAME>;
 
@@ -42,9 +40,9 @@ fn lack(answer: &mut Answer) {
 }
 
 /// Says that an entry is refused, or that memory was lacking.
-fn tell_refusal(refusal: RecordRefusal, answer: &mut Answer) {
-    match refusal {
-        RecordRefusal::Entry(refusal) if lacks_memory(refusal.why) => lack(answer),
+fn tell_refusal(error: RecordError, answer: &mut Answer) {
+    match error.kind {
+        ErrorKind::ShortBuf => lack(answer),
         _ => answer.refuse_text("refused"),
     }
 }
@@ -53,12 +51,12 @@ fn tell_refusal(refusal: RecordRefusal, answer: &mut Answer) {
 fn record_of<'a>(
     state: &State,
     ttl: u32,
-    class: u16,
-    code: u16,
+    class: Class,
+    rtype: RecordType,
     octets: Octets<'a>,
 ) -> Option<OneRecord<'a>> {
     let owner = NameBuffer::from_labels((), state.owner().ok()?).ok()?;
-    let data = Data::from_octets(code, octets).ok()?;
+    let data = Data::from_octets(rtype, octets).ok()?;
     Some(Record {
         owner,
         ttl,
@@ -81,11 +79,11 @@ fn read<'a>(text: &[u8], state: State, answer: &mut Answer<'a>) -> Option<Record
                         at: _,
                         ttl,
                         class,
-                        code,
+                        rtype,
                     },
                 ),
             ) => {
-                let Some(record) = record_of(&reader.state, ttl.seconds(), class, code, octets)
+                let Some(record) = record_of(&reader.state, ttl.seconds(), class, rtype, octets)
                 else {
                     lack(answer);
                     return None;
@@ -96,8 +94,8 @@ fn read<'a>(text: &[u8], state: State, answer: &mut Answer<'a>) -> Option<Record
                 }
             }
             Some(Ok(_)) => {}
-            Some(Err(refusal)) => {
-                tell_refusal(refusal, answer);
+            Some(Err(error)) => {
+                tell_refusal(error, answer);
                 return None;
             }
         }
@@ -107,7 +105,7 @@ fn read<'a>(text: &[u8], state: State, answer: &mut Answer<'a>) -> Option<Record
 
 /// The state where a zone's text begins.
 fn state_of(origin: Option<&Name<&[u8]>>) -> State {
-    let state = State::new(CLASS);
+    let state = State::new(Class::IN);
     match origin {
         Some(origin) => match NameBuffer::from_labels((), origin) {
             Ok(name) => state.with_origin(name),
@@ -289,7 +287,7 @@ fn rises((old, new): (&[u8], &[u8]), answer: &mut Answer) {
 }
 
 /// Whether the signing of a zone adds records of a type.
-fn signing(code: &[u8], answer: &mut Answer) {
-    let code = super::tell::number16(code, answer);
-    answer.add_bool(is_dnssec(code));
+fn signing(digits: &[u8], answer: &mut Answer) {
+    let rtype = RecordType(number16(digits, answer));
+    answer.add_bool(is_dnssec(rtype));
 }

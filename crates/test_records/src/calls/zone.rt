@@ -1,21 +1,14 @@
 //! Entries of zone text, each by the state before it.
 use super::blocks::{blocks, limit};
 use super::cut::cut;
+use super::data::Why;
 use super::rules::{dnssec, hash, refused, rules};
 use super::tell::{Octets, origin_of};
-use dns_data::DataError;
-use dns_fields::FieldError;
-use dns_heads::HeadError;
-use dns_kinds::RecordType;
-use dns_reader::{
-    EntryError, EntryRead, EntryRefusal, NameBuffer, RecordReader, RecordRefusal, RecordTtl, State,
-};
-use dns_split::pieces::{Fault, Wrong};
+use dns_fields::RecordError;
+use dns_kinds::{Class, ErrorKind};
+use dns_reader::{EntryRead, NameBuffer, RecordReader, RecordTtl, State};
+use dns_split::pieces::Wrong;
 use row_table::{Answer, Failure, Inputs};
-use std::fmt;
-
-/// The class where reading begins: IN.
-const CLASS: u16 = 1;
 
 /// What is asked for in turn: each entry; the same, of another reader each time, which starts where
 /// the one before stands; or records and files alone.
@@ -86,55 +79,26 @@ pub fn tell_read(state: &State, read: EntryRead, octets: &[u8], answer: &mut Ans
             at,
             ttl,
             class,
-            code,
+            rtype,
         } => {
             answer.add_number(at);
             answer.add_text("|");
             tell_owner(state, answer);
             tell_ttl(ttl, answer);
-            answer.add_number(usize::from(class));
+            answer.add_number(usize::from(class.0));
             answer.add_text("|");
-            answer.add_number(usize::from(code));
+            answer.add_number(usize::from(rtype.0));
             answer.add_text("|");
             answer.add(octets);
         }
     }
 }
 
-/// Whether memory was lacking.
-pub fn lacks_memory(why: EntryError) -> bool {
-    matches!(
-        why,
-        EntryError::Data(DataError::Field(FieldError::ShortBuf))
-            | EntryError::Head(HeadError::Field(FieldError::ShortBuf))
-    )
-}
-
-/// Why an entry is refused: of data with their type and part.
-#[derive(Drop)]
-struct Why {
-    refusal: EntryRefusal,
-}
-
-impl fmt::Display for Why {
-    fn fmt<W: fmt::Write>(&self, f: &mut fmt::Formatter<W>) -> fmt::Result {
-        if let Some(code) = self.refusal.code {
-            write!(f, "{}", RecordType(code))?;
-            match self.refusal.part {
-                Some(part) => write!(f, " {}: ", part)?,
-                None => write!(f, ": ")?,
-            }
-        }
-        write!(f, "{}", self.refusal.why)
-    }
-}
-
 /// Why an entry is refused, and the place.
-fn tell_refusal(refusal: EntryRefusal, answer: &mut Answer) {
-    let at = refusal.at;
-    answer.refuse(&Why { refusal });
+fn tell_refusal(error: RecordError, answer: &mut Answer) {
+    answer.refuse(&Why(error));
     answer.add_text("|");
-    answer.add_number(at);
+    answer.add_number(error.offset);
 }
 
 /// What is wrong with a text.
@@ -149,23 +113,21 @@ fn wrong_name(wrong: Wrong) -> &'static str {
 }
 
 /// A fault of the text, and its place.
-fn tell_fault(fault: Fault, answer: &mut Answer) {
-    answer.refuse_text(wrong_name(fault.wrong));
+fn tell_fault(offset: usize, wrong: Wrong, answer: &mut Answer) {
+    answer.refuse_text(wrong_name(wrong));
     answer.add_text("|");
-    answer.add_number(fault.at);
+    answer.add_number(offset);
 }
 
 /// Why an entry is not given. Returns whether memory sufficed.
-pub fn tell_not_given(refusal: RecordRefusal, answer: &mut Answer) -> bool {
-    match refusal {
-        RecordRefusal::Text(fault) => tell_fault(fault, answer),
-        RecordRefusal::Entry(refusal) => {
-            if lacks_memory(refusal.why) {
-                answer.refuse(&refusal.why);
-                return false;
-            }
-            tell_refusal(refusal, answer);
+pub fn tell_not_given(error: RecordError, answer: &mut Answer) -> bool {
+    match error.kind {
+        ErrorKind::ShortBuf => {
+            answer.refuse(&error);
+            return false;
         }
+        ErrorKind::Syntax(wrong) => tell_fault(error.offset, wrong, answer),
+        _ => tell_refusal(error, answer),
     }
     true
 }
@@ -182,7 +144,7 @@ fn tell_step(reader: &mut RecordReader<'_>, step: Step, answer: &mut Answer) -> 
             tell_read(&reader.state, read, target.as_slice(), answer);
             true
         }
-        Some(Err(refusal)) => tell_not_given(refusal, answer),
+        Some(Err(error)) => tell_not_given(error, answer),
         None => return false,
     };
     if goes_on {
@@ -193,7 +155,7 @@ fn tell_step(reader: &mut RecordReader<'_>, step: Step, answer: &mut Answer) -> 
 
 /// The state where reading begins: with an origin, or without.
 pub fn state_of(origin: &[Vec<u8>], answer: &mut Answer) -> State {
-    let state = State::new(CLASS);
+    let state = State::new(Class::IN);
     match origin_of(origin, answer) {
         Some(origin) => match NameBuffer::from_labels((), &origin) {
             Ok(name) => state.with_origin(name),

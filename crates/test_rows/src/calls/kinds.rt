@@ -2,7 +2,7 @@
 use dns_kinds::addresses::{Ipv6Shown, ipv4_from_text, ipv6_from_text};
 use dns_kinds::algorithms::{Algorithm, CertificateType};
 use dns_kinds::classes::Class;
-use dns_kinds::error::KindError;
+use dns_kinds::error::ErrorKind;
 use dns_kinds::eui::{Eui48, Eui64};
 use dns_kinds::locator::Locator;
 use dns_kinds::numbers::{u8_from_text, u16_from_text, u32_from_text};
@@ -44,7 +44,7 @@ fn number(name: &str, text: &[u8], answer: &mut Answer) {
 }
 
 /// What a value prints as, or the refusal.
-fn tell<T: fmt::Display + Drop>(made: Result<T, KindError>, answer: &mut Answer) {
+fn tell<T: fmt::Display + Drop>(made: Result<T, ErrorKind>, answer: &mut Answer) {
     match made {
         Ok(value) => match value.to_string(answer.alloc()) {
             Ok(text) => answer.add_text(text.as_str()),
